@@ -1,0 +1,27 @@
+# What can be done here: `make` alone lists it.
+# It stands on `rt`, the command of the Rattle toolchain, and on Python 3.
+
+.DEFAULT_GOAL := help
+.PHONY: help demo build test clean
+
+PROGRAMS := rs_replay
+
+help: ## list what can be done
+	@grep -hE '^[a-z]+:.*##' $(MAKEFILE_LIST) | sed -E 's/^([a-z]+):.*## /  make \1\t/' | expand -t 15
+
+demo: ## play a recorded session: one route from one member to another (builds without proofs)
+	@tools/demo
+
+build: ## prove what the programs stand on, and leave them in out/
+	@mkdir -p out
+	@for program in $(PROGRAMS); do \
+		(cd crates/$$program && rt run -- --help) || exit 1; \
+		cp crates/$$program/out/$$program out/ || exit 1; \
+		echo "out/$$program"; \
+	done
+
+test: ## the gate: every proof from nothing, must-fail edits, tests, recorded sessions
+	@python3 tools/gate.py
+
+clean: ## remove all that was built
+	rm -rf out crates/*/out tools/__pycache__

@@ -1,0 +1,91 @@
+#!/usr/bin/env python3
+"""The gate: every proof from nothing, then the recorded sessions on the programs that came of it.
+
+Runs `rt ci` at the top of the repository and passes on what it prints. Meanwhile it looks, twice a
+second, in which crate's folder the prover and the compilers are at work; from that it prints how long
+each crate took. Then it plays each session of examples/sessions to the built rs_replay. The last line
+is 'N passed, M failed' over all of it; the exit status is 0 where nothing failed.
+
+It reads the repository, and writes nothing but what `rt ci` itself writes.
+"""
+import collections
+import os
+import pathlib
+import re
+import resource
+import subprocess
+import sys
+import threading
+import time
+
+from play_sessions import play
+
+TOP = pathlib.Path(__file__).resolve().parent.parent
+PAUSE = 0.5
+
+
+def crate_of(pid, crates):
+    """The crate in whose folder a process works, or None."""
+    try:
+        folder = os.readlink(f"/proc/{pid}/cwd")
+    except OSError:
+        return None
+    if not folder.startswith(f"{crates}/"):
+        return None
+    return folder[len(str(crates)) + 1 :].split("/")[0]
+
+
+def watch(over, seconds):
+    """Adds up, for each crate, how long some process was at work in its folder."""
+    crates = TOP / "crates"
+    last = time.monotonic()
+    while not over.wait(PAUSE):
+        now = time.monotonic()
+        busy = {crate_of(pid, crates) for pid in os.listdir("/proc") if pid.isdigit()}
+        for crate in busy - {None}:
+            seconds[crate] += now - last
+        last = now
+
+
+def run_gate():
+    """Runs `rt ci`; answers its counts, and the seconds of each crate."""
+    seconds, over = collections.Counter(), threading.Event()
+    watcher = threading.Thread(target=watch, args=(over, seconds), daemon=True)
+    watcher.start()
+    line = ""
+    with subprocess.Popen(["rt", "ci"], cwd=TOP, stdout=subprocess.PIPE, stderr=subprocess.STDOUT, text=True) as gate:
+        for line in gate.stdout:
+            print(line, end="", flush=True)
+        status = gate.wait()
+    over.set()
+    watcher.join()
+    counts = re.fullmatch(r"(\d+) passed, (\d+) failed", line.strip())
+    passed, failed = (int(it) for it in counts.groups()) if counts else (0, 1)
+    if status and not failed:
+        failed = 1
+    return passed, failed, seconds
+
+
+def tell_times(seconds, started):
+    """How long each crate took, the longest first, and the whole."""
+    print("\nHow long some process was at work in each crate, in seconds:")
+    for crate, took in sorted(seconds.items(), key=lambda it: -it[1]):
+        print(f"  {crate:<12} {took:6.0f}")
+    used = resource.getrusage(resource.RUSAGE_CHILDREN)
+    print(
+        f"The whole: {time.monotonic() - started:.0f} seconds on {os.cpu_count()} processors, "
+        f"{(used.ru_utime + used.ru_stime) / 60:.1f} processor minutes"
+    )
+
+
+def main():
+    started = time.monotonic()
+    passed, failed, seconds = run_gate()
+    tell_times(seconds, started)
+    held, differ = play(TOP / "crates/rs_replay/out/rs_replay", TOP / "examples/sessions")
+    print(f"{passed + held} passed, {failed + differ} failed")
+    return 1 if failed + differ else 0
+
+
+if __name__ == "__main__":
+    sys.exit(main())
