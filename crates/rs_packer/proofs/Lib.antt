@@ -1,0 +1,4 @@
+pub mod Announcing
+pub mod PrefixLists
+pub mod Rows
+pub mod Withdrawing
