@@ -1,18 +1,19 @@
 -- Octets are cut into messages in one way, from left to right, also where they come in pieces.
-use Rattle.std.proofs.Common.{◌≡◌, ℕ, zero, suc, ◌≤◌, Bool, true, false, cond, List, [], ◌∷◌, ◌++◌, length, map, take, drop, Option, Some, None, refl, sym, ap, subst, ◌∙◌, arith, nat_lt, length-append, append_assoc}
+use Rattle.std.proofs.Common.{◌≡◌, ◌⊎◌, inl, inr, ℕ, zero, suc, ◌≤◌, Bool, true, false, cond, List, [], ◌∷◌, ◌++◌, length, map, take, drop, Option, Some, None, refl, sym, ap, subst, ◌∙◌, arith, nat_lt, length-append, append_assoc}
 use Rattle.std.specs.Prelude.{◌&&◌, ◌==◌, Result, Ok, Err, IsOkAnd}
 use Rattle.std.specs.List.{flat_map, list_all, AllByRecursion}
 use Rattle.std.specs.Int.{is_in_range}
-use Rattle.std.proofs.Math.Seq.{take-append_seam, drop-append_seam, drop-nil}
-use Rattle.std.proofs.lemmas.Bool.{le-ltb, ltb-false, leb-true}
+use Rattle.std.proofs.Math.Seq.{take-append_seam, drop-append_seam, drop-nil, take-length}
+use Rattle.std.proofs.lemmas.Bool.{le-ltb, ltb-true, ltb-false, leb-true}
 use Rattle.std.proofs.lemmas.Grind.{flat_map-append}
-use Rattle.std.proofs.lemmas.List.{length-take-le, take-append-drop, take-append-le}
+use Rattle.std.proofs.lemmas.List.{append-nil, length-take-le, take-append-drop, take-append-le}
 use Rattle.rs_octets.specs.declared.heads.Allowed.{Allowed}
 use Rattle.rs_octets.specs.declared.heads.Head.{Head}
 use Rattle.rs_octets.specs.declared.heads.TypeRow.{TypeRow}
 use Rattle.rs_octets.specs.declared.heads.HeaderFault.{HeaderFault}
 use Rattle.rs_octets.specs.declared.heads.HeaderFault.TheVariants as faults
 use Rattle.rs_octets.specs.Headers.{header_of, longest, type_row, length_field, type_field, head_of_type}
+use Rattle.rs_octets.specs.Laws.{GrowsBy}
 use Rattle.rs_octets.specs.Messages.{IsMessage, BeginsNoMessage, Cuts, Hears, fault_of, heard_of, length_within, message_length, messages_behind, rest_behind, messages_of, rest_of}
 
 -- ---- the message that octets begin with
@@ -206,3 +207,59 @@ pub hears_only : (allowed : Allowed) (octets : List ℕ) (heard : List (Result (
 hears_only allowed octets heard hears =
     let only = cuts_only allowed octets hears.messages hears.rest hears.cut in
     hears.are ∙ (λ i. map Ok (only.0 i) ++ fault_of allowed (only.1 i))
+
+-- ---- one octet more
+
+abbrev Grows : Allowed → List ℕ → Type 0
+Grows allowed grown =
+    (IsMessage allowed grown × (messages_of allowed grown ≡ grown ∷ []) × (rest_of allowed grown ≡ []))
+    ⊎ ((messages_of allowed grown ≡ []) × (rest_of allowed grown ≡ grown))
+
+-- octets that are found to begin with no message begin with none
+pub none_found : (allowed : Allowed) (octets : List ℕ) → message_length allowed octets ≡ 0 → BeginsNoMessage allowed octets
+none_found allowed octets e message after is here =
+    absurd (omega (arith, is.0, sym (found allowed message after is) ∙ ap (message_length allowed) (sym here) ∙ e))
+
+-- a rest that grows by an octet is one message, or begins with none
+rest_grows : (allowed : Allowed) (rest : List ℕ) (octet : ℕ) → BeginsNoMessage allowed rest → Grows allowed (rest ++ octet ∷ [])
+rest_grows allowed rest octet stops = by_length (message_length allowed grown) refl
+  where
+    grown : List ℕ
+    grown = rest ++ octet ∷ []
+
+    by_room : (n : ℕ) (short : Bool) → Stands allowed (rest ++ octet ∷ []) n → nat_lt n (length (rest ++ octet ∷ [])) ≡ short → IsMessage allowed (rest ++ octet ∷ [])
+    by_room n true it e =
+        let fits : n ≤ length rest = omega (arith, ltb-true _ _ e, length-append rest (octet ∷ [])) in
+        let front : take n (rest ++ octet ∷ []) ≡ take n rest = take-append-le n rest (octet ∷ []) fits in
+        absurd (stops (take n rest) (drop n rest) (subst (IsMessage allowed) front it.is) (sym (take-append-drop n rest)))
+    by_room n false it e =
+        let room : n ≤ length (rest ++ octet ∷ []) = it.room in
+        let all : n ≡ length (rest ++ octet ∷ []) = omega (arith, ltb-false _ _ e) in
+        subst (IsMessage allowed) (ap (λ n. take n (rest ++ octet ∷ [])) all ∙ take-length (rest ++ octet ∷ [])) it.is
+
+    by_length : (n : ℕ) → message_length allowed (rest ++ octet ∷ []) ≡ n → Grows allowed (rest ++ octet ∷ [])
+    by_length zero e = inr (stops_are allowed grown (none_found allowed grown e))
+    by_length (suc n) e =
+        let is : IsMessage allowed grown = by_room (suc n) (nat_lt (suc n) (length grown)) (stands allowed grown n e) refl in
+        let first = first_message allowed grown [] is in
+        let alone : grown ++ [] ≡ grown = append-nil grown in
+        inl (is, ap (messages_of allowed) (sym alone) ∙ first.0, ap (rest_of allowed) (sym alone) ∙ first.1)
+
+-- so is what octets leave
+pub octet_by_octet : (allowed : Allowed) (octets : List ℕ) (octet : ℕ) → GrowsBy allowed octets octet
+octet_by_octet allowed octets octet =
+    let joined = pieces_join allowed octets (octet ∷ []) in
+    let grown : List ℕ = rest_of allowed octets ++ octet ∷ [] in
+    elim (rest_grows allowed (rest_of allowed octets) octet (cuts_of allowed octets).stops) [
+      | inl is ↦ inl (is.0, joined.0 ∙ ap (λ ms. messages_of allowed octets ++ ms) is.1, joined.1 ∙ is.2)
+      | inr is ↦ inr (joined.0 ∙ ap (λ ms. messages_of allowed octets ++ ms) is.0 ∙ append-nil (messages_of allowed octets), joined.1 ∙ is.1)
+    ]
+
+-- a message alone is heard
+pub heard_alone : (allowed : Allowed) (message : List ℕ) → IsMessage allowed message → heard_of allowed message ≡ Ok message ∷ []
+heard_alone allowed message is =
+    let first = first_message allowed message [] is in
+    let alone : message ++ [] ≡ message = append-nil message in
+    let messages : messages_of allowed message ≡ message ∷ [] = ap (messages_of allowed) (sym alone) ∙ first.0 in
+    let rest : rest_of allowed message ≡ [] = ap (rest_of allowed) (sym alone) ∙ first.1 in
+    λ i. map Ok (messages i) ++ fault_of allowed (rest i)

@@ -1,144 +1,52 @@
 -- An address whose octets behind the length were left out reads as it was.
-use Rattle.std.proofs.Common.{◌≡◌, ℕ, zero, suc, ◌<◌, ◌≤◌, [], ◌∷◌, ◌++◌, length, take, drop, arith}
+use Rattle.std.proofs.Common.{◌≡◌, ℕ, zero, suc, ◌+◌, ◌-◌, ◌*◌, ◌/◌, ◌^◌, ◌<◌, ◌≤◌, [], ◌∷◌, ◌++◌, length, take, drop, refl, sym, ap, ◌∙◌, subst, arith, mul_assoc}
 use Rattle.std.specs.Int.{w32, to_be_bytes, from_be_bytes}
+use Rattle.std.proofs.Math.Nat.{mul-div_cancel}
+use Rattle.std.proofs.lemmas.Nat.{pow-add, pow_pos}
 use Rattle.rs_octets.specs.Prefixes.{masked, octet_count}
 
-abbrev Back : ℕ → ℕ → Type 0
-Back len bits =
-    let first = take (octet_count len) (to_be_bytes w32 bits) in
-    masked bits len ≡ bits → bits < 4294967296 → masked (from_be_bytes w32 (first ++ drop (length first) (0 ∷ 0 ∷ 0 ∷ 0 ∷ []))) len ≡ bits
+-- the address that the first octets spell, those that are not there being 0
+abbrev padded : ℕ → ℕ → ℕ
+padded count bits =
+    let first = take count (to_be_bytes w32 bits) in
+    from_be_bytes w32 (first ++ drop (length first) (0 ∷ 0 ∷ 0 ∷ 0 ∷ []))
 
-back_0 : (bits : ℕ) → Back 0 bits
-back_0 bits is fits = omega arith
+-- it has the front of the bits
+front_0 : (bits : ℕ) → bits < 4294967296 → padded 0 bits ≡ bits / 2 ^ 32 * 2 ^ 32
+front_0 bits fits = omega arith
 
-back_1 : (bits : ℕ) → Back 1 bits
-back_1 bits is fits = omega arith
+front_1 : (bits : ℕ) → bits < 4294967296 → padded 1 bits ≡ bits / 2 ^ 24 * 2 ^ 24
+front_1 bits fits = omega arith
 
-back_2 : (bits : ℕ) → Back 2 bits
-back_2 bits is fits = omega arith
+front_2 : (bits : ℕ) → bits < 4294967296 → padded 2 bits ≡ bits / 2 ^ 16 * 2 ^ 16
+front_2 bits fits = omega arith
 
-back_3 : (bits : ℕ) → Back 3 bits
-back_3 bits is fits = omega arith
+front_3 : (bits : ℕ) → bits < 4294967296 → padded 3 bits ≡ bits / 2 ^ 8 * 2 ^ 8
+front_3 bits fits = omega arith
 
-back_4 : (bits : ℕ) → Back 4 bits
-back_4 bits is fits = omega arith
+front_4 : (bits : ℕ) → bits < 4294967296 → padded 4 bits ≡ bits
+front_4 bits fits = omega arith
 
-back_5 : (bits : ℕ) → Back 5 bits
-back_5 bits is fits = omega arith
+-- bits that end with a + r zeros end with r zeros
+fewer_zeros : (bits a r : ℕ) → bits / 2 ^ (a + r) * 2 ^ (a + r) ≡ bits → bits / 2 ^ r * 2 ^ r ≡ bits
+fewer_zeros bits a r is =
+    let q : ℕ = bits / 2 ^ (a + r) in
+    let e : q * 2 ^ a * 2 ^ r ≡ bits = mul_assoc q (2 ^ a) (2 ^ r) ∙ ap (λ p. q * p) (sym (pow-add 2 a r)) ∙ is in
+    ap (λ n. n / 2 ^ r * 2 ^ r) (sym e) ∙ ap (λ n. n * 2 ^ r) (mul-div_cancel (q * 2 ^ a) (pow_pos r)) ∙ e
 
-back_6 : (bits : ℕ) → Back 6 bits
-back_6 bits is fits = omega arith
+-- the octets that hold the bits of a length hold all that is not 0
+front_is_all : (len bits r : ℕ) → len + r ≤ 32 → masked bits len ≡ bits → bits / 2 ^ r * 2 ^ r ≡ bits
+front_is_all len bits r h is =
+    let P : ℕ → Type 0 = λ n. bits / 2 ^ n * 2 ^ n ≡ bits in
+    fewer_zeros bits (32 - len - r) r (subst P (omega arith) is)
 
-back_7 : (bits : ℕ) → Back 7 bits
-back_7 bits is fits = omega arith
+padded_back : (len bits count : ℕ) → count ≡ octet_count len → len ≤ 32 → masked bits len ≡ bits → bits < 4294967296 → padded count bits ≡ bits
+padded_back len bits zero e h is fits = front_0 bits fits ∙ front_is_all len bits 32 (omega arith) is
+padded_back len bits (suc zero) e h is fits = front_1 bits fits ∙ front_is_all len bits 24 (omega arith) is
+padded_back len bits (suc (suc zero)) e h is fits = front_2 bits fits ∙ front_is_all len bits 16 (omega arith) is
+padded_back len bits (suc (suc (suc zero))) e h is fits = front_3 bits fits ∙ front_is_all len bits 8 (omega arith) is
+padded_back len bits (suc (suc (suc (suc zero)))) e h is fits = front_4 bits fits
+padded_back len bits (suc (suc (suc (suc (suc count))))) e h is fits = absurd (omega arith)
 
-back_8 : (bits : ℕ) → Back 8 bits
-back_8 bits is fits = omega arith
-
-back_9 : (bits : ℕ) → Back 9 bits
-back_9 bits is fits = omega arith
-
-back_10 : (bits : ℕ) → Back 10 bits
-back_10 bits is fits = omega arith
-
-back_11 : (bits : ℕ) → Back 11 bits
-back_11 bits is fits = omega arith
-
-back_12 : (bits : ℕ) → Back 12 bits
-back_12 bits is fits = omega arith
-
-back_13 : (bits : ℕ) → Back 13 bits
-back_13 bits is fits = omega arith
-
-back_14 : (bits : ℕ) → Back 14 bits
-back_14 bits is fits = omega arith
-
-back_15 : (bits : ℕ) → Back 15 bits
-back_15 bits is fits = omega arith
-
-back_16 : (bits : ℕ) → Back 16 bits
-back_16 bits is fits = omega arith
-
-back_17 : (bits : ℕ) → Back 17 bits
-back_17 bits is fits = omega arith
-
-back_18 : (bits : ℕ) → Back 18 bits
-back_18 bits is fits = omega arith
-
-back_19 : (bits : ℕ) → Back 19 bits
-back_19 bits is fits = omega arith
-
-back_20 : (bits : ℕ) → Back 20 bits
-back_20 bits is fits = omega arith
-
-back_21 : (bits : ℕ) → Back 21 bits
-back_21 bits is fits = omega arith
-
-back_22 : (bits : ℕ) → Back 22 bits
-back_22 bits is fits = omega arith
-
-back_23 : (bits : ℕ) → Back 23 bits
-back_23 bits is fits = omega arith
-
-back_24 : (bits : ℕ) → Back 24 bits
-back_24 bits is fits = omega arith
-
-back_25 : (bits : ℕ) → Back 25 bits
-back_25 bits is fits = omega arith
-
-back_26 : (bits : ℕ) → Back 26 bits
-back_26 bits is fits = omega arith
-
-back_27 : (bits : ℕ) → Back 27 bits
-back_27 bits is fits = omega arith
-
-back_28 : (bits : ℕ) → Back 28 bits
-back_28 bits is fits = omega arith
-
-back_29 : (bits : ℕ) → Back 29 bits
-back_29 bits is fits = omega arith
-
-back_30 : (bits : ℕ) → Back 30 bits
-back_30 bits is fits = omega arith
-
-back_31 : (bits : ℕ) → Back 31 bits
-back_31 bits is fits = omega arith
-
-back_32 : (bits : ℕ) → Back 32 bits
-back_32 bits is fits = omega arith
-
-pub back : (len bits : ℕ) → len ≤ 32 → Back len bits
-back zero bits h = back_0 bits
-back (suc zero) bits h = back_1 bits
-back (suc (suc zero)) bits h = back_2 bits
-back (suc (suc (suc zero))) bits h = back_3 bits
-back (suc (suc (suc (suc zero)))) bits h = back_4 bits
-back (suc (suc (suc (suc (suc zero))))) bits h = back_5 bits
-back (suc (suc (suc (suc (suc (suc zero)))))) bits h = back_6 bits
-back (suc (suc (suc (suc (suc (suc (suc zero))))))) bits h = back_7 bits
-back (suc (suc (suc (suc (suc (suc (suc (suc zero)))))))) bits h = back_8 bits
-back (suc (suc (suc (suc (suc (suc (suc (suc (suc zero))))))))) bits h = back_9 bits
-back (suc (suc (suc (suc (suc (suc (suc (suc (suc (suc zero)))))))))) bits h = back_10 bits
-back (suc (suc (suc (suc (suc (suc (suc (suc (suc (suc (suc zero))))))))))) bits h = back_11 bits
-back (suc (suc (suc (suc (suc (suc (suc (suc (suc (suc (suc (suc zero)))))))))))) bits h = back_12 bits
-back (suc (suc (suc (suc (suc (suc (suc (suc (suc (suc (suc (suc (suc zero))))))))))))) bits h = back_13 bits
-back (suc (suc (suc (suc (suc (suc (suc (suc (suc (suc (suc (suc (suc (suc zero)))))))))))))) bits h = back_14 bits
-back (suc (suc (suc (suc (suc (suc (suc (suc (suc (suc (suc (suc (suc (suc (suc zero))))))))))))))) bits h = back_15 bits
-back (suc (suc (suc (suc (suc (suc (suc (suc (suc (suc (suc (suc (suc (suc (suc (suc zero)))))))))))))))) bits h = back_16 bits
-back (suc (suc (suc (suc (suc (suc (suc (suc (suc (suc (suc (suc (suc (suc (suc (suc (suc zero))))))))))))))))) bits h = back_17 bits
-back (suc (suc (suc (suc (suc (suc (suc (suc (suc (suc (suc (suc (suc (suc (suc (suc (suc (suc zero)))))))))))))))))) bits h = back_18 bits
-back (suc (suc (suc (suc (suc (suc (suc (suc (suc (suc (suc (suc (suc (suc (suc (suc (suc (suc (suc zero))))))))))))))))))) bits h = back_19 bits
-back (suc (suc (suc (suc (suc (suc (suc (suc (suc (suc (suc (suc (suc (suc (suc (suc (suc (suc (suc (suc zero)))))))))))))))))))) bits h = back_20 bits
-back (suc (suc (suc (suc (suc (suc (suc (suc (suc (suc (suc (suc (suc (suc (suc (suc (suc (suc (suc (suc (suc zero))))))))))))))))))))) bits h = back_21 bits
-back (suc (suc (suc (suc (suc (suc (suc (suc (suc (suc (suc (suc (suc (suc (suc (suc (suc (suc (suc (suc (suc (suc zero)))))))))))))))))))))) bits h = back_22 bits
-back (suc (suc (suc (suc (suc (suc (suc (suc (suc (suc (suc (suc (suc (suc (suc (suc (suc (suc (suc (suc (suc (suc (suc zero))))))))))))))))))))))) bits h = back_23 bits
-back (suc (suc (suc (suc (suc (suc (suc (suc (suc (suc (suc (suc (suc (suc (suc (suc (suc (suc (suc (suc (suc (suc (suc (suc zero)))))))))))))))))))))))) bits h = back_24 bits
-back (suc (suc (suc (suc (suc (suc (suc (suc (suc (suc (suc (suc (suc (suc (suc (suc (suc (suc (suc (suc (suc (suc (suc (suc (suc zero))))))))))))))))))))))))) bits h = back_25 bits
-back (suc (suc (suc (suc (suc (suc (suc (suc (suc (suc (suc (suc (suc (suc (suc (suc (suc (suc (suc (suc (suc (suc (suc (suc (suc (suc zero)))))))))))))))))))))))))) bits h = back_26 bits
-back (suc (suc (suc (suc (suc (suc (suc (suc (suc (suc (suc (suc (suc (suc (suc (suc (suc (suc (suc (suc (suc (suc (suc (suc (suc (suc (suc zero))))))))))))))))))))))))))) bits h = back_27 bits
-back (suc (suc (suc (suc (suc (suc (suc (suc (suc (suc (suc (suc (suc (suc (suc (suc (suc (suc (suc (suc (suc (suc (suc (suc (suc (suc (suc (suc zero)))))))))))))))))))))))))))) bits h = back_28 bits
-back (suc (suc (suc (suc (suc (suc (suc (suc (suc (suc (suc (suc (suc (suc (suc (suc (suc (suc (suc (suc (suc (suc (suc (suc (suc (suc (suc (suc (suc zero))))))))))))))))))))))))))))) bits h = back_29 bits
-back (suc (suc (suc (suc (suc (suc (suc (suc (suc (suc (suc (suc (suc (suc (suc (suc (suc (suc (suc (suc (suc (suc (suc (suc (suc (suc (suc (suc (suc (suc zero)))))))))))))))))))))))))))))) bits h = back_30 bits
-back (suc (suc (suc (suc (suc (suc (suc (suc (suc (suc (suc (suc (suc (suc (suc (suc (suc (suc (suc (suc (suc (suc (suc (suc (suc (suc (suc (suc (suc (suc (suc zero))))))))))))))))))))))))))))))) bits h = back_31 bits
-back (suc (suc (suc (suc (suc (suc (suc (suc (suc (suc (suc (suc (suc (suc (suc (suc (suc (suc (suc (suc (suc (suc (suc (suc (suc (suc (suc (suc (suc (suc (suc (suc zero)))))))))))))))))))))))))))))))) bits h = back_32 bits
-back (suc (suc (suc (suc (suc (suc (suc (suc (suc (suc (suc (suc (suc (suc (suc (suc (suc (suc (suc (suc (suc (suc (suc (suc (suc (suc (suc (suc (suc (suc (suc (suc (suc len))))))))))))))))))))))))))))))))) bits h = absurd (omega arith)
+pub back : (len bits : ℕ) → len ≤ 32 → masked bits len ≡ bits → bits < 4294967296 → masked (padded (octet_count len) bits) len ≡ bits
+back len bits h is fits = ap (λ bits. masked bits len) (padded_back len bits (octet_count len) refl h is fits) ∙ is

@@ -1,10 +1,10 @@
 -- What holds of the definitions, as the contracts of the module `laws` say it.
-use Rattle.std.specs.Prelude.{◌≡◌, ℕ, List, ◌++◌, map, Result, Ok}
+use Rattle.std.specs.Prelude.{◌≡◌, ◌⊎◌, ℕ, List, [], ◌∷◌, ◌++◌, map, Result, Ok}
 use Rattle.std.specs.List.{flat_map, AllByRecursion}
 use Rattle.rs_octets.specs.declared.heads.Allowed.{Allowed}
 use Rattle.rs_octets.specs.declared.heads.HeaderFault.{HeaderFault}
 use Rattle.rs_octets.specs.declared.prefix.FieldFault.{FieldFault}
-use Rattle.rs_octets.specs.Messages.{Cuts, Hears, messages_of, rest_of, heard_of}
+use Rattle.rs_octets.specs.Messages.{IsMessage, Cuts, Hears, messages_of, rest_of, heard_of}
 use Rattle.rs_octets.specs.Prefixes.{Prefix, IsIpv4Prefix}
 use Rattle.rs_octets.specs.PrefixFields.{ReadsPrefixes, prefixes_of, prefix_octets}
 
@@ -24,6 +24,13 @@ JoinsPieces =
     (allowed : Allowed) (octets more : List ℕ)
     → (messages_of allowed (octets ++ more) ≡ messages_of allowed octets ++ messages_of allowed (rest_of allowed octets ++ more))
     × (rest_of allowed (octets ++ more) ≡ rest_of allowed (rest_of allowed octets ++ more))
+
+-- an octet more makes the rest one message, or it goes behind the rest
+abbrev pub GrowsBy : Allowed → List ℕ → ℕ → Type 0
+GrowsBy allowed octets octet =
+    let grown = rest_of allowed octets ++ octet ∷ [] in
+    (IsMessage allowed grown × (messages_of allowed (octets ++ octet ∷ []) ≡ messages_of allowed octets ++ grown ∷ []) × (rest_of allowed (octets ++ octet ∷ []) ≡ []))
+    ⊎ ((messages_of allowed (octets ++ octet ∷ []) ≡ messages_of allowed octets) × (rest_of allowed (octets ++ octet ∷ []) ≡ grown))
 
 -- something is heard of any octets, and it is one thing
 abbrev pub IsHeard : Type 0

@@ -1,9 +1,10 @@
 //! Laws of the definitions. Each contract is the law; the bodies do nothing, but where a derived
 //! method is what the law speaks of.
 
-ghost use Rattle.std.specs.Prelude.{◌≡◌};
-ghost use Rattle.rs_octets.specs.Laws.{IsCut, IsOnlyCut, JoinsPieces, IsHeard, IsOnlyHeard, IsRead, IsOnlyRead, ReadsBack};
+ghost use Rattle.std.specs.Prelude.{◌≡◌, ℕ, List};
+ghost use Rattle.rs_octets.specs.Laws.{IsCut, IsOnlyCut, JoinsPieces, GrowsBy, IsHeard, IsOnlyHeard, IsRead, IsOnlyRead, ReadsBack};
 ghost use Rattle.rs_octets.specs.Prefixes.{prefix_order};
+ghost use Rattle.rs_octets.specs.declared.heads.Allowed.{Allowed};
 
 use crate::prefix::Prefix;
 use std::cmp::Ordering;
@@ -17,6 +18,11 @@ pub fn octets_are_cut_in_one_way()
 /// It does not matter in which pieces octets come.
 pub fn pieces_join()
     ensures { JoinsPieces }
+{}
+
+/// An octet more either makes what is left of the octets before it one message, or goes behind it.
+pub fn octet_by_octet()
+    ensures { (allowed : Allowed) (octets : List ℕ) (octet : ℕ) → GrowsBy allowed octets octet }
 {}
 
 /// What is heard of octets is one list: their messages, and then the fault, if there is one.
