@@ -1,3 +1,4 @@
+pub mod Laws
 pub mod Modes
 pub mod Packed
 pub mod Parts

@@ -4,6 +4,7 @@
 
 mod announced;
 mod fields;
+pub mod laws;
 mod packed;
 #[cfg(test)]
 mod tests;
