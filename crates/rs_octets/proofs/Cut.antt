@@ -14,7 +14,7 @@ use Rattle.rs_octets.specs.declared.heads.HeaderFault.{HeaderFault}
 use Rattle.rs_octets.specs.declared.heads.HeaderFault.TheVariants as faults
 use Rattle.rs_octets.specs.Headers.{header_of, longest, type_row, length_field, type_field, head_of_type}
 use Rattle.rs_octets.specs.Laws.{GrowsBy}
-use Rattle.rs_octets.specs.Messages.{IsMessage, BeginsNoMessage, Cuts, Hears, fault_of, heard_of, length_within, message_length, messages_behind, rest_behind, messages_of, rest_of}
+use Rattle.rs_octets.specs.Messages.{IsMessage, BeginsNoMessage, Cuts, Hears, header_fault_of, heard_of, length_within, message_length, messages_behind, rest_behind, messages_of, rest_of}
 
 -- ---- the message that octets begin with
 
@@ -206,7 +206,7 @@ hears_of allowed octets = record { messages = messages_of allowed octets; rest =
 pub hears_only : (allowed : Allowed) (octets : List ℕ) (heard : List (Result (List ℕ) HeaderFault)) → Hears allowed octets heard → heard ≡ heard_of allowed octets
 hears_only allowed octets heard hears =
     let only = cuts_only allowed octets hears.messages hears.rest hears.cut in
-    hears.are ∙ (λ i. map Ok (only.0 i) ++ fault_of allowed (only.1 i))
+    hears.are ∙ (λ i. map Ok (only.0 i) ++ header_fault_of allowed (only.1 i))
 
 -- ---- one octet more
 
@@ -262,4 +262,4 @@ heard_alone allowed message is =
     let alone : message ++ [] ≡ message = append-nil message in
     let messages : messages_of allowed message ≡ message ∷ [] = ap (messages_of allowed) (sym alone) ∙ first.0 in
     let rest : rest_of allowed message ≡ [] = ap (rest_of allowed) (sym alone) ∙ first.1 in
-    λ i. map Ok (messages i) ++ fault_of allowed (rest i)
+    λ i. map Ok (messages i) ++ header_fault_of allowed (rest i)

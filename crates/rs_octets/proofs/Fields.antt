@@ -9,7 +9,7 @@ use Rattle.std.proofs.lemmas.List.{length-take-le, take-append-drop}
 use Rattle.rs_octets.specs.declared.prefix.FieldFault.{FieldFault}
 use Rattle.rs_octets.specs.declared.prefix.FieldFault.TheVariants.{TooLong, Cut}
 use Rattle.rs_octets.specs.Prefixes.{Prefix, IsIpv4Prefix, octet_count}
-use Rattle.rs_octets.specs.PrefixFields.{Spelling, IsSpelling, spelling_octets, BeginsNoPrefix, ReadsPrefixes, fault_of, prefix_at, prefix_octets, prefixes_behind, prefixes_of}
+use Rattle.rs_octets.specs.PrefixFields.{SpeltPrefix, IsSpeltPrefix, spelt_octets, BeginsNoPrefix, ReadsPrefixes, field_fault_of, prefix_at, prefix_octets, prefixes_behind, prefixes_of}
 use Rattle.rs_octets.proofs.Masked.{back}
 
 -- what the walk reads at a length, by its two tests
@@ -22,7 +22,7 @@ skip zero (o ∷ octets) = refl
 skip (suc n) (o ∷ octets) = skip n octets
 
 -- one prefix at the front
-spelt_first : (s : Spelling) (after : List ℕ) → IsSpelling s → prefixes_of (spelling_octets s ++ after) ≡ Ok (prefix_at s.len s.address) ∷ prefixes_of after
+spelt_first : (s : SpeltPrefix) (after : List ℕ) → IsSpeltPrefix s → prefixes_of (spelt_octets s ++ after) ≡ Ok (prefix_at s.len s.address) ∷ prefixes_of after
 spelt_first s after is =
     let count : ℕ = octet_count s.len in
     let behind : List ℕ = s.address ++ after in
@@ -34,14 +34,14 @@ spelt_first s after is =
     ∙ (λ i. Ok (prefix_at s.len s.address) ∷ (skip count behind ∙ ap prefixes_of dropped) i)
 
 -- a prefix that is found stands there
-abbrev at_front : ℕ → List ℕ → Spelling
+abbrev at_front : ℕ → List ℕ → SpeltPrefix
 at_front len octets = record { len = len; address = take (octet_count len) octets }
 
-stands_is : (len : ℕ) (octets : List ℕ) → nat_lt 32 len ≡ false → nat_lt (length octets) (octet_count len) ≡ false → IsSpelling (at_front len octets)
+stands_is : (len : ℕ) (octets : List ℕ) → nat_lt 32 len ≡ false → nat_lt (length octets) (octet_count len) ≡ false → IsSpeltPrefix (at_front len octets)
 stands_is len octets p q = (ltb-false _ _ p, length-take-le (octet_count len) octets (ltb-false _ _ q))
 
 -- octets that begin with no prefix are the fault
-stops_are : (octets : List ℕ) → BeginsNoPrefix octets → prefixes_of octets ≡ fault_of octets
+stops_are : (octets : List ℕ) → BeginsNoPrefix octets → prefixes_of octets ≡ field_fault_of octets
 stops_are [] stops = refl
 stops_are (len ∷ octets) stops = by_tests (nat_lt 32 len) (nat_lt (length octets) (octet_count len)) refl refl
   where
@@ -58,16 +58,16 @@ stops_are (len ∷ octets) stops = by_tests (nat_lt 32 len) (nat_lt (length octe
         absurd (stops (at_front len octets) (drop (octet_count len) octets) (stands_is len octets e f) (ap (λ xs. len ∷ xs) (sym (take-append-drop (octet_count len) octets))))
 
 -- what is read is all that there is
-read_only : (spellings : List Spelling) (rest : List ℕ) → AllByRecursion IsSpelling spellings → BeginsNoPrefix rest
-    → map (λ s. Ok (prefix_at s.len s.address)) spellings ++ fault_of rest ≡ prefixes_of (flat_map spelling_octets spellings ++ rest)
+read_only : (spelt : List SpeltPrefix) (rest : List ℕ) → AllByRecursion IsSpeltPrefix spelt → BeginsNoPrefix rest
+    → map (λ s. Ok (prefix_at s.len s.address)) spelt ++ field_fault_of rest ≡ prefixes_of (flat_map spelt_octets spelt ++ rest)
 read_only [] rest each stops = sym (stops_are rest stops)
-read_only (s ∷ spellings) rest each stops =
-    ap (λ xs. Ok (prefix_at s.len s.address) ∷ xs) (read_only spellings rest each.1 stops)
-    ∙ sym (spelt_first s (flat_map spelling_octets spellings ++ rest) each.0)
-    ∙ ap prefixes_of (sym (append_assoc (spelling_octets s) (flat_map spelling_octets spellings) rest))
+read_only (s ∷ spelt) rest each stops =
+    ap (λ xs. Ok (prefix_at s.len s.address) ∷ xs) (read_only spelt rest each.1 stops)
+    ∙ sym (spelt_first s (flat_map spelt_octets spelt ++ rest) each.0)
+    ∙ ap prefixes_of (sym (append_assoc (spelt_octets s) (flat_map spelt_octets spelt) rest))
 
 pub reads_only : (field : List ℕ) (read : List (Result Prefix FieldFault)) → ReadsPrefixes field read → read ≡ prefixes_of field
-reads_only field read reads = reads.are ∙ read_only reads.spellings reads.rest reads.each reads.stops ∙ ap prefixes_of (sym reads.whole)
+reads_only field read reads = reads.are ∙ read_only reads.spelt reads.rest reads.each reads.stops ∙ ap prefixes_of (sym reads.whole)
 
 -- a length over 32, and too few octets, begin no prefix
 too_long_stops : (len : ℕ) (octets : List ℕ) → nat_lt 32 len ≡ true → BeginsNoPrefix (len ∷ octets)
@@ -85,7 +85,7 @@ cut_stops len octets e s after is here =
 reads_behind : (octets : List ℕ) (n : ℕ) → ReadsPrefixes (drop n octets) (prefixes_behind n octets)
 reads_behind [] n =
     let P : List ℕ → Type 0 = λ octets. ReadsPrefixes octets [] in
-    subst P (sym (drop-nil n)) (record { spellings = []; rest = []; whole = refl; each = tt; stops = λ s after is here. cc; are = refl })
+    subst P (sym (drop-nil n)) (record { spelt = []; rest = []; whole = refl; each = tt; stops = λ s after is here. cc; are = refl })
 reads_behind (len ∷ octets) (suc n) = reads_behind octets n
 reads_behind (len ∷ octets) zero = by_tests (reads_behind octets (octet_count len)) (nat_lt 32 len) (nat_lt (length octets) (octet_count len)) refl refl
   where
@@ -101,7 +101,7 @@ reads_behind (len ∷ octets) zero = by_tests (reads_behind octets (octet_count 
     by_tests : ReadsPrefixes (drop (octet_count len) octets) others
         → (long cut : Bool) → nat_lt 32 len ≡ long → nat_lt (length octets) (octet_count len) ≡ cut → ReadsPrefixes (len ∷ octets) (read_by long cut p others)
     by_tests later true cut e f = record {
-      spellings = [];
+      spelt = [];
       rest = len ∷ octets;
       whole = refl;
       each = tt;
@@ -109,7 +109,7 @@ reads_behind (len ∷ octets) zero = by_tests (reads_behind octets (octet_count 
       are = ap (λ long. Err (cond long TooLong Cut) ∷ []) (sym e);
     }
     by_tests later false true e f = record {
-      spellings = [];
+      spelt = [];
       rest = len ∷ octets;
       whole = refl;
       each = tt;
@@ -117,7 +117,7 @@ reads_behind (len ∷ octets) zero = by_tests (reads_behind octets (octet_count 
       are = ap (λ long. Err (cond long TooLong Cut) ∷ []) (sym e);
     }
     by_tests later false false e f = record {
-      spellings = at_front len octets ∷ later.spellings;
+      spelt = at_front len octets ∷ later.spelt;
       rest = later.rest;
       whole = ap (λ xs. len ∷ xs) (sym (take-append-drop (octet_count len) octets) ∙ ap (λ xs. take (octet_count len) octets ++ xs) later.whole
           ∙ sym (append_assoc (take (octet_count len) octets) _ _));

@@ -23,19 +23,19 @@ pub record Cuts (allowed : Allowed) (octets : List ℕ) (messages : List (List �
 
 -- the fault of a rest that has a whole header; a shorter rest, and a message that is not yet whole,
 -- have none
-abbrev pub fault_in : Result Head HeaderFault → List (Result (List ℕ) HeaderFault)
-fault_in (Ok head) = []
-fault_in (Err fault) = Err fault ∷ []
+abbrev pub header_fault : Result Head HeaderFault → List (Result (List ℕ) HeaderFault)
+header_fault (Ok head) = []
+header_fault (Err fault) = Err fault ∷ []
 
-abbrev pub fault_of : Allowed → List ℕ → List (Result (List ℕ) HeaderFault)
-fault_of allowed rest = if nat_lt (length rest) 19 then [] else fault_in (header_of allowed (take 19 rest))
+abbrev pub header_fault_of : Allowed → List ℕ → List (Result (List ℕ) HeaderFault)
+header_fault_of allowed rest = if nat_lt (length rest) 19 then [] else header_fault (header_of allowed (take 19 rest))
 
 -- what is heard of octets: their messages, and the fault, where there is one, as the last
 pub record Hears (allowed : Allowed) (octets : List ℕ) (heard : List (Result (List ℕ) HeaderFault)) : Type 0 where
   pub messages : List (List ℕ)
   pub rest : List ℕ
   pub cut : Cuts allowed octets messages rest
-  pub are : heard ≡ map Ok messages ++ fault_of allowed rest
+  pub are : heard ≡ map Ok messages ++ header_fault_of allowed rest
 
 -- ---- the same, computed
 
@@ -72,4 +72,4 @@ abbrev pub rest_of : Allowed → List ℕ → List ℕ
 rest_of allowed octets = rest_behind allowed 0 octets
 
 abbrev pub heard_of : Allowed → List ℕ → List (Result (List ℕ) HeaderFault)
-heard_of allowed octets = map Ok (messages_of allowed octets) ++ fault_of allowed (rest_of allowed octets)
+heard_of allowed octets = map Ok (messages_of allowed octets) ++ header_fault_of allowed (rest_of allowed octets)

@@ -15,34 +15,34 @@ abbrev pub prefix_at : ℕ → List ℕ → Prefix
 prefix_at len octets = record { bits = masked (from_be_bytes w32 (octets ++ drop (length octets) (0 ∷ 0 ∷ 0 ∷ 0 ∷ []))) len; len = len }
 
 -- a prefix as it stands in a field, where bits behind the length may be anything
-pub record Spelling : Type 0 where
+pub record SpeltPrefix : Type 0 where
   pub len : ℕ
   pub address : List ℕ
 
-abbrev pub IsSpelling : Spelling → Type 0
-IsSpelling s = (s.len ≤ 32) × (length s.address ≡ octet_count s.len)
+abbrev pub IsSpeltPrefix : SpeltPrefix → Type 0
+IsSpeltPrefix s = (s.len ≤ 32) × (length s.address ≡ octet_count s.len)
 
-abbrev pub spelling_octets : Spelling → List ℕ
-spelling_octets s = s.len ∷ s.address
+abbrev pub spelt_octets : SpeltPrefix → List ℕ
+spelt_octets s = s.len ∷ s.address
 
 -- octets of which no prefix is a front
 abbrev pub BeginsNoPrefix : List ℕ → Type 0
-BeginsNoPrefix octets = (s : Spelling) (after : List ℕ) → IsSpelling s → octets ≡ spelling_octets s ++ after → ⊥
+BeginsNoPrefix octets = (s : SpeltPrefix) (after : List ℕ) → IsSpeltPrefix s → octets ≡ spelt_octets s ++ after → ⊥
 
 -- the fault of octets that begin with no prefix: there is one where there are octets
-abbrev pub fault_of : List ℕ → List (Result Prefix FieldFault)
-fault_of [] = []
-fault_of (len ∷ octets) = Err (if nat_lt 32 len then TooLong else Cut) ∷ []
+abbrev pub field_fault_of : List ℕ → List (Result Prefix FieldFault)
+field_fault_of [] = []
+field_fault_of (len ∷ octets) = Err (if nat_lt 32 len then TooLong else Cut) ∷ []
 
 -- what a field of prefixes holds: the prefixes that stand there from left to right, and the fault,
 -- where there is one, as the last
 pub record ReadsPrefixes (field : List ℕ) (read : List (Result Prefix FieldFault)) : Type 0 where
-  pub spellings : List Spelling
+  pub spelt : List SpeltPrefix
   pub rest : List ℕ
-  pub whole : field ≡ flat_map spelling_octets spellings ++ rest
-  pub each : AllByRecursion IsSpelling spellings
+  pub whole : field ≡ flat_map spelt_octets spelt ++ rest
+  pub each : AllByRecursion IsSpeltPrefix spelt
   pub stops : BeginsNoPrefix rest
-  pub are : read ≡ map (λ s. Ok (prefix_at s.len s.address)) spellings ++ fault_of rest
+  pub are : read ≡ map (λ s. Ok (prefix_at s.len s.address)) spelt ++ field_fault_of rest
 
 -- ---- the same, computed
 
