@@ -1,0 +1,6 @@
+pub mod Cut
+pub mod Fields
+pub mod Masked
+pub mod PrefixLemmas
+pub mod Rows
+pub mod Writing

@@ -1,0 +1,6 @@
+pub mod Prefixes
+pub mod PrefixFields
+pub mod Headers
+pub mod Laws
+pub mod Messages
+pub mod Writes

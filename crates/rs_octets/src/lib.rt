@@ -1,0 +1,14 @@
+//! Octets of BGP messages: headers, and prefixes with the fields that list them. Octets come in as
+//! slices that are lent and go out into slices that are lent; no call takes memory.
+#![tactic(auto)]
+
+mod heads;
+pub mod laws;
+mod prefix;
+#[cfg(test)]
+mod tests;
+mod writes;
+
+pub use heads::{Allowed, Head, HeaderFault, Kind, header};
+pub use prefix::{FieldFault, Prefix, PrefixIter, put_prefix, read_prefixes};
+pub use writes::put;

@@ -1,0 +1,153 @@
+//! Values from outside: octets of BGP messages, taken apart by hand.
+
+use crate::{
+    Allowed, FieldFault, Head, HeaderFault, Kind, Prefix, header, laws, put, put_prefix,
+    read_prefixes,
+};
+use std::cmp::Ordering;
+use std::test::Fail;
+
+const PLAIN: Allowed = Allowed {
+    long: false,
+    refresh: false,
+};
+
+const ALL: Allowed = Allowed {
+    long: true,
+    refresh: true,
+};
+
+/// A header behind a good marker.
+fn headed(high: u8, low: u8, number: u8) -> [u8; 19] {
+    let mut octets = [255; 19];
+    octets[16] = high;
+    octets[17] = low;
+    octets[18] = number;
+    octets
+}
+
+fn is_head(octets: &[u8; 19], allowed: Allowed, length: u16, kind: Kind) -> bool {
+    header(octets, allowed) == Ok(Head { length, kind })
+}
+
+#[test]
+fn reads_headers(rt: HostRuntime) {
+    assert!(rt; is_head(&headed(0, 37, 1), PLAIN, 37, Kind::Open));
+    assert!(rt; is_head(&headed(0, 47, 2), PLAIN, 47, Kind::Update));
+    assert!(rt; is_head(&headed(0, 21, 3), PLAIN, 21, Kind::Note));
+    assert!(rt; is_head(&headed(0, 19, 4), PLAIN, 19, Kind::Keepalive));
+    assert!(rt; is_head(&headed(0, 23, 5), ALL, 23, Kind::Refresh));
+    assert!(rt; is_head(&headed(255, 255, 2), ALL, 65535, Kind::Update));
+}
+
+#[test]
+fn refuses_headers(rt: HostRuntime) {
+    let cases = [
+        (headed(16, 1, 2), PLAIN, HeaderFault::Length(4097)),
+        (headed(0, 20, 4), PLAIN, HeaderFault::Length(20)),
+        (headed(0, 19, 5), PLAIN, HeaderFault::Kind(5)),
+        (headed(16, 1, 4), ALL, HeaderFault::Length(4097)),
+        (headed(16, 1, 1), ALL, HeaderFault::Length(4097)),
+        (headed(0, 24, 5), ALL, HeaderFault::Length(24)),
+        (headed(16, 1, 9), PLAIN, HeaderFault::Length(4097)),
+    ];
+    for (octets, allowed, fault) in cases {
+        assert!(rt; header(&octets, allowed) == Err(fault), "{fault}");
+    }
+    let mut octets = headed(0, 19, 4);
+    octets[15] = 0;
+    assert!(rt; header(&octets, PLAIN) == Err(HeaderFault::Marker));
+}
+
+#[test]
+fn faults_have_texts(rt: HostRuntime) -> Result<(), Fail> {
+    let texts = [
+        format!(in rt.alloc(); "{}", HeaderFault::Marker)?,
+        format!(in rt.alloc(); "{}", HeaderFault::Length(4097))?,
+        format!(in rt.alloc(); "{}", HeaderFault::Kind(5))?,
+        format!(in rt.alloc(); "{}", FieldFault::TooLong)?,
+        format!(in rt.alloc(); "{}", FieldFault::Cut)?,
+    ];
+    assert_eq!(rt; texts[0].as_str(), "the marker is not sixteen octets ff");
+    assert_eq!(rt; texts[1].as_str(), "bad message length 4097");
+    assert_eq!(rt; texts[2].as_str(), "bad message type 5");
+    assert_eq!(rt; texts[3].as_str(), "a prefix is longer than 32 bits");
+    assert_eq!(rt;
+        texts[4].as_str(),
+        "a prefix runs over the end of its field"
+    );
+    Ok(())
+}
+
+#[test]
+fn makes_prefixes(rt: HostRuntime) {
+    // 198.51.100.255/25 is 198.51.100.128/25
+    let cases = [
+        (0xffff_ffff, 0, 0, 1),
+        (0xc633_64ff, 25, 0xc633_6480, 5),
+        (0xc633_64ff, 24, 0xc633_6400, 4),
+        (0x0a01_0203, 8, 0x0a00_0000, 2),
+        (0xc000_0201, 32, 0xc000_0201, 5),
+    ];
+    for (given, len, bits, size) in cases {
+        match Prefix::new(given, len) {
+            Some(prefix) => {
+                assert_eq!(rt; prefix.bits(), bits);
+                assert_eq!(rt; prefix.len(), len);
+                assert_eq!(rt; prefix.size(), size);
+            }
+            None => assert!(rt; false, "no prefix of length {len}"),
+        }
+    }
+    assert!(rt; Prefix::new(0, 33).is_none());
+    assert!(rt; Prefix::new(0, 255).is_none());
+}
+
+#[test]
+fn orders_prefixes(rt: HostRuntime) {
+    let rising = [
+        Prefix::new(0, 0),
+        Prefix::new(0, 8),
+        Prefix::new(0x0a00_0000, 8),
+        Prefix::new(0x0a00_0000, 24),
+        Prefix::new(0x0a00_0100, 24),
+        Prefix::new(0xc000_0000, 2),
+    ];
+    for pair in rising.windows(2) {
+        assert!(rt; pair[0] < pair[1]);
+        if let (Some(a), Some(b)) = (pair[0], pair[1]) {
+            assert!(rt; laws::order_of(&a, &b) == Ordering::Less);
+        }
+    }
+}
+
+#[test]
+fn reads_fields(rt: HostRuntime) {
+    // 198.51.100.0/24, 198.51.100.128/25 with a bit behind its length, 0.0.0.0/0, and a length of 33
+    let field = b"\x18\xc6\x33\x64\x19\xc6\x33\x64\xff\x00\x21\xc6\x18\xc6\x33\x64";
+    let mut items = read_prefixes(field);
+    assert!(rt; items.next() == Some(Prefix::new(0xc633_6400, 24).ok_or(FieldFault::Cut)));
+    assert!(rt; items.next() == Some(Prefix::new(0xc633_6480, 25).ok_or(FieldFault::Cut)));
+    assert!(rt; items.next() == Some(Prefix::new(0, 0).ok_or(FieldFault::Cut)));
+    assert!(rt; items.next() == Some(Err(FieldFault::TooLong)));
+    assert!(rt; items.next().is_none());
+    assert!(rt; items.next().is_none());
+    let mut items = read_prefixes(b"\x18\xc6");
+    assert!(rt; items.next() == Some(Err(FieldFault::Cut)));
+    assert!(rt; items.next().is_none());
+    assert!(rt; read_prefixes(b"").next().is_none());
+}
+
+#[test]
+fn writes_prefixes(rt: HostRuntime) {
+    let mut out = [7; 12];
+    let mut end = put(&mut out, 0, b"\xfe");
+    if let Some(prefix) = Prefix::new(0xc633_6480, 25) {
+        end = put_prefix(&mut out, 1, &prefix);
+    }
+    if let Some(prefix) = Prefix::new(0x0a00_0000, 8) {
+        let _ = put_prefix(&mut out, 6, &prefix);
+    }
+    assert_eq!(rt; end, 6);
+    assert!(rt; out == *b"\xfe\x19\xc6\x33\x64\x80\x08\x0a\x07\x07\x07\x07");
+}

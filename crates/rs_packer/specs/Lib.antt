@@ -1,0 +1,4 @@
+pub mod Laws
+pub mod Modes
+pub mod Packed
+pub mod Parts

@@ -1,0 +1,42 @@
+-- UPDATE messages as octets, and the longest front of a list that fits into one (RFC 4271, 4.1 and 4.3).
+use Rattle.std.specs.Prelude.{ℕ, ◌+◌, ◌<◌, ◌≤◌, List, [], ◌∷◌, ◌++◌, length, take, replicate}
+use Rattle.std.specs.List.{flat_map}
+use Rattle.std.specs.Int.{w16, to_be_bytes}
+use Rattle.rs_octets.specs.Prefixes.{Prefix}
+use Rattle.rs_octets.specs.PrefixFields.{prefix_octets}
+use Rattle.rs_attrs.specs.declared.mode.Mode.{Mode}
+use Rattle.rs_attrs.specs.Meaning.{Attribute}
+use Rattle.rs_attrs.specs.Writing.{spelt}
+
+-- a field of prefixes
+abbrev pub prefixes_octets : List Prefix → List ℕ
+prefixes_octets ps = flat_map prefix_octets ps
+
+-- a field behind its length in two octets
+abbrev pub behind_its_length : List ℕ → List ℕ
+behind_its_length field = to_be_bytes w16 (length field) ++ field
+
+-- withdrawn routes, path attributes, NLRI
+abbrev pub update_body : List Prefix → List ℕ → List Prefix → List ℕ
+update_body withdrawn attributes nlri =
+    behind_its_length (prefixes_octets withdrawn) ++ behind_its_length attributes ++ prefixes_octets nlri
+
+-- marker, length, type 2, body
+abbrev pub update : List Prefix → List ℕ → List Prefix → List ℕ
+update withdrawn attributes nlri =
+    let body = update_body withdrawn attributes nlri in
+    replicate 16 255 ++ to_be_bytes w16 (19 + length body) ++ (2 ∷ []) ++ body
+
+-- the message that announces these prefixes with these attributes, as the mode spells them
+abbrev pub announcement : List Attribute → Mode → List Prefix → List ℕ
+announcement m mode ps = update [] (spelt m mode) ps
+
+-- the message that withdraws these prefixes
+abbrev pub withdrawal : List Prefix → List ℕ
+withdrawal ps = update ps [] []
+
+-- the message of the first n fits, and no more prefixes are there or the next does not fit
+pub record IsLongestFront (message : List Prefix → List ℕ) (limit : ℕ) (ps : List Prefix) (n : ℕ) : Type 0 where
+  pub within : n ≤ length ps
+  pub fits : length (message (take n ps)) ≤ limit
+  pub full : n < length ps → limit < length (message (take (n + 1) ps))
