@@ -1,0 +1,14 @@
+//! Path attributes.
+#![tactic(auto)]
+
+mod attrs;
+mod laws;
+mod mode;
+mod reading;
+mod writing;
+
+pub use attrs::Attrs;
+pub use laws::spelling_reads_back;
+pub use mode::{Faults, Mode};
+pub use reading::{Parsed, read};
+pub use writing::{size, write_into};
