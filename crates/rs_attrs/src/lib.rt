@@ -6,11 +6,11 @@ mod laws;
 mod mode;
 mod reading;
 mod stripping;
+mod table;
 mod writing;
 
 pub use attrs::Attrs;
 pub use laws::spelling_reads_back;
 pub use mode::{Faults, Mode};
-pub use reading::{Parsed, read};
 pub use stripping::Strip;
 pub use writing::{size, write_into};

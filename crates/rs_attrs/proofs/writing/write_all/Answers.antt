@@ -1,4 +1,4 @@
-use Rattle.std.proofs.Common.{◌≡◌, ℕ, ◌+◌, ◌≤◌, length, drop, false, arith}
+use Rattle.std.proofs.Common.{false, arith}
 use Rattle.rs_attrs.specs.declared.attrs.Head.{Head}
 use Rattle.rs_attrs.proofs.Left.{left_here, left_end, left_step, left_fits, left_done}
 use Rattle.rs_attrs.proofs.writing.write_all.Goals as goal

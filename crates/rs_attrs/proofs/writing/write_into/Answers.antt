@@ -1,8 +1,8 @@
-use Rattle.std.proofs.Common.{◌≡◌, ◌<◌, ◌≤◌, List, length, ℕ, arith, sym, ap, subst, ◌∙◌}
+use Rattle.std.proofs.Common.{◌≡◌, ◌<◌, List, length, arith, sym, ap, subst, ◌∙◌}
 use Rattle.std.specs.Prelude.{sum_by}
 use Rattle.std.specs.List.{AllByRecursion}
 use Rattle.rs_attrs.specs.declared.attrs.Head.{Head}
-use Rattle.rs_attrs.specs.Held.{head_octets, attributes_in}
+use Rattle.rs_attrs.specs.Held.{head_octets}
 use Rattle.rs_attrs.specs.Writing.{spelt, HasSpelling}
 use Rattle.rs_attrs.specs.Meaning.{Attribute}
 use Rattle.rs_attrs.specs.declared.mode.Mode.{Mode}
