@@ -2,14 +2,17 @@
 #![tactic(auto)]
 
 mod attrs;
+mod getters;
 mod laws;
 mod mode;
 mod reading;
+mod segments;
 mod stripping;
 mod table;
 mod writing;
 
 pub use attrs::Attrs;
+pub use getters::AttributeRef;
 pub use laws::spelling_reads_back;
 pub use mode::{Faults, Mode};
 pub use stripping::Strip;
