@@ -68,7 +68,7 @@ impl Attrs {
     }
 
     /// The value of the attribute of this type, which is well formed.
-    fn value(&self, kind: u8) -> Option<&[u8]>
+    pub(crate) fn value(&self, kind: u8) -> Option<&[u8]>
         ensures value { option_map (λ value. value.now) result ≡ value_of kind self.now }
         ensures form { IfSome result (λ value. IsWellFormedAs kind value.now) }
     {

@@ -15,5 +15,5 @@ pub use attrs::Attrs;
 pub use getters::AttributeRef;
 pub use laws::spelling_reads_back;
 pub use mode::{Faults, Mode};
-pub use stripping::Strip;
+pub use stripping::{Strip, stripped};
 pub use writing::{size, write_into};

@@ -1,6 +1,6 @@
 //! The segments of a path and the numbers in them, read from their octets as they are asked for.
 
-ghost use Rattle.std.specs.Prelude.{◌≡◌, ◌<◌, ◌^◌, ◌==◌, true, length, sum_by};
+ghost use Rattle.std.specs.Prelude.{◌≡◌, ◌<◌, ◌*◌, ◌^◌, ◌==◌, true, length};
 ghost use Rattle.std.specs.Iterator.{YieldsFirst, item_count};
 ghost use Rattle.std.specs.List.{list_any};
 ghost use Rattle.rs_attrs.specs.Paths.{four_octets, quads, segment_length, path_length, path_has, origin_as, segment_origin, last_of};
@@ -27,8 +27,11 @@ impl<'a> Model for Numbers<'a> {
 
 impl<'a> Numbers<'a> {
     pub(crate) fn of(octets: &'a [u8]) -> Numbers<'a>
-        ensures { result ≡ quads octets.now }
+        ensures numbers { result ≡ quads octets.now }
+        ensures short { 4 * length result < 2 ^ 64 }
     {
+        // Numbers take four octets each, whose number is a usize.
+        let _octets = octets.len();
         Numbers { octets }
     }
 }
