@@ -1,6 +1,6 @@
 -- Numbers and segments, one at a time from their octets.
 use Rattle.std.proofs.Common.{◌≡◌, ℕ, zero, suc, ◌+◌, ◌*◌, ◌/◌, ◌<◌, ◌≤◌, ◌==◌, Bool, true, false, cond, List, [], ◌∷◌, length, take, drop, get_or, Option, Some, None, refl, map, sym, ap, ◌∙◌, arith}
-use Rattle.std.specs.Prelude.{is_some}
+use Rattle.std.specs.Prelude.{is_some, nat_lt, nat_le, ◌&&◌}
 use Rattle.std.specs.List.{last_or}
 use Rattle.std.specs.Int.{w32, from_be_bytes}
 use Rattle.std.proofs.lemmas.Bool.{leb-true, ltb-true}
@@ -113,8 +113,9 @@ path_within zero (kind ∷ count ∷ octets) h = by_test (begins_segment four_oc
     by_test false e more = omega arith
     by_test true e more =
         let s : Segment = record { kind = kind; numbers = quads (take (4 * count) octets) } in
-        let fits : 4 * count ≤ length octets = leb-true (4 * count) (length octets) (second_so _ _ (sym e)) in
-        let some : 0 < count = ltb-true 0 count (second_so _ _ (first_so _ _ (sym e))) in
+        let fits : 4 * count ≤ length octets = leb-true (4 * count) (length octets) (second_so (is_set_or_sequence kind && nat_lt 0 count) (nat_le (4 * count) (length octets)) (sym e)) in
+        let some : 0 < count =
+        ltb-true 0 count (second_so (is_set_or_sequence kind) (nat_lt 0 count) (first_so (is_set_or_sequence kind && nat_lt 0 count) (nat_le (4 * count) (length octets)) (sym e))) in
         let here : segment_length s ≤ count = counted (kind == 1) count (length (quads (take (4 * count) octets))) some (numbers_within count octets fits) in
         omega (arith, here, more fits, longer s (segments_behind four_octets is_set_or_sequence (4 * count) octets))
 

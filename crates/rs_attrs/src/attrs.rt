@@ -7,6 +7,7 @@ ghost use Rattle.std.specs.Cmp;
 ghost use Rattle.rs_attrs.specs.Comparing.{same_attributes, attributes_cmp, attributes_writes};
 ghost use Rattle.rs_attrs.specs.ComparisonLaws.{same_attributes_equiv, attributes_cmp_total, attributes_ties, same_attributes_writes};
 
+use std::alloc::AllocError;
 use std::cmp::Ordering;
 use std::hash::{Hash, Hasher};
 use std::marker::Model;
@@ -39,6 +40,17 @@ impl Model for Attrs {
     ghost view = { λ a. attributes_in a.heads.items a.values.items };
 
     ghost invariant = { λ a. IsHeld a.heads.items a.values.items };
+}
+
+impl Clone for Attrs {
+    ghost is_clone = { λ attrs copy. copy ≡ attrs };
+
+    fn clone(&self) -> Result<Attrs, AllocError> {
+        Ok(Attrs {
+            heads: self.heads.clone()?,
+            values: self.values.clone()?,
+        })
+    }
 }
 
 /// Equal where both have the same types, with the same flags and values.
