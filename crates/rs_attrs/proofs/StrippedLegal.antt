@@ -92,7 +92,7 @@ module _ (lists : List (List ℕ)) (all : Bool) where
   above_both k [] n p q = q
   above_both k (a ∷ m) n p q = (p.0, above_both k m n p.1 q)
 
-  stripped_above : (k : ℕ) (m : List Attribute) → AllAbove k m → AllAbove k (stripped_of lists all m)
+  pub stripped_above : (k : ℕ) (m : List Attribute) → AllAbove k m → AllAbove k (stripped_of lists all m)
   stripped_above k [] h = tt
   stripped_above k (a ∷ m) h = above_both k (left_of lists all a) (stripped_of lists all m) (left_above k a h.0) (stripped_above k m h.1)
 

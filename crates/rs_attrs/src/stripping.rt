@@ -1,9 +1,11 @@
 //! Communities that are taken out of a route before it is passed on.
 
-ghost use Rattle.std.specs.Prelude.{◌≡◌, ◌<◌, ◌≤◌, ◌*◌, ◌^◌, ◌++◌, length, IfOk};
+ghost use Rattle.std.specs.Prelude.{◌≡◌, ℕ, ◌<◌, ◌≤◌, ◌*◌, ◌^◌, ◌++◌, length, IfOk};
 ghost use Rattle.std.specs.List.{flat_map};
 ghost use Rattle.std.specs.Int.{w32, to_be_bytes};
 ghost use Rattle.rs_attrs.specs.Held.{attribute_by, attributes_in, values_size};
+ghost use Rattle.rs_attrs.specs.Getters.{communities_of};
+ghost use Rattle.rs_attrs.specs.Meaning.{get};
 ghost use Rattle.rs_attrs.specs.Paths.{quads};
 ghost use Rattle.rs_attrs.specs.Stripping.{is_stripped, left_of, lists_in, stripped_of, unstripped};
 
@@ -82,7 +84,9 @@ fn push_left(
 /// The attributes without the communities that are taken out. COMMUNITIES keeps its flags, and goes
 /// where no community is left. It fails only where memory is wanting.
 pub fn stripped(alloc: Global, attrs: &Attrs, strip: &Strip<'_>) -> Result<Attrs, AllocError>
-    ensures { IfOk result (λ a. a ≡ stripped_of (lists_in strip.now) strip.now.all attrs.now) }
+    ensures value { IfOk result (λ a. a ≡ stripped_of (lists_in strip.now) strip.now.all attrs.now) }
+    ensures communities { IfOk result (λ a. communities_of a ≡ unstripped (lists_in strip.now) strip.now.all (communities_of attrs.now)) }
+    ensures others { IfOk result (λ a. (kind : ℕ) → (kind ≡ 8 → ⊥) → get kind a ≡ get kind attrs.now) }
 {
     let (had, left) = match attrs.value(8) {
         Some(value) => (value.len(), left_size(value, strip)),
