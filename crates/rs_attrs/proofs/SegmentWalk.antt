@@ -7,10 +7,10 @@ use Rattle.std.proofs.lemmas.Bool.{leb-true, ltb-true}
 use Rattle.std.proofs.lemmas.List.{length-take-le}
 use Rattle.std.proofs.lemmas.List.Sums.{sum_by-cons}
 use Rattle.std.specs.Cmp.{first_so, second_so}
-use Rattle.rs_attrs.specs.Paths.{Segment, four_octets, is_set_or_sequence, begins_segment, with_front, segments_behind, or_none, quads, last_of, segment_length, path_length}
+use Rattle.rs_attrs.specs.Paths.{Segment, four_octets, is_set_or_sequence, begins_segment, with_front, segments_behind, segments_of, or_none, quads, last_of, segment_length, path_length}
 use Rattle.rs_attrs.specs.Table.{is_path}
 use Rattle.rs_attrs.specs.Writing.{path_in}
-use Rattle.rs_attrs.proofs.PathWalk.{skip_segments}
+use Rattle.rs_attrs.proofs.PathWalk.{segments_step}
 
 pub no_number : (octets : List ℕ) → length octets < 4 → quads octets ≡ []
 no_number [] h = refl
@@ -48,19 +48,20 @@ with_front_in : (s : Segment) (path : Option (List Segment)) → is_some (with_f
 with_front_in s None e = cc e
 with_front_in s (Some path) e = (refl, refl)
 
-begun : (kind count : ℕ) (behind : List ℕ) (b : Bool) → b ≡ begins_segment four_octets is_set_or_sequence kind count behind
-    → is_some (cond b (with_front (record { kind = kind; numbers = quads (take (4 * count) behind) }) (segments_behind four_octets is_set_or_sequence (4 * count) behind)) None) ≡ true
-    → SegmentFront (kind ∷ count ∷ behind) behind kind count
-begun kind count behind false e p = cc p
+begun : (kind count : ℕ) (behind : List ℕ) (b : Bool) → b ≡ begins_segment four_octets is_set_or_sequence kind count behind → is_path four_octets (kind ∷ count ∷ behind) ≡ true → SegmentFront (kind ∷ count ∷ behind) behind kind count
+begun kind count behind false e p =
+    let path : Option (List Segment) =
+    with_front (record { kind = kind; numbers = quads (take (4 * count) behind) }) (segments_behind four_octets is_set_or_sequence (4 * count) behind) in
+    let no : false ≡ true = ap (λ b. is_some (cond b path None)) e ∙ p in
+    cc
 begun kind count behind true e p =
     let s : Segment = record { kind = kind; numbers = quads (take (4 * count) behind) } in
-    let skipped = skip_segments (4 * count) behind in
-    let both = with_front_in s (segments_behind four_octets is_set_or_sequence (4 * count) behind) p in
-    let path : Option (List Segment) = with_front s (segments_behind four_octets is_set_or_sequence (4 * count) behind) in
+    let step = segments_step four_octets is_set_or_sequence kind count behind (sym e) in
+    let both = with_front_in s (segments_of four_octets is_set_or_sequence (drop (4 * count) behind)) (ap is_some (sym step) ∙ p) in
     record {
-      fits = leb-true (4 * count) (length behind) (second_so _ _ (sym e));
-      rest = ap is_some (sym skipped) ∙ both.0;
-      path = ap (λ b. or_none (cond b path None)) (sym e) ∙ both.1 ∙ ap (λ rest. s ∷ or_none rest) skipped;
+      fits = leb-true (4 * count) (length behind) (second_so (is_set_or_sequence kind && nat_lt 0 count) (nat_le (4 * count) (length behind)) (sym e));
+      rest = both.0;
+      path = ap or_none step ∙ both.1;
     }
 
 pub segment_front : (octets : List ℕ) → is_path four_octets octets ≡ true → 2 ≤ length octets → SegmentFront octets (drop 2 octets) (get_or octets 0 0) (get_or octets 1 0)

@@ -5,32 +5,14 @@ use Rattle.std.specs.Int.{w32, to_be_bytes}
 use Rattle.std.proofs.lemmas.Bool.{lt-ltb}
 use Rattle.rs_attrs.specs.declared.mode.Mode.TheVariants.{Four}
 use Rattle.rs_attrs.specs.declared.table.Outcome.TheVariants.{Kept, Withdraw}
-use Rattle.rs_attrs.specs.Spellings.{Spelling, AreOctets}
-use Rattle.rs_attrs.specs.Table.{row_of, is_kept, outcome_by}
+use Rattle.rs_attrs.specs.Spellings.{Spelling, AreOctets, has_flag}
+use Rattle.rs_attrs.specs.Table.{row_of, is_kept, is_filled_list_of, outcome_by}
 use Rattle.rs_attrs.specs.Meaning.{Attribute, AllAbove, IsRising}
 use Rattle.rs_attrs.specs.Paths.{quads}
-use Rattle.rs_attrs.specs.Writing.{IsLegal, IsLegalAttribute, bit, flags_with, spelling_of, with_value}
+use Rattle.rs_attrs.specs.Writing.{IsLegal, IsLegalAttribute, spelling_of, with_value}
 use Rattle.rs_attrs.specs.Stripping.{unstripped, with_communities, left_of, stripped_of}
 use Rattle.rs_attrs.proofs.Communities.{length-communities}
-
--- the optional and the transitive flag of an octet made of them
-class_is : (o t p l : Bool) → bit_and (flags_with o t p l) 0xc0 ≡ bit 0x80 o + bit 0x40 t
-class_is true true true true = refl
-class_is true true true false = refl
-class_is true true false true = refl
-class_is true true false false = refl
-class_is true false true true = refl
-class_is true false true false = refl
-class_is true false false true = refl
-class_is true false false false = refl
-class_is false true true true = refl
-class_is false true true false = refl
-class_is false true false true = refl
-class_is false true false false = refl
-class_is false false true true = refl
-class_is false false true false = refl
-class_is false false false true = refl
-class_is false false false false = refl
+use Rattle.rs_attrs.proofs.ReadBack.{flags_of_back}
 
 by_octet : (n : ℕ) → n % 256 < 256
 by_octet n = omega arith
@@ -50,10 +32,11 @@ some_kept a c communities kind legal =
     let s : Spelling = spelling_of a in
     let t : Spelling = spelling_of (with_value a value) in
     let kept : is_kept (outcome_by Four (row_of Four 8) s) ≡ true = ap (λ k. is_kept (outcome_by Four (row_of Four k) s)) (sym kind) ∙ legal.is_kept in
-    let flags : (bit_and s.flags 0xc0 == 0xc0) ≡ true = flags_kept (bit_and s.flags 0xc0 == 0xc0) (nat_lt 0 (length s.value) && length s.value % 4 == 0) kept in
-    let same : bit_and t.flags 0xc0 ≡ bit_and s.flags 0xc0 =
-    class_is a.optional a.transitive a.partial (nat_lt 255 (length value)) ∙ sym (class_is a.optional a.transitive a.partial (nat_lt 255 (length a.value))) in
-    let class : (bit_and t.flags 0xc0 == 0xc0) ≡ true = ap (λ n. n == 0xc0) same ∙ flags in
+    let flags : (has_flag 0x80 s.flags && has_flag 0x40 s.flags) ≡ true =
+    flags_kept (has_flag 0x80 s.flags && has_flag 0x40 s.flags) (is_filled_list_of 4 s.value) kept in
+    let before = flags_of_back a in
+    let after = flags_of_back (with_value a value) in
+    let class : (has_flag 0x80 t.flags && has_flag 0x40 t.flags) ≡ true = (λ i. (after.optional ∙ sym before.optional) i && (after.transitive ∙ sym before.transitive) i) ∙ flags in
     let some : nat_lt 0 (length value) ≡ true = lt-ltb 0 (length value) (omega arith) in
     let whole : (length value % 4 == 0) ≡ true = eq-eqb (length value % 4) 0 (omega arith) in
     let at_eight : is_kept (outcome_by Four (row_of Four 8) t) ≡ true = λ i. is_kept (cond (class i) (cond (some i && whole i) Kept Withdraw) Withdraw) in

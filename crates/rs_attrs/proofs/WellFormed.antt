@@ -5,7 +5,7 @@ use Rattle.std.specs.Int.{w32, from_be_bytes}
 use Rattle.rs_attrs.specs.declared.mode.Mode.TheVariants.{Four}
 use Rattle.rs_attrs.specs.declared.table.Outcome.{Outcome}
 use Rattle.rs_attrs.specs.declared.table.Outcome.TheVariants.{Kept, Withdraw}
-use Rattle.rs_attrs.specs.Table.{is_kept, is_well_formed, is_origin, fits_flags, outcome_by}
+use Rattle.rs_attrs.specs.Table.{is_kept, is_well_formed, is_origin, fits_class, outcome_by}
 use Rattle.rs_attrs.specs.Meaning.{Attribute, get}
 use Rattle.rs_attrs.specs.Writing.{IsLegal, IsLegalAttribute, spelling_of}
 use Rattle.rs_attrs.specs.Getters.{IsWellFormedAs}
@@ -31,7 +31,7 @@ both_kept false false o n k = cc
 
 row_kept : (a : Attribute) → IsLegalAttribute a → IsWellFormedAs a.kind a.value
 row_kept a legal = record {
-  form = λ r row bad. both_kept (fits_flags r.optional_transitive (spelling_of a).flags) (is_well_formed Four r.shape a.value) r.otherwise bad (ap (λ o. is_kept (outcome_by Four o (spelling_of a))) (sym row) ∙ legal.is_kept);
+  form = λ r row bad. both_kept (fits_class r.class (spelling_of a).flags) (is_well_formed Four r.shape a.value) r.otherwise bad (ap (λ o. is_kept (outcome_by Four o (spelling_of a))) (sym row) ∙ legal.is_kept);
 }
 
 pub well_formed_as : (m : List Attribute) (kind : ℕ) (a : Attribute) → IsLegal m → get kind m ≡ Some a → IsWellFormedAs kind a.value

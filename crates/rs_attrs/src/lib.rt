@@ -6,6 +6,10 @@ mod getters;
 mod laws;
 mod mode;
 mod reading;
+mod reading_field;
+mod reading_values;
+#[cfg(test)]
+mod route_tests;
 mod segments;
 mod stripping;
 mod table;
@@ -15,5 +19,6 @@ pub use attrs::Attrs;
 pub use getters::AttributeRef;
 pub use laws::spelling_reads_back;
 pub use mode::{Faults, Mode};
+pub use reading::{Parsed, read};
 pub use stripping::{Strip, stripped};
 pub use writing::{size, write_into};
