@@ -1,4 +1,4 @@
--- Worked rows, by computation.
+-- Octets taken apart by hand, which the checker computes.
 use Rattle.std.specs.Prelude.{take, false, true, ◌≡◌, ℕ, ◌+◌, ◌-◌, ◌*◌, List, [], ◌∷◌, ◌++◌, refl, codes, nat_lt, if◌then◌else◌, replicate, Ok, Err}
 use Rattle.rs_octets.specs.declared.heads.HeaderFault.TheVariants as faults
 use Rattle.rs_octets.specs.declared.heads.Kind.TheVariants.{Open, Update, Note, Keepalive, Refresh}
@@ -16,6 +16,7 @@ hex [] = []
 hex (a ∷ []) = []
 hex (a ∷ b ∷ text) = if nat_lt a 33 then hex (b ∷ text) else (16 * digit a + digit b) ∷ hex text
 
+-- these octets behind a good marker
 abbrev m : List ℕ → List ℕ
 m text = replicate 16 255 ++ hex text
 
