@@ -6,6 +6,7 @@ mod laws;
 mod mode;
 mod reading;
 mod reading_field;
+mod reading_two;
 mod reading_values;
 mod table;
 mod writing;
