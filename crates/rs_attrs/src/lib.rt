@@ -7,6 +7,7 @@ mod laws;
 mod mode;
 mod reading;
 mod reading_field;
+mod reading_two;
 mod reading_values;
 #[cfg(test)]
 mod route_tests;
