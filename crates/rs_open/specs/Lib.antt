@@ -1,1 +1,4 @@
 pub mod Notes
+pub mod Triples
+pub mod Opens
+pub mod Walk

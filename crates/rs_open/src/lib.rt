@@ -2,7 +2,10 @@
 #![tactic(auto)]
 
 mod open;
+mod reading;
 mod short;
+mod triples;
 
 pub use open::{Open, OpenFault};
+pub use reading::read_open;
 pub use short::{Limit, Short};

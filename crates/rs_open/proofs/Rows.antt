@@ -1,0 +1,106 @@
+-- What the definitions answer, by computation: bodies of OPENs and their octets.
+use Rattle.std.specs.Prelude.{◌≡◌, ℕ, ◌+◌, ◌-◌, ◌*◌, List, [], ◌∷◌, refl, codes, nat_lt, true, false, Some, None, Ok, Err, if◌then◌else◌}
+use Rattle.rs_open.specs.declared.open.OpenFault.TheVariants.{Version, Malformed, Parameter, Hold, Identifier}
+use Rattle.rs_open.specs.Opens.{open_of}
+
+abbrev digit : ℕ → ℕ
+digit c = if nat_lt c 58 then c - 48 else c - 87
+
+-- the octets of a text of hexadecimal digits and blanks
+abbrev hex : List ℕ → List ℕ
+hex [] = []
+hex (a ∷ []) = []
+hex (a ∷ b ∷ text) = if nat_lt a 33 then hex (b ∷ text) else (16 * digit a + digit b) ∷ hex text
+
+four_octets : open_of (hex (codes "04 fbf0 005a c000020b 08 0206 4104 0000fbf0"))
+    ≡ Ok (record { my_as = 64496; four = Some 64496; hold = 90; identifier = 0xc000020b; long = false })
+four_octets = refl
+
+as_trans : open_of (hex (codes "04 5ba0 005a c000020b 08 0206 4104 fa56ea00"))
+    ≡ Ok (record { my_as = 23456; four = Some 4200000000; hold = 90; identifier = 0xc000020b; long = false })
+as_trans = refl
+
+no_capability : open_of (hex (codes "04 fbf0 005a c000020b 02 0200"))
+    ≡ Ok (record { my_as = 64496; four = None; hold = 90; identifier = 0xc000020b; long = false })
+no_capability = refl
+
+no_parameter : open_of (hex (codes "04 fbf0 005a c000020b 00"))
+    ≡ Ok (record { my_as = 64496; four = None; hold = 90; identifier = 0xc000020b; long = false })
+no_parameter = refl
+
+version_3 : open_of (hex (codes "03 fbf0 005a c000020b 00")) ≡ Err Version
+version_3 = refl
+
+short_length : open_of (hex (codes "04 fbf0 005a c000020b 07 0206 4104 0000fbf0")) ≡ Err Malformed
+short_length = refl
+
+long_length : open_of (hex (codes "04 fbf0 005a c000020b 09 0206 4104 0000fbf0")) ≡ Err Malformed
+long_length = refl
+
+two_octets : open_of (hex (codes "04 fbf0 005a c000020b 06 0204 4102 fbf0")) ≡ Err Malformed
+two_octets = refl
+
+other_parameter : open_of (hex (codes "04 fbf0 005a c000020b 02 0100")) ≡ Err Parameter
+other_parameter = refl
+
+hold_2 : open_of (hex (codes "04 fbf0 0002 00000000 00")) ≡ Err (Hold 64496 None)
+hold_2 = refl
+
+hold_2_four : open_of (hex (codes "04 fbf0 0002 c000020b 08 0206 4104 0000fbf0")) ≡ Err (Hold 64496 (Some 64496))
+hold_2_four = refl
+
+hold_3 : open_of (hex (codes "04 fbf0 0003 c000020b 00"))
+    ≡ Ok (record { my_as = 64496; four = None; hold = 3; identifier = 0xc000020b; long = false })
+hold_3 = refl
+
+hold_0 : open_of (hex (codes "04 fbf0 0000 c000020b 08 0206 4104 0000fbf0"))
+    ≡ Ok (record { my_as = 64496; four = Some 64496; hold = 0; identifier = 0xc000020b; long = false })
+hold_0 = refl
+
+identifier_0 : open_of (hex (codes "04 fbf0 005a 00000000 00")) ≡ Err (Identifier 64496 None)
+identifier_0 = refl
+
+-- the parameters come before the Hold Time
+parameter_before_hold : open_of (hex (codes "04 fbf0 0002 c000020b 02 0100")) ≡ Err Parameter
+parameter_before_hold = refl
+
+-- from left to right
+parameter_then_cut : open_of (hex (codes "04 fbf0 005a c000020b 05 0100 0206 41")) ≡ Err Parameter
+parameter_then_cut = refl
+
+bad_capability_then_parameter : open_of (hex (codes "04 fbf0 005a c000020b 08 0204 4102 fbf0 0100")) ≡ Err Malformed
+bad_capability_then_parameter = refl
+
+-- a parameter of another type that runs over its end
+other_cut : open_of (hex (codes "04 fbf0 005a c000020b 02 0101")) ≡ Err Malformed
+other_cut = refl
+
+-- a parameter's type alone
+type_alone : open_of (hex (codes "04 fbf0 005a c000020b 01 02")) ≡ Err Malformed
+type_alone = refl
+
+-- a capability that runs over its parameter, though not over the message
+capability_cut : open_of (hex (codes "04 fbf0 005a c000020b 0a 0202 4104 0204 0000fbf0")) ≡ Err Malformed
+capability_cut = refl
+
+-- of two the first counts
+first_four : open_of (hex (codes "04 fbf0 005a c000020b 0e 020c 4104 0000fbf0 4104 fa56ea00"))
+    ≡ Ok (record { my_as = 64496; four = Some 64496; hold = 90; identifier = 0xc000020b; long = false })
+first_four = refl
+
+-- also where it stands in a parameter of its own, but a malformed second one is a fault
+bad_second_four : open_of (hex (codes "04 fbf0 005a c000020b 0e 0206 4104 0000fbf0 0204 4102 fbf0")) ≡ Err Malformed
+bad_second_four = refl
+
+extended : open_of (hex (codes "04 fbf2 005a c000020d 04 0202 0600"))
+    ≡ Ok (record { my_as = 64498; four = None; hold = 90; identifier = 0xc000020d; long = true })
+extended = refl
+
+-- capability 6 with a value is passed over, and the good one beside it counts
+extended_with_value : open_of (hex (codes "04 fbf2 005a c000020d 05 0203 060100"))
+    ≡ Ok (record { my_as = 64498; four = None; hold = 90; identifier = 0xc000020d; long = false })
+extended_with_value = refl
+
+extended_beside : open_of (hex (codes "04 fbf2 005a c000020d 07 0205 060100 0600"))
+    ≡ Ok (record { my_as = 64498; four = None; hold = 90; identifier = 0xc000020d; long = true })
+extended_beside = refl
