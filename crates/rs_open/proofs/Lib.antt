@@ -1,3 +1,4 @@
 pub mod Rows
 pub mod Splitting
 pub mod Answering
+pub mod Written

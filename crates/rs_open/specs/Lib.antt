@@ -2,3 +2,4 @@ pub mod Notes
 pub mod Triples
 pub mod Opens
 pub mod Walk
+pub mod Writing

@@ -6,21 +6,10 @@ ghost use Rattle.rs_open.specs.Opens.{unless, capability_faults, open_of};
 ghost use Rattle.rs_open.specs.Opens as opens;
 ghost use Rattle.rs_open.specs.Walk.{triple_in, with_capabilities, capabilities_answer, parameters_answer};
 
+use crate::codes::{CAPABILITIES, EXTENDED_MESSAGE, FOUR_OCTET_AS, VERSION};
 use crate::open::{Open, OpenFault};
 use crate::triples::{Triple, first_triple};
 use byteorder::{BigEndian, ByteOrder};
-
-/// The version of BGP that is spoken (RFC 4271).
-const VERSION: u8 = 4;
-
-/// The type of a parameter that holds capabilities (RFC 5492, 4).
-const CAPABILITIES: u8 = 2;
-
-/// Four-octet AS numbers (RFC 6793, 3).
-const FOUR_OCTET_AS: u8 = 65;
-
-/// Extended messages (RFC 8654, 3).
-const EXTENDED_MESSAGE: u8 = 6;
 
 /// What the capabilities read so far say.
 #[derive(Clone, Copy)]
