@@ -2,3 +2,4 @@ pub mod Rows
 pub mod Splitting
 pub mod Answering
 pub mod Written
+pub mod Heard

@@ -30,7 +30,7 @@ note_written size code sub end next data_octets more old one two new sizes is ro
 
 -- ---- the server's OPEN
 
-abbrev said_with : Bool → Bool → Bool → ℕ → ℕ → ℕ → ServerOpen
+abbrev pub said_with : Bool → Bool → Bool → ℕ → ℕ → ℕ → ServerOpen
 said_with multiprotocol extended refresh number hold identifier =
     record { server_as = number; hold = hold; identifier = identifier; multiprotocol = multiprotocol; extended = extended; refresh = refresh }
 

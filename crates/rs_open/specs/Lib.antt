@@ -3,3 +3,4 @@ pub mod Triples
 pub mod Opens
 pub mod Walk
 pub mod Writing
+pub mod Laws

@@ -2,13 +2,17 @@
 #![tactic(auto)]
 
 mod codes;
+mod laws;
 mod open;
 mod reading;
 mod short;
 mod triples;
 mod writing;
 
+pub use laws::{an_open_of_ours_is_good, octets_are_one_row_of_triples};
 pub use open::{Open, OpenFault};
 pub use reading::read_open;
 pub use short::{Limit, Short};
-pub use writing::{MAX_OPEN, ServerOpen, write_keepalive, write_note, write_open};
+pub use writing::{
+    MAX_OPEN, ServerOpen, short_size, write_keepalive, write_note, write_open, write_short,
+};

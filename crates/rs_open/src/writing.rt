@@ -127,3 +127,41 @@ pub fn write_open(said: &ServerOpen, out: &mut [u8]) -> usize
     let end = put_capability(out, end, said.extended, EXTENDED_MESSAGE, &[]);
     put_capability(out, end, said.refresh, ROUTE_REFRESH, &[])
 }
+
+/// The octets of a NOTIFICATION with the first `count` octets of `extra` as its data.
+fn note_size(extra: [u8; 2], count: u8) -> usize
+    ensures exact { result ≡ 21 + length (take count extra) }
+    ensures most { result ≤ 23 }
+{
+    21 + extra.len().min(usize::from(count))
+}
+
+/// The octets of a message that a session says.
+pub fn short_size(short: &Short, said: &ServerOpen) -> usize
+    ensures exact { result ≡ length (short_octets said.now short.now) }
+    ensures most { result ≤ MAX_OPEN }
+{
+    match short {
+        Short::Open => 31 + usize::from(said.capabilities_size()),
+        Short::Keepalive => 19,
+        Short::Note { extra, count, .. } => note_size(*extra, *count),
+    }
+}
+
+/// Writes a message that a session says, and answers its octets.
+pub fn write_short(short: &Short, said: &ServerOpen, out: &mut [u8]) -> usize
+    requires { length (short_octets said.now short.now) ≤ length out.old }
+    ensures end { result ≡ length (short_octets said.now short.now) }
+    ensures octets { Writes 0 (short_octets said.now short.now) out.old out.new }
+{
+    match short {
+        Short::Open => write_open(said, out),
+        Short::Keepalive => write_keepalive(out),
+        Short::Note {
+            code,
+            sub,
+            extra,
+            count,
+        } => write_note(*code, *sub, *extra, *count, out),
+    }
+}
