@@ -3,3 +3,4 @@ pub mod Splitting
 pub mod Answering
 pub mod Written
 pub mod Heard
+pub mod NameList

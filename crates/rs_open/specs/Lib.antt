@@ -4,3 +4,4 @@ pub mod Opens
 pub mod Walk
 pub mod Writing
 pub mod Laws
+pub mod Names

@@ -3,6 +3,7 @@
 
 mod codes;
 mod laws;
+mod notification;
 mod open;
 mod reading;
 mod short;
@@ -10,6 +11,7 @@ mod triples;
 mod writing;
 
 pub use laws::{an_open_of_ours_is_good, octets_are_one_row_of_triples};
+pub use notification::Notification;
 pub use open::{Open, OpenFault};
 pub use reading::read_open;
 pub use short::{Limit, Short};
