@@ -7,6 +7,8 @@ mod notification;
 mod open;
 mod reading;
 mod short;
+#[cfg(test)]
+mod tests;
 mod triples;
 mod writing;
 
