@@ -3,7 +3,7 @@ use Rattle.std.proofs.Common.{◌≡◌, ℕ, ◌<◌, Bool, get_or, refl, sym, 
 use Rattle.std.specs.Prelude.{◌==◌, ◌&&◌}
 use Rattle.std.specs.List.{position_or_len}
 use Rattle.rs_open.specs.declared.notification.Notification.{Notification}
-use Rattle.rs_open.specs.declared.notification.Notification.TheVariants.{UnspecificHeaderError}
+use Rattle.rs_open.specs.declared.notification.Notification.TheVariants.{MessageHeaderError}
 use Rattle.rs_open.specs.declared.notification.TheConstants.{NAMES}
 use Rattle.rs_open.specs.Names.{code_of, sub_of, IsNamed}
 
@@ -16,11 +16,11 @@ place name = position_or_len (is_like name) NAMES
 
 pub place_fits : (name : Notification) → place name < 36
 unfolding place
-place_fits name = elim name as (λ n. place n < 36) [ UnspecificHeaderError ↦ lit< tt | _ ↦ lit< tt ]
+place_fits name = elim name as (λ n. place n < 36) [ MessageHeaderError ↦ lit< tt | _ ↦ lit< tt ]
 
 pub stands : (name d : Notification) → get_or NAMES (place name) d ≡ name
 unfolding place
-stands name d = elim name as (λ n. get_or NAMES (place n) d ≡ n) [ UnspecificHeaderError ↦ refl | _ ↦ refl ]
+stands name d = elim name as (λ n. get_or NAMES (place n) d ≡ n) [ MessageHeaderError ↦ refl | _ ↦ refl ]
 
 -- the name at a place is not the one that is looked for
 pub not_here : (code sub i : ℕ) (d : Notification) → (IsNamed (get_or NAMES i d) code sub → ⊥) → (name : Notification) → place name ≡ i → IsNamed name code sub → ⊥

@@ -14,12 +14,12 @@ codes code sub = record { code = code; sub = sub }
 
 abbrev pub codes_of : Notification → Codes
 -- RFC 4271, 6.1
-codes_of names.UnspecificHeaderError = codes 1 0
+codes_of names.MessageHeaderError = codes 1 0
 codes_of names.ConnectionNotSynchronized = codes 1 1
 codes_of names.BadMessageLength = codes 1 2
 codes_of names.BadMessageType = codes 1 3
 -- RFC 4271, 6.2; RFC 5492, 5
-codes_of names.UnspecificOpenError = codes 2 0
+codes_of names.OpenMessageError = codes 2 0
 codes_of names.UnsupportedVersionNumber = codes 2 1
 codes_of names.BadPeerAs = codes 2 2
 codes_of names.BadBgpIdentifier = codes 2 3
@@ -27,7 +27,7 @@ codes_of names.UnsupportedOptionalParameter = codes 2 4
 codes_of names.UnacceptableHoldTime = codes 2 6
 codes_of names.UnsupportedCapability = codes 2 7
 -- RFC 4271, 6.3
-codes_of names.UnspecificUpdateError = codes 3 0
+codes_of names.UpdateMessageError = codes 3 0
 codes_of names.MalformedAttributeList = codes 3 1
 codes_of names.UnrecognizedWellKnownAttribute = codes 3 2
 codes_of names.MissingWellKnownAttribute = codes 3 3
@@ -40,13 +40,13 @@ codes_of names.InvalidNetworkField = codes 3 10
 codes_of names.MalformedAsPath = codes 3 11
 -- RFC 4271, 6.5
 codes_of names.HoldTimerExpired = codes 4 0
--- RFC 4271, 6.6; RFC 6608, 4
+-- RFC 4271, 6.6; RFC 6608
 codes_of names.FiniteStateMachineError = codes 5 0
 codes_of names.UnexpectedInOpenSent = codes 5 1
 codes_of names.UnexpectedInOpenConfirm = codes 5 2
 codes_of names.UnexpectedInEstablished = codes 5 3
--- RFC 4271, 6.7; RFC 4486, 3
-codes_of names.UnspecificCease = codes 6 0
+-- RFC 4271, 6.7; RFC 4486
+codes_of names.Cease = codes 6 0
 codes_of names.MaximumPrefixesReached = codes 6 1
 codes_of names.AdministrativeShutdown = codes 6 2
 codes_of names.PeerDeconfigured = codes 6 3

@@ -1,5 +1,5 @@
 -- Steps of the reader: what it has from the triples so far, and what it answers for those that are left.
-use Rattle.std.specs.Prelude.{ℕ, ◌+◌, ◌++◌, [], ◌∷◌, Bool, ◌||◌, if◌then◌else◌, List, Result}
+use Rattle.std.specs.Prelude.{ℕ, ◌+◌, ◌++◌, [], ◌∷◌, Bool, ◌||◌, if◌then◌else◌, List, None, false, Result}
 use Rattle.std.specs.Option.{option_or}
 use Rattle.std.specs.List.{flat_map}
 use Rattle.rs_open.specs.declared.open.OpenFault.{OpenFault}
@@ -21,6 +21,14 @@ row_from t octets = with_first (triple_in t) (row_of octets)
 -- what is known once these capabilities have been read too
 abbrev pub with_capabilities : Capabilities → List Triple → Capabilities
 with_capabilities had capabilities = record { four = option_or had.four (four_of capabilities); long = had.long || long_of capabilities }
+
+-- before any was read
+abbrev pub no_capabilities : Capabilities
+no_capabilities = record { four = None; long = false }
+
+-- what is answered for one capability
+abbrev pub capability_answer : Capabilities → Triple → Result Capabilities OpenFault
+capability_answer had c = unless (capability_faults c) (with_capabilities had (c ∷ []))
 
 -- what is answered at the end of a row of capabilities
 abbrev pub capabilities_answer : Capabilities → Row → Result Capabilities OpenFault

@@ -51,7 +51,7 @@ capabilities_said said =
 abbrev pub parameter_said : ServerOpen → Triple
 parameter_said said = record { kind = 2; value = flat_map triple_octets (capabilities_said said) }
 
--- AS_TRANS, 23456, stands for a number that two octets can't hold (RFC 6793, 4.2.2)
+-- AS_TRANS, 23456, stands for a number that two octets can't hold (RFC 6793, 3)
 abbrev pub my_as_said : ℕ → ℕ
 my_as_said number = if nat_lt 65535 number then 23456 else number
 

@@ -9,21 +9,22 @@ use crate::short::Short;
 use Notification::*;
 use std::fmt;
 
-/// What a NOTIFICATION is about: an error code and a subcode, by name.
+/// What a NOTIFICATION is about: an error code and a subcode, by name. Subcode 0 is that of an error
+/// code without a more exact one.
 #[derive(Clone, Copy, Debug, PartialEq, Eq)]
 pub enum Notification {
-    UnspecificHeaderError,
+    MessageHeaderError,
     ConnectionNotSynchronized,
     BadMessageLength,
     BadMessageType,
-    UnspecificOpenError,
+    OpenMessageError,
     UnsupportedVersionNumber,
     BadPeerAs,
     BadBgpIdentifier,
     UnsupportedOptionalParameter,
     UnacceptableHoldTime,
     UnsupportedCapability,
-    UnspecificUpdateError,
+    UpdateMessageError,
     MalformedAttributeList,
     UnrecognizedWellKnownAttribute,
     MissingWellKnownAttribute,
@@ -39,7 +40,7 @@ pub enum Notification {
     UnexpectedInOpenSent,
     UnexpectedInOpenConfirm,
     UnexpectedInEstablished,
-    UnspecificCease,
+    Cease,
     MaximumPrefixesReached,
     AdministrativeShutdown,
     PeerDeconfigured,
@@ -52,18 +53,18 @@ pub enum Notification {
 
 /// Every name.
 static NAMES: [Notification; 36] = [
-    UnspecificHeaderError,
+    MessageHeaderError,
     ConnectionNotSynchronized,
     BadMessageLength,
     BadMessageType,
-    UnspecificOpenError,
+    OpenMessageError,
     UnsupportedVersionNumber,
     BadPeerAs,
     BadBgpIdentifier,
     UnsupportedOptionalParameter,
     UnacceptableHoldTime,
     UnsupportedCapability,
-    UnspecificUpdateError,
+    UpdateMessageError,
     MalformedAttributeList,
     UnrecognizedWellKnownAttribute,
     MissingWellKnownAttribute,
@@ -79,7 +80,7 @@ static NAMES: [Notification; 36] = [
     UnexpectedInOpenSent,
     UnexpectedInOpenConfirm,
     UnexpectedInEstablished,
-    UnspecificCease,
+    Cease,
     MaximumPrefixesReached,
     AdministrativeShutdown,
     PeerDeconfigured,
@@ -98,12 +99,12 @@ impl Notification {
     {
         match self {
             // RFC 4271, 6.1
-            UnspecificHeaderError => (1, 0, "Unspecific"),
+            MessageHeaderError => (1, 0, "Message Header Error"),
             ConnectionNotSynchronized => (1, 1, "Connection Not Synchronized"),
             BadMessageLength => (1, 2, "Bad Message Length"),
             BadMessageType => (1, 3, "Bad Message Type"),
             // RFC 4271, 6.2; RFC 5492, 5
-            UnspecificOpenError => (2, 0, "Unspecific"),
+            OpenMessageError => (2, 0, "OPEN Message Error"),
             UnsupportedVersionNumber => (2, 1, "Unsupported Version Number"),
             BadPeerAs => (2, 2, "Bad Peer AS"),
             BadBgpIdentifier => (2, 3, "Bad BGP Identifier"),
@@ -111,7 +112,7 @@ impl Notification {
             UnacceptableHoldTime => (2, 6, "Unacceptable Hold Time"),
             UnsupportedCapability => (2, 7, "Unsupported Capability"),
             // RFC 4271, 6.3
-            UnspecificUpdateError => (3, 0, "Unspecific"),
+            UpdateMessageError => (3, 0, "UPDATE Message Error"),
             MalformedAttributeList => (3, 1, "Malformed Attribute List"),
             UnrecognizedWellKnownAttribute => (3, 2, "Unrecognized Well-known Attribute"),
             MissingWellKnownAttribute => (3, 3, "Missing Well-known Attribute"),
@@ -124,13 +125,13 @@ impl Notification {
             MalformedAsPath => (3, 11, "Malformed AS_PATH"),
             // RFC 4271, 6.5
             HoldTimerExpired => (4, 0, "Hold Timer Expired"),
-            // RFC 4271, 6.6; RFC 6608, 4
-            FiniteStateMachineError => (5, 0, "Unspecified Error"),
+            // RFC 4271, 6.6; RFC 6608
+            FiniteStateMachineError => (5, 0, "Finite State Machine Error"),
             UnexpectedInOpenSent => (5, 1, "Receive Unexpected Message in OpenSent State"),
             UnexpectedInOpenConfirm => (5, 2, "Receive Unexpected Message in OpenConfirm State"),
             UnexpectedInEstablished => (5, 3, "Receive Unexpected Message in Established State"),
-            // RFC 4271, 6.7; RFC 4486, 3
-            UnspecificCease => (6, 0, "Unspecific"),
+            // RFC 4271, 6.7; RFC 4486
+            Cease => (6, 0, "Cease"),
             MaximumPrefixesReached => (6, 1, "Maximum Number of Prefixes Reached"),
             AdministrativeShutdown => (6, 2, "Administrative Shutdown"),
             PeerDeconfigured => (6, 3, "Peer De-configured"),
@@ -174,18 +175,7 @@ impl Notification {
         }
     }
 
-    /// The text of the error code (RFC 4271, 4.5).
-    fn error(self) -> &'static str {
-        match self.code() {
-            1 => "Message Header Error",
-            2 => "OPEN Message Error",
-            3 => "UPDATE Message Error",
-            4 => "Hold Timer Expired",
-            5 => "Finite State Machine Error",
-            _ => "Cease",
-        }
-    }
-
+    /// Whether it is the name of this error code and this subcode.
     fn has(self, code: u8, sub: u8) -> bool
         ensures { IsTrue result ↔ IsNamed self code sub }
     {
@@ -210,10 +200,9 @@ impl Notification {
 impl fmt::Display for Notification {
     fn fmt<W: fmt::Write>(&self, f: &mut fmt::Formatter<W>) -> fmt::Result {
         let (code, sub, text) = self.row();
-        if sub == 0 {
-            write!(f, "{} ({code}, {sub})", self.error())
-        } else {
-            write!(f, "{}, {text} ({code}, {sub})", self.error())
+        match Notification::named(code, 0) {
+            Some(error) if sub != 0 => write!(f, "{}, {text} ({code}, {sub})", error.row().2),
+            _ => write!(f, "{text} ({code}, {sub})"),
         }
     }
 }

@@ -1,10 +1,10 @@
 //! Reading the body of an OPEN (RFC 4271, 4.2 and 6.2; RFC 5492, 4).
 
-ghost use Rattle.std.specs.Prelude.{◌≡◌, ◌≤◌, ◌∷◌, [], length, false};
+ghost use Rattle.std.specs.Prelude.{◌≡◌, ◌≤◌, length};
 ghost use Rattle.rs_open.specs.Triples.{row_of};
-ghost use Rattle.rs_open.specs.Opens.{unless, capability_faults, open_of};
+ghost use Rattle.rs_open.specs.Opens.{open_of};
 ghost use Rattle.rs_open.specs.Opens as opens;
-ghost use Rattle.rs_open.specs.Walk.{triple_in, with_capabilities, capabilities_answer, parameters_answer};
+ghost use Rattle.rs_open.specs.Walk.{triple_in, no_capabilities, capability_answer, capabilities_answer, parameters_answer};
 
 use crate::codes::{CAPABILITIES, EXTENDED_MESSAGE, FOUR_OCTET_AS, VERSION};
 use crate::open::{Open, OpenFault};
@@ -21,7 +21,7 @@ struct Capabilities {
 impl Capabilities {
     /// One more capability. The first AS number counts; capabilities that are not used are passed over.
     fn with(self, capability: &Triple<'_>) -> Result<Capabilities, OpenFault>
-        ensures { result ≡ unless (capability_faults (triple_in capability.now)) (with_capabilities self (triple_in capability.now ∷ [])) }
+        ensures { result ≡ capability_answer self (triple_in capability.now) }
     {
         match capability.kind {
             FOUR_OCTET_AS => {
@@ -62,7 +62,7 @@ impl Capabilities {
 
 /// The capabilities in the parameters of an OPEN.
 fn read_parameters(parameters: &[u8]) -> Result<Capabilities, OpenFault>
-    ensures { result ≡ parameters_answer (record { four = None; long = false }) (row_of parameters.now) }
+    ensures { result ≡ parameters_answer no_capabilities (row_of parameters.now) }
 {
     let mut found = Capabilities {
         four: None,

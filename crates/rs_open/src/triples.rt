@@ -13,8 +13,9 @@ pub(crate) struct Triple<'a> {
 
 /// The triple that octets begin with, and the octets behind it.
 pub(crate) fn first_triple(octets: &[u8]) -> Option<(Triple<'_>, &[u8])>
-    ensures row { MatchOption result (row_of octets.now ≡ no_triple octets.now) (λ x. row_of octets.now ≡ row_from x.0 x.1.now) }
-    ensures shorter { IfSome result (λ x. length x.1.now < length octets.now) }
+    ensures row { MatchOption result (row_of octets.now ≡ no_triple octets.now)
+        (λ found. row_of octets.now ≡ row_from found.0 found.1.now) }
+    ensures shorter { IfSome result (λ found. length found.1.now < length octets.now) }
 {
     let [kind, length, behind @ ..] = octets else {
         return None;

@@ -8,16 +8,14 @@ ghost use Rattle.rs_open.specs.Walk.{open_front, capability_octets};
 ghost use Rattle.rs_open.specs.Writing.{header_octets, keepalive, notification, capabilities_said, my_as_said, server_open, short_octets};
 
 use crate::codes::{
-    CAPABILITIES, EXTENDED_MESSAGE, FOUR_OCTET_AS, MULTIPROTOCOL, ROUTE_REFRESH, VERSION,
+    AS_TRANS, CAPABILITIES, EXTENDED_MESSAGE, FOUR_OCTET_AS, IPV4_UNICAST, KEEPALIVE,
+    MULTIPROTOCOL, NOTIFICATION, OPEN, ROUTE_REFRESH, VERSION,
 };
 use crate::short::Short;
 use rs_octets::put;
 
 /// The most octets that an OPEN of the server has.
 pub const MAX_OPEN: usize = 47;
-
-/// The AS number that stands for one that two octets can't hold (RFC 6793, 4.2.2).
-const AS_TRANS: u16 = 23456;
 
 /// What the server's OPEN says (RFC 4271, 4.2).
 #[derive(Clone, Copy, Debug, PartialEq, Eq)]
@@ -71,7 +69,15 @@ pub fn write_keepalive(out: &mut [u8]) -> usize
     ensures end { result ≡ length keepalive }
     ensures octets { Writes 0 keepalive out.old out.new }
 {
-    put_header(out, 19, 4)
+    put_header(out, 19, KEEPALIVE)
+}
+
+/// The octets of a NOTIFICATION with the first `count` octets of `extra` as its data.
+fn note_size(extra: [u8; 2], count: u8) -> usize
+    ensures exact { result ≡ 21 + length (take count extra) }
+    ensures most { result ≤ 23 }
+{
+    21 + extra.len().min(usize::from(count))
 }
 
 /// Writes a NOTIFICATION with the first `count` octets of `extra` as its data, and answers its octets.
@@ -80,10 +86,10 @@ pub fn write_note(code: u8, sub: u8, extra: [u8; 2], count: u8, out: &mut [u8]) 
     ensures end { result ≡ length (notification code sub (take count extra)) }
     ensures octets { Writes 0 (notification code sub (take count extra)) out.old out.new }
 {
-    let count = usize::from(count.min(2));
-    let end = put_header(out, 21 + count as u16, 3);
+    let size = note_size(extra, count);
+    let end = put_header(out, size as u16, NOTIFICATION);
     let end = put(out, end, &[code, sub]);
-    put(out, end, &extra[..count])
+    put(out, end, &extra[..size - end])
 }
 
 /// Writes what stands in an OPEN before the capabilities, and answers where it ends.
@@ -93,7 +99,7 @@ fn put_open_front(said: &ServerOpen, capabilities: u8, out: &mut [u8]) -> usize
     ensures end { result ≡ 31 }
     ensures octets { Writes 0 (open_front said.now capabilities) out.old out.new }
 {
-    let end = put_header(out, 31 + u16::from(capabilities), 1);
+    let end = put_header(out, 31 + u16::from(capabilities), OPEN);
     let end = put(out, end, &[VERSION]);
     let end = put(out, end, &said.my_as().to_be_bytes());
     let end = put(out, end, &said.hold.to_be_bytes());
@@ -122,18 +128,10 @@ pub fn write_open(said: &ServerOpen, out: &mut [u8]) -> usize
     ensures octets { Writes 0 (server_open said.now) out.old out.new }
 {
     let end = put_open_front(said, said.capabilities_size(), out);
-    let end = put_capability(out, end, said.multiprotocol, MULTIPROTOCOL, &[0, 1, 0, 1]);
+    let end = put_capability(out, end, said.multiprotocol, MULTIPROTOCOL, &IPV4_UNICAST);
     let end = put_capability(out, end, true, FOUR_OCTET_AS, &said.server_as.to_be_bytes());
     let end = put_capability(out, end, said.extended, EXTENDED_MESSAGE, &[]);
     put_capability(out, end, said.refresh, ROUTE_REFRESH, &[])
-}
-
-/// The octets of a NOTIFICATION with the first `count` octets of `extra` as its data.
-fn note_size(extra: [u8; 2], count: u8) -> usize
-    ensures exact { result ≡ 21 + length (take count extra) }
-    ensures most { result ≤ 23 }
-{
-    21 + extra.len().min(usize::from(count))
 }
 
 /// The octets of a message that a session says.

@@ -31,7 +31,7 @@ fn names_notifications(rt: HostRuntime) -> Result<(), Fail> {
             "Message Header Error, Connection Not Synchronized (1, 1)",
         ),
         (
-            Notification::UnspecificOpenError,
+            Notification::OpenMessageError,
             2,
             0,
             "OPEN Message Error (2, 0)",
