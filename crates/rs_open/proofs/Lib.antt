@@ -4,3 +4,4 @@ pub mod Answering
 pub mod Written
 pub mod Heard
 pub mod NameList
+pub mod GoodOpens

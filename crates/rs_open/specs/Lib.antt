@@ -4,4 +4,5 @@ pub mod Opens
 pub mod Walk
 pub mod Writing
 pub mod Laws
+pub mod Good
 pub mod Names

@@ -12,7 +12,9 @@ mod tests;
 mod triples;
 mod writing;
 
-pub use laws::{an_open_of_ours_is_good, octets_are_one_row_of_triples};
+pub use laws::{
+    an_open_is_taken_where_it_is_good, an_open_of_ours_is_good, octets_are_one_row_of_triples,
+};
 pub use notification::Notification;
 pub use open::{Open, OpenFault};
 pub use reading::read_open;

@@ -1,7 +1,8 @@
 //! Names and texts.
 
 use crate::{
-    Limit, Notification, OpenFault, Short, an_open_of_ours_is_good, octets_are_one_row_of_triples,
+    Limit, Notification, OpenFault, Short, an_open_is_taken_where_it_is_good,
+    an_open_of_ours_is_good, octets_are_one_row_of_triples,
 };
 use std::alloc::Global;
 use std::process::Abort;
@@ -110,5 +111,6 @@ fn limits_and_laws(rt: HostRuntime) {
     assert_eq!(&rt; Limit::Short.octets(), 4096);
     assert_eq!(&rt; Limit::Long.octets(), 65535);
     octets_are_one_row_of_triples();
+    an_open_is_taken_where_it_is_good();
     an_open_of_ours_is_good();
 }
