@@ -74,7 +74,9 @@ abbrev pub capability_faults : Triple → List OpenFault
 capability_faults c = when (is_four_octet_as c && not (length c.value == 4)) Malformed
 
 abbrev pub parameter_faults : Triple → List OpenFault
-parameter_faults p = if holds_capabilities p then row_faults capability_faults (row_of p.value) else Parameter ∷ []
+parameter_faults p =
+    if holds_capabilities p then row_faults capability_faults (row_of p.value)
+    else Parameter ∷ []
 
 -- 0, or at least 3 seconds
 abbrev pub is_refused_hold : ℕ → Bool

@@ -20,7 +20,10 @@ row_from t octets = with_first (triple_in t) (row_of octets)
 
 -- what is known once these capabilities have been read too
 abbrev pub with_capabilities : Capabilities → List Triple → Capabilities
-with_capabilities had capabilities = record { four = option_or had.four (four_of capabilities); long = had.long || long_of capabilities }
+with_capabilities had capabilities = record {
+  four = option_or had.four (four_of capabilities);
+  long = had.long || long_of capabilities;
+}
 
 -- before any was read
 abbrev pub no_capabilities : Capabilities
@@ -36,7 +39,8 @@ capabilities_answer had row = unless (row_faults capability_faults row) (with_ca
 
 -- what is answered at the end of a row of parameters
 abbrev pub parameters_answer : Capabilities → Row → Result Capabilities OpenFault
-parameters_answer had row = unless (row_faults parameter_faults row) (with_capabilities had (flat_map capabilities_in row.triples))
+parameters_answer had row =
+    unless (row_faults parameter_faults row) (with_capabilities had (flat_map capabilities_in row.triples))
 
 -- ---- steps of the writer
 
