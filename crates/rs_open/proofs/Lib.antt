@@ -1,0 +1,7 @@
+pub mod Rows
+pub mod Splitting
+pub mod Answering
+pub mod Written
+pub mod Heard
+pub mod NameList
+pub mod GoodOpens

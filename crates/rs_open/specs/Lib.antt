@@ -1,0 +1,8 @@
+pub mod Notes
+pub mod Triples
+pub mod Opens
+pub mod Walk
+pub mod Writing
+pub mod Laws
+pub mod Good
+pub mod Names

@@ -1,0 +1,24 @@
+//! OPEN and the short messages: what a peer's OPEN says, and the octets of ours.
+#![tactic(auto)]
+
+mod codes;
+mod laws;
+mod notification;
+mod open;
+mod reading;
+mod short;
+#[cfg(test)]
+mod tests;
+mod triples;
+mod writing;
+
+pub use laws::{
+    an_open_is_taken_where_it_is_good, an_open_of_ours_is_good, octets_are_one_row_of_triples,
+};
+pub use notification::Notification;
+pub use open::{Open, OpenFault};
+pub use reading::read_open;
+pub use short::{Limit, Short};
+pub use writing::{
+    MAX_OPEN, ServerOpen, short_size, write_keepalive, write_note, write_open, write_short,
+};

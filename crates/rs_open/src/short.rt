@@ -1,0 +1,80 @@
+//! The messages that a session says by itself, and how long a message may be.
+
+ghost use Rattle.std.specs.Prelude.{◌≡◌};
+ghost use Rattle.rs_open.specs.Notes.{limit_octets};
+ghost use Rattle.rs_open.specs.Notes as notes;
+
+/// A message that a session says: any but an UPDATE.
+#[derive(Clone, Copy, Debug, PartialEq, Eq)]
+pub enum Short {
+    /// The server's OPEN.
+    Open,
+    Keepalive,
+    /// A NOTIFICATION with its error code, its subcode and the first `count` octets of `extra` as its
+    /// data (RFC 4271, 4.5).
+    Note {
+        code: u8,
+        sub: u8,
+        extra: [u8; 2],
+        count: u8,
+    },
+}
+
+impl Short {
+    /// A NOTIFICATION without data.
+    pub fn note(code: u8, sub: u8) -> Short
+        ensures { result ≡ notes.note code sub }
+    {
+        Short::Note {
+            code,
+            sub,
+            extra: [0, 0],
+            count: 0,
+        }
+    }
+
+    /// A NOTIFICATION with one octet of data.
+    pub fn note_1(code: u8, sub: u8, a: u8) -> Short
+        ensures { result ≡ notes.note_1 code sub a }
+    {
+        Short::Note {
+            code,
+            sub,
+            extra: [a, 0],
+            count: 1,
+        }
+    }
+
+    /// A NOTIFICATION with two octets of data.
+    pub fn note_2(code: u8, sub: u8, a: u8, b: u8) -> Short
+        ensures { result ≡ notes.note_2 code sub a b }
+    {
+        Short::Note {
+            code,
+            sub,
+            extra: [a, b],
+            count: 2,
+        }
+    }
+}
+
+/// How long a message to a peer may be.
+#[derive(Clone, Copy, Debug, PartialEq, Eq)]
+pub enum Limit {
+    /// 4,096 octets (RFC 4271, 4.1).
+    Short,
+    /// 65,535 octets (RFC 8654, 4).
+    Long,
+}
+
+impl Limit {
+    /// The limit in octets.
+    pub fn octets(self) -> usize
+        ensures { result ≡ limit_octets self }
+    {
+        match self {
+            Limit::Short => 4096,
+            Limit::Long => 65535,
+        }
+    }
+}
