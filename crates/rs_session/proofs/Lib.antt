@@ -1,0 +1,3 @@
+mod Rows
+pub mod Phases
+pub mod Hearing
