@@ -15,7 +15,7 @@ use Rattle.rs_session.specs.declared.phase.Phase.{Phase}
 use Rattle.rs_session.specs.declared.phase.Phase.TheVariants as phases
 use Rattle.rs_session.specs.declared.phase.Peer.{Peer}
 use Rattle.rs_session.specs.Items.{Item, Came, Message, Moment, greatest, is_connected, message_count, is_alive, alive_at, open_in, open_of}
-use Rattle.rs_session.specs.Endings.{Fate, GoesOn, Ends, first_fate, second_fate, later_fate, message_fate, moment_fate, hold_time}
+use Rattle.rs_session.specs.Endings.{Fate, GoesOn, Ends, first_fate, second_fate, later_fate, message_fate, open_wait, moment_fate, hold_time}
 use Rattle.rs_session.specs.Sessions.{fate, item_fate, earlier, state_of, is_live, falls_by, is_third, due_at, falls_due, is_request, message_act, moment_act, act_of}
 use Rattle.rs_session.specs.Hearing.{IsWaiting, IsCount, HasAgreed, Stands, HasHeard, IsSame, GoesDown, Tells, Hears}
 use Rattle.rs_session.specs.Steps.{step, phase_from, first_step, second_step, later_step, message_step, tick, wait, moment_step}
@@ -230,8 +230,8 @@ moment_fate_is s items t sent since l o a =
 
 wait_stands : (s : Settings) (items : List Item) (since t : ℕ) → IsWaiting s items since → Stands (wait since (max (greatest items) t)).0 s (Moment t ∷ items)
 wait_stands s items since t w =
-    let e : fate s (Moment t ∷ items) ≡ moment_fate 240 since (max (greatest items) t) = moment_fate_is s items t None since w.lasts w.sent w.alive in
-    stands_by (moment_fate 240 since (max (greatest items) t)) (phases.OpenSent since) acts.None s (Moment t ∷ items) w.connected e
+    let e : fate s (Moment t ∷ items) ≡ moment_fate open_wait since (max (greatest items) t) = moment_fate_is s items t None since w.lasts w.sent w.alive in
+    stands_by (moment_fate open_wait since (max (greatest items) t)) (phases.OpenSent since) acts.None s (Moment t ∷ items) w.connected e
     (λ f. record { connected = w.connected; lasts = e ∙ f; count = w.count; sent = w.sent; alive = w.alive })
 
 falls_is : (s : Settings) (items : List Item) (peer : Peer) (t : ℕ) → HasAgreed s items peer → fate s (Moment t ∷ items) ≡ GoesOn → falls_due s t items ≡ is_third (min s.hold peer.sent.hold) peer.due_at (max (greatest items) t)
@@ -291,7 +291,7 @@ item_fate_is s items t l = earlier_goes _ _ l
 moment_acts : (phase : Phase) (s : Settings) (items : List Item) (t : ℕ) → Stands phase s items → (moment_step phase s.hold (max (greatest items) t)).1 ≡ act_of s (Moment t) items
 moment_acts phases.Idle s items t h = sym (still_act (state_of s items) _ acts.None (ap is_live (state_is phases.Idle s items h)))
 moment_acts (phases.OpenSent since) s items t h =
-    wait_act (moment_fate 240 since (max (greatest items) t)) _ (falls_due s t items) (no_open _ _ _ _ (open_of items) h.sent)
+    wait_act (moment_fate open_wait since (max (greatest items) t)) _ (falls_due s t items) (no_open _ _ _ _ (open_of items) h.sent)
     ∙ ap (λ f. moment_act f (falls_due s t items)) (sym (moment_fate_is s items t None since h.lasts h.sent h.alive) ∙ item_fate_is s items t h.lasts)
     ∙ sym (moment_at s items t states.OpenSent (state_is (phases.OpenSent since) s items h) refl)
 moment_acts (phases.Agreed peer) s items t h =

@@ -76,10 +76,14 @@ message_fate peer_as zero message = first_fate peer_as message
 message_fate peer_as (suc zero) message = second_fate message
 message_fate peer_as (suc (suc count)) message = later_fate message
 
--- the seconds that may pass with none of the messages that restart the hold timer: 240 before the OPEN, then the
+-- the seconds that we wait for the OPEN (RFC 4271, 8.2.2, suggests four minutes)
+abbrev pub open_wait : ℕ
+open_wait = 240
+
+-- the seconds that may pass with none of the messages that restart the hold timer: those before the OPEN, then the
 -- smaller of the two Hold Times (RFC 4271, 4.2); 0: any number
 abbrev pub hold_time : ℕ → Option Open → ℕ
-hold_time hold None = 240
+hold_time hold None = open_wait
 hold_time hold (Some sent) = min hold sent.hold
 
 -- that many seconds or more have passed

@@ -27,8 +27,8 @@ item_fate settings Left items = GoesOn
 
 -- the first end counts
 abbrev pub earlier : Fate → Fate → Fate
-earlier GoesOn fate = fate
-earlier (Ends note) fate = Ends note
+earlier GoesOn later = later
+earlier (Ends note) later = Ends note
 
 -- the end that the first item brings that ends the session
 abbrev pub fate : Settings → List Item → Fate

@@ -10,7 +10,7 @@ use Rattle.rs_session.specs.declared.phase.Phase.{Phase}
 use Rattle.rs_session.specs.declared.phase.Phase.TheVariants as phases
 use Rattle.rs_session.specs.declared.phase.Peer.{Peer}
 use Rattle.rs_session.specs.Items.{is_alive}
-use Rattle.rs_session.specs.Endings.{Fate, GoesOn, Ends, first_fate, second_fate, later_fate, moment_fate}
+use Rattle.rs_session.specs.Endings.{Fate, GoesOn, Ends, first_fate, second_fate, later_fate, open_wait, moment_fate}
 use Rattle.rs_session.specs.Sessions.{is_request, is_third}
 
 abbrev pub step : Fate → Phase → Act → Phase × Act
@@ -45,7 +45,7 @@ message_step phases.Closing peer_as now message = (phases.Closing, acts.None)
 
 -- the hold timer at a moment, before the OPEN
 abbrev pub wait : ℕ → ℕ → Phase × Act
-wait since now = step (moment_fate 240 since now) (phases.OpenSent since) acts.None
+wait since now = step (moment_fate open_wait since now) (phases.OpenSent since) acts.None
 
 -- the two timers at a moment, behind it
 abbrev pub tick : ℕ → Peer → ℕ → Phase × Act

@@ -9,6 +9,15 @@ use crate::faults::{header_note, is_peer, open_note};
 use crate::heard::Heard;
 use rs_open::{Open, Short};
 
+/// The seconds that we wait for the peer's OPEN (RFC 4271, 8.2.2, suggests four minutes).
+const OPEN_WAIT: u16 = 240;
+
+/// The address family IPv4 (RFC 2918, 3; RFC 4760, 3).
+const IPV4: u16 = 1;
+
+/// The subsequent address family of unicast routes.
+const UNICAST: u8 = 1;
+
 /// A client whose OPEN was accepted.
 #[derive(Clone, Copy, Debug)]
 pub struct Peer {
@@ -37,25 +46,22 @@ pub fn first(peer_as: u32, now: u64, heard: Heard) -> (Phase, Act)
     ensures { result ≡ first_step peer_as now heard }
 {
     match heard {
-        Heard::Open(Ok(open)) => {
-            if is_peer(peer_as, open.my_as, open.four) {
-                let peer = Peer {
-                    sent: open,
-                    confirmed: false,
-                    alive_at: now,
-                    due_at: now,
-                };
-                (Phase::Agreed(peer), Act::Say(Short::Keepalive))
-            } else {
-                ended(Short::note(2, 2))
+        Heard::Open(Ok(sent)) => {
+            if !is_peer(peer_as, sent.my_as, sent.four) {
+                return ended(Short::note(2, 2));
             }
+            let peer = Peer {
+                sent,
+                confirmed: false,
+                alive_at: now,
+                due_at: now,
+            };
+            (Phase::Agreed(peer), Act::Say(Short::Keepalive))
         }
         Heard::Open(Err(fault)) => ended(open_note(peer_as, fault)),
+        Heard::Update(_) | Heard::Refresh { .. } | Heard::Keepalive => ended(Short::note(5, 0)),
         Heard::Note => (Phase::Closing, Act::Down(None)),
         Heard::Header(fault) => ended(header_note(fault)),
-        Heard::Update(_) => ended(Short::note(5, 0)),
-        Heard::Refresh { afi: _, safi: _ } => ended(Short::note(5, 0)),
-        Heard::Keepalive => ended(Short::note(5, 0)),
     }
 }
 
@@ -72,11 +78,9 @@ pub fn second(peer: Peer, now: u64, heard: Heard) -> (Phase, Act)
             };
             (Phase::Agreed(peer), Act::Up)
         }
+        Heard::Open(_) | Heard::Update(_) | Heard::Refresh { .. } => ended(Short::note(5, 0)),
         Heard::Note => (Phase::Closing, Act::Down(None)),
         Heard::Header(fault) => ended(header_note(fault)),
-        Heard::Open(_) => ended(Short::note(5, 0)),
-        Heard::Update(_) => ended(Short::note(5, 0)),
-        Heard::Refresh { afi: _, safi: _ } => ended(Short::note(5, 0)),
     }
 }
 
@@ -89,20 +93,16 @@ pub fn later(peer: Peer, now: u64, heard: Heard) -> (Phase, Act)
         ..peer
     };
     match heard {
-        Heard::Keepalive => (Phase::Agreed(alive), Act::None),
-        Heard::Update(None) => (Phase::Agreed(alive), Act::None),
+        Heard::Keepalive | Heard::Update(None) => (Phase::Agreed(alive), Act::None),
+        Heard::Refresh {
+            afi: IPV4,
+            safi: UNICAST,
+        } => (Phase::Agreed(peer), Act::Again),
+        Heard::Refresh { .. } => (Phase::Agreed(peer), Act::None),
+        Heard::Open(_) => ended(Short::note(5, 0)),
         Heard::Update(Some((code, sub))) => ended(Short::note(code, sub)),
-        Heard::Refresh { afi, safi } => {
-            let act = if afi == 1 && safi == 1 {
-                Act::Again
-            } else {
-                Act::None
-            };
-            (Phase::Agreed(peer), act)
-        }
         Heard::Note => (Phase::Closing, Act::Down(None)),
         Heard::Header(fault) => ended(header_note(fault)),
-        Heard::Open(_) => ended(Short::note(5, 0)),
     }
 }
 
@@ -124,7 +124,7 @@ fn has_passed(seconds: u16, since: u64, now: u64) -> bool
 pub fn waited(since: u64, now: u64) -> (Phase, Act)
     ensures { result ≡ wait since now }
 {
-    if has_passed(240, since, now) {
+    if has_passed(OPEN_WAIT, since, now) {
         ended(Short::note(4, 0))
     } else {
         (Phase::OpenSent { since }, Act::None)

@@ -48,9 +48,7 @@ impl Session {
                 self.phase = Phase::OpenSent { since: self.latest };
                 Ok(Act::Say(Short::Open))
             }
-            Phase::OpenSent { since: _ } => Err(Busy),
-            Phase::Agreed(_) => Err(Busy),
-            Phase::Closing => Err(Busy),
+            Phase::OpenSent { .. } | Phase::Agreed(_) | Phase::Closing => Err(Busy),
         }
     }
 
@@ -84,14 +82,9 @@ impl Session {
     {
         match self.phase {
             Phase::Idle => State::Idle,
-            Phase::OpenSent { since: _ } => State::OpenSent,
-            Phase::Agreed(peer) => {
-                if peer.confirmed {
-                    State::Established
-                } else {
-                    State::OpenConfirm
-                }
-            }
+            Phase::OpenSent { .. } => State::OpenSent,
+            Phase::Agreed(peer) if peer.confirmed => State::Established,
+            Phase::Agreed(_) => State::OpenConfirm,
             Phase::Closing => State::Closing,
         }
     }
@@ -143,9 +136,7 @@ impl Session {
     {
         match self.phase {
             Phase::Agreed(peer) => Some(peer.sent),
-            Phase::Idle => None,
-            Phase::OpenSent { since: _ } => None,
-            Phase::Closing => None,
+            Phase::Idle | Phase::OpenSent { .. } | Phase::Closing => None,
         }
     }
 
@@ -156,16 +147,10 @@ impl Session {
         ensures settings { self.new.settings ≡ self.old.settings }
     {
         let (phase, act) = match self.phase {
-            Phase::Idle => (Phase::Idle, Act::None),
-            Phase::Closing => (Phase::Closing, Act::None),
-            Phase::OpenSent { since: _ } => first(self.settings.peer_as, self.latest, heard),
-            Phase::Agreed(peer) => {
-                if peer.confirmed {
-                    later(peer, self.latest, heard)
-                } else {
-                    second(peer, self.latest, heard)
-                }
-            }
+            Phase::Idle | Phase::Closing => (self.phase, Act::None),
+            Phase::OpenSent { .. } => first(self.settings.peer_as, self.latest, heard),
+            Phase::Agreed(peer) if peer.confirmed => later(peer, self.latest, heard),
+            Phase::Agreed(peer) => second(peer, self.latest, heard),
         };
         self.phase = phase;
         act
@@ -179,8 +164,7 @@ impl Session {
     {
         self.latest = self.latest.max(t);
         let (phase, act) = match self.phase {
-            Phase::Idle => (Phase::Idle, Act::None),
-            Phase::Closing => (Phase::Closing, Act::None),
+            Phase::Idle | Phase::Closing => (self.phase, Act::None),
             Phase::OpenSent { since } => waited(since, self.latest),
             Phase::Agreed(peer) => ticked(
                 self.settings.hold.min(peer.sent.hold),
