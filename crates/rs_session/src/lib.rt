@@ -14,3 +14,6 @@ pub use act::{Act, Busy, State};
 pub use heard::Heard;
 pub use session::Session;
 pub use settings::Settings;
+
+#[cfg(test)]
+mod tests;
