@@ -25,46 +25,50 @@ abbrev pub is_peer : ℕ → ℕ → Option ℕ → Bool
 is_peer peer_as my_as (Some four) = nat_eq four peer_as
 is_peer peer_as my_as None = nat_eq my_as peer_as
 
+-- Bad Peer AS
+abbrev pub bad_peer_as : Short
+bad_peer_as = note 2 2
+
 -- the first thing that is wrong with an OPEN (RFC 4271, 6.2): the version, the parameters, the AS number, the Hold Time,
 -- the identifier
 abbrev pub open_note : ℕ → OpenFault → Short
 open_note peer_as fault.Version = note_2 2 1 0 4
 open_note peer_as fault.Malformed = note 2 0
 open_note peer_as fault.Parameter = note 2 4
-open_note peer_as (fault.Hold my_as four) = if is_peer peer_as my_as four then note 2 6 else note 2 2
-open_note peer_as (fault.Identifier my_as four) = if is_peer peer_as my_as four then note 2 3 else note 2 2
+open_note peer_as (fault.Hold my_as four) = if is_peer peer_as my_as four then note 2 6 else bad_peer_as
+open_note peer_as (fault.Identifier my_as four) = if is_peer peer_as my_as four then note 2 3 else bad_peer_as
 
 abbrev pub open_fate : ℕ → Result Open OpenFault → Fate
-open_fate peer_as (Ok sent) = if is_peer peer_as sent.my_as sent.four then GoesOn else Ends (Some (note 2 2))
+open_fate peer_as (Ok sent) = if is_peer peer_as sent.my_as sent.four then GoesOn else Ends (Some bad_peer_as)
 open_fate peer_as (Err fault) = Ends (Some (open_note peer_as fault))
 
--- a message that is not expected (RFC 4271, 6.6)
-abbrev pub unexpected : Fate
-unexpected = Ends (Some (note 5 0))
+-- a message that is not expected: Finite State Machine Error (RFC 4271, 6.6)
+abbrev pub unexpected : Short
+unexpected = note 5 0
 
 -- the first message: an OPEN
 abbrev pub first_fate : ℕ → Heard → Fate
 first_fate peer_as (heard.Header fault) = Ends (Some (header_note fault))
 first_fate peer_as heard.Note = Ends None
 first_fate peer_as (heard.Open read) = open_fate peer_as read
-first_fate peer_as (heard.Update reset) = unexpected
-first_fate peer_as (heard.Refresh afi safi) = unexpected
-first_fate peer_as heard.Keepalive = unexpected
+first_fate peer_as (heard.Update reset) = Ends (Some unexpected)
+first_fate peer_as (heard.Refresh afi safi) = Ends (Some unexpected)
+first_fate peer_as heard.Keepalive = Ends (Some unexpected)
 
 -- the second: a KEEPALIVE
 abbrev pub second_fate : Heard → Fate
 second_fate (heard.Header fault) = Ends (Some (header_note fault))
 second_fate heard.Note = Ends None
-second_fate (heard.Open read) = unexpected
-second_fate (heard.Update reset) = unexpected
-second_fate (heard.Refresh afi safi) = unexpected
+second_fate (heard.Open read) = Ends (Some unexpected)
+second_fate (heard.Update reset) = Ends (Some unexpected)
+second_fate (heard.Refresh afi safi) = Ends (Some unexpected)
 second_fate heard.Keepalive = GoesOn
 
 -- each later one: any but an OPEN; an UPDATE may be a session reset
 abbrev pub later_fate : Heard → Fate
 later_fate (heard.Header fault) = Ends (Some (header_note fault))
 later_fate heard.Note = Ends None
-later_fate (heard.Open read) = unexpected
+later_fate (heard.Open read) = Ends (Some unexpected)
 later_fate (heard.Update None) = GoesOn
 later_fate (heard.Update (Some reset)) = Ends (Some (note reset.0 reset.1))
 later_fate (heard.Refresh afi safi) = GoesOn
@@ -90,6 +94,9 @@ hold_time hold (Some sent) = min hold sent.hold
 abbrev pub is_past : ℕ → ℕ → ℕ → Bool
 is_past time since now = not (nat_eq time 0) && nat_le time (now - since)
 
--- the hold timer (RFC 4271, 6.5)
+-- Hold Timer Expired (RFC 4271, 6.5)
+abbrev pub expired : Short
+expired = note 4 0
+
 abbrev pub moment_fate : ℕ → ℕ → ℕ → Fate
-moment_fate time since now = if is_past time since now then Ends (Some (note 4 0)) else GoesOn
+moment_fate time since now = if is_past time since now then Ends (Some expired) else GoesOn

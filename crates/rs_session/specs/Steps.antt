@@ -1,6 +1,5 @@
 -- What the code makes of its fields at a message and at a moment.
 use Rattle.std.specs.Prelude.{ℕ, true, false, min, Ok, Err, if◌then◌else◌}
-use Rattle.rs_open.specs.Notes.{note}
 use Rattle.rs_open.specs.declared.short.Short.TheVariants as short
 use Rattle.rs_session.specs.declared.heard.Heard.{Heard}
 use Rattle.rs_session.specs.declared.heard.Heard.TheVariants as heard

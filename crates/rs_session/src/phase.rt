@@ -1,11 +1,11 @@
 //! The phase of a session, and what a message or a moment makes of it.
 
-ghost use Rattle.std.specs.Prelude.{◌≡◌, ◌-◌, nat_le, Some};
+ghost use Rattle.std.specs.Prelude.{◌≡◌, ◌-◌, nat_le, Some, None};
 ghost use Rattle.rs_session.specs.Steps.{first_step, second_step, later_step, tick, wait};
 ghost use Rattle.rs_session.specs.declared.phase.Phase.TheVariants as phases;
 
 use crate::act::Act;
-use crate::faults::{header_note, is_peer, open_note};
+use crate::faults::{bad_peer_as, expired, header_note, is_peer, open_note, unexpected};
 use crate::heard::Heard;
 use rs_open::{Open, Short};
 
@@ -48,7 +48,7 @@ pub fn first(peer_as: u32, now: u64, heard: Heard) -> (Phase, Act)
     match heard {
         Heard::Open(Ok(sent)) => {
             if !is_peer(peer_as, sent.my_as, sent.four) {
-                return ended(Short::note(2, 2));
+                return ended(bad_peer_as());
             }
             let peer = Peer {
                 sent,
@@ -59,49 +59,45 @@ pub fn first(peer_as: u32, now: u64, heard: Heard) -> (Phase, Act)
             (Phase::Agreed(peer), Act::Say(Short::Keepalive))
         }
         Heard::Open(Err(fault)) => ended(open_note(peer_as, fault)),
-        Heard::Update(_) | Heard::Refresh { .. } | Heard::Keepalive => ended(Short::note(5, 0)),
-        Heard::Note => (Phase::Closing, Act::Down(None)),
+        Heard::Update(_) | Heard::Refresh { .. } | Heard::Keepalive => ended(unexpected()),
+        Heard::Note => notified(),
         Heard::Header(fault) => ended(header_note(fault)),
     }
 }
 
 /// The second message: a KEEPALIVE is expected.
-pub fn second(peer: Peer, now: u64, heard: Heard) -> (Phase, Act)
+pub fn second(mut peer: Peer, now: u64, heard: Heard) -> (Phase, Act)
     ensures { result ≡ second_step peer now heard }
 {
     match heard {
         Heard::Keepalive => {
-            let peer = Peer {
-                confirmed: true,
-                alive_at: now,
-                ..peer
-            };
+            peer.confirmed = true;
+            peer.alive_at = now;
             (Phase::Agreed(peer), Act::Up)
         }
-        Heard::Open(_) | Heard::Update(_) | Heard::Refresh { .. } => ended(Short::note(5, 0)),
-        Heard::Note => (Phase::Closing, Act::Down(None)),
+        Heard::Open(_) | Heard::Update(_) | Heard::Refresh { .. } => ended(unexpected()),
+        Heard::Note => notified(),
         Heard::Header(fault) => ended(header_note(fault)),
     }
 }
 
 /// A message of an Established session.
-pub fn later(peer: Peer, now: u64, heard: Heard) -> (Phase, Act)
+pub fn later(mut peer: Peer, now: u64, heard: Heard) -> (Phase, Act)
     ensures { result ≡ later_step peer now heard }
 {
-    let alive = Peer {
-        alive_at: now,
-        ..peer
-    };
     match heard {
-        Heard::Keepalive | Heard::Update(None) => (Phase::Agreed(alive), Act::None),
+        Heard::Keepalive | Heard::Update(None) => {
+            peer.alive_at = now;
+            (Phase::Agreed(peer), Act::None)
+        }
         Heard::Refresh {
             afi: IPV4,
             safi: UNICAST,
         } => (Phase::Agreed(peer), Act::Again),
         Heard::Refresh { .. } => (Phase::Agreed(peer), Act::None),
-        Heard::Open(_) => ended(Short::note(5, 0)),
+        Heard::Open(_) => ended(unexpected()),
         Heard::Update(Some((code, sub))) => ended(Short::note(code, sub)),
-        Heard::Note => (Phase::Closing, Act::Down(None)),
+        Heard::Note => notified(),
         Heard::Header(fault) => ended(header_note(fault)),
     }
 }
@@ -111,6 +107,13 @@ fn ended(note: Short) -> (Phase, Act)
     ensures { result ≡ (phases.Closing, Act.Down (Some note)) }
 {
     (Phase::Closing, Act::Down(Some(note)))
+}
+
+/// The end of a session by the client's NOTIFICATION, which is not answered (RFC 4271, 6.4).
+fn notified() -> (Phase, Act)
+    ensures { result ≡ (phases.Closing, Act.Down None) }
+{
+    (Phase::Closing, Act::Down(None))
 }
 
 /// So many seconds or more lie between two moments.
@@ -125,27 +128,24 @@ pub fn waited(since: u64, now: u64) -> (Phase, Act)
     ensures { result ≡ wait since now }
 {
     if has_passed(OPEN_WAIT, since, now) {
-        ended(Short::note(4, 0))
+        ended(expired())
     } else {
         (Phase::OpenSent { since }, Act::None)
     }
 }
 
 /// A moment after it, with the Hold Time used.
-pub fn ticked(hold: u16, peer: Peer, now: u64) -> (Phase, Act)
+pub fn ticked(hold: u16, mut peer: Peer, now: u64) -> (Phase, Act)
     ensures { result ≡ tick hold peer now }
 {
     if hold == 0 {
         return (Phase::Agreed(peer), Act::None);
     }
     if has_passed(hold, peer.alive_at, now) {
-        return ended(Short::note(4, 0));
+        return ended(expired());
     }
     if has_passed(hold / 3, peer.due_at, now) {
-        let peer = Peer {
-            due_at: now,
-            ..peer
-        };
+        peer.due_at = now;
         return (Phase::Agreed(peer), Act::Say(Short::Keepalive));
     }
     (Phase::Agreed(peer), Act::None)

@@ -67,10 +67,11 @@ impl Session {
         self.see(t)
     }
 
-    /// The connection is lost.
-    #[tactic(auto, unfolding(crate::specs::Hearing::HasHeard))]
+    /// The connection is lost. The greatest moment stays.
+    #[tactic(auto, using(crate::proofs::Phases::idle_heard), unfolding(crate::specs::Hearing::HasHeard))]
     pub fn lost(&mut self)
-        ensures { Whenever self.old (λ settings items. HasHeard self.new settings (Left ∷ items)) }
+        ensures heard { Whenever self.old (λ settings items. HasHeard self.new settings (Left ∷ items)) }
+        ensures idle { Whenever self.old (λ settings items. state_of settings items ≡ State.Idle → self.new ≡ self.old) }
     {
         self.phase = Phase::Idle;
     }
