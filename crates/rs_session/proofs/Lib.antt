@@ -1,3 +1,4 @@
 mod Rows
 pub mod Phases
 pub mod Hearing
+pub mod Lasting

@@ -3,3 +3,4 @@ pub mod Endings
 pub mod Sessions
 pub mod Hearing
 pub mod Steps
+pub mod Laws

@@ -6,6 +6,7 @@
 mod act;
 mod faults;
 mod heard;
+pub mod laws;
 mod phase;
 mod session;
 mod settings;
