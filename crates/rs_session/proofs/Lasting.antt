@@ -30,7 +30,8 @@ lasts_by true GoesOn k e = (refl, refl)
 
 live_lasts : (s : Settings) (items : List Item) → is_live (state_of s items) ≡ true → Lasts s items
 live_lasts s items e =
-    let h : (is_connected items ≡ true) × (fate s items ≡ GoesOn) = lasts_by (is_connected items) (fate s items) (message_count items) e in
+    let h : (is_connected items ≡ true) × (fate s items ≡ GoesOn) = lasts_by (is_connected items)
+    (fate s items) (message_count items) e in
     record { connected = h.0; goes_on = h.1 }
 
 count_by : (k : ℕ) → state_by true GoesOn k ≡ states.Established → (more : ℕ) × (k ≡ suc (suc more))
@@ -72,7 +73,8 @@ peer_by true fate n e = refl
 ends_is_not : (said : Option Short) → Ends said ≢ GoesOn
 ends_is_not said e = cc
 
-first_came : (s : Settings) (messages : List Heard) (m : Heard) → messages ≡ [] → first_fate s.peer_as m ≡ GoesOn → OpenCame s (m ∷ messages) (open_in m)
+first_came : (s : Settings) (messages : List Heard) (m : Heard) → messages ≡ []
+    → first_fate s.peer_as m ≡ GoesOn → OpenCame s (m ∷ messages) (open_in m)
 first_came s messages (heard.Open (Ok sent)) n e = record {
   sent = sent;
   heard = ap (λ ms. heard.Open (Ok sent) ∷ ms) n;
@@ -86,7 +88,8 @@ first_came s messages heard.Note n e = cc
 first_came s messages heard.Keepalive n e = cc
 first_came s messages (heard.Header fault) n e = cc
 
-second_came : (s : Settings) (messages : List Heard) (first : Option Open) (m : Heard) → OpenCame s messages first → second_fate m ≡ GoesOn → MoreCame s (m ∷ messages) first
+second_came : (s : Settings) (messages : List Heard) (first : Option Open) (m : Heard)
+    → OpenCame s messages first → second_fate m ≡ GoesOn → MoreCame s (m ∷ messages) first
 second_came s messages first (heard.Open read) h e = cc
 second_came s messages first (heard.Update reset) h e = cc
 second_came s messages first (heard.Refresh afi safi) h e = cc
@@ -101,7 +104,8 @@ second_came s messages first heard.Keepalive h e = record {
 }
 second_came s messages first (heard.Header fault) h e = cc
 
-later_came : (s : Settings) (messages : List Heard) (first : Option Open) (m : Heard) → MoreCame s messages first → later_fate m ≡ GoesOn → MoreCame s (m ∷ messages) first
+later_came : (s : Settings) (messages : List Heard) (first : Option Open) (m : Heard)
+    → MoreCame s messages first → later_fate m ≡ GoesOn → MoreCame s (m ∷ messages) first
 later_came s messages first m h e = record {
   sent = h.sent;
   later = m ∷ h.later;
@@ -111,18 +115,22 @@ later_came s messages first m h e = record {
   first_is = h.first_is;
 }
 
-one_came : (k : ℕ) (s : Settings) (messages : List Heard) (first : Option Open) (m : Heard) → HasCome s messages first k → message_fate s.peer_as k m ≡ GoesOn → HasCome s (m ∷ messages) (elim k [ zero ↦ open_in m | suc count ↦ first ]) (suc k)
+one_came : (k : ℕ) (s : Settings) (messages : List Heard) (first : Option Open) (m : Heard)
+    → HasCome s messages first k → message_fate s.peer_as k m ≡ GoesOn
+    → HasCome s (m ∷ messages) (elim k [ zero ↦ open_in m | suc count ↦ first ]) (suc k)
 one_came zero s messages first m h e = first_came s messages m h e
 one_came (suc zero) s messages first m h e = second_came s messages first m h e
 one_came (suc (suc k)) s messages first m h e = later_came s messages first m h e
 
-came : (s : Settings) (items : List Item) → is_connected items ≡ true → fate s items ≡ GoesOn → HasCome s (messages_of items) (open_of items) (message_count items)
+came : (s : Settings) (items : List Item) → is_connected items ≡ true → fate s items ≡ GoesOn
+    → HasCome s (messages_of items) (open_of items) (message_count items)
 came s [] c e = cc
 came s (Came ∷ items) c e = refl
 came s (Left ∷ items) c e = cc
 came s (Moment t ∷ items) c e = came s items c (earlier_goes (fate s items) _ e).0
 came s (Message m ∷ items) c e =
-    let f : (fate s items ≡ GoesOn) × (message_fate s.peer_as (message_count items) m ≡ GoesOn) = earlier_goes (fate s items) _ e in
+    let f : (fate s items ≡ GoesOn) × (message_fate s.peer_as (message_count items) m ≡ GoesOn) =
+    earlier_goes (fate s items) _ e in
     one_came (message_count items) s (messages_of items) (open_of items) m (came s items c f.0) f.1
 
 established_live : (st : State) → st ≡ states.Established → is_live st ≡ true
@@ -133,7 +141,8 @@ brings_up s items e =
     let l : Lasts s items = live_lasts s items (ap is_live e) in
     let k : (more : ℕ) × (message_count items ≡ suc (suc more)) =
     count_by (message_count items) (sym (state_at _ _ _ _ _ _ l.connected l.goes_on refl) ∙ e) in
-    let h : MoreCame s (messages_of items) (open_of items) = subst (λ n. HasCome s (messages_of items) (open_of items) n) k.1 (came s items l.connected l.goes_on) in
+    let h : MoreCame s (messages_of items) (open_of items) = subst
+    (λ n. HasCome s (messages_of items) (open_of items) n) k.1 (came s items l.connected l.goes_on) in
     record {
       sent = h.sent;
       later = h.later;
@@ -162,11 +171,13 @@ is_within time since now e n = not_past time since now (not_ended _ _ e) n
 none_passed : (time now : ℕ) → time ≢ 0 → now - now < time
 none_passed time now n = omega arith
 
-within_if : (b : Bool) (time since now : ℕ) → IsWithin time since now → IsWithin time (if b then now else since) now
+within_if : (b : Bool) (time since now : ℕ) → IsWithin time since now
+    → IsWithin time (if b then now else since) now
 within_if false time since now h = h
 within_if true time since now h = none_passed time now
 
-alive_first : (s : Settings) (m : Heard) (since now : ℕ) → first_fate s.peer_as m ≡ GoesOn → IsWithin (hold_time s.hold (open_in m)) (if is_alive m then now else since) now
+alive_first : (s : Settings) (m : Heard) (since now : ℕ) → first_fate s.peer_as m ≡ GoesOn
+    → IsWithin (hold_time s.hold (open_in m)) (if is_alive m then now else since) now
 alive_first s (heard.Open read) since now e = none_passed _ now
 alive_first s (heard.Update reset) since now e = cc
 alive_first s (heard.Refresh afi safi) since now e = cc
@@ -174,23 +185,29 @@ alive_first s heard.Note since now e = cc
 alive_first s heard.Keepalive since now e = cc
 alive_first s (heard.Header fault) since now e = cc
 
-alive_message : (k : ℕ) (s : Settings) (m : Heard) (first : Option Open) (since now : ℕ) → message_fate s.peer_as k m ≡ GoesOn → IsWithin (hold_time s.hold first) since now
-    → IsWithin (hold_time s.hold (elim k [ zero ↦ open_in m | suc count ↦ first ])) (if is_alive m then now else since) now
+alive_message : (k : ℕ) (s : Settings) (m : Heard) (first : Option Open) (since now : ℕ)
+    → message_fate s.peer_as k m ≡ GoesOn → IsWithin (hold_time s.hold first) since now
+    → IsWithin (hold_time s.hold (elim k [ zero ↦ open_in m | suc count ↦ first ]))
+    (if is_alive m then now else since) now
 alive_message zero s m first since now e h = alive_first s m since now e
 alive_message (suc k) s m first since now e h = within_if (is_alive m) (hold_time s.hold first) since now h
 
-alive : (s : Settings) (items : List Item) → is_connected items ≡ true → fate s items ≡ GoesOn → IsWithin (hold_time s.hold (open_of items)) (alive_at items) (greatest items)
+alive : (s : Settings) (items : List Item) → is_connected items ≡ true → fate s items ≡ GoesOn
+    → IsWithin (hold_time s.hold (open_of items)) (alive_at items) (greatest items)
 alive s [] c e = cc
 alive s (Came ∷ items) c e = none_passed open_wait (greatest items)
 alive s (Left ∷ items) c e = cc
 alive s (Moment t ∷ items) c e = is_within _ _ _ (earlier_goes (fate s items) _ e).1
 alive s (Message m ∷ items) c e =
-    let f : (fate s items ≡ GoesOn) × (message_fate s.peer_as (message_count items) m ≡ GoesOn) = earlier_goes (fate s items) _ e in
-    alive_message (message_count items) s m (open_of items) (alive_at items) (greatest items) f.1 (alive s items c f.0)
+    let f : (fate s items ≡ GoesOn) × (message_fate s.peer_as (message_count items) m ≡ GoesOn) =
+    earlier_goes (fate s items) _ e in
+    alive_message (message_count items) s m (open_of items) (alive_at items) (greatest items) f.1
+    (alive s items c f.0)
 
 -- within a third of the Hold Time agreed
 abbrev IsDue : ℕ → Option Open → ℕ → ℕ → Type 0
-IsDue hold first since now = (sent : Open) → first ≡ Some sent → 3 ≤ min hold sent.hold → now - since < min hold sent.hold / 3
+IsDue hold first since now =
+    (sent : Open) → first ≡ Some sent → 3 ≤ min hold sent.hold → now - since < min hold sent.hold / 3
 
 third_of : (hold now : ℕ) → 3 ≤ hold → now - now < hold / 3
 third_of hold now n = omega arith
@@ -198,32 +215,41 @@ third_of hold now n = omega arith
 not_third : (hold since now : ℕ) → is_third hold since now ≡ false → 3 ≤ hold → now - since < hold / 3
 not_third hold since now e n = grind (arith, nat_tests, common_steps)
 
-due_by : (b : Bool) (hold since now : ℕ) → is_third hold since now ≡ b → 3 ≤ hold → now - (if b then now else since) < hold / 3
+due_by : (b : Bool) (hold since now : ℕ) → is_third hold since now ≡ b → 3 ≤ hold
+    → now - (if b then now else since) < hold / 3
 due_by false hold since now e n = not_third hold since now e n
 due_by true hold since now e n = third_of hold now n
 
-due_message : (k : ℕ) (hold : ℕ) (m : Heard) (first : Option Open) (since now : ℕ) → IsDue hold first since now
+due_message : (k : ℕ) (hold : ℕ) (m : Heard) (first : Option Open) (since now : ℕ)
+    → IsDue hold first since now
     → IsDue hold (elim k [ zero ↦ open_in m | suc count ↦ first ]) (elim k [ zero ↦ now | suc count ↦ since ]) now
 due_message zero hold m first since now h = λ sent f n. third_of (min hold sent.hold) now n
 due_message (suc k) hold m first since now h = h
 
-due_moment : (f : Fate) (hold : ℕ) (first : Option Open) (since now : ℕ) → f ≡ GoesOn → IsDue hold first (if falls_by f hold first since now then now else since) now
+due_moment : (f : Fate) (hold : ℕ) (first : Option Open) (since now : ℕ) → f ≡ GoesOn
+    → IsDue hold first (if falls_by f hold first since now then now else since) now
 due_moment (Ends said) hold first since now e = cc
 due_moment GoesOn hold None since now e = λ sent f n. cc
 due_moment GoesOn hold (Some told) since now e = λ sent f.
     let q : told ≡ sent = cc in
-    subst (λ (x : Open). 3 ≤ min hold x.hold → now - (if is_third (min hold told.hold) since now then now else since) < min hold x.hold / 3) q
+    subst
+    (λ (x : Open). 3 ≤ min hold x.hold → now - (if is_third (min hold told.hold) since now then now else since) < min hold x.hold / 3)
+    q
     (due_by (is_third (min hold told.hold) since now) (min hold told.hold) since now refl)
 
-due : (s : Settings) (items : List Item) → is_connected items ≡ true → fate s items ≡ GoesOn → IsDue s.hold (open_of items) (due_at s items) (greatest items)
+due : (s : Settings) (items : List Item) → is_connected items ≡ true → fate s items ≡ GoesOn
+    → IsDue s.hold (open_of items) (due_at s items) (greatest items)
 due s [] c e = cc
 due s (Came ∷ items) c e = λ sent f n. cc
 due s (Left ∷ items) c e = cc
-due s (Moment t ∷ items) c e = due_moment (fate s (Moment t ∷ items)) s.hold (open_of items) (due_at s items) (max (greatest items) t) e
+due s (Moment t ∷ items) c e =
+    due_moment (fate s (Moment t ∷ items)) s.hold (open_of items) (due_at s items) (max (greatest items) t) e
 due s (Message m ∷ items) c e =
-    due_message (message_count items) s.hold m (open_of items) (due_at s items) (greatest items) (due s items c (earlier_goes (fate s items) _ e).0)
+    due_message (message_count items) s.hold m (open_of items) (due_at s items) (greatest items)
+    (due s items c (earlier_goes (fate s items) _ e).0)
 
-agreed_open : (st : State) (first : Option Open) (sent : Open) → agreed_by st first ≡ Some sent → first ≡ Some sent
+agreed_open : (st : State) (first : Option Open) (sent : Open) → agreed_by st first ≡ Some sent
+    → first ≡ Some sent
 agreed_open states.Idle first sent e = cc
 agreed_open states.OpenSent first sent e = cc
 agreed_open states.OpenConfirm first sent e = e
@@ -235,27 +261,36 @@ keeps_time s items e =
     let l : Lasts s items = live_lasts s items e in
     record {
       alive = alive s items l.connected l.goes_on;
-      due = λ sent f n. due s items l.connected l.goes_on sent (agreed_open (state_of s items) (open_of items) sent f) n;
+      due = λ sent f n. due s items l.connected l.goes_on sent
+          (agreed_open (state_of s items) (open_of items) sent f) n;
     }
 
 -- ---- one end
 
-closing_by : (c : Bool) (f : Fate) (k : ℕ) → state_by c f k ≡ states.Closing → (c ≡ true) × (said : Option Short) × (f ≡ Ends said)
+closing_by : (c : Bool) (f : Fate) (k : ℕ) → state_by c f k ≡ states.Closing
+    → (c ≡ true) × (said : Option Short) × (f ≡ Ends said)
 closing_by false f k e = cc
 closing_by true (Ends said) k e = (refl, said, refl)
 closing_by true GoesOn zero e = cc
 closing_by true GoesOn (suc zero) e = cc
 closing_by true GoesOn (suc (suc k)) e = cc
 
-stays_closing : (c : Bool) (f g : Fate) (k : ℕ) (said : Option Short) → c ≡ true → f ≡ Ends said → state_by c (earlier f g) k ≡ states.Closing
-stays_closing c f g k said d e = state_at c true (earlier f g) (Ends said) k k d (ap (λ x. earlier x g) e) refl
+stays_closing : (c : Bool) (f g : Fate) (k : ℕ) (said : Option Short) → c ≡ true → f ≡ Ends said
+    → state_by c (earlier f g) k ≡ states.Closing
+stays_closing c f g k said d e =
+    state_at c true (earlier f g) (Ends said) k k d (ap (λ x. earlier x g) e) refl
 
 pub ends_once : EndsOnce
 ends_once s items e =
-    let h : (is_connected items ≡ true) × (said : Option Short) × (fate s items ≡ Ends said) = closing_by (is_connected items) (fate s items) (message_count items) e in
+    let h : (is_connected items ≡ true) × (said : Option Short) × (fate s items ≡ Ends said) = closing_by
+    (is_connected items) (fate s items) (message_count items) e in
     record {
-      unheard = λ m. ap (λ st. if is_live st then message_act (item_fate s (Message m) items) (message_count items) m else acts.None) e;
-      untimed = λ t. ap (λ st. if is_live st then moment_act (item_fate s (Moment t) items) (falls_due s t items) else acts.None) e;
+      unheard = λ m. ap
+          (λ st. if is_live st then message_act (item_fate s (Message m) items) (message_count items) m else acts.None)
+          e;
+      untimed = λ t. ap
+          (λ st. if is_live st then moment_act (item_fate s (Moment t) items) (falls_due s t items) else acts.None)
+          e;
       behind_message = λ m. stays_closing _ _ _ _ _ h.0 h.2;
       behind_moment = λ t. stays_closing _ _ _ _ _ h.0 h.2;
     }

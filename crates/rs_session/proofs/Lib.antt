@@ -1,4 +1,6 @@
 mod Rows
 pub mod Phases
-pub mod Hearing
+pub mod Standing
+pub mod Messages
+pub mod Moments
 pub mod Lasting

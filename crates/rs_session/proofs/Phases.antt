@@ -27,41 +27,52 @@ sent_in phases.Closing = None
 pub state_at : (c d : Bool) (f g : Fate) (k l : ℕ) → c ≡ d → f ≡ g → k ≡ l → state_by c f k ≡ state_by d g l
 state_at c d f g k l p q r = cc
 
-confirmed_state : (b : Bool) (k : ℕ) → IsCount b k → state_by true GoesOn k ≡ (if b then states.Established else states.OpenConfirm)
+confirmed_state : (b : Bool) (k : ℕ) → IsCount b k
+    → state_by true GoesOn k ≡ (if b then states.Established else states.OpenConfirm)
 confirmed_state false k h = ap (λ n. state_by true GoesOn n) h
 confirmed_state true k h = ap (λ n. state_by true GoesOn n) h.1
 
 -- the state is the phase's
-pub state_is : (phase : Phase) (s : Settings) (items : List Item) → Stands phase s items → state_of s items ≡ state_in phase
+pub state_is : (phase : Phase) (s : Settings) (items : List Item) → Stands phase s items
+    → state_of s items ≡ state_in phase
 state_is phases.Idle s items h = ap (λ c. state_by c (fate s items) (message_count items)) h
 state_is (phases.OpenSent since) s items h = state_at _ true _ GoesOn _ 0 h.connected h.lasts h.count
 state_is (phases.Agreed peer) s items h =
-    state_at (is_connected items) true (fate s items) GoesOn (message_count items) (message_count items) h.connected h.lasts refl
+    state_at (is_connected items) true (fate s items) GoesOn (message_count items) (message_count items)
+    h.connected h.lasts refl
     ∙ confirmed_state peer.confirmed (message_count items) h.count
-state_is phases.Closing s items h = state_at _ true _ (Ends h.note) _ (message_count items) h.connected h.ends refl
+state_is phases.Closing s items h =
+    state_at _ true _ (Ends h.note) _ (message_count items) h.connected h.ends refl
 
-agreed_confirmed : (b : Bool) (sent : Option Open) → agreed_by (if b then states.Established else states.OpenConfirm) sent ≡ sent
+agreed_confirmed : (b : Bool) (sent : Option Open)
+    → agreed_by (if b then states.Established else states.OpenConfirm) sent ≡ sent
 agreed_confirmed false sent = refl
 agreed_confirmed true sent = refl
 
 -- and so is the OPEN
-pub agreed_is : (phase : Phase) (s : Settings) (items : List Item) → Stands phase s items → agreed_of s items ≡ sent_in phase
+pub agreed_is : (phase : Phase) (s : Settings) (items : List Item) → Stands phase s items
+    → agreed_of s items ≡ sent_in phase
 agreed_is phases.Idle s items h = ap (λ x. agreed_by x (open_of items)) (state_is phases.Idle s items h)
-agreed_is (phases.OpenSent since) s items h = ap (λ x. agreed_by x (open_of items)) (state_is (phases.OpenSent since) s items h)
+agreed_is (phases.OpenSent since) s items h =
+    ap (λ x. agreed_by x (open_of items)) (state_is (phases.OpenSent since) s items h)
 agreed_is (phases.Agreed peer) s items h =
     ap (λ x. agreed_by x (open_of items)) (state_is (phases.Agreed peer) s items h)
     ∙ agreed_confirmed peer.confirmed (open_of items) ∙ h.sent
-agreed_is phases.Closing s items h = ap (λ x. agreed_by x (open_of items)) (state_is phases.Closing s items h)
+agreed_is phases.Closing s items h =
+    ap (λ x. agreed_by x (open_of items)) (state_is phases.Closing s items h)
 
-pub state_heard : (session : Session) (s : Settings) (items : List Item) → HasHeard session s items → state_of s items ≡ state_in session.phase
+pub state_heard : (session : Session) (s : Settings) (items : List Item) → HasHeard session s items
+    → state_of s items ≡ state_in session.phase
 unfolding HasHeard
 state_heard session s items h = state_is session.phase s items h.phase
 
-pub agreed_heard : (session : Session) (s : Settings) (items : List Item) → HasHeard session s items → agreed_of s items ≡ sent_in session.phase
+pub agreed_heard : (session : Session) (s : Settings) (items : List Item) → HasHeard session s items
+    → agreed_of s items ≡ sent_in session.phase
 unfolding HasHeard
 agreed_heard session s items h = agreed_is session.phase s items h.phase
 
-pub settings_heard : (session : Session) (s : Settings) (items : List Item) → HasHeard session s items → session.settings ≡ s
+pub settings_heard : (session : Session) (s : Settings) (items : List Item) → HasHeard session s items
+    → session.settings ≡ s
 unfolding HasHeard
 settings_heard session s items h = h.settings_are
 
@@ -75,7 +86,8 @@ idle_phase (phases.OpenSent since) e = cc
 idle_phase (phases.Agreed peer) e = absurd (confirmed_not_idle peer.confirmed e)
 idle_phase phases.Closing e = cc
 
-pub idle_heard : (session : Session) (s : Settings) (items : List Item) → HasHeard session s items → state_of s items ≡ states.Idle → session.phase ≡ phases.Idle
+pub idle_heard : (session : Session) (s : Settings) (items : List Item) → HasHeard session s items
+    → state_of s items ≡ states.Idle → session.phase ≡ phases.Idle
 idle_heard session s items h e = idle_phase session.phase (sym (state_heard session s items h) ∙ e)
 
 established_sent : (phase : Phase) → state_in phase ≡ states.Established → sent_in phase ≡ None → ⊥
@@ -84,6 +96,8 @@ established_sent (phases.OpenSent since) e f = cc
 established_sent (phases.Agreed peer) e f = cc
 established_sent phases.Closing e f = cc
 
-pub established_heard : (session : Session) (s : Settings) (items : List Item) → HasHeard session s items → state_of s items ≡ states.Established → agreed_of s items ≡ None → ⊥
+pub established_heard : (session : Session) (s : Settings) (items : List Item) → HasHeard session s items
+    → state_of s items ≡ states.Established → agreed_of s items ≡ None → ⊥
 established_heard session s items h e f =
-    established_sent session.phase (sym (state_heard session s items h) ∙ e) (sym (agreed_heard session s items h) ∙ f)
+    established_sent session.phase (sym (state_heard session s items h) ∙ e)
+    (sym (agreed_heard session s items h) ∙ f)

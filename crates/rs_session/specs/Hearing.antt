@@ -62,7 +62,8 @@ HasHeard session settings items = Holds session settings items
 
 -- whatever the settings and the items are that a session has heard
 abbrev pub Whenever : Session → (Settings → List Item → Type 0) → Type 0
-Whenever session P = (settings : Settings) (items : List Item) → HasHeard session settings items → P settings items
+Whenever session P =
+    (settings : Settings) (items : List Item) → HasHeard session settings items → P settings items
 
 -- a value is read off the items
 abbrev pub Shows : {X : Type 0} → Session → (Settings → List Item → X) → X → Type 0

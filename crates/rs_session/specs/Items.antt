@@ -65,6 +65,7 @@ open_in (heard.Header fault) = None
 abbrev pub open_of : List Item → Option Open
 open_of [] = None
 open_of (Came ∷ items) = None
-open_of (Message message ∷ items) = elim (message_count items) [ zero ↦ open_in message | suc count ↦ open_of items ]
+open_of (Message message ∷ items) =
+    elim (message_count items) [ zero ↦ open_in message | suc count ↦ open_of items ]
 open_of (Moment t ∷ items) = open_of items
 open_of (Left ∷ items) = None

@@ -18,7 +18,8 @@ messages_of (Message message ∷ items) = message ∷ messages_of items
 messages_of (Moment t ∷ items) = messages_of items
 messages_of (Left ∷ items) = []
 
--- an OPEN of the client's AS came first, then a KEEPALIVE, then messages that end nothing; and that OPEN is what is agreed
+-- an OPEN of the client's AS came first, then a KEEPALIVE, then messages that end nothing; and that OPEN is what is
+-- agreed
 pub record IsBroughtUp (settings : Settings) (items : List Item) : Type 0 where
   pub sent : Open
   pub later : List Heard
@@ -28,16 +29,22 @@ pub record IsBroughtUp (settings : Settings) (items : List Item) : Type 0 where
   pub agreed : agreed_of settings items ≡ Some sent
 
 abbrev pub BringsUp : Type 0
-BringsUp = (settings : Settings) (items : List Item) → state_of settings items ≡ states.Established → IsBroughtUp settings items
+BringsUp =
+    (settings : Settings) (items : List Item)
+    → state_of settings items ≡ states.Established → IsBroughtUp settings items
 
 -- less than the time allowed has passed since the peer was last heard, and less than a third of the Hold Time since a
 -- KEEPALIVE last fell due
 pub record IsInTime (settings : Settings) (items : List Item) : Type 0 where
-  pub alive : hold_time settings.hold (open_of items) ≢ 0 → greatest items - alive_at items < hold_time settings.hold (open_of items)
-  pub due : (sent : Open) → agreed_of settings items ≡ Some sent → 3 ≤ min settings.hold sent.hold → greatest items - due_at settings items < min settings.hold sent.hold / 3
+  pub alive : hold_time settings.hold (open_of items) ≢ 0
+      → greatest items - alive_at items < hold_time settings.hold (open_of items)
+  pub due : (sent : Open) → agreed_of settings items ≡ Some sent → 3 ≤ min settings.hold sent.hold
+      → greatest items - due_at settings items < min settings.hold sent.hold / 3
 
 abbrev pub KeepsTime : Type 0
-KeepsTime = (settings : Settings) (items : List Item) → is_live (state_of settings items) ≡ true → IsInTime settings items
+KeepsTime =
+    (settings : Settings) (items : List Item)
+    → is_live (state_of settings items) ≡ true → IsInTime settings items
 
 -- what ended says nothing more, and stays so until the connection is lost
 pub record IsOver (settings : Settings) (items : List Item) : Type 0 where
@@ -47,4 +54,6 @@ pub record IsOver (settings : Settings) (items : List Item) : Type 0 where
   pub behind_moment : (t : ℕ) → state_of settings (Moment t ∷ items) ≡ states.Closing
 
 abbrev pub EndsOnce : Type 0
-EndsOnce = (settings : Settings) (items : List Item) → state_of settings items ≡ states.Closing → IsOver settings items
+EndsOnce =
+    (settings : Settings) (items : List Item)
+    → state_of settings items ≡ states.Closing → IsOver settings items

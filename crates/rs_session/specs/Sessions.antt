@@ -22,7 +22,8 @@ use Rattle.rs_session.specs.Endings.{Fate, GoesOn, Ends, message_fate, moment_fa
 abbrev pub item_fate : Settings → Item → List Item → Fate
 item_fate settings Came items = GoesOn
 item_fate settings (Message message) items = message_fate settings.peer_as (message_count items) message
-item_fate settings (Moment t) items = moment_fate (hold_time settings.hold (open_of items)) (alive_at items) (max (greatest items) t)
+item_fate settings (Moment t) items =
+    moment_fate (hold_time settings.hold (open_of items)) (alive_at items) (max (greatest items) t)
 item_fate settings Left items = GoesOn
 
 -- the first end counts
@@ -34,8 +35,10 @@ earlier (Ends note) later = Ends note
 abbrev pub fate : Settings → List Item → Fate
 fate settings [] = GoesOn
 fate settings (Came ∷ items) = GoesOn
-fate settings (Message message ∷ items) = earlier (fate settings items) (item_fate settings (Message message) items)
-fate settings (Moment t ∷ items) = earlier (fate settings items) (item_fate settings (Moment t) items)
+fate settings (Message message ∷ items) =
+    earlier (fate settings items) (item_fate settings (Message message) items)
+fate settings (Moment t ∷ items) =
+    earlier (fate settings items) (item_fate settings (Moment t) items)
 fate settings (Left ∷ items) = GoesOn
 
 -- ---- the state
@@ -115,7 +118,8 @@ falls_by GoesOn hold (Some sent) since now = is_third (hold_time hold (Some sent
 abbrev pub due_at : Settings → List Item → ℕ
 due_at settings [] = 0
 due_at settings (Came ∷ items) = 0
-due_at settings (Message message ∷ items) = elim (message_count items) [ zero ↦ greatest items | suc count ↦ due_at settings items ]
+due_at settings (Message message ∷ items) =
+    elim (message_count items) [ zero ↦ greatest items | suc count ↦ due_at settings items ]
 due_at settings (Moment t ∷ items) =
     if falls_by (fate settings (Moment t ∷ items)) settings.hold (open_of items) (due_at settings items) (max (greatest items) t)
     then max (greatest items) t
@@ -124,7 +128,8 @@ due_at settings (Left ∷ items) = 0
 
 -- a KEEPALIVE falls due at this moment
 abbrev pub falls_due : Settings → ℕ → List Item → Bool
-falls_due settings t items = falls_by (fate settings (Moment t ∷ items)) settings.hold (open_of items) (due_at settings items) (max (greatest items) t)
+falls_due settings t items =
+    falls_by (fate settings (Moment t ∷ items)) settings.hold (open_of items) (due_at settings items) (max (greatest items) t)
 
 -- ---- what is to be done
 

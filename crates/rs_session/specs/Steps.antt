@@ -17,7 +17,8 @@ step (Ends note) phase act = (phases.Closing, acts.Down note)
 step GoesOn phase act = (phase, act)
 
 abbrev pub phase_from : ℕ → Heard → Phase
-phase_from now (heard.Open (Ok sent)) = phases.Agreed (record { sent = sent; confirmed = false; alive_at = now; due_at = now })
+phase_from now (heard.Open (Ok sent)) =
+    phases.Agreed (record { sent = sent; confirmed = false; alive_at = now; due_at = now })
 phase_from now (heard.Open (Err fault)) = phases.Closing
 phase_from now (heard.Update reset) = phases.Closing
 phase_from now (heard.Refresh afi safi) = phases.Closing
@@ -26,10 +27,12 @@ phase_from now heard.Keepalive = phases.Closing
 phase_from now (heard.Header fault) = phases.Closing
 
 abbrev pub first_step : ℕ → ℕ → Heard → Phase × Act
-first_step peer_as now message = step (first_fate peer_as message) (phase_from now message) (acts.Say short.Keepalive)
+first_step peer_as now message =
+    step (first_fate peer_as message) (phase_from now message) (acts.Say short.Keepalive)
 
 abbrev pub second_step : Peer → ℕ → Heard → Phase × Act
-second_step peer now message = step (second_fate message) (phases.Agreed (record peer { confirmed = true; alive_at = now })) acts.Up
+second_step peer now message =
+    step (second_fate message) (phases.Agreed (record peer { confirmed = true; alive_at = now })) acts.Up
 
 abbrev pub later_step : Peer → ℕ → Heard → Phase × Act
 later_step peer now message = step (later_fate message)
@@ -39,7 +42,8 @@ later_step peer now message = step (later_fate message)
 abbrev pub message_step : Phase → ℕ → ℕ → Heard → Phase × Act
 message_step phases.Idle peer_as now message = (phases.Idle, acts.None)
 message_step (phases.OpenSent since) peer_as now message = first_step peer_as now message
-message_step (phases.Agreed peer) peer_as now message = if peer.confirmed then later_step peer now message else second_step peer now message
+message_step (phases.Agreed peer) peer_as now message =
+    if peer.confirmed then later_step peer now message else second_step peer now message
 message_step phases.Closing peer_as now message = (phases.Closing, acts.None)
 
 -- the hold timer at a moment, before the OPEN

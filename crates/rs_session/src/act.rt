@@ -3,7 +3,8 @@
 use rs_open::Short;
 use thiserror::Error;
 
-/// The state of a session (RFC 4271, 8.2.2). The server is passive, so Connect and Active are not among them.
+/// The state of a session (RFC 4271, 8.2.2). The server is passive, so Connect and Active are not
+/// among them.
 #[derive(Clone, Copy, Debug, PartialEq, Eq)]
 pub enum State {
     /// There is no connection.

@@ -21,7 +21,8 @@ pub struct Session {
 impl Session {
     ghost use Rattle.rs_session.specs.Steps.{message_step, moment_step};
     ghost use Rattle.rs_session.specs.Items.{Came, Message, Moment, Left};
-    ghost use Rattle.rs_session.specs.Sessions.{state_of, is_live, agreed_of, mode_of, identifier_of, limit_of};
+    ghost use Rattle.rs_session.specs.Sessions.{state_of, is_live, agreed_of};
+    ghost use Rattle.rs_session.specs.Sessions.{mode_of, identifier_of, limit_of};
     ghost use Rattle.rs_session.specs.Hearing.{HasHeard, Whenever, Shows, Hears};
 
     /// A session of a client with these settings: Idle, and no moment was seen.
@@ -37,11 +38,12 @@ impl Session {
     }
 
     /// A connection has come. The answer is to say our OPEN.
-    #[tactic(auto, using(crate::proofs::Hearing::came_hears, crate::proofs::Phases::idle_heard))]
+    #[tactic(auto, using(crate::proofs::Messages::came_hears, crate::proofs::Phases::idle_heard))]
     pub fn opened(&mut self) -> Result<Act, Busy>
         ensures ok { IfOk result (λ act. Hears self.old self.new Came act) }
         ensures busy { OnErr result (self.new ≡ self.old) }
-        ensures busy_unless_idle { OnErr result (Whenever self.old (λ settings items. state_of settings items ≢ State.Idle)) }
+        ensures busy_unless_idle { OnErr result (Whenever self.old (λ settings items.
+            state_of settings items ≢ State.Idle)) }
     {
         match self.phase {
             Phase::Idle => {
@@ -52,15 +54,18 @@ impl Session {
         }
     }
 
-    /// A message was heard, or the fault of a header. While there is no session that lasts, it changes nothing.
+    /// A message was heard, or the fault of a header. While there is no session that lasts, it
+    /// changes nothing.
     pub fn message(&mut self, heard: Heard) -> Act
         ensures hears { Hears self.old self.new (Message heard) result }
-        ensures over { Whenever self.old (λ settings items. is_live (state_of settings items) ≡ false → self.new ≡ self.old) }
+        ensures over { Whenever self.old (λ settings items.
+            is_live (state_of settings items) ≡ false → self.new ≡ self.old) }
     {
         self.hear(heard)
     }
 
-    /// A moment is seen, in seconds; one that is less than an earlier one counts as the greatest so far.
+    /// A moment is seen, in seconds; one that is less than an earlier one counts as the greatest
+    /// so far.
     pub fn moment(&mut self, t: u64) -> Act
         ensures { Hears self.old self.new (Moment t) result }
     {
@@ -71,7 +76,8 @@ impl Session {
     #[tactic(auto, using(crate::proofs::Phases::idle_heard), unfolding(crate::specs::Hearing::HasHeard))]
     pub fn lost(&mut self)
         ensures heard { Whenever self.old (λ settings items. HasHeard self.new settings (Left ∷ items)) }
-        ensures idle { Whenever self.old (λ settings items. state_of settings items ≡ State.Idle → self.new ≡ self.old) }
+        ensures idle { Whenever self.old (λ settings items.
+            state_of settings items ≡ State.Idle → self.new ≡ self.old) }
     {
         self.phase = Phase::Idle;
     }
@@ -94,7 +100,8 @@ impl Session {
     #[tactic(auto, using(crate::proofs::Phases::established_heard))]
     pub fn mode(&self) -> Option<Mode>
         ensures mode { Shows self.now mode_of result }
-        ensures established { Whenever self.now (λ settings items. state_of settings items ≡ State.Established → IsSome result) }
+        ensures established { Whenever self.now (λ settings items.
+            state_of settings items ≡ State.Established → IsSome result) }
     {
         match self.agreed() {
             Some(Open { four: Some(_), .. }) => Some(Mode::Four),
@@ -143,7 +150,8 @@ impl Session {
 
     /// What a message makes of the phase, and the answer.
     fn hear(&mut self, heard: Heard) -> Act
-        ensures phase { (self.new.phase, result) ≡ message_step self.old.phase self.old.settings.peer_as self.old.latest heard }
+        ensures phase { (self.new.phase, result)
+            ≡ message_step self.old.phase self.old.settings.peer_as self.old.latest heard }
         ensures latest { self.new.latest ≡ self.old.latest }
         ensures settings { self.new.settings ≡ self.old.settings }
     {
@@ -159,7 +167,8 @@ impl Session {
 
     /// What a moment makes of the phase, and the answer.
     fn see(&mut self, t: u64) -> Act
-        ensures phase { (self.new.phase, result) ≡ moment_step self.old.phase self.old.settings.hold self.new.latest }
+        ensures phase { (self.new.phase, result)
+            ≡ moment_step self.old.phase self.old.settings.hold self.new.latest }
         ensures latest { self.new.latest ≡ max self.old.latest t }
         ensures settings { self.new.settings ≡ self.old.settings }
     {

@@ -1,4 +1,4 @@
-use Rattle.rs_session.proofs.Hearing.{message_hears, over_hears}
+use Rattle.rs_session.proofs.Messages.{message_hears, over_hears}
 use Rattle.rs_session.proofs.session.Session.message.Goals as goal
 
 pub returns-clause-hears : goal.returns-clause-hears

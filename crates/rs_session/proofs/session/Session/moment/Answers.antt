@@ -1,4 +1,4 @@
-use Rattle.rs_session.proofs.Hearing.{moment_hears}
+use Rattle.rs_session.proofs.Moments.{moment_hears}
 use Rattle.rs_session.proofs.session.Session.moment.Goals as goal
 
 pub returns : goal.returns
