@@ -67,7 +67,7 @@ pub fn open_note(peer_as: u32, fault: OpenFault) -> Short
             let name = Notification::UnsupportedVersionNumber;
             Short::note_2(name.code(), name.sub(), 0, 4)
         }
-        OpenFault::Malformed => Notification::UnspecificOpenError.note(),
+        OpenFault::Malformed => Notification::OpenMessageError.note(),
         OpenFault::Parameter => Notification::UnsupportedOptionalParameter.note(),
         OpenFault::Hold { my_as, four } => {
             behind_as(peer_as, my_as, four, Notification::UnacceptableHoldTime)
