@@ -11,9 +11,9 @@ use Rattle.rs_session.specs.declared.act.State.{State}
 use Rattle.rs_session.specs.declared.act.State.TheVariants as states
 use Rattle.rs_session.specs.declared.act.Act.TheVariants as acts
 use Rattle.rs_session.specs.declared.settings.Settings.{Settings}
-use Rattle.rs_session.specs.Items.{Item, Came, Message, Moment, Left, greatest, is_connected, message_count, is_alive, alive_at, open_in, open_of}
+use Rattle.rs_session.specs.Items.{Item, Came, Message, Moment, Left, greatest, is_connected, message_count, restarts_hold_timer, hold_timer_since, open_in, open_of}
 use Rattle.rs_session.specs.Endings.{Fate, GoesOn, Ends, is_peer, first_fate, second_fate, later_fate, message_fate, open_wait, moment_fate, hold_time, is_past}
-use Rattle.rs_session.specs.Sessions.{fate, item_fate, earlier, state_by, state_of, is_live, agreed_by, is_third, falls_by, due_at, falls_due, message_act, moment_act}
+use Rattle.rs_session.specs.Sessions.{fate, item_fate, earlier, state_by, state_of, is_live, agreed_by, is_third, falls_by, keepalive_timer_since, falls_due, message_act, moment_act}
 use Rattle.rs_session.specs.Laws.{messages_of, BringsUp, KeepsTime, EndsOnce}
 use Rattle.rs_session.proofs.Phases.{state_at}
 
@@ -177,7 +177,7 @@ within_if false time since now h = h
 within_if true time since now h = none_passed time now
 
 alive_first : (s : Settings) (m : Heard) (since now : ℕ) → first_fate s.peer_as m ≡ GoesOn
-    → IsWithin (hold_time s.hold (open_in m)) (if is_alive m then now else since) now
+    → IsWithin (hold_time s.hold (open_in m)) (if restarts_hold_timer m then now else since) now
 alive_first s (heard.Open read) since now e = none_passed _ now
 alive_first s (heard.Update reset) since now e = cc
 alive_first s (heard.Refresh afi safi) since now e = cc
@@ -188,12 +188,12 @@ alive_first s (heard.Header fault) since now e = cc
 alive_message : (k : ℕ) (s : Settings) (m : Heard) (first : Option Open) (since now : ℕ)
     → message_fate s.peer_as k m ≡ GoesOn → IsWithin (hold_time s.hold first) since now
     → IsWithin (hold_time s.hold (elim k [ zero ↦ open_in m | suc count ↦ first ]))
-    (if is_alive m then now else since) now
+    (if restarts_hold_timer m then now else since) now
 alive_message zero s m first since now e h = alive_first s m since now e
-alive_message (suc k) s m first since now e h = within_if (is_alive m) (hold_time s.hold first) since now h
+alive_message (suc k) s m first since now e h = within_if (restarts_hold_timer m) (hold_time s.hold first) since now h
 
 alive : (s : Settings) (items : List Item) → is_connected items ≡ true → fate s items ≡ GoesOn
-    → IsWithin (hold_time s.hold (open_of items)) (alive_at items) (greatest items)
+    → IsWithin (hold_time s.hold (open_of items)) (hold_timer_since items) (greatest items)
 alive s [] c e = cc
 alive s (Came ∷ items) c e = none_passed open_wait (greatest items)
 alive s (Left ∷ items) c e = cc
@@ -201,7 +201,7 @@ alive s (Moment t ∷ items) c e = is_within _ _ _ (earlier_goes (fate s items) 
 alive s (Message m ∷ items) c e =
     let f : (fate s items ≡ GoesOn) × (message_fate s.peer_as (message_count items) m ≡ GoesOn) =
     earlier_goes (fate s items) _ e in
-    alive_message (message_count items) s m (open_of items) (alive_at items) (greatest items) f.1
+    alive_message (message_count items) s m (open_of items) (hold_timer_since items) (greatest items) f.1
     (alive s items c f.0)
 
 -- within a third of the Hold Time agreed
@@ -238,14 +238,14 @@ due_moment GoesOn hold (Some told) since now e = λ sent f.
     (due_by (is_third (min hold told.hold) since now) (min hold told.hold) since now refl)
 
 due : (s : Settings) (items : List Item) → is_connected items ≡ true → fate s items ≡ GoesOn
-    → IsDue s.hold (open_of items) (due_at s items) (greatest items)
+    → IsDue s.hold (open_of items) (keepalive_timer_since s items) (greatest items)
 due s [] c e = cc
 due s (Came ∷ items) c e = λ sent f n. cc
 due s (Left ∷ items) c e = cc
 due s (Moment t ∷ items) c e =
-    due_moment (fate s (Moment t ∷ items)) s.hold (open_of items) (due_at s items) (max (greatest items) t) e
+    due_moment (fate s (Moment t ∷ items)) s.hold (open_of items) (keepalive_timer_since s items) (max (greatest items) t) e
 due s (Message m ∷ items) c e =
-    due_message (message_count items) s.hold m (open_of items) (due_at s items) (greatest items)
+    due_message (message_count items) s.hold m (open_of items) (keepalive_timer_since s items) (greatest items)
     (due s items c (earlier_goes (fate s items) _ e).0)
 
 agreed_open : (st : State) (first : Option Open) (sent : Open) → agreed_by st first ≡ Some sent
@@ -260,8 +260,8 @@ pub keeps_time : KeepsTime
 keeps_time s items e =
     let l : Lasts s items = live_lasts s items e in
     record {
-      alive = alive s items l.connected l.goes_on;
-      due = λ sent f n. due s items l.connected l.goes_on sent
+      hold_timer = alive s items l.connected l.goes_on;
+      keepalive_timer = λ sent f n. due s items l.connected l.goes_on sent
           (agreed_open (state_of s items) (open_of items) sent f) n;
     }
 

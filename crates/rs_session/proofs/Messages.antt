@@ -13,9 +13,9 @@ use Rattle.rs_session.specs.declared.session.Session.{Session}
 use Rattle.rs_session.specs.declared.phase.Phase.{Phase}
 use Rattle.rs_session.specs.declared.phase.Phase.TheVariants as phases
 use Rattle.rs_session.specs.declared.phase.Peer.{Peer}
-use Rattle.rs_session.specs.Items.{Item, Came, Message, greatest, message_count, is_alive, alive_at, open_in, open_of}
+use Rattle.rs_session.specs.Items.{Item, Came, Message, greatest, message_count, restarts_hold_timer, hold_timer_since, open_in, open_of}
 use Rattle.rs_session.specs.Endings.{Fate, GoesOn, Ends, first_fate, second_fate, later_fate, message_fate}
-use Rattle.rs_session.specs.Sessions.{fate, state_of, is_live, due_at, is_request, message_act, act_of}
+use Rattle.rs_session.specs.Sessions.{fate, state_of, is_live, keepalive_timer_since, is_request, message_act, act_of}
 use Rattle.rs_session.specs.Hearing.{IsWaiting, IsCount, HasAgreed, Stands, HasHeard, IsSame, Tells, Hears}
 use Rattle.rs_session.specs.Steps.{step, phase_from, first_step, second_step, later_step, message_step}
 use Rattle.rs_session.proofs.Phases.{state_in, state_at, state_is, agreed_is}
@@ -36,8 +36,8 @@ opened_stands s items since sent w e = record {
   lasts = e;
   count = ap suc w.count;
   sent = ap (λ (k : ℕ). elim k [ zero ↦ Some sent | suc count ↦ open_of items ]) w.count;
-  alive = refl;
-  due = ap (λ (k : ℕ). elim k [ zero ↦ greatest items | suc count ↦ due_at s items ]) w.count;
+  hold_timer = refl;
+  keepalive_timer = ap (λ (k : ℕ). elim k [ zero ↦ greatest items | suc count ↦ keepalive_timer_since s items ]) w.count;
 }
 
 from_stands : (s : Settings) (items : List Item) (since : ℕ) (m : Heard) → IsWaiting s items since
@@ -63,7 +63,7 @@ second_fate_is : (s : Settings) (items : List Item) (peer : Peer) (m : Heard) �
     → message_count items ≡ 1 → fate s (Message m ∷ items) ≡ second_fate m
 second_fate_is s items peer m w k = earlier_goes _ _ w.lasts ∙ ap (λ (k : ℕ). message_fate s.peer_as k m) k
 
-second_goes : (m : Heard) → second_fate m ≡ GoesOn → is_alive m ≡ true
+second_goes : (m : Heard) → second_fate m ≡ GoesOn → restarts_hold_timer m ≡ true
 second_goes (heard.Open read) e = refl
 second_goes (heard.Update reset) e = refl
 second_goes (heard.Refresh afi safi) e = cc
@@ -80,8 +80,8 @@ second_stands s items peer m w k =
       lasts = second_fate_is s items peer m w k ∙ e;
       count = (0, ap suc k);
       sent = ap (λ (k : ℕ). elim k [ zero ↦ open_in m | suc count ↦ open_of items ]) k ∙ w.sent;
-      alive = ap (λ b. if b then greatest items else alive_at items) (second_goes m e);
-      due = ap (λ (k : ℕ). elim k [ zero ↦ greatest items | suc count ↦ due_at s items ]) k ∙ w.due;
+      hold_timer = ap (λ b. if b then greatest items else hold_timer_since items) (second_goes m e);
+      keepalive_timer = ap (λ (k : ℕ). elim k [ zero ↦ greatest items | suc count ↦ keepalive_timer_since s items ]) k ∙ w.keepalive_timer;
     })
 
 -- ---- a later one
@@ -103,8 +103,8 @@ later_stands s items peer m more w e k =
       lasts = later_fate_is s items peer m more w k ∙ f;
       count = subst (λ b. IsCount b (suc (message_count items))) (sym e) (suc more, ap suc k);
       sent = ap (λ (k : ℕ). elim k [ zero ↦ open_in m | suc count ↦ open_of items ]) k ∙ w.sent;
-      alive = ap (λ t. if is_alive m then greatest items else t) w.alive;
-      due = ap (λ (k : ℕ). elim k [ zero ↦ greatest items | suc count ↦ due_at s items ]) k ∙ w.due;
+      hold_timer = ap (λ t. if restarts_hold_timer m then greatest items else t) w.hold_timer;
+      keepalive_timer = ap (λ (k : ℕ). elim k [ zero ↦ greatest items | suc count ↦ keepalive_timer_since s items ]) k ∙ w.keepalive_timer;
     })
 
 agreed_stands : (b : Bool) (s : Settings) (items : List Item) (peer : Peer) (m : Heard) → peer.confirmed ≡ b
@@ -174,7 +174,7 @@ first_tells s items since m w GoesOn e = inl (record {
 
 second_tells : (s : Settings) (items : List Item) (peer : Peer) (m : Heard) → peer.confirmed ≡ false
     → HasAgreed s items peer → message_count items ≡ 1 → (f : Fate) → second_fate m ≡ f
-    → Tells (step f (phases.Agreed (record peer { confirmed = true; alive_at = greatest items })) acts.Up).1
+    → Tells (step f (phases.Agreed (record peer { confirmed = true; hold_timer_since = greatest items })) acts.Up).1
     s items (Message m ∷ items)
 second_tells s items peer m b w k (Ends said) e =
     down (phases.Agreed peer) s items (Message m) said w (live_confirmed peer.confirmed) w.connected
@@ -183,9 +183,9 @@ second_tells s items peer m b w k GoesOn e = record {
   before = state_confirmed s items peer false b w;
   now = state_at _ true _ GoesOn _ 2 w.connected (second_fate_is s items peer m w k ∙ e) (ap suc k);
   sent = peer.sent;
-  agreed = agreed_is (phases.Agreed (record peer { confirmed = true; alive_at = greatest items })) s
+  agreed = agreed_is (phases.Agreed (record peer { confirmed = true; hold_timer_since = greatest items })) s
       (Message m ∷ items)
-      (subst (λ f. Stands (step f (phases.Agreed (record peer { confirmed = true; alive_at = greatest items })) acts.Up).0 s (Message m ∷ items)) e (second_stands s items peer m w k));
+      (subst (λ f. Stands (step f (phases.Agreed (record peer { confirmed = true; hold_timer_since = greatest items })) acts.Up).0 s (Message m ∷ items)) e (second_stands s items peer m w k));
 }
 
 request_tells : (b : Bool) (s : Settings) (old new : List Item) → state_of s old ≡ states.Established
@@ -197,13 +197,13 @@ later_tells : (s : Settings) (items : List Item) (peer : Peer) (m : Heard) (more
     → peer.confirmed ≡ true → HasAgreed s items peer → message_count items ≡ suc (suc more) → (f : Fate)
     → later_fate m ≡ f
     → Tells
-    (step f (phases.Agreed (record peer { alive_at = if is_alive m then greatest items else peer.alive_at })) (if is_request m then acts.Again else acts.None)).1
+    (step f (phases.Agreed (record peer { hold_timer_since = if restarts_hold_timer m then greatest items else peer.hold_timer_since })) (if is_request m then acts.Again else acts.None)).1
     s items (Message m ∷ items)
 later_tells s items peer m more b w k (Ends said) e =
     down (phases.Agreed peer) s items (Message m) said w (live_confirmed peer.confirmed) w.connected
     (later_fate_is s items peer m more w k ∙ e)
 later_tells s items peer m more b w k GoesOn e =
-    let alive : Peer = record peer { alive_at = if is_alive m then greatest items else peer.alive_at } in
+    let alive : Peer = record peer { hold_timer_since = if restarts_hold_timer m then greatest items else peer.hold_timer_since } in
     request_tells (is_request m) s items (Message m ∷ items) (state_confirmed s items peer true b w)
     (same (phases.Agreed peer) (phases.Agreed alive) s items (Message m) w
     (subst (λ f. Stands (step f (phases.Agreed alive) (if is_request m then acts.Again else acts.None)).0 s (Message m ∷ items)) e (later_stands s items peer m more w b k))
@@ -276,7 +276,7 @@ came_hears session e s items h = record {
   heard = record {
     settings_are = h.settings_are;
     latest = h.latest;
-    phase = record { connected = refl; lasts = refl; count = refl; sent = refl; alive = sym h.latest };
+    phase = record { connected = refl; lasts = refl; count = refl; sent = refl; hold_timer = sym h.latest };
   };
   act_is = refl;
   tells = record { before = state_is session.phase s items h.phase ∙ ap state_in e; now = refl };

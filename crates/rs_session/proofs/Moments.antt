@@ -11,9 +11,9 @@ use Rattle.rs_session.specs.declared.session.Session.{Session}
 use Rattle.rs_session.specs.declared.phase.Phase.{Phase}
 use Rattle.rs_session.specs.declared.phase.Phase.TheVariants as phases
 use Rattle.rs_session.specs.declared.phase.Peer.{Peer}
-use Rattle.rs_session.specs.Items.{Item, Moment, greatest, alive_at, open_of}
+use Rattle.rs_session.specs.Items.{Item, Moment, greatest, hold_timer_since, open_of}
 use Rattle.rs_session.specs.Endings.{Fate, GoesOn, Ends, open_wait, moment_fate, hold_time}
-use Rattle.rs_session.specs.Sessions.{fate, item_fate, state_of, is_live, falls_by, is_third, due_at, falls_due, moment_act, act_of}
+use Rattle.rs_session.specs.Sessions.{fate, item_fate, state_of, is_live, falls_by, is_third, keepalive_timer_since, falls_due, moment_act, act_of}
 use Rattle.rs_session.specs.Hearing.{IsWaiting, HasAgreed, Stands, HasHeard, IsSame, Tells, Hears}
 use Rattle.rs_session.specs.Steps.{step, tick, wait, moment_step}
 use Rattle.rs_session.proofs.Phases.{state_is}
@@ -22,39 +22,39 @@ use Rattle.rs_session.proofs.Standing.{earlier_goes, earlier_ended, live_act, st
 -- ---- the phase
 
 moment_fate_is : (s : Settings) (items : List Item) (t : ℕ) (sent : Option Open) (since : ℕ)
-    → fate s items ≡ GoesOn → open_of items ≡ sent → alive_at items ≡ since
+    → fate s items ≡ GoesOn → open_of items ≡ sent → hold_timer_since items ≡ since
     → fate s (Moment t ∷ items) ≡ moment_fate (hold_time s.hold sent) since (max (greatest items) t)
 moment_fate_is s items t sent since l o a =
     earlier_goes _ _ l
-    ∙ ap (λ x. moment_fate (hold_time s.hold x) (alive_at items) (max (greatest items) t)) o
+    ∙ ap (λ x. moment_fate (hold_time s.hold x) (hold_timer_since items) (max (greatest items) t)) o
     ∙ ap (λ x. moment_fate (hold_time s.hold sent) x (max (greatest items) t)) a
 
 wait_stands : (s : Settings) (items : List Item) (since t : ℕ) → IsWaiting s items since
     → Stands (wait since (max (greatest items) t)).0 s (Moment t ∷ items)
 wait_stands s items since t w =
     let e : fate s (Moment t ∷ items) ≡ moment_fate open_wait since (max (greatest items) t) =
-    moment_fate_is s items t None since w.lasts w.sent w.alive in
+    moment_fate_is s items t None since w.lasts w.sent w.hold_timer in
     stands_by (moment_fate open_wait since (max (greatest items) t)) (phases.OpenSent since) acts.None s
     (Moment t ∷ items) w.connected e
-    (λ f. record { connected = w.connected; lasts = e ∙ f; count = w.count; sent = w.sent; alive = w.alive })
+    (λ f. record { connected = w.connected; lasts = e ∙ f; count = w.count; sent = w.sent; hold_timer = w.hold_timer })
 
 falls_is : (s : Settings) (items : List Item) (peer : Peer) (t : ℕ) → HasAgreed s items peer
     → fate s (Moment t ∷ items) ≡ GoesOn
-    → falls_due s t items ≡ is_third (min s.hold peer.sent.hold) peer.due_at (max (greatest items) t)
+    → falls_due s t items ≡ is_third (min s.hold peer.sent.hold) peer.keepalive_timer_since (max (greatest items) t)
 falls_is s items peer t w e =
-    ap (λ f. falls_by f s.hold (open_of items) (due_at s items) (max (greatest items) t)) e
-    ∙ ap (λ x. falls_by GoesOn s.hold x (due_at s items) (max (greatest items) t)) w.sent
-    ∙ ap (λ x. is_third (min s.hold peer.sent.hold) x (max (greatest items) t)) w.due
+    ap (λ f. falls_by f s.hold (open_of items) (keepalive_timer_since s items) (max (greatest items) t)) e
+    ∙ ap (λ x. falls_by GoesOn s.hold x (keepalive_timer_since s items) (max (greatest items) t)) w.sent
+    ∙ ap (λ x. is_third (min s.hold peer.sent.hold) x (max (greatest items) t)) w.keepalive_timer
 
 abbrev ticking : Settings → List Item → Peer → ℕ → Peer
 ticking s items peer t =
     record peer
-    { due_at = if is_third (min s.hold peer.sent.hold) peer.due_at (max (greatest items) t) then max (greatest items) t else peer.due_at }
+    { keepalive_timer_since = if is_third (min s.hold peer.sent.hold) peer.keepalive_timer_since (max (greatest items) t) then max (greatest items) t else peer.keepalive_timer_since }
 
 tick_fate_is : (s : Settings) (items : List Item) (peer : Peer) (t : ℕ) → HasAgreed s items peer
-    → fate s (Moment t ∷ items) ≡ moment_fate (min s.hold peer.sent.hold) peer.alive_at (max (greatest items) t)
+    → fate s (Moment t ∷ items) ≡ moment_fate (min s.hold peer.sent.hold) peer.hold_timer_since (max (greatest items) t)
 tick_fate_is s items peer t w =
-    moment_fate_is s items t (Some peer.sent) peer.alive_at w.lasts w.sent w.alive
+    moment_fate_is s items t (Some peer.sent) peer.hold_timer_since w.lasts w.sent w.hold_timer
 
 ticking_stands : (s : Settings) (items : List Item) (peer : Peer) (t : ℕ) → HasAgreed s items peer
     → fate s (Moment t ∷ items) ≡ GoesOn → HasAgreed s (Moment t ∷ items) (ticking s items peer t)
@@ -63,11 +63,11 @@ ticking_stands s items peer t w e = record {
   lasts = e;
   count = w.count;
   sent = w.sent;
-  alive = w.alive;
-  due = ap (λ b. if b then max (greatest items) t else due_at s items) (falls_is s items peer t w e)
+  hold_timer = w.hold_timer;
+  keepalive_timer = ap (λ b. if b then max (greatest items) t else keepalive_timer_since s items) (falls_is s items peer t w e)
       ∙ ap
-      (λ x. if is_third (min s.hold peer.sent.hold) peer.due_at (max (greatest items) t) then max (greatest items) t else x)
-      w.due;
+      (λ x. if is_third (min s.hold peer.sent.hold) peer.keepalive_timer_since (max (greatest items) t) then max (greatest items) t else x)
+      w.keepalive_timer;
 }
 
 tick_stands : (s : Settings) (items : List Item) (peer : Peer) (t : ℕ) → HasAgreed s items peer
@@ -119,10 +119,10 @@ moment_acts (phases.OpenSent since) s items t h =
     wait_act (moment_fate open_wait since (max (greatest items) t)) _ (falls_due s t items)
     (no_open _ _ _ _ (open_of items) h.sent)
     ∙ ap (λ f. moment_act f (falls_due s t items))
-    (sym (moment_fate_is s items t None since h.lasts h.sent h.alive) ∙ item_fate_is s items t h.lasts)
+    (sym (moment_fate_is s items t None since h.lasts h.sent h.hold_timer) ∙ item_fate_is s items t h.lasts)
     ∙ sym (moment_at s items t states.OpenSent (state_is (phases.OpenSent since) s items h) refl)
 moment_acts (phases.Agreed peer) s items t h =
-    tick_act (moment_fate (min s.hold peer.sent.hold) peer.alive_at (max (greatest items) t)) _ _
+    tick_act (moment_fate (min s.hold peer.sent.hold) peer.hold_timer_since (max (greatest items) t)) _ _
     (falls_due s t items) (λ f. falls_is s items peer t h (tick_fate_is s items peer t h ∙ f))
     ∙ ap (λ f. moment_act f (falls_due s t items))
     (sym (tick_fate_is s items peer t h) ∙ item_fate_is s items t h.lasts)
@@ -139,7 +139,7 @@ wait_tells s items since t w (Ends said) e =
     down (phases.OpenSent since) s items (Moment t) said w refl w.connected e
 wait_tells s items since t w GoesOn e =
     same (phases.OpenSent since) (phases.OpenSent since) s items (Moment t) w
-    (record { connected = w.connected; lasts = e; count = w.count; sent = w.sent; alive = w.alive }) refl refl
+    (record { connected = w.connected; lasts = e; count = w.count; sent = w.sent; hold_timer = w.hold_timer }) refl refl
 
 beat_tells : (b : Bool) (s : Settings) (old new : List Item) → is_live (state_of s old) ≡ true
     → IsSame s old new → Tells (if b then acts.Say short.Keepalive else acts.None) s old new
@@ -162,7 +162,7 @@ moment_tells : (phase : Phase) (s : Settings) (items : List Item) (t : ℕ) → 
     → Tells (moment_step phase s.hold (max (greatest items) t)).1 s items (Moment t ∷ items)
 moment_tells phases.Idle s items t h = same phases.Idle phases.Idle s items (Moment t) h h refl refl
 moment_tells (phases.OpenSent since) s items t h =
-    wait_tells s items since t h _ (moment_fate_is s items t None since h.lasts h.sent h.alive)
+    wait_tells s items since t h _ (moment_fate_is s items t None since h.lasts h.sent h.hold_timer)
 moment_tells (phases.Agreed peer) s items t h =
     tick_tells s items peer t _ h _ (tick_fate_is s items peer t h)
 moment_tells phases.Closing s items t h =

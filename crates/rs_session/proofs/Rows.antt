@@ -147,6 +147,18 @@ ours_is_smaller = refl
 hold_3_third_1 : act_of (record a { hold = 3 }) (Moment 1) confirming ≡ acts.Say short.Keepalive
 hold_3_third_1 = refl
 
+hold_5_third_1 : act_of (record a { hold = 5 }) (Moment 1) confirming ≡ acts.Say short.Keepalive
+hold_5_third_1 = refl
+
+hold_89_at_28 : act_of (record a { hold = 89 }) (Moment 28) up ≡ acts.None
+hold_89_at_28 = refl
+
+hold_89_at_29 : act_of (record a { hold = 89 }) (Moment 29) up ≡ acts.Say short.Keepalive
+hold_89_at_29 = refl
+
+the_timer_runs_from_the_open : act_of a (Moment 30) (keepalive ∷ Moment 29 ∷ confirming) ≡ acts.Say short.Keepalive
+the_timer_runs_from_the_open = refl
+
 no_hold_time : act_of a (Moment 1000000) (keepalive ∷ opening (record open_a { hold = 0 }) ∷ came) ≡ acts.None
 no_hold_time = refl
 

@@ -11,9 +11,9 @@ use Rattle.rs_session.specs.declared.session.Session.{Session}
 use Rattle.rs_session.specs.declared.phase.Phase.{Phase}
 use Rattle.rs_session.specs.declared.phase.Phase.TheVariants as phases
 use Rattle.rs_session.specs.declared.phase.Peer.{Peer}
-use Rattle.rs_session.specs.Items.{Item, greatest, is_connected, message_count, alive_at, open_of}
+use Rattle.rs_session.specs.Items.{Item, greatest, is_connected, message_count, hold_timer_since, open_of}
 use Rattle.rs_session.specs.Endings.{GoesOn, Ends}
-use Rattle.rs_session.specs.Sessions.{fate, state_of, is_live, agreed_of, due_at, act_of}
+use Rattle.rs_session.specs.Sessions.{fate, state_of, is_live, agreed_of, keepalive_timer_since, act_of}
 
 -- ---- what the fields hold
 
@@ -23,7 +23,7 @@ pub record IsWaiting (settings : Settings) (items : List Item) (since : ℕ) : T
   pub lasts : fate settings items ≡ GoesOn
   pub count : message_count items ≡ 0
   pub sent : open_of items ≡ None
-  pub alive : alive_at items ≡ since
+  pub hold_timer : hold_timer_since items ≡ since
 
 -- one message was heard; two or more were
 abbrev pub IsCount : Bool → ℕ → Type 0
@@ -36,8 +36,8 @@ pub record HasAgreed (settings : Settings) (items : List Item) (peer : Peer) : T
   pub lasts : fate settings items ≡ GoesOn
   pub count : IsCount peer.confirmed (message_count items)
   pub sent : open_of items ≡ Some peer.sent
-  pub alive : alive_at items ≡ peer.alive_at
-  pub due : due_at settings items ≡ peer.due_at
+  pub hold_timer : hold_timer_since items ≡ peer.hold_timer_since
+  pub keepalive_timer : keepalive_timer_since settings items ≡ peer.keepalive_timer_since
 
 -- an item ended the session
 pub record HasEnded (settings : Settings) (items : List Item) : Type 0 where

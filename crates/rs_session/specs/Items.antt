@@ -35,21 +35,21 @@ message_count (Moment t ∷ items) = message_count items
 message_count (Left ∷ items) = 0
 
 -- the message restarts the hold timer (RFC 4271, 8.2.2; a ROUTE-REFRESH does not)
-abbrev pub is_alive : Heard → Bool
-is_alive (heard.Open read) = true
-is_alive (heard.Update reset) = true
-is_alive (heard.Refresh afi safi) = false
-is_alive heard.Note = false
-is_alive heard.Keepalive = true
-is_alive (heard.Header fault) = false
+abbrev pub restarts_hold_timer : Heard → Bool
+restarts_hold_timer (heard.Open read) = true
+restarts_hold_timer (heard.Update reset) = true
+restarts_hold_timer (heard.Refresh afi safi) = false
+restarts_hold_timer heard.Note = false
+restarts_hold_timer heard.Keepalive = true
+restarts_hold_timer (heard.Header fault) = false
 
 -- the greatest moment at the last OPEN, KEEPALIVE or UPDATE, and before the first when the connection came
-abbrev pub alive_at : List Item → ℕ
-alive_at [] = 0
-alive_at (Came ∷ items) = greatest items
-alive_at (Message message ∷ items) = if is_alive message then greatest items else alive_at items
-alive_at (Moment t ∷ items) = alive_at items
-alive_at (Left ∷ items) = 0
+abbrev pub hold_timer_since : List Item → ℕ
+hold_timer_since [] = 0
+hold_timer_since (Came ∷ items) = greatest items
+hold_timer_since (Message message ∷ items) = if restarts_hold_timer message then greatest items else hold_timer_since items
+hold_timer_since (Moment t ∷ items) = hold_timer_since items
+hold_timer_since (Left ∷ items) = 0
 
 -- the OPEN in a message
 abbrev pub open_in : Heard → Option Open

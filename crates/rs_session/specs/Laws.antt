@@ -6,9 +6,9 @@ use Rattle.rs_session.specs.declared.heard.Heard.TheVariants as heard
 use Rattle.rs_session.specs.declared.act.State.TheVariants as states
 use Rattle.rs_session.specs.declared.act.Act.TheVariants as acts
 use Rattle.rs_session.specs.declared.settings.Settings.{Settings}
-use Rattle.rs_session.specs.Items.{Item, Came, Message, Moment, Left, greatest, alive_at, open_of}
+use Rattle.rs_session.specs.Items.{Item, Came, Message, Moment, Left, greatest, hold_timer_since, open_of}
 use Rattle.rs_session.specs.Endings.{GoesOn, is_peer, later_fate, hold_time}
-use Rattle.rs_session.specs.Sessions.{state_of, is_live, agreed_of, due_at, act_of}
+use Rattle.rs_session.specs.Sessions.{state_of, is_live, agreed_of, keepalive_timer_since, act_of}
 
 -- the messages heard since the connection came, the newest first
 abbrev pub messages_of : List Item → List Heard
@@ -36,10 +36,10 @@ BringsUp =
 -- less than the time allowed has passed since the peer was last heard, and less than a third of the Hold Time since a
 -- KEEPALIVE last fell due
 pub record IsInTime (settings : Settings) (items : List Item) : Type 0 where
-  pub alive : hold_time settings.hold (open_of items) ≢ 0
-      → greatest items - alive_at items < hold_time settings.hold (open_of items)
-  pub due : (sent : Open) → agreed_of settings items ≡ Some sent → 3 ≤ min settings.hold sent.hold
-      → greatest items - due_at settings items < min settings.hold sent.hold / 3
+  pub hold_timer : hold_time settings.hold (open_of items) ≢ 0
+      → greatest items - hold_timer_since items < hold_time settings.hold (open_of items)
+  pub keepalive_timer : (sent : Open) → agreed_of settings items ≡ Some sent → 3 ≤ min settings.hold sent.hold
+      → greatest items - keepalive_timer_since settings items < min settings.hold sent.hold / 3
 
 abbrev pub KeepsTime : Type 0
 KeepsTime =

@@ -13,7 +13,7 @@ use Rattle.rs_session.specs.declared.act.State.TheVariants as states
 use Rattle.rs_session.specs.declared.act.Act.{Act}
 use Rattle.rs_session.specs.declared.act.Act.TheVariants as acts
 use Rattle.rs_session.specs.declared.settings.Settings.{Settings}
-use Rattle.rs_session.specs.Items.{Item, Came, Message, Moment, Left, greatest, is_connected, message_count, alive_at, open_of}
+use Rattle.rs_session.specs.Items.{Item, Came, Message, Moment, Left, greatest, is_connected, message_count, hold_timer_since, open_of}
 use Rattle.rs_session.specs.Endings.{Fate, GoesOn, Ends, message_fate, moment_fate, hold_time}
 
 -- ---- the end
@@ -23,7 +23,7 @@ abbrev pub item_fate : Settings → Item → List Item → Fate
 item_fate settings Came items = GoesOn
 item_fate settings (Message message) items = message_fate settings.peer_as (message_count items) message
 item_fate settings (Moment t) items =
-    moment_fate (hold_time settings.hold (open_of items)) (alive_at items) (max (greatest items) t)
+    moment_fate (hold_time settings.hold (open_of items)) (hold_timer_since items) (max (greatest items) t)
 item_fate settings Left items = GoesOn
 
 -- the first end counts
@@ -115,21 +115,21 @@ falls_by GoesOn hold None since now = false
 falls_by GoesOn hold (Some sent) since now = is_third (hold_time hold (Some sent)) since now
 
 -- when one fell due last: at the OPEN, then at each moment that ends nothing and at which one falls due
-abbrev pub due_at : Settings → List Item → ℕ
-due_at settings [] = 0
-due_at settings (Came ∷ items) = 0
-due_at settings (Message message ∷ items) =
-    elim (message_count items) [ zero ↦ greatest items | suc count ↦ due_at settings items ]
-due_at settings (Moment t ∷ items) =
-    if falls_by (fate settings (Moment t ∷ items)) settings.hold (open_of items) (due_at settings items) (max (greatest items) t)
+abbrev pub keepalive_timer_since : Settings → List Item → ℕ
+keepalive_timer_since settings [] = 0
+keepalive_timer_since settings (Came ∷ items) = 0
+keepalive_timer_since settings (Message message ∷ items) =
+    elim (message_count items) [ zero ↦ greatest items | suc count ↦ keepalive_timer_since settings items ]
+keepalive_timer_since settings (Moment t ∷ items) =
+    if falls_by (fate settings (Moment t ∷ items)) settings.hold (open_of items) (keepalive_timer_since settings items) (max (greatest items) t)
     then max (greatest items) t
-    else due_at settings items
-due_at settings (Left ∷ items) = 0
+    else keepalive_timer_since settings items
+keepalive_timer_since settings (Left ∷ items) = 0
 
 -- a KEEPALIVE falls due at this moment
 abbrev pub falls_due : Settings → ℕ → List Item → Bool
 falls_due settings t items =
-    falls_by (fate settings (Moment t ∷ items)) settings.hold (open_of items) (due_at settings items) (max (greatest items) t)
+    falls_by (fate settings (Moment t ∷ items)) settings.hold (open_of items) (keepalive_timer_since settings items) (max (greatest items) t)
 
 -- ---- what is to be done
 

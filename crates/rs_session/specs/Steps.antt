@@ -8,7 +8,7 @@ use Rattle.rs_session.specs.declared.act.Act.TheVariants as acts
 use Rattle.rs_session.specs.declared.phase.Phase.{Phase}
 use Rattle.rs_session.specs.declared.phase.Phase.TheVariants as phases
 use Rattle.rs_session.specs.declared.phase.Peer.{Peer}
-use Rattle.rs_session.specs.Items.{is_alive}
+use Rattle.rs_session.specs.Items.{restarts_hold_timer}
 use Rattle.rs_session.specs.Endings.{Fate, GoesOn, Ends, first_fate, second_fate, later_fate, open_wait, moment_fate}
 use Rattle.rs_session.specs.Sessions.{is_request, is_third}
 
@@ -18,7 +18,7 @@ step GoesOn phase act = (phase, act)
 
 abbrev pub phase_from : ℕ → Heard → Phase
 phase_from now (heard.Open (Ok sent)) =
-    phases.Agreed (record { sent = sent; confirmed = false; alive_at = now; due_at = now })
+    phases.Agreed (record { sent = sent; confirmed = false; hold_timer_since = now; keepalive_timer_since = now })
 phase_from now (heard.Open (Err fault)) = phases.Closing
 phase_from now (heard.Update reset) = phases.Closing
 phase_from now (heard.Refresh afi safi) = phases.Closing
@@ -32,11 +32,11 @@ first_step peer_as now message =
 
 abbrev pub second_step : Peer → ℕ → Heard → Phase × Act
 second_step peer now message =
-    step (second_fate message) (phases.Agreed (record peer { confirmed = true; alive_at = now })) acts.Up
+    step (second_fate message) (phases.Agreed (record peer { confirmed = true; hold_timer_since = now })) acts.Up
 
 abbrev pub later_step : Peer → ℕ → Heard → Phase × Act
 later_step peer now message = step (later_fate message)
-    (phases.Agreed (record peer { alive_at = if is_alive message then now else peer.alive_at }))
+    (phases.Agreed (record peer { hold_timer_since = if restarts_hold_timer message then now else peer.hold_timer_since }))
     (if is_request message then acts.Again else acts.None)
 
 abbrev pub message_step : Phase → ℕ → ℕ → Heard → Phase × Act
@@ -52,9 +52,9 @@ wait since now = step (moment_fate open_wait since now) (phases.OpenSent since) 
 
 -- the two timers at a moment, behind it
 abbrev pub tick : ℕ → Peer → ℕ → Phase × Act
-tick hold peer now = step (moment_fate hold peer.alive_at now)
-    (phases.Agreed (record peer { due_at = if is_third hold peer.due_at now then now else peer.due_at }))
-    (if is_third hold peer.due_at now then acts.Say short.Keepalive else acts.None)
+tick hold peer now = step (moment_fate hold peer.hold_timer_since now)
+    (phases.Agreed (record peer { keepalive_timer_since = if is_third hold peer.keepalive_timer_since now then now else peer.keepalive_timer_since }))
+    (if is_third hold peer.keepalive_timer_since now then acts.Say short.Keepalive else acts.None)
 
 abbrev pub moment_step : Phase → ℕ → ℕ → Phase × Act
 moment_step phases.Idle hold now = (phases.Idle, acts.None)

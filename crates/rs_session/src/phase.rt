@@ -26,9 +26,9 @@ pub struct Peer {
     /// A KEEPALIVE came behind the OPEN.
     pub confirmed: bool,
     /// When the hold timer was last restarted.
-    pub alive_at: u64,
+    pub hold_timer_since: u64,
     /// When a KEEPALIVE last fell due.
-    pub due_at: u64,
+    pub keepalive_timer_since: u64,
 }
 
 #[derive(Clone, Copy, Debug)]
@@ -53,8 +53,8 @@ pub fn first(peer_as: u32, now: u64, heard: Heard) -> (Phase, Act)
             let peer = Peer {
                 sent,
                 confirmed: false,
-                alive_at: now,
-                due_at: now,
+                hold_timer_since: now,
+                keepalive_timer_since: now,
             };
             (Phase::Agreed(peer), Act::Say(Short::Keepalive))
         }
@@ -72,7 +72,7 @@ pub fn second(mut peer: Peer, now: u64, heard: Heard) -> (Phase, Act)
     match heard {
         Heard::Keepalive => {
             peer.confirmed = true;
-            peer.alive_at = now;
+            peer.hold_timer_since = now;
             (Phase::Agreed(peer), Act::Up)
         }
         Heard::Open(_) | Heard::Update(_) | Heard::Refresh { .. } => ended(unexpected()),
@@ -87,7 +87,7 @@ pub fn later(mut peer: Peer, now: u64, heard: Heard) -> (Phase, Act)
 {
     match heard {
         Heard::Keepalive | Heard::Update(None) => {
-            peer.alive_at = now;
+            peer.hold_timer_since = now;
             (Phase::Agreed(peer), Act::None)
         }
         Heard::Refresh {
@@ -141,11 +141,11 @@ pub fn ticked(hold: u16, mut peer: Peer, now: u64) -> (Phase, Act)
     if hold == 0 {
         return (Phase::Agreed(peer), Act::None);
     }
-    if has_passed(hold, peer.alive_at, now) {
+    if has_passed(hold, peer.hold_timer_since, now) {
         return ended(expired());
     }
-    if has_passed(hold / 3, peer.due_at, now) {
-        peer.due_at = now;
+    if has_passed(hold / 3, peer.keepalive_timer_since, now) {
+        peer.keepalive_timer_since = now;
         return (Phase::Agreed(peer), Act::Say(Short::Keepalive));
     }
     (Phase::Agreed(peer), Act::None)
