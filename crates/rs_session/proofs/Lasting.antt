@@ -13,7 +13,7 @@ use Rattle.rs_session.specs.declared.act.Act.TheVariants as acts
 use Rattle.rs_session.specs.declared.settings.Settings.{Settings}
 use Rattle.rs_session.specs.Items.{Item, Came, Message, Moment, Left, greatest, is_connected, message_count, restarts_hold_timer, hold_timer_since, open_in, open_of}
 use Rattle.rs_session.specs.Endings.{Fate, GoesOn, Ends, is_peer, first_fate, second_fate, later_fate, message_fate, open_wait, moment_fate, hold_time, is_past}
-use Rattle.rs_session.specs.Sessions.{fate, item_fate, earlier, state_by, state_of, is_live, agreed_by, is_third, falls_by, keepalive_timer_since, falls_due, message_act, moment_act}
+use Rattle.rs_session.specs.Sessions.{fate, item_fate, earlier, state_by, state_of, is_live, agreed_by, is_third_past, falls_by, keepalive_timer_since, falls_due, message_act, moment_act}
 use Rattle.rs_session.specs.Laws.{messages_of, BringsUp, KeepsTime, EndsOnce}
 use Rattle.rs_session.proofs.Phases.{state_at}
 
@@ -212,10 +212,10 @@ IsDue hold first since now =
 third_of : (hold now : ℕ) → 3 ≤ hold → now - now < hold / 3
 third_of hold now n = omega arith
 
-not_third : (hold since now : ℕ) → is_third hold since now ≡ false → 3 ≤ hold → now - since < hold / 3
+not_third : (hold since now : ℕ) → is_third_past hold since now ≡ false → 3 ≤ hold → now - since < hold / 3
 not_third hold since now e n = grind (arith, nat_tests, common_steps)
 
-due_by : (b : Bool) (hold since now : ℕ) → is_third hold since now ≡ b → 3 ≤ hold
+due_by : (b : Bool) (hold since now : ℕ) → is_third_past hold since now ≡ b → 3 ≤ hold
     → now - (if b then now else since) < hold / 3
 due_by false hold since now e n = not_third hold since now e n
 due_by true hold since now e n = third_of hold now n
@@ -233,9 +233,9 @@ due_moment GoesOn hold None since now e = λ sent f n. cc
 due_moment GoesOn hold (Some told) since now e = λ sent f.
     let q : told ≡ sent = cc in
     subst
-    (λ (x : Open). 3 ≤ min hold x.hold → now - (if is_third (min hold told.hold) since now then now else since) < min hold x.hold / 3)
+    (λ (x : Open). 3 ≤ min hold x.hold → now - (if is_third_past (min hold told.hold) since now then now else since) < min hold x.hold / 3)
     q
-    (due_by (is_third (min hold told.hold) since now) (min hold told.hold) since now refl)
+    (due_by (is_third_past (min hold told.hold) since now) (min hold told.hold) since now refl)
 
 due : (s : Settings) (items : List Item) → is_connected items ≡ true → fate s items ≡ GoesOn
     → IsDue s.hold (open_of items) (keepalive_timer_since s items) (greatest items)

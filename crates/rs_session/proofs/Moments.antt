@@ -13,7 +13,7 @@ use Rattle.rs_session.specs.declared.phase.Phase.TheVariants as phases
 use Rattle.rs_session.specs.declared.phase.Peer.{Peer}
 use Rattle.rs_session.specs.Items.{Item, Moment, greatest, hold_timer_since, open_of}
 use Rattle.rs_session.specs.Endings.{Fate, GoesOn, Ends, open_wait, moment_fate, hold_time}
-use Rattle.rs_session.specs.Sessions.{fate, item_fate, state_of, is_live, falls_by, is_third, keepalive_timer_since, falls_due, moment_act, act_of}
+use Rattle.rs_session.specs.Sessions.{fate, item_fate, state_of, is_live, falls_by, is_third_past, keepalive_timer_since, falls_due, moment_act, act_of}
 use Rattle.rs_session.specs.Hearing.{IsWaiting, HasAgreed, Stands, HasHeard, IsSame, Tells, Hears}
 use Rattle.rs_session.specs.Steps.{step, tick, wait, moment_step}
 use Rattle.rs_session.proofs.Phases.{state_is}
@@ -40,16 +40,16 @@ wait_stands s items since t w =
 
 falls_is : (s : Settings) (items : List Item) (peer : Peer) (t : ℕ) → HasAgreed s items peer
     → fate s (Moment t ∷ items) ≡ GoesOn
-    → falls_due s t items ≡ is_third (min s.hold peer.sent.hold) peer.keepalive_timer_since (max (greatest items) t)
+    → falls_due s t items ≡ is_third_past (min s.hold peer.sent.hold) peer.keepalive_timer_since (max (greatest items) t)
 falls_is s items peer t w e =
     ap (λ f. falls_by f s.hold (open_of items) (keepalive_timer_since s items) (max (greatest items) t)) e
     ∙ ap (λ x. falls_by GoesOn s.hold x (keepalive_timer_since s items) (max (greatest items) t)) w.sent
-    ∙ ap (λ x. is_third (min s.hold peer.sent.hold) x (max (greatest items) t)) w.keepalive_timer
+    ∙ ap (λ x. is_third_past (min s.hold peer.sent.hold) x (max (greatest items) t)) w.keepalive_timer
 
 abbrev ticking : Settings → List Item → Peer → ℕ → Peer
 ticking s items peer t =
     record peer
-    { keepalive_timer_since = if is_third (min s.hold peer.sent.hold) peer.keepalive_timer_since (max (greatest items) t) then max (greatest items) t else peer.keepalive_timer_since }
+    { keepalive_timer_since = if is_third_past (min s.hold peer.sent.hold) peer.keepalive_timer_since (max (greatest items) t) then max (greatest items) t else peer.keepalive_timer_since }
 
 tick_fate_is : (s : Settings) (items : List Item) (peer : Peer) (t : ℕ) → HasAgreed s items peer
     → fate s (Moment t ∷ items) ≡ moment_fate (min s.hold peer.sent.hold) peer.hold_timer_since (max (greatest items) t)
@@ -66,7 +66,7 @@ ticking_stands s items peer t w e = record {
   hold_timer = w.hold_timer;
   keepalive_timer = ap (λ b. if b then max (greatest items) t else keepalive_timer_since s items) (falls_is s items peer t w e)
       ∙ ap
-      (λ x. if is_third (min s.hold peer.sent.hold) peer.keepalive_timer_since (max (greatest items) t) then max (greatest items) t else x)
+      (λ x. if is_third_past (min s.hold peer.sent.hold) peer.keepalive_timer_since (max (greatest items) t) then max (greatest items) t else x)
       w.keepalive_timer;
 }
 

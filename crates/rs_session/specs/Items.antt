@@ -47,7 +47,8 @@ restarts_hold_timer (heard.Header fault) = false
 abbrev pub hold_timer_since : List Item → ℕ
 hold_timer_since [] = 0
 hold_timer_since (Came ∷ items) = greatest items
-hold_timer_since (Message message ∷ items) = if restarts_hold_timer message then greatest items else hold_timer_since items
+hold_timer_since (Message message ∷ items) =
+    if restarts_hold_timer message then greatest items else hold_timer_since items
 hold_timer_since (Moment t ∷ items) = hold_timer_since items
 hold_timer_since (Left ∷ items) = 0
 

@@ -1,5 +1,5 @@
 -- The session of a client, read off the list of what befell it (RFC 4271, 8).
-use Rattle.std.specs.Prelude.{ℕ, zero, suc, ◌-◌, ◌/◌, Bool, true, false, not, ◌&&◌, nat_eq, nat_le, max, List, [], ◌∷◌, Option, Some, None, if◌then◌else◌}
+use Rattle.std.specs.Prelude.{ℕ, zero, suc, ◌-◌, ◌/◌, Bool, true, false, not, ◌&&◌, nat_eq, nat_le, List, [], ◌∷◌, Option, Some, None, if◌then◌else◌}
 use Rattle.rs_attrs.specs.declared.mode.Mode.{Mode}
 use Rattle.rs_attrs.specs.declared.mode.Mode.TheVariants as modes
 use Rattle.rs_open.specs.declared.open.Open.{Open}
@@ -23,7 +23,7 @@ abbrev pub item_fate : Settings → Item → List Item → Fate
 item_fate settings Came items = GoesOn
 item_fate settings (Message message) items = message_fate settings.peer_as (message_count items) message
 item_fate settings (Moment t) items =
-    moment_fate (hold_time settings.hold (open_of items)) (hold_timer_since items) (max (greatest items) t)
+    moment_fate (hold_time settings.hold (open_of items)) (hold_timer_since items) (greatest (Moment t ∷ items))
 item_fate settings Left items = GoesOn
 
 -- the first end counts
@@ -105,31 +105,35 @@ limit_of settings items = limit_by settings.extended (agreed_of settings items)
 -- ---- KEEPALIVEs (RFC 4271, 4.4)
 
 -- a third of the Hold Time used, rounded down, or more lies between two moments; never, where it is 0
-abbrev pub is_third : ℕ → ℕ → ℕ → Bool
-is_third hold since now = not (nat_eq hold 0) && nat_le (hold / 3) (now - since)
+abbrev pub is_third_past : ℕ → ℕ → ℕ → Bool
+is_third_past hold since now = not (nat_eq hold 0) && nat_le (hold / 3) (now - since)
 
--- a KEEPALIVE falls due: nothing has ended the session, and that much lies behind the last one's falling due
+-- by the end so far and the OPEN
 abbrev pub falls_by : Fate → ℕ → Option Open → ℕ → ℕ → Bool
 falls_by (Ends said) hold sent since now = false
 falls_by GoesOn hold None since now = false
-falls_by GoesOn hold (Some sent) since now = is_third (hold_time hold (Some sent)) since now
+falls_by GoesOn hold (Some sent) since now = is_third_past (hold_time hold (Some sent)) since now
 
--- when one fell due last: at the OPEN, then at each moment that ends nothing and at which one falls due
+-- a KEEPALIVE falls due at the newest item: none has ended the session, and a third or more of the Hold Time lies behind
+-- the last one's falling due
+abbrev pub falls_behind : Settings → List Item → ℕ → Bool
+falls_behind settings items since = falls_by (fate settings items) settings.hold (open_of items) since (greatest items)
+
+-- when one fell due last: at the OPEN, then at each moment at which one falls due
 abbrev pub keepalive_timer_since : Settings → List Item → ℕ
 keepalive_timer_since settings [] = 0
 keepalive_timer_since settings (Came ∷ items) = 0
 keepalive_timer_since settings (Message message ∷ items) =
     elim (message_count items) [ zero ↦ greatest items | suc count ↦ keepalive_timer_since settings items ]
 keepalive_timer_since settings (Moment t ∷ items) =
-    if falls_by (fate settings (Moment t ∷ items)) settings.hold (open_of items) (keepalive_timer_since settings items) (max (greatest items) t)
-    then max (greatest items) t
+    if falls_behind settings (Moment t ∷ items) (keepalive_timer_since settings items)
+    then greatest (Moment t ∷ items)
     else keepalive_timer_since settings items
 keepalive_timer_since settings (Left ∷ items) = 0
 
 -- a KEEPALIVE falls due at this moment
 abbrev pub falls_due : Settings → ℕ → List Item → Bool
-falls_due settings t items =
-    falls_by (fate settings (Moment t ∷ items)) settings.hold (open_of items) (keepalive_timer_since settings items) (max (greatest items) t)
+falls_due settings t items = falls_behind settings (Moment t ∷ items) (keepalive_timer_since settings items)
 
 -- ---- what is to be done
 

@@ -10,7 +10,7 @@ use Rattle.rs_session.specs.declared.phase.Phase.TheVariants as phases
 use Rattle.rs_session.specs.declared.phase.Peer.{Peer}
 use Rattle.rs_session.specs.Items.{restarts_hold_timer}
 use Rattle.rs_session.specs.Endings.{Fate, GoesOn, Ends, first_fate, second_fate, later_fate, open_wait, moment_fate}
-use Rattle.rs_session.specs.Sessions.{is_request, is_third}
+use Rattle.rs_session.specs.Sessions.{is_request, is_third_past}
 
 abbrev pub step : Fate → Phase → Act → Phase × Act
 step (Ends note) phase act = (phases.Closing, acts.Down note)
@@ -36,7 +36,9 @@ second_step peer now message =
 
 abbrev pub later_step : Peer → ℕ → Heard → Phase × Act
 later_step peer now message = step (later_fate message)
-    (phases.Agreed (record peer { hold_timer_since = if restarts_hold_timer message then now else peer.hold_timer_since }))
+    (phases.Agreed (record peer {
+      hold_timer_since = if restarts_hold_timer message then now else peer.hold_timer_since;
+    }))
     (if is_request message then acts.Again else acts.None)
 
 abbrev pub message_step : Phase → ℕ → ℕ → Heard → Phase × Act
@@ -53,8 +55,10 @@ wait since now = step (moment_fate open_wait since now) (phases.OpenSent since) 
 -- the two timers at a moment, behind it
 abbrev pub tick : ℕ → Peer → ℕ → Phase × Act
 tick hold peer now = step (moment_fate hold peer.hold_timer_since now)
-    (phases.Agreed (record peer { keepalive_timer_since = if is_third hold peer.keepalive_timer_since now then now else peer.keepalive_timer_since }))
-    (if is_third hold peer.keepalive_timer_since now then acts.Say short.Keepalive else acts.None)
+    (phases.Agreed (record peer {
+      keepalive_timer_since = if is_third_past hold peer.keepalive_timer_since now then now else peer.keepalive_timer_since;
+    }))
+    (if is_third_past hold peer.keepalive_timer_since now then acts.Say short.Keepalive else acts.None)
 
 abbrev pub moment_step : Phase → ℕ → ℕ → Phase × Act
 moment_step phases.Idle hold now = (phases.Idle, acts.None)
