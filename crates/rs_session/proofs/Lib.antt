@@ -1,0 +1,6 @@
+mod Rows
+pub mod Phases
+pub mod Standing
+pub mod Messages
+pub mod Moments
+pub mod Lasting

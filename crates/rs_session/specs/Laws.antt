@@ -1,0 +1,59 @@
+-- Laws of sessions.
+use Rattle.std.specs.Prelude.{◌≡◌, ◌≢◌, ℕ, ◌-◌, ◌/◌, ◌<◌, ◌≤◌, true, min, List, [], ◌∷◌, ◌++◌, All, Some, Ok}
+use Rattle.rs_open.specs.declared.open.Open.{Open}
+use Rattle.rs_session.specs.declared.heard.Heard.{Heard}
+use Rattle.rs_session.specs.declared.heard.Heard.TheVariants as heard
+use Rattle.rs_session.specs.declared.act.State.TheVariants as states
+use Rattle.rs_session.specs.declared.act.Act.TheVariants as acts
+use Rattle.rs_session.specs.declared.settings.Settings.{Settings}
+use Rattle.rs_session.specs.Items.{Item, Came, Message, Moment, Left, greatest, hold_timer_since, open_of}
+use Rattle.rs_session.specs.Endings.{GoesOn, is_peer, later_fate, hold_time}
+use Rattle.rs_session.specs.Sessions.{state_of, is_live, agreed_of, keepalive_timer_since, act_of}
+
+-- the messages heard since the connection came, the newest first
+abbrev pub messages_of : List Item → List Heard
+messages_of [] = []
+messages_of (Came ∷ items) = []
+messages_of (Message message ∷ items) = message ∷ messages_of items
+messages_of (Moment t ∷ items) = messages_of items
+messages_of (Left ∷ items) = []
+
+-- an OPEN of the client's AS came first, then a KEEPALIVE, then messages that end nothing; and that OPEN is what is
+-- agreed
+pub record IsBroughtUp (settings : Settings) (items : List Item) : Type 0 where
+  pub sent : Open
+  pub later : List Heard
+  pub heard : messages_of items ≡ later ++ (heard.Keepalive ∷ heard.Open (Ok sent) ∷ [])
+  pub peer : is_peer settings.peer_as sent.my_as sent.four ≡ true
+  pub allowed : All (λ message. later_fate message ≡ GoesOn) later
+  pub agreed : agreed_of settings items ≡ Some sent
+
+abbrev pub BringsUp : Type 0
+BringsUp =
+    (settings : Settings) (items : List Item)
+    → state_of settings items ≡ states.Established → IsBroughtUp settings items
+
+-- less than the time allowed has passed since the peer was last heard, and less than a third of the Hold Time since a
+-- KEEPALIVE last fell due
+pub record IsInTime (settings : Settings) (items : List Item) : Type 0 where
+  pub hold_timer : hold_time settings.hold (open_of items) ≢ 0
+      → greatest items - hold_timer_since items < hold_time settings.hold (open_of items)
+  pub keepalive_timer : (sent : Open) → agreed_of settings items ≡ Some sent → 3 ≤ min settings.hold sent.hold
+      → greatest items - keepalive_timer_since settings items < min settings.hold sent.hold / 3
+
+abbrev pub KeepsTime : Type 0
+KeepsTime =
+    (settings : Settings) (items : List Item)
+    → is_live (state_of settings items) ≡ true → IsInTime settings items
+
+-- what ended says nothing more, and stays so until the connection is lost
+pub record IsOver (settings : Settings) (items : List Item) : Type 0 where
+  pub unheard : (message : Heard) → act_of settings (Message message) items ≡ acts.None
+  pub untimed : (t : ℕ) → act_of settings (Moment t) items ≡ acts.None
+  pub behind_message : (message : Heard) → state_of settings (Message message ∷ items) ≡ states.Closing
+  pub behind_moment : (t : ℕ) → state_of settings (Moment t ∷ items) ≡ states.Closing
+
+abbrev pub EndsOnce : Type 0
+EndsOnce =
+    (settings : Settings) (items : List Item)
+    → state_of settings items ≡ states.Closing → IsOver settings items
