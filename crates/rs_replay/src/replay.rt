@@ -1,0 +1,146 @@
+//! Plays a trace: reads it line by line, does what each line says, and writes what comes of it.
+
+ghost use Rattle.std.specs.Prelude.{◌≡◌, ◌≢◌, ◌≤◌, ◌+◌, min, Err};
+
+use crate::first_core::{Config, Core};
+use crate::lines::Lines;
+use crate::output;
+use crate::text::{TextIn, TextOut};
+use crate::trace::{Entry, LineFault, read_line};
+use std::alloc::{AllocError, Global};
+use thiserror::Error;
+
+/// Why a replay ended early.
+#[derive(Clone, Copy, Debug, Drop, Error, PartialEq, Eq)]
+pub enum ReplayFault {
+    /// The line of this number, counted from 1, has this fault.
+    #[error("line {0}: {1}")]
+    Line(u64, LineFault),
+    #[error("out of memory")]
+    Memory,
+    #[error("reading failed")]
+    Reading,
+    #[error("writing failed")]
+    Writing,
+}
+
+fn put<W: TextOut>(writer: &mut W, line: Result<Vec<u8>, AllocError>) -> Result<(), ReplayFault>
+    ensures failed { result ≡ Err ReplayFault.Writing → W.failures writer.new ≡ min (W.failures writer.old + 1) 18446744073709551615 }
+    ensures counted { result ≢ Err ReplayFault.Writing → W.failures writer.new ≡ W.failures writer.old }
+    ensures unread { result ≢ Err ReplayFault.Reading }
+{
+    let line = line.map_err(|_| ReplayFault::Memory)?;
+    output::put(writer, &line).map_err(|_| ReplayFault::Writing)
+}
+
+/// Offers a client each message that has room, until one has none or there is none.
+fn offer<W: TextOut>(
+    alloc: Global,
+    core: &mut Core,
+    client: usize,
+    room: u64,
+    writer: &mut W,
+) -> Result<(), ReplayFault>
+    ensures failed { result ≡ Err ReplayFault.Writing → W.failures writer.new ≡ min (W.failures writer.old + 1) 18446744073709551615 }
+    ensures counted { result ≢ Err ReplayFault.Writing → W.failures writer.new ≡ W.failures writer.old }
+    ensures unread { result ≢ Err ReplayFault.Reading }
+{
+    let mut out = [0; 4096];
+    let mut room = room;
+    while room > 0 {
+        let size = match core.message(alloc, client, room, &mut out) {
+            Ok(0) => break,
+            Ok(size) => size,
+            Err(_) => return Err(ReplayFault::Memory),
+        };
+        put(writer, output::sent(alloc, core.name(client), &out[..size]))?;
+        room -= size as u64;
+    }
+    Ok(())
+}
+
+/// Does what a line asks for. Octets that it gives stand at the front of the piece.
+fn play<W: TextOut>(
+    alloc: Global,
+    core: &mut Core,
+    entry: Entry,
+    piece: &[u8; 4096],
+    writer: &mut W,
+) -> Result<(), ReplayFault>
+    ensures failed { result ≡ Err ReplayFault.Writing → W.failures writer.new ≡ min (W.failures writer.old + 1) 18446744073709551615 }
+    ensures counted { result ≢ Err ReplayFault.Writing → W.failures writer.new ≡ W.failures writer.old }
+    ensures unread { result ≢ Err ReplayFault.Reading }
+{
+    match entry {
+        Entry::Open(client) => {
+            if !core.open(client) {
+                put(writer, output::busy(alloc, core.name(client)))?;
+            }
+        }
+        Entry::Octets(client, size) => {
+            let octets = match piece.get(..size) {
+                Some(octets) => octets,
+                None => piece,
+            };
+            match core.octets(alloc, client, octets) {
+                Ok(true) => {}
+                Ok(false) => put(writer, output::closed(alloc, core.name(client)))?,
+                Err(_) => return Err(ReplayFault::Memory),
+            }
+        }
+        Entry::Room(client, room) => offer(alloc, core, client, room, writer)?,
+        Entry::Turn => core.turn(alloc).map_err(|_| ReplayFault::Memory)?,
+    }
+    Ok(())
+}
+
+/// Ends a replay with the line that tells a fault.
+fn end_at<W: TextOut>(
+    alloc: Global,
+    number: u64,
+    fault: LineFault,
+    writer: &mut W,
+) -> Result<(), ReplayFault>
+    ensures failed { result ≡ Err ReplayFault.Writing → W.failures writer.new ≡ min (W.failures writer.old + 1) 18446744073709551615 }
+    ensures counted { result ≢ Err ReplayFault.Writing → W.failures writer.new ≡ W.failures writer.old }
+    ensures unread { result ≢ Err ReplayFault.Reading }
+{
+    let fault = ReplayFault::Line(number, fault);
+    match format!(in alloc; "{fault}\n") {
+        Ok(line) => output::put(writer, line.as_bytes()).map_err(|_| ReplayFault::Writing)?,
+        Err(_) => return Err(ReplayFault::Memory),
+    }
+    Err(fault)
+}
+
+/// Plays a trace to its end or to its first fault, whose line is then the last that is written.
+/// Each line before it has had its effect.
+pub fn replay<R: TextIn, W: TextOut>(
+    alloc: Global,
+    reader: &mut R,
+    writer: &mut W,
+    config: Config,
+) -> Result<(), ReplayFault>
+    ensures reading { result ≡ Err ReplayFault.Reading → R.failures reader.new ≡ min (R.failures reader.old + 1) 18446744073709551615 }
+    ensures read { result ≢ Err ReplayFault.Reading → R.failures reader.new ≡ R.failures reader.old }
+    ensures writing { result ≡ Err ReplayFault.Writing → W.failures writer.new ≡ min (W.failures writer.old + 1) 18446744073709551615 }
+    ensures written { result ≢ Err ReplayFault.Writing → W.failures writer.new ≡ W.failures writer.old }
+{
+    let mut core = Core::new(alloc, config).map_err(|_| ReplayFault::Memory)?;
+    let mut lines = Lines::new(alloc).map_err(|_| ReplayFault::Memory)?;
+    let mut piece = [0; 4096];
+    for number in 1..u64::MAX {
+        match lines.advance(reader) {
+            Ok(true) => {}
+            Ok(false) => return Ok(()),
+            Err(_) => return Err(ReplayFault::Reading),
+        }
+        match read_line(&config, lines.line(), &mut piece) {
+            Ok(None) => {}
+            Ok(Some(entry)) => play(alloc, &mut core, entry, &piece, writer)?,
+            Err(fault) => end_at(alloc, number, fault, writer)?,
+        }
+    }
+    // The number of a further line has no room.
+    Err(ReplayFault::Memory)
+}
