@@ -2,3 +2,4 @@ pub mod NumberLemmas
 pub mod WordLemmas
 pub mod LineLemmas
 pub mod OutputLemmas
+pub mod ReplayLemmas

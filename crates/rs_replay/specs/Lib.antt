@@ -5,3 +5,4 @@ pub mod Entries
 pub mod Lines
 pub mod Output
 pub mod FirstCore
+pub mod Text

@@ -42,7 +42,13 @@ abbrev pub StepsOver : Bool → List ℕ → Reading → Type 0
 StepsOver true octets r = IsFirstLine octets r
 StepsOver false octets r = IsEnd octets r
 
--- octets that a step of the reader took, or that waited before it
+-- a step to the next line, for which these octets were taken: none once the text's end was told
+pub record IsStep (is_line : Bool) (old new : Reading) (taken : List ℕ) : Type 0 where
+  pub steps : StepsOver is_line (old.rest ++ taken) new
+  pub none_after_end : old.is_over ≡ true → taken ≡ []
+  pub stays_over : old.is_over ≡ true → new.is_over ≡ true
+
+-- more waits, unless the text's end was told
 pub record Fills (old new : Reading) (taken : List ℕ) : Type 0 where
   pub rest : new.rest ≡ old.rest ++ taken
   pub over : new.is_over ≡ (length taken == 0)

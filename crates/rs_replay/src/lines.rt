@@ -1,10 +1,10 @@
 //! A text cut into lines, in bounded memory. It reads by `TextIn` alone and knows nothing of what
 //! a line says.
 
-ghost use Rattle.std.specs.Prelude.{◌≡◌, ◌≤◌, ◌+◌, ◌-◌, ◌++◌, ℕ, List, [], true, false, min, length, take, drop, IfOk, IsOk, IsErr, OnOk, OnErr};
+ghost use Rattle.std.specs.Prelude.{◌≡◌, ◌≤◌, ◌<◌, ◌+◌, ◌-◌, ◌++◌, ℕ, List, [], true, false, min, length, take, drop, IfOk, IsOk, IsErr, OnOk, OnErr};
 ghost use Rattle.std.specs.Bool.{OnTrue, OnFalse};
 ghost use Rattle.std.specs.List.{slice_range};
-ghost use Rattle.rs_replay.specs.Lines.{IsFirstLine, StepsOver, Fills};
+ghost use Rattle.rs_replay.specs.Lines.{IsFirstLine, IsStep, Fills};
 
 use crate::text::{Failed, TextIn};
 use crate::trace::LONGEST_LINE;
@@ -52,6 +52,7 @@ fn read_behind<R: TextIn>(reader: &mut R, octets: &mut [u8], front: usize) -> Re
     requires { front ≤ length octets.old }
     ensures within { IfOk result (λ n. front + n ≤ length octets.old) }
     ensures ok { IfOk result (λ n. R.takes reader.old (slice_range octets.new front (front + n)) reader.new) }
+    ensures end { IfOk result (λ n. n ≡ 0 → front < length octets.old → R.at_end reader.new) }
     ensures kept { take front octets.new ≡ take front octets.old }
     ensures err { OnErr result (R.takes reader.old [] reader.new) }
     ensures counted { IsOk result → R.failures reader.new ≡ R.failures reader.old }
@@ -98,6 +99,7 @@ impl Lines {
     /// Whether what waits begins with a line, which is then taken.
     fn cut(&mut self) -> bool
         ensures some { OnTrue result (IsFirstLine self.old.rest self.new) }
+        ensures over { self.new.is_over ≡ self.old.is_over }
         ensures none { OnFalse result (self.new ≡ self.old) }
         ensures short { OnFalse result (length self.old.rest ≤ 8240) }
         ensures ended { OnFalse result (self.old.is_over ≡ true → self.old.rest ≡ []) }
@@ -124,6 +126,7 @@ impl Lines {
     fn fill<R: TextIn>(&mut self, reader: &mut R) -> Result<(), Failed>
         requires { length self.old.rest ≤ 8240 }
         ensures ok { OnOk result ((taken : List ℕ) × R.takes reader.old taken reader.new × Fills self.old self.new taken) }
+        ensures ended { OnOk result (self.new.is_over ≡ true → R.at_end reader.new) }
         ensures kept { OnErr result ((self.new.rest ≡ self.old.rest) × R.takes reader.old [] reader.new) }
         ensures counted { IsOk result → R.failures reader.new ≡ R.failures reader.old }
         ensures failed { IsErr result → R.failures reader.new ≡ min (R.failures reader.old + 1) 18446744073709551615 }
@@ -144,7 +147,9 @@ impl Lines {
     /// Steps to the next line, and answers whether there is one. Where a call fails, what was read
     /// waits.
     pub fn advance<R: TextIn>(&mut self, reader: &mut R) -> Result<bool, Failed>
-        ensures step { IfOk result (λ is_line. (taken : List ℕ) × R.takes reader.old taken reader.new × StepsOver is_line (self.old.rest ++ taken) self.new) }
+        requires { self.old.is_over ≡ true → R.at_end reader.old }
+        ensures step { IfOk result (λ is_line. (taken : List ℕ) × R.takes reader.old taken reader.new × IsStep is_line self.old self.new taken) }
+        ensures ended { OnOk result (self.new.is_over ≡ true → R.at_end reader.new) }
         ensures kept { OnErr result ((taken : List ℕ) × R.takes reader.old taken reader.new × (self.new.rest ≡ self.old.rest ++ taken)) }
         ensures counted { IsOk result → R.failures reader.new ≡ R.failures reader.old }
         ensures failed { IsErr result → R.failures reader.new ≡ min (R.failures reader.old + 1) 18446744073709551615 }

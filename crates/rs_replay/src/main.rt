@@ -42,3 +42,6 @@ fn main(rt: HostRuntime) -> Result<ExitCode> {
     eprintln!(rt; "{fault}")?;
     Ok(ExitCode::from(3))
 }
+
+#[cfg(test)]
+mod tests;

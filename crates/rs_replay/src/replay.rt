@@ -1,12 +1,13 @@
 //! Plays a trace: reads it line by line, does what each line says, and writes what comes of it.
 
-ghost use Rattle.std.specs.Prelude.{◌≡◌, ◌≢◌, ◌≤◌, ◌+◌, min, Err};
+ghost use Rattle.std.specs.Prelude.{◌≡◌, ◌≢◌, ◌+◌, ℕ, List, min, Err, IsOk, Some};
+ghost use Rattle.rs_replay.specs.Text.{NamesNoLine, TellsFault, first_fault, lines_of};
 
 use crate::first_core::{Config, Core};
 use crate::lines::Lines;
 use crate::output;
 use crate::text::{TextIn, TextOut};
-use crate::trace::{Entry, LineFault, read_line};
+use crate::trace::{Entry, LineFault, Places, read_line};
 use std::alloc::{AllocError, Global};
 use thiserror::Error;
 
@@ -28,6 +29,7 @@ fn put<W: TextOut>(writer: &mut W, line: Result<Vec<u8>, AllocError>) -> Result<
     ensures failed { result ≡ Err ReplayFault.Writing → W.failures writer.new ≡ min (W.failures writer.old + 1) 18446744073709551615 }
     ensures counted { result ≢ Err ReplayFault.Writing → W.failures writer.new ≡ W.failures writer.old }
     ensures unread { result ≢ Err ReplayFault.Reading }
+    ensures no_line { NamesNoLine result }
 {
     let line = line.map_err(|_| ReplayFault::Memory)?;
     output::put(writer, &line).map_err(|_| ReplayFault::Writing)
@@ -44,6 +46,7 @@ fn offer<W: TextOut>(
     ensures failed { result ≡ Err ReplayFault.Writing → W.failures writer.new ≡ min (W.failures writer.old + 1) 18446744073709551615 }
     ensures counted { result ≢ Err ReplayFault.Writing → W.failures writer.new ≡ W.failures writer.old }
     ensures unread { result ≢ Err ReplayFault.Reading }
+    ensures no_line { NamesNoLine result }
 {
     let mut out = [0; 4096];
     let mut room = room;
@@ -70,6 +73,7 @@ fn play<W: TextOut>(
     ensures failed { result ≡ Err ReplayFault.Writing → W.failures writer.new ≡ min (W.failures writer.old + 1) 18446744073709551615 }
     ensures counted { result ≢ Err ReplayFault.Writing → W.failures writer.new ≡ W.failures writer.old }
     ensures unread { result ≢ Err ReplayFault.Reading }
+    ensures no_line { NamesNoLine result }
 {
     match entry {
         Entry::Open(client) => {
@@ -104,6 +108,7 @@ fn end_at<W: TextOut>(
     ensures failed { result ≡ Err ReplayFault.Writing → W.failures writer.new ≡ min (W.failures writer.old + 1) 18446744073709551615 }
     ensures counted { result ≢ Err ReplayFault.Writing → W.failures writer.new ≡ W.failures writer.old }
     ensures unread { result ≢ Err ReplayFault.Reading }
+    ensures told { TellsFault result (Some (number, fault)) }
 {
     let fault = ReplayFault::Line(number, fault);
     match format!(in alloc; "{fault}\n") {
@@ -121,13 +126,20 @@ pub fn replay<R: TextIn, W: TextOut>(
     writer: &mut W,
     config: Config,
 ) -> Result<(), ReplayFault>
+    // Of a reader whose octets are known, the text is what was read of it.
+    ensures lines { (text : List ℕ) × R.takes reader.old text reader.new × TellsFault result (first_fault (⟦<Config as Places>⟧.place_of config) 1 (lines_of text)) }
+    ensures whole { IsOk result → R.at_end reader.new }
+
     ensures reading { result ≡ Err ReplayFault.Reading → R.failures reader.new ≡ min (R.failures reader.old + 1) 18446744073709551615 }
     ensures read { result ≢ Err ReplayFault.Reading → R.failures reader.new ≡ R.failures reader.old }
     ensures writing { result ≡ Err ReplayFault.Writing → W.failures writer.new ≡ min (W.failures writer.old + 1) 18446744073709551615 }
     ensures written { result ≢ Err ReplayFault.Writing → W.failures writer.new ≡ W.failures writer.old }
 {
     let mut core = Core::new(alloc, config).map_err(|_| ReplayFault::Memory)?;
-    let mut lines = Lines::new(alloc).map_err(|_| ReplayFault::Memory)?;
+    let mut lines = match Lines::new(alloc) {
+        Ok(lines) => lines,
+        Err(_) => return Err(ReplayFault::Memory),
+    };
     let mut piece = [0; 4096];
     for number in 1..u64::MAX {
         match lines.advance(reader) {
@@ -135,10 +147,12 @@ pub fn replay<R: TextIn, W: TextOut>(
             Ok(false) => return Ok(()),
             Err(_) => return Err(ReplayFault::Reading),
         }
-        match read_line(&config, lines.line(), &mut piece) {
-            Ok(None) => {}
-            Ok(Some(entry)) => play(alloc, &mut core, entry, &piece, writer)?,
-            Err(fault) => end_at(alloc, number, fault, writer)?,
+        let entry = match read_line(&config, lines.line(), &mut piece) {
+            Ok(entry) => entry,
+            Err(fault) => return end_at(alloc, number, fault, writer),
+        };
+        if let Some(entry) = entry {
+            play(alloc, &mut core, entry, &piece, writer)?;
         }
     }
     // The number of a further line has no room.

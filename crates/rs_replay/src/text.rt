@@ -1,8 +1,8 @@
 //! The two ends of a replay: a text that is read and a text that is written, each with a count of
 //! the calls that failed. Nothing else of the crate reads or writes.
 
-ghost use Rattle.std.specs.Prelude.{◌≡◌, ◌≤◌, ◌+◌, ◌++◌, ℕ, List, [], min, take, length, IfOk, IsOk, IsErr};
-ghost use Rattle.std.specs.Io.KnownBytes.{Consumes, Appends};
+ghost use Rattle.std.specs.Prelude.{◌≡◌, ◌≤◌, ◌<◌, ◌+◌, ◌++◌, ℕ, List, [], min, take, length, IfOk, IsOk, IsErr};
+ghost use Rattle.std.specs.Io.KnownBytes.{Consumes, Appends, IsAtEnd};
 ghost use Rattle.std.proofs.KnownBytes.{Consumes-nil, Consumes-trans, Appends-nil, Appends-trans};
 
 use std::io::{Read, Write};
@@ -11,7 +11,8 @@ use std::io::{Read, Write};
 #[derive(Clone, Copy, Debug, PartialEq, Eq)]
 pub struct Failed;
 
-/// A text that is read. `takes a octets b` says that the calls between `a` and `b` took these octets.
+/// A text that is read. `takes a octets b` says that the calls between `a` and `b` took these
+/// octets, and `at_end a` that there are no more.
 ///
 /// `failures` counts the calls that failed. At `u64::MAX` it stays, and each further call fails.
 pub trait TextIn {
@@ -19,11 +20,14 @@ pub trait TextIn {
 
     ghost takes: { Self → List ℕ → Self → Type 0 };
 
+    ghost at_end: { Self → Type 0 };
+
     /// Reads some octets to the front of `room`, and answers how many. 0 for some room is the end of
     /// the text. A call that fails takes nothing.
     fn read(&mut self, room: &mut [u8]) -> Result<usize, Failed>
         ensures count { IfOk result (λ n. n ≤ length room.old) }
         ensures octets { IfOk result (λ n. takes self.old (take n room.new) self.new) }
+        ensures end { IfOk result (λ n. n ≡ 0 → 0 < length room.old → at_end self.new) }
         ensures none_taken { IsErr result → takes self.old [] self.new }
         ensures ok { IsOk result → failures self.new ≡ failures self.old }
         ensures err { IsErr result → failures self.new ≡ min (failures self.old + 1) 18446744073709551615 };
@@ -79,6 +83,8 @@ impl<R: Read> TextIn for OverRead<R> {
     ghost failures = { λ a. a.failures };
 
     ghost takes = { λ a octets b. Consumes (R.remaining a.reader) (R.remaining b.reader) octets };
+
+    ghost at_end = { λ a. IsAtEnd (R.remaining a.reader) };
 
     ghost takes_none = { λ a. Consumes-nil (R.remaining a.reader) };
 
