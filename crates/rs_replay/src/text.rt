@@ -63,14 +63,15 @@ pub trait TextOut {
 /// A reader of std's as a text.
 #[derive(Drop)]
 pub struct OverRead<R> {
-    reader: R,
+    pub reader: R,
     failures: u64,
 }
 
 impl<R: Read> OverRead<R> {
+    /// No call has failed yet.
     pub fn new(reader: R) -> OverRead<R>
         ensures reader { result.reader ≡ reader }
-        ensures count { result.failures ≡ 0 }
+        ensures count { ⟦<OverRead<R> as TextIn>⟧.failures result ≡ 0 }
     {
         OverRead {
             reader,
@@ -104,14 +105,15 @@ impl<R: Read> TextIn for OverRead<R> {
 /// A writer of std's as a text.
 #[derive(Drop)]
 pub struct OverWrite<W> {
-    writer: W,
+    pub writer: W,
     failures: u64,
 }
 
 impl<W: Write> OverWrite<W> {
+    /// No call has failed yet.
     pub fn new(writer: W) -> OverWrite<W>
         ensures writer { result.writer ≡ writer }
-        ensures count { result.failures ≡ 0 }
+        ensures count { ⟦<OverWrite<W> as TextOut>⟧.failures result ≡ 0 }
     {
         OverWrite {
             writer,
@@ -119,8 +121,11 @@ impl<W: Write> OverWrite<W> {
         }
     }
 
-    /// Hands on what the writer holds back.
-    pub fn flush(&mut self) -> Result<(), Failed> {
+    /// Hands on what the writer holds back. It counts as `write` does.
+    pub fn flush(&mut self) -> Result<(), Failed>
+        ensures ok { IsOk result → ⟦<OverWrite<W> as TextOut>⟧.failures self.new ≡ ⟦<OverWrite<W> as TextOut>⟧.failures self.old }
+        ensures err { IsErr result → ⟦<OverWrite<W> as TextOut>⟧.failures self.new ≡ min (⟦<OverWrite<W> as TextOut>⟧.failures self.old + 1) 18446744073709551615 }
+    {
         if self.failures < u64::MAX && self.writer.flush().is_ok() {
             return Ok(());
         }
