@@ -9,10 +9,11 @@ use Rattle.rs_replay.specs.declared.trace.Entry.{Entry}
 use Rattle.rs_replay.specs.declared.replay.ReplayFault.{ReplayFault}
 use Rattle.rs_replay.specs.declared.replay.ReplayFault.TheVariants.{Line}
 use Rattle.rs_replay.specs.Entries.{event_in, line_as_event}
+use Rattle.rs_replay.specs.Output.{fault_line}
 use Rattle.rs_replay.specs.Words.{lengthen}
 use Rattle.rs_replay.specs.Lines.{Reading, IsEnded, IsLast, IsTooLong, IsFirstLine, IsStep}
 use Rattle.rs_replay.specs.Trace.{Event, line_of}
-use Rattle.rs_replay.specs.Text.{lines_of, first_fault, NamesNoLine, TellsFault}
+use Rattle.rs_replay.specs.Text.{lines_of, first_fault, NamesNoLine, TellsFault, EndsInFaultLine}
 use Rattle.rs_replay.proofs.LineLemmas.{ends}
 
 no_end : (x : ℕ) (xs : List ℕ) → list_any ends (x ∷ xs) ≡ false → (ends x ≡ false) × (list_any ends xs ≡ false)
@@ -148,3 +149,25 @@ names_none fault first none = elim fault as (λ f. NamesNoLine (Err f) → Tells
 pub error_names_none : (r : Result (Unit {0}) ReplayFault) (fault : ReplayFault) (first : Option (ℕ × LineFault)) → IsErrAnd r (λ e. e ≡ fault) → NamesNoLine (Err fault) → TellsFault r first
 error_names_none (Ok done) fault first is none = absurd is
 error_names_none (Err e) fault first is none = names_none e first (let P : ReplayFault → Type 0 = λ f. NamesNoLine (Err f) in subst P (sym is) none)
+
+some_same : {A : Type 0} (x y : A) → Some x ≡ Some y → x ≡ y
+some_same x y e = cc
+
+line_told : (n m : ℕ) (fault found : LineFault) (done : List ℕ) (P Q : List ℕ → Type 0) → ◌≡◌ {A = Option (ℕ × LineFault)} (Some (n, fault)) (Some (m, found)) → P (fault_line n fault) → ((xs : List ℕ) → P xs → Q (done ++ xs)) → (before : List ℕ) × Q (before ++ fault_line m found)
+line_told n m fault found done P Q told put behind =
+    let same = some_same {A = ℕ × LineFault} (n, fault) (m, found) told in
+    let line : fault_line n fault ≡ fault_line m found = ap (λ p. fault_line p.0 p.1) same in
+    (done, subst (λ (xs : List ℕ). Q (done ++ xs)) line (behind (fault_line n fault) put))
+
+line_again : (n m : ℕ) (fault found : LineFault) → ◌≡◌ {A = Option (ℕ × LineFault)} (Some (n, fault)) (Some (m, found)) → (let r : Result (Unit {0}) ReplayFault = Err (Line m found) in r ≡ Err (Line n fault))
+line_again n m fault found told =
+    let same = some_same {A = ℕ × LineFault} (n, fault) (m, found) told in
+    ap (λ p. let r : Result (Unit {0}) ReplayFault = Err (Line p.0 p.1) in r) (sym same)
+
+-- what ends in the line of the fault that it tells still does behind what was put before
+pub ends_behind : (r : Result (Unit {0}) ReplayFault) (n : ℕ) (fault : LineFault) (done : List ℕ) (P Q : List ℕ → Type 0)
+    → TellsFault r (Some (n, fault)) → (r ≡ Err (Line n fault) → P (fault_line n fault)) → ((xs : List ℕ) → P xs → Q (done ++ xs)) → EndsInFaultLine r Q
+ends_behind (Ok done_so) n fault done P Q told put behind = tt
+ends_behind (Err e) n fault done P Q told put behind =
+    elim e as (λ f. TellsFault (Err f) (Some (n, fault)) → ((let r : Result (Unit {0}) ReplayFault = Err f in r ≡ Err (Line n fault)) → P (fault_line n fault)) → EndsInFaultLine (Err f) Q)
+    [ Line m found ↦ (λ t p. line_told n m fault found done P Q t (p (line_again n m fault found t)) behind) | _ ↦ (λ t p. tt) ] told put

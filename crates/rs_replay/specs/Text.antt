@@ -1,8 +1,9 @@
 -- The text of a trace: its lines, and the first of them that has a fault.
-use Rattle.std.specs.Prelude.{◌≡◌, ℕ, ◌+◌, ◌==◌, if◌then◌else◌, List, [], ◌∷◌, Option, Some, None, Result, Ok, Err, ⊤}
+use Rattle.std.specs.Prelude.{◌≡◌, ℕ, ◌+◌, ◌==◌, if◌then◌else◌, List, [], ◌∷◌, ◌++◌, Option, Some, None, Result, Ok, Err, ⊤}
 use Rattle.rs_replay.specs.declared.trace.LineFault.{LineFault}
 use Rattle.rs_replay.specs.declared.replay.ReplayFault.{ReplayFault}
 use Rattle.rs_replay.specs.declared.replay.ReplayFault.TheVariants.{Line, Memory, Reading, Writing}
+use Rattle.rs_replay.specs.Output.{fault_line}
 use Rattle.rs_replay.specs.Words.{lengthen}
 use Rattle.rs_replay.specs.Trace.{Event, line_of}
 
@@ -36,3 +37,11 @@ NamesNoLine (Err (Line n fault)) = ⊥
 NamesNoLine (Err Memory) = ⊤
 NamesNoLine (Err Reading) = ⊤
 NamesNoLine (Err Writing) = ⊤
+
+-- where a replay ended at a line's fault, that is the last that was put
+abbrev pub EndsInFaultLine : Result (Unit {0}) ReplayFault → (List ℕ → Type 0) → Type 0
+EndsInFaultLine (Ok done) put = ⊤
+EndsInFaultLine (Err (Line n fault)) put = (before : List ℕ) × put (before ++ fault_line n fault)
+EndsInFaultLine (Err Memory) put = ⊤
+EndsInFaultLine (Err Reading) put = ⊤
+EndsInFaultLine (Err Writing) put = ⊤

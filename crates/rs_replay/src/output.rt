@@ -1,9 +1,10 @@
 //! The lines that a replay writes. It writes by `TextOut` alone.
 
 ghost use Rattle.std.specs.Prelude.{◌≡◌, ◌≤◌, ◌+◌, ◌++◌, ◌∷◌, [], ℕ, min, length, take, codes, IfOk, IsOk, IsErr, OnOk, OnErr};
-ghost use Rattle.rs_replay.specs.Output.{sent_line, client_line};
+ghost use Rattle.rs_replay.specs.Output.{sent_line, client_line, fault_line};
 
 use crate::text::{Failed, TextOut};
+use crate::trace::LineFault;
 use std::alloc::{AllocError, Global};
 
 /// Writes all of the octets. Where a call fails, a front of them was written.
@@ -56,4 +57,16 @@ pub fn busy(alloc: Global, name: &[u8]) -> Result<Vec<u8>, AllocError>
     ensures { IfOk result (λ line. line.items ≡ client_line (codes "busy") name.now) }
 {
     word_and_name(alloc, b"busy", name)
+}
+
+/// The line of a fault, `line N: FAULT`.
+pub fn faulty(alloc: Global, number: u64, fault: LineFault) -> Result<Vec<u8>, AllocError>
+    ensures { IfOk result (λ line. line.items ≡ fault_line number fault) }
+{
+    let mut line = Vec::from_slice(alloc, b"line ")?;
+    line.extend_from_slice(format!(in alloc; "{number}")?.as_bytes())?;
+    line.extend_from_slice(b": ")?;
+    line.extend_from_slice(fault.text().as_bytes())?;
+    line.extend_from_slice(b"\n")?;
+    Ok(line)
 }

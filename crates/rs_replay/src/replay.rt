@@ -1,7 +1,8 @@
 //! Plays a trace: reads it line by line, does what each line says, and writes what comes of it.
 
-ghost use Rattle.std.specs.Prelude.{◌≡◌, ◌≢◌, ◌+◌, ℕ, List, min, Err, IsOk, Some};
-ghost use Rattle.rs_replay.specs.Text.{NamesNoLine, TellsFault, first_fault, lines_of};
+ghost use Rattle.std.specs.Prelude.{◌≡◌, ◌≢◌, ◌+◌, ℕ, List, min, Err, IsOk, OnOk, Some};
+ghost use Rattle.rs_replay.specs.Output.{fault_line};
+ghost use Rattle.rs_replay.specs.Text.{EndsInFaultLine, NamesNoLine, TellsFault, first_fault, lines_of};
 
 use crate::first_core::{Config, Core};
 use crate::lines::Lines;
@@ -30,6 +31,7 @@ fn put<W: TextOut>(writer: &mut W, line: Result<Vec<u8>, AllocError>) -> Result<
     ensures counted { result ≢ Err ReplayFault.Writing → W.failures writer.new ≡ W.failures writer.old }
     ensures unread { result ≢ Err ReplayFault.Reading }
     ensures no_line { NamesNoLine result }
+    ensures put { OnOk result ((octets : List ℕ) × W.puts writer.old octets writer.new) }
 {
     let line = line.map_err(|_| ReplayFault::Memory)?;
     output::put(writer, &line).map_err(|_| ReplayFault::Writing)
@@ -47,6 +49,7 @@ fn offer<W: TextOut>(
     ensures counted { result ≢ Err ReplayFault.Writing → W.failures writer.new ≡ W.failures writer.old }
     ensures unread { result ≢ Err ReplayFault.Reading }
     ensures no_line { NamesNoLine result }
+    ensures put { OnOk result ((octets : List ℕ) × W.puts writer.old octets writer.new) }
 {
     let mut out = [0; 4096];
     let mut room = room;
@@ -74,6 +77,7 @@ fn play<W: TextOut>(
     ensures counted { result ≢ Err ReplayFault.Writing → W.failures writer.new ≡ W.failures writer.old }
     ensures unread { result ≢ Err ReplayFault.Reading }
     ensures no_line { NamesNoLine result }
+    ensures put { OnOk result ((octets : List ℕ) × W.puts writer.old octets writer.new) }
 {
     match entry {
         Entry::Open(client) => {
@@ -109,13 +113,13 @@ fn end_at<W: TextOut>(
     ensures counted { result ≢ Err ReplayFault.Writing → W.failures writer.new ≡ W.failures writer.old }
     ensures unread { result ≢ Err ReplayFault.Reading }
     ensures told { TellsFault result (Some (number, fault)) }
+    ensures last { result ≡ Err (ReplayFault.Line number fault) → W.puts writer.old (fault_line number fault) writer.new }
 {
-    let fault = ReplayFault::Line(number, fault);
-    match format!(in alloc; "{fault}\n") {
-        Ok(line) => output::put(writer, line.as_bytes()).map_err(|_| ReplayFault::Writing)?,
+    match output::faulty(alloc, number, fault) {
+        Ok(line) => output::put(writer, &line).map_err(|_| ReplayFault::Writing)?,
         Err(_) => return Err(ReplayFault::Memory),
     }
-    Err(fault)
+    Err(ReplayFault::Line(number, fault))
 }
 
 /// Plays a trace to its end or to its first fault, whose line is then the last that is written.
@@ -128,6 +132,7 @@ pub fn replay<R: TextIn, W: TextOut>(
 ) -> Result<(), ReplayFault>
     // Of a reader whose octets are known, the text is what was read of it.
     ensures lines { (text : List ℕ) × R.takes reader.old text reader.new × TellsFault result (first_fault (⟦<Config as Places>⟧.place_of config) 1 (lines_of text)) }
+    ensures last { EndsInFaultLine result (λ octets. W.puts writer.old octets writer.new) }
     ensures whole { IsOk result → R.at_end reader.new }
 
     ensures reading { result ≡ Err ReplayFault.Reading → R.failures reader.new ≡ min (R.failures reader.old + 1) 18446744073709551615 }

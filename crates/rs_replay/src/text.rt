@@ -11,6 +11,14 @@ use std::io::{Read, Write};
 #[derive(Clone, Copy, Debug, PartialEq, Eq)]
 pub struct Failed;
 
+/// Counts a call that failed.
+fn counted(failures: &mut u64) -> Failed
+    ensures { failures.new ≡ min (failures.old + 1) 18446744073709551615 }
+{
+    *failures = failures.saturating_add(1);
+    Failed
+}
+
 /// A text that is read. `takes a octets b` says that the calls between `a` and `b` took these
 /// octets, and `at_end a` that there are no more.
 ///
@@ -97,8 +105,7 @@ impl<R: Read> TextIn for OverRead<R> {
         {
             return Ok(n);
         }
-        self.failures = self.failures.saturating_add(1);
-        Err(Failed)
+        Err(counted(&mut self.failures))
     }
 }
 
@@ -129,8 +136,7 @@ impl<W: Write> OverWrite<W> {
         if self.failures < u64::MAX && self.writer.flush().is_ok() {
             return Ok(());
         }
-        self.failures = self.failures.saturating_add(1);
-        Err(Failed)
+        Err(counted(&mut self.failures))
     }
 }
 
@@ -150,7 +156,6 @@ impl<W: Write> TextOut for OverWrite<W> {
         {
             return Ok(n);
         }
-        self.failures = self.failures.saturating_add(1);
-        Err(Failed)
+        Err(counted(&mut self.failures))
     }
 }

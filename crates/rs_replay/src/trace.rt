@@ -3,6 +3,7 @@
 
 ghost use Rattle.std.specs.Prelude.{◌≡◌, ℕ, List, Option, take, ok_or, option_map};
 ghost use Rattle.rs_replay.specs.Words.{AreOperands};
+ghost use Rattle.rs_replay.specs.Output.{fault_text};
 ghost use Rattle.rs_replay.specs.Trace.{word_of, octets_of, event_of, line_of};
 ghost use Rattle.rs_replay.specs.Entries.{entry_as_event, line_as_event};
 
@@ -18,19 +19,30 @@ pub const LONGEST_PIECE: usize = 4096;
 
 /// The fault of a line: the first, in this order, that it has.
 #[derive(Clone, Copy, Debug, Drop, Error, PartialEq, Eq)]
+#[error("{}", self.text())]
 pub enum LineFault {
-    #[error("too long")]
     TooLong,
-    #[error("unknown word")]
     UnknownWord,
-    #[error("word count")]
     WordCount,
-    #[error("unknown client")]
     UnknownClient,
-    #[error("bad number")]
     BadNumber,
-    #[error("bad hex")]
     BadHex,
+}
+
+impl LineFault {
+    /// What is told of it.
+    pub fn text(&self) -> &'static str
+        ensures { result.now ≡ fault_text self.now }
+    {
+        match self {
+            LineFault::TooLong => "too long",
+            LineFault::UnknownWord => "unknown word",
+            LineFault::WordCount => "word count",
+            LineFault::UnknownClient => "unknown client",
+            LineFault::BadNumber => "bad number",
+            LineFault::BadHex => "bad hex",
+        }
+    }
 }
 
 /// The word that a line begins with.

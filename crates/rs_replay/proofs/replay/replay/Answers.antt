@@ -2,7 +2,7 @@ use Rattle.std.proofs.Common.{◌≡◌, ℕ, List, [], ◌++◌, ◌∙◌, ap,
 use Rattle.std.specs.Prelude.{position, bytes_eq}
 use Rattle.rs_replay.specs.Text.{first_fault, lines_of}
 use Rattle.rs_replay.specs.Trace.{line_of}
-use Rattle.rs_replay.proofs.ReplayLemmas.{follows_start, follows_end, follows_fault, follows_line, line_said, line_faulty, error_names_none}
+use Rattle.rs_replay.proofs.ReplayLemmas.{follows_start, follows_end, follows_fault, follows_line, line_said, line_faulty, error_names_none, ends_behind}
 use Rattle.rs_replay.proofs.replay.replay.Goals as goal
 use Rattle.rs_replay.proofs.replay.replay.Goals.{in-Some+in_ok-play, in_default}
 
@@ -16,6 +16,7 @@ loop-number-init g c =
       (λ over. let unread : c.in-Ok.lines.is_over ≡ false = ap (λ l. l.is_over) fresh in cc),
       refl,
       refl,
+      ([], g.met.W.TextOut.puts_none c.args.writer.now),
     )
 
 pub returns-in-Ok-false-clause-lines : goal.returns-in-Ok-false-clause-lines
@@ -68,4 +69,18 @@ loop-number-preserved g c =
       c.in-Ok-true.ensures.ended,
       c.in-Ok-true.ensures.counted (refl {a = true}) ∙ before.4,
       elim c.match-entry.branch [ in-Some+in_ok-play w ↦ rw w.writer-is (w.in_ok-play.ensures.counted (λ bad. cc) ∙ before.5) | in_default w ↦ rw w.writer-is before.5 ],
+      elim c.match-entry.branch [
+        | in-Some+in_ok-play w ↦
+            let more = w.in_ok-play.ensures.put in
+            (before.6.0 ++ more.0, rw w.writer-is (g.met.W.TextOut.puts_on c.args.writer.now c.loop-number.writer w.play.new.writer before.6.0 more.0 before.6.1 more.1))
+        | in_default w ↦ rw w.writer-is before.6
+      ],
     )
+
+pub returns-in-Err-read_line-clause-last : goal.returns-in-Err-read_line-clause-last
+returns-in-Err-read_line-clause-last g c =
+    let before = c.loop-number.invariant in
+    let behind : (xs : List ℕ) → g.W.TextOut.puts c.loop-number.writer xs c.end_at.new.writer → g.W.TextOut.puts c.args.writer.now (before.6.0 ++ xs) c.end_at.new.writer =
+    λ xs p. g.met.W.TextOut.puts_on c.args.writer.now c.loop-number.writer c.end_at.new.writer before.6.0 xs before.6.1 p in
+    ends_behind c.end_at.result c.loop-number.number c.in-Err-read_line.fault before.6.0 (λ xs. g.W.TextOut.puts c.loop-number.writer xs c.end_at.new.writer) (λ xs. g.W.TextOut.puts c.args.writer.now xs c.end_at.new.writer)
+    c.end_at.ensures.told c.end_at.ensures.last behind

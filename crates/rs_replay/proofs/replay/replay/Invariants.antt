@@ -11,3 +11,4 @@ invariant-loop-number g l =
     × (l.lines.is_over ≡ true → g.R.TextIn.at_end l.reader)
     × (g.R.TextIn.failures l.reader ≡ g.R.TextIn.failures l.initial.reader)
     × (g.W.TextOut.failures l.writer ≡ g.W.TextOut.failures l.initial.writer)
+    × ((octets : List ℕ) × g.W.TextOut.puts l.initial.writer octets l.writer)
