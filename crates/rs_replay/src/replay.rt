@@ -1,6 +1,6 @@
 //! Plays a trace: reads it line by line, does what each line says, and writes what comes of it.
 
-ghost use Rattle.std.specs.Prelude.{◌≡◌, ◌≢◌, ◌+◌, ℕ, List, min, Err, IsOk, OnOk, Some};
+ghost use Rattle.std.specs.Prelude.{◌≡◌, ◌≢◌, ◌+◌, ℕ, List, min, Err, IsOk, MatchResult, OnOk, Some};
 ghost use Rattle.rs_replay.specs.Output.{fault_line};
 ghost use Rattle.rs_replay.specs.Text.{EndsInFaultLine, NamesNoLine, TellsFault, first_fault, lines_of};
 
@@ -26,11 +26,13 @@ pub enum ReplayFault {
     Writing,
 }
 
+/// Writes a line, where there was memory for it.
 fn put<W: TextOut>(writer: &mut W, line: Result<Vec<u8>, AllocError>) -> Result<(), ReplayFault>
     ensures failed { result ≡ Err ReplayFault.Writing → W.failures writer.new ≡ min (W.failures writer.old + 1) 18446744073709551615 }
     ensures counted { result ≢ Err ReplayFault.Writing → W.failures writer.new ≡ W.failures writer.old }
     ensures unread { result ≢ Err ReplayFault.Reading }
     ensures no_line { NamesNoLine result }
+    ensures line { MatchResult line (λ l. OnOk result (W.puts writer.old l.items writer.new)) (λ e. result ≡ Err ReplayFault.Memory) }
     ensures put { OnOk result ((octets : List ℕ) × W.puts writer.old octets writer.new) }
 {
     let line = line.map_err(|_| ReplayFault::Memory)?;

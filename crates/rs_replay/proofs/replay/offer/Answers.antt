@@ -1,4 +1,4 @@
-use Rattle.std.proofs.Common.{◌≡◌, ◌++◌, ◌∙◌, List, true, refl}
+use Rattle.std.proofs.Common.{◌++◌, ◌∙◌}
 use Rattle.rs_replay.proofs.replay.offer.Goals as goal
 
 pub loop-room-preserved : goal.loop-room-preserved
