@@ -1,0 +1,5 @@
+pub mod NumberLemmas
+pub mod WordLemmas
+pub mod LineLemmas
+pub mod OutputLemmas
+pub mod ReplayLemmas

@@ -1,0 +1,25 @@
+-- The lines of a replay's output.
+use Rattle.std.specs.Prelude.{ℕ, List, [], ◌∷◌, ◌++◌, codes, decimal}
+use Rattle.rs_replay.specs.declared.trace.LineFault.{LineFault}
+use Rattle.rs_replay.specs.declared.trace.LineFault.TheVariants.{TooLong, UnknownWord, WordCount, UnknownClient, BadNumber, BadHex}
+use Rattle.hex.specs.Hex.{encode_lower}
+
+-- a word, a space, a name
+abbrev pub client_line : List ℕ → List ℕ → List ℕ
+client_line word name = word ++ codes " " ++ name ++ (10 ∷ [])
+
+-- octets that a client is sent, in lower case hex
+abbrev pub sent_line : List ℕ → List ℕ → List ℕ
+sent_line name octets = codes "sent " ++ name ++ codes " " ++ encode_lower octets ++ (10 ∷ [])
+
+abbrev pub fault_text : LineFault → List ℕ
+fault_text TooLong = codes "too long"
+fault_text UnknownWord = codes "unknown word"
+fault_text WordCount = codes "word count"
+fault_text UnknownClient = codes "unknown client"
+fault_text BadNumber = codes "bad number"
+fault_text BadHex = codes "bad hex"
+
+-- a line's fault, with the line's number in decimal digits
+abbrev pub fault_line : ℕ → LineFault → List ℕ
+fault_line n fault = codes "line " ++ decimal n ++ codes ": " ++ fault_text fault ++ (10 ∷ [])
