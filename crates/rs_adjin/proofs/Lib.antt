@@ -1,0 +1,3 @@
+pub mod RouteLists
+pub mod Steps
+pub mod Ties

@@ -1,0 +1,42 @@
+-- What the Adj-RIBs-In hold: for each client an identifier and a table, seen as functions.
+use Rattle.std.specs.Prelude.{◌≡◌, ◌==◌, ◌&&◌, ◌<◌, ℕ, zero, suc, Bool, List, [], ◌∷◌, length, map, Option, Some, None, IsSome, slice_index, if◌then◌else◌}
+use Rattle.rs_octets.specs.Prefixes.{Prefix}
+use Rattle.rs_attrs.specs.Meaning.{Attribute}
+use Rattle.rs_adjin.specs.Routes.{value_in}
+use Rattle.rs_adjin.specs.Table.{same_prefix, routes_at}
+use Rattle.rs_adjin.specs.declared.adj_ins.AdjIns.{AdjIns}
+
+unfoldable pub client_count : AdjIns → ℕ
+client_count ins = length ins.identifiers.items
+
+-- the BGP Identifier of a client's session
+unfoldable pub identifier_of : AdjIns → ℕ → ℕ
+identifier_of ins c = slice_index ins.identifiers.items c
+
+-- what client c announced for a prefix
+unfoldable pub held_of : AdjIns → ℕ → Prefix → Option (List Attribute)
+held_of ins c p = value_in c (routes_at ins.table p)
+
+-- client c has w for p, and nothing else has changed
+pub record Sets (old new : AdjIns) (c : ℕ) (p : Prefix) (w : Option (List Attribute)) : Type 0 where
+  pub count : client_count new ≡ client_count old
+  pub identifiers : (d : ℕ) → identifier_of new d ≡ identifier_of old d
+  pub held : (d : ℕ) (q : Prefix) → held_of new d q ≡ (if (d == c) && same_prefix q p then w else held_of old d q)
+
+-- client c has nothing, and nothing else has changed
+pub record Clears (old new : AdjIns) (c : ℕ) : Type 0 where
+  pub count : client_count new ≡ client_count old
+  pub identifiers : (d : ℕ) → identifier_of new d ≡ identifier_of old d
+  pub held : (d : ℕ) (q : Prefix) → held_of new d q ≡ (if d == c then None else held_of old d q)
+
+-- client c has this identifier and nothing else, and nothing else has changed
+pub record Begins (old new : AdjIns) (c identifier : ℕ) : Type 0 where
+  pub count : client_count new ≡ client_count old
+  pub identifiers : (d : ℕ) → identifier_of new d ≡ (if d == c then identifier else identifier_of old d)
+  pub held : (d : ℕ) (q : Prefix) → held_of new d q ≡ (if d == c then None else held_of old d q)
+
+-- nothing has changed
+pub record Same (old new : AdjIns) : Type 0 where
+  pub count : client_count new ≡ client_count old
+  pub identifiers : (d : ℕ) → identifier_of new d ≡ identifier_of old d
+  pub held : (d : ℕ) (q : Prefix) → held_of new d q ≡ held_of old d q

@@ -1,0 +1,4 @@
+pub mod Routes
+pub mod Table
+pub mod Basics
+pub mod AdjIns

@@ -1,0 +1,116 @@
+//! The Adj-RIBs-In of all clients.
+#![tactic(auto, unfolding(crate::specs::AdjIns::client_count, crate::specs::AdjIns::identifier_of, crate::specs::AdjIns::held_of))]
+
+ghost use Rattle.std.specs.Prelude.{◌≡◌, ◌≢◌, ◌<◌, ℕ, Some, None, length, slice_get, is_some, IfOk, OnOk, OnErr, MatchBool};
+ghost use Rattle.std.specs.Arc.{arc_value};
+ghost use Rattle.std.specs.BTreeSet.{BTreeSet};
+ghost use Rattle.rs_octets.specs.Prefixes.{Prefix};
+ghost use Rattle.rs_adjin.specs.Table.{IsTable, IsOfClients, IsHeldBy, TellsChange};
+ghost use Rattle.rs_adjin.specs.Basics.{HasBasics, AllHaveBasics};
+
+use crate::routes::Route;
+use crate::table::{clear_in, put_in, withdraw_in};
+use rs_attrs::Attrs;
+use rs_octets::Prefix;
+use std::alloc::{AllocError, Global};
+use std::collections::{BTreeMap, BTreeSet};
+use std::sync::Arc;
+
+/// What each client announced, by prefix, with the prefixes of each client beside it.
+#[derive(Drop)]
+pub struct AdjIns {
+    alloc: Global,
+    identifiers: Vec<u32>,
+    held: Vec<BTreeSet<Prefix>>,
+    table: BTreeMap<Prefix, Vec<Route>>,
+    ghost sets: { length held.items ≡ length identifiers.items },
+    ghost whole: { IsTable table },
+    ghost known: { IsOfClients (length identifiers.items) table },
+    ghost basics: { AllHaveBasics table },
+    ghost tied: { (c : ℕ) (prefixes : BTreeSet Prefix) → slice_get held.items c ≡ Some prefixes → IsHeldBy c prefixes table },
+}
+
+impl AdjIns {
+    ghost use Rattle.rs_adjin.specs.AdjIns.{client_count, identifier_of, held_of, Sets, Clears, Begins, Same};
+
+    /// Empty tables for so many clients.
+    pub fn new(alloc: Global, clients: usize) -> Result<AdjIns, AllocError>
+        ensures count { IfOk result (λ ins. client_count ins ≡ clients) }
+        ensures identifiers { IfOk result (λ ins. (c : ℕ) → identifier_of ins c ≡ 0) }
+        ensures empty { IfOk result (λ ins. (c : ℕ) (p : Prefix) → held_of ins c p ≡ None) }
+    {
+        let identifiers = vec![in alloc; 0; clients]?;
+        let mut held = Vec::with_capacity(alloc, clients)?;
+        for _ in 0..clients {
+            held.push(BTreeSet::new(alloc))?;
+        }
+        Ok(AdjIns {
+            alloc,
+            identifiers,
+            held,
+            table: BTreeMap::new(alloc),
+        })
+    }
+
+    pub fn clients(&self) -> usize
+        ensures { result ≡ client_count self.now }
+    {
+        self.identifiers.len()
+    }
+
+    /// The BGP Identifier of the client's session.
+    pub fn identifier(&self, client: usize) -> u32
+        requires { client < client_count self.now }
+        ensures { result ≡ identifier_of self.now client }
+    {
+        self.identifiers[client]
+    }
+
+    /// A session of the client begins, with the BGP Identifier of its OPEN and an empty table.
+    pub fn begin(&mut self, client: usize, identifier: u32)
+        requires { client < client_count self.old }
+        ensures { Begins self.old self.new client identifier }
+    {
+        clear_in(&mut self.table, &mut self.held[client], client);
+        self.identifiers[client] = identifier;
+    }
+
+    /// The client announces a route, and the answer says whether that changes what it has. Where
+    /// memory is refused, nothing has changed.
+    pub fn put(
+        &mut self,
+        client: usize,
+        prefix: Prefix,
+        attrs: &Arc<Attrs>,
+    ) -> Result<bool, AllocError>
+        requires client { client < client_count self.old }
+        requires basics { HasBasics (arc_value attrs.now) }
+        ensures ok { OnOk result (Sets self.old self.new client prefix (Some (arc_value attrs.now))) }
+        ensures changed { IfOk result (λ changed. TellsChange changed (held_of self.old client prefix) (Some (arc_value attrs.now))) }
+        ensures err { OnErr result (Same self.old self.new) }
+    {
+        let held = &mut self.held[client];
+        put_in(self.alloc, &mut self.table, held, client, prefix, attrs)
+    }
+
+    /// The client withdraws its route, and the answer says whether there was one.
+    pub fn withdraw(&mut self, client: usize, prefix: Prefix) -> bool
+        requires { client < client_count self.old }
+        ensures taken { result ≡ is_some (held_of self.old client prefix) }
+        ensures withdrawn { Sets self.old self.new client prefix None }
+    {
+        if !withdraw_in(&mut self.table, client, &prefix) {
+            return false;
+        }
+        self.held[client].remove(&prefix);
+        true
+    }
+
+    /// The client's routes go, and its identifier stays.
+    pub fn clear(&mut self, client: usize)
+        requires { client < client_count self.old }
+        ensures { Clears self.old self.new client }
+    {
+        clear_in(&mut self.table, &mut self.held[client], client);
+    }
+}

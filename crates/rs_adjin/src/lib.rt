@@ -1,0 +1,9 @@
+//! The Adj-RIBs-In: what each client announced (RFC 4271, 3.2).
+#![tactic(auto)]
+
+mod adj_ins;
+mod routes;
+mod table;
+
+pub use adj_ins::AdjIns;
+pub use routes::Route;
