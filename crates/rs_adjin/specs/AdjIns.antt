@@ -1,9 +1,13 @@
 -- What the Adj-RIBs-In hold: for each client an identifier and a table, seen as functions.
-use Rattle.std.specs.Prelude.{◌≡◌, ◌==◌, ◌&&◌, ◌<◌, ℕ, zero, suc, Bool, List, [], ◌∷◌, length, map, Option, Some, None, IsSome, slice_index, if◌then◌else◌}
+use Rattle.std.specs.Prelude.{◌≡◌, ◌==◌, ◌&&◌, ◌<◌, ◌⊎◌, ℕ, List, length, map, Option, Some, None, IsSome, All, Contains, slice_index, if◌then◌else◌}
+use Rattle.std.specs.Arc.{arc_value}
 use Rattle.rs_octets.specs.Prefixes.{Prefix}
 use Rattle.rs_attrs.specs.Meaning.{Attribute}
-use Rattle.rs_adjin.specs.Routes.{value_in}
 use Rattle.rs_adjin.specs.Table.{same_prefix, routes_at}
+use Rattle.rs_adjin.specs.Routes.{value_in, IsRising}
+use Rattle.rs_adjin.specs.Basics.{HasBasics}
+use Rattle.rs_adjin.specs.Listing.{holders_from, sent_by, Sent}
+use Rattle.rs_adjin.specs.declared.routes.Route.{Route}
 use Rattle.rs_adjin.specs.declared.adj_ins.AdjIns.{AdjIns}
 
 unfoldable pub client_count : AdjIns → ℕ
@@ -40,3 +44,26 @@ pub record Same (old new : AdjIns) : Type 0 where
   pub count : client_count new ≡ client_count old
   pub identifiers : (d : ℕ) → identifier_of new d ≡ identifier_of old d
   pub held : (d : ℕ) (q : Prefix) → held_of new d q ≡ held_of old d q
+
+-- the clients that hold a prefix, with what they announced, by rising client
+abbrev pub holders_of : AdjIns → Prefix → List (ℕ × List Attribute)
+holders_of ins p = holders_from (λ c. held_of ins c p) 0 (client_count ins)
+
+-- these are the routes for a prefix
+pub record ListsRoutes (ins : AdjIns) (p : Prefix) (routes : List Route) : Type 0 where
+  pub all : map sent_by routes ≡ holders_of ins p
+  pub rising : IsRising routes
+  pub known : All (λ r. r.client < client_count ins) routes
+  pub each : All (λ r. held_of ins r.client p ≡ Some (arc_value r.attrs)) routes
+  pub basics : All (λ r. HasBasics (arc_value r.attrs)) routes
+
+abbrev pub candidate : AdjIns → ℕ × List Attribute → Sent
+candidate ins h = record { client = h.0; identifier = identifier_of ins h.0; attrs = h.1 }
+
+-- the candidates for a prefix, by rising client
+abbrev pub candidates_of : AdjIns → Prefix → List Sent
+candidates_of ins p = map (candidate ins) (holders_of ins p)
+
+-- the client would hold p: it is announced, or is held and not withdrawn
+abbrev pub WouldHold : AdjIns → ℕ → List Prefix → List Prefix → Prefix → Type 0
+WouldHold ins c withdrawn announced p = Contains announced p ⊎ (IsSome (held_of ins c p) × (Contains withdrawn p → ⊥))

@@ -1,4 +1,5 @@
 pub mod Routes
 pub mod Table
 pub mod Basics
+pub mod Listing
 pub mod AdjIns

@@ -1,18 +1,24 @@
 //! The Adj-RIBs-In of all clients.
 #![tactic(auto, unfolding(crate::specs::AdjIns::client_count, crate::specs::AdjIns::identifier_of, crate::specs::AdjIns::held_of))]
 
-ghost use Rattle.std.specs.Prelude.{◌≡◌, ◌≢◌, ◌<◌, ℕ, Some, None, length, slice_get, is_some, IfOk, OnOk, OnErr, MatchBool};
+ghost use Rattle.std.specs.Prelude.{◌≡◌, ◌≢◌, ◌<◌, ℕ, Some, None, ◌↔◌, length, slice_get, is_some, IsSome, IfOk, OnOk, OnErr, Contains};
+ghost use Rattle.std.specs.List.{AllPairs};
+ghost use Rattle.std.specs.List.Sorted.{IsStrictlySortedBy};
+ghost use Rattle.std.specs.Map.Iter.{ShowsInOrder, deref};
 ghost use Rattle.std.specs.Arc.{arc_value};
 ghost use Rattle.std.specs.BTreeSet.{BTreeSet};
-ghost use Rattle.rs_octets.specs.Prefixes.{Prefix};
+ghost use Rattle.rs_octets.specs.Prefixes.{Prefix, prefix_order};
 ghost use Rattle.rs_adjin.specs.Table.{IsTable, IsOfClients, IsHeldBy, TellsChange};
 ghost use Rattle.rs_adjin.specs.Basics.{HasBasics, AllHaveBasics};
+ghost use Rattle.rs_adjin.specs.Listing.{Counts};
 
+use crate::candidates::Candidates;
 use crate::routes::Route;
-use crate::table::{clear_in, put_in, withdraw_in};
+use crate::table::{clear_in, count_in, put_in, withdraw_in};
 use rs_attrs::Attrs;
 use rs_octets::Prefix;
 use std::alloc::{AllocError, Global};
+use std::collections::btree_set::Iter;
 use std::collections::{BTreeMap, BTreeSet};
 use std::sync::Arc;
 
@@ -31,7 +37,7 @@ pub struct AdjIns {
 }
 
 impl AdjIns {
-    ghost use Rattle.rs_adjin.specs.AdjIns.{client_count, identifier_of, held_of, Sets, Clears, Begins, Same};
+    ghost use Rattle.rs_adjin.specs.AdjIns.{client_count, identifier_of, held_of, Sets, Clears, Begins, Same, ListsRoutes, WouldHold, candidates_of};
 
     /// Empty tables for so many clients.
     pub fn new(alloc: Global, clients: usize) -> Result<AdjIns, AllocError>
@@ -112,5 +118,47 @@ impl AdjIns {
         ensures { Clears self.old self.new client }
     {
         clear_in(&mut self.table, &mut self.held[client], client);
+    }
+
+    /// The prefixes that the client holds, rising.
+    pub fn held(&self, client: usize) -> Iter<'_, Prefix>
+        requires { client < client_count self.now }
+        ensures rising { IsStrictlySortedBy prefix_order result }
+        ensures all { (p : Prefix) → Contains result p ↔ IsSome (held_of self.now client p) }
+        ensures runs { ShowsInOrder (deref {X = Prefix}) }
+    {
+        self.held[client].iter()
+    }
+
+    /// How many prefixes the client would hold after an UPDATE that withdraws and announces these.
+    pub fn count_after(&self, client: usize, withdrawn: &[Prefix], announced: &[Prefix]) -> usize
+        requires client { client < client_count self.now }
+        requires withdrawn { AllPairs (λ p q. p ≢ q) withdrawn.now }
+        requires announced { AllPairs (λ p q. p ≢ q) announced.now }
+        requires apart { (p : Prefix) → Contains withdrawn.now p → Contains announced.now p → ⊥ }
+        ensures { Counts (WouldHold self.now client withdrawn.now announced.now) result }
+    {
+        let held = &self.held[client];
+        let gone = count_in(held, withdrawn);
+        let again = count_in(held, announced);
+        held.len() - gone + (announced.len() - again)
+    }
+
+    /// The routes for a prefix, by rising client.
+    pub fn at(&self, prefix: Prefix) -> &[Route]
+        ensures { ListsRoutes self.now prefix result.now }
+    {
+        match self.table.get(&prefix) {
+            Some(routes) => routes,
+            None => &[],
+        }
+    }
+
+    /// The candidates for a prefix: the routes with their senders' BGP Identifiers, by rising
+    /// client.
+    pub fn candidates(&self, prefix: Prefix) -> Candidates<'_>
+        ensures { result ≡ candidates_of self.now prefix }
+    {
+        Candidates::new(self.at(prefix), &self.identifiers)
     }
 }

@@ -2,8 +2,10 @@
 #![tactic(auto)]
 
 mod adj_ins;
+mod candidates;
 mod routes;
 mod table;
 
 pub use adj_ins::AdjIns;
+pub use candidates::{Candidate, Candidates};
 pub use routes::Route;

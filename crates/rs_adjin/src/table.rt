@@ -1,6 +1,7 @@
 //! The routes of all clients, by prefix, and the prefixes that one client holds.
 
 ghost use Rattle.std.specs.Prelude.{◌≡◌, ◌<◌, ◌≤◌, true, false, Some, None, length, is_some, IfOk, OnOk, OnErr};
+ghost use Rattle.std.specs.List.{count_by};
 ghost use Rattle.std.specs.Arc.{arc_value};
 ghost use Rattle.std.specs.BTreeMap.{get};
 ghost use Rattle.std.specs.BTreeSet.{contains};
@@ -178,4 +179,12 @@ pub(crate) fn clear_in(
     while let Some(prefix) = held.pop_first() {
         withdraw_in(table, client, &prefix);
     }
+}
+
+/// How many of the prefixes are in the set.
+pub(crate) fn count_in(held: &BTreeSet<Prefix>, prefixes: &[Prefix]) -> usize
+    ensures count { result ≡ count_by (λ p. contains prefix_order held.now p) prefixes.now }
+    ensures within { result ≤ length prefixes.now }
+{
+    prefixes.iter().filter(|p| held.contains(*p)).count()
 }
