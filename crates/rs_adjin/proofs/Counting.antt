@@ -12,7 +12,7 @@ use Rattle.std.proofs.lemmas.Bool.Decides.{nat_tests}
 use Rattle.rs_octets.specs.Prefixes.{Prefix, prefix_order}
 use Rattle.rs_adjin.specs.declared.adj_ins.AdjIns.{AdjIns}
 use Rattle.rs_adjin.specs.AdjIns.{held_of, WouldHold}
-use Rattle.rs_adjin.specs.Listing.{Counts}
+use Rattle.rs_adjin.specs.Listing.{Counts, CountsAlike}
 use Rattle.rs_adjin.proofs.Members.{Has, has, contains, kept, keeps, has_front, has_back, has_either, Apart, apart, all_pairs, apart_kept, apart_joined}
 use Rattle.rs_adjin.proofs.Steps.{at_prefix, is_prefix, same_itself}
 
@@ -183,3 +183,20 @@ module _ (ws ns ks : List Prefix) (up : IsStrictlySortedBy prefix_order ks) (ws_
 
     pub counts_after : (n : ℕ) → n ≡ length ks - count_by (is_in ks) ws + (length ns - count_by (is_in ks) ns) → Counts (WouldHold ins c ws ns) n
     counts_after n e = record { prefixes = after ws ns ks; distinct = all_pairs (after ws ns ks) after_apart; all = would_all; none_left = would_none; count = after_length ∙ sym e }
+
+-- ---- a count is one number
+
+none_stays : (ps ks : List Prefix) → ((p : Prefix) → Has ks p → Has ps p) → length (left_of ps ks) ≡ 0
+none_stays ps [] all = refl
+none_stays ps (k ∷ ks) all = rw (ap not (is_in_from ps k (all k (inl refl)))) (none_stays ps ks (λ p h. all p (inr h)))
+
+all_stay : (ps ks : List Prefix) → ((p : Prefix) → Has ps p → Has ks p) → length (filter (is_in ks) ps) ≡ length ps
+all_stay [] ks all = refl
+all_stay (p ∷ ps) ks all = rw (is_in_from ks p (all p (inl refl))) (ap suc (all_stay ps ks (λ q h. all q (inr h))))
+
+pub counts_alike : CountsAlike
+counts_alike ps qs ps_apart qs_apart there back =
+    let whole : length (left_of ps qs) + length (filter (is_in qs) ps) ≡ length qs = left_kept ps qs (apart ps ps_apart) (apart qs qs_apart) in
+    let none : length (left_of ps qs) ≡ 0 = none_stays ps qs (λ p h. has ps p (back p (contains qs p h))) in
+    let all : length (filter (is_in qs) ps) ≡ length ps = all_stay ps qs (λ p h. has qs p (there p (contains ps p h))) in
+    omega (arith, whole, none, all)

@@ -6,7 +6,8 @@ use Rattle.std.specs.Ordering.{is_eq, nat_cmp}
 use Rattle.std.specs.declared.cmp.Ordering.TheVariants.{Equal}
 use Rattle.std.specs.Cmp.{IsTotalOrder, nat_cmp_total}
 use Rattle.std.specs.Arc.{arc_value}
-use Rattle.std.specs.BTreeSet.{BTreeSet}
+use Rattle.std.specs.Global.{Vec}
+use Rattle.std.specs.BTreeMap.{get}
 use Rattle.std.proofs.lemmas.Cmp.{on_total, then_total}
 use Rattle.std.proofs.lemmas.Map.Lookups.{CmpEqualImpliesEq}
 use Rattle.std.proofs.lemmas.Bool.Decides.{nat_tests}
@@ -16,11 +17,11 @@ use Rattle.rs_attrs.specs.Meaning.{Attribute}
 use Rattle.rs_adjin.specs.declared.routes.Route.{Route}
 use Rattle.rs_adjin.specs.declared.adj_ins.AdjIns.{AdjIns}
 use Rattle.rs_adjin.specs.Routes.{value_in, IsRising}
-use Rattle.rs_adjin.specs.Table.{routes_at}
+use Rattle.rs_adjin.specs.Table.{routes_in, routes_at}
 use Rattle.rs_adjin.specs.Listing.{with_holder, holders_from, sent_by, sent_with, Sent}
 use Rattle.rs_adjin.specs.AdjIns.{client_count, identifier_of, held_of, holders_of, ListsRoutes, candidate, candidates_of}
 use Rattle.rs_adjin.proofs.RouteLists.{Rising, AllAbove, rising, none_above}
-use Rattle.rs_adjin.proofs.Steps.{at_prefix, is_prefix}
+use Rattle.rs_adjin.proofs.Steps.{Routes, at_prefix, is_prefix}
 
 -- ---- prefixes are in a total order, which tells them apart
 
@@ -96,7 +97,7 @@ lists ins p =
       rising = ins.whole.rising p;
       known = ins.known p;
       each = each;
-      basics = λ k d below. ins.basics _ p _ (each k d below);
+      mandatory = λ k d below. ins.mandatory _ p _ (each k d below);
     }
 
 pub lists_same : (ins : AdjIns) (p : Prefix) (routes : List Route) → routes ≡ routes_at ins.table p → ListsRoutes ins p routes
@@ -111,3 +112,12 @@ sent_all ins (r ∷ rs) = ap (λ others. sent_with ins.identifiers.items r ∷ o
 
 pub candidates_listed : (ins : AdjIns) (p : Prefix) (routes : List Route) (identifiers : List ℕ) → identifiers ≡ ins.identifiers.items → ListsRoutes ins p routes → map (sent_with identifiers) routes ≡ candidates_of ins p
 candidates_listed ins p routes identifiers is l = ap (λ ids. map (sent_with ids) routes) is ∙ (sent_all ins routes ∙ ap (map (candidate ins)) l.all)
+
+-- ---- a prefix that someone holds is a key
+
+some_key : (c : ℕ) (o : Option (Vec Route)) → IsSome (value_in c (routes_in o)) → IsSome o
+some_key c None h = absurd (cc)
+some_key c (Some routes) h = refl
+
+pub held_key : (c : ℕ) (table : Routes) (p : Prefix) → IsSome (value_in c (routes_at table p)) → IsSome (get prefix_order table p)
+held_key c table p h = some_key c (get prefix_order table p) h

@@ -11,7 +11,7 @@ use Rattle.rs_attrs.specs.Meaning.{Attribute}
 use Rattle.rs_adjin.specs.declared.routes.Route.{Route}
 use Rattle.rs_adjin.specs.Routes.{value_in}
 use Rattle.rs_adjin.specs.Table.{same_prefix, routes_at, Writes, IsSame, Clears, IsHeldBy}
-use Rattle.rs_adjin.specs.Basics.{HasBasics, AllHaveBasics}
+use Rattle.rs_adjin.specs.Mandatory.{HasMandatory, AllHaveMandatory}
 use Rattle.rs_adjin.proofs.Steps.{Routes, KeepsOthers, others_apart, not_some, is_prefix}
 
 some_is : {A : Type 0} (x y : A) → Some x ≡ Some y → x ≡ y
@@ -74,28 +74,28 @@ none_taken old new c p writes none d q = writes d q ∙ go (d == c) refl (same_p
 
 -- ---- ORIGIN, AS_PATH and NEXT_HOP
 
-basics_at : (b : Bool) (w o : Option (List Attribute)) (m : List Attribute) → (if b then w else o) ≡ Some m → (w ≡ Some m → HasBasics m) → (o ≡ Some m → HasBasics m) → HasBasics m
-basics_at true w o m is here others = here is
-basics_at false w o m is here others = others is
+mandatory_at : (b : Bool) (w o : Option (List Attribute)) (m : List Attribute) → (if b then w else o) ≡ Some m → (w ≡ Some m → HasMandatory m) → (o ≡ Some m → HasMandatory m) → HasMandatory m
+mandatory_at true w o m is here others = here is
+mandatory_at false w o m is here others = others is
 
-pub basics_written : (old new : Routes) (c : ℕ) (p : Prefix) (w : Option (List Attribute)) → ((m : List Attribute) → w ≡ Some m → HasBasics m) → Writes old new c p w → AllHaveBasics old → AllHaveBasics new
-basics_written old new c p w here writes basics d q m is = basics_at ((d == c) && same_prefix q p) w (value_in d (routes_at old q)) m (sym (writes d q) ∙ is) (here m) (basics d q m)
+pub mandatory_written : (old new : Routes) (c : ℕ) (p : Prefix) (w : Option (List Attribute)) → ((m : List Attribute) → w ≡ Some m → HasMandatory m) → Writes old new c p w → AllHaveMandatory old → AllHaveMandatory new
+mandatory_written old new c p w here writes mandatory d q m is = mandatory_at ((d == c) && same_prefix q p) w (value_in d (routes_at old q)) m (sym (writes d q) ∙ is) (here m) (mandatory d q m)
 
-pub some_basics : (v : List Attribute) → HasBasics v → (m : List Attribute) → Some v ≡ Some m → HasBasics m
-some_basics v h m e = subst HasBasics (some_is v m e) h
+pub some_mandatory : (v : List Attribute) → HasMandatory v → (m : List Attribute) → Some v ≡ Some m → HasMandatory m
+some_mandatory v h m e = subst HasMandatory (some_is v m e) h
 
-pub none_basics : (m : List Attribute) → None ≡ Some m → HasBasics m
-none_basics m e = absurd (cc)
+pub none_mandatory : (m : List Attribute) → None ≡ Some m → HasMandatory m
+none_mandatory m e = absurd (cc)
 
-pub basics_cleared : (old new : Routes) (c : ℕ) → Clears old new c → AllHaveBasics old → AllHaveBasics new
-basics_cleared old new c clears basics d q m is = basics_at (d == c) None (value_in d (routes_at old q)) m (sym (clears d q) ∙ is) (none_basics m) (basics d q m)
+pub mandatory_cleared : (old new : Routes) (c : ℕ) → Clears old new c → AllHaveMandatory old → AllHaveMandatory new
+mandatory_cleared old new c clears mandatory d q m is = mandatory_at (d == c) None (value_in d (routes_at old q)) m (sym (clears d q) ∙ is) (none_mandatory m) (mandatory d q m)
 
-pub basics_same : (old new : Routes) → IsSame old new → AllHaveBasics old → AllHaveBasics new
-basics_same old new same basics d q m is = basics d q m (sym (same d q) ∙ is)
+pub mandatory_same : (old new : Routes) → IsSame old new → AllHaveMandatory old → AllHaveMandatory new
+mandatory_same old new same mandatory d q m is = mandatory d q m (sym (same d q) ∙ is)
 
-pub put_basics : {T E : Type 0} (r : Result T E) (old new : Routes) (c : ℕ) (p : Prefix) (v : List Attribute) → HasBasics v → OnOk r (Writes old new c p (Some v)) → OnErr r (IsSame old new) → AllHaveBasics old → AllHaveBasics new
-put_basics (Ok x) old new c p v h ok err basics = basics_written old new c p (Some v) (some_basics v h) ok basics
-put_basics (Err e) old new c p v h ok err basics = basics_same old new err basics
+pub put_mandatory : {T E : Type 0} (r : Result T E) (old new : Routes) (c : ℕ) (p : Prefix) (v : List Attribute) → HasMandatory v → OnOk r (Writes old new c p (Some v)) → OnErr r (IsSame old new) → AllHaveMandatory old → AllHaveMandatory new
+put_mandatory (Ok x) old new c p v h ok err mandatory = mandatory_written old new c p (Some v) (some_mandatory v h) ok mandatory
+put_mandatory (Err e) old new c p v h ok err mandatory = mandatory_same old new err mandatory
 
 pub put_others : {T E : Type 0} (r : Result T E) (old new : Routes) (c : ℕ) (p : Prefix) (w : Option (List Attribute)) → OnOk r (Writes old new c p w) → OnErr r (IsSame old new) → KeepsOthers old new c
 put_others (Ok x) old new c p w ok err = writes_others old new c p w ok

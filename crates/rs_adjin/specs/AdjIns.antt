@@ -5,7 +5,7 @@ use Rattle.rs_octets.specs.Prefixes.{Prefix}
 use Rattle.rs_attrs.specs.Meaning.{Attribute}
 use Rattle.rs_adjin.specs.Table.{same_prefix, routes_at}
 use Rattle.rs_adjin.specs.Routes.{value_in, IsRising}
-use Rattle.rs_adjin.specs.Basics.{HasBasics}
+use Rattle.rs_adjin.specs.Mandatory.{HasMandatory}
 use Rattle.rs_adjin.specs.Listing.{holders_from, sent_by, Sent}
 use Rattle.rs_adjin.specs.declared.routes.Route.{Route}
 use Rattle.rs_adjin.specs.declared.adj_ins.AdjIns.{AdjIns}
@@ -55,7 +55,7 @@ pub record ListsRoutes (ins : AdjIns) (p : Prefix) (routes : List Route) : Type 
   pub rising : IsRising routes
   pub known : All (λ r. r.client < client_count ins) routes
   pub each : All (λ r. held_of ins r.client p ≡ Some (arc_value r.attrs)) routes
-  pub basics : All (λ r. HasBasics (arc_value r.attrs)) routes
+  pub mandatory : All (λ r. HasMandatory (arc_value r.attrs)) routes
 
 abbrev pub candidate : AdjIns → ℕ × List Attribute → Sent
 candidate ins h = record { client = h.0; identifier = identifier_of ins h.0; attrs = h.1 }

@@ -35,3 +35,8 @@ pub record Counts (P : Prefix → Type 0) (n : ℕ) : Type 0 where
   pub all : (p : Prefix) → Contains prefixes p → P p
   pub none_left : (p : Prefix) → P p → Contains prefixes p
   pub count : length prefixes ≡ n
+
+-- lists without repetition that have the same members are of one length, so that a count of prefixes is one number
+abbrev pub CountsAlike : Type 0
+CountsAlike =
+    (ps qs : List Prefix) → AllPairs (λ p q. p ≢ q) ps → AllPairs (λ p q. p ≢ q) qs → ((p : Prefix) → Contains ps p → Contains qs p) → ((p : Prefix) → Contains qs p → Contains ps p) → length ps ≡ length qs

@@ -1,15 +1,18 @@
 //! The Adj-RIBs-In of all clients.
 #![tactic(auto, unfolding(crate::specs::AdjIns::client_count, crate::specs::AdjIns::identifier_of, crate::specs::AdjIns::held_of))]
 
-ghost use Rattle.std.specs.Prelude.{◌≡◌, ◌≢◌, ◌<◌, ℕ, Some, None, ◌↔◌, length, slice_get, is_some, IsSome, IfOk, OnOk, OnErr, Contains};
+ghost use Rattle.std.specs.Prelude.{◌≡◌, ◌≢◌, ◌<◌, ℕ, Some, None, ◌↔◌, length, slice_get, is_some, IsSome, IfOk, OnOk, OnErr, All, Contains};
 ghost use Rattle.std.specs.List.{AllPairs};
 ghost use Rattle.std.specs.List.Sorted.{IsStrictlySortedBy};
-ghost use Rattle.std.specs.Map.Iter.{ShowsInOrder, deref};
+ghost use Rattle.std.specs.Global.{Vec};
+ghost use Rattle.std.specs.Map.{keys_of};
+ghost use Rattle.std.specs.Map.Iter.{ShowsInOrder, deref, deref_pair};
 ghost use Rattle.std.specs.Arc.{arc_value};
 ghost use Rattle.std.specs.BTreeSet.{BTreeSet};
 ghost use Rattle.rs_octets.specs.Prefixes.{Prefix, prefix_order};
+ghost use Rattle.rs_adjin.specs.declared.routes.Route.{Route};
 ghost use Rattle.rs_adjin.specs.Table.{IsTable, IsOfClients, IsHeldBy, TellsChange};
-ghost use Rattle.rs_adjin.specs.Basics.{HasBasics, AllHaveBasics};
+ghost use Rattle.rs_adjin.specs.Mandatory.{HasMandatory, AllHaveMandatory};
 ghost use Rattle.rs_adjin.specs.Listing.{Counts};
 
 use crate::candidates::Candidates;
@@ -18,6 +21,7 @@ use crate::table::{clear_in, count_in, put_in, withdraw_in};
 use rs_attrs::Attrs;
 use rs_octets::Prefix;
 use std::alloc::{AllocError, Global};
+use std::collections::btree_map::Iter as Routes;
 use std::collections::btree_set::Iter;
 use std::collections::{BTreeMap, BTreeSet};
 use std::sync::Arc;
@@ -32,7 +36,7 @@ pub struct AdjIns {
     ghost sets: { length held.items ≡ length identifiers.items },
     ghost whole: { IsTable table },
     ghost known: { IsOfClients (length identifiers.items) table },
-    ghost basics: { AllHaveBasics table },
+    ghost mandatory: { AllHaveMandatory table },
     ghost tied: { (c : ℕ) (prefixes : BTreeSet Prefix) → slice_get held.items c ≡ Some prefixes → IsHeldBy c prefixes table },
 }
 
@@ -77,7 +81,7 @@ impl AdjIns {
         requires { client < client_count self.old }
         ensures { Begins self.old self.new client identifier }
     {
-        clear_in(&mut self.table, &mut self.held[client], client);
+        self.clear(client);
         self.identifiers[client] = identifier;
     }
 
@@ -90,7 +94,7 @@ impl AdjIns {
         attrs: &Arc<Attrs>,
     ) -> Result<bool, AllocError>
         requires client { client < client_count self.old }
-        requires basics { HasBasics (arc_value attrs.now) }
+        requires mandatory { HasMandatory (arc_value attrs.now) }
         ensures ok { OnOk result (Sets self.old self.new client prefix (Some (arc_value attrs.now))) }
         ensures changed { IfOk result (λ changed. TellsChange changed (held_of self.old client prefix) (Some (arc_value attrs.now))) }
         ensures err { OnErr result (Same self.old self.new) }
@@ -160,5 +164,16 @@ impl AdjIns {
         ensures { result ≡ candidates_of self.now prefix }
     {
         Candidates::new(self.at(prefix), &self.identifiers)
+    }
+
+    /// Each prefix that any client holds, rising, with the routes for it.
+    pub fn iter(&self) -> Routes<'_, Prefix, Vec<Route>>
+        ensures rising { IsStrictlySortedBy prefix_order (keys_of result) }
+        ensures routes { All (λ e. ListsRoutes self.now e.0 e.1.items) result }
+        ensures filled { All (λ e. 0 < length e.1.items) result }
+        ensures all { (c : ℕ) (p : Prefix) → IsSome (held_of self.now c p) → Contains (keys_of result) p }
+        ensures runs { ShowsInOrder (deref_pair {K = Prefix} {X = Vec Route}) }
+    {
+        self.table.iter()
     }
 }

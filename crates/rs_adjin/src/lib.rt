@@ -3,9 +3,15 @@
 
 mod adj_ins;
 mod candidates;
+mod laws;
+mod mandatory;
 mod routes;
 mod table;
+#[cfg(test)]
+mod tests;
 
 pub use adj_ins::AdjIns;
 pub use candidates::{Candidate, Candidates};
+pub use laws::same_prefixes_count_alike;
+pub use mandatory::has_mandatory;
 pub use routes::Route;

@@ -1,20 +1,15 @@
-use Rattle.std.proofs.Common.{◌≡◌, length, refl, sym, ◌∙◌, subst}
+use Rattle.std.proofs.Common.{◌≡◌, length, sym, ◌∙◌, subst}
 use Rattle.std.proofs.Math.ListN.{length-set}
-use Rattle.rs_adjin.specs.AdjIns.{client_count}
 use Rattle.rs_adjin.specs.Table.{IsOfClients}
-use Rattle.rs_adjin.proofs.Ties.{tied_after, clears_others, basics_cleared}
 use Rattle.rs_adjin.proofs.adj_ins.AdjIns.begin.Goals as goal
 
 pub invariant_of-self : goal.invariant_of-self
-unfolding client_count
-invariant_of-self c = record {
-  sets = length-set c.args.self.now.held.items c.args.client c.clear_in.new.held ∙ (c.args.self.now.sets ∙ sym (length-set c.args.self.now.identifiers.items c.args.client c.args.identifier));
-  whole = c.clear_in.ensures.kept.table;
-  known =
-      subst (λ n. IsOfClients n c.clear_in.new.table) (sym (length-set c.args.self.now.identifiers.items c.args.client c.args.identifier))
-      (c.clear_in.ensures.kept.known (length c.args.self.now.identifiers.items) c.requires c.args.self.now.known);
-  basics = basics_cleared c.args.self.now.table c.clear_in.new.table c.args.client c.clear_in.ensures.cleared c.args.self.now.basics;
-  tied =
-      tied_after c.args.self.now.held.items c.args.self.now.table c.clear_in.new.table c.args.client c.clear_in.new.held c.args.self.now.tied
-      (clears_others c.args.self.now.table c.clear_in.new.table c.args.client c.clear_in.ensures.cleared) c.clear_in.ensures.tied;
-}
+invariant_of-self c =
+    let count = length-set c.clear.new.self.identifiers.items c.args.client c.args.identifier in
+    record {
+      sets = c.clear.new.self.sets ∙ sym count;
+      whole = c.clear.new.self.whole;
+      known = subst (λ n. IsOfClients n c.clear.new.self.table) (sym count) c.clear.new.self.known;
+      mandatory = c.clear.new.self.mandatory;
+      tied = c.clear.new.self.tied;
+    }

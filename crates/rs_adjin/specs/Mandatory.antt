@@ -1,4 +1,4 @@
--- The attributes that every route has (RFC 4271, 5).
+-- The attributes that every route has, well-known mandatory ones (RFC 4271, 5).
 use Rattle.std.specs.Prelude.{◌≡◌, ℕ, List, Some, IsSome}
 use Rattle.std.specs.Global.{Vec}
 use Rattle.std.specs.BTreeMap.{BTreeMap}
@@ -9,11 +9,11 @@ use Rattle.rs_adjin.specs.Routes.{value_in}
 use Rattle.rs_adjin.specs.Table.{routes_at}
 
 -- ORIGIN, AS_PATH and NEXT_HOP are there
-pub record HasBasics (m : List Attribute) : Type 0 where
+pub record HasMandatory (m : List Attribute) : Type 0 where
   pub origin : IsSome (get 1 m)
   pub path : IsSome (get 2 m)
   pub next_hop : IsSome (get 3 m)
 
 -- each route has them
-abbrev pub AllHaveBasics : BTreeMap Prefix (Vec Route) → Type 0
-AllHaveBasics table = (c : ℕ) (p : Prefix) (m : List Attribute) → value_in c (routes_at table p) ≡ Some m → HasBasics m
+abbrev pub AllHaveMandatory : BTreeMap Prefix (Vec Route) → Type 0
+AllHaveMandatory table = (c : ℕ) (p : Prefix) (m : List Attribute) → value_in c (routes_at table p) ≡ Some m → HasMandatory m
