@@ -1,0 +1,6 @@
+pub mod RouteLists
+pub mod Steps
+pub mod Ties
+pub mod Members
+pub mod Listed
+pub mod Counting

@@ -1,0 +1,179 @@
+//! The Adj-RIBs-In of all clients.
+#![tactic(auto, unfolding(crate::specs::AdjIns::client_count, crate::specs::AdjIns::identifier_of, crate::specs::AdjIns::held_of))]
+
+ghost use Rattle.std.specs.Prelude.{◌≡◌, ◌≢◌, ◌<◌, ℕ, Some, None, ◌↔◌, length, slice_get, is_some, IsSome, IfOk, OnOk, OnErr, All, Contains};
+ghost use Rattle.std.specs.List.{AllPairs};
+ghost use Rattle.std.specs.List.Sorted.{IsStrictlySortedBy};
+ghost use Rattle.std.specs.Global.{Vec};
+ghost use Rattle.std.specs.Map.{keys_of};
+ghost use Rattle.std.specs.Map.Iter.{ShowsInOrder, deref, deref_pair};
+ghost use Rattle.std.specs.Arc.{arc_value};
+ghost use Rattle.std.specs.BTreeSet.{BTreeSet};
+ghost use Rattle.rs_octets.specs.Prefixes.{Prefix, prefix_order};
+ghost use Rattle.rs_adjin.specs.declared.routes.Route.{Route};
+ghost use Rattle.rs_adjin.specs.Table.{IsTable, IsOfClients, IsHeldBy, TellsChange};
+ghost use Rattle.rs_adjin.specs.Mandatory.{HasMandatory, AllHaveMandatory};
+ghost use Rattle.rs_adjin.specs.Listing.{Counts};
+
+use crate::candidates::Candidates;
+use crate::routes::Route;
+use crate::table::{clear_in, count_in, put_in, withdraw_in};
+use rs_attrs::Attrs;
+use rs_octets::Prefix;
+use std::alloc::{AllocError, Global};
+use std::collections::btree_map::Iter as Routes;
+use std::collections::btree_set::Iter;
+use std::collections::{BTreeMap, BTreeSet};
+use std::sync::Arc;
+
+/// What each client announced, by prefix, with the prefixes of each client beside it.
+#[derive(Drop)]
+pub struct AdjIns {
+    alloc: Global,
+    identifiers: Vec<u32>,
+    held: Vec<BTreeSet<Prefix>>,
+    table: BTreeMap<Prefix, Vec<Route>>,
+    ghost sets: { length held.items ≡ length identifiers.items },
+    ghost whole: { IsTable table },
+    ghost known: { IsOfClients (length identifiers.items) table },
+    ghost mandatory: { AllHaveMandatory table },
+    ghost tied: { (c : ℕ) (prefixes : BTreeSet Prefix) → slice_get held.items c ≡ Some prefixes → IsHeldBy c prefixes table },
+}
+
+impl AdjIns {
+    ghost use Rattle.rs_adjin.specs.AdjIns.{client_count, identifier_of, held_of, Sets, Clears, Begins, Same, ListsRoutes, WouldHold, candidates_of};
+
+    /// Empty tables for so many clients.
+    pub fn new(alloc: Global, clients: usize) -> Result<AdjIns, AllocError>
+        ensures count { IfOk result (λ ins. client_count ins ≡ clients) }
+        ensures identifiers { IfOk result (λ ins. (c : ℕ) → identifier_of ins c ≡ 0) }
+        ensures empty { IfOk result (λ ins. (c : ℕ) (p : Prefix) → held_of ins c p ≡ None) }
+    {
+        let identifiers = vec![in alloc; 0; clients]?;
+        let mut held = Vec::with_capacity(alloc, clients)?;
+        for _ in 0..clients {
+            held.push(BTreeSet::new(alloc))?;
+        }
+        Ok(AdjIns {
+            alloc,
+            identifiers,
+            held,
+            table: BTreeMap::new(alloc),
+        })
+    }
+
+    pub fn clients(&self) -> usize
+        ensures { result ≡ client_count self.now }
+    {
+        self.identifiers.len()
+    }
+
+    /// The BGP Identifier of the client's session.
+    pub fn identifier(&self, client: usize) -> u32
+        requires { client < client_count self.now }
+        ensures { result ≡ identifier_of self.now client }
+    {
+        self.identifiers[client]
+    }
+
+    /// A session of the client begins, with the BGP Identifier of its OPEN and an empty table.
+    pub fn begin(&mut self, client: usize, identifier: u32)
+        requires { client < client_count self.old }
+        ensures { Begins self.old self.new client identifier }
+    {
+        self.clear(client);
+        self.identifiers[client] = identifier;
+    }
+
+    /// The client announces a route, and the answer says whether that changes what it has. Where
+    /// memory is refused, nothing has changed.
+    pub fn put(
+        &mut self,
+        client: usize,
+        prefix: Prefix,
+        attrs: &Arc<Attrs>,
+    ) -> Result<bool, AllocError>
+        requires client { client < client_count self.old }
+        requires mandatory { HasMandatory (arc_value attrs.now) }
+        ensures ok { OnOk result (Sets self.old self.new client prefix (Some (arc_value attrs.now))) }
+        ensures changed { IfOk result (λ changed. TellsChange changed (held_of self.old client prefix) (Some (arc_value attrs.now))) }
+        ensures err { OnErr result (Same self.old self.new) }
+    {
+        let held = &mut self.held[client];
+        put_in(self.alloc, &mut self.table, held, client, prefix, attrs)
+    }
+
+    /// The client withdraws its route, and the answer says whether there was one.
+    pub fn withdraw(&mut self, client: usize, prefix: Prefix) -> bool
+        requires { client < client_count self.old }
+        ensures taken { result ≡ is_some (held_of self.old client prefix) }
+        ensures withdrawn { Sets self.old self.new client prefix None }
+    {
+        if !withdraw_in(&mut self.table, client, &prefix) {
+            return false;
+        }
+        self.held[client].remove(&prefix);
+        true
+    }
+
+    /// The client's routes go, and its identifier stays.
+    pub fn clear(&mut self, client: usize)
+        requires { client < client_count self.old }
+        ensures { Clears self.old self.new client }
+    {
+        clear_in(&mut self.table, &mut self.held[client], client);
+    }
+
+    /// The prefixes that the client holds, rising.
+    pub fn held(&self, client: usize) -> Iter<'_, Prefix>
+        requires { client < client_count self.now }
+        ensures rising { IsStrictlySortedBy prefix_order result }
+        ensures all { (p : Prefix) → Contains result p ↔ IsSome (held_of self.now client p) }
+        ensures runs { ShowsInOrder (deref {X = Prefix}) }
+    {
+        self.held[client].iter()
+    }
+
+    /// How many prefixes the client would hold after an UPDATE that withdraws and announces these.
+    pub fn count_after(&self, client: usize, withdrawn: &[Prefix], announced: &[Prefix]) -> usize
+        requires client { client < client_count self.now }
+        requires withdrawn { AllPairs (λ p q. p ≢ q) withdrawn.now }
+        requires announced { AllPairs (λ p q. p ≢ q) announced.now }
+        requires apart { (p : Prefix) → Contains withdrawn.now p → Contains announced.now p → ⊥ }
+        ensures { Counts (WouldHold self.now client withdrawn.now announced.now) result }
+    {
+        let held = &self.held[client];
+        let gone = count_in(held, withdrawn);
+        let again = count_in(held, announced);
+        held.len() - gone + (announced.len() - again)
+    }
+
+    /// The routes for a prefix, by rising client.
+    pub fn at(&self, prefix: Prefix) -> &[Route]
+        ensures { ListsRoutes self.now prefix result.now }
+    {
+        match self.table.get(&prefix) {
+            Some(routes) => routes,
+            None => &[],
+        }
+    }
+
+    /// The candidates for a prefix: the routes with their senders' BGP Identifiers, by rising
+    /// client.
+    pub fn candidates(&self, prefix: Prefix) -> Candidates<'_>
+        ensures { result ≡ candidates_of self.now prefix }
+    {
+        Candidates::new(self.at(prefix), &self.identifiers)
+    }
+
+    /// Each prefix that any client holds, rising, with the routes for it.
+    pub fn iter(&self) -> Routes<'_, Prefix, Vec<Route>>
+        ensures rising { IsStrictlySortedBy prefix_order (keys_of result) }
+        ensures routes { All (λ e. ListsRoutes self.now e.0 e.1.items) result }
+        ensures filled { All (λ e. 0 < length e.1.items) result }
+        ensures all { (c : ℕ) (p : Prefix) → IsSome (held_of self.now c p) → Contains (keys_of result) p }
+        ensures runs { ShowsInOrder (deref_pair {K = Prefix} {X = Vec Route}) }
+    {
+        self.table.iter()
+    }
+}

@@ -1,0 +1,190 @@
+//! The routes of all clients, by prefix, and the prefixes that one client holds.
+
+ghost use Rattle.std.specs.Prelude.{◌≡◌, ◌<◌, ◌≤◌, true, false, Some, None, length, is_some, IfOk, OnOk, OnErr};
+ghost use Rattle.std.specs.List.{count_by};
+ghost use Rattle.std.specs.Arc.{arc_value};
+ghost use Rattle.std.specs.BTreeMap.{get};
+ghost use Rattle.std.specs.BTreeSet.{contains};
+ghost use Rattle.rs_octets.specs.Prefixes.{prefix_order};
+ghost use Rattle.rs_adjin.specs.Routes.{value_in, IsRising, KeepsRoutes, SameRoutes, Changes, BelongsAt};
+ghost use Rattle.rs_adjin.specs.Table.{routes_at, IsTable, KeepsTable, Writes, IsSame, Clears, Marks, SameSet, TellsChange, IsHeldBy};
+
+use crate::routes::{Route, place_of, replace};
+use rs_attrs::Attrs;
+use rs_octets::Prefix;
+use std::alloc::{AllocError, Global};
+use std::collections::{BTreeMap, BTreeSet};
+use std::sync::Arc;
+
+/// Puts a client's first route for a prefix among those of others.
+fn add_at(
+    routes: &mut Vec<Route>,
+    place: usize,
+    held: &mut BTreeSet<Prefix>,
+    client: usize,
+    prefix: Prefix,
+    attrs: &Arc<Attrs>,
+) -> Result<(), AllocError>
+    requires rising { IsRising routes.old.items }
+    requires place { BelongsAt client routes.old.items place }
+    requires absent { contains prefix_order held.old prefix ≡ false }
+    ensures kept { KeepsRoutes routes.old.items routes.new.items client }
+    ensures filled { 0 < length routes.old.items → 0 < length routes.new.items }
+    ensures ok { OnOk result (Changes routes.old.items routes.new.items client (Some (arc_value attrs.now))) }
+    ensures marked { OnOk result (Marks held.old held.new prefix true) }
+    ensures err { OnErr result (SameRoutes routes.old.items routes.new.items) }
+    ensures unmarked { OnErr result (SameSet held.old held.new) }
+{
+    let attrs = attrs.clone()?;
+    held.insert(prefix)?;
+    let Ok(()) = routes.insert(place, Route { client, attrs }) else {
+        held.remove(&prefix);
+        return Err(AllocError);
+    };
+    Ok(())
+}
+
+/// Gives a client a route among those for a prefix, and answers whether that changes what it has.
+fn put_among(
+    routes: &mut Vec<Route>,
+    held: &mut BTreeSet<Prefix>,
+    client: usize,
+    prefix: Prefix,
+    attrs: &Arc<Attrs>,
+) -> Result<bool, AllocError>
+    requires rising { IsRising routes.old.items }
+    requires tied { contains prefix_order held.old prefix ≡ is_some (value_in client routes.old.items) }
+    ensures kept { KeepsRoutes routes.old.items routes.new.items client }
+    ensures filled { 0 < length routes.old.items → 0 < length routes.new.items }
+    ensures ok { OnOk result (Changes routes.old.items routes.new.items client (Some (arc_value attrs.now))) }
+    ensures changed { IfOk result (λ changed. TellsChange changed (value_in client routes.old.items) (Some (arc_value attrs.now))) }
+    ensures marked { OnOk result (Marks held.old held.new prefix true) }
+    ensures err { OnErr result (SameRoutes routes.old.items routes.new.items) }
+    ensures unmarked { OnErr result (SameSet held.old held.new) }
+{
+    match place_of(routes, client) {
+        Ok(place) => replace(&mut routes[place], attrs),
+        Err(place) => {
+            add_at(routes, place, held, client, prefix, attrs)?;
+            Ok(true)
+        }
+    }
+}
+
+/// Gives a client the only route for a prefix.
+fn put_first(
+    alloc: Global,
+    table: &mut BTreeMap<Prefix, Vec<Route>>,
+    held: &mut BTreeSet<Prefix>,
+    client: usize,
+    prefix: Prefix,
+    attrs: &Arc<Attrs>,
+) -> Result<(), AllocError>
+    requires table { IsTable table.old }
+    requires absent { get prefix_order table.old prefix ≡ None }
+    requires tied { IsHeldBy client held.old table.old }
+    ensures kept { KeepsTable table.old table.new client }
+    ensures ok { OnOk result (Writes table.old table.new client prefix (Some (arc_value attrs.now))) }
+    ensures tied { IsHeldBy client held.new table.new }
+    ensures err { OnErr result (IsSame table.old table.new) }
+{
+    let attrs = attrs.clone()?;
+    let mut routes = Vec::with_capacity(alloc, 1)?;
+    routes.push(Route { client, attrs })?;
+    held.insert(prefix)?;
+    let Ok(_) = table.insert(prefix, routes) else {
+        held.remove(&prefix);
+        return Err(AllocError);
+    };
+    Ok(())
+}
+
+/// Gives a client a route, and answers whether that changes what it has.
+pub(crate) fn put_in(
+    alloc: Global,
+    table: &mut BTreeMap<Prefix, Vec<Route>>,
+    held: &mut BTreeSet<Prefix>,
+    client: usize,
+    prefix: Prefix,
+    attrs: &Arc<Attrs>,
+) -> Result<bool, AllocError>
+    requires table { IsTable table.old }
+    requires tied { IsHeldBy client held.old table.old }
+    ensures kept { KeepsTable table.old table.new client }
+    ensures ok { OnOk result (Writes table.old table.new client prefix (Some (arc_value attrs.now))) }
+    ensures changed { IfOk result (λ changed. TellsChange changed (value_in client (routes_at table.old prefix)) (Some (arc_value attrs.now))) }
+    ensures tied { IsHeldBy client held.new table.new }
+    ensures err { OnErr result (IsSame table.old table.new) }
+{
+    if let Some(routes) = table.get_mut(&prefix) {
+        return put_among(routes, held, client, prefix, attrs);
+    }
+    put_first(alloc, table, held, client, prefix, attrs)?;
+    Ok(true)
+}
+
+/// Takes a client's route from those for a prefix, and answers whether there was one.
+fn take_from(routes: &mut Vec<Route>, client: usize) -> bool
+    requires { IsRising routes.old.items }
+    ensures kept { KeepsRoutes routes.old.items routes.new.items client }
+    ensures taken { result ≡ is_some (value_in client routes.old.items) }
+    ensures changes { Changes routes.old.items routes.new.items client None }
+    ensures unchanged { result ≡ false → routes.new.items ≡ routes.old.items }
+{
+    match place_of(routes, client) {
+        Ok(place) => {
+            routes.remove(place);
+            true
+        }
+        Err(_) => false,
+    }
+}
+
+/// Takes a client's route, and answers whether there was one.
+pub(crate) fn withdraw_in(
+    table: &mut BTreeMap<Prefix, Vec<Route>>,
+    client: usize,
+    prefix: &Prefix,
+) -> bool
+    requires { IsTable table.old }
+    ensures kept { KeepsTable table.old table.new client }
+    ensures taken { result ≡ is_some (value_in client (routes_at table.old prefix.now)) }
+    ensures writes { Writes table.old table.new client prefix.now None }
+{
+    let Some(routes) = table.get_mut(prefix) else {
+        return false;
+    };
+    if !take_from(routes, client) {
+        return false;
+    }
+    if !routes.is_empty() {
+        return true;
+    }
+    table.remove(prefix);
+    true
+}
+
+/// Takes all routes of a client, which holds these prefixes.
+pub(crate) fn clear_in(
+    table: &mut BTreeMap<Prefix, Vec<Route>>,
+    held: &mut BTreeSet<Prefix>,
+    client: usize,
+)
+    requires table { IsTable table.old }
+    requires tied { IsHeldBy client held.old table.old }
+    ensures kept { KeepsTable table.old table.new client }
+    ensures tied { IsHeldBy client held.new table.new }
+    ensures cleared { Clears table.old table.new client }
+{
+    while let Some(prefix) = held.pop_first() {
+        withdraw_in(table, client, &prefix);
+    }
+}
+
+/// How many of the prefixes are in the set.
+pub(crate) fn count_in(held: &BTreeSet<Prefix>, prefixes: &[Prefix]) -> usize
+    ensures count { result ≡ count_by (λ p. contains prefix_order held.now p) prefixes.now }
+    ensures within { result ≤ length prefixes.now }
+{
+    prefixes.iter().filter(|p| held.contains(*p)).count()
+}

@@ -1,0 +1,4 @@
+pub mod Members
+pub mod Filters
+pub mod Chosen
+pub mod Compared

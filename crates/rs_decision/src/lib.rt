@@ -1,0 +1,15 @@
+//! The choice among the routes for one prefix (RFC 4271, 9.1.2.2).
+//!
+//! What comes in is the list of the candidates' ranks, what goes out is the place of the best one
+//! in that list. Nothing is kept between two calls, and no call takes memory.
+#![tactic(auto)]
+
+mod choice;
+mod laws;
+mod rank;
+#[cfg(test)]
+mod tests;
+
+pub use choice::best;
+pub use laws::{best_ignores_order, best_is_unbeaten};
+pub use rank::Rank;

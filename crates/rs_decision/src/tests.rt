@@ -1,0 +1,212 @@
+//! Worked choices: the values come from the standard's rules, not from the program.
+
+ghost use Rattle.std.specs.Prelude.{◌≢◌};
+
+use crate::choice::best;
+use crate::rank::Rank;
+
+const EQUAL: Rank = Rank {
+    preference: 100,
+    path_len: 2,
+    origin: 1,
+    med: Some(10),
+    neighbour: 64496,
+    identifier: 20,
+    address: 30,
+    place: 0,
+};
+
+fn best_of_two(first: Rank, second: Rank) -> Option<usize>
+    requires { first.place ≢ second.place }
+{
+    best(&[first, second])
+}
+
+fn best_of_three(first: Rank, second: Rank, third: Rank) -> Option<usize>
+    requires ends { first.place ≢ third.place }
+    requires front { first.place ≢ second.place }
+    requires back { second.place ≢ third.place }
+{
+    best(&[first, second, third])
+}
+
+#[test]
+fn nothing_is_best_of_none(rt: HostRuntime) {
+    assert_eq!(rt; best(&[]), None);
+}
+
+#[test]
+fn one_is_best_alone(rt: HostRuntime) {
+    assert_eq!(rt; best(&[EQUAL]), Some(0));
+}
+
+#[test]
+fn the_lowest_place_is_best_of_equals(rt: HostRuntime) {
+    let answer = best_of_three(
+        Rank { place: 3, ..EQUAL },
+        Rank { place: 1, ..EQUAL },
+        Rank { place: 2, ..EQUAL },
+    );
+    assert_eq!(rt; answer, Some(1));
+}
+
+/// MED is not compared across neighbouring AS (RFC 4271, 9.1.2.2 c): the identifier decides.
+#[test]
+fn med_is_not_compared_across_neighbours(rt: HostRuntime) {
+    let answer = best_of_two(
+        Rank {
+            med: Some(10),
+            neighbour: 64496,
+            identifier: 1,
+            place: 0,
+            ..EQUAL
+        },
+        Rank {
+            med: Some(0),
+            neighbour: 64497,
+            identifier: 2,
+            place: 1,
+            ..EQUAL
+        },
+    );
+    assert_eq!(rt; answer, Some(0));
+}
+
+/// Two at a time the first beats the second and the third beats the first, but the first is out
+/// by the third's MED before identifiers are compared: the second is best of the whole set.
+#[test]
+fn pairwise_comparing_fails(rt: HostRuntime) {
+    let first = Rank {
+        med: Some(10),
+        neighbour: 64496,
+        identifier: 1,
+        place: 0,
+        ..EQUAL
+    };
+    let second = Rank {
+        med: Some(0),
+        neighbour: 64497,
+        identifier: 2,
+        place: 1,
+        ..EQUAL
+    };
+    let third = Rank {
+        med: Some(5),
+        neighbour: 64496,
+        identifier: 3,
+        place: 2,
+        ..EQUAL
+    };
+    assert_eq!(rt; best_of_three(first, second, third), Some(1));
+    assert_eq!(rt; best_of_three(first, third, second), Some(2));
+    assert_eq!(rt; best_of_three(second, first, third), Some(0));
+    assert_eq!(rt; best_of_three(second, third, first), Some(0));
+    assert_eq!(rt; best_of_three(third, first, second), Some(2));
+    assert_eq!(rt; best_of_three(third, second, first), Some(1));
+}
+
+/// A missing MED counts 0: it is lower than 1, and equal to 0.
+#[test]
+fn a_missing_med_counts_zero(rt: HostRuntime) {
+    let missing = Rank {
+        med: None,
+        identifier: 21,
+        place: 0,
+        ..EQUAL
+    };
+    let one = Rank {
+        med: Some(1),
+        identifier: 20,
+        place: 1,
+        ..EQUAL
+    };
+    let zero = Rank {
+        med: Some(0),
+        identifier: 20,
+        place: 1,
+        ..EQUAL
+    };
+    assert_eq!(rt; best_of_two(one, missing), Some(1));
+    assert_eq!(rt; best_of_two(missing, zero), Some(1));
+}
+
+/// In each row the second is better in one respect alone, and worse in all that come behind it.
+#[test]
+fn each_filter_decides_alone(rt: HostRuntime) {
+    let worse = Rank {
+        preference: 100,
+        path_len: 3,
+        origin: 2,
+        med: Some(11),
+        neighbour: 64496,
+        identifier: 21,
+        address: 31,
+        place: 1,
+    };
+    let rows = [
+        (
+            "preference",
+            Rank {
+                preference: 101,
+                ..worse
+            },
+        ),
+        (
+            "AS_PATH",
+            Rank {
+                path_len: 1,
+                ..worse
+            },
+        ),
+        (
+            "ORIGIN",
+            Rank {
+                path_len: 2,
+                origin: 0,
+                ..worse
+            },
+        ),
+        (
+            "MED",
+            Rank {
+                path_len: 2,
+                origin: 1,
+                med: Some(9),
+                ..worse
+            },
+        ),
+        (
+            "identifier",
+            Rank {
+                path_len: 2,
+                origin: 1,
+                med: Some(10),
+                identifier: 19,
+                ..worse
+            },
+        ),
+        (
+            "address",
+            Rank {
+                path_len: 2,
+                origin: 1,
+                med: Some(10),
+                identifier: 20,
+                address: 29,
+                ..worse
+            },
+        ),
+    ];
+    for (respect, second) in rows {
+        let second = Rank { place: 1, ..second };
+        assert_eq!(rt; best_of_two(EQUAL, second), Some(1), "by {respect}");
+        assert_eq!(rt;
+            best_of_two(second, EQUAL),
+            Some(0),
+            "by {respect}, the other way round"
+        );
+    }
+    let earlier = Rank { place: 0, ..EQUAL };
+    let later = Rank { place: 1, ..EQUAL };
+    assert_eq!(rt; best_of_two(later, earlier), Some(1), "by place");
+}
