@@ -1,0 +1,3 @@
+mod Documents
+mod Decimals
+mod Digits
