@@ -1,7 +1,7 @@
 -- Values of a document beside what they stand for.
-use Rattle.std.proofs.Common.{◌≡◌, ℕ, ◌≤◌, ◌&&◌, Bool, true, false, cond, nat_lt, List, [], ◌∷◌, length, map, Some, Ok, Err, refl, ap, arith, String, Global, string_bytes}
+use Rattle.std.proofs.Common.{◌≡◌, ℕ, ◌≤◌, ◌<◌, ◌+◌, get_or, drop, sym, ◌∙◌, ◌&&◌, Bool, true, false, cond, nat_lt, List, [], ◌∷◌, length, map, Some, Ok, Err, refl, ap, arith, String, Global, string_bytes}
 use Rattle.std.proofs.lemmas.Bool.Decides.{nat_tests}
-use Rattle.std.proofs.lemmas.List.{length-map}
+use Rattle.std.proofs.lemmas.List.{length-map, drop_more, drop_all}
 use Rattle.std.specs.List.{list_all}
 use Rattle.std.specs.Map.{keys_of}
 use Rattle.toml.specs.Data.{Data}
@@ -33,3 +33,13 @@ tables_of-small most place vs all small tables =
     let count : length (data_of vs) ≡ length vs = length-map vs view in
     let fits : nat_lt most (length (data_of vs)) ≡ false = grind (arith, nat_tests, count) in
     rw (fits, list_all_seen is_table vs, tables)
+
+pub length_seen : (vs : List Value) → length (data_of vs) ≡ length vs
+length_seen vs = length-map vs view
+
+-- the values from one on
+pub data_of-drop : (vs : List Value) (i : ℕ) (v : Value) → i < length vs → v ≡ get_or vs i v → data_of (drop i vs) ≡ view v ∷ data_of (drop (i + 1) vs)
+data_of-drop vs i v within this = ap data_of (drop_more vs i v within) ∙ ap (λ x. view x ∷ data_of (drop (i + 1) vs)) (sym this)
+
+pub data_of-end : (vs : List Value) (i : ℕ) → length vs ≤ i → data_of (drop i vs) ≡ []
+data_of-end vs i past = ap data_of (drop_all i vs past)

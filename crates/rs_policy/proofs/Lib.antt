@@ -1,3 +1,5 @@
-mod Documents
+mod Checks
 mod Decimals
 mod Digits
+mod Documents
+mod Wholes

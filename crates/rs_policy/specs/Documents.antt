@@ -1,12 +1,12 @@
 -- What the text of a configuration means: the first check that fails, in order, each over the document's table alone,
 -- or the settings where none fails.
-use Rattle.std.specs.Prelude.{ℕ, ◌+◌, ◌==◌, ◌&&◌, ◌||◌, Bool, false, List, [], ◌∷◌, ◌++◌, bytes_eq, Option, Some, None, Result, Ok, Err, option_map, if◌then◌else◌}
+use Rattle.std.specs.Prelude.{ℕ, ◌-◌, take, ◌==◌, ◌&&◌, ◌||◌, Bool, false, List, [], ◌∷◌, ◌++◌, bytes_eq, Option, Some, None, Result, Ok, Err, option_map, if◌then◌else◌}
 use Rattle.std.specs.List.{list_any}
 use Rattle.toml.specs.Data.{Data, Members, table, as_bool}
 use Rattle.toml.specs.Parse.{parse_document}
 use Rattle.rs_policy.specs.Keys.{top_keys, client_keys}
 use Rattle.rs_policy.specs.Texts.{endpoint_of}
-use Rattle.rs_policy.specs.Values.{text_as, positive, hold_time, address, identifier, choice_of, name_of, keyed, required_at, optional_at, maybe_at, tables_at, some_tables_at, fault_in, value_in, stranger, answer}
+use Rattle.rs_policy.specs.Values.{text_as, positive, hold_time, address, identifier, choice_of, name_of, keyed, required_at, optional_at, maybe_at, tables_at, some_tables_at, fault_in, value_in, stranger, answer, each_from, checks_from}
 use Rattle.rs_policy.specs.Settings.{Client, Policy, Settings}
 use Rattle.rs_policy.specs.Rules.{rule_checks, rule_of}
 use Rattle.rs_policy.specs.declared.faults.Key.{Key}
@@ -19,6 +19,7 @@ use Rattle.rs_policy.specs.declared.faults.ConfigFault.TheVariants.{Syntax, Twic
 use Rattle.rs_policy.specs.declared.rules.Choice.{Choice}
 use Rattle.rs_policy.specs.declared.rules.Choice.TheVariants.{Pass}
 use Rattle.rs_policy.specs.declared.rules.Rule.{Rule}
+use Rattle.rs_policy.specs.declared.top.Top.{Top}
 
 -- the top
 
@@ -43,6 +44,17 @@ flag_at k = optional_at as_bool false the_top k
 abbrev pub clients_at : Data → Result (List Data) ConfigFault
 clients_at = some_tables_at 512 the_top K.Client
 
+unfoldable pub top_of : Data → Top
+top_of d = record {
+  server_as = value_in 0 (server_as_at d);
+  identifier = value_in 0 (identifier_at d);
+  hold = value_in 0 (hold_at d);
+  default = value_in Pass (default_at d);
+  extended = value_in false (flag_at K.Extended d);
+  refresh = value_in false (flag_at K.Refresh d);
+  multiprotocol = value_in false (flag_at K.Multiprotocol d);
+}
+
 unfoldable pub top_checks : Data → List (Option ConfigFault)
 top_checks d =
     fault_in (server_as_at d)
@@ -53,7 +65,7 @@ top_checks d =
     ∷ fault_in (flag_at K.Refresh d)
     ∷ fault_in (flag_at K.Multiprotocol d)
     ∷ fault_in (clients_at d)
-    ∷ stranger top_keys the_top d
+    ∷ fault_in (stranger top_keys the_top d)
     ∷ []
 
 -- the clients, counted from 1
@@ -85,16 +97,15 @@ client_from n d = record {
   limit = value_in None (limit_at n d);
 }
 
-unfoldable pub clients_from : ℕ → List Data → List Client
-clients_from n [] = []
-clients_from n (d ∷ ds) = client_from n d ∷ clients_from (n + 1) ds
+abbrev pub clients_from : List Data → List Client
+clients_from ds = each_from client_from 1 ds
 
 -- the name, or the pair of `listen` and `peer`, of another client
 abbrev pub is_same : Client → Client → Bool
 is_same a b = bytes_eq a.name b.name || ((a.listen.0 == b.listen.0 && a.listen.1 == b.listen.1) && a.peer == b.peer)
 
-abbrev pub twice : ℕ → List Client → Client → Option ConfigFault
-twice n earlier c = if list_any (is_same c) earlier then Some (Twice n) else None
+abbrev pub twice : ℕ → List Client → Client → Result (Unit {0}) ConfigFault
+twice n earlier c = if list_any (is_same c) earlier then Err (Twice n) else Ok tt
 
 unfoldable pub client_checks : ℕ → List Client → Data → List (Option ConfigFault)
 client_checks n earlier d =
@@ -103,14 +114,13 @@ client_checks n earlier d =
     ∷ fault_in (listen_at n d)
     ∷ fault_in (peer_at n d)
     ∷ fault_in (limit_at n d)
-    ∷ stranger client_keys (client_place n) d
-    ∷ twice n earlier (client_from n d)
+    ∷ fault_in (stranger client_keys (client_place n) d)
+    ∷ fault_in (twice n earlier (client_from n d))
     ∷ []
 
 -- those of each client, beside the clients before it
-unfoldable pub clients_checks : ℕ → List Client → List Data → List (Option ConfigFault)
-clients_checks n earlier [] = []
-clients_checks n earlier (d ∷ ds) = client_checks n earlier d ++ clients_checks (n + 1) (earlier ++ client_from n d ∷ []) ds
+abbrev pub clients_checks : List Data → List (Option ConfigFault)
+clients_checks ds = checks_from (λ n d. client_checks n (take (n - 1) (clients_from ds)) d) 1 ds
 
 -- the lists of rules, counted from 1
 
@@ -124,30 +134,29 @@ rule_place n list r = record { client = Some n; list = Some list; rule = Some r;
 abbrev pub rules_at : ℕ → RuleList → Data → Result (List Data) ConfigFault
 rules_at n list d = tables_at 64 (client_place n) (list_key list) d
 
-unfoldable pub rules_from : List Client → ℕ → RuleList → ℕ → List Data → List Rule
-rules_from clients n list r [] = []
-rules_from clients n list r (d ∷ ds) = rule_of clients (rule_place n list r) d ∷ rules_from clients n list (r + 1) ds
+abbrev pub rules_from : List Client → ℕ → RuleList → List Data → List Rule
+rules_from clients n list ds = each_from (λ r d. rule_of clients (rule_place n list r) d) 1 ds
 
-unfoldable pub rules_checks : List Client → ℕ → RuleList → ℕ → List Data → List (Option ConfigFault)
-rules_checks clients n list r [] = []
-rules_checks clients n list r (d ∷ ds) = rule_checks clients (rule_place n list r) d ++ rules_checks clients n list (r + 1) ds
+abbrev pub rules_checks : List Client → ℕ → RuleList → List Data → List (Option ConfigFault)
+rules_checks clients n list ds = checks_from (λ r d. rule_checks clients (rule_place n list r) d) 1 ds
 
 abbrev pub list_checks : List Client → ℕ → RuleList → Data → List (Option ConfigFault)
-list_checks clients n list d = fault_in (rules_at n list d) ∷ rules_checks clients n list 1 (value_in [] (rules_at n list d))
+list_checks clients n list d = fault_in (rules_at n list d) ∷ rules_checks clients n list (value_in [] (rules_at n list d))
 
 abbrev pub list_of_rules : List Client → ℕ → RuleList → Data → List Rule
-list_of_rules clients n list d = rules_from clients n list 1 (value_in [] (rules_at n list d))
+list_of_rules clients n list d = rules_from clients n list (value_in [] (rules_at n list d))
 
 abbrev pub policy_from : List Client → ℕ → Data → Policy
 policy_from clients n d = record { import = list_of_rules clients n Import d; export = list_of_rules clients n Export d }
 
-unfoldable pub policies_from : List Client → ℕ → List Data → List Policy
-policies_from clients n [] = []
-policies_from clients n (d ∷ ds) = policy_from clients n d ∷ policies_from clients (n + 1) ds
+abbrev pub policy_checks : List Client → ℕ → Data → List (Option ConfigFault)
+policy_checks clients n d = list_checks clients n Import d ++ list_checks clients n Export d
 
-unfoldable pub policies_checks : List Client → ℕ → List Data → List (Option ConfigFault)
-policies_checks clients n [] = []
-policies_checks clients n (d ∷ ds) = (list_checks clients n Import d ++ list_checks clients n Export d) ++ policies_checks clients (n + 1) ds
+abbrev pub policies_from : List Client → List Data → List Policy
+policies_from clients ds = each_from (policy_from clients) 1 ds
+
+abbrev pub policies_checks : List Client → List Data → List (Option ConfigFault)
+policies_checks clients ds = checks_from (policy_checks clients) 1 ds
 
 -- the document
 
@@ -157,23 +166,13 @@ client_tables d = value_in [] (clients_at d)
 abbrev pub document_checks : Data → List (Option ConfigFault)
 document_checks d =
     let tables = client_tables d in
-    top_checks d ++ (clients_checks 1 [] tables ++ policies_checks (clients_from 1 tables) 1 tables)
+    top_checks d ++ (clients_checks tables ++ policies_checks (clients_from tables) tables)
 
 abbrev pub settings_of : Data → Settings
 settings_of d =
     let tables = client_tables d in
-    let clients = clients_from 1 tables in
-    record {
-      server_as = value_in 0 (server_as_at d);
-      identifier = value_in 0 (identifier_at d);
-      hold = value_in 0 (hold_at d);
-      default = value_in Pass (default_at d);
-      extended = value_in false (flag_at K.Extended d);
-      refresh = value_in false (flag_at K.Refresh d);
-      multiprotocol = value_in false (flag_at K.Multiprotocol d);
-      clients = clients;
-      policies = policies_from clients 1 tables;
-    }
+    let clients = clients_from tables in
+    record { top = top_of d; clients = clients; policies = policies_from clients tables }
 
 abbrev pub config_from : Option Members → Result Settings ConfigFault
 config_from None = Err Syntax

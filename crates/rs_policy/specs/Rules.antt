@@ -1,6 +1,6 @@
 -- A rule as a table says it: its keys, their checks in order, and the rule where none fails.
 use Rattle.std.specs.Prelude.{ℕ, Bool, nat_lt, List, [], ◌∷◌, ◌++◌, length, codes, bytes_eq, false, position, Option, Some, None, Result, Ok, Err, option_map, option_and_then, if◌then◌else◌}
-use Rattle.toml.specs.Data.{Data, string, array, as_bool, get}
+use Rattle.toml.specs.Data.{Data, as_array, as_str, as_bool, get}
 use Rattle.rs_octets.specs.Prefixes.{Prefix}
 use Rattle.rs_policy.specs.Keys.{key_text, rule_keys}
 use Rattle.rs_policy.specs.Texts.{prefix_of, community_of}
@@ -18,6 +18,7 @@ use Rattle.rs_policy.specs.declared.rules.Stripping.TheVariants.{Named, All}
 use Rattle.rs_policy.specs.declared.rules.Action.{Action}
 use Rattle.rs_policy.specs.declared.rules.Action.TheVariants as A
 use Rattle.rs_policy.specs.declared.rules.Rule.{Rule}
+use Rattle.rs_policy.specs.declared.rules.Tests.{Tests}
 
 -- `prefix`, and the lengths of `min` and `max`, which stand only beside it
 
@@ -99,22 +100,26 @@ abbrev pub communities_of : List Data → Option (List ℕ)
 communities_of [] = Some []
 communities_of (d ∷ ds) = option_and_then (λ n. option_map (λ ns. n ∷ ns) (communities_of ds)) (text_as community_of d)
 
+-- the array or the text that a value is
+abbrev pub stripping_from : Option (List Data) → Option (List ℕ) → Option Stripping
+stripping_from (Some ds) text = option_map Named (communities_of ds)
+stripping_from None (Some text) = if bytes_eq text (codes "all") then Some All else None
+stripping_from None None = None
+
 abbrev pub stripping_of : Data → Option Stripping
-stripping_of (array ds) = option_map Named (communities_of (list_of ds))
-stripping_of (string text) = if bytes_eq text (codes "all") then Some All else None
-stripping_of _ = None
+stripping_of d = stripping_from (option_map list_of (as_array d)) (as_str d)
 
 abbrev pub strippings : Choice → Data → Option Stripping
 strippings C.Pass = stripping_of
 strippings C.Drop = nothing
 
-abbrev pub is_longer : ℕ → Data → Bool
-is_longer most (array ds) = nat_lt most (length (list_of ds))
-is_longer most _ = false
+abbrev pub is_longer : ℕ → Option (List Data) → Bool
+is_longer most None = false
+is_longer most (Some ds) = nat_lt most (length ds)
 
 abbrev pub strip_found : Choice → Place → Option Data → Result Stripping ConfigFault
 strip_found choice place None = Ok (Named [])
-strip_found choice place (Some d) = if is_longer 64 d then Err (TooMany place) else read_or_bad place (strippings choice d)
+strip_found choice place (Some d) = if is_longer 64 (option_map list_of (as_array d)) then Err (TooMany place) else read_or_bad place (strippings choice d)
 
 unfoldable pub strip_at : Choice → Place → Data → Result Stripping ConfigFault
 strip_at choice place d = strip_found choice (keyed place K.Strip) (get (key_text K.Strip) d)
@@ -148,15 +153,16 @@ test_checks clients place d =
     ∷ []
 
 abbrev pub rule_checks : List Client → Place → Data → List (Option ConfigFault)
-rule_checks clients place d = range_checks place d ++ (test_checks clients place d ++ (action_checks place d ++ stranger rule_keys place d ∷ []))
+rule_checks clients place d = range_checks place d ++ (test_checks clients place d ++ (action_checks place d ++ fault_in (stranger rule_keys place d) ∷ []))
 
-abbrev pub rule_of : List Client → Place → Data → Rule
-rule_of clients place d = record {
-  range = range_of place d;
+unfoldable pub tests_of : List Client → Place → Data → Tests
+tests_of clients place d = record {
   from = value_in None (from_at clients place d);
   path_has = value_in None (path_has_at place d);
   origin_as = value_in None (origin_as_at place d);
   community = value_in None (community_at place d);
   next_hop_is_peer = value_in None (next_hop_is_peer_at place d);
-  action = action_of place d;
 }
+
+abbrev pub rule_of : List Client → Place → Data → Rule
+rule_of clients place d = record { range = range_of place d; tests = tests_of clients place d; action = action_of place d }

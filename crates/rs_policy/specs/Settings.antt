@@ -1,7 +1,7 @@
 -- What a configuration says.
 use Rattle.std.specs.Prelude.{ℕ, Bool, List, [], ◌∷◌, slice_index_or, Option, None}
-use Rattle.rs_policy.specs.declared.rules.Choice.{Choice}
 use Rattle.rs_policy.specs.declared.rules.Rule.{Rule}
+use Rattle.rs_policy.specs.declared.top.Top.{Top}
 
 -- a client; an address is a number of 32 bits
 pub record Client : Type 0 where
@@ -18,13 +18,7 @@ pub record Policy : Type 0 where
 
 -- clients and policies stand in the order of the configuration
 pub record Settings : Type 0 where
-  pub server_as : ℕ
-  pub identifier : ℕ
-  pub hold : ℕ
-  pub default : Choice
-  pub extended : Bool
-  pub refresh : Bool
-  pub multiprotocol : Bool
+  pub top : Top
   pub clients : List Client
   pub policies : List Policy
 

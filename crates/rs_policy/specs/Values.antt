@@ -1,5 +1,5 @@
 -- The value at a key of a table: how it is read, and what is wrong with it.
-use Rattle.std.specs.Prelude.{ℕ, ◌==◌, Bool, true, false, ◌&&◌, ◌||◌, ℤ, pos, int_le, nat_abs, nat_lt, List, [], ◌∷◌, length, codes, bytes_eq, Option, Some, None, Result, Ok, Err, option_map, option_and_then, ok_or, is_some, if◌then◌else◌}
+use Rattle.std.specs.Prelude.{ℕ, ◌+◌, ◌++◌, ◌==◌, Bool, true, false, ◌&&◌, ◌||◌, ℤ, pos, int_le, nat_abs, nat_lt, List, [], ◌∷◌, length, codes, bytes_eq, Option, Some, None, Result, Ok, Err, option_map, option_and_then, ok_or, is_some, if◌then◌else◌}
 use Rattle.std.specs.List.{list_all}
 use Rattle.toml.specs.Data.{Data, Items, Members, no_items, item, no_members, member, table, get, as_integer, as_str, as_bool, as_array, as_table}
 use Rattle.rs_octets.specs.Prefixes.{Prefix}
@@ -135,8 +135,8 @@ value_in other (Ok a) = a
 value_in other (Err f) = other
 
 -- an unknown key
-abbrev pub stranger : List Key → Place → Data → Option ConfigFault
-stranger keys place d = if has_only keys d then None else Some (BadValue (keyed place K.Other))
+abbrev pub stranger : List Key → Place → Data → Result (Unit {0}) ConfigFault
+stranger keys place d = if has_only keys d then Ok tt else Err (BadValue (keyed place K.Other))
 
 -- the first check that fails
 abbrev pub first_fault : List (Option ConfigFault) → Option ConfigFault
@@ -151,3 +151,13 @@ or_fault a (Some f) = Err f
 -- the first fault, or the value where no check fails
 unfoldable pub answer : {A : Type 0} → List (Option ConfigFault) → A → Result A ConfigFault
 answer checks a = or_fault a (first_fault checks)
+
+-- what each of some tables is, counted from n
+unfoldable pub each_from : {A : Type 0} → (ℕ → Data → A) → ℕ → List Data → List A
+each_from f n [] = []
+each_from f n (d ∷ ds) = f n d ∷ each_from f (n + 1) ds
+
+-- the checks of each
+unfoldable pub checks_from : (ℕ → Data → List (Option ConfigFault)) → ℕ → List Data → List (Option ConfigFault)
+checks_from g n [] = []
+checks_from g n (d ∷ ds) = g n d ++ checks_from g (n + 1) ds

@@ -7,7 +7,8 @@ ghost use Rattle.toml.specs.Data.{as_array};
 ghost use Rattle.toml.specs.View.{view};
 ghost use Rattle.rs_policy.specs.Keys.{key_text, is_among};
 ghost use Rattle.rs_policy.specs.Seen.{data_of, seen};
-ghost use Rattle.rs_policy.specs.Values.{list_of, is_table, or_fault, tables_in, tables_at, some_tables_at, has_only, stranger};
+ghost use Rattle.rs_policy.specs.Rules.{is_longer};
+ghost use Rattle.rs_policy.specs.Values.{list_of, is_table, tables_in, tables_at, some_tables_at, has_only, stranger};
 
 use crate::faults::{ConfigFault, Key, Place};
 use crate::values::find;
@@ -20,6 +21,17 @@ pub(crate) fn array_in(value: &Value) -> Option<&[Value]>
     match value.as_array() {
         None => None,
         Some(values) => Some(values.as_slice()),
+    }
+}
+
+/// Whether a value is an array of more values than these.
+#[tactic(auto, using(crate::proofs::Documents::length_seen))]
+pub(crate) fn is_longer(value: &Value, most: usize) -> bool
+    ensures { result ≡ is_longer most (option_map list_of (as_array (view value.now))) }
+{
+    match array_in(value) {
+        None => false,
+        Some(values) => values.len() > most,
     }
 }
 
@@ -102,7 +114,7 @@ fn has_only(table: &Value, keys: &[Key]) -> bool
 
 /// Refuses a table with another key than these.
 pub(crate) fn refuse_others(table: &Value, here: Place, keys: &[Key]) -> Result<(), ConfigFault>
-    ensures { result ≡ or_fault tt (stranger keys.now here (view table.now)) }
+    ensures { result ≡ stranger keys.now here (view table.now) }
 {
     if !has_only(table, keys) {
         return Err(ConfigFault::BadValue(Place {

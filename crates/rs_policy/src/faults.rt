@@ -7,6 +7,7 @@ ghost use Rattle.rs_policy.specs.FaultTexts.{fault_text};
 
 use crate::line::Line;
 use rs_octets::put;
+use std::alloc::{AllocError, AllocFailed};
 
 /// A key of a configuration.
 #[derive(Clone, Copy, Debug, PartialEq, Eq)]
@@ -108,6 +109,28 @@ pub enum ConfigFault {
     /// An array is too long.
     TooMany(Place),
     OutOfMemory,
+}
+
+impl From<AllocError> for ConfigFault {
+    ghost use Rattle.std.specs.Prelude.{◌≡◌};
+    ghost use Rattle.rs_policy.specs.declared.faults.ConfigFault.TheVariants.{OutOfMemory};
+
+    ghost from_gives = { λ _ e. e ≡ OutOfMemory };
+
+    fn from(_error: AllocError) -> ConfigFault {
+        ConfigFault::OutOfMemory
+    }
+}
+
+impl<T: Drop> From<AllocFailed<T>> for ConfigFault {
+    ghost use Rattle.std.specs.Prelude.{◌≡◌};
+    ghost use Rattle.rs_policy.specs.declared.faults.ConfigFault.TheVariants.{OutOfMemory};
+
+    ghost from_gives = { λ _ e. e ≡ OutOfMemory };
+
+    fn from(_error: AllocFailed<T>) -> ConfigFault {
+        ConfigFault::OutOfMemory
+    }
 }
 
 impl ConfigFault {

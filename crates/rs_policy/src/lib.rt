@@ -2,10 +2,16 @@
 #![tactic(auto)]
 
 mod arrays;
+mod clients;
+mod config;
 mod faults;
 mod line;
+mod policies;
+mod rule_tables;
 mod rules;
 mod texts;
+mod top;
 mod values;
 
+pub use config::Config;
 pub use faults::{ConfigFault, Key, List, Place};

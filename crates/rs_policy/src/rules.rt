@@ -62,15 +62,21 @@ pub(crate) struct Range {
     pub(crate) max: u8,
 }
 
-/// A rule: it matches where all of its tests hold.
-#[derive(Debug, Drop)]
-pub(crate) struct Rule {
-    pub(crate) range: Option<Range>,
+/// What a rule asks of the sender and the attributes of a route.
+#[derive(Clone, Copy, Debug, PartialEq, Eq)]
+pub(crate) struct Tests {
     /// The place of the sender, from 0.
     pub(crate) from: Option<usize>,
     pub(crate) path_has: Option<u32>,
     pub(crate) origin_as: Option<u32>,
     pub(crate) community: Option<u32>,
     pub(crate) next_hop_is_peer: Option<bool>,
+}
+
+/// A rule: it matches the routes of its range where all of its tests hold.
+#[derive(Debug, Drop)]
+pub(crate) struct Rule {
+    pub(crate) range: Option<Range>,
+    pub(crate) tests: Tests,
     pub(crate) action: Action,
 }

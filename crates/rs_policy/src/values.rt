@@ -52,7 +52,45 @@ pub(crate) const POSITIVE: Integer = Integer {
     high: 4_294_967_295,
 };
 
+/// Lengths of prefixes, from `low` on.
+#[derive(Clone, Copy)]
+pub(crate) struct Length {
+    pub(crate) low: u8,
+}
+
+impl Kind for Length {
+    type Out = u8;
+
+    ghost reads = { λ k. integer_in k.low 32 };
+
+    fn read(&self, value: &Value) -> Option<u8> {
+        let length = Integer {
+            low: u32::from(self.low),
+            high: 32,
+        };
+        match length.read(value) {
+            None => None,
+            Some(length) => Some(length as u8),
+        }
+    }
+}
+
+/// No value is right.
+#[derive(Clone, Copy)]
+pub(crate) struct Nothing;
+
+impl Kind for Nothing {
+    type Out = u32;
+
+    ghost reads = { λ k. nothing };
+
+    fn read(&self, _value: &Value) -> Option<u32> {
+        None
+    }
+}
+
 /// Seconds, other than 1 and 2.
+#[derive(Clone, Copy)]
 pub(crate) struct HoldTime;
 
 impl Kind for HoldTime {
@@ -72,6 +110,7 @@ impl Kind for HoldTime {
     }
 }
 
+#[derive(Clone, Copy)]
 pub(crate) struct Flag;
 
 impl Kind for Flag {
@@ -84,6 +123,7 @@ impl Kind for Flag {
     }
 }
 
+#[derive(Clone, Copy)]
 pub(crate) struct Address;
 
 impl Kind for Address {
@@ -97,6 +137,7 @@ impl Kind for Address {
 }
 
 /// Addresses other than 0.0.0.0.
+#[derive(Clone, Copy)]
 pub(crate) struct Identifier;
 
 impl Kind for Identifier {
@@ -113,6 +154,7 @@ impl Kind for Identifier {
 }
 
 /// An address and a port.
+#[derive(Clone, Copy)]
 pub(crate) struct Endpoint;
 
 impl Kind for Endpoint {
@@ -125,6 +167,7 @@ impl Kind for Endpoint {
     }
 }
 
+#[derive(Clone, Copy)]
 pub(crate) struct PrefixText;
 
 impl Kind for PrefixText {
@@ -137,6 +180,7 @@ impl Kind for PrefixText {
     }
 }
 
+#[derive(Clone, Copy)]
 pub(crate) struct CommunityText;
 
 impl Kind for CommunityText {
@@ -150,6 +194,7 @@ impl Kind for CommunityText {
 }
 
 /// "pass" or "drop".
+#[derive(Clone, Copy)]
 pub(crate) struct PassOrDrop;
 
 impl Kind for PassOrDrop {
