@@ -64,8 +64,6 @@ top_checks d =
     ∷ fault_in (flag_at K.Extended d)
     ∷ fault_in (flag_at K.Refresh d)
     ∷ fault_in (flag_at K.Multiprotocol d)
-    ∷ fault_in (clients_at d)
-    ∷ fault_in (stranger top_keys the_top d)
     ∷ []
 
 -- the clients, counted from 1
@@ -166,7 +164,10 @@ client_tables d = value_in [] (clients_at d)
 abbrev pub document_checks : Data → List (Option ConfigFault)
 document_checks d =
     let tables = client_tables d in
-    top_checks d ++ (clients_checks tables ++ policies_checks (clients_from tables) tables)
+    top_checks d
+    ++ fault_in (clients_at d)
+    ∷ fault_in (stranger top_keys the_top d)
+    ∷ (clients_checks tables ++ policies_checks (clients_from tables) tables)
 
 abbrev pub settings_of : Data → Settings
 settings_of d =

@@ -1,6 +1,6 @@
 //! Arrays of tables, and the keys of a table.
 
-ghost use Rattle.std.specs.Prelude.{◌≡◌, option_map, string_bytes};
+ghost use Rattle.std.specs.Prelude.{◌≡◌, ◌<◌, ◌≤◌, length, option_map, IfOk, string_bytes};
 ghost use Rattle.std.specs.List.{list_all};
 ghost use Rattle.std.specs.Map.{keys_of};
 ghost use Rattle.toml.specs.Data.{as_array};
@@ -43,7 +43,8 @@ fn are_tables(values: &[Value]) -> bool
 
 #[tactic(auto, using(crate::proofs::Documents::list_all_seen))]
 fn tables_in(value: &Value, most: usize, place: Place) -> Result<&[Value], ConfigFault>
-    ensures { seen result ≡ tables_in most place (view value.now) }
+    ensures tables { seen result ≡ tables_in most place (view value.now) }
+    ensures few { IfOk result (λ ds. length ds.now ≤ most) }
 {
     let Some(values) = array_in(value) else {
         return Err(ConfigFault::BadValue(place));
@@ -65,7 +66,8 @@ pub(crate) fn tables(
     here: Place,
     key: Key,
 ) -> Result<&[Value], ConfigFault>
-    ensures { seen result ≡ tables_at most here key (view table.now) }
+    ensures tables { seen result ≡ tables_at most here key (view table.now) }
+    ensures few { IfOk result (λ ds. length ds.now ≤ most) }
 {
     match find(table, key) {
         None => Ok(&[]),
@@ -81,7 +83,9 @@ pub(crate) fn some_tables(
     here: Place,
     key: Key,
 ) -> Result<&[Value], ConfigFault>
-    ensures { seen result ≡ some_tables_at most here key (view table.now) }
+    ensures tables { seen result ≡ some_tables_at most here key (view table.now) }
+    ensures some { IfOk result (λ ds. 0 < length ds.now) }
+    ensures few { IfOk result (λ ds. length ds.now ≤ most) }
 {
     match tables(table, most, here, key)? {
         [] => Err(ConfigFault::Missing(Place { key, ..here })),

@@ -119,6 +119,7 @@ impl Client {
 pub(crate) fn read_clients(alloc: Global, tables: &[Value]) -> Result<Vec<Client>, ConfigFault>
     ensures ok { IfOk result (λ v. answer (clients_checks (data_of tables.now)) (clients_from (data_of tables.now)) ≡ Ok v.items) }
     ensures fault { IfErr result (λ e. e ≢ ConfigFault.OutOfMemory → answer (clients_checks (data_of tables.now)) (clients_from (data_of tables.now)) ≡ Err e) }
+    ensures count { IfOk result (λ v. length v.items ≡ length tables.now) }
 {
     let mut clients = Vec::with_capacity(alloc, tables.len())?;
     for (index, table) in tables.iter().enumerate() {

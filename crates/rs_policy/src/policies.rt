@@ -1,6 +1,6 @@
 //! The lists of rules of a configuration.
 
-ghost use Rattle.std.specs.Prelude.{◌≡◌, ◌≢◌, IfOk, IfErr};
+ghost use Rattle.std.specs.Prelude.{◌≡◌, ◌≢◌, length, IfOk, IfErr};
 ghost use Rattle.toml.specs.View.{view};
 ghost use Rattle.rs_policy.specs.Seen.{data_of};
 ghost use Rattle.rs_policy.specs.Values.{answer};
@@ -106,6 +106,7 @@ pub(crate) fn read_policies(
 ) -> Result<Vec<Policy>, ConfigFault>
     ensures ok { IfOk result (λ v. answer (policies_checks clients.now (data_of tables.now)) (policies_from clients.now (data_of tables.now)) ≡ Ok v.items) }
     ensures fault { IfErr result (λ e. e ≢ ConfigFault.OutOfMemory → answer (policies_checks clients.now (data_of tables.now)) (policies_from clients.now (data_of tables.now)) ≡ Err e) }
+    ensures count { IfOk result (λ v. length v.items ≡ length tables.now) }
 {
     let mut policies = Vec::with_capacity(alloc, tables.len())?;
     for (index, table) in tables.iter().enumerate() {

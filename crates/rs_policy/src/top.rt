@@ -1,10 +1,11 @@
 //! The keys at the top of a configuration.
 
-ghost use Rattle.std.specs.Prelude.{◌≡◌};
+ghost use Rattle.std.specs.Prelude.{◌≡◌, ◌<◌, ◌≤◌, length, IfOk};
 ghost use Rattle.toml.specs.View.{view};
-ghost use Rattle.rs_policy.specs.Seen.{data_of};
-ghost use Rattle.rs_policy.specs.Documents.{client_tables};
-ghost use Rattle.rs_policy.specs.Values.{answer};
+ghost use Rattle.rs_policy.specs.Seen.{seen};
+ghost use Rattle.rs_policy.specs.Documents.{clients_at, the_top};
+ghost use Rattle.rs_policy.specs.Keys.{top_keys};
+ghost use Rattle.rs_policy.specs.Values.{answer, stranger};
 
 use crate::arrays::{refuse_others, some_tables};
 use crate::faults::{ConfigFault, Key, Place};
@@ -45,12 +46,12 @@ pub(crate) const TOP: Place = Place {
 impl Top {
     ghost use Rattle.rs_policy.specs.Documents.{top_checks, top_of};
 
-    /// What the top of a document says, or its first fault.
+    /// What the top of a document says but for the clients, or its first fault.
     #[tactic(auto, unfolding(crate::specs::Values::answer, crate::specs::Documents::top_checks, crate::specs::Documents::top_of))]
     pub(crate) fn read(document: &Value) -> Result<Top, ConfigFault>
         ensures { result ≡ answer (top_checks (view document.now)) (top_of (view document.now)) }
     {
-        let top = Top {
+        Ok(Top {
             server_as: required(document, TOP, Key::As, POSITIVE)?,
             identifier: required(document, TOP, Key::Identifier, Identifier)?,
             hold: optional(document, TOP, Key::Hold, HoldTime, 90)?,
@@ -58,19 +59,22 @@ impl Top {
             extended: optional(document, TOP, Key::Extended, Flag, false)?,
             refresh: optional(document, TOP, Key::Refresh, Flag, false)?,
             multiprotocol: optional(document, TOP, Key::Multiprotocol, Flag, false)?,
-        };
-        some_tables(document, 512, TOP, Key::Client)?;
-        refuse_others(document, TOP, &KEYS)?;
-        Ok(top)
+        })
     }
 }
 
-/// The clients' tables of a document that has no fault at its top.
-pub(crate) fn client_tables(document: &Value) -> &[Value]
-    ensures { data_of result.now ≡ client_tables (view document.now) }
+/// The tables of the clients.
+pub(crate) fn client_tables(document: &Value) -> Result<&[Value], ConfigFault>
+    ensures tables { seen result ≡ clients_at (view document.now) }
+    ensures some { IfOk result (λ ds. 0 < length ds.now) }
+    ensures few { IfOk result (λ ds. length ds.now ≤ 512) }
 {
-    match some_tables(document, 512, TOP, Key::Client) {
-        Ok(tables) => tables,
-        Err(_) => &[],
-    }
+    some_tables(document, 512, TOP, Key::Client)
+}
+
+/// Refuses a key that the top hasn't.
+pub(crate) fn refuse_other_keys(document: &Value) -> Result<(), ConfigFault>
+    ensures { result ≡ stranger top_keys the_top (view document.now) }
+{
+    refuse_others(document, TOP, &KEYS)
 }
