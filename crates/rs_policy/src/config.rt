@@ -5,12 +5,13 @@ ghost use Rattle.toml.specs.Data.{table};
 ghost use Rattle.toml.specs.View.{view};
 ghost use Rattle.toml.specs.Parse.{parse_document};
 ghost use Rattle.rs_policy.specs.Values.{answer};
-ghost use Rattle.rs_policy.specs.Settings.{client_of, IsWhole};
+ghost use Rattle.rs_policy.specs.Settings.{client_of, policy_of, IsWhole};
 ghost use Rattle.rs_policy.specs.Documents.{document_checks, settings_of, config_of};
 
 use crate::clients::{Client, read_clients};
 use crate::faults::ConfigFault;
 use crate::policies::{Policy, read_policies};
+use crate::rules::Choice;
 use crate::top::{Top, client_tables, refuse_other_keys};
 use std::alloc::Global;
 use std::marker::Model;
@@ -159,5 +160,20 @@ impl Config {
     {
         let client = &self.clients[c];
         client.limit
+    }
+
+    /// What becomes of routes that no rule of a list matches.
+    pub(crate) fn default(&self) -> Choice
+        ensures { result ≡ self.now.top.default }
+    {
+        self.top.default
+    }
+
+    /// The rules of a client.
+    pub(crate) fn policy(&self, c: usize) -> &Policy
+        requires { c < length self.now.clients }
+        ensures { result.now ≡ policy_of self.now c }
+    {
+        &self.policies[c]
     }
 }

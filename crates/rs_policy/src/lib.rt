@@ -12,6 +12,8 @@ mod rules;
 mod texts;
 mod top;
 mod values;
+mod verdict;
 
 pub use config::Config;
 pub use faults::{ConfigFault, Key, List, Place};
+pub use verdict::{Fate, Verdict, judge};
