@@ -2,4 +2,5 @@ mod Checks
 mod Decimals
 mod Digits
 mod Documents
+mod Others
 mod Wholes

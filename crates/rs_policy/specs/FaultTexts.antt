@@ -5,6 +5,8 @@ use Rattle.rs_policy.specs.declared.faults.List.TheVariants.{Import, Export}
 use Rattle.rs_policy.specs.declared.faults.Place.{Place}
 use Rattle.rs_policy.specs.declared.faults.ConfigFault.{ConfigFault}
 use Rattle.rs_policy.specs.declared.faults.ConfigFault.TheVariants.{Syntax, Missing, BadValue, Twice, TooMany, OutOfMemory}
+use Rattle.rs_policy.specs.declared.faults.RulesFault.{RulesFault}
+use Rattle.rs_policy.specs.declared.faults.RulesFault.TheVariants.{Unreadable, Config, Fixed}
 use Rattle.rs_policy.specs.Keys.{key_text}
 
 -- an array of rules, which is a key of a client too
@@ -34,3 +36,8 @@ fault_text (BadValue p) = codes "bad value " ++ place_text p
 fault_text (Twice n) = codes "twice " ++ client_text n
 fault_text (TooMany p) = codes "too many " ++ place_text p
 fault_text OutOfMemory = codes "out of memory"
+
+unfoldable pub rules_fault_text : RulesFault → List ℕ
+rules_fault_text Unreadable = codes "unreadable"
+rules_fault_text (Config f) = fault_text f
+rules_fault_text (Fixed p) = codes "fixed " ++ place_text p

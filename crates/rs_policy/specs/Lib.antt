@@ -2,6 +2,7 @@ pub mod Documents
 pub mod FaultTexts
 pub mod Judged
 pub mod Keys
+pub mod Replacing
 pub mod Rules
 pub mod Seen
 pub mod Settings

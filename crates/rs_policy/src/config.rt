@@ -176,4 +176,16 @@ impl Config {
     {
         &self.policies[c]
     }
+
+    pub(crate) fn top(&self) -> &Top
+        ensures { result.now ≡ self.now.top }
+    {
+        &self.top
+    }
+
+    pub(crate) fn all_clients(&self) -> &[Client]
+        ensures { result.now ≡ self.now.clients }
+    {
+        &self.clients
+    }
 }

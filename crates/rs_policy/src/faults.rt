@@ -3,7 +3,7 @@
 ghost use Rattle.std.specs.Prelude.{◌≡◌, length};
 ghost use Rattle.rs_octets.specs.Writes.{Writes};
 ghost use Rattle.rs_policy.specs.Keys.{key_text};
-ghost use Rattle.rs_policy.specs.FaultTexts.{fault_text};
+ghost use Rattle.rs_policy.specs.FaultTexts.{fault_text, rules_fault_text};
 
 use crate::line::Line;
 use rs_octets::put;
@@ -154,6 +154,39 @@ impl ConfigFault {
             ConfigFault::Twice(client) => Line::of(b"twice ").with_client(*client),
             ConfigFault::TooMany(place) => Line::of(b"too many ").with_place(place),
             ConfigFault::OutOfMemory => Line::of(b"out of memory"),
+        }
+    }
+}
+
+/// Why other rules are refused while the server runs: the first cause, in this order.
+#[derive(Clone, Copy, Debug, PartialEq, Eq)]
+pub enum RulesFault {
+    /// The octets aren't UTF-8.
+    Unreadable,
+    /// The text is no configuration.
+    Config(ConfigFault),
+    /// The first place that differs and can't while the server runs.
+    Fixed(Place),
+}
+
+impl RulesFault {
+    /// Writes the fault's text, and answers its length.
+    pub fn write(&self, out: &mut [u8; 96]) -> usize
+        ensures length { result ≡ length (rules_fault_text self.now) }
+        ensures octets { Writes 0 (rules_fault_text self.now) out.old out.new }
+    {
+        let line = self.line();
+        put(out, 0, line.octets())
+    }
+
+    #[tactic(auto, unfolding(crate::specs::FaultTexts::rules_fault_text))]
+    fn line(&self) -> Line
+        ensures { result ≡ rules_fault_text self.now }
+    {
+        match self {
+            RulesFault::Unreadable => Line::of(b"unreadable"),
+            RulesFault::Config(fault) => fault.line(),
+            RulesFault::Fixed(place) => Line::of(b"fixed ").with_place(place),
         }
     }
 }

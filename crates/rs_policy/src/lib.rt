@@ -7,6 +7,7 @@ mod config;
 mod faults;
 mod line;
 mod policies;
+mod replacing;
 mod rule_tables;
 mod rules;
 mod texts;
@@ -15,5 +16,5 @@ mod values;
 mod verdict;
 
 pub use config::Config;
-pub use faults::{ConfigFault, Key, List, Place};
+pub use faults::{ConfigFault, Key, List, Place, RulesFault};
 pub use verdict::{Fate, Verdict, judge};
