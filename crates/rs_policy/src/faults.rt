@@ -1,6 +1,6 @@
 //! What can be wrong with a configuration, and where.
 
-ghost use Rattle.std.specs.Prelude.{◌≡◌, length};
+ghost use Rattle.std.specs.Prelude.{◌≡◌, ◌≤◌, length};
 ghost use Rattle.rs_octets.specs.Writes.{Writes};
 ghost use Rattle.rs_policy.specs.Keys.{key_text};
 ghost use Rattle.rs_policy.specs.FaultTexts.{fault_text, rules_fault_text};
@@ -8,6 +8,8 @@ ghost use Rattle.rs_policy.specs.FaultTexts.{fault_text, rules_fault_text};
 use crate::line::Line;
 use rs_octets::put;
 use std::alloc::{AllocError, AllocFailed};
+use std::error::Error;
+use std::fmt;
 
 /// A key of a configuration.
 #[derive(Clone, Copy, Debug, PartialEq, Eq)]
@@ -111,6 +113,14 @@ pub enum ConfigFault {
     OutOfMemory,
 }
 
+impl fmt::Display for ConfigFault {
+    fn fmt<W: fmt::Write>(&self, f: &mut fmt::Formatter<W>) -> fmt::Result {
+        self.line().fmt(f)
+    }
+}
+
+impl Error for ConfigFault {}
+
 impl From<AllocError> for ConfigFault {
     ghost use Rattle.std.specs.Prelude.{◌≡◌};
     ghost use Rattle.rs_policy.specs.declared.faults.ConfigFault.TheVariants.{OutOfMemory};
@@ -136,6 +146,7 @@ impl<T: Drop> From<AllocFailed<T>> for ConfigFault {
 impl ConfigFault {
     /// Writes the fault's text, and answers its length.
     pub fn write(&self, out: &mut [u8; 96]) -> usize
+        ensures within { result ≤ 96 }
         ensures length { result ≡ length (fault_text self.now) }
         ensures octets { Writes 0 (fault_text self.now) out.old out.new }
     {
@@ -169,9 +180,18 @@ pub enum RulesFault {
     Fixed(Place),
 }
 
+impl fmt::Display for RulesFault {
+    fn fmt<W: fmt::Write>(&self, f: &mut fmt::Formatter<W>) -> fmt::Result {
+        self.line().fmt(f)
+    }
+}
+
+impl Error for RulesFault {}
+
 impl RulesFault {
     /// Writes the fault's text, and answers its length.
     pub fn write(&self, out: &mut [u8; 96]) -> usize
+        ensures within { result ≤ 96 }
         ensures length { result ≡ length (rules_fault_text self.now) }
         ensures octets { Writes 0 (rules_fault_text self.now) out.old out.new }
     {

@@ -18,3 +18,6 @@ mod verdict;
 pub use config::Config;
 pub use faults::{ConfigFault, Key, List, Place, RulesFault};
 pub use verdict::{Fate, Verdict, judge};
+
+#[cfg(test)]
+mod tests;

@@ -4,6 +4,7 @@ ghost use Rattle.std.specs.Prelude.{◌≡◌, ◌+◌, ◌≤◌, ◌^◌, ◌<
 ghost use Rattle.rs_policy.specs.FaultTexts.{client_text, rule_text, table_text, place_text};
 
 use crate::faults::{List, Place};
+use std::fmt;
 use std::marker::Model;
 
 /// Up to 96 octets of text.
@@ -115,5 +116,14 @@ impl Line {
         ensures { result ≡ self ++ place_text place.now }
     {
         self.with_table(place).with(place.key.text().as_bytes())
+    }
+}
+
+impl fmt::Display for Line {
+    fn fmt<W: fmt::Write>(&self, f: &mut fmt::Formatter<W>) -> fmt::Result {
+        match str::from_utf8(self.octets()) {
+            Ok(text) => f.write_str(text),
+            Err(_) => Err(fmt::Error),
+        }
     }
 }
