@@ -1,0 +1,6 @@
+mod Checks
+mod Decimals
+mod Digits
+mod Documents
+mod Others
+mod Wholes

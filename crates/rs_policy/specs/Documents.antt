@@ -1,0 +1,184 @@
+-- What the text of a configuration means: the first check that fails, in order, each over the document's table alone,
+-- or the settings where none fails.
+use Rattle.std.specs.Prelude.{ℕ, ◌-◌, take, ◌==◌, ◌&&◌, ◌||◌, Bool, false, List, [], ◌∷◌, ◌++◌, bytes_eq, Option, Some, None, Result, Ok, Err, option_map, if◌then◌else◌}
+use Rattle.std.specs.List.{list_any}
+use Rattle.toml.specs.Data.{Data, Members, table, as_bool}
+use Rattle.toml.specs.Parse.{parse_document}
+use Rattle.rs_policy.specs.Keys.{top_keys, client_keys}
+use Rattle.rs_policy.specs.Texts.{endpoint_of}
+use Rattle.rs_policy.specs.Values.{text_as, positive, hold_time, address, identifier, choice_of, name_of, keyed, required_at, optional_at, maybe_at, tables_at, some_tables_at, fault_in, value_in, stranger, answer, each_from, checks_from}
+use Rattle.rs_policy.specs.Settings.{Client, Policy, Settings}
+use Rattle.rs_policy.specs.Rules.{rule_checks, rule_of}
+use Rattle.rs_policy.specs.declared.faults.Key.{Key}
+use Rattle.rs_policy.specs.declared.faults.Key.TheVariants as K
+use Rattle.rs_policy.specs.declared.faults.List.{List as RuleList}
+use Rattle.rs_policy.specs.declared.faults.List.TheVariants.{Import, Export}
+use Rattle.rs_policy.specs.declared.faults.Place.{Place}
+use Rattle.rs_policy.specs.declared.faults.ConfigFault.{ConfigFault}
+use Rattle.rs_policy.specs.declared.faults.ConfigFault.TheVariants.{Syntax, Twice}
+use Rattle.rs_policy.specs.declared.rules.Choice.{Choice}
+use Rattle.rs_policy.specs.declared.rules.Choice.TheVariants.{Pass}
+use Rattle.rs_policy.specs.declared.rules.Rule.{Rule}
+use Rattle.rs_policy.specs.declared.top.Top.{Top}
+
+-- the top
+
+abbrev pub the_top : Place
+the_top = record { client = None; list = None; rule = None; key = K.Other }
+
+abbrev pub server_as_at : Data → Result ℕ ConfigFault
+server_as_at = required_at positive the_top K.As
+
+abbrev pub identifier_at : Data → Result ℕ ConfigFault
+identifier_at = required_at identifier the_top K.Identifier
+
+abbrev pub hold_at : Data → Result ℕ ConfigFault
+hold_at = optional_at hold_time 90 the_top K.Hold
+
+abbrev pub default_at : Data → Result Choice ConfigFault
+default_at = optional_at (text_as choice_of) Pass the_top K.Default
+
+abbrev pub flag_at : Key → Data → Result Bool ConfigFault
+flag_at k = optional_at as_bool false the_top k
+
+abbrev pub clients_at : Data → Result (List Data) ConfigFault
+clients_at = some_tables_at 512 the_top K.Client
+
+unfoldable pub top_of : Data → Top
+top_of d = record {
+  server_as = value_in 0 (server_as_at d);
+  identifier = value_in 0 (identifier_at d);
+  hold = value_in 0 (hold_at d);
+  default = value_in Pass (default_at d);
+  extended = value_in false (flag_at K.Extended d);
+  refresh = value_in false (flag_at K.Refresh d);
+  multiprotocol = value_in false (flag_at K.Multiprotocol d);
+}
+
+unfoldable pub top_checks : Data → List (Option ConfigFault)
+top_checks d =
+    fault_in (server_as_at d)
+    ∷ fault_in (identifier_at d)
+    ∷ fault_in (hold_at d)
+    ∷ fault_in (default_at d)
+    ∷ fault_in (flag_at K.Extended d)
+    ∷ fault_in (flag_at K.Refresh d)
+    ∷ fault_in (flag_at K.Multiprotocol d)
+    ∷ []
+
+-- the clients, counted from 1
+
+abbrev pub client_place : ℕ → Place
+client_place n = record { client = Some n; list = None; rule = None; key = K.Other }
+
+abbrev pub name_at : ℕ → Data → Result (List ℕ) ConfigFault
+name_at n = required_at (text_as name_of) (client_place n) K.Name
+
+abbrev pub client_as_at : ℕ → Data → Result ℕ ConfigFault
+client_as_at n = required_at positive (client_place n) K.As
+
+abbrev pub listen_at : ℕ → Data → Result (ℕ × ℕ) ConfigFault
+listen_at n = required_at (text_as endpoint_of) (client_place n) K.Listen
+
+abbrev pub peer_at : ℕ → Data → Result ℕ ConfigFault
+peer_at n = required_at address (client_place n) K.Peer
+
+abbrev pub limit_at : ℕ → Data → Result (Option ℕ) ConfigFault
+limit_at n d = maybe_at positive (client_place n) K.Limit d
+
+unfoldable pub client_from : ℕ → Data → Client
+client_from n d = record {
+  name = value_in [] (name_at n d);
+  client_as = value_in 0 (client_as_at n d);
+  listen = value_in (0, 0) (listen_at n d);
+  peer = value_in 0 (peer_at n d);
+  limit = value_in None (limit_at n d);
+}
+
+abbrev pub clients_from : List Data → List Client
+clients_from ds = each_from client_from 1 ds
+
+-- the name, or the pair of `listen` and `peer`, of another client
+abbrev pub is_same : Client → Client → Bool
+is_same a b = bytes_eq a.name b.name || ((a.listen.0 == b.listen.0 && a.listen.1 == b.listen.1) && a.peer == b.peer)
+
+abbrev pub twice : ℕ → List Client → Client → Result (Unit {0}) ConfigFault
+twice n earlier c = if list_any (is_same c) earlier then Err (Twice n) else Ok tt
+
+unfoldable pub client_checks : ℕ → List Client → Data → List (Option ConfigFault)
+client_checks n earlier d =
+    fault_in (name_at n d)
+    ∷ fault_in (client_as_at n d)
+    ∷ fault_in (listen_at n d)
+    ∷ fault_in (peer_at n d)
+    ∷ fault_in (limit_at n d)
+    ∷ fault_in (stranger client_keys (client_place n) d)
+    ∷ fault_in (twice n earlier (client_from n d))
+    ∷ []
+
+-- those of each client, beside the clients before it
+abbrev pub clients_checks : List Data → List (Option ConfigFault)
+clients_checks ds = checks_from (λ n d. client_checks n (take (n - 1) (clients_from ds)) d) 1 ds
+
+-- the lists of rules, counted from 1
+
+abbrev pub list_key : RuleList → Key
+list_key Import = K.Import
+list_key Export = K.Export
+
+abbrev pub rule_place : ℕ → RuleList → ℕ → Place
+rule_place n list r = record { client = Some n; list = Some list; rule = Some r; key = K.Other }
+
+abbrev pub rules_at : ℕ → RuleList → Data → Result (List Data) ConfigFault
+rules_at n list d = tables_at 64 (client_place n) (list_key list) d
+
+abbrev pub rules_from : List Client → ℕ → RuleList → List Data → List Rule
+rules_from clients n list ds = each_from (λ r d. rule_of clients (rule_place n list r) d) 1 ds
+
+abbrev pub rules_checks : List Client → ℕ → RuleList → List Data → List (Option ConfigFault)
+rules_checks clients n list ds = checks_from (λ r d. rule_checks clients (rule_place n list r) d) 1 ds
+
+abbrev pub list_checks : List Client → ℕ → RuleList → Data → List (Option ConfigFault)
+list_checks clients n list d = fault_in (rules_at n list d) ∷ rules_checks clients n list (value_in [] (rules_at n list d))
+
+abbrev pub list_of_rules : List Client → ℕ → RuleList → Data → List Rule
+list_of_rules clients n list d = rules_from clients n list (value_in [] (rules_at n list d))
+
+abbrev pub policy_from : List Client → ℕ → Data → Policy
+policy_from clients n d = record { import = list_of_rules clients n Import d; export = list_of_rules clients n Export d }
+
+abbrev pub policy_checks : List Client → ℕ → Data → List (Option ConfigFault)
+policy_checks clients n d = list_checks clients n Import d ++ list_checks clients n Export d
+
+abbrev pub policies_from : List Client → List Data → List Policy
+policies_from clients ds = each_from (policy_from clients) 1 ds
+
+abbrev pub policies_checks : List Client → List Data → List (Option ConfigFault)
+policies_checks clients ds = checks_from (policy_checks clients) 1 ds
+
+-- the document
+
+abbrev pub client_tables : Data → List Data
+client_tables d = value_in [] (clients_at d)
+
+abbrev pub document_checks : Data → List (Option ConfigFault)
+document_checks d =
+    let tables = client_tables d in
+    top_checks d
+    ++ fault_in (clients_at d)
+    ∷ fault_in (stranger top_keys the_top d)
+    ∷ (clients_checks tables ++ policies_checks (clients_from tables) tables)
+
+abbrev pub settings_of : Data → Settings
+settings_of d =
+    let tables = client_tables d in
+    let clients = clients_from tables in
+    record { top = top_of d; clients = clients; policies = policies_from clients tables }
+
+abbrev pub config_from : Option Members → Result Settings ConfigFault
+config_from None = Err Syntax
+config_from (Some t) = answer (document_checks (table t)) (settings_of (table t))
+
+-- the settings of a text, or its first fault
+unfoldable pub config_of : List ℕ → Result Settings ConfigFault
+config_of text = config_from (parse_document text)

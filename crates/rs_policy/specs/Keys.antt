@@ -1,0 +1,46 @@
+-- Each key of a configuration as it is spelt, and which keys a table has.
+use Rattle.std.specs.Prelude.{ℕ, List, [], ◌∷◌, codes, bytes_eq, Bool}
+use Rattle.std.specs.List.{list_any}
+use Rattle.rs_policy.specs.declared.faults.Key.{Key}
+use Rattle.rs_policy.specs.declared.faults.Key.TheVariants as K
+
+abbrev pub key_text : Key → List ℕ
+key_text K.As = codes "as"
+key_text K.Identifier = codes "identifier"
+key_text K.Hold = codes "hold"
+key_text K.Default = codes "default"
+key_text K.Extended = codes "extended"
+key_text K.Refresh = codes "refresh"
+key_text K.Multiprotocol = codes "multiprotocol"
+key_text K.Client = codes "client"
+key_text K.Name = codes "name"
+key_text K.Listen = codes "listen"
+key_text K.Peer = codes "peer"
+key_text K.Limit = codes "limit"
+key_text K.Import = codes "import"
+key_text K.Export = codes "export"
+key_text K.Prefix = codes "prefix"
+key_text K.Min = codes "min"
+key_text K.Max = codes "max"
+key_text K.From = codes "from"
+key_text K.PathHas = codes "path_has"
+key_text K.OriginAs = codes "origin_as"
+key_text K.Community = codes "community"
+key_text K.NextHopIsPeer = codes "next_hop_is_peer"
+key_text K.Action = codes "action"
+key_text K.Preference = codes "preference"
+key_text K.Strip = codes "strip"
+key_text K.Other = codes "?"
+
+-- the keys of each table, in the order in which they are checked
+abbrev pub top_keys : List Key
+top_keys = K.As ∷ K.Identifier ∷ K.Hold ∷ K.Default ∷ K.Extended ∷ K.Refresh ∷ K.Multiprotocol ∷ K.Client ∷ []
+
+abbrev pub client_keys : List Key
+client_keys = K.Name ∷ K.As ∷ K.Listen ∷ K.Peer ∷ K.Limit ∷ K.Import ∷ K.Export ∷ []
+
+abbrev pub rule_keys : List Key
+rule_keys = K.Prefix ∷ K.Min ∷ K.Max ∷ K.From ∷ K.PathHas ∷ K.OriginAs ∷ K.Community ∷ K.NextHopIsPeer ∷ K.Action ∷ K.Preference ∷ K.Strip ∷ []
+
+abbrev pub is_among : List Key → List ℕ → Bool
+is_among keys text = list_any (λ k. bytes_eq (key_text k) text) keys

@@ -1,0 +1,11 @@
+pub mod Documents
+pub mod FaultTexts
+pub mod Judged
+pub mod Keys
+pub mod Replacing
+pub mod Rules
+pub mod Seen
+pub mod Settings
+pub mod Texts
+pub mod Values
+pub mod Verdicts

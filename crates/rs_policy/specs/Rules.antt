@@ -1,0 +1,168 @@
+-- A rule as a table says it: its keys, their checks in order, and the rule where none fails.
+use Rattle.std.specs.Prelude.{ℕ, Bool, nat_lt, List, [], ◌∷◌, ◌++◌, length, codes, bytes_eq, false, position, Option, Some, None, Result, Ok, Err, option_map, option_and_then, if◌then◌else◌}
+use Rattle.toml.specs.Data.{Data, as_array, as_str, as_bool, get}
+use Rattle.rs_octets.specs.Prefixes.{Prefix}
+use Rattle.rs_policy.specs.Keys.{key_text, rule_keys}
+use Rattle.rs_policy.specs.Texts.{prefix_of, community_of}
+use Rattle.rs_policy.specs.Values.{text_as, integer_in, positive, nothing, choice_of, keyed, list_of, read_or_bad, required_at, optional_at, maybe_at, fault_in, value_in, stranger}
+use Rattle.rs_policy.specs.Settings.{Client}
+use Rattle.rs_policy.specs.declared.faults.Key.TheVariants as K
+use Rattle.rs_policy.specs.declared.faults.Place.{Place}
+use Rattle.rs_policy.specs.declared.faults.ConfigFault.{ConfigFault}
+use Rattle.rs_policy.specs.declared.faults.ConfigFault.TheVariants.{BadValue, TooMany}
+use Rattle.rs_policy.specs.declared.rules.Choice.{Choice}
+use Rattle.rs_policy.specs.declared.rules.Choice.TheVariants as C
+use Rattle.rs_policy.specs.declared.rules.Range.{Range}
+use Rattle.rs_policy.specs.declared.rules.Stripping.{Stripping}
+use Rattle.rs_policy.specs.declared.rules.Stripping.TheVariants.{Named, All}
+use Rattle.rs_policy.specs.declared.rules.Action.{Action}
+use Rattle.rs_policy.specs.declared.rules.Action.TheVariants as A
+use Rattle.rs_policy.specs.declared.rules.Rule.{Rule}
+use Rattle.rs_policy.specs.declared.rules.Tests.{Tests}
+
+-- `prefix`, and the lengths of `min` and `max`, which stand only beside it
+
+abbrev pub prefix_at : Place → Data → Result (Option Prefix) ConfigFault
+prefix_at place d = maybe_at (text_as prefix_of) place K.Prefix d
+
+abbrev pub length_of : Option Prefix → ℕ
+length_of None = 0
+length_of (Some p) = p.len
+
+abbrev pub lengths_from : Option Prefix → ℕ → Data → Option ℕ
+lengths_from None low = nothing
+lengths_from (Some p) low = integer_in low 32
+
+abbrev pub min_at : Option Prefix → Place → Data → Result ℕ ConfigFault
+min_at p place d = optional_at (lengths_from p (length_of p)) (length_of p) place K.Min d
+
+abbrev pub max_at : Option Prefix → ℕ → Place → Data → Result ℕ ConfigFault
+max_at p min place d = optional_at (lengths_from p min) min place K.Max d
+
+abbrev pub range_with : Option Prefix → ℕ → ℕ → Option Range
+range_with None min max = None
+range_with (Some p) min max = Some (record { prefix = p; min = min; max = max })
+
+abbrev pub prefix_in : Place → Data → Option Prefix
+prefix_in place d = value_in None (prefix_at place d)
+
+abbrev pub min_in : Place → Data → ℕ
+min_in place d = value_in 0 (min_at (prefix_in place d) place d)
+
+abbrev pub max_in : Place → Data → ℕ
+max_in place d = value_in 0 (max_at (prefix_in place d) (min_in place d) place d)
+
+unfoldable pub range_checks : Place → Data → List (Option ConfigFault)
+range_checks place d =
+    fault_in (prefix_at place d)
+    ∷ fault_in (min_at (prefix_in place d) place d)
+    ∷ fault_in (max_at (prefix_in place d) (min_in place d) place d)
+    ∷ []
+
+unfoldable pub range_of : Place → Data → Option Range
+range_of place d = range_with (prefix_in place d) (min_in place d) (max_in place d)
+
+-- the tests that look at the sender and the attributes
+
+-- the place of the client with this name, from 0
+abbrev pub client_named : List Client → List ℕ → Option ℕ
+client_named clients name = position (λ c. bytes_eq c.name name) clients
+
+abbrev pub from_at : List Client → Place → Data → Result (Option ℕ) ConfigFault
+from_at clients place d = maybe_at (text_as (client_named clients)) place K.From d
+
+abbrev pub path_has_at : Place → Data → Result (Option ℕ) ConfigFault
+path_has_at place d = maybe_at positive place K.PathHas d
+
+abbrev pub origin_as_at : Place → Data → Result (Option ℕ) ConfigFault
+origin_as_at place d = maybe_at positive place K.OriginAs d
+
+abbrev pub community_at : Place → Data → Result (Option ℕ) ConfigFault
+community_at place d = maybe_at (text_as community_of) place K.Community d
+
+abbrev pub next_hop_is_peer_at : Place → Data → Result (Option Bool) ConfigFault
+next_hop_is_peer_at place d = maybe_at as_bool place K.NextHopIsPeer d
+
+-- `action`, and `preference` and `strip`, which stand only beside "pass"
+
+abbrev pub choice_at : Place → Data → Result Choice ConfigFault
+choice_at place d = required_at (text_as choice_of) place K.Action d
+
+abbrev pub preferences : Choice → Data → Option ℕ
+preferences C.Pass = integer_in 0 4294967295
+preferences C.Drop = nothing
+
+abbrev pub preference_at : Choice → Place → Data → Result (Option ℕ) ConfigFault
+preference_at choice place d = maybe_at (preferences choice) place K.Preference d
+
+-- communities, where each is one
+abbrev pub communities_of : List Data → Option (List ℕ)
+communities_of [] = Some []
+communities_of (d ∷ ds) = option_and_then (λ n. option_map (λ ns. n ∷ ns) (communities_of ds)) (text_as community_of d)
+
+-- the array or the text that a value is
+abbrev pub stripping_from : Option (List Data) → Option (List ℕ) → Option Stripping
+stripping_from (Some ds) text = option_map Named (communities_of ds)
+stripping_from None (Some text) = if bytes_eq text (codes "all") then Some All else None
+stripping_from None None = None
+
+abbrev pub stripping_of : Data → Option Stripping
+stripping_of d = stripping_from (option_map list_of (as_array d)) (as_str d)
+
+abbrev pub strippings : Choice → Data → Option Stripping
+strippings C.Pass = stripping_of
+strippings C.Drop = nothing
+
+abbrev pub is_longer : ℕ → Option (List Data) → Bool
+is_longer most None = false
+is_longer most (Some ds) = nat_lt most (length ds)
+
+abbrev pub strip_found : Choice → Place → Option Data → Result Stripping ConfigFault
+strip_found choice place None = Ok (Named [])
+strip_found choice place (Some d) = if is_longer 64 (option_map list_of (as_array d)) then Err (TooMany place) else read_or_bad place (strippings choice d)
+
+unfoldable pub strip_at : Choice → Place → Data → Result Stripping ConfigFault
+strip_at choice place d = strip_found choice (keyed place K.Strip) (get (key_text K.Strip) d)
+
+abbrev pub choice_in : Place → Data → Choice
+choice_in place d = value_in C.Drop (choice_at place d)
+
+unfoldable pub action_checks : Place → Data → List (Option ConfigFault)
+action_checks place d =
+    fault_in (choice_at place d)
+    ∷ fault_in (preference_at (choice_in place d) place d)
+    ∷ fault_in (strip_at (choice_in place d) place d)
+    ∷ []
+
+abbrev pub action_with : Choice → Option ℕ → Stripping → Action
+action_with C.Drop preference strip = A.Drop
+action_with C.Pass preference strip = A.Pass preference strip
+
+unfoldable pub action_of : Place → Data → Action
+action_of place d = action_with (choice_in place d) (value_in None (preference_at (choice_in place d) place d)) (value_in (Named []) (strip_at (choice_in place d) place d))
+
+-- the rule
+
+unfoldable pub test_checks : List Client → Place → Data → List (Option ConfigFault)
+test_checks clients place d =
+    fault_in (from_at clients place d)
+    ∷ fault_in (path_has_at place d)
+    ∷ fault_in (origin_as_at place d)
+    ∷ fault_in (community_at place d)
+    ∷ fault_in (next_hop_is_peer_at place d)
+    ∷ []
+
+abbrev pub rule_checks : List Client → Place → Data → List (Option ConfigFault)
+rule_checks clients place d = range_checks place d ++ (test_checks clients place d ++ (action_checks place d ++ fault_in (stranger rule_keys place d) ∷ []))
+
+unfoldable pub tests_of : List Client → Place → Data → Tests
+tests_of clients place d = record {
+  from = value_in None (from_at clients place d);
+  path_has = value_in None (path_has_at place d);
+  origin_as = value_in None (origin_as_at place d);
+  community = value_in None (community_at place d);
+  next_hop_is_peer = value_in None (next_hop_is_peer_at place d);
+}
+
+abbrev pub rule_of : List Client → Place → Data → Rule
+rule_of clients place d = record { range = range_of place d; tests = tests_of clients place d; action = action_of place d }

@@ -1,0 +1,42 @@
+-- What a configuration says.
+use Rattle.std.specs.Prelude.{ℕ, Bool, List, [], ◌∷◌, slice_index_or, length, ◌<◌, ◌≤◌, ◌≡◌, Option, None}
+use Rattle.rs_policy.specs.declared.rules.Rule.{Rule}
+use Rattle.rs_policy.specs.declared.top.Top.{Top}
+
+-- a client; an address is a number of 32 bits
+pub record Client : Type 0 where
+  pub name : List ℕ
+  pub client_as : ℕ
+  pub listen : ℕ × ℕ
+  pub peer : ℕ
+  pub limit : Option ℕ
+
+-- the rules for the routes that a client sends, and for those that it is sent
+pub record Policy : Type 0 where
+  pub import : List Rule
+  pub export : List Rule
+
+-- clients and policies stand in the order of the configuration
+pub record Settings : Type 0 where
+  pub top : Top
+  pub clients : List Client
+  pub policies : List Policy
+
+-- there is a client, and each has a policy
+pub record IsWhole (s : Settings) : Type 0 where
+  pub some : 0 < length s.clients
+  pub few : length s.clients ≤ 512
+  pub policies : length s.policies ≡ length s.clients
+
+abbrev pub no_client : Client
+no_client = record { name = []; client_as = 0; listen = (0, 0); peer = 0; limit = None }
+
+-- client number c, from 0
+abbrev pub client_of : Settings → ℕ → Client
+client_of s c = slice_index_or s.clients c no_client
+
+abbrev pub no_policy : Policy
+no_policy = record { import = []; export = [] }
+
+abbrev pub policy_of : Settings → ℕ → Policy
+policy_of s c = slice_index_or s.policies c no_policy

@@ -1,0 +1,163 @@
+-- The value at a key of a table: how it is read, and what is wrong with it.
+use Rattle.std.specs.Prelude.{ℕ, ◌+◌, ◌++◌, ◌==◌, Bool, true, false, ◌&&◌, ◌||◌, ℤ, pos, int_le, nat_abs, nat_lt, List, [], ◌∷◌, length, codes, bytes_eq, Option, Some, None, Result, Ok, Err, option_map, option_and_then, ok_or, is_some, if◌then◌else◌}
+use Rattle.std.specs.List.{list_all}
+use Rattle.toml.specs.Data.{Data, Items, Members, no_items, item, no_members, member, table, get, as_integer, as_str, as_bool, as_array, as_table}
+use Rattle.rs_octets.specs.Prefixes.{Prefix}
+use Rattle.rs_policy.specs.Keys.{key_text, is_among}
+use Rattle.rs_policy.specs.Texts.{address_of, endpoint_of, prefix_of, community_of, is_name, no_zero}
+use Rattle.rs_policy.specs.declared.faults.Key.{Key}
+use Rattle.rs_policy.specs.declared.faults.Key.TheVariants as K
+use Rattle.rs_policy.specs.declared.faults.Place.{Place}
+use Rattle.rs_policy.specs.declared.faults.ConfigFault.{ConfigFault}
+use Rattle.rs_policy.specs.declared.faults.ConfigFault.TheVariants.{Missing, BadValue, TooMany}
+use Rattle.rs_policy.specs.declared.rules.Choice.{Choice}
+use Rattle.rs_policy.specs.declared.rules.Choice.TheVariants.{Pass, Drop}
+
+-- what a value of each kind is, and None for a value of another kind or out of its range
+
+abbrev pub between : ℕ → ℕ → ℤ → Option ℕ
+between low high z = if int_le (pos low) z && int_le z (pos high) then Some (nat_abs z) else None
+
+abbrev pub integer_in : ℕ → ℕ → Data → Option ℕ
+integer_in low high d = option_and_then (between low high) (as_integer d)
+
+-- AS numbers (RFC 6793; 0 is reserved by RFC 7607), and limits
+abbrev pub positive : Data → Option ℕ
+positive = integer_in 1 4294967295
+
+-- seconds: 0, or from 3 on (RFC 4271, 4.2)
+abbrev pub hold_time : Data → Option ℕ
+hold_time d = option_and_then (λ n. if n == 1 || n == 2 then None else Some n) (integer_in 0 65535 d)
+
+abbrev pub text_as : {A : Type 0} → (List ℕ → Option A) → Data → Option A
+text_as reads d = option_and_then reads (as_str d)
+
+abbrev pub address : Data → Option ℕ
+address = text_as address_of
+
+-- a BGP Identifier (RFC 4271, 4.2)
+abbrev pub identifier : Data → Option ℕ
+identifier d = option_and_then no_zero (address d)
+
+abbrev pub choice_of : List ℕ → Option Choice
+choice_of text = if bytes_eq text (codes "pass") then Some Pass else (if bytes_eq text (codes "drop") then Some Drop else None)
+
+abbrev pub name_of : List ℕ → Option (List ℕ)
+name_of text = if is_name text then Some text else None
+
+-- no value is right
+abbrev pub nothing : {A : Type 0} → Data → Option A
+nothing d = None
+
+-- what is at a key
+
+abbrev pub keyed : Place → Key → Place
+keyed place k = record place { key = k }
+
+abbrev pub read_or_bad : {A : Type 0} → Place → Option A → Result A ConfigFault
+read_or_bad place o = ok_or o (BadValue place)
+
+abbrev pub required : {A : Type 0} → (Data → Option A) → Place → Option Data → Result A ConfigFault
+required reads place None = Err (Missing place)
+required reads place (Some d) = read_or_bad place (reads d)
+
+abbrev pub optional : {A : Type 0} → (Data → Option A) → A → Place → Option Data → Result A ConfigFault
+optional reads other place None = Ok other
+optional reads other place (Some d) = read_or_bad place (reads d)
+
+-- a key that has to be there
+unfoldable pub required_at : {A : Type 0} → (Data → Option A) → Place → Key → Data → Result A ConfigFault
+required_at reads place k d = required reads (keyed place k) (get (key_text k) d)
+
+-- a key that may be left out, and what it is then
+unfoldable pub optional_at : {A : Type 0} → (Data → Option A) → A → Place → Key → Data → Result A ConfigFault
+optional_at reads other place k d = optional reads other (keyed place k) (get (key_text k) d)
+
+-- a key that may be left out and is nothing then
+abbrev pub maybe_at : {A : Type 0} → (Data → Option A) → Place → Key → Data → Result (Option A) ConfigFault
+maybe_at reads place k d = optional_at (λ v. option_map Some (reads v)) None place k d
+
+-- arrays of tables
+
+abbrev pub list_of : Items → List Data
+list_of no_items = []
+list_of (item d ds) = d ∷ list_of ds
+
+abbrev pub is_table : Data → Bool
+is_table d = is_some (as_table d)
+
+-- an array that is too long is that first, whatever it holds
+abbrev pub tables_of : ℕ → Place → Option (List Data) → Result (List Data) ConfigFault
+tables_of most place None = Err (BadValue place)
+tables_of most place (Some ds) = if nat_lt most (length ds) then Err (TooMany place) else (if list_all is_table ds then Ok ds else Err (BadValue place))
+
+abbrev pub tables_in : ℕ → Place → Data → Result (List Data) ConfigFault
+tables_in most place d = tables_of most place (option_map list_of (as_array d))
+
+abbrev pub optional_tables : ℕ → Place → Option Data → Result (List Data) ConfigFault
+optional_tables most place None = Ok []
+optional_tables most place (Some d) = tables_in most place d
+
+unfoldable pub tables_at : ℕ → Place → Key → Data → Result (List Data) ConfigFault
+tables_at most place k d = optional_tables most (keyed place k) (get (key_text k) d)
+
+-- such an array that has to be there, and has a table
+abbrev pub some_tables : Place → Result (List Data) ConfigFault → Result (List Data) ConfigFault
+some_tables place (Ok []) = Err (Missing place)
+some_tables place r = r
+
+unfoldable pub some_tables_at : ℕ → Place → Key → Data → Result (List Data) ConfigFault
+some_tables_at most place k d = some_tables (keyed place k) (tables_at most place k d)
+
+-- keys that a table hasn't
+
+abbrev pub are_among : List Key → Members → Bool
+are_among keys no_members = true
+are_among keys (member k d ms) = is_among keys k && are_among keys ms
+
+abbrev pub only_among : List Key → Option Members → Bool
+only_among keys None = true
+only_among keys (Some ms) = are_among keys ms
+
+unfoldable pub has_only : List Key → Data → Bool
+has_only keys d = only_among keys (as_table d)
+
+-- checks
+
+-- the fault of what was read, where it is one
+abbrev pub fault_in : {A : Type 0} → Result A ConfigFault → Option ConfigFault
+fault_in (Ok a) = None
+fault_in (Err f) = Some f
+
+-- what was read, or this where there was a fault
+abbrev pub value_in : {A : Type 0} → A → Result A ConfigFault → A
+value_in other (Ok a) = a
+value_in other (Err f) = other
+
+-- an unknown key
+abbrev pub stranger : List Key → Place → Data → Result (Unit {0}) ConfigFault
+stranger keys place d = if has_only keys d then Ok tt else Err (BadValue (keyed place K.Other))
+
+-- the first check that fails
+abbrev pub first_fault : List (Option ConfigFault) → Option ConfigFault
+first_fault [] = None
+first_fault (None ∷ rest) = first_fault rest
+first_fault (Some f ∷ rest) = Some f
+
+abbrev pub or_fault : {A : Type 0} → A → Option ConfigFault → Result A ConfigFault
+or_fault a None = Ok a
+or_fault a (Some f) = Err f
+
+-- the first fault, or the value where no check fails
+unfoldable pub answer : {A : Type 0} → List (Option ConfigFault) → A → Result A ConfigFault
+answer checks a = or_fault a (first_fault checks)
+
+-- what each of some tables is, counted from n
+unfoldable pub each_from : {A : Type 0} → (ℕ → Data → A) → ℕ → List Data → List A
+each_from f n [] = []
+each_from f n (d ∷ ds) = f n d ∷ each_from f (n + 1) ds
+
+-- the checks of each
+unfoldable pub checks_from : (ℕ → Data → List (Option ConfigFault)) → ℕ → List Data → List (Option ConfigFault)
+checks_from g n [] = []
+checks_from g n (d ∷ ds) = g n d ++ checks_from g (n + 1) ds

@@ -1,0 +1,97 @@
+-- Which routes a rule matches, and what the rules make of a route.
+use Rattle.std.specs.Prelude.{ℕ, ◌-◌, ◌/◌, ◌^◌, ◌==◌, Bool, true, false, not, ◌&&◌, ◌||◌, nat_le, List, [], ◌∷◌, find, Option, Some, None, option_map, unwrap_or, if◌then◌else◌}
+use Rattle.rs_octets.specs.Prefixes.{Prefix}
+use Rattle.rs_attrs.specs.Meaning.{Attribute}
+use Rattle.rs_attrs.specs.Getters.{path_has_of, origin_as_of, has_community, next_hop_of}
+use Rattle.rs_policy.specs.Settings.{Settings, client_of, policy_of}
+use Rattle.rs_policy.specs.declared.rules.Choice.{Choice}
+use Rattle.rs_policy.specs.declared.rules.Choice.TheVariants as C
+use Rattle.rs_policy.specs.declared.rules.Range.{Range}
+use Rattle.rs_policy.specs.declared.rules.Stripping.{Stripping}
+use Rattle.rs_policy.specs.declared.rules.Stripping.TheVariants.{Named, All}
+use Rattle.rs_policy.specs.declared.rules.Action.{Action}
+use Rattle.rs_policy.specs.declared.rules.Action.TheVariants as A
+use Rattle.rs_policy.specs.declared.rules.Rule.{Rule}
+
+-- a route as its sender announced it: the sender's place and address, the prefix and the attributes
+pub record Route : Type 0 where
+  pub from : ℕ
+  pub peer : ℕ
+  pub prefix : Prefix
+  pub attributes : List Attribute
+
+-- the first bits of an address
+abbrev pub front : ℕ → ℕ → ℕ
+front len bits = bits / 2 ^ (32 - len)
+
+-- a prefix lies within another: it is no shorter, and begins with the other's bits
+abbrev pub is_within : Prefix → Prefix → Bool
+is_within p outer = nat_le outer.len p.len && front outer.len p.bits == front outer.len outer.bits
+
+abbrev pub in_range : Range → Prefix → Bool
+in_range r p = is_within p r.prefix && (nat_le r.min p.len && nat_le p.len r.max)
+
+-- the route's NEXT_HOP is its sender's address
+abbrev pub next_hop_is_peer : Route → Bool
+next_hop_is_peer r = unwrap_or (option_map (λ a. a == r.peer) (next_hop_of r.attributes)) false
+
+abbrev pub origin_as_is : ℕ → Route → Bool
+origin_as_is n r = unwrap_or (option_map (λ o. o == n) (origin_as_of r.attributes)) false
+
+-- a test that isn't there holds
+abbrev pub holds : {A : Type 0} → (A → Bool) → Option A → Bool
+holds test None = true
+holds test (Some a) = test a
+
+-- all tests of a rule hold, those that walk the attributes last
+unfoldable pub matches : Rule → Route → Bool
+matches rule r =
+    holds (λ range. in_range range r.prefix) rule.range
+    && (holds (λ c. c == r.from) rule.tests.from
+    && (holds (λ b. if b then next_hop_is_peer r else not (next_hop_is_peer r)) rule.tests.next_hop_is_peer
+    && (holds (λ n. has_community n r.attributes) rule.tests.community
+    && (holds (λ n. origin_as_is n r) rule.tests.origin_as
+    && holds (λ n. path_has_of n r.attributes) rule.tests.path_has))))
+
+-- how a list passes a route: the preference, if it gives one, and the communities that are taken away
+pub record Passing : Type 0 where
+  pub preference : Option ℕ
+  pub communities : List ℕ
+  pub all : Bool
+
+abbrev pub passing : Action → Option Passing
+passing A.Drop = None
+passing (A.Pass preference (Named communities)) = Some (record { preference = preference; communities = communities; all = false })
+passing (A.Pass preference All) = Some (record { preference = preference; communities = []; all = true })
+
+abbrev pub passing_by_default : Choice → Option Passing
+passing_by_default C.Drop = None
+passing_by_default C.Pass = Some (record { preference = None; communities = []; all = false })
+
+abbrev pub passing_by : Choice → Option Rule → Option Passing
+passing_by default None = passing_by_default default
+passing_by default (Some rule) = passing rule.action
+
+-- the first rule that matches decides, and the default where none does
+unfoldable pub outcome : Choice → List Rule → Route → Option Passing
+outcome default rules r = passing_by default (find (λ rule. matches rule r) rules)
+
+-- what becomes of a route
+pub data Judgement : Type 0 where
+  dropped : Judgement
+  passed : ℕ → List (List ℕ) → Bool → Judgement
+
+-- both lists pass it; the receiver's preference goes before the sender's, and 100 is where there is none
+abbrev pub joined : Option Passing → Option Passing → Judgement
+joined (Some import) (Some export) =
+    passed (unwrap_or export.preference (unwrap_or import.preference 100)) (import.communities ∷ export.communities ∷ []) (import.all || export.all)
+joined _ _ = dropped
+
+abbrev pub route_of : Settings → ℕ → Prefix → List Attribute → Route
+route_of s from p m = record { from = from; peer = (client_of s from).peer; prefix = p; attributes = m }
+
+-- by the sender's import list and the receiver's export list, both over the attributes as they were received (RFC 7947, 2.3)
+unfoldable pub verdict : Settings → ℕ → ℕ → Prefix → List Attribute → Judgement
+verdict s from to p m =
+    let r = route_of s from p m in
+    joined (outcome s.top.default (policy_of s from).import r) (outcome s.top.default (policy_of s to).export r)

@@ -1,0 +1,191 @@
+//! The configuration of a route server.
+
+ghost use Rattle.std.specs.Prelude.{◌≡◌, ◌≢◌, ◌<◌, length, IfOk, IfErr};
+ghost use Rattle.toml.specs.Data.{table};
+ghost use Rattle.toml.specs.View.{view};
+ghost use Rattle.toml.specs.Parse.{parse_document};
+ghost use Rattle.rs_policy.specs.Values.{answer};
+ghost use Rattle.rs_policy.specs.Settings.{client_of, policy_of, IsWhole};
+ghost use Rattle.rs_policy.specs.Documents.{document_checks, settings_of, config_of};
+
+use crate::clients::{Client, read_clients};
+use crate::faults::ConfigFault;
+use crate::policies::{Policy, read_policies};
+use crate::rules::Choice;
+use crate::top::{Top, client_tables, refuse_other_keys};
+use std::alloc::Global;
+use std::marker::Model;
+use toml::value::Value;
+
+/// What a route server is configured to do. Clients are numbered from 0 in the order of the configuration.
+#[derive(Debug, Drop)]
+pub struct Config {
+    top: Top,
+    clients: Vec<Client>,
+    policies: Vec<Policy>,
+}
+
+impl Model for Config {
+    ghost use Rattle.rs_policy.specs.Settings.{Settings};
+
+    ghost Value = { Settings };
+
+    ghost use Rattle.rs_policy.specs.Settings.{IsWhole};
+
+    ghost view = { λ c. record { top = c.top; clients = c.clients.items; policies = c.policies.items } };
+
+    ghost invariant = { λ c. IsWhole (record { top = c.top; clients = c.clients.items; policies = c.policies.items }) };
+}
+
+impl Config {
+    /// Reads a configuration in TOML, or answers its first fault.
+    #[tactic(auto, unfolding(crate::specs::Documents::config_of))]
+    pub fn read(alloc: Global, text: &str) -> Result<Config, ConfigFault>
+        ensures ok { IfOk result (λ c. config_of text.now ≡ Ok c) }
+        ensures fault { IfErr result (λ e. e ≢ ConfigFault.OutOfMemory → config_of text.now ≡ Err e) }
+    {
+        match toml::table_from_str(alloc, text) {
+            Ok(table) => Config::from_document(alloc, &Value::Table(table)),
+            Err(error) if error.is_memory() => Err(ConfigFault::OutOfMemory),
+            Err(_) => Err(ConfigFault::Syntax),
+        }
+    }
+
+    fn from_document(alloc: Global, document: &Value) -> Result<Config, ConfigFault>
+        ensures ok { IfOk result (λ c. answer (document_checks (view document.now)) (settings_of (view document.now)) ≡ Ok c) }
+        ensures fault { IfErr result (λ e. e ≢ ConfigFault.OutOfMemory → answer (document_checks (view document.now)) (settings_of (view document.now)) ≡ Err e) }
+    {
+        let top = Top::read(document)?;
+        let tables = client_tables(document)?;
+        refuse_other_keys(document)?;
+        let clients = read_clients(alloc, tables)?;
+        let policies = read_policies(alloc, tables, &clients)?;
+        Ok(Config {
+            top,
+            clients,
+            policies,
+        })
+    }
+
+    /// The server's AS number.
+    pub fn server_as(&self) -> u32
+        ensures { result ≡ self.now.top.server_as }
+    {
+        self.top.server_as
+    }
+
+    /// The server's BGP Identifier.
+    pub fn identifier(&self) -> u32
+        ensures { result ≡ self.now.top.identifier }
+    {
+        self.top.identifier
+    }
+
+    /// The server's Hold Time in seconds.
+    pub fn hold(&self) -> u16
+        ensures { result ≡ self.now.top.hold }
+    {
+        self.top.hold
+    }
+
+    /// Whether messages may have up to 65,535 octets (RFC 8654).
+    pub fn extended(&self) -> bool
+        ensures { result ≡ self.now.top.extended }
+    {
+        self.top.extended
+    }
+
+    /// Whether ROUTE-REFRESH is understood (RFC 2918).
+    pub fn refresh(&self) -> bool
+        ensures { result ≡ self.now.top.refresh }
+    {
+        self.top.refresh
+    }
+
+    /// Whether the server's OPEN has the capability for IPv4 unicast (RFC 4760).
+    pub fn multiprotocol(&self) -> bool
+        ensures { result ≡ self.now.top.multiprotocol }
+    {
+        self.top.multiprotocol
+    }
+
+    /// How many clients there are: 1 to 512.
+    pub fn clients(&self) -> usize
+        ensures count { result ≡ length self.now.clients }
+        ensures whole { IsWhole self.now }
+    {
+        self.clients.len()
+    }
+
+    /// The name of a client.
+    pub fn name(&self, c: usize) -> &str
+        requires { c < length self.now.clients }
+        ensures { result.now ≡ (client_of self.now c).name }
+    {
+        let client = &self.clients[c];
+        client.name.as_str()
+    }
+
+    /// The AS number of a client.
+    pub fn client_as(&self, c: usize) -> u32
+        requires { c < length self.now.clients }
+        ensures { result ≡ (client_of self.now c).client_as }
+    {
+        let client = &self.clients[c];
+        client.client_as
+    }
+
+    /// The address and the port at which the server listens for a client.
+    pub fn listen(&self, c: usize) -> (u32, u16)
+        requires { c < length self.now.clients }
+        ensures { result ≡ (client_of self.now c).listen }
+    {
+        let client = &self.clients[c];
+        client.listen
+    }
+
+    /// The address that a client connects from.
+    pub fn peer(&self, c: usize) -> u32
+        requires { c < length self.now.clients }
+        ensures { result ≡ (client_of self.now c).peer }
+    {
+        let client = &self.clients[c];
+        client.peer
+    }
+
+    /// How many prefixes a client may have announced at once.
+    pub fn limit(&self, c: usize) -> Option<u32>
+        requires { c < length self.now.clients }
+        ensures { result ≡ (client_of self.now c).limit }
+    {
+        let client = &self.clients[c];
+        client.limit
+    }
+
+    /// What becomes of routes that no rule of a list matches.
+    pub(crate) fn default(&self) -> Choice
+        ensures { result ≡ self.now.top.default }
+    {
+        self.top.default
+    }
+
+    /// The rules of a client.
+    pub(crate) fn policy(&self, c: usize) -> &Policy
+        requires { c < length self.now.clients }
+        ensures { result.now ≡ policy_of self.now c }
+    {
+        &self.policies[c]
+    }
+
+    pub(crate) fn top(&self) -> &Top
+        ensures { result.now ≡ self.now.top }
+    {
+        &self.top
+    }
+
+    pub(crate) fn all_clients(&self) -> &[Client]
+        ensures { result.now ≡ self.now.clients }
+    {
+        &self.clients
+    }
+}

@@ -1,0 +1,129 @@
+//! A line of text with a place in a configuration.
+
+ghost use Rattle.std.specs.Prelude.{◌≡◌, ◌+◌, ◌≤◌, ◌^◌, ◌<◌, length, decimal, ◌++◌};
+ghost use Rattle.rs_policy.specs.FaultTexts.{client_text, rule_text, table_text, place_text};
+
+use crate::faults::{List, Place};
+use std::fmt;
+use std::marker::Model;
+
+/// Up to 96 octets of text.
+#[derive(Drop)]
+pub(crate) struct Line {
+    octets: [u8; 96],
+    len: usize,
+}
+
+impl Model for Line {
+    ghost use Rattle.std.specs.Prelude.{List, ℕ, take, ◌≤◌};
+
+    ghost Value = { List ℕ };
+
+    ghost view = { λ l. take l.len l.octets };
+
+    ghost invariant = { λ l. l.len ≤ 96 };
+}
+
+impl Line {
+    pub(crate) fn of(text: &[u8]) -> Line
+        requires { length text.now ≤ 96 }
+        ensures { result ≡ text.now }
+    {
+        let mut octets = [0; 96];
+        octets[..text.len()].copy_from_slice(text);
+        Line {
+            octets,
+            len: text.len(),
+        }
+    }
+
+    pub(crate) fn octets(&self) -> &[u8]
+        ensures text { result.now ≡ self.now }
+        ensures short { length self.now ≤ 96 }
+    {
+        &self.octets[..self.len]
+    }
+
+    fn with(mut self, text: &[u8]) -> Line
+        requires { length self + length text.now ≤ 96 }
+        ensures { result ≡ self ++ text.now }
+    {
+        let start = self.len;
+        let end = start + text.len();
+        self.octets[start..end].copy_from_slice(text);
+        self.len = end;
+        self
+    }
+
+    fn with_digits(self, number: usize) -> Line
+        requires { length self + length (decimal number) ≤ 96 }
+        ensures { result ≡ self ++ decimal number }
+    {
+        let last = b'0' + (number % 10) as u8;
+        if number < 10 {
+            return self.with(&[last]);
+        }
+        self.with_digits(number / 10).with(&[last])
+    }
+
+    fn with_number(self, number: usize) -> Line
+        requires { length self ≤ 76 }
+        ensures text { result ≡ self ++ decimal number }
+        ensures short { length result ≤ length self + 20 }
+    {
+        self.with_digits(number)
+    }
+
+    pub(crate) fn with_client(self, client: usize) -> Line
+        requires { length self ≤ 20 }
+        ensures text { result ≡ self ++ client_text client }
+        ensures short { length result ≤ length self + 27 }
+    {
+        self.with(b"client ").with_number(client)
+    }
+
+    fn with_rule(self, list: List, rule: usize) -> Line
+        requires { length self ≤ 40 }
+        ensures text { result ≡ self ++ rule_text list rule }
+        ensures short { length result ≤ length self + 28 }
+    {
+        let name = match list {
+            List::Import => b" import ",
+            List::Export => b" export ",
+        };
+        self.with(name).with_number(rule)
+    }
+
+    /// The table of a place.
+    fn with_table(self, place: &Place) -> Line
+        requires { length self ≤ 10 }
+        ensures text { result ≡ self ++ table_text place.now.client place.now.list place.now.rule }
+        ensures short { length result ≤ length self + 56 }
+    {
+        let Some(client) = place.client else {
+            return self;
+        };
+        let front = self.with_client(client);
+        match (place.list, place.rule) {
+            (Some(list), Some(rule)) => front.with_rule(list, rule).with(b" "),
+            _ => front.with(b" "),
+        }
+    }
+
+    #[tactic(auto, using(crate::proofs::Decimals::key_text_short), unfolding(crate::specs::FaultTexts::place_text))]
+    pub(crate) fn with_place(self, place: &Place) -> Line
+        requires { length self ≤ 10 }
+        ensures { result ≡ self ++ place_text place.now }
+    {
+        self.with_table(place).with(place.key.text().as_bytes())
+    }
+}
+
+impl fmt::Display for Line {
+    fn fmt<W: fmt::Write>(&self, f: &mut fmt::Formatter<W>) -> fmt::Result {
+        match str::from_utf8(self.octets()) {
+            Ok(text) => f.write_str(text),
+            Err(_) => Err(fmt::Error),
+        }
+    }
+}

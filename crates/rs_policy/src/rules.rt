@@ -1,0 +1,82 @@
+//! Rules as values.
+
+ghost use Rattle.std.specs.Prelude.{◌≡◌};
+
+use rs_octets::Prefix;
+use std::marker::Model;
+
+/// Whether a route is passed on.
+#[derive(Clone, Copy, Debug, PartialEq, Eq)]
+pub(crate) enum Choice {
+    Pass,
+    Drop,
+}
+
+/// Communities (RFC 1997).
+#[derive(Debug, Drop)]
+pub(crate) struct Communities {
+    numbers: Vec<u32>,
+}
+
+impl Model for Communities {
+    ghost use Rattle.std.specs.Prelude.{List, ℕ};
+
+    ghost Value = { List ℕ };
+
+    ghost view = { λ c. c.numbers.items };
+}
+
+impl Communities {
+    pub(crate) fn of(numbers: Vec<u32>) -> Communities
+        ensures { result ≡ numbers.items }
+    {
+        Communities { numbers }
+    }
+
+    pub(crate) fn numbers(&self) -> &[u32]
+        ensures { result.now ≡ self.now }
+    {
+        &self.numbers
+    }
+}
+
+/// Which communities a rule takes away.
+#[derive(Debug, Drop)]
+pub(crate) enum Stripping {
+    Named(Communities),
+    All,
+}
+
+/// What a rule does with a route that it matches.
+#[derive(Debug, Drop)]
+pub(crate) enum Action {
+    Drop,
+    Pass(Option<u32>, Stripping),
+}
+
+/// The routes within a prefix whose lengths are from `min` to `max`.
+#[derive(Clone, Copy, Debug, PartialEq, Eq)]
+pub(crate) struct Range {
+    pub(crate) prefix: Prefix,
+    pub(crate) min: u8,
+    pub(crate) max: u8,
+}
+
+/// What a rule asks of the sender and the attributes of a route.
+#[derive(Clone, Copy, Debug, PartialEq, Eq)]
+pub(crate) struct Tests {
+    /// The place of the sender, from 0.
+    pub(crate) from: Option<usize>,
+    pub(crate) path_has: Option<u32>,
+    pub(crate) origin_as: Option<u32>,
+    pub(crate) community: Option<u32>,
+    pub(crate) next_hop_is_peer: Option<bool>,
+}
+
+/// A rule: it matches the routes of its range where all of its tests hold.
+#[derive(Debug, Drop)]
+pub(crate) struct Rule {
+    pub(crate) range: Option<Range>,
+    pub(crate) tests: Tests,
+    pub(crate) action: Action,
+}

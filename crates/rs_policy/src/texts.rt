@@ -1,0 +1,138 @@
+//! How the texts of a configuration are read.
+
+ghost use Rattle.std.specs.Prelude.{◌≡◌, ◌<◌, ◌^◌, ◌≤◌, option_map, position, ◌==◌, IfSome};
+ghost use Rattle.std.specs.List.{list_all};
+ghost use Rattle.rs_policy.specs.Texts.{number_to, is_digit, is_decimal, parted, octet, address_of, endpoint_of, prefix_of, community_of, is_name_octet, is_name};
+
+use rs_octets::Prefix;
+
+fn are_digits(text: &[u8]) -> bool
+    ensures { result ≡ list_all is_digit text.now }
+{
+    text.iter().all(|octet| octet.is_ascii_digit())
+}
+
+fn is_decimal(text: &[u8]) -> bool
+    ensures { result ≡ is_decimal text.now }
+{
+    if text.is_empty() || !are_digits(text) {
+        return false;
+    }
+    text.len() <= 1 || text[0] != b'0'
+}
+
+/// The decimal number that a text is, up to the highest.
+#[tactic(auto, unfolding(crate::specs::Texts::number_to))]
+fn number(text: &[u8], high: u16) -> Option<u16>
+    ensures value { result ≡ number_to high text.now }
+    ensures high { IfSome result (λ n. n ≤ high) }
+{
+    if !is_decimal(text) {
+        return None;
+    }
+    let mut value: u32 = 0;
+    for octet in text {
+        value = 10 * value + u32::from(*octet - b'0');
+        if value > u32::from(high) {
+            return None;
+        }
+    }
+    Some(value as u16)
+}
+
+fn place_of(text: &[u8], mark: u8) -> Option<usize>
+    ensures { result ≡ position (λ c. c == mark) text.now }
+{
+    text.iter().position(|octet| *octet == mark)
+}
+
+/// The octets before the first such one, and those behind it.
+#[tactic(auto, unfolding(crate::specs::Texts::parted))]
+fn parted(text: &[u8], mark: u8) -> Option<(&[u8], &[u8])>
+    ensures { option_map (λ p. (p.0.now, p.1.now)) result ≡ parted mark text.now }
+{
+    match place_of(text, mark) {
+        None => None,
+        Some(at) => Some((&text[..at], &text[at + 1..])),
+    }
+}
+
+fn octet(text: &[u8]) -> Option<u8>
+    ensures { result ≡ octet text.now }
+{
+    match number(text, 255) {
+        None => None,
+        Some(value) => Some(value as u8),
+    }
+}
+
+/// Four numbers with points between, as 32 bits.
+#[tactic(auto, unfolding(crate::specs::Texts::address_of))]
+pub(crate) fn address(text: &[u8]) -> Option<u32>
+    ensures { result ≡ address_of text.now }
+{
+    let (a, rest) = parted(text, b'.')?;
+    let a = octet(a)?;
+    let (b, rest) = parted(rest, b'.')?;
+    let b = octet(b)?;
+    let (c, d) = parted(rest, b'.')?;
+    let octets = [a, b, octet(c)?, octet(d)?];
+    Some(u32::from_be_bytes(octets))
+}
+
+/// An address and a port with a colon between.
+#[tactic(auto, unfolding(crate::specs::Texts::endpoint_of))]
+pub(crate) fn endpoint(text: &[u8]) -> Option<(u32, u16)>
+    ensures { result ≡ endpoint_of text.now }
+{
+    let (host, port) = parted(text, b':')?;
+    let host = address(host)?;
+    match number(port, 65535) {
+        None | Some(0) => None,
+        Some(port) => Some((host, port)),
+    }
+}
+
+/// An address and a length with a slash between.
+#[tactic(auto, unfolding(crate::specs::Texts::prefix_of))]
+pub(crate) fn prefix(text: &[u8]) -> Option<Prefix>
+    ensures { result ≡ prefix_of text.now }
+{
+    let (bits, len) = parted(text, b'/')?;
+    let bits = address(bits)?;
+    let len = number(len, 32)?;
+    Prefix::new(bits, len as u8)
+}
+
+/// Two numbers of 16 bits with a colon between (RFC 1997).
+#[tactic(auto, unfolding(crate::specs::Texts::community_of))]
+pub(crate) fn community(text: &[u8]) -> Option<u32>
+    ensures { result ≡ community_of text.now }
+{
+    let (high, low) = parted(text, b':')?;
+    let high = number(high, 65535)?;
+    let low = number(low, 65535)?;
+    Some(65536 * u32::from(high) + u32::from(low))
+}
+
+fn is_name_octet(octet: u8) -> bool
+    ensures { result ≡ is_name_octet octet }
+{
+    matches!(octet, b'a'..=b'z' | b'A'..=b'Z' | b'0'..=b'9' | b'-')
+}
+
+fn are_name_octets(text: &[u8]) -> bool
+    ensures { result ≡ list_all is_name_octet text.now }
+{
+    text.iter().all(|octet| is_name_octet(*octet))
+}
+
+/// Whether a text can be the name of a client.
+pub(crate) fn is_name(text: &[u8]) -> bool
+    ensures { result ≡ is_name text.now }
+{
+    if text.is_empty() || text.len() > 32 {
+        return false;
+    }
+    are_name_octets(text)
+}

@@ -1,0 +1,190 @@
+//! What the rules make of a route.
+
+ghost use Rattle.std.specs.Prelude.{◌≡◌, ◌<◌, ◌≤◌, length, find, option_map};
+ghost use Rattle.rs_policy.specs.Verdicts.{front, in_range, matches, next_hop_is_peer, origin_as_is, passing, passing_by_default, outcome, verdict};
+ghost use Rattle.rs_policy.specs.Judged.{offered, passed_as, judged};
+
+use crate::config::Config;
+use crate::rules::{Action, Choice, Range, Rule, Stripping};
+use rs_attrs::{Attrs, Strip};
+use rs_octets::Prefix;
+
+/// What becomes of a route on its way from one client to another. `S` says which communities it
+/// loses.
+#[derive(Clone, Copy, Debug)]
+pub enum Fate<S> {
+    Drop,
+    /// It is passed on with this preference, without the communities of the strip.
+    Pass { preference: u32, strip: S },
+}
+
+/// What `judge` answers.
+pub type Verdict<'a> = Fate<Strip<'a>>;
+
+/// A route as its sender announced it.
+#[derive(Clone, Copy)]
+struct Offer<'p, 'a> {
+    /// The sender's place, from 0.
+    from: usize,
+    /// The sender's address.
+    peer: u32,
+    prefix: &'p Prefix,
+    attrs: &'a Attrs,
+}
+
+/// How a list of rules passes a route.
+#[derive(Clone, Copy)]
+struct Passed<'a> {
+    preference: Option<u32>,
+    communities: &'a [u32],
+    all: bool,
+}
+
+fn front(len: u8, bits: u32) -> u64
+    requires { len ≤ 32 }
+    ensures { result ≡ front len bits }
+{
+    u64::from(bits) >> (32 - len)
+}
+
+fn is_in_range(range: &Range, prefix: &Prefix) -> bool
+    ensures { result ≡ in_range range.now prefix.now }
+{
+    let len = prefix.len();
+    let outer = range.prefix;
+    if outer.len() > len || front(outer.len(), prefix.bits()) != front(outer.len(), outer.bits()) {
+        return false;
+    }
+    range.min <= len && len <= range.max
+}
+
+fn next_hop_is_peer(offer: &Offer<'_, '_>) -> bool
+    ensures { result ≡ next_hop_is_peer (offered offer.now) }
+{
+    match offer.attrs.next_hop() {
+        None => false,
+        Some(address) => address == offer.peer,
+    }
+}
+
+fn origin_as_is(number: u32, offer: &Offer<'_, '_>) -> bool
+    ensures { result ≡ origin_as_is number (offered offer.now) }
+{
+    match offer.attrs.origin_as() {
+        None => false,
+        Some(origin) => origin == number,
+    }
+}
+
+#[tactic(auto, unfolding(crate::specs::Verdicts::matches))]
+fn matches(rule: &Rule, offer: &Offer<'_, '_>) -> bool
+    ensures { result ≡ matches rule.now (offered offer.now) }
+{
+    let tests = &rule.tests;
+    if let Some(range) = &rule.range
+        && !is_in_range(range, offer.prefix)
+    {
+        return false;
+    }
+    if let Some(from) = tests.from
+        && from != offer.from
+    {
+        return false;
+    }
+    if let Some(wanted) = tests.next_hop_is_peer
+        && next_hop_is_peer(offer) != wanted
+    {
+        return false;
+    }
+    if let Some(community) = tests.community
+        && !offer.attrs.has_community(community)
+    {
+        return false;
+    }
+    if let Some(number) = tests.origin_as
+        && !origin_as_is(number, offer)
+    {
+        return false;
+    }
+    if let Some(number) = tests.path_has
+        && !offer.attrs.path_has(number)
+    {
+        return false;
+    }
+    true
+}
+
+fn action_of<'a>(rules: &'a [Rule], offer: &Offer<'_, '_>) -> Option<&'a Action>
+    ensures { option_map (λ a. a.now) result ≡ option_map (λ rule. rule.action) (find (λ rule. matches rule (offered offer.now)) rules.now) }
+{
+    for rule in rules {
+        if matches(rule, offer) {
+            return Some(&rule.action);
+        }
+    }
+    None
+}
+
+/// How a list of rules passes a route, and None where it drops it.
+#[tactic(auto, unfolding(crate::specs::Verdicts::outcome))]
+fn outcome<'a>(default: Choice, rules: &'a [Rule], offer: &Offer<'_, '_>) -> Option<Passed<'a>>
+    ensures { option_map passed_as result ≡ outcome default rules.now (offered offer.now) }
+{
+    match action_of(rules, offer) {
+        Some(Action::Drop) => None,
+        Some(Action::Pass(preference, Stripping::Named(communities))) => Some(Passed {
+            preference: *preference,
+            communities: communities.numbers(),
+            all: false,
+        }),
+        Some(Action::Pass(preference, Stripping::All)) => Some(Passed {
+            preference: *preference,
+            communities: &[],
+            all: true,
+        }),
+        None => match default {
+            Choice::Drop => None,
+            Choice::Pass => Some(Passed {
+                preference: None,
+                communities: &[],
+                all: false,
+            }),
+        },
+    }
+}
+
+/// What becomes of a route of client `from` on its way to client `to`: the first rule that matches
+/// decides, in the sender's import list and in the receiver's export list, both over the attributes
+/// as they were received (RFC 7947, 2.3). It takes no memory.
+#[tactic(auto, unfolding(crate::specs::Verdicts::verdict))]
+pub fn judge<'a>(
+    config: &'a Config,
+    from: usize,
+    to: usize,
+    prefix: &Prefix,
+    attrs: &Attrs,
+) -> Verdict<'a>
+    requires from { from < length config.now.clients }
+    requires to { to < length config.now.clients }
+    ensures { judged result ≡ verdict config.now from to prefix.now attrs.now }
+{
+    let offer = Offer {
+        from,
+        peer: config.peer(from),
+        prefix,
+        attrs,
+    };
+    let default = config.default();
+    let Some(import) = outcome(default, &config.policy(from).import, &offer) else {
+        return Verdict::Drop;
+    };
+    let Some(export) = outcome(default, &config.policy(to).export, &offer) else {
+        return Verdict::Drop;
+    };
+    let preference = export.preference.or(import.preference).unwrap_or(100);
+    let strip = Strip {
+        lists: [import.communities, export.communities],
+        all: import.all || export.all,
+    };
+    Verdict::Pass { preference, strip }
+}
