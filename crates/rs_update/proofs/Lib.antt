@@ -1,0 +1,4 @@
+pub mod PrefixSets
+pub mod Collecting
+pub mod BodyFields
+pub mod Effecting

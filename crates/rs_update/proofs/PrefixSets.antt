@@ -1,0 +1,134 @@
+-- Lists of prefixes as sets.
+use Rattle.std.proofs.Common.{◌≡◌, ℕ, zero, suc, ◌+◌, ◌<◌, ◌≤◌, ◌&&◌, ◌||◌, Bool, true, false, cond, not, List, [], ◌∷◌, length, Option, Some, None, refl, sym, ap, ◌∙◌, subst, arith, nat_eq, nat_lt}
+use Rattle.std.specs.Prelude.{filter, Contains, Result, Ok, Err, MatchResult, is_ok}
+use Rattle.std.specs.List.{slice_index_or, list_any, dedup, HoldsAt, AllByRecursion}
+use Rattle.std.specs.List.Sorted.{IsPermutation, IsStrictlySortedBy, IsBinarySearchResult, IsSearchInRange, IsNonDecreasingBy}
+use Rattle.std.specs.declared.cmp.Ordering.TheVariants.{Less, Equal, Greater}
+use Rattle.std.specs.declared.cmp.Ordering.{Ordering}
+use Rattle.std.specs.Ordering.{on, then_cmp, nat_cmp, ordering_then, ordering_index, is_eq, eq_by_cmp}
+use Rattle.std.specs.Cmp.{IsTotalOrder, IsEquivalence, nat_cmp_total, unsigned_ties, tied_then, then_total, on_total, eq_by_cmp_equiv, tied_itself, tied_back, alike_right}
+use Rattle.std.proofs.lemmas.Bool.{eqb-true, ltb-true, ltb-false}
+use Rattle.std.proofs.lemmas.Map.Views.{list_any-from_Contains, Contains-from_any}
+use Rattle.std.proofs.lemmas.List.Kept.{Contains-dedup, Contains-from_dedup}
+use Rattle.std.proofs.lemmas.List.Sorted.{Contains-permutation, IsPermutation-sym}
+use Rattle.std.proofs.lemmas.List.Folds.{list_any_at}
+use Rattle.rs_octets.specs.Prefixes.{Prefix, prefix_order}
+use Rattle.rs_attrs.specs.Effects.{same_prefix, has_prefix}
+
+pub same_ties : (p q : Prefix) → same_prefix p q ≡ eq_by_cmp prefix_order p q
+same_ties p q = (λ i. unsigned_ties p.bits q.bits i && unsigned_ties p.len q.len i) ∙ tied_then (nat_cmp p.bits q.bits) (nat_cmp p.len q.len)
+
+pub same_is : (p q : Prefix) → same_prefix p q ≡ true → p ≡ q
+same_is p q e = by_tests (nat_eq p.bits q.bits) (nat_eq p.len q.len) refl refl e
+  where
+    by_tests : (a b : Bool) → nat_eq p.bits q.bits ≡ a → nat_eq p.len q.len ≡ b → (a && b) ≡ true → p ≡ q
+    by_tests true true f g e = let bits = eqb-true p.bits q.bits f in let len = eqb-true p.len q.len g in λ i. record { bits = bits i; len = len i }
+    by_tests true false f g e = absurd cc
+    by_tests false b f g e = absurd cc
+
+pub prefix_total : IsTotalOrder prefix_order
+prefix_total = then_total {R = on (λ (p : Prefix). p.bits) nat_cmp} {S = on (λ (p : Prefix). p.len) nat_cmp} (on_total (λ (p : Prefix). p.bits) nat_cmp_total) (on_total (λ (p : Prefix). p.len) nat_cmp_total)
+
+pub same_equiv : IsEquivalence same_prefix
+same_equiv =
+    let same : eq_by_cmp prefix_order ≡ same_prefix = λ i. λ p q. sym (same_ties p q) i in
+    subst (λ (e : Prefix → Prefix → Bool). IsEquivalence e) same (eq_by_cmp_equiv prefix_total)
+
+pub member_has : (p : Prefix) (ps : List Prefix) → Contains ps p → has_prefix p ps ≡ true
+member_has p ps m = list_any-from_Contains same_equiv p ps m
+
+pub has_member : (p : Prefix) (ps : List Prefix) → has_prefix p ps ≡ true → Contains ps p
+has_member p ps e = Contains-from_any same_is p ps e
+
+both_ways : (a b : Bool) → (a ≡ true → b ≡ true) → (b ≡ true → a ≡ true) → a ≡ b
+both_ways true b f g = sym (f refl)
+both_ways false true f g = g refl
+both_ways false false f g = refl
+
+-- lists with the same members are the same set
+pub same_set : (p : Prefix) (ps qs : List Prefix) → (Contains ps p → Contains qs p) → (Contains qs p → Contains ps p) → has_prefix p qs ≡ has_prefix p ps
+same_set p ps qs f g = both_ways (has_prefix p qs) (has_prefix p ps) (λ e. member_has p ps (g (has_member p qs e))) (λ e. member_has p qs (f (has_member p ps e)))
+
+pub permuted : (p : Prefix) (ps qs : List Prefix) → IsPermutation ps qs → has_prefix p qs ≡ has_prefix p ps
+permuted p ps qs f = same_set p ps qs (Contains-permutation ps qs p f) (Contains-permutation qs ps p (IsPermutation-sym ps qs f))
+
+pub deduped : (p : Prefix) (ps : List Prefix) → has_prefix p (dedup same_prefix ps) ≡ has_prefix p ps
+deduped p ps = same_set p ps (dedup same_prefix ps) (Contains-dedup same_equiv same_is ps p) (Contains-from_dedup same_prefix ps p)
+
+-- ---- a search in a list in rising order
+
+-- an element before another stands no later against a third
+rises : (a b x : Prefix) → prefix_order a b ≡ Less → ordering_index (prefix_order a x) ≤ ordering_index (prefix_order b x)
+rises a b x e = by_answer (prefix_order b x) refl
+  where
+    by_answer : (r : Ordering) → prefix_order b x ≡ r → ordering_index (prefix_order a x) ≤ ordering_index (prefix_order b x)
+    by_answer Less f =
+        let low : prefix_order a x ≡ Less = prefix_total.trans a b x e f in
+        omega (arith, ap ordering_index low)
+    by_answer Equal f =
+        let low : prefix_order a x ≡ Less = sym (alike_right prefix_total b x a f) ∙ e in
+        omega (arith, ap ordering_index low)
+    by_answer Greater f = most (prefix_order a x) (ap ordering_index f)
+      where
+        most : (r : Ordering) → ordering_index (prefix_order b x) ≡ 2 → ordering_index r ≤ ordering_index (prefix_order b x)
+        most Less g = omega (arith, g)
+        most Equal g = omega (arith, g)
+        most Greater g = omega (arith, g)
+
+after_first : (a x : Prefix) (ps : List Prefix) → AllByRecursion (λ b. prefix_order a b ≡ Less) ps → (j : ℕ) (d : Prefix) → j < length ps
+    → ordering_index (prefix_order a x) ≤ ordering_index (prefix_order (slice_index_or ps j d) x)
+after_first a x [] above j d h = absurd (omega arith)
+after_first a x (b ∷ ps) above zero d h = rises a b x above.0
+after_first a x (b ∷ ps) above (suc j) d h = after_first a x ps above.1 j d (omega arith)
+
+-- in rising order the answers of a search rise
+searchable : (x : Prefix) (ps : List Prefix) → IsStrictlySortedBy prefix_order ps → (i j : ℕ) (d : Prefix) → i ≤ j → j < length ps
+    → ordering_index (prefix_order (slice_index_or ps i d) x) ≤ ordering_index (prefix_order (slice_index_or ps j d) x)
+unfolding IsStrictlySortedBy
+searchable x [] sorted i j d h k = absurd (omega arith)
+searchable x (a ∷ ps) sorted zero zero d h k = omega arith
+searchable x (a ∷ ps) sorted zero (suc j) d h k = after_first a x ps sorted.0 j d (omega arith)
+searchable x (a ∷ ps) sorted (suc i) zero d h k = absurd (omega arith)
+searchable x (a ∷ ps) sorted (suc i) (suc j) d h k = searchable x ps sorted.1 i j d (omega arith) (omega arith)
+
+pub searched : (x : Prefix) (ps : List Prefix) (r : Result ℕ ℕ) → IsStrictlySortedBy prefix_order ps → IsSearchInRange r (length ps) → IsBinarySearchResult (λ y. prefix_order y x) ps r → is_ok r ≡ has_prefix x ps
+searched x ps (Ok k) sorted range found =
+    let equal : prefix_order x (slice_index_or ps k x) ≡ Equal = tied_back prefix_total (slice_index_or ps k x) x (found x) in
+    sym (list_any_at (same_prefix x) ps k x range (same_ties x (slice_index_or ps k x) ∙ ap is_eq equal))
+searched x ps (Err i) sorted range found = by_answer (has_prefix x ps) refl
+  where
+    by_answer : (b : Bool) → has_prefix x ps ≡ b → false ≡ b
+    by_answer true e =
+        let m = has_member x ps e in
+        let point = found (searchable x ps sorted) in
+        let itself : prefix_order (slice_index_or ps m.0 x) x ≡ Equal = ap (λ (y : Prefix). prefix_order y x) m.2 ∙ tied_itself prefix_total x in
+        by_side (nat_lt m.0 i) m.0 (λ h. point.0 m.0 x (omega arith) (ltb-true m.0 i h)) (λ h. point.1 m.0 x (ltb-false m.0 i h) m.1) itself refl
+      where
+        by_side : (b : Bool) (k : ℕ) → (nat_lt k i ≡ true → prefix_order (slice_index_or ps k x) x ≡ Less) → (nat_lt k i ≡ false → prefix_order (slice_index_or ps k x) x ≡ Greater)
+            → prefix_order (slice_index_or ps k x) x ≡ Equal → nat_lt k i ≡ b → false ≡ true
+        by_side true k less greater itself h = let no : Less ≡ Equal = sym (less h) ∙ itself in absurd cc
+        by_side false k less greater itself h = let no : Greater ≡ Equal = sym (greater h) ∙ itself in absurd cc
+    by_answer false e = refl
+
+
+-- what a filter leaves of a set
+pub filtered_has : (p : Prefix) (others ps : List Prefix) → has_prefix p (filter (λ q. not (has_prefix q others)) ps) ≡ (has_prefix p ps && not (has_prefix p others))
+filtered_has p others [] = refl
+filtered_has p others (q ∷ ps) = by_tests (same_prefix p q) (has_prefix q others) refl refl (filtered_has p others ps)
+  where
+    rest : List Prefix
+    rest = filter (λ q. not (has_prefix q others)) ps
+    by_tests : (same other : Bool) → same_prefix p q ≡ same → has_prefix q others ≡ other → has_prefix p rest ≡ (has_prefix p ps && not (has_prefix p others))
+        → has_prefix p (cond (not other) (q ∷ rest) rest) ≡ ((same || has_prefix p ps) && not (has_prefix p others))
+    by_tests true true e f later =
+        let here : has_prefix p others ≡ true = ap (λ p. has_prefix p others) (same_is p q e) ∙ f in
+        later ∙ (λ i. has_prefix p ps && not (here i)) ∙ none (has_prefix p ps) ∙ sym (ap not here)
+      where
+        none : (b : Bool) → (b && false) ≡ false
+        none true = refl
+        none false = refl
+    by_tests true false e f later =
+        let here : has_prefix p others ≡ false = ap (λ p. has_prefix p others) (same_is p q e) ∙ f in
+        ap (λ b. b || has_prefix p rest) e ∙ sym (ap not here)
+    by_tests false true e f later = later
+    by_tests false false e f later = ap (λ b. b || has_prefix p rest) e ∙ later

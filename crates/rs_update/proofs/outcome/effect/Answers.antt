@@ -1,0 +1,72 @@
+use Rattle.std.proofs.Common.{◌≡◌, ℕ, Bool, true, false, List, Vec, Global, Option, Some, None, sym, ap, ◌∙◌, subst, arith}
+use Rattle.std.specs.Prelude.{MatchOption, option_map}
+use Rattle.rs_octets.specs.Prefixes.{Prefix}
+use Rattle.rs_octets.specs.declared.prefix.Prefix.{Prefix as DeclaredPrefix}
+use Rattle.rs_attrs.specs.Meaning.{Attribute}
+use Rattle.rs_attrs.specs.Effects.{Reset, Changes, Change, is_faulty, prefixes_in, IsChange}
+use Rattle.rs_update.specs.Outcomes.{fields_in}
+use Rattle.rs_update.specs.Changes.{IsWithdrawn, IsAnnounced, change_seen}
+use Rattle.rs_update.proofs.Effecting.{no_fields, by_reading, withdrawn_faulty, nlri_faulty, by_attributes, is_withdrawn, is_announced, same_withdrawn, same_announced, BothRise, withdrawn_rise, announced_rise}
+use Rattle.rs_update.proofs.outcome.effect.Goals as goal
+use Rattle.rs_update.proofs.outcome.effect.Goals.{then-treats_as_withdraw+in_ok-withdraw_all, else-treats_as_withdraw+in_ok-withdrawn-2}
+
+-- what a field's prefixes were found to be
+abbrev Found : List ℕ → Option (Vec DeclaredPrefix Global) → Type 0
+Found field found = MatchOption found (is_faulty field ≡ true) (λ ps. (is_faulty field ≡ false) × (ps.items ≡ prefixes_in field))
+
+found_at : (field : List ℕ) (found at : Option (Vec DeclaredPrefix Global)) → found ≡ at → Found field found → Found field at
+found_at field found at e is = subst (Found field) e is
+
+pub returns-in_default-clause-effect : goal.returns-in_default-clause-effect
+returns-in_default-clause-effect c = no_fields c.args.body.now c.args.mode (sym c.cut_body.ensures ∙ ap (option_map fields_in) c.in_default.is)
+
+pub returns-in_default-2-clause-effect : goal.returns-in_default-2-clause-effect
+returns-in_default-2-clause-effect c =
+    let fields = fields_in c.in-Some.fields in
+    let faulty = found_at fields.withdrawn _ None c.in_default-2.is c.in_ok-withdrawn.ensures in
+    by_reading c.args.body.now c.args.mode (Reset 3 10) fields c.in_ok-parsed.parsed.attrs c.in_ok-parsed.parsed.faults (λ i. omega (arith, c.type_inv.body i))
+    (sym c.cut_body.ensures ∙ ap (option_map fields_in) c.in-Some.is) c.in_ok-parsed.ensures (withdrawn_faulty fields c.in_ok-parsed.parsed.faults faulty)
+
+pub returns-in_default-3-clause-effect : goal.returns-in_default-3-clause-effect
+returns-in_default-3-clause-effect c =
+    let fields = fields_in c.in-Some.fields in
+    let withdrawn = found_at fields.withdrawn _ (Some c.in-Some-2.withdrawn) c.in-Some-2.is c.in_ok-withdrawn.ensures in
+    let faulty = found_at fields.nlri _ None c.in_default-3.is c.in_ok-nlri.ensures in
+    by_reading c.args.body.now c.args.mode (Reset 3 10) fields c.in_ok-parsed.parsed.attrs c.in_ok-parsed.parsed.faults (λ i. omega (arith, c.type_inv.body i))
+    (sym c.cut_body.ensures ∙ ap (option_map fields_in) c.in-Some.is) c.in_ok-parsed.ensures (nlri_faulty fields c.in_ok-parsed.parsed.faults withdrawn.0 faulty)
+
+pub returns-in-Some-reset_by-clause-effect : goal.returns-in-Some-reset_by-clause-effect
+returns-in-Some-reset_by-clause-effect c =
+    let fields = fields_in c.in-Some.fields in
+    let withdrawn = found_at fields.withdrawn _ (Some c.in-Some-2.withdrawn) c.in-Some-2.is c.in_ok-withdrawn.ensures in
+    let nlri = found_at fields.nlri _ (Some c.in-Some-3.nlri) c.in-Some-3.is c.in_ok-nlri.ensures in
+    by_reading c.args.body.now c.args.mode (Reset 3 c.in-Some-reset_by.subcode) fields c.in_ok-parsed.parsed.attrs c.in_ok-parsed.parsed.faults (λ i. omega (arith, c.type_inv.body i))
+    (sym c.cut_body.ensures ∙ ap (option_map fields_in) c.in-Some.is) c.in_ok-parsed.ensures
+    (by_attributes fields c.in_ok-parsed.parsed.faults (Some c.in-Some-reset_by.subcode) withdrawn.0 nlri.0 (sym c.in-Some-reset_by.is ∙ c.reset_by.ensures))
+
+pub returns-clause-effect : goal.returns-clause-effect
+returns-clause-effect c =
+    let fields = fields_in c.in-Some.fields in
+    let withdrawn = found_at fields.withdrawn _ (Some c.in-Some-2.withdrawn) c.in-Some-2.is c.in_ok-withdrawn.ensures in
+    let nlri = found_at fields.nlri _ (Some c.in-Some-3.nlri) c.in-Some-3.is c.in_ok-nlri.ensures in
+    let no_reset = by_attributes fields c.in_ok-parsed.parsed.faults None withdrawn.0 nlri.0 (sym c.in_default-reset_by.is ∙ c.reset_by.ensures) in
+    by_reading c.args.body.now c.args.mode (Changes (change_seen c.if-treats_as_withdraw.withdrawn)) fields c.in_ok-parsed.parsed.attrs c.in_ok-parsed.parsed.faults (λ i. omega (arith, c.type_inv.body i))
+    (sym c.cut_body.ensures ∙ ap (option_map fields_in) c.in-Some.is) c.in_ok-parsed.ensures
+    (no_reset, elim c.if-treats_as_withdraw.branch [
+      | then-treats_as_withdraw+in_ok-withdraw_all w ↦ is_withdrawn fields c.in_ok-parsed.parsed.attrs c.in_ok-parsed.parsed.faults (change_seen c.if-treats_as_withdraw.withdrawn)
+          (sym c.treats_as_withdraw.ensures ∙ w.if-treats_as_withdraw.true)
+          (same_withdrawn _ _ _ _ _ _ withdrawn.1 (w.deref.ensures.value ∙ nlri.1) (ap change_seen w.withdrawn-is) w.in_ok-withdraw_all.ensures)
+      | else-treats_as_withdraw+in_ok-withdrawn-2 w ↦ is_announced fields c.in_ok-parsed.parsed.attrs c.in_ok-parsed.parsed.faults (change_seen c.if-treats_as_withdraw.withdrawn)
+          (sym c.treats_as_withdraw.ensures ∙ w.if-treats_as_withdraw.false)
+          (same_announced _ _ _ _ _ _ _ withdrawn.1 nlri.1 (ap change_seen w.withdrawn-is) w.in_ok-withdrawn-2.ensures)
+    ])
+
+-- the lists of what is answered
+rises : (c : goal.Joined-treats_as_withdraw) → BothRise (change_seen c.if-treats_as_withdraw.withdrawn)
+rises c = elim c.if-treats_as_withdraw.branch [
+  | then-treats_as_withdraw+in_ok-withdraw_all w ↦ withdrawn_rise _ _ _ _ (ap change_seen w.withdrawn-is) w.in_ok-withdraw_all.ensures
+  | else-treats_as_withdraw+in_ok-withdrawn-2 w ↦ announced_rise _ _ _ _ _ (ap change_seen w.withdrawn-is) w.in_ok-withdrawn-2.ensures
+]
+
+pub returns-clause-rising : goal.returns-clause-rising
+returns-clause-rising c = ((rises c).withdrawn, (rises c).announced)

@@ -1,0 +1,31 @@
+-- prefixes is as a list.
+use Rattle.std.specs.Prelude.{◌≡◌, ℕ, ◌&&◌, not, List, Option, Some, None, if◌then◌else◌}
+use Rattle.std.specs.Borrow.{Bor}
+use Rattle.rs_octets.specs.Prefixes.{Prefix}
+use Rattle.rs_attrs.specs.Effects.{Fields, Cut, has_prefix, is_empty}
+use Rattle.rs_attrs.specs.declared.mode.Faults.{Faults}
+use Rattle.rs_update.specs.declared.fields.Fields.{Fields as FieldsRead}
+
+-- the fields of a body
+abbrev pub fields_in : FieldsRead → Fields
+fields_in fields = record { withdrawn = fields.withdrawn.now; attributes = fields.attributes.now; nlri = fields.nlri.now }
+
+-- a field and what follows it
+abbrev pub cut_in : Bor (List ℕ) × Bor (List ℕ) → Cut
+cut_in parts = record { field = parts.0.now; after = parts.1.now }
+
+-- the second list has just the prefixes of the first
+abbrev pub SameMembers : List Prefix → List Prefix → Type 0
+SameMembers old new = (p : Prefix) → has_prefix p new ≡ has_prefix p old
+
+-- the new list has just the prefixes of the old one that the others lack
+abbrev pub LacksMembers : List Prefix → List Prefix → List Prefix → Type 0
+LacksMembers old others new = (p : Prefix) → has_prefix p new ≡ (has_prefix p old && not (has_prefix p others))
+
+-- the subcode of the first reset that attributes bring about
+abbrev pub subcode_of : Fields → Faults → Option ℕ
+subcode_of fields faults =
+    if faults.mp_twice then Some 1
+    else if faults.withdraw && not (is_empty fields.attributes) && is_empty fields.nlri then Some 1
+    else if faults.unknown then Some 2
+    else None

@@ -1,0 +1,11 @@
+//! What an UPDATE does (RFC 4271, 4.3 and 6.3; RFC 7606): a body of octets comes in, and out goes a
+//! reset of the session, or the prefixes that are withdrawn and those that are announced with their
+//! attributes. The definition stands in `rs_attrs`. Nothing is kept between calls.
+#![tactic(auto)]
+
+
+mod fields;
+mod outcome;
+mod prefixes;
+
+pub use outcome::{Outcome, effect};

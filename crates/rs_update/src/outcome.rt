@@ -1,0 +1,148 @@
+//! The effect of an UPDATE (RFC 7606, 2 to 5).
+
+ghost use Rattle.std.specs.Prelude.{◌≡◌, ◌≤◌, length, IfOk};
+ghost use Rattle.rs_attrs.specs.declared.mode.Mode.TheVariants.{Four};
+ghost use Rattle.rs_attrs.specs.Effects.{HasEffect, treat_as_withdraw, lacks_mandatory};
+ghost use Rattle.rs_update.specs.Outcomes.{fields_in, subcode_of};
+ghost use Rattle.rs_update.specs.Changes.{effect_seen, change_seen, IsRising, IsWithdrawn, IsAnnounced};
+
+use crate::fields::{Fields, cut_body};
+use crate::prefixes::{make_rising, prefixes, take_away};
+use rs_attrs::{Attrs, Faults, Mode, Parsed, read};
+use rs_octets::Prefix;
+use std::alloc::{AllocError, Global};
+use std::sync::Arc;
+
+/// What an UPDATE does.
+#[derive(Debug, Drop)]
+pub enum Outcome {
+    /// The session is reset by a NOTIFICATION of this code and subcode (RFC 4271, 6.3).
+    Reset(u8, u8),
+    /// Routes change. Both lists are in rising order, and no prefix stands twice, be it in one list or
+    /// in both. The attributes are there exactly where something is announced.
+    Change {
+        withdrawn: Vec<Prefix>,
+        announced: Vec<Prefix>,
+        attrs: Option<Arc<Attrs>>,
+    },
+}
+
+/// Routes that change.
+#[derive(Drop)]
+struct Routes {
+    withdrawn: Vec<Prefix>,
+    announced: Vec<Prefix>,
+    attrs: Option<Arc<Attrs>>,
+}
+
+/// The code of errors in UPDATE messages, and its subcodes (RFC 4271, 6.3).
+const UPDATE_MESSAGE_ERROR: u8 = 3;
+const MALFORMED_ATTRIBUTE_LIST: u8 = 1;
+const UNRECOGNIZED_WELL_KNOWN_ATTRIBUTE: u8 = 2;
+const INVALID_NETWORK_FIELD: u8 = 10;
+
+/// The subcode of the first reset that attributes bring about.
+fn reset_by(faults: &Faults, fields: &Fields<'_>) -> Option<u8>
+    ensures { result ≡ subcode_of (fields_in fields.now) faults.now }
+{
+    if faults.mp_twice {
+        return Some(MALFORMED_ATTRIBUTE_LIST);
+    }
+    if faults.withdraw && !fields.attributes.is_empty() && fields.nlri.is_empty() {
+        return Some(MALFORMED_ATTRIBUTE_LIST);
+    }
+    if faults.unknown {
+        return Some(UNRECOGNIZED_WELL_KNOWN_ATTRIBUTE);
+    }
+    None
+}
+
+/// ORIGIN, AS_PATH or NEXT_HOP isn't there.
+fn lacks(attrs: &Attrs) -> bool
+    ensures { result ≡ lacks_mandatory attrs.now }
+{
+    attrs.get(1).is_none() || attrs.get(2).is_none() || attrs.get(3).is_none()
+}
+
+/// Whether the NLRI counts as withdrawn (RFC 7606, 2 and 3, d).
+fn treats_as_withdraw(parsed: &Parsed, fields: &Fields<'_>) -> bool
+    ensures { result ≡ treat_as_withdraw (fields_in fields.now) parsed.now.attrs parsed.now.faults }
+{
+    parsed.faults.withdraw || !fields.nlri.is_empty() && lacks(&parsed.attrs)
+}
+
+/// Withdraws all that an UPDATE names.
+fn withdraw_all(alloc: Global, withdrawn: Vec<Prefix>, nlri: &[Prefix]) -> Result<Routes, AllocError>
+    ensures { IfOk result (λ routes. IsWithdrawn withdrawn.items nlri.now (change_seen routes)) }
+{
+    let mut withdrawn = withdrawn;
+    withdrawn.extend_from_slice(nlri)?;
+    make_rising(&mut withdrawn);
+    Ok(Routes {
+        withdrawn,
+        announced: Vec::new(alloc),
+        attrs: None,
+    })
+}
+
+/// Announces the NLRI, and withdraws what else the UPDATE names.
+fn announce(alloc: Global, withdrawn: Vec<Prefix>, nlri: Vec<Prefix>, attrs: Attrs) -> Result<Routes, AllocError>
+    ensures { IfOk result (λ routes. IsAnnounced withdrawn.items nlri.items attrs (change_seen routes)) }
+{
+    let mut withdrawn = withdrawn;
+    let mut announced = nlri;
+    make_rising(&mut announced);
+    make_rising(&mut withdrawn);
+    take_away(&mut withdrawn, &announced);
+    let attrs = if announced.is_empty() {
+        None
+    } else {
+        Some(Arc::new(alloc, attrs)?)
+    };
+    Ok(Routes {
+        withdrawn,
+        announced,
+        attrs,
+    })
+}
+
+/// What the UPDATE with this body does, from a peer of this kind: a reset, by the first of its five
+/// causes that holds, or the routes that change. Want of memory is answered only where a growth was
+/// refused; nothing is changed then.
+pub fn effect(alloc: Global, body: &[u8], mode: Mode) -> Result<Outcome, AllocError>
+    requires mode { mode ≡ Four }
+    requires lengths { 4 ≤ length body.now }
+    ensures effect { IfOk result (λ outcome. HasEffect body.now mode (effect_seen outcome)) }
+    ensures rising { IfOk result IsRising }
+{
+    let Some(fields) = cut_body(body) else {
+        return Ok(Outcome::Reset(
+            UPDATE_MESSAGE_ERROR,
+            MALFORMED_ATTRIBUTE_LIST,
+        ));
+    };
+    let parsed = read(alloc, fields.attributes, mode)?;
+    let Some(withdrawn) = prefixes(alloc, fields.withdrawn)? else {
+        return Ok(Outcome::Reset(UPDATE_MESSAGE_ERROR, INVALID_NETWORK_FIELD));
+    };
+    let Some(nlri) = prefixes(alloc, fields.nlri)? else {
+        return Ok(Outcome::Reset(UPDATE_MESSAGE_ERROR, INVALID_NETWORK_FIELD));
+    };
+    if let Some(subcode) = reset_by(&parsed.faults, &fields) {
+        return Ok(Outcome::Reset(UPDATE_MESSAGE_ERROR, subcode));
+    }
+    let Routes {
+        withdrawn,
+        announced,
+        attrs,
+    } = if treats_as_withdraw(&parsed, &fields) {
+        withdraw_all(alloc, withdrawn, &nlri)?
+    } else {
+        announce(alloc, withdrawn, nlri, parsed.attrs)?
+    };
+    Ok(Outcome::Change {
+        withdrawn,
+        announced,
+        attrs,
+    })
+}
