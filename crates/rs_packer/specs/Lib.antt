@@ -1,4 +1,3 @@
 pub mod Laws
-pub mod Modes
 pub mod Packed
 pub mod Parts
