@@ -1,3 +1,4 @@
+pub mod Denoted
 pub mod Laws
 pub mod Packed
 pub mod Parts
