@@ -13,7 +13,8 @@ use Rattle.rs_octets.specs.Headers.{header_of, longest}
 use Rattle.rs_octets.specs.Messages.{IsMessage, heard_of}
 use Rattle.rs_octets.specs.Prefixes.{Prefix}
 use Rattle.rs_octets.proofs.Cut.{heard_alone}
-use Rattle.rs_packer.specs.Packed.{prefixes_octets, behind_its_length, update, update_body}
+use Rattle.rs_attrs.specs.Effects.{behind_its_length}
+use Rattle.rs_packer.specs.Packed.{prefixes_octets, update, update_body}
 
 longest_most : (long : Bool) → cond long 65535 4096 ≤ 65535
 longest_most true = omega arith

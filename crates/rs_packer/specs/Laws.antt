@@ -1,10 +1,16 @@
 -- What holds of the definitions, as the contracts of the module `laws` say it.
-use Rattle.std.specs.Prelude.{◌≡◌, ◌≤◌, ℕ, List, [], ◌∷◌, length, Ok}
+use Rattle.std.specs.Prelude.{◌≡◌, ℕ, ◌<◌, ◌≤◌, false, List, [], ◌∷◌, length, Ok}
+use Rattle.std.specs.List.{AllByRecursion}
 use Rattle.rs_octets.specs.declared.heads.Allowed.{Allowed}
 use Rattle.rs_octets.specs.Headers.{longest}
 use Rattle.rs_octets.specs.Messages.{heard_of}
-use Rattle.rs_octets.specs.Prefixes.{Prefix}
-use Rattle.rs_packer.specs.Packed.{update}
+use Rattle.rs_octets.specs.Prefixes.{Prefix, IsIpv4Prefix}
+use Rattle.rs_attrs.specs.declared.mode.Mode.{Mode}
+use Rattle.rs_attrs.specs.Meaning.{Attribute}
+use Rattle.rs_attrs.specs.Writing.{IsLegal}
+use Rattle.rs_attrs.specs.Effects.{Change, Effect, Changes, HasEffect, lacks_mandatory}
+use Rattle.rs_packer.specs.Packed.{update, announcement, withdrawal}
+use Rattle.rs_packer.specs.Denoted.{body_of, Holds, Announces, Withdraws}
 
 -- whoever takes messages of that length hears one message and nothing else
 abbrev pub IsHeardAlone : Type 0
@@ -12,3 +18,48 @@ IsHeardAlone =
     (allowed : Allowed) (withdrawn : List Prefix) (attributes : List ℕ) (nlri : List Prefix)
     → length (update withdrawn attributes nlri) ≤ longest allowed
     → heard_of allowed (update withdrawn attributes nlri) ≡ Ok (update withdrawn attributes nlri) ∷ []
+
+-- What is announced: legal prefixes, one at least, with legal attributes that have ORIGIN, AS_PATH and NEXT_HOP, in a
+-- message whose length has two octets (RFC 4271, 4.1 and 5).
+pub record IsAnnounceable (m : List Attribute) (mode : Mode) (ps : List Prefix) : Type 0 where
+  pub legal : IsLegal m
+  pub mandatory : lacks_mandatory m ≡ false
+  pub some : 0 < length ps
+  pub prefixes : AllByRecursion IsIpv4Prefix ps
+  pub fits : length (announcement m mode ps) ≤ 65535
+
+-- an announcement's fields are its prefixes and its attributes
+abbrev pub AnnouncementHolds : Type 0
+AnnouncementHolds =
+    (m : List Attribute) (mode : Mode) (ps : List Prefix) → IsAnnounceable m mode ps
+    → Holds (body_of (announcement m mode ps)) mode [] m ps
+
+-- it announces these prefixes with these attributes
+abbrev pub AnnouncementHasEffect : Type 0
+AnnouncementHasEffect =
+    (m : List Attribute) (mode : Mode) (ps : List Prefix) → IsAnnounceable m mode ps
+    → (change : Change) → Announces m ps change → HasEffect (body_of (announcement m mode ps)) mode (Changes change)
+
+-- and does nothing else
+abbrev pub AnnouncementHasOneEffect : Type 0
+AnnouncementHasOneEffect =
+    (m : List Attribute) (mode : Mode) (ps : List Prefix) → IsAnnounceable m mode ps
+    → (effect : Effect) → HasEffect (body_of (announcement m mode ps)) mode effect → (change : Change) × (effect ≡ Changes change) × Announces m ps change
+
+-- the same of withdrawals
+pub record IsWithdrawable (ps : List Prefix) : Type 0 where
+  pub prefixes : AllByRecursion IsIpv4Prefix ps
+  pub fits : length (withdrawal ps) ≤ 65535
+
+abbrev pub WithdrawalHolds : Type 0
+WithdrawalHolds = (mode : Mode) (ps : List Prefix) → IsWithdrawable ps → Holds (body_of (withdrawal ps)) mode ps [] []
+
+abbrev pub WithdrawalHasEffect : Type 0
+WithdrawalHasEffect =
+    (mode : Mode) (ps : List Prefix) → IsWithdrawable ps
+    → (change : Change) → Withdraws ps change → HasEffect (body_of (withdrawal ps)) mode (Changes change)
+
+abbrev pub WithdrawalHasOneEffect : Type 0
+WithdrawalHasOneEffect =
+    (mode : Mode) (ps : List Prefix) → IsWithdrawable ps
+    → (effect : Effect) → HasEffect (body_of (withdrawal ps)) mode effect → (change : Change) × (effect ≡ Changes change) × Withdraws ps change

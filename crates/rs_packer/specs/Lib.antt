@@ -1,4 +1,4 @@
+pub mod Denoted
 pub mod Laws
-pub mod Modes
 pub mod Packed
 pub mod Parts

@@ -6,15 +6,12 @@ use Rattle.rs_octets.specs.Prefixes.{Prefix}
 use Rattle.rs_octets.specs.PrefixFields.{prefix_octets}
 use Rattle.rs_attrs.specs.declared.mode.Mode.{Mode}
 use Rattle.rs_attrs.specs.Meaning.{Attribute}
+use Rattle.rs_attrs.specs.Effects.{behind_its_length}
 use Rattle.rs_attrs.specs.Writing.{spelt}
 
 -- a field of prefixes
 abbrev pub prefixes_octets : List Prefix → List ℕ
 prefixes_octets ps = flat_map prefix_octets ps
-
--- a field behind its length in two octets
-abbrev pub behind_its_length : List ℕ → List ℕ
-behind_its_length field = to_be_bytes w16 (length field) ++ field
 
 -- withdrawn routes, path attributes, NLRI
 abbrev pub update_body : List Prefix → List ℕ → List Prefix → List ℕ

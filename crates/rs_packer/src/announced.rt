@@ -3,7 +3,6 @@
 ghost use Rattle.std.specs.Prelude.{◌≡◌, ◌+◌, ◌<◌, ◌≤◌, [], ◌∷◌, length, take, nat_le};
 ghost use Rattle.rs_octets.specs.Writes.{Writes};
 ghost use Rattle.rs_attrs.specs.Writing.{spelt, HasSpelling};
-ghost use Rattle.rs_packer.specs.Modes.{IsWritten};
 ghost use Rattle.rs_packer.specs.Packed.{announcement, IsLongestFront};
 ghost use Rattle.rs_packer.specs.Parts.{announced_front};
 
@@ -15,7 +14,6 @@ use rs_octets::{Prefix, put};
 /// Whether a message that announces this prefix alone, with these attributes as the mode spells
 /// them, has at most `limit` octets.
 pub fn fits(attrs: &Attrs, mode: Mode, prefix: &Prefix, limit: usize) -> bool
-    requires { IsWritten mode }
     ensures { result ≡ nat_le (length (announcement attrs.now mode (prefix.now ∷ []))) limit }
 {
     let others = 23 + prefix.size();
@@ -39,7 +37,6 @@ fn put_announced_front(out: &mut [u8], total: u16, size: u16) -> usize
 
 /// Writes attributes from `at` on, and answers where they end.
 fn put_attributes(out: &mut [u8], at: usize, attrs: &Attrs, mode: Mode) -> usize
-    requires mode { IsWritten mode }
     requires spelling { HasSpelling attrs.now mode }
     requires fits { at + length (spelt attrs.now mode) ≤ length out.old }
     ensures end { result ≡ at + length (spelt attrs.now mode) }
@@ -54,7 +51,6 @@ fn put_attributes(out: &mut [u8], at: usize, attrs: &Attrs, mode: Mode) -> usize
 ///
 /// There is a first prefix, and it fits: see [`fits`].
 pub fn pack_announced(attrs: &Attrs, mode: Mode, prefixes: &[Prefix], out: &mut [u8]) -> Packed
-    requires mode { IsWritten mode }
     requires limit { length out.old ≤ 65535 }
     requires some { 0 < length prefixes.now }
     requires fits { length (announcement attrs.now mode (take 1 prefixes.now)) ≤ length out.old }

@@ -28,12 +28,16 @@ fn prefixes(alloc: Global, count: u32) -> Result<Vec<Prefix>, AllocError> {
 }
 
 /// What the packer answers, where its conditions hold.
-fn announced(attrs: &Attrs, prefixes: &[Prefix], out: &mut [u8]) -> Option<Packed> {
+fn announced_in(mode: Mode, attrs: &Attrs, prefixes: &[Prefix], out: &mut [u8]) -> Option<Packed> {
     let first = prefixes.first()?;
-    if out.len() > 65535 || !fits(attrs, Mode::Four, first, out.len()) {
+    if out.len() > 65535 || !fits(attrs, mode, first, out.len()) {
         return None;
     }
-    Some(pack_announced(attrs, Mode::Four, prefixes, out))
+    Some(pack_announced(attrs, mode, prefixes, out))
+}
+
+fn announced(attrs: &Attrs, prefixes: &[Prefix], out: &mut [u8]) -> Option<Packed> {
+    announced_in(Mode::Four, attrs, prefixes, out)
 }
 
 fn withdrawn(prefixes: &[Prefix], out: &mut [u8]) -> Option<Packed> {
@@ -60,6 +64,28 @@ fn writes_an_announcement(rt: HostRuntime) -> Result<(), Fail> {
     assert!(rt; out[16..23].starts_with(b"\x00\x2f\x02\x00\x00\x00\x14"));
     assert!(rt; out[23..43].starts_with(ATTRIBUTES));
     assert!(rt; out[43..48].starts_with(b"\x18\xc6\x33\x64\x07"));
+    Ok(())
+}
+
+#[test]
+fn writes_an_announcement_to_a_two_octet_peer(rt: HostRuntime) -> Result<(), Fail> {
+    let field =
+        b"\x40\x01\x01\x00\x40\x02\x0a\x02\x02\x00\x00\xfb\xf0\xfa\x56\xea\x00\x40\x03\x04\xc0\x00\x02\x0b";
+    let attrs = read(rt.alloc(), field, Mode::Four)?.attrs;
+    let mut out = [7; 4096];
+    let list = [Prefix::new(0xc633_6400, 24)];
+    if let [Some(prefix)] = list {
+        let packed = announced_in(Mode::Two, &attrs, &[prefix], &mut out);
+        assert!(rt; has(packed, 60, 1));
+    }
+    assert!(rt; out[..16].starts_with(&[255; 16]));
+    assert!(rt; out[16..23].starts_with(b"\x00\x3c\x02\x00\x00\x00\x21"));
+    // ORIGIN, AS_PATH with AS_TRANS, NEXT_HOP, AS4_PATH
+    assert!(rt; out[23..27].starts_with(b"\x40\x01\x01\x00"));
+    assert!(rt; out[27..36].starts_with(b"\x40\x02\x06\x02\x02\xfb\xf0\x5b\xa0"));
+    assert!(rt; out[36..43].starts_with(b"\x40\x03\x04\xc0\x00\x02\x0b"));
+    assert!(rt; out[43..56].starts_with(b"\xc0\x11\x0a\x02\x02\x00\x00\xfb\xf0\xfa\x56\xea\x00"));
+    assert!(rt; out[56..61].starts_with(b"\x18\xc6\x33\x64\x07"));
     Ok(())
 }
 
@@ -114,6 +140,42 @@ fn fits_up_to_the_limit(rt: HostRuntime) -> Result<(), Fail> {
         assert!(rt; fits(&attrs, Mode::Four, &prefix, 47));
         assert!(rt; !fits(&attrs, Mode::Four, &prefix, 46));
         assert!(rt; !fits(&attrs, Mode::Four, &prefix, 0));
+    }
+    Ok(())
+}
+
+/// ORIGIN IGP, a path of 700 times 4200000000 in sequences of 255, 255 and 190, NEXT_HOP 192.0.2.11.
+fn long_path(alloc: Global) -> Result<Vec<u8>, AllocError> {
+    let mut field = Vec::new(alloc);
+    field.extend_from_slice(b"\x40\x01\x01\x00\x50\x02\x0a\xf6")?;
+    for count in [255u8, 255, 190] {
+        field.extend_from_slice(&[2, count])?;
+        for _ in 0..count {
+            field.extend_from_slice(b"\xfa\x56\xea\x00")?;
+        }
+    }
+    field.extend_from_slice(b"\x40\x03\x04\xc0\x00\x02\x0b")?;
+    Ok(field)
+}
+
+#[test]
+fn long_path_fits_into_a_long_message_alone(rt: HostRuntime) -> Result<(), Fail> {
+    let field = long_path(rt.alloc())?;
+    assert_eq!(rt; field.len(), 2821);
+    let attrs = read(rt.alloc(), &field, Mode::Four)?.attrs;
+    let list = [Prefix::new(0xc633_6400, 24)];
+    if let [Some(prefix)] = list {
+        let mut out = vec![in rt.alloc(); 0u8; 65535]?;
+        let packed = announced_in(Mode::Four, &attrs, &[prefix], &mut out[..4096]);
+        assert!(rt; has(packed, 2848, 1));
+        assert!(rt; fits(&attrs, Mode::Four, &prefix, 4096));
+        assert!(rt; !fits(&attrs, Mode::Two, &prefix, 4096));
+        assert!(rt; !fits(&attrs, Mode::Two, &prefix, 4257));
+        assert!(rt; fits(&attrs, Mode::Two, &prefix, 4258));
+        assert!(rt; fits(&attrs, Mode::Two, &prefix, 65535));
+        let packed = announced_in(Mode::Two, &attrs, &[prefix], &mut out);
+        assert!(rt; has(packed, 4258, 1));
+        assert!(rt; out[16..23].starts_with(b"\x10\xa2\x02\x00\x00\x10\x87"));
     }
     Ok(())
 }

@@ -1,7 +1,6 @@
-use Rattle.std.proofs.Common.{◌+◌, ◌<◌, ℕ, List, length, take, arith, sym, subst}
+use Rattle.std.proofs.Common.{◌+◌, ℕ, List, take, arith, subst}
 use Rattle.rs_octets.specs.Writes.{Writes}
-use Rattle.rs_attrs.specs.declared.mode.Mode.{Mode}
-use Rattle.rs_attrs.specs.Writing.{spelt, HasSpelling}
+use Rattle.rs_attrs.specs.Writing.{in_mode, spelt}
 use Rattle.rs_attrs.proofs.HeldLemmas.{short_values}
 use Rattle.rs_packer.specs.Parts.{announced_front}
 use Rattle.rs_packer.proofs.Announcing.{update_length, announced_written}
@@ -11,8 +10,7 @@ use Rattle.rs_packer.proofs.announced.pack_announced.Goals as goal
 pub put_attributes-end-requires-clause-spelling : goal.put_attributes-end-requires-clause-spelling
 put_attributes-end-requires-clause-spelling c =
     let one = update_length (spelt c.args.attrs.now c.args.mode) (take 1 c.args.prefixes.now) in
-    let P : Mode → Type 0 = λ mode. length (spelt c.args.attrs.now mode) < 65536 → HasSpelling c.args.attrs.now mode in
-    subst P (sym c.requires.mode) (short_values c.args.attrs.now) (omega (arith, c.requires.fits))
+    short_values (in_mode c.args.mode c.args.attrs.now) (omega (arith, c.requires.limit, c.requires.fits))
 
 pub put_prefixes-requires : goal.put_prefixes-requires
 put_prefixes-requires c =

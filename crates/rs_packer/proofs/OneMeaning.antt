@@ -1,0 +1,114 @@
+-- A body has one reading: its fields, the attributes and the faults that it denotes.
+use Rattle.std.proofs.Common.{◌≡◌, ℕ, ◌<◌, ◌≤◌, ◌⊎◌, inl, inr, nat_eq, Bool, true, false, cond, List, [], ◌∷◌, ◌++◌, length, take, drop, Some, None, refl, sym, ap, ◌∙◌, subst, arith, append_assoc}
+use Rattle.std.specs.List.{flat_map, AllByRecursion}
+use Rattle.std.specs.Int.{w16, from_be_bytes, to_be_bytes}
+use Rattle.std.proofs.Math.Seq.{take-append_seam, drop-append_seam}
+use Rattle.std.proofs.lemmas.Bool.{cases_lt, eq-eqb, eqb-true, ne_eqb}
+use Rattle.std.proofs.lemmas.Nat.{from_be_bytes-to_be_bytes_2}
+use Rattle.rs_attrs.specs.declared.mode.Mode.{Mode}
+use Rattle.rs_attrs.specs.declared.mode.Faults.{Faults}
+use Rattle.rs_attrs.specs.Spellings.{Spelling, spelling_octets, is_long, IsSpelling, BeginsNoAttribute}
+use Rattle.rs_attrs.specs.Meaning.{Attribute, get, AllAbove, IsRising, Reads, faults_of, kept}
+use Rattle.rs_attrs.specs.Effects.{Fields, IsBody, behind_its_length}
+
+-- two fronts as long as each other
+same_front : (xs ys vs ws : List ℕ) → length xs ≡ length ys → xs ++ vs ≡ ys ++ ws → (xs ≡ ys) × (vs ≡ ws)
+same_front xs ys vs ws n e = (
+  sym (take-append_seam xs vs) ∙ ap (take (length xs)) e ∙ ap (λ n. take n (ys ++ ws)) n ∙ take-append_seam ys ws,
+  sym (drop-append_seam xs vs) ∙ ap (drop (length xs)) e ∙ ap (λ n. drop n (ys ++ ws)) n ∙ drop-append_seam ys ws,
+)
+
+-- two fields behind their lengths
+same_field : (xs ys vs ws : List ℕ) → length xs < 65536 → length ys < 65536 → behind_its_length xs ++ vs ≡ behind_its_length ys ++ ws → (xs ≡ ys) × (vs ≡ ws)
+same_field xs ys vs ws h k e =
+    let size = sym (from_be_bytes-to_be_bytes_2 (length xs) h) ∙ ap (λ octets. from_be_bytes w16 (take 2 octets)) e ∙ from_be_bytes-to_be_bytes_2 (length ys) k in
+    same_front xs ys vs ws size (ap (drop 2) e)
+
+pub same_fields : (body : List ℕ) (f g : Fields) → IsBody body f → IsBody body g → f ≡ g
+same_fields body f g is other =
+    let whole =
+    sym (append_assoc (behind_its_length f.withdrawn) (behind_its_length f.attributes) f.nlri) ∙ sym is.whole
+    ∙ other.whole ∙ append_assoc (behind_its_length g.withdrawn) (behind_its_length g.attributes) g.nlri in
+    let first = same_field f.withdrawn g.withdrawn (behind_its_length f.attributes ++ f.nlri) (behind_its_length g.attributes ++ g.nlri) is.withdrawn other.withdrawn whole in
+    let second = same_field f.attributes g.attributes f.nlri g.nlri is.attributes other.attributes first.1 in
+    λ i. record { withdrawn = first.0 i; attributes = second.0 i; nlri = second.1 i }
+
+-- ---- attributes
+
+abbrev behind : Bool → List ℕ → List ℕ
+behind long value = cond long (to_be_bytes w16 (length value)) (length value ∷ []) ++ value
+
+same_value : (long : Bool) (xs ys vs ws : List ℕ) → length xs < cond long 65536 256 → length ys < cond long 65536 256 → behind long xs ++ vs ≡ behind long ys ++ ws → (xs ≡ ys) × (vs ≡ ws)
+same_value true xs ys vs ws h k e = same_field xs ys vs ws h k e
+same_value false xs ys vs ws h k e =
+    let size : length xs ≡ length ys = cc in
+    same_front xs ys vs ws size (ap (drop 1) e)
+
+same_spelling : (s t : Spelling) (vs ws : List ℕ) → IsSpelling s → IsSpelling t → spelling_octets s ++ vs ≡ spelling_octets t ++ ws → (s ≡ t) × (vs ≡ ws)
+same_spelling s t vs ws is other e =
+    let flags : s.flags ≡ t.flags = cc in
+    let kind : s.kind ≡ t.kind = cc in
+    let long : is_long t.flags ≡ is_long s.flags = ap is_long (sym flags) in
+    let rest : behind (is_long s.flags) s.value ++ vs ≡ behind (is_long t.flags) t.value ++ ws = ap (drop 2) e in
+    let both = same_value (is_long s.flags) s.value t.value vs ws is.length_fits
+    (subst (λ long. length t.value < cond long 65536 256) long other.length_fits)
+    (rest ∙ ap (λ long. behind long t.value ++ ws) long) in
+    (λ i. record { flags = flags i; kind = kind i; value = both.0 i }, both.1)
+
+same_spellings : (ss ts : List Spelling) (rest other : List ℕ) → AllByRecursion IsSpelling ss → AllByRecursion IsSpelling ts → BeginsNoAttribute rest → BeginsNoAttribute other
+    → flat_map spelling_octets ss ++ rest ≡ flat_map spelling_octets ts ++ other → (ss ≡ ts) × (rest ≡ other)
+same_spellings [] [] rest other each every stops ends e = (refl, e)
+same_spellings [] (t ∷ ts) rest other each every stops ends e =
+    absurd (stops t (flat_map spelling_octets ts ++ other) every.0 (e ∙ append_assoc (spelling_octets t) (flat_map spelling_octets ts) other))
+same_spellings (s ∷ ss) [] rest other each every stops ends e =
+    absurd (ends s (flat_map spelling_octets ss ++ rest) each.0 (sym e ∙ append_assoc (spelling_octets s) (flat_map spelling_octets ss) rest))
+same_spellings (s ∷ ss) (t ∷ ts) rest other each every stops ends e =
+    let whole = sym (append_assoc (spelling_octets s) (flat_map spelling_octets ss) rest) ∙ e ∙ append_assoc (spelling_octets t) (flat_map spelling_octets ts) other in
+    let first = same_spelling s t (flat_map spelling_octets ss ++ rest) (flat_map spelling_octets ts ++ other) each.0 every.0 whole in
+    let others = same_spellings ss ts rest other each.1 every.1 stops ends first.1 in
+    (λ i. first.0 i ∷ others.0 i, others.1)
+
+get_above : (kind low : ℕ) (m : List Attribute) → kind ≤ low → AllAbove low m → get kind m ≡ None
+get_above kind low [] h above = refl
+get_above kind low (a ∷ m) h above =
+    let here : low < a.kind = above.0 in
+    ap (λ b. cond b (Some a) (get kind m)) (ne_eqb a.kind kind (λ e. omega arith)) ∙ get_above kind low m h above.1
+
+get_first : (a : Attribute) (m : List Attribute) → get a.kind (a ∷ m) ≡ Some a
+get_first a m = ap (λ b. cond b (Some a) (get a.kind m)) (eq-eqb a.kind a.kind refl)
+
+-- a type that stands in a rising list does not stand below its first
+below : (a b : Attribute) (m n : List Attribute) → AllAbove b.kind n → ((kind : ℕ) → get kind (a ∷ m) ≡ get kind (b ∷ n)) → b.kind ≤ a.kind
+below a b m n above same = by_order (cases_lt a.kind b.kind)
+  where
+    by_order : (a.kind < b.kind) ⊎ (b.kind ≤ a.kind) → b.kind ≤ a.kind
+    by_order (inl h) =
+        let none : get a.kind (b ∷ n) ≡ None =
+        ap (λ t. cond t (Some b) (get a.kind n)) (ne_eqb b.kind a.kind (λ e. omega arith)) ∙ get_above a.kind b.kind n (omega arith) above in
+        let some : Some a ≡ None = sym (get_first a m) ∙ same a.kind ∙ none in cc
+    by_order (inr h) = h
+
+same_map : (m n : List Attribute) → IsRising m → IsRising n → ((kind : ℕ) → get kind m ≡ get kind n) → m ≡ n
+same_map [] [] rising other same = refl
+same_map [] (b ∷ n) rising other same = let e : None ≡ Some b = same b.kind ∙ get_first b n in cc
+same_map (a ∷ m) [] rising other same = let e : None ≡ Some a = sym (same a.kind) ∙ get_first a m in cc
+same_map (a ∷ m) (b ∷ n) rising other same =
+    let kinds : a.kind ≡ b.kind = (let h = below a b m n other.0 same in let k = below b a n m rising.0 (λ kind. sym (same kind)) in omega arith) in
+    let firsts : Some a ≡ Some b = sym (get_first a m) ∙ same a.kind ∙ ap (λ kind. get kind (b ∷ n)) kinds ∙ get_first b n in
+    let first : a ≡ b = cc in
+    let others = same_map m n rising.1 other.1 (λ kind. behind_first kind kinds (nat_eq a.kind kind) refl (same kind)) in
+    λ i. first i ∷ others i
+  where
+    behind_first : (kind : ℕ) → a.kind ≡ b.kind → (t : Bool) → nat_eq a.kind kind ≡ t → get kind (a ∷ m) ≡ get kind (b ∷ n) → get kind m ≡ get kind n
+    behind_first kind kinds true p e =
+        let here : a.kind ≡ kind = eqb-true a.kind kind p in
+        get_above kind a.kind m (omega arith) rising.0 ∙ sym (get_above kind b.kind n (omega arith) other.0)
+    behind_first kind kinds false p e =
+        ap (λ t. cond t (Some a) (get kind m)) (sym p) ∙ e ∙ ap (λ t. cond t (Some b) (get kind n)) (ap (λ k. nat_eq k kind) (sym kinds) ∙ p)
+
+pub same_meaning : (octets : List ℕ) (mode : Mode) (m n : List Attribute) (faults others : Faults) → Reads octets mode m faults → Reads octets mode n others → (m ≡ n) × (faults ≡ others)
+same_meaning octets mode m n faults others (ss, rest, split, meant, is) (ts, other, splits, means, are) =
+    let both = same_spellings ss ts rest other split.each splits.each split.ends splits.ends (sym split.whole ∙ splits.whole) in (
+      same_map m n meant.rising means.rising (λ kind. meant.same kind ∙ ap (λ ss. kept mode ss kind) both.0 ∙ sym (means.same kind)),
+      is ∙ (λ i. faults_of mode (both.0 i) (both.1 i)) ∙ sym are,
+    )
