@@ -6,7 +6,7 @@ ghost use Rattle.rs_replay.specs.FirstCore.{IsWithin};
 
 use super::config::Config;
 use rs_attrs::{Attrs, Mode};
-use rs_octets::{Kind, Prefix};
+use rs_octets::{Allowed, Kind, Prefix};
 use std::alloc::{AllocError, Global};
 
 /// What octets begin with.
@@ -22,7 +22,11 @@ pub(crate) fn cut_message(octets: &[u8]) -> Option<Cut<'_>>
     ensures { IfSome result (λ cut. IsWithin cut octets.now) }
 {
     let (head, behind) = octets.split_first_chunk::<19>()?;
-    match rs_octets::header(head) {
+    let allowed = Allowed {
+        long: false,
+        refresh: false,
+    };
+    match rs_octets::header(head, allowed) {
         Ok(head) => {
             let size = usize::from(head.length).saturating_sub(19);
             if behind.len() < size {
@@ -167,8 +171,7 @@ pub(crate) fn announce(
     ensures count { IfSome result (λ packed. packed.1 ≤ length prefixes.now) }
 {
     let least = prefixes.first()?;
-    let size = rs_attrs::size(attrs, Mode::Four).saturating_add(least.size());
-    if size.saturating_add(23) > out.len() {
+    if !rs_packer::fits(attrs, Mode::Four, least, out.len()) {
         return None;
     }
     let packed = rs_packer::pack_announced(attrs, Mode::Four, prefixes, out);
