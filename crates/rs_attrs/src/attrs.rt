@@ -1,5 +1,15 @@
 //! A map from types to attributes.
 
+ghost use Rattle.std.specs.Prelude.{◌≡◌, ◌↔◌, IsTrue, refl};
+ghost use Rattle.std.specs.Ordering.{as_partial_cmp};
+ghost use Rattle.std.specs.Cmp.{po};
+ghost use Rattle.std.specs.Cmp;
+ghost use Rattle.rs_attrs.specs.Comparing.{same_attributes, attributes_cmp, attributes_writes};
+ghost use Rattle.rs_attrs.specs.ComparisonLaws.{same_attributes_equiv, attributes_cmp_total, attributes_ties, same_attributes_writes};
+
+use std::alloc::AllocError;
+use std::cmp::Ordering;
+use std::hash::{Hash, Hasher};
 use std::marker::Model;
 
 /// An attribute but for its value.
@@ -30,4 +40,72 @@ impl Model for Attrs {
     ghost view = { λ a. attributes_in a.heads.items a.values.items };
 
     ghost invariant = { λ a. IsHeld a.heads.items a.values.items };
+}
+
+impl Clone for Attrs {
+    ghost is_clone = { λ attrs copy. copy ≡ attrs };
+
+    fn clone(&self) -> Result<Attrs, AllocError> {
+        Ok(Attrs {
+            heads: self.heads.clone()?,
+            values: self.values.clone()?,
+        })
+    }
+}
+
+/// Equal where both have the same types, with the same flags and values.
+impl PartialEq for Attrs {
+    ghost eq = { same_attributes };
+
+    ghost laws = { Cmp.partial_equiv_from_equiv same_attributes_equiv };
+
+    fn eq(&self, other: &Attrs) -> bool
+        ensures value { result ≡ same_attributes self.now other.now }
+        ensures decides { IsTrue result ↔ (self.now ≡ other.now) }
+    {
+        self.heads == other.heads && self.values == other.values
+    }
+}
+
+impl Eq for Attrs {
+    ghost laws = { same_attributes_equiv };
+}
+
+impl PartialOrd for Attrs {
+    ghost partial_cmp = { as_partial_cmp attributes_cmp };
+
+    ghost laws = { po attributes_cmp_total attributes_ties };
+
+    fn partial_cmp(&self, other: &Attrs) -> Option<Ordering> {
+        Some(self.cmp(other))
+    }
+}
+
+/// First by the types, flags and lengths of all attributes, then by the octets of their values.
+impl Ord for Attrs {
+    ghost cmp = { attributes_cmp };
+
+    ghost total = { attributes_cmp_total };
+
+    ghost matches_partial_cmp = { λ x y. refl };
+
+    ghost matches_eq = { attributes_ties };
+
+    fn cmp(&self, other: &Attrs) -> Ordering {
+        match self.heads.cmp(&other.heads) {
+            Ordering::Equal => self.values.cmp(&other.values),
+            unequal => unequal,
+        }
+    }
+}
+
+impl Hash for Attrs {
+    ghost hash_input = { attributes_writes };
+
+    ghost respects_eq = { same_attributes_writes };
+
+    fn hash<H: Hasher>(&self, state: &mut H) {
+        self.heads.hash(state);
+        state.write(&self.values);
+    }
 }

@@ -1,0 +1,22 @@
+use Rattle.std.proofs.Common.{◌≡◌, Bool, ◌&&◌, sym, ap, ◌∙◌, nat_eq}
+use Rattle.std.specs.Cmp.Lexicographic.{pointwise}
+use Rattle.std.proofs.lemmas.Bool.Decides.{Decides-at, same_from_decides}
+use Rattle.rs_attrs.specs.ComparisonLaws.{attributes_decides}
+use Rattle.rs_attrs.proofs.HeldComparison.{same_head, held_decides}
+use Rattle.rs_attrs.proofs.attrs.AttrsPartialEq.eq.Goals as goal
+
+pub returns-then-eq : goal.returns-then-eq
+returns-then-eq c =
+    let heads : Bool = pointwise same_head c.self.inside.heads.items c.other.inside.heads.items in
+    let octets : Bool = pointwise nat_eq c.self.inside.values.items c.other.inside.values.items in
+    let both : heads && octets ≡ c.eq-then-eq.result = ap (λ b. b && octets) (sym c.eq.ensures ∙ c.if-eq.true) ∙ sym c.eq-then-eq.ensures in
+    let decides = Decides-at c.eq-then-eq.result (heads && octets) (sym both) (held_decides _ _ _ _ _ _ c.self.invariant.size c.other.invariant.size c.self.view_is c.other.view_is) in
+    record { value = same_from_decides _ _ decides (attributes_decides c.args.self.now c.args.other.now); decides = decides }
+
+pub returns-else-eq : goal.returns-else-eq
+returns-else-eq c =
+    let heads : Bool = pointwise same_head c.self.inside.heads.items c.other.inside.heads.items in
+    let octets : Bool = pointwise nat_eq c.self.inside.values.items c.other.inside.values.items in
+    let both : heads && octets ≡ c.eq.result = ap (λ b. b && octets) (sym c.eq.ensures ∙ c.if-eq.false) ∙ sym c.if-eq.false in
+    let decides = Decides-at c.eq.result (heads && octets) (sym both) (held_decides _ _ _ _ _ _ c.self.invariant.size c.other.invariant.size c.self.view_is c.other.view_is) in
+    record { value = same_from_decides _ _ decides (attributes_decides c.args.self.now c.args.other.now); decides = decides }

@@ -1,0 +1,11 @@
+use Rattle.std.proofs.Common.{cond, length, sym, ap, ◌∙◌}
+use Rattle.std.proofs.lemmas.Bool.{ne_eqb}
+use Rattle.rs_attrs.specs.Paths.{segment_length, quads}
+use Rattle.rs_attrs.proofs.SegmentWalk.{length-quads}
+use Rattle.rs_attrs.proofs.segments.PathSegment.path_len.Goals as goal
+
+pub returns-else-self-eq1 : goal.returns-else-self-eq1
+returns-else-self-eq1 c =
+    sym (length-quads c.self.inside.numbers.now)
+    ∙ ap (λ b. cond b 1 (length (quads c.self.inside.numbers.now))) (sym (ne_eqb c.self.inside.kind 1 c.if-self-eq1.false))
+    ∙ ap segment_length c.self.view_is

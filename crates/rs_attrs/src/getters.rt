@@ -1,0 +1,150 @@
+//! What the attributes of a route say. No call takes memory.
+
+ghost use Rattle.std.specs.Prelude.{◌≡◌, ◌≤◌, ◌<◌, ◌^◌, IfSome, length, option_map, sum_by, true};
+ghost use Rattle.std.specs.Int.{w32, from_be_bytes};
+ghost use Rattle.rs_attrs.specs.Held.{attributes_in, values_size};
+ghost use Rattle.rs_attrs.specs.Meaning.{get};
+ghost use Rattle.rs_attrs.specs.Paths.{segment_length};
+ghost use Rattle.rs_attrs.specs.Getters.{attribute_at, IsWellFormedAs, value_of, origin_of, path_of, next_hop_of, med_of, communities_of, has_community, path_length_of, path_has_of, origin_as_of};
+
+use crate::attrs::{Attrs, Head};
+use crate::segments::{Numbers, Segments};
+
+/// An attribute as it stands in `Attrs`.
+#[derive(Clone, Copy, Debug)]
+pub struct AttributeRef<'a> {
+    pub kind: u8,
+    pub optional: bool,
+    pub transitive: bool,
+    pub partial: bool,
+    pub value: &'a [u8],
+}
+
+/// The attribute of a type, where one of the heads is of that type.
+fn find<'a>(heads: &[Head], values: &'a [u8], kind: u8) -> Option<AttributeRef<'a>>
+    requires { values_size heads.now ≤ length values.now }
+    ensures { option_map attribute_at result ≡ get kind (attributes_in heads.now values.now) }
+{
+    let mut values = values;
+    for head in heads {
+        let (value, rest) = values.split_at(head.len as usize);
+        if head.kind == kind {
+            return Some(AttributeRef {
+                kind,
+                optional: head.optional,
+                transitive: head.transitive,
+                partial: head.partial,
+                value,
+            });
+        }
+        values = rest;
+    }
+    None
+}
+
+/// The number that four octets spell.
+#[tactic(auto, using(crate::proofs::WellFormed::four_cells))]
+fn number(value: &[u8]) -> u32
+    requires { length value.now ≡ 4 }
+    ensures { result ≡ from_be_bytes w32 value.now }
+{
+    u32::from_be_bytes([value[0], value[1], value[2], value[3]])
+}
+
+fn path_length(segments: Segments<'_>) -> usize
+    requires { sum_by segment_length segments < 2 ^ 64 }
+    ensures { result ≡ sum_by segment_length segments.entry }
+{
+    segments.map(|segment| segment.path_len()).sum()
+}
+
+impl Attrs {
+    /// The attribute of this type.
+    pub fn get(&self, kind: u8) -> Option<AttributeRef<'_>>
+        ensures attribute { option_map attribute_at result ≡ get kind self.now }
+        ensures value { option_map (λ a. a.value.now) result ≡ value_of kind self.now }
+    {
+        find(&self.heads, &self.values, kind)
+    }
+
+    /// The value of the attribute of this type, which is well formed.
+    pub(crate) fn value(&self, kind: u8) -> Option<&[u8]>
+        ensures value { option_map (λ value. value.now) result ≡ value_of kind self.now }
+        ensures form { IfSome result (λ value. IsWellFormedAs kind value.now) }
+    {
+        let _legal = &self.heads;
+        Some(self.get(kind)?.value)
+    }
+
+    /// ORIGIN: 0 for IGP, 1 for EGP, 2 for INCOMPLETE (RFC 4271, 5.1.1).
+    pub fn origin(&self) -> Option<u8>
+        ensures { result ≡ origin_of self.now }
+    {
+        let value = self.value(1)?;
+        Some(value[0])
+    }
+
+    /// NEXT_HOP (RFC 4271, 5.1.3).
+    pub fn next_hop(&self) -> Option<u32>
+        ensures { result ≡ next_hop_of self.now }
+    {
+        Some(number(self.value(3)?))
+    }
+
+    /// MULTI_EXIT_DISC (RFC 4271, 5.1.4).
+    pub fn med(&self) -> Option<u32>
+        ensures { result ≡ med_of self.now }
+    {
+        Some(number(self.value(4)?))
+    }
+
+    /// The segments of AS_PATH, none where there is no AS_PATH.
+    fn path(&self) -> Segments<'_>
+        ensures segments { result ≡ path_of self.now }
+        ensures short { path_length_of self.now < 2 ^ 64 }
+    {
+        match self.value(2) {
+            Some(value) => Segments::of(value),
+            None => Segments::of(&[]),
+        }
+    }
+
+    /// The length of AS_PATH: each set counts 1 (RFC 4271, 9.1.2.2, a).
+    pub fn path_len(&self) -> usize
+        ensures { result ≡ path_length_of self.now }
+    {
+        path_length(self.path())
+    }
+
+    /// Whether the AS number stands in AS_PATH, in a set or in a sequence.
+    pub fn path_has(&self, number: u32) -> bool
+        ensures { result ≡ path_has_of number self.now }
+    {
+        self.path().any(|segment| segment.has(number))
+    }
+
+    /// The AS that the route comes from: the last number of AS_PATH, where its last segment is a
+    /// sequence.
+    pub fn origin_as(&self) -> Option<u32>
+        ensures { result ≡ origin_as_of self.now }
+    {
+        self.path().last()?.origin()
+    }
+
+    /// The communities, none where there is no COMMUNITIES (RFC 1997).
+    fn communities(&self) -> Numbers<'_>
+        ensures { result ≡ communities_of self.now }
+    {
+        match self.value(8) {
+            Some(value) => Numbers::of(value),
+            None => Numbers::of(&[]),
+        }
+    }
+
+    /// Whether COMMUNITIES has this community (RFC 1997).
+    pub fn has_community(&self, community: u32) -> bool
+        ensures { result ≡ has_community community self.now }
+    {
+        self.communities().any(|c| c == community)
+    }
+}

@@ -1,0 +1,177 @@
+//! The segments of a path and the numbers in them, read from their octets as they are asked for.
+
+ghost use Rattle.std.specs.Prelude.{◌≡◌, ◌<◌, ◌*◌, ◌^◌, ◌==◌, true, length};
+ghost use Rattle.std.specs.Iterator.{YieldsFirst, item_count};
+ghost use Rattle.std.specs.List.{list_any};
+ghost use Rattle.rs_attrs.specs.Paths.{four_octets, quads, segment_length, path_length, path_has, origin_as, segment_origin, last_of};
+ghost use Rattle.rs_attrs.specs.Table.{is_path};
+ghost use Rattle.rs_attrs.specs.Writing.{path_in, needs_four_octets};
+
+use std::marker::Model;
+
+/// The numbers that octets spell, four octets each.
+#[derive(Debug, Drop)]
+pub(crate) struct Numbers<'a> {
+    octets: &'a [u8],
+}
+
+impl<'a> Model for Numbers<'a> {
+    ghost use Rattle.std.specs.Prelude.{List, ℕ};
+
+    ghost Value = { List ℕ };
+
+    ghost use Rattle.rs_attrs.specs.Paths.{quads};
+
+    ghost view = { λ n. quads n.octets.now };
+}
+
+impl<'a> Numbers<'a> {
+    pub(crate) fn of(octets: &'a [u8]) -> Numbers<'a>
+        ensures numbers { result ≡ quads octets.now }
+        ensures short { 4 * length result < 2 ^ 64 }
+    {
+        // Numbers take four octets each, whose number is a usize.
+        let _octets = octets.len();
+        Numbers { octets }
+    }
+}
+
+impl Iterator for Numbers<'_> {
+    type Item = u32;
+
+    ghost next_gives = { YieldsFirst (λ numbers. numbers) };
+
+    ghost remaining = { item_count (λ numbers. numbers) };
+
+    fn next(&mut self) -> Option<u32> {
+        if self.octets.len() < 4 {
+            return None;
+        }
+        let (number, rest) = self.octets.split_at(4);
+        self.octets = rest;
+        Some(u32::from_be_bytes([number[0], number[1], number[2], number[3]]))
+    }
+}
+
+/// A segment of a path.
+#[derive(Debug, Drop)]
+pub(crate) struct PathSegment<'a> {
+    kind: u8,
+    numbers: &'a [u8],
+}
+
+impl<'a> Model for PathSegment<'a> {
+    ghost use Rattle.rs_attrs.specs.Paths.{Segment, quads};
+
+    ghost Value = { Segment };
+
+    ghost view = { λ s. record { kind = s.kind; numbers = quads s.numbers.now } };
+}
+
+impl PathSegment<'_> {
+    /// 1 for a set, 2 for a sequence.
+    pub(crate) fn kind(&self) -> u8
+        ensures { result ≡ self.now.kind }
+    {
+        self.kind
+    }
+
+    /// How many numbers it has.
+    pub(crate) fn count(&self) -> usize
+        ensures { result ≡ length self.now.numbers }
+    {
+        self.numbers.len() / 4
+    }
+
+    pub(crate) fn numbers(&self) -> Numbers<'_>
+        ensures { result ≡ self.now.numbers }
+    {
+        Numbers::of(self.numbers)
+    }
+
+    /// Whether a number needs four octets.
+    pub(crate) fn needs_four(&self) -> bool
+        ensures { result ≡ list_any needs_four_octets self.now.numbers }
+    {
+        Numbers::of(self.numbers).any(|n| n > 65535)
+    }
+
+    /// What it adds to the length of its path: a set counts 1 (RFC 4271, 9.1.2.2, a).
+    pub(crate) fn path_len(&self) -> usize
+        ensures { result ≡ segment_length self.now }
+    {
+        if self.kind == 1 {
+            1
+        } else {
+            self.numbers.len() / 4
+        }
+    }
+
+    pub(crate) fn has(&self, number: u32) -> bool
+        ensures { result ≡ list_any (λ n. n == number) self.now.numbers }
+    {
+        Numbers::of(self.numbers).any(|n| n == number)
+    }
+
+    /// The last number of a sequence.
+    pub(crate) fn origin(&self) -> Option<u32>
+        ensures { result ≡ segment_origin (Some self.now) }
+    {
+        if self.kind == 2 {
+            Numbers::of(self.numbers).last()
+        } else {
+            None
+        }
+    }
+}
+
+/// The segments of a well-formed path with AS numbers in four octets.
+#[derive(Debug, Drop)]
+pub(crate) struct Segments<'a> {
+    octets: &'a [u8],
+}
+
+impl<'a> Model for Segments<'a> {
+    ghost use Rattle.std.specs.Prelude.{◌≡◌, List, true};
+    ghost use Rattle.rs_attrs.specs.Paths.{Segment, four_octets};
+    ghost use Rattle.rs_attrs.specs.Table.{is_path};
+    ghost use Rattle.rs_attrs.specs.Writing.{path_in};
+
+    ghost Value = { List Segment };
+
+    ghost view = { λ s. path_in s.octets.now };
+
+    ghost invariant = { λ s. is_path four_octets s.octets.now ≡ true };
+}
+
+impl<'a> Segments<'a> {
+    pub(crate) fn of(value: &'a [u8]) -> Segments<'a>
+        requires { is_path four_octets value.now ≡ true }
+        ensures segments { result ≡ path_in value.now }
+        ensures short { path_length result < 2 ^ 64 }
+    {
+        // A path is no longer than its octets, whose number is a usize.
+        let _octets = value.len();
+        Segments { octets: value }
+    }
+}
+
+impl<'a> Iterator for Segments<'a> {
+    type Item = PathSegment<'a>;
+
+    ghost next_gives = { YieldsFirst (λ segments. segments) };
+
+    ghost remaining = { item_count (λ segments. segments) };
+
+    fn next(&mut self) -> Option<PathSegment<'a>> {
+        if self.octets.len() < 2 {
+            return None;
+        }
+        let kind = self.octets[0];
+        let count = self.octets[1];
+        let (_, behind) = self.octets.split_at(2);
+        let (numbers, rest) = behind.split_at(4 * usize::from(count));
+        self.octets = rest;
+        Some(PathSegment { kind, numbers })
+    }
+}
