@@ -1,16 +1,19 @@
 -- What stripping changes: the communities, and nothing else.
-use Rattle.std.proofs.Common.{◌≡◌, ℕ, ◌^◌, ◌<◌, ◌==◌, Bool, true, false, cond, not, List, [], ◌∷◌, ◌++◌, Option, Some, None, option_map, unwrap_or, refl, sym, ap, ◌∙◌, subst, arith, eqb-true}
-use Rattle.std.specs.List.{flat_map, AllByRecursion}
-use Rattle.std.specs.Int.{w32, to_be_bytes}
-use Rattle.std.proofs.lemmas.Bool.{ne_eqb}
-use Rattle.std.proofs.lemmas.Nat.{from_be_bytes-to_be_bytes_4}
+use Rattle.std.proofs.Common.{◌≡◌, ℕ, zero, suc, ◌%◌, ◌^◌, ◌<◌, ◌||◌, length, get_or, lit<, nat_lt, ◌==◌, Bool, true, false, cond, not, List, [], ◌∷◌, ◌++◌, Option, Some, None, option_map, unwrap_or, refl, sym, ap, ◌∙◌, subst, arith, eqb-true}
+use Rattle.std.specs.List.{flat_map, list_any, AllByRecursion}
+use Rattle.std.specs.Int.{w32, to_be_bytes, from_be_bytes}
+use Rattle.std.proofs.lemmas.Bool.{ne_eqb, ltb-true}
+use Rattle.std.specs.Cmp.{first_so, second_so}
+use Rattle.std.proofs.lemmas.Nat.{from_be_bytes-to_be_bytes_4, be_bytes_4}
 use Rattle.rs_attrs.specs.Spellings.{AreOctets}
 use Rattle.rs_attrs.specs.Meaning.{Attribute, get, AllAbove, IsRising}
 use Rattle.rs_attrs.specs.Paths.{quads}
 use Rattle.rs_attrs.specs.Writing.{IsLegal, IsLegalAttribute, with_value}
-use Rattle.rs_attrs.specs.Getters.{communities_of}
+use Rattle.rs_attrs.specs.Getters.{IsWellFormedAs, communities_of}
 use Rattle.rs_attrs.specs.Stripping.{is_stripped, unstripped, with_communities, left_of, stripped_of}
+use Rattle.rs_attrs.specs.Table.{is_filled_list_of}
 use Rattle.rs_attrs.proofs.StrippedLegal.{stripped_above}
+use Rattle.rs_attrs.proofs.WellFormed.{row_kept}
 
 -- ---- numbers of four octets
 
@@ -29,6 +32,23 @@ quads_fit (a ∷ b ∷ c ∷ d ∷ octets) h =
 quads_back : (numbers : List ℕ) → AllByRecursion (λ c. c < 2 ^ 32) numbers → quads (flat_map (to_be_bytes w32) numbers) ≡ numbers
 quads_back [] h = refl
 quads_back (n ∷ numbers) h = λ i. from_be_bytes-to_be_bytes_4 n h.0 i ∷ quads_back numbers h.1 i
+
+-- octets in fours are those of their numbers
+octets_back : (octets : List ℕ) → AreOctets octets → length octets % 4 ≡ 0 → flat_map (to_be_bytes w32) (quads octets) ≡ octets
+octets_back [] h e = refl
+octets_back (a ∷ []) h e = absurd (omega arith)
+octets_back (a ∷ b ∷ []) h e = absurd (omega arith)
+octets_back (a ∷ b ∷ c ∷ []) h e = absurd (omega arith)
+octets_back (a ∷ b ∷ c ∷ d ∷ octets) h e =
+    let four = be_bytes_4 (a ∷ b ∷ c ∷ d ∷ []) (from_be_bytes w32 (a ∷ b ∷ c ∷ d ∷ [])) refl fit refl in
+    (λ i. four i ++ octets_back octets h.1.1.1.1 (omega arith) i)
+  where
+    fit : (i : ℕ) → get_or (a ∷ b ∷ c ∷ d ∷ []) i 0 < 256
+    fit zero = h.0
+    fit (suc zero) = h.1.0
+    fit (suc (suc zero)) = h.1.1.0
+    fit (suc (suc (suc zero))) = h.1.1.1.0
+    fit (suc (suc (suc (suc i)))) = lit< tt
 
 module _ (lists : List (List ℕ)) (all : Bool) where
   unstripped_fit : (communities : List ℕ) → AllByRecursion (λ c. c < 2 ^ 32) communities → AllByRecursion (λ c. c < 2 ^ 32) (unstripped lists all communities)
@@ -88,3 +108,47 @@ module _ (lists : List (List ℕ)) (all : Bool) where
 
   pub stripped_communities : (m : List Attribute) → IsLegal m → communities_of (stripped_of lists all m) ≡ unstripped lists all (communities_of m)
   stripped_communities m legal = left_communities m legal.rising legal.each
+
+  -- ---- nothing to strip
+
+  stay : (communities : List ℕ) → list_any (is_stripped lists all) communities ≡ false → unstripped lists all communities ≡ communities
+  stay [] h = refl
+  stay (c ∷ communities) h = by (is_stripped lists all c) h (stay communities)
+    where
+      by : (b : Bool) → b || list_any (is_stripped lists all) communities ≡ false → (list_any (is_stripped lists all) communities ≡ false → unstripped lists all communities ≡ communities)
+          → cond (not b) (c ∷ unstripped lists all communities) (unstripped lists all communities) ≡ c ∷ communities
+      by true none more = cc
+      by false none more = ap (λ cs. c ∷ cs) (more none)
+
+  -- without COMMUNITIES
+  without : (m : List Attribute) → AllAbove 8 m → stripped_of lists all m ≡ m
+  without [] h = refl
+  without (a ∷ m) h =
+      let above : 8 < a.kind = h.0 in
+      let apart : a.kind ≡ 8 → ⊥ = λ e. omega arith in
+      (λ i. cond (ne_eqb a.kind 8 apart i) (with_communities a (unstripped lists all (quads a.value))) (a ∷ []) ++ without m h.1 i)
+
+  whole : (a : Attribute) → a.kind ≡ 8 → IsLegalAttribute a → list_any (is_stripped lists all) (quads a.value) ≡ false → with_communities a (unstripped lists all (quads a.value)) ≡ a ∷ []
+  whole a kind legal none =
+      let form = subst (λ k. IsWellFormedAs k a.value) kind (row_kept a legal) in
+      let filled : is_filled_list_of 4 a.value ≡ true = form.form _ refl refl in
+      let some : 0 < length a.value = ltb-true 0 (length a.value) (first_so (nat_lt 0 (length a.value)) (length a.value % 4 == 0) filled) in
+      let fours : length a.value % 4 ≡ 0 = eqb-true (length a.value % 4) 0 (second_so (nat_lt 0 (length a.value)) (length a.value % 4 == 0) filled) in
+      ap (with_communities a) (stay (quads a.value) none) ∙ by some (quads a.value) (octets_back a.value legal.octets fours)
+    where
+      by : 0 < length a.value → (communities : List ℕ) → flat_map (to_be_bytes w32) communities ≡ a.value → with_communities a communities ≡ a ∷ []
+      by some [] e = let none = ap length e in absurd (omega (arith, none))
+      by some (c ∷ communities) e = λ i. with_value a (e i) ∷ []
+
+  pub stripped_same : (m : List Attribute) → IsRising m → AllByRecursion IsLegalAttribute m → list_any (is_stripped lists all) (communities_of m) ≡ false → stripped_of lists all m ≡ m
+  stripped_same [] rising each none = refl
+  stripped_same (a ∷ m) rising each none = by (a.kind == 8) refl none (λ none. stripped_same m rising.1 each.1 none)
+    where
+      by : (b : Bool) → b ≡ (a.kind == 8) → list_any (is_stripped lists all) (communities_at (cond b (Some a) (get 8 m))) ≡ false
+          → (list_any (is_stripped lists all) (communities_of m) ≡ false → stripped_of lists all m ≡ m)
+          → cond b (with_communities a (unstripped lists all (quads a.value))) (a ∷ []) ++ stripped_of lists all m ≡ a ∷ m
+      by true t none more =
+          let kind : a.kind ≡ 8 = eqb-true a.kind 8 (sym t) in
+          let rest : stripped_of lists all m ≡ m = without m (subst (λ k. AllAbove k m) kind rising.0) in
+          λ i. whole a kind each.0 none i ++ rest i
+      by false t none more = ap (λ m. a ∷ m) (more none)

@@ -29,7 +29,7 @@ both_kept true false o n k = cc
 both_kept false true o n k = refl
 both_kept false false o n k = cc
 
-row_kept : (a : Attribute) → IsLegalAttribute a → IsWellFormedAs a.kind a.value
+pub row_kept : (a : Attribute) → IsLegalAttribute a → IsWellFormedAs a.kind a.value
 row_kept a legal = record {
   form = λ r row bad. both_kept (fits_class r.class (spelling_of a).flags) (is_well_formed Four r.shape a.value) r.otherwise bad (ap (λ o. is_kept (outcome_by Four o (spelling_of a))) (sym row) ∙ legal.is_kept);
 }

@@ -1,4 +1,8 @@
-//! A map from types to attributes.
+//! The attributes of a route: how they lie in memory, and their equality, order and hash.
+//!
+//! A head for each attribute, by rising type, and one run of octets, their values one after the
+//! other: two heap blocks, however many attributes there are. Whatever makes an `Attrs` proves that
+//! the heads have the lengths of the values and that the attributes are legal.
 
 ghost use Rattle.std.specs.Prelude.{◌≡◌, ◌↔◌, IsTrue, refl};
 ghost use Rattle.std.specs.Ordering.{as_partial_cmp};
@@ -22,7 +26,8 @@ pub(crate) struct Head {
     pub(crate) len: u32,
 }
 
-/// A map from types to attributes, always legal.
+/// The attributes of a route, one of each type at most, with AS numbers in four octets whatever
+/// the peer spells; always legal (RFC 4271, 5; RFC 7606).
 #[derive(Debug, Drop)]
 pub struct Attrs {
     pub(crate) heads: Vec<Head>,

@@ -132,7 +132,7 @@ impl Attrs {
     }
 
     /// The communities, none where there is no COMMUNITIES (RFC 1997).
-    fn communities(&self) -> Numbers<'_>
+    pub(crate) fn communities(&self) -> Numbers<'_>
         ensures { result ≡ communities_of self.now }
     {
         match self.value(8) {

@@ -198,6 +198,8 @@ fn strips_communities(rt: HostRuntime) -> Result<(), Fail> {
             all,
         };
         let outcome = stripped(alloc, &sent, &strip)?;
+        assert_eq!(rt; strip.changes(&sent), *left != sent, "{strip:?}");
+        assert!(rt; !strip.changes(&route));
         assert!(rt; outcome == *left, "{strip:?}");
         assert!(rt; stripped(alloc, &route, &strip)? == route);
     }

@@ -3,7 +3,7 @@
 ghost use Rattle.std.specs.Prelude.{◌≡◌, ◌<◌, ◌*◌, ◌^◌, ◌==◌, true, length};
 ghost use Rattle.std.specs.Iterator.{YieldsFirst, item_count};
 ghost use Rattle.std.specs.List.{list_any};
-ghost use Rattle.rs_attrs.specs.Paths.{four_octets, quads, segment_length, path_length, path_has, origin_as, segment_origin, last_of};
+ghost use Rattle.rs_attrs.specs.Paths.{four_octets, quads, segment_length, path_length, segment_origin};
 ghost use Rattle.rs_attrs.specs.Table.{is_path};
 ghost use Rattle.rs_attrs.specs.Writing.{path_in, needs_four_octets};
 

@@ -1,7 +1,7 @@
 //! Communities that are taken out of a route before it is passed on.
 
-ghost use Rattle.std.specs.Prelude.{◌≡◌, ℕ, ◌<◌, ◌≤◌, ◌*◌, ◌^◌, ◌++◌, length, IfOk};
-ghost use Rattle.std.specs.List.{flat_map};
+ghost use Rattle.std.specs.Prelude.{◌≡◌, ℕ, false, ◌<◌, ◌≤◌, ◌*◌, ◌^◌, ◌++◌, length, IfOk};
+ghost use Rattle.std.specs.List.{flat_map, list_any};
 ghost use Rattle.std.specs.Int.{w32, to_be_bytes};
 ghost use Rattle.rs_attrs.specs.Held.{attribute_by, attributes_in, values_size};
 ghost use Rattle.rs_attrs.specs.Getters.{communities_of};
@@ -26,6 +26,15 @@ impl Strip<'_> {
         ensures { result ≡ is_stripped (lists_in self.now) self.now.all community }
     {
         self.all || self.lists.iter().any(|list| list.contains(&community))
+    }
+
+    /// Whether a community of these attributes is taken out. Where none is, `stripped` copies them.
+    pub fn changes(&self, attrs: &Attrs) -> bool
+        ensures value { result ≡ list_any (is_stripped (lists_in self.now) self.now.all) (communities_of attrs.now) }
+        ensures same { result ≡ false → stripped_of (lists_in self.now) self.now.all attrs.now ≡ attrs.now }
+    {
+        let _legal = &attrs.heads;
+        attrs.communities().any(|community| self.takes(community))
     }
 }
 
