@@ -78,10 +78,12 @@ same_by s (two ∷ twos) (four ∷ fours) pairs = by_pair pairs.0 (same_by s two
   where
     rest : List TypeRow → Option TypeRow
     rest rows = find (λ r. r.kind == s.kind) rows
+
     by_test : (r : TypeRow) → ((value : List ℕ) → is_well_formed Two r.shape value ≡ is_well_formed Four r.shape value) → outcome_by Two (rest twos) s ≡ outcome_by Four (rest fours) s
         → (b : Bool) → outcome_by Two (cond b (Some r) (rest twos)) s ≡ outcome_by Four (cond b (Some r) (rest fours)) s
     by_test r same later true = ap (λ well. cond (fits_class r.class s.flags) (cond well Kept r.otherwise) Withdraw) (same s.value)
     by_test r same later false = later
+
     by_pair : RowPair s two four → outcome_by Two (rest twos) s ≡ outcome_by Four (rest fours) s
         → outcome_by Two (cond (nat_eq two.kind s.kind) (Some two) (rest twos)) s ≡ outcome_by Four (cond (nat_eq four.kind s.kind) (Some four) (rest fours)) s
     by_pair (One is same) later =
@@ -107,22 +109,52 @@ same_outcome s plain =
     let as4_aggregator = other 18 plain.not_as4_aggregator in
     same_by s (rows Two) (rows Four) (
       One refl (λ value. refl),
-      (Other path path,
-      (One refl (λ value. refl),
-      (One refl (λ value. refl),
-      (One refl (λ value. refl),
-      (One refl (λ value. refl),
-      (Other aggregator aggregator,
-      (One refl (λ value. refl),
-      (One refl (λ value. refl),
-      (One refl (λ value. refl),
-      (One refl (λ value. refl),
-      (One refl (λ value. refl),
-      (One refl (λ value. refl),
-      (One refl (λ value. refl),
-      (Other as4_path as4_path,
-      (Other as4_aggregator as4_aggregator,
-      tt))))))))))))))),
+      (
+        Other path path,
+        (
+          One refl (λ value. refl),
+          (
+            One refl (λ value. refl),
+            (
+              One refl (λ value. refl),
+              (
+                One refl (λ value. refl),
+                (
+                  Other aggregator aggregator,
+                  (
+                    One refl (λ value. refl),
+                    (
+                      One refl (λ value. refl),
+                      (
+                        One refl (λ value. refl),
+                        (
+                          One refl (λ value. refl),
+                          (
+                            One refl (λ value. refl),
+                            (
+                              One refl (λ value. refl),
+                              (
+                                One refl (λ value. refl),
+                                (
+                                  Other as4_path as4_path,
+                                  (
+                                    Other as4_aggregator as4_aggregator,
+                                    tt,
+                                  ),
+                                ),
+                              ),
+                            ),
+                          ),
+                        ),
+                      ),
+                    ),
+                  ),
+                ),
+              ),
+            ),
+          ),
+        ),
+      ),
     )
 
 -- ---- AS_PATH

@@ -41,6 +41,7 @@ get_filter p kind (a ∷ m) = by_tests (p a.kind) (nat_eq a.kind kind) refl refl
   where
     rest : Option Attribute
     rest = get kind (filter (λ (a : Attribute). p a.kind) m)
+
     by_tests : (b c : Bool) → p a.kind ≡ b → nat_eq a.kind kind ≡ c → rest ≡ cond (p kind) (get kind m) None
         → get kind (cond b (a ∷ filter (λ (a : Attribute). p a.kind) m) (filter (λ (a : Attribute). p a.kind) m)) ≡ cond (p kind) (cond c (Some a) (get kind m)) None
     by_tests true true e f later =
@@ -110,6 +111,7 @@ as4_other kind no17 no18 (a ∷ m) =
   where
     rest : List Attribute
     rest = flat_map as4_of m
+
     by_tests : (b c : Bool) → get kind rest ≡ None → get kind (cond b (as4_attribute 17 a.value ∷ []) (cond c (as4_attribute 18 a.value ∷ []) []) ++ rest) ≡ None
     by_tests true c later = ap (λ t. cond t (Some (as4_attribute 17 a.value)) (get kind rest)) (ne_eqb 17 kind (λ e. no17 (sym e))) ∙ later
     by_tests false true later = ap (λ t. cond t (Some (as4_attribute 18 a.value)) (get kind rest)) (ne_eqb 18 kind (λ e. no18 (sym e))) ∙ later
@@ -133,6 +135,7 @@ as4_path_at (a ∷ m) rising =
   where
     none : nat_eq a.kind 2 ≡ true → get 17 (flat_map as4_of m) ≡ None
     none e = let kind : a.kind ≡ 2 = eqb-true a.kind 2 e in as4_path_above a.kind m (omega arith) rising.0
+
     by_tests : (b n c : Bool) → nat_eq a.kind 2 ≡ b → path_needs_four_octets a.value ≡ n → (nat_eq a.kind 7 && needs_four_octets (aggregator_in a.value)) ≡ c
         → get 17 (flat_map as4_of m) ≡ as4_path_of (get 2 m)
         → get 17 (cond (b && n) (as4_attribute 17 a.value ∷ []) (cond c (as4_attribute 18 a.value ∷ []) []) ++ flat_map as4_of m) ≡ as4_path_of (cond b (Some a) (get 2 m))
@@ -158,8 +161,10 @@ as4_aggregator_at (a ∷ m) rising =
   where
     none : nat_eq a.kind 7 ≡ true → get 18 (flat_map as4_of m) ≡ None
     none e = let kind : a.kind ≡ 7 = eqb-true a.kind 7 e in as4_aggregator_above a.kind m (omega arith) rising.0
+
     both : nat_eq a.kind 2 ≡ true → nat_eq a.kind 7 ≡ true → ⊥
     both e f = let two : a.kind ≡ 2 = eqb-true a.kind 2 e in let seven : a.kind ≡ 7 = eqb-true a.kind 7 f in omega arith
+
     by_tests : (b n c w : Bool) → nat_eq a.kind 2 ≡ b → path_needs_four_octets a.value ≡ n → nat_eq a.kind 7 ≡ c → needs_four_octets (aggregator_in a.value) ≡ w
         → get 18 (flat_map as4_of m) ≡ as4_aggregator_of (get 7 m)
         → get 18 (cond (b && n) (as4_attribute 17 a.value ∷ []) (cond (c && w) (as4_attribute 18 a.value ∷ []) []) ++ flat_map as4_of m) ≡ as4_aggregator_of (cond c (Some a) (get 7 m))
@@ -213,6 +218,7 @@ other_found kind m no17 no18 =
     high h (Some a) e =
         let kind_is : a.kind ≡ kind = get_kind kind m a e in
         ap Some (sym (narrowed_same a (λ e. omega arith) (λ e. omega arith)))
+
     by_test : (b : Bool) → nat_lt kind 17 ≡ b → or_else (or_else (option_map narrowed (cond b (get kind m) None)) None) (cond (nat_lt 18 kind) (get kind m) None) ≡ option_map narrowed (get kind m)
     by_test true e =
         let low : kind < 17 = ltb-true kind 17 e in
@@ -241,7 +247,7 @@ path_good a legal kind =
     let path : List Segment = facts.0 in
     let value : List ℕ = path_octets two_octets (map narrowed_segment path) in
     let written : narrowed_value a ≡ value = ap (λ b. cond b (path_octets two_octets (map narrowed_segment (path_in a.value))) (cond (nat_eq a.kind 7) (aggregator_value a.value) a.value)) (eq-eqb a.kind 2 kind)
-        ∙ ap (λ path. path_octets two_octets (map narrowed_segment path)) facts.1.is in
+    ∙ ap (λ path. path_octets two_octets (map narrowed_segment path)) facts.1.is in
     let flags : fits_class WellKnown (flags_of (with_value a value)) ≡ true = same_class WellKnown a value ∙ facts.1.flags in
     let well : is_path two_octets value ≡ true = ap is_some (path_back two_octets is_set_or_sequence (map narrowed_segment path) (narrowed_each path facts.1.spells.each)) in
     let P : ℕ → Type 0 = λ kind. is_kept (outcome_of Two (record { flags = flags_of (with_value a value); kind = kind; value = value })) ≡ true in
@@ -270,6 +276,7 @@ narrowed_good a legal = subst (λ (a : Attribute). IsGood Two (spelling_of a)) (
       not_as4_path = no_as4 a legal 17 refl;
       not_as4_aggregator = no_as4 a legal 18 refl;
     }
+
     by_tests : (b c : Bool) → nat_eq a.kind 2 ≡ b → nat_eq a.kind 7 ≡ c → IsGood Two (spelling_of (with_value a (narrowed_value a)))
     by_tests true c e f = path_good a legal (eqb-true a.kind 2 e)
     by_tests false true e f = aggregator_good a legal (eqb-true a.kind 7 f)
@@ -287,8 +294,10 @@ as4_good a legal = by_tests (nat_eq a.kind 2) (path_needs_four_octets a.value) (
         let needs : list_any (λ (s : Segment). list_any needs_four_octets s.numbers) facts.0 ≡ true =
         ap (λ (path : List Segment). list_any (λ (s : Segment). list_any needs_four_octets s.numbers) path) (sym facts.1.is) ∙ f in
         as4_path_kept a.value facts.0 facts.1.spells needs
+
     aggregator : nat_eq a.kind 7 ≡ true → IsGood Two (spelling_of (as4_attribute 18 a.value))
     aggregator e = as4_aggregator_kept a.value (aggregator_facts a legal (eqb-true a.kind 7 e)).size
+
     by_tests : (b n c w : Bool) → nat_eq a.kind 2 ≡ b → path_needs_four_octets a.value ≡ n → nat_eq a.kind 7 ≡ c
         → AllByRecursion (λ a. IsGood Two (spelling_of a)) (cond (b && n) (as4_attribute 17 a.value ∷ []) (cond (c && w) (as4_attribute 18 a.value ∷ []) []))
     by_tests true true c w e f g = (path e f, tt)
@@ -369,11 +378,13 @@ never_ignores m legal =
       where
         kind : a.kind ≡ 7
         kind = get_kind 7 m a e
+
         value_is : (narrowed a).value ≡ aggregator_value a.value
         value_is =
             let seven : a.kind ≡ 7 = kind in
             ap (λ (a : Attribute). a.value) (narrowed_is a)
             ∙ (λ i. cond (ne_eqb a.kind 2 (λ e. omega arith) i) (path_octets two_octets (map narrowed_segment (path_in a.value))) (cond (eq-eqb a.kind 7 kind i) (aggregator_value a.value) a.value))
+
         by_need : (b : Bool) → needs_four_octets (aggregator_in a.value) ≡ b → ignores_as4 (Some (spelling_of (narrowed a))) (option_map spelling_of (cond b (Some (as4_attribute 18 a.value)) None)) ≡ false
         by_need true f =
             ap (λ value. not (aggregator_as value == as_trans)) value_is
@@ -398,8 +409,10 @@ path_read path ss o needs not_needs = by_need (list_any (λ (s : Segment). list_
   where
     equal : nat_lt (path_length (map narrowed_segment path)) (path_length path) ≡ false
     equal = let same = narrowed_length path in le-ltb (path_length (map narrowed_segment path)) (path_length path) (omega arith)
+
     difference : path_length (map narrowed_segment path) - path_length path ≡ 0
     difference = let same = narrowed_length path in omega arith
+
     by_need : (b : Bool) → list_any (λ (s : Segment). list_any needs_four_octets s.numbers) path ≡ b → merged (map narrowed_segment path) o ≡ path
     by_need true e =
         ap (merged (map narrowed_segment path)) (needs e)
@@ -413,12 +426,15 @@ value_back m legal a found = by_tests (nat_eq a.kind 2) (nat_eq a.kind 7) refl r
   where
     here : IsLegalAttribute a
     here = get_has IsLegalAttribute a.kind m a found legal.each
+
     value : List ℕ
     value = narrowed_value a
+
     by_kind : Bool → Bool → List ℕ → List ℕ
     by_kind b c value =
         cond b (path_octets four_octets (merged (as_path_in two_octets value) (cond (ignores m) None (as4_path (kept_spelling Two (written m) 17)))))
         (cond c (aggregator_by (ignores m) (kept_spelling Two (written m) 18) value) value)
+
     path_is : a.kind ≡ 2 → by_kind true false value ≡ a.value
     path_is kind =
         let facts = path_facts a here kind in
@@ -440,7 +456,7 @@ value_back m legal a found = by_tests (nat_eq a.kind 2) (nat_eq a.kind 7) refl r
         let merges : merged (map narrowed_segment path) (as4_path (kept_spelling Two (written m) 17)) ≡ path =
         path_read path (written m) (as4_path (kept_spelling Two (written m) 17))
         (λ e. read_as4 ∙ ap (λ b. as4_path (option_map spelling_of (cond b (Some (as4_attribute 17 a.value)) None))) e
-            ∙ ap (λ (path : List Segment). if_some (filter (λ (s : Segment). is_set_or_sequence s.kind) path)) whole ∙ ap if_some (all_stay path spells.each) ∙ some_path path e)
+        ∙ ap (λ (path : List Segment). if_some (filter (λ (s : Segment). is_set_or_sequence s.kind) path)) whole ∙ ap if_some (all_stay path spells.each) ∙ some_path path e)
         (λ e. read_as4 ∙ ap (λ b. as4_path (option_map spelling_of (cond b (Some (as4_attribute 17 a.value)) None))) e) in
         ap (λ b. path_octets four_octets (merged (as_path_in two_octets value) (cond b None (as4_path (kept_spelling Two (written m) 17))))) (never_ignores m legal)
         ∙ ap (λ front. path_octets four_octets (merged front (as4_path (kept_spelling Two (written m) 17)))) read_two
@@ -450,6 +466,7 @@ value_back m legal a found = by_tests (nat_eq a.kind 2) (nat_eq a.kind 7) refl r
         some_path : (path : List Segment) → list_any (λ (s : Segment). list_any needs_four_octets s.numbers) path ≡ true → if_some path ≡ Some path
         some_path [] e = absurd cc
         some_path (s ∷ path) e = refl
+
     aggregator_is : a.kind ≡ 7 → by_kind false true value ≡ a.value
     aggregator_is kind =
         let facts = aggregator_facts a here kind in
@@ -465,6 +482,7 @@ value_back m legal a found = by_tests (nat_eq a.kind 2) (nat_eq a.kind 7) refl r
             → aggregator_by false (option_map spelling_of (cond b (Some (as4_attribute 18 a.value)) None)) (aggregator_value a.value) ≡ a.value
         by_need facts true e = refl
         by_need facts false e = aggregator_back a.value here.octets facts.size e
+
     by_tests : (b c : Bool) → nat_eq a.kind 2 ≡ b → nat_eq a.kind 7 ≡ c → by_kind (nat_eq a.kind 2) (nat_eq a.kind 7) value ≡ a.value
     by_tests true c e f = ap (λ b. by_kind b (nat_eq a.kind 7) value) e ∙ path_is (eqb-true a.kind 2 e)
     by_tests false true e f = (λ i. by_kind (e i) (f i) value) ∙ aggregator_is (eqb-true a.kind 7 f)
@@ -478,17 +496,21 @@ same_two_back m legal kind = by_test (is_as4 kind) refl
     none : is_as4 kind ≡ true → (o : Option Attribute) → get kind m ≡ o → o ≡ None
     none as4 None e = refl
     none as4 (Some a) e = absurd (no_as4 a (get_has IsLegalAttribute kind m a e legal.each) kind as4 (get_kind kind m a e))
+
     not_17 : is_as4 kind ≡ false → kind ≡ 17 → ⊥
     not_17 e k = let no : true ≡ false = ap is_as4 (sym k) ∙ e in absurd cc
+
     not_18 : is_as4 kind ≡ false → kind ≡ 18 → ⊥
     not_18 e k = let no : true ≡ false = ap is_as4 (sym k) ∙ e in absurd cc
+
     read : (o : Option Attribute) → get kind m ≡ o → option_map (λ s. attribute_with (value_by_two (kept_spelling Two (written m)) s) s) (option_map spelling_of (option_map narrowed o)) ≡ o
     read None e = refl
     read (Some a) e =
         let kind_is : a.kind ≡ kind = get_kind kind m a e in
         ap (λ (b : Attribute). Some (attribute_with (value_by_two (kept_spelling Two (written m)) (spelling_of b)) (spelling_of b))) (narrowed_is a)
         ∙ ap Some (attribute_two_back a (narrowed_value a) (value_by_two (kept_spelling Two (written m)) (spelling_of (with_value a (narrowed_value a)))) (get_has IsLegalAttribute kind m a e legal.each)
-            (value_back m legal a (ap (λ n. get n m) kind_is ∙ e)))
+        (value_back m legal a (ap (λ n. get n m) kind_is ∙ e)))
+
     by_test : (b : Bool) → is_as4 kind ≡ b → get kind m ≡ cond b None (option_map (λ s. attribute_with (value_by_two (kept_spelling Two (written m)) s) s) (kept_spelling Two (written m) kind))
     by_test true e = none e (get kind m) refl
     by_test false e =

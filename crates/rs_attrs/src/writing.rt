@@ -30,8 +30,11 @@ enum Pass {
 }
 
 const AS_PATH: u8 = 2;
+
 const AGGREGATOR: u8 = 7;
+
 const AS4_PATH: u8 = 17;
+
 const AS4_AGGREGATOR: u8 = 18;
 
 /// Stands in two octets for an AS number that needs four (RFC 6793, 9).
