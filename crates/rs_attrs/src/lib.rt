@@ -8,6 +8,8 @@ mod mode;
 mod reading;
 mod reading_field;
 mod reading_laws;
+#[cfg(test)]
+mod reading_tests;
 mod reading_two;
 mod reading_values;
 #[cfg(test)]
