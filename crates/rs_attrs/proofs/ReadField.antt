@@ -1,8 +1,8 @@
 -- What the code notes of a field, as what the field means.
-use Rattle.std.proofs.Common.{◌≡◌, ℕ, ◌||◌, Bool, List, length, Option, sym, ap, ◌∙◌, subst, arith, nat_lt}
+use Rattle.std.proofs.Common.{◌≡◌, ℕ, ◌<◌, ◌||◌, Bool, List, length, Option, Some, sym, ap, ◌∙◌, subst, arith, nat_lt}
 use Rattle.std.specs.List.{filter_map, list_any, AllByRecursion}
 use Rattle.rs_attrs.specs.declared.mode.Mode.{Mode}
-use Rattle.rs_attrs.specs.declared.mode.Mode.TheVariants.{Four}
+use Rattle.rs_attrs.specs.declared.mode.Mode.TheVariants.{Two, Four}
 use Rattle.rs_attrs.specs.declared.mode.Faults.{Faults}
 use Rattle.rs_attrs.specs.declared.table.Outcome.{Outcome}
 use Rattle.rs_attrs.specs.declared.reading_field.Found.{Found}
@@ -10,11 +10,13 @@ use Rattle.rs_attrs.specs.Spellings.{Spelling, IsSpelling, Splits, spellings_of,
 use Rattle.rs_attrs.specs.Table.{is_withdraw, is_unknown, is_discard}
 use Rattle.rs_attrs.specs.Meaning.{Attribute, that_counts, kept_spelling, if_kept, meant, meaning_of, comes_to, some_comes_to, stands_twice, Reads, all_types}
 use Rattle.rs_attrs.specs.Writing.{IsLegal}
-use Rattle.rs_attrs.specs.Walking.{noted, NotesCounting, NotesKept, some_noted, meant_by, AreShort}
+use Rattle.rs_attrs.specs.Walking.{noted, NotesCounting, NotesKept, some_noted, meant_by, AreKept, AreShort}
 use Rattle.rs_attrs.proofs.Walk.{FitOctets, splits_of}
-use Rattle.rs_attrs.proofs.Counting.{counts_has}
+use Rattle.rs_attrs.proofs.Counting.{counts_has, counts_kind}
 use Rattle.rs_attrs.proofs.Meant.{is_meant, kept_is}
 use Rattle.rs_attrs.proofs.Legal.{HasOctets, values_fit, legal_four, short_value}
+use Rattle.rs_attrs.proofs.LegalTwo.{legal_two}
+use Rattle.rs_attrs.proofs.ShortTwo.{short_by_two}
 
 -- the spellings that are used
 noted_is : (mode : Mode) (old new : List (Option Found)) (ss : List Spelling) → NotesCounting old ss → NotesKept mode old new → (kind : ℕ) → noted new kind ≡ kept_spelling mode ss kind
@@ -33,18 +35,31 @@ field_splits field fits = splits_of field fits
 field_octets : (field : List ℕ) → FitOctets field → AllByRecursion HasOctets (spellings_of field)
 field_octets field fits = values_fit (spellings_of field) (rest_of field) (subst FitOctets (field_splits field fits).whole fits)
 
-pub short_four : (field : List ℕ) (old new : List (Option Found)) → FitOctets field → NotesCounting old (spellings_of field) → NotesKept Four old new → AreShort Four new
-short_four field old new fits counts kept_there kind s e =
+pub kept_field : (mode : Mode) (field : List ℕ) (old new : List (Option Found)) → FitOctets field → NotesCounting old (spellings_of field) → NotesKept mode old new → AreKept mode new
+kept_field mode field old new fits counts kept_there kind s e =
     let ss = spellings_of field in
-    let had = kept_is Four kind (that_counts kind ss) s (sym (noted_is Four old new ss counts kept_there kind) ∙ e) in
-    let is = counts_has IsSpelling kind ss s had.0 (field_splits field fits).each in
-    let short = short_value s is in
-    omega arith
+    let had = kept_is mode kind (that_counts kind ss) s (sym (noted_is mode old new ss counts kept_there kind) ∙ e) in
+    (had.1, counts_kind kind ss s had.0, counts_has HasOctets kind ss s had.0 (field_octets field fits))
 
-pub legal_field : (field : List ℕ) (old new : List (Option Found)) → FitOctets field → NotesCounting old (spellings_of field) → NotesKept Four old new → IsLegal (meant_by Four new)
-legal_field field old new fits counts kept_there =
+short_values : (mode : Mode) (field : List ℕ) (old new : List (Option Found)) → FitOctets field → NotesCounting old (spellings_of field) → NotesKept mode old new → (kind : ℕ) (s : Spelling) → noted new kind ≡ Some s → length s.value < 65536
+short_values mode field old new fits counts kept_there kind s e =
     let ss = spellings_of field in
-    subst IsLegal (sym (meant_is Four old new ss counts kept_there)) (legal_four ss (field_splits field fits).each (field_octets field fits))
+    let had = kept_is mode kind (that_counts kind ss) s (sym (noted_is mode old new ss counts kept_there kind) ∙ e) in
+    short_value s (counts_has IsSpelling kind ss s had.0 (field_splits field fits).each)
+
+pub short_field : (mode : Mode) (field : List ℕ) (old new : List (Option Found)) → FitOctets field → NotesCounting old (spellings_of field) → NotesKept mode old new → AreShort mode new
+short_field Four field old new fits counts kept_there kind s e = let short = short_values Four field old new fits counts kept_there kind s e in omega arith
+short_field Two field old new fits counts kept_there kind s e =
+    short_by_two (noted new) (kept_field Two field old new fits counts kept_there) (short_values Two field old new fits counts kept_there) kind s e
+
+legal_spellings : (mode : Mode) (ss : List Spelling) → AllByRecursion IsSpelling ss → AllByRecursion HasOctets ss → IsLegal (meaning_of mode ss)
+legal_spellings Four ss each octets = legal_four ss each octets
+legal_spellings Two ss each octets = legal_two ss each octets
+
+pub legal_field : (mode : Mode) (field : List ℕ) (old new : List (Option Found)) → FitOctets field → NotesCounting old (spellings_of field) → NotesKept mode old new → IsLegal (meant_by mode new)
+legal_field mode field old new fits counts kept_there =
+    let ss = spellings_of field in
+    subst IsLegal (sym (meant_is mode old new ss counts kept_there)) (legal_spellings mode ss (field_splits field fits).each (field_octets field fits))
 
 pub field_reads : (mode : Mode) (field : List ℕ) (old new : List (Option Found)) (m : List Attribute) (mp_twice has_rest w u d : Bool) → FitOctets field → NotesCounting old (spellings_of field) → NotesKept mode old new
     → m ≡ meant_by mode new

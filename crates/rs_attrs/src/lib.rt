@@ -7,6 +7,8 @@ mod laws;
 mod mode;
 mod reading;
 mod reading_field;
+mod reading_laws;
+mod reading_two;
 mod reading_values;
 #[cfg(test)]
 mod route_tests;
@@ -20,5 +22,6 @@ pub use getters::AttributeRef;
 pub use laws::spelling_reads_back;
 pub use mode::{Faults, Mode};
 pub use reading::{Parsed, read};
+pub use reading_laws::{fields_are_read, fields_mean_one, paths_are_read};
 pub use stripping::{Strip, stripped};
 pub use writing::{size, write_into};

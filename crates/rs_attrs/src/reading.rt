@@ -1,15 +1,15 @@
 //! Reads a field of path attributes: what it means, and what is wrong with it.
 
 ghost use Rattle.std.specs.Prelude.{◌≡◌, ◌++◌, IfOk, OnOk};
-ghost use Rattle.rs_attrs.specs.declared.mode.Mode.TheVariants.{Four};
 ghost use Rattle.rs_attrs.specs.Table.{is_withdraw, is_unknown, is_discard};
 ghost use Rattle.rs_attrs.specs.Meaning.{Reads, is_as4, value_in};
 ghost use Rattle.rs_attrs.specs.Writing.{IsLegal};
-ghost use Rattle.rs_attrs.specs.Walking.{NotesKept, some_noted, noted, meant_by, spelling_in, AreShort};
+ghost use Rattle.rs_attrs.specs.Walking.{NotesKept, some_noted, noted, meant_by, spelling_in, AreKept, AreShort};
 
 use crate::attrs::Attrs;
 use crate::mode::{Faults, Mode};
 use crate::reading_field::{Found, counting_of};
+use crate::reading_two::push_value_by_two;
 use crate::reading_values::{head_of, outcome_of};
 use crate::table::Outcome;
 use std::alloc::{AllocError, Global};
@@ -91,10 +91,14 @@ fn push_value(
     places: &[Option<Found<'_>>; 256],
     found: &Found<'_>,
 ) -> Result<(), AllocError>
-    requires { mode ≡ Four }
+    requires kept { AreKept mode places.now }
+    requires here { noted places.now found.now.kind ≡ Some (spelling_in found.now) }
     ensures { OnOk result (values.new.items ≡ values.old.items ++ value_in mode (noted places.now) (spelling_in found.now)) }
 {
-    values.extend_from_slice(found.value)
+    match mode {
+        Mode::Four => values.extend_from_slice(found.value),
+        Mode::Two => push_value_by_two(values, places, found),
+    }
 }
 
 /// The attributes that are kept, by rising type.
@@ -103,7 +107,7 @@ fn attributes_of(
     mode: Mode,
     places: &[Option<Found<'_>>; 256],
 ) -> Result<Attrs, AllocError>
-    requires mode { mode ≡ Four }
+    requires kept { AreKept mode places.now }
     requires short { AreShort mode places.now }
     requires legal { IsLegal (meant_by mode places.now) }
     ensures { IfOk result (λ a. a ≡ meant_by mode places.now) }
@@ -139,7 +143,6 @@ pub struct Parsed {
 ///
 /// `AllocError` where memory was refused.
 pub fn read(alloc: Global, field: &[u8], mode: Mode) -> Result<Parsed, AllocError>
-    requires { mode ≡ Four }
     ensures { IfOk result (λ p. Reads field.now mode p.attrs p.faults) }
 {
     let mut counting = counting_of(field);

@@ -47,7 +47,7 @@ pub(crate) fn number_size(mode: Mode) -> usize
     }
 }
 
-fn is_segment_kind(kind: u8, confederations: bool) -> bool
+pub(crate) fn is_segment_kind(kind: u8, confederations: bool) -> bool
     ensures { result ≡ segment_kinds confederations kind }
 {
     kind == 1 || kind == 2 || confederations && (kind == 3 || kind == 4)

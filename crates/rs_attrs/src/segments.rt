@@ -5,7 +5,7 @@ ghost use Rattle.std.specs.Iterator.{YieldsFirst, item_count};
 ghost use Rattle.std.specs.List.{list_any};
 ghost use Rattle.rs_attrs.specs.Paths.{four_octets, quads, segment_length, path_length, segment_origin};
 ghost use Rattle.rs_attrs.specs.Table.{is_path};
-ghost use Rattle.rs_attrs.specs.Writing.{path_in};
+ghost use Rattle.rs_attrs.specs.Writing.{path_in, needs_four_octets};
 
 use std::marker::Model;
 
@@ -69,6 +69,33 @@ impl<'a> Model for PathSegment<'a> {
 }
 
 impl PathSegment<'_> {
+    /// 1 for a set, 2 for a sequence.
+    pub(crate) fn kind(&self) -> u8
+        ensures { result ≡ self.now.kind }
+    {
+        self.kind
+    }
+
+    /// How many numbers it has.
+    pub(crate) fn count(&self) -> usize
+        ensures { result ≡ length self.now.numbers }
+    {
+        self.numbers.len() / 4
+    }
+
+    pub(crate) fn numbers(&self) -> Numbers<'_>
+        ensures { result ≡ self.now.numbers }
+    {
+        Numbers::of(self.numbers)
+    }
+
+    /// Whether a number needs four octets.
+    pub(crate) fn needs_four(&self) -> bool
+        ensures { result ≡ list_any needs_four_octets self.now.numbers }
+    {
+        Numbers::of(self.numbers).any(|n| n > 65535)
+    }
+
     /// What it adds to the length of its path: a set counts 1 (RFC 4271, 9.1.2.2, a).
     pub(crate) fn path_len(&self) -> usize
         ensures { result ≡ segment_length self.now }

@@ -40,3 +40,9 @@ loop-kind-preserved c = elim c.match-places-kind.branch [
       (subst (λ (values : List ℕ). P c.loop-kind.heads.items values) (sym (ap (λ (v : Vec ℕ Global). v.items) w.values-is))
       (building_skip _ _ _ _ _ c.loop-kind.invariant c.loop-kind-test.true (meant_none c.args.mode c.args.places.now c.loop-kind.kind (ap (option_map spelling_in) w.in_default.is))))
 ]
+
+pub push_value-requires-clause-here : goal.push_value-requires-clause-here
+push_value-requires-clause-here c =
+    let here = ap (option_map spelling_in) c.in-Some.is in
+    let kept = c.requires.kept c.loop-kind.kind (spelling_in c.in-Some.found) here in
+    ap (noted c.args.places.now) kept.1 ∙ here

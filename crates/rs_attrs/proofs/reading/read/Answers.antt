@@ -1,26 +1,21 @@
 use Rattle.std.proofs.Common.{◌||◌, Bool, sym, subst, ap, ◌∙◌, arith}
-use Rattle.rs_attrs.specs.declared.mode.Mode.{Mode}
 use Rattle.rs_attrs.specs.declared.mode.Faults.{Faults}
 use Rattle.rs_attrs.specs.Meaning.{Reads}
-use Rattle.rs_attrs.specs.Walking.{NotesKept, AreShort, meant_by}
-use Rattle.rs_attrs.specs.Writing.{IsLegal}
-use Rattle.rs_attrs.proofs.ReadField.{short_four, legal_field, field_reads}
+use Rattle.rs_attrs.proofs.ReadField.{kept_field, short_field, legal_field, field_reads}
 use Rattle.rs_attrs.proofs.reading.read.Goals as goal
 use Rattle.rs_attrs.proofs.reading.read.Goals.{then-outcomes, else-outcomes}
 
+pub attributes_of-requires-clause-kept : goal.attributes_of-requires-clause-kept
+attributes_of-requires-clause-kept c =
+    kept_field c.args.mode c.args.field.now c.counting_of-counting.result.places c.keep-outcomes.new.places (λ i. omega (arith, c.type_inv.field i)) c.counting_of-counting.ensures.counts c.keep-outcomes.ensures.kept
+
 pub attributes_of-requires-clause-short : goal.attributes_of-requires-clause-short
 attributes_of-requires-clause-short c =
-    let P : Mode → Type 0 = λ mode. NotesKept mode c.counting_of-counting.result.places c.keep-outcomes.new.places in
-    let Q : Mode → Type 0 = λ mode. AreShort mode c.keep-outcomes.new.places in
-    subst Q (sym c.requires)
-    (short_four c.args.field.now c.counting_of-counting.result.places c.keep-outcomes.new.places (λ i. omega (arith, c.type_inv.field i)) c.counting_of-counting.ensures.counts (subst P c.requires c.keep-outcomes.ensures.kept))
+    short_field c.args.mode c.args.field.now c.counting_of-counting.result.places c.keep-outcomes.new.places (λ i. omega (arith, c.type_inv.field i)) c.counting_of-counting.ensures.counts c.keep-outcomes.ensures.kept
 
 pub attributes_of-requires-clause-legal : goal.attributes_of-requires-clause-legal
 attributes_of-requires-clause-legal c =
-    let P : Mode → Type 0 = λ mode. NotesKept mode c.counting_of-counting.result.places c.keep-outcomes.new.places in
-    let Q : Mode → Type 0 = λ mode. IsLegal (meant_by mode c.keep-outcomes.new.places) in
-    subst Q (sym c.requires)
-    (legal_field c.args.field.now c.counting_of-counting.result.places c.keep-outcomes.new.places (λ i. omega (arith, c.type_inv.field i)) c.counting_of-counting.ensures.counts (subst P c.requires c.keep-outcomes.ensures.kept))
+    legal_field c.args.mode c.args.field.now c.counting_of-counting.result.places c.keep-outcomes.new.places (λ i. omega (arith, c.type_inv.field i)) c.counting_of-counting.ensures.counts c.keep-outcomes.ensures.kept
 
 pub returns : goal.returns
 returns c =

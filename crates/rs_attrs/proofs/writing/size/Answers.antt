@@ -1,19 +1,19 @@
-use Rattle.std.proofs.Common.{◌≡◌, length, arith, sym, ap, ◌∙◌}
-use Rattle.std.specs.Prelude.{sum_by}
-use Rattle.rs_attrs.specs.Held.{head_octets, values_size}
+use Rattle.std.proofs.Common.{◌≡◌, ℕ, ◌+◌, List, length, sym, ap, ◌∙◌, arith}
+use Rattle.rs_attrs.specs.Meaning.{Attribute}
+use Rattle.rs_attrs.specs.Held.{attributes_in}
 use Rattle.rs_attrs.specs.Writing.{spelt}
-use Rattle.rs_attrs.proofs.HeldLemmas.{head_octets-bound, spelt_length}
+use Rattle.rs_attrs.specs.Passes.{passed}
+use Rattle.rs_attrs.specs.declared.mode.Mode.TheVariants.{Two}
+use Rattle.rs_attrs.specs.declared.writing.Pass.TheVariants.{Narrowed, As4, Above}
+use Rattle.rs_attrs.proofs.Parts.{two_length}
 use Rattle.rs_attrs.proofs.writing.size.Goals as goal
 
-pub spelt_size-requires : goal.spelt_size-requires
-spelt_size-requires c =
-    let heads = head_octets-bound c.deref.result.now in
-    let same : values_size c.deref.result.now ≡ values_size c.attrs.inside.heads.items = ap values_size c.deref.ensures.value in
-    let values : length c.deref-values.result.now ≡ length c.attrs.inside.values.items = ap length c.deref-values.ensures.value in
-    omega (arith, c.attrs.invariant.size, c.deref-values.type_inv)
-
-pub returns : goal.returns
-returns c =
-    let held = spelt_length c.attrs.inside.heads.items c.attrs.inside.values.items (omega (arith, c.attrs.invariant.size)) in
-    c.spelt_size.ensures ∙ ap (sum_by head_octets) c.deref.ensures.value ∙ sym held
-    ∙ (λ i. length (spelt (c.attrs.view_is i) (sym c.requires i)))
+pub returns-in-Two : goal.returns-in-Two
+returns-in-Two c =
+    let m : List Attribute = attributes_in c.deref-heads.result.now c.deref-values.result.now in
+    let is : m ≡ c.args.attrs.now = (λ i. attributes_in (c.deref-heads.ensures.value i) (c.deref-values.ensures.value i)) ∙ c.attrs.view_is in
+    let whole : length (spelt m Two) ≡ length (spelt c.args.attrs.now c.args.mode) = λ i. length (spelt (is i) (sym c.in-Two.is i)) in
+    let low : c.pass_size-in-Two.result ≡ length (passed Narrowed m) = c.pass_size-in-Two.ensures.value in
+    let middle : c.pass_size-in-Two-2.result ≡ length (passed As4 m) = c.pass_size-in-Two-2.ensures.value in
+    let high : c.pass_size-in-Two-3.result ≡ length (passed Above m) = c.pass_size-in-Two-3.ensures.value in
+    (λ i. low i + middle i + high i) ∙ sym (two_length m) ∙ whole
