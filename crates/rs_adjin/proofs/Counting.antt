@@ -1,6 +1,6 @@
 -- How many prefixes an UPDATE leaves.
-use Rattle.std.proofs.Common.{Bool, true, false, not, cond, ◌&&◌, ◌==◌, ◌≡◌, ◌≢◌, ◌<◌, ◌≤◌, ◌+◌, ◌-◌, ◌||◌, ℕ, suc, List, [], ◌∷◌, ◌++◌, length, refl, sym, ◌∙◌, ap, subst, arith, ◌⊎◌, inl, inr, length-append}
-use Rattle.std.specs.Prelude.{Option, is_some, IsSome, Contains}
+use Rattle.std.proofs.Common.{Bool, true, false, not, cond, ◌&&◌, ◌==◌, ◌≡◌, ◌≢◌, ◌≤◌, ◌+◌, ◌-◌, ◌||◌, ℕ, suc, List, [], ◌∷◌, ◌++◌, length, refl, sym, ◌∙◌, ap, subst, arith, ◌⊎◌, inl, inr, length-append}
+use Rattle.std.specs.Prelude.{is_some, Contains}
 use Rattle.std.specs.List.{filter, list_any, count_by, AllPairs, AllByRecursion}
 use Rattle.std.specs.List.Sorted.{IsStrictlySortedBy}
 use Rattle.std.specs.Ordering.{is_eq}

@@ -1,9 +1,8 @@
 -- The routes for a prefix as a list of those who hold it.
 use Rattle.std.proofs.Common.{Bool, true, false, ◌≡◌, ◌≢◌, ◌<◌, ◌≤◌, ◌+◌, ◌==◌, ℕ, zero, suc, List, [], ◌∷◌, length, refl, sym, ◌∙◌, ap, subst, arith, map}
-use Rattle.std.specs.Prelude.{Option, Some, None, IsSome, is_some, Contains, ◌↔◌, slice_index}
+use Rattle.std.specs.Prelude.{Option, Some, None, IsSome}
 use Rattle.std.specs.List.{All, AllByRecursion}
-use Rattle.std.specs.Ordering.{is_eq, nat_cmp}
-use Rattle.std.specs.declared.cmp.Ordering.TheVariants.{Equal}
+use Rattle.std.specs.Ordering.{is_eq}
 use Rattle.std.specs.Cmp.{IsTotalOrder, nat_cmp_total}
 use Rattle.std.specs.Arc.{arc_value}
 use Rattle.std.specs.Global.{Vec}
@@ -16,10 +15,10 @@ use Rattle.rs_octets.specs.Prefixes.{Prefix, prefix_order}
 use Rattle.rs_attrs.specs.Meaning.{Attribute}
 use Rattle.rs_adjin.specs.declared.routes.Route.{Route}
 use Rattle.rs_adjin.specs.declared.adj_ins.AdjIns.{AdjIns}
-use Rattle.rs_adjin.specs.Routes.{value_in, IsRising}
+use Rattle.rs_adjin.specs.Routes.{value_in}
 use Rattle.rs_adjin.specs.Table.{routes_in, routes_at}
-use Rattle.rs_adjin.specs.Listing.{with_holder, holders_from, sent_by, sent_with, Sent}
-use Rattle.rs_adjin.specs.AdjIns.{client_count, identifier_of, held_of, holders_of, ListsRoutes, candidate, candidates_of}
+use Rattle.rs_adjin.specs.Listing.{with_holder, holders_from, sent_by, sent_with}
+use Rattle.rs_adjin.specs.AdjIns.{client_count, identifier_of, held_of, ListsRoutes, candidate, candidates_of}
 use Rattle.rs_adjin.proofs.RouteLists.{Rising, AllAbove, rising, none_above}
 use Rattle.rs_adjin.proofs.Steps.{Routes, at_prefix, is_prefix}
 

@@ -2,7 +2,7 @@
 use Rattle.std.proofs.Common.{Bool, true, false, cond, ◌≡◌, ◌≢◌, ◌<◌, ◌&&◌, ◌==◌, ℕ, List, [], ◌∷◌, length, refl, sym, ◌∙◌, ap, subst, arith}
 use Rattle.std.specs.Prelude.{Option, Some, None, is_some, IsSome, Result, Ok, Err, OnOk, OnErr, MatchBool, if◌then◌else◌}
 use Rattle.std.specs.Global.{Vec}
-use Rattle.std.specs.List.{All, list_any}
+use Rattle.std.specs.List.{All}
 use Rattle.std.specs.Ordering.{nat_cmp, ordering_then, is_eq}
 use Rattle.std.specs.BTreeMap.{BTreeMap, get, is_at}
 use Rattle.std.specs.BTreeSet.{BTreeSet, contains}
@@ -15,15 +15,12 @@ use Rattle.rs_adjin.specs.declared.routes.Route.{Route}
 use Rattle.rs_adjin.specs.Routes.{value_in, IsRising, KeepsRoutes, SameRoutes, Changes}
 use Rattle.rs_adjin.proofs.RouteLists.{one_keeps, one_filled, one_changes}
 use Rattle.std.specs.Arc.{arc_value}
-use Rattle.rs_adjin.specs.Table.{same_prefix, routes_in, routes_at, IsTable, IsOfClients, KeepsTable, Writes, IsSame, Clears, Marks, SameSet, TellsChange, IsHeldBy}
+use Rattle.rs_adjin.specs.Table.{same_prefix, routes_in, routes_at, IsTable, IsOfClients, KeepsTable, Writes, IsSame, Marks, SameSet, TellsChange, IsHeldBy}
 
 abbrev pub Routes : Type 0
 Routes = BTreeMap Prefix (Vec Route)
 
 -- ---- prefixes compared
-
-at_number : (a b : ℕ) → is_eq (nat_cmp a b) ≡ (b == a)
-at_number a b = grind (arith, nat_tests, common_steps)
 
 at_both : (a b c d : ℕ) → is_eq (ordering_then (nat_cmp a b) (nat_cmp c d)) ≡ ((b == a) && (d == c))
 at_both a b c d = grind (arith, nat_tests, common_steps)
@@ -201,12 +198,6 @@ module _ (table after : Routes) (p : Prefix) (old new : Vec Route) (found : Some
   here : old.items ≡ routes_at table p
   here = found_routes table p old found
 
-  pub lent_rising : IsTable table → IsRising old.items
-  lent_rising is = subst IsRising (sym here) (is.rising p)
-
-  pub lent_filled : IsTable table → 0 < length old.items
-  lent_filled is = is.filled p old (sym found)
-
   pub lent_kept : IsTable table → KeepsRoutes old.items new.items c → 0 < length new.items → KeepsTable table after c
   lent_kept is kept filled = updated_kept table after p c (Some new) u (subst (λ xs. KeepsRoutes xs new.items c) here kept) (some_filled new filled) is
 
@@ -251,13 +242,3 @@ kept_more first old new c a b = record { table = b.table; known = λ n below all
 pub not_some : {A : Type 0} (o : Option A) → is_some o ≡ false → o ≡ None
 not_some None is = refl
 not_some (Some x) is = (cc)
-
-pub cleared : (first new : Routes) (c : ℕ) (held : BTreeSet Prefix) → KeepsOthers first new c → IsHeldBy c held new → held.keys ≡ [] → Clears first new c
-cleared first new c held kept tied none d q = go (d == c) refl
-  where
-    gone : value_in c (routes_at new q) ≡ None
-    gone = not_some _ (sym (tied q) ∙ ap (list_any (is_at (prefix_order q))) none)
-
-    go : (a : Bool) → (d == c) ≡ a → value_in d (routes_at new q) ≡ (if a then None else value_in d (routes_at first q))
-    go true is = let e : d ≡ c = grind (arith, nat_tests, is) in ap (λ n. value_in n (routes_at new q)) e ∙ gone
-    go false is = kept d q (λ e. absurd (let f : (d == c) ≡ true = grind (arith, nat_tests, e) in let g : true ≡ false = sym f ∙ is in (cc)))

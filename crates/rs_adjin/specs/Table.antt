@@ -1,5 +1,5 @@
 -- Routes by prefix.
-use Rattle.std.specs.Prelude.{◌≡◌, ◌<◌, ◌==◌, ◌&&◌, ℕ, Bool, true, List, [], ◌∷◌, length, Option, Some, None, is_some, ◌≢◌, MatchBool, if◌then◌else◌}
+use Rattle.std.specs.Prelude.{◌≡◌, ◌<◌, ◌==◌, ◌&&◌, ℕ, Bool, List, [], length, Option, Some, None, is_some, ◌≢◌, MatchBool, if◌then◌else◌}
 use Rattle.std.specs.Global.{Vec}
 use Rattle.std.specs.List.{All}
 use Rattle.std.specs.BTreeMap.{BTreeMap, get}

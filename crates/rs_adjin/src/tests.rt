@@ -298,3 +298,37 @@ fn count_after_counts_what_would_be_held(rt: HostRuntime) -> Result<(), Fail> {
     assert_eq!(rt; count_after(&ins, 2, inner, other), Some(2));
     Ok(())
 }
+
+fn sizes(ins: &AdjIns, client: usize, prefix: Prefix) -> (usize, usize) {
+    let held = if client < ins.clients() {
+        ins.held(client).count()
+    } else {
+        0
+    };
+    (ins.at(prefix).len(), held)
+}
+
+/// Memory is refused nowhere in an ordinary run: this is for runs in which one allocation fails.
+#[test]
+fn a_refused_put_changes_nothing(rt: HostRuntime) -> Result<(), Fail> {
+    let alloc = rt.alloc();
+    let mut ins = AdjIns::new(alloc, 3)?;
+    let one = attrs(alloc, 1)?;
+    for client in 0..3 {
+        for third in 0..20u8 {
+            let of = (u32::from(third) * 256, 24);
+            if let Some(prefix) = prefix(of) {
+                let before = sizes(&ins, client, prefix);
+                if put(&mut ins, client, of, &one).is_err() {
+                    assert_eq!(rt; sizes(&ins, client, prefix), before);
+                    put(&mut ins, client, of, &one)?;
+                }
+                assert_eq!(rt;
+                    sizes(&ins, client, prefix),
+                    (client + 1, usize::from(third) + 1)
+                );
+            }
+        }
+    }
+    Ok(())
+}

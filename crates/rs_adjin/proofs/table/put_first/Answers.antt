@@ -1,4 +1,4 @@
-use Rattle.std.proofs.Common.{◌≡◌, arith, refl, sym, subst, ap, ◌∙◌, true}
+use Rattle.std.proofs.Common.{◌≡◌, refl, ap, ◌∙◌, true}
 use Rattle.std.proofs.Common.{◌∷◌, [], ◌++◌, Some}
 use Rattle.std.specs.Arc.{arc_value}
 use Rattle.rs_adjin.proofs.Steps.{unchanged_kept, same_table, same_held, none_held, unmarked, first_kept, first_writes, marked_held, marked}

@@ -1,9 +1,9 @@
-use Rattle.std.proofs.Common.{◌≡◌, arith, refl, sym, subst, ap, ◌∙◌, true}
+use Rattle.std.proofs.Common.{sym, subst}
 use Rattle.std.specs.Prelude.{Some}
 use Rattle.std.specs.Arc.{arc_value}
 use Rattle.std.proofs.lemmas.Result.{on_err_weaker}
 use Rattle.rs_adjin.specs.Routes.{IsRising}
-use Rattle.rs_adjin.proofs.Steps.{found_routes, Updated, found_some, lent_rising, lent_filled, lent_kept, lent_writes, lent_same, by_result, marked_held, same_held}
+use Rattle.rs_adjin.proofs.Steps.{found_routes, Updated, found_some, lent_kept, lent_writes, lent_same, by_result, marked_held, same_held}
 use Rattle.rs_adjin.proofs.table.put_in.Goals as goal
 
 pub put_among-requires-clause-rising : goal.put_among-requires-clause-rising

@@ -1,8 +1,7 @@
-use Rattle.std.proofs.Common.{◌≡◌, ◌<◌, arith, refl, sym, subst, ap, ◌∙◌, true, false, length}
-use Rattle.std.specs.Prelude.{Some, None}
+use Rattle.std.proofs.Common.{◌<◌, arith, sym, subst, ap, length}
+use Rattle.std.specs.Prelude.{Some}
 use Rattle.std.proofs.lemmas.Bool.Decides.{nat_tests}
 use Rattle.rs_adjin.specs.Routes.{IsRising}
-use Rattle.rs_adjin.specs.Table.{KeepsTable}
 use Rattle.rs_adjin.proofs.Steps.{Updated, found_routes, found_some, unchanged_kept, lent_kept, updated_out, out_kept}
 use Rattle.rs_adjin.proofs.table.withdraw_in.Goals as goal
 

@@ -1,4 +1,4 @@
-use Rattle.std.proofs.Common.{◌≡◌, ◌<◌, sym, ◌∙◌, ap, subst, length}
+use Rattle.std.proofs.Common.{◌<◌, sym, ap, subst, length}
 use Rattle.std.specs.Prelude.{All, Contains}
 use Rattle.std.specs.Map.{keys_of}
 use Rattle.std.proofs.lemmas.Map.Views.{btree_map_contains_key_iff}
