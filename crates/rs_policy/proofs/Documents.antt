@@ -1,5 +1,5 @@
 -- Values of a document beside what they stand for.
-use Rattle.std.proofs.Common.{◌≡◌, ℕ, ◌≤◌, ◌<◌, ◌+◌, get_or, drop, sym, ◌∙◌, ◌&&◌, Bool, true, false, cond, nat_lt, List, [], ◌∷◌, length, map, Some, Ok, Err, refl, ap, arith, String, Global, string_bytes}
+use Rattle.std.proofs.Common.{◌≡◌, ℕ, ◌≤◌, ◌<◌, ◌+◌, get_or, drop, sym, ◌∙◌, ◌&&◌, Bool, false, cond, nat_lt, List, [], ◌∷◌, length, Some, Ok, Err, refl, ap, arith, String, Global, string_bytes}
 use Rattle.std.proofs.lemmas.Bool.Decides.{nat_tests}
 use Rattle.std.proofs.lemmas.List.{length-map, drop_more, drop_all}
 use Rattle.std.specs.List.{list_all}

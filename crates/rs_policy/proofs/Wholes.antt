@@ -1,5 +1,5 @@
 -- How the parts of a configuration make the whole.
-use Rattle.std.proofs.Common.{◌≡◌, ℕ, ◌+◌, ◌-◌, List, [], ◌∷◌, ◌++◌, length, take, Option, Some, Result, Ok, Err, BTreeMap, String, Global, refl, sym, ap, ◌∙◌, arith}
+use Rattle.std.proofs.Common.{◌≡◌, ℕ, ◌+◌, ◌-◌, List, ◌++◌, length, take, Some, Ok, BTreeMap, String, Global, sym, ap, ◌∙◌, arith}
 use Rattle.toml.specs.Data.{Data}
 use Rattle.toml.specs.Parse.{parse_document}
 use Rattle.toml.specs.View.{view, table_view}
@@ -8,12 +8,11 @@ use Rattle.toml.proofs.Views.{view-Table}
 use Rattle.std.proofs.Math.Seq.{take-append_seam}
 use Rattle.rs_policy.specs.Keys.{top_keys}
 use Rattle.rs_policy.specs.Values.{answer, stranger}
-use Rattle.rs_policy.specs.Settings.{Client, Policy, Settings}
-use Rattle.rs_policy.specs.Documents.{top_checks, top_of, the_top, clients_at, client_tables, clients_checks, clients_from, rules_at, rules_checks, rules_from, list_checks, list_of_rules, policies_checks, policies_from, document_checks, settings_of, config_of}
-use Rattle.rs_policy.specs.declared.faults.ConfigFault.{ConfigFault}
+use Rattle.rs_policy.specs.Settings.{Client, Policy}
+use Rattle.rs_policy.specs.Documents.{top_checks, top_of, the_top, clients_at, clients_checks, clients_from, rules_at, rules_checks, rules_from, list_checks, list_of_rules, policies_checks, policies_from, document_checks, settings_of, config_of}
 use Rattle.rs_policy.specs.declared.faults.List.{List as RuleList}
 use Rattle.rs_policy.specs.declared.top.Top.{Top}
-use Rattle.rs_policy.proofs.Checks.{passes, passes_one, answer-value, answer-append-ok, answer-ok_for, answer-err_for}
+use Rattle.rs_policy.proofs.Checks.{passes, passes_one, answer-value, answer-append-ok, answer-ok_for}
 
 -- the clients before client number i, from 0
 pub earlier_clients : (all items rest : List Client) (i : ℕ) → all ≡ items ++ rest → length items ≡ i → items ≡ take (i + 1 - 1) all

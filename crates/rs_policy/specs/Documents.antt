@@ -1,12 +1,12 @@
 -- What the text of a configuration means: the first check that fails, in order, each over the document's table alone,
 -- or the settings where none fails.
-use Rattle.std.specs.Prelude.{ℕ, ◌-◌, take, ◌==◌, ◌&&◌, ◌||◌, Bool, false, List, [], ◌∷◌, ◌++◌, bytes_eq, Option, Some, None, Result, Ok, Err, option_map, if◌then◌else◌}
+use Rattle.std.specs.Prelude.{ℕ, ◌-◌, take, ◌==◌, ◌&&◌, ◌||◌, Bool, false, List, [], ◌∷◌, ◌++◌, bytes_eq, Option, Some, None, Result, Ok, Err, if◌then◌else◌}
 use Rattle.std.specs.List.{list_any}
 use Rattle.toml.specs.Data.{Data, Members, table, as_bool}
 use Rattle.toml.specs.Parse.{parse_document}
 use Rattle.rs_policy.specs.Keys.{top_keys, client_keys}
 use Rattle.rs_policy.specs.Texts.{endpoint_of}
-use Rattle.rs_policy.specs.Values.{text_as, positive, hold_time, address, identifier, choice_of, name_of, keyed, required_at, optional_at, maybe_at, tables_at, some_tables_at, fault_in, value_in, stranger, answer, each_from, checks_from}
+use Rattle.rs_policy.specs.Values.{text_as, positive, hold_time, address, identifier, choice_of, name_of, required_at, optional_at, maybe_at, tables_at, some_tables_at, fault_in, value_in, stranger, answer, each_from, checks_from}
 use Rattle.rs_policy.specs.Settings.{Client, Policy, Settings}
 use Rattle.rs_policy.specs.Rules.{rule_checks, rule_of}
 use Rattle.rs_policy.specs.declared.faults.Key.{Key}

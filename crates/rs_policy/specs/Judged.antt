@@ -1,5 +1,4 @@
 -- What a route and a verdict of the code stand for.
-use Rattle.std.specs.Prelude.{Option, option_map}
 use Rattle.rs_attrs.specs.Stripping.{lists_in}
 use Rattle.rs_policy.specs.Verdicts.{Route, Passing, Judgement, dropped, passed}
 use Rattle.rs_policy.specs.declared.verdict.Offer.{Offer}

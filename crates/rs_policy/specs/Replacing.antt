@@ -1,5 +1,5 @@
 -- What another configuration has to leave as it is while the server runs.
-use Rattle.std.specs.Prelude.{◌≡◌, ◌≢◌, ℕ, ◌+◌, ◌==◌, ◌&&◌, Bool, not, List, [], ◌∷◌, length, bytes_eq, Option, Some, None, Ok, Err, option_map, if◌then◌else◌}
+use Rattle.std.specs.Prelude.{◌≡◌, ◌≢◌, ℕ, ◌+◌, ◌==◌, ◌&&◌, Bool, not, List, [], ◌∷◌, length, bytes_eq, Option, Some, None, Ok, Err, if◌then◌else◌}
 use Rattle.std.specs.Str.{IsUtf8}
 use Rattle.rs_policy.specs.Values.{keyed}
 use Rattle.rs_policy.specs.Settings.{Client, Settings}

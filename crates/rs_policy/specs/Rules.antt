@@ -9,7 +9,7 @@ use Rattle.rs_policy.specs.Settings.{Client}
 use Rattle.rs_policy.specs.declared.faults.Key.TheVariants as K
 use Rattle.rs_policy.specs.declared.faults.Place.{Place}
 use Rattle.rs_policy.specs.declared.faults.ConfigFault.{ConfigFault}
-use Rattle.rs_policy.specs.declared.faults.ConfigFault.TheVariants.{BadValue, TooMany}
+use Rattle.rs_policy.specs.declared.faults.ConfigFault.TheVariants.{TooMany}
 use Rattle.rs_policy.specs.declared.rules.Choice.{Choice}
 use Rattle.rs_policy.specs.declared.rules.Choice.TheVariants as C
 use Rattle.rs_policy.specs.declared.rules.Range.{Range}

@@ -1,5 +1,5 @@
 -- What a configuration says.
-use Rattle.std.specs.Prelude.{ℕ, Bool, List, [], ◌∷◌, slice_index_or, length, ◌<◌, ◌≤◌, ◌≡◌, Option, None}
+use Rattle.std.specs.Prelude.{ℕ, List, [], slice_index_or, length, ◌<◌, ◌≤◌, ◌≡◌, Option, None}
 use Rattle.rs_policy.specs.declared.rules.Rule.{Rule}
 use Rattle.rs_policy.specs.declared.top.Top.{Top}
 

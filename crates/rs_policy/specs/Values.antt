@@ -1,10 +1,9 @@
 -- The value at a key of a table: how it is read, and what is wrong with it.
-use Rattle.std.specs.Prelude.{ℕ, ◌+◌, ◌++◌, ◌==◌, Bool, true, false, ◌&&◌, ◌||◌, ℤ, pos, int_le, nat_abs, nat_lt, List, [], ◌∷◌, length, codes, bytes_eq, Option, Some, None, Result, Ok, Err, option_map, option_and_then, ok_or, is_some, if◌then◌else◌}
+use Rattle.std.specs.Prelude.{ℕ, ◌+◌, ◌++◌, ◌==◌, Bool, true, ◌&&◌, ◌||◌, ℤ, pos, int_le, nat_abs, nat_lt, List, [], ◌∷◌, length, codes, bytes_eq, Option, Some, None, Result, Ok, Err, option_map, option_and_then, ok_or, is_some, if◌then◌else◌}
 use Rattle.std.specs.List.{list_all}
-use Rattle.toml.specs.Data.{Data, Items, Members, no_items, item, no_members, member, table, get, as_integer, as_str, as_bool, as_array, as_table}
-use Rattle.rs_octets.specs.Prefixes.{Prefix}
+use Rattle.toml.specs.Data.{Data, Items, Members, no_items, item, no_members, member, get, as_integer, as_str, as_array, as_table}
 use Rattle.rs_policy.specs.Keys.{key_text, is_among}
-use Rattle.rs_policy.specs.Texts.{address_of, endpoint_of, prefix_of, community_of, is_name, no_zero}
+use Rattle.rs_policy.specs.Texts.{address_of, is_name, no_zero}
 use Rattle.rs_policy.specs.declared.faults.Key.{Key}
 use Rattle.rs_policy.specs.declared.faults.Key.TheVariants as K
 use Rattle.rs_policy.specs.declared.faults.Place.{Place}

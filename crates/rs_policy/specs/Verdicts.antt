@@ -7,7 +7,6 @@ use Rattle.rs_policy.specs.Settings.{Settings, client_of, policy_of}
 use Rattle.rs_policy.specs.declared.rules.Choice.{Choice}
 use Rattle.rs_policy.specs.declared.rules.Choice.TheVariants as C
 use Rattle.rs_policy.specs.declared.rules.Range.{Range}
-use Rattle.rs_policy.specs.declared.rules.Stripping.{Stripping}
 use Rattle.rs_policy.specs.declared.rules.Stripping.TheVariants.{Named, All}
 use Rattle.rs_policy.specs.declared.rules.Action.{Action}
 use Rattle.rs_policy.specs.declared.rules.Action.TheVariants as A

@@ -1,8 +1,5 @@
-use Rattle.std.proofs.Common.{◌≡◌, ◌+◌, ◌-◌, ◌++◌, ◌∷◌, [], ℕ, List, take, drop, ap, sym, subst, ◌∙◌, arith, length, length-append, Ok, Err}
-use Rattle.toml.specs.View.{view}
+use Rattle.std.proofs.Common.{◌≡◌, ◌+◌, ◌-◌, ◌++◌, ◌∷◌, [], take, ◌∙◌, arith, length-append}
 use Rattle.rs_policy.specs.Seen.{data_of}
-use Rattle.rs_policy.specs.Settings.{Client}
-use Rattle.rs_policy.specs.Values.{answer}
 use Rattle.rs_policy.specs.Documents.{client_checks, client_from, clients_from}
 use Rattle.rs_policy.proofs.Checks.{passed_on, answer-value, each-next, walk-next, walk-fails, walk-end}
 use Rattle.rs_policy.proofs.Documents.{data_of-drop, data_of-end}

@@ -1,6 +1,4 @@
-use Rattle.std.proofs.Common.{◌≡◌, ◌+◌, ◌++◌, ◌∷◌, [], ℕ, drop, length-append, ap, sym, ◌∙◌, arith}
-use Rattle.rs_policy.specs.Seen.{data_of}
-use Rattle.rs_policy.specs.Values.{answer, each_from, checks_from}
+use Rattle.std.proofs.Common.{◌≡◌, ◌++◌, ◌∷◌, [], length-append, ◌∙◌, arith}
 use Rattle.rs_policy.specs.Documents.{policy_checks, policy_from}
 use Rattle.rs_policy.proofs.Checks.{passed_on, walk-next, walk-fails, walk-end}
 use Rattle.rs_policy.proofs.Documents.{data_of-drop, data_of-end}

@@ -1,4 +1,3 @@
-use Rattle.std.proofs.Common.{◌≡◌}
 use Rattle.rs_policy.proofs.Checks.{fails_one, passed_on}
 use Rattle.rs_policy.proofs.Wholes.{list_passes}
 use Rattle.rs_policy.proofs.policies.read_rules.Goals as goal

@@ -1,7 +1,5 @@
-use Rattle.std.proofs.Common.{◌≡◌, ◌+◌, ◌++◌, ◌∷◌, [], ℕ, drop, ap, sym, ◌∙◌, arith}
-use Rattle.rs_policy.specs.Seen.{data_of}
+use Rattle.std.proofs.Common.{◌≡◌, ◌++◌, ◌∷◌, [], ◌∙◌, arith}
 use Rattle.rs_policy.specs.Rules.{rule_checks, rule_of}
-use Rattle.rs_policy.specs.Values.{answer, each_from, checks_from}
 use Rattle.rs_policy.specs.Documents.{rule_place}
 use Rattle.rs_policy.proofs.Checks.{passed_on, walk-next, walk-fails, walk-end}
 use Rattle.rs_policy.proofs.Documents.{data_of-drop, data_of-end}

@@ -1,4 +1,4 @@
-use Rattle.std.proofs.Common.{◌≡◌, ◌+◌, ◌∙◌, sym, ap, drop, arith}
+use Rattle.std.proofs.Common.{◌+◌, ◌∙◌, sym, ap, drop, arith}
 use Rattle.rs_policy.specs.Documents.{client_place}
 use Rattle.rs_policy.specs.Replacing.{place_or, other_in_clients}
 use Rattle.rs_policy.proofs.Others.{other_in_clients-next, other_in_clients-end, other_in_all-same}

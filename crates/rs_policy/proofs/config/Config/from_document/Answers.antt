@@ -1,4 +1,4 @@
-use Rattle.std.proofs.Common.{◌≡◌, ◌∙◌}
+use Rattle.std.proofs.Common.{◌∙◌}
 use Rattle.rs_policy.proofs.Checks.{passes, fails, passes_one, fails_one, answer-append-err, answer-err_for, passed_on}
 use Rattle.rs_policy.proofs.Wholes.{top_passes, clients_pass, document_passes}
 use Rattle.rs_policy.proofs.config.Config.from_document.Goals as goal

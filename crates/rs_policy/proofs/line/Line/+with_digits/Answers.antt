@@ -1,4 +1,4 @@
-use Rattle.std.proofs.Common.{◌≡◌, ◌+◌, ◌++◌, ◌∷◌, [], ◌≤◌, ◌/◌, ◌%◌, length, decimal, ap, ◌∙◌, arith, length-append}
+use Rattle.std.proofs.Common.{◌+◌, ◌++◌, ◌∷◌, [], ◌/◌, ◌%◌, length, decimal, ap, ◌∙◌, arith, length-append}
 use Rattle.std.proofs.lemmas.Fmt.{decimal_digit}
 use Rattle.rs_policy.proofs.Decimals.{decimal_last, length-decimal-step, onto_decimal}
 use Rattle.rs_policy.proofs.line.Line.+with_digits.Goals as goal
