@@ -10,7 +10,7 @@ use Rattle.rs_attrs.specs.Writing.{no_faults}
 use Rattle.rs_attrs.specs.Effects.{Change, Effect, Reset, Changes, Fields, HasEffect, IsEffect, has_prefix, prefixes_in, is_empty, lacks_mandatory, announced_by, reset_of}
 use Rattle.rs_packer.specs.Denoted.{body_of, Holds, Announces, Withdraws}
 use Rattle.rs_packer.specs.Packed.{announcement, withdrawal}
-use Rattle.rs_packer.specs.Laws.{AnnouncementHasOneEffect, WithdrawalHasOneEffect}
+use Rattle.rs_packer.specs.Laws.{AnnouncementHasNoOtherEffect, WithdrawalHasNoOtherEffect}
 use Rattle.rs_packer.proofs.Denoting.{announcement_holds, withdrawal_holds, no_nlri, no_reset, held, all_announced, rest_withdrawn, all_withdrawn, attributes_there, none_there}
 use Rattle.rs_packer.proofs.OneMeaning.{same_fields, same_meaning}
 
@@ -61,12 +61,12 @@ withdraws fields ps (Changes change) w n is =
       },
     )
 
-pub announcement_has_one_effect : AnnouncementHasOneEffect
-announcement_has_one_effect m mode ps is effect has =
+pub announcement_has_no_other_effect : AnnouncementHasNoOtherEffect
+announcement_has_no_other_effect m mode ps is effect has =
     let holds = announcement_holds m mode ps is in
     announces holds.fields m ps effect holds.withdrawn holds.nlri is.mandatory is.some (one_effect (body_of (announcement m mode ps)) mode [] m ps effect holds has)
 
-pub withdrawal_has_one_effect : WithdrawalHasOneEffect
-withdrawal_has_one_effect mode ps is effect has =
+pub withdrawal_has_no_other_effect : WithdrawalHasNoOtherEffect
+withdrawal_has_no_other_effect mode ps is effect has =
     let holds = withdrawal_holds mode ps is in
     withdraws holds.fields ps effect holds.withdrawn (no_nlri mode ps is) (one_effect (body_of (withdrawal ps)) mode ps [] [] effect holds has)

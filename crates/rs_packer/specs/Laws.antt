@@ -40,9 +40,9 @@ AnnouncementHasEffect =
     (m : List Attribute) (mode : Mode) (ps : List Prefix) → IsAnnounceable m mode ps
     → (change : Change) → Announces m ps change → HasEffect (body_of (announcement m mode ps)) mode (Changes change)
 
--- and does nothing else
-abbrev pub AnnouncementHasOneEffect : Type 0
-AnnouncementHasOneEffect =
+-- and whatever its effect is, it is one of these
+abbrev pub AnnouncementHasNoOtherEffect : Type 0
+AnnouncementHasNoOtherEffect =
     (m : List Attribute) (mode : Mode) (ps : List Prefix) → IsAnnounceable m mode ps
     → (effect : Effect) → HasEffect (body_of (announcement m mode ps)) mode effect → (change : Change) × (effect ≡ Changes change) × Announces m ps change
 
@@ -59,7 +59,7 @@ WithdrawalHasEffect =
     (mode : Mode) (ps : List Prefix) → IsWithdrawable ps
     → (change : Change) → Withdraws ps change → HasEffect (body_of (withdrawal ps)) mode (Changes change)
 
-abbrev pub WithdrawalHasOneEffect : Type 0
-WithdrawalHasOneEffect =
+abbrev pub WithdrawalHasNoOtherEffect : Type 0
+WithdrawalHasNoOtherEffect =
     (mode : Mode) (ps : List Prefix) → IsWithdrawable ps
     → (effect : Effect) → HasEffect (body_of (withdrawal ps)) mode effect → (change : Change) × (effect ≡ Changes change) × Withdraws ps change

@@ -49,7 +49,8 @@ fn put_attributes(out: &mut [u8], at: usize, attrs: &Attrs, mode: Mode) -> usize
 /// attributes as the mode spells them. The slice's length is the message's limit: 4,096 octets, or
 /// 65,535 towards a peer that takes long messages (RFC 8654). What stands behind the message stays.
 ///
-/// There is a first prefix, and it fits: see [`fits`].
+/// There is a first prefix, and it fits: see [`fits`]. What the message denotes to its receiver:
+/// [`crate::laws::announcement_denotes`].
 pub fn pack_announced(attrs: &Attrs, mode: Mode, prefixes: &[Prefix], out: &mut [u8]) -> Packed
     requires limit { length out.old ≤ 65535 }
     requires some { 0 < length prefixes.now }

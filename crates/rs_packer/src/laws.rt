@@ -1,23 +1,25 @@
 //! Laws of the definitions: the contract is the law, and the body does nothing.
 
-ghost use Rattle.rs_packer.specs.Laws.{IsHeardAlone, AnnouncementHolds, AnnouncementHasEffect, AnnouncementHasOneEffect, WithdrawalHolds, WithdrawalHasEffect, WithdrawalHasOneEffect};
+ghost use Rattle.rs_packer.specs.Laws.{IsHeardAlone, AnnouncementHolds, AnnouncementHasEffect, AnnouncementHasNoOtherEffect, WithdrawalHolds, WithdrawalHasEffect, WithdrawalHasNoOtherEffect};
 
 /// An UPDATE that is no longer than its receiver takes is heard as one message, without a fault.
 pub fn update_is_heard_alone()
     ensures { IsHeardAlone }
 {}
 
-/// What an announcement denotes: nothing withdrawn, and just its prefixes announced with just its
-/// attributes, without a fault, for four-octet and for two-octet peers (RFC 4271, 4.3; RFC 7606).
+/// What an announcement denotes, read by its receiver: nothing withdrawn, and just its prefixes
+/// announced with just its attributes, without a fault, for four-octet and for two-octet peers
+/// (RFC 4271, 4.3; RFC 6793; RFC 7606).
 pub fn announcement_denotes()
     ensures holds { AnnouncementHolds }
     ensures effect { AnnouncementHasEffect }
-    ensures only { AnnouncementHasOneEffect }
+    ensures only { AnnouncementHasNoOtherEffect }
 {}
 
-/// What a withdrawal denotes: just its prefixes withdrawn, and nothing announced, without a fault.
+/// What a withdrawal denotes, read by its receiver: just its prefixes withdrawn, and nothing
+/// announced, without a fault (RFC 4271, 4.3; RFC 7606).
 pub fn withdrawal_denotes()
     ensures holds { WithdrawalHolds }
     ensures effect { WithdrawalHasEffect }
-    ensures only { WithdrawalHasOneEffect }
+    ensures only { WithdrawalHasNoOtherEffect }
 {}

@@ -25,7 +25,8 @@ fn put_withdrawn_front(out: &mut [u8], total: u16, size: u16) -> usize
 /// length is the message's limit: 4,096 octets, or 65,535 towards a peer that takes long messages
 /// (RFC 8654). What stands behind the message stays.
 ///
-/// There is a first prefix. It fits, since it never needs more than 28 octets.
+/// There is a first prefix. It fits, since it never needs more than 28 octets. What the message
+/// denotes to its receiver: [`crate::laws::withdrawal_denotes`].
 pub fn pack_withdrawn(prefixes: &[Prefix], out: &mut [u8]) -> Packed
     requires limit { length out.old ≤ 65535 }
     requires some { 0 < length prefixes.now }
