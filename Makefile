@@ -2,12 +2,12 @@
 # It stands on `rt`, the command of the Rattle toolchain, and on Python 3.
 
 .DEFAULT_GOAL := help
-.PHONY: help demo build test clean
+.PHONY: help demo build test examples clean
 
 PROGRAMS := rs_replay
 
 help: ## list what can be done
-	@grep -hE '^[a-z]+:.*##' $(MAKEFILE_LIST) | sed -E 's/^([a-z]+):.*## /  make \1\t/' | expand -t 15
+	@grep -hE '^[a-z]+:.*##' $(MAKEFILE_LIST) | sed -E 's/^([a-z]+):.*## /  make \1\t/' | expand -t 18
 
 demo: ## play a recorded session: one route from one member to another (builds without proofs)
 	@tools/demo
@@ -22,6 +22,9 @@ build: ## prove what the programs stand on, and leave them in out/
 
 test: ## the gate: every proof from nothing, must-fail edits, tests, recorded sessions
 	@python3 tools/gate.py
+
+examples: ## compare the example configurations with those that are tested
+	@python3 tools/check_examples.py
 
 clean: ## remove all that was built
 	rm -rf out crates/*/out tools/__pycache__

@@ -3,8 +3,9 @@
 
 Runs `rt ci` at the top of the repository and passes on what it prints. Meanwhile it looks, twice a
 second, in which crate's folder the prover and the compilers are at work; from that it prints how long
-each crate took. Then it plays each session of examples/sessions to the built rs_replay. The last line
-is 'N passed, M failed' over all of it; the exit status is 0 where nothing failed.
+each crate took. Then it plays each session of examples/sessions to the built rs_replay, and compares the
+example configurations with those that are tested. The last line is 'N passed, M failed' over all of it;
+the exit status is 0 where nothing failed.
 
 It reads the repository, and writes nothing but what `rt ci` itself writes.
 """
@@ -18,6 +19,7 @@ import sys
 import threading
 import time
 
+from check_examples import check
 from play_sessions import play
 
 TOP = pathlib.Path(__file__).resolve().parent.parent
@@ -83,8 +85,10 @@ def main():
     passed, failed, seconds = run_gate()
     tell_times(seconds, started)
     held, differ = play(TOP / "crates/rs_replay/out/rs_replay", TOP / "examples/sessions")
-    print(f"{passed + held} passed, {failed + differ} failed")
-    return 1 if failed + differ else 0
+    alike, unlike = check()
+    passed, failed = passed + held + alike, failed + differ + unlike
+    print(f"{passed} passed, {failed} failed")
+    return 1 if failed else 0
 
 
 if __name__ == "__main__":
