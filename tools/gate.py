@@ -2,8 +2,8 @@
 """The gate: every proof from nothing, then the recorded sessions on the programs that came of it.
 
 Runs `rt ci` at the top of the repository and passes on what it prints. Meanwhile it looks, twice a
-second, in which crate's folder the prover and the compilers are at work; from that it prints how long
-each crate took. Then it plays each session of examples/sessions to the built rs_replay, and compares the
+second, on which crates the prover and the compilers are at work; from that it prints how long each crate
+took. Then it plays each session of examples/sessions to the built rs_replay, and compares the
 example configurations with those that are tested. The last line is 'N passed, M failed' over all of it;
 the exit status is 0 where nothing failed.
 
@@ -26,25 +26,47 @@ TOP = pathlib.Path(__file__).resolve().parent.parent
 PAUSE = 0.5
 
 
-def crate_of(pid, crates):
-    """The crate in whose folder a process works, or None."""
+def parents():
+    """The parent of each process."""
+    of = {}
+    for pid in filter(str.isdigit, os.listdir("/proc")):
+        try:
+            stat = pathlib.Path(f"/proc/{pid}/stat").read_text()
+        except OSError:
+            continue
+        of[int(pid)] = int(stat.rpartition(")")[2].split()[1])
+    return of
+
+
+def crate_of(pid):
+    """The crate that a process of the prover or of a compiler works on, or None."""
     try:
-        folder = os.readlink(f"/proc/{pid}/cwd")
+        words = pathlib.Path(f"/proc/{pid}/cmdline").read_bytes().split(b"\0")
     except OSError:
         return None
-    if not folder.startswith(f"{crates}/"):
+    if b"--crate-name" not in words[:-1]:
         return None
-    return folder[len(str(crates)) + 1 :].split("/")[0]
+    return words[words.index(b"--crate-name") + 1].decode()
 
 
-def watch(over, seconds):
-    """Adds up, for each crate, how long some process was at work in its folder."""
-    crates = TOP / "crates"
+def busy_crates(gate):
+    """The crates that some process below the gate works on."""
+    of, busy = parents(), set()
+    for pid in of:
+        above = pid
+        while above in of and above != gate:
+            above = of[above]
+        if above == gate:
+            busy.add(crate_of(pid))
+    return busy - {None}
+
+
+def watch(gate, over, seconds):
+    """Adds up, for each crate, how long some process was at work on it."""
     last = time.monotonic()
     while not over.wait(PAUSE):
         now = time.monotonic()
-        busy = {crate_of(pid, crates) for pid in os.listdir("/proc") if pid.isdigit()}
-        for crate in busy - {None}:
+        for crate in busy_crates(gate):
             seconds[crate] += now - last
         last = now
 
@@ -52,10 +74,10 @@ def watch(over, seconds):
 def run_gate():
     """Runs `rt ci`; answers its counts, and the seconds of each crate."""
     seconds, over = collections.Counter(), threading.Event()
-    watcher = threading.Thread(target=watch, args=(over, seconds), daemon=True)
-    watcher.start()
     line = ""
     with subprocess.Popen(["rt", "ci"], cwd=TOP, stdout=subprocess.PIPE, stderr=subprocess.STDOUT, text=True) as gate:
+        watcher = threading.Thread(target=watch, args=(gate.pid, over, seconds), daemon=True)
+        watcher.start()
         for line in gate.stdout:
             print(line, end="", flush=True)
         status = gate.wait()
@@ -70,7 +92,7 @@ def run_gate():
 
 def tell_times(seconds, started):
     """How long each crate took, the longest first, and the whole."""
-    print("\nHow long some process was at work in each crate, in seconds:")
+    print("\nHow long some process was at work on each crate, proofs and wrong bodies together, in seconds:")
     for crate, took in sorted(seconds.items(), key=lambda it: -it[1]):
         print(f"  {crate:<12} {took:6.0f}")
     used = resource.getrusage(resource.RUSAGE_CHILDREN)
