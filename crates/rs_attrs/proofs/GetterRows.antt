@@ -1,11 +1,11 @@
 -- Worked rows on what attributes say, by computation.
-use Rattle.std.specs.Prelude.{◌≡◌, ℕ, true, false, Some, None, List, [], ◌∷◌, ◌++◌, refl, codes}
-use Rattle.std.specs.declared.cmp.Ordering.TheVariants.{Less, Equal}
+use Rattle.std.specs.Prelude.{◌≡◌, true, false, Some, None, List, [], ◌∷◌, ◌++◌, refl, codes}
+use Rattle.std.specs.declared.cmp.Ordering.TheVariants.{Less}
 use Rattle.rs_attrs.specs.declared.mode.Mode.TheVariants.{Four}
 use Rattle.rs_attrs.specs.Meaning.{Attribute, read_of, all_types}
 use Rattle.rs_attrs.specs.Writing.{spelt}
 use Rattle.rs_attrs.specs.Comparing.{same_attributes, attributes_cmp}
-use Rattle.rs_attrs.specs.Getters.{value_of, origin_of, next_hop_of, med_of, has_community, path_length_of, path_has_of, origin_as_of}
+use Rattle.rs_attrs.specs.Getters.{origin_of, next_hop_of, med_of, has_community, path_length_of, path_has_of, origin_as_of}
 use Rattle.rs_attrs.specs.Stripping.{stripped_of}
 use Rattle.rs_attrs.proofs.Rows.{hex, u1, u1_attributes}
 

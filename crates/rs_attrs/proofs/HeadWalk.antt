@@ -1,13 +1,13 @@
 -- A walk over heads and values, an attribute at a time.
-use Rattle.std.proofs.Common.{◌≡◌, ℕ, zero, suc, ◌+◌, ◌*◌, ◌^◌, ◌<◌, ◌≤◌, List, [], ◌∷◌, ◌++◌, length, take, drop, get_or, refl, sym, ap, ◌∙◌, subst, arith, length-drop, length-append}
-use Rattle.std.specs.List.{flat_map, AllByRecursion}
+use Rattle.std.proofs.Common.{◌≡◌, ℕ, suc, ◌+◌, ◌*◌, ◌<◌, ◌≤◌, List, [], ◌∷◌, ◌++◌, length, take, drop, get_or, refl, sym, ap, ◌∙◌, subst, arith, length-drop, length-append}
+use Rattle.std.specs.List.{AllByRecursion}
 use Rattle.std.proofs.lemmas.List.{drop_more, drop_all, length-take-le}
 use Rattle.rs_attrs.specs.declared.attrs.Head.{Head}
 use Rattle.rs_attrs.specs.declared.writing.Pass.{Pass}
 use Rattle.rs_attrs.specs.Meaning.{Attribute, IsRising, AllAbove}
 use Rattle.rs_attrs.specs.Writing.{IsLegalAttribute}
 use Rattle.rs_attrs.specs.Held.{attribute_by, attributes_in, values_size, IsHeld}
-use Rattle.rs_attrs.specs.Passes.{part_octets, passed, HasSpellingIn}
+use Rattle.rs_attrs.specs.Passes.{part_octets, passed}
 
 -- the heads and values that are left
 pub record LeftHeld (heads : List Head) (values : List ℕ) : Type 0 where

@@ -1,10 +1,10 @@
 -- A path with AS numbers in two octets, written segment by segment.
-use Rattle.std.proofs.Common.{◌≡◌, ℕ, zero, suc, ◌+◌, ◌*◌, ◌<◌, ◌≤◌, Bool, true, List, [], ◌∷◌, ◌++◌, length, map, get_or, Option, Some, None, refl, sym, ap, ◌∙◌, subst, arith, length-append}
+use Rattle.std.proofs.Common.{◌≡◌, ℕ, suc, ◌+◌, ◌*◌, ◌<◌, ◌≤◌, true, List, [], ◌∷◌, ◌++◌, length, map, get_or, Option, Some, None, refl, sym, ap, subst, arith, length-append}
 use Rattle.std.specs.Prelude.{is_some}
-use Rattle.std.specs.List.{flat_map, AllByRecursion}
+use Rattle.std.specs.List.{flat_map}
 use Rattle.std.proofs.lemmas.List.{length-map}
 use Rattle.rs_attrs.specs.Spellings.{AreOctets}
-use Rattle.rs_attrs.specs.Paths.{Segment, two_octets, four_octets, is_set_or_sequence, number_octets, segment_octets, path_octets, IsSegment, IsPath, segments_of, or_none}
+use Rattle.rs_attrs.specs.Paths.{Segment, two_octets, four_octets, is_set_or_sequence, number_octets, segment_octets, path_octets, IsPath, segments_of, or_none}
 use Rattle.rs_attrs.specs.Table.{is_path}
 use Rattle.rs_attrs.specs.Writing.{as_trans_or, narrowed_segment, path_in}
 use Rattle.rs_attrs.specs.Passes.{narrow_path}

@@ -1,25 +1,25 @@
 -- An attribute as it is written for a two-octet peer, and how that is read.
-use Rattle.std.proofs.Common.{◌≡◌, ℕ, zero, suc, ◌+◌, ◌*◌, ◌/◌, ◌%◌, ◌^◌, ◌<◌, ◌≤◌, ◌&&◌, ◌||◌, Bool, true, false, cond, not, List, [], ◌∷◌, ◌++◌, length, map, take, drop, length-drop, get_or, Option, Some, None, refl, sym, ap, subst, ◌∙◌, arith, nat_lt, nat_eq}
-use Rattle.std.specs.Prelude.{◌==◌, is_some, bit_and, filter}
-use Rattle.std.specs.List.{flat_map, list_any, find, AllByRecursion}
-use Rattle.std.specs.Int.{w16, w32, from_be_bytes, to_be_bytes}
+use Rattle.std.proofs.Common.{◌≡◌, ℕ, zero, suc, ◌+◌, ◌/◌, ◌%◌, ◌<◌, ◌&&◌, ◌||◌, Bool, true, false, cond, not, List, [], ◌∷◌, ◌++◌, length, map, take, drop, length-drop, get_or, Option, Some, None, refl, sym, ap, subst, ◌∙◌, arith, nat_lt, nat_eq}
+use Rattle.std.specs.Prelude.{◌==◌, is_some, filter}
+use Rattle.std.specs.List.{list_any, find, AllByRecursion}
+use Rattle.std.specs.Int.{w16, w32, to_be_bytes}
 use Rattle.std.proofs.lemmas.Nat.{be_bytes_4, from_be_bytes-to_be_bytes_2}
-use Rattle.std.proofs.lemmas.Bool.{eqb-true, eq-eqb, ne_eqb, ltb-true, ltb-false, lt-ltb}
+use Rattle.std.proofs.lemmas.Bool.{eqb-true, ne_eqb, ltb-false, lt-ltb}
 use Rattle.std.proofs.lemmas.List.{length-map, take-append-drop, length-take-le}
 use Rattle.std.proofs.lemmas.List.Sums.{sum_by-cons}
 use Rattle.rs_attrs.specs.declared.mode.Mode.{Mode}
 use Rattle.rs_attrs.specs.declared.mode.Mode.TheVariants.{Two, Four}
 use Rattle.rs_attrs.specs.declared.table.Outcome.{Outcome}
-use Rattle.rs_attrs.specs.declared.table.Outcome.TheVariants.{Kept, Withdraw, Discard, Unknown}
+use Rattle.rs_attrs.specs.declared.table.Outcome.TheVariants.{Kept, Withdraw, Discard}
 use Rattle.rs_attrs.specs.declared.table.TypeRow.{TypeRow}
 use Rattle.rs_attrs.specs.declared.table.Class.{Class}
 use Rattle.rs_attrs.specs.declared.table.Class.TheVariants.{WellKnown, OptionalTransitive, OptionalNonTransitive, Any}
 use Rattle.rs_attrs.proofs.ReadBack.{FlagsBack, flags_of_back}
 use Rattle.rs_attrs.specs.Spellings.{Spelling, AreOctets}
-use Rattle.rs_attrs.specs.Paths.{or_none, Segment, two_octets, four_octets, is_set_or_sequence, is_any_segment, IsSegment, IsPath, as_path_in, as4_path_in, path_octets, path_length, segments_of, segment_length}
-use Rattle.rs_attrs.specs.Table.{fits_class, row, common_rows, as4_rows, rows, outcome_by, outcome_of, is_kept, is_path, is_as4_path, is_well_formed}
-use Rattle.rs_attrs.specs.Meaning.{Attribute, is_as4, as_trans, aggregator_as}
-use Rattle.rs_attrs.specs.Writing.{bit, flags_with, flags_of, spelling_of, IsLegalAttribute, needs_four_octets, as_trans_or, narrowed_segment, path_in, aggregator_in, with_value, narrowed, as4_attribute, path_needs_four_octets}
+use Rattle.rs_attrs.specs.Paths.{or_none, Segment, two_octets, four_octets, is_set_or_sequence, is_any_segment, IsSegment, IsPath, path_octets, path_length, segments_of, segment_length}
+use Rattle.rs_attrs.specs.Table.{fits_class, rows, outcome_by, outcome_of, is_kept, is_path, is_as4_path, is_well_formed}
+use Rattle.rs_attrs.specs.Meaning.{Attribute, as_trans, aggregator_as}
+use Rattle.rs_attrs.specs.Writing.{flags_of, spelling_of, IsLegalAttribute, needs_four_octets, as_trans_or, narrowed_segment, path_in, aggregator_in, with_value, narrowed, as4_attribute}
 use Rattle.rs_attrs.proofs.PathLaws.{are_taken, path_back, path_found}
 
 -- ---- the attribute with another value

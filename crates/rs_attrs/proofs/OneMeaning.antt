@@ -1,12 +1,9 @@
 -- A field has one meaning.
-use Rattle.std.proofs.Common.{◌≡◌, ℕ, zero, suc, ◌<◌, ◌≤◌, Bool, true, false, cond, List, [], ◌∷◌, get_or, Option, Some, None, refl, sym, ap, ◌∙◌, subst, arith, lit<, nat_eq, ◌⊎◌, inl, inr}
-use Rattle.std.specs.Prelude.{◌↔◌}
-use Rattle.std.proofs.lemmas.Bool.{cases_order, cases_lt, eqb-true, eq-eqb, ne_eqb}
-use Rattle.rs_attrs.specs.declared.mode.Mode.{Mode}
-use Rattle.rs_attrs.specs.declared.mode.Faults.{Faults}
-use Rattle.rs_attrs.specs.Spellings.{Spelling, AreOctets, Splits, spellings_of, rest_of}
-use Rattle.rs_attrs.specs.Paths.{AsSize, Segment, IsPath, segments_of}
-use Rattle.rs_attrs.specs.Meaning.{Attribute, get, kept, AllAbove, IsRising, IsMeant, Reads, faults_of}
+use Rattle.std.proofs.Common.{◌≡◌, ℕ, zero, suc, ◌<◌, ◌≤◌, Bool, true, false, cond, List, [], ◌∷◌, get_or, Some, None, refl, sym, ap, ◌∙◌, arith, lit<, nat_eq, ◌⊎◌, inl, inr}
+use Rattle.std.proofs.lemmas.Bool.{cases_order, eqb-true, eq-eqb, ne_eqb}
+use Rattle.rs_attrs.specs.Spellings.{AreOctets, spellings_of, rest_of}
+use Rattle.rs_attrs.specs.Paths.{segments_of}
+use Rattle.rs_attrs.specs.Meaning.{Attribute, get, kept, AllAbove, IsRising, faults_of}
 use Rattle.rs_attrs.specs.ReadingLaws.{FieldsAreRead, FieldsMeanOne, PathsAreRead}
 use Rattle.rs_attrs.proofs.Walk.{FitOctets, splits_only, splits_of}
 use Rattle.rs_attrs.proofs.Meant.{is_meant}

@@ -1,11 +1,11 @@
 -- What each pass writes of an attribute.
-use Rattle.std.proofs.Common.{◌≡◌, ℕ, zero, suc, ◌+◌, ◌<◌, ◌≤◌, ◌&&◌, Bool, true, false, cond, List, [], ◌∷◌, ◌++◌, length, map, drop, refl, sym, ap, ◌∙◌, subst, arith, nat_lt, nat_eq, append_assoc, length-append}
+use Rattle.std.proofs.Common.{◌≡◌, ◌+◌, ◌<◌, ◌≤◌, ◌&&◌, Bool, true, false, cond, List, [], ◌∷◌, ◌++◌, length, map, refl, sym, ap, ◌∙◌, subst, arith, nat_lt, nat_eq, append_assoc, length-append}
 use Rattle.std.specs.Prelude.{filter}
 use Rattle.std.specs.List.{flat_map, AllByRecursion}
 use Rattle.std.proofs.lemmas.Bool.{eq-eqb, ne_eqb, lt-ltb, le-ltb}
 use Rattle.std.proofs.lemmas.List.{append-nil}
 use Rattle.rs_attrs.specs.Meaning.{Attribute}
-use Rattle.rs_attrs.specs.Writing.{attribute_octets, with_value, narrowed, as4_of, as4_attribute, path_needs_four_octets, needs_four_octets, aggregator_in, for_two, spelt, HasSpelling}
+use Rattle.rs_attrs.specs.Writing.{attribute_octets, with_value, narrowed, as4_of, as4_attribute, path_needs_four_octets, needs_four_octets, aggregator_in, spelt, HasSpelling}
 use Rattle.rs_attrs.specs.declared.mode.Mode.TheVariants.{Two, Four}
 use Rattle.rs_attrs.specs.declared.writing.Pass.{Pass}
 use Rattle.rs_attrs.specs.declared.writing.Pass.TheVariants.{Whole, Narrowed, As4, Above}

@@ -1,21 +1,20 @@
 -- What is spelt for a two-octet peer is read again.
-use Rattle.std.proofs.Common.{◌≡◌, ℕ, zero, suc, ◌+◌, ◌-◌, ◌<◌, ◌≤◌, ◌&&◌, ◌||◌, Bool, true, false, cond, not, List, [], ◌∷◌, ◌++◌, length, map, take, drop, Option, Some, None, refl, sym, ap, subst, ◌∙◌, arith, nat_lt, nat_eq}
-use Rattle.std.specs.Prelude.{◌==◌, filter, option_map, bit_and, is_some}
-use Rattle.std.specs.List.{flat_map, list_any, find, AllByRecursion}
+use Rattle.std.proofs.Common.{◌≡◌, ℕ, ◌+◌, ◌-◌, ◌<◌, ◌≤◌, ◌&&◌, ◌||◌, Bool, true, false, cond, not, List, [], ◌∷◌, ◌++◌, length, map, Option, Some, None, refl, sym, ap, subst, ◌∙◌, arith, nat_lt, nat_eq}
+use Rattle.std.specs.Prelude.{◌==◌, filter, option_map, is_some}
+use Rattle.std.specs.List.{flat_map, list_any, AllByRecursion}
 use Rattle.std.proofs.lemmas.Bool.{eqb-true, eq-eqb, ne_eqb, ltb-true, ltb-false, lt-ltb, le-ltb}
 use Rattle.rs_attrs.specs.declared.mode.Mode.TheVariants.{Two, Four}
-use Rattle.rs_attrs.specs.declared.table.Outcome.{Outcome}
 use Rattle.rs_attrs.specs.declared.table.Class.TheVariants.{WellKnown, OptionalTransitive}
-use Rattle.rs_attrs.specs.declared.table.Outcome.TheVariants.{Kept, Withdraw, Discard, Unknown}
-use Rattle.rs_attrs.specs.Spellings.{Spelling, spelling_octets, IsSpelling, AreOctets}
-use Rattle.rs_attrs.specs.Paths.{Segment, two_octets, four_octets, is_set_or_sequence, path_octets, path_length, leading, as_path_in, as4_path_in, or_none, segments_of}
+use Rattle.rs_attrs.specs.declared.table.Outcome.TheVariants.{Kept, Withdraw, Discard}
+use Rattle.rs_attrs.specs.Spellings.{Spelling, IsSpelling}
+use Rattle.rs_attrs.specs.Paths.{Segment, two_octets, four_octets, is_set_or_sequence, path_octets, path_length, leading, as_path_in, as4_path_in, or_none}
 use Rattle.rs_attrs.specs.Table.{fits_class, outcome_of, is_kept, is_withdraw, is_discard, is_unknown, is_path}
 use Rattle.rs_attrs.specs.Meaning.{Attribute, attribute_with, partial_of, that_counts, if_kept, kept_spelling, kept, is_as4, as_trans, aggregator_as, as4_path, if_some, ignores_as4, merged, aggregator_by, value_by_two, get, IsRising, AllAbove, stands_twice, some_comes_to, faults_of}
-use Rattle.rs_attrs.specs.Writing.{flags_of, spelling_of, attribute_octets, IsLegal, IsLegalAttribute, HasSpelling, with_value, narrowed, narrowed_segment, path_in, aggregator_in, needs_four_octets, path_needs_four_octets, as_trans_or, as4_attribute, as4_of, for_two, no_faults, ReadsBack}
+use Rattle.rs_attrs.specs.Writing.{flags_of, spelling_of, IsLegal, IsLegalAttribute, with_value, narrowed, narrowed_segment, path_in, aggregator_in, needs_four_octets, path_needs_four_octets, as4_attribute, as4_of, for_two, no_faults, ReadsBack}
 use Rattle.rs_attrs.proofs.Counting.{as4_discarded, IsGood, none_comes_to, not_withdraw, not_discard, not_unknown}
 use Rattle.rs_attrs.proofs.ReadBack.{FlagsBack, flags_of_back, partial_of_back, spellings_back, fits_by, count, count_cons}
 use Rattle.rs_attrs.proofs.PathLaws.{path_back}
-use Rattle.rs_attrs.proofs.Narrowing.{narrowed_value, narrowed_is, same_class, IsPlain, same_outcome, PathFacts, path_facts, narrowed_each, narrowed_length, same_path, as4_segments, all_stay, as4_path_kept, AggregatorFacts, aggregator_facts, as4_aggregator_kept, aggregator_value, aggregator_size, aggregator_as_back, aggregator_back}
+use Rattle.rs_attrs.proofs.Narrowing.{narrowed_value, narrowed_is, same_class, IsPlain, same_outcome, path_facts, narrowed_each, narrowed_length, same_path, as4_segments, all_stay, as4_path_kept, AggregatorFacts, aggregator_facts, as4_aggregator_kept, aggregator_value, aggregator_size, aggregator_as_back, aggregator_back}
 
 -- ---- what stands in a map
 

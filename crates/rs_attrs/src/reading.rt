@@ -70,15 +70,25 @@ struct Room {
     values: usize,
 }
 
-fn room_for(places: &[Option<Found<'_>>; 256]) -> Room {
+/// Just what a four-octet peer's attributes take. A two-octet peer's path may take less than this:
+/// AS4_PATH stands for a part of it.
+fn room_for(mode: Mode, places: &[Option<Found<'_>>; 256]) -> Room {
     let mut room = Room {
         heads: 0,
         values: 0,
     };
-    for place in places {
-        if let Some(found) = place {
-            room.heads = room.heads.saturating_add(1);
-            room.values = room.values.saturating_add(found.value.len());
+    for kind in 0..256 {
+        if let Some(found) = places[kind] {
+            if !has_no_meaning(kind) {
+                room.heads = room.heads.saturating_add(1);
+            }
+            let len = found.value.len();
+            room.values = room.values.saturating_add(match (mode, kind) {
+                (Mode::Two, 2) => len.saturating_mul(2),
+                (Mode::Two, 7) => len.saturating_add(2),
+                (Mode::Two, 18) => 0,
+                _ => len,
+            });
         }
     }
     room
@@ -112,7 +122,7 @@ fn attributes_of(
     requires legal { IsLegal (meant_by mode places.now) }
     ensures { IfOk result (λ a. a ≡ meant_by mode places.now) }
 {
-    let room = room_for(places);
+    let room = room_for(mode, places);
     let mut heads = Vec::with_capacity(alloc, room.heads)?;
     let mut values = Vec::with_capacity(alloc, room.values)?;
     for kind in 0..256 {

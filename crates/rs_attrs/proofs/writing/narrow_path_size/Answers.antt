@@ -1,7 +1,6 @@
-use Rattle.std.proofs.Common.{◌≡◌, ℕ, ◌+◌, ◌*◌, ◌≤◌, List, [], ◌∷◌, length, sym, ap, ◌∙◌, subst, arith, length-append}
+use Rattle.std.proofs.Common.{◌≡◌, ℕ, ◌+◌, ◌*◌, ◌≤◌, List, ◌∷◌, length, ap, ◌∙◌, arith, length-append}
 use Rattle.std.specs.List.{flat_map}
 use Rattle.rs_attrs.specs.Paths.{Segment}
-use Rattle.rs_attrs.specs.Passes.{narrow_path}
 use Rattle.rs_attrs.proofs.NarrowPath.{narrow_segment, path_parts, segment_length_is, narrow_shorter}
 use Rattle.rs_attrs.proofs.writing.narrow_path_size.Goals as goal
 

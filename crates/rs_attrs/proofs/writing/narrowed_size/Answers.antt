@@ -1,6 +1,6 @@
-use Rattle.std.proofs.Common.{sym, ap, ◌∙◌, arith}
+use Rattle.std.proofs.Common.{sym, ap, ◌∙◌}
 use Rattle.rs_attrs.specs.Held.{attribute_by}
-use Rattle.rs_attrs.specs.Passes.{octets_of_length, narrow_aggregator}
+use Rattle.rs_attrs.specs.Passes.{octets_of_length}
 use Rattle.rs_attrs.specs.declared.writing.Pass.TheVariants.{Narrowed}
 use Rattle.rs_attrs.proofs.Narrowing.{aggregator_facts, aggregator_size}
 use Rattle.rs_attrs.proofs.Parts.{length_of_one, narrowed_path, narrowed_aggregator, narrowed_other}

@@ -1,4 +1,4 @@
-use Rattle.std.proofs.Common.{◌≡◌, ℕ, length, sym, ap, ◌∙◌, subst}
+use Rattle.std.proofs.Common.{length, sym, ap, ◌∙◌}
 use Rattle.rs_attrs.specs.Held.{attribute_by}
 use Rattle.rs_attrs.specs.Passes.{octets_of_length, part_octets}
 use Rattle.rs_attrs.specs.declared.writing.Pass.{Pass}

@@ -1,4 +1,4 @@
-use Rattle.std.proofs.Common.{◌≡◌, ℕ, ◌+◌, ◌≤◌, List, ◌++◌, length, sym, ap, ◌∙◌, arith, length-append}
+use Rattle.std.proofs.Common.{◌≡◌, ℕ, ◌+◌, ◌≤◌, List, ◌++◌, length, ap, arith, length-append}
 use Rattle.rs_octets.specs.Writes.{Writes}
 use Rattle.rs_octets.proofs.Writing.{writes_then}
 use Rattle.rs_attrs.specs.declared.attrs.Head.{Head}

@@ -1,4 +1,4 @@
-use Rattle.std.proofs.Common.{◌≡◌, ℕ, ◌+◌, List, [], ◌∷◌, false, length, take, drop, get_or, sym, ap, ◌∙◌, subst, arith}
+use Rattle.std.proofs.Common.{◌≡◌, ℕ, ◌+◌, List, [], ◌∷◌, false, length, take, drop, sym, ap, ◌∙◌, subst}
 use Rattle.std.specs.List.{AllByRecursion}
 use Rattle.rs_octets.specs.Writes.{Writes}
 use Rattle.rs_attrs.specs.declared.attrs.Head.{Head}
@@ -6,7 +6,7 @@ use Rattle.rs_attrs.specs.declared.writing.Pass.{Pass}
 use Rattle.rs_attrs.specs.Meaning.{Attribute}
 use Rattle.rs_attrs.specs.Held.{attribute_by, attributes_in}
 use Rattle.rs_attrs.specs.Passes.{part_octets, HasSpellingIn}
-use Rattle.rs_attrs.proofs.HeadWalk.{LeftHeld, FirstHeld, here, first_at, none_left}
+use Rattle.rs_attrs.proofs.HeadWalk.{LeftHeld, here, first_at, none_left}
 use Rattle.rs_attrs.proofs.LeftToWrite.{LeftToWrite, left_from, left_next, left_done}
 use Rattle.rs_attrs.proofs.writing.put_pass.Goals as goal
 

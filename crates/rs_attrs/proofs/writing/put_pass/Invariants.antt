@@ -1,4 +1,4 @@
-use Rattle.std.proofs.Common.{◌≡◌, drop, length}
+use Rattle.std.proofs.Common.{drop}
 use Rattle.std.specs.List.{AllByRecursion}
 use Rattle.rs_attrs.specs.Held.{attributes_in}
 use Rattle.rs_attrs.specs.Passes.{part_octets, HasSpellingIn}

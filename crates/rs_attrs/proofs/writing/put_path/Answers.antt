@@ -1,9 +1,8 @@
-use Rattle.std.proofs.Common.{◌≡◌, ℕ, ◌+◌, ◌<◌, ◌≤◌, List, [], ◌∷◌, length, sym, ap, ◌∙◌, subst, arith}
+use Rattle.std.proofs.Common.{◌≡◌, ℕ, ◌+◌, ◌≤◌, List, ◌∷◌, length, sym, ap, ◌∙◌, subst, arith}
 use Rattle.std.specs.List.{flat_map, AllByRecursion}
 use Rattle.rs_octets.specs.Writes.{Writes}
 use Rattle.rs_attrs.specs.Paths.{Segment, four_octets, is_set_or_sequence, IsSegment}
 use Rattle.rs_attrs.specs.Writing.{path_in}
-use Rattle.rs_attrs.specs.Passes.{narrow_path}
 use Rattle.rs_attrs.proofs.LeftToWrite.{left_all, left_from, left_fits, left_next, left_done}
 use Rattle.rs_attrs.proofs.NarrowPath.{narrow_segment, path_parts, path_of_octets}
 use Rattle.rs_attrs.proofs.writing.put_path.Goals as goal

@@ -1,13 +1,12 @@
-use Rattle.std.proofs.Common.{◌≡◌, ℕ, ◌+◌, ◌≤◌, List, ◌++◌, length, refl, sym, ap, ◌∙◌, subst, arith, length-append}
+use Rattle.std.proofs.Common.{◌≡◌, ℕ, ◌+◌, ◌≤◌, List, ◌++◌, length, refl, sym, ◌∙◌, subst, arith, length-append}
 use Rattle.rs_octets.specs.Writes.{Writes}
 use Rattle.rs_octets.proofs.Writing.{writes_then}
 use Rattle.rs_attrs.specs.Meaning.{Attribute}
 use Rattle.rs_attrs.specs.Held.{attributes_in}
 use Rattle.rs_attrs.specs.Writing.{spelt, HasSpelling}
 use Rattle.rs_attrs.specs.Passes.{passed}
-use Rattle.rs_attrs.specs.declared.attrs.Head.{Head}
 use Rattle.rs_attrs.specs.declared.mode.Mode.{Mode}
-use Rattle.rs_attrs.specs.declared.mode.Mode.TheVariants.{Two, Four}
+use Rattle.rs_attrs.specs.declared.mode.Mode.TheVariants.{Two}
 use Rattle.rs_attrs.specs.declared.writing.Pass.TheVariants.{Narrowed, As4, Above}
 use Rattle.rs_attrs.proofs.Parts.{two_length, two_passed, two_short, ShortPasses}
 use Rattle.rs_attrs.proofs.writing.write_into.Goals as goal
