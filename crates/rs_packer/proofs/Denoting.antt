@@ -102,7 +102,7 @@ and_not : (a : Bool) → (a && not a) ≡ false
 and_not true = refl
 and_not false = refl
 
-same_itself : (p : Prefix) → same_prefix p p ≡ true
+pub same_itself : (p : Prefix) → same_prefix p p ≡ true
 same_itself p = λ i. eq-eqb p.bits p.bits refl i && eq-eqb p.len p.len refl i
 
 has_first : (p : Prefix) (ps : List Prefix) → has_prefix p (p ∷ ps) ≡ true

@@ -1,5 +1,6 @@
 pub mod Announcing
 pub mod Denoting
+pub mod EachOnce
 pub mod Heard
 pub mod OneEffect
 pub mod OneMeaning

@@ -1,5 +1,5 @@
 -- What holds of the definitions, as the contracts of the module `laws` say it.
-use Rattle.std.specs.Prelude.{◌≡◌, ℕ, ◌<◌, ◌≤◌, false, List, [], ◌∷◌, length, Ok}
+use Rattle.std.specs.Prelude.{◌≡◌, ℕ, ◌<◌, ◌≤◌, false, List, [], ◌∷◌, length, Some, None, Ok}
 use Rattle.std.specs.List.{AllByRecursion}
 use Rattle.rs_octets.specs.declared.heads.Allowed.{Allowed}
 use Rattle.rs_octets.specs.Headers.{longest}
@@ -8,7 +8,7 @@ use Rattle.rs_octets.specs.Prefixes.{Prefix, IsIpv4Prefix}
 use Rattle.rs_attrs.specs.declared.mode.Mode.{Mode}
 use Rattle.rs_attrs.specs.Meaning.{Attribute}
 use Rattle.rs_attrs.specs.Writing.{IsLegal}
-use Rattle.rs_attrs.specs.Effects.{Change, Effect, Changes, HasEffect, lacks_mandatory}
+use Rattle.rs_attrs.specs.Effects.{Change, Effect, Changes, HasEffect, lacks_mandatory, once}
 use Rattle.rs_packer.specs.Packed.{update, announcement, withdrawal}
 use Rattle.rs_packer.specs.Denoted.{body_of, Holds, Announces, Withdraws}
 
@@ -34,7 +34,13 @@ AnnouncementHolds =
     (m : List Attribute) (mode : Mode) (ps : List Prefix) → IsAnnounceable m mode ps
     → Holds (body_of (announcement m mode ps)) mode [] m ps
 
--- it announces these prefixes with these attributes
+-- it announces these prefixes with these attributes, each prefix once
+abbrev pub AnnouncementAnnounces : Type 0
+AnnouncementAnnounces =
+    (m : List Attribute) (mode : Mode) (ps : List Prefix) → IsAnnounceable m mode ps
+    → HasEffect (body_of (announcement m mode ps)) mode (Changes (record { withdrawn = []; announced = once ps; attributes = Some m }))
+
+-- in whichever order they are listed
 abbrev pub AnnouncementHasEffect : Type 0
 AnnouncementHasEffect =
     (m : List Attribute) (mode : Mode) (ps : List Prefix) → IsAnnounceable m mode ps
@@ -53,6 +59,11 @@ pub record IsWithdrawable (ps : List Prefix) : Type 0 where
 
 abbrev pub WithdrawalHolds : Type 0
 WithdrawalHolds = (mode : Mode) (ps : List Prefix) → IsWithdrawable ps → Holds (body_of (withdrawal ps)) mode ps [] []
+
+abbrev pub WithdrawalWithdraws : Type 0
+WithdrawalWithdraws =
+    (mode : Mode) (ps : List Prefix) → IsWithdrawable ps
+    → HasEffect (body_of (withdrawal ps)) mode (Changes (record { withdrawn = once ps; announced = []; attributes = None }))
 
 abbrev pub WithdrawalHasEffect : Type 0
 WithdrawalHasEffect =

@@ -1,6 +1,6 @@
 //! Laws of the definitions: the contract is the law, and the body does nothing.
 
-ghost use Rattle.rs_packer.specs.Laws.{IsHeardAlone, AnnouncementHolds, AnnouncementHasEffect, AnnouncementHasNoOtherEffect, WithdrawalHolds, WithdrawalHasEffect, WithdrawalHasNoOtherEffect};
+ghost use Rattle.rs_packer.specs.Laws.{IsHeardAlone, AnnouncementHolds, AnnouncementAnnounces, AnnouncementHasEffect, AnnouncementHasNoOtherEffect, WithdrawalHolds, WithdrawalWithdraws, WithdrawalHasEffect, WithdrawalHasNoOtherEffect};
 
 /// An UPDATE that is no longer than its receiver takes is heard as one message, without a fault.
 pub fn update_is_heard_alone()
@@ -12,6 +12,7 @@ pub fn update_is_heard_alone()
 /// (RFC 4271, 4.3; RFC 6793; RFC 7606).
 pub fn announcement_denotes()
     ensures holds { AnnouncementHolds }
+    ensures announces { AnnouncementAnnounces }
     ensures effect { AnnouncementHasEffect }
     ensures only { AnnouncementHasNoOtherEffect }
 {}
@@ -20,6 +21,7 @@ pub fn announcement_denotes()
 /// announced, without a fault (RFC 4271, 4.3; RFC 7606).
 pub fn withdrawal_denotes()
     ensures holds { WithdrawalHolds }
+    ensures withdraws { WithdrawalWithdraws }
     ensures effect { WithdrawalHasEffect }
     ensures only { WithdrawalHasNoOtherEffect }
 {}
