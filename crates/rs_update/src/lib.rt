@@ -3,7 +3,6 @@
 //! attributes. The definition stands in `rs_attrs`. Nothing is kept between calls.
 #![tactic(auto)]
 
-
 mod fields;
 mod outcome;
 mod prefixes;
