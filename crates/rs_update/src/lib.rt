@@ -6,5 +6,9 @@
 mod fields;
 mod outcome;
 mod prefixes;
+#[cfg(test)]
+mod rows;
+#[cfg(test)]
+mod tests;
 
 pub use outcome::{Outcome, effect};
