@@ -1,5 +1,5 @@
 -- A body is cut into its three fields in one way.
-use Rattle.std.proofs.Common.{◌≡◌, ℕ, zero, suc, ◌+◌, ◌<◌, ◌≤◌, Bool, true, false, cond, List, [], ◌∷◌, ◌++◌, length, take, drop, get_or, Option, Some, None, refl, sym, ap, ◌∙◌, subst, arith, nat_lt, append_assoc, length-append}
+use Rattle.std.proofs.Common.{◌≡◌, ℕ, zero, suc, ◌<◌, ◌≤◌, Bool, true, false, cond, List, [], ◌∷◌, ◌++◌, length, take, drop, get_or, Option, Some, None, refl, sym, ap, ◌∙◌, subst, arith, nat_lt, append_assoc, length-append}
 use Rattle.std.specs.Int.{w16, from_be_bytes, to_be_bytes}
 use Rattle.std.proofs.lemmas.Nat.{be_bytes_2, from_be_bytes-to_be_bytes_2}
 use Rattle.std.proofs.lemmas.Bool.{ltb-false, le-ltb}
@@ -37,6 +37,7 @@ cut_stands (h ∷ l ∷ octets) c fit e = by_room (nat_lt (length octets) (from_
   where
     n : ℕ
     n = from_be_bytes w16 (h ∷ l ∷ [])
+
     by_room : (b : Bool) → nat_lt (length octets) n ≡ b → cond b None (Some (record { field = take n octets; after = drop n octets })) ≡ Some c → Stands (h ∷ l ∷ octets) c
     by_room true f e = absurd cc
     by_room false f e =
@@ -69,6 +70,7 @@ body_of_fields body fields fit e = by_first (cut body) refl e
           withdrawn = first.short;
           attributes = second.short;
         })
+
     by_first : (r : Option Cut) → cut body ≡ r → fields_by r ≡ Some fields → IsBody body fields
     by_first None f e = absurd cc
     by_first (Some w) f e = by_second w (cut_stands body w fit f) (cut w.after) refl e

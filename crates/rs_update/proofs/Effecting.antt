@@ -1,5 +1,5 @@
 -- From what the code found to the effect of an UPDATE.
-use Rattle.std.proofs.Common.{inl, inr, ◌≡◌, ℕ, ◌+◌, ◌&&◌, ◌||◌, Bool, true, false, cond, not, List, [], ◌∷◌, Option, Some, None, refl, sym, ap, ◌∙◌, subst}
+use Rattle.std.proofs.Common.{inl, inr, ◌≡◌, ℕ, ◌&&◌, ◌||◌, Bool, true, false, cond, not, List, [], ◌∷◌, Option, Some, None, refl, sym, ap, ◌∙◌, subst}
 use Rattle.std.specs.Prelude.{option_map}
 use Rattle.std.specs.List.{IsDistinct, AllByRecursion}
 use Rattle.std.specs.List.Sorted.{IsStrictlySortedBy}
@@ -9,7 +9,7 @@ use Rattle.rs_octets.specs.Prefixes.{Prefix, prefix_order}
 use Rattle.rs_attrs.specs.declared.mode.Mode.{Mode}
 use Rattle.rs_attrs.specs.declared.mode.Faults.{Faults}
 use Rattle.rs_attrs.specs.Meaning.{Attribute, Reads}
-use Rattle.rs_attrs.specs.Effects.{Fields, IsBody, fields_of, Effect, Reset, Changes, Change, HasEffect, IsEffect, IsChange, reset_of, is_faulty, is_empty, has_prefix, same_prefix, prefixes_in, treat_as_withdraw, announced_by}
+use Rattle.rs_attrs.specs.Effects.{Fields, fields_of, Effect, Reset, Change, HasEffect, IsEffect, IsChange, reset_of, is_faulty, is_empty, has_prefix, same_prefix, prefixes_in, treat_as_withdraw}
 use Rattle.rs_update.specs.Outcomes.{subcode_of}
 use Rattle.rs_update.specs.Changes.{IsWithdrawn, IsAnnounced}
 use Rattle.rs_update.proofs.BodyFields.{Fit, body_of_fields, no_body}
@@ -46,6 +46,7 @@ by_attributes fields faults subcode e f is =
   where
     rest : Bool → Bool → Bool → Option (ℕ × ℕ)
     rest twice withdraw unknown = cond twice (Some (3, 1)) (cond withdraw (Some (3, 1)) (cond unknown (Some (3, 2)) None))
+
     by_tests : (twice withdraw unknown : Bool) → rest twice withdraw unknown ≡ option_map (λ s. (3, s)) (cond twice (Some 1) (cond withdraw (Some 1) (cond unknown (Some 2) None)))
     by_tests true withdraw unknown = refl
     by_tests false true unknown = refl

@@ -2,3 +2,4 @@ pub mod PrefixSets
 pub mod Collecting
 pub mod BodyFields
 pub mod Effecting
+pub mod Mandatory

@@ -1,11 +1,11 @@
 -- Lists of prefixes as sets.
-use Rattle.std.proofs.Common.{◌≡◌, ℕ, zero, suc, ◌+◌, ◌<◌, ◌≤◌, ◌&&◌, ◌||◌, Bool, true, false, cond, not, List, [], ◌∷◌, length, Option, Some, None, refl, sym, ap, ◌∙◌, subst, arith, nat_eq, nat_lt}
-use Rattle.std.specs.Prelude.{filter, Contains, Result, Ok, Err, MatchResult, is_ok}
-use Rattle.std.specs.List.{slice_index_or, list_any, dedup, HoldsAt, AllByRecursion}
-use Rattle.std.specs.List.Sorted.{IsPermutation, IsStrictlySortedBy, IsBinarySearchResult, IsSearchInRange, IsNonDecreasingBy}
+use Rattle.std.proofs.Common.{◌≡◌, ℕ, zero, suc, ◌<◌, ◌≤◌, ◌&&◌, ◌||◌, Bool, true, false, cond, not, List, [], ◌∷◌, length, refl, sym, ap, ◌∙◌, subst, arith, nat_eq, nat_lt}
+use Rattle.std.specs.Prelude.{filter, Contains, Result, Ok, Err, is_ok}
+use Rattle.std.specs.List.{slice_index_or, dedup, AllByRecursion}
+use Rattle.std.specs.List.Sorted.{IsPermutation, IsStrictlySortedBy, IsBinarySearchResult, IsSearchInRange}
 use Rattle.std.specs.declared.cmp.Ordering.TheVariants.{Less, Equal, Greater}
 use Rattle.std.specs.declared.cmp.Ordering.{Ordering}
-use Rattle.std.specs.Ordering.{on, then_cmp, nat_cmp, ordering_then, ordering_index, is_eq, eq_by_cmp}
+use Rattle.std.specs.Ordering.{on, nat_cmp, ordering_index, is_eq, eq_by_cmp}
 use Rattle.std.specs.Cmp.{IsTotalOrder, IsEquivalence, nat_cmp_total, unsigned_ties, tied_then, then_total, on_total, eq_by_cmp_equiv, tied_itself, tied_back, alike_right}
 use Rattle.std.proofs.lemmas.Bool.{eqb-true, ltb-true, ltb-false}
 use Rattle.std.proofs.lemmas.Map.Views.{list_any-from_Contains, Contains-from_any}
@@ -33,6 +33,9 @@ pub same_equiv : IsEquivalence same_prefix
 same_equiv =
     let same : eq_by_cmp prefix_order ≡ same_prefix = λ i. λ p q. sym (same_ties p q) i in
     subst (λ (e : Prefix → Prefix → Bool). IsEquivalence e) same (eq_by_cmp_equiv prefix_total)
+
+pub same_itself : (p : Prefix) → same_prefix p p ≡ true
+same_itself p = same_ties p p ∙ ap is_eq (tied_itself prefix_total p)
 
 pub member_has : (p : Prefix) (ps : List Prefix) → Contains ps p → has_prefix p ps ≡ true
 member_has p ps m = list_any-from_Contains same_equiv p ps m
@@ -110,7 +113,6 @@ searched x ps (Err i) sorted range found = by_answer (has_prefix x ps) refl
         by_side false k less greater itself h = let no : Greater ≡ Equal = sym (greater h) ∙ itself in absurd cc
     by_answer false e = refl
 
-
 -- what a filter leaves of a set
 pub filtered_has : (p : Prefix) (others ps : List Prefix) → has_prefix p (filter (λ q. not (has_prefix q others)) ps) ≡ (has_prefix p ps && not (has_prefix p others))
 filtered_has p others [] = refl
@@ -118,6 +120,7 @@ filtered_has p others (q ∷ ps) = by_tests (same_prefix p q) (has_prefix q othe
   where
     rest : List Prefix
     rest = filter (λ q. not (has_prefix q others)) ps
+
     by_tests : (same other : Bool) → same_prefix p q ≡ same → has_prefix q others ≡ other → has_prefix p rest ≡ (has_prefix p ps && not (has_prefix p others))
         → has_prefix p (cond (not other) (q ∷ rest) rest) ≡ ((same || has_prefix p ps) && not (has_prefix p others))
     by_tests true true e f later =

@@ -1,10 +1,11 @@
 -- How an outcome is read in the words of the definition of an UPDATE's effect.
-use Rattle.std.specs.Prelude.{◌≡◌, ◌&&◌, ◌||◌, not, List, [], Option, Some, None, option_map, if◌then◌else◌}
+use Rattle.std.specs.Prelude.{◌≡◌, ◌&&◌, ◌||◌, not, true, false, List, [], Some, None, is_none, option_map, MatchOption, if◌then◌else◌}
+use Rattle.std.specs.List.{IsDistinct}
 use Rattle.std.specs.Arc.{arc_value}
 use Rattle.std.specs.List.Sorted.{IsStrictlySortedBy}
 use Rattle.rs_octets.specs.Prefixes.{Prefix, prefix_order}
 use Rattle.rs_attrs.specs.Meaning.{Attribute}
-use Rattle.rs_attrs.specs.Effects.{Effect, Reset, Changes, Change, has_prefix, is_empty}
+use Rattle.rs_attrs.specs.Effects.{Effect, Reset, Changes, Change, has_prefix, same_prefix, is_empty, lacks_mandatory}
 use Rattle.rs_update.specs.Outcomes.{SameMembers}
 use Rattle.rs_update.specs.declared.outcome.Routes.{Routes}
 use Rattle.rs_update.specs.declared.outcome.Outcome.{Outcome}
@@ -21,6 +22,26 @@ effect_seen (outcome.Change withdrawn announced attrs) = Changes (record { withd
 abbrev pub IsRising : Outcome → Type 0
 IsRising (outcome.Reset code subcode) = Unit {0}
 IsRising (outcome.Change withdrawn announced attrs) = IsStrictlySortedBy prefix_order withdrawn.items × IsStrictlySortedBy prefix_order announced.items
+
+-- neither list of an outcome has a prefix twice
+abbrev pub AreDistinct : Outcome → Type 0
+AreDistinct (outcome.Reset code subcode) = Unit {0}
+AreDistinct (outcome.Change withdrawn announced attrs) = IsDistinct same_prefix withdrawn.items × IsDistinct same_prefix announced.items
+
+-- no prefix is in both lists of an outcome
+abbrev pub AreApart : Outcome → Type 0
+AreApart (outcome.Reset code subcode) = Unit {0}
+AreApart (outcome.Change withdrawn announced attrs) = (p : Prefix) → has_prefix p withdrawn.items ≡ true → has_prefix p announced.items ≡ false
+
+-- the attributes of an outcome are there exactly where something is announced
+abbrev pub HasItsAttributes : Outcome → Type 0
+HasItsAttributes (outcome.Reset code subcode) = Unit {0}
+HasItsAttributes (outcome.Change withdrawn announced attrs) = is_none attrs ≡ is_empty announced.items
+
+-- ORIGIN, AS_PATH and NEXT_HOP are among the attributes of an outcome (RFC 7606, 3, d)
+abbrev pub HasMandatory : Outcome → Type 0
+HasMandatory (outcome.Reset code subcode) = Unit {0}
+HasMandatory (outcome.Change withdrawn announced attrs) = MatchOption attrs (Unit {0}) (λ m. lacks_mandatory (arc_value m) ≡ false)
 
 -- both are withdrawn, and nothing is announced
 pub record IsWithdrawn (withdrawn nlri : List Prefix) (change : Change) : Type 0 where

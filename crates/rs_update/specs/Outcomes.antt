@@ -1,4 +1,4 @@
--- prefixes is as a list.
+-- The words of the private contracts: what the fields of a body are, and which set of prefixes a list is.
 use Rattle.std.specs.Prelude.{◌≡◌, ℕ, ◌&&◌, not, List, Option, Some, None, if◌then◌else◌}
 use Rattle.std.specs.Borrow.{Bor}
 use Rattle.rs_octets.specs.Prefixes.{Prefix}

@@ -3,9 +3,12 @@
 //! attributes. The definition stands in `rs_attrs`. Nothing is kept between calls.
 #![tactic(auto)]
 
-
 mod fields;
 mod outcome;
 mod prefixes;
+#[cfg(test)]
+mod rows;
+#[cfg(test)]
+mod tests;
 
 pub use outcome::{Outcome, effect};

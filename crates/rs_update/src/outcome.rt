@@ -1,10 +1,9 @@
 //! The effect of an UPDATE (RFC 7606, 2 to 5).
 
-ghost use Rattle.std.specs.Prelude.{◌≡◌, ◌≤◌, length, IfOk};
-ghost use Rattle.rs_attrs.specs.declared.mode.Mode.TheVariants.{Four};
+ghost use Rattle.std.specs.Prelude.{◌≡◌, IfOk};
 ghost use Rattle.rs_attrs.specs.Effects.{HasEffect, treat_as_withdraw, lacks_mandatory};
 ghost use Rattle.rs_update.specs.Outcomes.{fields_in, subcode_of};
-ghost use Rattle.rs_update.specs.Changes.{effect_seen, change_seen, IsRising, IsWithdrawn, IsAnnounced};
+ghost use Rattle.rs_update.specs.Changes.{effect_seen, change_seen, IsRising, AreDistinct, AreApart, HasItsAttributes, HasMandatory, IsWithdrawn, IsAnnounced};
 
 use crate::fields::{Fields, cut_body};
 use crate::prefixes::{make_rising, prefixes, take_away};
@@ -37,8 +36,11 @@ struct Routes {
 
 /// The code of errors in UPDATE messages, and its subcodes (RFC 4271, 6.3).
 const UPDATE_MESSAGE_ERROR: u8 = 3;
+
 const MALFORMED_ATTRIBUTE_LIST: u8 = 1;
+
 const UNRECOGNIZED_WELL_KNOWN_ATTRIBUTE: u8 = 2;
+
 const INVALID_NETWORK_FIELD: u8 = 10;
 
 /// The subcode of the first reset that attributes bring about.
@@ -72,7 +74,11 @@ fn treats_as_withdraw(parsed: &Parsed, fields: &Fields<'_>) -> bool
 }
 
 /// Withdraws all that an UPDATE names.
-fn withdraw_all(alloc: Global, withdrawn: Vec<Prefix>, nlri: &[Prefix]) -> Result<Routes, AllocError>
+fn withdraw_all(
+    alloc: Global,
+    withdrawn: Vec<Prefix>,
+    nlri: &[Prefix],
+) -> Result<Routes, AllocError>
     ensures { IfOk result (λ routes. IsWithdrawn withdrawn.items nlri.now (change_seen routes)) }
 {
     let mut withdrawn = withdrawn;
@@ -86,7 +92,12 @@ fn withdraw_all(alloc: Global, withdrawn: Vec<Prefix>, nlri: &[Prefix]) -> Resul
 }
 
 /// Announces the NLRI, and withdraws what else the UPDATE names.
-fn announce(alloc: Global, withdrawn: Vec<Prefix>, nlri: Vec<Prefix>, attrs: Attrs) -> Result<Routes, AllocError>
+fn announce(
+    alloc: Global,
+    withdrawn: Vec<Prefix>,
+    nlri: Vec<Prefix>,
+    attrs: Attrs,
+) -> Result<Routes, AllocError>
     ensures { IfOk result (λ routes. IsAnnounced withdrawn.items nlri.items attrs (change_seen routes)) }
 {
     let mut withdrawn = withdrawn;
@@ -110,16 +121,15 @@ fn announce(alloc: Global, withdrawn: Vec<Prefix>, nlri: Vec<Prefix>, attrs: Att
 /// causes that holds, or the routes that change. Want of memory is answered only where a growth was
 /// refused; nothing is changed then.
 pub fn effect(alloc: Global, body: &[u8], mode: Mode) -> Result<Outcome, AllocError>
-    requires mode { mode ≡ Four }
-    requires lengths { 4 ≤ length body.now }
     ensures effect { IfOk result (λ outcome. HasEffect body.now mode (effect_seen outcome)) }
     ensures rising { IfOk result IsRising }
+    ensures distinct { IfOk result AreDistinct }
+    ensures apart { IfOk result AreApart }
+    ensures attributes { IfOk result HasItsAttributes }
+    ensures mandatory { IfOk result HasMandatory }
 {
     let Some(fields) = cut_body(body) else {
-        return Ok(Outcome::Reset(
-            UPDATE_MESSAGE_ERROR,
-            MALFORMED_ATTRIBUTE_LIST,
-        ));
+        return Ok(Outcome::Reset(UPDATE_MESSAGE_ERROR, MALFORMED_ATTRIBUTE_LIST));
     };
     let parsed = read(alloc, fields.attributes, mode)?;
     let Some(withdrawn) = prefixes(alloc, fields.withdrawn)? else {

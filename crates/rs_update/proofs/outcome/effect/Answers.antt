@@ -1,12 +1,11 @@
-use Rattle.std.proofs.Common.{◌≡◌, ℕ, Bool, true, false, List, Vec, Global, Option, Some, None, sym, ap, ◌∙◌, subst, arith}
+use Rattle.std.proofs.Common.{◌≡◌, ℕ, true, false, List, Vec, Global, Option, Some, None, sym, ap, ◌∙◌, subst, arith}
 use Rattle.std.specs.Prelude.{MatchOption, option_map}
-use Rattle.rs_octets.specs.Prefixes.{Prefix}
 use Rattle.rs_octets.specs.declared.prefix.Prefix.{Prefix as DeclaredPrefix}
-use Rattle.rs_attrs.specs.Meaning.{Attribute}
-use Rattle.rs_attrs.specs.Effects.{Reset, Changes, Change, is_faulty, prefixes_in, IsChange}
+use Rattle.rs_attrs.specs.Effects.{Reset, Changes, is_faulty, prefixes_in}
 use Rattle.rs_update.specs.Outcomes.{fields_in}
-use Rattle.rs_update.specs.Changes.{IsWithdrawn, IsAnnounced, change_seen}
-use Rattle.rs_update.proofs.Effecting.{no_fields, by_reading, withdrawn_faulty, nlri_faulty, by_attributes, is_withdrawn, is_announced, same_withdrawn, same_announced, BothRise, withdrawn_rise, announced_rise}
+use Rattle.rs_update.specs.Changes.{change_seen}
+use Rattle.rs_update.proofs.Effecting.{no_fields, by_reading, withdrawn_faulty, nlri_faulty, by_attributes, is_withdrawn, is_announced, same_withdrawn, same_announced, rising_distinct, BothRise, withdrawn_rise, announced_rise}
+use Rattle.rs_update.proofs.Mandatory.{has_mandatory, seen_complete}
 use Rattle.rs_update.proofs.outcome.effect.Goals as goal
 use Rattle.rs_update.proofs.outcome.effect.Goals.{then-treats_as_withdraw+in_ok-withdraw_all, else-treats_as_withdraw+in_ok-withdrawn-2}
 
@@ -51,15 +50,17 @@ returns-clause-effect c =
     let nlri = found_at fields.nlri _ (Some c.in-Some-3.nlri) c.in-Some-3.is c.in_ok-nlri.ensures in
     let no_reset = by_attributes fields c.in_ok-parsed.parsed.faults None withdrawn.0 nlri.0 (sym c.in_default-reset_by.is ∙ c.reset_by.ensures) in
     by_reading c.args.body.now c.args.mode (Changes (change_seen c.if-treats_as_withdraw.withdrawn)) fields c.in_ok-parsed.parsed.attrs c.in_ok-parsed.parsed.faults (λ i. omega (arith, c.type_inv.body i))
-    (sym c.cut_body.ensures ∙ ap (option_map fields_in) c.in-Some.is) c.in_ok-parsed.ensures
-    (no_reset, elim c.if-treats_as_withdraw.branch [
-      | then-treats_as_withdraw+in_ok-withdraw_all w ↦ is_withdrawn fields c.in_ok-parsed.parsed.attrs c.in_ok-parsed.parsed.faults (change_seen c.if-treats_as_withdraw.withdrawn)
-          (sym c.treats_as_withdraw.ensures ∙ w.if-treats_as_withdraw.true)
-          (same_withdrawn _ _ _ _ _ _ withdrawn.1 (w.deref.ensures.value ∙ nlri.1) (ap change_seen w.withdrawn-is) w.in_ok-withdraw_all.ensures)
-      | else-treats_as_withdraw+in_ok-withdrawn-2 w ↦ is_announced fields c.in_ok-parsed.parsed.attrs c.in_ok-parsed.parsed.faults (change_seen c.if-treats_as_withdraw.withdrawn)
-          (sym c.treats_as_withdraw.ensures ∙ w.if-treats_as_withdraw.false)
-          (same_announced _ _ _ _ _ _ _ withdrawn.1 nlri.1 (ap change_seen w.withdrawn-is) w.in_ok-withdrawn-2.ensures)
-    ])
+    (sym c.cut_body.ensures ∙ ap (option_map fields_in) c.in-Some.is) c.in_ok-parsed.ensures (
+      no_reset,
+      elim c.if-treats_as_withdraw.branch [
+        | then-treats_as_withdraw+in_ok-withdraw_all w ↦ is_withdrawn fields c.in_ok-parsed.parsed.attrs c.in_ok-parsed.parsed.faults (change_seen c.if-treats_as_withdraw.withdrawn)
+            (sym c.treats_as_withdraw.ensures ∙ w.if-treats_as_withdraw.true)
+            (same_withdrawn _ _ _ _ _ _ withdrawn.1 (w.deref.ensures.value ∙ nlri.1) (ap change_seen w.withdrawn-is) w.in_ok-withdraw_all.ensures)
+        | else-treats_as_withdraw+in_ok-withdrawn-2 w ↦ is_announced fields c.in_ok-parsed.parsed.attrs c.in_ok-parsed.parsed.faults (change_seen c.if-treats_as_withdraw.withdrawn)
+            (sym c.treats_as_withdraw.ensures ∙ w.if-treats_as_withdraw.false)
+            (same_announced _ _ _ _ _ _ _ withdrawn.1 nlri.1 (ap change_seen w.withdrawn-is) w.in_ok-withdrawn-2.ensures)
+      ],
+    )
 
 -- the lists of what is answered
 rises : (c : goal.Joined-treats_as_withdraw) → BothRise (change_seen c.if-treats_as_withdraw.withdrawn)
@@ -70,3 +71,10 @@ rises c = elim c.if-treats_as_withdraw.branch [
 
 pub returns-clause-rising : goal.returns-clause-rising
 returns-clause-rising c = ((rises c).withdrawn, (rises c).announced)
+
+pub returns-clause-distinct : goal.returns-clause-distinct
+returns-clause-distinct c = (rising_distinct c.if-treats_as_withdraw.withdrawn.withdrawn.items (rises c).withdrawn, rising_distinct c.if-treats_as_withdraw.withdrawn.announced.items (rises c).announced)
+
+pub returns-clause-mandatory : goal.returns-clause-mandatory
+returns-clause-mandatory c =
+    seen_complete c.if-treats_as_withdraw.withdrawn.attrs (has_mandatory c.args.body.now c.args.mode (change_seen c.if-treats_as_withdraw.withdrawn) (returns-clause-effect c))
