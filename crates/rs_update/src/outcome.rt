@@ -118,8 +118,12 @@ fn announce(
 }
 
 /// What the UPDATE with this body does, from a peer of this kind: a reset, by the first of its five
-/// causes that holds, or the routes that change. Want of memory is answered only where a growth was
-/// refused; nothing is changed then.
+/// causes that holds, or the routes that change (RFC 4271, 4.3 and 6.3; RFC 7606, 2 to 5). The body
+/// is what stands behind the message's header; octets that are faulty are no error.
+///
+/// # Errors
+///
+/// `AllocError` where memory was refused.
 pub fn effect(alloc: Global, body: &[u8], mode: Mode) -> Result<Outcome, AllocError>
     ensures effect { IfOk result (λ outcome. HasEffect body.now mode (effect_seen outcome)) }
     ensures rising { IfOk result IsRising }
