@@ -15,7 +15,8 @@ use Rattle.rs_adjin.specs.declared.routes.Route.{Route}
 use Rattle.rs_adjin.specs.Routes.{value_in, IsRising, KeepsRoutes, SameRoutes, Changes}
 use Rattle.rs_adjin.proofs.RouteLists.{one_keeps, one_filled, one_changes}
 use Rattle.std.specs.Arc.{arc_value}
-use Rattle.rs_adjin.specs.Table.{same_prefix, routes_in, routes_at, IsTable, IsOfClients, KeepsTable, Writes, IsSame, Marks, SameSet, TellsChange, IsHeldBy}
+use Rattle.rs_attrs.specs.Effects.{same_prefix}
+use Rattle.rs_adjin.specs.Table.{routes_in, routes_at, IsTable, IsOfClients, KeepsTable, Writes, IsSame, Marks, SameSet, TellsChange, IsHeldBy}
 
 abbrev pub Routes : Type 0
 Routes = BTreeMap Prefix (Vec Route)

@@ -7,7 +7,8 @@ use Rattle.std.proofs.lemmas.Option.{slice_get_read}
 use Rattle.rs_octets.specs.Prefixes.{Prefix}
 use Rattle.rs_attrs.specs.Meaning.{Attribute}
 use Rattle.rs_adjin.specs.Routes.{value_in}
-use Rattle.rs_adjin.specs.Table.{same_prefix, routes_at, Writes, IsSame, Clears, IsHeldBy}
+use Rattle.rs_attrs.specs.Effects.{same_prefix}
+use Rattle.rs_adjin.specs.Table.{routes_at, Writes, IsSame, Clears, IsHeldBy}
 use Rattle.rs_adjin.specs.Mandatory.{HasMandatory, AllHaveMandatory}
 use Rattle.rs_adjin.proofs.Steps.{Routes, KeepsOthers, others_apart, not_some, is_prefix}
 

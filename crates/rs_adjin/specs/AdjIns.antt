@@ -3,7 +3,8 @@ use Rattle.std.specs.Prelude.{◌≡◌, ◌==◌, ◌&&◌, ◌<◌, ◌⊎◌,
 use Rattle.std.specs.Arc.{arc_value}
 use Rattle.rs_octets.specs.Prefixes.{Prefix}
 use Rattle.rs_attrs.specs.Meaning.{Attribute}
-use Rattle.rs_adjin.specs.Table.{same_prefix, routes_at}
+use Rattle.rs_attrs.specs.Effects.{same_prefix}
+use Rattle.rs_adjin.specs.Table.{routes_at}
 use Rattle.rs_adjin.specs.Routes.{value_in, IsRising}
 use Rattle.rs_adjin.specs.Mandatory.{HasMandatory}
 use Rattle.rs_adjin.specs.Listing.{holders_from, sent_by, Sent}

@@ -6,11 +6,9 @@ use Rattle.std.specs.BTreeMap.{BTreeMap, get}
 use Rattle.std.specs.BTreeSet.{BTreeSet, contains}
 use Rattle.rs_octets.specs.Prefixes.{Prefix, prefix_order}
 use Rattle.rs_attrs.specs.Meaning.{Attribute}
+use Rattle.rs_attrs.specs.Effects.{same_prefix}
 use Rattle.rs_adjin.specs.declared.routes.Route.{Route}
 use Rattle.rs_adjin.specs.Routes.{value_in, IsRising}
-
-abbrev pub same_prefix : Prefix → Prefix → Bool
-same_prefix p q = (p.bits == q.bits) && (p.len == q.len)
 
 abbrev pub routes_in : Option (Vec Route) → List Route
 routes_in None = []

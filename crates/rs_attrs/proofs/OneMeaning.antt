@@ -1,51 +1,126 @@
--- A field has one meaning.
-use Rattle.std.proofs.Common.{◌≡◌, ℕ, zero, suc, ◌<◌, ◌≤◌, Bool, true, false, cond, List, [], ◌∷◌, get_or, Some, None, refl, sym, ap, ◌∙◌, arith, lit<, nat_eq, ◌⊎◌, inl, inr}
-use Rattle.std.proofs.lemmas.Bool.{cases_order, eqb-true, eq-eqb, ne_eqb}
-use Rattle.rs_attrs.specs.Spellings.{AreOctets, spellings_of, rest_of}
+-- A body has one set of fields, and a field of attributes one meaning.
+use Rattle.std.proofs.Common.{◌≡◌, ℕ, zero, suc, ◌<◌, ◌≤◌, ◌⊎◌, inl, inr, nat_eq, Bool, true, false, cond, List, [], ◌∷◌, ◌++◌, length, take, drop, get_or, Some, None, refl, sym, ap, ◌∙◌, subst, arith, lit<, append_assoc}
+use Rattle.std.specs.List.{flat_map, AllByRecursion}
+use Rattle.std.specs.Int.{w16, from_be_bytes, to_be_bytes}
+use Rattle.std.proofs.Math.Seq.{take-append_seam, drop-append_seam}
+use Rattle.std.proofs.lemmas.Bool.{cases_lt, eq-eqb, eqb-true, ne_eqb}
+use Rattle.std.proofs.lemmas.Nat.{from_be_bytes-to_be_bytes_2}
+use Rattle.rs_attrs.specs.declared.mode.Mode.{Mode}
+use Rattle.rs_attrs.specs.declared.mode.Faults.{Faults}
+use Rattle.rs_attrs.specs.Spellings.{AreOctets, Spelling, spelling_octets, is_long, IsSpelling, BeginsNoAttribute, spellings_of, rest_of}
 use Rattle.rs_attrs.specs.Paths.{segments_of}
-use Rattle.rs_attrs.specs.Meaning.{Attribute, get, kept, AllAbove, IsRising, faults_of}
+use Rattle.rs_attrs.specs.Meaning.{Attribute, get, AllAbove, IsRising, Reads, faults_of, kept}
+use Rattle.rs_attrs.specs.Effects.{Fields, IsBody, behind_its_length}
 use Rattle.rs_attrs.specs.ReadingLaws.{FieldsAreRead, FieldsMeanOne, PathsAreRead}
-use Rattle.rs_attrs.proofs.Walk.{FitOctets, splits_only, splits_of}
+use Rattle.rs_attrs.proofs.Walk.{FitOctets, splits_of}
 use Rattle.rs_attrs.proofs.Meant.{is_meant}
 use Rattle.rs_attrs.proofs.PathLaws.{path_found, path_back}
 
-get_below : (kind low : ℕ) (m : List Attribute) → kind ≤ low → AllAbove low m → get kind m ≡ None
-get_below kind low [] h above = refl
-get_below kind low (a ∷ m) h above =
-    let higher : low < a.kind = above.0 in
-    ap (λ b. cond b (Some a) (get kind m)) (ne_eqb a.kind kind (λ e. omega arith)) ∙ get_below kind low m h above.1
+-- two fronts as long as each other
+same_front : (xs ys vs ws : List ℕ) → length xs ≡ length ys → xs ++ vs ≡ ys ++ ws → (xs ≡ ys) × (vs ≡ ws)
+same_front xs ys vs ws n e = (
+  sym (take-append_seam xs vs) ∙ ap (take (length xs)) e ∙ ap (λ n. take n (ys ++ ws)) n ∙ take-append_seam ys ws,
+  sym (drop-append_seam xs vs) ∙ ap (drop (length xs)) e ∙ ap (λ n. drop n (ys ++ ws)) n ∙ drop-append_seam ys ws,
+)
 
-get_here : (a : Attribute) (m : List Attribute) → get a.kind (a ∷ m) ≡ Some a
-get_here a m = ap (λ b. cond b (Some a) (get a.kind m)) (eq-eqb a.kind a.kind refl)
+-- two fields behind their lengths
+same_field : (xs ys vs ws : List ℕ) → length xs < 65536 → length ys < 65536 → behind_its_length xs ++ vs ≡ behind_its_length ys ++ ws → (xs ≡ ys) × (vs ≡ ws)
+same_field xs ys vs ws h k e =
+    let size = sym (from_be_bytes-to_be_bytes_2 (length xs) h) ∙ ap (λ octets. from_be_bytes w16 (take 2 octets)) e ∙ from_be_bytes-to_be_bytes_2 (length ys) k in
+    same_front xs ys vs ws size (ap (drop 2) e)
 
-get_later : (kind : ℕ) (a : Attribute) (m : List Attribute) → (a.kind ≡ kind → ⊥) → get kind (a ∷ m) ≡ get kind m
-get_later kind a m other = ap (λ b. cond b (Some a) (get kind m)) (ne_eqb a.kind kind other)
+pub same_fields : (body : List ℕ) (f g : Fields) → IsBody body f → IsBody body g → f ≡ g
+same_fields body f g is other =
+    let whole =
+    sym (append_assoc (behind_its_length f.withdrawn) (behind_its_length f.attributes) f.nlri) ∙ sym is.whole
+    ∙ other.whole ∙ append_assoc (behind_its_length g.withdrawn) (behind_its_length g.attributes) g.nlri in
+    let first = same_field f.withdrawn g.withdrawn (behind_its_length f.attributes ++ f.nlri) (behind_its_length g.attributes ++ g.nlri) is.withdrawn other.withdrawn whole in
+    let second = same_field f.attributes g.attributes f.nlri g.nlri is.attributes other.attributes first.1 in
+    λ i. record { withdrawn = first.0 i; attributes = second.0 i; nlri = second.1 i }
 
--- rising lists that have the same of each type are the same
-rising_same : (m n : List Attribute) → IsRising m → IsRising n → ((kind : ℕ) → get kind m ≡ get kind n) → m ≡ n
-rising_same [] [] p q same = refl
-rising_same [] (b ∷ n) p q same = absurd (let e : None ≡ Some b = same b.kind ∙ get_here b n in cc)
-rising_same (a ∷ m) [] p q same = absurd (let e : Some a ≡ None = sym (get_here a m) ∙ same a.kind in cc)
-rising_same (a ∷ m) (b ∷ n) p q same = by_order (λ tails. rising_same m n p.1 q.1 tails) (cases_order a.kind b.kind)
+-- ---- attributes
+
+abbrev behind : Bool → List ℕ → List ℕ
+behind long value = cond long (to_be_bytes w16 (length value)) (length value ∷ []) ++ value
+
+same_value : (long : Bool) (xs ys vs ws : List ℕ) → length xs < cond long 65536 256 → length ys < cond long 65536 256 → behind long xs ++ vs ≡ behind long ys ++ ws → (xs ≡ ys) × (vs ≡ ws)
+same_value true xs ys vs ws h k e = same_field xs ys vs ws h k e
+same_value false xs ys vs ws h k e =
+    let size : length xs ≡ length ys = cc in
+    same_front xs ys vs ws size (ap (drop 1) e)
+
+same_spelling : (s t : Spelling) (vs ws : List ℕ) → IsSpelling s → IsSpelling t → spelling_octets s ++ vs ≡ spelling_octets t ++ ws → (s ≡ t) × (vs ≡ ws)
+same_spelling s t vs ws is other e =
+    let flags : s.flags ≡ t.flags = cc in
+    let kind : s.kind ≡ t.kind = cc in
+    let long : is_long t.flags ≡ is_long s.flags = ap is_long (sym flags) in
+    let rest : behind (is_long s.flags) s.value ++ vs ≡ behind (is_long t.flags) t.value ++ ws = ap (drop 2) e in
+    let both = same_value (is_long s.flags) s.value t.value vs ws is.length_fits
+    (subst (λ long. length t.value < cond long 65536 256) long other.length_fits)
+    (rest ∙ ap (λ long. behind long t.value ++ ws) long) in
+    (λ i. record { flags = flags i; kind = kind i; value = both.0 i }, both.1)
+
+same_spellings : (ss ts : List Spelling) (rest other : List ℕ) → AllByRecursion IsSpelling ss → AllByRecursion IsSpelling ts → BeginsNoAttribute rest → BeginsNoAttribute other
+    → flat_map spelling_octets ss ++ rest ≡ flat_map spelling_octets ts ++ other → (ss ≡ ts) × (rest ≡ other)
+same_spellings [] [] rest other each every stops ends e = (refl, e)
+same_spellings [] (t ∷ ts) rest other each every stops ends e =
+    absurd (stops t (flat_map spelling_octets ts ++ other) every.0 (e ∙ append_assoc (spelling_octets t) (flat_map spelling_octets ts) other))
+same_spellings (s ∷ ss) [] rest other each every stops ends e =
+    absurd (ends s (flat_map spelling_octets ss ++ rest) each.0 (sym e ∙ append_assoc (spelling_octets s) (flat_map spelling_octets ss) rest))
+same_spellings (s ∷ ss) (t ∷ ts) rest other each every stops ends e =
+    let whole = sym (append_assoc (spelling_octets s) (flat_map spelling_octets ss) rest) ∙ e ∙ append_assoc (spelling_octets t) (flat_map spelling_octets ts) other in
+    let first = same_spelling s t (flat_map spelling_octets ss ++ rest) (flat_map spelling_octets ts ++ other) each.0 every.0 whole in
+    let others = same_spellings ss ts rest other each.1 every.1 stops ends first.1 in
+    (λ i. first.0 i ∷ others.0 i, others.1)
+
+get_above : (kind low : ℕ) (m : List Attribute) → kind ≤ low → AllAbove low m → get kind m ≡ None
+get_above kind low [] h above = refl
+get_above kind low (a ∷ m) h above =
+    let here : low < a.kind = above.0 in
+    ap (λ b. cond b (Some a) (get kind m)) (ne_eqb a.kind kind (λ e. omega arith)) ∙ get_above kind low m h above.1
+
+get_first : (a : Attribute) (m : List Attribute) → get a.kind (a ∷ m) ≡ Some a
+get_first a m = ap (λ b. cond b (Some a) (get a.kind m)) (eq-eqb a.kind a.kind refl)
+
+-- a type that stands in a rising list does not stand below its first
+below : (a b : Attribute) (m n : List Attribute) → AllAbove b.kind n → ((kind : ℕ) → get kind (a ∷ m) ≡ get kind (b ∷ n)) → b.kind ≤ a.kind
+below a b m n above same = by_order (cases_lt a.kind b.kind)
   where
-    by_order : (((kind : ℕ) → get kind m ≡ get kind n) → m ≡ n) → (a.kind ≡ b.kind) ⊎ ((a.kind < b.kind) ⊎ (b.kind < a.kind)) → a ∷ m ≡ b ∷ n
-    by_order later (inl e) =
-        let first : Some a ≡ Some b = sym (get_here a m) ∙ same a.kind ∙ ap (λ kind. get kind (b ∷ n)) e ∙ get_here b n in
-        let heads : a ≡ b = cc in
-        let tails : m ≡ n = later (λ kind. by_kind kind (nat_eq a.kind kind) refl) in
-        λ i. heads i ∷ tails i
-      where
-        by_kind : (kind : ℕ) (t : Bool) → nat_eq a.kind kind ≡ t → get kind m ≡ get kind n
-        by_kind kind true f =
-            let is : a.kind ≡ kind = eqb-true a.kind kind f in
-            get_below kind a.kind m (omega arith) p.0 ∙ sym (get_below kind b.kind n (omega arith) q.0)
-        by_kind kind false f =
-            let other : a.kind ≡ kind → ⊥ = λ is. (let t : nat_eq a.kind kind ≡ true = eq-eqb a.kind kind is in cc) in
-            sym (get_later kind a m other) ∙ same kind ∙ get_later kind b n (λ is. other (e ∙ is))
-    by_order later (inr (inl less)) = absurd (let e : Some a ≡ None = sym (get_here a m) ∙ same a.kind ∙ get_later a.kind b n (λ is. omega arith) ∙ get_below a.kind b.kind n (omega arith) q.0 in cc)
-    by_order later (inr (inr more)) = absurd (let e : None ≡ Some b = sym (get_later b.kind a m (λ is. omega arith) ∙ get_below b.kind a.kind m (omega arith) p.0) ∙ same b.kind ∙ get_here b n in cc)
+    by_order : (a.kind < b.kind) ⊎ (b.kind ≤ a.kind) → b.kind ≤ a.kind
+    by_order (inl h) =
+        let none : get a.kind (b ∷ n) ≡ None =
+        ap (λ t. cond t (Some b) (get a.kind n)) (ne_eqb b.kind a.kind (λ e. omega arith)) ∙ get_above a.kind b.kind n (omega arith) above in
+        let some : Some a ≡ None = sym (get_first a m) ∙ same a.kind ∙ none in cc
+    by_order (inr h) = h
 
-fit_all : (octets : List ℕ) → AreOctets octets → FitOctets octets
+same_map : (m n : List Attribute) → IsRising m → IsRising n → ((kind : ℕ) → get kind m ≡ get kind n) → m ≡ n
+same_map [] [] rising other same = refl
+same_map [] (b ∷ n) rising other same = let e : None ≡ Some b = same b.kind ∙ get_first b n in cc
+same_map (a ∷ m) [] rising other same = let e : None ≡ Some a = sym (same a.kind) ∙ get_first a m in cc
+same_map (a ∷ m) (b ∷ n) rising other same =
+    let kinds : a.kind ≡ b.kind = (let h = below a b m n other.0 same in let k = below b a n m rising.0 (λ kind. sym (same kind)) in omega arith) in
+    let firsts : Some a ≡ Some b = sym (get_first a m) ∙ same a.kind ∙ ap (λ kind. get kind (b ∷ n)) kinds ∙ get_first b n in
+    let first : a ≡ b = cc in
+    let others = same_map m n rising.1 other.1 (λ kind. behind_first kind kinds (nat_eq a.kind kind) refl (same kind)) in
+    λ i. first i ∷ others i
+  where
+    behind_first : (kind : ℕ) → a.kind ≡ b.kind → (t : Bool) → nat_eq a.kind kind ≡ t → get kind (a ∷ m) ≡ get kind (b ∷ n) → get kind m ≡ get kind n
+    behind_first kind kinds true p e =
+        let here : a.kind ≡ kind = eqb-true a.kind kind p in
+        get_above kind a.kind m (omega arith) rising.0 ∙ sym (get_above kind b.kind n (omega arith) other.0)
+    behind_first kind kinds false p e =
+        ap (λ t. cond t (Some a) (get kind m)) (sym p) ∙ e ∙ ap (λ t. cond t (Some b) (get kind n)) (ap (λ k. nat_eq k kind) (sym kinds) ∙ p)
+
+pub same_meaning : (octets : List ℕ) (mode : Mode) (m n : List Attribute) (faults others : Faults) → Reads octets mode m faults → Reads octets mode n others → (m ≡ n) × (faults ≡ others)
+same_meaning octets mode m n faults others (ss, rest, split, meant, is) (ts, other, splits, means, are) =
+    let both = same_spellings ss ts rest other split.each splits.each split.ends splits.ends (sym split.whole ∙ splits.whole) in (
+      same_map m n meant.rising means.rising (λ kind. meant.same kind ∙ ap (λ ss. kept mode ss kind) both.0 ∙ sym (means.same kind)),
+      is ∙ (λ i. faults_of mode (both.0 i) (both.1 i)) ∙ sym are,
+    )
+
+-- ---- the laws
+
+pub fit_all : (octets : List ℕ) → AreOctets octets → FitOctets octets
 fit_all [] are = λ i. lit< tt
 fit_all (o ∷ octets) are = by_index (fit_all octets are.1)
   where
@@ -59,15 +134,7 @@ fields_are_read octets mode are =
     (spellings_of octets, rest_of octets, split, is_meant mode (spellings_of octets) split.each, refl)
 
 pub fields_mean_one : FieldsMeanOne
-fields_mean_one octets mode m n f g are reads others =
-    let fits = fit_all octets are in
-    let p = splits_only octets reads.0 reads.1 fits reads.2 in
-    let q = splits_only octets others.0 others.1 fits others.2 in
-    let spellings : reads.0 ≡ others.0 = p.0 ∙ sym q.0 in
-    let rest : reads.1 ≡ others.1 = p.1 ∙ sym q.1 in (
-      rising_same m n reads.3.rising others.3.rising (λ kind. reads.3.same kind ∙ ap (λ ss. kept mode ss kind) spellings ∙ sym (others.3.same kind)),
-      reads.4 ∙ (λ i. faults_of mode (spellings i) (rest i)) ∙ sym others.4,
-    )
+fields_mean_one octets mode m n f g reads others = same_meaning octets mode m n f g reads others
 
 pub paths_are_read : PathsAreRead
 paths_are_read size is_kind value path are = (

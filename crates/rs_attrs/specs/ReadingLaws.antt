@@ -12,7 +12,7 @@ FieldsAreRead = (octets : List ℕ) (mode : Mode) → AreOctets octets → Reads
 
 -- and nothing else
 abbrev pub FieldsMeanOne : Type 0
-FieldsMeanOne = (octets : List ℕ) (mode : Mode) (m n : List Attribute) (f g : Faults) → AreOctets octets → Reads octets mode m f → Reads octets mode n g → (m ≡ n) × (f ≡ g)
+FieldsMeanOne = (octets : List ℕ) (mode : Mode) (m n : List Attribute) (f g : Faults) → Reads octets mode m f → Reads octets mode n g → (m ≡ n) × (f ≡ g)
 
 abbrev pub PathsAreRead : Type 0
 PathsAreRead = (size : AsSize) (is_kind : ℕ → Bool) (value : List ℕ) (path : List Segment) → AreOctets value → (segments_of size is_kind value ≡ Some path) ↔ IsPath size is_kind value path

@@ -7,7 +7,7 @@ pub fn fields_are_read()
     ensures { FieldsAreRead }
 {}
 
-/// A field of octets has no second meaning.
+/// A field has no second meaning.
 pub fn fields_mean_one()
     ensures { FieldsMeanOne }
 {}

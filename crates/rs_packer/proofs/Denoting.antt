@@ -10,11 +10,11 @@ use Rattle.rs_attrs.specs.declared.mode.Mode.TheVariants.{Two, Four}
 use Rattle.rs_attrs.specs.Meaning.{Attribute, Reads}
 use Rattle.rs_attrs.specs.Writing.{IsLegal, in_mode, spelt, no_faults}
 use Rattle.rs_attrs.specs.Effects.{Fields, if_ok, is_faulty, prefixes_in, reset_of, same_prefix, has_prefix, is_empty, lacks_mandatory, announced_by}
+use Rattle.rs_attrs.proofs.EachOnce.{same_itself}
 use Rattle.rs_attrs.proofs.HeldLemmas.{short_values}
 use Rattle.rs_attrs.proofs.ReadBack.{reads_back}
 use Rattle.rs_attrs.proofs.ReadBackTwo.{reads_back_two}
 use Rattle.rs_octets.proofs.Fields.{prefixes_read_back}
-use Rattle.std.proofs.lemmas.Bool.{eq-eqb}
 use Rattle.rs_packer.specs.Packed.{prefixes_octets}
 use Rattle.rs_packer.specs.Laws.{AnnouncementHolds, AnnouncementHasEffect, IsWithdrawable, WithdrawalHolds, WithdrawalHasEffect}
 use Rattle.rs_packer.proofs.Announcing.{update_length}
@@ -101,9 +101,6 @@ and_all false = refl
 and_not : (a : Bool) → (a && not a) ≡ false
 and_not true = refl
 and_not false = refl
-
-pub same_itself : (p : Prefix) → same_prefix p p ≡ true
-same_itself p = λ i. eq-eqb p.bits p.bits refl i && eq-eqb p.len p.len refl i
 
 has_first : (p : Prefix) (ps : List Prefix) → has_prefix p (p ∷ ps) ≡ true
 has_first p ps = ap (λ b. b || has_prefix p ps) (same_itself p)

@@ -3,7 +3,6 @@ pub mod Denoting
 pub mod EachOnce
 pub mod Heard
 pub mod OneEffect
-pub mod OneMeaning
 pub mod PrefixLists
 pub mod Rows
 pub mod Withdrawing

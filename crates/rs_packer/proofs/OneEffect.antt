@@ -8,11 +8,11 @@ use Rattle.rs_attrs.specs.declared.mode.Faults.{Faults}
 use Rattle.rs_attrs.specs.Meaning.{Attribute, Reads}
 use Rattle.rs_attrs.specs.Writing.{no_faults}
 use Rattle.rs_attrs.specs.Effects.{Change, Effect, Reset, Changes, Fields, HasEffect, IsEffect, has_prefix, prefixes_in, is_empty, lacks_mandatory, announced_by, reset_of}
+use Rattle.rs_attrs.proofs.OneMeaning.{same_fields, same_meaning}
 use Rattle.rs_packer.specs.Denoted.{body_of, Holds, Announces, Withdraws}
 use Rattle.rs_packer.specs.Packed.{announcement, withdrawal}
 use Rattle.rs_packer.specs.Laws.{AnnouncementHasNoOtherEffect, WithdrawalHasNoOtherEffect}
 use Rattle.rs_packer.proofs.Denoting.{announcement_holds, withdrawal_holds, no_nlri, no_reset, held, all_announced, rest_withdrawn, all_withdrawn, attributes_there, none_there}
-use Rattle.rs_packer.proofs.OneMeaning.{same_fields, same_meaning}
 
 -- the effect of a body whose fields hold this is that of these fields
 one_effect : (body : List ℕ) (mode : Mode) (ws : List Prefix) (m : List Attribute) (ps : List Prefix) (effect : Effect) (holds : Holds body mode ws m ps) → HasEffect body mode effect → IsEffect holds.fields m no_faults effect

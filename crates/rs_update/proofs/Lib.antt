@@ -3,3 +3,4 @@ pub mod Collecting
 pub mod BodyFields
 pub mod Effecting
 pub mod Mandatory
+pub mod OneEffect

@@ -8,7 +8,7 @@ use Rattle.rs_attrs.specs.declared.mode.Mode.{Mode}
 use Rattle.rs_attrs.specs.declared.mode.Faults.{Faults}
 use Rattle.rs_attrs.specs.Meaning.{Attribute}
 use Rattle.rs_attrs.specs.Effects.{Fields, Changes, Change, HasEffect, is_empty, has_prefix, prefixes_in, announced_by, lacks_mandatory}
-use Rattle.rs_update.proofs.PrefixSets.{same_itself}
+use Rattle.rs_attrs.proofs.EachOnce.{same_itself}
 
 -- the attributes, where they are there, have the mandatory ones
 abbrev pub Complete : Option (List Attribute) → Type 0

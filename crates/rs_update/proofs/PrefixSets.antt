@@ -1,30 +1,23 @@
 -- Lists of prefixes as sets.
-use Rattle.std.proofs.Common.{◌≡◌, ℕ, zero, suc, ◌<◌, ◌≤◌, ◌&&◌, ◌||◌, Bool, true, false, cond, not, List, [], ◌∷◌, length, refl, sym, ap, ◌∙◌, subst, arith, nat_eq, nat_lt}
-use Rattle.std.specs.Prelude.{filter, Contains, Result, Ok, Err, is_ok}
+use Rattle.std.proofs.Common.{◌≡◌, ℕ, zero, suc, ◌<◌, ◌≤◌, ◌&&◌, Bool, true, false, List, [], ◌∷◌, length, refl, sym, ap, ◌∙◌, subst, arith, nat_lt}
+use Rattle.std.specs.Prelude.{Contains, Result, Ok, Err, is_ok}
 use Rattle.std.specs.List.{slice_index_or, dedup, AllByRecursion}
 use Rattle.std.specs.List.Sorted.{IsPermutation, IsStrictlySortedBy, IsBinarySearchResult, IsSearchInRange}
 use Rattle.std.specs.declared.cmp.Ordering.TheVariants.{Less, Equal, Greater}
 use Rattle.std.specs.declared.cmp.Ordering.{Ordering}
 use Rattle.std.specs.Ordering.{on, nat_cmp, ordering_index, is_eq, eq_by_cmp}
 use Rattle.std.specs.Cmp.{IsTotalOrder, IsEquivalence, nat_cmp_total, unsigned_ties, tied_then, then_total, on_total, eq_by_cmp_equiv, tied_itself, tied_back, alike_right}
-use Rattle.std.proofs.lemmas.Bool.{eqb-true, ltb-true, ltb-false}
+use Rattle.std.proofs.lemmas.Bool.{ltb-true, ltb-false}
 use Rattle.std.proofs.lemmas.Map.Views.{list_any-from_Contains, Contains-from_any}
 use Rattle.std.proofs.lemmas.List.Kept.{Contains-dedup, Contains-from_dedup}
 use Rattle.std.proofs.lemmas.List.Sorted.{Contains-permutation, IsPermutation-sym}
 use Rattle.std.proofs.lemmas.List.Folds.{list_any_at}
 use Rattle.rs_octets.specs.Prefixes.{Prefix, prefix_order}
 use Rattle.rs_attrs.specs.Effects.{same_prefix, has_prefix}
+use Rattle.rs_attrs.proofs.EachOnce.{same_is}
 
 pub same_ties : (p q : Prefix) → same_prefix p q ≡ eq_by_cmp prefix_order p q
 same_ties p q = (λ i. unsigned_ties p.bits q.bits i && unsigned_ties p.len q.len i) ∙ tied_then (nat_cmp p.bits q.bits) (nat_cmp p.len q.len)
-
-pub same_is : (p q : Prefix) → same_prefix p q ≡ true → p ≡ q
-same_is p q e = by_tests (nat_eq p.bits q.bits) (nat_eq p.len q.len) refl refl e
-  where
-    by_tests : (a b : Bool) → nat_eq p.bits q.bits ≡ a → nat_eq p.len q.len ≡ b → (a && b) ≡ true → p ≡ q
-    by_tests true true f g e = let bits = eqb-true p.bits q.bits f in let len = eqb-true p.len q.len g in λ i. record { bits = bits i; len = len i }
-    by_tests true false f g e = absurd cc
-    by_tests false b f g e = absurd cc
 
 pub prefix_total : IsTotalOrder prefix_order
 prefix_total = then_total {R = on (λ (p : Prefix). p.bits) nat_cmp} {S = on (λ (p : Prefix). p.len) nat_cmp} (on_total (λ (p : Prefix). p.bits) nat_cmp_total) (on_total (λ (p : Prefix). p.len) nat_cmp_total)
@@ -33,9 +26,6 @@ pub same_equiv : IsEquivalence same_prefix
 same_equiv =
     let same : eq_by_cmp prefix_order ≡ same_prefix = λ i. λ p q. sym (same_ties p q) i in
     subst (λ (e : Prefix → Prefix → Bool). IsEquivalence e) same (eq_by_cmp_equiv prefix_total)
-
-pub same_itself : (p : Prefix) → same_prefix p p ≡ true
-same_itself p = same_ties p p ∙ ap is_eq (tied_itself prefix_total p)
 
 pub member_has : (p : Prefix) (ps : List Prefix) → Contains ps p → has_prefix p ps ≡ true
 member_has p ps m = list_any-from_Contains same_equiv p ps m
@@ -112,26 +102,3 @@ searched x ps (Err i) sorted range found = by_answer (has_prefix x ps) refl
         by_side true k less greater itself h = let no : Less ≡ Equal = sym (less h) ∙ itself in absurd cc
         by_side false k less greater itself h = let no : Greater ≡ Equal = sym (greater h) ∙ itself in absurd cc
     by_answer false e = refl
-
--- what a filter leaves of a set
-pub filtered_has : (p : Prefix) (others ps : List Prefix) → has_prefix p (filter (λ q. not (has_prefix q others)) ps) ≡ (has_prefix p ps && not (has_prefix p others))
-filtered_has p others [] = refl
-filtered_has p others (q ∷ ps) = by_tests (same_prefix p q) (has_prefix q others) refl refl (filtered_has p others ps)
-  where
-    rest : List Prefix
-    rest = filter (λ q. not (has_prefix q others)) ps
-
-    by_tests : (same other : Bool) → same_prefix p q ≡ same → has_prefix q others ≡ other → has_prefix p rest ≡ (has_prefix p ps && not (has_prefix p others))
-        → has_prefix p (cond (not other) (q ∷ rest) rest) ≡ ((same || has_prefix p ps) && not (has_prefix p others))
-    by_tests true true e f later =
-        let here : has_prefix p others ≡ true = ap (λ p. has_prefix p others) (same_is p q e) ∙ f in
-        later ∙ (λ i. has_prefix p ps && not (here i)) ∙ none (has_prefix p ps) ∙ sym (ap not here)
-      where
-        none : (b : Bool) → (b && false) ≡ false
-        none true = refl
-        none false = refl
-    by_tests true false e f later =
-        let here : has_prefix p others ≡ false = ap (λ p. has_prefix p others) (same_is p q e) ∙ f in
-        ap (λ b. b || has_prefix p rest) e ∙ sym (ap not here)
-    by_tests false true e f later = later
-    by_tests false false e f later = ap (λ b. b || has_prefix p rest) e ∙ later

@@ -5,7 +5,7 @@ use Rattle.std.proofs.lemmas.Fn.{filter_same}
 use Rattle.std.proofs.lemmas.List.Kept.{IsStrictlySortedBy-filter}
 use Rattle.rs_octets.specs.Prefixes.{Prefix, prefix_order}
 use Rattle.rs_attrs.specs.Effects.{has_prefix}
-use Rattle.rs_update.proofs.PrefixSets.{filtered_has}
+use Rattle.rs_attrs.proofs.EachOnce.{filtered_has}
 use Rattle.rs_update.proofs.prefixes.take_away.Goals as goal
 
 -- what is left

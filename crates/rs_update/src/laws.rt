@@ -1,0 +1,16 @@
+//! Laws of the definition that `effect` meets: each is the contract of a function that does nothing.
+
+ghost use Rattle.rs_update.specs.Laws.{BodiesHaveEffects, BodiesHaveOneEffect, BodiesMeanTables, BodiesMeanOneTable};
+
+/// The body of an UPDATE has an effect, and no second one but for the order in which prefixes are
+/// listed (RFC 4271, 4.3; RFC 7606, 2 to 5).
+pub fn bodies_have_one_effect()
+    ensures there_is { BodiesHaveEffects }
+    ensures no_other { BodiesHaveOneEffect }
+{}
+
+/// UPDATEs of which none resets the session mean a table of routes, and no second one.
+pub fn bodies_mean_one_table()
+    ensures there_is { BodiesMeanTables }
+    ensures no_other { BodiesMeanOneTable }
+{}
