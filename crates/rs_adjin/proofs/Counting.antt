@@ -14,7 +14,8 @@ use Rattle.rs_adjin.specs.declared.adj_ins.AdjIns.{AdjIns}
 use Rattle.rs_adjin.specs.AdjIns.{held_of, WouldHold}
 use Rattle.rs_adjin.specs.Listing.{Counts, CountsAlike}
 use Rattle.rs_adjin.proofs.Members.{Has, has, contains, kept, keeps, has_front, has_back, has_either, Apart, apart, all_pairs, apart_kept, apart_joined}
-use Rattle.rs_adjin.proofs.Steps.{at_prefix, is_prefix, same_itself}
+use Rattle.rs_attrs.proofs.EachOnce.{same_is, same_itself}
+use Rattle.rs_adjin.proofs.Steps.{at_prefix}
 
 -- whether p is one of ps
 abbrev pub is_in : List Prefix → Prefix → Bool
@@ -24,7 +25,7 @@ at_itself : (p : Prefix) → is_at (prefix_order p) p ≡ true
 at_itself p = at_prefix p p ∙ same_itself p
 
 at_same : (p q : Prefix) → is_at (prefix_order p) q ≡ true → q ≡ p
-at_same p q h = is_prefix q p (sym (at_prefix p q) ∙ h)
+at_same p q h = same_is q p (sym (at_prefix p q) ∙ h)
 
 or_left : (a b : Bool) → a ≡ true → (a || b) ≡ true
 or_left true b h = refl

@@ -20,7 +20,8 @@ use Rattle.rs_adjin.specs.Table.{routes_in, routes_at}
 use Rattle.rs_adjin.specs.Listing.{with_holder, holders_from, sent_by, sent_with}
 use Rattle.rs_adjin.specs.AdjIns.{client_count, identifier_of, held_of, ListsRoutes, candidate, candidates_of}
 use Rattle.rs_adjin.proofs.RouteLists.{Rising, AllAbove, rising, none_above}
-use Rattle.rs_adjin.proofs.Steps.{Routes, at_prefix, is_prefix}
+use Rattle.rs_attrs.proofs.EachOnce.{same_is}
+use Rattle.rs_adjin.proofs.Steps.{Routes, at_prefix}
 
 -- ---- prefixes are in a total order, which tells them apart
 
@@ -28,7 +29,7 @@ pub prefixes_total : IsTotalOrder prefix_order
 prefixes_total = then_total (on_total (λ p. p.bits) nat_cmp_total) (on_total (λ p. p.len) nat_cmp_total)
 
 pub exact_prefixes : CmpEqualImpliesEq prefix_order
-exact_prefixes p q h = sym (is_prefix q p (sym (at_prefix p q) ∙ ap is_eq h))
+exact_prefixes p q h = sym (same_is q p (sym (at_prefix p q) ∙ ap is_eq h))
 
 -- ---- those who hold a prefix
 

@@ -16,6 +16,7 @@ use Rattle.rs_adjin.specs.Routes.{value_in, IsRising, KeepsRoutes, SameRoutes, C
 use Rattle.rs_adjin.proofs.RouteLists.{one_keeps, one_filled, one_changes}
 use Rattle.std.specs.Arc.{arc_value}
 use Rattle.rs_attrs.specs.Effects.{same_prefix}
+use Rattle.rs_attrs.proofs.EachOnce.{same_is}
 use Rattle.rs_adjin.specs.Table.{routes_in, routes_at, IsTable, IsOfClients, KeepsTable, Writes, IsSame, Marks, SameSet, TellsChange, IsHeldBy}
 
 abbrev pub Routes : Type 0
@@ -28,15 +29,6 @@ at_both a b c d = grind (arith, nat_tests, common_steps)
 
 pub at_prefix : (p q : Prefix) → is_at (prefix_order p) q ≡ same_prefix q p
 at_prefix p q = at_both p.bits q.bits p.len q.len
-
-pub same_itself : (p : Prefix) → same_prefix p p ≡ true
-same_itself p = grind (arith, nat_tests)
-
-both : (a b c d : ℕ) → ((a == b) && (c == d)) ≡ true → (a ≡ b) × (c ≡ d)
-both a b c d h = (grind (arith, nat_tests, h), grind (arith, nat_tests, h))
-
-pub is_prefix : (q p : Prefix) → same_prefix q p ≡ true → q ≡ p
-is_prefix q p h = let e : (q.bits ≡ p.bits) × (q.len ≡ p.len) = both q.bits p.bits q.len p.len h in λ i. record { bits = e.0 i; len = e.1 i }
 
 -- ---- one step
 
@@ -71,7 +63,7 @@ module _ (old new : Routes) (p : Prefix) (rs : List Route) (step : Steps old new
   write_at : (c d : ℕ) (q : Prefix) (w : Option (List Attribute)) → Changes (routes_at old p) rs c w → (b : Bool) → same_prefix q p ≡ b → (a : Bool) → (d == c) ≡ a →
       value_in d (if b then rs else routes_at old q) ≡ (if a && b then w else value_in d (routes_at old q))
   write_at c d q w changes true at true is = changes d ∙ ap (λ a. if a then w else value_in d (routes_at old p)) is
-  write_at c d q w changes true at false is = changes d ∙ (ap (λ a. if a then w else value_in d (routes_at old p)) is ∙ ap (λ x. value_in d (routes_at old x)) (sym (is_prefix q p at)))
+  write_at c d q w changes true at false is = changes d ∙ (ap (λ a. if a then w else value_in d (routes_at old p)) is ∙ ap (λ x. value_in d (routes_at old x)) (sym (same_is q p at)))
   write_at c d q w changes false at true is = refl
   write_at c d q w changes false at false is = refl
 
@@ -79,7 +71,7 @@ module _ (old new : Routes) (p : Prefix) (rs : List Route) (step : Steps old new
   steps_write c w changes d q = ap (value_in d) (step q) ∙ write_at c d q w changes (same_prefix q p) refl (d == c) refl
 
   same_at : (d : ℕ) (q : Prefix) → SameRoutes (routes_at old p) rs → (b : Bool) → same_prefix q p ≡ b → value_in d (if b then rs else routes_at old q) ≡ value_in d (routes_at old q)
-  same_at d q same true at = same d ∙ ap (λ x. value_in d (routes_at old x)) (sym (is_prefix q p at))
+  same_at d q same true at = same d ∙ ap (λ x. value_in d (routes_at old x)) (sym (same_is q p at))
   same_at d q same false at = refl
 
   pub steps_same : SameRoutes (routes_at old p) rs → IsSame old new
@@ -134,7 +126,7 @@ pub unmarked : (old mid new : BTreeSet Prefix) (p : Prefix) → contains prefix_
 unmarked old mid new p absent came went q = went q ∙ go (is_at (prefix_order p) q) refl
   where
     go : (b : Bool) → is_at (prefix_order p) q ≡ b → cond b false (contains prefix_order mid q) ≡ contains prefix_order old q
-    go true at = sym absent ∙ ap (contains prefix_order old) (sym (is_prefix q p (sym (at_prefix p q) ∙ at)))
+    go true at = sym absent ∙ ap (contains prefix_order old) (sym (same_is q p (sym (at_prefix p q) ∙ at)))
     go false at = came q ∙ ap (λ b. cond b true (contains prefix_order old q)) at
 
 pub marked : (old new : BTreeSet Prefix) (p : Prefix) (b : Bool) → ((q : Prefix) → contains prefix_order new q ≡ cond (is_at (prefix_order p) q) b (contains prefix_order old q)) → Marks old new p b
@@ -147,7 +139,7 @@ tells true o x y is h = λ same. h (some_is x y (sym is ∙ same))
 tells false o x y is h = is ∙ ap Some h
 
 mark_there : (held : BTreeSet Prefix) (p q : Prefix) → contains prefix_order held p ≡ true → (b : Bool) → same_prefix q p ≡ b → contains prefix_order held q ≡ (if b then true else contains prefix_order held q)
-mark_there held p q there true at = ap (contains prefix_order held) (is_prefix q p at) ∙ there
+mark_there held p q there true at = ap (contains prefix_order held) (same_is q p at) ∙ there
 mark_there held p q there false at = refl
 
 -- a prefix that is there stays

@@ -10,7 +10,8 @@ use Rattle.rs_adjin.specs.Routes.{value_in}
 use Rattle.rs_attrs.specs.Effects.{same_prefix}
 use Rattle.rs_adjin.specs.Table.{routes_at, Writes, IsSame, Clears, IsHeldBy}
 use Rattle.rs_adjin.specs.Mandatory.{HasMandatory, AllHaveMandatory}
-use Rattle.rs_adjin.proofs.Steps.{Routes, KeepsOthers, others_apart, not_some, is_prefix}
+use Rattle.rs_attrs.proofs.EachOnce.{same_is}
+use Rattle.rs_adjin.proofs.Steps.{Routes, KeepsOthers, others_apart, not_some}
 
 some_is : {A : Type 0} (x y : A) → Some x ≡ Some y → x ≡ y
 some_is x y e = (cc)
@@ -66,7 +67,7 @@ none_taken old new c p writes none d q = writes d q ∙ go (d == c) refl (same_p
     go : (a : Bool) → (d == c) ≡ a → (b : Bool) → same_prefix q p ≡ b → (if a && b then None else value_in d (routes_at old q)) ≡ value_in d (routes_at old q)
     go true is true at =
         let e : d ≡ c = grind (arith, nat_tests, is) in
-        sym gone ∙ (ap (λ n. value_in n (routes_at old p)) (sym e) ∙ ap (λ x. value_in d (routes_at old x)) (sym (is_prefix q p at)))
+        sym gone ∙ (ap (λ n. value_in n (routes_at old p)) (sym e) ∙ ap (λ x. value_in d (routes_at old x)) (sym (same_is q p at)))
     go true is false at = refl
     go false is b at = refl
 
