@@ -1,9 +1,48 @@
--- What a reader has from an OPEN of ours.
-use Rattle.std.specs.Prelude.{◌≡◌, ◌≢◌, ◌<◌, ◌^◌, false, Some}
+-- What whoever hears a message of ours has from it.
+use Rattle.std.specs.Prelude.{◌≡◌, ◌≢◌, ℕ, ◌<◌, ◌≤◌, ◌^◌, false, List, [], ◌∷◌, length, take, drop, Some, Ok, ⊤}
+use Rattle.rs_octets.specs.declared.heads.Allowed.{Allowed}
+use Rattle.rs_octets.specs.declared.heads.Kind.{Kind}
+use Rattle.rs_octets.specs.declared.heads.Kind.TheVariants as kinds
+use Rattle.rs_octets.specs.Headers.{header_of, longest}
+use Rattle.rs_octets.specs.Messages.{heard_of}
 use Rattle.rs_open.specs.declared.open.Open.{Open}
+use Rattle.rs_open.specs.declared.short.Short.{Short}
+use Rattle.rs_open.specs.declared.short.Short.TheVariants as shorts
 use Rattle.rs_open.specs.declared.writing.ServerOpen.{ServerOpen}
 use Rattle.rs_open.specs.Opens.{is_refused_hold}
-use Rattle.rs_open.specs.Writing.{my_as_said}
+use Rattle.rs_open.specs.Writing.{my_as_said, body_said, notification, server_open, short_octets}
+
+-- it is no longer than its receiver takes, as an OPEN of ours and a KEEPALIVE always are
+abbrev pub Fits : Allowed → Short → Type 0
+Fits allowed shorts.Open = ⊤
+Fits allowed shorts.Keepalive = ⊤
+Fits allowed (shorts.Note code sub extra count) = length (notification code sub (take count extra)) ≤ longest allowed
+
+-- as is a NOTIFICATION with two octets of data at most
+abbrev pub NoteFits : Type 0
+NoteFits = (allowed : Allowed) (code sub : ℕ) (extra : List ℕ) (count : ℕ) → length (take count extra) ≤ 2 → Fits allowed (shorts.Note code sub extra count)
+
+-- whoever takes messages of that length hears one message and nothing else
+abbrev pub ShortIsHeardAlone : Type 0
+ShortIsHeardAlone =
+    (allowed : Allowed) (said : ServerOpen) (short : Short) → Fits allowed short
+    → heard_of allowed (short_octets said short) ≡ Ok (short_octets said short) ∷ []
+
+-- the type that stands in its header (RFC 4271, 4.1)
+abbrev pub kind_of : Short → Kind
+kind_of shorts.Open = kinds.Open
+kind_of shorts.Keepalive = kinds.Keepalive
+kind_of (shorts.Note code sub extra count) = kinds.Note
+
+-- and its header is a good one, which says its length and its type
+abbrev pub HeaderSaysLengthAndKind : Type 0
+HeaderSaysLengthAndKind =
+    (allowed : Allowed) (said : ServerOpen) (short : Short) → Fits allowed short
+    → header_of allowed (take 19 (short_octets said short)) ≡ Ok (record { length = length (short_octets said short); kind = kind_of short })
+
+-- behind the header of an OPEN of ours stands its body
+abbrev pub OpenHasItsBody : Type 0
+OpenHasItsBody = (said : ServerOpen) → drop 19 (server_open said) ≡ body_said said
 
 -- its numbers fit, the Hold Time is 0 or at least 3, and the identifier isn't 0
 pub record IsOpenToSay (said : ServerOpen) : Type 0 where

@@ -4,7 +4,7 @@ ghost use Rattle.std.specs.Prelude.{◌≡◌, ◌↔◌, List, ℕ, IsOk};
 ghost use Rattle.rs_open.specs.Triples.{Row, Splits, row_of};
 ghost use Rattle.rs_open.specs.declared.writing.ServerOpen.{ServerOpen};
 ghost use Rattle.rs_open.specs.Good.{IsGoodOpen};
-ghost use Rattle.rs_open.specs.Laws.{IsOpenToSay, heard_from};
+ghost use Rattle.rs_open.specs.Laws.{NoteFits, ShortIsHeardAlone, HeaderSaysLengthAndKind, OpenHasItsBody, IsOpenToSay, heard_from};
 ghost use Rattle.rs_open.specs.Opens.{open_of};
 ghost use Rattle.rs_open.specs.Writing.{body_said};
 
@@ -23,4 +23,13 @@ pub fn an_open_is_taken_where_it_is_good()
 /// definitions, and says what we say.
 pub fn an_open_of_ours_is_good()
     ensures { (said : ServerOpen) → IsOpenToSay said → open_of (body_said said) ≡ Ok (heard_from said) }
+{}
+
+/// An OPEN of ours, a KEEPALIVE, and a NOTIFICATION that is no longer than its receiver takes are each
+/// heard as one message, without a fault, and of its type (RFC 4271, 4.1).
+pub fn short_is_heard_alone()
+    ensures fits { NoteFits }
+    ensures alone { ShortIsHeardAlone }
+    ensures header { HeaderSaysLengthAndKind }
+    ensures body { OpenHasItsBody }
 {}

@@ -14,6 +14,7 @@ mod writing;
 
 pub use laws::{
     an_open_is_taken_where_it_is_good, an_open_of_ours_is_good, octets_are_one_row_of_triples,
+    short_is_heard_alone,
 };
 pub use notification::Notification;
 pub use open::{Open, OpenFault};

@@ -1,0 +1,107 @@
+-- A message of ours has a good header, so it is heard.
+use Rattle.std.proofs.Common.{◌≡◌, ℕ, ◌+◌, ◌≤◌, Bool, true, false, cond, List, [], ◌∷◌, length, take, drop, refl, sym, ap, subst, ◌∙◌, arith}
+use Rattle.std.specs.Prelude.{◌&&◌, Result, Ok, Err, IsOkAnd}
+use Rattle.std.specs.Int.{w16, from_be_bytes, to_be_bytes, is_in_range}
+use Rattle.std.proofs.lemmas.Bool.{le-leb}
+use Rattle.std.proofs.lemmas.Nat.{from_be_bytes-to_be_bytes_2}
+use Rattle.rs_octets.specs.declared.heads.Allowed.{Allowed}
+use Rattle.rs_octets.specs.declared.heads.Head.{Head}
+use Rattle.rs_octets.specs.declared.heads.HeaderFault.{HeaderFault}
+use Rattle.rs_octets.specs.declared.heads.HeaderFault.TheVariants as faults
+use Rattle.rs_octets.specs.declared.heads.Kind.{Kind}
+use Rattle.rs_octets.specs.declared.heads.Kind.TheVariants as kinds
+use Rattle.rs_octets.specs.Headers.{header_of, head_of_type, longest, type_row}
+use Rattle.rs_octets.specs.Messages.{heard_of}
+use Rattle.rs_octets.proofs.Cut.{heard_alone}
+use Rattle.rs_open.specs.declared.short.Short.{Short}
+use Rattle.rs_open.specs.declared.short.Short.TheVariants as shorts
+use Rattle.rs_open.specs.declared.writing.ServerOpen.{ServerOpen}
+use Rattle.rs_open.specs.Laws.{Fits, kind_of}
+use Rattle.rs_open.specs.Walk.{capability_octets}
+use Rattle.rs_open.specs.Writing.{message, multiprotocol, body_said, server_open, short_octets}
+use Rattle.rs_open.proofs.Written.{open_size}
+
+longest_least : (long : Bool) → 4096 ≤ cond long 65535 4096
+longest_least true = omega arith
+longest_least false = omega arith
+
+longest_most : (long : Bool) → cond long 65535 4096 ≤ 65535
+longest_most true = omega arith
+longest_most false = omega arith
+
+in_range : (least greatest n : ℕ) → least ≤ n → n ≤ greatest → is_in_range least greatest n ≡ true
+in_range least greatest n h k = λ i. le-leb least n h i && le-leb n greatest k i
+
+-- the last check of a header, of its length by its type
+abbrev of_type : ℕ → ℕ → Kind → ℕ → Result Head HeaderFault
+of_type least greatest kind len = cond (is_in_range least greatest len) (Ok (record { length = len; kind = kind })) (Err (faults.Length len))
+
+-- and the check before it, of its length by that of any message
+abbrev checked : Bool → Result Head HeaderFault → ℕ → Result Head HeaderFault
+checked any last len = cond any last (Err (faults.Length len))
+
+-- a message whose length is one of its type has a good header
+message_says : (allowed : Allowed) (number : ℕ) (body : List ℕ) (least greatest : ℕ) (kind : Kind)
+    → ((len : ℕ) → head_of_type (type_row allowed number) len number ≡ of_type least greatest kind len)
+    → length (message number body) ≤ longest allowed → least ≤ length (message number body) → length (message number body) ≤ greatest
+    → header_of allowed (take 19 (message number body)) ≡ Ok (record { length = length (message number body); kind = kind })
+message_says allowed number body least greatest kind row fits from to =
+    let size : ℕ = length (message number body) in
+    let same = from_be_bytes-to_be_bytes_2 (19 + length body) (let most = longest_most allowed.long in omega (arith, fits)) in
+    let read : from_be_bytes w16 (to_be_bytes w16 (19 + length body)) ≡ size = omega (arith, same) in
+    ap (λ len. checked (is_in_range 19 (longest allowed) len) (head_of_type (type_row allowed number) len number) len) read
+    ∙ (λ i. checked (in_range 19 (longest allowed) size (omega arith) fits i) (row size i) size)
+    ∙ ap (λ b. cond b (Ok (record { length = size; kind = kind })) (Err (faults.Length size))) (in_range least greatest size from to)
+
+-- ---- an OPEN of ours has 37 to 47 octets
+
+capability_most : (wanted : Bool) (code : ℕ) (value : List ℕ) → length (capability_octets wanted code value) ≤ 2 + length value
+capability_most true code value = omega arith
+capability_most false code value = omega arith
+
+open_most : (said : ServerOpen) → length (server_open said) ≤ 47
+open_most said =
+    omega (arith, open_size said, capability_most said.multiprotocol 1 multiprotocol.value, capability_most said.extended 6 [], capability_most said.refresh 2 [])
+
+open_least : (said : ServerOpen) → 37 ≤ length (server_open said)
+open_least said = omega (arith, open_size said)
+
+-- ---- a NOTIFICATION with two octets of data at most has 23 at most
+
+pub note_fits : (allowed : Allowed) (code sub : ℕ) (extra : List ℕ) (count : ℕ) → length (take count extra) ≤ 2 → Fits allowed (shorts.Note code sub extra count)
+note_fits allowed code sub extra count h = let long = longest_least allowed.long in omega (arith, h)
+
+-- ---- the header says the length and the type
+
+pub header_says : (allowed : Allowed) (said : ServerOpen) (short : Short) → Fits allowed short
+    → header_of allowed (take 19 (short_octets said short)) ≡ Ok (record { length = length (short_octets said short); kind = kind_of short })
+header_says allowed said shorts.Open is =
+    let most = open_most said in
+    let least = open_least said in
+    let long = longest_least allowed.long in
+    message_says allowed 1 (body_said said) 29 4096 kinds.Open (λ len. refl) (omega (arith, most, long)) (omega (arith, least)) (omega (arith, most))
+header_says allowed said shorts.Keepalive is =
+    let long = longest_least allowed.long in
+    message_says allowed 4 [] 19 19 kinds.Keepalive (λ len. refl) (omega arith) (omega arith) (omega arith)
+header_says allowed said (shorts.Note code sub extra count) is =
+    message_says allowed 3 (code ∷ sub ∷ take count extra) 21 (longest allowed) kinds.Note (λ len. refl) is (omega arith) is
+
+-- ---- so it is heard
+
+message_least : (kind : ℕ) (body : List ℕ) → 19 ≤ length (message kind body)
+message_least kind body = omega arith
+
+short_least : (said : ServerOpen) (short : Short) → 19 ≤ length (short_octets said short)
+short_least said shorts.Open = message_least 1 (body_said said)
+short_least said shorts.Keepalive = message_least 4 []
+short_least said (shorts.Note code sub extra count) = message_least 3 (code ∷ sub ∷ take count extra)
+
+pub heard_alone_short : (allowed : Allowed) (said : ServerOpen) (short : Short) → Fits allowed short
+    → heard_of allowed (short_octets said short) ≡ Ok (short_octets said short) ∷ []
+heard_alone_short allowed said short is =
+    let octets : List ℕ = short_octets said short in
+    heard_alone allowed octets
+    (short_least said short, subst (λ r. IsOkAnd r (λ head. head.length ≡ length octets)) (sym (header_says allowed said short is)) refl)
+
+pub body_stands_behind : (said : ServerOpen) → drop 19 (server_open said) ≡ body_said said
+body_stands_behind said = refl
