@@ -1,18 +1,13 @@
 -- A message of ours has a good header, so it is heard.
-use Rattle.std.proofs.Common.{◌≡◌, ℕ, ◌+◌, ◌≤◌, Bool, true, false, cond, List, [], ◌∷◌, length, take, drop, refl, sym, ap, subst, ◌∙◌, arith}
-use Rattle.std.specs.Prelude.{◌&&◌, Result, Ok, Err, IsOkAnd}
-use Rattle.std.specs.Int.{w16, from_be_bytes, to_be_bytes, is_in_range}
-use Rattle.std.proofs.lemmas.Bool.{le-leb}
-use Rattle.std.proofs.lemmas.Nat.{from_be_bytes-to_be_bytes_2}
+use Rattle.std.proofs.Common.{◌≡◌, ℕ, ◌+◌, ◌≤◌, Bool, true, false, List, [], ◌∷◌, length, take, drop, refl, sym, subst, arith}
+use Rattle.std.specs.Prelude.{Ok, IsOkAnd}
 use Rattle.rs_octets.specs.declared.heads.Allowed.{Allowed}
-use Rattle.rs_octets.specs.declared.heads.Head.{Head}
-use Rattle.rs_octets.specs.declared.heads.HeaderFault.{HeaderFault}
-use Rattle.rs_octets.specs.declared.heads.HeaderFault.TheVariants as faults
 use Rattle.rs_octets.specs.declared.heads.Kind.{Kind}
 use Rattle.rs_octets.specs.declared.heads.Kind.TheVariants as kinds
 use Rattle.rs_octets.specs.Headers.{header_of, head_of_type, longest, type_row}
 use Rattle.rs_octets.specs.Messages.{heard_of}
 use Rattle.rs_octets.proofs.Cut.{heard_alone}
+use Rattle.rs_octets.proofs.GoodHeaders.{longest_least, of_type, good_header}
 use Rattle.rs_open.specs.declared.short.Short.{Short}
 use Rattle.rs_open.specs.declared.short.Short.TheVariants as shorts
 use Rattle.rs_open.specs.declared.writing.ServerOpen.{ServerOpen}
@@ -21,37 +16,15 @@ use Rattle.rs_open.specs.Walk.{capability_octets}
 use Rattle.rs_open.specs.Writing.{message, multiprotocol, body_said, server_open, short_octets}
 use Rattle.rs_open.proofs.Written.{open_size}
 
-longest_least : (long : Bool) → 4096 ≤ cond long 65535 4096
-longest_least true = omega arith
-longest_least false = omega arith
-
-longest_most : (long : Bool) → cond long 65535 4096 ≤ 65535
-longest_most true = omega arith
-longest_most false = omega arith
-
-in_range : (least greatest n : ℕ) → least ≤ n → n ≤ greatest → is_in_range least greatest n ≡ true
-in_range least greatest n h k = λ i. le-leb least n h i && le-leb n greatest k i
-
--- the last check of a header, of its length by its type
-abbrev of_type : ℕ → ℕ → Kind → ℕ → Result Head HeaderFault
-of_type least greatest kind len = cond (is_in_range least greatest len) (Ok (record { length = len; kind = kind })) (Err (faults.Length len))
-
--- and the check before it, of its length by that of any message
-abbrev checked : Bool → Result Head HeaderFault → ℕ → Result Head HeaderFault
-checked any last len = cond any last (Err (faults.Length len))
-
 -- a message whose length is one of its type has a good header
 message_says : (allowed : Allowed) (number : ℕ) (body : List ℕ) (least greatest : ℕ) (kind : Kind)
     → ((len : ℕ) → head_of_type (type_row allowed number) len number ≡ of_type least greatest kind len)
     → length (message number body) ≤ longest allowed → least ≤ length (message number body) → length (message number body) ≤ greatest
     → header_of allowed (take 19 (message number body)) ≡ Ok (record { length = length (message number body); kind = kind })
 message_says allowed number body least greatest kind row fits from to =
-    let size : ℕ = length (message number body) in
-    let same = from_be_bytes-to_be_bytes_2 (19 + length body) (let most = longest_most allowed.long in omega (arith, fits)) in
-    let read : from_be_bytes w16 (to_be_bytes w16 (19 + length body)) ≡ size = omega (arith, same) in
-    ap (λ len. checked (is_in_range 19 (longest allowed) len) (head_of_type (type_row allowed number) len number) len) read
-    ∙ (λ i. checked (in_range 19 (longest allowed) size (omega arith) fits i) (row size i) size)
-    ∙ ap (λ b. cond b (Ok (record { length = size; kind = kind })) (Err (faults.Length size))) (in_range least greatest size from to)
+    let size : 19 + length body ≡ length (message number body) = omega arith in
+    subst (λ n. header_of allowed (take 19 (message number body)) ≡ Ok (record { length = n; kind = kind })) size
+    (good_header allowed number (19 + length body) least greatest kind row (omega arith) (omega (arith, fits)) (omega (arith, from)) (omega (arith, to)))
 
 -- ---- an OPEN of ours has 37 to 47 octets
 
