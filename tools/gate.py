@@ -14,6 +14,7 @@ import os
 import pathlib
 import re
 import resource
+import shutil
 import subprocess
 import sys
 import threading
@@ -97,12 +98,15 @@ def tell_times(seconds, started):
         print(f"  {crate:<12} {took:6.0f}")
     used = resource.getrusage(resource.RUSAGE_CHILDREN)
     print(
-        f"The whole: {time.monotonic() - started:.0f} seconds on {os.cpu_count()} processors, "
+        f"The whole: {time.monotonic() - started:.0f} seconds on {len(os.sched_getaffinity(0))} processors, "
         f"{(used.ru_utime + used.ru_stime) / 60:.1f} processor minutes"
     )
 
 
 def main():
+    if not shutil.which("rt"):
+        print("rt, the command of the Rattle toolchain, is not on the PATH\n0 passed, 1 failed")
+        return 1
     started = time.monotonic()
     passed, failed, seconds = run_gate()
     tell_times(seconds, started)
