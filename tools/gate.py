@@ -10,6 +10,7 @@ the exit status is 0 where nothing failed.
 It reads the repository, and writes nothing but what `rt ci` itself writes.
 """
 import collections
+import itertools
 import os
 import pathlib
 import re
@@ -22,6 +23,7 @@ import time
 
 from check_examples import check
 from play_sessions import play
+from results import tell
 
 TOP = pathlib.Path(__file__).resolve().parent.parent
 PAUSE = 0.5
@@ -110,9 +112,9 @@ def main():
     started = time.monotonic()
     passed, failed, seconds = run_gate()
     tell_times(seconds, started)
-    held, differ = play(TOP / "crates/rs_replay/out/rs_replay", TOP / "examples/sessions")
-    alike, unlike = check()
-    passed, failed = passed + held + alike, failed + differ + unlike
+    sessions = play(TOP / "crates/rs_replay/out/rs_replay", TOP / "examples/sessions")
+    held, differ = tell(itertools.chain(sessions, check()))
+    passed, failed = passed + held, failed + differ
     print(f"{passed} passed, {failed} failed")
     return 1 if failed else 0
 

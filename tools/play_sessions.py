@@ -10,6 +10,8 @@ import pathlib
 import subprocess
 import sys
 
+from results import end, tell
+
 
 def differs(program, folder, name):
     """What is wrong with the session's outcome, or None."""
@@ -29,22 +31,15 @@ def differs(program, folder, name):
 
 
 def play(program, folder, names=()):
-    """Plays the sessions; answers how many came out as written down, and how many didn't."""
-    held = differ = 0
-    for name in names or sorted(it.stem for it in folder.glob("*.trace")):
-        wrong = differs(program, folder, name)
-        if wrong is None:
-            held += 1
-            print(f"session {name}: as written down")
-        else:
-            differ += 1
-            print(f"session {name}: {wrong}")
-    return held, differ
+    """Plays the sessions: each, and what is wrong with it or None."""
+    names = names or sorted(it.stem for it in folder.glob("*.trace"))
+    if not names:
+        yield "sessions", f"none in {folder}"
+    for name in names:
+        yield f"session {name}", differs(program, folder, name)
 
 
 if __name__ == "__main__":
     if len(sys.argv) < 3:
         sys.exit(__doc__)
-    held, differ = play(pathlib.Path(sys.argv[1]).resolve(), pathlib.Path(sys.argv[2]), sys.argv[3:])
-    print(f"{held} passed, {differ} failed")
-    sys.exit(1 if differ or not held else 0)
+    end(*tell(play(pathlib.Path(sys.argv[1]).resolve(), pathlib.Path(sys.argv[2]), sys.argv[3:])))

@@ -1,10 +1,43 @@
-//! The texts of the repository's two examples. They stand here as they stand in `examples/`, which
+//! The texts of the repository's examples. They stand here as they stand in `examples/`, which
 //! `make examples` compares.
 
 use super::*;
 use rs_attrs::{Mode, read};
 use rs_octets::Prefix;
 use std::test::Fail;
+
+const FOUR_MEMBERS: &str =
+    r#"# The four members of the recorded sessions in examples/sessions. The server's OPEN is the shortest
+# that there is; a live exchange sets `multiprotocol = true`, as the other examples do.
+
+as = 64500
+identifier = "192.0.2.1"
+hold = 90
+
+[[client]]
+name = "a"
+as = 64496
+listen = "127.0.0.1:17901"
+peer = "192.0.2.11"
+
+[[client]]
+name = "b"
+as = 64497
+listen = "127.0.0.1:17902"
+peer = "192.0.2.12"
+
+[[client]]
+name = "c"
+as = 64498
+listen = "127.0.0.1:17903"
+peer = "192.0.2.13"
+
+[[client]]
+name = "d"
+as = 64499
+listen = "127.0.0.1:17904"
+peer = "192.0.2.14"
+"#;
 
 const SMALL: &str =
     r#"# A small exchange on loopback: two members, and every route of one goes to the other.
@@ -133,6 +166,27 @@ export = [
     { action = "pass", strip = ["0:64496", "0:64497", "0:64498", "64500:64496", "64500:64497", "64500:64498"] },
 ]
 "#;
+
+#[test]
+fn the_four_members_are_read(rt: HostRuntime) -> Result<(), Fail> {
+    let config = Config::read(rt.alloc(), FOUR_MEMBERS)?;
+    assert_eq!(rt; config.clients(), 4);
+    assert_eq!(rt;
+        (config.server_as(), config.identifier(), config.hold()),
+        (64500, 0xc000_0201, 90)
+    );
+    assert_eq!(rt;
+        (config.extended(), config.refresh(), config.multiprotocol()),
+        (false, false, false)
+    );
+    assert_eq!(rt; (config.name(0), config.client_as(0)), ("a", 64496));
+    assert_eq!(rt; (config.name(1), config.client_as(1)), ("b", 64497));
+    assert_eq!(rt; (config.name(2), config.client_as(2)), ("c", 64498));
+    assert_eq!(rt; (config.name(3), config.client_as(3)), ("d", 64499));
+    assert_eq!(rt; config.listen(3), (0x7f00_0001, 17904));
+    assert_eq!(rt; config.peer(3), 0xc000_020e);
+    Ok(())
+}
 
 #[test]
 fn the_small_example_is_read(rt: HostRuntime) -> Result<(), Fail> {
