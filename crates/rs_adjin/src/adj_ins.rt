@@ -1,10 +1,9 @@
 //! The Adj-RIBs-In of all clients.
-#![tactic(auto, unfolding(crate::specs::AdjIns::client_count, crate::specs::AdjIns::identifier_of, crate::specs::AdjIns::held_of))]
+#![tactic(auto, unfolding(crate::specs::AdjIns::client_count, crate::specs::AdjIns::identifier_of, crate::specs::AdjIns::held_of, crate::specs::AdjIns::number_of, crate::specs::AdjIns::prefix_of))]
 
-ghost use Rattle.std.specs.Prelude.{◌≡◌, ◌≢◌, ◌<◌, ℕ, Some, None, ◌↔◌, length, slice_get, is_some, IsSome, IfOk, OnOk, OnErr, All, Contains};
+ghost use Rattle.std.specs.Prelude.{◌≡◌, false, IsTrue, ◌≢◌, ◌<◌, ℕ, Some, None, ◌↔◌, length, slice_get, is_some, IsSome, IfOk, OnOk, OnErr, All, Contains};
 ghost use Rattle.std.specs.List.{AllPairs};
 ghost use Rattle.std.specs.List.Sorted.{IsStrictlySortedBy};
-ghost use Rattle.std.specs.Global.{Vec};
 ghost use Rattle.std.specs.Map.{keys_of};
 ghost use Rattle.std.specs.Map.Iter.{ShowsInOrder, deref, deref_pair};
 ghost use Rattle.std.specs.Arc.{arc_value};
@@ -16,14 +15,15 @@ ghost use Rattle.rs_adjin.specs.Mandatory.{HasMandatory, AllHaveMandatory};
 ghost use Rattle.rs_adjin.specs.Listing.{Counts};
 
 use crate::candidates::Candidates;
+use crate::numbers::Numbered;
 use crate::routes::Route;
 use crate::table::{clear_in, count_in, put_in, withdraw_in};
 use rs_attrs::Attrs;
 use rs_octets::Prefix;
 use std::alloc::{AllocError, Global};
-use std::collections::btree_map::Iter as Routes;
+use std::collections::BTreeSet;
+use std::collections::btree_map::Iter as Numbers;
 use std::collections::btree_set::Iter;
-use std::collections::{BTreeMap, BTreeSet};
 use std::sync::Arc;
 
 /// What each client announced, by prefix, with the prefixes of each client beside it.
@@ -32,7 +32,7 @@ pub struct AdjIns {
     alloc: Global,
     identifiers: Vec<u32>,
     held: Vec<BTreeSet<Prefix>>,
-    table: BTreeMap<Prefix, Vec<Route>>,
+    table: Numbered,
     ghost sets: { length held.items ≡ length identifiers.items },
     ghost whole: { IsTable table },
     ghost known: { IsOfClients (length identifiers.items) table },
@@ -41,7 +41,7 @@ pub struct AdjIns {
 }
 
 impl AdjIns {
-    ghost use Rattle.rs_adjin.specs.AdjIns.{client_count, identifier_of, held_of, Sets, Clears, Begins, Same, ListsRoutes, WouldHold, candidates_of};
+    ghost use Rattle.rs_adjin.specs.AdjIns.{client_count, identifier_of, held_of, Sets, Clears, Begins, Same, ListsRoutes, WouldHold, candidates_of, number_of, prefix_of, KeepsNumbers, SameNumbers, GivesUp};
 
     /// Empty tables for so many clients.
     pub fn new(alloc: Global, clients: usize) -> Result<AdjIns, AllocError>
@@ -58,7 +58,7 @@ impl AdjIns {
             alloc,
             identifiers,
             held,
-            table: BTreeMap::new(alloc),
+            table: Numbered::new(alloc),
         })
     }
 
@@ -79,7 +79,8 @@ impl AdjIns {
     /// A session of the client begins, with the BGP Identifier of its OPEN and an empty table.
     pub fn begin(&mut self, client: usize, identifier: u32)
         requires { client < client_count self.old }
-        ensures { Begins self.old self.new client identifier }
+        ensures begins { Begins self.old self.new client identifier }
+        ensures numbers { SameNumbers self.old self.new }
     {
         self.clear(client);
         self.identifiers[client] = identifier;
@@ -98,6 +99,8 @@ impl AdjIns {
         ensures ok { OnOk result (Sets self.old self.new client prefix (Some (arc_value attrs.now))) }
         ensures changed { IfOk result (λ changed. TellsChange changed (held_of self.old client prefix) (Some (arc_value attrs.now))) }
         ensures err { OnErr result (Same self.old self.new) }
+        ensures numbers { KeepsNumbers self.old self.new }
+        ensures numbered { OnOk result (IsSome (number_of self.new prefix)) }
     {
         let held = &mut self.held[client];
         put_in(self.alloc, &mut self.table, held, client, prefix, attrs)
@@ -108,8 +111,9 @@ impl AdjIns {
         requires { client < client_count self.old }
         ensures taken { result ≡ is_some (held_of self.old client prefix) }
         ensures withdrawn { Sets self.old self.new client prefix None }
+        ensures numbers { SameNumbers self.old self.new }
     {
-        if !withdraw_in(&mut self.table, client, &prefix) {
+        if !withdraw_in(&mut self.table, client, prefix) {
             return false;
         }
         self.held[client].remove(&prefix);
@@ -119,7 +123,8 @@ impl AdjIns {
     /// The client's routes go, and its identifier stays.
     pub fn clear(&mut self, client: usize)
         requires { client < client_count self.old }
-        ensures { Clears self.old self.new client }
+        ensures cleared { Clears self.old self.new client }
+        ensures numbers { SameNumbers self.old self.new }
     {
         clear_in(&mut self.table, &mut self.held[client], client);
     }
@@ -152,8 +157,8 @@ impl AdjIns {
     pub fn at(&self, prefix: Prefix) -> &[Route]
         ensures { ListsRoutes self.now prefix result.now }
     {
-        match self.table.get(&prefix) {
-            Some(routes) => routes,
+        match self.table.number(prefix) {
+            Some(number) => self.table.routes(number),
             None => &[],
         }
     }
@@ -166,14 +171,53 @@ impl AdjIns {
         Candidates::new(self.at(prefix), &self.identifiers)
     }
 
-    /// Each prefix that any client holds, rising, with the routes for it.
-    pub fn iter(&self) -> Routes<'_, Prefix, Vec<Route>>
+    /// The number of a prefix. A prefix that a client has a route for has one, and it keeps it until
+    /// it is given up.
+    pub fn number(&self, prefix: Prefix) -> Option<u32>
+        ensures number { result ≡ number_of self.now prefix }
+        ensures inverse { (p : Prefix) (n : ℕ) → number_of self.now p ≡ Some n ↔ prefix_of self.now n ≡ Some p }
+    {
+        self.table.number(prefix)
+    }
+
+    /// The prefix of a number.
+    pub fn prefix(&self, number: u32) -> Option<Prefix>
+        ensures { result ≡ prefix_of self.now number }
+    {
+        self.table.prefix(number)
+    }
+
+    /// One more than the greatest number that there was.
+    pub fn numbers(&self) -> usize
+        ensures { (p : Prefix) (n : ℕ) → number_of self.now p ≡ Some n → n < result }
+    {
+        self.table.count()
+    }
+
+    /// The routes for the prefix of a number, by rising client.
+    pub fn at_number(&self, number: u32) -> &[Route]
+        ensures { (p : Prefix) → number_of self.now p ≡ Some number → ListsRoutes self.now p result.now }
+    {
+        self.table.routes(number)
+    }
+
+    /// Each prefix that has a number, rising, with it: each that any client holds is among them.
+    pub fn iter(&self) -> Numbers<'_, Prefix, u32>
         ensures rising { IsStrictlySortedBy prefix_order (keys_of result) }
-        ensures routes { All (λ e. ListsRoutes self.now e.0 e.1.items) result }
-        ensures filled { All (λ e. 0 < length e.1.items) result }
+        ensures numbers { All (λ e. number_of self.now e.0 ≡ Some e.1) result }
         ensures all { (c : ℕ) (p : Prefix) → IsSome (held_of self.now c p) → Contains (keys_of result) p }
-        ensures runs { ShowsInOrder (deref_pair {K = Prefix} {X = Vec Route}) }
+        ensures runs { ShowsInOrder (deref_pair {K = Prefix} {X = ℕ}) }
     {
         self.table.iter()
+    }
+
+    /// Gives up a number, if no client has a route for its prefix, and answers whether it did.
+    pub fn release(&mut self, number: u32) -> bool
+        ensures released { IsTrue result → prefix_of self.new number ≡ None }
+        ensures kept { result ≡ false → SameNumbers self.old self.new }
+        ensures numbers { GivesUp self.old self.new number }
+        ensures same { Same self.old self.new }
+    {
+        self.table.release(number)
     }
 }

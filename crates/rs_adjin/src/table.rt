@@ -1,19 +1,20 @@
 //! The routes of all clients, by prefix, and the prefixes that one client holds.
 
-ghost use Rattle.std.specs.Prelude.{◌≡◌, ◌<◌, ◌≤◌, true, false, Some, None, length, is_some, IfOk, OnOk, OnErr};
+ghost use Rattle.std.specs.Prelude.{◌≡◌, ◌<◌, ◌≤◌, true, false, Some, None, length, is_some, IsSome, IfOk, OnOk, OnErr};
 ghost use Rattle.std.specs.List.{count_by};
 ghost use Rattle.std.specs.Arc.{arc_value};
-ghost use Rattle.std.specs.BTreeMap.{get};
 ghost use Rattle.std.specs.BTreeSet.{contains};
 ghost use Rattle.rs_octets.specs.Prefixes.{prefix_order};
 ghost use Rattle.rs_adjin.specs.Routes.{value_in, IsRising, KeepsRoutes, SameRoutes, Changes, BelongsAt};
-ghost use Rattle.rs_adjin.specs.Table.{routes_at, IsTable, KeepsTable, Writes, IsSame, Clears, Marks, SameSet, TellsChange, IsHeldBy};
+ghost use Rattle.rs_adjin.specs.Numbers.{number_in, routes_at, KeepsNumbers, SameNumbers};
+ghost use Rattle.rs_adjin.specs.Table.{IsTable, KeepsTable, Writes, IsSame, Clears, Marks, SameSet, TellsChange, IsHeldBy};
 
+use crate::numbers::Numbered;
 use crate::routes::{Route, place_of, replace};
 use rs_attrs::Attrs;
 use rs_octets::Prefix;
 use std::alloc::{AllocError, Global};
-use std::collections::{BTreeMap, BTreeSet};
+use std::collections::BTreeSet;
 use std::sync::Arc;
 
 /// Puts a client's first route for a prefix among those of others.
@@ -71,38 +72,38 @@ fn put_among(
     }
 }
 
-/// Gives a client the only route for a prefix.
-fn put_first(
-    alloc: Global,
-    table: &mut BTreeMap<Prefix, Vec<Route>>,
+/// Gives a client a route in the row of its prefix, and answers whether that changes what it has.
+fn put_row(
+    table: &mut Numbered,
+    number: u32,
     held: &mut BTreeSet<Prefix>,
     client: usize,
     prefix: Prefix,
     attrs: &Arc<Attrs>,
-) -> Result<(), AllocError>
+) -> Result<bool, AllocError>
     requires table { IsTable table.old }
-    requires absent { get prefix_order table.old prefix ≡ None }
     requires tied { IsHeldBy client held.old table.old }
+    requires number { number_in table.old prefix ≡ Some number }
     ensures kept { KeepsTable table.old table.new client }
     ensures ok { OnOk result (Writes table.old table.new client prefix (Some (arc_value attrs.now))) }
+    ensures changed { IfOk result (λ changed. TellsChange changed (value_in client (routes_at table.old prefix)) (Some (arc_value attrs.now))) }
     ensures tied { IsHeldBy client held.new table.new }
     ensures err { OnErr result (IsSame table.old table.new) }
+    ensures numbers { SameNumbers table.old table.new }
 {
-    let attrs = attrs.clone()?;
-    let mut routes = Vec::with_capacity(alloc, 1)?;
-    routes.push(Route { client, attrs })?;
-    held.insert(prefix)?;
-    let Ok(_) = table.insert(prefix, routes) else {
-        held.remove(&prefix);
-        return Err(AllocError);
-    };
-    Ok(())
+    put_among(
+        &mut table.rows[number as usize].routes,
+        held,
+        client,
+        prefix,
+        attrs,
+    )
 }
 
 /// Gives a client a route, and answers whether that changes what it has.
 pub(crate) fn put_in(
     alloc: Global,
-    table: &mut BTreeMap<Prefix, Vec<Route>>,
+    table: &mut Numbered,
     held: &mut BTreeSet<Prefix>,
     client: usize,
     prefix: Prefix,
@@ -115,12 +116,11 @@ pub(crate) fn put_in(
     ensures changed { IfOk result (λ changed. TellsChange changed (value_in client (routes_at table.old prefix)) (Some (arc_value attrs.now))) }
     ensures tied { IsHeldBy client held.new table.new }
     ensures err { OnErr result (IsSame table.old table.new) }
+    ensures numbers { KeepsNumbers table.old table.new }
+    ensures numbered { OnOk result (IsSome (number_in table.new prefix)) }
 {
-    if let Some(routes) = table.get_mut(&prefix) {
-        return put_among(routes, held, client, prefix, attrs);
-    }
-    put_first(alloc, table, held, client, prefix, attrs)?;
-    Ok(true)
+    let number = table.add(alloc, prefix)?;
+    put_row(table, number, held, client, prefix, attrs)
 }
 
 /// Takes a client's route from those for a prefix, and answers whether there was one.
@@ -140,44 +140,43 @@ fn take_from(routes: &mut Vec<Route>, client: usize) -> bool
     }
 }
 
+/// Takes a client's route from the row of its prefix, and answers whether there was one.
+fn take_row(table: &mut Numbered, number: u32, client: usize, prefix: Prefix) -> bool
+    requires table { IsTable table.old }
+    requires number { number_in table.old prefix ≡ Some number }
+    ensures kept { KeepsTable table.old table.new client }
+    ensures taken { result ≡ is_some (value_in client (routes_at table.old prefix)) }
+    ensures writes { Writes table.old table.new client prefix None }
+    ensures numbers { SameNumbers table.old table.new }
+{
+    take_from(&mut table.rows[number as usize].routes, client)
+}
+
 /// Takes a client's route, and answers whether there was one.
-pub(crate) fn withdraw_in(
-    table: &mut BTreeMap<Prefix, Vec<Route>>,
-    client: usize,
-    prefix: &Prefix,
-) -> bool
+pub(crate) fn withdraw_in(table: &mut Numbered, client: usize, prefix: Prefix) -> bool
     requires { IsTable table.old }
     ensures kept { KeepsTable table.old table.new client }
-    ensures taken { result ≡ is_some (value_in client (routes_at table.old prefix.now)) }
-    ensures writes { Writes table.old table.new client prefix.now None }
+    ensures taken { result ≡ is_some (value_in client (routes_at table.old prefix)) }
+    ensures writes { Writes table.old table.new client prefix None }
+    ensures numbers { SameNumbers table.old table.new }
 {
-    let Some(routes) = table.get_mut(prefix) else {
+    let Some(number) = table.number(prefix) else {
         return false;
     };
-    if !take_from(routes, client) {
-        return false;
-    }
-    if !routes.is_empty() {
-        return true;
-    }
-    table.remove(prefix);
-    true
+    take_row(table, number, client, prefix)
 }
 
 /// Takes all routes of a client, which holds these prefixes.
-pub(crate) fn clear_in(
-    table: &mut BTreeMap<Prefix, Vec<Route>>,
-    held: &mut BTreeSet<Prefix>,
-    client: usize,
-)
+pub(crate) fn clear_in(table: &mut Numbered, held: &mut BTreeSet<Prefix>, client: usize)
     requires table { IsTable table.old }
     requires tied { IsHeldBy client held.old table.old }
     ensures kept { KeepsTable table.old table.new client }
     ensures tied { IsHeldBy client held.new table.new }
     ensures cleared { Clears table.old table.new client }
+    ensures numbers { SameNumbers table.old table.new }
 {
     while let Some(prefix) = held.pop_first() {
-        withdraw_in(table, client, &prefix);
+        withdraw_in(table, client, prefix);
     }
 }
 
