@@ -3,21 +3,21 @@ use Rattle.std.proofs.Common.{◌≡◌, List, [], ◌∷◌, ◌++◌, Option, 
 use Rattle.std.proofs.lemmas.List.{append-nil}
 use Rattle.std.specs.Result.{IsErrAnd}
 use Rattle.toml.specs.Data.{Data}
-use Rattle.rs_policy.specs.Values.{answer, or_fault, first_fault, fault_in, each_from, checks_from}
+use Rattle.rs_policy.specs.Values.{answer, or_fault, first_failing, fault_in, each_from, checks_from}
 use Rattle.rs_policy.specs.declared.faults.ConfigFault.{ConfigFault}
 use Rattle.rs_policy.specs.declared.faults.ConfigFault.TheVariants.{OutOfMemory}
 
 -- the first checks pass
-pub first_fault-append-none : (xs ys : List (Option ConfigFault)) → first_fault xs ≡ None → first_fault (xs ++ ys) ≡ first_fault ys
-first_fault-append-none [] ys none = refl
-first_fault-append-none (None ∷ xs) ys none = first_fault-append-none xs ys none
-first_fault-append-none (Some f ∷ xs) ys none = cc
+pub first_failing-append-none : (xs ys : List (Option ConfigFault)) → first_failing xs ≡ None → first_failing (xs ++ ys) ≡ first_failing ys
+first_failing-append-none [] ys none = refl
+first_failing-append-none (None ∷ xs) ys none = first_failing-append-none xs ys none
+first_failing-append-none (Some f ∷ xs) ys none = cc
 
 -- one of the first checks fails
-pub first_fault-append-some : (f : ConfigFault) (xs ys : List (Option ConfigFault)) → first_fault xs ≡ Some f → first_fault (xs ++ ys) ≡ Some f
-first_fault-append-some f [] ys some = cc
-first_fault-append-some f (None ∷ xs) ys some = first_fault-append-some f xs ys some
-first_fault-append-some f (Some g ∷ xs) ys some = some
+pub first_failing-append-some : (f : ConfigFault) (xs ys : List (Option ConfigFault)) → first_failing xs ≡ Some f → first_failing (xs ++ ys) ≡ Some f
+first_failing-append-some f [] ys some = cc
+first_failing-append-some f (None ∷ xs) ys some = first_failing-append-some f xs ys some
+first_failing-append-some f (Some g ∷ xs) ys some = some
 
 none_of_ok : {A : Type 0} (a v : A) (o : Option ConfigFault) → or_fault a o ≡ Ok v → o ≡ None
 none_of_ok a v None e = refl
@@ -34,17 +34,17 @@ value_of_ok a v (Some f) e = cc
 -- what is answered where no check fails
 pub answer-value : {A : Type 0} (xs : List (Option ConfigFault)) (a v : A) → answer xs a ≡ Ok v → a ≡ v
 unfolding answer
-answer-value xs a v e = value_of_ok a v (first_fault xs) e
+answer-value xs a v e = value_of_ok a v (first_failing xs) e
 
 -- checks behind others that pass
 pub answer-append-ok : {A B : Type 0} (xs ys : List (Option ConfigFault)) (a v : A) (b : B) → answer xs a ≡ Ok v → answer (xs ++ ys) b ≡ answer ys b
 unfolding answer
-answer-append-ok xs ys a v b e = ap (or_fault b) (first_fault-append-none xs ys (none_of_ok a v (first_fault xs) e))
+answer-append-ok xs ys a v b e = ap (or_fault b) (first_failing-append-none xs ys (none_of_ok a v (first_failing xs) e))
 
 -- a fault before other checks
 pub answer-append-err : {A B : Type 0} (xs ys : List (Option ConfigFault)) (a : A) (b : B) (f : ConfigFault) → answer xs a ≡ Err f → answer (xs ++ ys) b ≡ Err f
 unfolding answer
-answer-append-err xs ys a b f e = ap (or_fault b) (first_fault-append-some f xs ys (some_of_err a f (first_fault xs) e))
+answer-append-err xs ys a b f e = ap (or_fault b) (first_failing-append-some f xs ys (some_of_err a f (first_failing xs) e))
 
 -- the same from what a call answered
 
@@ -108,8 +108,8 @@ err_for a b f (Some g) e = cc
 -- the same checks with another value
 pub answer-ok_for : {A B : Type 0} (xs : List (Option ConfigFault)) (a v : A) (b : B) → answer xs a ≡ Ok v → answer xs b ≡ Ok b
 unfolding answer
-answer-ok_for xs a v b e = ok_for a v b (first_fault xs) e
+answer-ok_for xs a v b e = ok_for a v b (first_failing xs) e
 
 pub answer-err_for : {A B : Type 0} (xs : List (Option ConfigFault)) (a : A) (b : B) (f : ConfigFault) → answer xs a ≡ Err f → answer xs b ≡ Err f
 unfolding answer
-answer-err_for xs a b f e = err_for a b f (first_fault xs) e
+answer-err_for xs a b f e = err_for a b f (first_failing xs) e

@@ -1,7 +1,7 @@
 -- Clients of two configurations, side by side.
 use Rattle.std.proofs.Common.{◌≡◌, ℕ, ◌+◌, ◌<◌, ◌≤◌, List, None, length, get_or, drop, eq-eqb}
 use Rattle.std.proofs.lemmas.List.{drop_more, drop_all}
-use Rattle.rs_policy.specs.Settings.{Client}
+use Rattle.rs_policy.specs.Configuration.{Client}
 use Rattle.rs_policy.specs.Documents.{client_place}
 use Rattle.rs_policy.specs.Replacing.{other_in_client, other_in_clients, other_in_all, place_or}
 

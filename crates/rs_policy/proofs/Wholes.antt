@@ -8,8 +8,8 @@ use Rattle.toml.proofs.Views.{view-Table}
 use Rattle.std.proofs.Math.Seq.{take-append_seam}
 use Rattle.rs_policy.specs.Keys.{top_keys}
 use Rattle.rs_policy.specs.Values.{answer, stranger}
-use Rattle.rs_policy.specs.Settings.{Client, Policy}
-use Rattle.rs_policy.specs.Documents.{top_checks, top_of, the_top, clients_at, clients_checks, clients_from, rules_at, rules_checks, rules_from, list_checks, list_of_rules, policies_checks, policies_from, document_checks, settings_of, config_of}
+use Rattle.rs_policy.specs.Configuration.{Client, Policy}
+use Rattle.rs_policy.specs.Documents.{top_checks, top_of, the_top, clients_at, clients_checks, clients_from, rules_at, rules_checks, rules_from, list_checks, list_of_rules, policies_checks, policies_from, document_checks, configuration_of, config_of}
 use Rattle.rs_policy.specs.declared.faults.List.{List as RuleList}
 use Rattle.rs_policy.specs.declared.top.Top.{Top}
 use Rattle.rs_policy.proofs.Checks.{passes, passes_one, answer-value, answer-append-ok, answer-ok_for}
@@ -26,7 +26,7 @@ pub list_passes : (clients : List Client) (n : ℕ) (list : RuleList) (d : Data)
 unfolding answer
 list_passes clients n list d ds e = rw (← e)
 
-pub config_of_document : (text : List ℕ) (t : BTreeMap (String Global) Value) → parse_document text ≡ Some (table_view t) → config_of text ≡ answer (document_checks (view (Table t))) (settings_of (view (Table t)))
+pub config_of_document : (text : List ℕ) (t : BTreeMap (String Global) Value) → parse_document text ≡ Some (table_view t) → config_of text ≡ answer (document_checks (view (Table t))) (configuration_of (view (Table t)))
 unfolding config_of
 config_of_document text t e = rw (e, view-Table t)
 
@@ -51,11 +51,11 @@ clients_pass d top ds cs a first tables known second =
 -- everything passes
 pub document_passes : (d : Data) (top : Top) (ds : List Data) (cs : List Client) (ps : List Policy) → Ok top ≡ answer (top_checks d) (top_of d) → Ok ds ≡ clients_at d → Ok tt ≡ stranger top_keys the_top d
     → answer (clients_checks ds) (clients_from ds) ≡ Ok cs → answer (policies_checks cs ds) (policies_from cs ds) ≡ Ok ps
-    → answer (document_checks d) (settings_of d) ≡ Ok (record { top = top; clients = cs; policies = ps })
+    → answer (document_checks d) (configuration_of d) ≡ Ok (record { top = top; clients = cs; policies = ps })
 document_passes d top ds cs ps first tables known second third =
     let a : top_of d ≡ top = answer-value (top_checks d) (top_of d) top (sym first) in
     let b : clients_from ds ≡ cs = answer-value (clients_checks ds) (clients_from ds) cs second in
     let p : policies_from cs ds ≡ ps = answer-value (policies_checks cs ds) (policies_from cs ds) ps third in
-    clients_pass d top ds cs (settings_of d) first tables known second
-    ∙ answer-ok_for (policies_checks cs ds) (policies_from cs ds) ps (settings_of d) third
+    clients_pass d top ds cs (configuration_of d) first tables known second
+    ∙ answer-ok_for (policies_checks cs ds) (policies_from cs ds) ps (configuration_of d) third
     ∙ rw (← tables, a, b, p)

@@ -1,13 +1,13 @@
 -- What the text of a configuration means: the first check that fails, in order, each over the document's table alone,
--- or the settings where none fails.
+-- or the configuration where none fails.
 use Rattle.std.specs.Prelude.{ℕ, ◌-◌, take, ◌==◌, ◌&&◌, ◌||◌, Bool, false, List, [], ◌∷◌, ◌++◌, bytes_eq, Option, Some, None, Result, Ok, Err, if◌then◌else◌}
 use Rattle.std.specs.List.{list_any}
 use Rattle.toml.specs.Data.{Data, Members, table, as_bool}
 use Rattle.toml.specs.Parse.{parse_document}
 use Rattle.rs_policy.specs.Keys.{top_keys, client_keys}
 use Rattle.rs_policy.specs.Texts.{endpoint_of}
-use Rattle.rs_policy.specs.Values.{text_as, positive, hold_time, address, identifier, choice_of, name_of, required_at, optional_at, maybe_at, tables_at, some_tables_at, fault_in, value_in, stranger, answer, each_from, checks_from}
-use Rattle.rs_policy.specs.Settings.{Client, Policy, Settings}
+use Rattle.rs_policy.specs.Values.{text_as, positive, hold_seconds, address, identifier, choice_of, name_of, required_at, optional_at, maybe_at, tables_at, some_tables_at, fault_in, value_or, stranger, answer, each_from, checks_from}
+use Rattle.rs_policy.specs.Configuration.{Client, Policy, Configuration}
 use Rattle.rs_policy.specs.Rules.{rule_checks, rule_of}
 use Rattle.rs_policy.specs.declared.faults.Key.{Key}
 use Rattle.rs_policy.specs.declared.faults.Key.TheVariants as K
@@ -33,7 +33,7 @@ abbrev pub identifier_at : Data → Result ℕ ConfigFault
 identifier_at = required_at identifier the_top K.Identifier
 
 abbrev pub hold_at : Data → Result ℕ ConfigFault
-hold_at = optional_at hold_time 90 the_top K.Hold
+hold_at = optional_at hold_seconds 90 the_top K.Hold
 
 abbrev pub default_at : Data → Result Choice ConfigFault
 default_at = optional_at (text_as choice_of) Pass the_top K.Default
@@ -46,13 +46,13 @@ clients_at = some_tables_at 512 the_top K.Client
 
 unfoldable pub top_of : Data → Top
 top_of d = record {
-  server_as = value_in 0 (server_as_at d);
-  identifier = value_in 0 (identifier_at d);
-  hold = value_in 0 (hold_at d);
-  default = value_in Pass (default_at d);
-  extended = value_in false (flag_at K.Extended d);
-  refresh = value_in false (flag_at K.Refresh d);
-  multiprotocol = value_in false (flag_at K.Multiprotocol d);
+  server_as = value_or 0 (server_as_at d);
+  identifier = value_or 0 (identifier_at d);
+  hold = value_or 0 (hold_at d);
+  default = value_or Pass (default_at d);
+  extended = value_or false (flag_at K.Extended d);
+  refresh = value_or false (flag_at K.Refresh d);
+  multiprotocol = value_or false (flag_at K.Multiprotocol d);
 }
 
 unfoldable pub top_checks : Data → List (Option ConfigFault)
@@ -88,11 +88,11 @@ limit_at n d = maybe_at positive (client_place n) K.Limit d
 
 unfoldable pub client_from : ℕ → Data → Client
 client_from n d = record {
-  name = value_in [] (name_at n d);
-  client_as = value_in 0 (client_as_at n d);
-  listen = value_in (0, 0) (listen_at n d);
-  peer = value_in 0 (peer_at n d);
-  limit = value_in None (limit_at n d);
+  name = value_or [] (name_at n d);
+  client_as = value_or 0 (client_as_at n d);
+  listen = value_or (0, 0) (listen_at n d);
+  peer = value_or 0 (peer_at n d);
+  limit = value_or None (limit_at n d);
 }
 
 abbrev pub clients_from : List Data → List Client
@@ -139,10 +139,10 @@ abbrev pub rules_checks : List Client → ℕ → RuleList → List Data → Lis
 rules_checks clients n list ds = checks_from (λ r d. rule_checks clients (rule_place n list r) d) 1 ds
 
 abbrev pub list_checks : List Client → ℕ → RuleList → Data → List (Option ConfigFault)
-list_checks clients n list d = fault_in (rules_at n list d) ∷ rules_checks clients n list (value_in [] (rules_at n list d))
+list_checks clients n list d = fault_in (rules_at n list d) ∷ rules_checks clients n list (value_or [] (rules_at n list d))
 
 abbrev pub list_of_rules : List Client → ℕ → RuleList → Data → List Rule
-list_of_rules clients n list d = rules_from clients n list (value_in [] (rules_at n list d))
+list_of_rules clients n list d = rules_from clients n list (value_or [] (rules_at n list d))
 
 abbrev pub policy_from : List Client → ℕ → Data → Policy
 policy_from clients n d = record { import = list_of_rules clients n Import d; export = list_of_rules clients n Export d }
@@ -159,7 +159,7 @@ policies_checks clients ds = checks_from (policy_checks clients) 1 ds
 -- the document
 
 abbrev pub client_tables : Data → List Data
-client_tables d = value_in [] (clients_at d)
+client_tables d = value_or [] (clients_at d)
 
 abbrev pub document_checks : Data → List (Option ConfigFault)
 document_checks d =
@@ -169,16 +169,16 @@ document_checks d =
     ∷ fault_in (stranger top_keys the_top d)
     ∷ (clients_checks tables ++ policies_checks (clients_from tables) tables)
 
-abbrev pub settings_of : Data → Settings
-settings_of d =
+abbrev pub configuration_of : Data → Configuration
+configuration_of d =
     let tables = client_tables d in
     let clients = clients_from tables in
     record { top = top_of d; clients = clients; policies = policies_from clients tables }
 
-abbrev pub config_from : Option Members → Result Settings ConfigFault
+abbrev pub config_from : Option Members → Result Configuration ConfigFault
 config_from None = Err Syntax
-config_from (Some t) = answer (document_checks (table t)) (settings_of (table t))
+config_from (Some t) = answer (document_checks (table t)) (configuration_of (table t))
 
--- the settings of a text, or its first fault
-unfoldable pub config_of : List ℕ → Result Settings ConfigFault
+-- the configuration of a text, or its first fault
+unfoldable pub config_of : List ℕ → Result Configuration ConfigFault
 config_of text = config_from (parse_document text)

@@ -1,3 +1,4 @@
+pub mod Configuration
 pub mod Documents
 pub mod FaultTexts
 pub mod Judged
@@ -5,7 +6,6 @@ pub mod Keys
 pub mod Replacing
 pub mod Rules
 pub mod Seen
-pub mod Settings
 pub mod Texts
 pub mod Values
 pub mod Verdicts

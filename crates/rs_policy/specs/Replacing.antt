@@ -2,7 +2,7 @@
 use Rattle.std.specs.Prelude.{◌≡◌, ◌≢◌, ℕ, ◌+◌, ◌==◌, ◌&&◌, Bool, not, List, [], ◌∷◌, length, bytes_eq, Option, Some, None, Ok, Err, if◌then◌else◌}
 use Rattle.std.specs.Str.{IsUtf8}
 use Rattle.rs_policy.specs.Values.{keyed}
-use Rattle.rs_policy.specs.Settings.{Client, Settings}
+use Rattle.rs_policy.specs.Configuration.{Client, Configuration}
 use Rattle.rs_policy.specs.Documents.{the_top, client_place, config_of}
 use Rattle.rs_policy.specs.declared.faults.Key.{Key}
 use Rattle.rs_policy.specs.declared.faults.Key.TheVariants as K
@@ -51,17 +51,17 @@ abbrev pub other_in_all : List Client → List Client → Option Place
 other_in_all a b = if length a == length b then other_in_clients 1 a b else Some (keyed the_top K.Client)
 
 -- the first place that can't change and does
-unfoldable pub first_fixed : Settings → Settings → Option Place
+unfoldable pub first_fixed : Configuration → Configuration → Option Place
 first_fixed a b = place_or the_top (other_in_top a.top b.top) (other_in_all a.clients b.clients)
 
 -- what octets are that replace a configuration
-pub record Replaces (s : Settings) (octets : List ℕ) (new : Settings) : Type 0 where
+pub record Replaces (s : Configuration) (octets : List ℕ) (new : Configuration) : Type 0 where
   pub readable : IsUtf8 octets
   pub config : config_of octets ≡ Ok new
   pub fixed : first_fixed s new ≡ None
 
 -- why octets replace no configuration; want of memory may come before any cause
-abbrev pub Refuses : Settings → List ℕ → RulesFault → Type 0
+abbrev pub Refuses : Configuration → List ℕ → RulesFault → Type 0
 Refuses s octets Unreadable = IsUtf8 octets → ⊥
 Refuses s octets (Config f) = f ≢ OutOfMemory → IsUtf8 octets × (config_of octets ≡ Err f)
-Refuses s octets (Fixed p) = (new : Settings) × (IsUtf8 octets × ((config_of octets ≡ Ok new) × (first_fixed s new ≡ Some p)))
+Refuses s octets (Fixed p) = (new : Configuration) × (IsUtf8 octets × ((config_of octets ≡ Ok new) × (first_fixed s new ≡ Some p)))

@@ -4,8 +4,8 @@ use Rattle.toml.specs.Data.{Data, as_array, as_str, as_bool, get}
 use Rattle.rs_octets.specs.Prefixes.{Prefix}
 use Rattle.rs_policy.specs.Keys.{key_text, rule_keys}
 use Rattle.rs_policy.specs.Texts.{prefix_of, community_of}
-use Rattle.rs_policy.specs.Values.{text_as, integer_in, positive, nothing, choice_of, keyed, list_of, read_or_bad, required_at, optional_at, maybe_at, fault_in, value_in, stranger}
-use Rattle.rs_policy.specs.Settings.{Client}
+use Rattle.rs_policy.specs.Values.{text_as, integer_in, positive, nothing, choice_of, keyed, list_of, read_or_bad, required_at, optional_at, maybe_at, fault_in, value_or, stranger}
+use Rattle.rs_policy.specs.Configuration.{Client}
 use Rattle.rs_policy.specs.declared.faults.Key.TheVariants as K
 use Rattle.rs_policy.specs.declared.faults.Place.{Place}
 use Rattle.rs_policy.specs.declared.faults.ConfigFault.{ConfigFault}
@@ -44,13 +44,13 @@ range_with None min max = None
 range_with (Some p) min max = Some (record { prefix = p; min = min; max = max })
 
 abbrev pub prefix_in : Place → Data → Option Prefix
-prefix_in place d = value_in None (prefix_at place d)
+prefix_in place d = value_or None (prefix_at place d)
 
 abbrev pub min_in : Place → Data → ℕ
-min_in place d = value_in 0 (min_at (prefix_in place d) place d)
+min_in place d = value_or 0 (min_at (prefix_in place d) place d)
 
 abbrev pub max_in : Place → Data → ℕ
-max_in place d = value_in 0 (max_at (prefix_in place d) (min_in place d) place d)
+max_in place d = value_or 0 (max_at (prefix_in place d) (min_in place d) place d)
 
 unfoldable pub range_checks : Place → Data → List (Option ConfigFault)
 range_checks place d =
@@ -125,7 +125,7 @@ unfoldable pub strip_at : Choice → Place → Data → Result Stripping ConfigF
 strip_at choice place d = strip_found choice (keyed place K.Strip) (get (key_text K.Strip) d)
 
 abbrev pub choice_in : Place → Data → Choice
-choice_in place d = value_in C.Drop (choice_at place d)
+choice_in place d = value_or C.Drop (choice_at place d)
 
 unfoldable pub action_checks : Place → Data → List (Option ConfigFault)
 action_checks place d =
@@ -139,7 +139,7 @@ action_with C.Drop preference strip = A.Drop
 action_with C.Pass preference strip = A.Pass preference strip
 
 unfoldable pub action_of : Place → Data → Action
-action_of place d = action_with (choice_in place d) (value_in None (preference_at (choice_in place d) place d)) (value_in (Named []) (strip_at (choice_in place d) place d))
+action_of place d = action_with (choice_in place d) (value_or None (preference_at (choice_in place d) place d)) (value_or (Named []) (strip_at (choice_in place d) place d))
 
 -- the rule
 
@@ -157,11 +157,11 @@ rule_checks clients place d = range_checks place d ++ (test_checks clients place
 
 unfoldable pub tests_of : List Client → Place → Data → Tests
 tests_of clients place d = record {
-  from = value_in None (from_at clients place d);
-  path_has = value_in None (path_has_at place d);
-  origin_as = value_in None (origin_as_at place d);
-  community = value_in None (community_at place d);
-  next_hop_is_peer = value_in None (next_hop_is_peer_at place d);
+  from = value_or None (from_at clients place d);
+  path_has = value_or None (path_has_at place d);
+  origin_as = value_or None (origin_as_at place d);
+  community = value_or None (community_at place d);
+  next_hop_is_peer = value_or None (next_hop_is_peer_at place d);
 }
 
 abbrev pub rule_of : List Client → Place → Data → Rule

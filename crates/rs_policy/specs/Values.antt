@@ -25,8 +25,8 @@ abbrev pub positive : Data → Option ℕ
 positive = integer_in 1 4294967295
 
 -- seconds: 0, or from 3 on (RFC 4271, 4.2)
-abbrev pub hold_time : Data → Option ℕ
-hold_time d = option_and_then (λ n. if n == 1 || n == 2 then None else Some n) (integer_in 0 65535 d)
+abbrev pub hold_seconds : Data → Option ℕ
+hold_seconds d = option_and_then (λ n. if n == 1 || n == 2 then None else Some n) (integer_in 0 65535 d)
 
 abbrev pub text_as : {A : Type 0} → (List ℕ → Option A) → Data → Option A
 text_as reads d = option_and_then reads (as_str d)
@@ -129,19 +129,19 @@ fault_in (Ok a) = None
 fault_in (Err f) = Some f
 
 -- what was read, or this where there was a fault
-abbrev pub value_in : {A : Type 0} → A → Result A ConfigFault → A
-value_in other (Ok a) = a
-value_in other (Err f) = other
+abbrev pub value_or : {A : Type 0} → A → Result A ConfigFault → A
+value_or other (Ok a) = a
+value_or other (Err f) = other
 
 -- an unknown key
 abbrev pub stranger : List Key → Place → Data → Result (Unit {0}) ConfigFault
 stranger keys place d = if has_only keys d then Ok tt else Err (BadValue (keyed place K.Other))
 
 -- the first check that fails
-abbrev pub first_fault : List (Option ConfigFault) → Option ConfigFault
-first_fault [] = None
-first_fault (None ∷ rest) = first_fault rest
-first_fault (Some f ∷ rest) = Some f
+abbrev pub first_failing : List (Option ConfigFault) → Option ConfigFault
+first_failing [] = None
+first_failing (None ∷ rest) = first_failing rest
+first_failing (Some f ∷ rest) = Some f
 
 abbrev pub or_fault : {A : Type 0} → A → Option ConfigFault → Result A ConfigFault
 or_fault a None = Ok a
@@ -149,7 +149,7 @@ or_fault a (Some f) = Err f
 
 -- the first fault, or the value where no check fails
 unfoldable pub answer : {A : Type 0} → List (Option ConfigFault) → A → Result A ConfigFault
-answer checks a = or_fault a (first_fault checks)
+answer checks a = or_fault a (first_failing checks)
 
 -- what each of some tables is, counted from n
 unfoldable pub each_from : {A : Type 0} → (ℕ → Data → A) → ℕ → List Data → List A

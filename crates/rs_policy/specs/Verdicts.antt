@@ -3,7 +3,7 @@ use Rattle.std.specs.Prelude.{ℕ, ◌-◌, ◌/◌, ◌^◌, ◌==◌, Bool, tr
 use Rattle.rs_octets.specs.Prefixes.{Prefix}
 use Rattle.rs_attrs.specs.Meaning.{Attribute}
 use Rattle.rs_attrs.specs.Getters.{path_has_of, origin_as_of, has_community, next_hop_of}
-use Rattle.rs_policy.specs.Settings.{Settings, client_of, policy_of}
+use Rattle.rs_policy.specs.Configuration.{Configuration, client_of, policy_of}
 use Rattle.rs_policy.specs.declared.rules.Choice.{Choice}
 use Rattle.rs_policy.specs.declared.rules.Choice.TheVariants as C
 use Rattle.rs_policy.specs.declared.rules.Range.{Range}
@@ -13,7 +13,7 @@ use Rattle.rs_policy.specs.declared.rules.Action.TheVariants as A
 use Rattle.rs_policy.specs.declared.rules.Rule.{Rule}
 
 -- a route as its sender announced it: the sender's place and address, the prefix and the attributes
-pub record Route : Type 0 where
+pub record AnnouncedRoute : Type 0 where
   pub from : ℕ
   pub peer : ℕ
   pub prefix : Prefix
@@ -31,10 +31,10 @@ abbrev pub in_range : Range → Prefix → Bool
 in_range r p = is_within p r.prefix && (nat_le r.min p.len && nat_le p.len r.max)
 
 -- the route's NEXT_HOP is its sender's address
-abbrev pub next_hop_is_peer : Route → Bool
+abbrev pub next_hop_is_peer : AnnouncedRoute → Bool
 next_hop_is_peer r = unwrap_or (option_map (λ a. a == r.peer) (next_hop_of r.attributes)) false
 
-abbrev pub origin_as_is : ℕ → Route → Bool
+abbrev pub origin_as_is : ℕ → AnnouncedRoute → Bool
 origin_as_is n r = unwrap_or (option_map (λ o. o == n) (origin_as_of r.attributes)) false
 
 -- a test that isn't there holds
@@ -43,7 +43,7 @@ holds test None = true
 holds test (Some a) = test a
 
 -- all tests of a rule hold, those that walk the attributes last
-unfoldable pub matches : Rule → Route → Bool
+unfoldable pub matches : Rule → AnnouncedRoute → Bool
 matches rule r =
     holds (λ range. in_range range r.prefix) rule.range
     && (holds (λ c. c == r.from) rule.tests.from
@@ -72,7 +72,7 @@ passing_by default None = passing_by_default default
 passing_by default (Some rule) = passing rule.action
 
 -- the first rule that matches decides, and the default where none does
-unfoldable pub outcome : Choice → List Rule → Route → Option Passing
+unfoldable pub outcome : Choice → List Rule → AnnouncedRoute → Option Passing
 outcome default rules r = passing_by default (find (λ rule. matches rule r) rules)
 
 -- what becomes of a route
@@ -86,11 +86,11 @@ joined (Some import) (Some export) =
     passed (unwrap_or export.preference (unwrap_or import.preference 100)) (import.communities ∷ export.communities ∷ []) (import.all || export.all)
 joined _ _ = dropped
 
-abbrev pub route_of : Settings → ℕ → Prefix → List Attribute → Route
-route_of s from p m = record { from = from; peer = (client_of s from).peer; prefix = p; attributes = m }
+abbrev pub announced_route : Configuration → ℕ → Prefix → List Attribute → AnnouncedRoute
+announced_route s from p m = record { from = from; peer = (client_of s from).peer; prefix = p; attributes = m }
 
 -- by the sender's import list and the receiver's export list, both over the attributes as they were received (RFC 7947, 2.3)
-unfoldable pub verdict : Settings → ℕ → ℕ → Prefix → List Attribute → Judgement
+unfoldable pub verdict : Configuration → ℕ → ℕ → Prefix → List Attribute → Judgement
 verdict s from to p m =
-    let r = route_of s from p m in
+    let r = announced_route s from p m in
     joined (outcome s.top.default (policy_of s from).import r) (outcome s.top.default (policy_of s to).export r)

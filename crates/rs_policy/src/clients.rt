@@ -28,7 +28,7 @@ pub(crate) struct Client {
 
 impl Model for Client {
     ghost use Rattle.std.specs.Prelude.{string_bytes};
-    ghost use Rattle.rs_policy.specs.Settings.{Client};
+    ghost use Rattle.rs_policy.specs.Configuration.{Client};
 
     ghost Value = { Client };
 

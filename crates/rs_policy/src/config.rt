@@ -5,8 +5,8 @@ ghost use Rattle.toml.specs.Data.{table};
 ghost use Rattle.toml.specs.View.{view};
 ghost use Rattle.toml.specs.Parse.{parse_document};
 ghost use Rattle.rs_policy.specs.Values.{answer};
-ghost use Rattle.rs_policy.specs.Settings.{client_of, policy_of, IsWhole};
-ghost use Rattle.rs_policy.specs.Documents.{document_checks, settings_of, config_of};
+ghost use Rattle.rs_policy.specs.Configuration.{client_of, policy_of, IsSound};
+ghost use Rattle.rs_policy.specs.Documents.{document_checks, configuration_of, config_of};
 
 use crate::clients::{Client, read_clients};
 use crate::faults::ConfigFault;
@@ -26,15 +26,15 @@ pub struct Config {
 }
 
 impl Model for Config {
-    ghost use Rattle.rs_policy.specs.Settings.{Settings};
+    ghost use Rattle.rs_policy.specs.Configuration.{Configuration};
 
-    ghost Value = { Settings };
+    ghost Value = { Configuration };
 
-    ghost use Rattle.rs_policy.specs.Settings.{IsWhole};
+    ghost use Rattle.rs_policy.specs.Configuration.{IsSound};
 
     ghost view = { λ c. record { top = c.top; clients = c.clients.items; policies = c.policies.items } };
 
-    ghost invariant = { λ c. IsWhole (record { top = c.top; clients = c.clients.items; policies = c.policies.items }) };
+    ghost invariant = { λ c. IsSound (record { top = c.top; clients = c.clients.items; policies = c.policies.items }) };
 }
 
 impl Config {
@@ -52,8 +52,8 @@ impl Config {
     }
 
     fn from_document(alloc: Global, document: &Value) -> Result<Config, ConfigFault>
-        ensures ok { IfOk result (λ c. answer (document_checks (view document.now)) (settings_of (view document.now)) ≡ Ok c) }
-        ensures fault { IfErr result (λ e. e ≢ ConfigFault.OutOfMemory → answer (document_checks (view document.now)) (settings_of (view document.now)) ≡ Err e) }
+        ensures ok { IfOk result (λ c. answer (document_checks (view document.now)) (configuration_of (view document.now)) ≡ Ok c) }
+        ensures fault { IfErr result (λ e. e ≢ ConfigFault.OutOfMemory → answer (document_checks (view document.now)) (configuration_of (view document.now)) ≡ Err e) }
     {
         let top = Top::read(document)?;
         let tables = client_tables(document)?;
@@ -112,7 +112,7 @@ impl Config {
     /// How many clients there are: 1 to 512.
     pub fn clients(&self) -> usize
         ensures count { result ≡ length self.now.clients }
-        ensures whole { IsWhole self.now }
+        ensures whole { IsSound self.now }
     {
         self.clients.len()
     }

@@ -24,7 +24,7 @@ pub(crate) struct Policy {
 }
 
 impl Model for Policy {
-    ghost use Rattle.rs_policy.specs.Settings.{Policy};
+    ghost use Rattle.rs_policy.specs.Configuration.{Policy};
 
     ghost Value = { Policy };
 

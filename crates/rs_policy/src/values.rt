@@ -5,7 +5,7 @@ ghost use Rattle.toml.specs.Data.{Data, get, as_str, as_bool};
 ghost use Rattle.toml.specs.View.{view};
 ghost use Rattle.rs_policy.specs.Keys.{key_text};
 ghost use Rattle.rs_policy.specs.Texts.{address_of, endpoint_of, prefix_of, community_of};
-ghost use Rattle.rs_policy.specs.Values.{integer_in, hold_time, text_as, address, identifier, choice_of, name_of, nothing, required_at, optional_at, maybe_at};
+ghost use Rattle.rs_policy.specs.Values.{integer_in, hold_seconds, text_as, address, identifier, choice_of, name_of, nothing, required_at, optional_at, maybe_at};
 
 use crate::faults::{ConfigFault, Key, Place};
 use crate::rules::Choice;
@@ -96,7 +96,7 @@ pub(crate) struct HoldTime;
 impl Kind for HoldTime {
     type Out = u16;
 
-    ghost reads = { λ k. hold_time };
+    ghost reads = { λ k. hold_seconds };
 
     fn read(&self, value: &Value) -> Option<u16> {
         let seconds = Integer {

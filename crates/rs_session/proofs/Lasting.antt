@@ -11,10 +11,10 @@ use Rattle.rs_session.specs.declared.act.State.{State}
 use Rattle.rs_session.specs.declared.act.State.TheVariants as states
 use Rattle.rs_session.specs.declared.act.Act.TheVariants as acts
 use Rattle.rs_session.specs.declared.settings.Settings.{Settings}
-use Rattle.rs_session.specs.Items.{Item, Came, Message, Moment, Left, greatest, is_connected, message_count, restarts_hold_timer, hold_timer_since, open_in, open_of}
+use Rattle.rs_session.specs.Items.{Item, Came, Message, Moment, Left, greatest, is_connected, message_count, restarts_hold_timer, hold_timer_since, open_in, open_heard}
 use Rattle.rs_session.specs.Endings.{Fate, GoesOn, Ends, is_peer, first_fate, second_fate, later_fate, message_fate, open_wait, moment_fate, hold_time, is_past}
 use Rattle.rs_session.specs.Sessions.{fate, item_fate, earlier, state_by, state_of, is_live, agreed_by, is_third_past, falls_by, keepalive_timer_since, falls_due, message_act, moment_act}
-use Rattle.rs_session.specs.Laws.{messages_of, BringsUp, KeepsTime, EndsOnce}
+use Rattle.rs_session.specs.Laws.{messages_heard, BringsUp, KeepsTime, EndsOnce}
 use Rattle.rs_session.proofs.Phases.{state_at}
 
 -- ---- what a state says of the items
@@ -123,7 +123,7 @@ one_came (suc zero) s messages first m h e = second_came s messages first m h e
 one_came (suc (suc k)) s messages first m h e = later_came s messages first m h e
 
 came : (s : Settings) (items : List Item) → is_connected items ≡ true → fate s items ≡ GoesOn
-    → HasCome s (messages_of items) (open_of items) (message_count items)
+    → HasCome s (messages_heard items) (open_heard items) (message_count items)
 came s [] c e = cc
 came s (Came ∷ items) c e = refl
 came s (Left ∷ items) c e = cc
@@ -131,7 +131,7 @@ came s (Moment t ∷ items) c e = came s items c (earlier_goes (fate s items) _ 
 came s (Message m ∷ items) c e =
     let f : (fate s items ≡ GoesOn) × (message_fate s.peer_as (message_count items) m ≡ GoesOn) =
     earlier_goes (fate s items) _ e in
-    one_came (message_count items) s (messages_of items) (open_of items) m (came s items c f.0) f.1
+    one_came (message_count items) s (messages_heard items) (open_heard items) m (came s items c f.0) f.1
 
 established_live : (st : State) → st ≡ states.Established → is_live st ≡ true
 established_live st e = ap is_live e
@@ -141,15 +141,15 @@ brings_up s items e =
     let l : Lasts s items = live_lasts s items (ap is_live e) in
     let k : (more : ℕ) × (message_count items ≡ suc (suc more)) =
     count_by (message_count items) (sym (state_at _ _ _ _ _ _ l.connected l.goes_on refl) ∙ e) in
-    let h : MoreCame s (messages_of items) (open_of items) = subst
-    (λ n. HasCome s (messages_of items) (open_of items) n) k.1 (came s items l.connected l.goes_on) in
+    let h : MoreCame s (messages_heard items) (open_heard items) = subst
+    (λ n. HasCome s (messages_heard items) (open_heard items) n) k.1 (came s items l.connected l.goes_on) in
     record {
       sent = h.sent;
       later = h.later;
       heard = h.heard;
       peer = h.peer;
       allowed = h.allowed;
-      agreed = ap (λ st. agreed_by st (open_of items)) e ∙ h.first_is;
+      agreed = ap (λ st. agreed_by st (open_heard items)) e ∙ h.first_is;
     }
 
 -- ---- time
@@ -193,7 +193,7 @@ alive_message zero s m first since now e h = alive_first s m since now e
 alive_message (suc k) s m first since now e h = within_if (restarts_hold_timer m) (hold_time s.hold first) since now h
 
 alive : (s : Settings) (items : List Item) → is_connected items ≡ true → fate s items ≡ GoesOn
-    → IsWithin (hold_time s.hold (open_of items)) (hold_timer_since items) (greatest items)
+    → IsWithin (hold_time s.hold (open_heard items)) (hold_timer_since items) (greatest items)
 alive s [] c e = cc
 alive s (Came ∷ items) c e = none_passed open_wait (greatest items)
 alive s (Left ∷ items) c e = cc
@@ -201,7 +201,7 @@ alive s (Moment t ∷ items) c e = is_within _ _ _ (earlier_goes (fate s items) 
 alive s (Message m ∷ items) c e =
     let f : (fate s items ≡ GoesOn) × (message_fate s.peer_as (message_count items) m ≡ GoesOn) =
     earlier_goes (fate s items) _ e in
-    alive_message (message_count items) s m (open_of items) (hold_timer_since items) (greatest items) f.1
+    alive_message (message_count items) s m (open_heard items) (hold_timer_since items) (greatest items) f.1
     (alive s items c f.0)
 
 -- within a third of the Hold Time agreed
@@ -238,14 +238,14 @@ due_moment GoesOn hold (Some told) since now e = λ sent f.
     (due_by (is_third_past (min hold told.hold) since now) (min hold told.hold) since now refl)
 
 due : (s : Settings) (items : List Item) → is_connected items ≡ true → fate s items ≡ GoesOn
-    → IsDue s.hold (open_of items) (keepalive_timer_since s items) (greatest items)
+    → IsDue s.hold (open_heard items) (keepalive_timer_since s items) (greatest items)
 due s [] c e = cc
 due s (Came ∷ items) c e = λ sent f n. cc
 due s (Left ∷ items) c e = cc
 due s (Moment t ∷ items) c e =
-    due_moment (fate s (Moment t ∷ items)) s.hold (open_of items) (keepalive_timer_since s items) (max (greatest items) t) e
+    due_moment (fate s (Moment t ∷ items)) s.hold (open_heard items) (keepalive_timer_since s items) (max (greatest items) t) e
 due s (Message m ∷ items) c e =
-    due_message (message_count items) s.hold m (open_of items) (keepalive_timer_since s items) (greatest items)
+    due_message (message_count items) s.hold m (open_heard items) (keepalive_timer_since s items) (greatest items)
     (due s items c (earlier_goes (fate s items) _ e).0)
 
 agreed_open : (st : State) (first : Option Open) (sent : Open) → agreed_by st first ≡ Some sent
@@ -262,7 +262,7 @@ keeps_time s items e =
     record {
       hold_timer = alive s items l.connected l.goes_on;
       keepalive_timer = λ sent f n. due s items l.connected l.goes_on sent
-          (agreed_open (state_of s items) (open_of items) sent f) n;
+          (agreed_open (state_of s items) (open_heard items) sent f) n;
     }
 
 -- ---- one end

@@ -13,10 +13,10 @@ use Rattle.rs_session.specs.declared.session.Session.{Session}
 use Rattle.rs_session.specs.declared.phase.Phase.{Phase}
 use Rattle.rs_session.specs.declared.phase.Phase.TheVariants as phases
 use Rattle.rs_session.specs.declared.phase.Peer.{Peer}
-use Rattle.rs_session.specs.Items.{Item, Came, Message, greatest, message_count, restarts_hold_timer, hold_timer_since, open_in, open_of}
+use Rattle.rs_session.specs.Items.{Item, Came, Message, greatest, message_count, restarts_hold_timer, hold_timer_since, open_in, open_heard}
 use Rattle.rs_session.specs.Endings.{Fate, GoesOn, Ends, first_fate, second_fate, later_fate, message_fate}
 use Rattle.rs_session.specs.Sessions.{fate, state_of, is_live, keepalive_timer_since, is_request, message_act, act_of}
-use Rattle.rs_session.specs.Hearing.{IsWaiting, IsCount, HasAgreed, Stands, HasHeard, IsSame, Tells, Hears}
+use Rattle.rs_session.specs.Hearing.{IsWaiting, IsCount, HasAgreed, Stands, HasHeard, Stays, Tells, RespondsTo}
 use Rattle.rs_session.specs.Steps.{step, phase_from, first_step, second_step, later_step, message_step}
 use Rattle.rs_session.proofs.Phases.{state_in, state_at, state_is, agreed_is}
 use Rattle.rs_session.proofs.Standing.{earlier_goes, earlier_ended, live_act, still_act, stands_by, same, down, state_confirmed, live_confirmed}
@@ -35,7 +35,7 @@ opened_stands s items since sent w e = record {
   connected = w.connected;
   lasts = e;
   count = ap suc w.count;
-  sent = ap (λ (k : ℕ). elim k [ zero ↦ Some sent | suc count ↦ open_of items ]) w.count;
+  sent = ap (λ (k : ℕ). elim k [ zero ↦ Some sent | suc count ↦ open_heard items ]) w.count;
   hold_timer = refl;
   keepalive_timer = ap (λ (k : ℕ). elim k [ zero ↦ greatest items | suc count ↦ keepalive_timer_since s items ]) w.count;
 }
@@ -79,7 +79,7 @@ second_stands s items peer m w k =
       connected = w.connected;
       lasts = second_fate_is s items peer m w k ∙ e;
       count = (0, ap suc k);
-      sent = ap (λ (k : ℕ). elim k [ zero ↦ open_in m | suc count ↦ open_of items ]) k ∙ w.sent;
+      sent = ap (λ (k : ℕ). elim k [ zero ↦ open_in m | suc count ↦ open_heard items ]) k ∙ w.sent;
       hold_timer = ap (λ b. if b then greatest items else hold_timer_since items) (second_goes m e);
       keepalive_timer = ap (λ (k : ℕ). elim k [ zero ↦ greatest items | suc count ↦ keepalive_timer_since s items ]) k ∙ w.keepalive_timer;
     })
@@ -102,7 +102,7 @@ later_stands s items peer m more w e k =
       connected = w.connected;
       lasts = later_fate_is s items peer m more w k ∙ f;
       count = subst (λ b. IsCount b (suc (message_count items))) (sym e) (suc more, ap suc k);
-      sent = ap (λ (k : ℕ). elim k [ zero ↦ open_in m | suc count ↦ open_of items ]) k ∙ w.sent;
+      sent = ap (λ (k : ℕ). elim k [ zero ↦ open_in m | suc count ↦ open_heard items ]) k ∙ w.sent;
       hold_timer = ap (λ t. if restarts_hold_timer m then greatest items else t) w.hold_timer;
       keepalive_timer = ap (λ (k : ℕ). elim k [ zero ↦ greatest items | suc count ↦ keepalive_timer_since s items ]) k ∙ w.keepalive_timer;
     })
@@ -189,7 +189,7 @@ second_tells s items peer m b w k GoesOn e = record {
 }
 
 request_tells : (b : Bool) (s : Settings) (old new : List Item) → state_of s old ≡ states.Established
-    → IsSame s old new → Tells (if b then acts.Again else acts.None) s old new
+    → Stays s old new → Tells (if b then acts.Again else acts.None) s old new
 request_tells false s old new e h = h
 request_tells true s old new e h = record { before = e; same = h }
 
@@ -227,7 +227,7 @@ message_tells phases.Closing s items m h =
 
 pub message_hears : (old new : Session) (m : Heard) (act : Act)
     → ◌≡◌ {A = Phase × Act} (new.phase, act) (message_step old.phase old.settings.peer_as old.latest m)
-    → new.latest ≡ old.latest → new.settings ≡ old.settings → Hears old new (Message m) act
+    → new.latest ≡ old.latest → new.settings ≡ old.settings → RespondsTo old new (Message m) act
 unfolding HasHeard
 message_hears old new m act e l t s items h =
     let f : ◌≡◌ {A = Phase × Act} (new.phase, act) (message_step old.phase s.peer_as (greatest items) m) =
@@ -270,7 +270,7 @@ over_hears old new m act e l t s items h v =
 -- ---- a connection
 
 pub came_hears : (session : Session) → session.phase ≡ phases.Idle
-    → Hears session (record session { phase = phases.OpenSent session.latest }) Came (acts.Say short.Open)
+    → RespondsTo session (record session { phase = phases.OpenSent session.latest }) Came (acts.Say short.Open)
 unfolding HasHeard
 came_hears session e s items h = record {
   heard = record {

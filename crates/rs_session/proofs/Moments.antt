@@ -11,10 +11,10 @@ use Rattle.rs_session.specs.declared.session.Session.{Session}
 use Rattle.rs_session.specs.declared.phase.Phase.{Phase}
 use Rattle.rs_session.specs.declared.phase.Phase.TheVariants as phases
 use Rattle.rs_session.specs.declared.phase.Peer.{Peer}
-use Rattle.rs_session.specs.Items.{Item, Moment, greatest, hold_timer_since, open_of}
+use Rattle.rs_session.specs.Items.{Item, Moment, greatest, hold_timer_since, open_heard}
 use Rattle.rs_session.specs.Endings.{Fate, GoesOn, Ends, open_wait, moment_fate, hold_time}
 use Rattle.rs_session.specs.Sessions.{fate, item_fate, state_of, is_live, falls_by, is_third_past, keepalive_timer_since, falls_due, moment_act, act_of}
-use Rattle.rs_session.specs.Hearing.{IsWaiting, HasAgreed, Stands, HasHeard, IsSame, Tells, Hears}
+use Rattle.rs_session.specs.Hearing.{IsWaiting, HasAgreed, Stands, HasHeard, Stays, Tells, RespondsTo}
 use Rattle.rs_session.specs.Steps.{step, tick, wait, moment_step}
 use Rattle.rs_session.proofs.Phases.{state_is}
 use Rattle.rs_session.proofs.Standing.{earlier_goes, earlier_ended, live_act, still_act, stands_by, same, down, live_confirmed}
@@ -22,7 +22,7 @@ use Rattle.rs_session.proofs.Standing.{earlier_goes, earlier_ended, live_act, st
 -- ---- the phase
 
 moment_fate_is : (s : Settings) (items : List Item) (t : ℕ) (sent : Option Open) (since : ℕ)
-    → fate s items ≡ GoesOn → open_of items ≡ sent → hold_timer_since items ≡ since
+    → fate s items ≡ GoesOn → open_heard items ≡ sent → hold_timer_since items ≡ since
     → fate s (Moment t ∷ items) ≡ moment_fate (hold_time s.hold sent) since (max (greatest items) t)
 moment_fate_is s items t sent since l o a =
     earlier_goes _ _ l
@@ -42,7 +42,7 @@ falls_is : (s : Settings) (items : List Item) (peer : Peer) (t : ℕ) → HasAgr
     → fate s (Moment t ∷ items) ≡ GoesOn
     → falls_due s t items ≡ is_third_past (min s.hold peer.sent.hold) peer.keepalive_timer_since (max (greatest items) t)
 falls_is s items peer t w e =
-    ap (λ f. falls_by f s.hold (open_of items) (keepalive_timer_since s items) (max (greatest items) t)) e
+    ap (λ f. falls_by f s.hold (open_heard items) (keepalive_timer_since s items) (max (greatest items) t)) e
     ∙ ap (λ x. falls_by GoesOn s.hold x (keepalive_timer_since s items) (max (greatest items) t)) w.sent
     ∙ ap (λ x. is_third_past (min s.hold peer.sent.hold) x (max (greatest items) t)) w.keepalive_timer
 
@@ -117,7 +117,7 @@ moment_acts phases.Idle s items t h =
     sym (still_act (state_of s items) _ acts.None (ap is_live (state_is phases.Idle s items h)))
 moment_acts (phases.OpenSent since) s items t h =
     wait_act (moment_fate open_wait since (max (greatest items) t)) _ (falls_due s t items)
-    (no_open _ _ _ _ (open_of items) h.sent)
+    (no_open _ _ _ _ (open_heard items) h.sent)
     ∙ ap (λ f. moment_act f (falls_due s t items))
     (sym (moment_fate_is s items t None since h.lasts h.sent h.hold_timer) ∙ item_fate_is s items t h.lasts)
     ∙ sym (moment_at s items t states.OpenSent (state_is (phases.OpenSent since) s items h) refl)
@@ -142,7 +142,7 @@ wait_tells s items since t w GoesOn e =
     (record { connected = w.connected; lasts = e; count = w.count; sent = w.sent; hold_timer = w.hold_timer }) refl refl
 
 beat_tells : (b : Bool) (s : Settings) (old new : List Item) → is_live (state_of s old) ≡ true
-    → IsSame s old new → Tells (if b then acts.Say short.Keepalive else acts.None) s old new
+    → Stays s old new → Tells (if b then acts.Say short.Keepalive else acts.None) s old new
 beat_tells false s old new e h = h
 beat_tells true s old new e h = inr (record { live = e; same = h })
 
@@ -170,7 +170,7 @@ moment_tells phases.Closing s items t h =
 
 pub moment_hears : (old new : Session) (t : ℕ) (act : Act)
     → ◌≡◌ {A = Phase × Act} (new.phase, act) (moment_step old.phase old.settings.hold new.latest)
-    → new.latest ≡ max old.latest t → new.settings ≡ old.settings → Hears old new (Moment t) act
+    → new.latest ≡ max old.latest t → new.settings ≡ old.settings → RespondsTo old new (Moment t) act
 unfolding HasHeard
 moment_hears old new t act e l u s items h =
     let now : new.latest ≡ max (greatest items) t = l ∙ ap (λ x. max x t) h.latest in

@@ -7,7 +7,7 @@ use Rattle.rs_session.specs.declared.settings.Settings.{Settings}
 use Rattle.rs_session.specs.declared.session.Session.{Session}
 use Rattle.rs_session.specs.declared.phase.Phase.{Phase}
 use Rattle.rs_session.specs.declared.phase.Phase.TheVariants as phases
-use Rattle.rs_session.specs.Items.{Item, is_connected, message_count, open_of}
+use Rattle.rs_session.specs.Items.{Item, is_connected, message_count, open_heard}
 use Rattle.rs_session.specs.Endings.{Fate, GoesOn, Ends}
 use Rattle.rs_session.specs.Sessions.{fate, state_by, state_of, agreed_by, agreed_of}
 use Rattle.rs_session.specs.Hearing.{IsCount, Stands, HasHeard}
@@ -52,14 +52,14 @@ agreed_confirmed true sent = refl
 -- and so is the OPEN
 pub agreed_is : (phase : Phase) (s : Settings) (items : List Item) → Stands phase s items
     → agreed_of s items ≡ sent_in phase
-agreed_is phases.Idle s items h = ap (λ x. agreed_by x (open_of items)) (state_is phases.Idle s items h)
+agreed_is phases.Idle s items h = ap (λ x. agreed_by x (open_heard items)) (state_is phases.Idle s items h)
 agreed_is (phases.OpenSent since) s items h =
-    ap (λ x. agreed_by x (open_of items)) (state_is (phases.OpenSent since) s items h)
+    ap (λ x. agreed_by x (open_heard items)) (state_is (phases.OpenSent since) s items h)
 agreed_is (phases.Agreed peer) s items h =
-    ap (λ x. agreed_by x (open_of items)) (state_is (phases.Agreed peer) s items h)
-    ∙ agreed_confirmed peer.confirmed (open_of items) ∙ h.sent
+    ap (λ x. agreed_by x (open_heard items)) (state_is (phases.Agreed peer) s items h)
+    ∙ agreed_confirmed peer.confirmed (open_heard items) ∙ h.sent
 agreed_is phases.Closing s items h =
-    ap (λ x. agreed_by x (open_of items)) (state_is phases.Closing s items h)
+    ap (λ x. agreed_by x (open_heard items)) (state_is phases.Closing s items h)
 
 pub state_heard : (session : Session) (s : Settings) (items : List Item) → HasHeard session s items
     → state_of s items ≡ state_in session.phase

@@ -14,7 +14,7 @@ use Rattle.rs_session.specs.declared.act.Act.{Act}
 use Rattle.rs_session.specs.declared.act.Act.TheVariants as acts
 use Rattle.rs_session.specs.declared.settings.Settings.{Settings}
 use Rattle.rs_session.specs.Items.{Item, Came, Message, Moment, Left}
-use Rattle.rs_session.specs.Sessions.{act_of, state_of, mode_of, identifier_of, limit_of}
+use Rattle.rs_session.specs.Sessions.{act_of, state_of, agreed_mode, agreed_identifier, agreed_limit}
 
 -- client 64496, Hold Time 90
 abbrev a : Settings
@@ -287,26 +287,26 @@ a_new_session_after_closing = refl
 
 -- ---- what the OPEN says
 
-four_octets : mode_of a up ≡ Some Four
+four_octets : agreed_mode a up ≡ Some Four
 four_octets = refl
 
-two_octets : mode_of a (opening (record open_a { four = None }) ∷ came) ≡ Some Two
+two_octets : agreed_mode a (opening (record open_a { four = None }) ∷ came) ≡ Some Two
 two_octets = refl
 
-no_mode_before : mode_of a came ≡ None
+no_mode_before : agreed_mode a came ≡ None
 no_mode_before = refl
 
-no_mode_after : mode_of a (Message Note ∷ up) ≡ None
+no_mode_after : agreed_mode a (Message Note ∷ up) ≡ None
 no_mode_after = refl
 
-identifier_of_a : identifier_of a up ≡ 0xc000020b
+identifier_of_a : agreed_identifier a up ≡ 0xc000020b
 identifier_of_a = refl
 
-limit_short : limit_of a (opening (record open_a { long = true }) ∷ came) ≡ limits.Short
+limit_short : agreed_limit a (opening (record open_a { long = true }) ∷ came) ≡ limits.Short
 limit_short = refl
 
-limit_long : limit_of extended (opening (record open_a { long = true }) ∷ came) ≡ limits.Long
+limit_long : agreed_limit extended (opening (record open_a { long = true }) ∷ came) ≡ limits.Long
 limit_long = refl
 
-not_asked_for : limit_of extended up ≡ limits.Short
+not_asked_for : agreed_limit extended up ≡ limits.Short
 not_asked_for = refl

@@ -11,7 +11,7 @@ use Rattle.rs_session.specs.declared.phase.Peer.{Peer}
 use Rattle.rs_session.specs.Items.{Item, is_connected}
 use Rattle.rs_session.specs.Endings.{Fate, GoesOn, Ends}
 use Rattle.rs_session.specs.Sessions.{fate, earlier, state_of, is_live}
-use Rattle.rs_session.specs.Hearing.{HasAgreed, Stands, IsSame, GoesDown}
+use Rattle.rs_session.specs.Hearing.{HasAgreed, Stands, Stays, GoesDown}
 use Rattle.rs_session.specs.Steps.{step}
 use Rattle.rs_session.proofs.Phases.{state_in, sent_in, state_is, agreed_is}
 
@@ -43,7 +43,7 @@ stands_by GoesOn phase act s items c e k = k refl
 
 pub same : (p q : Phase) (s : Settings) (items : List Item) (item : Item) → Stands p s items
     → Stands q s (item ∷ items) → state_in q ≡ state_in p → sent_in q ≡ sent_in p
-    → IsSame s items (item ∷ items)
+    → Stays s items (item ∷ items)
 same p q s items item h k e f = record {
   state = state_is q s (item ∷ items) k ∙ e ∙ sym (state_is p s items h);
   agreed = agreed_is q s (item ∷ items) k ∙ f ∙ sym (agreed_is p s items h);

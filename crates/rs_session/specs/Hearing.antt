@@ -11,7 +11,7 @@ use Rattle.rs_session.specs.declared.session.Session.{Session}
 use Rattle.rs_session.specs.declared.phase.Phase.{Phase}
 use Rattle.rs_session.specs.declared.phase.Phase.TheVariants as phases
 use Rattle.rs_session.specs.declared.phase.Peer.{Peer}
-use Rattle.rs_session.specs.Items.{Item, greatest, is_connected, message_count, hold_timer_since, open_of}
+use Rattle.rs_session.specs.Items.{Item, greatest, is_connected, message_count, hold_timer_since, open_heard}
 use Rattle.rs_session.specs.Endings.{GoesOn, Ends}
 use Rattle.rs_session.specs.Sessions.{fate, state_of, is_live, agreed_of, keepalive_timer_since, act_of}
 
@@ -22,7 +22,7 @@ pub record IsWaiting (settings : Settings) (items : List Item) (since : ℕ) : T
   pub connected : is_connected items ≡ true
   pub lasts : fate settings items ≡ GoesOn
   pub count : message_count items ≡ 0
-  pub sent : open_of items ≡ None
+  pub sent : open_heard items ≡ None
   pub hold_timer : hold_timer_since items ≡ since
 
 -- one message was heard; two or more were
@@ -35,7 +35,7 @@ pub record HasAgreed (settings : Settings) (items : List Item) (peer : Peer) : T
   pub connected : is_connected items ≡ true
   pub lasts : fate settings items ≡ GoesOn
   pub count : IsCount peer.confirmed (message_count items)
-  pub sent : open_of items ≡ Some peer.sent
+  pub sent : open_heard items ≡ Some peer.sent
   pub hold_timer : hold_timer_since items ≡ peer.hold_timer_since
   pub keepalive_timer : keepalive_timer_since settings items ≡ peer.keepalive_timer_since
 
@@ -72,7 +72,7 @@ Shows session f x = Whenever session (λ settings items. x ≡ f settings items)
 -- ---- what an answer tells of the items before and after
 
 -- the state stays, and so does what the OPEN says
-pub record IsSame (settings : Settings) (old new : List Item) : Type 0 where
+pub record Stays (settings : Settings) (old new : List Item) : Type 0 where
   pub state : state_of settings new ≡ state_of settings old
   pub agreed : agreed_of settings new ≡ agreed_of settings old
 
@@ -88,7 +88,7 @@ pub record Confirms (settings : Settings) (old new : List Item) : Type 0 where
 
 pub record Beats (settings : Settings) (old new : List Item) : Type 0 where
   pub live : is_live (state_of settings old) ≡ true
-  pub same : IsSame settings old new
+  pub same : Stays settings old new
 
 -- the session comes up, with what the OPEN says
 pub record ComesUp (settings : Settings) (old new : List Item) : Type 0 where
@@ -106,7 +106,7 @@ pub record GoesDown (settings : Settings) (old new : List Item) (said : Option S
 -- the client asks for the routes again
 pub record Asks (settings : Settings) (old new : List Item) : Type 0 where
   pub before : state_of settings old ≡ states.Established
-  pub same : IsSame settings old new
+  pub same : Stays settings old new
 
 abbrev pub Says : Short → Settings → List Item → List Item → Type 0
 Says short.Open settings old new = Opens settings old new
@@ -114,7 +114,7 @@ Says short.Keepalive settings old new = Confirms settings old new ⊎ Beats sett
 Says (short.Note code sub extra count) settings old new = ⊥
 
 abbrev pub Tells : Act → Settings → List Item → List Item → Type 0
-Tells acts.None settings old new = IsSame settings old new
+Tells acts.None settings old new = Stays settings old new
 Tells (acts.Say message) settings old new = Says message settings old new
 Tells acts.Up settings old new = ComesUp settings old new
 Tells (acts.Down said) settings old new = GoesDown settings old new said
@@ -122,11 +122,11 @@ Tells acts.Again settings old new = Asks settings old new
 
 -- ---- one item more
 
-pub record HearsAt (new : Session) (item : Item) (act : Act) (settings : Settings) (items : List Item) : Type 0 where
+pub record RespondsAt (new : Session) (item : Item) (act : Act) (settings : Settings) (items : List Item) : Type 0 where
   pub heard : HasHeard new settings (item ∷ items)
   pub act_is : act ≡ act_of settings item items
   pub tells : Tells act settings items (item ∷ items)
 
 -- an item befell the session, and it answered as it is defined
-abbrev pub Hears : Session → Session → Item → Act → Type 0
-Hears old new item act = Whenever old (HearsAt new item act)
+abbrev pub RespondsTo : Session → Session → Item → Act → Type 0
+RespondsTo old new item act = Whenever old (RespondsAt new item act)

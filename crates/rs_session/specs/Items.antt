@@ -63,10 +63,10 @@ open_in heard.Keepalive = None
 open_in (heard.Header fault) = None
 
 -- the OPEN that came as the first message
-abbrev pub open_of : List Item → Option Open
-open_of [] = None
-open_of (Came ∷ items) = None
-open_of (Message message ∷ items) =
-    elim (message_count items) [ zero ↦ open_in message | suc count ↦ open_of items ]
-open_of (Moment t ∷ items) = open_of items
-open_of (Left ∷ items) = None
+abbrev pub open_heard : List Item → Option Open
+open_heard [] = None
+open_heard (Came ∷ items) = None
+open_heard (Message message ∷ items) =
+    elim (message_count items) [ zero ↦ open_in message | suc count ↦ open_heard items ]
+open_heard (Moment t ∷ items) = open_heard items
+open_heard (Left ∷ items) = None

@@ -6,24 +6,24 @@ use Rattle.rs_session.specs.declared.heard.Heard.TheVariants as heard
 use Rattle.rs_session.specs.declared.act.State.TheVariants as states
 use Rattle.rs_session.specs.declared.act.Act.TheVariants as acts
 use Rattle.rs_session.specs.declared.settings.Settings.{Settings}
-use Rattle.rs_session.specs.Items.{Item, Came, Message, Moment, Left, greatest, hold_timer_since, open_of}
+use Rattle.rs_session.specs.Items.{Item, Came, Message, Moment, Left, greatest, hold_timer_since, open_heard}
 use Rattle.rs_session.specs.Endings.{GoesOn, is_peer, later_fate, hold_time}
 use Rattle.rs_session.specs.Sessions.{state_of, is_live, agreed_of, keepalive_timer_since, act_of}
 
 -- the messages heard since the connection came, the newest first
-abbrev pub messages_of : List Item → List Heard
-messages_of [] = []
-messages_of (Came ∷ items) = []
-messages_of (Message message ∷ items) = message ∷ messages_of items
-messages_of (Moment t ∷ items) = messages_of items
-messages_of (Left ∷ items) = []
+abbrev pub messages_heard : List Item → List Heard
+messages_heard [] = []
+messages_heard (Came ∷ items) = []
+messages_heard (Message message ∷ items) = message ∷ messages_heard items
+messages_heard (Moment t ∷ items) = messages_heard items
+messages_heard (Left ∷ items) = []
 
 -- an OPEN of the client's AS came first, then a KEEPALIVE, then messages that end nothing; and that OPEN is what is
 -- agreed
 pub record IsBroughtUp (settings : Settings) (items : List Item) : Type 0 where
   pub sent : Open
   pub later : List Heard
-  pub heard : messages_of items ≡ later ++ (heard.Keepalive ∷ heard.Open (Ok sent) ∷ [])
+  pub heard : messages_heard items ≡ later ++ (heard.Keepalive ∷ heard.Open (Ok sent) ∷ [])
   pub peer : is_peer settings.peer_as sent.my_as sent.four ≡ true
   pub allowed : All (λ message. later_fate message ≡ GoesOn) later
   pub agreed : agreed_of settings items ≡ Some sent
@@ -36,8 +36,8 @@ BringsUp =
 -- less than the time allowed has passed since the peer was last heard, and less than a third of the Hold Time since a
 -- KEEPALIVE last fell due
 pub record IsInTime (settings : Settings) (items : List Item) : Type 0 where
-  pub hold_timer : hold_time settings.hold (open_of items) ≢ 0
-      → greatest items - hold_timer_since items < hold_time settings.hold (open_of items)
+  pub hold_timer : hold_time settings.hold (open_heard items) ≢ 0
+      → greatest items - hold_timer_since items < hold_time settings.hold (open_heard items)
   pub keepalive_timer : (sent : Open) → agreed_of settings items ≡ Some sent → 3 ≤ min settings.hold sent.hold
       → greatest items - keepalive_timer_since settings items < min settings.hold sent.hold / 3
 

@@ -13,7 +13,7 @@ use Rattle.rs_session.specs.declared.act.State.TheVariants as states
 use Rattle.rs_session.specs.declared.act.Act.{Act}
 use Rattle.rs_session.specs.declared.act.Act.TheVariants as acts
 use Rattle.rs_session.specs.declared.settings.Settings.{Settings}
-use Rattle.rs_session.specs.Items.{Item, Came, Message, Moment, Left, greatest, is_connected, message_count, hold_timer_since, open_of}
+use Rattle.rs_session.specs.Items.{Item, Came, Message, Moment, Left, greatest, is_connected, message_count, hold_timer_since, open_heard}
 use Rattle.rs_session.specs.Endings.{Fate, GoesOn, Ends, message_fate, moment_fate, hold_time}
 
 -- ---- the end
@@ -23,7 +23,7 @@ abbrev pub item_fate : Settings → Item → List Item → Fate
 item_fate settings Came items = GoesOn
 item_fate settings (Message message) items = message_fate settings.peer_as (message_count items) message
 item_fate settings (Moment t) items =
-    moment_fate (hold_time settings.hold (open_of items)) (hold_timer_since items) (greatest (Moment t ∷ items))
+    moment_fate (hold_time settings.hold (open_heard items)) (hold_timer_since items) (greatest (Moment t ∷ items))
 item_fate settings Left items = GoesOn
 
 -- the first end counts
@@ -73,7 +73,7 @@ agreed_by states.Closing sent = None
 
 -- the OPEN that was accepted, while the session lasts
 abbrev pub agreed_of : Settings → List Item → Option Open
-agreed_of settings items = agreed_by (state_of settings items) (open_of items)
+agreed_of settings items = agreed_by (state_of settings items) (open_heard items)
 
 -- AS numbers have four octets where the OPEN has the capability for it (RFC 6793, 3)
 abbrev pub mode_in : Option ℕ → Mode
@@ -93,14 +93,14 @@ abbrev pub limit_by : Bool → Option Open → Limit
 limit_by extended None = limits.Short
 limit_by extended (Some sent) = if extended && sent.long then limits.Long else limits.Short
 
-abbrev pub mode_of : Settings → List Item → Option Mode
-mode_of settings items = mode_by (agreed_of settings items)
+abbrev pub agreed_mode : Settings → List Item → Option Mode
+agreed_mode settings items = mode_by (agreed_of settings items)
 
-abbrev pub identifier_of : Settings → List Item → ℕ
-identifier_of settings items = identifier_by (agreed_of settings items)
+abbrev pub agreed_identifier : Settings → List Item → ℕ
+agreed_identifier settings items = identifier_by (agreed_of settings items)
 
-abbrev pub limit_of : Settings → List Item → Limit
-limit_of settings items = limit_by settings.extended (agreed_of settings items)
+abbrev pub agreed_limit : Settings → List Item → Limit
+agreed_limit settings items = limit_by settings.extended (agreed_of settings items)
 
 -- ---- KEEPALIVEs (RFC 4271, 4.4)
 
@@ -117,7 +117,7 @@ falls_by GoesOn hold (Some sent) since now = is_third_past (hold_time hold (Some
 -- a KEEPALIVE falls due at the newest item: none has ended the session, and a third or more of the Hold Time lies behind
 -- the last one's falling due
 abbrev pub falls_behind : Settings → List Item → ℕ → Bool
-falls_behind settings items since = falls_by (fate settings items) settings.hold (open_of items) since (greatest items)
+falls_behind settings items since = falls_by (fate settings items) settings.hold (open_heard items) since (greatest items)
 
 -- when one fell due last: at the OPEN, then at each moment at which one falls due
 abbrev pub keepalive_timer_since : Settings → List Item → ℕ

@@ -22,8 +22,8 @@ impl Session {
     ghost use Rattle.rs_session.specs.Steps.{message_step, moment_step};
     ghost use Rattle.rs_session.specs.Items.{Came, Message, Moment, Left};
     ghost use Rattle.rs_session.specs.Sessions.{state_of, is_live, agreed_of};
-    ghost use Rattle.rs_session.specs.Sessions.{mode_of, identifier_of, limit_of};
-    ghost use Rattle.rs_session.specs.Hearing.{HasHeard, Whenever, Shows, Hears};
+    ghost use Rattle.rs_session.specs.Sessions.{agreed_mode, agreed_identifier, agreed_limit};
+    ghost use Rattle.rs_session.specs.Hearing.{HasHeard, Whenever, Shows, RespondsTo};
 
     /// A session of a client with these settings: Idle, and no moment was seen.
     #[tactic(auto, unfolding(crate::specs::Hearing::HasHeard))]
@@ -40,7 +40,7 @@ impl Session {
     /// A connection has come. The answer is to say our OPEN.
     #[tactic(auto, using(crate::proofs::Messages::came_hears, crate::proofs::Phases::idle_heard))]
     pub fn opened(&mut self) -> Result<Act, Busy>
-        ensures ok { IfOk result (λ act. Hears self.old self.new Came act) }
+        ensures ok { IfOk result (λ act. RespondsTo self.old self.new Came act) }
         ensures busy { OnErr result (self.new ≡ self.old) }
         ensures busy_unless_idle { OnErr result (Whenever self.old (λ settings items.
             state_of settings items ≢ State.Idle)) }
@@ -57,7 +57,7 @@ impl Session {
     /// A message was heard, or the fault of a header. While there is no session that lasts, it
     /// changes nothing.
     pub fn message(&mut self, heard: Heard) -> Act
-        ensures hears { Hears self.old self.new (Message heard) result }
+        ensures hears { RespondsTo self.old self.new (Message heard) result }
         ensures over { Whenever self.old (λ settings items.
             is_live (state_of settings items) ≡ false → self.new ≡ self.old) }
     {
@@ -67,7 +67,7 @@ impl Session {
     /// A moment is seen, in seconds; one that is less than an earlier one counts as the greatest
     /// so far.
     pub fn moment(&mut self, t: u64) -> Act
-        ensures { Hears self.old self.new (Moment t) result }
+        ensures { RespondsTo self.old self.new (Moment t) result }
     {
         self.see(t)
     }
@@ -99,7 +99,7 @@ impl Session {
     /// How many octets AS numbers have, by the OPEN that was accepted; None while none is.
     #[tactic(auto, using(crate::proofs::Phases::established_heard))]
     pub fn mode(&self) -> Option<Mode>
-        ensures mode { Shows self.now mode_of result }
+        ensures mode { Shows self.now agreed_mode result }
         ensures established { Whenever self.now (λ settings items.
             state_of settings items ≡ State.Established → IsSome result) }
     {
@@ -112,7 +112,7 @@ impl Session {
 
     /// The BGP Identifier of the OPEN that was accepted; 0, which no such OPEN has, while none is.
     pub fn identifier(&self) -> u32
-        ensures { Shows self.now identifier_of result }
+        ensures { Shows self.now agreed_identifier result }
     {
         match self.agreed() {
             Some(sent) => sent.identifier,
@@ -123,7 +123,7 @@ impl Session {
     /// How long a message to the client may be.
     #[tactic(auto, using(crate::proofs::Phases::settings_heard))]
     pub fn limit(&self) -> Limit
-        ensures { Shows self.now limit_of result }
+        ensures { Shows self.now agreed_limit result }
     {
         match self.agreed() {
             Some(sent) => {

@@ -1,5 +1,5 @@
 use Rattle.std.proofs.Common.{◌≡◌, ◌∙◌, ap, Ok, List}
-use Rattle.rs_policy.specs.Settings.{Policy}
+use Rattle.rs_policy.specs.Configuration.{Policy}
 use Rattle.rs_policy.specs.declared.rules.Rule.{Rule}
 use Rattle.rs_policy.proofs.Checks.{answer-value, answer-append-ok, answer-append-err, answer-ok_for, answer-err_for, passed_on}
 use Rattle.rs_policy.proofs.policies.Policy.read.Goals as goal

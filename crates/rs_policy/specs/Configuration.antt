@@ -17,13 +17,13 @@ pub record Policy : Type 0 where
   pub export : List Rule
 
 -- clients and policies stand in the order of the configuration
-pub record Settings : Type 0 where
+pub record Configuration : Type 0 where
   pub top : Top
   pub clients : List Client
   pub policies : List Policy
 
 -- there is a client, and each has a policy
-pub record IsWhole (s : Settings) : Type 0 where
+pub record IsSound (s : Configuration) : Type 0 where
   pub some : 0 < length s.clients
   pub few : length s.clients ≤ 512
   pub policies : length s.policies ≡ length s.clients
@@ -32,11 +32,11 @@ abbrev pub no_client : Client
 no_client = record { name = []; client_as = 0; listen = (0, 0); peer = 0; limit = None }
 
 -- client number c, from 0
-abbrev pub client_of : Settings → ℕ → Client
+abbrev pub client_of : Configuration → ℕ → Client
 client_of s c = slice_index_or s.clients c no_client
 
 abbrev pub no_policy : Policy
 no_policy = record { import = []; export = [] }
 
-abbrev pub policy_of : Settings → ℕ → Policy
+abbrev pub policy_of : Configuration → ℕ → Policy
 policy_of s c = slice_index_or s.policies c no_policy
