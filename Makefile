@@ -2,7 +2,7 @@
 # It stands on `rt`, the command of the Rattle toolchain, and on Python 3.
 
 .DEFAULT_GOAL := help
-.PHONY: help demo build test examples clean
+.PHONY: help demo build test attack examples clean
 
 PROGRAMS := rs_replay
 
@@ -22,6 +22,9 @@ build: ## prove what the programs stand on, and leave them in out/
 
 test: ## the gate: every proof from nothing, must-fail edits, tests, recorded sessions
 	@python3 tools/gate.py
+
+attack: ## try the wrong programs of attacks/, beyond those of the gate (CRATE=rs_octets: those of one crate)
+	@python3 tools/attack.py $(CRATE)
 
 examples: ## compare the example configurations with those that are tested
 	@python3 tools/check_examples.py

@@ -1,0 +1,91 @@
+#!/usr/bin/env python3
+"""Tries wrong programs that the prover must refuse, beyond those that the gate tries.
+
+attack.py [CRATE..]
+
+attacks/CRATE/*.edit are edits like those of crates/CRATE/must-fail: a text of the crate and what stands in
+its place. Each crate is proved first as it is, since an edit of a crate that isn't proved shows nothing; then
+each of its edits must be refused. All is done in a copy of the repository outside it, in which the attacks
+stand in the must-fail folder of their crate, the one that `rt must-fail` reads. Crates are tried side by side,
+as many as there are processors (`taskset -c 0 tools/attack.py` takes one).
+
+It ends with the edits that were not refused and those that no longer apply, and 'N passed, M failed'; the
+exit status is 0 where nothing failed. It writes nothing in the repository.
+"""
+import concurrent.futures
+import os
+import pathlib
+import re
+import shutil
+import subprocess
+import sys
+import tempfile
+
+TOP = pathlib.Path(__file__).resolve().parent.parent
+RESULT = re.compile(r"rt: must-fail (\S+)\.edit: (?:(refused)|(NOT REFUSED|BAD EDIT): (.*))")
+
+
+def copy_repository(room):
+    """Copies the repository, with what earlier checks kept, and puts each crate's attacks in place of its edits."""
+    shutil.copytree(TOP, room, ignore=shutil.ignore_patterns(".git", "__pycache__"))
+    for edits in room.glob("crates/*/must-fail"):
+        shutil.rmtree(edits)
+    for attacks in (room / "attacks").iterdir():
+        crate = room / "crates" / attacks.name
+        if crate.is_dir():
+            shutil.copytree(attacks, crate / "must-fail")
+
+
+def run(words, folder):
+    """Runs a command of rt; answers whether it ended well, and what it said."""
+    ran = subprocess.run(["rt", *words], cwd=folder, capture_output=True, text=True, errors="replace")
+    return ran.returncode == 0, ran.stdout + ran.stderr
+
+
+def tries(room, crate):
+    """Tries a crate's attacks: each by its name, and what is wrong with it or None."""
+    names = {f"{crate}/{it.stem}" for it in (room / "attacks" / crate).glob("*.edit")}
+    said = run(["must-fail", crate], room)[1]
+    print(said, end="", flush=True)
+    found = {}
+    for name, refused, verdict, why in RESULT.findall(said):
+        found[name] = None if refused else f"{'not refused' if verdict == 'NOT REFUSED' else 'no longer applies'}: {why}"
+    return {name: found.get(name, "not tried") for name in sorted(names)}
+
+
+def attack(room, crates):
+    """Tries the attacks of these crates: each by its name, and what is wrong with it or None."""
+    results, proved = {}, []
+    for crate in crates:
+        # One after the other, since crates share the libraries that they stand on.
+        is_proved, said = run(["check"], room / "crates" / crate)
+        print(f"{crate} is {'proved' if is_proved else 'NOT PROVED'} as it is", flush=True)
+        if is_proved:
+            proved.append(crate)
+        else:
+            results[crate] = "not proved as it is:\n" + "\n".join(said.splitlines()[-10:])
+    with concurrent.futures.ThreadPoolExecutor(len(os.sched_getaffinity(0))) as pool:
+        for tried in pool.map(lambda crate: tries(room, crate), proved):
+            results.update(tried)
+    return results
+
+
+def main(names):
+    if not shutil.which("rt"):
+        sys.exit("rt, the command of the Rattle toolchain, is not on the PATH")
+    known = sorted(it.name for it in (TOP / "attacks").iterdir() if it.is_dir())
+    lost = [it for it in {*known, *names} if it not in known or not (TOP / "crates" / it).is_dir()]
+    results = {it: "no attacks, or no crate of this name" for it in lost}
+    with tempfile.TemporaryDirectory(prefix="attack-") as folder:
+        room = pathlib.Path(folder) / "copy"
+        copy_repository(room)
+        results.update(attack(room, [it for it in names or known if it not in lost]))
+    wrong = {name: why for name, why in results.items() if why}
+    for name, why in sorted(wrong.items()):
+        print(f"FAILED: {name}: {why}")
+    print(f"{len(results) - len(wrong)} passed, {len(wrong)} failed")
+    return 1 if wrong or not results else 0
+
+
+if __name__ == "__main__":
+    sys.exit(main(sys.argv[1:]))
