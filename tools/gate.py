@@ -2,10 +2,10 @@
 """The gate: every proof from nothing, then the recorded sessions on the programs that came of it.
 
 Runs `rt ci` at the top of the repository and passes on what it prints. Meanwhile it looks, twice a
-second, on which crates the prover and the compilers are at work; from that it prints how long each crate
-took. Then it plays each session of examples/sessions to the built rs_replay, and compares the
-example configurations with those that are tested. The last line is 'N passed, M failed' over all of it;
-the exit status is 0 where nothing failed.
+second, at the processes of the prover and of the compilers; from that it prints how long each crate's
+proofs, tests and edits took. Then it plays each session of examples/sessions to the built rs_replay, and
+compares the example configurations with those that are tested. The last line is 'N passed, M failed' over
+all of it; the exit status is 0 where nothing failed.
 
 It reads the repository, and writes nothing but what `rt ci` itself writes.
 """
@@ -27,59 +27,69 @@ from results import tell
 
 TOP = pathlib.Path(__file__).resolve().parent.parent
 PAUSE = 0.5
+TICK = os.sysconf("SC_CLK_TCK")
+KINDS = ("proofs", "tests", "edits")
+
+Process = collections.namedtuple("Process", "parent seconds")
 
 
-def parents():
-    """The parent of each process."""
-    of = {}
+def processes():
+    """Each process by its number: its parent, and the processor time of itself and of its children that have ended."""
+    found = {}
     for pid in filter(str.isdigit, os.listdir("/proc")):
         try:
             stat = pathlib.Path(f"/proc/{pid}/stat").read_text()
         except OSError:
             continue
-        of[int(pid)] = int(stat.rpartition(")")[2].split()[1])
-    return of
+        # What stands behind the name in its brackets: the state, the parent, .., four times in ticks.
+        fields = stat.rpartition(")")[2].split()
+        found[int(pid)] = Process(int(fields[1]), sum(map(int, fields[11:15])) / TICK)
+    return found
 
 
-def crate_of(pid):
-    """The crate that a process of the prover or of a compiler works on, or None."""
+def task_of(pid):
+    """The crate that a process of the prover or of a compiler works on, and for what; or None."""
     try:
-        words = pathlib.Path(f"/proc/{pid}/cmdline").read_bytes().split(b"\0")
+        words = pathlib.Path(f"/proc/{pid}/cmdline").read_bytes().decode(errors="replace").split("\0")
+        folder = os.path.basename(os.readlink(f"/proc/{pid}/cwd"))
     except OSError:
         return None
-    if b"--crate-name" not in words[:-1]:
+    if "--crate-name" not in words[:-1]:
         return None
-    return words[words.index(b"--crate-name") + 1].decode()
+    crate = words[words.index("--crate-name") + 1]
+    if folder.startswith("rt-edit-"):
+        return crate, "edits"
+    return crate, "tests" if "--test" in words else "proofs"
 
 
-def busy_crates(gate):
-    """The crates that some process below the gate works on."""
-    of, busy = parents(), set()
-    for pid in of:
-        above = pid
-        while above in of and above != gate:
-            above = of[above]
-        if above == gate:
-            busy.add(crate_of(pid))
-    return busy - {None}
+def look(gate, tasks, seconds):
+    """Notes the processor time of each task so far. A task is the topmost process that names its crate, with all below it."""
+    found, now = processes(), collections.Counter()
+    for pid in found:
+        above, top = pid, None
+        while above in found and above != gate:
+            if above not in tasks:
+                tasks[above] = task_of(above)
+            if tasks[above]:
+                top = above
+            above = found[above].parent
+        if above == gate and top:
+            now[top] += found[pid].seconds
+    seconds.update(now)
 
 
-def watch(gate, over, seconds):
-    """Adds up, for each crate, how long some process was at work on it."""
-    last = time.monotonic()
+def watch(gate, over, tasks, seconds):
+    """Looks again and again, until it is over."""
     while not over.wait(PAUSE):
-        now = time.monotonic()
-        for crate in busy_crates(gate):
-            seconds[crate] += now - last
-        last = now
+        look(gate, tasks, seconds)
 
 
 def run_gate():
-    """Runs `rt ci`; answers its counts, and the seconds of each crate."""
-    seconds, over = collections.Counter(), threading.Event()
+    """Runs `rt ci`; answers its counts, and the processor seconds of each crate and kind."""
+    tasks, seconds, over = {}, {}, threading.Event()
     line = ""
     with subprocess.Popen(["rt", "ci"], cwd=TOP, stdout=subprocess.PIPE, stderr=subprocess.STDOUT, text=True) as gate:
-        watcher = threading.Thread(target=watch, args=(gate.pid, over, seconds), daemon=True)
+        watcher = threading.Thread(target=watch, args=(gate.pid, over, tasks, seconds), daemon=True)
         watcher.start()
         for line in gate.stdout:
             print(line, end="", flush=True)
@@ -90,14 +100,20 @@ def run_gate():
     passed, failed = (int(it) for it in counts.groups()) if counts else (0, 1)
     if status and not failed:
         failed = 1
-    return passed, failed, seconds
+    took = collections.Counter()
+    for top, spent in seconds.items():
+        took[tasks[top]] += spent
+    return passed, failed, took
 
 
-def tell_times(seconds, started):
-    """How long each crate took, the longest first, and the whole."""
-    print("\nHow long some process was at work on each crate, proofs and wrong bodies together, in seconds:")
-    for crate, took in sorted(seconds.items(), key=lambda it: -it[1]):
-        print(f"  {crate:<12} {took:6.0f}")
+def tell_times(took, started):
+    """How long each crate's proofs, tests and edits took, the longest crate first, and the whole."""
+    whole = lambda crate: sum(took[crate, kind] for kind in KINDS)
+    print("\nProcessor seconds of each crate's proofs (with what is compiled), tests and edits:")
+    print(f"  {'':<12}" + "".join(f"{it:>8}" for it in (*KINDS, "whole")))
+    for crate in sorted({crate for crate, _ in took}, key=whole, reverse=True):
+        figures = [*(took[crate, kind] for kind in KINDS), whole(crate)]
+        print(f"  {crate:<12}" + "".join(f"{it:8.0f}" for it in figures))
     used = resource.getrusage(resource.RUSAGE_CHILDREN)
     print(
         f"The whole: {time.monotonic() - started:.0f} seconds on {len(os.sched_getaffinity(0))} processors, "
@@ -110,8 +126,8 @@ def main():
         print("rt, the command of the Rattle toolchain, is not on the PATH\n0 passed, 1 failed")
         return 1
     started = time.monotonic()
-    passed, failed, seconds = run_gate()
-    tell_times(seconds, started)
+    passed, failed, took = run_gate()
+    tell_times(took, started)
     sessions = play(TOP / "crates/rs_replay/out/rs_replay", TOP / "examples/sessions")
     held, differ = tell(itertools.chain(sessions, check()))
     passed, failed = passed + held, failed + differ
