@@ -28,13 +28,13 @@ lasts_by false f k e = cc
 lasts_by true (Ends said) k e = cc
 lasts_by true GoesOn k e = (refl, refl)
 
-live_lasts : (s : Settings) (items : List Item) → is_live (state_of s items) ≡ true → Lasts s items
+pub live_lasts : (s : Settings) (items : List Item) → is_live (state_of s items) ≡ true → Lasts s items
 live_lasts s items e =
     let h : (is_connected items ≡ true) × (fate s items ≡ GoesOn) = lasts_by (is_connected items)
     (fate s items) (message_count items) e in
     record { connected = h.0; goes_on = h.1 }
 
-count_by : (k : ℕ) → state_by true GoesOn k ≡ states.Established → (more : ℕ) × (k ≡ suc (suc more))
+pub count_by : (k : ℕ) → state_by true GoesOn k ≡ states.Established → (more : ℕ) × (k ≡ suc (suc more))
 count_by zero e = cc
 count_by (suc zero) e = cc
 count_by (suc (suc k)) e = (k, refl)

@@ -4,3 +4,5 @@ pub mod Standing
 pub mod Messages
 pub mod Moments
 pub mod Lasting
+pub mod Briefs
+pub mod Updates

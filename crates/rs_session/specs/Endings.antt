@@ -1,5 +1,5 @@
 -- What ends a session, and with which NOTIFICATION (RFC 4271, 6).
-use Rattle.std.specs.Prelude.{ℕ, zero, suc, ◌-◌, ◌/◌, ◌%◌, Bool, not, ◌&&◌, nat_eq, nat_le, min, Option, Some, None, Result, Ok, Err, if◌then◌else◌}
+use Rattle.std.specs.Prelude.{ℕ, zero, suc, ◌-◌, ◌/◌, ◌%◌, Bool, not, ◌&&◌, nat_eq, nat_le, ◌≤◌, min, length, take, Option, Some, None, Result, Ok, Err, ⊤, if◌then◌else◌}
 use Rattle.rs_octets.specs.declared.heads.HeaderFault.{HeaderFault}
 use Rattle.rs_octets.specs.declared.heads.HeaderFault.TheVariants as header
 use Rattle.rs_open.specs.Notes.{note, note_1, note_2}
@@ -7,6 +7,7 @@ use Rattle.rs_open.specs.declared.open.Open.{Open}
 use Rattle.rs_open.specs.declared.open.OpenFault.{OpenFault}
 use Rattle.rs_open.specs.declared.open.OpenFault.TheVariants as fault
 use Rattle.rs_open.specs.declared.short.Short.{Short}
+use Rattle.rs_open.specs.declared.short.Short.TheVariants as short
 use Rattle.rs_session.specs.declared.heard.Heard.{Heard}
 use Rattle.rs_session.specs.declared.heard.Heard.TheVariants as heard
 
@@ -100,3 +101,16 @@ expired = note 4 0
 
 abbrev pub moment_fate : ℕ → ℕ → ℕ → Fate
 moment_fate time since now = if is_past time since now then Ends (Some expired) else GoesOn
+
+-- ---- what is said at an end
+
+-- a NOTIFICATION with at most two octets of data
+abbrev pub IsBrief : Short → Type 0
+IsBrief short.Open = ⊥
+IsBrief short.Keepalive = ⊥
+IsBrief (short.Note code sub extra count) = length (take count extra) ≤ 2
+
+-- such a one, or nothing
+abbrev pub IsBriefEnd : Option Short → Type 0
+IsBriefEnd None = ⊤
+IsBriefEnd (Some said) = IsBrief said

@@ -11,7 +11,7 @@ use Rattle.rs_session.specs.declared.session.Session.{Session}
 use Rattle.rs_session.specs.declared.phase.Phase.{Phase}
 use Rattle.rs_session.specs.declared.phase.Phase.TheVariants as phases
 use Rattle.rs_session.specs.declared.phase.Peer.{Peer}
-use Rattle.rs_session.specs.Items.{Item, greatest, is_connected, message_count, hold_timer_since, open_heard}
+use Rattle.rs_session.specs.Items.{Item, Left, greatest, is_connected, message_count, hold_timer_since, open_heard}
 use Rattle.rs_session.specs.Endings.{GoesOn, Ends}
 use Rattle.rs_session.specs.Sessions.{fate, state_of, is_live, agreed_of, keepalive_timer_since, act_of}
 
@@ -55,6 +55,10 @@ pub record Holds (session : Session) (settings : Settings) (items : List Item) :
   pub settings_are : session.settings ≡ settings
   pub latest : session.latest ≡ greatest items
   pub phase : Stands session.phase settings items
+
+-- what is configured of a session, whatever it has heard
+unfoldable pub configured : Session → Settings
+configured session = session.settings
 
 -- the session of a client with these settings has come to this by these items, the newest first
 unfoldable pub HasHeard : Session → Settings → List Item → Type 0
@@ -130,3 +134,16 @@ pub record RespondsAt (new : Session) (item : Item) (act : Act) (settings : Sett
 -- an item befell the session, and it answered as it is defined
 abbrev pub RespondsTo : Session → Session → Item → Act → Type 0
 RespondsTo old new item act = Whenever old (RespondsAt new item act)
+
+-- a session that lasts has nothing to do behind a message only where it is Established, and so takes what the message says
+abbrev pub TakesAt : Act → Settings → List Item → Type 0
+TakesAt act settings items =
+    act ≡ acts.None → is_live (state_of settings items) ≡ true → state_of settings items ≡ states.Established
+
+abbrev pub Takes : Session → Act → Type 0
+Takes session act = Whenever session (TakesAt act)
+
+-- its connection is lost, and of what it has heard the greatest moment alone still counts
+abbrev pub Forgets : Session → Session → Type 0
+Forgets old new = Whenever old (λ settings items.
+    (others : List Item) → greatest others ≡ greatest items → HasHeard new settings (Left ∷ others))

@@ -1,14 +1,16 @@
 -- Laws of sessions.
-use Rattle.std.specs.Prelude.{◌≡◌, ◌≢◌, ℕ, ◌-◌, ◌/◌, ◌<◌, ◌≤◌, true, min, List, [], ◌∷◌, ◌++◌, All, Some, Ok}
+use Rattle.std.specs.Prelude.{◌≡◌, ◌≢◌, ℕ, ◌-◌, ◌/◌, ◌<◌, ◌≤◌, true, min, List, [], ◌∷◌, ◌++◌, All, Option, Some, None, Ok}
+use Rattle.rs_open.specs.Notes.{note}
 use Rattle.rs_open.specs.declared.open.Open.{Open}
+use Rattle.rs_open.specs.declared.short.Short.{Short}
 use Rattle.rs_session.specs.declared.heard.Heard.{Heard}
 use Rattle.rs_session.specs.declared.heard.Heard.TheVariants as heard
 use Rattle.rs_session.specs.declared.act.State.TheVariants as states
 use Rattle.rs_session.specs.declared.act.Act.TheVariants as acts
 use Rattle.rs_session.specs.declared.settings.Settings.{Settings}
 use Rattle.rs_session.specs.Items.{Item, Came, Message, Moment, Left, greatest, hold_timer_since, open_heard}
-use Rattle.rs_session.specs.Endings.{GoesOn, is_peer, later_fate, hold_time}
-use Rattle.rs_session.specs.Sessions.{state_of, is_live, agreed_of, keepalive_timer_since, act_of}
+use Rattle.rs_session.specs.Endings.{GoesOn, Ends, is_peer, unexpected, later_fate, hold_time, IsBriefEnd}
+use Rattle.rs_session.specs.Sessions.{fate, state_of, is_live, agreed_of, keepalive_timer_since, act_of}
 
 -- the messages heard since the connection came, the newest first
 abbrev pub messages_heard : List Item → List Heard
@@ -57,3 +59,25 @@ abbrev pub EndsOnce : Type 0
 EndsOnce =
     (settings : Settings) (items : List Item)
     → state_of settings items ≡ states.Closing → IsOver settings items
+
+-- each end is said by a NOTIFICATION with at most two octets of data, or by nothing
+abbrev pub EndsBriefly : Type 0
+EndsBriefly =
+    (settings : Settings) (items : List Item) (said : Option Short) → fate settings items ≡ Ends said → IsBriefEnd said
+
+-- what becomes of an UPDATE while a session lasts (RFC 4271, 8.2.2): one that comes too early ends the session, an
+-- Established session takes it and stays so, or ends by its session reset
+pub record TakesUpdates (settings : Settings) (items : List Item) : Type 0 where
+  pub early : (reset : Option (ℕ × ℕ)) → state_of settings items ≢ states.Established
+      → act_of settings (Message (heard.Update reset)) items ≡ acts.Down (Some unexpected)
+  pub taken : state_of settings items ≡ states.Established
+      → act_of settings (Message (heard.Update None)) items ≡ acts.None
+  pub stays : state_of settings items ≡ states.Established
+      → state_of settings (Message (heard.Update None) ∷ items) ≡ states.Established
+  pub reset : (code sub : ℕ) → state_of settings items ≡ states.Established
+      → act_of settings (Message (heard.Update (Some (code, sub)))) items ≡ acts.Down (Some (note code sub))
+
+abbrev pub UpdatesAreTaken : Type 0
+UpdatesAreTaken =
+    (settings : Settings) (items : List Item)
+    → is_live (state_of settings items) ≡ true → TakesUpdates settings items

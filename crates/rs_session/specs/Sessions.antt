@@ -1,5 +1,5 @@
 -- The session of a client, read off the list of what befell it (RFC 4271, 8).
-use Rattle.std.specs.Prelude.{ℕ, zero, suc, ◌-◌, ◌/◌, Bool, true, false, not, ◌&&◌, nat_eq, nat_le, List, [], ◌∷◌, Option, Some, None, if◌then◌else◌}
+use Rattle.std.specs.Prelude.{ℕ, zero, suc, ◌-◌, ◌/◌, Bool, true, false, not, ◌&&◌, nat_eq, nat_le, List, [], ◌∷◌, Option, Some, None, ⊤, if◌then◌else◌}
 use Rattle.rs_attrs.specs.declared.mode.Mode.{Mode}
 use Rattle.rs_attrs.specs.declared.mode.Mode.TheVariants as modes
 use Rattle.rs_open.specs.declared.open.Open.{Open}
@@ -14,7 +14,7 @@ use Rattle.rs_session.specs.declared.act.Act.{Act}
 use Rattle.rs_session.specs.declared.act.Act.TheVariants as acts
 use Rattle.rs_session.specs.declared.settings.Settings.{Settings}
 use Rattle.rs_session.specs.Items.{Item, Came, Message, Moment, Left, greatest, is_connected, message_count, hold_timer_since, open_heard}
-use Rattle.rs_session.specs.Endings.{Fate, GoesOn, Ends, message_fate, moment_fate, hold_time}
+use Rattle.rs_session.specs.Endings.{Fate, GoesOn, Ends, IsBriefEnd, message_fate, moment_fate, hold_time}
 
 -- ---- the end
 
@@ -169,3 +169,13 @@ act_of settings (Moment t) items =
     then moment_act (item_fate settings (Moment t) items) (falls_due settings t items)
     else acts.None
 act_of settings Left items = acts.None
+
+-- a session says its OPEN or a KEEPALIVE, and ends with a brief NOTIFICATION or with none
+abbrev pub SaysBriefly : Act → Type 0
+SaysBriefly acts.None = ⊤
+SaysBriefly (acts.Say short.Open) = ⊤
+SaysBriefly (acts.Say short.Keepalive) = ⊤
+SaysBriefly (acts.Say (short.Note code sub extra count)) = ⊥
+SaysBriefly acts.Up = ⊤
+SaysBriefly (acts.Down said) = IsBriefEnd said
+SaysBriefly acts.Again = ⊤

@@ -1,6 +1,6 @@
 //! Laws of the definitions. Each contract is the law; the bodies do nothing.
 
-ghost use Rattle.rs_session.specs.Laws.{BringsUp, KeepsTime, EndsOnce};
+ghost use Rattle.rs_session.specs.Laws.{BringsUp, KeepsTime, EndsOnce, EndsBriefly, UpdatesAreTaken};
 
 /// An Established session heard an OPEN of the client's AS, then a KEEPALIVE, then only what ends
 /// nothing (RFC 4271, 8.2.2).
@@ -20,4 +20,18 @@ pub fn sessions_keep_time()
 #[tactic(auto, using(crate::proofs::Lasting::ends_once))]
 pub fn sessions_end_once()
     ensures { EndsOnce }
+{}
+
+/// A session ends with a NOTIFICATION that has at most two octets of data, or with none
+/// (RFC 4271, 6).
+#[tactic(auto, using(crate::proofs::Briefs::ends_briefly))]
+pub fn sessions_end_briefly()
+    ensures { EndsBriefly }
+{}
+
+/// While a session lasts, an UPDATE is taken where it is Established and is no session reset, and ends
+/// the session else (RFC 4271, 8.2.2).
+#[tactic(auto, using(crate::proofs::Updates::updates_are_taken))]
+pub fn established_sessions_take_updates()
+    ensures { UpdatesAreTaken }
 {}

@@ -22,13 +22,14 @@ impl Session {
     ghost use Rattle.rs_session.specs.Steps.{message_step, moment_step};
     ghost use Rattle.rs_session.specs.Items.{Came, Message, Moment, Left};
     ghost use Rattle.rs_session.specs.Sessions.{state_of, is_live, agreed_of};
-    ghost use Rattle.rs_session.specs.Sessions.{agreed_mode, agreed_identifier, agreed_limit};
-    ghost use Rattle.rs_session.specs.Hearing.{HasHeard, Whenever, Shows, RespondsTo};
+    ghost use Rattle.rs_session.specs.Sessions.{agreed_mode, agreed_identifier, agreed_limit, SaysBriefly};
+    ghost use Rattle.rs_session.specs.Hearing.{configured, HasHeard, Whenever, Shows, RespondsTo, Takes, Forgets};
 
     /// A session of a client with these settings: Idle, and no moment was seen.
-    #[tactic(auto, unfolding(crate::specs::Hearing::HasHeard))]
+    #[tactic(auto, unfolding(crate::specs::Hearing::HasHeard, crate::specs::Hearing::configured))]
     pub fn new(settings: Settings) -> Session
-        ensures { HasHeard result settings [] }
+        ensures heard { HasHeard result settings [] }
+        ensures configured { configured result ≡ settings }
     {
         Session {
             settings,
@@ -37,10 +38,21 @@ impl Session {
         }
     }
 
+    /// What was configured of it.
+    #[tactic(auto, using(crate::proofs::Phases::settings_heard), unfolding(crate::specs::Hearing::configured))]
+    pub fn settings(&self) -> Settings
+        ensures configured { result ≡ configured self.now }
+        ensures heard { Whenever self.now (λ settings items. result ≡ settings) }
+    {
+        self.settings
+    }
+
     /// A connection has come. The answer is to say our OPEN.
-    #[tactic(auto, using(crate::proofs::Messages::came_hears, crate::proofs::Phases::idle_heard))]
+    #[tactic(auto, using(crate::proofs::Messages::came_hears, crate::proofs::Phases::idle_heard), unfolding(crate::specs::Hearing::configured))]
     pub fn opened(&mut self) -> Result<Act, Busy>
         ensures ok { IfOk result (λ act. RespondsTo self.old self.new Came act) }
+        ensures brief { IfOk result SaysBriefly }
+        ensures configured { configured self.new ≡ configured self.old }
         ensures busy { OnErr result (self.new ≡ self.old) }
         ensures busy_unless_idle { OnErr result (Whenever self.old (λ settings items.
             state_of settings items ≢ State.Idle)) }
@@ -55,27 +67,37 @@ impl Session {
     }
 
     /// A message was heard, or the fault of a header. While there is no session that lasts, it
-    /// changes nothing.
+    /// changes nothing; a session that lasts answers None only where it is Established and has taken
+    /// what the message says.
+    #[tactic(auto, unfolding(crate::specs::Hearing::configured))]
     pub fn message(&mut self, heard: Heard) -> Act
         ensures hears { RespondsTo self.old self.new (Message heard) result }
         ensures over { Whenever self.old (λ settings items.
             is_live (state_of settings items) ≡ false → self.new ≡ self.old) }
+        ensures takes { Takes self.old result }
+        ensures brief { SaysBriefly result }
+        ensures configured { configured self.new ≡ configured self.old }
     {
         self.hear(heard)
     }
 
     /// A moment is seen, in seconds; one that is less than an earlier one counts as the greatest
     /// so far.
+    #[tactic(auto, unfolding(crate::specs::Hearing::configured))]
     pub fn moment(&mut self, t: u64) -> Act
-        ensures { RespondsTo self.old self.new (Moment t) result }
+        ensures hears { RespondsTo self.old self.new (Moment t) result }
+        ensures brief { SaysBriefly result }
+        ensures configured { configured self.new ≡ configured self.old }
     {
         self.see(t)
     }
 
-    /// The connection is lost. The greatest moment stays.
-    #[tactic(auto, using(crate::proofs::Phases::idle_heard), unfolding(crate::specs::Hearing::HasHeard))]
+    /// The connection is lost. The greatest moment stays, and nothing else of what was heard counts.
+    #[tactic(auto, using(crate::proofs::Phases::idle_heard, crate::proofs::Updates::left_forgets), unfolding(crate::specs::Hearing::HasHeard, crate::specs::Hearing::configured))]
     pub fn lost(&mut self)
         ensures heard { Whenever self.old (λ settings items. HasHeard self.new settings (Left ∷ items)) }
+        ensures forgotten { Forgets self.old self.new }
+        ensures configured { configured self.new ≡ configured self.old }
         ensures idle { Whenever self.old (λ settings items.
             state_of settings items ≡ State.Idle → self.new ≡ self.old) }
     {
@@ -121,9 +143,10 @@ impl Session {
     }
 
     /// How long a message to the client may be.
-    #[tactic(auto, using(crate::proofs::Phases::settings_heard))]
+    #[tactic(auto, using(crate::proofs::Phases::settings_heard), unfolding(crate::specs::Hearing::configured))]
     pub fn limit(&self) -> Limit
-        ensures { Shows self.now agreed_limit result }
+        ensures limit { Shows self.now agreed_limit result }
+        ensures extended { result ≡ Limit.Long → (configured self.now).extended ≡ true }
     {
         match self.agreed() {
             Some(sent) => {

@@ -118,6 +118,7 @@ fn established(rt: &impl Abort) -> Session {
 #[test]
 fn comes_up_and_goes(rt: HostRuntime) {
     let mut session = Session::new(SETTINGS);
+    assert_eq!(rt; session.settings(), SETTINGS);
     assert_eq!(rt; session.state(), State::Idle);
     assert_eq!(rt; session.mode(), None);
     assert_eq!(rt; session.opened(), Ok(Act::Say(Short::Open)));
@@ -141,6 +142,7 @@ fn comes_up_and_goes(rt: HostRuntime) {
     assert_eq!(rt; session.opened(), Err(Busy));
     session.lost();
     assert_eq!(rt; session.state(), State::Idle);
+    assert_eq!(rt; session.settings(), SETTINGS);
     assert_eq!(rt; session.opened(), Ok(Act::Say(Short::Open)));
 }
 
