@@ -60,6 +60,7 @@ def attack(room, crates):
         # One after the other, since crates share the libraries that they stand on.
         is_proved, said = run(["check"], room / "crates" / crate)
         print(f"{crate} is {'proved' if is_proved else 'NOT PROVED'} as it is", flush=True)
+        print("".join(f"{it}\n" for it in said.splitlines() if "cannot be applied" in it), end="", flush=True)
         if is_proved:
             proved.append(crate)
         else:
