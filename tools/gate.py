@@ -30,20 +30,20 @@ PAUSE = 0.5
 TICK = os.sysconf("SC_CLK_TCK")
 KINDS = ("proofs", "tests", "edits")
 
-Process = collections.namedtuple("Process", "parent seconds")
+Process = collections.namedtuple("Process", "parent started seconds")
 
 
 def processes():
-    """Each process by its number: its parent, and the processor time of itself and of its children that have ended."""
+    """Each process by its number: its parent, its start, its processor time with that of its children that ended."""
     found = {}
     for pid in filter(str.isdigit, os.listdir("/proc")):
         try:
             stat = pathlib.Path(f"/proc/{pid}/stat").read_text()
         except OSError:
             continue
-        # What stands behind the name in its brackets: the state, the parent, .., four times in ticks.
+        # What stands behind the name in its brackets: the state, the parent, .., four times in ticks, .., the start.
         fields = stat.rpartition(")")[2].split()
-        found[int(pid)] = Process(int(fields[1]), sum(map(int, fields[11:15])) / TICK)
+        found[int(pid)] = Process(int(fields[1]), int(fields[19]), sum(map(int, fields[11:15])) / TICK)
     return found
 
 
@@ -68,10 +68,10 @@ def look(gate, tasks, seconds):
     for pid in found:
         above, top = pid, None
         while above in found and above != gate:
-            if above not in tasks:
-                tasks[above] = task_of(above)
-            if tasks[above]:
-                top = above
+            # Numbers of processes are used again, so a task goes by its start too.
+            key = above, found[above].started
+            if task := tasks.get(key) or task_of(above):
+                tasks[key], top = task, key
             above = found[above].parent
         if above == gate and top:
             now[top] += found[pid].seconds
