@@ -9,7 +9,7 @@ use Rattle.rs_attrs.specs.declared.attrs.Head.{Head}
 use Rattle.rs_attrs.specs.declared.reading_field.Found.{Found}
 use Rattle.rs_attrs.specs.Spellings.{Spelling}
 use Rattle.rs_attrs.specs.Held.{attribute_by, attributes_in, values_size}
-use Rattle.rs_attrs.specs.Meaning.{Attribute, attribute_with, meant, is_as4, value_in}
+use Rattle.rs_attrs.specs.Meaning.{Attribute, attribute_with, meant, is_as4, value_meant}
 use Rattle.rs_attrs.specs.Walking.{noted, meant_by, head_at, spelling_in}
 use Rattle.rs_attrs.proofs.KeepWalk.{types_from, types_step, types_end, types_all}
 
@@ -78,30 +78,30 @@ building_end mode places heads values i had h =
 -- ---- the places
 
 pub as4_none : (mode : Mode) (places : List (Option Found)) (i : ℕ) → is_as4 i ≡ true → meant mode (noted places) i ≡ None
-as4_none mode places i e = ap (λ b. cond b None (option_map (λ s. attribute_with (value_in mode (noted places) s) s) (noted places i))) e
+as4_none mode places i e = ap (λ b. cond b None (option_map (λ s. attribute_with (value_meant mode (noted places) s) s) (noted places i))) e
 
 pub meant_none : (mode : Mode) (places : List (Option Found)) (i : ℕ) → noted places i ≡ None → meant mode (noted places) i ≡ None
 meant_none mode places i e =
-    ap (λ o. cond (is_as4 i) None (option_map (λ s. attribute_with (value_in mode (noted places) s) s) o)) e ∙ same (is_as4 i)
+    ap (λ o. cond (is_as4 i) None (option_map (λ s. attribute_with (value_meant mode (noted places) s) s) o)) e ∙ same (is_as4 i)
   where
     same : (b : Bool) → cond {A = Option Attribute} b None None ≡ None
     same true = refl
     same false = refl
 
-pub meant_some : (mode : Mode) (places : List (Option Found)) (i : ℕ) (s : Spelling) → is_as4 i ≡ false → noted places i ≡ Some s → meant mode (noted places) i ≡ Some (attribute_with (value_in mode (noted places) s) s)
+pub meant_some : (mode : Mode) (places : List (Option Found)) (i : ℕ) (s : Spelling) → is_as4 i ≡ false → noted places i ≡ Some s → meant mode (noted places) i ≡ Some (attribute_with (value_meant mode (noted places) s) s)
 meant_some mode places i s other e =
-    λ i'. cond (other i') None (option_map (λ s. attribute_with (value_in mode (noted places) s) s) (e i'))
+    λ i'. cond (other i') None (option_map (λ s. attribute_with (value_meant mode (noted places) s) s) (e i'))
 
 pub added_length : (old new value : List ℕ) (before after : ℕ) → before ≡ length old → after ≡ length new → new ≡ old ++ value → after - before ≡ length value
 added_length old new value before after before_is after_is e = omega (arith, ap length e, length-append old value)
 
 -- a spelling that is noted, put with its value
 pub building_noted : (mode : Mode) (places : List (Option Found)) (heads heads' : List Head) (values values' : List ℕ) (i : ℕ) (found : Found) (head : Head) (len : ℕ) → Building mode places heads values i → i < 256
-    → is_as4 i ≡ false → get_or places i None ≡ Some found → values' ≡ values ++ value_in mode (noted places) (spelling_in found) → len ≡ length (value_in mode (noted places) (spelling_in found))
+    → is_as4 i ≡ false → get_or places i None ≡ Some found → values' ≡ values ++ value_meant mode (noted places) (spelling_in found) → len ≡ length (value_meant mode (noted places) (spelling_in found))
     → head ≡ head_at (spelling_in found) len → heads' ≡ heads ++ head ∷ [] → Building mode places heads' values' (i + 1)
 building_noted mode places heads heads' values values' i found head len had h other here values_is len_is head_is heads_is =
     let s : Spelling = spelling_in found in
-    let value : List ℕ = value_in mode (noted places) s in
+    let value : List ℕ = value_meant mode (noted places) s in
     let P : List Head → List ℕ → Type 0 = λ heads values. Building mode places heads values (i + 1) in
     let put = building_put mode places heads values i (head_at s len) value had h len_is (meant_some mode places i s other (ap (option_map spelling_in) here)) in
     let Q : List Head → Type 0 = λ hs. P hs (values ++ value) in

@@ -6,7 +6,7 @@ use Rattle.std.proofs.lemmas.Bool.{cases_lt, eq-eqb, ne_eqb}
 use Rattle.rs_attrs.specs.declared.mode.Mode.{Mode}
 use Rattle.rs_attrs.specs.Spellings.{Spelling, IsSpelling}
 use Rattle.rs_attrs.specs.Table.{outcome_of, is_kept}
-use Rattle.rs_attrs.specs.Meaning.{Attribute, attribute_with, that_counts, if_kept, kept_spelling, is_as4, value_in, kept, get, AllAbove, IsRising, IsMeant, meaning_of}
+use Rattle.rs_attrs.specs.Meaning.{Attribute, attribute_with, that_counts, if_kept, kept_spelling, is_as4, value_meant, kept, get, AllAbove, IsRising, IsMeant, meaning_of}
 use Rattle.rs_attrs.proofs.Counting.{counts_kind}
 use Rattle.rs_attrs.proofs.KeepWalk.{types_all}
 
@@ -75,13 +75,13 @@ pub record Behind (mode : Mode) (ss : List Spelling) (kind : ℕ) (a : Attribute
   pub spelling : Spelling
   pub counts : that_counts kind ss ≡ Some spelling
   pub is_kept : is_kept (outcome_of mode spelling) ≡ true
-  pub means : a ≡ attribute_with (value_in mode (kept_spelling mode ss) spelling) spelling
+  pub means : a ≡ attribute_with (value_meant mode (kept_spelling mode ss) spelling) spelling
 
 pub behind : (mode : Mode) (ss : List Spelling) (kind : ℕ) (a : Attribute) → kept mode ss kind ≡ Some a → Behind mode ss kind a
 behind mode ss kind a e = by_tests (is_as4 kind) (kept_spelling mode ss kind) refl e
   where
     by_tests : (b : Bool) (o : Option Spelling) → kept_spelling mode ss kind ≡ o
-        → cond b None (option_map (λ s. attribute_with (value_in mode (kept_spelling mode ss) s) s) o) ≡ Some a → Behind mode ss kind a
+        → cond b None (option_map (λ s. attribute_with (value_meant mode (kept_spelling mode ss) s) s) o) ≡ Some a → Behind mode ss kind a
     by_tests true o p e = cc
     by_tests false None p e = cc
     by_tests false (Some s) p e =
@@ -102,7 +102,7 @@ none_above kind (s ∷ ss) each h =
 
 kept_above : (mode : Mode) (ss : List Spelling) (kind : ℕ) → that_counts kind ss ≡ None → kept mode ss kind ≡ None
 kept_above mode ss kind e =
-    ap (λ o. cond (is_as4 kind) None (option_map (λ s. attribute_with (value_in mode (kept_spelling mode ss) s) s) (if_kept mode o))) e ∙ same (is_as4 kind)
+    ap (λ o. cond (is_as4 kind) None (option_map (λ s. attribute_with (value_meant mode (kept_spelling mode ss) s) s) (if_kept mode o))) e ∙ same (is_as4 kind)
   where
     same : (b : Bool) → cond {A = Option Attribute} b None None ≡ None
     same true = refl

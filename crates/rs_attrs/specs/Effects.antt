@@ -60,7 +60,7 @@ abbrev pub is_empty : {A : Type 0} → List A → Bool
 is_empty [] = true
 is_empty (x ∷ xs) = false
 
--- the first reset that holds of fields that the body is made of (RFC 7606, 3, 5.1 and 5.2)
+-- the first reset that holds of fields that the body is made of (RFC 7606, 3, 5.2 and 5.3)
 abbrev pub reset_of : Fields → Faults → Option (ℕ × ℕ)
 reset_of fields faults =
     if is_faulty fields.withdrawn || is_faulty fields.nlri then Some (3, 10)
@@ -72,6 +72,9 @@ reset_of fields faults =
 -- ORIGIN, AS_PATH or NEXT_HOP isn't there
 abbrev pub lacks_mandatory : List Attribute → Bool
 lacks_mandatory m = is_none (get 1 m) || is_none (get 2 m) || is_none (get 3 m)
+
+abbrev pub HasMandatory : List Attribute → Type 0
+HasMandatory m = lacks_mandatory m ≡ false
 
 -- the NLRI counts as withdrawn (RFC 7606, 2 and 3, d)
 abbrev pub treat_as_withdraw : Fields → List Attribute → Faults → Bool
@@ -110,9 +113,17 @@ abbrev pub attributes_after : Prefix → Option Change → Option (List Attribut
 attributes_after p None = None
 attributes_after p (Some change) = if has_prefix p change.announced then change.attributes else None
 
--- each prefix by the last change that mentions it
+-- The table that changes mean: each prefix by the newest change that mentions it. The newest stands first.
+abbrev pub table_since : List Change → Prefix → Option (List Attribute)
+table_since changes p = attributes_after p (find (mentions p) changes)
+
+-- the same, where the oldest stands first
 abbrev pub table_of : List Change → Prefix → Option (List Attribute)
-table_of changes p = attributes_after p (find (mentions p) (reverse changes))
+table_of changes p = table_since (reverse changes) p
+
+-- a table, and a change that is newer
+abbrev pub overlaid : (Prefix → Option (List Attribute)) → Change → Prefix → Option (List Attribute)
+overlaid table change p = if mentions p change then attributes_after p (Some change) else table p
 
 -- The UPDATEs with these bodies, oldest first, mean this table. A reset ends the session, and the session's
 -- table with it, so a list with a reset in it means none.

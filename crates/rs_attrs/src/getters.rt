@@ -1,8 +1,9 @@
 //! What the attributes of a route say. No call takes memory.
 
-ghost use Rattle.std.specs.Prelude.{◌≡◌, ◌≤◌, ◌<◌, ◌^◌, IfSome, length, option_map, sum_by, true};
+ghost use Rattle.std.specs.Prelude.{◌≡◌, ◌≤◌, ◌<◌, ◌^◌, IfSome, length, option_map, sum_by, true, not};
 ghost use Rattle.std.specs.Int.{w32, from_be_bytes};
 ghost use Rattle.rs_attrs.specs.Held.{attributes_in, values_size};
+ghost use Rattle.rs_attrs.specs.Effects.{lacks_mandatory};
 ghost use Rattle.rs_attrs.specs.Meaning.{get};
 ghost use Rattle.rs_attrs.specs.Paths.{segment_length};
 ghost use Rattle.rs_attrs.specs.Getters.{attribute_at, IsWellFormedAs, value_of, origin_of, path_of, next_hop_of, med_of, communities_of, has_community, path_length_of, path_has_of, origin_as_of};
@@ -129,6 +130,13 @@ impl Attrs {
         ensures { result ≡ origin_as_of self.now }
     {
         self.path().last()?.origin()
+    }
+
+    /// Whether ORIGIN, AS_PATH and NEXT_HOP are there, as in each route (RFC 4271, 5).
+    pub fn has_mandatory(&self) -> bool
+        ensures { result ≡ not (lacks_mandatory self.now) }
+    {
+        self.get(1).is_some() && self.get(2).is_some() && self.get(3).is_some()
     }
 
     /// The communities, none where there is no COMMUNITIES (RFC 1997).

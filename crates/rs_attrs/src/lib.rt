@@ -21,7 +21,7 @@ mod writing;
 
 pub use attrs::Attrs;
 pub use getters::AttributeRef;
-pub use laws::{attributes_are_legal, spelling_reads_back};
+pub use laws::{attributes_are_legal, changes_overlay, slices_are_octets, spelling_reads_back};
 pub use mode::{Faults, Mode};
 pub use reading::{Parsed, read};
 pub use reading_laws::{fields_are_read, fields_mean_one, paths_are_read};

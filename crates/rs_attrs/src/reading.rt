@@ -2,7 +2,7 @@
 
 ghost use Rattle.std.specs.Prelude.{◌≡◌, ◌++◌, IfOk, OnOk};
 ghost use Rattle.rs_attrs.specs.Table.{is_withdraw, is_unknown, is_discard};
-ghost use Rattle.rs_attrs.specs.Meaning.{Reads, is_as4, value_in};
+ghost use Rattle.rs_attrs.specs.Meaning.{Reads, is_as4, value_meant};
 ghost use Rattle.rs_attrs.specs.Writing.{IsLegal};
 ghost use Rattle.rs_attrs.specs.Walking.{NotesKept, some_noted, noted, meant_by, spelling_in, AreKept, AreShort};
 
@@ -103,7 +103,7 @@ fn push_value(
 ) -> Result<(), AllocError>
     requires kept { AreKept mode places.now }
     requires here { noted places.now found.now.kind ≡ Some (spelling_in found.now) }
-    ensures { OnOk result (values.new.items ≡ values.old.items ++ value_in mode (noted places.now) (spelling_in found.now)) }
+    ensures { OnOk result (values.new.items ≡ values.old.items ++ value_meant mode (noted places.now) (spelling_in found.now)) }
 {
     match mode {
         Mode::Four => values.extend_from_slice(found.value),

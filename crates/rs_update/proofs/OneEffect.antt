@@ -9,10 +9,11 @@ use Rattle.rs_attrs.specs.declared.mode.Mode.{Mode}
 use Rattle.rs_attrs.specs.declared.mode.Faults.{Faults}
 use Rattle.rs_attrs.specs.Spellings.{AreOctets}
 use Rattle.rs_attrs.specs.Meaning.{Attribute, Reading, Reads, read_of}
-use Rattle.rs_attrs.specs.Effects.{Fields, IsBody, Effect, Reset, Changes, Change, IsChange, IsEffect, HasEffect, reset_of, announced_by, prefixes_in, has_prefix, same_prefix, is_empty, mentions, attributes_after, once, fields_of, change_of, effect_by, effect_in, effect_of, behind_its_length}
+use Rattle.rs_attrs.specs.Effects.{Fields, IsBody, Effect, Reset, Changes, Change, IsChange, IsEffect, HasEffect, reset_of, announced_by, prefixes_in, has_prefix, same_prefix, is_empty, mentions, attributes_after, once, fields_of, change_of, effect_by, effect_in, effect_of, table_since, behind_its_length}
 use Rattle.rs_attrs.proofs.EachOnce.{once_distinct, once_has, distinct_filtered, filtered_has, same_itself}
+use Rattle.rs_attrs.proofs.Overlaying.{newest_overlays}
 use Rattle.rs_attrs.proofs.OneMeaning.{same_fields, same_meaning, fit_all, fields_are_read}
-use Rattle.rs_update.specs.Laws.{IsSameChange, IsSameEffect, BodiesHaveEffects, BodiesHaveOneEffect, BodiesMeanTables, BodiesMeanOneTable}
+use Rattle.rs_update.specs.Laws.{IsSameChange, IsSameEffect, BodiesHaveEffects, BodiesHaveOneEffect, BodiesMeanTables, BodiesMeanOneTable, SameChangesOverlayAlike}
 use Rattle.rs_update.proofs.BodyFields.{body_of_fields}
 use Rattle.rs_update.proofs.Effecting.{no_fields}
 
@@ -144,6 +145,16 @@ same_found p (x ∷ xs) (y ∷ ys) same = by_test (mentions p y) (λ i. same.0.w
         ap (λ b. attributes_after p (cond b (Some x) (find (mentions p) xs))) e
         ∙ (λ i. cond (same.0.announced p i) (same.0.attributes i) None)
     by_test false e later = ap (λ b. attributes_after p (cond b (Some x) (find (mentions p) xs))) e ∙ later
+
+pub overlay_alike : SameChangesOverlayAlike
+overlay_alike x y changes p same =
+    newest_overlays x changes p
+    ∙ (λ i. cond (same.withdrawn p i || same.announced p i) (cond (same.announced p i) (same.attributes i) None) (table_since changes p))
+    ∙ sym (newest_overlays y changes p)
+
+-- an effect of octets is what is computed of them
+pub effect_is : (body : List ℕ) (mode : Mode) (x : Effect) → AreOctets body → HasEffect body mode x → IsSameEffect x (effect_of body mode)
+effect_is body mode x are has = have_one_effect body mode x (effect_of body mode) has (have_effects body mode are)
 
 pub mean_one_table : BodiesMeanOneTable
 mean_one_table bodies mode t u (xs, is, table) (ys, are, other) p =

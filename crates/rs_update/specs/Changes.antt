@@ -5,7 +5,7 @@ use Rattle.std.specs.Arc.{arc_value}
 use Rattle.std.specs.List.Sorted.{IsStrictlySortedBy}
 use Rattle.rs_octets.specs.Prefixes.{Prefix, prefix_order}
 use Rattle.rs_attrs.specs.Meaning.{Attribute}
-use Rattle.rs_attrs.specs.Effects.{Effect, Reset, Changes, Change, has_prefix, same_prefix, is_empty, lacks_mandatory}
+use Rattle.rs_attrs.specs.Effects.{Effect, Reset, Changes, Change, has_prefix, same_prefix, is_empty, HasMandatory}
 use Rattle.rs_update.specs.Outcomes.{SameMembers}
 use Rattle.rs_update.specs.declared.outcome.Routes.{Routes}
 use Rattle.rs_update.specs.declared.outcome.Outcome.{Outcome}
@@ -39,9 +39,9 @@ HasItsAttributes (outcome.Reset code subcode) = Unit {0}
 HasItsAttributes (outcome.Change withdrawn announced attrs) = is_none attrs ≡ is_empty announced.items
 
 -- ORIGIN, AS_PATH and NEXT_HOP are among the attributes of an outcome (RFC 7606, 3, d)
-abbrev pub HasMandatory : Outcome → Type 0
-HasMandatory (outcome.Reset code subcode) = Unit {0}
-HasMandatory (outcome.Change withdrawn announced attrs) = MatchOption attrs (Unit {0}) (λ m. lacks_mandatory (arc_value m) ≡ false)
+abbrev pub HasItsMandatory : Outcome → Type 0
+HasItsMandatory (outcome.Reset code subcode) = Unit {0}
+HasItsMandatory (outcome.Change withdrawn announced attrs) = MatchOption attrs (Unit {0}) (λ m. HasMandatory (arc_value m))
 
 -- both are withdrawn, and nothing is announced
 pub record IsWithdrawn (withdrawn nlri : List Prefix) (change : Change) : Type 0 where

@@ -1,11 +1,11 @@
 -- Laws of the definition: octets have an effect and no second one, so that a list of UPDATEs means one table.
-use Rattle.std.specs.Prelude.{◌≡◌, ℕ, List, Option}
+use Rattle.std.specs.Prelude.{◌≡◌, ℕ, List, ◌∷◌, Option}
 use Rattle.std.specs.List.{AllByRecursion, AllZip}
 use Rattle.rs_octets.specs.Prefixes.{Prefix}
 use Rattle.rs_attrs.specs.declared.mode.Mode.{Mode}
 use Rattle.rs_attrs.specs.Spellings.{AreOctets}
 use Rattle.rs_attrs.specs.Meaning.{Attribute}
-use Rattle.rs_attrs.specs.Effects.{Effect, Reset, Changes, Change, HasEffect, MeansTable, has_prefix, effect_of, table_of}
+use Rattle.rs_attrs.specs.Effects.{Effect, Reset, Changes, Change, HasEffect, MeansTable, has_prefix, effect_of, table_since, table_of}
 
 -- both withdraw the same prefixes and announce the same ones with the same attributes
 pub record IsSameChange (x y : Change) : Type 0 where
@@ -38,3 +38,7 @@ BodiesMeanTables =
 abbrev pub BodiesMeanOneTable : Type 0
 BodiesMeanOneTable =
     (bodies : List (List ℕ)) (mode : Mode) (t u : Prefix → Option (List Attribute)) → MeansTable bodies mode t → MeansTable bodies mode u → (p : Prefix) → t p ≡ u p
+
+-- changes that are the same lie over a table in the same way; the newest stands first
+abbrev pub SameChangesOverlayAlike : Type 0
+SameChangesOverlayAlike = (x y : Change) (changes : List Change) (p : Prefix) → IsSameChange x y → table_since (x ∷ changes) p ≡ table_since (y ∷ changes) p

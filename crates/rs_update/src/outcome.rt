@@ -1,9 +1,10 @@
 //! The effect of an UPDATE (RFC 7606, 2 to 5).
 
 ghost use Rattle.std.specs.Prelude.{◌≡◌, IfOk};
-ghost use Rattle.rs_attrs.specs.Effects.{HasEffect, treat_as_withdraw, lacks_mandatory};
+ghost use Rattle.rs_attrs.specs.Effects.{HasEffect, effect_of, treat_as_withdraw};
 ghost use Rattle.rs_update.specs.Outcomes.{fields_in, subcode_of};
-ghost use Rattle.rs_update.specs.Changes.{effect_seen, change_seen, IsRising, AreDistinct, AreApart, HasItsAttributes, HasMandatory, IsWithdrawn, IsAnnounced};
+ghost use Rattle.rs_update.specs.Laws.{IsSameEffect};
+ghost use Rattle.rs_update.specs.Changes.{effect_seen, change_seen, IsRising, AreDistinct, AreApart, HasItsAttributes, HasItsMandatory, IsWithdrawn, IsAnnounced};
 
 use crate::fields::{Fields, cut_body};
 use crate::prefixes::{make_rising, prefixes, take_away};
@@ -59,18 +60,11 @@ fn reset_by(faults: &Faults, fields: &Fields<'_>) -> Option<u8>
     None
 }
 
-/// ORIGIN, AS_PATH or NEXT_HOP isn't there.
-fn lacks(attrs: &Attrs) -> bool
-    ensures { result ≡ lacks_mandatory attrs.now }
-{
-    attrs.get(1).is_none() || attrs.get(2).is_none() || attrs.get(3).is_none()
-}
-
 /// Whether the NLRI counts as withdrawn (RFC 7606, 2 and 3, d).
 fn treats_as_withdraw(parsed: &Parsed, fields: &Fields<'_>) -> bool
     ensures { result ≡ treat_as_withdraw (fields_in fields.now) parsed.now.attrs parsed.now.faults }
 {
-    parsed.faults.withdraw || !fields.nlri.is_empty() && lacks(&parsed.attrs)
+    parsed.faults.withdraw || !fields.nlri.is_empty() && !parsed.attrs.has_mandatory()
 }
 
 /// Withdraws all that an UPDATE names.
@@ -126,11 +120,12 @@ fn announce(
 /// `AllocError` where memory was refused.
 pub fn effect(alloc: Global, body: &[u8], mode: Mode) -> Result<Outcome, AllocError>
     ensures effect { IfOk result (λ outcome. HasEffect body.now mode (effect_seen outcome)) }
+    ensures computed { IfOk result (λ outcome. IsSameEffect (effect_seen outcome) (effect_of body.now mode)) }
     ensures rising { IfOk result IsRising }
     ensures distinct { IfOk result AreDistinct }
     ensures apart { IfOk result AreApart }
     ensures attributes { IfOk result HasItsAttributes }
-    ensures mandatory { IfOk result HasMandatory }
+    ensures mandatory { IfOk result HasItsMandatory }
 {
     let Some(fields) = cut_body(body) else {
         return Ok(Outcome::Reset(UPDATE_MESSAGE_ERROR, MALFORMED_ATTRIBUTE_LIST));

@@ -3,7 +3,7 @@ use Rattle.std.specs.Prelude.{option_map}
 use Rattle.std.specs.Prelude.{Vec}
 use Rattle.std.specs.Global.{Global}
 use Rattle.rs_attrs.specs.declared.attrs.Head.{Head}
-use Rattle.rs_attrs.specs.Meaning.{value_in}
+use Rattle.rs_attrs.specs.Meaning.{value_meant}
 use Rattle.rs_attrs.specs.Walking.{noted, spelling_in}
 use Rattle.rs_attrs.proofs.Building.{Building, building_start, building_skip, building_noted, added_length, as4_none, meant_none}
 use Rattle.rs_attrs.proofs.reading.attributes_of.Goals as goal
@@ -21,7 +21,7 @@ loop-kind-preserved-then-has_no_meaning c =
 
 pub overflow_cast-len : goal.overflow_cast-len
 overflow_cast-len c =
-    let added : c.len.result - c.len-before.result ≡ length (value_in c.args.mode (noted c.args.places.now) (spelling_in c.in-Some.found)) =
+    let added : c.len.result - c.len-before.result ≡ length (value_meant c.args.mode (noted c.args.places.now) (spelling_in c.in-Some.found)) =
     added_length _ _ _ _ _ (omega (arith, c.len-before.ensures, c.loop-kind.values.ok.0)) (omega (arith, c.len.ensures, c.push_value.new.values.ok.0)) c.in_ok-push_value.ensures in
     let short = c.requires.short c.loop-kind.kind (spelling_in c.in-Some.found) (ap (option_map spelling_in) c.in-Some.is) in
     omega (arith, added, short)

@@ -2,10 +2,12 @@ use Rattle.std.proofs.Common.{◌≡◌, ℕ, true, false, List, Vec, Global, Op
 use Rattle.std.specs.Prelude.{MatchOption, option_map}
 use Rattle.rs_octets.specs.declared.prefix.Prefix.{Prefix as DeclaredPrefix}
 use Rattle.rs_attrs.specs.Effects.{Reset, Changes, is_faulty, prefixes_in}
+use Rattle.rs_attrs.proofs.OneMeaning.{are_octets}
 use Rattle.rs_update.specs.Outcomes.{fields_in}
 use Rattle.rs_update.specs.Changes.{change_seen}
 use Rattle.rs_update.proofs.Effecting.{no_fields, by_reading, withdrawn_faulty, nlri_faulty, by_attributes, is_withdrawn, is_announced, same_withdrawn, same_announced, rising_distinct, BothRise, withdrawn_rise, announced_rise}
 use Rattle.rs_update.proofs.Mandatory.{has_mandatory, seen_complete}
+use Rattle.rs_update.proofs.OneEffect.{effect_is}
 use Rattle.rs_update.proofs.outcome.effect.Goals as goal
 use Rattle.rs_update.proofs.outcome.effect.Goals.{then-treats_as_withdraw+in_ok-withdraw_all, else-treats_as_withdraw+in_ok-withdrawn-2}
 
@@ -61,6 +63,23 @@ returns-clause-effect c =
             (same_announced _ _ _ _ _ _ _ withdrawn.1 nlri.1 (ap change_seen w.withdrawn-is) w.in_ok-withdrawn-2.ensures)
       ],
     )
+
+-- what is computed of the body
+
+pub returns-in_default-clause-computed : goal.returns-in_default-clause-computed
+returns-in_default-clause-computed c = effect_is c.args.body.now c.args.mode _ (are_octets c.args.body.now (λ i. omega (arith, c.type_inv.body i))) (returns-in_default-clause-effect c)
+
+pub returns-in_default-2-clause-computed : goal.returns-in_default-2-clause-computed
+returns-in_default-2-clause-computed c = effect_is c.args.body.now c.args.mode _ (are_octets c.args.body.now (λ i. omega (arith, c.type_inv.body i))) (returns-in_default-2-clause-effect c)
+
+pub returns-in_default-3-clause-computed : goal.returns-in_default-3-clause-computed
+returns-in_default-3-clause-computed c = effect_is c.args.body.now c.args.mode _ (are_octets c.args.body.now (λ i. omega (arith, c.type_inv.body i))) (returns-in_default-3-clause-effect c)
+
+pub returns-in-Some-reset_by-clause-computed : goal.returns-in-Some-reset_by-clause-computed
+returns-in-Some-reset_by-clause-computed c = effect_is c.args.body.now c.args.mode _ (are_octets c.args.body.now (λ i. omega (arith, c.type_inv.body i))) (returns-in-Some-reset_by-clause-effect c)
+
+pub returns-clause-computed : goal.returns-clause-computed
+returns-clause-computed c = effect_is c.args.body.now c.args.mode (Changes (change_seen c.if-treats_as_withdraw.withdrawn)) (are_octets c.args.body.now (λ i. omega (arith, c.type_inv.body i))) (returns-clause-effect c)
 
 -- the lists of what is answered
 rises : (c : goal.Joined-treats_as_withdraw) → BothRise (change_seen c.if-treats_as_withdraw.withdrawn)
