@@ -128,11 +128,6 @@ fit_all (o ∷ octets) are = by_index (fit_all octets are.1)
     by_index later zero = are.0
     by_index later (suc i) = later i
 
--- and from cells to the list
-pub are_octets : (octets : List ℕ) → FitOctets octets → AreOctets octets
-are_octets [] fit = tt
-are_octets (o ∷ octets) fit = (fit 0, are_octets octets (λ i. fit (suc i)))
-
 pub fields_are_read : FieldsAreRead
 fields_are_read octets mode are =
     let split = splits_of octets (fit_all octets are) in

@@ -2,7 +2,7 @@ use Rattle.std.proofs.Common.{◌≡◌, ℕ, true, false, List, Vec, Global, Op
 use Rattle.std.specs.Prelude.{MatchOption, option_map}
 use Rattle.rs_octets.specs.declared.prefix.Prefix.{Prefix as DeclaredPrefix}
 use Rattle.rs_attrs.specs.Effects.{Reset, Changes, is_faulty, prefixes_in}
-use Rattle.rs_attrs.proofs.OneMeaning.{are_octets}
+use Rattle.rs_attrs.proofs.Legal.{are_octets}
 use Rattle.rs_update.specs.Outcomes.{fields_in}
 use Rattle.rs_update.specs.Changes.{change_seen}
 use Rattle.rs_update.proofs.Effecting.{no_fields, by_reading, withdrawn_faulty, nlri_faulty, by_attributes, is_withdrawn, is_announced, same_withdrawn, same_announced, rising_distinct, BothRise, withdrawn_rise, announced_rise}
