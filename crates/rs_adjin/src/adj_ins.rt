@@ -1,14 +1,15 @@
 //! The Adj-RIBs-In of all clients.
 #![tactic(auto, unfolding(crate::specs::AdjIns::client_count, crate::specs::AdjIns::identifier_of, crate::specs::AdjIns::held_of, crate::specs::AdjIns::number_of, crate::specs::AdjIns::prefix_of))]
 
-ghost use Rattle.std.specs.Prelude.{◌≡◌, false, IsTrue, ◌≢◌, ◌<◌, ℕ, Some, None, ◌↔◌, length, slice_get, is_some, IsSome, IfOk, OnOk, OnErr, All, Contains};
-ghost use Rattle.std.specs.List.{AllPairs};
+ghost use Rattle.std.specs.Prelude.{◌≡◌, true, false, IsTrue, ◌<◌, ℕ, Some, None, ◌↔◌, length, slice_get, is_some, IsSome, option_map, IfOk, OnOk, OnErr, All, Contains};
+ghost use Rattle.std.specs.List.{IsDistinct};
 ghost use Rattle.std.specs.List.Sorted.{IsStrictlySortedBy};
 ghost use Rattle.std.specs.Map.{keys_of};
 ghost use Rattle.std.specs.Map.Iter.{ShowsInOrder, deref, deref_pair};
 ghost use Rattle.std.specs.Arc.{arc_value};
 ghost use Rattle.std.specs.BTreeSet.{BTreeSet};
 ghost use Rattle.rs_octets.specs.Prefixes.{Prefix, prefix_order};
+ghost use Rattle.rs_attrs.specs.Effects.{has_prefix, same_prefix};
 ghost use Rattle.rs_adjin.specs.declared.routes.Route.{Route};
 ghost use Rattle.rs_adjin.specs.Table.{IsTable, IsOfClients, IsHeldBy, TellsChange};
 ghost use Rattle.rs_adjin.specs.Mandatory.{HasMandatory, AllHaveMandatory};
@@ -16,8 +17,8 @@ ghost use Rattle.rs_adjin.specs.Listing.{Counts};
 
 use crate::candidates::Candidates;
 use crate::numbers::Numbered;
-use crate::routes::Route;
-use crate::table::{clear_in, count_in, put_in, withdraw_in};
+use crate::routes::{Route, route_in};
+use crate::table::{clear_in, count_in, put_in, put_row, withdraw_in};
 use rs_attrs::Attrs;
 use rs_octets::Prefix;
 use std::alloc::{AllocError, Global};
@@ -41,7 +42,7 @@ pub struct AdjIns {
 }
 
 impl AdjIns {
-    ghost use Rattle.rs_adjin.specs.AdjIns.{client_count, identifier_of, held_of, Sets, Clears, Begins, Same, ListsRoutes, WouldHold, candidates_of, number_of, prefix_of, KeepsNumbers, SameNumbers, GivesUp};
+    ghost use Rattle.rs_adjin.specs.AdjIns.{client_count, identifier_of, held_of, Sets, Clears, Begins, Same, ListsRoutes, SetsAt, TellsChangeAt, would_hold, candidates_of, number_of, prefix_of, KeepsNumbers, SameNumbers, GivesUp};
 
     /// Empty tables for so many clients.
     pub fn new(alloc: Global, clients: usize) -> Result<AdjIns, AllocError>
@@ -106,6 +107,38 @@ impl AdjIns {
         put_in(self.alloc, &mut self.table, held, client, prefix, attrs)
     }
 
+    /// The number of a prefix, which gets one if it has none.
+    pub fn add(&mut self, prefix: Prefix) -> Result<u32, AllocError>
+        ensures number { IfOk result (λ n. number_of self.new prefix ≡ Some n) }
+        ensures prefix { IfOk result (λ n. prefix_of self.new n ≡ Some prefix) }
+        ensures numbers { KeepsNumbers self.old self.new }
+        ensures same { Same self.old self.new }
+    {
+        self.table.add(self.alloc, prefix)
+    }
+
+    /// The client announces a route for the prefix of a number, as `put` has it.
+    pub fn put_at(
+        &mut self,
+        client: usize,
+        number: u32,
+        attrs: &Arc<Attrs>,
+    ) -> Result<bool, AllocError>
+        requires client { client < client_count self.old }
+        requires number { IsSome (prefix_of self.old number) }
+        requires mandatory { HasMandatory (arc_value attrs.now) }
+        ensures ok { OnOk result (SetsAt self.old self.new client number (Some (arc_value attrs.now))) }
+        ensures changed { IfOk result (λ changed. TellsChangeAt changed self.old client number (Some (arc_value attrs.now))) }
+        ensures err { OnErr result (Same self.old self.new) }
+        ensures numbers { SameNumbers self.old self.new }
+    {
+        let Some(prefix) = self.table.prefix(number) else {
+            return Err(AllocError);
+        };
+        let held = &mut self.held[client];
+        put_row(&mut self.table, number, held, client, prefix, attrs)
+    }
+
     /// The client withdraws its route, and the answer says whether there was one.
     pub fn withdraw(&mut self, client: usize, prefix: Prefix) -> bool
         requires { client < client_count self.old }
@@ -118,6 +151,20 @@ impl AdjIns {
         }
         self.held[client].remove(&prefix);
         true
+    }
+
+    /// The client withdraws its route for the prefix of a number, as `withdraw` has it.
+    pub fn withdraw_at(&mut self, client: usize, number: u32) -> bool
+        requires client { client < client_count self.old }
+        requires number { IsSome (prefix_of self.old number) }
+        ensures taken { (p : Prefix) → number_of self.old p ≡ Some number → result ≡ is_some (held_of self.old client p) }
+        ensures withdrawn { SetsAt self.old self.new client number None }
+        ensures numbers { SameNumbers self.old self.new }
+    {
+        match self.table.prefix(number) {
+            Some(prefix) => self.withdraw(client, prefix),
+            None => false,
+        }
     }
 
     /// The client's routes go, and its identifier stays.
@@ -142,10 +189,10 @@ impl AdjIns {
     /// How many prefixes the client would hold after an UPDATE that withdraws and announces these.
     pub fn count_after(&self, client: usize, withdrawn: &[Prefix], announced: &[Prefix]) -> usize
         requires client { client < client_count self.now }
-        requires withdrawn { AllPairs (λ p q. p ≢ q) withdrawn.now }
-        requires announced { AllPairs (λ p q. p ≢ q) announced.now }
-        requires apart { (p : Prefix) → Contains withdrawn.now p → Contains announced.now p → ⊥ }
-        ensures { Counts (WouldHold self.now client withdrawn.now announced.now) result }
+        requires withdrawn { IsDistinct same_prefix withdrawn.now }
+        requires announced { IsDistinct same_prefix announced.now }
+        requires apart { (p : Prefix) → has_prefix p withdrawn.now ≡ true → has_prefix p announced.now ≡ false }
+        ensures { Counts (would_hold self.now client withdrawn.now announced.now) result }
     {
         let held = &self.held[client];
         let gone = count_in(held, withdrawn);
@@ -163,10 +210,21 @@ impl AdjIns {
         }
     }
 
+    /// The attributes that the client announced for a prefix.
+    pub fn route(&self, client: usize, prefix: Prefix) -> Option<&Arc<Attrs>>
+        ensures { option_map (λ attrs. arc_value attrs.now) result ≡ held_of self.now client prefix }
+    {
+        match self.table.number(prefix) {
+            Some(number) => route_in(self.table.routes(number), client),
+            None => None,
+        }
+    }
+
     /// The candidates for a prefix: the routes with their senders' BGP Identifiers, by rising
     /// client.
     pub fn candidates(&self, prefix: Prefix) -> Candidates<'_>
-        ensures { result ≡ candidates_of self.now prefix }
+        ensures value { result ≡ candidates_of self.now prefix }
+        ensures known { All (λ c. c.client < client_count self.now) result }
     {
         Candidates::new(self.at(prefix), &self.identifiers)
     }
@@ -176,6 +234,7 @@ impl AdjIns {
     pub fn number(&self, prefix: Prefix) -> Option<u32>
         ensures number { result ≡ number_of self.now prefix }
         ensures inverse { (p : Prefix) (n : ℕ) → number_of self.now p ≡ Some n ↔ prefix_of self.now n ≡ Some p }
+        ensures held { (c : ℕ) → IsSome (held_of self.now c prefix) → IsSome result }
     {
         self.table.number(prefix)
     }

@@ -73,7 +73,7 @@ fn put_among(
 }
 
 /// Gives a client a route in the row of its prefix, and answers whether that changes what it has.
-fn put_row(
+pub(crate) fn put_row(
     table: &mut Numbered,
     number: u32,
     held: &mut BTreeSet<Prefix>,

@@ -1,0 +1,10 @@
+use Rattle.std.specs.List.{IsDistinct}
+use Rattle.rs_adjin.proofs.tests.count_without.Goals as goal
+
+pub count_after-requires-clause-withdrawn : goal.count_after-requires-clause-withdrawn
+unfolding IsDistinct
+count_after-requires-clause-withdrawn c = (tt, tt)
+
+pub count_after-requires-clause-announced : goal.count_after-requires-clause-announced
+unfolding IsDistinct
+count_after-requires-clause-announced c = tt
