@@ -9,10 +9,10 @@ use Rattle.std.proofs.lemmas.Grind.{flat_map-append}
 use Rattle.std.proofs.lemmas.List.{append-nil, length-take-le, take-append-drop, take-append-le}
 use Rattle.rs_octets.specs.declared.heads.Allowed.{Allowed}
 use Rattle.rs_octets.specs.declared.heads.Head.{Head}
-use Rattle.rs_octets.specs.declared.heads.TypeRow.{TypeRow}
+use Rattle.rs_octets.specs.declared.heads.Kind.{Kind}
 use Rattle.rs_octets.specs.declared.heads.HeaderFault.{HeaderFault}
 use Rattle.rs_octets.specs.declared.heads.HeaderFault.TheVariants as faults
-use Rattle.rs_octets.specs.Headers.{header_of, longest, type_row, length_field, type_field, head_of_type}
+use Rattle.rs_octets.specs.Headers.{header_of, longest, kind_numbered, least_length, greatest_length, length_field, type_field, head_of_type}
 use Rattle.rs_octets.specs.Laws.{GrowsBy}
 use Rattle.rs_octets.specs.Messages.{IsMessage, BeginsNoMessage, Cuts, Hears, header_fault_of, heard_of, length_within, message_length, messages_behind, rest_behind, messages_of, rest_of}
 
@@ -23,9 +23,9 @@ both_true true b h = refl
 both_true false b h = cc
 
 -- a good header says a length of 19 or more
-header_long : (allowed : Allowed) (header : List ℕ) (head : Head) → header_of allowed header ≡ Ok head → 19 ≤ head.length
+pub header_long : (allowed : Allowed) (header : List ℕ) (head : Head) → header_of allowed header ≡ Ok head → 19 ≤ head.length
 header_long allowed header head e =
-    by_tests (list_all (λ b. b == 255) (take 16 header)) (is_in_range 19 (longest allowed) len) (type_row allowed number) refl e
+    by_tests (list_all (λ b. b == 255) (take 16 header)) (is_in_range 19 (longest allowed) len) (kind_numbered allowed number) refl e
   where
     len : ℕ
     len = length_field header
@@ -33,16 +33,16 @@ header_long allowed header head e =
     number : ℕ
     number = type_field header
 
-    by_row : (within : Bool) (row : TypeRow) → 19 ≤ len → cond within (Ok (record { length = len; kind = row.kind })) (Err (faults.Length len)) ≡ Ok head → 19 ≤ head.length
-    by_row true row h e = let same : len ≡ head.length = cc in omega arith
-    by_row false row h e = cc
+    by_kind : (within : Bool) (kind : Kind) → 19 ≤ len → cond within (Ok (record { length = len; kind = kind })) (Err (faults.Length len)) ≡ Ok head → 19 ≤ head.length
+    by_kind true kind h e = let same : len ≡ head.length = cc in omega arith
+    by_kind false kind h e = cc
 
-    by_tests : (marker within : Bool) (row : Option TypeRow) → is_in_range 19 (longest allowed) len ≡ within
-        → cond marker (cond within (head_of_type row len number) (Err (faults.Length len))) (Err faults.Marker) ≡ Ok head → 19 ≤ head.length
-    by_tests false within row p e = cc
-    by_tests true false row p e = cc
+    by_tests : (marker within : Bool) (kind : Option Kind) → is_in_range 19 (longest allowed) len ≡ within
+        → cond marker (cond within (head_of_type allowed kind len number) (Err (faults.Length len))) (Err faults.Marker) ≡ Ok head → 19 ≤ head.length
+    by_tests false within kind p e = cc
+    by_tests true false kind p e = cc
     by_tests true true None p e = cc
-    by_tests true true (Some row) p e = by_row (is_in_range row.least row.greatest len) row (leb-true 19 len (both_true _ _ p)) e
+    by_tests true true (Some kind) p e = by_kind (is_in_range (least_length kind) (greatest_length allowed kind) len) kind (leb-true 19 len (both_true _ _ p)) e
 
 -- a message that stands at the front is found there
 found : (allowed : Allowed) (message after : List ℕ) → IsMessage allowed message → message_length allowed (message ++ after) ≡ length message
@@ -137,7 +137,7 @@ pub cuts_of : (allowed : Allowed) (octets : List ℕ) → Cuts allowed octets (m
 cuts_of allowed octets = cuts_behind allowed octets 0
 
 -- octets that begin with no message are all rest
-stops_are : (allowed : Allowed) (octets : List ℕ) → BeginsNoMessage allowed octets → (messages_of allowed octets ≡ []) × (rest_of allowed octets ≡ octets)
+pub stops_are : (allowed : Allowed) (octets : List ℕ) → BeginsNoMessage allowed octets → (messages_of allowed octets ≡ []) × (rest_of allowed octets ≡ octets)
 stops_are allowed [] stops = (refl, refl)
 stops_are allowed (octet ∷ octets) stops = by_length (message_length allowed (octet ∷ octets)) refl
   where
@@ -146,7 +146,7 @@ stops_are allowed (octet ∷ octets) stops = by_length (message_length allowed (
     by_length (suc n) e = absurd (stops (take (suc n) (octet ∷ octets)) (drop n octets) (stands allowed (octet ∷ octets) n e).is (sym (take-append-drop (suc n) (octet ∷ octets))))
 
 -- one message at the front
-first_message : (allowed : Allowed) (message tail : List ℕ) → IsMessage allowed message
+pub first_message : (allowed : Allowed) (message tail : List ℕ) → IsMessage allowed message
     → (messages_of allowed (message ++ tail) ≡ message ∷ messages_of allowed tail) × (rest_of allowed (message ++ tail) ≡ rest_of allowed tail)
 first_message allowed [] tail is = absurd (omega (arith, is.0))
 first_message allowed (octet ∷ octets) tail is =
@@ -176,7 +176,7 @@ cuts_only allowed octets (message ∷ messages) rest cut =
 
 -- ---- pieces
 
-each_append : (allowed : Allowed) (xs ys : List (List ℕ)) → AllByRecursion (IsMessage allowed) xs → AllByRecursion (IsMessage allowed) ys → AllByRecursion (IsMessage allowed) (xs ++ ys)
+pub each_append : (allowed : Allowed) (xs ys : List (List ℕ)) → AllByRecursion (IsMessage allowed) xs → AllByRecursion (IsMessage allowed) ys → AllByRecursion (IsMessage allowed) (xs ++ ys)
 each_append allowed [] ys first then = then
 each_append allowed (x ∷ xs) ys first then = (first.0, each_append allowed xs ys first.1 then)
 
@@ -255,11 +255,14 @@ octet_by_octet allowed octets octet =
       | inr is ↦ inr (joined.0 ∙ ap (λ ms. messages_of allowed octets ++ ms) is.0 ∙ append-nil (messages_of allowed octets), joined.1 ∙ is.1)
     ]
 
--- a message alone is heard
+-- a message alone is cut off, and nothing is left
+pub alone : (allowed : Allowed) (message : List ℕ) → IsMessage allowed message → (messages_of allowed message ≡ message ∷ []) × (rest_of allowed message ≡ [])
+alone allowed message is =
+    let first = first_message allowed message [] is in
+    let itself : message ++ [] ≡ message = append-nil message in
+    (ap (messages_of allowed) (sym itself) ∙ first.0, ap (rest_of allowed) (sym itself) ∙ first.1)
+
 pub heard_alone : (allowed : Allowed) (message : List ℕ) → IsMessage allowed message → heard_of allowed message ≡ Ok message ∷ []
 heard_alone allowed message is =
-    let first = first_message allowed message [] is in
-    let alone : message ++ [] ≡ message = append-nil message in
-    let messages : messages_of allowed message ≡ message ∷ [] = ap (messages_of allowed) (sym alone) ∙ first.0 in
-    let rest : rest_of allowed message ≡ [] = ap (rest_of allowed) (sym alone) ∙ first.1 in
-    λ i. map Ok (messages i) ++ header_fault_of allowed (rest i)
+    let only = alone allowed message is in
+    λ i. map Ok (only.0 i) ++ header_fault_of allowed (only.1 i)

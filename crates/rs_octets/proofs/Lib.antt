@@ -1,7 +1,9 @@
 pub mod Cut
 pub mod Fields
+pub mod Fronting
 pub mod GoodHeaders
 pub mod Masked
+pub mod Pieces
 pub mod PrefixLemmas
 pub mod Rows
 pub mod Writing

@@ -5,7 +5,8 @@ use Rattle.rs_octets.specs.declared.heads.Kind.TheVariants.{Open, Update, Note, 
 use Rattle.rs_octets.specs.declared.prefix.FieldFault.TheVariants.{TooLong, Cut}
 use Rattle.rs_octets.specs.declared.heads.Allowed.{Allowed}
 use Rattle.rs_octets.specs.Headers.{header_of}
-use Rattle.rs_octets.specs.Messages.{messages_of, rest_of, heard_of}
+use Rattle.rs_octets.specs.Messages.{messages_of, rest_of, heard_of, newly_heard, message_octets}
+use Rattle.rs_octets.specs.Fronts.{wanted_behind}
 use Rattle.rs_octets.specs.PrefixFields.{prefixes_of}
 
 abbrev digit : ℕ → ℕ
@@ -134,6 +135,34 @@ heard_marker = refl
 
 heard_part : heard_of plain (a_keepalive ++ take 46 an_update) ≡ Ok a_keepalive ∷ []
 heard_part = refl
+
+-- ---- pieces
+
+-- the end of the UPDATE is what makes it heard
+heard_at_its_end : newly_heard plain (a_keepalive ++ take 46 an_update) (0x64 ∷ []) ≡ Ok an_update ∷ []
+heard_at_its_end = refl
+
+-- nothing is heard behind a fault
+heard_behind_a_fault : newly_heard plain (an_update ++ m (codes "0013 05")) an_update ≡ []
+heard_behind_a_fault = refl
+
+-- ---- what is wanted at the front
+
+wants_a_header : wanted_behind plain [] ≡ 19
+wants_a_header = refl
+
+wants_an_octet_of_a_header : wanted_behind plain (take 18 an_update) ≡ 1
+wants_an_octet_of_a_header = refl
+
+wants_a_body : wanted_behind plain (take 19 an_update) ≡ 28
+wants_a_body = refl
+
+wants_nothing : wanted_behind plain an_update ≡ 0
+wants_nothing = refl
+
+-- what is written is read
+written_update : message_octets Update (hex (codes "0000 0014 40010100 40020602010000fbf0 400304c000020b 18c63364")) ≡ an_update
+written_update = refl
 
 -- ---- fields of prefixes
 

@@ -33,3 +33,10 @@ writes_then at next a b both old mid new parts e fits first second =
     let P : List ℕ → Type 0 = λ both. Writes at both old new in
     let Q : ℕ → Type 0 = λ next. Writes next b mid new in
     subst P (sym parts) (writes-append at a b old mid new (omega (arith, fits, ap length parts, length-append a b)) first (subst Q e second))
+
+-- octets written behind those that stand at the front
+pub written : (so_far more octets old mid new : List ℕ) (end : ℕ) → more ≡ octets → end ≡ length so_far → length so_far + length octets ≤ length old
+    → Writes 0 so_far old mid → Writes end more mid new → Writes 0 (so_far ++ octets) old new
+written so_far more octets old mid new end is at room first second =
+    writes_then 0 end so_far more (so_far ++ octets) old mid new
+    (ap (λ xs. so_far ++ xs) (sym is)) (omega (arith, at)) (omega (arith, room, length-append so_far octets)) first second

@@ -1,15 +1,29 @@
 -- The one cut of octets into messages and a rest, and what is heard of them (RFC 4271, 4.1 and 6.1).
-use Rattle.std.specs.Prelude.{◌≡◌, ℕ, zero, suc, ◌≤◌, List, [], ◌∷◌, ◌++◌, length, map, take, Result, Ok, Err, IsOkAnd, nat_lt, if◌then◌else◌}
+use Rattle.std.specs.Prelude.{◌≡◌, ℕ, zero, suc, ◌+◌, ◌≤◌, List, [], ◌∷◌, ◌++◌, length, map, take, drop, Result, Ok, Err, IsOkAnd, nat_lt, if◌then◌else◌}
 use Rattle.std.specs.List.{flat_map, AllByRecursion}
 use Rattle.rs_octets.specs.declared.heads.Allowed.{Allowed}
 use Rattle.rs_octets.specs.declared.heads.Head.{Head}
+use Rattle.rs_octets.specs.declared.heads.Kind.{Kind}
 use Rattle.rs_octets.specs.declared.heads.HeaderFault.{HeaderFault}
-use Rattle.rs_octets.specs.Headers.{header_of}
+use Rattle.rs_octets.specs.Headers.{header_of, header_octets}
 
 -- a whole message: its header is good and says its length
 abbrev pub IsMessage : Allowed → List ℕ → Type 0
 IsMessage allowed octets =
     (19 ≤ length octets) × IsOkAnd (header_of allowed (take 19 octets)) (λ head. head.length ≡ length octets)
+
+-- a whole message of this type
+abbrev pub IsMessageOf : Allowed → Kind → List ℕ → Type 0
+IsMessageOf allowed kind octets =
+    (19 ≤ length octets) × (header_of allowed (take 19 octets) ≡ Ok (record { length = length octets; kind = kind }))
+
+-- what stands behind a message's header
+abbrev pub body_of : List ℕ → List ℕ
+body_of message = drop 19 message
+
+-- the message of this type with this body
+abbrev pub message_octets : Kind → List ℕ → List ℕ
+message_octets kind body = header_octets (19 + length body) kind ++ body
 
 -- octets of which no message is a front
 abbrev pub BeginsNoMessage : Allowed → List ℕ → Type 0
@@ -73,3 +87,7 @@ rest_of allowed octets = rest_behind allowed 0 octets
 
 abbrev pub heard_of : Allowed → List ℕ → List (Result (List ℕ) HeaderFault)
 heard_of allowed octets = map Ok (messages_of allowed octets) ++ header_fault_of allowed (rest_of allowed octets)
+
+-- what octets say that those before them did not
+abbrev pub newly_heard : Allowed → List ℕ → List ℕ → List (Result (List ℕ) HeaderFault)
+newly_heard allowed before octets = drop (length (heard_of allowed before)) (heard_of allowed (before ++ octets))

@@ -1,10 +1,12 @@
 //! Message headers and their checks (RFC 4271, 4.1 and 6.1).
 
-ghost use Rattle.std.specs.Prelude.{◌≡◌, ◌==◌};
+ghost use Rattle.std.specs.Prelude.{◌≡◌, ◌==◌, ◌≤◌, length, IfOk};
 ghost use Rattle.std.specs.List.{list_all};
 ghost use Rattle.std.specs.Int.{is_in_range};
-ghost use Rattle.rs_octets.specs.Headers.{longest, type_row, header_of};
+ghost use Rattle.rs_octets.specs.Headers.{longest, type_number, kind_numbered, least_length, greatest_length, HasLengthOfType, header_of, header_octets};
+ghost use Rattle.rs_octets.specs.Writes.{Writes};
 
+use crate::writes::put;
 use byteorder::{BigEndian, ByteOrder};
 use thiserror::Error;
 
@@ -53,14 +55,6 @@ pub enum HeaderFault {
     Kind(u8),
 }
 
-/// A type of messages, and the least and the greatest length of one.
-#[derive(Clone, Copy)]
-struct TypeRow {
-    kind: Kind,
-    least: u16,
-    greatest: u16,
-}
-
 /// The greatest length of a message.
 fn longest_message(allowed: Allowed) -> u16
     ensures { result ≡ longest allowed }
@@ -68,23 +62,57 @@ fn longest_message(allowed: Allowed) -> u16
     if allowed.long { 65535 } else { 4096 }
 }
 
-fn row_of_type(allowed: Allowed, number: u8) -> Option<TypeRow>
-    ensures { result ≡ type_row allowed number }
-{
-    let longest = longest_message(allowed);
-    let (kind, least, greatest) = match number {
-        1 => (Kind::Open, 29, 4096),
-        2 => (Kind::Update, 23, longest),
-        3 => (Kind::Note, 21, longest),
-        4 => (Kind::Keepalive, 19, 19),
-        5 if allowed.refresh => (Kind::Refresh, 23, 23),
-        _ => return None,
-    };
-    Some(TypeRow {
-        kind,
-        least,
-        greatest,
-    })
+impl Kind {
+    /// The number of the type.
+    pub fn number(self) -> u8
+        ensures { result ≡ type_number self }
+    {
+        match self {
+            Kind::Open => 1,
+            Kind::Update => 2,
+            Kind::Note => 3,
+            Kind::Keepalive => 4,
+            Kind::Refresh => 5,
+        }
+    }
+
+    /// The type that a number stands for.
+    fn numbered(number: u8, allowed: Allowed) -> Option<Kind>
+        ensures { result ≡ kind_numbered allowed number }
+    {
+        match number {
+            1 => Some(Kind::Open),
+            2 => Some(Kind::Update),
+            3 => Some(Kind::Note),
+            4 => Some(Kind::Keepalive),
+            5 if allowed.refresh => Some(Kind::Refresh),
+            _ => None,
+        }
+    }
+
+    /// The least length of a message of this type.
+    pub fn least_length(self) -> u16
+        ensures { result ≡ least_length self }
+    {
+        match self {
+            Kind::Open => 29,
+            Kind::Update => 23,
+            Kind::Note => 21,
+            Kind::Keepalive => 19,
+            Kind::Refresh => 23,
+        }
+    }
+
+    /// The greatest length of a message of this type.
+    pub fn greatest_length(self, allowed: Allowed) -> u16
+        ensures { result ≡ greatest_length allowed self }
+    {
+        match self {
+            Kind::Open => 4096,
+            Kind::Update | Kind::Note => longest_message(allowed),
+            Kind::Keepalive | Kind::Refresh => self.least_length(),
+        }
+    }
 }
 
 fn is_within(least: u16, greatest: u16, length: u16) -> bool
@@ -102,7 +130,8 @@ fn is_marker(octets: &[u8]) -> bool
 /// Reads a message's header: the marker, the length, the type and the length of that type are
 /// checked in this order, and the first check that fails is the fault.
 pub fn header(octets: &[u8; 19], allowed: Allowed) -> Result<Head, HeaderFault>
-    ensures { result ≡ header_of allowed octets.now }
+    ensures value { result ≡ header_of allowed octets.now }
+    ensures length { IfOk result (λ head. HasLengthOfType allowed head) }
 {
     if !is_marker(&octets[..16]) {
         return Err(HeaderFault::Marker);
@@ -112,14 +141,23 @@ pub fn header(octets: &[u8; 19], allowed: Allowed) -> Result<Head, HeaderFault>
         return Err(HeaderFault::Length(length));
     }
     let number = octets[18];
-    let Some(row) = row_of_type(allowed, number) else {
+    let Some(kind) = Kind::numbered(number, allowed) else {
         return Err(HeaderFault::Kind(number));
     };
-    if !is_within(row.least, row.greatest, length) {
+    if !is_within(kind.least_length(), kind.greatest_length(allowed), length) {
         return Err(HeaderFault::Length(length));
     }
-    Ok(Head {
-        length,
-        kind: row.kind,
-    })
+    Ok(Head { length, kind })
+}
+
+/// Writes a message's header at the front of a slice, and answers where it ends. `total` is the
+/// length of the whole message.
+pub fn put_header(out: &mut [u8], total: u16, kind: Kind) -> usize
+    requires { 19 ≤ length out.old }
+    ensures end { result ≡ 19 }
+    ensures octets { Writes 0 (header_octets total kind) out.old out.new }
+{
+    let end = put(out, 0, &[0xff; 16]);
+    let end = put(out, end, &total.to_be_bytes());
+    put(out, end, &[kind.number()])
 }

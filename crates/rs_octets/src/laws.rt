@@ -2,8 +2,10 @@
 //! method is what the law speaks of.
 
 ghost use Rattle.std.specs.Prelude.{◌≡◌, ℕ, List};
-ghost use Rattle.rs_octets.specs.Laws.{IsCut, IsOnlyCut, JoinsPieces, GrowsBy, IsHeard, IsOnlyHeard, IsRead, IsOnlyRead, ReadsBack};
+ghost use Rattle.rs_octets.specs.Laws.{IsCut, IsOnlyCut, JoinsPieces, GrowsBy, IsHeard, IsOnlyHeard, HasType, OfTypeIsMessage, IsHeardAlone, AreHeardOneByOne, HeardStays, NewIsOfTheRest, NothingBehindAFault, PiecesAreHeardAsOne, MessageInFrontIsHeard, FaultInFrontIsHeard, BeginningWaits, BeginningStillWaits, IsRead, IsOnlyRead, ReadsBack};
+ghost use Rattle.std.specs.Cmp.{IsTotalOrder};
 ghost use Rattle.rs_octets.specs.Prefixes.{prefix_order};
+ghost use Rattle.std.proofs.lemmas.Map.Lookups.{CmpEqualImpliesEq};
 ghost use Rattle.rs_octets.specs.declared.heads.Allowed.{Allowed};
 
 use crate::prefix::Prefix;
@@ -31,6 +33,37 @@ pub fn octets_are_heard_in_one_way()
     ensures only { IsOnlyHeard }
 {}
 
+/// A whole message is one of a type, and what is one of a type is a whole message.
+pub fn a_message_has_a_type()
+    ensures has { HasType }
+    ensures is { OfTypeIsMessage }
+{}
+
+/// Messages are heard one by one: one alone with nothing left, and several behind each other in
+/// their order.
+pub fn messages_are_heard()
+    ensures alone { IsHeardAlone }
+    ensures one_by_one { AreHeardOneByOne }
+{}
+
+/// What octets say that those before them did not: it is heard behind what was heard, it does not
+/// matter in which pieces they come, and behind a fault there is nothing.
+pub fn later_octets_are_heard_behind()
+    ensures stays { HeardStays }
+    ensures new { NewIsOfTheRest }
+    ensures fault { NothingBehindAFault }
+    ensures pieces { PiecesAreHeardAsOne }
+{}
+
+/// What is heard of octets by what stands at their front; see [`crate::read_front`]. Where octets
+/// are wanted nothing is heard before they are all there.
+pub fn a_front_is_heard()
+    ensures message { MessageInFrontIsHeard }
+    ensures fault { FaultInFrontIsHeard }
+    ensures waits { BeginningWaits }
+    ensures still { BeginningStillWaits }
+{}
+
 /// A field of prefixes is read in one way (RFC 4271, 4.3).
 pub fn fields_are_read_in_one_way()
     ensures read { IsRead }
@@ -42,9 +75,12 @@ pub fn prefixes_read_back()
     ensures { ReadsBack }
 {}
 
-/// The derived order of prefixes goes by the bits as a number, and then by length.
+/// The derived order of prefixes goes by the bits as a number, and then by length. It is total, and
+/// equal prefixes alone are equal in it.
 pub fn order_of(a: &Prefix, b: &Prefix) -> Ordering
-    ensures { result ≡ prefix_order a.now b.now }
+    ensures value { result ≡ prefix_order a.now b.now }
+    ensures total { IsTotalOrder prefix_order }
+    ensures exact { CmpEqualImpliesEq prefix_order }
 {
     a.cmp(b)
 }

@@ -2,13 +2,17 @@
 //! slices that are lent and go out into slices that are lent; no call takes memory.
 #![tactic(auto)]
 
+mod fronts;
 mod heads;
 pub mod laws;
+mod numbers;
 mod prefix;
 #[cfg(test)]
 mod tests;
 mod writes;
 
-pub use heads::{Allowed, Head, HeaderFault, Kind, header};
+pub use fronts::{Front, read_front};
+pub use heads::{Allowed, Head, HeaderFault, Kind, header, put_header};
+pub use numbers::AS_TRANS;
 pub use prefix::{FieldFault, Prefix, PrefixIter, put_prefix, read_prefixes};
 pub use writes::put;

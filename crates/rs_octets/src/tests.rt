@@ -1,8 +1,8 @@
 //! Values from outside: octets of BGP messages, taken apart by hand.
 
 use crate::{
-    Allowed, FieldFault, Head, HeaderFault, Kind, Prefix, header, laws, put, put_prefix,
-    read_prefixes,
+    AS_TRANS, Allowed, FieldFault, Front, Head, HeaderFault, Kind, Prefix, header, laws, put,
+    put_header, put_prefix, read_front, read_prefixes,
 };
 use std::cmp::Ordering;
 use std::test::Fail;
@@ -57,6 +57,93 @@ fn refuses_headers(rt: HostRuntime) {
     let mut octets = headed(0, 19, 4);
     octets[15] = 0;
     assert!(rt; header(&octets, PLAIN) == Err(HeaderFault::Marker));
+}
+
+#[test]
+fn writes_headers(rt: HostRuntime) {
+    let types = [
+        (Kind::Open, 1, 29, 4096),
+        (Kind::Update, 2, 23, 65535),
+        (Kind::Note, 3, 21, 65535),
+        (Kind::Keepalive, 4, 19, 19),
+        (Kind::Refresh, 5, 23, 23),
+    ];
+    for (kind, number, least, greatest) in types {
+        assert_eq!(rt; kind.number(), number);
+        assert_eq!(rt; kind.least_length(), least);
+        assert_eq!(rt; kind.greatest_length(ALL), greatest);
+        let mut out = [7; 19];
+        assert_eq!(rt; put_header(&mut out, least, kind), 19);
+        assert!(rt; is_head(&out, ALL, least, kind));
+    }
+    assert_eq!(rt; Kind::Update.greatest_length(PLAIN), 4096);
+    assert_eq!(rt; AS_TRANS, 23456);
+}
+
+/// A KEEPALIVE, the withdrawal of 198.51.100.0/24, and 18 octets of the next header.
+const THREE: &[u8] = b"\xff\xff\xff\xff\xff\xff\xff\xff\xff\xff\xff\xff\xff\xff\xff\xff\x00\x13\x04\
+\xff\xff\xff\xff\xff\xff\xff\xff\xff\xff\xff\xff\xff\xff\xff\xff\x00\x1b\x02\x00\x04\x18\xc6\x33\x64\x00\x00\
+\xff\xff\xff\xff\xff\xff\xff\xff\xff\xff\xff\xff\xff\xff\xff\xff\x00\x13";
+
+/// The message in front, and the octets behind it.
+fn message_in(octets: &[u8]) -> Option<(Kind, &[u8], &[u8])> {
+    match read_front(octets, PLAIN) {
+        Front::Message { kind, body, rest } => Some((kind, body, rest)),
+        Front::Fault(_) | Front::Wants(_) => None,
+    }
+}
+
+/// How many octets are wanted, where some are.
+fn wanted(octets: &[u8]) -> Option<usize> {
+    match read_front(octets, PLAIN) {
+        Front::Wants(more) => Some(more),
+        Front::Message { .. } | Front::Fault(_) => None,
+    }
+}
+
+#[test]
+fn reads_messages_from_the_front(rt: HostRuntime) {
+    assert_eq!(rt; THREE.len(), 64);
+    let first = message_in(THREE);
+    assert!(rt; first.is_some());
+    if let Some((kind, body, rest)) = first {
+        assert!(rt; kind == Kind::Keepalive && body.is_empty());
+        assert_eq!(rt; rest.len(), 45);
+        let second = message_in(rest);
+        assert!(rt; second.is_some());
+        if let Some((kind, body, rest)) = second {
+            assert!(rt; kind == Kind::Update);
+            assert!(rt; body == b"\x00\x04\x18\xc6\x33\x64\x00\x00".as_slice());
+            assert_eq!(rt; rest.len(), 18);
+            assert!(rt; wanted(rest) == Some(1));
+        }
+    }
+}
+
+#[test]
+fn wants_the_header_and_then_the_message(rt: HostRuntime) {
+    assert!(rt; wanted(&[]) == Some(19));
+    let update = &THREE[19..46];
+    for come in 0..27 {
+        let more = if come < 19 { 19 - come } else { 27 - come };
+        assert!(rt; wanted(&update[..come]) == Some(more));
+    }
+    assert!(rt; message_in(update).is_some());
+}
+
+#[test]
+fn finds_the_fault_of_a_header(rt: HostRuntime) {
+    let header = headed(0, 23, 5);
+    let is_fault = match read_front(&header, PLAIN) {
+        Front::Fault(fault) => fault == HeaderFault::Kind(5),
+        Front::Message { .. } | Front::Wants(_) => false,
+    };
+    assert!(rt; is_fault);
+    let is_wanted = match read_front(&header, ALL) {
+        Front::Wants(more) => more == 4,
+        Front::Message { .. } | Front::Fault(_) => false,
+    };
+    assert!(rt; is_wanted);
 }
 
 #[test]

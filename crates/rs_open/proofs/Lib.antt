@@ -3,6 +3,6 @@ pub mod Splitting
 pub mod Answering
 pub mod Written
 pub mod Heard
-pub mod HeardAlone
+pub mod ShortMessages
 pub mod NameList
 pub mod GoodOpens

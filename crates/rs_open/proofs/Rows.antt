@@ -5,6 +5,7 @@ use Rattle.rs_open.specs.declared.short.Short.TheVariants.{Keepalive}
 use Rattle.rs_open.specs.declared.writing.ServerOpen.{ServerOpen}
 use Rattle.rs_open.specs.Notes.{note, note_1, note_2}
 use Rattle.rs_open.specs.Opens.{open_of}
+use Rattle.rs_open.specs.Refreshes.{family_of}
 use Rattle.rs_open.specs.Writing.{server_open, short_octets}
 
 abbrev digit : ℕ → ℕ
@@ -34,6 +35,10 @@ no_parameter = refl
 
 version_3 : open_of (hex (codes "03 fbf0 005a c000020b 00")) ≡ Err Version
 version_3 = refl
+
+-- parameters behind a length of two octets (RFC 9072, 2)
+extended_parameters : open_of (hex (codes "04 fbf0 005a c000020b ff ff 0009 02 0006 4104 0000fbf0")) ≡ Err Malformed
+extended_parameters = refl
 
 short_length : open_of (hex (codes "04 fbf0 005a c000020b 07 0206 4104 0000fbf0")) ≡ Err Malformed
 short_length = refl
@@ -154,3 +159,11 @@ bad_type = refl
 
 hold_timer : short_octets (said 64500 false false false) (note 4 0) ≡ m (codes "0015 03 04 00")
 hold_timer = refl
+
+-- ---- ROUTE-REFRESH
+
+ipv4_unicast : family_of (hex (codes "0001 00 01")) ≡ record { afi = 1; safi = 1 }
+ipv4_unicast = refl
+
+ipv6_vpn : family_of (hex (codes "0002 ff 80")) ≡ record { afi = 2; safi = 128 }
+ipv6_vpn = refl

@@ -1,32 +1,28 @@
 -- Octets behind those that are written already.
 use Rattle.std.proofs.Common.{◌≡◌, ℕ, ◌+◌, ◌≤◌, Bool, true, false, List, [], ◌∷◌, ◌++◌, length, refl, sym, ap, subst, arith, length-append}
 use Rattle.rs_octets.specs.Writes.{Writes}
-use Rattle.rs_octets.proofs.Writing.{writes_then}
+use Rattle.rs_octets.proofs.Writing.{written}
 use Rattle.std.specs.List.{flat_map}
 use Rattle.byteorder.specs.Endian.{big_bytes}
 use Rattle.rs_open.specs.declared.writing.ServerOpen.{ServerOpen}
 use Rattle.rs_open.specs.Triples.{triple_octets}
-use Rattle.rs_open.specs.Writing.{header_octets, notification, capabilities_said, multiprotocol, server_open}
+use Rattle.rs_octets.specs.declared.heads.Kind.TheVariants as kinds
+use Rattle.rs_octets.specs.Headers.{header_octets}
+use Rattle.rs_open.specs.Writing.{notification, capabilities_said, multiprotocol, server_open}
 use Rattle.rs_open.specs.Walk.{open_front, capability_octets}
-
-pub written : (so_far more octets old mid new : List ℕ) (end : ℕ) → more ≡ octets → end ≡ length so_far → length so_far + length octets ≤ length old
-    → Writes 0 so_far old mid → Writes end more mid new → Writes 0 (so_far ++ octets) old new
-written so_far more octets old mid new end is at room first second =
-    writes_then 0 end so_far more (so_far ++ octets) old mid new
-    (ap (λ xs. so_far ++ xs) (sym is)) (omega (arith, at)) (omega (arith, room, length-append so_far octets)) first second
 
 -- a header, the code and the subcode, and the data
 pub note_written : (size code sub end next : ℕ) (data_octets more old one two new : List ℕ)
     → size ≡ 21 + length data_octets → more ≡ data_octets → 21 + length data_octets ≤ length old → end ≡ 19 → next ≡ end + 2
-    → Writes 0 (header_octets size 3) old one → Writes end (code ∷ sub ∷ []) one two → Writes next more two new
+    → Writes 0 (header_octets size kinds.Note) old one → Writes end (code ∷ sub ∷ []) one two → Writes next more two new
     → Writes 0 (notification code sub data_octets) old new
 note_written size code sub end next data_octets more old one two new sizes is room a b first second third =
     let total : 19 + length (code ∷ sub ∷ data_octets) ≡ size = omega (arith, sizes) in
-    let whole : header_octets size 3 ++ (code ∷ sub ∷ []) ++ data_octets ≡ notification code sub data_octets = ap (λ n. header_octets n 3 ++ (code ∷ sub ∷ data_octets)) (sym total) in
+    let whole : header_octets size kinds.Note ++ (code ∷ sub ∷ []) ++ data_octets ≡ notification code sub data_octets = ap (λ n. header_octets n kinds.Note ++ (code ∷ sub ∷ data_octets)) (sym total) in
     let P : List ℕ → Type 0 = λ xs. Writes 0 xs old new in
     subst P whole
-    (written (header_octets size 3 ++ (code ∷ sub ∷ [])) more data_octets old two new next is (omega arith) (omega arith)
-    (written (header_octets size 3) (code ∷ sub ∷ []) (code ∷ sub ∷ []) old one two end refl a (omega arith) first second) third)
+    (written (header_octets size kinds.Note ++ (code ∷ sub ∷ [])) more data_octets old two new next is (omega arith) (omega arith)
+    (written (header_octets size kinds.Note) (code ∷ sub ∷ []) (code ∷ sub ∷ []) old one two end refl a (omega arith) first second) third)
 
 -- ---- the server's OPEN
 

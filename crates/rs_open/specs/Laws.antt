@@ -1,10 +1,10 @@
 -- What whoever hears a message of ours has from it.
-use Rattle.std.specs.Prelude.{◌≡◌, ◌≢◌, ℕ, ◌<◌, ◌≤◌, ◌^◌, false, List, [], ◌∷◌, length, take, drop, Some, Ok, ⊤}
+use Rattle.std.specs.Prelude.{◌≡◌, ◌≢◌, ℕ, ◌<◌, ◌≤◌, ◌^◌, false, List, length, take, Some, ⊤}
 use Rattle.rs_octets.specs.declared.heads.Allowed.{Allowed}
 use Rattle.rs_octets.specs.declared.heads.Kind.{Kind}
 use Rattle.rs_octets.specs.declared.heads.Kind.TheVariants as kinds
-use Rattle.rs_octets.specs.Headers.{header_of, longest}
-use Rattle.rs_octets.specs.Messages.{heard_of}
+use Rattle.rs_octets.specs.Headers.{longest}
+use Rattle.rs_octets.specs.Messages.{IsMessageOf, body_of}
 use Rattle.rs_open.specs.declared.open.Open.{Open}
 use Rattle.rs_open.specs.declared.short.Short.{Short}
 use Rattle.rs_open.specs.declared.short.Short.TheVariants as shorts
@@ -22,27 +22,20 @@ Fits allowed (shorts.Note code sub extra count) = length (notification code sub 
 abbrev pub NoteFits : Type 0
 NoteFits = (allowed : Allowed) (code sub : ℕ) (extra : List ℕ) (count : ℕ) → length (take count extra) ≤ 2 → Fits allowed (shorts.Note code sub extra count)
 
--- whoever takes messages of that length hears one message and nothing else
-abbrev pub ShortIsHeardAlone : Type 0
-ShortIsHeardAlone =
-    (allowed : Allowed) (said : ServerOpen) (short : Short) → Fits allowed short
-    → heard_of allowed (short_octets said short) ≡ Ok (short_octets said short) ∷ []
-
 -- the type that stands in its header (RFC 4271, 4.1)
 abbrev pub kind_of : Short → Kind
 kind_of shorts.Open = kinds.Open
 kind_of shorts.Keepalive = kinds.Keepalive
 kind_of (shorts.Note code sub extra count) = kinds.Note
 
--- and its header is a good one, which says its length and its type
-abbrev pub HeaderSaysLengthAndKind : Type 0
-HeaderSaysLengthAndKind =
-    (allowed : Allowed) (said : ServerOpen) (short : Short) → Fits allowed short
-    → header_of allowed (take 19 (short_octets said short)) ≡ Ok (record { length = length (short_octets said short); kind = kind_of short })
+-- to whoever takes messages of that length it is one whole message of its type
+abbrev pub ShortIsMessage : Type 0
+ShortIsMessage =
+    (allowed : Allowed) (said : ServerOpen) (short : Short) → Fits allowed short → IsMessageOf allowed (kind_of short) (short_octets said short)
 
 -- behind the header of an OPEN of ours stands its body
 abbrev pub OpenHasItsBody : Type 0
-OpenHasItsBody = (said : ServerOpen) → drop 19 (server_open said) ≡ body_said said
+OpenHasItsBody = (said : ServerOpen) → body_of (server_open said) ≡ body_said said
 
 -- its numbers fit, the Hold Time is 0 or at least 3, and the identifier isn't 0
 pub record IsOpenToSay (said : ServerOpen) : Type 0 where

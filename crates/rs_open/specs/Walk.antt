@@ -7,7 +7,9 @@ use Rattle.rs_open.specs.declared.triples.Triple as seen
 use Rattle.rs_open.specs.declared.reading.Capabilities.{Capabilities}
 use Rattle.rs_open.specs.declared.writing.ServerOpen.{ServerOpen}
 use Rattle.rs_open.specs.Triples.{Triple, Row, triple_octets, row_of, with_first}
-use Rattle.rs_open.specs.Writing.{header_octets, my_as_said}
+use Rattle.rs_octets.specs.declared.heads.Kind.TheVariants as kinds
+use Rattle.rs_octets.specs.Headers.{header_octets}
+use Rattle.rs_open.specs.Writing.{my_as_said}
 use Rattle.byteorder.specs.Endian.{big_bytes}
 use Rattle.rs_open.specs.Opens.{four_of, long_of, capabilities_in, capability_faults, parameter_faults, row_faults, unless}
 
@@ -47,7 +49,7 @@ parameters_answer had row =
 -- an OPEN up to its capabilities, which have so many octets
 abbrev pub open_front : ServerOpen → ℕ → List ℕ
 open_front said size =
-    header_octets (31 + size) 1
+    header_octets (31 + size) kinds.Open
     ++ 4 ∷ []
     ++ big_bytes 2 (my_as_said said.server_as)
     ++ big_bytes 2 said.hold

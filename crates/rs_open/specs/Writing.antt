@@ -1,26 +1,21 @@
 -- The octets of the messages that a session says.
-use Rattle.std.specs.Prelude.{ℕ, ◌+◌, List, [], ◌∷◌, ◌++◌, length, take, replicate, nat_lt, if◌then◌else◌}
+use Rattle.std.specs.Prelude.{ℕ, List, [], ◌∷◌, ◌++◌, length, take, nat_lt, if◌then◌else◌}
 use Rattle.std.specs.List.{flat_map}
 use Rattle.byteorder.specs.Endian.{big_bytes}
+use Rattle.rs_octets.specs.declared.heads.Kind.TheVariants as kinds
+use Rattle.rs_octets.specs.Messages.{message_octets}
 use Rattle.rs_open.specs.declared.short.Short.{Short}
 use Rattle.rs_open.specs.declared.short.Short.TheVariants as shorts
 use Rattle.rs_open.specs.declared.writing.ServerOpen.{ServerOpen}
 use Rattle.rs_open.specs.Triples.{Triple, triple_octets}
 
--- the marker, the length of the whole message and its type (RFC 4271, 4.1)
-abbrev pub header_octets : ℕ → ℕ → List ℕ
-header_octets len kind = replicate 16 255 ++ big_bytes 2 len ++ kind ∷ []
-
-abbrev pub message : ℕ → List ℕ → List ℕ
-message kind body = header_octets (19 + length body) kind ++ body
-
 -- ---- KEEPALIVE (RFC 4271, 4.4) and NOTIFICATION (RFC 4271, 4.5)
 
 abbrev pub keepalive : List ℕ
-keepalive = message 4 []
+keepalive = message_octets kinds.Keepalive []
 
 abbrev pub notification : ℕ → ℕ → List ℕ → List ℕ
-notification code sub data_octets = message 3 (code ∷ sub ∷ data_octets)
+notification code sub data_octets = message_octets kinds.Note (code ∷ sub ∷ data_octets)
 
 -- ---- the server's OPEN (RFC 4271, 4.2)
 
@@ -64,7 +59,7 @@ body_said said =
     ++ length (triple_octets (parameter_said said)) ∷ triple_octets (parameter_said said)
 
 abbrev pub server_open : ServerOpen → List ℕ
-server_open said = message 1 (body_said said)
+server_open said = message_octets kinds.Open (body_said said)
 
 -- ---- any of them
 

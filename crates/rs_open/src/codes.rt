@@ -1,12 +1,4 @@
-//! The numbers of messages and of an OPEN's parts.
-
-// ---- types of messages (RFC 4271, 4.1)
-
-pub(crate) const OPEN: u8 = 1;
-
-pub(crate) const NOTIFICATION: u8 = 3;
-
-pub(crate) const KEEPALIVE: u8 = 4;
+//! The numbers of an OPEN's parts.
 
 // ---- an OPEN (RFC 4271, 4.2)
 
@@ -33,6 +25,3 @@ pub(crate) const FOUR_OCTET_AS: u8 = 65;
 /// The value of the capability for multiprotocol extensions: address family 1, a reserved octet and
 /// subsequent address family 1 (RFC 4760, 8).
 pub(crate) const IPV4_UNICAST: [u8; 4] = [0, 1, 0, 1];
-
-/// The AS number that stands for one that two octets can't hold (RFC 6793, 3).
-pub(crate) const AS_TRANS: u16 = 23456;

@@ -4,7 +4,7 @@ ghost use Rattle.std.specs.Prelude.{◌≡◌, ◌↔◌, List, ℕ, IsOk};
 ghost use Rattle.rs_open.specs.Triples.{Row, Splits, row_of};
 ghost use Rattle.rs_open.specs.declared.writing.ServerOpen.{ServerOpen};
 ghost use Rattle.rs_open.specs.Good.{IsGoodOpen};
-ghost use Rattle.rs_open.specs.Laws.{NoteFits, ShortIsHeardAlone, HeaderSaysLengthAndKind, OpenHasItsBody, IsOpenToSay, heard_from};
+ghost use Rattle.rs_open.specs.Laws.{NoteFits, ShortIsMessage, OpenHasItsBody, IsOpenToSay, heard_from};
 ghost use Rattle.rs_open.specs.Opens.{open_of};
 ghost use Rattle.rs_open.specs.Writing.{body_said};
 
@@ -26,10 +26,9 @@ pub fn an_open_of_ours_is_good()
 {}
 
 /// An OPEN of ours, a KEEPALIVE, and a NOTIFICATION that is no longer than its receiver takes are each
-/// heard as one message, without a fault, and of its type (RFC 4271, 4.1).
-pub fn short_is_heard_alone()
+/// one whole message of its type (RFC 4271, 4.1); see [`rs_octets::laws::messages_are_heard`].
+pub fn short_is_a_message()
     ensures fits { NoteFits }
-    ensures alone { ShortIsHeardAlone }
-    ensures header { HeaderSaysLengthAndKind }
+    ensures message { ShortIsMessage }
     ensures body { OpenHasItsBody }
 {}

@@ -1,4 +1,5 @@
-//! OPEN and the short messages: what a peer's OPEN says, and the octets of ours.
+//! OPEN and the short messages: what a peer's OPEN says, the octets of ours, and what a ROUTE-REFRESH
+//! asks for.
 #![tactic(auto)]
 
 mod codes;
@@ -6,6 +7,7 @@ mod laws;
 mod notification;
 mod open;
 mod reading;
+mod refresh;
 mod short;
 #[cfg(test)]
 mod tests;
@@ -14,11 +16,12 @@ mod writing;
 
 pub use laws::{
     an_open_is_taken_where_it_is_good, an_open_of_ours_is_good, octets_are_one_row_of_triples,
-    short_is_heard_alone,
+    short_is_a_message,
 };
 pub use notification::Notification;
 pub use open::{Open, OpenFault};
 pub use reading::read_open;
+pub use refresh::{AddressFamily, read_refresh};
 pub use short::{Limit, Short};
 pub use writing::{
     MAX_OPEN, ServerOpen, short_size, write_keepalive, write_note, write_open, write_short,

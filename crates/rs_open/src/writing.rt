@@ -5,14 +5,14 @@ ghost use Rattle.std.specs.List.{flat_map};
 ghost use Rattle.rs_octets.specs.Writes.{Writes};
 ghost use Rattle.rs_open.specs.Triples.{triple_octets};
 ghost use Rattle.rs_open.specs.Walk.{open_front, capability_octets};
-ghost use Rattle.rs_open.specs.Writing.{header_octets, keepalive, notification, capabilities_said, my_as_said, server_open, short_octets};
+ghost use Rattle.rs_open.specs.Writing.{keepalive, notification, capabilities_said, my_as_said, server_open, short_octets};
 
 use crate::codes::{
-    AS_TRANS, CAPABILITIES, EXTENDED_MESSAGE, FOUR_OCTET_AS, IPV4_UNICAST, KEEPALIVE,
-    MULTIPROTOCOL, NOTIFICATION, OPEN, ROUTE_REFRESH, VERSION,
+    CAPABILITIES, EXTENDED_MESSAGE, FOUR_OCTET_AS, IPV4_UNICAST, MULTIPROTOCOL, ROUTE_REFRESH,
+    VERSION,
 };
 use crate::short::Short;
-use rs_octets::put;
+use rs_octets::{AS_TRANS, Kind, put, put_header};
 
 /// The most octets that an OPEN of the server has.
 pub const MAX_OPEN: usize = 47;
@@ -52,24 +52,13 @@ impl ServerOpen {
     }
 }
 
-/// Writes a message's header (RFC 4271, 4.1), and answers where it ends.
-fn put_header(out: &mut [u8], size: u16, kind: u8) -> usize
-    requires { 19 ≤ length out.old }
-    ensures end { result ≡ 19 }
-    ensures octets { Writes 0 (header_octets size kind) out.old out.new }
-{
-    let end = put(out, 0, &[0xff; 16]);
-    let end = put(out, end, &size.to_be_bytes());
-    put(out, end, &[kind])
-}
-
 /// Writes a KEEPALIVE, and answers its octets.
 pub fn write_keepalive(out: &mut [u8]) -> usize
     requires { length keepalive ≤ length out.old }
     ensures end { result ≡ length keepalive }
     ensures octets { Writes 0 keepalive out.old out.new }
 {
-    put_header(out, 19, KEEPALIVE)
+    put_header(out, 19, Kind::Keepalive)
 }
 
 /// The octets of a NOTIFICATION with the first `count` octets of `extra` as its data.
@@ -87,7 +76,7 @@ pub fn write_note(code: u8, sub: u8, extra: [u8; 2], count: u8, out: &mut [u8]) 
     ensures octets { Writes 0 (notification code sub (take count extra)) out.old out.new }
 {
     let size = note_size(extra, count);
-    let end = put_header(out, size as u16, NOTIFICATION);
+    let end = put_header(out, size as u16, Kind::Note);
     let end = put(out, end, &[code, sub]);
     put(out, end, &extra[..size - end])
 }
@@ -99,7 +88,7 @@ fn put_open_front(said: &ServerOpen, capabilities: u8, out: &mut [u8]) -> usize
     ensures end { result ≡ 31 }
     ensures octets { Writes 0 (open_front said.now capabilities) out.old out.new }
 {
-    let end = put_header(out, 31 + u16::from(capabilities), OPEN);
+    let end = put_header(out, 31 + u16::from(capabilities), Kind::Open);
     let end = put(out, end, &[VERSION]);
     let end = put(out, end, &said.my_as().to_be_bytes());
     let end = put(out, end, &said.hold.to_be_bytes());

@@ -1,7 +1,7 @@
 -- A message that announces prefixes, by the parts in which it is written.
-use Rattle.std.proofs.Common.{◌≡◌, ℕ, ◌+◌, ◌≤◌, List, [], ◌∷◌, ◌++◌, length, refl, sym, ap, arith, length-append}
-use Rattle.std.specs.Prelude.{replicate}
-use Rattle.std.specs.Int.{w16, to_be_bytes}
+use Rattle.std.proofs.Common.{◌≡◌, ℕ, ◌+◌, ◌≤◌, List, [], ◌++◌, length, refl, ap, arith, length-append}
+use Rattle.rs_octets.specs.declared.heads.Kind.TheVariants.{Update}
+use Rattle.rs_octets.specs.Headers.{header_octets}
 use Rattle.rs_octets.specs.Prefixes.{Prefix}
 use Rattle.rs_octets.specs.Writes.{Writes}
 use Rattle.rs_octets.proofs.Writing.{writes_then}
@@ -15,20 +15,7 @@ pub update_parts : (a : List ℕ) (ps : List Prefix) (total : ℕ) → total ≡
 update_parts a ps total e =
     let body : List ℕ = update_body [] a ps in
     let same : 19 + length body ≡ total = omega (arith, e, length-append a (prefixes_octets ps)) in
-    ap (λ t. replicate 16 255 ++ to_be_bytes w16 t ++ (2 ∷ []) ++ body) same
-
--- four writes make the front
-pub announced_front_written : (total size first second third : ℕ) (total_octets size_octets old one two three new : List ℕ) → 23 ≤ length old
-    → total_octets ≡ to_be_bytes w16 total → size_octets ≡ to_be_bytes w16 size
-    → first ≡ 16 → second ≡ first + length total_octets → third ≡ second + 3
-    → Writes 0 (replicate 16 255) old one → Writes first total_octets one two → Writes second (2 ∷ 0 ∷ 0 ∷ []) two three → Writes third size_octets three new
-    → Writes 0 (announced_front total size) old new
-announced_front_written total size first second third total_octets size_octets old one two three new room totals sizes a b c w1 w2 w3 w4 =
-    let n = ap length totals in
-    let w12 = writes_then 0 first (replicate 16 255) total_octets (replicate 16 255 ++ to_be_bytes w16 total) old one two (ap (λ x. replicate 16 255 ++ x) (sym totals)) a (omega arith) w1 w2 in
-    let w123 = writes_then 0 second (replicate 16 255 ++ to_be_bytes w16 total) (2 ∷ 0 ∷ 0 ∷ []) (replicate 16 255 ++ to_be_bytes w16 total ++ (2 ∷ 0 ∷ 0 ∷ [])) old two three refl (omega arith) (omega arith) w12 w3 in
-    writes_then 0 third (replicate 16 255 ++ to_be_bytes w16 total ++ (2 ∷ 0 ∷ 0 ∷ [])) size_octets (announced_front total size) old three new
-    (ap (λ x. replicate 16 255 ++ to_be_bytes w16 total ++ (2 ∷ 0 ∷ 0 ∷ []) ++ x) (sym sizes)) (omega arith) (omega arith) w123 w4
+    ap (λ t. header_octets t Update ++ body) same
 
 -- three writes make the message
 pub announced_written : (total next last : ℕ) (a : List ℕ) (ps : List Prefix) (old one two new : List ℕ)

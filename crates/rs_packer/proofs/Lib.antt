@@ -1,7 +1,7 @@
 pub mod Announcing
 pub mod Denoting
 pub mod EachOnce
-pub mod Heard
+pub mod UpdateMessages
 pub mod OneEffect
 pub mod PrefixLists
 pub mod Rows

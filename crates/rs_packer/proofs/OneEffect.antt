@@ -9,7 +9,8 @@ use Rattle.rs_attrs.specs.Meaning.{Attribute, Reads}
 use Rattle.rs_attrs.specs.Writing.{no_faults}
 use Rattle.rs_attrs.specs.Effects.{Change, Effect, Reset, Changes, Fields, HasEffect, IsEffect, has_prefix, prefixes_in, is_empty, lacks_mandatory, announced_by, reset_of}
 use Rattle.rs_attrs.proofs.OneMeaning.{same_fields, same_meaning}
-use Rattle.rs_packer.specs.Denoted.{body_of, Holds, Announces, Withdraws}
+use Rattle.rs_octets.specs.Messages.{body_of}
+use Rattle.rs_packer.specs.Denoted.{Holds, Announces, Withdraws}
 use Rattle.rs_packer.specs.Packed.{announcement, withdrawal}
 use Rattle.rs_packer.specs.Laws.{AnnouncementHasNoOtherEffect, WithdrawalHasNoOtherEffect}
 use Rattle.rs_packer.proofs.Denoting.{announcement_holds, withdrawal_holds, no_nlri, no_reset, held, all_announced, rest_withdrawn, all_withdrawn, attributes_there, none_there}

@@ -6,7 +6,7 @@ use Rattle.rs_attrs.specs.Meaning.{Attribute, all_types, read_of}
 use Rattle.rs_attrs.specs.Effects.{Changes, effect_of}
 use Rattle.rs_attrs.proofs.Rows.{hex, well}
 use Rattle.rs_packer.specs.Packed.{announcement, withdrawal}
-use Rattle.rs_packer.specs.Denoted.{body_of}
+use Rattle.rs_octets.specs.Messages.{body_of}
 
 abbrev a_prefix : Prefix
 a_prefix = record { bits = 0xc6336400; len = 24 }

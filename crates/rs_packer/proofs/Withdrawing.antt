@@ -1,7 +1,7 @@
 -- A message that withdraws prefixes, by the parts in which it is written.
-use Rattle.std.proofs.Common.{◌≡◌, ℕ, ◌+◌, ◌≤◌, List, [], ◌∷◌, ◌++◌, length, refl, sym, ap, ◌∙◌, arith, length-append}
-use Rattle.std.specs.Prelude.{replicate}
-use Rattle.std.specs.Int.{w16, to_be_bytes}
+use Rattle.std.proofs.Common.{◌≡◌, ℕ, ◌+◌, ◌≤◌, List, [], ◌∷◌, ◌++◌, length, refl, ap, ◌∙◌, arith, length-append}
+use Rattle.rs_octets.specs.declared.heads.Kind.TheVariants.{Update}
+use Rattle.rs_octets.specs.Headers.{header_octets}
 use Rattle.std.proofs.lemmas.List.{append-nil}
 use Rattle.rs_octets.specs.Prefixes.{Prefix}
 use Rattle.rs_octets.specs.Writes.{Writes}
@@ -21,20 +21,8 @@ withdrawal_parts ps total e =
     let none = append-nil (prefixes_octets ps ++ (0 ∷ 0 ∷ [])) in
     let size = ap length none in
     let same : 19 + length body ≡ total = omega (arith, e, size, length-append (prefixes_octets ps) (0 ∷ 0 ∷ [])) in
-    ap (λ t. replicate 16 255 ++ to_be_bytes w16 t ++ (2 ∷ []) ++ body) same
+    ap (λ t. header_octets t Update ++ body) same
     ∙ ap (λ xs. withdrawn_front total (length (prefixes_octets ps)) ++ xs) none
-
-pub withdrawn_front_written : (total size first second third : ℕ) (total_octets size_octets old one two three new : List ℕ) → 21 ≤ length old
-    → total_octets ≡ to_be_bytes w16 total → size_octets ≡ to_be_bytes w16 size
-    → first ≡ 16 → second ≡ first + length total_octets → third ≡ second + 1
-    → Writes 0 (replicate 16 255) old one → Writes first total_octets one two → Writes second (2 ∷ []) two three → Writes third size_octets three new
-    → Writes 0 (withdrawn_front total size) old new
-withdrawn_front_written total size first second third total_octets size_octets old one two three new room totals sizes a b c w1 w2 w3 w4 =
-    let n = ap length totals in
-    let w12 = writes_then 0 first (replicate 16 255) total_octets (replicate 16 255 ++ to_be_bytes w16 total) old one two (ap (λ x. replicate 16 255 ++ x) (sym totals)) a (omega arith) w1 w2 in
-    let w123 = writes_then 0 second (replicate 16 255 ++ to_be_bytes w16 total) (2 ∷ []) (replicate 16 255 ++ to_be_bytes w16 total ++ (2 ∷ [])) old two three refl (omega arith) (omega arith) w12 w3 in
-    writes_then 0 third (replicate 16 255 ++ to_be_bytes w16 total ++ (2 ∷ [])) size_octets (withdrawn_front total size) old three new
-    (ap (λ x. replicate 16 255 ++ to_be_bytes w16 total ++ (2 ∷ []) ++ x) (sym sizes)) (omega arith) (omega arith) w123 w4
 
 pub withdrawal_written : (total next last : ℕ) (ps : List Prefix) (old one two new : List ℕ)
     → total ≡ 23 + length (prefixes_octets ps) → total ≤ length old

@@ -1,5 +1,5 @@
 -- What a message denotes, by the definitions by which its receiver reads it (RFC 4271, 4.3; RFC 7606).
-use Rattle.std.specs.Prelude.{◌≡◌, ℕ, List, [], drop, map, Some, None, Ok}
+use Rattle.std.specs.Prelude.{◌≡◌, ℕ, List, [], map, Some, None, Ok}
 use Rattle.std.specs.List.{IsDistinct}
 use Rattle.rs_octets.specs.Prefixes.{Prefix}
 use Rattle.rs_octets.specs.PrefixFields.{prefixes_of}
@@ -7,10 +7,6 @@ use Rattle.rs_attrs.specs.declared.mode.Mode.{Mode}
 use Rattle.rs_attrs.specs.Meaning.{Attribute, Reads}
 use Rattle.rs_attrs.specs.Writing.{no_faults}
 use Rattle.rs_attrs.specs.Effects.{Fields, IsBody, Change, same_prefix, has_prefix}
-
--- what stands behind a message's header (RFC 4271, 4.1)
-abbrev pub body_of : List ℕ → List ℕ
-body_of message = drop 19 message
 
 -- The fields of a body hold these withdrawn routes, these attributes and this NLRI, in this order; nothing is wrong
 -- with any of them.

@@ -1,23 +1,30 @@
 -- What holds of the definitions, as the contracts of the module `laws` say it.
-use Rattle.std.specs.Prelude.{◌≡◌, ℕ, ◌<◌, ◌≤◌, false, List, [], ◌∷◌, length, Some, None, Ok}
+use Rattle.std.specs.Prelude.{◌≡◌, ℕ, ◌<◌, ◌≤◌, false, List, [], length, Some, None}
 use Rattle.std.specs.List.{AllByRecursion}
 use Rattle.rs_octets.specs.declared.heads.Allowed.{Allowed}
 use Rattle.rs_octets.specs.Headers.{longest}
-use Rattle.rs_octets.specs.Messages.{heard_of}
+use Rattle.rs_octets.specs.declared.heads.Kind.TheVariants.{Update}
+use Rattle.rs_octets.specs.Messages.{IsMessageOf, body_of}
 use Rattle.rs_octets.specs.Prefixes.{Prefix, IsIpv4Prefix}
 use Rattle.rs_attrs.specs.declared.mode.Mode.{Mode}
 use Rattle.rs_attrs.specs.Meaning.{Attribute}
 use Rattle.rs_attrs.specs.Writing.{IsLegal}
 use Rattle.rs_attrs.specs.Effects.{Change, Effect, Changes, HasEffect, lacks_mandatory, once}
-use Rattle.rs_packer.specs.Packed.{update, announcement, withdrawal}
-use Rattle.rs_packer.specs.Denoted.{body_of, Holds, Announces, Withdraws}
+use Rattle.rs_packer.specs.Packed.{update, update_body, announcement, withdrawal}
+use Rattle.rs_packer.specs.Denoted.{Holds, Announces, Withdraws}
 
--- whoever takes messages of that length hears one message and nothing else
-abbrev pub IsHeardAlone : Type 0
-IsHeardAlone =
+-- to whoever takes messages of that length it is one whole message, and of that type
+abbrev pub UpdateIsMessage : Type 0
+UpdateIsMessage =
     (allowed : Allowed) (withdrawn : List Prefix) (attributes : List ℕ) (nlri : List Prefix)
     → length (update withdrawn attributes nlri) ≤ longest allowed
-    → heard_of allowed (update withdrawn attributes nlri) ≡ Ok (update withdrawn attributes nlri) ∷ []
+    → IsMessageOf allowed Update (update withdrawn attributes nlri)
+
+-- behind its header stand its three fields
+abbrev pub UpdateHasItsBody : Type 0
+UpdateHasItsBody =
+    (withdrawn : List Prefix) (attributes : List ℕ) (nlri : List Prefix)
+    → body_of (update withdrawn attributes nlri) ≡ update_body withdrawn attributes nlri
 
 -- What is announced: legal prefixes, one at least, with legal attributes that have ORIGIN, AS_PATH and NEXT_HOP, in a
 -- message whose length has two octets (RFC 4271, 4.1 and 5).

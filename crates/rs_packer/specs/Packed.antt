@@ -1,7 +1,8 @@
 -- UPDATE messages as octets, and the longest front of a list that fits into one (RFC 4271, 4.1 and 4.3).
-use Rattle.std.specs.Prelude.{ℕ, ◌+◌, ◌<◌, ◌≤◌, List, [], ◌∷◌, ◌++◌, length, take, replicate}
+use Rattle.std.specs.Prelude.{ℕ, ◌+◌, ◌<◌, ◌≤◌, List, [], ◌++◌, length, take}
 use Rattle.std.specs.List.{flat_map}
-use Rattle.std.specs.Int.{w16, to_be_bytes}
+use Rattle.rs_octets.specs.declared.heads.Kind.TheVariants.{Update}
+use Rattle.rs_octets.specs.Messages.{message_octets}
 use Rattle.rs_octets.specs.Prefixes.{Prefix}
 use Rattle.rs_octets.specs.PrefixFields.{prefix_octets}
 use Rattle.rs_attrs.specs.declared.mode.Mode.{Mode}
@@ -18,11 +19,8 @@ abbrev pub update_body : List Prefix → List ℕ → List Prefix → List ℕ
 update_body withdrawn attributes nlri =
     behind_its_length (prefixes_octets withdrawn) ++ behind_its_length attributes ++ prefixes_octets nlri
 
--- marker, length, type 2, body
 abbrev pub update : List Prefix → List ℕ → List Prefix → List ℕ
-update withdrawn attributes nlri =
-    let body = update_body withdrawn attributes nlri in
-    replicate 16 255 ++ to_be_bytes w16 (19 + length body) ++ (2 ∷ []) ++ body
+update withdrawn attributes nlri = message_octets Update (update_body withdrawn attributes nlri)
 
 -- the message that announces these prefixes with these attributes, as the mode spells them
 abbrev pub announcement : List Attribute → Mode → List Prefix → List ℕ

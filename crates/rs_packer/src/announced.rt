@@ -9,7 +9,7 @@ ghost use Rattle.rs_packer.specs.Parts.{announced_front};
 use crate::fields::{longest_front, put_prefixes};
 use crate::packed::Packed;
 use rs_attrs::{Attrs, Mode, size, write_into};
-use rs_octets::{Prefix, put};
+use rs_octets::{Kind, Prefix, put, put_header};
 
 /// Whether a message that announces this prefix alone, with these attributes as the mode spells
 /// them, has at most `limit` octets.
@@ -29,9 +29,8 @@ fn put_announced_front(out: &mut [u8], total: u16, size: u16) -> usize
     ensures end { result ≡ 23 }
     ensures octets { Writes 0 (announced_front total size) out.old out.new }
 {
-    let end = put(out, 0, &[255; 16]);
-    let end = put(out, end, &total.to_be_bytes());
-    let end = put(out, end, &[2, 0, 0]);
+    let end = put_header(out, total, Kind::Update);
+    let end = put(out, end, &[0, 0]);
     put(out, end, &size.to_be_bytes())
 }
 

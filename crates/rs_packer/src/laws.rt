@@ -1,10 +1,12 @@
 //! Laws of the definitions: the contract is the law, and the body does nothing.
 
-ghost use Rattle.rs_packer.specs.Laws.{IsHeardAlone, AnnouncementHolds, AnnouncementAnnounces, AnnouncementHasEffect, AnnouncementHasNoOtherEffect, WithdrawalHolds, WithdrawalWithdraws, WithdrawalHasEffect, WithdrawalHasNoOtherEffect};
+ghost use Rattle.rs_packer.specs.Laws.{UpdateIsMessage, UpdateHasItsBody, AnnouncementHolds, AnnouncementAnnounces, AnnouncementHasEffect, AnnouncementHasNoOtherEffect, WithdrawalHolds, WithdrawalWithdraws, WithdrawalHasEffect, WithdrawalHasNoOtherEffect};
 
-/// An UPDATE that is no longer than its receiver takes is heard as one message, without a fault.
-pub fn update_is_heard_alone()
-    ensures { IsHeardAlone }
+/// An UPDATE that is no longer than its receiver takes is one whole message of that type; see
+/// [`rs_octets::laws::messages_are_heard`].
+pub fn update_is_a_message()
+    ensures message { UpdateIsMessage }
+    ensures body { UpdateHasItsBody }
 {}
 
 /// What an announcement denotes, read by its receiver: nothing withdrawn, and just its prefixes

@@ -7,7 +7,7 @@ ghost use Rattle.rs_packer.specs.Parts.{withdrawn_front};
 
 use crate::fields::{longest_front, put_prefixes};
 use crate::packed::Packed;
-use rs_octets::{Prefix, put};
+use rs_octets::{Kind, Prefix, put, put_header};
 
 /// Writes what stands before the prefixes of a message that announces none.
 fn put_withdrawn_front(out: &mut [u8], total: u16, size: u16) -> usize
@@ -15,9 +15,7 @@ fn put_withdrawn_front(out: &mut [u8], total: u16, size: u16) -> usize
     ensures end { result ≡ 21 }
     ensures octets { Writes 0 (withdrawn_front total size) out.old out.new }
 {
-    let end = put(out, 0, &[255; 16]);
-    let end = put(out, end, &total.to_be_bytes());
-    let end = put(out, end, &[2]);
+    let end = put_header(out, total, Kind::Update);
     put(out, end, &size.to_be_bytes())
 }
 

@@ -2,7 +2,7 @@
 
 use crate::{
     Limit, Notification, OpenFault, Short, an_open_is_taken_where_it_is_good,
-    an_open_of_ours_is_good, octets_are_one_row_of_triples, short_is_heard_alone,
+    an_open_of_ours_is_good, octets_are_one_row_of_triples, short_is_a_message,
 };
 use std::alloc::Global;
 use std::process::Abort;
@@ -113,5 +113,5 @@ fn limits_and_laws(rt: HostRuntime) {
     octets_are_one_row_of_triples();
     an_open_is_taken_where_it_is_good();
     an_open_of_ours_is_good();
-    short_is_heard_alone();
+    short_is_a_message();
 }

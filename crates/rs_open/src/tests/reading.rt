@@ -1,7 +1,7 @@
-//! Bodies of OPENs and what is read from them.
+//! Bodies of OPENs and of ROUTE-REFRESHes, and what is read from them.
 
 use super::octets;
-use crate::{Open, OpenFault, read_open};
+use crate::{AddressFamily, Open, OpenFault, read_open, read_refresh};
 use std::alloc::Global;
 use std::process::Abort;
 use std::test::Fail;
@@ -20,6 +20,20 @@ const A: Open = Open {
     identifier: 0xc000_020b,
     long: false,
 };
+
+#[test]
+fn reads_route_refreshes(rt: HostRuntime) {
+    let ipv4_unicast = AddressFamily { afi: 1, safi: 1 };
+    assert!(rt; read_refresh(b"\x00\x01\x00\x01") == ipv4_unicast);
+    assert!(rt; read_refresh(b"\x00\x01\xff\x01") == ipv4_unicast);
+    let ipv6_vpn = AddressFamily { afi: 2, safi: 128 };
+    assert!(rt; read_refresh(b"\x00\x02\x00\x80") == ipv6_vpn);
+    let bgp_ls = AddressFamily {
+        afi: 16388,
+        safi: 71,
+    };
+    assert!(rt; read_refresh(b"\x40\x04\x00\x47") == bgp_ls);
+}
 
 #[test]
 fn reads_opens(rt: HostRuntime) -> Result<(), Fail> {
