@@ -1,0 +1,5 @@
+mod Limits
+mod Numbering
+mod Ranges
+mod Ranks
+mod Fitting

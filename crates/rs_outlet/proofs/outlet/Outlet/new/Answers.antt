@@ -1,0 +1,13 @@
+use Rattle.std.proofs.Common.{arith, ◌∙◌}
+use Rattle.rs_outlet.proofs.outlet.Outlet.new.Goals as goal
+
+pub invariant_of-result : goal.invariant_of-result
+invariant_of-result c = record {
+  octets = c.in_ok-vec.ensures.len ∙ c.room.ensures.value;
+  started = omega arith;
+  ended = omega arith;
+  front = omega (arith, c.batch.ensures, c.in_ok-with_capacity.ensures.capacity);
+  chosen = omega (arith, c.batch-2.ensures, c.in_ok-with_capacity-2.ensures.capacity);
+  touched = c.in_ok-new.ensures.room;
+  extended = λ speech e. cc e;
+}

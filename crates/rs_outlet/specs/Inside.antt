@@ -1,0 +1,107 @@
+-- How the fields of an outlet make what callers see, and what the fields keep.
+use Rattle.std.specs.Prelude.{◌≡◌, ℕ, suc, ◌+◌, ◌≤◌, Bool, true, false, ◌&&◌, Option, None, Some, List, [], ◌∷◌, ◌++◌, slice_range, slice_get, vec_len, if◌then◌else◌}
+use Rattle.std.specs.Vec.{vec_capacity}
+use Rattle.std.specs.Arc.{arc_value}
+use Rattle.std.specs.HashMap.{HashMap, hash_map_len, spare}
+use Rattle.std.specs.FinMap as fin
+use Rattle.std.specs.FinSet as set
+use Rattle.rs_octets.specs.Prefixes.{Prefix, prefix_order}
+use Rattle.rs_attrs.specs.Meaning.{Attribute}
+use Rattle.rs_open.specs.declared.short.Limit.TheVariants as limits
+use Rattle.rs_outlet.specs.declared.answers.Speech.{Speech}
+use Rattle.rs_outlet.specs.declared.rows.Row.{Row}
+use Rattle.rs_outlet.specs.declared.waiting.Told.{Told}
+use Rattle.rs_outlet.specs.declared.waiting.Told.TheVariants as told
+use Rattle.rs_outlet.specs.declared.waiting.Wait.{Wait}
+use Rattle.rs_outlet.specs.declared.outlet.Outlet.TheInside.{Inside}
+use Rattle.rs_outlet.specs.Views.{View, Table, Prefixes}
+
+-- ---- rows
+
+abbrev pub joined : Option (Option Row) → Option Row
+joined None = None
+joined (Some row) = row
+
+-- the row of a number
+abbrev pub row_at : List (Option Row) → ℕ → Option Row
+row_at rows n = joined (slice_get rows n)
+
+-- what is due, by the rows
+abbrev pub loc_of : List (Option Row) → Table
+loc_of [] = fin.empty
+loc_of (None ∷ rows) = loc_of rows
+loc_of (Some r ∷ rows) = fin.insert (loc_of rows) r.prefix (arc_value r.attrs)
+
+-- the prefixes of the rows from number n on, with their numbers
+abbrev pub numbers_from : ℕ → List (Option Row) → List (ℕ × Prefix)
+numbers_from n [] = []
+numbers_from n (None ∷ rows) = numbers_from (suc n) rows
+numbers_from n (Some r ∷ rows) = (n, r.prefix) ∷ numbers_from (suc n) rows
+
+-- ---- what waits
+
+abbrev pub put : Table → Prefix → Option (List Attribute) → Table
+put t p None = fin.remove t p
+put t p (Some m) = fin.insert t p m
+
+-- what was told at a place, where this is due
+abbrev pub told_of : Told → Option (List Attribute) → Option (List Attribute)
+told_of told.Nothing due = None
+told_of told.Same due = due
+told_of (told.Other attrs) due = Some (arc_value attrs)
+
+-- what was told: what is due, but where something waits
+abbrev pub told_over : Table → List Wait → Table
+told_over loc [] = loc
+told_over loc (w ∷ ws) = if w.open then put (told_over loc ws) w.prefix (told_of w.told (fin.get loc w.prefix)) else told_over loc ws
+
+abbrev pub marked_of : List Wait → Prefixes
+marked_of [] = set.empty
+marked_of (w ∷ ws) = if w.open && w.marked then set.insert (marked_of ws) w.prefix else marked_of ws
+
+-- ---- what is touched
+
+abbrev pub prefixes_in : List (ℕ × Prefix) → List Prefix
+prefixes_in [] = []
+prefixes_in (e ∷ es) = e.1 ∷ prefixes_in es
+
+abbrev pub touched_of : Bool → List (ℕ × Prefix) → Option Prefixes
+touched_of true es = None
+touched_of false es = Some (set.from_list (prefixes_in es))
+
+-- ---- all of it
+
+-- the places of what waits, and behind them those of the turn at hand
+abbrev pub view_of : Inside → View
+view_of a = record {
+  client = a.client;
+  extended = a.extended;
+  speech = a.speech;
+  loc = loc_of a.rows.rows.items;
+  told = told_over (loc_of a.rows.rows.items) a.waits.places.items;
+  flight = slice_range a.octets.items a.start a.end;
+  beat = a.beat;
+  note = a.note;
+  touched = touched_of a.touched.all a.touched.prefixes.entries;
+  marked = marked_of a.waits.places.items;
+  numbers = numbers_from 0 a.rows.rows.items ++ a.touched.prefixes.entries;
+  last = a.last;
+}
+
+abbrev pub room_of : Bool → ℕ
+room_of false = 4096
+room_of true = 65535
+
+-- the most prefixes that one message holds
+abbrev pub batch_of : Bool → ℕ
+batch_of false = 4073
+batch_of true = 65512
+
+pub record IsKept (a : Inside) : Type 0 where
+  pub octets : vec_len a.octets ≡ room_of a.extended
+  pub started : a.start ≤ a.end
+  pub ended : a.end ≤ room_of a.extended
+  pub front : batch_of a.extended ≤ vec_capacity a.front
+  pub chosen : batch_of a.extended ≤ vec_capacity a.chosen
+  pub touched : 4096 ≤ hash_map_len a.touched.prefixes + spare a.touched.prefixes
+  pub extended : (speech : Speech) → a.speech ≡ Some speech → speech.limit ≡ limits.Long → a.extended ≡ true

@@ -1,0 +1,5 @@
+pub mod Views
+pub mod Due
+pub mod Next
+pub mod HeldBy
+pub mod Inside

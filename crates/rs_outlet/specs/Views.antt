@@ -1,0 +1,147 @@
+-- What contracts see of an outlet, and what its calls make of that.
+use Rattle.std.specs.Prelude.{◌≡◌, ℕ, Bool, true, false, ◌||◌, List, [], length, nat_lt, Option, Some, None, IsSome, if◌then◌else◌, refl}
+use Rattle.std.specs.List.{AllByRecursion}
+use Rattle.rs_adjin.specs.AdjIns.{number_of}
+use Rattle.rs_adjin.specs.declared.adj_ins.AdjIns.{AdjIns}
+use Rattle.std.specs.Coded.{Coded, code_by, coded×, coded_ℕ, coded_bool, coded_list}
+use Rattle.std.specs.FinMap as map
+use Rattle.std.specs.FinSet as set
+use Rattle.std.specs.FinMap.{FinMap}
+use Rattle.std.specs.FinSet.{FinSet}
+use Rattle.rs_octets.specs.Prefixes.{Prefix, prefix_order}
+use Rattle.rs_attrs.specs.Meaning.{Attribute}
+use Rattle.rs_open.specs.declared.short.Short.{Short}
+use Rattle.rs_outlet.specs.declared.answers.Speech.{Speech}
+use Rattle.rs_outlet.specs.declared.answers.Last.{Last}
+use Rattle.rs_outlet.specs.declared.answers.Last.TheVariants.{Done, Refused}
+use Rattle.rs_outlet.specs.declared.answers.Turned.{Turned}
+
+abbrev pub Table : Type 0
+Table = FinMap prefix_order (List Attribute)
+
+abbrev pub Prefixes : Type 0
+Prefixes = FinSet prefix_order
+
+-- `loc`: the Loc-RIB, due at the last turn. `told`: what the messages begun so far leave with the client. `flight`: the
+-- octets still to lend. `beat`: a KEEPALIVE is due. `note`: a NOTIFICATION waits. `touched`: the prefixes to decide at the
+-- next turn, and with None all. `marked`: those told that are to be told again. `numbers`: the prefixes that are due or
+-- touched by themselves, each with the number that it was touched with.
+pub record View : Type 0 where
+  pub client : ℕ
+  pub extended : Bool
+  pub speech : Option Speech
+  pub loc : Table
+  pub told : Table
+  pub flight : List ℕ
+  pub beat : Bool
+  pub note : Option Short
+  pub touched : Option Prefixes
+  pub marked : Prefixes
+  pub numbers : List (ℕ × Prefix)
+  pub last : Last
+
+-- nothing is there but what it was made with and the answer of the last turn
+abbrev pub bare : ℕ → Bool → Last → View
+bare client extended last = record { client = client; extended = extended; speech = None; loc = map.empty; told = map.empty; flight = []; beat = false; note = None; touched = Some set.empty; marked = set.empty; numbers = []; last = last }
+
+abbrev pub cleared : View → View
+cleared v = bare v.client v.extended v.last
+
+abbrev pub flight_after : Option Short → List ℕ → List ℕ
+flight_after None octets = []
+flight_after (Some note) octets = octets
+
+-- the session has ended, with this NOTIFICATION or with none
+abbrev pub finished : Option Short → View → View
+finished note v = record (cleared v) { flight = flight_after note v.flight; note = note }
+
+-- a session begins: nothing is due or told, and all is to be decided
+abbrev pub begun : Speech → View → View
+begun speech v = record v { speech = Some speech; loc = map.empty; told = map.empty; touched = None; marked = set.empty; numbers = [] }
+
+-- each prefix that is due or touched has the number that it stands at
+abbrev pub AreNumbered : View → AdjIns → Type 0
+AreNumbered v ins = AllByRecursion (λ e. number_of ins e.1 ≡ Some e.0) v.numbers
+
+-- ---- touches
+
+-- with p, or all where there is no room for it
+abbrev pub with_touch : Option Prefixes → Prefix → Option Prefixes
+with_touch None p = None
+with_touch (Some s) p = if set.contains s p then Some s else if nat_lt (set.len s) 4096 then Some (set.insert s p) else None
+
+-- before the client is Established nothing is touched
+abbrev pub if_up : {A : Type 0} → Option Speech → A → A → A
+if_up None then_is was = was
+if_up (Some speech) then_is was = then_is
+
+abbrev pub touched_at : Prefix → View → View
+touched_at p v = record v { touched = if_up v.speech (with_touch v.touched p) v.touched }
+
+abbrev pub is_touched : Option Prefixes → Prefix → Bool
+is_touched None p = true
+is_touched (Some s) p = set.contains s p
+
+abbrev pub is_whole : Option Prefixes → Bool
+is_whole None = true
+is_whole (Some s) = false
+
+-- ---- turns
+
+-- each touched prefix has what is due there, and nothing else has changed but what is touched and the answer of the last turn
+pub record IsDecided (due : Prefix → Option (List Attribute)) (old new : View) : Type 0 where
+  pub loc : (p : Prefix) → map.get new.loc p ≡ (if is_touched old.touched p then due p else map.get old.loc p)
+  pub rest : new ≡ record old { loc = new.loc; touched = Some set.empty; numbers = new.numbers; last = new.last }
+
+-- so many prefixes pass the test
+pub record IsNumberOf (is_in : Prefix → Bool) (n : ℕ) : Type 0 where
+  pub all : Prefixes
+  pub holds : (p : Prefix) → set.contains all p ≡ is_in p
+  pub size : n ≡ set.len all
+
+-- how many prefixes a turn decides, each once: those touched; with all, those that a client holds or the Loc-RIB has
+abbrev pub IsCount : (Prefix → Bool) → Table → Option Prefixes → ℕ → Type 0
+IsCount held loc None n = IsNumberOf (λ p. map.contains_key loc p || held p) n
+IsCount held loc (Some s) n = n ≡ set.len s
+
+pub record IsTurned (due : Prefix → Option (List Attribute)) (held : Prefix → Bool) (old new : View) (turned : Turned) : Type 0 where
+  pub decided : IsDecided due old new
+  pub last : new.last ≡ Done turned
+  pub whole : turned.whole ≡ is_whole old.touched
+  pub count : IsCount held old.loc old.touched turned.decided
+
+-- what a turn did that was not refused; an outlet that is not up decides nothing
+abbrev pub TurnedAs : Option Speech → (Speech → Prefix → Option (List Attribute)) → (Prefix → Bool) → View → View → Turned → Type 0
+TurnedAs None due held old new turned = (turned ≡ record { decided = 0; whole = false }) × (new ≡ record old { last = Done turned })
+TurnedAs (Some speech) due held old new turned = IsTurned (due speech) held old new turned
+
+-- ---- nothing is left to do
+
+pub record IsDrained (v : View) : Type 0 where
+  pub up : IsSome v.speech
+  pub untouched : v.touched ≡ Some set.empty
+  pub unmarked : v.marked ≡ set.empty
+  pub told : v.told ≡ v.loc
+  pub flight : v.flight ≡ []
+  pub beat : v.beat ≡ false
+
+-- ---- codes, which a Model asks for
+
+abbrev pub prefix_code : Coded Prefix
+prefix_code = code_by (ℕ × ℕ) (coded× coded_ℕ coded_ℕ) (λ s. (s.bits, s.len)) (λ p. record { bits = p.0; len = p.1 }) (λ _. refl)
+
+abbrev pub attribute_code : Coded Attribute
+attribute_code =
+    code_by (ℕ × (Bool × (Bool × (Bool × List ℕ)))) (coded× coded_ℕ (coded× coded_bool (coded× coded_bool (coded× coded_bool (coded_list coded_ℕ)))))
+    (λ a. (a.kind, (a.optional, (a.transitive, (a.partial, a.value)))))
+    (λ c. record { kind = c.0; optional = c.1.0; transitive = c.1.1.0; partial = c.1.1.1.0; value = c.1.1.1.1 })
+    (λ _. refl)
+
+abbrev pub attributes_code : Coded (List Attribute)
+attributes_code = coded_list attribute_code
+
+abbrev pub table_code : Coded Table
+table_code = map.code prefix_code attributes_code
+
+abbrev pub prefixes_code : Coded Prefixes
+prefixes_code = set.code prefix_code

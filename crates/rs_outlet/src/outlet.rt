@@ -1,0 +1,282 @@
+//! The outlet of a client.
+
+ghost use Rattle.std.specs.Prelude.{◌≡◌, ◌≤◌, ◌<◌, true, Some, None, length, take, drop, vec_len, IfOk};
+ghost use Rattle.rs_adjin.specs.AdjIns.{client_count};
+ghost use Rattle.rs_open.specs.Writing.{server_open};
+ghost use Rattle.rs_open.specs.declared.short.Limit.TheVariants as limits;
+ghost use Rattle.rs_outlet.specs.Views.{AreNumbered, bare, begun, cleared, finished, if_up};
+ghost use Rattle.rs_outlet.specs.Inside.{room_of, batch_of};
+
+use crate::answers::{Last, Speech, Turned};
+use crate::deciding::Sources;
+use crate::routes::Routes;
+use crate::rows::Rows;
+use crate::touched::Touched;
+use crate::waiting::Waits;
+use rs_adjin::AdjIns;
+use rs_attrs::{Attrs, Mode};
+use rs_octets::Prefix;
+use rs_open::{Limit, ServerOpen, Short, short_size, write_open};
+use rs_policy::Config;
+use std::alloc::{AllocError, Global};
+use std::marker::Model;
+use std::sync::Arc;
+
+/// One client's Adj-RIB-Out: what is due to it, what it was told, and the message in flight.
+///
+/// `rows` is the Loc-RIB. It is also what the client was told, but where something waits: `waits` has
+/// what was told there. So a message that is begun only gives up what waited.
+#[derive(Drop)]
+pub struct Outlet {
+    pub(crate) alloc: Global,
+    pub(crate) client: usize,
+    pub(crate) extended: bool,
+    pub(crate) speech: Option<Speech>,
+    pub(crate) rows: Rows,
+    pub(crate) waits: Waits,
+    /// The message in flight: what is left of it lies from `start` to `end`.
+    pub(crate) octets: Vec<u8>,
+    pub(crate) start: usize,
+    pub(crate) end: usize,
+    /// A KEEPALIVE is due.
+    pub(crate) beat: bool,
+    /// A NOTIFICATION waits.
+    pub(crate) note: Option<Short>,
+    pub(crate) touched: Touched,
+    pub(crate) last: Last,
+    /// The prefixes of the next message, and the places where they wait.
+    pub(crate) front: Vec<Prefix>,
+    pub(crate) chosen: Vec<u32>,
+}
+
+impl Model for Outlet {
+    ghost use Rattle.rs_outlet.specs.Views.{View, table_code, prefixes_code};
+
+    ghost Value = { View };
+
+    ghost use Rattle.std.specs.Coded.{codes};
+
+    ghost coded = { Prim.hlevel (codes, table_code, prefixes_code) };
+
+    ghost use Rattle.rs_outlet.specs.Inside.{view_of, IsKept};
+
+    ghost view = { view_of };
+
+    ghost invariant = { IsKept };
+}
+
+/// The octets of the longest message.
+fn room(extended: bool) -> usize
+    ensures value { result ≡ room_of extended }
+    ensures most { result ≤ 65535 }
+{
+    if extended { 65535 } else { 4096 }
+}
+
+/// The most prefixes that one message holds.
+fn batch(extended: bool) -> usize
+    ensures { result ≡ batch_of extended }
+{
+    if extended { 65512 } else { 4073 }
+}
+
+/// Writes the server's OPEN at the front of a message's room.
+fn put_open(said: &ServerOpen, out: &mut Vec<u8>) -> usize
+    requires { 4096 ≤ vec_len out.old }
+    ensures octets { take result out.new.items ≡ server_open said.now }
+    ensures most { result ≤ 4096 }
+    ensures room { vec_len out.new ≡ vec_len out.old }
+{
+    let _size = short_size(&Short::Open, said);
+    write_open(said, out)
+}
+
+impl Outlet {
+    /// The outlet of a client that is not Established, with its fixed buffers: for messages of up to
+    /// 65,535 octets where `extended` says so (RFC 8654), else of up to 4,096.
+    pub fn new(alloc: Global, client: usize, extended: bool) -> Result<Outlet, AllocError>
+        ensures { IfOk result (λ made. made ≡ bare client extended Last.Never) }
+    {
+        Ok(Outlet {
+            alloc,
+            client,
+            extended,
+            speech: None,
+            rows: Rows::new(alloc),
+            waits: Waits::new(alloc),
+            octets: vec![in alloc; 0; room(extended)]?,
+            start: 0,
+            end: 0,
+            beat: false,
+            note: None,
+            touched: Touched::new(alloc)?,
+            last: Last::Never,
+            front: Vec::with_capacity(alloc, batch(extended))?,
+            chosen: Vec::with_capacity(alloc, batch(extended))?,
+        })
+    }
+
+    /// The client is Established: nothing was told, and everything is to be decided.
+    pub fn up(&mut self, mode: Mode, limit: Limit)
+        requires { limit ≡ limits.Long → self.old.extended ≡ true }
+        ensures { self.new ≡ begun (record { mode = mode; limit = limit }) self.old }
+    {
+        self.rows.clear();
+        self.waits.clear();
+        self.speech = Some(Speech { mode, limit });
+        self.touched.add_all();
+    }
+
+    /// Empties everything but the answer of the last turn.
+    pub fn clear(&mut self)
+        ensures { self.new ≡ cleared self.old }
+    {
+        self.speech = None;
+        self.rows.clear();
+        self.waits.clear();
+        self.start = 0;
+        self.end = 0;
+        self.beat = false;
+        self.note = None;
+        self.touched.clear();
+    }
+
+    /// Empties everything but the message in flight and the answer of the last turn.
+    fn end_with(&mut self, note: Option<Short>)
+        ensures { self.new ≡ record (cleared self.old) { flight = self.old.flight; note = note } }
+    {
+        self.speech = None;
+        self.rows.clear();
+        self.waits.clear();
+        self.beat = false;
+        self.touched.clear();
+        self.note = note;
+    }
+
+    /// The session has ended. With a NOTIFICATION the message in flight is still finished; without
+    /// one it is dropped too.
+    pub fn finish(&mut self, note: Option<Short>)
+        ensures { self.new ≡ finished note self.old }
+    {
+        match note {
+            None => self.clear(),
+            Some(_) => self.end_with(note),
+        }
+    }
+
+    /// The server's OPEN is in flight, in place of what was.
+    pub fn say_open(&mut self, said: &ServerOpen)
+        ensures { self.new ≡ record self.old { flight = server_open said.now } }
+    {
+        self.start = 0;
+        self.end = put_open(said, &mut self.octets);
+    }
+
+    /// A KEEPALIVE is due.
+    pub fn say_keepalive(&mut self)
+        ensures { self.new ≡ record self.old { beat = true } }
+    {
+        self.beat = true;
+    }
+
+    /// What is due at this prefix, which has this number, is decided anew at the next turn. Where
+    /// there is no room for it, everything is.
+    pub fn touch(&mut self, number: u32, prefix: Prefix) {
+        if self.speech.is_some() {
+            self.touched.add(number, prefix);
+        }
+    }
+
+    /// Everything is decided anew at the next turn.
+    pub fn touch_all(&mut self) {
+        if self.speech.is_some() {
+            self.touched.add_all();
+        }
+    }
+
+    /// Decides what is touched. A refused turn changes nothing but the answer of the last turn.
+    pub fn turn(&mut self, ins: &AdjIns, config: &Config) -> Result<Turned, AllocError>
+        requires client { self.old.client < length config.now.clients }
+        requires clients { client_count ins.now ≡ length config.now.clients }
+        requires numbered { AreNumbered self.old ins.now }
+    {
+        let Some(speech) = self.speech else {
+            let turned = Turned {
+                decided: 0,
+                whole: false,
+            };
+            self.last = Last::Done(turned);
+            return Ok(turned);
+        };
+        let sources = Sources {
+            ins,
+            config,
+            client: self.client,
+        };
+        let turned = self.turn_up(speech, &sources);
+        if turned.is_err() {
+            self.last = Last::Refused;
+        }
+        turned
+    }
+
+    /// The answer of the last turn.
+    pub fn last(&self) -> Last
+        ensures { result ≡ self.now.last }
+    {
+        self.last
+    }
+
+    /// The client asks for everything again (RFC 2918, 4).
+    pub fn again(&mut self) {
+        self.waits.mark_all(&self.rows);
+    }
+
+    /// Begins the next message, where none is in flight.
+    pub fn begin(&mut self) {
+        if self.start < self.end {
+            return;
+        }
+        self.begin_next();
+    }
+
+    /// What is left of the message in flight.
+    pub fn lent(&self) -> &[u8]
+        ensures { result.now ≡ self.now.flight }
+    {
+        &self.octets[self.start..self.end]
+    }
+
+    /// The first octets in flight were taken.
+    pub fn took(&mut self, count: usize)
+        requires { count ≤ length self.old.flight }
+        ensures { self.new ≡ record self.old { flight = drop count self.old.flight } }
+    {
+        self.start += count;
+    }
+
+    /// Whether nothing is left to do.
+    pub fn is_drained(&self) -> bool {
+        self.speech.is_some()
+            && self.touched.is_empty()
+            && self.end <= self.start
+            && !self.beat
+            && self.waits.len() == 0
+    }
+
+    /// Whether the row of a number has no route, and the number is not touched by itself.
+    pub fn is_free(&self, number: u32) -> bool {
+        self.rows.get(number).is_none() && !self.touched.has(number)
+    }
+
+    /// The route of the Loc-RIB for a prefix.
+    pub fn route(&self, prefix: &Prefix, ins: &AdjIns) -> Option<&Arc<Attrs>> {
+        let number = ins.number(*prefix)?;
+        Some(&self.rows.get(number)?.attrs)
+    }
+
+    /// The routes of the Loc-RIB, by rising prefix.
+    pub fn routes<'a>(&'a self, ins: &'a AdjIns) -> Routes<'a> {
+        Routes::new(ins.iter(), &self.rows)
+    }
+}
