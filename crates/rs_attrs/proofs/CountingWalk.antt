@@ -12,14 +12,14 @@ use Rattle.rs_attrs.specs.Walking.{spelling_in, noted, NotesCounting, Stops, Ste
 
 -- ---- one more spelling
 
-abbrev or_else : Option Spelling → Option Spelling → Option Spelling
+abbrev pub or_else : Option Spelling → Option Spelling → Option Spelling
 or_else None y = y
 or_else (Some x) y = Some x
 
-abbrev if_kind : ℕ → Spelling → Option Spelling
+abbrev pub if_kind : ℕ → Spelling → Option Spelling
 if_kind kind s = cond (nat_eq s.kind kind) (Some s) None
 
-counts_more : (kind : ℕ) (done : List Spelling) (s : Spelling) → that_counts kind (done ++ s ∷ []) ≡ or_else (that_counts kind done) (if_kind kind s)
+pub counts_more : (kind : ℕ) (done : List Spelling) (s : Spelling) → that_counts kind (done ++ s ∷ []) ≡ or_else (that_counts kind done) (if_kind kind s)
 counts_more kind [] s = refl
 counts_more kind (t ∷ done) s = by_test (nat_eq t.kind kind) _ _ _ (counts_more kind done s)
   where

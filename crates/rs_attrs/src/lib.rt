@@ -2,6 +2,9 @@
 #![tactic(auto)]
 
 mod attrs;
+mod faulted;
+#[cfg(test)]
+mod faulted_tests;
 mod getters;
 mod laws;
 mod mode;
@@ -20,6 +23,7 @@ mod table;
 mod writing;
 
 pub use attrs::Attrs;
+pub use faulted::{AttributeFault, Cause, Faulted};
 pub use getters::AttributeRef;
 pub use laws::{attributes_are_legal, changes_overlay, slices_are_octets, spelling_reads_back};
 pub use mode::{Faults, Mode};

@@ -2,11 +2,13 @@
 
 ghost use Rattle.std.specs.Prelude.{◌≡◌, ◌++◌, IfOk, OnOk};
 ghost use Rattle.rs_attrs.specs.Table.{is_withdraw, is_unknown, is_discard};
+ghost use Rattle.rs_attrs.specs.Flaws.{faulted_of};
 ghost use Rattle.rs_attrs.specs.Meaning.{Reads, is_as4, value_meant};
 ghost use Rattle.rs_attrs.specs.Writing.{IsLegal};
 ghost use Rattle.rs_attrs.specs.Walking.{NotesKept, some_noted, noted, meant_by, spelling_in, AreKept, AreShort};
 
 use crate::attrs::Attrs;
+use crate::faulted::{Faulted, faulted_in};
 use crate::mode::{Faults, Mode};
 use crate::reading_field::{Found, counting_of};
 use crate::reading_two::push_value_by_two;
@@ -144,6 +146,8 @@ fn attributes_of(
 pub struct Parsed {
     pub attrs: Attrs,
     pub faults: Faults,
+    /// The first attributes at fault, to be told.
+    pub faulted: Faulted,
 }
 
 /// Reads a field of path attributes (RFC 4271, 4.3; RFC 7606) of a peer of this kind. Octets that
@@ -153,7 +157,8 @@ pub struct Parsed {
 ///
 /// `AllocError` where memory was refused.
 pub fn read(alloc: Global, field: &[u8], mode: Mode) -> Result<Parsed, AllocError>
-    ensures { IfOk result (λ p. Reads field.now mode p.attrs p.faults) }
+    ensures reads { IfOk result (λ p. Reads field.now mode p.attrs p.faults) }
+    ensures told { IfOk result (λ p. p.faulted ≡ faulted_of field.now mode) }
 {
     let mut counting = counting_of(field);
     let outcomes = keep(mode, &mut counting.places);
@@ -164,5 +169,10 @@ pub fn read(alloc: Global, field: &[u8], mode: Mode) -> Result<Parsed, AllocErro
         unknown: outcomes.unknown,
         discard: outcomes.discard,
     };
-    Ok(Parsed { attrs, faults })
+    let faulted = faulted_in(field, mode);
+    Ok(Parsed {
+        attrs,
+        faults,
+        faulted,
+    })
 }

@@ -25,7 +25,7 @@ fn is_transitive(flags: u8) -> bool
     flags & 0x40 != 0
 }
 
-fn fits_class(class: Class, flags: u8) -> bool
+pub(crate) fn fits_class(class: Class, flags: u8) -> bool
     ensures { result ≡ Table.fits_class class flags }
 {
     match class {

@@ -4,11 +4,11 @@ ghost use Rattle.std.specs.Prelude.{◌≡◌, IfOk};
 ghost use Rattle.rs_attrs.specs.Effects.{HasEffect, effect_of, treat_as_withdraw};
 ghost use Rattle.rs_update.specs.Outcomes.{fields_in, subcode_of};
 ghost use Rattle.rs_update.specs.Laws.{IsSameEffect};
-ghost use Rattle.rs_update.specs.Changes.{effect_seen, change_seen, IsRising, AreDistinct, AreApart, HasItsAttributes, HasItsMandatory, IsWithdrawn, IsAnnounced};
+ghost use Rattle.rs_update.specs.Changes.{effect_seen, change_seen, IsRising, AreDistinct, AreApart, HasItsAttributes, HasItsMandatory, TellsFaults, IsWithdrawn, IsAnnounced};
 
 use crate::fields::{Fields, cut_body};
 use crate::prefixes::{make_rising, prefixes, take_away};
-use rs_attrs::{Attrs, Faults, Mode, Parsed, read};
+use rs_attrs::{Attrs, Faulted, Faults, Mode, Parsed, read};
 use rs_octets::Prefix;
 use std::alloc::{AllocError, Global};
 use std::sync::Arc;
@@ -24,6 +24,8 @@ pub enum Outcome {
         withdrawn: Vec<Prefix>,
         announced: Vec<Prefix>,
         attrs: Option<Arc<Attrs>>,
+        /// The first attributes at fault, to be told.
+        faulted: Faulted,
     },
 }
 
@@ -126,6 +128,7 @@ pub fn effect(alloc: Global, body: &[u8], mode: Mode) -> Result<Outcome, AllocEr
     ensures apart { IfOk result AreApart }
     ensures attributes { IfOk result HasItsAttributes }
     ensures mandatory { IfOk result HasItsMandatory }
+    ensures told { IfOk result (TellsFaults body.now mode) }
 {
     let Some(fields) = cut_body(body) else {
         return Ok(Outcome::Reset(UPDATE_MESSAGE_ERROR, MALFORMED_ATTRIBUTE_LIST));
@@ -140,6 +143,7 @@ pub fn effect(alloc: Global, body: &[u8], mode: Mode) -> Result<Outcome, AllocEr
     if let Some(subcode) = reset_by(&parsed.faults, &fields) {
         return Ok(Outcome::Reset(UPDATE_MESSAGE_ERROR, subcode));
     }
+    let faulted = parsed.faulted;
     let Routes {
         withdrawn,
         announced,
@@ -153,5 +157,6 @@ pub fn effect(alloc: Global, body: &[u8], mode: Mode) -> Result<Outcome, AllocEr
         withdrawn,
         announced,
         attrs,
+        faulted,
     })
 }

@@ -89,6 +89,7 @@ pub(crate) fn told(alloc: Global, outcome: &Outcome) -> Result<String, AllocErro
             withdrawn,
             announced,
             attrs,
+            ..
         } => {
             let withdrawn = prefixes_told(alloc, withdrawn)?;
             let announced = prefixes_told(alloc, announced)?;

@@ -17,8 +17,8 @@ pub attributes_of-requires-clause-legal : goal.attributes_of-requires-clause-leg
 attributes_of-requires-clause-legal c =
     legal_field c.args.mode c.args.field.now c.counting_of-counting.result.places c.keep-outcomes.new.places (λ i. omega (arith, c.type_inv.field i)) c.counting_of-counting.ensures.counts c.keep-outcomes.ensures.kept
 
-pub returns : goal.returns
-returns c =
+pub returns-clause-reads : goal.returns-clause-reads
+returns-clause-reads c =
     let reads = field_reads c.args.mode c.args.field.now c.counting_of-counting.result.places c.keep-outcomes.new.places c.in_ok-attrs.attrs _ _ _ _ _
     (λ i. omega (arith, c.type_inv.field i)) c.counting_of-counting.ensures.counts c.keep-outcomes.ensures.kept c.in_ok-attrs.ensures
     c.counting_of-counting.ensures.mp_twice c.counting_of-counting.ensures.has_rest c.keep-outcomes.ensures.withdraw c.keep-outcomes.ensures.unknown c.keep-outcomes.ensures.discard in

@@ -1,8 +1,11 @@
 use Rattle.std.proofs.Common.{◌≡◌, ℕ, true, false, List, Vec, Global, Option, Some, None, sym, ap, ◌∙◌, subst, arith}
 use Rattle.std.specs.Prelude.{MatchOption, option_map}
 use Rattle.rs_octets.specs.declared.prefix.Prefix.{Prefix as DeclaredPrefix}
-use Rattle.rs_attrs.specs.Effects.{Reset, Changes, is_faulty, prefixes_in}
+use Rattle.rs_attrs.specs.Effects.{Fields, Reset, Changes, is_faulty, prefixes_in}
+use Rattle.rs_attrs.specs.Flaws.{faulted_of}
 use Rattle.rs_attrs.proofs.Legal.{are_octets}
+use Rattle.rs_attrs.proofs.OneMeaning.{same_fields}
+use Rattle.rs_update.proofs.BodyFields.{body_of_fields}
 use Rattle.rs_update.specs.Outcomes.{fields_in}
 use Rattle.rs_update.specs.Changes.{change_seen}
 use Rattle.rs_update.proofs.Effecting.{no_fields, by_reading, withdrawn_faulty, nlri_faulty, by_attributes, is_withdrawn, is_announced, same_withdrawn, same_announced, rising_distinct, BothRise, withdrawn_rise, announced_rise}
@@ -26,7 +29,7 @@ returns-in_default-2-clause-effect c =
     let fields = fields_in c.in-Some.fields in
     let faulty = found_at fields.withdrawn _ None c.in_default-2.is c.in_ok-withdrawn.ensures in
     by_reading c.args.body.now c.args.mode (Reset 3 10) fields c.in_ok-parsed.parsed.attrs c.in_ok-parsed.parsed.faults (λ i. omega (arith, c.type_inv.body i))
-    (sym c.cut_body.ensures ∙ ap (option_map fields_in) c.in-Some.is) c.in_ok-parsed.ensures (withdrawn_faulty fields c.in_ok-parsed.parsed.faults faulty)
+    (sym c.cut_body.ensures ∙ ap (option_map fields_in) c.in-Some.is) c.in_ok-parsed.ensures.reads (withdrawn_faulty fields c.in_ok-parsed.parsed.faults faulty)
 
 pub returns-in_default-3-clause-effect : goal.returns-in_default-3-clause-effect
 returns-in_default-3-clause-effect c =
@@ -34,7 +37,7 @@ returns-in_default-3-clause-effect c =
     let withdrawn = found_at fields.withdrawn _ (Some c.in-Some-2.withdrawn) c.in-Some-2.is c.in_ok-withdrawn.ensures in
     let faulty = found_at fields.nlri _ None c.in_default-3.is c.in_ok-nlri.ensures in
     by_reading c.args.body.now c.args.mode (Reset 3 10) fields c.in_ok-parsed.parsed.attrs c.in_ok-parsed.parsed.faults (λ i. omega (arith, c.type_inv.body i))
-    (sym c.cut_body.ensures ∙ ap (option_map fields_in) c.in-Some.is) c.in_ok-parsed.ensures (nlri_faulty fields c.in_ok-parsed.parsed.faults withdrawn.0 faulty)
+    (sym c.cut_body.ensures ∙ ap (option_map fields_in) c.in-Some.is) c.in_ok-parsed.ensures.reads (nlri_faulty fields c.in_ok-parsed.parsed.faults withdrawn.0 faulty)
 
 pub returns-in-Some-reset_by-clause-effect : goal.returns-in-Some-reset_by-clause-effect
 returns-in-Some-reset_by-clause-effect c =
@@ -42,7 +45,7 @@ returns-in-Some-reset_by-clause-effect c =
     let withdrawn = found_at fields.withdrawn _ (Some c.in-Some-2.withdrawn) c.in-Some-2.is c.in_ok-withdrawn.ensures in
     let nlri = found_at fields.nlri _ (Some c.in-Some-3.nlri) c.in-Some-3.is c.in_ok-nlri.ensures in
     by_reading c.args.body.now c.args.mode (Reset 3 c.in-Some-reset_by.subcode) fields c.in_ok-parsed.parsed.attrs c.in_ok-parsed.parsed.faults (λ i. omega (arith, c.type_inv.body i))
-    (sym c.cut_body.ensures ∙ ap (option_map fields_in) c.in-Some.is) c.in_ok-parsed.ensures
+    (sym c.cut_body.ensures ∙ ap (option_map fields_in) c.in-Some.is) c.in_ok-parsed.ensures.reads
     (by_attributes fields c.in_ok-parsed.parsed.faults (Some c.in-Some-reset_by.subcode) withdrawn.0 nlri.0 (sym c.in-Some-reset_by.is ∙ c.reset_by.ensures))
 
 pub returns-clause-effect : goal.returns-clause-effect
@@ -52,7 +55,7 @@ returns-clause-effect c =
     let nlri = found_at fields.nlri _ (Some c.in-Some-3.nlri) c.in-Some-3.is c.in_ok-nlri.ensures in
     let no_reset = by_attributes fields c.in_ok-parsed.parsed.faults None withdrawn.0 nlri.0 (sym c.in_default-reset_by.is ∙ c.reset_by.ensures) in
     by_reading c.args.body.now c.args.mode (Changes (change_seen c.if-treats_as_withdraw.withdrawn)) fields c.in_ok-parsed.parsed.attrs c.in_ok-parsed.parsed.faults (λ i. omega (arith, c.type_inv.body i))
-    (sym c.cut_body.ensures ∙ ap (option_map fields_in) c.in-Some.is) c.in_ok-parsed.ensures (
+    (sym c.cut_body.ensures ∙ ap (option_map fields_in) c.in-Some.is) c.in_ok-parsed.ensures.reads (
       no_reset,
       elim c.if-treats_as_withdraw.branch [
         | then-treats_as_withdraw+in_ok-withdraw_all w ↦ is_withdrawn fields c.in_ok-parsed.parsed.attrs c.in_ok-parsed.parsed.faults (change_seen c.if-treats_as_withdraw.withdrawn)
@@ -97,3 +100,9 @@ returns-clause-distinct c = (rising_distinct c.if-treats_as_withdraw.withdrawn.w
 pub returns-clause-mandatory : goal.returns-clause-mandatory
 returns-clause-mandatory c =
     seen_complete c.if-treats_as_withdraw.withdrawn.attrs (has_mandatory c.args.body.now c.args.mode (change_seen c.if-treats_as_withdraw.withdrawn) (returns-clause-effect c))
+
+pub returns-clause-told : goal.returns-clause-told
+returns-clause-told c = λ fields is. (
+    let found = fields_in c.in-Some.fields in
+    let are = body_of_fields c.args.body.now found (λ i. omega (arith, c.type_inv.body i)) (sym c.cut_body.ensures ∙ ap (option_map fields_in) c.in-Some.is) in
+    c.in_ok-parsed.ensures.told ∙ ap (λ (fields : Fields). faulted_of fields.attributes c.args.mode) (same_fields c.args.body.now found fields are is))
