@@ -8,7 +8,7 @@ use Rattle.rs_open.specs.declared.open.Open.{Open}
 use Rattle.rs_open.specs.declared.open.OpenFault.{OpenFault}
 use Rattle.rs_open.specs.declared.open.OpenFault.TheVariants.{Version, Malformed, Parameter, Hold, Identifier}
 use Rattle.rs_open.specs.Triples.{Triple, Row, triple_octets, row_of}
-use Rattle.rs_open.specs.Opens.{when, rest_faults, row_faults, capability_faults, parameter_faults, is_refused_hold, version_of, my_as_of, hold_of, identifier_of, parameters_length, parameters_of, capabilities_of, four_of, faults_of, said_by, unless, open_of}
+use Rattle.rs_open.specs.Opens.{when, rest_faults, row_faults, capability_faults, parameter_faults, is_refused_hold, version_field, my_as_field, hold_field, identifier_field, parameters_length, parameters_of, capabilities_of, four_of, faults_of, said_by, unless, open_of}
 use Rattle.rs_open.specs.Good.{AreWhole, IsGoodCapability, IsGoodParameter, IsGoodHold, IsGoodOpen}
 use Rattle.rs_open.proofs.Splitting.{splits, splits_only, none_in_nothing}
 
@@ -116,23 +116,23 @@ hold_faultless hold (inr more) =
 
 open_good : (body : List ℕ) → faults_of body ≡ [] → IsGoodOpen body
 open_good body e =
-    let my_as : ℕ = my_as_of body in
+    let my_as : ℕ = my_as_field body in
     let four : Option ℕ = four_of (capabilities_of (parameters_of body)) in
-    let a : List OpenFault = when (not (version_of body == 4)) Version in
+    let a : List OpenFault = when (not (version_field body == 4)) Version in
     let b : List OpenFault = when (not (parameters_length body == length (parameters_of body))) Malformed in
     let c : List OpenFault = row_faults parameter_faults (row_of (parameters_of body)) in
-    let d : List OpenFault = when (is_refused_hold (hold_of body)) (Hold my_as four) in
-    let f : List OpenFault = when (identifier_of body == 0) (Identifier my_as four) in
+    let d : List OpenFault = when (is_refused_hold (hold_field body)) (Hold my_as four) in
+    let f : List OpenFault = when (identifier_field body == 0) (Identifier my_as four) in
     let abcd = left_none (a ++ b ++ c ++ d) f e in
     let abc = left_none (a ++ b ++ c) d abcd in
     let ab = left_none (a ++ b) c abc in
     record {
-      version = eqb-true (version_of body) 4 (true_not (version_of body == 4) (not_when (not (version_of body == 4)) Version (left_none a b ab)));
+      version = eqb-true (version_field body) 4 (true_not (version_field body == 4) (not_when (not (version_field body == 4)) Version (left_none a b ab)));
       reaches = eqb-true (parameters_length body) (length (parameters_of body))
           (true_not _ (not_when (not (parameters_length body == length (parameters_of body))) Malformed (right_none a b ab)));
       parameters = row_good parameter_faults IsGoodParameter parameter_good (parameters_of body) (right_none (a ++ b) c abc);
-      hold = hold_good (hold_of body) (not_when (is_refused_hold (hold_of body)) (Hold my_as four) (right_none (a ++ b ++ c) d abcd));
-      identifier = λ is. not_both (identifier_of body == 0) (eq-eqb (identifier_of body) 0 is) (not_when (identifier_of body == 0) (Identifier my_as four) (right_none (a ++ b ++ c ++ d) f e));
+      hold = hold_good (hold_field body) (not_when (is_refused_hold (hold_field body)) (Hold my_as four) (right_none (a ++ b ++ c) d abcd));
+      identifier = λ is. not_both (identifier_field body == 0) (eq-eqb (identifier_field body) 0 is) (not_when (identifier_field body == 0) (Identifier my_as four) (right_none (a ++ b ++ c ++ d) f e));
     }
   where
     not_both : (b : Bool) → b ≡ true → b ≡ false → ⊥
@@ -140,22 +140,22 @@ open_good body e =
 
 open_faultless : (body : List ℕ) → IsGoodOpen body → faults_of body ≡ []
 open_faultless body good =
-    let my_as : ℕ = my_as_of body in
+    let my_as : ℕ = my_as_field body in
     let four : Option ℕ = four_of (capabilities_of (parameters_of body)) in
-    let a : List OpenFault = when (not (version_of body == 4)) Version in
+    let a : List OpenFault = when (not (version_field body == 4)) Version in
     let b : List OpenFault = when (not (parameters_length body == length (parameters_of body))) Malformed in
     let c : List OpenFault = row_faults parameter_faults (row_of (parameters_of body)) in
-    let d : List OpenFault = when (is_refused_hold (hold_of body)) (Hold my_as four) in
-    let f : List OpenFault = when (identifier_of body == 0) (Identifier my_as four) in
+    let d : List OpenFault = when (is_refused_hold (hold_field body)) (Hold my_as four) in
+    let f : List OpenFault = when (identifier_field body == 0) (Identifier my_as four) in
     both_none (a ++ b ++ c ++ d) f
     (both_none (a ++ b ++ c) d
     (both_none (a ++ b) c
     (both_none a b
-    (ap (λ b. when (not b) Version) (eq-eqb (version_of body) 4 good.version))
+    (ap (λ b. when (not b) Version) (eq-eqb (version_field body) 4 good.version))
     (ap (λ b. when (not b) Malformed) (eq-eqb (parameters_length body) (length (parameters_of body)) good.reaches)))
     (row_faultless parameter_faults IsGoodParameter parameter_faultless (parameters_of body) good.parameters))
-    (when_not (is_refused_hold (hold_of body)) (Hold my_as four) (hold_faultless (hold_of body) good.hold)))
-    (when_not (identifier_of body == 0) (Identifier my_as four) (ne_eqb (identifier_of body) 0 good.identifier))
+    (when_not (is_refused_hold (hold_field body)) (Hold my_as four) (hold_faultless (hold_field body) good.hold)))
+    (when_not (identifier_field body == 0) (Identifier my_as four) (ne_eqb (identifier_field body) 0 good.identifier))
 
 ok_none : (faults : List OpenFault) (value : Open) → IsOk (unless faults value) → faults ≡ []
 ok_none [] value ok = refl

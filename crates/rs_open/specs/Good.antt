@@ -2,7 +2,7 @@
 use Rattle.std.specs.Prelude.{◌≡◌, ◌≢◌, ℕ, ◌≤◌, ◌⊎◌, List, length}
 use Rattle.std.specs.List.{flat_map, AllByRecursion}
 use Rattle.rs_open.specs.Triples.{Triple, triple_octets}
-use Rattle.rs_open.specs.Opens.{version_of, hold_of, identifier_of, parameters_length, parameters_of}
+use Rattle.rs_open.specs.Opens.{version_field, hold_field, identifier_field, parameters_length, parameters_of}
 
 -- the octets are whole triples, each of them good
 pub record AreWhole (IsGood : Triple → Type 0) (octets : List ℕ) : Type 0 where
@@ -24,8 +24,8 @@ abbrev pub IsGoodHold : ℕ → Type 0
 IsGoodHold hold = (hold ≡ 0) ⊎ (3 ≤ hold)
 
 pub record IsGoodOpen (body : List ℕ) : Type 0 where
-  pub version : version_of body ≡ 4
+  pub version : version_field body ≡ 4
   pub reaches : parameters_length body ≡ length (parameters_of body)
   pub parameters : AreWhole IsGoodParameter (parameters_of body)
-  pub hold : IsGoodHold (hold_of body)
-  pub identifier : identifier_of body ≢ 0
+  pub hold : IsGoodHold (hold_field body)
+  pub identifier : identifier_field body ≢ 0

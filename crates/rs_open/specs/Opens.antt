@@ -11,17 +11,17 @@ use Rattle.rs_open.specs.Triples.{Triple, Row, row_of}
 
 -- ---- the fields
 
-abbrev pub version_of : List ℕ → ℕ
-version_of body = slice_index body 0
+abbrev pub version_field : List ℕ → ℕ
+version_field body = slice_index body 0
 
-abbrev pub my_as_of : List ℕ → ℕ
-my_as_of body = big_number 2 (drop 1 body)
+abbrev pub my_as_field : List ℕ → ℕ
+my_as_field body = big_number 2 (drop 1 body)
 
-abbrev pub hold_of : List ℕ → ℕ
-hold_of body = big_number 2 (drop 3 body)
+abbrev pub hold_field : List ℕ → ℕ
+hold_field body = big_number 2 (drop 3 body)
 
-abbrev pub identifier_of : List ℕ → ℕ
-identifier_of body = big_number 4 (drop 5 body)
+abbrev pub identifier_field : List ℕ → ℕ
+identifier_field body = big_number 4 (drop 5 body)
 
 abbrev pub parameters_length : List ℕ → ℕ
 parameters_length body = slice_index body 9
@@ -84,13 +84,13 @@ is_refused_hold hold = (hold == 1) || (hold == 2)
 
 abbrev pub faults_of : List ℕ → List OpenFault
 faults_of body =
-    let my_as = my_as_of body in
+    let my_as = my_as_field body in
     let four = four_of (capabilities_of (parameters_of body)) in
-    when (not (version_of body == 4)) Version
+    when (not (version_field body == 4)) Version
     ++ when (not (parameters_length body == length (parameters_of body))) Malformed
     ++ row_faults parameter_faults (row_of (parameters_of body))
-    ++ when (is_refused_hold (hold_of body)) (Hold my_as four)
-    ++ when (identifier_of body == 0) (Identifier my_as four)
+    ++ when (is_refused_hold (hold_field body)) (Hold my_as four)
+    ++ when (identifier_field body == 0) (Identifier my_as four)
 
 -- ---- the answer
 
@@ -98,10 +98,10 @@ abbrev pub said_by : List ℕ → Open
 said_by body =
     let capabilities = capabilities_of (parameters_of body) in
     record {
-      my_as = my_as_of body;
+      my_as = my_as_field body;
       four = four_of capabilities;
-      hold = hold_of body;
-      identifier = identifier_of body;
+      hold = hold_field body;
+      identifier = identifier_field body;
       long = long_of capabilities;
     }
 

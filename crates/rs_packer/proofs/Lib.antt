@@ -1,6 +1,7 @@
 pub mod Announcing
 pub mod Denoting
 pub mod EachOnce
+pub mod Fitting
 pub mod UpdateMessages
 pub mod OneEffect
 pub mod PrefixLists

@@ -10,7 +10,7 @@ use Rattle.rs_attrs.specs.declared.mode.Mode.{Mode}
 use Rattle.rs_attrs.specs.Meaning.{Attribute}
 use Rattle.rs_attrs.specs.Writing.{IsLegal}
 use Rattle.rs_attrs.specs.Effects.{Change, Effect, Changes, HasEffect, lacks_mandatory, once}
-use Rattle.rs_packer.specs.Packed.{update, update_body, announcement, withdrawal}
+use Rattle.rs_packer.specs.Packed.{update, update_body, announcement, withdrawal, IsLongestFront, announced_fit, withdrawn_fit}
 use Rattle.rs_packer.specs.Denoted.{Holds, Announces, Withdraws}
 
 -- to whoever takes messages of that length it is one whole message, and of that type
@@ -25,6 +25,27 @@ abbrev pub UpdateHasItsBody : Type 0
 UpdateHasItsBody =
     (withdrawn : List Prefix) (attributes : List ℕ) (nlri : List Prefix)
     → body_of (update withdrawn attributes nlri) ≡ update_body withdrawn attributes nlri
+
+-- ---- the longest front
+
+-- there is one where the message of no prefix fits, and it is the computed one
+abbrev pub AnnouncedFrontIs : Type 0
+AnnouncedFrontIs =
+    (m : List Attribute) (mode : Mode) (limit : ℕ) (ps : List Prefix) → length (announcement m mode []) ≤ limit
+    → IsLongestFront (announcement m mode) limit ps (announced_fit m mode limit ps)
+
+abbrev pub AnnouncedFrontIsOnly : Type 0
+AnnouncedFrontIsOnly =
+    (m : List Attribute) (mode : Mode) (limit : ℕ) (ps : List Prefix) (n : ℕ) → IsLongestFront (announcement m mode) limit ps n
+    → n ≡ announced_fit m mode limit ps
+
+abbrev pub WithdrawnFrontIs : Type 0
+WithdrawnFrontIs = (limit : ℕ) (ps : List Prefix) → length (withdrawal []) ≤ limit → IsLongestFront withdrawal limit ps (withdrawn_fit limit ps)
+
+abbrev pub WithdrawnFrontIsOnly : Type 0
+WithdrawnFrontIsOnly = (limit : ℕ) (ps : List Prefix) (n : ℕ) → IsLongestFront withdrawal limit ps n → n ≡ withdrawn_fit limit ps
+
+-- ---- what a message denotes
 
 -- What is announced: legal prefixes, one at least, with legal attributes that have ORIGIN, AS_PATH and NEXT_HOP, in a
 -- message whose length has two octets (RFC 4271, 4.1 and 5).

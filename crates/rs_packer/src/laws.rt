@@ -1,12 +1,20 @@
 //! Laws of the definitions: the contract is the law, and the body does nothing.
 
-ghost use Rattle.rs_packer.specs.Laws.{UpdateIsMessage, UpdateHasItsBody, AnnouncementHolds, AnnouncementAnnounces, AnnouncementHasEffect, AnnouncementHasNoOtherEffect, WithdrawalHolds, WithdrawalWithdraws, WithdrawalHasEffect, WithdrawalHasNoOtherEffect};
+ghost use Rattle.rs_packer.specs.Laws.{UpdateIsMessage, UpdateHasItsBody, AnnouncedFrontIs, AnnouncedFrontIsOnly, WithdrawnFrontIs, WithdrawnFrontIsOnly, AnnouncementHolds, AnnouncementAnnounces, AnnouncementHasEffect, AnnouncementHasNoOtherEffect, WithdrawalHolds, WithdrawalWithdraws, WithdrawalHasEffect, WithdrawalHasNoOtherEffect};
 
 /// An UPDATE that is no longer than its receiver takes is one whole message of that type; see
 /// [`rs_octets::laws::messages_are_heard`].
 pub fn update_is_a_message()
     ensures message { UpdateIsMessage }
     ensures body { UpdateHasItsBody }
+{}
+
+/// There is one longest front of a list that fits into a message, and the computed one is it.
+pub fn the_longest_front_is_one()
+    ensures announced { AnnouncedFrontIs }
+    ensures announced_only { AnnouncedFrontIsOnly }
+    ensures withdrawn { WithdrawnFrontIs }
+    ensures withdrawn_only { WithdrawnFrontIsOnly }
 {}
 
 /// What an announcement denotes, read by its receiver: nothing withdrawn, and just its prefixes

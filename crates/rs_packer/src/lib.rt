@@ -10,6 +10,6 @@ mod packed;
 mod tests;
 mod withdrawn;
 
-pub use announced::{fits, pack_announced};
+pub use announced::{fits, pack_announced, try_pack_announced};
 pub use packed::Packed;
 pub use withdrawn::pack_withdrawn;

@@ -2,7 +2,7 @@
 
 ghost use Rattle.std.specs.Prelude.{◌≡◌, length, OnOk};
 
-use crate::{Packed, fits, pack_announced, pack_withdrawn};
+use crate::{Packed, fits, pack_announced, pack_withdrawn, try_pack_announced};
 use rs_attrs::{Attrs, Mode, read};
 use rs_octets::Prefix;
 use std::alloc::{AllocError, Global};
@@ -141,6 +141,24 @@ fn fits_up_to_the_limit(rt: HostRuntime) -> Result<(), Fail> {
         assert!(rt; !fits(&attrs, Mode::Four, &prefix, 46));
         assert!(rt; !fits(&attrs, Mode::Four, &prefix, 0));
     }
+    Ok(())
+}
+
+#[test]
+fn announces_only_where_the_first_fits(rt: HostRuntime) -> Result<(), Fail> {
+    let attrs = attributes(rt.alloc())?;
+    let list = prefixes(rt.alloc(), 3)?;
+    assert_eq!(rt; list.len(), 3);
+    let mut out = [7; 60];
+    assert!(rt; try_pack_announced(&attrs, Mode::Four, &list, &mut out[..46]).is_none());
+    assert!(rt; try_pack_announced(&attrs, Mode::Four, &[], &mut out).is_none());
+    assert!(rt; out.iter().all(|octet| *octet == 7));
+    let packed = try_pack_announced(&attrs, Mode::Four, &list, &mut out[..47]);
+    assert!(rt; has(packed, 47, 1));
+    assert!(rt; out[47..].iter().all(|octet| *octet == 7));
+    let packed = try_pack_announced(&attrs, Mode::Four, &list, &mut out[..54]);
+    assert!(rt; has(packed, 51, 2));
+    assert!(rt; out[43..51].starts_with(b"\x18\x0a\x00\x00\x18\x0a\x00\x01"));
     Ok(())
 }
 
