@@ -1,6 +1,7 @@
 //! The configuration of a route server.
 
-ghost use Rattle.std.specs.Prelude.{◌≡◌, ◌≢◌, ◌<◌, length, IfOk, IfErr};
+ghost use Rattle.std.specs.Prelude.{◌≡◌, ◌≢◌, ◌<◌, length, IfOk, IfErr, IfSome};
+ghost use Rattle.rs_policy.specs.Rules.{client_named};
 ghost use Rattle.toml.specs.Data.{table};
 ghost use Rattle.toml.specs.View.{view};
 ghost use Rattle.toml.specs.Parse.{parse_document};
@@ -11,6 +12,7 @@ ghost use Rattle.rs_policy.specs.Documents.{document_checks, configuration_of, c
 use crate::clients::{Client, read_clients};
 use crate::faults::ConfigFault;
 use crate::policies::{Policy, read_policies};
+use crate::rule_tables::place_of;
 use crate::rules::Choice;
 use crate::top::{Top, client_tables, refuse_other_keys};
 use std::alloc::Global;
@@ -115,6 +117,14 @@ impl Config {
         ensures whole { IsSound self.now }
     {
         self.clients.len()
+    }
+
+    /// The client with this name.
+    pub fn place(&self, name: &str) -> Option<usize>
+        ensures named { result ≡ client_named self.now.clients name.now }
+        ensures within { IfSome result (λ c. c < length self.now.clients) }
+    {
+        place_of(&self.clients, name)
     }
 
     /// The name of a client.

@@ -5,6 +5,7 @@ mod arrays;
 mod clients;
 mod config;
 mod faults;
+pub mod laws;
 mod line;
 mod policies;
 mod replacing;

@@ -47,7 +47,8 @@ impl Kind for NameOf<'_> {
     }
 }
 
-fn place_of(clients: &[Client], name: &str) -> Option<usize>
+/// The client with this name, from 0.
+pub(crate) fn place_of(clients: &[Client], name: &str) -> Option<usize>
     ensures { result ≡ client_named clients.now name.now }
 {
     clients

@@ -168,6 +168,16 @@ export = [
 "#;
 
 #[test]
+fn clients_are_found_by_their_names(rt: HostRuntime) -> Result<(), Fail> {
+    let config = Config::read(rt.alloc(), FOUR_MEMBERS)?;
+    assert_eq!(rt; config.place("a"), Some(0));
+    assert_eq!(rt; config.place("d"), Some(3));
+    assert_eq!(rt; config.place("e"), None);
+    assert_eq!(rt; config.place(""), None);
+    Ok(())
+}
+
+#[test]
 fn the_four_members_are_read(rt: HostRuntime) -> Result<(), Fail> {
     let config = Config::read(rt.alloc(), FOUR_MEMBERS)?;
     assert_eq!(rt; config.clients(), 4);
