@@ -1,5 +1,5 @@
 -- What a configuration says.
-use Rattle.std.specs.Prelude.{ℕ, List, [], slice_index_or, length, ◌<◌, ◌≤◌, ◌≡◌, Option, None}
+use Rattle.std.specs.Prelude.{ℕ, List, [], slice_index_or, Option, None}
 use Rattle.rs_policy.specs.declared.rules.Rule.{Rule}
 use Rattle.rs_policy.specs.declared.top.Top.{Top}
 
@@ -21,12 +21,6 @@ pub record Configuration : Type 0 where
   pub top : Top
   pub clients : List Client
   pub policies : List Policy
-
--- there is a client, and each has a policy
-pub record IsSound (s : Configuration) : Type 0 where
-  pub some : 0 < length s.clients
-  pub few : length s.clients ≤ 512
-  pub policies : length s.policies ≡ length s.clients
 
 abbrev pub no_client : Client
 no_client = record { name = []; client_as = 0; listen = (0, 0); peer = 0; limit = None }

@@ -1,3 +1,4 @@
+pub mod Accepted
 pub mod Configuration
 pub mod Documents
 pub mod FaultTexts
@@ -6,6 +7,7 @@ pub mod Keys
 pub mod Replacing
 pub mod Rules
 pub mod Seen
+pub mod Sound
 pub mod Texts
 pub mod Values
 pub mod Verdicts

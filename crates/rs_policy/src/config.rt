@@ -6,7 +6,8 @@ ghost use Rattle.toml.specs.Data.{table};
 ghost use Rattle.toml.specs.View.{view};
 ghost use Rattle.toml.specs.Parse.{parse_document};
 ghost use Rattle.rs_policy.specs.Values.{answer};
-ghost use Rattle.rs_policy.specs.Configuration.{client_of, policy_of, IsSound};
+ghost use Rattle.rs_policy.specs.Configuration.{client_of, policy_of};
+ghost use Rattle.rs_policy.specs.Sound.{IsSound};
 ghost use Rattle.rs_policy.specs.Documents.{document_checks, configuration_of, config_of};
 
 use crate::clients::{Client, read_clients};
@@ -32,7 +33,7 @@ impl Model for Config {
 
     ghost Value = { Configuration };
 
-    ghost use Rattle.rs_policy.specs.Configuration.{IsSound};
+    ghost use Rattle.rs_policy.specs.Sound.{IsSound};
 
     ghost view = { λ c. record { top = c.top; clients = c.clients.items; policies = c.policies.items } };
 
@@ -111,10 +112,10 @@ impl Config {
         self.top.multiprotocol
     }
 
-    /// How many clients there are: 1 to 512.
+    /// How many clients there are: 1 to 512. What every configuration has is told here.
     pub fn clients(&self) -> usize
         ensures count { result ≡ length self.now.clients }
-        ensures whole { IsSound self.now }
+        ensures sound { IsSound self.now }
     {
         self.clients.len()
     }

@@ -1,12 +1,29 @@
 //! Laws of the definitions. Each contract is the law; the bodies do nothing.
 
-ghost use Rattle.std.specs.Prelude.{◌≡◌, ◌↔◌, None};
+ghost use Rattle.std.specs.Prelude.{◌≡◌, ◌↔◌, ℕ, List, None, Ok};
+ghost use Rattle.rs_policy.specs.Accepted.{AcceptedSays};
 ghost use Rattle.rs_policy.specs.Configuration.{Configuration};
+ghost use Rattle.rs_policy.specs.Documents.{config_of};
 ghost use Rattle.rs_policy.specs.Replacing.{first_fixed, IsFixed};
+ghost use Rattle.rs_policy.specs.Sound.{IsSound};
 
 /// A configuration may replace another exactly where all but the default, the limits and the rules is
 /// what it was.
 #[tactic(auto, using(crate::proofs::Fixed::nothing_fixed))]
 pub fn a_replacement_keeps_what_is_fixed()
     ensures { (old new : Configuration) → (first_fixed old new ≡ None) ↔ IsFixed old new }
+{}
+
+/// Each key of an accepted text was read as its check reads it: no value in a configuration stands for
+/// a fault.
+#[tactic(auto, using(crate::proofs::Passing::accepted_says))]
+pub fn an_accepted_text_says_each_value()
+    ensures { AcceptedSays }
+{}
+
+/// What every configuration has: an identifier, no Hold Time of 1 or 2 seconds, 1 to 512 clients of
+/// which no two have one name or one pair of `listen` and `peer`, at most 64 rules in a list, and rules
+/// whose lengths are in range and which name clients that are there.
+pub fn every_configuration_is_sound()
+    ensures { (text : List ℕ) (s : Configuration) → config_of text ≡ Ok s → IsSound s }
 {}

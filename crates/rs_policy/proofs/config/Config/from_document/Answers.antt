@@ -1,6 +1,7 @@
 use Rattle.std.proofs.Common.{◌∙◌}
 use Rattle.rs_policy.proofs.Checks.{passes, fails, passes_one, fails_one, answer-append-err, answer-err_for, passed_on}
 use Rattle.rs_policy.proofs.Wholes.{top_passes, clients_pass, document_passes}
+use Rattle.rs_policy.proofs.Soundness.{answer_sound}
 use Rattle.rs_policy.proofs.config.Config.from_document.Goals as goal
 
 pub returns-in_err-top-clause-fault : goal.returns-in_err-top-clause-fault
@@ -32,3 +33,9 @@ pub returns-clause-ok : goal.returns-clause-ok
 returns-clause-ok c =
     document_passes _ _ _ _ _ c.in_ok-top.ensures c.in_ok-tables.ensures.tables c.in_ok-refuse_other_keys.ensures c.in_ok-clients.ensures.ok
     (rw c.deref.ensures.value at c.in_ok-policies.ensures.ok)
+
+pub invariant_of-result : goal.invariant_of-result
+invariant_of-result c =
+    answer_sound _ _
+    (document_passes _ _ _ _ _ c.in_ok-top.ensures c.in_ok-tables.ensures.tables c.in_ok-refuse_other_keys.ensures c.in_ok-clients.ensures.ok
+    (rw c.deref.ensures.value at c.in_ok-policies.ensures.ok))

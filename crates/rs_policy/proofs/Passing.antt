@@ -1,0 +1,268 @@
+-- What checks that pass say: each key was read.
+use Rattle.std.proofs.Common.{◌≡◌, ℕ, zero, suc, ◌+◌, ◌-◌, ◌<◌, ◌||◌, Bool, true, false, List, [], ◌∷◌, ◌++◌, length, take, get_or, Option, Some, None, Result, Ok, Err, refl, sym, ap, subst, ◌∙◌, arith, if◌then◌else◌}
+use Rattle.std.specs.Prelude.{⊤}
+use Rattle.std.specs.List.{list_any, AllPairs}
+use Rattle.std.proofs.lemmas.List.{get_or-take, length-take}
+use Rattle.toml.specs.Data.{Data, Members, table}
+use Rattle.toml.specs.Parse.{parse_document}
+use Rattle.rs_policy.specs.Keys.{top_keys, client_keys, rule_keys}
+use Rattle.rs_policy.specs.Values.{keyed, has_only, fault_in, value_or, stranger, first_failing, or_fault, answer, each_from, checks_from}
+use Rattle.rs_policy.specs.Configuration.{Client, Configuration}
+use Rattle.rs_policy.specs.Rules.{prefix_at, prefix_in, min_at, min_in, max_at, max_in, range_checks, range_of, from_at, path_has_at, origin_as_at, community_at, next_hop_is_peer_at, test_checks, tests_of, choice_at, choice_in, preference_at, strip_at, action_checks, action_of, rule_checks, rule_of}
+use Rattle.rs_policy.specs.Documents.{the_top, server_as_at, identifier_at, hold_at, default_at, flag_at, clients_at, top_of, top_checks, client_place, name_at, client_as_at, listen_at, peer_at, limit_at, client_from, clients_from, is_same, client_checks, clients_checks, rule_place, rules_at, rules_checks, list_checks, list_of_rules, policy_from, policy_checks, policies_checks, client_tables, document_checks, configuration_of, config_from, config_of}
+use Rattle.rs_policy.specs.Accepted.{SaysTop, SaysClient, SaysRange, SaysTests, SaysAction, SaysRule, SaysEach, SaysRules, SaysPolicy, Says, AcceptedSays}
+use Rattle.rs_policy.specs.declared.faults.Key.TheVariants as K
+use Rattle.rs_policy.specs.declared.faults.List.{List as RuleList}
+use Rattle.rs_policy.specs.declared.faults.List.TheVariants.{Import, Export}
+use Rattle.rs_policy.specs.declared.faults.Place.{Place}
+use Rattle.rs_policy.specs.declared.faults.ConfigFault.{ConfigFault}
+use Rattle.rs_policy.specs.declared.faults.ConfigFault.TheVariants.{BadValue, Twice}
+use Rattle.rs_policy.specs.declared.rules.Choice.TheVariants as C
+use Rattle.rs_policy.specs.declared.rules.Stripping.TheVariants.{Named}
+
+-- ---- checks that pass
+
+abbrev Pass : List (Option ConfigFault) → Type 0
+Pass checks = first_failing checks ≡ None
+
+abbrev AllPass : List (Option ConfigFault) → Type 0
+AllPass [] = ⊤
+AllPass (check ∷ rest) = (check ≡ None) × AllPass rest
+
+all_pass : (checks : List (Option ConfigFault)) → Pass checks → AllPass checks
+all_pass [] e = tt
+all_pass (None ∷ rest) e = (refl, all_pass rest e)
+all_pass (Some f ∷ rest) e = cc
+
+front_passes : (xs ys : List (Option ConfigFault)) → Pass (xs ++ ys) → Pass xs
+front_passes [] ys e = refl
+front_passes (None ∷ xs) ys e = front_passes xs ys e
+front_passes (Some f ∷ xs) ys e = cc
+
+back_passes : (xs ys : List (Option ConfigFault)) → Pass (xs ++ ys) → Pass ys
+back_passes [] ys e = e
+back_passes (None ∷ xs) ys e = back_passes xs ys e
+back_passes (Some f ∷ xs) ys e = cc
+
+-- what was read, where nothing is wrong with it
+was_read : {A : Type 0} (other : A) (r : Result A ConfigFault) → fault_in r ≡ None → r ≡ Ok (value_or other r)
+was_read other (Ok a) e = refl
+was_read other (Err f) e = cc
+
+holds_if : (b : Bool) (f : ConfigFault) → fault_in {A = Unit {0}} (if b then Ok tt else Err f) ≡ None → b ≡ true
+holds_if false f e = cc
+holds_if true f e = refl
+
+fails_if : (b : Bool) (f : ConfigFault) → fault_in {A = Unit {0}} (if b then Err f else Ok tt) ≡ None → b ≡ false
+fails_if false f e = refl
+fails_if true f e = cc
+
+-- ---- the top and a client
+
+top_says : (d : Data) → Pass (top_checks d) → SaysTop d (top_of d)
+unfolding top_checks top_of
+top_says d e =
+    let h : AllPass (top_checks d) = all_pass (top_checks d) e in
+    record {
+      server_as = was_read 0 (server_as_at d) h.0;
+      identifier = was_read 0 (identifier_at d) h.1.0;
+      hold = was_read 0 (hold_at d) h.1.1.0;
+      default = was_read C.Pass (default_at d) h.1.1.1.0;
+      extended = was_read false (flag_at K.Extended d) h.1.1.1.1.0;
+      refresh = was_read false (flag_at K.Refresh d) h.1.1.1.1.1.0;
+      multiprotocol = was_read false (flag_at K.Multiprotocol d) h.1.1.1.1.1.1.0;
+    }
+
+client_says : (n : ℕ) (earlier : List Client) (d : Data) → Pass (client_checks n earlier d) → SaysClient n d (client_from n d)
+unfolding client_checks client_from
+client_says n earlier d e =
+    let h : AllPass (client_checks n earlier d) = all_pass (client_checks n earlier d) e in
+    record {
+      name = was_read [] (name_at n d) h.0;
+      client_as = was_read 0 (client_as_at n d) h.1.0;
+      listen = was_read (0, 0) (listen_at n d) h.1.1.0;
+      peer = was_read 0 (peer_at n d) h.1.1.1.0;
+      limit = was_read None (limit_at n d) h.1.1.1.1.0;
+      only = holds_if (has_only client_keys d) (BadValue (keyed (client_place n) K.Other)) h.1.1.1.1.1.0;
+    }
+
+client_alone : (n : ℕ) (earlier : List Client) (d : Data) → Pass (client_checks n earlier d)
+    → list_any (is_same (client_from n d)) earlier ≡ false
+unfolding client_checks
+client_alone n earlier d e =
+    let h : AllPass (client_checks n earlier d) = all_pass (client_checks n earlier d) e in
+    fails_if (list_any (is_same (client_from n d)) earlier) (Twice n) h.1.1.1.1.1.1.0
+
+-- ---- a rule
+
+range_says : (place : Place) (d : Data) → Pass (range_checks place d) → SaysRange place d (range_of place d)
+unfolding range_checks range_of
+range_says place d e =
+    let h : AllPass (range_checks place d) = all_pass (range_checks place d) e in
+    record {
+      prefix = prefix_in place d;
+      min = min_in place d;
+      max = max_in place d;
+      prefix_is = was_read None (prefix_at place d) h.0;
+      min_is = was_read 0 (min_at (prefix_in place d) place d) h.1.0;
+      max_is = was_read 0 (max_at (prefix_in place d) (min_in place d) place d) h.1.1.0;
+      range_is = refl;
+    }
+
+tests_say : (clients : List Client) (place : Place) (d : Data) → Pass (test_checks clients place d)
+    → SaysTests clients place d (tests_of clients place d)
+unfolding test_checks tests_of
+tests_say clients place d e =
+    let h : AllPass (test_checks clients place d) = all_pass (test_checks clients place d) e in
+    record {
+      from = was_read None (from_at clients place d) h.0;
+      path_has = was_read None (path_has_at place d) h.1.0;
+      origin_as = was_read None (origin_as_at place d) h.1.1.0;
+      community = was_read None (community_at place d) h.1.1.1.0;
+      next_hop_is_peer = was_read None (next_hop_is_peer_at place d) h.1.1.1.1.0;
+    }
+
+action_says : (place : Place) (d : Data) → Pass (action_checks place d) → SaysAction place d (action_of place d)
+unfolding action_checks action_of
+action_says place d e =
+    let h : AllPass (action_checks place d) = all_pass (action_checks place d) e in
+    record {
+      choice = choice_in place d;
+      preference = value_or None (preference_at (choice_in place d) place d);
+      strip = value_or (Named []) (strip_at (choice_in place d) place d);
+      choice_is = was_read C.Drop (choice_at place d) h.0;
+      preference_is = was_read None (preference_at (choice_in place d) place d) h.1.0;
+      strip_is = was_read (Named []) (strip_at (choice_in place d) place d) h.1.1.0;
+      action_is = refl;
+    }
+
+rule_says : (clients : List Client) (place : Place) (d : Data) → Pass (rule_checks clients place d)
+    → SaysRule clients place d (rule_of clients place d)
+rule_says clients place d e =
+    let known : List (Option ConfigFault) = fault_in (stranger rule_keys place d) ∷ [] in
+    let behind : Pass (test_checks clients place d ++ (action_checks place d ++ known)) =
+    back_passes (range_checks place d) (test_checks clients place d ++ (action_checks place d ++ known)) e in
+    let last : Pass (action_checks place d ++ known) = back_passes (test_checks clients place d) (action_checks place d ++ known) behind in
+    let h : AllPass known = all_pass known (back_passes (action_checks place d) known last) in
+    record {
+      range = range_says place d (front_passes (range_checks place d) (test_checks clients place d ++ (action_checks place d ++ known)) e);
+      tests = tests_say clients place d (front_passes (test_checks clients place d) (action_checks place d ++ known) behind);
+      action = action_says place d (front_passes (action_checks place d) known last);
+      only = holds_if (has_only rule_keys d) (BadValue (keyed place K.Other)) h.0;
+    }
+
+-- ---- tables one after the other
+
+each_says : {A : Type 0} (f : ℕ → Data → A) (g : ℕ → Data → List (Option ConfigFault)) (R : ℕ → Data → A → Type 0)
+    → ((n : ℕ) (d : Data) → Pass (g n d) → R n d (f n d)) → (n : ℕ) (ds : List Data)
+    → Pass (checks_from g n ds) → SaysEach R n ds (each_from f n ds)
+unfolding checks_from each_from
+each_says f g R says n [] e = tt
+each_says f g R says n (d ∷ ds) e = (
+  says n d (front_passes (g n d) (checks_from g (n + 1) ds) e),
+  each_says f g R says (n + 1) ds (back_passes (g n d) (checks_from g (n + 1) ds) e),
+)
+
+-- what the table at a place says
+pub each_at : {A : Type 0} (R : ℕ → Data → A → Type 0) (n : ℕ) (ds : List Data) (xs : List A) → SaysEach R n ds xs
+    → (i : ℕ) (x : A) → i < length xs → (d : Data) × R (n + i) d (get_or xs i x)
+each_at R n [] [] h i x l = absurd (omega arith)
+each_at R n [] (a ∷ xs) h i x l = absurd h
+each_at R n (d ∷ ds) [] h i x l = absurd h
+each_at R n (d ∷ ds) (a ∷ xs) h zero x l = (d, subst (λ k. R k d a) (let e : n ≡ n + 0 = omega arith in e) h.0)
+each_at R n (d ∷ ds) (a ∷ xs) h (suc i) x l =
+    let k : (d : Data) × R (n + 1 + i) d (get_or xs i x) = each_at R (n + 1) ds xs h.1 i x (omega arith) in
+    (k.0, subst (λ m. R m k.0 (get_or xs i x)) (let e : n + 1 + i ≡ n + suc i = omega arith in e) k.1)
+
+rules_say : (clients : List Client) (n : ℕ) (list : RuleList) (d : Data) → Pass (list_checks clients n list d)
+    → SaysRules clients n list d (list_of_rules clients n list d)
+rules_say clients n list d e =
+    let tables : List Data = value_or [] (rules_at n list d) in
+    let h : AllPass (list_checks clients n list d) = all_pass (list_checks clients n list d) e in
+    record {
+      tables = tables;
+      tables_are = was_read [] (rules_at n list d) h.0;
+      each = each_says (λ r d. rule_of clients (rule_place n list r) d) (λ r d. rule_checks clients (rule_place n list r) d)
+          (λ r d rule. SaysRule clients (rule_place n list r) d rule) (λ r d p. rule_says clients (rule_place n list r) d p) 1 tables
+          (back_passes (fault_in (rules_at n list d) ∷ []) (rules_checks clients n list tables) e);
+    }
+
+policy_says : (clients : List Client) (n : ℕ) (d : Data) → Pass (policy_checks clients n d)
+    → SaysPolicy clients n d (policy_from clients n d)
+policy_says clients n d e = record {
+  import = rules_say clients n Import d (front_passes (list_checks clients n Import d) (list_checks clients n Export d) e);
+  export = rules_say clients n Export d (back_passes (list_checks clients n Import d) (list_checks clients n Export d) e);
+}
+
+-- ---- no client twice
+
+left_false : (a b : Bool) → (a || b) ≡ false → a ≡ false
+left_false false b e = refl
+left_false true b e = cc
+
+right_false : (a b : Bool) → (a || b) ≡ false → b ≡ false
+right_false false b e = e
+right_false true b e = cc
+
+none_passes : {A : Type 0} (p : A → Bool) (xs : List A) (i : ℕ) (x : A) → list_any p xs ≡ false → i < length xs
+    → p (get_or xs i x) ≡ false
+none_passes p [] i x e l = absurd (omega arith)
+none_passes p (y ∷ ys) zero x e l = left_false (p y) (list_any p ys) e
+none_passes p (y ∷ ys) (suc i) x e l = none_passes p ys i x (right_false (p y) (list_any p ys) e) (omega arith)
+
+abbrev IsAlone : List Client → ℕ → Data → Client → Type 0
+IsAlone all n d c = list_any (is_same c) (take (n - 1) all) ≡ false
+
+none_twice : (ds : List Data) (all : List Client) → SaysEach (IsAlone all) 1 ds all
+    → AllPairs (λ earlier later. is_same later earlier ≡ false) all
+none_twice ds all h i j x before within =
+    let k : (d : Data) × IsAlone all (1 + j) d (get_or all j x) = each_at (IsAlone all) 1 ds all h j x within in
+    let front : take (1 + j - 1) all ≡ take j all = ap (λ n. take n all) (let e : 1 + j - 1 ≡ j = omega arith in e) in
+    let alone : list_any (is_same (get_or all j x)) (take j all) ≡ false = ap (list_any (is_same (get_or all j x))) (sym front) ∙ k.1 in
+    let fits : i < length (take j all) = omega (arith, length-take j all) in
+    ap (is_same (get_or all j x)) (sym (get_or-take j all i x before))
+    ∙ none_passes (is_same (get_or all j x)) (take j all) i x alone fits
+
+-- ---- the document
+
+document_says : (d : Data) → Pass (document_checks d) → Says d (configuration_of d)
+document_says d e =
+    let ds : List Data = client_tables d in
+    let all : List Client = clients_from ds in
+    let behind = back_passes (top_checks d) (fault_in (clients_at d) ∷ fault_in (stranger top_keys the_top d) ∷ (clients_checks ds ++ policies_checks all ds)) e in
+    let h : (fault_in (clients_at d) ≡ None) × ((fault_in (stranger top_keys the_top d) ≡ None) × AllPass (clients_checks ds ++ policies_checks all ds)) =
+    all_pass (fault_in (clients_at d) ∷ fault_in (stranger top_keys the_top d) ∷ (clients_checks ds ++ policies_checks all ds)) behind in
+    let rest : Pass (clients_checks ds ++ policies_checks all ds) =
+    back_passes (fault_in (clients_at d) ∷ fault_in (stranger top_keys the_top d) ∷ []) (clients_checks ds ++ policies_checks all ds) behind in
+    let clients : Pass (clients_checks ds) = front_passes (clients_checks ds) (policies_checks all ds) rest in
+    record {
+      top = top_says d (front_passes (top_checks d) (fault_in (clients_at d) ∷ fault_in (stranger top_keys the_top d) ∷ (clients_checks ds ++ policies_checks all ds)) e);
+      only = holds_if (has_only top_keys d) (BadValue (keyed the_top K.Other)) h.1.0;
+      tables = ds;
+      tables_are = was_read [] (clients_at d) h.0;
+      clients = each_says client_from (λ n d. client_checks n (take (n - 1) all) d) SaysClient
+          (λ n d p. client_says n (take (n - 1) all) d p) 1 ds clients;
+      none_twice = none_twice ds all
+          (each_says client_from (λ n d. client_checks n (take (n - 1) all) d) (IsAlone all)
+          (λ n d p. client_alone n (take (n - 1) all) d p) 1 ds clients);
+      policies = each_says (policy_from all) (policy_checks all) (SaysPolicy all) (policy_says all) 1 ds
+          (back_passes (clients_checks ds) (policies_checks all ds) rest);
+    }
+
+pass_of_ok : {A : Type 0} (a v : A) (o : Option ConfigFault) → or_fault a o ≡ Ok v → (o ≡ None) × (a ≡ v)
+pass_of_ok a v None e = (refl, let f : a ≡ v = cc in f)
+pass_of_ok a v (Some f) e = cc
+
+pub answer_says : (d : Data) (s : Configuration) → answer (document_checks d) (configuration_of d) ≡ Ok s → Says d s
+unfolding answer
+answer_says d s e =
+    let h : Pass (document_checks d) × (configuration_of d ≡ s) = pass_of_ok (configuration_of d) s (first_failing (document_checks d)) e in
+    subst (Says d) h.1 (document_says d h.0)
+
+accepted_by : (o : Option Members) (s : Configuration) → config_from o ≡ Ok s → (t : Members) × ((o ≡ Some t) × Says (table t) s)
+accepted_by None s e = cc
+accepted_by (Some t) s e = (t, (refl, answer_says (table t) s e))
+
+pub accepted_says : AcceptedSays
+unfolding config_of
+accepted_says text s e = accepted_by (parse_document text) s e

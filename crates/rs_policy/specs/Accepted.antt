@@ -1,0 +1,101 @@
+-- What an accepted text says: at each key the value that its check reads there, and no key besides.
+use Rattle.std.specs.Prelude.{◌≡◌, ℕ, ◌+◌, true, false, List, [], ◌∷◌, Option, Some, Ok, ⊤}
+use Rattle.std.specs.List.{AllPairs}
+use Rattle.toml.specs.Data.{Data, Members, table}
+use Rattle.toml.specs.Parse.{parse_document}
+use Rattle.rs_octets.specs.Prefixes.{Prefix}
+use Rattle.rs_policy.specs.Keys.{top_keys, client_keys, rule_keys}
+use Rattle.rs_policy.specs.Values.{has_only}
+use Rattle.rs_policy.specs.Configuration.{Client, Policy, Configuration}
+use Rattle.rs_policy.specs.Rules.{prefix_at, min_at, max_at, range_with, from_at, path_has_at, origin_as_at, community_at, next_hop_is_peer_at, choice_at, preference_at, strip_at, action_with}
+use Rattle.rs_policy.specs.Documents.{server_as_at, identifier_at, hold_at, default_at, flag_at, clients_at, name_at, client_as_at, listen_at, peer_at, limit_at, is_same, rules_at, rule_place, config_of}
+use Rattle.rs_policy.specs.declared.faults.Key.TheVariants as K
+use Rattle.rs_policy.specs.declared.faults.List.{List as RuleList}
+use Rattle.rs_policy.specs.declared.faults.List.TheVariants.{Import, Export}
+use Rattle.rs_policy.specs.declared.faults.Place.{Place}
+use Rattle.rs_policy.specs.declared.rules.Choice.{Choice}
+use Rattle.rs_policy.specs.declared.rules.Range.{Range}
+use Rattle.rs_policy.specs.declared.rules.Stripping.{Stripping}
+use Rattle.rs_policy.specs.declared.rules.Action.{Action}
+use Rattle.rs_policy.specs.declared.rules.Rule.{Rule}
+use Rattle.rs_policy.specs.declared.rules.Tests.{Tests}
+use Rattle.rs_policy.specs.declared.top.Top.{Top}
+
+pub record SaysTop (d : Data) (top : Top) : Type 0 where
+  pub server_as : server_as_at d ≡ Ok top.server_as
+  pub identifier : identifier_at d ≡ Ok top.identifier
+  pub hold : hold_at d ≡ Ok top.hold
+  pub default : default_at d ≡ Ok top.default
+  pub extended : flag_at K.Extended d ≡ Ok top.extended
+  pub refresh : flag_at K.Refresh d ≡ Ok top.refresh
+  pub multiprotocol : flag_at K.Multiprotocol d ≡ Ok top.multiprotocol
+
+pub record SaysClient (n : ℕ) (d : Data) (c : Client) : Type 0 where
+  pub name : name_at n d ≡ Ok c.name
+  pub client_as : client_as_at n d ≡ Ok c.client_as
+  pub listen : listen_at n d ≡ Ok c.listen
+  pub peer : peer_at n d ≡ Ok c.peer
+  pub limit : limit_at n d ≡ Ok c.limit
+  pub only : has_only client_keys d ≡ true
+
+pub record SaysRange (place : Place) (d : Data) (range : Option Range) : Type 0 where
+  pub prefix : Option Prefix
+  pub min : ℕ
+  pub max : ℕ
+  pub prefix_is : prefix_at place d ≡ Ok prefix
+  pub min_is : min_at prefix place d ≡ Ok min
+  pub max_is : max_at prefix min place d ≡ Ok max
+  pub range_is : range ≡ range_with prefix min max
+
+pub record SaysTests (clients : List Client) (place : Place) (d : Data) (tests : Tests) : Type 0 where
+  pub from : from_at clients place d ≡ Ok tests.from
+  pub path_has : path_has_at place d ≡ Ok tests.path_has
+  pub origin_as : origin_as_at place d ≡ Ok tests.origin_as
+  pub community : community_at place d ≡ Ok tests.community
+  pub next_hop_is_peer : next_hop_is_peer_at place d ≡ Ok tests.next_hop_is_peer
+
+pub record SaysAction (place : Place) (d : Data) (action : Action) : Type 0 where
+  pub choice : Choice
+  pub preference : Option ℕ
+  pub strip : Stripping
+  pub choice_is : choice_at place d ≡ Ok choice
+  pub preference_is : preference_at choice place d ≡ Ok preference
+  pub strip_is : strip_at choice place d ≡ Ok strip
+  pub action_is : action ≡ action_with choice preference strip
+
+pub record SaysRule (clients : List Client) (place : Place) (d : Data) (rule : Rule) : Type 0 where
+  pub range : SaysRange place d rule.range
+  pub tests : SaysTests clients place d rule.tests
+  pub action : SaysAction place d rule.action
+  pub only : has_only rule_keys d ≡ true
+
+-- each table, counted from n, says what stands at its place of a list
+abbrev pub SaysEach : {A : Type 0} → (ℕ → Data → A → Type 0) → ℕ → List Data → List A → Type 0
+SaysEach R n [] [] = ⊤
+SaysEach R n [] (x ∷ xs) = ⊥
+SaysEach R n (d ∷ ds) [] = ⊥
+SaysEach R n (d ∷ ds) (x ∷ xs) = R n d x × SaysEach R (n + 1) ds xs
+
+pub record SaysRules (clients : List Client) (n : ℕ) (list : RuleList) (d : Data) (rules : List Rule) : Type 0 where
+  pub tables : List Data
+  pub tables_are : rules_at n list d ≡ Ok tables
+  pub each : SaysEach (λ r d rule. SaysRule clients (rule_place n list r) d rule) 1 tables rules
+
+pub record SaysPolicy (clients : List Client) (n : ℕ) (d : Data) (policy : Policy) : Type 0 where
+  pub import : SaysRules clients n Import d policy.import
+  pub export : SaysRules clients n Export d policy.export
+
+pub record Says (d : Data) (s : Configuration) : Type 0 where
+  pub top : SaysTop d s.top
+  pub only : has_only top_keys d ≡ true
+  pub tables : List Data
+  pub tables_are : clients_at d ≡ Ok tables
+  pub clients : SaysEach SaysClient 1 tables s.clients
+  pub none_twice : AllPairs (λ earlier later. is_same later earlier ≡ false) s.clients
+  pub policies : SaysEach (SaysPolicy s.clients) 1 tables s.policies
+
+-- a text that is accepted is a document, and the configuration is what it says
+abbrev pub AcceptedSays : Type 0
+AcceptedSays =
+    (text : List ℕ) (s : Configuration)
+    → config_of text ≡ Ok s → (t : Members) × ((parse_document text ≡ Some t) × Says (table t) s)
