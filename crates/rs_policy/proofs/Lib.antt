@@ -5,5 +5,6 @@ mod Documents
 pub mod Fixed
 mod Others
 pub mod Passing
+mod Rows
 pub mod Soundness
 mod Wholes

@@ -1,0 +1,271 @@
+-- Worked rows, by computation: documents with their faults, a configuration, verdicts, and what may change.
+use Rattle.std.specs.Prelude.{◌≡◌, ℕ, pos, true, false, List, [], ◌∷◌, replicate, codes, Option, Some, None, Result, Ok, Err, refl, ⊤}
+use Rattle.toml.specs.Data.{Data, string, integer, boolean, array, table, Items, no_items, item, Members, no_members, member}
+use Rattle.rs_octets.specs.Prefixes.{Prefix}
+use Rattle.rs_attrs.specs.Meaning.{Attribute}
+use Rattle.rs_policy.specs.Texts.{number_to, parted, address_of, endpoint_of, prefix_of, community_of}
+use Rattle.rs_policy.specs.Values.{keyed, required_at, optional_at, tables_at, some_tables_at, has_only, answer, each_from, checks_from}
+use Rattle.rs_policy.specs.Configuration.{Configuration, no_policy}
+use Rattle.rs_policy.specs.Rules.{range_checks, range_of, strip_at, action_checks, action_of, test_checks, tests_of}
+use Rattle.rs_policy.specs.Documents.{the_top, top_of, top_checks, client_place, client_from, client_checks, rule_place, document_checks, configuration_of}
+use Rattle.rs_policy.specs.Verdicts.{Judgement, dropped, passed, matches, outcome, verdict}
+use Rattle.rs_policy.specs.Replacing.{other_in_top, other_in_client, other_in_clients, first_fixed}
+use Rattle.rs_policy.specs.declared.faults.Key.{Key}
+use Rattle.rs_policy.specs.declared.faults.Key.TheVariants as K
+use Rattle.rs_policy.specs.declared.faults.List.TheVariants.{Import}
+use Rattle.rs_policy.specs.declared.faults.Place.{Place}
+use Rattle.rs_policy.specs.declared.faults.ConfigFault.{ConfigFault}
+use Rattle.rs_policy.specs.declared.faults.ConfigFault.TheVariants.{Missing, BadValue, Twice, TooMany}
+use Rattle.rs_policy.specs.declared.rules.Choice.TheVariants as C
+
+-- ---- documents: what TOML makes of a text
+
+abbrev Fields : Type 0
+Fields = List (List ℕ × Data)
+
+abbrev members : Fields → Members
+members [] = no_members
+members (field ∷ fields) = member field.0 field.1 (members fields)
+
+abbrev items : List Data → Items
+items [] = no_items
+items (d ∷ ds) = item d (items ds)
+
+abbrev number : ℕ → Data
+number n = integer (pos n)
+
+abbrev tables : List Fields → List Data
+tables [] = []
+tables (fields ∷ more) = table (members fields) ∷ tables more
+
+abbrev array_of : List Fields → Data
+array_of more = array (items (tables more))
+
+-- ---- an exchange
+
+abbrev top : Fields → Data
+top more = table (members ((codes "as", number 64500) ∷ (codes "identifier", string (codes "192.0.2.1")) ∷ more))
+
+abbrev client : List ℕ → ℕ → List ℕ → List ℕ → Fields → Fields
+client name as_number listen peer more =
+    (codes "name", string name)
+    ∷ (codes "as", number as_number)
+    ∷ (codes "listen", string listen)
+    ∷ (codes "peer", string peer)
+    ∷ more
+
+abbrev a : Fields → Fields
+a more = client (codes "a") 64496 (codes "127.0.0.1:17901") (codes "192.0.2.11") more
+
+abbrev b : Fields → Fields
+b more = client (codes "b") 64497 (codes "127.0.0.1:17902") (codes "192.0.2.12") more
+
+abbrev exchange : Fields → Fields → Fields → Data
+exchange more of_a of_b = top ((codes "client", array_of (a of_a ∷ b of_b ∷ [])) ∷ more)
+
+abbrev clients : List Fields → Data
+clients all = top ((codes "client", array_of all) ∷ [])
+
+-- a has this import list
+abbrev importing : List Fields → Data
+importing rules = exchange [] ((codes "import", array_of rules) ∷ []) []
+
+abbrev answered : Data → Result Configuration ConfigFault
+answered d = answer (document_checks d) (configuration_of d)
+
+-- ---- faults
+
+abbrev AreRefused : List (Data × ConfigFault) → Type 0
+AreRefused [] = ⊤
+AreRefused (row ∷ rows) = (answered row.0 ≡ Err row.1) × AreRefused rows
+
+abbrev at_top : Key → Place
+at_top key = keyed the_top key
+
+abbrev at_client : ℕ → Key → Place
+at_client n key = keyed (client_place n) key
+
+abbrev at_rule : Key → Place
+at_rule key = keyed (rule_place 1 Import 1) key
+
+abbrev refused_tops : List (Data × ConfigFault)
+refused_tops =
+    (table (members ((codes "as", number 64500) ∷ [])), Missing (at_top K.Identifier))
+    ∷ (table (members ((codes "as", number 0) ∷ [])), BadValue (at_top K.As))
+    ∷ (table (members ((codes "as", number 4294967296) ∷ [])), BadValue (at_top K.As))
+    ∷ (table (members ((codes "as", string (codes "64500")) ∷ [])), BadValue (at_top K.As))
+    ∷ (table (members ((codes "as", number 1) ∷ (codes "identifier", string (codes "0.0.0.0")) ∷ [])), BadValue (at_top K.Identifier))
+    ∷ (table (members ((codes "as", number 1) ∷ (codes "identifier", string (codes "192.0.2.01")) ∷ [])), BadValue (at_top K.Identifier))
+    ∷ (top ((codes "hold", number 2) ∷ []), BadValue (at_top K.Hold))
+    ∷ (top ((codes "hold", number 3) ∷ []), Missing (at_top K.Client))
+    ∷ (top ((codes "hold", number 65536) ∷ []), BadValue (at_top K.Hold))
+    ∷ (top ((codes "default", string (codes "maybe")) ∷ []), BadValue (at_top K.Default))
+    ∷ (top ((codes "extended", number 1) ∷ []), BadValue (at_top K.Extended))
+    ∷ (clients [], Missing (at_top K.Client))
+    ∷ (exchange ((codes "colour", number 1) ∷ []) [] [], BadValue (at_top K.Other))
+    ∷ []
+
+abbrev refused_clients : List (Data × ConfigFault)
+refused_clients =
+    (clients (a [] ∷ a [] ∷ []), Twice 2)
+    ∷ (clients (a [] ∷ client (codes "z") 1 (codes "127.0.0.1:17901") (codes "192.0.2.11") [] ∷ []), Twice 2)
+    ∷ (exchange [] ((codes "colour", number 1) ∷ []) [], BadValue (at_client 1 K.Other))
+    ∷ (exchange [] [] ((codes "limit", number 0) ∷ []), BadValue (at_client 2 K.Limit))
+    ∷ (clients (client (codes "a b") 1 (codes "127.0.0.1:17901") (codes "192.0.2.11") [] ∷ []), BadValue (at_client 1 K.Name))
+    ∷ (clients (client (codes "a") 1 (codes "127.0.0.1:0") (codes "192.0.2.11") [] ∷ []), BadValue (at_client 1 K.Listen))
+    ∷ (clients (client (codes "a") 1 (codes "127.0.0.1:0179") (codes "192.0.2.11") [] ∷ []), BadValue (at_client 1 K.Listen))
+    ∷ (clients (client (codes "a") 1 (codes "127.0.0.1:179") (codes "192.0.2.256") [] ∷ []), BadValue (at_client 1 K.Peer))
+    ∷ (importing (replicate 65 []), TooMany (at_client 1 K.Import))
+    ∷ []
+
+abbrev refused_rules : List (Data × ConfigFault)
+refused_rules =
+    (importing (((codes "prefix", string (codes "10.0.0.0/24")) ∷ (codes "min", number 25) ∷ (codes "max", number 24) ∷ []) ∷ []), BadValue (at_rule K.Max))
+    ∷ (importing (((codes "prefix", string (codes "10.0.0.0/24")) ∷ (codes "min", number 23) ∷ []) ∷ []), BadValue (at_rule K.Min))
+    ∷ (importing (((codes "prefix", string (codes "10.0.0.0/33")) ∷ []) ∷ []), BadValue (at_rule K.Prefix))
+    ∷ (importing (((codes "min", number 24) ∷ []) ∷ []), BadValue (at_rule K.Min))
+    ∷ (importing (((codes "max", number 24) ∷ []) ∷ []), BadValue (at_rule K.Max))
+    ∷ (importing (((codes "from", string (codes "c")) ∷ []) ∷ []), BadValue (at_rule K.From))
+    ∷ (importing (((codes "community", string (codes "65536:1")) ∷ []) ∷ []), BadValue (at_rule K.Community))
+    ∷ (importing ([] ∷ []), Missing (at_rule K.Action))
+    ∷ (importing (((codes "action", string (codes "drop")) ∷ (codes "preference", number 5) ∷ []) ∷ []), BadValue (at_rule K.Preference))
+    ∷ (importing (((codes "action", string (codes "drop")) ∷ (codes "strip", string (codes "all")) ∷ []) ∷ []), BadValue (at_rule K.Strip))
+    ∷ (importing (((codes "action", string (codes "pass")) ∷ (codes "preference", number 4294967296) ∷ []) ∷ []), BadValue (at_rule K.Preference))
+    ∷ (importing (((codes "action", string (codes "pass")) ∷ (codes "colour", number 1) ∷ []) ∷ []), BadValue (at_rule K.Other))
+    ∷ []
+
+tops_are_refused : AreRefused refused_tops
+unfolding answer top_checks top_of client_checks client_from required_at optional_at tables_at some_tables_at has_only each_from checks_from number_to parted address_of endpoint_of
+tops_are_refused = (refl, (refl, (refl, (refl, (refl, (refl, (refl, (refl, (refl, (refl, (refl, (refl, (refl, tt)))))))))))))
+
+clients_are_refused : AreRefused refused_clients
+unfolding answer top_checks top_of client_checks client_from required_at optional_at tables_at some_tables_at has_only each_from checks_from number_to parted address_of endpoint_of
+clients_are_refused = (refl, (refl, (refl, (refl, (refl, (refl, (refl, (refl, (refl, tt)))))))))
+
+rules_are_refused : AreRefused refused_rules
+unfolding answer top_checks top_of client_checks client_from required_at optional_at tables_at some_tables_at has_only each_from checks_from number_to parted address_of endpoint_of prefix_of community_of range_checks range_of test_checks tests_of strip_at action_checks action_of
+rules_are_refused = (refl, (refl, (refl, (refl, (refl, (refl, (refl, (refl, (refl, (refl, (refl, (refl, tt))))))))))))
+
+-- ---- a configuration
+
+read_whole : answered (exchange [] [] ((codes "limit", number 5) ∷ []))
+    ≡ Ok (record {
+      top = record { server_as = 64500; identifier = 0xc0000201; hold = 90; default = C.Pass; extended = false; refresh = false; multiprotocol = false };
+      clients = record { name = codes "a"; client_as = 64496; listen = (0x7f000001, 17901); peer = 0xc000020b; limit = None }
+          ∷ record { name = codes "b"; client_as = 64497; listen = (0x7f000001, 17902); peer = 0xc000020c; limit = Some 5 }
+          ∷ [];
+      policies = no_policy ∷ no_policy ∷ [];
+    })
+unfolding answer top_checks top_of client_checks client_from required_at optional_at tables_at some_tables_at has_only each_from checks_from number_to parted address_of endpoint_of
+read_whole = refl
+
+-- ---- verdicts on a route from a to b
+
+abbrev attribute : ℕ → List ℕ → Attribute
+attribute kind value = record { kind = kind; optional = false; transitive = true; partial = false; value = value }
+
+-- ORIGIN, AS_PATH, NEXT_HOP 192.0.2.11
+abbrev route : List ℕ → List Attribute
+route path = attribute 1 (0 ∷ []) ∷ attribute 2 path ∷ attribute 3 (192 ∷ 0 ∷ 2 ∷ 11 ∷ []) ∷ []
+
+-- AS_PATH 64496
+abbrev plain : List Attribute
+plain = route (2 ∷ 1 ∷ 0 ∷ 0 ∷ 251 ∷ 240 ∷ [])
+
+-- AS_PATH 64499, and behind it the set of 64496
+abbrev set : List Attribute
+set = route (2 ∷ 1 ∷ 0 ∷ 0 ∷ 251 ∷ 243 ∷ 1 ∷ 1 ∷ 0 ∷ 0 ∷ 251 ∷ 240 ∷ [])
+
+abbrev prefix : ℕ → ℕ → Prefix
+prefix bits len = record { bits = bits; len = len }
+
+-- 198.51.100.0/24
+abbrev net : Prefix
+net = prefix 0xc6336400 24
+
+-- with this import list of a and this export list of b
+abbrev judged : List Fields → List Fields → Prefix → List Attribute → Judgement
+judged import export p m =
+    verdict (configuration_of (exchange [] ((codes "import", array_of import) ∷ []) ((codes "export", array_of export) ∷ []))) 0 1 p m
+
+abbrev preferring : Judgement → ℕ → Type 0
+preferring judgement n = judgement ≡ passed n ([] ∷ [] ∷ []) false
+
+abbrev drops : Fields → List Fields
+drops tests = ((codes "action", string (codes "drop")) ∷ tests) ∷ []
+
+abbrev prefers : ℕ → List Fields
+prefers n = ((codes "action", string (codes "pass")) ∷ (codes "preference", number n) ∷ []) ∷ []
+
+abbrev within : Fields → List Fields
+within lengths = drops ((codes "prefix", string (codes "198.51.100.0/22")) ∷ lengths)
+
+abbrev of_24 : List Fields
+of_24 = within ((codes "min", number 24) ∷ (codes "max", number 24) ∷ [])
+
+pub record AreJudged : Type 0 where
+  pub without_rules : preferring (judged [] [] net plain) 100
+  pub a_24_within : judged [] of_24 (prefix 0xc6336700 24) plain ≡ dropped
+  pub a_24_outside : preferring (judged [] of_24 (prefix 0xc6336800 24) plain) 100
+  pub the_22_itself : preferring (judged [] of_24 (prefix 0xc6336400 22) plain) 100
+  pub without_lengths : judged [] (within []) (prefix 0xc6336400 22) plain ≡ dropped
+  pub a_24_without_lengths : preferring (judged [] (within []) net plain) 100
+  pub export_goes_first : preferring (judged (prefers 200) (prefers 50) net plain) 50
+  pub import_where_alone : preferring (judged (prefers 200) (((codes "action", string (codes "pass")) ∷ []) ∷ []) net plain) 200
+  pub origin_of_a_sequence : judged [] (drops ((codes "origin_as", number 64496) ∷ [])) net plain ≡ dropped
+  pub no_origin_of_a_set : preferring (judged [] (drops ((codes "origin_as", number 64496) ∷ [])) net set) 100
+  pub nor_of_the_sequence_before : preferring (judged [] (drops ((codes "origin_as", number 64499) ∷ [])) net set) 100
+  pub in_a_set : judged [] (drops ((codes "path_has", number 64496) ∷ [])) net set ≡ dropped
+  pub from_a : judged [] (drops ((codes "from", string (codes "a")) ∷ [])) net plain ≡ dropped
+  pub from_b : preferring (judged [] (drops ((codes "from", string (codes "b")) ∷ [])) net plain) 100
+  pub next_hop_is_peer : judged (drops ((codes "next_hop_is_peer", boolean true) ∷ [])) [] net plain ≡ dropped
+  pub first_that_matches : preferring (judged (((codes "action", string (codes "pass")) ∷ (codes "preference", number 1) ∷ []) ∷ drops []) [] net plain) 1
+  pub strips : judged (((codes "action", string (codes "pass")) ∷ (codes "strip", array (items (string (codes "64500:1") ∷ []))) ∷ []) ∷ []) (((codes "action", string (codes "pass")) ∷ (codes "strip", string (codes "all")) ∷ []) ∷ []) net plain
+      ≡ passed 100 ((4227072001 ∷ []) ∷ [] ∷ []) true
+
+are_judged : AreJudged
+unfolding verdict outcome matches top_of client_from required_at optional_at tables_at some_tables_at each_from number_to parted address_of endpoint_of prefix_of community_of range_of tests_of strip_at action_of
+are_judged = record {
+  without_rules = refl;
+  a_24_within = refl;
+  a_24_outside = refl;
+  the_22_itself = refl;
+  without_lengths = refl;
+  a_24_without_lengths = refl;
+  export_goes_first = refl;
+  import_where_alone = refl;
+  origin_of_a_sequence = refl;
+  no_origin_of_a_set = refl;
+  nor_of_the_sequence_before = refl;
+  in_a_set = refl;
+  from_a = refl;
+  from_b = refl;
+  next_hop_is_peer = refl;
+  first_that_matches = refl;
+  strips = refl;
+}
+
+-- ---- what may change while the server runs
+
+abbrev first_changed : Data → Data → Option Place
+first_changed old new = first_fixed (configuration_of old) (configuration_of new)
+
+abbrev plainly : Data
+plainly = exchange [] [] []
+
+pub record AreReplaced : Type 0 where
+  pub rules_and_limits : first_changed plainly (exchange ((codes "default", string (codes "drop")) ∷ []) ((codes "limit", number 1) ∷ []) ((codes "export", array_of (drops [])) ∷ [])) ≡ None
+  pub not_the_hold_time : first_changed plainly (exchange ((codes "hold", number 30) ∷ []) [] []) ≡ Some (at_top K.Hold)
+  pub not_the_number : first_changed plainly (clients (a [] ∷ [])) ≡ Some (at_top K.Client)
+  pub not_an_as : first_changed plainly (clients (client (codes "a") 64999 (codes "127.0.0.1:17901") (codes "192.0.2.11") [] ∷ b [] ∷ [])) ≡ Some (at_client 1 K.As)
+  pub not_a_peer : first_changed plainly (clients (a [] ∷ client (codes "b") 64497 (codes "127.0.0.1:17902") (codes "192.0.2.13") [] ∷ [])) ≡ Some (at_client 2 K.Peer)
+
+are_replaced : AreReplaced
+unfolding first_fixed other_in_top other_in_client other_in_clients top_of client_from required_at optional_at tables_at some_tables_at each_from number_to parted address_of endpoint_of
+are_replaced = record {
+  rules_and_limits = refl;
+  not_the_hold_time = refl;
+  not_the_number = refl;
+  not_an_as = refl;
+  not_a_peer = refl;
+}
