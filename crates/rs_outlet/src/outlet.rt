@@ -4,7 +4,7 @@ ghost use Rattle.std.specs.Prelude.{◌≡◌, ◌≤◌, ◌<◌, true, Some, N
 ghost use Rattle.rs_adjin.specs.AdjIns.{client_count};
 ghost use Rattle.rs_open.specs.Writing.{server_open};
 ghost use Rattle.rs_open.specs.declared.short.Limit.TheVariants as limits;
-ghost use Rattle.rs_outlet.specs.Views.{AreNumbered, bare, begun, cleared, finished, if_up};
+ghost use Rattle.rs_outlet.specs.Views.{bare, begun, cleared, finished, if_up};
 ghost use Rattle.rs_outlet.specs.Inside.{room_of, batch_of};
 
 use crate::answers::{Last, Speech, Turned};
@@ -181,14 +181,20 @@ impl Outlet {
 
     /// What is due at this prefix, which has this number, is decided anew at the next turn. Where
     /// there is no room for it, everything is.
-    pub fn touch(&mut self, number: u32, prefix: Prefix) {
+    pub fn touch(&mut self, number: u32, prefix: Prefix)
+        ensures client { self.new.client ≡ self.old.client }
+        ensures extended { self.new.extended ≡ self.old.extended }
+    {
         if self.speech.is_some() {
             self.touched.add(number, prefix);
         }
     }
 
     /// Everything is decided anew at the next turn.
-    pub fn touch_all(&mut self) {
+    pub fn touch_all(&mut self)
+        ensures client { self.new.client ≡ self.old.client }
+        ensures extended { self.new.extended ≡ self.old.extended }
+    {
         if self.speech.is_some() {
             self.touched.add_all();
         }
@@ -198,7 +204,8 @@ impl Outlet {
     pub fn turn(&mut self, ins: &AdjIns, config: &Config) -> Result<Turned, AllocError>
         requires client { self.old.client < length config.now.clients }
         requires clients { client_count ins.now ≡ length config.now.clients }
-        requires numbered { AreNumbered self.old ins.now }
+        ensures client { self.new.client ≡ self.old.client }
+        ensures extended { self.new.extended ≡ self.old.extended }
     {
         let Some(speech) = self.speech else {
             let turned = Turned {
@@ -228,12 +235,18 @@ impl Outlet {
     }
 
     /// The client asks for everything again (RFC 2918, 4).
-    pub fn again(&mut self) {
+    pub fn again(&mut self)
+        ensures client { self.new.client ≡ self.old.client }
+        ensures extended { self.new.extended ≡ self.old.extended }
+    {
         self.waits.mark_all(&self.rows);
     }
 
     /// Begins the next message, where none is in flight.
-    pub fn begin(&mut self) {
+    pub fn begin(&mut self)
+        ensures client { self.new.client ≡ self.old.client }
+        ensures extended { self.new.extended ≡ self.old.extended }
+    {
         if self.start < self.end {
             return;
         }

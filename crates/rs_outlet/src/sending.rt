@@ -109,7 +109,10 @@ fn put_update(
 
 impl Outlet {
     /// Begins the next message, if there is one. None is in flight.
-    pub(crate) fn begin_next(&mut self) {
+    pub(crate) fn begin_next(&mut self)
+        ensures client { self.new.client ≡ self.old.client }
+        ensures extended { self.new.extended ≡ self.old.extended }
+    {
         if let Some(note) = self.note {
             self.begin_note(&note);
         } else if self.beat {
@@ -119,13 +122,19 @@ impl Outlet {
         }
     }
 
-    fn begin_note(&mut self, note: &Short) {
+    fn begin_note(&mut self, note: &Short)
+        ensures client { self.new.client ≡ self.old.client }
+        ensures extended { self.new.extended ≡ self.old.extended }
+    {
         self.note = None;
         self.start = 0;
         self.end = put_note(note, &mut self.octets);
     }
 
-    fn begin_keepalive(&mut self) {
+    fn begin_keepalive(&mut self)
+        ensures client { self.new.client ≡ self.old.client }
+        ensures extended { self.new.extended ≡ self.old.extended }
+    {
         self.beat = false;
         self.start = 0;
         self.end = put_keepalive(&mut self.octets);
@@ -134,6 +143,8 @@ impl Outlet {
     /// Begins the next UPDATE, if something waits.
     fn begin_update(&mut self, speech: Speech)
         requires { self.old.speech ≡ Some speech }
+        ensures client { self.new.client ≡ self.old.client }
+        ensures extended { self.new.extended ≡ self.old.extended }
     {
         self.front.clear();
         self.chosen.clear();

@@ -1,9 +1,7 @@
 //! A turn: what is touched is decided anew, and what the client was not told so waits.
 
 ghost use Rattle.std.specs.Prelude.{◌≡◌, ◌<◌, Some, length, IfOk};
-ghost use Rattle.std.specs.List.{AllByRecursion};
 ghost use Rattle.rs_adjin.specs.AdjIns.{client_count, number_of};
-ghost use Rattle.rs_outlet.specs.Views.{AreNumbered};
 
 use crate::answers::{Last, Speech, Turned};
 use crate::deciding::{Sources, decide};
@@ -67,6 +65,25 @@ fn decide_one(
     Ok(())
 }
 
+/// Decides the prefix of a number.
+fn decide_at(
+    alloc: Global,
+    sources: &Sources<'_>,
+    speech: Speech,
+    rows: &Rows,
+    number: u32,
+    ranks: &mut Vec<Rank>,
+    changes: &mut Vec<Change>,
+) -> Result<(), AllocError>
+    requires client { sources.now.client < length sources.now.config.now.clients }
+    requires count { client_count sources.now.ins.now ≡ length sources.now.config.now.clients }
+{
+    let Some(prefix) = sources.ins.prefix(number) else {
+        return Ok(());
+    };
+    decide_one(alloc, sources, speech, rows, number, prefix, ranks, changes)
+}
+
 /// Decides what was touched by itself.
 fn decide_touched(
     alloc: Global,
@@ -75,20 +92,18 @@ fn decide_touched(
     rows: &Rows,
     touched: &[(u32, Prefix)],
 ) -> Result<Decided, AllocError>
-    requires numbered { AllByRecursion (λ e. number_of sources.now.ins.now e.1 ≡ Some e.0) touched.now }
     requires client { sources.now.client < length sources.now.config.now.clients }
     requires count { client_count sources.now.ins.now ≡ length sources.now.config.now.clients }
 {
     let mut ranks = Vec::new(alloc);
     let mut changes = Vec::new(alloc);
-    for (number, prefix) in touched {
-        decide_one(
+    for (number, _) in touched {
+        decide_at(
             alloc,
             sources,
             speech,
             rows,
             *number,
-            *prefix,
             &mut ranks,
             &mut changes,
         )?;
@@ -253,7 +268,6 @@ impl Outlet {
     fn decide(&self, speech: Speech, sources: &Sources<'_>) -> Result<Decided, AllocError>
         requires client { sources.now.client < length sources.now.config.now.clients }
         requires count { client_count sources.now.ins.now ≡ length sources.now.config.now.clients }
-        requires numbered { AreNumbered self.now sources.now.ins.now }
     {
         if self.touched.is_all() {
             decide_all(self.alloc, sources, speech, &self.rows)
@@ -271,7 +285,8 @@ impl Outlet {
     ) -> Result<Turned, AllocError>
         requires client { sources.now.client < length sources.now.config.now.clients }
         requires count { client_count sources.now.ins.now ≡ length sources.now.config.now.clients }
-        requires numbered { AreNumbered self.old sources.now.ins.now }
+        ensures client { self.new.client ≡ self.old.client }
+        ensures extended { self.new.extended ≡ self.old.extended }
     {
         let decided = self.decide(speech, sources)?;
         let whole = self.touched.is_all();
