@@ -1,0 +1,67 @@
+//! Runs of neighbouring outlets, each turned by a thread of its own where one can be started.
+
+ghost use Rattle.std.specs.Prelude.{◌≡◌, ◌<◌, ◌≤◌, length};
+ghost use Rattle.rs_adjin.specs.AdjIns.{client_count};
+ghost use Rattle.rs_workers.specs.Turned.{ArePlaced, AllTurnedAlone, TurnedAlone};
+
+use crate::gate::Gate;
+use rs_adjin::AdjIns;
+use rs_outlet::Outlet;
+use rs_policy::Config;
+use std::sync::Wait;
+use std::thread;
+use std::thread::Threads;
+
+/// Turns each outlet, in runs of neighbours. Each run is as long as the number of outlets divided by
+/// the number of workers, rounded up; the last may be shorter.
+pub fn turn_all<R: Threads + Wait + Sync, G: Gate>(
+    rt: &R,
+    workers: usize,
+    tables: &AdjIns,
+    config: &Config,
+    outlets: &mut [Outlet],
+    gate: &G,
+)
+    requires workers { (0 < workers) × (workers ≤ 16) }
+    requires clients { client_count tables.now ≡ length config.now.clients }
+    requires places { ArePlaced config.now outlets.old }
+    ensures turned { AllTurnedAlone outlets.old outlets.new }
+    ensures count { length outlets.new ≡ length outlets.old }
+{
+    if outlets.is_empty() {
+        return;
+    }
+    let size = outlets.len().div_ceil(workers);
+    let turn = |start: usize, run: &mut [Outlet]|
+        requires { (0 < size) × (client_count tables.now ≡ length config.now.clients) × ArePlaced config.now run.now }
+        ensures { AllTurnedAlone run.entry.now run.exit.now }
+    { turn_run(gate, start / size, tables, config, run) };
+    thread::for_each_chunk_mut(rt, outlets, size, &turn);
+}
+
+/// Turns the outlets of one run, one after the other.
+fn turn_run<G: Gate>(
+    gate: &G,
+    share: usize,
+    tables: &AdjIns,
+    config: &Config,
+    run: &mut [Outlet],
+)
+    requires clients { client_count tables.now ≡ length config.now.clients }
+    requires places { ArePlaced config.now run.old }
+    ensures { AllTurnedAlone run.old run.new }
+{
+    gate.enter(share);
+    for k in 0..run.len() {
+        turn_one(&mut run[k], tables, config);
+    }
+}
+
+/// Turns one outlet. Whether memory was refused stands in its `last`.
+fn turn_one(outlet: &mut Outlet, tables: &AdjIns, config: &Config)
+    requires clients { client_count tables.now ≡ length config.now.clients }
+    requires place { outlet.old.client < length config.now.clients }
+    ensures { TurnedAlone outlet.old outlet.new }
+{
+    let _ = outlet.turn(tables, config);
+}
