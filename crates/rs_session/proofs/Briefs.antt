@@ -17,7 +17,7 @@ use Rattle.rs_session.specs.declared.phase.Phase.{Phase}
 use Rattle.rs_session.specs.declared.phase.Phase.TheVariants as phases
 use Rattle.rs_session.specs.declared.phase.Peer.{Peer}
 use Rattle.rs_session.specs.Items.{Item, Came, Message, Moment, Left, greatest, hold_timer_since, message_count, open_heard}
-use Rattle.rs_session.specs.Endings.{Fate, GoesOn, Ends, IsBrief, IsBriefEnd, header_note, is_peer, bad_peer_as, open_note, unexpected, first_fate, second_fate, later_fate, message_fate, open_wait, hold_time, is_past, expired, moment_fate}
+use Rattle.rs_session.specs.Endings.{Fate, GoesOn, Ends, IsBrief, IsBriefEnd, header_note, is_from_as, bad_peer_as, open_note, unexpected, first_fate, second_fate, later_fate, message_fate, open_wait, hold_time, is_past, expired, moment_fate}
 use Rattle.rs_session.specs.Sessions.{fate, earlier, is_request, SaysBriefly}
 use Rattle.rs_session.specs.Steps.{step, second_step, later_step, message_step, moment_step}
 use Rattle.rs_session.specs.Laws.{EndsBriefly}
@@ -49,9 +49,9 @@ open_brief peer_as fault.Version = omega arith
 open_brief peer_as fault.Malformed = omega arith
 open_brief peer_as fault.Parameter = omega arith
 open_brief peer_as (fault.Hold my_as four) =
-    either_brief (is_peer peer_as my_as four) _ bad_peer_as (omega arith) bad_peer_as_brief
+    either_brief (is_from_as peer_as my_as four) _ bad_peer_as (omega arith) bad_peer_as_brief
 open_brief peer_as (fault.Identifier my_as four) =
-    either_brief (is_peer peer_as my_as four) _ bad_peer_as (omega arith) bad_peer_as_brief
+    either_brief (is_from_as peer_as my_as four) _ bad_peer_as (omega arith) bad_peer_as_brief
 
 -- ---- the fate that an item brings
 
@@ -67,7 +67,7 @@ first_brief : (peer_as : ℕ) (m : Heard) → IsBriefFate (first_fate peer_as m)
 first_brief peer_as (heard.Header f) = header_brief f
 first_brief peer_as heard.Note = tt
 first_brief peer_as (heard.Open (Ok sent)) =
-    unless_brief (is_peer peer_as sent.my_as sent.four) bad_peer_as bad_peer_as_brief
+    unless_brief (is_from_as peer_as sent.my_as sent.four) bad_peer_as bad_peer_as_brief
 first_brief peer_as (heard.Open (Err f)) = open_brief peer_as f
 first_brief peer_as (heard.Update reset) = unexpected_brief
 first_brief peer_as (heard.Refresh afi safi) = unexpected_brief

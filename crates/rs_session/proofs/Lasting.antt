@@ -12,7 +12,7 @@ use Rattle.rs_session.specs.declared.act.State.TheVariants as states
 use Rattle.rs_session.specs.declared.act.Act.TheVariants as acts
 use Rattle.rs_session.specs.declared.settings.Settings.{Settings}
 use Rattle.rs_session.specs.Items.{Item, Came, Message, Moment, Left, greatest, is_connected, message_count, restarts_hold_timer, hold_timer_since, open_in, open_heard}
-use Rattle.rs_session.specs.Endings.{Fate, GoesOn, Ends, is_peer, first_fate, second_fate, later_fate, message_fate, open_wait, moment_fate, hold_time, is_past}
+use Rattle.rs_session.specs.Endings.{Fate, GoesOn, Ends, is_from_as, first_fate, second_fate, later_fate, message_fate, open_wait, moment_fate, hold_time, is_past}
 use Rattle.rs_session.specs.Sessions.{fate, item_fate, earlier, state_by, state_of, is_live, agreed_by, is_third_past, falls_by, keepalive_timer_since, falls_due, message_act, moment_act}
 use Rattle.rs_session.specs.Laws.{messages_heard, BringsUp, KeepsTime, EndsOnce}
 use Rattle.rs_session.proofs.Phases.{state_at}
@@ -50,14 +50,14 @@ earlier_goes (Ends said) g e = cc
 record OpenCame (s : Settings) (messages : List Heard) (first : Option Open) : Type 0 where
   sent : Open
   heard : messages ≡ heard.Open (Ok sent) ∷ []
-  peer : is_peer s.peer_as sent.my_as sent.four ≡ true
+  peer : is_from_as s.peer_as sent.my_as sent.four ≡ true
   first_is : first ≡ Some sent
 
 record MoreCame (s : Settings) (messages : List Heard) (first : Option Open) : Type 0 where
   sent : Open
   later : List Heard
   heard : messages ≡ later ++ (heard.Keepalive ∷ heard.Open (Ok sent) ∷ [])
-  peer : is_peer s.peer_as sent.my_as sent.four ≡ true
+  peer : is_from_as s.peer_as sent.my_as sent.four ≡ true
   allowed : All (λ message. later_fate message ≡ GoesOn) later
   first_is : first ≡ Some sent
 

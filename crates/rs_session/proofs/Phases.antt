@@ -10,7 +10,8 @@ use Rattle.rs_session.specs.declared.phase.Phase.TheVariants as phases
 use Rattle.rs_session.specs.Items.{Item, is_connected, message_count, open_heard}
 use Rattle.rs_session.specs.Endings.{Fate, GoesOn, Ends}
 use Rattle.rs_session.specs.Sessions.{fate, state_by, state_of, agreed_by, agreed_of}
-use Rattle.rs_session.specs.Hearing.{IsCount, Stands, HasHeard}
+use Rattle.rs_session.specs.Hearing.{configured, IsCount, Stands, HasHeard}
+use Rattle.rs_session.specs.Laws.{HearsAsConfigured}
 
 abbrev pub state_in : Phase → State
 state_in phases.Idle = states.Idle
@@ -75,6 +76,10 @@ pub settings_heard : (session : Session) (s : Settings) (items : List Item) → 
     → session.settings ≡ s
 unfolding HasHeard
 settings_heard session s items h = h.settings_are
+
+pub hears_as_configured : HearsAsConfigured
+unfolding HasHeard configured
+hears_as_configured session s items h = h.settings_are
 
 confirmed_not_idle : (b : Bool) → (if b then states.Established else states.OpenConfirm) ≡ states.Idle → ⊥
 confirmed_not_idle false e = cc

@@ -22,9 +22,9 @@ header_note (header.Length length) = note_2 1 2 (length / 256) (length % 256)
 header_note (header.Kind kind) = note_1 1 3 kind
 
 -- the AS number of an OPEN is the client's: that of the capability where it is there (RFC 6793, 4.1), else My AS
-abbrev pub is_peer : ℕ → ℕ → Option ℕ → Bool
-is_peer peer_as my_as (Some four) = nat_eq four peer_as
-is_peer peer_as my_as None = nat_eq my_as peer_as
+abbrev pub is_from_as : ℕ → ℕ → Option ℕ → Bool
+is_from_as peer_as my_as (Some four) = nat_eq four peer_as
+is_from_as peer_as my_as None = nat_eq my_as peer_as
 
 -- Bad Peer AS
 abbrev pub bad_peer_as : Short
@@ -36,11 +36,11 @@ abbrev pub open_note : ℕ → OpenFault → Short
 open_note peer_as fault.Version = note_2 2 1 0 4
 open_note peer_as fault.Malformed = note 2 0
 open_note peer_as fault.Parameter = note 2 4
-open_note peer_as (fault.Hold my_as four) = if is_peer peer_as my_as four then note 2 6 else bad_peer_as
-open_note peer_as (fault.Identifier my_as four) = if is_peer peer_as my_as four then note 2 3 else bad_peer_as
+open_note peer_as (fault.Hold my_as four) = if is_from_as peer_as my_as four then note 2 6 else bad_peer_as
+open_note peer_as (fault.Identifier my_as four) = if is_from_as peer_as my_as four then note 2 3 else bad_peer_as
 
 abbrev pub open_fate : ℕ → Result Open OpenFault → Fate
-open_fate peer_as (Ok sent) = if is_peer peer_as sent.my_as sent.four then GoesOn else Ends (Some bad_peer_as)
+open_fate peer_as (Ok sent) = if is_from_as peer_as sent.my_as sent.four then GoesOn else Ends (Some bad_peer_as)
 open_fate peer_as (Err fault) = Ends (Some (open_note peer_as fault))
 
 -- a message that is not expected: Finite State Machine Error (RFC 4271, 6.6)

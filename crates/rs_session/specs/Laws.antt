@@ -9,7 +9,9 @@ use Rattle.rs_session.specs.declared.act.State.TheVariants as states
 use Rattle.rs_session.specs.declared.act.Act.TheVariants as acts
 use Rattle.rs_session.specs.declared.settings.Settings.{Settings}
 use Rattle.rs_session.specs.Items.{Item, Came, Message, Moment, Left, greatest, hold_timer_since, open_heard}
-use Rattle.rs_session.specs.Endings.{GoesOn, Ends, is_peer, unexpected, later_fate, hold_time, IsBriefEnd}
+use Rattle.rs_session.specs.Endings.{GoesOn, Ends, is_from_as, unexpected, later_fate, hold_time, IsBriefEnd}
+use Rattle.rs_session.specs.declared.session.Session.{Session}
+use Rattle.rs_session.specs.Hearing.{configured, HasHeard}
 use Rattle.rs_session.specs.Sessions.{fate, state_of, is_live, agreed_of, keepalive_timer_since, act_of}
 
 -- the messages heard since the connection came, the newest first
@@ -26,7 +28,7 @@ pub record IsBroughtUp (settings : Settings) (items : List Item) : Type 0 where
   pub sent : Open
   pub later : List Heard
   pub heard : messages_heard items ≡ later ++ (heard.Keepalive ∷ heard.Open (Ok sent) ∷ [])
-  pub peer : is_peer settings.peer_as sent.my_as sent.four ≡ true
+  pub peer : is_from_as settings.peer_as sent.my_as sent.four ≡ true
   pub allowed : All (λ message. later_fate message ≡ GoesOn) later
   pub agreed : agreed_of settings items ≡ Some sent
 
@@ -81,3 +83,9 @@ abbrev pub UpdatesAreTaken : Type 0
 UpdatesAreTaken =
     (settings : Settings) (items : List Item)
     → is_live (state_of settings items) ≡ true → TakesUpdates settings items
+
+-- what a session has heard, it has heard with what is configured of it
+abbrev pub HearsAsConfigured : Type 0
+HearsAsConfigured =
+    (session : Session) (settings : Settings) (items : List Item)
+    → HasHeard session settings items → configured session ≡ settings

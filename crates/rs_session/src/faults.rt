@@ -27,8 +27,8 @@ pub fn header_note(fault: HeaderFault) -> Short
 }
 
 /// The AS number of an OPEN is that of the client: the capability's where it is there, else My AS.
-pub fn is_peer(peer_as: u32, my_as: u16, four: Option<u32>) -> bool
-    ensures { result ≡ endings.is_peer peer_as my_as four }
+pub fn is_from_as(peer_as: u32, my_as: u16, four: Option<u32>) -> bool
+    ensures { result ≡ endings.is_from_as peer_as my_as four }
 {
     match four {
         Some(four) => four == peer_as,
@@ -46,11 +46,11 @@ pub fn bad_peer_as() -> Short
 /// The NOTIFICATION of a fault of the Hold Time or the identifier, which the AS number is judged
 /// before.
 fn behind_as(peer_as: u32, my_as: u16, four: Option<u32>, name: Notification) -> Short
-    ensures { result ≡ (if endings.is_peer peer_as my_as four
+    ensures { result ≡ (if endings.is_from_as peer_as my_as four
         then note (code_of name) (sub_of name)
         else endings.bad_peer_as) }
 {
-    if is_peer(peer_as, my_as, four) {
+    if is_from_as(peer_as, my_as, four) {
         name.note()
     } else {
         bad_peer_as()

@@ -1,6 +1,6 @@
 //! Laws of the definitions. Each contract is the law; the bodies do nothing.
 
-ghost use Rattle.rs_session.specs.Laws.{BringsUp, KeepsTime, EndsOnce, EndsBriefly, UpdatesAreTaken};
+ghost use Rattle.rs_session.specs.Laws.{BringsUp, KeepsTime, EndsOnce, EndsBriefly, UpdatesAreTaken, HearsAsConfigured};
 
 /// An Established session heard an OPEN of the client's AS, then a KEEPALIVE, then only what ends
 /// nothing (RFC 4271, 8.2.2).
@@ -34,4 +34,10 @@ pub fn sessions_end_briefly()
 #[tactic(auto, using(crate::proofs::Updates::updates_are_taken))]
 pub fn established_sessions_take_updates()
     ensures { UpdatesAreTaken }
+{}
+
+/// What a session has heard, it has heard with what is configured of it.
+#[tactic(auto, using(crate::proofs::Phases::hears_as_configured))]
+pub fn sessions_hear_as_configured()
+    ensures { HearsAsConfigured }
 {}

@@ -5,7 +5,7 @@ ghost use Rattle.rs_session.specs.Steps.{first_step, second_step, later_step, ti
 ghost use Rattle.rs_session.specs.declared.phase.Phase.TheVariants as phases;
 
 use crate::act::Act;
-use crate::faults::{bad_peer_as, expired, header_note, is_peer, open_note, unexpected};
+use crate::faults::{bad_peer_as, expired, header_note, is_from_as, open_note, unexpected};
 use crate::heard::Heard;
 use rs_open::{Open, Short};
 
@@ -47,7 +47,7 @@ pub fn first(peer_as: u32, now: u64, heard: Heard) -> (Phase, Act)
 {
     match heard {
         Heard::Open(Ok(sent)) => {
-            if !is_peer(peer_as, sent.my_as, sent.four) {
+            if !is_from_as(peer_as, sent.my_as, sent.four) {
                 return ended(bad_peer_as());
             }
             let peer = Peer {
