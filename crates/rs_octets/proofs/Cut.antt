@@ -3,7 +3,7 @@ use Rattle.std.proofs.Common.{◌≡◌, ◌⊎◌, inl, inr, ℕ, zero, suc, �
 use Rattle.std.specs.Prelude.{◌&&◌, ◌==◌, Result, Ok, Err, IsOkAnd}
 use Rattle.std.specs.List.{flat_map, list_all, AllByRecursion}
 use Rattle.std.specs.Int.{is_in_range}
-use Rattle.std.proofs.Math.Seq.{take-append_seam, drop-append_seam, drop-nil, take-length}
+use Rattle.std.proofs.Math.Seq.{drop-nil, take-length}
 use Rattle.std.proofs.lemmas.Bool.{le-ltb, ltb-true, ltb-false, leb-true}
 use Rattle.std.proofs.lemmas.Grind.{flat_map-append}
 use Rattle.std.proofs.lemmas.List.{append-nil, length-take-le, take-append-drop, take-append-le}
@@ -13,7 +13,9 @@ use Rattle.rs_octets.specs.declared.heads.Kind.{Kind}
 use Rattle.rs_octets.specs.declared.heads.HeaderFault.{HeaderFault}
 use Rattle.rs_octets.specs.declared.heads.HeaderFault.TheVariants as faults
 use Rattle.rs_octets.specs.Headers.{header_of, longest, kind_numbered, least_length, greatest_length, length_field, type_field, head_of_type}
+use Rattle.rs_octets.specs.Parts.{IsPrefixFree}
 use Rattle.rs_octets.specs.Laws.{GrowsBy}
+use Rattle.rs_octets.proofs.OneWay.{one_way, one_more, same_fronts}
 use Rattle.rs_octets.specs.Messages.{IsMessage, BeginsNoMessage, Cuts, Hears, header_fault_of, heard_of, length_within, message_length, messages_behind, rest_behind, messages_of, rest_of}
 
 -- ---- the message that octets begin with
@@ -87,16 +89,6 @@ stands allowed octets n e = by_header (nat_lt (length octets) 19) (header_of all
 
 -- ---- the walk
 
-skip_messages : (allowed : Allowed) (n : ℕ) (octets : List ℕ) → messages_behind allowed n octets ≡ messages_of allowed (drop n octets)
-skip_messages allowed n [] = ap (messages_behind allowed 0) (sym (drop-nil n))
-skip_messages allowed zero (o ∷ octets) = refl
-skip_messages allowed (suc n) (o ∷ octets) = skip_messages allowed n octets
-
-skip_rest : (allowed : Allowed) (n : ℕ) (octets : List ℕ) → rest_behind allowed n octets ≡ rest_of allowed (drop n octets)
-skip_rest allowed n [] = ap (rest_behind allowed 0) (sym (drop-nil n))
-skip_rest allowed zero (o ∷ octets) = refl
-skip_rest allowed (suc n) (o ∷ octets) = skip_rest allowed n octets
-
 -- what the walk does at an octet, by the length of the message that is found there
 abbrev messages_by : Allowed → ℕ → List ℕ → ℕ → List (List ℕ)
 messages_by allowed octet octets zero = []
@@ -136,43 +128,30 @@ cuts_behind allowed (octet ∷ octets) zero = by_length (cuts_behind allowed oct
 pub cuts_of : (allowed : Allowed) (octets : List ℕ) → Cuts allowed octets (messages_of allowed octets) (rest_of allowed octets)
 cuts_of allowed octets = cuts_behind allowed octets 0
 
+-- a message is no front of another, since its header says how long it is
+messages_apart : (allowed : Allowed) → IsPrefixFree {A = List ℕ} (λ message. message) (IsMessage allowed)
+messages_apart allowed a b x y is other e =
+    same_fronts a b x y (sym (found allowed a x is) ∙ ap (message_length allowed) e ∙ found allowed b y other) e
+
+-- so it is the only one
+pub cuts_only : (allowed : Allowed) (octets : List ℕ) (messages : List (List ℕ)) (rest : List ℕ) → Cuts allowed octets messages rest
+    → (messages ≡ messages_of allowed octets) × (rest ≡ rest_of allowed octets)
+cuts_only allowed octets messages rest cut =
+    one_way {A = List ℕ} (λ message. message) (IsMessage allowed) (messages_apart allowed) octets messages (messages_of allowed octets) rest (rest_of allowed octets) cut (cuts_of allowed octets)
+
 -- octets that begin with no message are all rest
 pub stops_are : (allowed : Allowed) (octets : List ℕ) → BeginsNoMessage allowed octets → (messages_of allowed octets ≡ []) × (rest_of allowed octets ≡ octets)
-stops_are allowed [] stops = (refl, refl)
-stops_are allowed (octet ∷ octets) stops = by_length (message_length allowed (octet ∷ octets)) refl
-  where
-    by_length : (n : ℕ) → message_length allowed (octet ∷ octets) ≡ n → (messages_by allowed octet octets n ≡ []) × (rest_by allowed octet octets n ≡ octet ∷ octets)
-    by_length zero e = (refl, refl)
-    by_length (suc n) e = absurd (stops (take (suc n) (octet ∷ octets)) (drop n octets) (stands allowed (octet ∷ octets) n e).is (sym (take-append-drop (suc n) (octet ∷ octets))))
+stops_are allowed octets stops =
+    let only = cuts_only allowed octets [] octets (record { whole = refl; each = tt; stops = stops }) in
+    (sym only.0, sym only.1)
 
 -- one message at the front
 pub first_message : (allowed : Allowed) (message tail : List ℕ) → IsMessage allowed message
     → (messages_of allowed (message ++ tail) ≡ message ∷ messages_of allowed tail) × (rest_of allowed (message ++ tail) ≡ rest_of allowed tail)
-first_message allowed [] tail is = absurd (omega (arith, is.0))
-first_message allowed (octet ∷ octets) tail is =
-    let n : ℕ = length octets in
-    let size : message_length allowed (octet ∷ (octets ++ tail)) ≡ suc n = found allowed (octet ∷ octets) tail is in
-    let taken : take n (octets ++ tail) ≡ octets = take-append_seam octets tail in
-    let dropped : drop n (octets ++ tail) ≡ tail = drop-append_seam octets tail in (
-      ap (messages_by allowed octet (octets ++ tail)) size
-          ∙ (λ i. (octet ∷ taken i) ∷ (skip_messages allowed n (octets ++ tail) ∙ ap (messages_of allowed) dropped) i),
-      ap (rest_by allowed octet (octets ++ tail)) size ∙ skip_rest allowed n (octets ++ tail) ∙ ap (rest_of allowed) dropped,
-    )
-
--- and it is the only one
-pub cuts_only : (allowed : Allowed) (octets : List ℕ) (messages : List (List ℕ)) (rest : List ℕ) → Cuts allowed octets messages rest
-    → (messages ≡ messages_of allowed octets) × (rest ≡ rest_of allowed octets)
-cuts_only allowed octets [] rest cut =
-    let stops = stops_are allowed rest cut.stops in
-    (sym stops.0 ∙ ap (messages_of allowed) (sym cut.whole), sym stops.1 ∙ ap (rest_of allowed) (sym cut.whole))
-cuts_only allowed octets (message ∷ messages) rest cut =
-    let tail : List ℕ = flat_map (λ message. message) messages ++ rest in
-    let whole : octets ≡ message ++ tail = cut.whole ∙ append_assoc message (flat_map (λ message. message) messages) rest in
-    let others = cuts_only allowed tail messages rest (record { whole = refl; each = cut.each.1; stops = cut.stops }) in
-    let first = first_message allowed message tail cut.each.0 in (
-      ap (λ ms. message ∷ ms) others.0 ∙ sym first.0 ∙ ap (messages_of allowed) (sym whole),
-      others.1 ∙ sym first.1 ∙ ap (rest_of allowed) (sym whole),
-    )
+first_message allowed message tail is =
+    let only = cuts_only allowed (message ++ tail) (message ∷ messages_of allowed tail) (rest_of allowed tail)
+    (one_more {A = List ℕ} (λ message. message) (IsMessage allowed) message tail (messages_of allowed tail) (rest_of allowed tail) is (cuts_of allowed tail)) in
+    (sym only.0, sym only.1)
 
 -- ---- pieces
 

@@ -1,6 +1,7 @@
 pub mod Prefixes
 pub mod PrefixFields
 pub mod Headers
+pub mod Parts
 pub mod Laws
 pub mod Messages
 pub mod Fronts

@@ -1,11 +1,11 @@
 -- The one cut of octets into messages and a rest, and what is heard of them (RFC 4271, 4.1 and 6.1).
 use Rattle.std.specs.Prelude.{◌≡◌, ℕ, zero, suc, ◌+◌, ◌≤◌, List, [], ◌∷◌, ◌++◌, length, map, take, drop, Result, Ok, Err, IsOkAnd, nat_lt, if◌then◌else◌}
-use Rattle.std.specs.List.{flat_map, AllByRecursion}
 use Rattle.rs_octets.specs.declared.heads.Allowed.{Allowed}
 use Rattle.rs_octets.specs.declared.heads.Head.{Head}
 use Rattle.rs_octets.specs.declared.heads.Kind.{Kind}
 use Rattle.rs_octets.specs.declared.heads.HeaderFault.{HeaderFault}
 use Rattle.rs_octets.specs.Headers.{header_of, header_octets}
+use Rattle.rs_octets.specs.Parts.{BeginsNone, Splits}
 
 -- a whole message: its header is good and says its length
 abbrev pub IsMessage : Allowed → List ℕ → Type 0
@@ -27,13 +27,11 @@ message_octets kind body = header_octets (19 + length body) kind ++ body
 
 -- octets of which no message is a front
 abbrev pub BeginsNoMessage : Allowed → List ℕ → Type 0
-BeginsNoMessage allowed octets = (message after : List ℕ) → IsMessage allowed message → octets ≡ message ++ after → ⊥
+BeginsNoMessage allowed octets = BeginsNone {A = List ℕ} (λ message. message) (IsMessage allowed) octets
 
 -- octets, from left to right, are these messages and then this rest, which begins with no message
-pub record Cuts (allowed : Allowed) (octets : List ℕ) (messages : List (List ℕ)) (rest : List ℕ) : Type 0 where
-  pub whole : octets ≡ flat_map (λ message. message) messages ++ rest
-  pub each : AllByRecursion (IsMessage allowed) messages
-  pub stops : BeginsNoMessage allowed rest
+abbrev pub Cuts : Allowed → List ℕ → List (List ℕ) → List ℕ → Type 0
+Cuts allowed octets messages rest = Splits {A = List ℕ} (λ message. message) (IsMessage allowed) octets messages rest
 
 -- the fault of a rest that has a whole header; a shorter rest, and a message that is not yet whole,
 -- have none

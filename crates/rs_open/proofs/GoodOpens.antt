@@ -10,7 +10,7 @@ use Rattle.rs_open.specs.declared.open.OpenFault.TheVariants.{Version, Malformed
 use Rattle.rs_open.specs.Triples.{Triple, Row, triple_octets, row_of}
 use Rattle.rs_open.specs.Opens.{when, rest_faults, row_faults, capability_faults, parameter_faults, is_refused_hold, version_field, my_as_field, hold_field, identifier_field, parameters_length, parameters_of, capabilities_of, four_of, faults_of, said_by, unless, open_of}
 use Rattle.rs_open.specs.Good.{AreWhole, IsGoodCapability, IsGoodParameter, IsGoodHold, IsGoodOpen}
-use Rattle.rs_open.proofs.Splitting.{splits, splits_only, none_in_nothing}
+use Rattle.rs_open.proofs.Splitting.{row_is, row_is_only, each_is_triple, none_in_nothing}
 
 -- ---- lists of faults that are empty
 
@@ -59,7 +59,7 @@ row_good faults IsGood good octets e =
     let rest : row.rest ≡ [] = no_rest row.rest (right_none (flat_map faults row.triples) (rest_faults row.rest) e) in
     record {
       triples = row.triples;
-      octets_are = (splits octets).whole ∙ ap (λ xs. flat_map triple_octets row.triples ++ xs) rest ∙ append-nil (flat_map triple_octets row.triples);
+      octets_are = (row_is octets).whole ∙ ap (λ xs. flat_map triple_octets row.triples ++ xs) rest ∙ append-nil (flat_map triple_octets row.triples);
       each = each_good faults IsGood good row.triples (left_none (flat_map faults row.triples) (rest_faults row.rest) e);
     }
 
@@ -68,7 +68,7 @@ row_faultless : (faults : Triple → List OpenFault) (IsGood : Triple → Type 0
 row_faultless faults IsGood faultless octets are =
     let row : Row = record { triples = are.triples; rest = [] } in
     let whole : octets ≡ flat_map triple_octets are.triples ++ [] = are.octets_are ∙ sym (append-nil (flat_map triple_octets are.triples)) in
-    ap (row_faults faults) (sym (splits_only octets row (record { whole = whole; rest = none_in_nothing })))
+    ap (row_faults faults) (sym (row_is_only octets row (record { whole = whole; each = each_is_triple are.triples; stops = none_in_nothing })))
     ∙ both_none (flat_map faults are.triples) [] (each_faultless faults IsGood faultless are.triples are.each) refl
 
 -- ---- capabilities and parameters

@@ -1,10 +1,12 @@
 -- Octets are a row of triples and a rest in one way.
-use Rattle.std.proofs.Common.{get_or, ◌≡◌, ℕ, zero, suc, ◌-◌, ◌≤◌, Bool, true, false, cond, List, [], ◌∷◌, ◌++◌, length, take, drop, refl, sym, ap, subst, ◌∙◌, arith, nat_lt, length-append, append_assoc}
-use Rattle.std.specs.List.{flat_map}
+use Rattle.std.proofs.Common.{get_or, ◌≡◌, ℕ, zero, suc, ◌-◌, ◌≤◌, Bool, true, false, cond, List, [], ◌∷◌, ◌++◌, length, take, drop, refl, sym, ap, subst, ◌∙◌, arith, nat_lt, length-append}
+use Rattle.std.specs.List.{AllByRecursion}
+use Rattle.rs_octets.specs.Parts.{BeginsNone, IsPrefixFree}
+use Rattle.rs_octets.proofs.OneWay.{one_way, one_more, same_fronts}
 use Rattle.std.proofs.lemmas.Bool.{ltb-true, ltb-false, lt-ltb, le-ltb}
 use Rattle.std.proofs.lemmas.List.{take-append-drop, length-take-le}
-use Rattle.std.proofs.Math.Seq.{take-length, take-append_seam, drop-append_seam}
-use Rattle.rs_open.specs.Triples.{Triple, Row, triple_octets, BeginsNoTriple, Splits, no_triple, with_first, row_behind, row_of}
+use Rattle.std.proofs.Math.Seq.{take-length}
+use Rattle.rs_open.specs.Triples.{Triple, Row, triple_octets, IsTriple, IsRow, no_triple, with_first, row_behind, row_of}
 
 pub skip : (n : ℕ) (octets : List ℕ) → row_behind n octets ≡ row_of (drop n octets)
 skip zero [] = refl
@@ -29,76 +31,59 @@ row_at kind len octets h =
 pub row_cut : (kind len : ℕ) (octets : List ℕ) → suc (length octets) ≤ len → row_of (kind ∷ len ∷ octets) ≡ no_triple (kind ∷ len ∷ octets)
 row_cut kind len octets h = ap (λ b. row_by b kind len octets) (lt-ltb (length octets) len h)
 
-pub row_front : (t : Triple) (after : List ℕ) → row_of (triple_octets t ++ after) ≡ with_first t (row_of after)
-row_front t after =
-    row_at t.kind (length t.value) (t.value ++ after) (omega (arith, length-append t.value after))
-    ∙ ap (λ value. with_first (record { kind = t.kind; value = value }) (row_of (drop (length t.value) (t.value ++ after)))) (take-append_seam t.value after)
-    ∙ ap (λ rest. with_first t (row_of rest)) (drop-append_seam t.value after)
-
 -- ---- no triple at the front
 
-pub none_in_nothing : BeginsNoTriple []
-none_in_nothing t after e = cc
+pub none_in_nothing : BeginsNone triple_octets IsTriple []
+none_in_nothing t after is e = cc
 
-pub none_in_one : (kind : ℕ) → BeginsNoTriple (kind ∷ [])
-none_in_one kind t after e = cc
+none_in_one : (kind : ℕ) → BeginsNone triple_octets IsTriple (kind ∷ [])
+none_in_one kind t after is e = cc
 
-pub none_in_cut : (kind len : ℕ) (octets : List ℕ) → suc (length octets) ≤ len → BeginsNoTriple (kind ∷ len ∷ octets)
-none_in_cut kind len octets h t after e =
+none_in_cut : (kind len : ℕ) (octets : List ℕ) → suc (length octets) ≤ len → BeginsNone triple_octets IsTriple (kind ∷ len ∷ octets)
+none_in_cut kind len octets h t after is e =
     let same : len ≡ length t.value = cc in
     let behind : octets ≡ t.value ++ after = cc in
     omega (arith, h, same, ap length behind, length-append t.value after)
 
-pub row_none : (octets : List ℕ) → BeginsNoTriple octets → row_of octets ≡ no_triple octets
-row_none [] none = refl
-row_none (kind ∷ []) none = refl
-row_none (kind ∷ len ∷ octets) none = by_test (nat_lt (length octets) len) refl
-  where
-    by_test : (b : Bool) → nat_lt (length octets) len ≡ b → row_of (kind ∷ len ∷ octets) ≡ no_triple (kind ∷ len ∷ octets)
-    by_test true e = row_cut kind len octets (ltb-true _ _ e)
-    by_test false e =
-        let fits : len ≤ length octets = ltb-false _ _ e in
-        absurd (none (record { kind = kind; value = take len octets }) (drop len octets)
-        (ap (λ n. kind ∷ n ∷ octets) (sym (length-take-le len octets fits)) ∙ ap (λ xs. kind ∷ length (take len octets) ∷ xs) (sym (take-append-drop len octets))))
-
 -- ---- the row that is computed is one, and the only one
 
-with_first_splits : (t : Triple) (after : List ℕ) (row : Row) → Splits after row → Splits (triple_octets t ++ after) (with_first t row)
-with_first_splits t after row splits = record {
-  whole = ap (λ xs. triple_octets t ++ xs) splits.whole ∙ sym (append_assoc (triple_octets t) (flat_map triple_octets row.triples) row.rest);
-  rest = splits.rest;
-}
-
-splits_behind : (n : ℕ) (octets : List ℕ) → Splits (drop n octets) (row_behind n octets)
-splits_behind zero [] = record { whole = refl; rest = none_in_nothing }
-splits_behind (suc n) [] = record { whole = refl; rest = none_in_nothing }
-splits_behind (suc n) (octet ∷ octets) = splits_behind n octets
-splits_behind zero (kind ∷ []) = record { whole = refl; rest = none_in_one kind }
-splits_behind zero (kind ∷ len ∷ octets) = by_test (nat_lt (length octets) len) refl (splits_behind len octets)
+row_behind_is : (n : ℕ) (octets : List ℕ) → IsRow (drop n octets) (row_behind n octets)
+row_behind_is zero [] = record { whole = refl; each = tt; stops = none_in_nothing }
+row_behind_is (suc n) [] = record { whole = refl; each = tt; stops = none_in_nothing }
+row_behind_is (suc n) (octet ∷ octets) = row_behind_is n octets
+row_behind_is zero (kind ∷ []) = record { whole = refl; each = tt; stops = none_in_one kind }
+row_behind_is zero (kind ∷ len ∷ octets) = by_test (nat_lt (length octets) len) refl (row_behind_is len octets)
   where
-    by_test : (b : Bool) → nat_lt (length octets) len ≡ b → Splits (drop len octets) (row_behind len octets) → Splits (kind ∷ len ∷ octets) (row_by b kind len octets)
-    by_test true e splits = record { whole = refl; rest = none_in_cut kind len octets (ltb-true _ _ e) }
-    by_test false e splits =
+    by_test : (b : Bool) → nat_lt (length octets) len ≡ b → IsRow (drop len octets) (row_behind len octets) → IsRow (kind ∷ len ∷ octets) (row_by b kind len octets)
+    by_test true e later = record { whole = refl; each = tt; stops = none_in_cut kind len octets (ltb-true _ _ e) }
+    by_test false e later =
         let t : Triple = record { kind = kind; value = take len octets } in
         let same : triple_octets t ++ drop len octets ≡ kind ∷ len ∷ octets =
         ap (λ n. kind ∷ n ∷ (take len octets ++ drop len octets)) (length-take-le len octets (ltb-false _ _ e))
         ∙ ap (λ xs. kind ∷ len ∷ xs) (take-append-drop len octets) in
-        let P : List ℕ → Type 0 = λ xs. Splits xs (with_first t (row_behind len octets)) in
-        subst P same (with_first_splits t (drop len octets) (row_behind len octets) splits)
+        let P : List ℕ → Type 0 = λ xs. IsRow xs (with_first t (row_behind len octets)) in
+        subst P same (one_more triple_octets IsTriple t (drop len octets) (row_behind len octets).triples (row_behind len octets).rest tt later)
 
-pub splits : (octets : List ℕ) → Splits octets (row_of octets)
-splits octets = splits_behind 0 octets
+pub row_is : (octets : List ℕ) → IsRow octets (row_of octets)
+row_is octets = row_behind_is 0 octets
 
-pub splits_only : (octets : List ℕ) (row : Row) → Splits octets row → row ≡ row_of octets
-splits_only octets row splits = only row.triples row.rest splits.rest ∙ ap row_of (sym splits.whole)
-  where
-    only : (triples : List Triple) (rest : List ℕ) → BeginsNoTriple rest
-        → record { triples = triples; rest = rest } ≡ row_of (flat_map triple_octets triples ++ rest)
-    only [] rest none = sym (row_none rest none)
-    only (t ∷ triples) rest none =
-        ap (λ row. with_first t row) (only triples rest none)
-        ∙ sym (row_front t (flat_map triple_octets triples ++ rest))
-        ∙ ap row_of (sym (append_assoc (triple_octets t) (flat_map triple_octets triples) rest))
+-- a triple is no front of another, since its length says how many octets it has
+triples_apart : IsPrefixFree triple_octets IsTriple
+triples_apart a b x y is other e =
+    let kind : a.kind ≡ b.kind = cc in
+    let size : length a.value ≡ length b.value = cc in
+    let parts = same_fronts a.value b.value x y size cc in
+    ((λ i. record { kind = kind i; value = parts.0 i }), parts.1)
+
+pub row_is_only : (octets : List ℕ) (row : Row) → IsRow octets row → row ≡ row_of octets
+row_is_only octets row is =
+    let only = one_way triple_octets IsTriple triples_apart octets row.triples (row_of octets).triples row.rest (row_of octets).rest is (row_is octets) in
+    λ i. record { triples = only.0 i; rest = only.1 i }
+
+-- triples one behind the other are a row with nothing left
+pub each_is_triple : (triples : List Triple) → AllByRecursion IsTriple triples
+each_is_triple [] = tt
+each_is_triple (t ∷ triples) = (tt, each_is_triple triples)
 
 -- the triple that is read at the front
 pub row_in : (octets behind value rest : List ℕ) (len : ℕ) → 2 ≤ length octets → behind ≡ take (length octets - 2) (drop 2 octets) → len ≡ get_or octets 1 0 → len ≤ length behind

@@ -1,7 +1,7 @@
 -- Rows of triples. The parameters of an OPEN are one (RFC 4271, 4.2), and so are the capabilities in
 -- a parameter (RFC 5492, 4).
-use Rattle.std.specs.Prelude.{◌≡◌, ℕ, zero, suc, List, [], ◌∷◌, ◌++◌, length, take, nat_lt, if◌then◌else◌}
-use Rattle.std.specs.List.{flat_map}
+use Rattle.std.specs.Prelude.{ℕ, zero, suc, List, [], ◌∷◌, length, take, nat_lt, ⊤, if◌then◌else◌}
+use Rattle.rs_octets.specs.Parts.{Splits}
 
 -- a type or a code, and a value
 pub record Triple : Type 0 where
@@ -17,14 +17,13 @@ pub record Row : Type 0 where
   pub triples : List Triple
   pub rest : List ℕ
 
--- no triple is a front of these octets
-abbrev pub BeginsNoTriple : List ℕ → Type 0
-BeginsNoTriple octets = (t : Triple) (after : List ℕ) → octets ≡ triple_octets t ++ after → ⊥
+-- each triple is one, whatever its value
+abbrev pub IsTriple : Triple → Type 0
+IsTriple t = ⊤
 
--- the octets are this row
-pub record Splits (octets : List ℕ) (row : Row) : Type 0 where
-  pub whole : octets ≡ flat_map triple_octets row.triples ++ row.rest
-  pub rest : BeginsNoTriple row.rest
+-- the octets are the triples of this row, and then its rest, of which no triple is a front
+abbrev pub IsRow : List ℕ → Row → Type 0
+IsRow octets row = Splits triple_octets IsTriple octets row.triples row.rest
 
 -- ---- the one row that octets are
 

@@ -1,7 +1,7 @@
 //! Laws of the definitions.
 
 ghost use Rattle.std.specs.Prelude.{◌≡◌, ◌↔◌, List, ℕ, IsOk};
-ghost use Rattle.rs_open.specs.Triples.{Row, Splits, row_of};
+ghost use Rattle.rs_open.specs.Triples.{Row, IsRow, row_of};
 ghost use Rattle.rs_open.specs.declared.writing.ServerOpen.{ServerOpen};
 ghost use Rattle.rs_open.specs.Good.{IsGoodOpen};
 ghost use Rattle.rs_open.specs.Laws.{NoteFits, ShortIsMessage, OpenHasItsBody, IsOpenToSay, heard_from};
@@ -10,8 +10,8 @@ ghost use Rattle.rs_open.specs.Writing.{body_said};
 
 /// Octets are a row of triples and a rest in just one way.
 pub fn octets_are_one_row_of_triples()
-    ensures there_is { (octets : List ℕ) → Splits octets (row_of octets) }
-    ensures no_other { (octets : List ℕ) (row : Row) → Splits octets row → row ≡ row_of octets }
+    ensures there_is { (octets : List ℕ) → IsRow octets (row_of octets) }
+    ensures no_other { (octets : List ℕ) (row : Row) → IsRow octets row → row ≡ row_of octets }
 {}
 
 /// Nothing is wrong with an OPEN exactly where it is a good one, by its octets alone.
