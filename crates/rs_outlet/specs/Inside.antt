@@ -1,5 +1,6 @@
 -- How the fields of an outlet make what callers see, and what the fields keep.
-use Rattle.std.specs.Prelude.{◌≡◌, ℕ, suc, ◌+◌, ◌≤◌, Bool, true, false, ◌&&◌, Option, None, Some, List, [], ◌∷◌, ◌++◌, slice_range, slice_get, vec_len, if◌then◌else◌}
+use Rattle.std.specs.Prelude.{◌≡◌, ◌≢◌, ℕ, suc, ◌+◌, ◌≤◌, ◌<◌, Bool, true, false, ◌&&◌, Option, None, Some, List, [], ◌∷◌, ◌++◌, slice_range, slice_get, vec_len, if◌then◌else◌}
+use Rattle.std.specs.List.{AllByRecursion}
 use Rattle.std.specs.Vec.{vec_capacity}
 use Rattle.std.specs.Arc.{arc_value}
 use Rattle.std.specs.HashMap.{HashMap, hash_map_len, spare}
@@ -13,6 +14,9 @@ use Rattle.rs_outlet.specs.declared.rows.Row.{Row}
 use Rattle.rs_outlet.specs.declared.waiting.Told.{Told}
 use Rattle.rs_outlet.specs.declared.waiting.Told.TheVariants as told
 use Rattle.rs_outlet.specs.declared.waiting.Wait.{Wait}
+use Rattle.rs_outlet.specs.declared.turn.Change.{Change}
+use Rattle.rs_adjin.specs.declared.adj_ins.AdjIns.{AdjIns}
+use Rattle.rs_adjin.specs.AdjIns.{number_of}
 use Rattle.rs_outlet.specs.declared.outlet.Outlet.TheInside.{Inside}
 use Rattle.rs_outlet.specs.Views.{View, Table, Prefixes}
 
@@ -26,6 +30,10 @@ joined (Some row) = row
 abbrev pub row_at : List (Option Row) → ℕ → Option Row
 row_at rows n = joined (slice_get rows n)
 
+abbrev pub shown : Option Row → Option (List Attribute)
+shown None = None
+shown (Some row) = Some (arc_value row.attrs)
+
 -- what is due, by the rows
 abbrev pub loc_of : List (Option Row) → Table
 loc_of [] = fin.empty
@@ -37,6 +45,18 @@ abbrev pub numbers_from : ℕ → List (Option Row) → List (ℕ × Prefix)
 numbers_from n [] = []
 numbers_from n (None ∷ rows) = numbers_from (suc n) rows
 numbers_from n (Some r ∷ rows) = (n, r.prefix) ∷ numbers_from (suc n) rows
+
+-- each change stands at the number of its prefix
+abbrev pub ArePlaced : List Change → AdjIns → Type 0
+ArePlaced cs ins = AllByRecursion (λ c. number_of ins c.prefix ≡ Some c.number) cs
+
+-- there is a row for each change
+abbrev pub HaveRows : List Change → ℕ → Type 0
+HaveRows cs count = AllByRecursion (λ c. c.number < count) cs
+
+-- none of them has this number
+abbrev pub IsNoNumberOf : ℕ → List (ℕ × Prefix) → Type 0
+IsNoNumberOf n es = AllByRecursion (λ e. e.0 ≢ n) es
 
 -- ---- what waits
 
@@ -55,9 +75,13 @@ abbrev pub told_over : Table → List Wait → Table
 told_over loc [] = loc
 told_over loc (w ∷ ws) = if w.open then put (told_over loc ws) w.prefix (told_of w.told (fin.get loc w.prefix)) else told_over loc ws
 
+abbrev pub mark : Prefixes → Prefix → Bool → Prefixes
+mark s p true = set.insert s p
+mark s p false = set.remove s p
+
 abbrev pub marked_of : List Wait → Prefixes
 marked_of [] = set.empty
-marked_of (w ∷ ws) = if w.open && w.marked then set.insert (marked_of ws) w.prefix else marked_of ws
+marked_of (w ∷ ws) = if w.open then mark (marked_of ws) w.prefix w.marked else marked_of ws
 
 -- ---- what is touched
 

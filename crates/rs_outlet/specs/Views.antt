@@ -59,9 +59,13 @@ finished note v = record (cleared v) { flight = flight_after note v.flight; note
 abbrev pub begun : Speech → View → View
 begun speech v = record v { speech = Some speech; loc = map.empty; told = map.empty; touched = None; marked = set.empty; numbers = [] }
 
--- each prefix that is due or touched has the number that it stands at
+-- each of these prefixes has the number beside it
+abbrev pub HaveNumbers : List (ℕ × Prefix) → AdjIns → Type 0
+HaveNumbers es ins = AllByRecursion (λ e. number_of ins e.1 ≡ Some e.0) es
+
+-- each prefix that is due or touched by itself has the number that it stands at
 abbrev pub AreNumbered : View → AdjIns → Type 0
-AreNumbered v ins = AllByRecursion (λ e. number_of ins e.1 ≡ Some e.0) v.numbers
+AreNumbered v ins = HaveNumbers v.numbers ins
 
 -- ---- touches
 

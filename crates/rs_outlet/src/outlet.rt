@@ -1,11 +1,13 @@
 //! The outlet of a client.
 
-ghost use Rattle.std.specs.Prelude.{◌≡◌, ◌≤◌, ◌<◌, true, Some, None, length, take, drop, vec_len, IfOk};
-ghost use Rattle.rs_adjin.specs.AdjIns.{client_count};
+ghost use Rattle.std.specs.Prelude.{◌≡◌, ◌≢◌, ◌≤◌, ◌<◌, true, Some, None, [], length, take, drop, vec_len, IsSome, IfOk, OnOk, OnErr, IsTrue};
+ghost use Rattle.std.specs.FinSet as set;
+ghost use Rattle.rs_adjin.specs.declared.adj_ins.AdjIns.{AdjIns};
+ghost use Rattle.rs_adjin.specs.AdjIns.{client_count, number_of};
 ghost use Rattle.rs_open.specs.Writing.{server_open};
 ghost use Rattle.rs_open.specs.declared.short.Limit.TheVariants as limits;
-ghost use Rattle.rs_outlet.specs.Views.{bare, begun, cleared, finished, if_up};
-ghost use Rattle.rs_outlet.specs.Inside.{room_of, batch_of};
+ghost use Rattle.rs_outlet.specs.Views.{AreNumbered, bare, begun, cleared, finished, if_up, touched_at};
+ghost use Rattle.rs_outlet.specs.Inside.{room_of, batch_of, IsNoNumberOf};
 
 use crate::answers::{Last, Speech, Turned};
 use crate::deciding::Sources;
@@ -184,6 +186,9 @@ impl Outlet {
     pub fn touch(&mut self, number: u32, prefix: Prefix)
         ensures client { self.new.client ≡ self.old.client }
         ensures extended { self.new.extended ≡ self.old.extended }
+        ensures rest { self.new ≡ record self.old { touched = self.new.touched; numbers = self.new.numbers } }
+        ensures touched { (ins : AdjIns) → AreNumbered self.old ins → number_of ins prefix ≡ Some number → self.new.touched ≡ (touched_at prefix self.old).touched }
+        ensures numbered { (ins : AdjIns) → AreNumbered self.old ins → number_of ins prefix ≡ Some number → AreNumbered self.new ins }
     {
         if self.speech.is_some() {
             self.touched.add(number, prefix);
@@ -194,6 +199,8 @@ impl Outlet {
     pub fn touch_all(&mut self)
         ensures client { self.new.client ≡ self.old.client }
         ensures extended { self.new.extended ≡ self.old.extended }
+        ensures touched { self.new ≡ record self.old { touched = if_up self.old.speech None self.old.touched; numbers = self.new.numbers } }
+        ensures numbered { (ins : AdjIns) → AreNumbered self.old ins → AreNumbered self.new ins }
     {
         if self.speech.is_some() {
             self.touched.add_all();
@@ -206,6 +213,11 @@ impl Outlet {
         requires clients { client_count ins.now ≡ length config.now.clients }
         ensures client { self.new.client ≡ self.old.client }
         ensures extended { self.new.extended ≡ self.old.extended }
+        ensures rest { self.new ≡ record self.old { loc = self.new.loc; told = self.new.told; touched = self.new.touched; marked = self.new.marked; numbers = self.new.numbers; last = self.new.last } }
+        ensures done { IfOk result (λ turned. self.new.last ≡ Last.Done turned) }
+        ensures touched { OnOk result (IsSome self.old.speech → self.new.touched ≡ Some set.empty) }
+        ensures refused { OnErr result (self.new ≡ record self.old { last = Last.Refused }) }
+        ensures numbered { AreNumbered self.old ins.now → AreNumbered self.new ins.now }
     {
         let Some(speech) = self.speech else {
             let turned = Turned {
@@ -238,6 +250,7 @@ impl Outlet {
     pub fn again(&mut self)
         ensures client { self.new.client ≡ self.old.client }
         ensures extended { self.new.extended ≡ self.old.extended }
+        ensures rest { self.new ≡ record self.old { told = self.new.told; marked = self.new.marked } }
     {
         self.waits.mark_all(&self.rows);
     }
@@ -246,6 +259,8 @@ impl Outlet {
     pub fn begin(&mut self)
         ensures client { self.new.client ≡ self.old.client }
         ensures extended { self.new.extended ≡ self.old.extended }
+        ensures rest { self.new ≡ record self.old { told = self.new.told; flight = self.new.flight; beat = self.new.beat; note = self.new.note; marked = self.new.marked } }
+        ensures kept { self.old.flight ≢ [] → self.new ≡ self.old }
     {
         if self.start < self.end {
             return;
@@ -278,8 +293,13 @@ impl Outlet {
     }
 
     /// Whether the row of a number has no route, and the number is not touched by itself.
-    pub fn is_free(&self, number: u32) -> bool {
-        self.rows.get(number).is_none() && !self.touched.has(number)
+    pub fn is_free(&self, number: u32) -> bool
+        ensures { IsTrue result → IsNoNumberOf number self.now.numbers }
+    {
+        match self.rows.get(number) {
+            Some(_) => false,
+            None => !self.touched.has(number),
+        }
     }
 
     /// The route of the Loc-RIB for a prefix.

@@ -1,6 +1,8 @@
 //! The Loc-RIB of a client: a row for each number that the Adj-RIBs-In gave to a prefix.
 
-ghost use Rattle.std.specs.Prelude.{◌≡◌, []};
+ghost use Rattle.std.specs.Prelude.{◌≡◌, ◌≤◌, ◌<◌, ℕ, [], Some, None, IfOk, OnOk, length, vec_len, slice_set, option_copied, option_map};
+ghost use Rattle.std.specs.Arc.{arc_value};
+ghost use Rattle.rs_outlet.specs.Inside.{row_at, shown, loc_of, numbers_from};
 
 use rs_attrs::Attrs;
 use rs_octets::Prefix;
@@ -50,7 +52,9 @@ impl Rows {
     }
 
     /// The row of a number, where it has a route.
-    pub(crate) fn get(&self, number: u32) -> Option<&Row> {
+    pub(crate) fn get(&self, number: u32) -> Option<&Row>
+        ensures { option_copied result ≡ row_at self.now.rows.items number }
+    {
         match self.rows.get(number as usize) {
             Some(row) => row.as_ref(),
             None => None,
@@ -58,25 +62,43 @@ impl Rows {
     }
 
     /// There is a row for each of the first numbers.
-    pub(crate) fn grow(&mut self, count: usize) -> Result<(), AllocError> {
-        for _ in self.rows.len()..count {
-            self.rows.push(None)?;
+    pub(crate) fn grow(&mut self, count: usize) -> Result<(), AllocError>
+        ensures rows { (n : ℕ) → row_at self.new.rows.items n ≡ row_at self.old.rows.items n }
+        ensures loc { loc_of self.new.rows.items ≡ loc_of self.old.rows.items }
+        ensures numbers { numbers_from 0 self.new.rows.items ≡ numbers_from 0 self.old.rows.items }
+        ensures room { OnOk result (count ≤ vec_len self.new.rows) }
+    {
+        let more = count.saturating_sub(self.rows.len());
+        self.rows.reserve(more)?;
+        for _ in 0..more {
+            self.rows.push_reserved(None);
         }
         Ok(())
     }
 
     /// Takes the route out of the row of a number.
-    pub(crate) fn take(&mut self, number: u32) -> Option<Arc<Attrs>> {
-        let row = self.rows.get_mut(number as usize)?.take()?;
-        self.used = self.used.saturating_sub(1);
-        Some(row.attrs)
+    pub(crate) fn take(&mut self, number: u32) -> Option<Arc<Attrs>>
+        requires { number < vec_len self.old.rows }
+        ensures rows { self.new.rows.items ≡ slice_set self.old.rows.items number None }
+        ensures room { vec_len self.new.rows ≡ vec_len self.old.rows }
+        ensures was { option_map arc_value result ≡ shown (row_at self.old.rows.items number) }
+    {
+        match self.rows[number as usize].take() {
+            None => None,
+            Some(row) => {
+                self.used = self.used.saturating_sub(1);
+                Some(row.attrs)
+            }
+        }
     }
 
     /// Puts a route into the free row of a number.
-    pub(crate) fn put(&mut self, number: u32, prefix: Prefix, attrs: Arc<Attrs>) {
-        if let Some(row) = self.rows.get_mut(number as usize) {
-            *row = Some(Row { prefix, attrs });
-            self.used = self.used.saturating_add(1);
-        }
+    pub(crate) fn put(&mut self, number: u32, prefix: Prefix, attrs: Arc<Attrs>)
+        requires { number < vec_len self.old.rows }
+        ensures rows { self.new.rows.items ≡ slice_set self.old.rows.items number (Some (record { prefix = prefix; attrs = attrs })) }
+        ensures room { vec_len self.new.rows ≡ vec_len self.old.rows }
+    {
+        self.rows[number as usize] = Some(Row { prefix, attrs });
+        self.used = self.used.saturating_add(1);
     }
 }

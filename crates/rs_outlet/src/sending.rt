@@ -110,8 +110,7 @@ fn put_update(
 impl Outlet {
     /// Begins the next message, if there is one. None is in flight.
     pub(crate) fn begin_next(&mut self)
-        ensures client { self.new.client ≡ self.old.client }
-        ensures extended { self.new.extended ≡ self.old.extended }
+        ensures { self.new ≡ record self.old { told = self.new.told; flight = self.new.flight; beat = self.new.beat; note = self.new.note; marked = self.new.marked } }
     {
         if let Some(note) = self.note {
             self.begin_note(&note);
@@ -123,8 +122,7 @@ impl Outlet {
     }
 
     fn begin_note(&mut self, note: &Short)
-        ensures client { self.new.client ≡ self.old.client }
-        ensures extended { self.new.extended ≡ self.old.extended }
+        ensures { self.new ≡ record self.old { told = self.new.told; flight = self.new.flight; beat = self.new.beat; note = self.new.note; marked = self.new.marked } }
     {
         self.note = None;
         self.start = 0;
@@ -132,8 +130,7 @@ impl Outlet {
     }
 
     fn begin_keepalive(&mut self)
-        ensures client { self.new.client ≡ self.old.client }
-        ensures extended { self.new.extended ≡ self.old.extended }
+        ensures { self.new ≡ record self.old { told = self.new.told; flight = self.new.flight; beat = self.new.beat; note = self.new.note; marked = self.new.marked } }
     {
         self.beat = false;
         self.start = 0;
@@ -143,8 +140,7 @@ impl Outlet {
     /// Begins the next UPDATE, if something waits.
     fn begin_update(&mut self, speech: Speech)
         requires { self.old.speech ≡ Some speech }
-        ensures client { self.new.client ≡ self.old.client }
-        ensures extended { self.new.extended ≡ self.old.extended }
+        ensures { self.new ≡ record self.old { told = self.new.told; flight = self.new.flight; beat = self.new.beat; note = self.new.note; marked = self.new.marked } }
     {
         self.front.clear();
         self.chosen.clear();

@@ -3,8 +3,12 @@
 //! The set goes by the numbers of the prefixes. Those are given out by the Adj-RIBs-In, so that no
 //! member can choose prefixes that make it slow.
 
-ghost use Rattle.std.specs.Prelude.{◌≡◌, ◌≤◌, ◌+◌, [], true, false, IfOk};
+ghost use Rattle.std.specs.Prelude.{◌≡◌, ◌≤◌, ◌+◌, [], Some, true, false, IfOk};
 ghost use Rattle.std.specs.HashMap.{hash_map_len, spare};
+ghost use Rattle.rs_adjin.specs.declared.adj_ins.AdjIns.{AdjIns};
+ghost use Rattle.rs_adjin.specs.AdjIns.{number_of};
+ghost use Rattle.rs_outlet.specs.Views.{HaveNumbers, with_touch};
+ghost use Rattle.rs_outlet.specs.Inside.{touched_of, IsNoNumberOf};
 
 use rs_octets::Prefix;
 use std::alloc::{AllocError, Global};
@@ -56,8 +60,13 @@ impl Touched {
     pub(crate) fn add(&mut self, number: u32, prefix: Prefix)
         requires { 4096 ≤ hash_map_len self.old.prefixes + spare self.old.prefixes }
         ensures room { 4096 ≤ hash_map_len self.new.prefixes + spare self.new.prefixes }
+        ensures touched { (ins : AdjIns) → HaveNumbers self.old.prefixes.entries ins → number_of ins prefix ≡ Some number → touched_of self.new.all self.new.prefixes.entries ≡ with_touch (touched_of self.old.all self.old.prefixes.entries) prefix }
+        ensures numbered { (ins : AdjIns) → HaveNumbers self.old.prefixes.entries ins → number_of ins prefix ≡ Some number → HaveNumbers self.new.prefixes.entries ins }
     {
-        if self.all || self.prefixes.contains_key(&number) {
+        if self.all {
+            return;
+        }
+        if self.prefixes.contains_key(&number) {
             return;
         }
         if self.prefixes.len() < TOUCHED_MAX {
@@ -76,7 +85,9 @@ impl Touched {
     }
 
     /// Whether the prefix of a number was touched by itself.
-    pub(crate) fn has(&self, number: u32) -> bool {
+    pub(crate) fn has(&self, number: u32) -> bool
+        ensures { result ≡ false → IsNoNumberOf number self.now.prefixes.entries }
+    {
         self.prefixes.contains_key(&number)
     }
 

@@ -1,7 +1,11 @@
 //! A turn: what is touched is decided anew, and what the client was not told so waits.
 
-ghost use Rattle.std.specs.Prelude.{◌≡◌, ◌<◌, Some, length, IfOk};
+ghost use Rattle.std.specs.Prelude.{◌≡◌, ◌<◌, ◌≤◌, ℕ, Some, length, vec_len, IfOk, OnOk, OnErr};
+ghost use Rattle.std.specs.FinSet as set;
+ghost use Rattle.rs_adjin.specs.declared.adj_ins.AdjIns.{AdjIns};
 ghost use Rattle.rs_adjin.specs.AdjIns.{client_count, number_of};
+ghost use Rattle.rs_outlet.specs.Views.{AreNumbered, HaveNumbers};
+ghost use Rattle.rs_outlet.specs.Inside.{ArePlaced, HaveRows, row_at, loc_of, numbers_from};
 
 use crate::answers::{Last, Speech, Turned};
 use crate::deciding::{Sources, decide};
@@ -53,6 +57,7 @@ fn decide_one(
     requires number { number_of sources.now.ins.now prefix ≡ Some number }
     requires client { sources.now.client < length sources.now.config.now.clients }
     requires count { client_count sources.now.ins.now ≡ length sources.now.config.now.clients }
+    ensures { ArePlaced changes.old.items sources.now.ins.now → ArePlaced changes.new.items sources.now.ins.now }
 {
     let due = decide(alloc, sources, speech, number, &prefix, ranks)?;
     if !is_due(rows.get(number), due.as_ref()) {
@@ -77,6 +82,7 @@ fn decide_at(
 ) -> Result<(), AllocError>
     requires client { sources.now.client < length sources.now.config.now.clients }
     requires count { client_count sources.now.ins.now ≡ length sources.now.config.now.clients }
+    ensures { ArePlaced changes.old.items sources.now.ins.now → ArePlaced changes.new.items sources.now.ins.now }
 {
     let Some(prefix) = sources.ins.prefix(number) else {
         return Ok(());
@@ -84,7 +90,7 @@ fn decide_at(
     decide_one(alloc, sources, speech, rows, number, prefix, ranks, changes)
 }
 
-/// Decides what was touched by itself.
+/// Decides what was touched by itself: at each number the prefix that the tables have there.
 fn decide_touched(
     alloc: Global,
     sources: &Sources<'_>,
@@ -94,6 +100,7 @@ fn decide_touched(
 ) -> Result<Decided, AllocError>
     requires client { sources.now.client < length sources.now.config.now.clients }
     requires count { client_count sources.now.ins.now ≡ length sources.now.config.now.clients }
+    ensures { IfOk result (λ decided. ArePlaced decided.changes.items sources.now.ins.now) }
 {
     let mut ranks = Vec::new(alloc);
     let mut changes = Vec::new(alloc);
@@ -127,6 +134,7 @@ fn decide_number(
 ) -> Result<bool, AllocError>
     requires client { sources.now.client < length sources.now.config.now.clients }
     requires count { client_count sources.now.ins.now ≡ length sources.now.config.now.clients }
+    ensures { ArePlaced changes.old.items sources.now.ins.now → ArePlaced changes.new.items sources.now.ins.now }
 {
     let Some(prefix) = sources.ins.prefix(number) else {
         return Ok(false);
@@ -148,6 +156,7 @@ fn decide_all(
 ) -> Result<Decided, AllocError>
     requires client { sources.now.client < length sources.now.config.now.clients }
     requires count { client_count sources.now.ins.now ≡ length sources.now.config.now.clients }
+    ensures { IfOk result (λ decided. ArePlaced decided.changes.items sources.now.ins.now) }
 {
     let mut ranks = Vec::new(alloc);
     let mut changes = Vec::new(alloc);
@@ -169,73 +178,80 @@ fn decide_all(
     Ok(Decided { changes, count })
 }
 
-/// What waits at a prefix, if anything: `told` is what the client was told there.
-fn wait_for(
-    number: u32,
-    prefix: Prefix,
-    due: Option<&Arc<Attrs>>,
-    told: Option<Arc<Attrs>>,
-    marked: bool,
-) -> Option<Wait> {
-    match due {
-        None => {
-            let told = told?;
-            Some(Wait {
-                prefix,
-                due: Due::Withdrawn,
-                told: Told::Other(told),
-                marked,
-                open: true,
-            })
-        }
-        Some(due) => {
-            let told = match told {
-                None => Told::Nothing,
-                Some(told) => {
-                    if told != *due {
-                        Told::Other(told)
-                    } else if marked {
-                        Told::Same
-                    } else {
-                        return None;
-                    }
-                }
-            };
-            Some(Wait {
-                prefix,
-                due: Due::Announced {
-                    number,
-                    hash: hash_of(due),
-                },
-                told,
-                marked,
-                open: true,
-            })
+/// What waits at a prefix that is due no more, where this was told.
+fn withdrawn_wait(prefix: Prefix, told: Option<Arc<Attrs>>, marked: bool) -> Option<Wait> {
+    let told = told?;
+    Some(Wait {
+        prefix,
+        due: Due::Withdrawn,
+        told: Told::Other(told),
+        marked,
+        open: true,
+    })
+}
+
+/// What is known of what was told, beside what is due: none where nothing waits.
+fn told_beside(due: &Arc<Attrs>, told: Option<Arc<Attrs>>, marked: bool) -> Option<Told> {
+    match told {
+        None => Some(Told::Nothing),
+        Some(told) => {
+            if told != *due {
+                Some(Told::Other(told))
+            } else if marked {
+                Some(Told::Same)
+            } else {
+                None
+            }
         }
     }
 }
 
-/// Carries out one change: its row has what is due. Answers what waits there then.
-fn carry_out(rows: &mut Rows, waits: &mut Waits, change: Change) -> Option<Wait> {
+/// What waits at a prefix where this is due and this was told.
+fn announced_wait(
+    number: u32,
+    prefix: Prefix,
+    due: &Arc<Attrs>,
+    told: Option<Arc<Attrs>>,
+    marked: bool,
+) -> Option<Wait> {
+    let told = told_beside(due, told, marked)?;
+    let hash = hash_of(due);
+    Some(Wait {
+        prefix,
+        due: Due::Announced { number, hash },
+        told,
+        marked,
+        open: true,
+    })
+}
+
+/// Lists what waits, if anything does. There is room for it.
+fn list_wait(fresh: &mut Vec<Wait>, wait: Option<Wait>) {
+    if let Some(wait) = wait {
+        let _ = fresh.push(wait);
+    }
+}
+
+/// Carries out one change: its row has what is due, and what waits there then is listed.
+fn carry_out(rows: &mut Rows, waits: &mut Waits, fresh: &mut Vec<Wait>, change: Change)
+    requires { change.number < vec_len rows.old.rows }
+    ensures room { vec_len rows.new.rows ≡ vec_len rows.old.rows }
+    ensures numbered { (ins : AdjIns) → number_of ins change.prefix ≡ Some change.number → HaveNumbers (numbers_from 0 rows.old.rows.items) ins → HaveNumbers (numbers_from 0 rows.new.rows.items) ins }
+{
     let Change {
         number,
         prefix,
         due,
     } = change;
     let was = rows.take(number);
-    let (told, marked) = match waits.take(&prefix) {
-        None => (was, false),
-        Some((told, marked)) => match told {
-            Told::Nothing => (None, marked),
-            Told::Same => (was, marked),
-            Told::Other(told) => (Some(told), marked),
-        },
-    };
-    let wait = wait_for(number, prefix, due.as_ref(), told, marked);
-    if let Some(due) = due {
-        rows.put(number, prefix, due);
+    let (told, marked) = waits.take_told(&prefix, was);
+    match due {
+        None => list_wait(fresh, withdrawn_wait(prefix, told, marked)),
+        Some(due) => {
+            list_wait(fresh, announced_wait(number, prefix, &due, told, marked));
+            rows.put(number, prefix, due);
+        }
     }
-    wait
 }
 
 /// Makes room for so many changes, and for all that may wait then.
@@ -245,7 +261,13 @@ fn make_room(
     waits: &mut Waits,
     numbers: usize,
     changes: usize,
-) -> Result<Vec<Wait>, AllocError> {
+) -> Result<Vec<Wait>, AllocError>
+    ensures rows { (n : ℕ) → row_at rows.new.rows.items n ≡ row_at rows.old.rows.items n }
+    ensures loc { loc_of rows.new.rows.items ≡ loc_of rows.old.rows.items }
+    ensures numbers { numbers_from 0 rows.new.rows.items ≡ numbers_from 0 rows.old.rows.items }
+    ensures waits { waits.new.places.items ≡ waits.old.places.items }
+    ensures room { OnOk result (numbers ≤ vec_len rows.new.rows) }
+{
     let fresh = Vec::with_capacity(alloc, changes)?;
     rows.grow(numbers)?;
     let more = rows.used().saturating_add(waits.len());
@@ -254,11 +276,12 @@ fn make_room(
 }
 
 /// Carries out the changes, for which there is room.
-fn commit(rows: &mut Rows, waits: &mut Waits, changes: Vec<Change>, mut fresh: Vec<Wait>) {
+fn commit(rows: &mut Rows, waits: &mut Waits, changes: Vec<Change>, mut fresh: Vec<Wait>)
+    requires { HaveRows changes.items (vec_len rows.old.rows) }
+    ensures { (ins : AdjIns) → ArePlaced changes.items ins → HaveNumbers (numbers_from 0 rows.old.rows.items) ins → HaveNumbers (numbers_from 0 rows.new.rows.items) ins }
+{
     for change in changes {
-        if let Some(wait) = carry_out(rows, waits, change) {
-            let _ = fresh.push(wait);
-        }
+        carry_out(rows, waits, &mut fresh, change);
     }
     waits.add(fresh);
 }
@@ -268,6 +291,7 @@ impl Outlet {
     fn decide(&self, speech: Speech, sources: &Sources<'_>) -> Result<Decided, AllocError>
         requires client { sources.now.client < length sources.now.config.now.clients }
         requires count { client_count sources.now.ins.now ≡ length sources.now.config.now.clients }
+        ensures { IfOk result (λ decided. ArePlaced decided.changes.items sources.now.ins.now) }
     {
         if self.touched.is_all() {
             decide_all(self.alloc, sources, speech, &self.rows)
@@ -287,25 +311,27 @@ impl Outlet {
         requires count { client_count sources.now.ins.now ≡ length sources.now.config.now.clients }
         ensures client { self.new.client ≡ self.old.client }
         ensures extended { self.new.extended ≡ self.old.extended }
+        ensures rest { self.new ≡ record self.old { loc = self.new.loc; told = self.new.told; touched = self.new.touched; marked = self.new.marked; numbers = self.new.numbers; last = self.new.last } }
+        ensures done { IfOk result (λ turned. self.new.last ≡ Last.Done turned) }
+        ensures touched { OnOk result (self.new.touched ≡ Some set.empty) }
+        ensures refused { OnErr result (self.new ≡ self.old) }
+        ensures numbered { AreNumbered self.old sources.now.ins.now → AreNumbered self.new sources.now.ins.now }
     {
-        let decided = self.decide(speech, sources)?;
-        let whole = self.touched.is_all();
-        let Decided { changes, count } = decided;
-        if !changes.is_empty() {
-            let fresh = make_room(
-                self.alloc,
-                &mut self.rows,
-                &mut self.waits,
-                sources.ins.numbers(),
-                changes.len(),
-            )?;
-            commit(&mut self.rows, &mut self.waits, changes, fresh);
-        }
-        self.touched.clear();
+        let Decided { changes, count } = self.decide(speech, sources)?;
         let turned = Turned {
             decided: count,
-            whole,
+            whole: self.touched.is_all(),
         };
+        let numbers = sources.ins.numbers();
+        let fresh = make_room(
+            self.alloc,
+            &mut self.rows,
+            &mut self.waits,
+            numbers,
+            changes.len(),
+        )?;
+        commit(&mut self.rows, &mut self.waits, changes, fresh);
+        self.touched.clear();
         self.last = Last::Done(turned);
         Ok(turned)
     }

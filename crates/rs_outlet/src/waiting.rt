@@ -93,7 +93,9 @@ impl Waits {
     }
 
     /// Makes room for so many places.
-    pub(crate) fn reserve(&mut self, count: usize) -> Result<(), AllocError> {
+    pub(crate) fn reserve(&mut self, count: usize) -> Result<(), AllocError>
+        ensures { self.new.places.items ≡ self.old.places.items }
+    {
         let more = count.saturating_sub(self.places.len());
         self.places.reserve(more)?;
         let more = count.saturating_sub(self.links.len());
@@ -115,16 +117,27 @@ impl Waits {
         }
     }
 
-    /// Takes a prefix out, where it waits: what was told, and whether it is to be told again.
-    pub(crate) fn take(&mut self, prefix: &Prefix) -> Option<(Told, bool)> {
-        let place = self.find(prefix)?;
-        let wait = self.places.get_mut(place)?;
+    /// Takes a prefix out, where it waits: what was told there, and whether it is to be told again.
+    /// Where it doesn't wait, what was due was told.
+    pub(crate) fn take_told(
+        &mut self,
+        prefix: &Prefix,
+        was_due: Option<Arc<Attrs>>,
+    ) -> (Option<Arc<Attrs>>, bool) {
+        let Some(place) = self.find(prefix) else {
+            return (was_due, false);
+        };
+        let Some(wait) = self.places.get_mut(place) else {
+            return (was_due, false);
+        };
         wait.open = false;
         self.open = self.open.saturating_sub(1);
-        Some((
-            std::mem::replace(&mut wait.told, Told::Nothing),
-            wait.marked,
-        ))
+        let marked = wait.marked;
+        match std::mem::replace(&mut wait.told, Told::Nothing) {
+            Told::Nothing => (None, marked),
+            Told::Same => (was_due, marked),
+            Told::Other(told) => (Some(told), marked),
+        }
     }
 
     /// Drops the places that wait no more, and adds others, for which there is room.
