@@ -1,10 +1,12 @@
 //! The outlet of a client.
 
-ghost use Rattle.std.specs.Prelude.{◌≡◌, ◌≢◌, ◌≤◌, ◌<◌, true, Some, None, [], length, take, drop, vec_len, IsSome, IfOk, OnOk, OnErr, IsTrue};
+ghost use Rattle.std.specs.Prelude.{◌≡◌, ◌≢◌, ◌≤◌, ◌<◌, true, Some, None, [], false, length, take, drop, vec_len, IsSome, IfOk, OnOk, OnErr, IsTrue};
 ghost use Rattle.std.specs.FinSet as set;
 ghost use Rattle.rs_adjin.specs.declared.adj_ins.AdjIns.{AdjIns};
 ghost use Rattle.rs_adjin.specs.AdjIns.{client_count, number_of};
-ghost use Rattle.rs_open.specs.Writing.{server_open};
+ghost use Rattle.rs_open.specs.Writing.{server_open, keepalive};
+ghost use Rattle.rs_open.specs.declared.short.Short.{Short};
+ghost use Rattle.rs_outlet.specs.Next.{note_octets};
 ghost use Rattle.rs_open.specs.declared.short.Limit.TheVariants as limits;
 ghost use Rattle.rs_outlet.specs.Views.{AreNumbered, bare, begun, cleared, finished, if_up, touched_at};
 ghost use Rattle.rs_outlet.specs.Inside.{room_of, batch_of, IsNoNumberOf};
@@ -261,6 +263,10 @@ impl Outlet {
         ensures extended { self.new.extended ≡ self.old.extended }
         ensures rest { self.new ≡ record self.old { told = self.new.told; flight = self.new.flight; beat = self.new.beat; note = self.new.note; marked = self.new.marked } }
         ensures kept { self.old.flight ≢ [] → self.new ≡ self.old }
+        ensures note { (note : Short) → self.old.flight ≡ [] → self.old.note ≡ Some note → self.new ≡ record self.old { flight = note_octets note; note = None } }
+        ensures keepalive { self.old.flight ≡ [] → self.old.note ≡ None → self.old.beat ≡ true → self.new ≡ record self.old { flight = keepalive; beat = false } }
+        ensures update { self.old.flight ≡ [] → self.old.note ≡ None → self.old.beat ≡ false → (self.new.note ≡ None) × (self.new.beat ≡ false) }
+        ensures down { self.old.flight ≡ [] → self.old.note ≡ None → self.old.beat ≡ false → self.old.speech ≡ None → self.new ≡ self.old }
     {
         if self.start < self.end {
             return;

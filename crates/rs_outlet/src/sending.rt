@@ -2,7 +2,10 @@
 //! due, what is to be withdrawn, or the least prefix that is to be announced with all that share its
 //! attributes.
 
-ghost use Rattle.std.specs.Prelude.{◌≡◌, ◌≤◌, Some, vec_len};
+ghost use Rattle.std.specs.Prelude.{◌≡◌, ◌≤◌, true, false, None, Some, take, vec_len};
+ghost use Rattle.rs_open.specs.Writing.{keepalive};
+ghost use Rattle.rs_open.specs.declared.short.Short.{Short};
+ghost use Rattle.rs_outlet.specs.Next.{note_octets};
 ghost use Rattle.std.specs.Vec.{vec_capacity};
 ghost use Rattle.rs_open.specs.Notes.{limit_octets};
 
@@ -23,6 +26,7 @@ const NOTHING: Packed = Packed {
 /// Writes a NOTIFICATION at the front of a message's room, and answers its octets.
 fn put_note(note: &Short, out: &mut Vec<u8>) -> usize
     requires { 4096 ≤ vec_len out.old }
+    ensures octets { take result out.new.items ≡ note_octets note.now }
     ensures most { result ≤ 4096 }
     ensures room { vec_len out.new ≡ vec_len out.old }
 {
@@ -40,6 +44,7 @@ fn put_note(note: &Short, out: &mut Vec<u8>) -> usize
 /// Writes a KEEPALIVE at the front of a message's room, and answers its octets.
 fn put_keepalive(out: &mut Vec<u8>) -> usize
     requires { 4096 ≤ vec_len out.old }
+    ensures octets { take result out.new.items ≡ keepalive }
     ensures most { result ≤ 4096 }
     ensures room { vec_len out.new ≡ vec_len out.old }
 {
@@ -110,7 +115,11 @@ fn put_update(
 impl Outlet {
     /// Begins the next message, if there is one. None is in flight.
     pub(crate) fn begin_next(&mut self)
-        ensures { self.new ≡ record self.old { told = self.new.told; flight = self.new.flight; beat = self.new.beat; note = self.new.note; marked = self.new.marked } }
+        ensures rest { self.new ≡ record self.old { told = self.new.told; flight = self.new.flight; beat = self.new.beat; note = self.new.note; marked = self.new.marked } }
+        ensures note { (note : Short) → self.old.note ≡ Some note → self.new ≡ record self.old { flight = note_octets note; note = None } }
+        ensures keepalive { self.old.note ≡ None → self.old.beat ≡ true → self.new ≡ record self.old { flight = keepalive; beat = false } }
+        ensures update { self.old.note ≡ None → self.old.beat ≡ false → (self.new.note ≡ None) × (self.new.beat ≡ false) }
+        ensures down { self.old.note ≡ None → self.old.beat ≡ false → self.old.speech ≡ None → self.new ≡ self.old }
     {
         if let Some(note) = self.note {
             self.begin_note(&note);
@@ -122,7 +131,7 @@ impl Outlet {
     }
 
     fn begin_note(&mut self, note: &Short)
-        ensures { self.new ≡ record self.old { told = self.new.told; flight = self.new.flight; beat = self.new.beat; note = self.new.note; marked = self.new.marked } }
+        ensures { self.new ≡ record self.old { flight = note_octets note.now; note = None } }
     {
         self.note = None;
         self.start = 0;
@@ -130,7 +139,7 @@ impl Outlet {
     }
 
     fn begin_keepalive(&mut self)
-        ensures { self.new ≡ record self.old { told = self.new.told; flight = self.new.flight; beat = self.new.beat; note = self.new.note; marked = self.new.marked } }
+        ensures { self.new ≡ record self.old { flight = keepalive; beat = false } }
     {
         self.beat = false;
         self.start = 0;
@@ -140,7 +149,7 @@ impl Outlet {
     /// Begins the next UPDATE, if something waits.
     fn begin_update(&mut self, speech: Speech)
         requires { self.old.speech ≡ Some speech }
-        ensures { self.new ≡ record self.old { told = self.new.told; flight = self.new.flight; beat = self.new.beat; note = self.new.note; marked = self.new.marked } }
+        ensures { self.new ≡ record self.old { told = self.new.told; flight = self.new.flight; marked = self.new.marked } }
     {
         self.front.clear();
         self.chosen.clear();
