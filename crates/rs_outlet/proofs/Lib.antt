@@ -1,4 +1,6 @@
 mod Limits
+mod LocByNumber
+mod OneOf
 mod Numbering
 mod Orders
 mod Touches

@@ -31,7 +31,7 @@ unsigned x y = grind (arith, nat_tests)
 pub prefix_eq-cmp : (a b : Prefix) → eq_by_cmp prefix_order a b ≡ prefix_eq a b
 prefix_eq-cmp a b = is_eq-then (nat_cmp a.bits b.bits) (nat_cmp a.len b.len) ∙ (λ i. unsigned a.bits b.bits i && unsigned a.len b.len i)
 
-equal_only : (r : Ordering) → is_eq r ≡ true → r ≡ Equal
+pub equal_only : (r : Ordering) → is_eq r ≡ true → r ≡ Equal
 equal_only Less h = cc h
 equal_only Equal h = refl
 equal_only Greater h = cc h

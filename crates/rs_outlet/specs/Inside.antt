@@ -1,5 +1,5 @@
 -- How the fields of an outlet make what callers see, and what the fields keep.
-use Rattle.std.specs.Prelude.{◌≡◌, ◌≢◌, ℕ, suc, ◌+◌, ◌≤◌, ◌<◌, Bool, true, false, ◌&&◌, Option, None, Some, List, [], ◌∷◌, ◌++◌, slice_range, slice_get, vec_len, if◌then◌else◌}
+use Rattle.std.specs.Prelude.{◌≡◌, ◌≢◌, ℕ, suc, ◌+◌, ◌≤◌, ◌<◌, Bool, true, false, ◌&&◌, Option, None, Some, List, [], ◌∷◌, ◌++◌, option_map, slice_range, slice_get, vec_len, if◌then◌else◌}
 use Rattle.std.specs.List.{AllByRecursion}
 use Rattle.std.specs.Vec.{vec_capacity}
 use Rattle.std.specs.Arc.{arc_value}
@@ -49,6 +49,10 @@ numbers_from n (Some r ∷ rows) = (n, r.prefix) ∷ numbers_from (suc n) rows
 -- each change stands at the number of its prefix
 abbrev pub ArePlaced : List Change → AdjIns → Type 0
 ArePlaced cs ins = AllByRecursion (λ c. number_of ins c.prefix ≡ Some c.number) cs
+
+-- each change has what is due at its prefix
+abbrev pub AreDue : (Prefix → Option (List Attribute)) → List Change → Type 0
+AreDue due cs = AllByRecursion (λ c. option_map arc_value c.due ≡ due c.prefix) cs
 
 -- there is a row for each change
 abbrev pub HaveRows : List Change → ℕ → Type 0

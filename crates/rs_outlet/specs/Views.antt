@@ -1,5 +1,5 @@
 -- What contracts see of an outlet, and what its calls make of that.
-use Rattle.std.specs.Prelude.{◌≡◌, ℕ, Bool, true, false, ◌||◌, List, [], length, nat_lt, Option, Some, None, IsSome, if◌then◌else◌, refl}
+use Rattle.std.specs.Prelude.{◌≡◌, ◌⊎◌, ℕ, Bool, true, false, ◌||◌, List, [], length, nat_lt, Option, Some, None, IsSome, if◌then◌else◌, refl}
 use Rattle.std.specs.List.{AllByRecursion}
 use Rattle.rs_adjin.specs.AdjIns.{number_of}
 use Rattle.rs_adjin.specs.declared.adj_ins.AdjIns.{AdjIns}
@@ -91,6 +91,10 @@ is_whole None = true
 is_whole (Some s) = false
 
 -- ---- turns
+
+-- it is one of two
+abbrev pub IsOneOf : Option (List Attribute) → Option (List Attribute) → Option (List Attribute) → Type 0
+IsOneOf m a b = (m ≡ a) ⊎ (m ≡ b)
 
 -- each touched prefix has what is due there, and nothing else has changed but what is touched and the answer of the last turn
 pub record IsDecided (due : Prefix → Option (List Attribute)) (old new : View) : Type 0 where

@@ -1,14 +1,20 @@
 //! The outlet of a client.
 
-ghost use Rattle.std.specs.Prelude.{◌≡◌, ◌≢◌, ◌≤◌, ◌<◌, true, Some, None, [], false, length, take, drop, vec_len, IsSome, IfOk, OnOk, OnErr, IsTrue};
+ghost use Rattle.std.specs.Prelude.{◌≡◌, ◌≢◌, ◌≤◌, ◌<◌, true, Some, None, [], false, length, take, drop, vec_len, option_map, IsSome, IfOk, OnOk, OnErr, IsTrue};
+ghost use Rattle.std.specs.Arc.{arc_value};
+ghost use Rattle.std.specs.FinMap as map;
 ghost use Rattle.std.specs.FinSet as set;
+ghost use Rattle.rs_octets.specs.Prefixes.{Prefix};
+ghost use Rattle.rs_outlet.specs.declared.answers.Speech.{Speech};
+ghost use Rattle.rs_outlet.specs.Due.{due_to};
+ghost use Rattle.rs_outlet.specs.HeldBy.{tables_of};
 ghost use Rattle.rs_adjin.specs.declared.adj_ins.AdjIns.{AdjIns};
 ghost use Rattle.rs_adjin.specs.AdjIns.{client_count, number_of};
 ghost use Rattle.rs_open.specs.Writing.{server_open, keepalive};
 ghost use Rattle.rs_open.specs.declared.short.Short.{Short};
 ghost use Rattle.rs_outlet.specs.Next.{note_octets};
 ghost use Rattle.rs_open.specs.declared.short.Limit.TheVariants as limits;
-ghost use Rattle.rs_outlet.specs.Views.{AreNumbered, bare, begun, cleared, finished, if_up, touched_at};
+ghost use Rattle.rs_outlet.specs.Views.{AreNumbered, IsOneOf, bare, begun, cleared, finished, if_up, touched_at};
 ghost use Rattle.rs_outlet.specs.Inside.{room_of, batch_of, IsNoNumberOf};
 
 use crate::answers::{Last, Speech, Turned};
@@ -218,6 +224,7 @@ impl Outlet {
         ensures rest { self.new ≡ record self.old { loc = self.new.loc; told = self.new.told; touched = self.new.touched; marked = self.new.marked; numbers = self.new.numbers; last = self.new.last } }
         ensures done { IfOk result (λ turned. self.new.last ≡ Last.Done turned) }
         ensures touched { OnOk result (IsSome self.old.speech → self.new.touched ≡ Some set.empty) }
+        ensures due { (speech : Speech) → self.old.speech ≡ Some speech → AreNumbered self.old ins.now → (p : Prefix) → IsOneOf (map.get self.new.loc p) (map.get self.old.loc p) (due_to (tables_of config.now ins.now) self.old.client speech p) }
         ensures refused { OnErr result (self.new ≡ record self.old { last = Last.Refused }) }
         ensures numbered { AreNumbered self.old ins.now → AreNumbered self.new ins.now }
     {
@@ -309,9 +316,16 @@ impl Outlet {
     }
 
     /// The route of the Loc-RIB for a prefix.
-    pub fn route(&self, prefix: &Prefix, ins: &AdjIns) -> Option<&Arc<Attrs>> {
-        let number = ins.number(*prefix)?;
-        Some(&self.rows.get(number)?.attrs)
+    pub fn route(&self, prefix: &Prefix, ins: &AdjIns) -> Option<&Arc<Attrs>>
+        ensures { AreNumbered self.now ins.now → option_map (λ attrs. arc_value attrs.now) result ≡ map.get self.now.loc prefix.now }
+    {
+        match ins.number(*prefix) {
+            None => None,
+            Some(number) => match self.rows.get(number) {
+                None => None,
+                Some(row) => Some(&row.attrs),
+            },
+        }
     }
 
     /// The routes of the Loc-RIB, by rising prefix.

@@ -1,11 +1,18 @@
 //! A turn: what is touched is decided anew, and what the client was not told so waits.
 
-ghost use Rattle.std.specs.Prelude.{◌≡◌, ◌<◌, ◌≤◌, ℕ, Some, length, vec_len, IfOk, OnOk, OnErr};
+ghost use Rattle.std.specs.Prelude.{◌≡◌, ◌<◌, ◌≤◌, ℕ, List, Option, Some, option_map, length, vec_len, if◌then◌else◌, IfOk, OnOk, OnErr};
+ghost use Rattle.std.specs.Arc.{arc_value};
+ghost use Rattle.std.specs.FinMap as fin;
 ghost use Rattle.std.specs.FinSet as set;
+ghost use Rattle.std.specs.Ordering.{eq_by_cmp};
+ghost use Rattle.rs_octets.specs.Prefixes.{Prefix, prefix_order};
+ghost use Rattle.rs_attrs.specs.Meaning.{Attribute};
 ghost use Rattle.rs_adjin.specs.declared.adj_ins.AdjIns.{AdjIns};
 ghost use Rattle.rs_adjin.specs.AdjIns.{client_count, number_of};
-ghost use Rattle.rs_outlet.specs.Views.{AreNumbered, HaveNumbers};
-ghost use Rattle.rs_outlet.specs.Inside.{ArePlaced, HaveRows, row_at, loc_of, numbers_from};
+ghost use Rattle.rs_outlet.specs.Views.{AreNumbered, HaveNumbers, IsOneOf};
+ghost use Rattle.rs_outlet.specs.Due.{due_to};
+ghost use Rattle.rs_outlet.specs.HeldBy.{held_by};
+ghost use Rattle.rs_outlet.specs.Inside.{ArePlaced, AreDue, HaveRows, row_at, loc_of, numbers_from};
 
 use crate::answers::{Last, Speech, Turned};
 use crate::deciding::{Sources, decide};
@@ -57,7 +64,8 @@ fn decide_one(
     requires number { number_of sources.now.ins.now prefix ≡ Some number }
     requires client { sources.now.client < length sources.now.config.now.clients }
     requires count { client_count sources.now.ins.now ≡ length sources.now.config.now.clients }
-    ensures { ArePlaced changes.old.items sources.now.ins.now → ArePlaced changes.new.items sources.now.ins.now }
+    ensures placed { ArePlaced changes.old.items sources.now.ins.now → ArePlaced changes.new.items sources.now.ins.now }
+    ensures due { AreDue (due_to (held_by sources.now) sources.now.client speech) changes.old.items → AreDue (due_to (held_by sources.now) sources.now.client speech) changes.new.items }
 {
     let due = decide(alloc, sources, speech, number, &prefix, ranks)?;
     if !is_due(rows.get(number), due.as_ref()) {
@@ -82,7 +90,8 @@ fn decide_at(
 ) -> Result<(), AllocError>
     requires client { sources.now.client < length sources.now.config.now.clients }
     requires count { client_count sources.now.ins.now ≡ length sources.now.config.now.clients }
-    ensures { ArePlaced changes.old.items sources.now.ins.now → ArePlaced changes.new.items sources.now.ins.now }
+    ensures placed { ArePlaced changes.old.items sources.now.ins.now → ArePlaced changes.new.items sources.now.ins.now }
+    ensures due { AreDue (due_to (held_by sources.now) sources.now.client speech) changes.old.items → AreDue (due_to (held_by sources.now) sources.now.client speech) changes.new.items }
 {
     let Some(prefix) = sources.ins.prefix(number) else {
         return Ok(());
@@ -100,7 +109,8 @@ fn decide_touched(
 ) -> Result<Decided, AllocError>
     requires client { sources.now.client < length sources.now.config.now.clients }
     requires count { client_count sources.now.ins.now ≡ length sources.now.config.now.clients }
-    ensures { IfOk result (λ decided. ArePlaced decided.changes.items sources.now.ins.now) }
+    ensures placed { IfOk result (λ decided. ArePlaced decided.changes.items sources.now.ins.now) }
+    ensures due { IfOk result (λ decided. AreDue (due_to (held_by sources.now) sources.now.client speech) decided.changes.items) }
 {
     let mut ranks = Vec::new(alloc);
     let mut changes = Vec::new(alloc);
@@ -134,7 +144,8 @@ fn decide_number(
 ) -> Result<bool, AllocError>
     requires client { sources.now.client < length sources.now.config.now.clients }
     requires count { client_count sources.now.ins.now ≡ length sources.now.config.now.clients }
-    ensures { ArePlaced changes.old.items sources.now.ins.now → ArePlaced changes.new.items sources.now.ins.now }
+    ensures placed { ArePlaced changes.old.items sources.now.ins.now → ArePlaced changes.new.items sources.now.ins.now }
+    ensures due { AreDue (due_to (held_by sources.now) sources.now.client speech) changes.old.items → AreDue (due_to (held_by sources.now) sources.now.client speech) changes.new.items }
 {
     let Some(prefix) = sources.ins.prefix(number) else {
         return Ok(false);
@@ -156,7 +167,8 @@ fn decide_all(
 ) -> Result<Decided, AllocError>
     requires client { sources.now.client < length sources.now.config.now.clients }
     requires count { client_count sources.now.ins.now ≡ length sources.now.config.now.clients }
-    ensures { IfOk result (λ decided. ArePlaced decided.changes.items sources.now.ins.now) }
+    ensures placed { IfOk result (λ decided. ArePlaced decided.changes.items sources.now.ins.now) }
+    ensures due { IfOk result (λ decided. AreDue (due_to (held_by sources.now) sources.now.client speech) decided.changes.items) }
 {
     let mut ranks = Vec::new(alloc);
     let mut changes = Vec::new(alloc);
@@ -236,6 +248,7 @@ fn list_wait(fresh: &mut Vec<Wait>, wait: Option<Wait>) {
 fn carry_out(rows: &mut Rows, waits: &mut Waits, fresh: &mut Vec<Wait>, change: Change)
     requires { change.number < vec_len rows.old.rows }
     ensures room { vec_len rows.new.rows ≡ vec_len rows.old.rows }
+    ensures loc { (ins : AdjIns) → number_of ins change.prefix ≡ Some change.number → HaveNumbers (numbers_from 0 rows.old.rows.items) ins → (q : Prefix) → fin.get (loc_of rows.new.rows.items) q ≡ (if eq_by_cmp prefix_order q change.prefix then option_map arc_value change.due else fin.get (loc_of rows.old.rows.items) q) }
     ensures numbered { (ins : AdjIns) → number_of ins change.prefix ≡ Some change.number → HaveNumbers (numbers_from 0 rows.old.rows.items) ins → HaveNumbers (numbers_from 0 rows.new.rows.items) ins }
 {
     let Change {
@@ -278,7 +291,8 @@ fn make_room(
 /// Carries out the changes, for which there is room.
 fn commit(rows: &mut Rows, waits: &mut Waits, changes: Vec<Change>, mut fresh: Vec<Wait>)
     requires { HaveRows changes.items (vec_len rows.old.rows) }
-    ensures { (ins : AdjIns) → ArePlaced changes.items ins → HaveNumbers (numbers_from 0 rows.old.rows.items) ins → HaveNumbers (numbers_from 0 rows.new.rows.items) ins }
+    ensures loc { (ins : AdjIns) (due : Prefix → Option (List Attribute)) → ArePlaced changes.items ins → AreDue due changes.items → HaveNumbers (numbers_from 0 rows.old.rows.items) ins → (q : Prefix) → IsOneOf (fin.get (loc_of rows.new.rows.items) q) (fin.get (loc_of rows.old.rows.items) q) (due q) }
+    ensures numbered { (ins : AdjIns) → ArePlaced changes.items ins → HaveNumbers (numbers_from 0 rows.old.rows.items) ins → HaveNumbers (numbers_from 0 rows.new.rows.items) ins }
 {
     for change in changes {
         carry_out(rows, waits, &mut fresh, change);
@@ -291,7 +305,8 @@ impl Outlet {
     fn decide(&self, speech: Speech, sources: &Sources<'_>) -> Result<Decided, AllocError>
         requires client { sources.now.client < length sources.now.config.now.clients }
         requires count { client_count sources.now.ins.now ≡ length sources.now.config.now.clients }
-        ensures { IfOk result (λ decided. ArePlaced decided.changes.items sources.now.ins.now) }
+        ensures placed { IfOk result (λ decided. ArePlaced decided.changes.items sources.now.ins.now) }
+        ensures due { IfOk result (λ decided. AreDue (due_to (held_by sources.now) sources.now.client speech) decided.changes.items) }
     {
         if self.touched.is_all() {
             decide_all(self.alloc, sources, speech, &self.rows)
@@ -314,6 +329,7 @@ impl Outlet {
         ensures rest { self.new ≡ record self.old { loc = self.new.loc; told = self.new.told; touched = self.new.touched; marked = self.new.marked; numbers = self.new.numbers; last = self.new.last } }
         ensures done { IfOk result (λ turned. self.new.last ≡ Last.Done turned) }
         ensures touched { OnOk result (self.new.touched ≡ Some set.empty) }
+        ensures due { OnOk result (AreNumbered self.old sources.now.ins.now → (p : Prefix) → IsOneOf (fin.get self.new.loc p) (fin.get self.old.loc p) (due_to (held_by sources.now) sources.now.client speech p)) }
         ensures refused { OnErr result (self.new ≡ self.old) }
         ensures numbered { AreNumbered self.old sources.now.ins.now → AreNumbered self.new sources.now.ins.now }
     {

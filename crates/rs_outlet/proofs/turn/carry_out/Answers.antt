@@ -1,8 +1,39 @@
-use Rattle.std.proofs.Common.{◌≡◌, None, Some, sym, subst, slice_set}
+use Rattle.std.proofs.Common.{◌≡◌, ◌<◌, ◌∙◌, ap, cond, option_map, length, None, Some, sym, subst, slice_set, arith}
+use Rattle.std.specs.FinMap as fin
+use Rattle.std.specs.Arc.{arc_value}
 use Rattle.rs_outlet.specs.Views.{HaveNumbers}
-use Rattle.rs_outlet.specs.Inside.{numbers_from}
+use Rattle.rs_outlet.specs.Inside.{numbers_from, loc_of}
 use Rattle.rs_outlet.proofs.Numbering.{numbers_write, numbers_erase}
+use Rattle.rs_outlet.proofs.LocByNumber.{same, numbered, loc_set}
+use Rattle.rs_outlet.proofs.OneOf.{cond_twice}
+use Rattle.rs_adjin.specs.AdjIns.{number_of}
+use Rattle.rs_adjin.proofs.Rows.{some_is}
+use Rattle.rs_outlet.specs.declared.rows.Row.{Row}
 use Rattle.rs_outlet.proofs.turn.carry_out.Goals as goal
+
+pub returns-in-None-clause-loc : goal.returns-in-None-clause-loc
+returns-in-None-clause-loc c = λ ins is h q.
+    let rows = c.args.rows.now.rows.items in
+    let below : c.args.change.number < length rows = omega (arith, c.requires, c.args.rows.now.rows.ok) in
+    ap (λ xs. fin.get (loc_of xs) q) c.take-was.ensures.rows
+    ∙ loc_set ins rows c.args.change.number None below c.args.change.prefix (numbered ins rows h) is (λ r e. cc e) q
+    ∙ ap (λ o. cond (same q c.args.change.prefix) (option_map arc_value o) (fin.get (loc_of rows) q)) (sym c.in-None.is)
+
+pub returns-in-Some-clause-loc : goal.returns-in-Some-clause-loc
+returns-in-Some-clause-loc c = λ ins is h q.
+    let rows = c.args.rows.now.rows.items in
+    let n = c.args.change.number in
+    let p = c.args.change.prefix in
+    let mid = c.take-was.new.self.rows.items in
+    let below : n < length rows = omega (arith, c.requires, c.args.rows.now.rows.ok) in
+    let again : n < length mid = omega (arith, c.requires, c.take-was.ensures.room, c.take-was.new.self.rows.ok) in
+    let kept : HaveNumbers (numbers_from 0 mid) ins = subst (λ xs. HaveNumbers (numbers_from 0 xs) ins) (sym c.take-was.ensures.rows) (numbers_erase ins rows n h) in
+    let erased = ap (λ xs. fin.get (loc_of xs) q) c.take-was.ensures.rows ∙ loc_set ins rows n None below p (numbered ins rows h) is (λ r e. cc e) q in
+    ap (λ xs. fin.get (loc_of xs) q) c.put.ensures.rows
+    ∙ loc_set ins mid n _ again p (numbered ins mid kept) is (λ r e. ap (λ (t : Row). number_of ins t.prefix) (sym (some_is _ r e)) ∙ is) q
+    ∙ ap (cond (same q p) _) erased
+    ∙ cond_twice (same q p) _ _ _
+    ∙ ap (λ o. cond (same q p) (option_map arc_value o) (fin.get (loc_of rows) q)) (sym c.in-Some.is)
 
 pub returns-in-None-clause-numbered : goal.returns-in-None-clause-numbered
 returns-in-None-clause-numbered c = λ ins is h.

@@ -1,16 +1,28 @@
-use Rattle.std.proofs.Common.{◌≡◌, ◌∷◌, ◌∙◌, subst, vec_len}
+use Rattle.std.proofs.Common.{◌≡◌, ◌∷◌, ◌∙◌, subst, vec_len, refl, inl, Option, List}
 use Rattle.std.specs.Vec.Iter.{into_iter_items}
-use Rattle.rs_outlet.specs.Inside.{ArePlaced, HaveRows}
+use Rattle.rs_octets.specs.Prefixes.{Prefix}
+use Rattle.rs_attrs.specs.Meaning.{Attribute}
+use Rattle.rs_outlet.specs.Inside.{ArePlaced, AreDue, HaveRows}
+use Rattle.rs_outlet.proofs.LocByNumber.{same}
+use Rattle.rs_outlet.proofs.OneOf.{one_more}
 use Rattle.rs_outlet.proofs.turn.commit.Goals as goal
 
 pub loop-change-preserved : goal.loop-change-preserved
 loop-change-preserved c =
     let rest = into_iter_items c.next.new.self in
-    let are : into_iter_items c.loop-change.change-iterator ≡ c.in-Some.change ∷ rest = c.in-Some.ensures.steps.0 in
-    let rows : HaveRows (c.in-Some.change ∷ rest) (vec_len c.args.rows.now.rows) = subst (λ cs. HaveRows cs (vec_len c.args.rows.now.rows)) are c.loop-change.invariant.rows in
+    let x = c.in-Some.change in
+    let inv = c.loop-change.invariant in
+    let are : into_iter_items c.loop-change.change-iterator ≡ x ∷ rest = c.in-Some.ensures.steps.0 in
+    let rows : HaveRows (x ∷ rest) (vec_len c.args.rows.now.rows) = subst (λ cs. HaveRows cs (vec_len c.args.rows.now.rows)) are inv.rows in
     record {
-      room = c.carry_out.ensures.room ∙ c.loop-change.invariant.room;
+      room = c.carry_out.ensures.room ∙ inv.room;
       rows = rows.1;
-      placed = λ ins p. (subst (λ cs. ArePlaced cs ins) are (c.loop-change.invariant.placed ins p)).1;
-      numbered = λ ins p h. c.carry_out.ensures.numbered ins ((subst (λ cs. ArePlaced cs ins) are (c.loop-change.invariant.placed ins p)).0) (c.loop-change.invariant.numbered ins p h);
+      placed = λ ins p. (subst (λ cs. ArePlaced cs ins) are (inv.placed ins p)).1;
+      due = λ due d. (subst (AreDue due) are (inv.due due d)).1;
+      loc = λ ins due p d h q.
+          one_more due x.prefix q _ _ _ _ (same q x.prefix) refl
+          (c.carry_out.ensures.loc ins ((subst (λ cs. ArePlaced cs ins) are (inv.placed ins p)).0) (inv.numbered ins p h) q)
+          ((subst (AreDue due) are (inv.due due d)).0)
+          (inv.loc ins due p d h q);
+      numbered = λ ins p h. c.carry_out.ensures.numbered ins ((subst (λ cs. ArePlaced cs ins) are (inv.placed ins p)).0) (inv.numbered ins p h);
     }
