@@ -14,7 +14,7 @@ ghost use Rattle.rs_open.specs.Writing.{server_open, keepalive};
 ghost use Rattle.rs_open.specs.declared.short.Short.{Short};
 ghost use Rattle.rs_outlet.specs.Next.{note_octets};
 ghost use Rattle.rs_open.specs.declared.short.Limit.TheVariants as limits;
-ghost use Rattle.rs_outlet.specs.Views.{AreNumbered, IsOneOf, bare, begun, cleared, finished, if_up, touched_at};
+ghost use Rattle.rs_outlet.specs.Views.{AreNumbered, IsOneOf, IsQuiet, bare, begun, cleared, finished, if_up, touched_at};
 ghost use Rattle.rs_outlet.specs.Inside.{room_of, batch_of, IsNoNumberOf};
 
 use crate::answers::{Last, Speech, Turned};
@@ -297,12 +297,22 @@ impl Outlet {
     }
 
     /// Whether nothing is left to do.
-    pub fn is_drained(&self) -> bool {
-        self.speech.is_some()
-            && self.touched.is_empty()
-            && self.end <= self.start
-            && !self.beat
-            && self.waits.len() == 0
+    pub fn is_drained(&self) -> bool
+        ensures { IsTrue result → IsQuiet self.now }
+    {
+        if self.speech.is_none() {
+            return false;
+        }
+        if !self.touched.is_empty() {
+            return false;
+        }
+        if self.start < self.end {
+            return false;
+        }
+        if self.beat {
+            return false;
+        }
+        self.waits.len() == 0
     }
 
     /// Whether the row of a number has no route, and the number is not touched by itself.

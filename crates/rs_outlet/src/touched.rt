@@ -3,7 +3,8 @@
 //! The set goes by the numbers of the prefixes. Those are given out by the Adj-RIBs-In, so that no
 //! member can choose prefixes that make it slow.
 
-ghost use Rattle.std.specs.Prelude.{◌≡◌, ◌≤◌, ◌+◌, [], Some, true, false, IfOk};
+ghost use Rattle.std.specs.Prelude.{◌≡◌, ◌≤◌, ◌+◌, [], Some, true, false, IsTrue, IfOk};
+ghost use Rattle.std.specs.FinSet as set;
 ghost use Rattle.std.specs.HashMap.{hash_map_len, spare};
 ghost use Rattle.rs_adjin.specs.declared.adj_ins.AdjIns.{AdjIns};
 ghost use Rattle.rs_adjin.specs.AdjIns.{number_of};
@@ -80,8 +81,13 @@ impl Touched {
         self.all
     }
 
-    pub(crate) fn is_empty(&self) -> bool {
-        !self.all && self.prefixes.is_empty()
+    pub(crate) fn is_empty(&self) -> bool
+        ensures { IsTrue result → touched_of self.now.all self.now.prefixes.entries ≡ Some set.empty }
+    {
+        if self.all {
+            return false;
+        }
+        self.prefixes.is_empty()
     }
 
     /// Whether the prefix of a number was touched by itself.
