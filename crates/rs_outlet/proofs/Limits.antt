@@ -1,5 +1,5 @@
 -- The room for a message that a client takes.
-use Rattle.std.proofs.Common.{◌≡◌, ◌≤◌, ℕ, Bool, true, false, Option, Some, arith, refl}
+use Rattle.std.proofs.Common.{◌≡◌, ◌≤◌, Bool, true, false, arith, refl}
 use Rattle.rs_open.specs.Notes.{limit_octets}
 use Rattle.rs_open.specs.declared.short.Limit.{Limit}
 use Rattle.rs_open.specs.declared.short.Limit.TheVariants as limits

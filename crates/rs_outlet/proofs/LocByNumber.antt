@@ -11,7 +11,7 @@ use Rattle.rs_adjin.specs.declared.adj_ins.AdjIns.{AdjIns}
 use Rattle.rs_adjin.specs.AdjIns.{number_of}
 use Rattle.rs_adjin.proofs.Rows.{some_is, none_some, number_is, set_here, set_apart, some_row}
 use Rattle.rs_outlet.specs.declared.rows.Row.{Row}
-use Rattle.rs_outlet.specs.Views.{Table, HaveNumbers}
+use Rattle.rs_outlet.specs.Views.{HaveNumbers}
 use Rattle.rs_outlet.specs.Inside.{joined, row_at, shown, loc_of, numbers_from}
 use Rattle.rs_outlet.proofs.Numbering.{number_once}
 use Rattle.rs_outlet.proofs.Orders.{prefixes_total, exact_prefixes}

@@ -1,6 +1,6 @@
 -- Prefixes and the numbers that the Adj-RIBs-In gave to them.
-use Rattle.std.proofs.Common.{◌≡◌, ℕ, zero, suc, ◌+◌, ◌≢◌, List, [], ◌∷◌, ◌++◌, Option, None, Some, slice_set, sym, ap, refl, ◌∙◌, subst, arith}
-use Rattle.std.specs.Prelude.{slice_get, ◌<◌, ◌≤◌}
+use Rattle.std.proofs.Common.{◌≡◌, ℕ, zero, suc, ◌+◌, List, [], ◌∷◌, ◌++◌, Option, None, Some, slice_set, sym, ap, refl, ◌∙◌, subst, arith}
+use Rattle.std.specs.Prelude.{◌<◌, ◌≤◌}
 use Rattle.std.specs.FinMap as fin
 use Rattle.std.specs.Arc.{arc_value}
 use Rattle.rs_adjin.proofs.Rows.{some_is}

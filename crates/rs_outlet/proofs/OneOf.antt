@@ -1,5 +1,5 @@
 -- What a row written makes of the Loc-RIB.
-use Rattle.std.proofs.Common.{◌≡◌, Bool, true, false, cond, ◌⊎◌, inl, inr, Option, None, Some, List, refl, sym, ap, ◌∙◌, subst}
+use Rattle.std.proofs.Common.{◌≡◌, Bool, true, false, cond, inr, Option, List, refl, sym, ap, ◌∙◌, subst}
 use Rattle.rs_octets.specs.Prefixes.{Prefix}
 use Rattle.rs_attrs.specs.Meaning.{Attribute}
 use Rattle.rs_outlet.specs.Views.{IsOneOf}

@@ -1,5 +1,5 @@
 -- The touched prefixes, found by their numbers.
-use Rattle.std.proofs.Common.{◌≡◌, ◌<◌, ◌≤◌, ℕ, Bool, true, false, cond, ◌||◌, is_some, Option, None, Some, Result, Ok, Err, IfOk, is_ok, IsSome, List, [], ◌∷◌, length, map, suc, refl, sym, ap, ◌∙◌, subst, arith, nat_eq}
+use Rattle.std.proofs.Common.{◌≡◌, ℕ, Bool, true, false, cond, ◌||◌, is_some, Option, None, Some, Result, Ok, Err, IfOk, is_ok, IsSome, List, [], ◌∷◌, length, suc, refl, sym, ap, ◌∙◌, arith, nat_eq}
 use mathlib.Core.Bool.{true≢false}
 use Rattle.std.specs.List.{list_any, IsDistinct, AllByRecursion}
 use Rattle.std.specs.List.Sorted.{IsPermutation}
@@ -7,10 +7,9 @@ use Rattle.std.specs.Map.{lookup, keys_of}
 use Rattle.std.specs.Ordering.{is_eq}
 use Rattle.std.proofs.lemmas.Cmp.{tied_itself}
 use Rattle.std.proofs.lemmas.Bool.Decides.{nat_tests}
-use Rattle.std.proofs.lemmas.Map.Keys.{IsDistinct-head, IsDistinct-tail, IsDistinct-cons}
 use Rattle.std.proofs.lemmas.List.Elements.{All-from_recursion, recursion_from_All}
 use Rattle.std.proofs.lemmas.List.Sorted.{All-permutation}
-use Rattle.rs_octets.specs.Prefixes.{Prefix, prefix_order}
+use Rattle.rs_octets.specs.Prefixes.{Prefix}
 use Rattle.rs_adjin.specs.declared.adj_ins.AdjIns.{AdjIns}
 use Rattle.rs_adjin.specs.AdjIns.{number_of}
 use Rattle.rs_adjin.proofs.Rows.{some_is}
@@ -18,7 +17,7 @@ use Rattle.std.specs.Option.{MatchOption}
 use Rattle.rs_outlet.specs.declared.answers.Speech.{Speech}
 use Rattle.rs_outlet.specs.Views.{View, Prefixes, HaveNumbers, if_up, with_touch, touched_at}
 use Rattle.rs_outlet.specs.Inside.{prefixes_in, IsNoNumberOf}
-use Rattle.rs_outlet.proofs.Orders.{prefixes_total, exact_prefixes}
+use Rattle.rs_outlet.proofs.Orders.{prefixes_total}
 use Rattle.rs_outlet.proofs.Numbering.{number_once}
 use Rattle.rs_outlet.proofs.Touches.{prefix_eq, prefix_eq-cmp, prefix_eq-is}
 

@@ -1,14 +1,13 @@
 -- The touched prefixes as a hash set and as a finite set.
-use Rattle.std.proofs.Common.{◌<◌, ◌≤◌, Option, None, Some, Result, Ok, Err, OnOk, is_ok, nat_lt, ◌≡◌, ℕ, Bool, true, false, cond, ◌&&◌, ◌||◌, List, [], ◌∷◌, length, ◌+◌, refl, sym, ap, ◌∙◌, arith, nat_eq}
+use Rattle.std.proofs.Common.{◌<◌, ◌≤◌, None, Some, Result, Ok, Err, OnOk, is_ok, nat_lt, ◌≡◌, ℕ, Bool, true, false, cond, ◌&&◌, ◌||◌, List, [], ◌∷◌, length, ◌+◌, refl, sym, ap, ◌∙◌, arith, nat_eq}
 use mathlib.Core.Bool.{true≢false}
 use Rattle.rs_outlet.specs.Views.{with_touch, Prefixes}
 use Rattle.std.specs.List.{list_any, IsDistinct, AllByRecursion}
 use Rattle.std.specs.FinSet as set
-use Rattle.std.specs.FinMap as fin
 use Rattle.std.specs.Option.{unwrap_or}
 use Rattle.std.proofs.lemmas.Cmp.{tied_itself}
 use Rattle.std.specs.Ordering.{eq_by_cmp, is_eq, nat_cmp, ordering_then}
-use Rattle.std.specs.Cmp.{IsEquivalence, eq_by_cmp_equiv}
+use Rattle.std.specs.Cmp.{eq_by_cmp_equiv}
 use Rattle.std.specs.declared.cmp.Ordering.{Ordering}
 use Rattle.std.specs.declared.cmp.Ordering.TheVariants.{Less, Equal, Greater}
 use Rattle.std.proofs.lemmas.Bool.Decides.{nat_tests}

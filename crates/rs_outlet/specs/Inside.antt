@@ -1,12 +1,12 @@
 -- How the fields of an outlet make what callers see, and what the fields keep.
-use Rattle.std.specs.Prelude.{◌≡◌, ◌≢◌, ℕ, suc, ◌+◌, ◌≤◌, ◌<◌, Bool, true, false, ◌&&◌, Option, None, Some, List, [], ◌∷◌, ◌++◌, option_map, slice_range, slice_get, vec_len, if◌then◌else◌}
+use Rattle.std.specs.Prelude.{◌≡◌, ◌≢◌, ℕ, suc, ◌+◌, ◌≤◌, ◌<◌, Bool, true, false, Option, None, Some, List, [], ◌∷◌, ◌++◌, option_map, slice_range, slice_get, vec_len, if◌then◌else◌}
 use Rattle.std.specs.List.{AllByRecursion}
 use Rattle.std.specs.Vec.{vec_capacity}
 use Rattle.std.specs.Arc.{arc_value}
-use Rattle.std.specs.HashMap.{HashMap, hash_map_len, spare}
+use Rattle.std.specs.HashMap.{hash_map_len, spare}
 use Rattle.std.specs.FinMap as fin
 use Rattle.std.specs.FinSet as set
-use Rattle.rs_octets.specs.Prefixes.{Prefix, prefix_order}
+use Rattle.rs_octets.specs.Prefixes.{Prefix}
 use Rattle.rs_attrs.specs.Meaning.{Attribute}
 use Rattle.rs_open.specs.declared.short.Limit.TheVariants as limits
 use Rattle.rs_outlet.specs.declared.answers.Speech.{Speech}

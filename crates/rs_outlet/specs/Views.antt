@@ -1,5 +1,5 @@
 -- What contracts see of an outlet, and what its calls make of that.
-use Rattle.std.specs.Prelude.{◌≡◌, ◌⊎◌, ℕ, Bool, true, false, ◌||◌, List, [], length, nat_lt, Option, Some, None, IsSome, if◌then◌else◌, refl}
+use Rattle.std.specs.Prelude.{◌≡◌, ◌⊎◌, ℕ, Bool, true, false, ◌||◌, List, [], nat_lt, Option, Some, None, IsSome, if◌then◌else◌, refl}
 use Rattle.std.specs.List.{AllByRecursion}
 use Rattle.rs_adjin.specs.AdjIns.{number_of}
 use Rattle.rs_adjin.specs.declared.adj_ins.AdjIns.{AdjIns}
@@ -13,7 +13,7 @@ use Rattle.rs_attrs.specs.Meaning.{Attribute}
 use Rattle.rs_open.specs.declared.short.Short.{Short}
 use Rattle.rs_outlet.specs.declared.answers.Speech.{Speech}
 use Rattle.rs_outlet.specs.declared.answers.Last.{Last}
-use Rattle.rs_outlet.specs.declared.answers.Last.TheVariants.{Done, Refused}
+use Rattle.rs_outlet.specs.declared.answers.Last.TheVariants.{Done}
 use Rattle.rs_outlet.specs.declared.answers.Turned.{Turned}
 
 abbrev pub Table : Type 0

@@ -1,4 +1,4 @@
-use Rattle.std.proofs.Common.{◌≡◌, ◌<◌, ℕ, List, Option, Some, None, length, map, refl, sym, ap, ◌∙◌, subst, option_map, option_and_then, slice_get}
+use Rattle.std.proofs.Common.{◌≡◌, ◌<◌, List, Some, None, map, refl, sym, ap, ◌∙◌, subst, option_map, option_and_then, slice_get}
 use Rattle.std.specs.Arc.{arc_value}
 use Rattle.std.proofs.lemmas.Option.{slice_get_read}
 use Rattle.rs_adjin.specs.AdjIns.{client_count, held_of}

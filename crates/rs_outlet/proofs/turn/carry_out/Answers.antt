@@ -1,4 +1,4 @@
-use Rattle.std.proofs.Common.{◌≡◌, ◌<◌, ◌∙◌, ap, cond, option_map, length, None, Some, sym, subst, slice_set, arith}
+use Rattle.std.proofs.Common.{◌<◌, ◌∙◌, ap, cond, option_map, length, None, sym, subst, arith}
 use Rattle.std.specs.FinMap as fin
 use Rattle.std.specs.Arc.{arc_value}
 use Rattle.rs_outlet.specs.Views.{HaveNumbers}

@@ -1,7 +1,5 @@
-use Rattle.std.proofs.Common.{◌≡◌, ◌∷◌, ◌∙◌, subst, vec_len, refl, inl, Option, List}
+use Rattle.std.proofs.Common.{◌≡◌, ◌∷◌, ◌∙◌, subst, vec_len, refl}
 use Rattle.std.specs.Vec.Iter.{into_iter_items}
-use Rattle.rs_octets.specs.Prefixes.{Prefix}
-use Rattle.rs_attrs.specs.Meaning.{Attribute}
 use Rattle.rs_outlet.specs.Inside.{ArePlaced, AreDue, HaveRows}
 use Rattle.rs_outlet.proofs.LocByNumber.{same}
 use Rattle.rs_outlet.proofs.OneOf.{one_more}

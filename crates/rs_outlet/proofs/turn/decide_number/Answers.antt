@@ -1,4 +1,4 @@
-use Rattle.std.proofs.Common.{◌≡◌, Some, sym, ◌∙◌}
+use Rattle.std.proofs.Common.{sym, ◌∙◌}
 use Rattle.rs_outlet.proofs.Numbering.{number_back}
 use Rattle.rs_outlet.proofs.turn.decide_number.Goals as goal
 

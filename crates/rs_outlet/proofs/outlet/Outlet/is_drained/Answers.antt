@@ -1,4 +1,4 @@
-use Rattle.std.proofs.Common.{◌≡◌, arith, refl, subst}
+use Rattle.std.proofs.Common.{arith, refl, subst}
 use Rattle.rs_outlet.specs.Views.{IsQuiet}
 use Rattle.rs_outlet.proofs.Ranges.{empty_range}
 use Rattle.rs_outlet.proofs.outlet.Outlet.is_drained.Goals as goal

@@ -1,10 +1,10 @@
-use Rattle.std.proofs.Common.{◌≡◌, ◌∙◌, ap, sym, subst, ℕ, None, Some, option_map}
+use Rattle.std.proofs.Common.{◌≡◌, ◌∙◌, ap, sym, subst, ℕ, None, Some}
 use Rattle.std.specs.Prelude.{option_copied}
 use Rattle.std.specs.FinMap as map
 use Rattle.rs_octets.specs.Prefixes.{Prefix}
 use Rattle.rs_adjin.specs.AdjIns.{number_of}
 use Rattle.rs_outlet.specs.Views.{View, AreNumbered, HaveNumbers}
-use Rattle.rs_outlet.specs.Inside.{numbers_from, loc_of, shown}
+use Rattle.rs_outlet.specs.Inside.{numbers_from, shown}
 use Rattle.rs_outlet.proofs.Numbering.{all_front}
 use Rattle.rs_outlet.proofs.LocByNumber.{numbered, by_number}
 use Rattle.rs_outlet.proofs.outlet.Outlet.route.Goals as goal

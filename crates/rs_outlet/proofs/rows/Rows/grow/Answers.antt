@@ -1,4 +1,4 @@
-use Rattle.std.proofs.Common.{◌≡◌, ap, ◌∙◌, arith}
+use Rattle.std.proofs.Common.{ap, ◌∙◌, arith}
 use Rattle.rs_outlet.specs.Inside.{row_at, loc_of, numbers_from}
 use Rattle.rs_outlet.proofs.Numbering.{push_row, push_loc, push_numbers}
 use Rattle.rs_outlet.proofs.rows.Rows.grow.Goals as goal

@@ -1,4 +1,4 @@
-use Rattle.std.proofs.Common.{◌≡◌, ◌<◌, ◌≤◌, true, false, is_some, None, Some, ◌∷◌, length, ap, sym, ◌∙◌, arith, nat_eq}
+use Rattle.std.proofs.Common.{◌<◌, ◌≤◌, ◌∷◌, length, ap, sym, ◌∙◌, arith, nat_eq}
 use Rattle.std.specs.Map.{lookup}
 use Rattle.rs_outlet.specs.Views.{with_touch, HaveNumbers}
 use Rattle.rs_outlet.specs.Inside.{touched_of, prefixes_in}

@@ -1,4 +1,4 @@
-use Rattle.std.proofs.Common.{◌≡◌, sym, ◌∙◌}
+use Rattle.std.proofs.Common.{sym, ◌∙◌}
 use Rattle.rs_outlet.proofs.TouchedNumbers.{none_found}
 use Rattle.rs_outlet.proofs.touched.Touched.has.Goals as goal
 

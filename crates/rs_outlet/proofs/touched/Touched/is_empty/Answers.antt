@@ -1,4 +1,4 @@
-use Rattle.std.proofs.Common.{◌≡◌, ◌∙◌, ap}
+use Rattle.std.proofs.Common.{◌∙◌, ap}
 use Rattle.rs_outlet.specs.Inside.{touched_of, prefixes_in}
 use Rattle.rs_outlet.proofs.Touches.{empty_touched}
 use Rattle.rs_outlet.proofs.TouchedNumbers.{length-prefixes_in}
