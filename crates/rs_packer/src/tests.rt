@@ -149,16 +149,19 @@ fn announces_only_where_the_first_fits(rt: HostRuntime) -> Result<(), Fail> {
     let attrs = attributes(rt.alloc())?;
     let list = prefixes(rt.alloc(), 3)?;
     assert_eq!(rt; list.len(), 3);
-    let mut out = [7; 60];
-    assert!(rt; try_pack_announced(&attrs, Mode::Four, &list, &mut out[..46]).is_none());
-    assert!(rt; try_pack_announced(&attrs, Mode::Four, &[], &mut out).is_none());
-    assert!(rt; out.iter().all(|octet| *octet == 7));
-    let packed = try_pack_announced(&attrs, Mode::Four, &list, &mut out[..47]);
+    let mut short = [7; 46];
+    let packed = try_pack_announced(&attrs, Mode::Four, &list, &mut short);
+    assert!(rt; packed.is_none());
+    assert!(rt; short.iter().all(|octet| *octet == 7));
+    let mut exact = [7; 47];
+    let packed = try_pack_announced(&attrs, Mode::Four, &[], &mut exact);
+    assert!(rt; packed.is_none());
+    let packed = try_pack_announced(&attrs, Mode::Four, &list, &mut exact);
     assert!(rt; has(packed, 47, 1));
-    assert!(rt; out[47..].iter().all(|octet| *octet == 7));
-    let packed = try_pack_announced(&attrs, Mode::Four, &list, &mut out[..54]);
+    let mut out = [7; 54];
+    let packed = try_pack_announced(&attrs, Mode::Four, &list, &mut out);
     assert!(rt; has(packed, 51, 2));
-    assert!(rt; out[43..51].starts_with(b"\x18\x0a\x00\x00\x18\x0a\x00\x01"));
+    assert!(rt; out[43..].starts_with(b"\x18\x0a\x00\x00\x18\x0a\x00\x01\x07\x07\x07"));
     Ok(())
 }
 
