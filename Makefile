@@ -2,9 +2,9 @@
 # It stands on `rt`, the command of the Rattle toolchain, and on Python 3.
 
 .DEFAULT_GOAL := help
-.PHONY: help demo build test attack examples clean
+.PHONY: help demo build serve test attack examples clean
 
-PROGRAMS := rs_replay
+PROGRAMS := rs_replay rs_served
 
 help: ## list what can be done
 	@grep -hE '^[a-z]+:.*##' $(MAKEFILE_LIST) | sed -E 's/^([a-z]+):.*## /  make \1\t/' | expand -t 18
@@ -19,6 +19,10 @@ build: ## prove what the programs stand on, and leave them in out/
 		cp crates/$$program/out/$$program out/ || exit 1; \
 		echo "out/$$program"; \
 	done
+
+serve: ## run the live server for the two members of examples/small.toml, on loopback (make build first)
+	@[ -x out/rs_served ] || { echo "out/rs_served isn't there: make build makes it"; exit 1; }
+	@out/rs_served --config examples/small.toml --log
 
 test: ## the gate: every proof from nothing, must-fail edits, tests, recorded sessions
 	@python3 tools/gate.py

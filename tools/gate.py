@@ -3,9 +3,9 @@
 
 Runs `rt ci` at the top of the repository and passes on what it prints. Meanwhile it looks, twice a
 second, at the processes of the prover and of the compilers; from that it prints how long each crate's
-proofs, tests and edits took. Then it plays each session of examples/sessions to the built rs_replay, and
-compares the example configurations with those that are tested. The last line is 'N passed, M failed' over
-all of it; the exit status is 0 where nothing failed.
+proofs, tests and edits took. Then it plays each session of examples/sessions to the built rs_replay and two
+members to the built rs_served, and compares the example configurations with those that are tested. The last
+line is 'N passed, M failed' over all of it; the exit status is 0 where nothing failed.
 
 It reads the repository, and writes nothing but what `rt ci` itself writes.
 """
@@ -22,6 +22,7 @@ import threading
 import time
 
 from check_examples import check
+from play_server import play_members
 from play_sessions import play
 from results import tell
 
@@ -129,7 +130,8 @@ def main():
     passed, failed, took = run_gate()
     tell_times(took, started)
     sessions = play(TOP / "crates/rs_replay/out/rs_replay", TOP / "examples/sessions")
-    held, differ = tell(itertools.chain(sessions, check()))
+    members = play_members(TOP / "crates/rs_served/out/rs_served")
+    held, differ = tell(itertools.chain(sessions, members, check()))
     passed, failed = passed + held, failed + differ
     print(f"{passed} passed, {failed} failed")
     return 1 if failed else 0

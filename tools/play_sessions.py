@@ -3,8 +3,9 @@
 
 play_sessions.py PROGRAM FOLDER [NAME..]
 
-A session NAME is FOLDER/NAME.trace, given on standard input, with what the program must write in
-NAME.out and the exit status that it must end with in NAME.status (no such file: 0).
+A session NAME is FOLDER/NAME.trace, given on standard input, with the configuration NAME.toml (no such
+file: four_members.toml above the folder), what the program must write in NAME.out, and the exit status that
+it must end with in NAME.status (no such file: 0). Each is played by 1, 2, 3 and 16 workers.
 """
 import pathlib
 import subprocess
@@ -12,12 +13,18 @@ import sys
 
 from results import end, tell
 
+WORKERS = ["1", "2", "3", "16"]
 
-def differs(program, folder, name):
-    """What is wrong with the session's outcome, or None."""
+
+def differs(program, folder, name, workers):
+    """What is wrong with the session's outcome by so many workers, or None."""
+    config = folder / f"{name}.toml"
+    if not config.exists():
+        config = folder.parent / "four_members.toml"
+    words = [program, "--config", config, "--workers", workers]
     with open(folder / f"{name}.trace", "rb") as trace:
         try:
-            run = subprocess.run([program], stdin=trace, capture_output=True, timeout=60)
+            run = subprocess.run(words, stdin=trace, capture_output=True, timeout=60)
         except (OSError, subprocess.TimeoutExpired) as fault:
             return str(fault)
     status = folder / f"{name}.status"
@@ -36,7 +43,8 @@ def play(program, folder, names=()):
     if not names:
         yield "sessions", f"none in {folder}"
     for name in names:
-        yield f"session {name}", differs(program, folder, name)
+        wrong = ((workers, differs(program, folder, name, workers)) for workers in WORKERS)
+        yield f"session {name}", next((f"{it[0]} workers: {it[1]}" for it in wrong if it[1]), None)
 
 
 if __name__ == "__main__":

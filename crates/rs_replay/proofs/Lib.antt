@@ -3,3 +3,4 @@ pub mod WordLemmas
 pub mod LineLemmas
 pub mod OutputLemmas
 pub mod ReplayLemmas
+pub mod PlayLemmas

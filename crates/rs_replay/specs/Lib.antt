@@ -4,5 +4,7 @@ pub mod Trace
 pub mod Entries
 pub mod Lines
 pub mod Output
-pub mod FirstCore
+pub mod Texts
 pub mod Text
+pub mod Played
+pub mod Replays

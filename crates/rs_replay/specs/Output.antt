@@ -1,5 +1,5 @@
 -- The lines of a replay's output.
-use Rattle.std.specs.Prelude.{ℕ, List, [], ◌∷◌, ◌++◌, codes, decimal}
+use Rattle.std.specs.Prelude.{ℕ, ◌/◌, ◌%◌, List, [], ◌∷◌, ◌++◌, codes, decimal}
 use Rattle.rs_replay.specs.declared.trace.LineFault.{LineFault}
 use Rattle.rs_replay.specs.declared.trace.LineFault.TheVariants.{TooLong, UnknownWord, WordCount, UnknownClient, BadNumber, BadHex}
 use Rattle.hex.specs.Hex.{encode_lower}
@@ -11,6 +11,22 @@ client_line word name = word ++ codes " " ++ name ++ (10 ∷ [])
 -- octets that a client is sent, in lower case hex
 abbrev pub sent_line : List ℕ → List ℕ → List ℕ
 sent_line name octets = codes "sent " ++ name ++ codes " " ++ encode_lower octets ++ (10 ∷ [])
+
+-- a prefix as four numbers and its length
+abbrev pub prefix_text : ℕ → ℕ → List ℕ
+prefix_text bits len =
+    decimal (bits / 16777216) ++ codes "." ++ decimal (bits / 65536 % 256) ++ codes "." ++ decimal (bits / 256 % 256) ++ codes "." ++ decimal (bits % 256) ++ codes "/" ++ decimal len
+
+-- a route of a client's Loc-RIB: its prefix, and its attributes as they are spelt, in lower case hex
+abbrev pub route_line : List ℕ → List ℕ → List ℕ → List ℕ
+route_line name prefix attributes = codes "route " ++ name ++ codes " " ++ prefix ++ codes " " ++ encode_lower attributes ++ (10 ∷ [])
+
+abbrev pub accepted_line : List ℕ
+accepted_line = codes "rules accepted" ++ (10 ∷ [])
+
+-- why a configuration was refused
+abbrev pub refused_line : List ℕ → List ℕ
+refused_line text = codes "rules refused: " ++ text ++ (10 ∷ [])
 
 abbrev pub fault_text : LineFault → List ℕ
 fault_text TooLong = codes "too long"

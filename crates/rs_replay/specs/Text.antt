@@ -1,47 +1,43 @@
--- The text of a trace: its lines, and the first of them that has a fault.
-use Rattle.std.specs.Prelude.{◌≡◌, ℕ, ◌+◌, ◌==◌, if◌then◌else◌, List, [], ◌∷◌, ◌++◌, Option, Some, None, Result, Ok, Err, ⊤}
+-- The text of a trace: its lines, what they say, and the first of them that has a fault.
+use Rattle.std.specs.Prelude.{◌≡◌, ℕ, ◌+◌, ◌≤◌, ◌==◌, ◌⊎◌, if◌then◌else◌, List, [], ◌∷◌, ◌++◌, Option, Some, None, Result, Ok, Err}
 use Rattle.rs_replay.specs.declared.trace.LineFault.{LineFault}
-use Rattle.rs_replay.specs.declared.replay.ReplayFault.{ReplayFault}
-use Rattle.rs_replay.specs.declared.replay.ReplayFault.TheVariants.{Line, Memory, Reading, Writing}
-use Rattle.rs_replay.specs.Output.{fault_line}
+use Rattle.rs_replay.specs.declared.trace.LineFault.TheVariants.{TooLong}
 use Rattle.rs_replay.specs.Words.{lengthen}
-use Rattle.rs_replay.specs.Trace.{Event, line_of}
+use Rattle.rs_replay.specs.Trace.{Saying, line_of}
 
 -- what stands before each end of a line, and what stands behind the last, if anything
 abbrev pub lines_of : List ℕ → List (List ℕ)
 lines_of [] = []
 lines_of (octet ∷ octets) = if octet == 10 then [] ∷ lines_of octets else lengthen octet (lines_of octets)
 
--- the fault of a line with its number, or what comes of the lines behind it
-abbrev pub fault_or_later : Result (Option Event) LineFault → ℕ → Option (ℕ × LineFault) → Option (ℕ × LineFault)
-fault_or_later (Ok event) n later = later
-fault_or_later (Err fault) n later = Some (n, fault)
+-- how many lines of the text are whole: they have their end
+abbrev pub whole_lines : List ℕ → ℕ
+whole_lines [] = 0
+whole_lines (octet ∷ octets) = if octet == 10 then 1 + whole_lines octets else whole_lines octets
 
--- the first line that has a fault: its number, counted from n on, and the fault
-abbrev pub first_fault : (List ℕ → Option ℕ) → ℕ → List (List ℕ) → Option (ℕ × LineFault)
-first_fault place n [] = None
-first_fault place n (line ∷ lines) = fault_or_later (line_of place line) n (first_fault place (n + 1) lines)
+-- what lines say up to the first that has a fault, and the number of that line and its fault
+pub record Outcome : Type 0 where
+  pub sayings : List Saying
+  pub fault : Option (ℕ × LineFault)
 
--- a replay tells the first fault: none where it is done, that line where it ended at one
-abbrev pub TellsFault : Result (Unit {0}) ReplayFault → Option (ℕ × LineFault) → Type 0
-TellsFault (Ok done) first = first ≡ None
-TellsFault (Err (Line n fault)) first = first ≡ Some (n, fault)
-TellsFault (Err Memory) first = ⊤
-TellsFault (Err Reading) first = ⊤
-TellsFault (Err Writing) first = ⊤
+abbrev pub tells : List Saying → Option (ℕ × LineFault) → Outcome
+tells sayings fault = record { sayings = sayings; fault = fault }
 
--- no line is told
-abbrev pub NamesNoLine : Result (Unit {0}) ReplayFault → Type 0
-NamesNoLine (Ok done) = ⊤
-NamesNoLine (Err (Line n fault)) = ⊥
-NamesNoLine (Err Memory) = ⊤
-NamesNoLine (Err Reading) = ⊤
-NamesNoLine (Err Writing) = ⊤
+-- behind these sayings
+abbrev pub behind : List Saying → Outcome → Outcome
+behind sayings later = tells (sayings ++ later.sayings) later.fault
 
--- where a replay ended at a line's fault, that is the last that was put
-abbrev pub EndsInFaultLine : Result (Unit {0}) ReplayFault → (List ℕ → Type 0) → Type 0
-EndsInFaultLine (Ok done) put = ⊤
-EndsInFaultLine (Err (Line n fault)) put = (before : List ℕ) × put (before ++ fault_line n fault)
-EndsInFaultLine (Err Memory) put = ⊤
-EndsInFaultLine (Err Reading) put = ⊤
-EndsInFaultLine (Err Writing) put = ⊤
+-- what a line makes of the outcome of the lines behind it
+abbrev pub on_line : Result (Option Saying) LineFault → ℕ → Outcome → Outcome
+on_line (Ok None) n later = later
+on_line (Ok (Some saying)) n later = tells (saying ∷ later.sayings) later.fault
+on_line (Err fault) n later = tells [] (Some (n, fault))
+
+-- the outcome of lines, of which the first has the number n
+abbrev pub outcome : (List ℕ → Option ℕ) → ℕ → List (List ℕ) → Outcome
+outcome place n [] = tells [] None
+outcome place n (line ∷ lines) = on_line (line_of place line) n (outcome place (n + 1) lines)
+
+-- Line n of the text, which has this fault, was read to its end, or to the text's, or is too long.
+abbrev pub IsRead : List ℕ → ℕ → LineFault → Type 0 → Type 0
+IsRead text n fault over = (n ≤ whole_lines text) ⊎ over ⊎ (fault ≡ TooLong)

@@ -147,10 +147,9 @@ impl Lines {
     /// Steps to the next line, and answers whether there is one. Where a call fails, what was read
     /// waits.
     pub fn advance<R: TextIn>(&mut self, reader: &mut R) -> Result<bool, Failed>
-        requires { self.old.is_over ≡ true → R.at_end reader.old }
         ensures step { IfOk result (λ is_line. (taken : List ℕ) × R.takes reader.old taken reader.new × IsStep is_line self.old self.new taken) }
-        ensures ended { OnOk result (self.new.is_over ≡ true → R.at_end reader.new) }
-        ensures kept { OnErr result ((taken : List ℕ) × R.takes reader.old taken reader.new × (self.new.rest ≡ self.old.rest ++ taken)) }
+        ensures ended { OnOk result ((self.old.is_over ≡ true → R.at_end reader.old) → self.new.is_over ≡ true → R.at_end reader.new) }
+        ensures kept { OnErr result ((taken : List ℕ) × R.takes reader.old taken reader.new × (self.new.rest ≡ self.old.rest ++ taken) × (self.old.is_over ≡ true → taken ≡ [])) }
         ensures counted { IsOk result → R.failures reader.new ≡ R.failures reader.old }
         ensures failed { IsErr result → R.failures reader.new ≡ min (R.failures reader.old + 1) 18446744073709551615 }
     {

@@ -1,46 +1,94 @@
 //! Plays recorded sessions to a route server and writes what its clients are sent.
 //!
 //! A trace comes in by `text` and `lines`; `words`, `number` and `trace` say what each of its lines
-//! means; `replay` does it, with `first_core` in the place of the route server; `output` says what
-//! lines go out.
+//! means; `recording` hands that to the core as a link, and `replay` lets the core run; `output`
+//! says what lines go out. `command` and `settings` read the words of the command line and the
+//! file that they name.
 #![tactic(auto)]
 
 pub mod command;
-pub mod first_core;
+pub mod fault;
 pub mod lines;
+pub mod names;
 pub mod number;
 pub mod output;
+pub mod recording;
 pub mod replay;
+pub mod settings;
+pub mod tables;
 pub mod text;
 pub mod trace;
 pub mod words;
 
-use crate::first_core::Config;
-use crate::replay::{ReplayFault, replay};
+use crate::command::{Asked, Options, read_command};
+use crate::fault::ReplayFault;
+use crate::replay::replay;
+use crate::settings::{read_settings, tell_settings_fault};
 use crate::text::{OverRead, OverWrite};
-use anyhow::Result;
+use rs_policy::Config;
 use std::io;
-use std::io::{BufReader, BufWriter};
+use std::io::BufWriter;
 use std::process::ExitCode;
+use std::rt::{Env, Files};
+use std::sync::Wait;
+use std::thread::Threads;
 
-fn main(rt: HostRuntime) -> Result<ExitCode> {
+/// Reads the words of the command line, and tells help or what is wrong with them.
+fn ask<R: Env + Print + Eprint + AllocGlobal>(rt: &R) -> io::Result<Asked> {
     let alloc = rt.alloc();
-    let words: Vec<String> = std::env::args(&rt)?.collect(alloc)?;
-    if let Some(status) = command::read_command(&rt, alloc, &words)? {
-        return Ok(ExitCode::from(status));
-    }
-    let mut reader = OverRead::new(rt.reader());
-    let mut writer = OverWrite::new(BufWriter::new(alloc, io::writer(&rt))?);
-    let played = replay(alloc, &mut reader, &mut writer, Config::base());
-    let flushed = writer.flush();
-    let fault = match played {
-        Ok(()) if flushed.is_ok() => return Ok(ExitCode::SUCCESS),
-        Err(ReplayFault::Line(_, _)) if flushed.is_ok() => return Ok(ExitCode::from(1)),
-        Ok(()) | Err(ReplayFault::Line(_, _)) => ReplayFault::Writing,
-        Err(fault) => fault,
+    let words: Vec<String> = std::env::args(rt)?.collect(alloc)?;
+    read_command(rt, alloc, &words)
+}
+
+/// Plays standard input to standard output.
+fn play<R: Input + Print + AllocGlobal + Threads + Wait + Sync>(
+    rt: &R,
+    config: Config,
+    workers: usize,
+) -> Result<(), ReplayFault> {
+    let alloc = rt.alloc();
+    let Ok(buffered) = BufWriter::new(alloc, io::writer(rt)) else {
+        return Err(ReplayFault::Memory);
     };
-    eprintln!(rt; "{fault}")?;
-    Ok(ExitCode::from(3))
+    let mut reader = OverRead::new(rt.reader());
+    let mut writer = OverWrite::new(buffered);
+    let workers = workers.clamp(1, 16);
+    let played = replay(rt, alloc, &mut reader, &mut writer, config, workers);
+    let flushed = writer.flush();
+    match played {
+        Ok(()) | Err(ReplayFault::Line(_, _)) if flushed.is_err() => Err(ReplayFault::Writing),
+        played => played,
+    }
+}
+
+fn status_of(played: Result<(), ReplayFault>) -> u8 {
+    match played {
+        Ok(()) => 0,
+        Err(ReplayFault::Line(_, _)) => 1,
+        Err(_) => 3,
+    }
+}
+
+fn main(rt: HostRuntime) -> ExitCode {
+    let options = match ask(&rt) {
+        Ok(Asked::Play(options)) => options,
+        Ok(Asked::End(status)) => return ExitCode::from(status),
+        Err(_) => return ExitCode::from(3),
+    };
+    let config = match read_settings(&rt, options.config.as_str()) {
+        Ok(config) => config,
+        Err(fault) => {
+            tell_settings_fault(&rt, &fault);
+            return ExitCode::from(2);
+        }
+    };
+    let played = play(&rt, config, options.workers);
+    if let Err(fault) = played
+        && status_of(played) == 3
+    {
+        let _ = eprintln!(rt; "{fault}");
+    }
+    ExitCode::from(status_of(played))
 }
 
 #[cfg(test)]

@@ -1,10 +1,15 @@
-//! The lines that a replay writes. It writes by `TextOut` alone.
+//! The lines that a replay writes: each is made in a `Vec` that is lent, and written whole. It
+//! writes by `TextOut` alone.
 
 ghost use Rattle.std.specs.Prelude.{◌≡◌, ◌≤◌, ◌+◌, ◌++◌, ◌∷◌, [], ℕ, min, length, take, codes, IfOk, IsOk, IsErr, OnOk, OnErr};
-ghost use Rattle.rs_replay.specs.Output.{sent_line, client_line, fault_line};
+ghost use Rattle.rs_policy.specs.FaultTexts.{rules_fault_text};
+ghost use Rattle.rs_replay.specs.Output.{sent_line, client_line, fault_line, refused_line};
+ghost use Rattle.rs_replay.specs.Played.{rules_line};
 
 use crate::text::{Failed, TextOut};
 use crate::trace::LineFault;
+use rs_octets::Prefix;
+use rs_policy::RulesFault;
 use std::alloc::{AllocError, Global};
 
 /// Writes all of the octets. Where a call fails, a front of them was written.
@@ -22,51 +27,112 @@ pub fn put<W: TextOut>(writer: &mut W, octets: &[u8]) -> Result<(), Failed>
     Ok(())
 }
 
-/// The line of octets that a client is sent, as `sent NAME HEX`.
-pub fn sent(alloc: Global, name: &[u8], octets: &[u8]) -> Result<Vec<u8>, AllocError>
-    ensures { IfOk result (λ line. line.items ≡ sent_line name.now octets.now) }
+/// Makes the line of a word and a client, as `close NAME`.
+fn word_and_name(line: &mut Vec<u8>, word: &[u8], name: &[u8]) -> Result<(), AllocError>
+    ensures { OnOk result (line.new.items ≡ client_line word.now name.now) }
 {
-    let mut line = Vec::from_slice(alloc, b"sent ")?;
+    line.clear();
+    line.extend_from_slice(word)?;
+    line.extend_from_slice(b" ")?;
+    line.extend_from_slice(name)?;
+    line.extend_from_slice(b"\n")
+}
+
+/// Makes the line of octets that a client is sent, `sent NAME HEX`.
+pub fn sent(alloc: Global, line: &mut Vec<u8>, name: &[u8], octets: &[u8]) -> Result<(), AllocError>
+    ensures { OnOk result (line.new.items ≡ sent_line name.now octets.now) }
+{
+    line.clear();
+    line.extend_from_slice(b"sent ")?;
     line.extend_from_slice(name)?;
     line.extend_from_slice(b" ")?;
     line.extend_from_slice(hex::encode(alloc, octets)?.as_bytes())?;
-    line.extend_from_slice(b"\n")?;
-    Ok(line)
+    line.extend_from_slice(b"\n")
 }
 
-/// The line of a word and a client, as `close NAME`.
-fn word_and_name(alloc: Global, word: &[u8], name: &[u8]) -> Result<Vec<u8>, AllocError>
-    ensures { IfOk result (λ line. line.items ≡ client_line word.now name.now) }
+/// Makes the line of a client whose connection is closed, `close NAME`.
+pub fn closed(line: &mut Vec<u8>, name: &[u8]) -> Result<(), AllocError>
+    ensures { OnOk result (line.new.items ≡ client_line (codes "close") name.now) }
 {
-    let mut line = Vec::from_slice(alloc, word)?;
-    line.extend_from_slice(b" ")?;
+    word_and_name(line, b"close", name)
+}
+
+/// Makes the line of a client that has a session already, `busy NAME`.
+pub fn busy(line: &mut Vec<u8>, name: &[u8]) -> Result<(), AllocError>
+    ensures { OnOk result (line.new.items ≡ client_line (codes "busy") name.now) }
+{
+    word_and_name(line, b"busy", name)
+}
+
+/// Makes the line of a client for which memory was refused, `memory NAME`.
+pub fn memory(line: &mut Vec<u8>, name: &[u8]) -> Result<(), AllocError>
+    ensures { OnOk result (line.new.items ≡ client_line (codes "memory") name.now) }
+{
+    word_and_name(line, b"memory", name)
+}
+
+/// Makes the line of a configuration that was not taken, `rules refused: TEXT`.
+fn refused(line: &mut Vec<u8>, fault: &RulesFault) -> Result<(), AllocError>
+    ensures { OnOk result (line.new.items ≡ refused_line (rules_fault_text fault.now)) }
+{
+    let mut text = [0; 96];
+    let size = fault.write(&mut text);
+    line.clear();
+    line.extend_from_slice(b"rules refused: ")?;
+    line.extend_from_slice(&text[..size])?;
+    line.extend_from_slice(b"\n")
+}
+
+/// Makes the line of a configuration that was taken, `rules accepted`, or was not.
+pub fn ruled(line: &mut Vec<u8>, answer: &Result<(), RulesFault>) -> Result<(), AllocError>
+    ensures { OnOk result (line.new.items ≡ rules_line answer.now) }
+{
+    match answer {
+        Ok(()) => {
+            line.clear();
+            line.extend_from_slice(b"rules accepted\n")
+        }
+        Err(fault) => refused(line, fault),
+    }
+}
+
+/// A prefix as `198.51.100.0/24`.
+fn prefix_words(alloc: Global, prefix: &Prefix) -> Result<String, AllocError> {
+    let bits = prefix.bits();
+    let [first, second, third, fourth] = bits.to_be_bytes();
+    format!(in alloc; "{first}.{second}.{third}.{fourth}/{}", prefix.len())
+}
+
+/// The line of a route, `route NAME PREFIX HEX`.
+pub fn route(
+    alloc: Global,
+    name: &[u8],
+    prefix: &Prefix,
+    attributes: &[u8],
+) -> Result<Vec<u8>, AllocError> {
+    let mut line = Vec::from_slice(alloc, b"route ")?;
     line.extend_from_slice(name)?;
+    line.extend_from_slice(b" ")?;
+    line.extend_from_slice(prefix_words(alloc, prefix)?.as_bytes())?;
+    line.extend_from_slice(b" ")?;
+    line.extend_from_slice(hex::encode(alloc, attributes)?.as_bytes())?;
     line.extend_from_slice(b"\n")?;
     Ok(line)
 }
 
-/// The line of a client whose connection is closed, `close NAME`.
-pub fn closed(alloc: Global, name: &[u8]) -> Result<Vec<u8>, AllocError>
-    ensures { IfOk result (λ line. line.items ≡ client_line (codes "close") name.now) }
+/// Makes the line of a fault, `line N: FAULT`.
+pub fn faulty(
+    alloc: Global,
+    line: &mut Vec<u8>,
+    number: u64,
+    fault: LineFault,
+) -> Result<(), AllocError>
+    ensures { OnOk result (line.new.items ≡ fault_line number fault) }
 {
-    word_and_name(alloc, b"close", name)
-}
-
-/// The line of a client that has a session already, `busy NAME`.
-pub fn busy(alloc: Global, name: &[u8]) -> Result<Vec<u8>, AllocError>
-    ensures { IfOk result (λ line. line.items ≡ client_line (codes "busy") name.now) }
-{
-    word_and_name(alloc, b"busy", name)
-}
-
-/// The line of a fault, `line N: FAULT`.
-pub fn faulty(alloc: Global, number: u64, fault: LineFault) -> Result<Vec<u8>, AllocError>
-    ensures { IfOk result (λ line. line.items ≡ fault_line number fault) }
-{
-    let mut line = Vec::from_slice(alloc, b"line ")?;
+    line.clear();
+    line.extend_from_slice(b"line ")?;
     line.extend_from_slice(format!(in alloc; "{number}")?.as_bytes())?;
     line.extend_from_slice(b": ")?;
     line.extend_from_slice(fault.text().as_bytes())?;
-    line.extend_from_slice(b"\n")?;
-    Ok(line)
+    line.extend_from_slice(b"\n")
 }

@@ -1,21 +1,60 @@
 //! What a replay reads and writes, octet for octet.
 
-use crate::first_core::Config;
-use crate::replay::{ReplayFault, replay};
+use crate::fault::ReplayFault;
+use crate::replay::replay;
 use crate::text::{OverRead, OverWrite};
 use crate::trace::LineFault;
+use rs_policy::Config;
 use std::alloc::Global;
+use std::sync::Wait;
 use std::test::Fail;
+use std::thread::Threads;
 
 mod devices;
-mod sessions;
+
+/// Four members.
+const MEMBERS: &str = r#"as = 64500
+identifier = "192.0.2.1"
+hold = 90
+
+[[client]]
+name = "a"
+as = 64496
+listen = "127.0.0.1:17901"
+peer = "192.0.2.11"
+
+[[client]]
+name = "b"
+as = 64497
+listen = "127.0.0.1:17902"
+peer = "192.0.2.12"
+
+[[client]]
+name = "c"
+as = 64498
+listen = "127.0.0.1:17903"
+peer = "192.0.2.13"
+
+[[client]]
+name = "d"
+as = 64499
+listen = "127.0.0.1:17904"
+peer = "192.0.2.14"
+"#;
 
 /// Plays a trace in memory: the answer, and what was written.
-fn play(alloc: Global, trace: &[u8]) -> (Result<(), ReplayFault>, Vec<u8>) {
+fn play<T: Threads + Wait + Sync>(
+    rt: &T,
+    alloc: Global,
+    trace: &[u8],
+) -> (Result<(), ReplayFault>, Vec<u8>) {
     let mut written = Vec::new(alloc);
+    let Ok(config) = Config::read(alloc, MEMBERS) else {
+        return (Err(ReplayFault::Memory), written);
+    };
     let mut reader = OverRead::new(trace);
     let mut writer = OverWrite::new(&mut written);
-    let played = replay(alloc, &mut reader, &mut writer, Config::base());
+    let played = replay(rt, alloc, &mut reader, &mut writer, config, 2);
     (played, written)
 }
 
@@ -31,9 +70,7 @@ fn faults_of_lines(rt: HostRuntime) -> Result<(), Fail> {
         ("\r", LineFault::UnknownWord),
         ("turn\r", LineFault::UnknownWord),
         ("turn\tx", LineFault::UnknownWord),
-        ("moment 5", LineFault::UnknownWord),
-        ("lost a", LineFault::UnknownWord),
-        ("table a", LineFault::UnknownWord),
+        ("moments 5", LineFault::UnknownWord),
         // Blanks make words, so these have one too many.
         ("turn ", LineFault::WordCount),
         ("open  a", LineFault::WordCount),
@@ -43,12 +80,22 @@ fn faults_of_lines(rt: HostRuntime) -> Result<(), Fail> {
         ("octets a 00 00", LineFault::WordCount),
         ("room a", LineFault::WordCount),
         ("room zz 5 5", LineFault::WordCount),
+        ("moment", LineFault::WordCount),
+        ("moment 5 5", LineFault::WordCount),
+        ("lost", LineFault::WordCount),
+        ("lost a b", LineFault::WordCount),
+        ("rules", LineFault::WordCount),
+        ("rules 00 00", LineFault::WordCount),
+        ("table", LineFault::WordCount),
+        ("table a b", LineFault::WordCount),
         // Names are matched by case, before number and hex are looked at.
         ("open ", LineFault::UnknownClient),
         ("open A", LineFault::UnknownClient),
         ("open a\r", LineFault::UnknownClient),
         ("octets zz 0g", LineFault::UnknownClient),
         ("room zz x", LineFault::UnknownClient),
+        ("lost zz", LineFault::UnknownClient),
+        ("table ", LineFault::UnknownClient),
         // 1 to 20 digits, at most 2^64 - 1.
         ("room a ", LineFault::BadNumber),
         ("room a +5", LineFault::BadNumber),
@@ -58,13 +105,17 @@ fn faults_of_lines(rt: HostRuntime) -> Result<(), Fail> {
         ("room a 18446744073709551616", LineFault::BadNumber),
         ("room a 99999999999999999999", LineFault::BadNumber),
         ("room a 000000000000000000005", LineFault::BadNumber),
+        ("moment ", LineFault::BadNumber),
+        ("moment x", LineFault::BadNumber),
         // Two digits an octet.
         ("octets a 0", LineFault::BadHex),
         ("octets a 0g", LineFault::BadHex),
         ("octets a 00\r", LineFault::BadHex),
+        ("rules ", LineFault::BadHex),
+        ("rules 0", LineFault::BadHex),
     ] {
         let trace = format!(in alloc; "turn\n\n# {line}\n{line}\nopen a\nopen a\n")?;
-        let (played, written) = play(alloc, trace.as_bytes());
+        let (played, written) = play(&rt, alloc, trace.as_bytes());
         assert_eq!(rt; played, Err(ReplayFault::Line(4, fault)), "{line}");
         let wanted = format!(in alloc; "line 4: {fault}\n")?;
         assert_eq!(rt; written.as_slice(), wanted.as_bytes(), "{line}");
@@ -81,7 +132,7 @@ fn texts_of_faults(rt: HostRuntime) {
         ("room a x\n", "line 1: bad number\n"),
         ("octets a x\n", "line 1: bad hex\n"),
     ] {
-        let (_, written) = play(rt.alloc(), trace.as_bytes());
+        let (_, written) = play(&rt, rt.alloc(), trace.as_bytes());
         assert_eq!(rt; written.as_slice(), wanted.as_bytes(), "{trace}");
     }
 }
@@ -102,8 +153,11 @@ fn good_lines(rt: HostRuntime) {
         "room a 0",
         "room a 00000000000000000005",
         "room a 18446744073709551615",
+        "moment 18446744073709551615\nmoment 0",
+        "lost a\nlost d",
+        "table a",
     ] {
-        let (played, written) = play(rt.alloc(), trace.as_bytes());
+        let (played, written) = play(&rt, rt.alloc(), trace.as_bytes());
         assert_eq!(rt; played, Ok(()), "{trace}");
         assert_eq!(rt; written.len(), 0, "{trace}");
     }
@@ -146,7 +200,7 @@ fn long_lines(rt: HostRuntime) -> Result<(), Fail> {
     ] {
         for end in ["\n", ""] {
             let line = long_line(alloc, word.as_bytes(), octet, count, end.as_bytes())?;
-            let (played, _) = play(alloc, &line);
+            let (played, _) = play(&rt, alloc, &line);
             assert_eq!(rt; played, wanted, "{word}{count}");
         }
     }
@@ -159,7 +213,7 @@ fn long_lines_behind_others(rt: HostRuntime) -> Result<(), Fail> {
     let mut trace = long_line(alloc, b"#", b'x', 8239, b"\n")?;
     trace.extend_from_slice(&long_line(alloc, b"#", b'y', 8239, b"\n")?)?;
     trace.extend_from_slice(&long_line(alloc, b"#", b'z', 8240, b"\nturn\n")?)?;
-    let (played, written) = play(alloc, &trace);
+    let (played, written) = play(&rt, alloc, &trace);
     assert_eq!(rt; played, Err(ReplayFault::Line(3, LineFault::TooLong)));
     assert_eq!(rt; written.as_slice(), b"line 3: too long\n".as_slice());
     Ok(())

@@ -4,6 +4,7 @@
 ghost use Rattle.std.specs.Prelude.{◌≡◌, ◌≤◌, ◌<◌, ◌+◌, ◌++◌, ℕ, List, [], min, take, length, IfOk, IsOk, IsErr};
 ghost use Rattle.std.specs.Io.KnownBytes.{Consumes, Appends, IsAtEnd};
 ghost use Rattle.std.proofs.KnownBytes.{Consumes-nil, Consumes-trans, Appends-nil, Appends-trans};
+ghost use Rattle.rs_replay.specs.Texts.{IsKnown, none_left};
 
 use std::io::{Read, Write};
 
@@ -20,7 +21,7 @@ fn counted(failures: &mut u64) -> Failed
 }
 
 /// A text that is read. `takes a octets b` says that the calls between `a` and `b` took these
-/// octets, and `at_end a` that there are no more.
+/// octets, and `at_end a` that no more come, where what is left is known.
 ///
 /// `failures` counts the calls that failed. At `u64::MAX` it stays, and each further call fails.
 pub trait TextIn {
@@ -29,6 +30,8 @@ pub trait TextIn {
     ghost takes: { Self → List ℕ → Self → Type 0 };
 
     ghost at_end: { Self → Type 0 };
+
+    ghost is_known: { Self → Type 0 };
 
     /// Reads some octets to the front of `room`, and answers how many. 0 for some room is the end of
     /// the text. A call that fails takes nothing.
@@ -43,6 +46,8 @@ pub trait TextIn {
     ghost takes_none: { (a : Self) → takes a [] a };
 
     ghost takes_on: { (a b c : Self) (xs ys : List ℕ) → takes a xs b → takes b ys c → takes a (xs ++ ys) c };
+
+    ghost none_behind_end: { (a b : Self) (xs : List ℕ) → is_known a → at_end a → takes a xs b → xs ≡ [] };
 }
 
 /// A text that is written. `puts a octets b` says that the calls between `a` and `b` put these octets.
@@ -95,9 +100,13 @@ impl<R: Read> TextIn for OverRead<R> {
 
     ghost at_end = { λ a. IsAtEnd (R.remaining a.reader) };
 
+    ghost is_known = { λ a. IsKnown (R.remaining a.reader) };
+
     ghost takes_none = { λ a. Consumes-nil (R.remaining a.reader) };
 
     ghost takes_on = { λ a b c xs ys. Consumes-trans (R.remaining a.reader) (R.remaining b.reader) (R.remaining c.reader) xs ys };
+
+    ghost none_behind_end = { λ a b xs known end taken. none_left (R.remaining a.reader) (R.remaining b.reader) xs known end taken };
 
     fn read(&mut self, room: &mut [u8]) -> Result<usize, Failed> {
         if self.failures < u64::MAX

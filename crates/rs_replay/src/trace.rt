@@ -4,8 +4,8 @@
 ghost use Rattle.std.specs.Prelude.{◌≡◌, ℕ, List, Option, take, ok_or, option_map};
 ghost use Rattle.rs_replay.specs.Words.{AreOperands};
 ghost use Rattle.rs_replay.specs.Output.{fault_text};
-ghost use Rattle.rs_replay.specs.Trace.{word_of, octets_of, event_of, line_of};
-ghost use Rattle.rs_replay.specs.Entries.{entry_as_event, line_as_event};
+ghost use Rattle.rs_replay.specs.Trace.{word_of, octets_of, text_of, saying_of, line_of};
+ghost use Rattle.rs_replay.specs.Entries.{entry_as_saying, line_as_saying};
 
 use crate::number::read_number;
 use crate::words::{Operands, split_words};
@@ -14,7 +14,7 @@ use thiserror::Error;
 /// The longest line, in octets without its end.
 pub const LONGEST_LINE: usize = 8240;
 
-/// The most octets of a line `octets`.
+/// The most octets that a line gives.
 pub const LONGEST_PIECE: usize = 4096;
 
 /// The fault of a line: the first, in this order, that it has.
@@ -51,7 +51,11 @@ pub enum Word {
     Open,
     Octets,
     Room,
+    Moment,
     Turn,
+    Lost,
+    Rules,
+    Table,
 }
 
 /// What a line asks for, by a client's place in the configuration.
@@ -63,8 +67,16 @@ pub enum Entry {
     Octets(usize, usize),
     /// The client's connection takes up to so many octets.
     Room(usize, u64),
+    /// The second of the clock.
+    Moment(u64),
     /// What is due is worked out anew.
     Turn,
+    /// The client's connection is lost.
+    Lost(usize),
+    /// The configuration is replaced by a text of so many octets, which stand at the front of a piece.
+    Rules(usize),
+    /// The routes of the client's Loc-RIB are to be told.
+    Table(usize),
 }
 
 /// Where the names of clients are looked up.
@@ -79,14 +91,22 @@ pub trait Places {
 fn read_word(text: &[u8]) -> Option<Word>
     ensures { result ≡ word_of text.now }
 {
-    if text == b"open".as_slice() {
-        Some(Word::Open)
-    } else if text == b"octets".as_slice() {
+    if text == b"octets".as_slice() {
         Some(Word::Octets)
     } else if text == b"room".as_slice() {
         Some(Word::Room)
     } else if text == b"turn".as_slice() {
         Some(Word::Turn)
+    } else if text == b"moment".as_slice() {
+        Some(Word::Moment)
+    } else if text == b"open".as_slice() {
+        Some(Word::Open)
+    } else if text == b"lost".as_slice() {
+        Some(Word::Lost)
+    } else if text == b"rules".as_slice() {
+        Some(Word::Rules)
+    } else if text == b"table".as_slice() {
+        Some(Word::Table)
     } else {
         None
     }
@@ -106,6 +126,16 @@ fn read_hex(digits: &[u8], piece: &mut [u8; 4096]) -> Option<usize>
     }
 }
 
+/// Reads hex of at least one octet, as `read_hex` does.
+fn read_text(digits: &[u8], piece: &mut [u8; 4096]) -> Option<usize>
+    ensures { option_map (λ n. take n piece.new) result ≡ text_of digits.now }
+{
+    if digits.is_empty() {
+        return None;
+    }
+    read_hex(digits, piece)
+}
+
 fn place<P: Places>(names: &P, name: &[u8]) -> Result<usize, LineFault>
     ensures { result ≡ ok_or (P.place_of names.now name.now) LineFault.UnknownClient }
 {
@@ -118,22 +148,30 @@ fn entry_of<P: Places>(
     operands: Operands<'_>,
     piece: &mut [u8; 4096],
 ) -> Result<Entry, LineFault>
-    ensures { (ws : List (List ℕ)) → AreOperands operands.entry ws → entry_as_event piece.new result ≡ event_of (P.place_of names.now) word ws }
+    ensures { (ws : List (List ℕ)) → AreOperands operands.entry ws → entry_as_saying piece.new result ≡ saying_of (P.place_of names.now) word ws }
 {
     match (word, operands) {
-        (Word::Open, Operands::One(name)) => Ok(Entry::Open(place(names, name)?)),
-        (Word::Octets, Operands::One(name)) => Ok(Entry::Octets(place(names, name)?, 0)),
         (Word::Octets, Operands::Two(name, digits)) => {
             let client = place(names, name)?;
             let size = read_hex(digits, piece).ok_or(LineFault::BadHex)?;
             Ok(Entry::Octets(client, size))
         }
+        (Word::Octets, Operands::One(name)) => Ok(Entry::Octets(place(names, name)?, 0)),
         (Word::Room, Operands::Two(name, number)) => {
             let client = place(names, name)?;
             let room = read_number(number).ok_or(LineFault::BadNumber)?;
             Ok(Entry::Room(client, room))
         }
         (Word::Turn, Operands::Nothing) => Ok(Entry::Turn),
+        (Word::Moment, Operands::One(number)) => {
+            Ok(Entry::Moment(read_number(number).ok_or(LineFault::BadNumber)?))
+        }
+        (Word::Open, Operands::One(name)) => Ok(Entry::Open(place(names, name)?)),
+        (Word::Lost, Operands::One(name)) => Ok(Entry::Lost(place(names, name)?)),
+        (Word::Rules, Operands::One(digits)) => {
+            Ok(Entry::Rules(read_text(digits, piece).ok_or(LineFault::BadHex)?))
+        }
+        (Word::Table, Operands::One(name)) => Ok(Entry::Table(place(names, name)?)),
         _ => Err(LineFault::WordCount),
     }
 }
@@ -145,7 +183,7 @@ pub fn read_line<P: Places>(
     line: &[u8],
     piece: &mut [u8; 4096],
 ) -> Result<Option<Entry>, LineFault>
-    ensures meaning { line_as_event piece.new result ≡ line_of (P.place_of names.now) line.now }
+    ensures meaning { line_as_saying piece.new result ≡ line_of (P.place_of names.now) line.now }
 {
     if line.len() > LONGEST_LINE {
         return Err(LineFault::TooLong);

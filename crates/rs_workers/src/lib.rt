@@ -9,4 +9,3 @@ mod turning;
 
 pub use gate::{Free, Gate};
 pub use turning::turn_all;
-

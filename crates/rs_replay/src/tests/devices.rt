@@ -3,10 +3,14 @@
 ghost use Rattle.std.specs.Prelude.{Some};
 ghost use Rattle.std.specs.Io.KnownBytes.{Consumes, Appends, IsAtEnd};
 ghost use Rattle.std.proofs.KnownBytes.{Consumes-nil, Consumes-trans, Appends-nil, Appends-trans};
+ghost use Rattle.rs_replay.specs.Texts.{IsKnown, none_left};
 
-use crate::first_core::Config;
-use crate::replay::{ReplayFault, replay};
+use super::MEMBERS;
+use crate::fault::ReplayFault;
+use crate::replay::replay;
 use crate::text::{Failed, OverRead, OverWrite, TextIn, TextOut};
+use rs_policy::Config;
+use std::alloc::Global;
 use std::test::Fail;
 
 #[derive(Drop)]
@@ -23,9 +27,13 @@ impl TextIn for FailingIn<'_> {
 
     ghost at_end = { λ a. IsAtEnd (Some a.text.now) };
 
+    ghost is_known = { λ a. IsKnown (Some a.text.now) };
+
     ghost takes_none = { λ a. Consumes-nil (Some a.text.now) };
 
     ghost takes_on = { λ a b c xs ys. Consumes-trans (Some a.text.now) (Some b.text.now) (Some c.text.now) xs ys };
+
+    ghost none_behind_end = { λ a b xs known end taken. none_left (Some a.text.now) (Some b.text.now) xs known end taken };
 
     fn read(&mut self, room: &mut [u8]) -> Result<usize, Failed> {
         if self.failures < u64::MAX && self.good_calls > 0 {
@@ -80,6 +88,10 @@ busy a
 line 8: unknown word
 ";
 
+fn members(alloc: Global) -> Result<Config, Fail> {
+    Ok(Config::read(alloc, MEMBERS)?)
+}
+
 #[test]
 fn each_call_failing(rt: HostRuntime) -> Result<(), Fail> {
     let alloc = rt.alloc();
@@ -96,7 +108,7 @@ fn each_call_failing(rt: HostRuntime) -> Result<(), Fail> {
             good_calls: 60,
             failures: 0,
         };
-        let played = replay(alloc, &mut reader, &mut writer, Config::base());
+        let played = replay(&rt, alloc, &mut reader, &mut writer, members(alloc)?, 1);
         assert!(rt; WRITTEN.starts_with(writer.text.as_slice()), "{good_calls}");
         assert_eq!(rt; writer.failures, 0);
         if reader.failures > 0 {
@@ -111,7 +123,7 @@ fn each_call_failing(rt: HostRuntime) -> Result<(), Fail> {
             good_calls,
             failures: 0,
         };
-        let played = replay(alloc, &mut reader, &mut writer, Config::base());
+        let played = replay(&rt, alloc, &mut reader, &mut writer, members(alloc)?, 1);
         assert!(rt; WRITTEN.starts_with(writer.text.as_slice()), "{good_calls}");
         if writer.failures > 0 {
             assert_eq!(rt; played, Err(ReplayFault::Writing), "{good_calls}");
@@ -128,7 +140,7 @@ fn each_call_failing(rt: HostRuntime) -> Result<(), Fail> {
 }
 
 #[test]
-fn counts_that_are_full(rt: HostRuntime) {
+fn counts_that_are_full(rt: HostRuntime) -> Result<(), Fail> {
     let mut reader = FailingIn {
         text: TRACE,
         good_calls: 60,
@@ -136,8 +148,16 @@ fn counts_that_are_full(rt: HostRuntime) {
     };
     let mut written = Vec::new(rt.alloc());
     let mut writer = OverWrite::new(&mut written);
-    let played = replay(rt.alloc(), &mut reader, &mut writer, Config::base());
+    let played = replay(
+        &rt,
+        rt.alloc(),
+        &mut reader,
+        &mut writer,
+        members(rt.alloc())?,
+        1,
+    );
     assert_eq!(rt; played, Err(ReplayFault::Reading));
     assert_eq!(rt; reader.failures, u64::MAX);
     assert_eq!(rt; reader.text, TRACE);
+    Ok(())
 }

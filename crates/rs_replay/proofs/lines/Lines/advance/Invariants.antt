@@ -10,7 +10,7 @@ invariant-loop-self g l =
     × (g.R.TextIn.failures l.reader ≡ g.R.TextIn.failures l.initial.reader)
     × (l.initial.self.is_over ≡ true → taken ≡ [])
     × (l.initial.self.is_over ≡ true → l.self.is_over ≡ true)
-    × (l.self.is_over ≡ true → g.R.TextIn.at_end l.reader)
+    × ((l.initial.self.is_over ≡ true → g.R.TextIn.at_end l.initial.reader) → l.self.is_over ≡ true → g.R.TextIn.at_end l.reader)
 
 -- each round takes an octet at least, or finds the end of the text
 abbrev pub decreases-loop-self : goal.decreases-loop-self

@@ -1,0 +1,35 @@
+-- Outlets stay those of their clients.
+use Rattle.std.proofs.Common.{◌≡◌, ◌<◌, ◌+◌, ℕ, zero, suc, Bool, List, [], ◌∷◌, ◌++◌, length, refl, sym, ◌∙◌, ap, subst, arith}
+use Rattle.std.specs.Prelude.{slice_index_or}
+use Rattle.rs_policy.specs.Configuration.{Configuration}
+use Rattle.rs_outlet.specs.Views.{View, bare}
+use Rattle.rs_outlet.specs.declared.answers.Last.{Last}
+use Rattle.rs_workers.specs.Turned.{ArePlaced, AllTurnedAlone}
+use Rattle.rs_core.specs.Keeping.{IsOutletOf, AreKept}
+
+-- what a turn of all asks
+pub are_placed : (long : Bool) (config : Configuration) (xs : List View) → length xs ≡ length config.clients → AreKept long xs → ArePlaced config xs
+are_placed long config xs count each i d lt = subst (λ n. n < length config.clients) (sym (each i d lt).client) (subst (λ n. i < n) count lt)
+
+-- and leaves
+pub turned_kept : (long : Bool) (xs ys : List View) → length ys ≡ length xs → AllTurnedAlone xs ys → AreKept long xs → AreKept long ys
+turned_kept long xs ys count turned each c d lt =
+    let within : c < length xs = subst (λ n. c < n) count lt in
+    record { client = (turned c d within).client ∙ (each c d within).client; extended = (turned c d within).extended ∙ (each c d within).extended }
+
+-- one more at the end
+each_push : {X : Type 0} (P : ℕ → X → Type 0) (xs : List X) (v : X) → ((i : ℕ) (d : X) → i < length xs → P i (slice_index_or xs i d)) → P (length xs) v
+    → (i : ℕ) (d : X) → i < length (xs ++ v ∷ []) → P i (slice_index_or (xs ++ v ∷ []) i d)
+each_push P [] v each own zero d lt = own
+each_push P [] v each own (suc i) d lt = absurd (omega arith)
+each_push P (x ∷ xs) v each own zero d lt = each zero d (omega arith)
+each_push P (x ∷ xs) v each own (suc i) d lt = each_push (λ n. P (suc n)) xs v (λ j e h. each (suc j) e (omega arith)) own i d (omega arith)
+
+pub push_length : {X : Type 0} (xs : List X) (v : X) → length (xs ++ v ∷ []) ≡ length xs + 1
+push_length [] v = refl
+push_length (x ∷ xs) v = let e = push_length xs v in omega arith
+
+-- one outlet more, which was just made
+pub push_kept : (long : Bool) (xs ys : List View) (c : ℕ) (v : View) (last : Last) → ys ≡ xs ++ v ∷ [] → length xs ≡ c → AreKept long xs → v ≡ bare c long last → AreKept long ys
+push_kept long xs ys c v last e len each made = subst (AreKept long) (sym e)
+    (each_push (λ i o. IsOutletOf i long o) xs v each (record { client = ap (λ (o : View). o.client) made ∙ sym len; extended = ap (λ (o : View). o.extended) made }))

@@ -1,0 +1,6 @@
+use Rattle.std.proofs.Common.{◌≡◌}
+use Rattle.rs_core.specs.Core.{client_count}
+use Rattle.rs_core.proofs.driving.drive.Given as goal
+
+abbrev pub invariant-loop : goal.invariant-loop
+invariant-loop g l = client_count l.core ≡ client_count l.fn.core

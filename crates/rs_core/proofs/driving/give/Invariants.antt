@@ -1,0 +1,9 @@
+use Rattle.std.proofs.Common.{◌≡◌}
+use Rattle.rs_core.specs.Core.{client_count}
+use Rattle.rs_core.proofs.driving.give.Given as goal
+
+abbrev pub invariant-loop-left : goal.invariant-loop-left
+invariant-loop-left g l = client_count l.core ≡ client_count l.fn.core
+
+abbrev pub decreases-loop-left : goal.decreases-loop-left
+decreases-loop-left g l = l.left

@@ -1,0 +1,11 @@
+-- What contracts see of a route server.
+use Rattle.std.specs.Prelude.{ℕ, List}
+use Rattle.rs_core.specs.Ribs.{lent_by}
+use Rattle.rs_core.specs.declared.route_server.Core.{Core}
+
+unfoldable pub client_count : Core → ℕ
+client_count core = core.count
+
+-- what is left of the message in flight to a client
+unfoldable pub lent_octets : Core → ℕ → List ℕ
+lent_octets core c = lent_by core.ribs c

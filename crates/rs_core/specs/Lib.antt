@@ -1,0 +1,4 @@
+pub mod Links
+pub mod Keeping
+pub mod Ribs
+pub mod Core

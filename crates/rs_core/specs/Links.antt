@@ -1,0 +1,32 @@
+-- What a link tells and is told, the newest step first.
+use Rattle.std.specs.Prelude.{◌≡◌, ℕ, List, [], ◌∷◌, take, Option, Result}
+use Rattle.rs_policy.specs.declared.faults.RulesFault.{RulesFault}
+use Rattle.rs_core.specs.declared.links.Event.{Event}
+use Rattle.rs_core.specs.declared.links.Event.TheVariants.{Opened, Octets, Moment, Turn, Room, Lost, Rules, Stop}
+
+-- the octets of an event, where it left this in the piece and this is the text of the rules
+abbrev pub octets_of : Event → List ℕ → List ℕ → List ℕ
+octets_of (Octets c n) piece text = take n piece
+octets_of (Opened c) piece text = []
+octets_of (Moment t) piece text = []
+octets_of Turn piece text = []
+octets_of (Room c n) piece text = []
+octets_of (Lost c) piece text = []
+octets_of Rules piece text = text
+octets_of Stop piece text = []
+
+pub data Step : Type 0 where
+  -- the source told an event, with its octets
+  Told : (event : Event) (octets : List ℕ) → Step
+  -- the calls on the sink, and what an offer answered
+  Begin : (c : ℕ) → Step
+  Busy : (c : ℕ) → Step
+  Offer : (c : ℕ) (octets : List ℕ) (answer : Option ℕ) → Step
+  Memory : (c : ℕ) → Step
+  End : (c : ℕ) → Step
+  Replaced : (answer : Result Unit RulesFault) → Step
+
+-- these steps, the newest first, lead from one link to the other
+abbrev pub Leads : {L : Type 0} → (L → Step → L → Type 0) → L → List Step → L → Type 0
+Leads happens old [] new = old ≡ new
+Leads {L} happens old (s ∷ run) new = (mid : L) × Leads happens old run mid × happens mid s new

@@ -1,0 +1,123 @@
+//! What a route server is asked.
+
+ghost use Rattle.std.specs.Prelude.{◌≡◌, ◌<◌, IfSome};
+
+use crate::endings::{Ending, FaultedUpdates};
+use crate::route_server::Core;
+use rs_attrs::Mode;
+use rs_open::Limit;
+use rs_outlet::{Last, Routes};
+use rs_session::State;
+
+impl Core {
+    ghost use Rattle.rs_core.specs.Core.{client_count};
+
+    /// How many clients there are.
+    pub fn clients(&self) -> usize
+        ensures { result ≡ client_count self.now }
+    {
+        self.count
+    }
+
+    /// The client of this name.
+    pub fn place(&self, name: &str) -> Option<usize>
+        ensures { IfSome result (λ c. c < client_count self.now) }
+    {
+        self.ribs.config.place(name)
+    }
+
+    /// Whether a client is Established.
+    pub fn is_established(&self, c: usize) -> bool
+        requires { c < client_count self.now }
+    {
+        match self.sessions[c].state() {
+            State::Established => true,
+            State::Idle | State::OpenSent | State::OpenConfirm | State::Closing => false,
+        }
+    }
+
+    /// How many octets AS numbers have on the session of a client that is Established.
+    pub fn mode(&self, c: usize) -> Option<Mode>
+        requires { c < client_count self.now }
+    {
+        if self.is_established(c) {
+            self.sessions[c].mode()
+        } else {
+            None
+        }
+    }
+
+    /// How long a message to a client that is Established may be.
+    pub fn limit(&self, c: usize) -> Option<Limit>
+        requires { c < client_count self.now }
+    {
+        if self.is_established(c) {
+            Some(self.sessions[c].limit())
+        } else {
+            None
+        }
+    }
+
+    /// The Hold Time of a client that is Established, in seconds; 0 for none (RFC 4271, 4.2).
+    pub fn hold(&self, c: usize) -> Option<u16>
+        requires { c < client_count self.now }
+    {
+        if self.is_established(c) {
+            Some(self.ribs.config.hold().min(self.watched[c].hold))
+        } else {
+            None
+        }
+    }
+
+    /// Why the last session of a client that ended did so.
+    pub fn ending(&self, c: usize) -> Option<Ending>
+        requires { c < client_count self.now }
+    {
+        self.watched[c].ending
+    }
+
+    /// The UPDATEs of a client that were not taken as they came.
+    pub fn faulted(&self, c: usize) -> FaultedUpdates
+        requires { c < client_count self.now }
+    {
+        self.watched[c].faulted
+    }
+
+    /// The Loc-RIB of a client, by rising prefix: what was due to it at its last turn.
+    pub fn routes(&self, c: usize) -> Routes<'_>
+        requires { c < client_count self.now }
+    {
+        let outlet = &self.ribs.outlets[c];
+        outlet.routes(&self.ribs.tables)
+    }
+
+    /// The answer of a client's last turn.
+    pub fn last(&self, c: usize) -> Last
+        requires { c < client_count self.now }
+    {
+        let outlet = &self.ribs.outlets[c];
+        outlet.last()
+    }
+
+    /// Whether a client is Established and has got all that it is due.
+    pub fn is_drained(&self, c: usize) -> bool
+        requires { c < client_count self.now }
+    {
+        let outlet = &self.ribs.outlets[c];
+        outlet.is_drained()
+    }
+
+    /// Whether the session of a client has ended with nothing left to send.
+    pub fn wants_close(&mut self, c: usize) -> bool
+        requires { c < client_count self.old }
+        ensures { client_count self.new ≡ client_count self.old }
+    {
+        match self.sessions[c].state() {
+            State::Closing => {
+                self.begin(c);
+                self.lent(c).is_empty()
+            }
+            State::Idle | State::OpenSent | State::OpenConfirm | State::Established => false,
+        }
+    }
+}

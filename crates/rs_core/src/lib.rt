@@ -1,0 +1,28 @@
+//! The route server (RFC 7947): sessions, Adj-RIBs-In and outlets of all clients. Each event is one
+//! call.
+//!
+//! Octets come in by `octets`, are cut into messages and heard by the client's session; an UPDATE
+//! changes the Adj-RIBs-In and touches every other client's outlet. A turn decides what is touched.
+//! What is due goes out by `writable`. Nothing calls back up. `drive` makes these calls for a link.
+#![tactic(auto, unfolding(crate::specs::Core::client_count, crate::specs::Core::lent_octets))]
+
+mod asking;
+mod connections;
+mod driving;
+mod endings;
+mod hearing;
+mod links;
+mod making;
+mod ribs;
+mod route_server;
+mod rules;
+mod sending;
+mod sessions;
+mod turning;
+mod updates;
+
+pub use driving::{drive, drive_with};
+pub use endings::{Ending, FaultedUpdates, NOTICE_MAX, Notice};
+pub use links::{Event, Link, Sink, Source};
+pub use route_server::Core;
+pub use turning::Turns;

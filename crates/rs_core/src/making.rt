@@ -1,0 +1,60 @@
+//! A route server of which nothing has come.
+
+ghost use Rattle.std.specs.Prelude.{◌≡◌, length, IfOk};
+
+use crate::endings::Watched;
+use crate::ribs::Ribs;
+use crate::route_server::Core;
+use rs_policy::Config;
+use rs_session::{Session, Settings};
+use std::alloc::{AllocError, Global};
+
+/// Sessions without a connection.
+fn sessions(alloc: Global, config: &Config) -> Result<Vec<Session>, AllocError>
+    ensures { IfOk result (λ v. length v.items ≡ length config.now.clients) }
+{
+    let mut all = Vec::with_capacity(alloc, config.clients())?;
+    for c in 0..config.clients() {
+        all.push(Session::new(Settings {
+            peer_as: config.client_as(c),
+            hold: config.hold(),
+            extended: config.extended(),
+        }))?;
+    }
+    Ok(all)
+}
+
+/// Empty receive buffers, each with room for the longest message.
+fn buffers(alloc: Global, config: &Config) -> Result<Vec<Vec<u8>>, AllocError>
+    ensures { IfOk result (λ v. length v.items ≡ length config.now.clients) }
+{
+    let longest = if config.extended() { 65535 } else { 4096 };
+    let mut all = Vec::with_capacity(alloc, config.clients())?;
+    for _c in 0..config.clients() {
+        all.push(Vec::with_capacity(alloc, longest)?)?;
+    }
+    Ok(all)
+}
+
+impl Core {
+    ghost use Rattle.rs_core.specs.Core.{client_count};
+
+    /// A route server with this configuration, whose clients are all Idle.
+    pub fn new(alloc: Global, config: Config) -> Result<Core, AllocError>
+        ensures { IfOk result (λ core. client_count core ≡ length config.clients) }
+    {
+        let count = config.clients();
+        let sessions = sessions(alloc, &config)?;
+        let buffers = buffers(alloc, &config)?;
+        let watched = vec![in alloc; Watched::NONE; count]?;
+        let ribs = Ribs::new(alloc, config)?;
+        Ok(Core {
+            alloc,
+            count,
+            sessions,
+            buffers,
+            ribs,
+            watched,
+        })
+    }
+}

@@ -1,0 +1,43 @@
+//! The way of octets to a client.
+
+ghost use Rattle.std.specs.Prelude.{◌≡◌, ◌<◌, ◌≤◌, length};
+
+use crate::route_server::Core;
+
+impl Core {
+    ghost use Rattle.rs_core.specs.Core.{client_count, lent_octets};
+
+    /// Begins the next message to a client where none is in flight.
+    pub(crate) fn begin(&mut self, c: usize)
+        requires { c < client_count self.old }
+        ensures { client_count self.new ≡ client_count self.old }
+    {
+        self.ribs.begin(c);
+    }
+
+    /// What is left of the message in flight.
+    pub(crate) fn lent(&self, c: usize) -> &[u8]
+        requires { c < client_count self.now }
+        ensures { result.now ≡ lent_octets self.now c }
+    {
+        self.ribs.lent(c)
+    }
+
+    /// Begins the next message to a client where none is in flight, and lends what is left of it.
+    /// It lends nothing where there is no message to begin, and to a client that is Idle.
+    pub fn writable(&mut self, c: usize) -> &[u8]
+        requires { c < client_count self.old }
+    {
+        self.begin(c);
+        self.lent(c)
+    }
+
+    /// The link of a client took the first octets of what is lent.
+    pub fn took(&mut self, c: usize, n: usize)
+        requires client { c < client_count self.old }
+        requires lent { n ≤ length (lent_octets self.old c) }
+        ensures { client_count self.new ≡ client_count self.old }
+    {
+        self.ribs.took(c, n);
+    }
+}

@@ -1,0 +1,117 @@
+//! What a message says to a client's session, and what the session asks for.
+
+ghost use Rattle.std.specs.Prelude.{◌≡◌, ◌<◌, ◌≤◌, ◌+◌, length};
+ghost use Rattle.rs_octets.specs.Headers.{least_length};
+
+use crate::endings::{Ending, Notice};
+use crate::route_server::Core;
+use rs_octets::Kind;
+use rs_open::{AddressFamily, Open, Short, read_open, read_refresh};
+use rs_session::{Act, Heard};
+use std::alloc::AllocError;
+
+impl Core {
+    ghost use Rattle.rs_core.specs.Core.{client_count};
+
+    /// Hears a whole message.
+    pub(crate) fn hear_message(
+        &mut self,
+        c: usize,
+        kind: Kind,
+        body: &[u8],
+    ) -> Result<(), AllocError>
+        requires client { c < client_count self.old }
+        requires body { least_length kind ≤ 19 + length body.now }
+        ensures { client_count self.new ≡ client_count self.old }
+    {
+        match kind {
+            Kind::Open => self.hear_open(c, body),
+            Kind::Update => return self.hear_update(c, body),
+            Kind::Note => self.hear_note(c, body),
+            Kind::Keepalive => self.say(c, Heard::Keepalive),
+            Kind::Refresh => self.hear_refresh(c, body),
+        }
+        Ok(())
+    }
+
+    /// An OPEN (RFC 4271, 4.2).
+    fn hear_open(&mut self, c: usize, body: &[u8])
+        requires client { c < client_count self.old }
+        requires body { 10 ≤ length body.now }
+        ensures { client_count self.new ≡ client_count self.old }
+    {
+        let open = read_open(body);
+        if let Ok(Open { hold, .. }) = open {
+            self.watched[c].hold = hold;
+        }
+        self.say(c, Heard::Open(open));
+    }
+
+    /// A NOTIFICATION (RFC 4271, 4.5).
+    fn hear_note(&mut self, c: usize, body: &[u8])
+        requires { c < client_count self.old }
+        ensures { client_count self.new ≡ client_count self.old }
+    {
+        match self.sessions[c].message(Heard::Note) {
+            Act::Down(note) => self.end(c, note, Ending::Heard(Notice::of(body))),
+            act => self.act(c, act),
+        }
+    }
+
+    /// A ROUTE-REFRESH (RFC 2918, 3).
+    fn hear_refresh(&mut self, c: usize, body: &[u8])
+        requires client { c < client_count self.old }
+        requires body { 4 ≤ length body.now }
+        ensures { client_count self.new ≡ client_count self.old }
+    {
+        let AddressFamily { afi, safi } = read_refresh(body);
+        self.say(c, Heard::Refresh { afi, safi });
+    }
+
+    /// The session hears this, and what it asks for is done.
+    pub(crate) fn say(&mut self, c: usize, heard: Heard)
+        requires { c < client_count self.old }
+        ensures { client_count self.new ≡ client_count self.old }
+    {
+        let act = self.sessions[c].message(heard);
+        self.act(c, act);
+    }
+
+    /// What a session asks for.
+    pub(crate) fn act(&mut self, c: usize, act: Act)
+        requires { c < client_count self.old }
+        ensures { client_count self.new ≡ client_count self.old }
+    {
+        match act {
+            Act::None => {}
+            Act::Say(_) => self.ribs.say_keepalive(c),
+            Act::Up => self.come_up(c),
+            Act::Down(Some(note)) => self.end(c, Some(note), Ending::Said(note)),
+            Act::Down(None) => self.end(c, None, Ending::Lost),
+            Act::Again => self.ribs.again(c),
+        }
+    }
+
+    /// A client is Established.
+    fn come_up(&mut self, c: usize)
+        requires { c < client_count self.old }
+        ensures { client_count self.new ≡ client_count self.old }
+    {
+        let session = &self.sessions[c];
+        let identifier = session.identifier();
+        let limit = session.limit();
+        if let Some(mode) = session.mode() {
+            self.ribs.come_up(c, identifier, mode, limit);
+        }
+    }
+
+    /// The session of a client has ended: all that was learnt by it goes at once.
+    pub(crate) fn end(&mut self, c: usize, note: Option<Short>, ending: Ending)
+        requires { c < client_count self.old }
+        ensures { client_count self.new ≡ client_count self.old }
+    {
+        self.watched[c].ending = Some(ending);
+        self.ribs.unlearn(c);
+        self.ribs.finish(c, note);
+    }
+}

@@ -1,0 +1,289 @@
+//! A recorded session as the core's link: events come from the lines of a text, and what the core
+//! does becomes lines of another. The core stops where a line asks for routes, where the text is
+//! over, and where something failed.
+
+ghost use Rattle.std.specs.Prelude.{◌≡◌, ◌≤◌, ◌++◌, ◌∷◌, ℕ, List, [], Some, None, false, length, take, codes, IfOk, IfSome, OnOk, Option};
+ghost use Rattle.rs_core.specs.Links as links;
+ghost use Rattle.rs_replay.specs.Output.{fault_line};
+ghost use Rattle.rs_replay.specs.Trace.{Saying};
+ghost use Rattle.rs_replay.specs.Entries.{saying_in};
+ghost use Rattle.rs_replay.specs.Played.{Puts, failures_read, failures_written, failed, saying_told};
+ghost use Rattle.rs_replay.specs.Replays.{place_in, name_in, stop_of, sayings_in, saying_read, ReadsOn, TellsAs, FailsOn, AreNamesOf};
+
+use crate::fault::ReplayFault;
+use crate::lines::Lines;
+use crate::names::Names;
+use crate::output;
+use crate::text::{TextIn, TextOut};
+use crate::trace::{Entry, LineFault, read_line};
+use rs_core::{Event, Link, Sink, Source};
+use rs_policy::{Config, RulesFault};
+use std::alloc::{AllocError, Global};
+
+/// Why the core was stopped.
+#[derive(Clone, Copy, Debug, PartialEq, Eq)]
+pub enum Stop {
+    /// The text is over.
+    End,
+    /// The routes of this client are asked for.
+    Table(usize),
+    /// The replay is over.
+    Fault(ReplayFault),
+}
+
+/// Reads a line, and what it asks for: nothing where it says nothing. `number` counts the lines.
+fn read_entry<R: TextIn>(
+    names: &Names,
+    lines: &mut Lines,
+    number: &mut u64,
+    reader: &mut R,
+    piece: &mut [u8; 4096],
+) -> Result<Option<Entry>, Stop>
+    ensures on { ReadsOn R.takes R.at_end (place_in names.now) reader.old number.old lines.old reader.new number.new lines.new (sayings_in piece.new result) (stop_of result) }
+    ensures reads { R.failures reader.new ≡ failures_read (stop_of result) (R.failures reader.old) }
+    ensures unwritten { (n : ℕ) → n ≡ failures_written (stop_of result) n }
+{
+    if *number >= u64::MAX - 1 {
+        // The number of a further line has no room.
+        return Err(Stop::Fault(ReplayFault::Memory));
+    }
+    match lines.advance(reader) {
+        Ok(true) => {}
+        Ok(false) => return Err(Stop::End),
+        Err(_) => return Err(Stop::Fault(ReplayFault::Reading)),
+    }
+    *number += 1;
+    match read_line(names, lines.line(), piece) {
+        Ok(entry) => Ok(entry),
+        Err(fault) => Err(Stop::Fault(ReplayFault::Line(*number, fault))),
+    }
+}
+
+/// Reads up to a line that asks for something.
+fn next_entry<R: TextIn>(
+    names: &Names,
+    lines: &mut Lines,
+    number: &mut u64,
+    reader: &mut R,
+    piece: &mut [u8; 4096],
+) -> Result<Entry, Stop>
+    ensures on { ReadsOn R.takes R.at_end (place_in names.now) reader.old number.old lines.old reader.new number.new lines.new (saying_read piece.new result) (stop_of result) }
+    ensures reads { R.failures reader.new ≡ failures_read (stop_of result) (R.failures reader.old) }
+    ensures unwritten { (n : ℕ) → n ≡ failures_written (stop_of result) n }
+{
+    for _ in 0..u64::MAX {
+        match read_entry(names, lines, number, reader, piece) {
+            Ok(None) => {}
+            Ok(Some(entry)) => return Ok(entry),
+            Err(stop) => return Err(stop),
+        }
+    }
+    Err(Stop::Fault(ReplayFault::Memory))
+}
+
+/// The event that an entry asks for, and why the core is stopped in its place. The text of the rules
+/// is kept.
+fn event_of(rules: &mut Vec<u8>, entry: Entry, piece: &[u8; 4096]) -> (Event, Option<Stop>)
+    ensures { TellsAs (saying_in piece.now entry ∷ []) (saying_told result.0 (links.octets_of result.0 piece.now rules.new.items)) result.1 }
+{
+    match entry {
+        Entry::Open(c) => (Event::Opened(c), None),
+        Entry::Octets(c, size) => (Event::Octets(c, size), None),
+        Entry::Room(c, room) => (Event::Room(c, room), None),
+        Entry::Moment(second) => (Event::Moment(second), None),
+        Entry::Turn => (Event::Turn, None),
+        Entry::Lost(c) => (Event::Lost(c), None),
+        Entry::Rules(size) => {
+            let text: &[u8] = piece;
+            rules.clear();
+            match rules.extend_from_slice(&text[..size.min(4096)]) {
+                Ok(()) => (Event::Rules, None),
+                Err(_) => (Event::Stop, Some(Stop::Fault(ReplayFault::Memory))),
+            }
+        }
+        Entry::Table(c) => (Event::Stop, Some(Stop::Table(c))),
+    }
+}
+
+/// Whether nothing is to be written any more.
+fn has_failed(stop: Option<Stop>) -> bool
+    ensures { result ≡ failed stop }
+{
+    match stop {
+        Some(Stop::Fault(ReplayFault::Line(_, _))) => false,
+        Some(Stop::Fault(_)) => true,
+        _ => false,
+    }
+}
+
+/// Writes a line, where there was memory for it and nothing has failed, and answers why the core
+/// is stopped then.
+fn write_line<W: TextOut>(
+    writer: &mut W,
+    stop: Option<Stop>,
+    made: Result<(), AllocError>,
+    line: &[u8],
+) -> Option<Stop>
+    ensures put { (to : W) (octets wanted : List ℕ) → OnOk made (line.now ≡ wanted) → Puts (λ xs. W.puts to xs writer.old) octets stop → Puts (λ xs. W.puts to xs writer.new) (octets ++ wanted) result }
+    ensures fails { FailsOn stop result }
+    ensures reads { (n : ℕ) → failures_read result n ≡ failures_read stop n }
+    ensures writes { (n : ℕ) → W.failures writer.old ≡ failures_written stop n → W.failures writer.new ≡ failures_written result n }
+{
+    if has_failed(stop) {
+        return stop;
+    }
+    if made.is_err() {
+        return Some(Stop::Fault(ReplayFault::Memory));
+    }
+    match output::put(writer, line) {
+        Ok(()) => stop,
+        Err(_) => Some(Stop::Fault(ReplayFault::Writing)),
+    }
+}
+
+/// Reads a trace, and writes what comes of it.
+#[derive(Drop)]
+pub struct Recording<'a, R, W> {
+    alloc: Global,
+    names: Names,
+    lines: Lines,
+    /// How many lines were read.
+    number: u64,
+    /// The text of the last line `rules`.
+    rules: Vec<u8>,
+    /// The line that is written.
+    line: Vec<u8>,
+    stop: Option<Stop>,
+    reader: &'a mut R,
+    writer: &'a mut W,
+}
+
+impl<'a, R: TextIn, W: TextOut> Recording<'a, R, W> {
+    /// Before the first line. It has the clients of the configuration.
+    pub fn new(
+        alloc: Global,
+        config: &Config,
+        reader: &'a mut R,
+        writer: &'a mut W,
+    ) -> Result<Recording<'a, R, W>, AllocError>
+        ensures names { IfOk result (λ r. AreNamesOf r.names config.now) }
+        ensures reader { IfOk result (λ r. r.reader.ghost_name ≡ reader.entry.ghost_name) }
+        ensures writer { IfOk result (λ r. r.writer.ghost_name ≡ writer.entry.ghost_name) }
+        ensures given { IfOk result (λ r. r.reader.now ≡ reader.old) }
+        ensures lent { IfOk result (λ r. r.writer.now ≡ writer.old) }
+        ensures fresh { IfOk result (λ r. (r.lines.rest ≡ []) × (r.lines.is_over ≡ false) × (r.number ≡ 0) × (r.stop ≡ None)) }
+    {
+        Ok(Recording {
+            alloc,
+            names: Names::new(alloc, config)?,
+            lines: Lines::new(alloc)?,
+            number: 0,
+            rules: Vec::new(alloc),
+            line: Vec::new(alloc),
+            stop: None,
+            reader,
+            writer,
+        })
+    }
+
+    /// Why the core was stopped.
+    pub fn stop(&self) -> Option<Stop>
+        ensures { result ≡ self.now.stop }
+    {
+        self.stop
+    }
+
+    /// Goes on behind a stop.
+    pub fn resume(&mut self)
+        ensures { self.new ≡ record self.old { stop = None } }
+    {
+        self.stop = None;
+    }
+
+    /// The name of a client.
+    pub fn name(&self, c: usize) -> &[u8]
+        ensures { result.now ≡ name_in self.now.names c }
+    {
+        self.names.name(c)
+    }
+
+    /// Tells a client's routes, in these lines, where there was memory for them.
+    pub fn tell_routes(&mut self, lines: &Result<Vec<u8>, AllocError>) {
+        match lines {
+            Ok(lines) => self.stop = write_line(self.writer, self.stop, Ok(()), lines),
+            Err(_) => self.stop = write_line(self.writer, self.stop, Err(AllocError), &[]),
+        }
+    }
+
+    /// Tells the fault of a line as the last, and answers why the replay is over.
+    pub fn end_at(&mut self, number: u64, fault: LineFault) -> ReplayFault {
+        let made = output::faulty(self.alloc, &mut self.line, number, fault);
+        self.stop = write_line(self.writer, self.stop, made, &self.line);
+        match self.stop {
+            Some(Stop::Fault(failure)) => failure,
+            _ => ReplayFault::Line(number, fault),
+        }
+    }
+}
+
+impl<'a, R: TextIn, W: TextOut> Link for Recording<'a, R, W> {
+    ghost use Rattle.rs_replay.specs.Replays.{Happens};
+
+    ghost happens = { λ old step new. Happens R.takes R.at_end R.failures W.puts W.failures old.names old.reader.ghost_name old.writer.ghost_name old.reader.now old.writer.now old.lines old.number old.stop step new.names new.reader.ghost_name new.writer.ghost_name new.reader.now new.writer.now new.lines new.number new.stop };
+
+    ghost text = { λ r. r.rules.items };
+}
+
+impl<'a, R: TextIn, W: TextOut> Source for Recording<'a, R, W> {
+    fn next(&mut self, piece: &mut [u8; 4096]) -> Event {
+        if self.stop.is_some() {
+            return Event::Stop;
+        }
+        let (names, lines, number) = (&self.names, &mut self.lines, &mut self.number);
+        match next_entry(names, lines, number, self.reader, piece) {
+            Ok(entry) => {
+                let (event, stop) = event_of(&mut self.rules, entry, piece);
+                self.stop = stop;
+                event
+            }
+            Err(stop) => {
+                self.stop = Some(stop);
+                Event::Stop
+            }
+        }
+    }
+
+    fn rules(&self) -> &[u8] {
+        &self.rules
+    }
+}
+
+impl<'a, R: TextIn, W: TextOut> Sink for Recording<'a, R, W> {
+    fn begin(&mut self, _c: usize) {}
+
+    fn busy(&mut self, c: usize) {
+        let made = output::busy(&mut self.line, self.names.name(c));
+        self.stop = write_line(self.writer, self.stop, made, &self.line);
+    }
+
+    fn offer(&mut self, c: usize, octets: &[u8]) -> Option<usize> {
+        let made = output::sent(self.alloc, &mut self.line, self.names.name(c), octets);
+        self.stop = write_line(self.writer, self.stop, made, &self.line);
+        Some(octets.len())
+    }
+
+    fn memory(&mut self, c: usize) {
+        let made = output::memory(&mut self.line, self.names.name(c));
+        self.stop = write_line(self.writer, self.stop, made, &self.line);
+    }
+
+    fn end(&mut self, c: usize) {
+        let made = output::closed(&mut self.line, self.names.name(c));
+        self.stop = write_line(self.writer, self.stop, made, &self.line);
+    }
+
+    fn ruled(&mut self, answer: &Result<(), RulesFault>) {
+        let made = output::ruled(&mut self.line, answer);
+        self.stop = write_line(self.writer, self.stop, made, &self.line);
+    }
+}

@@ -1,0 +1,96 @@
+//! The live route server. `command` reads the command line; `serve` is the loop, which gives the
+//! core events by a `link` over `ports`; `sockets` are the ports of the system. `seats` and `outbox`
+//! are what the link keeps of each connection, `watch` and `reports` tell an operator what happened.
+#![tactic(auto)]
+
+pub mod command;
+pub mod configuration;
+pub mod link;
+pub mod names;
+pub mod outbox;
+pub mod ports;
+pub mod reports;
+pub mod seats;
+pub mod serve;
+pub mod sockets;
+pub mod watch;
+
+use crate::command::{Asked, Options, read_command};
+use crate::configuration::{Refused, read_configuration};
+use crate::names::Names;
+use crate::seats::listeners;
+use crate::serve::{Limits, serve};
+use crate::sockets::Sockets;
+use anyhow::Result;
+use rs_policy::Config;
+use std::alloc::Global;
+use std::net::Net;
+use std::process::ExitCode;
+use std::rt::{Clock, Files};
+use std::sync::Wait;
+use std::thread::Threads;
+
+/// Serves, and answers the status to end with.
+fn run<R: Threads + Wait + Sync + Net + Clock + Files + Print + Eprint>(
+    rt: &R,
+    alloc: Global,
+    options: &Options,
+    config: Config,
+) -> Result<u8> {
+    let names = Names::of(alloc, &config)?;
+    let addresses = listeners(alloc, &config)?;
+    let mut ports = match Sockets::listen(
+        rt,
+        alloc,
+        &options.config,
+        &names,
+        options.log,
+        &addresses,
+    ) {
+        Ok(ports) => ports,
+        Err(fault) => {
+            eprintln!(rt; "listening failed: {fault}")?;
+            return Ok(3);
+        }
+    };
+    let limits = Limits {
+        workers: options.workers,
+        sessions: options.sessions,
+        reload: options.reload,
+    };
+    match serve(rt, alloc, &mut ports, config, limits) {
+        Ok(()) => Ok(0),
+        Err(fault) => {
+            eprintln!(rt; "{fault}")?;
+            Ok(3)
+        }
+    }
+}
+
+fn main(rt: HostRuntime) -> Result<ExitCode> {
+    let alloc = rt.alloc();
+    let words: Vec<String> = std::env::args(&rt)?.collect(alloc)?;
+    let options = match read_command(&rt, alloc, &words)? {
+        Asked::Serve(options) => options,
+        Asked::End(status) => return Ok(ExitCode::from(status)),
+    };
+    let config = match read_configuration(&rt, alloc, &options.config) {
+        Ok(config) => config,
+        Err(Refused::Memory) => {
+            eprintln!(rt; "out of memory")?;
+            return Ok(ExitCode::from(3));
+        }
+        Err(Refused::Fault(fault)) => {
+            eprintln!(rt; "configuration: {fault}")?;
+            return Ok(ExitCode::from(2));
+        }
+    };
+    if options.check {
+        println!(rt; "configuration: good, {} clients", config.clients())?;
+        return Ok(ExitCode::SUCCESS);
+    }
+    Ok(ExitCode::from(run(&rt, alloc, &options, config)?))
+}
+
+#[cfg(test)]
+mod tests;

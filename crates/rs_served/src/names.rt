@@ -1,0 +1,43 @@
+//! The names and AS numbers of the clients, for what is printed of them while the core has the
+//! configuration.
+
+use rs_policy::Config;
+use std::alloc::{AllocError, Global};
+
+/// The name and the AS number of each client. Neither changes while the server runs.
+#[derive(Drop)]
+pub struct Names {
+    names: Vec<String>,
+    numbers: Vec<u32>,
+}
+
+impl Names {
+    /// The names of a configuration's clients.
+    pub fn of(alloc: Global, config: &Config) -> Result<Names, AllocError> {
+        let mut names = Vec::with_capacity(alloc, config.clients())?;
+        let mut numbers = Vec::with_capacity(alloc, config.clients())?;
+        for c in 0..config.clients() {
+            names.push(String::from_str(alloc, config.name(c))?)?;
+            numbers.push(config.client_as(c))?;
+        }
+        Ok(Names { names, numbers })
+    }
+
+    /// How many clients there are.
+    pub fn count(&self) -> usize {
+        self.names.len()
+    }
+
+    /// The name of a client.
+    pub fn name(&self, c: usize) -> &str {
+        match self.names.get(c) {
+            Some(name) => name.as_str(),
+            None => "?",
+        }
+    }
+
+    /// The AS number of a client.
+    pub fn number(&self, c: usize) -> u32 {
+        self.numbers.get(c).copied().unwrap_or(0)
+    }
+}

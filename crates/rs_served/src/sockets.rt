@@ -1,0 +1,232 @@
+//! The ports that are sockets of the system, its clock, the file of the configuration, and the
+//! standard streams.
+
+ghost use Rattle.std.specs.Prelude.{◌≡◌};
+
+use crate::configuration::read_file;
+use crate::names::Names;
+use crate::ports::{Caller, Line, PortFault, Ports};
+use crate::reports::Report;
+use mio::net::{TcpListener, TcpStream};
+use mio::{Events, Interest, Poll, Token};
+use slab::Slab;
+use std::alloc::Global;
+use std::io;
+use std::io::{ErrorKind, Read, Write};
+use std::net::{IpAddr, Ipv4Addr, Net, SocketAddr, SocketAddrV4};
+use std::rt::{Clock, Files};
+use std::time::{Duration, Instant};
+
+/// The tokens of listeners lie above those of connections.
+const FIRST_LISTENER: usize = 1 << 32;
+
+/// A connection, and whether something may be there to read.
+#[derive(Drop)]
+struct Stream {
+    stream: TcpStream,
+    is_ready: bool,
+}
+
+/// Listeners and connections under one poll.
+#[derive(Drop)]
+pub struct Sockets<'a, R> {
+    rt: &'a R,
+    /// The file of the configuration.
+    path: &'a str,
+    names: &'a Names,
+    /// Reports are told on standard error.
+    is_logging: bool,
+    poll: Poll,
+    events: Events,
+    listeners: Vec<TcpListener>,
+    /// The listeners before this one have no connection left to accept.
+    asked: usize,
+    streams: Slab<Stream>,
+    start: Instant,
+    failures: u64,
+}
+
+impl<'a, R: Net + Clock + Files + Print + Eprint> Sockets<'a, R> {
+    /// Listens at these addresses and says so, a line each.
+    pub fn listen(
+        rt: &'a R,
+        alloc: Global,
+        path: &'a str,
+        names: &'a Names,
+        is_logging: bool,
+        addresses: &[(u32, u16)],
+    ) -> io::Result<Sockets<'a, R>> {
+        let poll = Poll::new(rt)?;
+        let events = Events::with_capacity(alloc, 1024)?;
+        let mut listeners = Vec::new(alloc);
+        for (at, address) in addresses.iter().enumerate() {
+            let address = SocketAddrV4::new(Ipv4Addr::from(address.0), address.1);
+            let mut listener = TcpListener::bind(rt, SocketAddr::V4(address))?;
+            let token = Token(FIRST_LISTENER.saturating_add(at));
+            poll.registry()
+                .register(&mut listener, token, Interest::READABLE)?;
+            rt.println(format_args!("listening {address}"))?;
+            listeners.push(listener)?;
+        }
+        let mut streams = Slab::new(alloc);
+        streams.reserve(names.count().saturating_mul(2).saturating_add(1))?;
+        Ok(Sockets {
+            rt,
+            path,
+            names,
+            is_logging,
+            poll,
+            events,
+            listeners,
+            asked: 0,
+            streams,
+            start: Instant::now(rt)?,
+            failures: 0,
+        })
+    }
+
+    /// Keeps an accepted connection, and tells its caller.
+    fn keep(&mut self, listener: usize, mut stream: TcpStream, from: SocketAddr) -> Option<Caller>
+        ensures { self.new.failures ≡ self.old.failures }
+    {
+        let IpAddr::V4(address) = from.ip() else {
+            return None;
+        };
+        let _ = stream.set_nodelay(true);
+        let token = Token(self.streams.vacant_key());
+        let both = Interest::READABLE | Interest::WRITABLE;
+        self.poll
+            .registry()
+            .register(&mut stream, token, both)
+            .ok()?;
+        let key = self
+            .streams
+            .insert(Stream {
+                stream,
+                is_ready: true,
+            })
+            .ok()?;
+        Some(Caller {
+            listener,
+            address: u32::from(address),
+            key,
+        })
+    }
+}
+
+impl<'a, R: Net + Clock + Files + Print + Eprint> Ports for Sockets<'a, R> {
+    ghost failures = { λ p. p.failures };
+
+    fn wait(&mut self, pause: bool) -> Result<(), PortFault> {
+        let most = if pause { 1 } else { 0 };
+        if self
+            .poll
+            .poll(&mut self.events, Some(Duration::from_secs(most)))
+            .is_err()
+        {
+            self.failures = self.failures.saturating_add(1);
+            return Err(PortFault);
+        }
+        for event in self.events.iter() {
+            if let Some(stream) = self.streams.get_mut(event.token().0) {
+                stream.is_ready = true;
+            }
+        }
+        self.asked = 0;
+        Ok(())
+    }
+
+    fn accept(&mut self) -> Result<Option<Caller>, PortFault> {
+        for _ in 0..u32::MAX {
+            let Some(listener) = self.listeners.get(self.asked) else {
+                return Ok(None);
+            };
+            match listener.accept() {
+                Ok((stream, from)) => {
+                    let at = self.asked;
+                    if let Some(caller) = self.keep(at, stream, from) {
+                        return Ok(Some(caller));
+                    }
+                }
+                Err(error) if error.kind() == ErrorKind::WouldBlock => {
+                    self.asked = self.asked.saturating_add(1);
+                }
+                Err(_) => {
+                    self.failures = self.failures.saturating_add(1);
+                    return Err(PortFault);
+                }
+            }
+        }
+        Ok(None)
+    }
+
+    fn read(&mut self, key: usize, piece: &mut [u8; 4096]) -> Result<Option<usize>, PortFault> {
+        let Some(stream) = self.streams.get_mut(key) else {
+            return Ok(None);
+        };
+        if !stream.is_ready {
+            return Ok(None);
+        }
+        match (&stream.stream).read(piece) {
+            Ok(n) => Ok(Some(n)),
+            Err(error) if error.kind() == ErrorKind::WouldBlock => {
+                stream.is_ready = false;
+                Ok(None)
+            }
+            Err(_) => Err(PortFault),
+        }
+    }
+
+    fn write(&mut self, key: usize, octets: &[u8]) -> Result<Option<usize>, PortFault> {
+        let Some(stream) = self.streams.get(key) else {
+            return Ok(None);
+        };
+        match (&stream.stream).write(octets) {
+            Ok(n) => Ok(Some(n)),
+            Err(error) if error.kind() == ErrorKind::WouldBlock => Ok(None),
+            Err(_) => Err(PortFault),
+        }
+    }
+
+    fn close(&mut self, key: usize) {
+        if let Some(mut gone) = self.streams.try_remove(key) {
+            let _ = self.poll.registry().deregister(&mut gone.stream);
+        }
+    }
+
+    fn seconds(&mut self) -> u64 {
+        match self.start.elapsed(self.rt) {
+            Ok(passed) => passed.as_secs(),
+            Err(_) => 0,
+        }
+    }
+
+    fn text(&mut self, text: &mut Vec<u8>) -> Result<(), PortFault> {
+        text.clear();
+        match read_file(self.rt, self.path, text) {
+            Ok(()) => Ok(()),
+            Err(_) => Err(PortFault),
+        }
+    }
+
+    fn say(&mut self, line: &Line) {
+        let name = |c: usize| self.names.name(c);
+        let _ = match line {
+            Line::Begin(c) => self.rt.println(format_args!("begin {}", name(*c))),
+            Line::Busy(c) => self.rt.println(format_args!("busy {}", name(*c))),
+            Line::Stranger => self.rt.println(format_args!("stranger")),
+            Line::Close(c) => self.rt.println(format_args!("close {}", name(*c))),
+            Line::Lost(c) => self.rt.println(format_args!("lost {}", name(*c))),
+            Line::Memory(c) => self.rt.println(format_args!("memory {}", name(*c))),
+            Line::Rules(Ok(())) => self.rt.println(format_args!("rules accepted")),
+            Line::Rules(Err(fault)) => self.rt.println(format_args!("rules refused: {fault}")),
+        };
+    }
+
+    fn log(&mut self, report: &Report) {
+        if self.is_logging {
+            let seconds = self.seconds();
+            let _ = report.print(self.rt, seconds, self.names);
+        }
+    }
+}

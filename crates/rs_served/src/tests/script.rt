@@ -1,0 +1,227 @@
+//! Ports in memory: members that say what a script has, and a call that fails where it is wanted.
+
+ghost use Rattle.std.specs.Prelude.{◌≡◌, ◌≤◌, IfOk, IfSome, length};
+
+use crate::ports::{Caller, Line, PortFault, Ports};
+use crate::reports::Report;
+use std::alloc::{AllocError, Global};
+
+/// Octets that a member says once it was sent so many.
+#[derive(Clone, Copy)]
+pub struct Said {
+    pub octets: &'static [u8],
+    pub behind: usize,
+}
+
+/// A connection of a member.
+#[derive(Drop)]
+pub struct Wire {
+    caller: Caller,
+    says: Vec<Said>,
+    given: usize,
+    /// The member closes once it has said all and was sent so many octets, and not before this round.
+    until: usize,
+    stays: u64,
+    /// It takes no octets.
+    is_deaf: bool,
+    pub heard: Vec<u8>,
+    pub is_open: bool,
+}
+
+/// Ports whose `failing`th call fails.
+#[derive(Drop)]
+pub struct Script {
+    alloc: Global,
+    pub wires: Vec<Wire>,
+    accepted: usize,
+    calls: u64,
+    failing: u64,
+    failures: u64,
+    /// In this round all members close.
+    pub end: u64,
+    /// How many seconds pass in each round.
+    pub pace: u64,
+    rounds: u64,
+    pub text: &'static [u8],
+    /// What the text is from this round on.
+    pub later: Option<(u64, &'static [u8])>,
+    pub said: Vec<Line>,
+    pub reports: usize,
+}
+
+impl Script {
+    pub fn new(alloc: Global, failing: u64) -> Script {
+        Script {
+            alloc,
+            wires: Vec::new(alloc),
+            accepted: 0,
+            calls: 0,
+            failing,
+            failures: 0,
+            end: u64::MAX,
+            pace: 0,
+            rounds: 0,
+            text: b"",
+            later: None,
+            said: Vec::new(alloc),
+            reports: 0,
+        }
+    }
+
+    /// A connection that comes from this address.
+    pub fn wire(
+        &mut self,
+        listener: usize,
+        address: u32,
+        says: &[Said],
+        until: usize,
+    ) -> Result<(), AllocError> {
+        let key = self.wires.len();
+        self.wires.push(Wire {
+            caller: Caller {
+                listener,
+                address,
+                key,
+            },
+            says: Vec::from_slice(self.alloc, says)?,
+            given: 0,
+            until,
+            stays: 0,
+            is_deaf: false,
+            heard: Vec::new(self.alloc),
+            is_open: false,
+        })?;
+        Ok(())
+    }
+
+    /// The member of this connection doesn't close before this round.
+    pub fn stay(&mut self, key: usize, round: u64) {
+        if let Some(wire) = self.wires.get_mut(key) {
+            wire.stays = round;
+        }
+    }
+
+    /// The member of this connection takes no octets from now on.
+    pub fn deafen(&mut self, key: usize) {
+        if let Some(wire) = self.wires.get_mut(key) {
+            wire.is_deaf = true;
+        }
+    }
+
+    /// What was sent on a connection.
+    pub fn heard(&self, key: usize) -> &[u8] {
+        match self.wires.get(key) {
+            Some(wire) => &wire.heard,
+            None => &[],
+        }
+    }
+
+    /// How many calls of `wait` and `accept` have failed.
+    pub fn failed(&self) -> u64 {
+        self.failures
+    }
+
+    fn fails(&mut self) -> bool
+        ensures { self.new.failures ≡ self.old.failures }
+    {
+        self.calls = self.calls.saturating_add(1);
+        self.calls == self.failing
+    }
+}
+
+impl Ports for Script {
+    ghost failures = { λ p. p.failures };
+
+    fn wait(&mut self, _pause: bool) -> Result<(), PortFault> {
+        self.rounds = self.rounds.saturating_add(1);
+        if self.fails() {
+            self.failures = self.failures.saturating_add(1);
+            return Err(PortFault);
+        }
+        Ok(())
+    }
+
+    fn accept(&mut self) -> Result<Option<Caller>, PortFault> {
+        if self.fails() {
+            self.failures = self.failures.saturating_add(1);
+            return Err(PortFault);
+        }
+        match self.wires.get_mut(self.accepted) {
+            None => Ok(None),
+            Some(wire) => {
+                self.accepted = self.accepted.saturating_add(1);
+                wire.is_open = true;
+                Ok(Some(wire.caller))
+            }
+        }
+    }
+
+    fn read(&mut self, key: usize, piece: &mut [u8; 4096]) -> Result<Option<usize>, PortFault> {
+        if self.fails() {
+            return Err(PortFault);
+        }
+        let Some(wire) = self.wires.get_mut(key) else {
+            return Ok(None);
+        };
+        if self.rounds >= self.end {
+            return Ok(Some(0));
+        }
+        let Some(said) = wire.says.get(wire.given) else {
+            let is_done = wire.heard.len() >= wire.until && self.rounds >= wire.stays;
+            return Ok(if is_done { Some(0) } else { None });
+        };
+        if wire.heard.len() < said.behind {
+            return Ok(None);
+        }
+        wire.given = wire.given.saturating_add(1);
+        let n = said.octets.len().min(4096);
+        piece[..n].copy_from_slice(&said.octets[..n]);
+        Ok(Some(n))
+    }
+
+    fn write(&mut self, key: usize, octets: &[u8]) -> Result<Option<usize>, PortFault> {
+        if self.fails() {
+            return Err(PortFault);
+        }
+        let Some(wire) = self.wires.get_mut(key) else {
+            return Ok(None);
+        };
+        if wire.is_deaf {
+            return Ok(None);
+        }
+        match wire.heard.extend_from_slice(octets) {
+            Ok(()) => Ok(Some(octets.len())),
+            Err(_) => Err(PortFault),
+        }
+    }
+
+    fn close(&mut self, key: usize) {
+        if let Some(wire) = self.wires.get_mut(key) {
+            wire.is_open = false;
+        }
+    }
+
+    fn seconds(&mut self) -> u64 {
+        self.rounds.saturating_mul(self.pace)
+    }
+
+    fn text(&mut self, text: &mut Vec<u8>) -> Result<(), PortFault> {
+        let octets = match self.later {
+            Some((round, octets)) if self.rounds >= round => octets,
+            _ => self.text,
+        };
+        text.clear();
+        match text.extend_from_slice(octets) {
+            Ok(()) => Ok(()),
+            Err(_) => Err(PortFault),
+        }
+    }
+
+    fn say(&mut self, line: &Line) {
+        let _ = self.said.push(*line);
+    }
+
+    fn log(&mut self, _report: &Report) {
+        self.reports = self.reports.saturating_add(1);
+    }
+}
