@@ -54,7 +54,7 @@ fn run<R: Threads + Wait + Sync + Net + Clock + Files + Print + Eprint>(
         }
     };
     let limits = Limits {
-        workers: options.workers,
+        workers: options.workers.clamp(1, 16),
         sessions: options.sessions,
         reload: options.reload,
     };
