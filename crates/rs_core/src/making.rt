@@ -5,6 +5,7 @@ ghost use Rattle.std.specs.Prelude.{◌≡◌, length, IfOk};
 use crate::endings::Watched;
 use crate::ribs::Ribs;
 use crate::route_server::Core;
+use rs_octets::{LONGEST_EXTENDED_MESSAGE, LONGEST_MESSAGE};
 use rs_policy::Config;
 use rs_session::{Session, Settings};
 use std::alloc::{AllocError, Global};
@@ -28,7 +29,11 @@ fn sessions(alloc: Global, config: &Config) -> Result<Vec<Session>, AllocError>
 fn buffers(alloc: Global, config: &Config) -> Result<Vec<Vec<u8>>, AllocError>
     ensures { IfOk result (λ v. length v.items ≡ length config.now.clients) }
 {
-    let longest = if config.extended() { 65535 } else { 4096 };
+    let longest = usize::from(if config.extended() {
+        LONGEST_EXTENDED_MESSAGE
+    } else {
+        LONGEST_MESSAGE
+    });
     let mut all = Vec::with_capacity(alloc, config.clients())?;
     for _c in 0..config.clients() {
         all.push(Vec::with_capacity(alloc, longest)?)?;

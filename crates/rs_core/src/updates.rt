@@ -8,14 +8,11 @@ ghost use Rattle.rs_attrs.specs.Effects.{same_prefix, has_prefix, HasMandatory};
 
 use crate::route_server::Core;
 use rs_attrs::Attrs;
-use rs_octets::Prefix;
+use rs_octets::{Notification, Prefix};
 use rs_session::{Act, Heard};
 use rs_update::{Outcome, effect};
 use std::alloc::AllocError;
 use std::sync::Arc;
-
-/// Cease, Maximum Number of Prefixes Reached (RFC 4486, 4).
-const TOO_MANY_PREFIXES: (u8, u8) = (6, 1);
 
 impl Core {
     ghost use Rattle.rs_core.specs.Core.{client_count};
@@ -42,7 +39,9 @@ impl Core {
             } => {
                 self.watched[c].note(faulted);
                 if self.is_beyond(c, &withdrawn, &announced) {
-                    self.say(c, Heard::Update(Some(TOO_MANY_PREFIXES)));
+                    // RFC 4486, 4
+                    let reset = Notification::MaximumPrefixesReached;
+                    self.say(c, Heard::Update(Some((reset.code(), reset.sub()))));
                     return Ok(());
                 }
                 self.change(c, &withdrawn, &announced, attrs)

@@ -3,6 +3,7 @@ pub mod Fields
 pub mod Fronting
 pub mod GoodHeaders
 pub mod Masked
+pub mod NameList
 pub mod OneWay
 pub mod Pieces
 pub mod PrefixLemmas

@@ -2,6 +2,7 @@
 use Rattle.std.specs.Prelude.{ℕ, ◌==◌, ◌≤◌, ◌++◌, List, [], ◌∷◌, take, replicate, Option, Some, None, Result, Ok, Err, if◌then◌else◌, slice_index}
 use Rattle.std.specs.List.{list_all}
 use Rattle.std.specs.Int.{w16, from_be_bytes, to_be_bytes, is_in_range}
+use Rattle.rs_octets.specs.Numbers.{longest_message, longest_extended_message}
 use Rattle.rs_octets.specs.declared.heads.Allowed.{Allowed}
 use Rattle.rs_octets.specs.declared.heads.Kind.TheVariants.{Open, Update, Note, Keepalive, Refresh}
 use Rattle.rs_octets.specs.declared.heads.Kind.{Kind}
@@ -9,9 +10,9 @@ use Rattle.rs_octets.specs.declared.heads.Head.{Head}
 use Rattle.rs_octets.specs.declared.heads.HeaderFault.{HeaderFault}
 use Rattle.rs_octets.specs.declared.heads.HeaderFault.TheVariants as faults
 
--- the greatest length of any message (RFC 4271, 4.1; RFC 8654, 4)
+-- the greatest length of any message
 abbrev pub longest : Allowed → ℕ
-longest allowed = if allowed.long then 65535 else 4096
+longest allowed = if allowed.long then longest_extended_message else longest_message
 
 -- the number of a type (RFC 4271, 4.1; RFC 2918, 3)
 abbrev pub type_number : Kind → ℕ
@@ -41,7 +42,7 @@ least_length Keepalive = 19
 least_length Refresh = 23
 
 abbrev pub greatest_length : Allowed → Kind → ℕ
-greatest_length allowed Open = 4096
+greatest_length allowed Open = longest_message
 greatest_length allowed Update = longest allowed
 greatest_length allowed Note = longest allowed
 greatest_length allowed Keepalive = 19

@@ -7,3 +7,5 @@ pub mod Messages
 pub mod Fronts
 pub mod PrefixOrder
 pub mod Writes
+pub mod Numbers
+pub mod Names

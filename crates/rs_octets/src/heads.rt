@@ -6,6 +6,7 @@ ghost use Rattle.std.specs.Int.{is_in_range};
 ghost use Rattle.rs_octets.specs.Headers.{longest, type_number, kind_numbered, least_length, greatest_length, HasLengthOfType, header_of, header_octets};
 ghost use Rattle.rs_octets.specs.Writes.{Writes};
 
+use crate::numbers::{LONGEST_EXTENDED_MESSAGE, LONGEST_MESSAGE};
 use crate::writes::put;
 use byteorder::{BigEndian, ByteOrder};
 use thiserror::Error;
@@ -59,7 +60,11 @@ pub enum HeaderFault {
 fn longest_message(allowed: Allowed) -> u16
     ensures { result ≡ longest allowed }
 {
-    if allowed.long { 65535 } else { 4096 }
+    if allowed.long {
+        LONGEST_EXTENDED_MESSAGE
+    } else {
+        LONGEST_MESSAGE
+    }
 }
 
 impl Kind {
@@ -108,7 +113,7 @@ impl Kind {
         ensures { result ≡ greatest_length allowed self }
     {
         match self {
-            Kind::Open => 4096,
+            Kind::Open => LONGEST_MESSAGE,
             Kind::Update | Kind::Note => longest_message(allowed),
             Kind::Keepalive | Kind::Refresh => self.least_length(),
         }

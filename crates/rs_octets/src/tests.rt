@@ -1,5 +1,7 @@
 //! Values from outside: octets of BGP messages, taken apart by hand.
 
+mod naming;
+
 use crate::{
     AS_TRANS, Allowed, FieldFault, Front, Head, HeaderFault, Kind, Prefix, header, laws, put,
     put_header, put_prefix, read_front, read_prefixes,

@@ -4,5 +4,4 @@ pub mod Answering
 pub mod Written
 pub mod Heard
 pub mod ShortMessages
-pub mod NameList
 pub mod GoodOpens

@@ -6,4 +6,3 @@ pub mod Walk
 pub mod Writing
 pub mod Laws
 pub mod Good
-pub mod Names

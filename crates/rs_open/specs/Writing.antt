@@ -4,6 +4,7 @@ use Rattle.std.specs.List.{flat_map}
 use Rattle.byteorder.specs.Endian.{big_bytes}
 use Rattle.rs_octets.specs.declared.heads.Kind.TheVariants as kinds
 use Rattle.rs_octets.specs.Messages.{message_octets}
+use Rattle.rs_octets.specs.Numbers.{as_trans}
 use Rattle.rs_open.specs.declared.short.Short.{Short}
 use Rattle.rs_open.specs.declared.short.Short.TheVariants as shorts
 use Rattle.rs_open.specs.declared.writing.ServerOpen.{ServerOpen}
@@ -46,9 +47,9 @@ capabilities_said said =
 abbrev pub parameter_said : ServerOpen → Triple
 parameter_said said = record { kind = 2; value = flat_map triple_octets (capabilities_said said) }
 
--- AS_TRANS, 23456, stands for a number that two octets can't hold (RFC 6793, 3)
+-- AS_TRANS stands for a number that two octets can't hold (RFC 6793, 3)
 abbrev pub my_as_said : ℕ → ℕ
-my_as_said number = if nat_lt 65535 number then 23456 else number
+my_as_said number = if nat_lt 65535 number then as_trans else number
 
 abbrev pub body_said : ServerOpen → List ℕ
 body_said said =

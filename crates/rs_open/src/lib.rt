@@ -4,7 +4,6 @@
 
 mod codes;
 mod laws;
-mod notification;
 mod open;
 mod reading;
 mod refresh;
@@ -18,7 +17,6 @@ pub use laws::{
     an_open_is_taken_where_it_is_good, an_open_of_ours_is_good, octets_are_one_row_of_triples,
     short_is_a_message,
 };
-pub use notification::Notification;
 pub use open::{Open, OpenFault};
 pub use reading::read_open;
 pub use refresh::{AddressFamily, read_refresh};

@@ -1,8 +1,11 @@
 //! The messages that a session says by itself, and how long a message may be.
 
-ghost use Rattle.std.specs.Prelude.{◌≡◌};
-ghost use Rattle.rs_open.specs.Notes.{limit_octets};
+ghost use Rattle.std.specs.Prelude.{◌≡◌, IfSome, IfNone};
+ghost use Rattle.rs_octets.specs.declared.notification.Notification.{Notification};
+ghost use Rattle.rs_open.specs.Notes.{note_of, IsNameOf, limit_octets};
 ghost use Rattle.rs_open.specs.Notes as notes;
+
+use rs_octets::{LONGEST_EXTENDED_MESSAGE, LONGEST_MESSAGE, Notification};
 
 /// A message that a session says: any but an UPDATE.
 #[derive(Clone, Copy, Debug, PartialEq, Eq)]
@@ -30,6 +33,24 @@ impl Short {
             sub,
             extra: [0, 0],
             count: 0,
+        }
+    }
+
+    /// The NOTIFICATION of this name, without data.
+    pub fn of(name: Notification) -> Short
+        ensures { result ≡ note_of name }
+    {
+        Short::note(name.code(), name.sub())
+    }
+
+    /// The name of a message that is a NOTIFICATION, where it has one.
+    pub fn name(&self) -> Option<Notification>
+        ensures some { IfSome result (IsNameOf self.now) }
+        ensures none { IfNone result ((name : Notification) → IsNameOf self.now name → ⊥) }
+    {
+        match self {
+            Short::Note { code, sub, .. } => Notification::named(*code, *sub),
+            Short::Open | Short::Keepalive => None,
         }
     }
 
@@ -73,8 +94,8 @@ impl Limit {
         ensures { result ≡ limit_octets self }
     {
         match self {
-            Limit::Short => 4096,
-            Limit::Long => 65535,
+            Limit::Short => usize::from(LONGEST_MESSAGE),
+            Limit::Long => usize::from(LONGEST_EXTENDED_MESSAGE),
         }
     }
 }

@@ -4,7 +4,8 @@
 use crate::names::Names;
 use rs_attrs::Mode;
 use rs_core::{Ending, Notice};
-use rs_open::{Limit, Notification, Short};
+use rs_octets::Notification;
+use rs_open::{Limit, Short};
 use std::net::Ipv4Addr;
 use std::{fmt, io};
 
@@ -91,7 +92,11 @@ impl fmt::Display for Why<'_> {
                 )
             }
             Some(Ending::Said(_)) => write!(f, "a message was sent"),
-            Some(Ending::HoldTimer) => write!(f, "NOTIFICATION sent: {}", Called(4, 0)),
+            Some(Ending::HoldTimer) => write!(
+                f,
+                "NOTIFICATION sent: {}",
+                Notification::HoldTimerExpired
+            ),
             Some(Ending::Heard(notice)) => {
                 let Notice {
                     code,

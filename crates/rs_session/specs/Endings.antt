@@ -2,7 +2,9 @@
 use Rattle.std.specs.Prelude.{ℕ, zero, suc, ◌-◌, ◌/◌, ◌%◌, Bool, not, ◌&&◌, nat_eq, nat_le, ◌≤◌, min, length, take, Option, Some, None, Result, Ok, Err, ⊤, if◌then◌else◌}
 use Rattle.rs_octets.specs.declared.heads.HeaderFault.{HeaderFault}
 use Rattle.rs_octets.specs.declared.heads.HeaderFault.TheVariants as header
-use Rattle.rs_open.specs.Notes.{note, note_1, note_2}
+use Rattle.rs_octets.specs.declared.notification.Notification.TheVariants as names
+use Rattle.rs_octets.specs.Names.{code_of, sub_of}
+use Rattle.rs_open.specs.Notes.{note, note_of, note_1, note_2}
 use Rattle.rs_open.specs.declared.open.Open.{Open}
 use Rattle.rs_open.specs.declared.open.OpenFault.{OpenFault}
 use Rattle.rs_open.specs.declared.open.OpenFault.TheVariants as fault
@@ -17,35 +19,35 @@ pub data Fate : Type 0 where
 
 -- a faulty header (RFC 4271, 6.1)
 abbrev pub header_note : HeaderFault → Short
-header_note header.Marker = note 1 1
-header_note (header.Length length) = note_2 1 2 (length / 256) (length % 256)
-header_note (header.Kind kind) = note_1 1 3 kind
+header_note header.Marker = note_of names.ConnectionNotSynchronized
+header_note (header.Length length) = note_2 (code_of names.BadMessageLength) (sub_of names.BadMessageLength) (length / 256) (length % 256)
+header_note (header.Kind kind) = note_1 (code_of names.BadMessageType) (sub_of names.BadMessageType) kind
 
 -- the AS number of an OPEN is the client's: that of the capability where it is there (RFC 6793, 4.1), else My AS
 abbrev pub is_from_as : ℕ → ℕ → Option ℕ → Bool
 is_from_as peer_as my_as (Some four) = nat_eq four peer_as
 is_from_as peer_as my_as None = nat_eq my_as peer_as
 
--- Bad Peer AS
+-- the OPEN of another AS
 abbrev pub bad_peer_as : Short
-bad_peer_as = note 2 2
+bad_peer_as = note_of names.BadPeerAs
 
 -- the first thing that is wrong with an OPEN (RFC 4271, 6.2): the version, the parameters, the AS number, the Hold Time,
 -- the identifier
 abbrev pub open_note : ℕ → OpenFault → Short
-open_note peer_as fault.Version = note_2 2 1 0 4
-open_note peer_as fault.Malformed = note 2 0
-open_note peer_as fault.Parameter = note 2 4
-open_note peer_as (fault.Hold my_as four) = if is_from_as peer_as my_as four then note 2 6 else bad_peer_as
-open_note peer_as (fault.Identifier my_as four) = if is_from_as peer_as my_as four then note 2 3 else bad_peer_as
+open_note peer_as fault.Version = note_2 (code_of names.UnsupportedVersionNumber) (sub_of names.UnsupportedVersionNumber) 0 4
+open_note peer_as fault.Malformed = note_of names.OpenMessageError
+open_note peer_as fault.Parameter = note_of names.UnsupportedOptionalParameter
+open_note peer_as (fault.Hold my_as four) = if is_from_as peer_as my_as four then note_of names.UnacceptableHoldTime else bad_peer_as
+open_note peer_as (fault.Identifier my_as four) = if is_from_as peer_as my_as four then note_of names.BadBgpIdentifier else bad_peer_as
 
 abbrev pub open_fate : ℕ → Result Open OpenFault → Fate
 open_fate peer_as (Ok sent) = if is_from_as peer_as sent.my_as sent.four then GoesOn else Ends (Some bad_peer_as)
 open_fate peer_as (Err fault) = Ends (Some (open_note peer_as fault))
 
--- a message that is not expected: Finite State Machine Error (RFC 4271, 6.6)
+-- a message that is not expected (RFC 4271, 6.6)
 abbrev pub unexpected : Short
-unexpected = note 5 0
+unexpected = note_of names.FiniteStateMachineError
 
 -- the first message: an OPEN
 abbrev pub first_fate : ℕ → Heard → Fate
@@ -95,9 +97,9 @@ hold_time hold (Some sent) = min hold sent.hold
 abbrev pub is_past : ℕ → ℕ → ℕ → Bool
 is_past time since now = not (nat_eq time 0) && nat_le time (now - since)
 
--- Hold Timer Expired (RFC 4271, 6.5)
+-- the hold timer has run out (RFC 4271, 6.5)
 abbrev pub expired : Short
-expired = note 4 0
+expired = note_of names.HoldTimerExpired
 
 abbrev pub moment_fate : ℕ → ℕ → ℕ → Fate
 moment_fate time since now = if is_past time since now then Ends (Some expired) else GoesOn

@@ -1,19 +1,18 @@
 //! The NOTIFICATIONs that end a session (RFC 4271, 6).
 
 ghost use Rattle.std.specs.Prelude.{◌≡◌, if◌then◌else◌};
-ghost use Rattle.rs_open.specs.Notes.{note};
-ghost use Rattle.rs_open.specs.Names.{code_of, sub_of};
+ghost use Rattle.rs_open.specs.Notes.{note_of};
 ghost use Rattle.rs_session.specs.Endings as endings;
 
-use rs_octets::HeaderFault;
-use rs_open::{Notification, OpenFault, Short};
+use rs_octets::{HeaderFault, Notification};
+use rs_open::{OpenFault, Short};
 
 /// The NOTIFICATION of a faulty header, with the octets at fault as its data (RFC 4271, 6.1).
 pub fn header_note(fault: HeaderFault) -> Short
     ensures { result ≡ endings.header_note fault }
 {
     match fault {
-        HeaderFault::Marker => Notification::ConnectionNotSynchronized.note(),
+        HeaderFault::Marker => Short::of(Notification::ConnectionNotSynchronized),
         HeaderFault::Length(length) => {
             let [high, low] = length.to_be_bytes();
             let name = Notification::BadMessageLength;
@@ -40,18 +39,18 @@ pub fn is_from_as(peer_as: u32, my_as: u16, four: Option<u32>) -> bool
 pub fn bad_peer_as() -> Short
     ensures { result ≡ endings.bad_peer_as }
 {
-    Notification::BadPeerAs.note()
+    Short::of(Notification::BadPeerAs)
 }
 
 /// The NOTIFICATION of a fault of the Hold Time or the identifier, which the AS number is judged
 /// before.
 fn behind_as(peer_as: u32, my_as: u16, four: Option<u32>, name: Notification) -> Short
     ensures { result ≡ (if endings.is_from_as peer_as my_as four
-        then note (code_of name) (sub_of name)
+        then note_of name
         else endings.bad_peer_as) }
 {
     if is_from_as(peer_as, my_as, four) {
-        name.note()
+        Short::of(name)
     } else {
         bad_peer_as()
     }
@@ -67,8 +66,8 @@ pub fn open_note(peer_as: u32, fault: OpenFault) -> Short
             let name = Notification::UnsupportedVersionNumber;
             Short::note_2(name.code(), name.sub(), 0, 4)
         }
-        OpenFault::Malformed => Notification::OpenMessageError.note(),
-        OpenFault::Parameter => Notification::UnsupportedOptionalParameter.note(),
+        OpenFault::Malformed => Short::of(Notification::OpenMessageError),
+        OpenFault::Parameter => Short::of(Notification::UnsupportedOptionalParameter),
         OpenFault::Hold { my_as, four } => {
             behind_as(peer_as, my_as, four, Notification::UnacceptableHoldTime)
         }
@@ -82,12 +81,12 @@ pub fn open_note(peer_as: u32, fault: OpenFault) -> Short
 pub fn unexpected() -> Short
     ensures { result ≡ endings.unexpected }
 {
-    Notification::FiniteStateMachineError.note()
+    Short::of(Notification::FiniteStateMachineError)
 }
 
 /// The NOTIFICATION of a hold timer that has run out (RFC 4271, 6.5).
 pub fn expired() -> Short
     ensures { result ≡ endings.expired }
 {
-    Notification::HoldTimerExpired.note()
+    Short::of(Notification::HoldTimerExpired)
 }

@@ -1,17 +1,19 @@
 -- From what the code found to the effect of an UPDATE.
 use Rattle.std.proofs.Common.{inl, inr, ◌≡◌, ℕ, ◌&&◌, ◌||◌, Bool, true, false, cond, not, List, [], ◌∷◌, Option, Some, None, refl, sym, ap, ◌∙◌, subst}
-use Rattle.std.specs.Prelude.{option_map}
 use Rattle.std.specs.List.{IsDistinct, AllByRecursion}
 use Rattle.std.specs.List.Sorted.{IsStrictlySortedBy}
 use Rattle.std.specs.declared.cmp.Ordering.TheVariants.{Less}
 use Rattle.std.specs.Ordering.{is_eq}
+use Rattle.rs_octets.specs.declared.notification.Notification.{Notification}
+use Rattle.rs_octets.specs.Names.{code_of, sub_of}
 use Rattle.rs_octets.specs.Prefixes.{Prefix, prefix_order}
 use Rattle.rs_attrs.specs.declared.mode.Mode.{Mode}
 use Rattle.rs_attrs.specs.declared.mode.Faults.{Faults}
 use Rattle.rs_attrs.specs.Meaning.{Attribute, Reads}
 use Rattle.rs_attrs.specs.Effects.{Fields, fields_of, Effect, Reset, Change, HasEffect, IsEffect, IsChange, reset_of, is_faulty, is_empty, has_prefix, same_prefix, prefixes_in, treat_as_withdraw}
-use Rattle.rs_update.specs.Outcomes.{subcode_of}
-use Rattle.rs_update.specs.Changes.{IsWithdrawn, IsAnnounced}
+use Rattle.rs_update.specs.declared.outcome.Outcome.{Outcome}
+use Rattle.rs_update.specs.declared.outcome.Outcome.TheVariants as outcomes
+use Rattle.rs_update.specs.Changes.{effect_seen, IsWithdrawn, IsAnnounced}
 use Rattle.rs_update.proofs.BodyFields.{Fit, body_of_fields, no_body}
 use Rattle.rs_update.proofs.PrefixSets.{same_ties}
 
@@ -38,20 +40,10 @@ withdrawn_faulty fields faults e = ap (λ b. cond (b || is_faulty fields.nlri) (
 pub nlri_faulty : (fields : Fields) (faults : Faults) → is_faulty fields.withdrawn ≡ false → is_faulty fields.nlri ≡ true → reset_of fields faults ≡ Some (3, 10)
 nlri_faulty fields faults e f = λ i. cond (e i || f i) (Some (3, 10)) (behind fields faults)
 
-pub by_attributes : (fields : Fields) (faults : Faults) (subcode : Option ℕ) → is_faulty fields.withdrawn ≡ false → is_faulty fields.nlri ≡ false → subcode ≡ subcode_of fields faults → reset_of fields faults ≡ option_map (λ s. (3, s)) subcode
-by_attributes fields faults subcode e f is =
-    ap (λ b. cond b (Some (3, 10)) (rest faults.mp_twice (faults.withdraw && not (is_empty fields.attributes) && is_empty fields.nlri) faults.unknown)) (λ i. e i || f i)
-    ∙ by_tests faults.mp_twice (faults.withdraw && not (is_empty fields.attributes) && is_empty fields.nlri) faults.unknown
-    ∙ ap (option_map (λ s. (3, s))) (sym is)
-  where
-    rest : Bool → Bool → Bool → Option (ℕ × ℕ)
-    rest twice withdraw unknown = cond twice (Some (3, 1)) (cond withdraw (Some (3, 1)) (cond unknown (Some (3, 2)) None))
-
-    by_tests : (twice withdraw unknown : Bool) → rest twice withdraw unknown ≡ option_map (λ s. (3, s)) (cond twice (Some 1) (cond withdraw (Some 1) (cond unknown (Some 2) None)))
-    by_tests true withdraw unknown = refl
-    by_tests false true unknown = refl
-    by_tests false false true = refl
-    by_tests false false false = refl
+-- the outcome that a name stands for has the effect that its codes have
+pub by_reset : (body : List ℕ) (mode : Mode) (name : Notification) (outcome : Outcome) → outcome ≡ outcomes.Reset (code_of name) (sub_of name)
+    → HasEffect body mode (Reset (code_of name) (sub_of name)) → HasEffect body mode (effect_seen outcome)
+by_reset body mode name outcome e is = subst (λ (o : Outcome). HasEffect body mode (effect_seen o)) (sym e) is
 
 -- ---- changes
 

@@ -1,9 +1,10 @@
 -- The words of the private contracts: what the fields of a body are, and which set of prefixes a list is.
-use Rattle.std.specs.Prelude.{◌≡◌, ℕ, ◌&&◌, not, List, Option, Some, None, if◌then◌else◌}
+use Rattle.std.specs.Prelude.{◌≡◌, ℕ, ◌&&◌, not, List}
 use Rattle.std.specs.Borrow.{Bor}
+use Rattle.rs_octets.specs.declared.notification.Notification.{Notification}
+use Rattle.rs_octets.specs.Names.{code_of, sub_of}
 use Rattle.rs_octets.specs.Prefixes.{Prefix}
-use Rattle.rs_attrs.specs.Effects.{Fields, Cut, has_prefix, is_empty}
-use Rattle.rs_attrs.specs.declared.mode.Faults.{Faults}
+use Rattle.rs_attrs.specs.Effects.{Fields, Cut, has_prefix}
 use Rattle.rs_update.specs.declared.fields.Fields.{Fields as FieldsRead}
 
 -- the fields of a body
@@ -22,10 +23,6 @@ SameMembers old new = (p : Prefix) → has_prefix p new ≡ has_prefix p old
 abbrev pub LacksMembers : List Prefix → List Prefix → List Prefix → Type 0
 LacksMembers old others new = (p : Prefix) → has_prefix p new ≡ (has_prefix p old && not (has_prefix p others))
 
--- the subcode of the first reset that attributes bring about
-abbrev pub subcode_of : Fields → Faults → Option ℕ
-subcode_of fields faults =
-    if faults.mp_twice then Some 1
-    else if faults.withdraw && not (is_empty fields.attributes) && is_empty fields.nlri then Some 1
-    else if faults.unknown then Some 2
-    else None
+-- the error code and the subcode of a name, as the definition of an effect has them
+abbrev pub codes_named : Notification → ℕ × ℕ
+codes_named name = (code_of name, sub_of name)

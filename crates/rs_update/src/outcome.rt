@@ -1,14 +1,19 @@
 //! The effect of an UPDATE (RFC 7606, 2 to 5).
 
-ghost use Rattle.std.specs.Prelude.{◌≡◌, IfOk};
-ghost use Rattle.rs_attrs.specs.Effects.{HasEffect, effect_of, treat_as_withdraw};
-ghost use Rattle.rs_update.specs.Outcomes.{fields_in, subcode_of};
+ghost use Rattle.std.specs.Prelude.{◌≡◌, IfOk, false, option_map};
+ghost use Rattle.rs_octets.specs.Names.{code_of, sub_of};
+ghost use Rattle.rs_attrs.specs.Effects.{HasEffect, effect_of, is_faulty, reset_of, treat_as_withdraw};
+ghost use Rattle.rs_update.specs.Outcomes.{fields_in, codes_named};
 ghost use Rattle.rs_update.specs.Laws.{IsSameEffect};
 ghost use Rattle.rs_update.specs.Changes.{effect_seen, change_seen, IsRising, AreDistinct, AreApart, HasItsAttributes, HasItsMandatory, TellsFaults, IsWithdrawn, IsAnnounced};
+ghost use Rattle.rs_update.specs.declared.outcome.Outcome.TheVariants.{Reset};
 
 use crate::fields::{Fields, cut_body};
 use crate::prefixes::{make_rising, prefixes, take_away};
 use rs_attrs::{Attrs, Faulted, Faults, Mode, Parsed, read};
+use rs_octets::Notification::{
+    self, InvalidNetworkField, MalformedAttributeList, UnrecognizedWellKnownAttribute,
+};
 use rs_octets::Prefix;
 use std::alloc::{AllocError, Global};
 use std::sync::Arc;
@@ -37,29 +42,29 @@ struct Routes {
     attrs: Option<Arc<Attrs>>,
 }
 
-/// The code of errors in UPDATE messages, and its subcodes (RFC 4271, 6.3).
-const UPDATE_MESSAGE_ERROR: u8 = 3;
-
-const MALFORMED_ATTRIBUTE_LIST: u8 = 1;
-
-const UNRECOGNIZED_WELL_KNOWN_ATTRIBUTE: u8 = 2;
-
-const INVALID_NETWORK_FIELD: u8 = 10;
-
-/// The subcode of the first reset that attributes bring about.
-fn reset_by(faults: &Faults, fields: &Fields<'_>) -> Option<u8>
-    ensures { result ≡ subcode_of (fields_in fields.now) faults.now }
+/// The first reset that attributes bring about, where neither field of prefixes is faulty.
+fn reset_by(faults: &Faults, fields: &Fields<'_>) -> Option<Notification>
+    requires withdrawn { is_faulty (fields_in fields.now).withdrawn ≡ false }
+    requires nlri { is_faulty (fields_in fields.now).nlri ≡ false }
+    ensures { option_map codes_named result ≡ reset_of (fields_in fields.now) faults.now }
 {
     if faults.mp_twice {
-        return Some(MALFORMED_ATTRIBUTE_LIST);
+        return Some(MalformedAttributeList);
     }
     if faults.withdraw && !fields.attributes.is_empty() && fields.nlri.is_empty() {
-        return Some(MALFORMED_ATTRIBUTE_LIST);
+        return Some(MalformedAttributeList);
     }
     if faults.unknown {
-        return Some(UNRECOGNIZED_WELL_KNOWN_ATTRIBUTE);
+        return Some(UnrecognizedWellKnownAttribute);
     }
     None
+}
+
+/// The session is reset by the NOTIFICATION of this name.
+fn reset(name: Notification) -> Outcome
+    ensures { result ≡ Reset (code_of name) (sub_of name) }
+{
+    Outcome::Reset(name.code(), name.sub())
 }
 
 /// Whether the NLRI counts as withdrawn (RFC 7606, 2 and 3, d).
@@ -131,17 +136,17 @@ pub fn effect(alloc: Global, body: &[u8], mode: Mode) -> Result<Outcome, AllocEr
     ensures told { IfOk result (TellsFaults body.now mode) }
 {
     let Some(fields) = cut_body(body) else {
-        return Ok(Outcome::Reset(UPDATE_MESSAGE_ERROR, MALFORMED_ATTRIBUTE_LIST));
+        return Ok(reset(MalformedAttributeList));
     };
     let parsed = read(alloc, fields.attributes, mode)?;
     let Some(withdrawn) = prefixes(alloc, fields.withdrawn)? else {
-        return Ok(Outcome::Reset(UPDATE_MESSAGE_ERROR, INVALID_NETWORK_FIELD));
+        return Ok(reset(InvalidNetworkField));
     };
     let Some(nlri) = prefixes(alloc, fields.nlri)? else {
-        return Ok(Outcome::Reset(UPDATE_MESSAGE_ERROR, INVALID_NETWORK_FIELD));
+        return Ok(reset(InvalidNetworkField));
     };
-    if let Some(subcode) = reset_by(&parsed.faults, &fields) {
-        return Ok(Outcome::Reset(UPDATE_MESSAGE_ERROR, subcode));
+    if let Some(name) = reset_by(&parsed.faults, &fields) {
+        return Ok(reset(name));
     }
     let faulted = parsed.faulted;
     let Routes {

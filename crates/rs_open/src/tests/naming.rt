@@ -1,85 +1,19 @@
 //! Names and texts.
 
 use crate::{
-    Limit, Notification, OpenFault, Short, an_open_is_taken_where_it_is_good,
-    an_open_of_ours_is_good, octets_are_one_row_of_triples, short_is_a_message,
+    Limit, OpenFault, Short, an_open_is_taken_where_it_is_good, an_open_of_ours_is_good,
+    octets_are_one_row_of_triples, short_is_a_message,
 };
-use std::alloc::Global;
-use std::process::Abort;
+use rs_octets::Notification;
 use std::test::Fail;
 
-/// Whether a name, its error code and subcode and its text belong together.
-fn belong(rt: &impl Abort, name: Notification, code: u8, sub: u8) {
-    assert_eq!(rt; name.code(), code);
-    assert_eq!(rt; name.sub(), sub);
-    assert_eq!(rt; name.note(), Short::note(code, sub));
-    assert_eq!(rt; Notification::named(code, sub), Some(name));
-    assert_eq!(rt; Notification::of(&Short::note_1(code, sub, 1)), Some(name));
-}
-
-fn shows(alloc: Global, name: Notification, text: &str) -> Result<bool, Fail> {
-    let shown = format!(in alloc; "{name}")?;
-    Ok(shown.as_str() == text)
-}
-
 #[test]
-fn names_notifications(rt: HostRuntime) -> Result<(), Fail> {
-    let cases = [
-        (
-            Notification::ConnectionNotSynchronized,
-            1,
-            1,
-            "Message Header Error, Connection Not Synchronized (1, 1)",
-        ),
-        (
-            Notification::OpenMessageError,
-            2,
-            0,
-            "OPEN Message Error (2, 0)",
-        ),
-        (
-            Notification::BadPeerAs,
-            2,
-            2,
-            "OPEN Message Error, Bad Peer AS (2, 2)",
-        ),
-        (
-            Notification::InvalidNetworkField,
-            3,
-            10,
-            "UPDATE Message Error, Invalid Network Field (3, 10)",
-        ),
-        (
-            Notification::HoldTimerExpired,
-            4,
-            0,
-            "Hold Timer Expired (4, 0)",
-        ),
-        (
-            Notification::FiniteStateMachineError,
-            5,
-            0,
-            "Finite State Machine Error (5, 0)",
-        ),
-        (
-            Notification::MaximumPrefixesReached,
-            6,
-            1,
-            "Cease, Maximum Number of Prefixes Reached (6, 1)",
-        ),
-    ];
-    for (name, code, sub, text) in cases {
-        belong(&rt, name, code, sub);
-        assert!(&rt; shows(rt.alloc(), name, text)?, "{text}");
-    }
-    Ok(())
-}
-
-#[test]
-fn names_nothing_else(rt: HostRuntime) {
-    assert_eq!(&rt; Notification::of(&Short::Open), None);
-    assert_eq!(&rt; Notification::named(2, 5), None);
-    assert_eq!(&rt; Notification::named(9, 0), None);
+fn names_what_is_said(rt: HostRuntime) {
+    let said = Short::of(Notification::InvalidNetworkField);
+    assert_eq!(&rt; said, Short::note(3, 10));
+    assert_eq!(&rt; said.name(), Some(Notification::InvalidNetworkField));
+    assert_eq!(&rt; Short::note_1(2, 5, 4).name(), None);
+    assert_eq!(&rt; Short::Open.name(), None);
 }
 
 #[test]

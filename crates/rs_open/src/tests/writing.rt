@@ -1,10 +1,8 @@
 //! Messages and their octets.
 
 use super::octets;
-use crate::{
-    Notification, ServerOpen, Short, short_size, write_keepalive, write_note, write_open,
-    write_short,
-};
+use crate::{ServerOpen, Short, short_size, write_keepalive, write_note, write_open, write_short};
+use rs_octets::Notification;
 use std::test::Fail;
 
 /// What stands in a slice before it is written.
@@ -184,7 +182,7 @@ fn writes_short_messages(rt: HostRuntime) -> Result<(), Fail> {
             },
             "0017 03 06 01 0708",
         ),
-        (Notification::HoldTimerExpired.note(), "0015 03 04 00"),
+        (Short::of(Notification::HoldTimerExpired), "0015 03 04 00"),
     ];
     for (short, text) in cases {
         let mut wanted = octets(rt.alloc(), "ffffffff ffffffff ffffffff ffffffff")?;

@@ -1,9 +1,7 @@
 -- The error codes and subcodes of NOTIFICATIONs, by name (RFC 4271, 4.5; RFC 4486; RFC 5492; RFC 6608).
 use Rattle.std.specs.Prelude.{◌≡◌, ℕ}
-use Rattle.rs_open.specs.declared.notification.Notification.{Notification}
-use Rattle.rs_open.specs.declared.notification.Notification.TheVariants as names
-use Rattle.rs_open.specs.declared.short.Short.{Short}
-use Rattle.rs_open.specs.declared.short.Short.TheVariants as shorts
+use Rattle.rs_octets.specs.declared.notification.Notification.{Notification}
+use Rattle.rs_octets.specs.declared.notification.Notification.TheVariants as names
 
 pub record Codes : Type 0 where
   pub code : ℕ
@@ -65,9 +63,3 @@ sub_of name = (codes_of name).sub
 -- the name of this error code and this subcode
 abbrev pub IsNamed : Notification → ℕ → ℕ → Type 0
 IsNamed name code sub = codes_of name ≡ codes code sub
-
--- the message is a NOTIFICATION with that code and that subcode
-abbrev pub IsNameOf : Short → Notification → Type 0
-IsNameOf (shorts.Note code sub extra count) name = IsNamed name code sub
-IsNameOf shorts.Open name = ⊥
-IsNameOf shorts.Keepalive name = ⊥

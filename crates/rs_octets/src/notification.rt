@@ -1,11 +1,10 @@
-//! The names of error codes and subcodes (RFC 4271, 4.5; RFC 4486; RFC 5492; RFC 6608).
+//! The one table of error codes and subcodes by name (RFC 4271, 4.5 and 6; RFC 4486; RFC 5492;
+//! RFC 6608).
 
 ghost use Rattle.std.specs.Prelude.{◌≡◌, ◌↔◌, IsTrue, IfSome, IfNone};
-ghost use Rattle.rs_open.specs.Names.{code_of, sub_of, IsNamed, IsNameOf};
-ghost use Rattle.rs_open.specs.Notes as notes;
-ghost use Rattle.rs_open.specs.declared.notification.Notification.{Notification};
+ghost use Rattle.rs_octets.specs.Names.{code_of, sub_of, IsNamed};
+ghost use Rattle.rs_octets.specs.declared.notification.Notification.{Notification};
 
-use crate::short::Short;
 use Notification::*;
 use std::fmt;
 
@@ -155,24 +154,6 @@ impl Notification {
         ensures { result ≡ sub_of self }
     {
         self.row().1
-    }
-
-    /// The NOTIFICATION without data.
-    pub fn note(self) -> Short
-        ensures { result ≡ notes.note (code_of self) (sub_of self) }
-    {
-        Short::note(self.code(), self.sub())
-    }
-
-    /// The name of a message that is a NOTIFICATION, where it has one.
-    pub fn of(short: &Short) -> Option<Notification>
-        ensures some { IfSome result (IsNameOf short.now) }
-        ensures none { IfNone result ((name : Notification) → IsNameOf short.now name → ⊥) }
-    {
-        match short {
-            Short::Note { code, sub, .. } => Notification::named(*code, *sub),
-            Short::Open | Short::Keepalive => None,
-        }
     }
 
     /// Whether it is the name of this error code and this subcode.

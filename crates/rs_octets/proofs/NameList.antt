@@ -2,10 +2,10 @@
 use Rattle.std.proofs.Common.{◌≡◌, ℕ, ◌<◌, Bool, get_or, refl, sym, ap, subst, ◌∙◌, lit<}
 use Rattle.std.specs.Prelude.{◌==◌, ◌&&◌}
 use Rattle.std.specs.List.{position_or_len}
-use Rattle.rs_open.specs.declared.notification.Notification.{Notification}
-use Rattle.rs_open.specs.declared.notification.Notification.TheVariants.{MessageHeaderError}
-use Rattle.rs_open.specs.declared.notification.TheConstants.{NAMES}
-use Rattle.rs_open.specs.Names.{code_of, sub_of, IsNamed}
+use Rattle.rs_octets.specs.declared.notification.Notification.{Notification}
+use Rattle.rs_octets.specs.declared.notification.Notification.TheVariants.{MessageHeaderError}
+use Rattle.rs_octets.specs.declared.notification.TheConstants.{NAMES}
+use Rattle.rs_octets.specs.Names.{code_of, sub_of, IsNamed}
 
 abbrev is_like : Notification → Notification → Bool
 is_like a b = (code_of a == code_of b) && (sub_of a == sub_of b)

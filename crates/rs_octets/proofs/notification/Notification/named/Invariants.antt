@@ -1,8 +1,8 @@
 use Rattle.std.proofs.Common.{◌≡◌, ℕ, ◌<◌}
-use Rattle.rs_open.specs.declared.notification.Notification.{Notification}
-use Rattle.rs_open.specs.Names.{IsNamed}
-use Rattle.rs_open.proofs.NameList.{place}
-use Rattle.rs_open.proofs.notification.Notification.named.Given as goal
+use Rattle.rs_octets.specs.declared.notification.Notification.{Notification}
+use Rattle.rs_octets.specs.Names.{IsNamed}
+use Rattle.rs_octets.proofs.NameList.{place}
+use Rattle.rs_octets.proofs.notification.Notification.named.Given as goal
 
 abbrev pub invariant-loop-name : goal.invariant-loop-name
 invariant-loop-name l = (k : ℕ) → k < l.name-index → (name : Notification) → place name ≡ k → IsNamed name l.code l.sub → ⊥

@@ -1,6 +1,6 @@
 use Rattle.std.proofs.Common.{refl, below_more, arith}
-use Rattle.rs_open.proofs.NameList.{place, place_fits, not_here}
-use Rattle.rs_open.proofs.notification.Notification.named.Goals as goal
+use Rattle.rs_octets.proofs.NameList.{place, place_fits, not_here}
+use Rattle.rs_octets.proofs.notification.Notification.named.Goals as goal
 
 pub loop-name-preserved : goal.loop-name-preserved
 loop-name-preserved c =
