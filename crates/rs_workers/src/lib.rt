@@ -9,3 +9,6 @@ mod turning;
 
 pub use gate::{Free, Gate};
 pub use turning::turn_all;
+
+#[cfg(test)]
+mod tests;

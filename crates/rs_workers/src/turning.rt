@@ -40,7 +40,13 @@ pub fn turn_all<R: Threads + Wait + Sync, G: Gate>(
 }
 
 /// Turns the outlets of one run, one after the other.
-fn turn_run<G: Gate>(gate: &G, share: usize, tables: &AdjIns, config: &Config, run: &mut [Outlet])
+pub(crate) fn turn_run<G: Gate>(
+    gate: &G,
+    share: usize,
+    tables: &AdjIns,
+    config: &Config,
+    run: &mut [Outlet],
+)
     requires clients { client_count tables.now ≡ length config.now.clients }
     requires places { ArePlaced config.now run.old }
     ensures { AllTurnedAlone run.old run.new }
