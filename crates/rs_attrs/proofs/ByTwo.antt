@@ -50,6 +50,11 @@ good_as4_value true (Some s) good = refl
 good_as4_value false None good = refl
 good_as4_value false (Some s) good = good s refl
 
+pub as4_value_is : (value : List ℕ) (ignores : Bool) (aggregator as4_aggregator path a b p : Option Spelling) → value ≡ as4_value ignores path → ignores ≡ ignores_as4 aggregator as4_aggregator
+    → aggregator ≡ a → as4_aggregator ≡ b → path ≡ p → value ≡ as4_value (ignores_as4 a b) p
+as4_value_is value ignores aggregator as4_aggregator path a b p value_is ignores_is a_is b_is p_is =
+    value_is ∙ (λ i. as4_value ((ignores_is ∙ (λ j. ignores_as4 (a_is j) (b_is j))) i) (p_is i))
+
 -- ---- the values
 
 path_by : (ignores : Bool) (o : Option Spelling) (p : List Segment) → AllByRecursion (IsSegment two_octets is_set_or_sequence) p

@@ -63,7 +63,7 @@ kept_four ss kind = by_test (is_as4 kind) refl
 abbrev pub IsGood : Mode → Spelling → Type 0
 IsGood mode s = is_kept (outcome_of mode s) ≡ true
 
-any_of : {X : Type 0} (test : X → Bool) → ((x : X) → test x ≡ false) → (xs : List X) → list_any test xs ≡ false
+pub any_of : {X : Type 0} (test : X → Bool) → ((x : X) → test x ≡ false) → (xs : List X) → list_any test xs ≡ false
 any_of test never [] = refl
 any_of test never (x ∷ xs) = ap (λ b. b || list_any test xs) (never x) ∙ any_of test never xs
 

@@ -50,9 +50,8 @@ firsts_more flaws (Some f) = λ i. record { withdraw = first_more is_withdraw fl
 -- ---- the walk
 
 -- what is noted when this is left of the field
-pub record Telling (mode : Mode) (field : List ℕ) (seen : List Bool) (faulted : Faulted) (rest : List ℕ) : Type 0 where
+pub record Telling (mode : Mode) (field : List ℕ) (seen : List Bool) (faulted : Faulted) (done : List Spelling) (rest : List ℕ) : Type 0 where
   pub size : length seen ≡ 256
-  pub done : List Spelling
   pub whole : spellings_of field ≡ done ++ spellings_of rest
   pub behind : rest_of field ≡ rest_of rest
   pub came : (kind : ℕ) → get_or seen kind false ≡ comes_among kind done
@@ -63,10 +62,9 @@ none_seen zero kind = refl
 none_seen (suc n) zero = refl
 none_seen (suc n) (suc kind) = none_seen n kind
 
-pub telling_start : (mode : Mode) (field : List ℕ) → Telling mode field (replicate 256 false) (record { withdraw = None; discard = None }) field
+pub telling_start : (mode : Mode) (field : List ℕ) → Telling mode field (replicate 256 false) (record { withdraw = None; discard = None }) [] field
 telling_start mode field = record {
   size = length-replicate 256 false;
-  done = [];
   whole = refl;
   behind = refl;
   came = none_seen 256;
@@ -95,29 +93,24 @@ came_more seen done s kind within had = by_test (nat_eq s.kind kind) refl ∙ sy
         get_or-set_other seen s.kind kind true false other ∙ had
         ∙ same (that_counts kind done) ∙ ap (λ b. is_some (or_else (that_counts kind done) (cond b (Some s) None))) (sym e)
 
-pub telling_more : (mode : Mode) (field : List ℕ) (seen : List Bool) (faulted more : Faulted) (rest after : List ℕ) (s : Spelling) (flaw : Option Flaw) → Telling mode field seen faulted rest → Steps rest s after
-    → s.kind < 256 → flaw ≡ flaw_by mode (get_or seen s.kind false) s → more ≡ with_flaw faulted flaw → Telling mode field (set seen s.kind true) more after
-telling_more mode field seen faulted more rest after s flaw had steps byte flaw_is more_is = record {
+pub telling_more : (mode : Mode) (field : List ℕ) (seen : List Bool) (faulted more : Faulted) (done : List Spelling) (rest after : List ℕ) (s : Spelling) (flaw : Option Flaw) → Telling mode field seen faulted done rest → Steps rest s after
+    → s.kind < 256 → flaw ≡ flaw_by mode (get_or seen s.kind false) s → more ≡ with_flaw faulted flaw → Telling mode field (set seen s.kind true) more (done ++ s ∷ []) after
+telling_more mode field seen faulted more done rest after s flaw had steps byte flaw_is more_is = record {
   size = length-set seen s.kind true ∙ had.size;
-  done = had.done ++ s ∷ [];
-  whole = had.whole ∙ ap (λ ss. had.done ++ ss) steps.0 ∙ sym (append_assoc had.done (s ∷ []) (spellings_of after));
+  whole = had.whole ∙ ap (λ ss. done ++ ss) steps.0 ∙ sym (append_assoc done (s ∷ []) (spellings_of after));
   behind = had.behind ∙ steps.1;
-  came = λ kind. came_more seen had.done s kind (omega (arith, had.size)) (had.came kind);
+  came = λ kind. came_more seen done s kind (omega (arith, had.size)) (had.came kind);
   firsts = more_is ∙ (λ i. with_flaw (had.firsts i) ((flaw_is ∙ ap (λ b. flaw_by mode b s) (had.came s.kind)) i))
-      ∙ sym (firsts_more (flaws_behind mode [] had.done) (flaw_by mode (comes_among s.kind had.done) s))
-      ∙ ap firsts_of (sym (flaws_more mode [] had.done s));
+      ∙ sym (firsts_more (flaws_behind mode [] done) (flaw_by mode (comes_among s.kind done) s))
+      ∙ ap firsts_of (sym (flaws_more mode [] done s));
 }
 
-pub telling_end : (mode : Mode) (field : List ℕ) (seen : List Bool) (faulted : Faulted) (rest : List ℕ) → Telling mode field seen faulted rest → Stops rest → with_flaw faulted (cut_off rest) ≡ faulted_of field mode
-telling_end mode field seen faulted rest had stops =
-    let done : had.done ≡ spellings_of field = sym (had.whole ∙ ap (λ ss. had.done ++ ss) stops.0 ∙ append-nil had.done) in
-    let left : rest ≡ rest_of field = sym (had.behind ∙ stops.1) in
-    (λ i. with_flaw ((had.firsts ∙ ap (λ ss. firsts_of (flaws_behind mode [] ss)) done) i) (cut_off (left i)))
-    ∙ sym (firsts_more (flaws_behind mode [] (spellings_of field)) (cut_off (rest_of field)))
+pub telling_all : (mode : Mode) (field : List ℕ) (seen : List Bool) (faulted : Faulted) (done : List Spelling) (rest : List ℕ) → Telling mode field seen faulted done rest → Stops rest → done ≡ spellings_of field
+telling_all mode field seen faulted done rest had stops = sym (had.whole ∙ ap (λ ss. done ++ ss) stops.0 ∙ append-nil done)
 
--- the same, at the place that the code looks at
-pub telling_at : (mode : Mode) (field : List ℕ) (seen : List Bool) (faulted more : Faulted) (rest after : List ℕ) (s : Spelling) (flaw : Option Flaw) (place : ℕ) → Telling mode field seen faulted rest → Steps rest s after
-    → s.kind < 256 → place ≡ s.kind → flaw ≡ flaw_by mode (get_or seen place false) s → more ≡ with_flaw faulted flaw → Telling mode field (set seen place true) more after
-telling_at mode field seen faulted more rest after s flaw place had steps byte e flaw_is more_is =
-    let P : ℕ → Type 0 = λ place. flaw ≡ flaw_by mode (get_or seen place false) s → Telling mode field (set seen place true) more after in
-    subst P (sym e) (λ flaw_is. telling_more mode field seen faulted more rest after s flaw had steps byte flaw_is more_is) flaw_is
+pub telling_end : (mode : Mode) (field : List ℕ) (seen : List Bool) (faulted : Faulted) (done : List Spelling) (rest : List ℕ) → Telling mode field seen faulted done rest → Stops rest → with_flaw faulted (cut_off rest) ≡ faulted_of field mode
+telling_end mode field seen faulted done rest had stops =
+    let all : done ≡ spellings_of field = telling_all mode field seen faulted done rest had stops in
+    let left : rest ≡ rest_of field = sym (had.behind ∙ stops.1) in
+    (λ i. with_flaw ((had.firsts ∙ ap (λ ss. firsts_of (flaws_behind mode [] ss)) all) i) (cut_off (left i)))
+    ∙ sym (firsts_more (flaws_behind mode [] (spellings_of field)) (cut_off (rest_of field)))

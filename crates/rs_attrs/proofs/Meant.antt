@@ -8,13 +8,13 @@ use Rattle.rs_attrs.specs.Spellings.{Spelling, IsSpelling}
 use Rattle.rs_attrs.specs.Table.{outcome_of, is_kept}
 use Rattle.rs_attrs.specs.Meaning.{Attribute, attribute_with, that_counts, if_kept, kept_spelling, is_as4, value_meant, kept, get, AllAbove, IsRising, IsMeant, meaning_of}
 use Rattle.rs_attrs.proofs.Counting.{counts_kind}
-use Rattle.rs_attrs.proofs.KeepWalk.{types_all}
+use Rattle.rs_attrs.proofs.CountingWalk.{types_all}
 
 -- each type is given an attribute of its own
 abbrev pub GivesOwn : (ℕ → Option Attribute) → Type 0
 GivesOwn f = (kind : ℕ) (a : Attribute) → f kind ≡ Some a → a.kind ≡ kind
 
-above_cons : (low : ℕ) (o : Option Attribute) (m : List Attribute) → ((a : Attribute) → o ≡ Some a → low < a.kind) → AllAbove low m → AllAbove low (cons_option o m)
+pub above_cons : (low : ℕ) (o : Option Attribute) (m : List Attribute) → ((a : Attribute) → o ≡ Some a → low < a.kind) → AllAbove low m → AllAbove low (cons_option o m)
 above_cons low None m here later = later
 above_cons low (Some a) m here later = (here a refl, later)
 
@@ -23,7 +23,7 @@ above_from f own low a zero h = tt
 above_from f own low a (suc n) h =
     above_cons low (f a) (filter_map f (range_with_len (a + 1) n)) (λ x e. (let kind : x.kind ≡ a = own a x e in omega arith)) (above_from f own low (a + 1) n (omega arith))
 
-rising_cons : (o : Option Attribute) (m : List Attribute) → ((a : Attribute) → o ≡ Some a → AllAbove a.kind m) → IsRising m → IsRising (cons_option o m)
+pub rising_cons : (o : Option Attribute) (m : List Attribute) → ((a : Attribute) → o ≡ Some a → AllAbove a.kind m) → IsRising m → IsRising (cons_option o m)
 rising_cons None m here later = later
 rising_cons (Some a) m here later = (here a refl, later)
 
@@ -34,7 +34,7 @@ rising_from f own a (suc n) =
     (λ x e. (let kind : x.kind ≡ a = own a x e in above_from f own x.kind (a + 1) n (omega arith)))
     (rising_from f own (a + 1) n)
 
-get_cons : (kind : ℕ) (o : Option Attribute) (m : List Attribute) → ((a : Attribute) → o ≡ Some a → a.kind ≡ kind → ⊥) → get kind (cons_option o m) ≡ get kind m
+pub get_cons : (kind : ℕ) (o : Option Attribute) (m : List Attribute) → ((a : Attribute) → o ≡ Some a → a.kind ≡ kind → ⊥) → get kind (cons_option o m) ≡ get kind m
 get_cons kind None m other = refl
 get_cons kind (Some a) m other = ap (λ b. cond b (Some a) (get kind m)) (ne_eqb a.kind kind (other a refl))
 
@@ -44,7 +44,7 @@ get_below f own kind a (suc n) h =
     get_cons kind (f a) (filter_map f (range_with_len (a + 1) n)) (λ x e same. (let is : x.kind ≡ a = own a x e in omega arith))
     ∙ get_below f own kind (a + 1) n (omega arith)
 
-get_here : (kind : ℕ) (o : Option Attribute) (m : List Attribute) → ((a : Attribute) → o ≡ Some a → a.kind ≡ kind) → get kind m ≡ None → get kind (cons_option o m) ≡ o
+pub get_here : (kind : ℕ) (o : Option Attribute) (m : List Attribute) → ((a : Attribute) → o ≡ Some a → a.kind ≡ kind) → get kind m ≡ None → get kind (cons_option o m) ≡ o
 get_here kind None m own none = none
 get_here kind (Some a) m own none = ap (λ b. cond b (Some a) (get kind m)) (eq-eqb a.kind kind (own a refl))
 
@@ -88,7 +88,7 @@ behind mode ss kind a e = by_tests (is_as4 kind) (kept_spelling mode ss kind) re
         let both = kept_is mode kind (that_counts kind ss) s p in
         record { spelling = s; counts = both.0; is_kept = both.1; means = cc }
 
-gives_own : (mode : Mode) (ss : List Spelling) → GivesOwn (kept mode ss)
+pub gives_own : (mode : Mode) (ss : List Spelling) → GivesOwn (kept mode ss)
 gives_own mode ss kind a e =
     let b = behind mode ss kind a e in
     ap (λ a. a.kind) b.means ∙ counts_kind kind ss b.spelling b.counts

@@ -93,7 +93,7 @@ below a b m n above same = by_order (cases_lt a.kind b.kind)
         let some : Some a ≡ None = sym (get_first a m) ∙ same a.kind ∙ none in cc
     by_order (inr h) = h
 
-same_map : (m n : List Attribute) → IsRising m → IsRising n → ((kind : ℕ) → get kind m ≡ get kind n) → m ≡ n
+pub same_map : (m n : List Attribute) → IsRising m → IsRising n → ((kind : ℕ) → get kind m ≡ get kind n) → m ≡ n
 same_map [] [] rising other same = refl
 same_map [] (b ∷ n) rising other same = let e : None ≡ Some b = same b.kind ∙ get_first b n in cc
 same_map (a ∷ m) [] rising other same = let e : None ≡ Some a = sym (same a.kind) ∙ get_first a m in cc

@@ -3,11 +3,11 @@
 //! (RFC 7606, 2).
 
 ghost use Rattle.std.specs.Prelude.{◌≡◌, option_map};
-ghost use Rattle.rs_attrs.specs.Flaws.{value_cause, cause_in, flaw_by, cut_off, with_flaw, faulted_of};
+ghost use Rattle.rs_attrs.specs.Flaws.{value_cause, cause_in, flaw_by, cut_off, with_flaw};
 ghost use Rattle.rs_attrs.specs.Walking.{spelling_in};
 
 use crate::mode::Mode;
-use crate::reading_field::{Found, next_spelling};
+use crate::reading_field::Found;
 use crate::reading_values::{fits_class, outcome_of};
 use crate::table::{Outcome, Shape, row_of};
 
@@ -78,7 +78,7 @@ fn cause_of(mode: Mode, found: &Found<'_>) -> Option<Cause>
 }
 
 /// What is wrong with an attribute, where one of its type came before or not.
-fn flaw_of(mode: Mode, came_before: bool, found: &Found<'_>) -> Option<Flaw>
+pub(crate) fn flaw_of(mode: Mode, came_before: bool, found: &Found<'_>) -> Option<Flaw>
     ensures { result ≡ flaw_by mode came_before (spelling_in found.now) }
 {
     let kind = found.kind;
@@ -104,7 +104,7 @@ fn flaw_of(mode: Mode, came_before: bool, found: &Found<'_>) -> Option<Flaw>
 }
 
 /// What is wrong with a rest that begins with no attribute.
-fn flaw_of_rest(rest: &[u8]) -> Option<Flaw>
+pub(crate) fn flaw_of_rest(rest: &[u8]) -> Option<Flaw>
     ensures { result ≡ cut_off rest.now }
 {
     let kind = match rest {
@@ -122,7 +122,7 @@ fn flaw_of_rest(rest: &[u8]) -> Option<Flaw>
 }
 
 /// With a flaw more, behind those that were noted.
-fn noting(faulted: Faulted, flaw: Option<Flaw>) -> Faulted
+pub(crate) fn noting(faulted: Faulted, flaw: Option<Flaw>) -> Faulted
     ensures { result ≡ with_flaw faulted flaw }
 {
     let Some(flaw) = flaw else {
@@ -139,23 +139,4 @@ fn noting(faulted: Faulted, flaw: Option<Flaw>) -> Faulted
         },
         _ => faulted,
     }
-}
-
-/// The first attributes at fault of a field.
-pub(crate) fn faulted_in(field: &[u8], mode: Mode) -> Faulted
-    ensures { result ≡ faulted_of field.now mode }
-{
-    let mut faulted = Faulted {
-        withdraw: None,
-        discard: None,
-    };
-    let mut seen = [false; 256];
-    let mut rest = field;
-    while let Some((found, after)) = next_spelling(rest) {
-        let place = usize::from(found.kind);
-        faulted = noting(faulted, flaw_of(mode, seen[place], &found));
-        seen[place] = true;
-        rest = after;
-    }
-    noting(faulted, flaw_of_rest(rest))
 }

@@ -5,6 +5,7 @@ mod attrs;
 mod faulted;
 #[cfg(test)]
 mod faulted_tests;
+mod gathering;
 mod getters;
 mod laws;
 mod mode;

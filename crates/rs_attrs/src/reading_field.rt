@@ -1,12 +1,11 @@
-//! Takes a field of path attributes apart, from the front: the attribute that counts of each type.
+//! Takes a field of path attributes apart, from the front.
 
-ghost use Rattle.std.specs.Prelude.{◌≡◌, ◌≤◌, ◌<◌, ◌||◌, nat_lt, length, MatchOption, IfSome};
-ghost use Rattle.rs_attrs.specs.Spellings.{is_long, head_size, value_size, spelling_size, spellings_of, rest_of};
-ghost use Rattle.rs_attrs.specs.Meaning.{stands_twice};
-ghost use Rattle.rs_attrs.specs.Walking.{spelling_in, Stops, Steps, NotesCounting};
+ghost use Rattle.std.specs.Prelude.{◌≡◌, ◌≤◌, ◌<◌, length, MatchOption, IfSome};
+ghost use Rattle.rs_attrs.specs.Spellings.{is_long, head_size, value_size, spelling_size};
+ghost use Rattle.rs_attrs.specs.Walking.{spelling_in, Stops, Steps};
 
 /// An attribute as it stands in a field.
-#[derive(Clone, Copy)]
+#[derive(Clone, Copy, Default)]
 pub(crate) struct Found<'a> {
     pub(crate) flags: u8,
     pub(crate) kind: u8,
@@ -59,38 +58,4 @@ pub(crate) fn next_spelling(octets: &[u8]) -> Option<(Found<'_>, &[u8])>
     let (_, behind) = octets.split_at(head);
     let (value, rest) = behind.split_at(size);
     Some((Found { flags, kind, value }, rest))
-}
-
-/// For each type of attribute the spelling that counts, and what the walk over the field shows.
-#[derive(Drop)]
-pub(crate) struct Counting<'a> {
-    pub(crate) places: [Option<Found<'a>>; 256],
-    /// MP_REACH_NLRI or MP_UNREACH_NLRI stands twice.
-    pub(crate) mp_twice: bool,
-    pub(crate) has_rest: bool,
-}
-
-/// Of a type that stands more than once the first spelling counts.
-pub(crate) fn counting_of(field: &[u8]) -> Counting<'_>
-    ensures counts { NotesCounting result.places (spellings_of field.now) }
-    ensures mp_twice { result.mp_twice ≡ (stands_twice 14 (spellings_of field.now) || stands_twice 15 (spellings_of field.now)) }
-    ensures has_rest { result.has_rest ≡ nat_lt 0 (length (rest_of field.now)) }
-{
-    let mut places = [None; 256];
-    let mut mp_twice = false;
-    let mut rest = field;
-    while let Some((found, after)) = next_spelling(rest) {
-        let place = usize::from(found.kind);
-        if places[place].is_none() {
-            places[place] = Some(found);
-        } else if found.kind == 14 || found.kind == 15 {
-            mp_twice = true;
-        }
-        rest = after;
-    }
-    Counting {
-        places,
-        mp_twice,
-        has_rest: !rest.is_empty(),
-    }
 }

@@ -195,20 +195,40 @@ fn push_aggregator(
     values.extend_from_slice(value)
 }
 
+/// The attribute of this type.
+fn kept_of<'a>(kept: &[Found<'a>], kind: u8) -> Option<Found<'a>>
+    ensures { option_map spelling_in result ≡ noted kept.now kind }
+{
+    for found in kept {
+        if found.kind == kind {
+            return Some(*found);
+        }
+    }
+    None
+}
+
 /// Puts the value of a two-octet peer's attribute behind others, with AS numbers in four octets.
 pub(crate) fn push_value_by_two(
     values: &mut Vec<u8>,
-    places: &[Option<Found<'_>>; 256],
+    kept: &[Found<'_>],
     found: &Found<'_>,
 ) -> Result<(), AllocError>
-    requires kept { AreKept Two places.now }
-    requires here { noted places.now found.now.kind ≡ Some (spelling_in found.now) }
-    ensures { OnOk result (values.new.items ≡ values.old.items ++ value_by_two (noted places.now) (spelling_in found.now)) }
+    requires kept { AreKept Two kept.now }
+    requires here { noted kept.now found.now.kind ≡ Some (spelling_in found.now) }
+    ensures { OnOk result (values.new.items ≡ values.old.items ++ value_by_two (noted kept.now) (spelling_in found.now)) }
 {
-    let ignores = ignores_as4(places[7], places[18]);
-    match found.kind {
-        2 => push_path(values, found.value, as4_path_value(ignores, places[17])),
-        7 => push_aggregator(values, found.value, ignores, places[18]),
-        _ => values.extend_from_slice(found.value),
+    if found.kind != 2 && found.kind != 7 {
+        return values.extend_from_slice(found.value);
+    }
+    let as4_aggregator = kept_of(kept, 18);
+    let ignores = ignores_as4(kept_of(kept, 7), as4_aggregator);
+    if found.kind == 2 {
+        push_path(
+            values,
+            found.value,
+            as4_path_value(ignores, kept_of(kept, 17)),
+        )
+    } else {
+        push_aggregator(values, found.value, ignores, as4_aggregator)
     }
 }

@@ -1,5 +1,6 @@
+use Rattle.std.proofs.Common.{drop}
 use Rattle.rs_attrs.proofs.Building.{Building}
 use Rattle.rs_attrs.proofs.reading.attributes_of.Given as goal
 
-abbrev pub invariant-loop-kind : goal.invariant-loop-kind
-invariant-loop-kind l = Building l.fn.mode l.fn.places l.heads.items l.values.items l.kind
+abbrev pub invariant-loop-found : goal.invariant-loop-found
+invariant-loop-found l = Building l.fn.mode l.fn.kept l.heads.items l.values.items (drop l.found-index l.fn.kept)

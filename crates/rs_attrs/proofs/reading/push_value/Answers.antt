@@ -5,5 +5,5 @@ use Rattle.rs_attrs.proofs.reading.push_value.Goals as goal
 
 pub push_value_by_two-requires-clause-kept : goal.push_value_by_two-requires-clause-kept
 push_value_by_two-requires-clause-kept c =
-    let P : Mode → Type 0 = λ mode. AreKept mode c.args.places.now in
+    let P : Mode → Type 0 = λ mode. AreKept mode c.args.kept.now in
     subst P c.in-Two.is c.requires.kept
