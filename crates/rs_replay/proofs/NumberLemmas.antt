@@ -6,7 +6,8 @@ use Rattle.std.proofs.lemmas.Bool.Decides.{nat_tests}
 use Rattle.std.proofs.lemmas.List.Sums.{fold-append}
 use Rattle.std.proofs.Math.Seq.{take-suc}
 use Rattle.std.proofs.lemmas.List.{take-append-drop}
-use Rattle.rs_replay.specs.Numbers.{is_digit, value_of, number_of, has_number_length}
+use Rattle.rs_policy.specs.Texts.{is_digit}
+use Rattle.rs_replay.specs.Numbers.{value_of, number_of, has_number_length}
 
 abbrev step : ℕ → ℕ → ℕ
 step n digit = n * 10 + (digit - 48)

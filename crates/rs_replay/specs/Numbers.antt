@@ -1,9 +1,7 @@
 -- Numbers as a trace writes them: 1 to 20 decimal digits, at most 2^64 - 1. No sign, no other mark; leading zeros count as digits.
 use Rattle.std.specs.Prelude.{ℕ, ◌+◌, ◌-◌, ◌*◌, ◌^◌, ◌&&◌, nat_le, nat_lt, Bool, if◌then◌else◌, List, length, fold, Option, Some, None}
 use Rattle.std.specs.List.{list_all}
-
-abbrev pub is_digit : ℕ → Bool
-is_digit octet = nat_le 48 octet && nat_le octet 57
+use Rattle.rs_policy.specs.Texts.{is_digit}
 
 abbrev pub value_of : List ℕ → ℕ
 value_of digits = fold (λ n digit. n * 10 + (digit - 48)) 0 digits

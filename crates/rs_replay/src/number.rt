@@ -1,7 +1,8 @@
 //! Decimal numbers of a trace.
 
 ghost use Rattle.std.specs.Prelude.{◌≡◌};
-ghost use Rattle.rs_replay.specs.Numbers.{number_of, is_digit};
+ghost use Rattle.rs_policy.specs.Texts.{is_digit};
+ghost use Rattle.rs_replay.specs.Numbers.{number_of};
 
 fn is_digit_octet(octet: u8) -> bool
     ensures { result ≡ is_digit octet }

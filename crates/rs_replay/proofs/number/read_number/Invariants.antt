@@ -1,6 +1,7 @@
 use Rattle.std.proofs.Common.{◌≡◌, ◌<◌, ◌^◌, take, true}
 use Rattle.std.specs.List.{list_all}
-use Rattle.rs_replay.specs.Numbers.{is_digit, value_of}
+use Rattle.rs_policy.specs.Texts.{is_digit}
+use Rattle.rs_replay.specs.Numbers.{value_of}
 use Rattle.rs_replay.proofs.number.read_number.Given as goal
 
 -- what was read so far are digits, and this is their value
