@@ -5,40 +5,38 @@ ghost use Rattle.std.specs.Prelude.{◌≡◌, true, false, IsTrue, ◌<◌, ℕ
 ghost use Rattle.std.specs.List.{IsDistinct};
 ghost use Rattle.std.specs.List.Sorted.{IsStrictlySortedBy};
 ghost use Rattle.std.specs.Map.{keys_of};
-ghost use Rattle.std.specs.Map.Iter.{ShowsInOrder, deref, deref_pair};
 ghost use Rattle.std.specs.Arc.{arc_value};
-ghost use Rattle.std.specs.BTreeSet.{BTreeSet};
 ghost use Rattle.rs_octets.specs.Prefixes.{Prefix, prefix_order};
 ghost use Rattle.rs_attrs.specs.Effects.{has_prefix, same_prefix};
 ghost use Rattle.rs_adjin.specs.declared.routes.Route.{Route};
+ghost use Rattle.rs_adjin.specs.declared.held.Held.{Held};
 ghost use Rattle.rs_adjin.specs.Table.{IsTable, IsOfClients, IsHeldBy, TellsChange};
 ghost use Rattle.rs_adjin.specs.Mandatory.{HasMandatory, AllHaveMandatory};
 ghost use Rattle.rs_adjin.specs.Listing.{Counts};
 
 use crate::candidates::Candidates;
+use crate::held::Held;
 use crate::numbers::Numbered;
+use crate::prefixes::{HeldPrefixes, NumberedPrefixes};
 use crate::routes::{Route, route_in};
-use crate::table::{clear_in, count_in, put_in, put_row, withdraw_in};
+use crate::table::{clear_in, count_in, put_in, put_row, withdraw_in, withdraw_row};
 use rs_attrs::Attrs;
 use rs_octets::Prefix;
 use std::alloc::{AllocError, Global};
-use std::collections::BTreeSet;
-use std::collections::btree_map::Iter as Numbers;
-use std::collections::btree_set::Iter;
 use std::sync::Arc;
 
-/// What each client announced, by prefix, with the prefixes of each client beside it.
+/// What each client announced, by prefix, with the numbers of each client's prefixes beside it.
 #[derive(Drop)]
 pub struct AdjIns {
     alloc: Global,
     identifiers: Vec<u32>,
-    held: Vec<BTreeSet<Prefix>>,
+    held: Vec<Held>,
     table: Numbered,
     ghost sets: { length held.items ≡ length identifiers.items },
     ghost whole: { IsTable table },
     ghost known: { IsOfClients (length identifiers.items) table },
     ghost mandatory: { AllHaveMandatory table },
-    ghost tied: { (c : ℕ) (prefixes : BTreeSet Prefix) → slice_get held.items c ≡ Some prefixes → IsHeldBy c prefixes table },
+    ghost tied: { (c : ℕ) (numbers : Held) → slice_get held.items c ≡ Some numbers → IsHeldBy c numbers table },
 }
 
 impl AdjIns {
@@ -53,7 +51,7 @@ impl AdjIns {
         let identifiers = vec![in alloc; 0; clients]?;
         let mut held = Vec::with_capacity(alloc, clients)?;
         for _ in 0..clients {
-            held.push(BTreeSet::new(alloc))?;
+            held.push(Held::new(alloc))?;
         }
         Ok(AdjIns {
             alloc,
@@ -146,11 +144,8 @@ impl AdjIns {
         ensures withdrawn { Sets self.old self.new client prefix None }
         ensures numbers { SameNumbers self.old self.new }
     {
-        if !withdraw_in(&mut self.table, client, prefix) {
-            return false;
-        }
-        self.held[client].remove(&prefix);
-        true
+        let held = &mut self.held[client];
+        withdraw_in(&mut self.table, held, client, prefix)
     }
 
     /// The client withdraws its route for the prefix of a number, as `withdraw` has it.
@@ -161,10 +156,11 @@ impl AdjIns {
         ensures withdrawn { SetsAt self.old self.new client number None }
         ensures numbers { SameNumbers self.old self.new }
     {
-        match self.table.prefix(number) {
-            Some(prefix) => self.withdraw(client, prefix),
-            None => false,
-        }
+        let Some(prefix) = self.table.prefix(number) else {
+            return false;
+        };
+        let held = &mut self.held[client];
+        withdraw_row(&mut self.table, number, held, client, prefix)
     }
 
     /// The client's routes go, and its identifier stays.
@@ -176,14 +172,13 @@ impl AdjIns {
         clear_in(&mut self.table, &mut self.held[client], client);
     }
 
-    /// The prefixes that the client holds, rising.
-    pub fn held(&self, client: usize) -> Iter<'_, Prefix>
+    /// The prefixes that the client holds, with their numbers.
+    pub fn held(&self, client: usize) -> HeldPrefixes<'_>
         requires { client < client_count self.now }
-        ensures rising { IsStrictlySortedBy prefix_order result }
-        ensures all { (p : Prefix) → Contains result p ↔ IsSome (held_of self.now client p) }
-        ensures runs { ShowsInOrder (deref {X = Prefix}) }
+        ensures all { (p : Prefix) → Contains (keys_of result) p ↔ IsSome (held_of self.now client p) }
+        ensures numbers { All (λ e. number_of self.now e.0 ≡ Some e.1) result }
     {
-        self.held[client].iter()
+        HeldPrefixes::new(&self.table, &self.held[client])
     }
 
     /// How many prefixes the client would hold after an UPDATE that withdraws and announces these.
@@ -195,9 +190,9 @@ impl AdjIns {
         ensures { Counts (would_hold self.now client withdrawn.now announced.now) result }
     {
         let held = &self.held[client];
-        let gone = count_in(held, withdrawn);
-        let again = count_in(held, announced);
-        held.len() - gone + (announced.len() - again)
+        let gone = count_in(&self.table, held, withdrawn);
+        let again = count_in(&self.table, held, announced);
+        held.count() - gone + (announced.len() - again)
     }
 
     /// The routes for a prefix, by rising client.
@@ -261,13 +256,13 @@ impl AdjIns {
     }
 
     /// Each prefix that has a number, rising, with it: each that any client holds is among them.
-    pub fn iter(&self) -> Numbers<'_, Prefix, u32>
+    pub fn iter(&self) -> NumberedPrefixes<'_>
         ensures rising { IsStrictlySortedBy prefix_order (keys_of result) }
         ensures numbers { All (λ e. number_of self.now e.0 ≡ Some e.1) result }
+        ensures each { (p : Prefix) → IsSome (number_of self.now p) → Contains (keys_of result) p }
         ensures all { (c : ℕ) (p : Prefix) → IsSome (held_of self.now c p) → Contains (keys_of result) p }
-        ensures runs { ShowsInOrder (deref_pair {K = Prefix} {X = ℕ}) }
     {
-        self.table.iter()
+        NumberedPrefixes::new(self.table.iter())
     }
 
     /// Gives up a number, if no client has a route for its prefix, and answers whether it did.

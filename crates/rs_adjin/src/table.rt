@@ -1,45 +1,44 @@
-//! The routes of all clients, by prefix, and the prefixes that one client holds.
+//! The routes of all clients, by prefix, and the numbers of those that one client holds.
 
-ghost use Rattle.std.specs.Prelude.{◌≡◌, ◌<◌, ◌≤◌, true, false, Some, None, length, is_some, IsSome, IfOk, OnOk, OnErr};
+ghost use Rattle.std.specs.Prelude.{◌≡◌, ◌≢◌, ◌<◌, ◌≤◌, ℕ, true, false, Some, None, length, is_some, IsSome, IfOk, OnOk, OnErr};
 ghost use Rattle.std.specs.List.{count_by};
 ghost use Rattle.std.specs.Arc.{arc_value};
-ghost use Rattle.std.specs.BTreeSet.{contains};
-ghost use Rattle.rs_octets.specs.Prefixes.{prefix_order};
 ghost use Rattle.rs_adjin.specs.Routes.{value_in, IsRising, KeepsRoutes, SameRoutes, Changes, BelongsAt};
-ghost use Rattle.rs_adjin.specs.Numbers.{number_in, routes_at, KeepsNumbers, SameNumbers};
-ghost use Rattle.rs_adjin.specs.Table.{IsTable, KeepsTable, Writes, IsSame, Clears, Marks, SameSet, TellsChange, IsHeldBy};
+ghost use Rattle.rs_adjin.specs.Numbers.{number_in, routes_at, routes_of, KeepsNumbers, SameNumbers};
+ghost use Rattle.rs_adjin.specs.Table.{IsTable, KeepsTable, Writes, IsSame, KeepsOthers, Clears, TellsChange, IsHeldBy, has_prefix_of};
+ghost use Rattle.rs_adjin.specs.Held.{has_number, Marks, SameSet};
 
+use crate::held::Held;
 use crate::numbers::Numbered;
 use crate::routes::{Route, place_of, replace};
 use rs_attrs::Attrs;
 use rs_octets::Prefix;
 use std::alloc::{AllocError, Global};
-use std::collections::BTreeSet;
 use std::sync::Arc;
 
 /// Puts a client's first route for a prefix among those of others.
 fn add_at(
     routes: &mut Vec<Route>,
     place: usize,
-    held: &mut BTreeSet<Prefix>,
+    held: &mut Held,
     client: usize,
-    prefix: Prefix,
+    number: u32,
     attrs: &Arc<Attrs>,
 ) -> Result<(), AllocError>
     requires rising { IsRising routes.old.items }
     requires place { BelongsAt client routes.old.items place }
-    requires absent { contains prefix_order held.old prefix ≡ false }
+    requires absent { has_number held.old number ≡ false }
     ensures kept { KeepsRoutes routes.old.items routes.new.items client }
     ensures filled { 0 < length routes.old.items → 0 < length routes.new.items }
     ensures ok { OnOk result (Changes routes.old.items routes.new.items client (Some (arc_value attrs.now))) }
-    ensures marked { OnOk result (Marks held.old held.new prefix true) }
+    ensures marked { OnOk result (Marks held.old held.new number true) }
     ensures err { OnErr result (SameRoutes routes.old.items routes.new.items) }
     ensures unmarked { OnErr result (SameSet held.old held.new) }
 {
     let attrs = attrs.clone()?;
-    held.insert(prefix)?;
+    held.add(number)?;
     let Ok(()) = routes.insert(place, Route { client, attrs }) else {
-        held.remove(&prefix);
+        held.remove(number);
         return Err(AllocError);
     };
     Ok(())
@@ -48,25 +47,25 @@ fn add_at(
 /// Gives a client a route among those for a prefix, and answers whether that changes what it has.
 fn put_among(
     routes: &mut Vec<Route>,
-    held: &mut BTreeSet<Prefix>,
+    held: &mut Held,
     client: usize,
-    prefix: Prefix,
+    number: u32,
     attrs: &Arc<Attrs>,
 ) -> Result<bool, AllocError>
     requires rising { IsRising routes.old.items }
-    requires tied { contains prefix_order held.old prefix ≡ is_some (value_in client routes.old.items) }
+    requires tied { has_number held.old number ≡ is_some (value_in client routes.old.items) }
     ensures kept { KeepsRoutes routes.old.items routes.new.items client }
     ensures filled { 0 < length routes.old.items → 0 < length routes.new.items }
     ensures ok { OnOk result (Changes routes.old.items routes.new.items client (Some (arc_value attrs.now))) }
     ensures changed { IfOk result (λ changed. TellsChange changed (value_in client routes.old.items) (Some (arc_value attrs.now))) }
-    ensures marked { OnOk result (Marks held.old held.new prefix true) }
+    ensures marked { OnOk result (Marks held.old held.new number true) }
     ensures err { OnErr result (SameRoutes routes.old.items routes.new.items) }
     ensures unmarked { OnErr result (SameSet held.old held.new) }
 {
     match place_of(routes, client) {
         Ok(place) => replace(&mut routes[place], attrs),
         Err(place) => {
-            add_at(routes, place, held, client, prefix, attrs)?;
+            add_at(routes, place, held, client, number, attrs)?;
             Ok(true)
         }
     }
@@ -76,7 +75,7 @@ fn put_among(
 pub(crate) fn put_row(
     table: &mut Numbered,
     number: u32,
-    held: &mut BTreeSet<Prefix>,
+    held: &mut Held,
     client: usize,
     prefix: Prefix,
     attrs: &Arc<Attrs>,
@@ -95,7 +94,7 @@ pub(crate) fn put_row(
         &mut table.rows[number as usize].routes,
         held,
         client,
-        prefix,
+        number,
         attrs,
     )
 }
@@ -104,7 +103,7 @@ pub(crate) fn put_row(
 pub(crate) fn put_in(
     alloc: Global,
     table: &mut Numbered,
-    held: &mut BTreeSet<Prefix>,
+    held: &mut Held,
     client: usize,
     prefix: Prefix,
     attrs: &Arc<Attrs>,
@@ -152,22 +151,68 @@ fn take_row(table: &mut Numbered, number: u32, client: usize, prefix: Prefix) ->
     take_from(&mut table.rows[number as usize].routes, client)
 }
 
-/// Takes a client's route, and answers whether there was one.
-pub(crate) fn withdraw_in(table: &mut Numbered, client: usize, prefix: Prefix) -> bool
-    requires { IsTable table.old }
+/// Takes a client's route from the row of its prefix, and the number from its set.
+pub(crate) fn withdraw_row(
+    table: &mut Numbered,
+    number: u32,
+    held: &mut Held,
+    client: usize,
+    prefix: Prefix,
+) -> bool
+    requires table { IsTable table.old }
+    requires tied { IsHeldBy client held.old table.old }
+    requires number { number_in table.old prefix ≡ Some number }
     ensures kept { KeepsTable table.old table.new client }
     ensures taken { result ≡ is_some (value_in client (routes_at table.old prefix)) }
     ensures writes { Writes table.old table.new client prefix None }
+    ensures tied { IsHeldBy client held.new table.new }
+    ensures numbers { SameNumbers table.old table.new }
+{
+    if !take_row(table, number, client, prefix) {
+        return false;
+    }
+    held.remove(number);
+    true
+}
+
+/// Takes a client's route, and answers whether there was one.
+pub(crate) fn withdraw_in(
+    table: &mut Numbered,
+    held: &mut Held,
+    client: usize,
+    prefix: Prefix,
+) -> bool
+    requires table { IsTable table.old }
+    requires tied { IsHeldBy client held.old table.old }
+    ensures kept { KeepsTable table.old table.new client }
+    ensures taken { result ≡ is_some (value_in client (routes_at table.old prefix)) }
+    ensures writes { Writes table.old table.new client prefix None }
+    ensures tied { IsHeldBy client held.new table.new }
     ensures numbers { SameNumbers table.old table.new }
 {
     let Some(number) = table.number(prefix) else {
         return false;
     };
-    take_row(table, number, client, prefix)
+    withdraw_row(table, number, held, client, prefix)
 }
 
-/// Takes all routes of a client, which holds these prefixes.
-pub(crate) fn clear_in(table: &mut Numbered, held: &mut BTreeSet<Prefix>, client: usize)
+/// Takes a client's route from the row of a number.
+fn take_number(table: &mut Numbered, number: u32, client: usize)
+    requires { IsTable table.old }
+    ensures kept { KeepsTable table.old table.new client }
+    ensures numbers { SameNumbers table.old table.new }
+    ensures others { KeepsOthers table.old table.new client }
+    ensures gone { value_in client (routes_of table.new number) ≡ None }
+    ensures left { (n : ℕ) → n ≢ number → value_in client (routes_of table.new n) ≡ value_in client (routes_of table.old n) }
+{
+    let Some(prefix) = table.prefix(number) else {
+        return;
+    };
+    take_row(table, number, client, prefix);
+}
+
+/// Takes all routes of a client, which holds the prefixes of these numbers.
+pub(crate) fn clear_in(table: &mut Numbered, held: &mut Held, client: usize)
     requires table { IsTable table.old }
     requires tied { IsHeldBy client held.old table.old }
     ensures kept { KeepsTable table.old table.new client }
@@ -175,15 +220,28 @@ pub(crate) fn clear_in(table: &mut Numbered, held: &mut BTreeSet<Prefix>, client
     ensures cleared { Clears table.old table.new client }
     ensures numbers { SameNumbers table.old table.new }
 {
-    while let Some(prefix) = held.pop_first() {
-        withdraw_in(table, client, prefix);
+    let mut first = 0;
+    while let Some(number) = held.first_from(first) {
+        take_number(table, number, client);
+        first = number as usize + 1;
+    }
+    held.clear();
+}
+
+/// Whether a client holds a prefix, by the set of its numbers.
+fn holds(table: &Numbered, held: &Held, prefix: Prefix) -> bool
+    ensures { result ≡ has_prefix_of held.now (number_in table.now prefix) }
+{
+    match table.number(prefix) {
+        Some(number) => held.has(number),
+        None => false,
     }
 }
 
-/// How many of the prefixes are in the set.
-pub(crate) fn count_in(held: &BTreeSet<Prefix>, prefixes: &[Prefix]) -> usize
-    ensures count { result ≡ count_by (λ p. contains prefix_order held.now p) prefixes.now }
+/// How many of the prefixes a client holds, by the set of its numbers.
+pub(crate) fn count_in(table: &Numbered, held: &Held, prefixes: &[Prefix]) -> usize
+    ensures count { result ≡ count_by (λ p. has_prefix_of held.now (number_in table.now p)) prefixes.now }
     ensures within { result ≤ length prefixes.now }
 {
-    prefixes.iter().filter(|p| held.contains(*p)).count()
+    prefixes.iter().filter(|p| holds(table, held, **p)).count()
 }

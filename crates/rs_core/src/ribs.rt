@@ -54,10 +54,8 @@ fn touch_all_of(outlet: &mut Outlet, tables: &AdjIns, c: usize)
     ensures client { outlet.new.client ≡ outlet.old.client }
     ensures extended { outlet.new.extended ≡ outlet.old.extended }
 {
-    for prefix in tables.held(c) {
-        if let Some(number) = tables.number(*prefix) {
-            outlet.touch(number, *prefix);
-        }
+    for (prefix, number) in tables.held(c) {
+        outlet.touch(number, prefix);
     }
 }
 

@@ -2,3 +2,4 @@ pub mod Members
 pub mod Filters
 pub mod Chosen
 pub mod Compared
+pub mod Rows

@@ -1,20 +1,20 @@
 //! The routes of a Loc-RIB, one after the other.
 
 use crate::rows::Rows;
+use rs_adjin::NumberedPrefixes;
 use rs_attrs::Attrs;
 use rs_octets::Prefix;
-use std::collections::btree_map::Iter;
 use std::sync::Arc;
 
 /// The routes of a Loc-RIB that are left, by rising prefix.
 #[derive(Drop)]
 pub struct Routes<'a> {
-    numbers: Iter<'a, Prefix, u32>,
+    numbers: NumberedPrefixes<'a>,
     rows: &'a Rows,
 }
 
 impl<'a> Routes<'a> {
-    pub(crate) fn new(numbers: Iter<'a, Prefix, u32>, rows: &'a Rows) -> Routes<'a> {
+    pub(crate) fn new(numbers: NumberedPrefixes<'a>, rows: &'a Rows) -> Routes<'a> {
         Routes { numbers, rows }
     }
 }
@@ -25,8 +25,8 @@ impl<'a> Iterator for Routes<'a> {
     fn next(&mut self) -> Option<(Prefix, &'a Arc<Attrs>)> {
         for _ in 0..self.numbers.len() {
             let (prefix, number) = self.numbers.next()?;
-            if let Some(row) = self.rows.get(*number) {
-                return Some((*prefix, &row.attrs));
+            if let Some(row) = self.rows.get(number) {
+                return Some((prefix, &row.attrs));
             }
         }
         None

@@ -9,5 +9,5 @@ invariant_of-self c = record {
   whole = (lists_kept c.args.self.now.table c.add.new.self 0 c.add.ensures.rows c.args.self.now.whole).table;
   known = lists_known (length c.args.self.now.identifiers.items) c.args.self.now.table c.add.new.self c.add.ensures.rows c.args.self.now.known;
   mandatory = mandatory_same c.args.self.now.table c.add.new.self (same_table c.args.self.now.table c.add.new.self c.add.ensures.rows) c.args.self.now.mandatory;
-  tied = tied_same c.args.self.now.held.items c.args.self.now.table c.add.new.self c.args.self.now.tied (same_table c.args.self.now.table c.add.new.self c.add.ensures.rows);
+  tied = tied_same c.args.self.now.held.items c.args.self.now.table c.add.new.self c.args.self.now.tied c.add.ensures.kept (same_table c.args.self.now.table c.add.new.self c.add.ensures.rows);
 }

@@ -4,6 +4,7 @@ use Rattle.std.specs.Arc.{arc_value}
 use Rattle.std.proofs.Math.ListN.{length-set}
 use Rattle.rs_adjin.specs.AdjIns.{client_count}
 use Rattle.rs_adjin.proofs.Ties.{tied_after, put_others, put_mandatory}
+use Rattle.rs_adjin.proofs.Holding.{keeps_from_same}
 use Rattle.rs_adjin.proofs.adj_ins.AdjIns.put_at.Goals as goal
 
 pub invariant_of-self-2 : goal.invariant_of-self-2
@@ -14,6 +15,6 @@ invariant_of-self-2 c = record {
   known = c.put_row.ensures.kept.known (length c.args.self.now.identifiers.items) c.requires.client c.args.self.now.known;
   mandatory = put_mandatory c.put_row.result c.args.self.now.table c.put_row.new.table c.args.client c.in-Some.prefix (arc_value c.args.attrs.now) c.requires.mandatory c.put_row.ensures.ok c.put_row.ensures.err c.args.self.now.mandatory;
   tied =
-      tied_after c.args.self.now.held.items c.args.self.now.table c.put_row.new.table c.args.client c.put_row.new.held c.args.self.now.tied
+      tied_after c.args.self.now.held.items c.args.self.now.table c.put_row.new.table c.args.client c.put_row.new.held c.args.self.now.tied (keeps_from_same c.args.self.now.table c.put_row.new.table c.put_row.ensures.numbers)
       (put_others c.put_row.result c.args.self.now.table c.put_row.new.table c.args.client c.in-Some.prefix (Some (arc_value c.args.attrs.now)) c.put_row.ensures.ok c.put_row.ensures.err) c.put_row.ensures.tied;
 }
