@@ -3,7 +3,8 @@
 //! Whatever one client changes in the Adj-RIBs-In is touched in the outlets of all others; a turn
 //! decides what is touched.
 
-ghost use Rattle.std.specs.Prelude.{◌≡◌, ◌<◌, ◌≤◌, length, IfOk};
+ghost use Rattle.std.specs.Prelude.{◌≡◌, ◌<◌, ◌≤◌, ℕ, Some, None, length, IfOk, OnOk, OnErr};
+ghost use Rattle.rs_octets.specs.Prefixes.{Prefix};
 ghost use Rattle.std.specs.Arc.{arc_value};
 ghost use Rattle.rs_adjin.specs.AdjIns as adj_ins;
 ghost use Rattle.rs_adjin.specs.Mandatory.{HasMandatory};
@@ -60,11 +61,14 @@ fn touch_all_of(outlet: &mut Outlet, tables: &AdjIns, c: usize)
 }
 
 impl Ribs {
-    ghost use Rattle.rs_core.specs.Ribs.{outlet_count, lent_by};
+    ghost use Rattle.rs_core.specs.Ribs.{KeepsSettings, outlet_count, lent_by};
 
     /// The RIBs of clients of which none is Established.
     pub(crate) fn new(alloc: Global, config: Config) -> Result<Ribs, AllocError>
-        ensures { IfOk result (λ ribs. outlet_count ribs ≡ length config.clients) }
+        ensures count { IfOk result (λ ribs. outlet_count ribs ≡ length config.clients) }
+        ensures config { IfOk result (λ ribs. ribs.config ≡ config) }
+        ensures held { IfOk result (λ ribs. (c : ℕ) (p : Prefix) → adj_ins.held_of ribs.tables c p ≡ None) }
+        ensures identifiers { IfOk result (λ ribs. (c : ℕ) → adj_ins.identifier_of ribs.tables c ≡ 0) }
     {
         let count = config.clients();
         let extended = config.extended();
@@ -91,7 +95,9 @@ impl Ribs {
     ) -> Result<(), AllocError>
         requires client { c < outlet_count self.old }
         requires mandatory { HasMandatory (arc_value attrs.now) }
-        ensures { outlet_count self.new ≡ outlet_count self.old }
+        ensures settings { KeepsSettings self.old self.new }
+        ensures held { OnOk result (adj_ins.Sets self.old.tables self.new.tables c prefix (Some (arc_value attrs.now))) }
+        ensures refused { OnErr result (adj_ins.Same self.old.tables self.new.tables) }
     {
         let number = self.tables.add(prefix)?;
         if self.tables.put_at(c, number, attrs)? {
@@ -103,7 +109,8 @@ impl Ribs {
     /// A client withdraws its route. Where it had one, the others are touched.
     pub(crate) fn withdraw(&mut self, c: usize, prefix: Prefix)
         requires { c < outlet_count self.old }
-        ensures { outlet_count self.new ≡ outlet_count self.old }
+        ensures settings { KeepsSettings self.old self.new }
+        ensures held { adj_ins.Sets self.old.tables self.new.tables c prefix None }
     {
         if !self.tables.withdraw(c, prefix) {
             return;
@@ -115,7 +122,8 @@ impl Ribs {
 
     /// Touches a prefix for all clients but one.
     fn touch_others(&mut self, c: usize, number: u32, prefix: Prefix)
-        ensures { outlet_count self.new ≡ outlet_count self.old }
+        ensures settings { KeepsSettings self.old self.new }
+        ensures tables { self.new.tables ≡ self.old.tables }
     {
         for d in 0..self.count {
             if d != c {
@@ -127,7 +135,8 @@ impl Ribs {
     /// Touches a prefix for one client.
     fn touch(&mut self, c: usize, number: u32, prefix: Prefix)
         requires { c < outlet_count self.old }
-        ensures { outlet_count self.new ≡ outlet_count self.old }
+        ensures settings { KeepsSettings self.old self.new }
+        ensures tables { self.new.tables ≡ self.old.tables }
     {
         let outlet = &mut self.outlets[c];
         outlet.touch(number, prefix);
@@ -138,7 +147,8 @@ impl Ribs {
     /// A client is Established: it holds nothing, and all is to be decided for it.
     pub(crate) fn come_up(&mut self, c: usize, identifier: u32, mode: Mode, limit: Limit)
         requires { c < outlet_count self.old }
-        ensures { outlet_count self.new ≡ outlet_count self.old }
+        ensures settings { KeepsSettings self.old self.new }
+        ensures held { adj_ins.Begins self.old.tables self.new.tables c identifier }
     {
         self.tables.begin(c, identifier);
         let limit = if self.extended { limit } else { Limit::Short };
@@ -148,7 +158,8 @@ impl Ribs {
     /// All routes that were learnt from a client go, and their prefixes are touched for the others.
     pub(crate) fn unlearn(&mut self, c: usize)
         requires { c < outlet_count self.old }
-        ensures { outlet_count self.new ≡ outlet_count self.old }
+        ensures settings { KeepsSettings self.old self.new }
+        ensures held { adj_ins.Begins self.old.tables self.new.tables c 0 }
     {
         self.touch_held(c);
         self.tables.begin(c, 0);
@@ -157,7 +168,8 @@ impl Ribs {
     /// Touches all prefixes that a client holds for all others.
     fn touch_held(&mut self, c: usize)
         requires { c < outlet_count self.old }
-        ensures { outlet_count self.new ≡ outlet_count self.old }
+        ensures settings { KeepsSettings self.old self.new }
+        ensures tables { self.new.tables ≡ self.old.tables }
     {
         for d in 0..self.count {
             if d != c {
@@ -170,7 +182,8 @@ impl Ribs {
     fn touch_held_for(&mut self, c: usize, d: usize)
         requires from { c < outlet_count self.old }
         requires to { d < outlet_count self.old }
-        ensures { outlet_count self.new ≡ outlet_count self.old }
+        ensures settings { KeepsSettings self.old self.new }
+        ensures tables { self.new.tables ≡ self.old.tables }
     {
         let outlet = &mut self.outlets[d];
         touch_all_of(outlet, &self.tables, c);
@@ -180,7 +193,8 @@ impl Ribs {
     fn begin_session(&mut self, c: usize, mode: Mode, limit: Limit)
         requires client { c < outlet_count self.old }
         requires limit { limit ≡ limits.Long → self.old.extended ≡ true }
-        ensures { outlet_count self.new ≡ outlet_count self.old }
+        ensures settings { KeepsSettings self.old self.new }
+        ensures tables { self.new.tables ≡ self.old.tables }
     {
         let outlet = &mut self.outlets[c];
         outlet.up(mode, limit);
@@ -189,7 +203,8 @@ impl Ribs {
     /// The server's OPEN is in flight to a client, in place of what was.
     pub(crate) fn say_open(&mut self, c: usize, said: &ServerOpen)
         requires { c < outlet_count self.old }
-        ensures { outlet_count self.new ≡ outlet_count self.old }
+        ensures settings { KeepsSettings self.old self.new }
+        ensures tables { self.new.tables ≡ self.old.tables }
     {
         let outlet = &mut self.outlets[c];
         outlet.say_open(said);
@@ -198,7 +213,8 @@ impl Ribs {
     /// Nothing is due to a client or in flight to it.
     pub(crate) fn clear(&mut self, c: usize)
         requires { c < outlet_count self.old }
-        ensures { outlet_count self.new ≡ outlet_count self.old }
+        ensures settings { KeepsSettings self.old self.new }
+        ensures tables { self.new.tables ≡ self.old.tables }
     {
         let outlet = &mut self.outlets[c];
         outlet.clear();
@@ -207,7 +223,8 @@ impl Ribs {
     /// The session of a client has ended, with this NOTIFICATION or with none.
     pub(crate) fn finish(&mut self, c: usize, note: Option<Short>)
         requires { c < outlet_count self.old }
-        ensures { outlet_count self.new ≡ outlet_count self.old }
+        ensures settings { KeepsSettings self.old self.new }
+        ensures tables { self.new.tables ≡ self.old.tables }
     {
         let outlet = &mut self.outlets[c];
         outlet.finish(note);
@@ -218,7 +235,8 @@ impl Ribs {
     /// A KEEPALIVE is due to a client.
     pub(crate) fn say_keepalive(&mut self, c: usize)
         requires { c < outlet_count self.old }
-        ensures { outlet_count self.new ≡ outlet_count self.old }
+        ensures settings { KeepsSettings self.old self.new }
+        ensures tables { self.new.tables ≡ self.old.tables }
     {
         let outlet = &mut self.outlets[c];
         outlet.say_keepalive();
@@ -227,7 +245,8 @@ impl Ribs {
     /// A client asks for all routes again (RFC 2918, 4).
     pub(crate) fn again(&mut self, c: usize)
         requires { c < outlet_count self.old }
-        ensures { outlet_count self.new ≡ outlet_count self.old }
+        ensures settings { KeepsSettings self.old self.new }
+        ensures tables { self.new.tables ≡ self.old.tables }
     {
         let outlet = &mut self.outlets[c];
         outlet.again();
@@ -236,7 +255,8 @@ impl Ribs {
     /// Begins the next message to a client where none is in flight.
     pub(crate) fn begin(&mut self, c: usize)
         requires { c < outlet_count self.old }
-        ensures { outlet_count self.new ≡ outlet_count self.old }
+        ensures settings { KeepsSettings self.old self.new }
+        ensures tables { self.new.tables ≡ self.old.tables }
     {
         let outlet = &mut self.outlets[c];
         outlet.begin();
@@ -255,7 +275,8 @@ impl Ribs {
     pub(crate) fn took(&mut self, c: usize, n: usize)
         requires client { c < outlet_count self.old }
         requires lent { n ≤ length (lent_by self.old c) }
-        ensures { outlet_count self.new ≡ outlet_count self.old }
+        ensures settings { KeepsSettings self.old self.new }
+        ensures tables { self.new.tables ≡ self.old.tables }
     {
         let outlet = &mut self.outlets[c];
         outlet.took(n);

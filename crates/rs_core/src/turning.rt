@@ -49,7 +49,7 @@ impl Core {
 }
 
 impl Ribs {
-    ghost use Rattle.rs_core.specs.Ribs.{outlet_count};
+    ghost use Rattle.rs_core.specs.Ribs.{KeepsSettings, outlet_count};
 
     /// A turn of all clients, one after the other.
     fn turn(&mut self)
@@ -102,7 +102,9 @@ impl Ribs {
     /// Another configuration: all is decided anew at the next turn.
     pub(crate) fn replace(&mut self, config: Config)
         requires { length config.clients ≡ outlet_count self.old }
-        ensures { outlet_count self.new ≡ outlet_count self.old }
+        ensures count { outlet_count self.new ≡ outlet_count self.old }
+        ensures config { self.new.config ≡ config }
+        ensures tables { self.new.tables ≡ self.old.tables }
     {
         self.config = config;
         for c in 0..self.count {
@@ -113,7 +115,8 @@ impl Ribs {
     /// All is to be decided anew for one client.
     fn touch_all(&mut self, c: usize)
         requires { c < outlet_count self.old }
-        ensures { outlet_count self.new ≡ outlet_count self.old }
+        ensures settings { KeepsSettings self.old self.new }
+        ensures tables { self.new.tables ≡ self.old.tables }
     {
         let outlet = &mut self.outlets[c];
         outlet.touch_all();

@@ -1,6 +1,6 @@
 use Rattle.std.proofs.Common.{◌≡◌}
-use Rattle.rs_core.specs.Ribs.{outlet_count}
+use Rattle.rs_core.specs.Ribs.{KeepsSettings}
 use Rattle.rs_core.proofs.ribs.Ribs.touch_others.Given as goal
 
 abbrev pub invariant-loop-d : goal.invariant-loop-d
-invariant-loop-d l = outlet_count l.self ≡ outlet_count l.fn.self
+invariant-loop-d l = KeepsSettings l.fn.self l.self × (l.self.tables ≡ l.fn.self.tables)

@@ -1,0 +1,156 @@
+-- What a client's octets mean: what its session heard (RFC 4271, 8), and what its UPDATEs changed (RFC 4271, 4.3; RFC 7606).
+use Rattle.std.specs.Prelude.{ℕ, Bool, true, false, List, [], ◌∷◌, ◌++◌, length, filter, take, is_some, nat_lt, Option, Some, None, Result, Ok, Err, if◌then◌else◌}
+use Rattle.std.specs.List.{flat_map}
+use Rattle.rs_octets.specs.declared.heads.Allowed.{Allowed}
+use Rattle.rs_octets.specs.declared.heads.Kind.{Kind}
+use Rattle.rs_octets.specs.declared.heads.Kind.TheVariants as kinds
+use Rattle.rs_octets.specs.declared.heads.Head.{Head}
+use Rattle.rs_octets.specs.declared.heads.HeaderFault.{HeaderFault}
+use Rattle.rs_octets.specs.Headers.{header_of}
+use Rattle.rs_octets.specs.Messages.{body_of, newly_heard}
+use Rattle.rs_octets.specs.Prefixes.{Prefix}
+use Rattle.rs_attrs.specs.declared.mode.Mode.{Mode}
+use Rattle.rs_attrs.specs.Meaning.{Attribute}
+use Rattle.rs_attrs.specs.Effects.{Effect, Reset, Changes, Change, effect_of, table_since, once}
+use Rattle.rs_open.specs.Opens.{open_of}
+use Rattle.rs_open.specs.Refreshes.{family_of}
+use Rattle.rs_open.specs.declared.refresh.AddressFamily.{AddressFamily}
+use Rattle.rs_session.specs.declared.heard.Heard.{Heard}
+use Rattle.rs_session.specs.declared.heard.Heard.TheVariants as heard
+use Rattle.rs_session.specs.declared.act.State.{State}
+use Rattle.rs_session.specs.declared.act.State.TheVariants as states
+use Rattle.rs_session.specs.declared.settings.Settings.{Settings}
+use Rattle.rs_session.specs.Items as items
+use Rattle.rs_session.specs.Items.{Item}
+use Rattle.rs_session.specs.Sessions.{state_of, is_live, agreed_mode, agreed_identifier}
+use Rattle.rs_policy.specs.Configuration.{Configuration, client_of}
+
+-- ---- what is configured of a client's session
+
+-- what a header from a client may say (RFC 8654, 4; RFC 2918, 3)
+abbrev pub allowed_in : Configuration → Allowed
+allowed_in s = record { long = s.top.extended; refresh = s.top.refresh }
+
+abbrev pub session_in : Configuration → ℕ → Settings
+session_in s c = record { peer_as = (client_of s c).client_as; hold = s.top.hold; extended = s.top.extended }
+
+-- ---- one client
+
+-- the octets since its connection came; what befell its session, the newest first; what its UPDATEs changed since it is
+-- Established, the newest first
+pub record Hearing : Type 0 where
+  pub octets : List ℕ
+  pub items : List Item
+  pub changes : List Change
+
+abbrev pub silence : Hearing
+silence = record { octets = []; items = []; changes = [] }
+
+abbrev pub state_in : Configuration → ℕ → Hearing → State
+state_in s c h = state_of (session_in s c) h.items
+
+abbrev pub is_up : State → Bool
+is_up states.Idle = false
+is_up states.OpenSent = false
+is_up states.OpenConfirm = false
+is_up states.Established = true
+is_up states.Closing = false
+
+-- how many octets AS numbers have in the UPDATEs of a client that is Established (RFC 6793, 3)
+abbrev pub mode_in : Configuration → ℕ → Hearing → Option Mode
+mode_in s c h = if is_up (state_in s c h) then agreed_mode (session_in s c) h.items else None
+
+-- the BGP Identifier of a client that is Established (RFC 4271, 4.2)
+abbrev pub identifier_in : Configuration → ℕ → Hearing → ℕ
+identifier_in s c h = if is_up (state_in s c h) then agreed_identifier (session_in s c) h.items else 0
+
+-- what it announced and has not withdrawn, while it is Established: its Adj-RIB-In (RFC 4271, 3.2)
+abbrev pub table_in : Configuration → ℕ → Hearing → Prefix → Option (List Attribute)
+table_in s c h p = if is_up (state_in s c h) then table_since h.changes p else None
+
+-- ---- what a message says
+
+-- what a session hears of a message, and what the message changes, if it is an UPDATE without a session reset
+pub record Said : Type 0 where
+  pub message : Heard
+  pub change : Option Change
+
+abbrev pub without_change : Heard → Said
+without_change message = record { message = message; change = None }
+
+-- the prefixes that changes leave announced, each once
+abbrev pub held_by : List Change → List Prefix
+held_by changes = filter (λ p. is_some (table_since changes p)) (once (flat_map (λ change. change.announced) changes))
+
+-- Cease, Maximum Number of Prefixes Reached (RFC 4486, 4), where more prefixes are held than the limit allows
+abbrev pub reset_beyond : Option ℕ → List Change → Option (ℕ × ℕ)
+reset_beyond None changes = None
+reset_beyond (Some limit) changes = if nat_lt limit (length (held_by changes)) then Some (6, 1) else None
+
+abbrev pub effect_said : Option ℕ → List Change → Effect → Said
+effect_said limit changes (Reset code sub) = without_change (heard.Update (Some (code, sub)))
+effect_said limit changes (Changes change) = record { message = heard.Update (reset_beyond limit (change ∷ changes)); change = Some change }
+
+-- an UPDATE of a client that isn't Established ends its session, whatever it says (RFC 4271, 6.6)
+abbrev pub update_said : Option Mode → Option ℕ → List Change → List ℕ → Said
+update_said None limit changes body = without_change (heard.Update None)
+update_said (Some mode) limit changes body = effect_said limit changes (effect_of body mode)
+
+abbrev pub refresh_said : AddressFamily → Heard
+refresh_said family = heard.Refresh family.afi family.safi
+
+-- a message of this type with this body
+abbrev pub body_said : Configuration → ℕ → Hearing → Kind → List ℕ → Said
+body_said s c h kinds.Open body = without_change (heard.Open (open_of body))
+body_said s c h kinds.Update body = update_said (mode_in s c h) (client_of s c).limit h.changes body
+body_said s c h kinds.Note body = without_change heard.Note
+body_said s c h kinds.Keepalive body = without_change heard.Keepalive
+body_said s c h kinds.Refresh body = without_change (refresh_said (family_of body))
+
+abbrev pub said_by : Configuration → ℕ → Hearing → List ℕ → Result Head HeaderFault → Said
+said_by s c h body (Ok head) = body_said s c h head.kind body
+said_by s c h body (Err fault) = without_change (heard.Header fault)
+
+-- a whole message, or the fault of a header
+abbrev pub said_in : Configuration → ℕ → Hearing → Result (List ℕ) HeaderFault → Said
+said_in s c h (Ok message) = said_by s c h (body_of message) (header_of (allowed_in s) (take 19 message))
+said_in s c h (Err fault) = without_change (heard.Header fault)
+
+-- ---- what is heard
+
+abbrev pub with_change : Option Change → List Change → List Change
+with_change None changes = changes
+with_change (Some change) changes = change ∷ changes
+
+abbrev pub takes_in : Configuration → ℕ → Said → Hearing → Hearing
+takes_in s c said h = record {
+  octets = h.octets;
+  items = items.Message said.message ∷ h.items;
+  changes = if is_up (state_in s c h) then with_change said.change h.changes else [];
+}
+
+-- a message or a fault: it is heard while the session lasts
+abbrev pub listens : Configuration → ℕ → Result (List ℕ) HeaderFault → Hearing → Hearing
+listens s c message h = if is_live (state_in s c h) then takes_in s c (said_in s c h message) h else h
+
+abbrev pub listens_to : Configuration → ℕ → List (Result (List ℕ) HeaderFault) → Hearing → Hearing
+listens_to s c [] h = h
+listens_to s c (message ∷ messages) h = listens_to s c messages (listens s c message h)
+
+-- ---- what each move makes of it
+
+abbrev pub with_octets : List ℕ → Hearing → Hearing
+with_octets octets h = record { octets = octets; items = h.items; changes = h.changes }
+
+-- octets come: what they say that those before them did not is heard
+abbrev pub hears : Configuration → ℕ → List ℕ → Hearing → Hearing
+hears s c octets h = with_octets (h.octets ++ octets) (listens_to s c (newly_heard (allowed_in s) h.octets octets) h)
+
+abbrev pub begins : Hearing → Hearing
+begins h = record { octets = []; items = items.Came ∷ h.items; changes = [] }
+
+abbrev pub sees : ℕ → Hearing → Hearing
+sees t h = record { octets = h.octets; items = items.Moment t ∷ h.items; changes = h.changes }
+
+abbrev pub leaves : Hearing → Hearing
+leaves h = record { octets = []; items = items.Left ∷ h.items; changes = [] }

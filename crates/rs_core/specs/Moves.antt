@@ -1,0 +1,33 @@
+-- What befalls a route server. A run is a list of moves, the newest first.
+use Rattle.std.specs.Prelude.{ℕ, false, List, [], ◌∷◌}
+use Rattle.rs_policy.specs.Configuration.{Configuration}
+use Rattle.rs_policy.specs.declared.top.Top.{Top}
+use Rattle.rs_policy.specs.declared.rules.Choice.TheVariants as choices
+
+pub data Move : Type 0 where
+  Ruled : (config : Configuration) → Move  -- a configuration was accepted: each run begins with one
+  Came : (c : ℕ) → Move  -- a connection came of a client that had none
+  Heard : (c : ℕ) (octets : List ℕ) → Move  -- octets of a client came, in a piece
+  Saw : (t : ℕ) → Move  -- a moment was seen, in seconds
+  Left : (c : ℕ) → Move  -- a connection was lost, or memory was refused for what came by it
+  Turned : (refused : List ℕ) → Move  -- a turn of all clients but those for which memory was refused
+  Began : (c : ℕ) → Move  -- where none was in flight, the next message to a client began, if there was one
+  Took : (c : ℕ) (octets : List ℕ) → Move  -- octets of the message in flight to a client were taken
+
+abbrev pub no_top : Top
+no_top = record { server_as = 0; identifier = 0; hold = 0; default = choices.Pass; extended = false; refresh = false; multiprotocol = false }
+
+abbrev pub no_config : Configuration
+no_config = record { top = no_top; clients = []; policies = [] }
+
+-- the configuration that was accepted last
+abbrev pub config_in : List Move → Configuration
+config_in [] = no_config
+config_in (Ruled config ∷ run) = config
+config_in (Came c ∷ run) = config_in run
+config_in (Heard c octets ∷ run) = config_in run
+config_in (Saw t ∷ run) = config_in run
+config_in (Left c ∷ run) = config_in run
+config_in (Turned refused ∷ run) = config_in run
+config_in (Began c ∷ run) = config_in run
+config_in (Took c octets ∷ run) = config_in run

@@ -1,0 +1,61 @@
+-- What a run means for each client: what was heard of it, and what RFC 7947 makes due to it.
+use Rattle.std.specs.Prelude.{ℕ, ◌==◌, Bool, List, [], ◌∷◌, length, Option, Some, None, if◌then◌else◌}
+use Rattle.rs_octets.specs.Prefixes.{Prefix}
+use Rattle.rs_attrs.specs.Meaning.{Attribute}
+use Rattle.rs_open.specs.declared.open.Open.{Open}
+use Rattle.rs_session.specs.Sessions.{agreed_of, limit_by}
+use Rattle.rs_session.specs.Sessions as sessions
+use Rattle.rs_policy.specs.Configuration.{Configuration}
+use Rattle.rs_outlet.specs.declared.answers.Speech.{Speech}
+use Rattle.rs_outlet.specs.Due.{Held, due_to}
+use Rattle.rs_core.specs.Moves.{Move, Ruled, Came, Heard, Saw, Left, Turned, Began, Took, config_in}
+use Rattle.rs_core.specs.Hearing.{Hearing, silence, session_in, state_in, is_up, identifier_in, table_in, hears, begins, sees, leaves}
+
+-- ---- what was heard of a client
+
+abbrev pub hearing : ℕ → List Move → Hearing
+hearing c [] = silence
+hearing c (Ruled config ∷ run) = hearing c run
+hearing c (Came d ∷ run) = if d == c then begins (hearing c run) else hearing c run
+hearing c (Heard d octets ∷ run) = if d == c then hears (config_in run) c octets (hearing c run) else hearing c run
+hearing c (Saw t ∷ run) = sees t (hearing c run)
+hearing c (Left d ∷ run) = if d == c then leaves (hearing c run) else hearing c run
+hearing c (Turned refused ∷ run) = hearing c run
+hearing c (Began d ∷ run) = hearing c run
+hearing c (Took d octets ∷ run) = hearing c run
+
+-- the table of a client: what its UPDATEs mean, while it is Established (RFC 4271, 3.2)
+abbrev pub table : List Move → ℕ → Prefix → Option (List Attribute)
+table run c p = table_in (config_in run) c (hearing c run) p
+
+abbrev pub is_established : List Move → ℕ → Bool
+is_established run c = is_up (state_in (config_in run) c (hearing c run))
+
+-- ---- what is due to a client (RFC 7947, 2.3)
+
+-- how a client is spoken to, by its OPEN: in UPDATEs with AS numbers of so many octets (RFC 6793, 3) that are no longer than
+-- this (RFC 8654, 4)
+abbrev pub speech_by : Bool → Option Open → Option Speech
+speech_by extended None = None
+speech_by extended (Some sent) = Some (record { mode = sessions.mode_in sent.four; limit = limit_by extended (Some sent) })
+
+-- while it is Established
+abbrev pub speech_in : Configuration → ℕ → Hearing → Option Speech
+speech_in s c h = if is_up (state_in s c h) then speech_by s.top.extended (agreed_of (session_in s c) h.items) else None
+
+-- what each client holds and is known by: the candidates are chosen from this
+abbrev pub held_in : List Move → Held
+held_in run = record {
+  settings = config_in run;
+  count = length (config_in run).clients;
+  held = λ c p. table run c p;
+  identifier = λ c. identifier_in (config_in run) c (hearing c run);
+}
+
+abbrev pub due_by : Held → ℕ → Option Speech → Prefix → Option (List Attribute)
+due_by held c None p = None
+due_by held c (Some speech) p = due_to held c speech p
+
+-- the best of the other clients' routes that the rules pass, where it fits; nothing to a client that isn't Established
+abbrev pub due : List Move → ℕ → Prefix → Option (List Attribute)
+due run c p = due_by (held_in run) c (speech_in (config_in run) c (hearing c run)) p
