@@ -1,5 +1,5 @@
 -- What a link tells and is told, the newest step first.
-use Rattle.std.specs.Prelude.{◌≡◌, ℕ, List, [], ◌∷◌, take, Option, Result}
+use Rattle.std.specs.Prelude.{◌≡◌, ℕ, Bool, true, false, List, [], ◌∷◌, take, Option, Result, ⊤}
 use Rattle.rs_policy.specs.declared.faults.RulesFault.{RulesFault}
 use Rattle.rs_core.specs.declared.links.Event.{Event}
 use Rattle.rs_core.specs.declared.links.Event.TheVariants.{Opened, Octets, Moment, Turn, Room, Lost, Rules, Stop}
@@ -30,3 +30,41 @@ pub data Step : Type 0 where
 abbrev pub Leads : {L : Type 0} → (L → Step → L → Type 0) → L → List Step → L → Type 0
 Leads happens old [] new = old ≡ new
 Leads {L} happens old (s ∷ run) new = (mid : L) × Leads happens old run mid × happens mid s new
+
+-- there are no more events
+abbrev pub stops : Event → Bool
+stops (Opened c) = false
+stops (Octets c n) = false
+stops (Moment t) = false
+stops Turn = false
+stops (Room c n) = false
+stops (Lost c) = false
+stops Rules = false
+stops Stop = true
+
+-- the source did not tell that there are no more events
+abbrev pub GoesOn : Step → Type 0
+GoesOn (Told event octets) = stops event ≡ false
+GoesOn (Begin c) = ⊤
+GoesOn (Busy c) = ⊤
+GoesOn (Offer c octets answer) = ⊤
+GoesOn (Memory c) = ⊤
+GoesOn (End c) = ⊤
+GoesOn (Replaced answer) = ⊤
+
+abbrev pub AllGoOn : List Step → Type 0
+AllGoOn [] = ⊤
+AllGoOn (s ∷ run) = AllGoOn run × GoesOn s
+
+-- some steps lead from one link to the other, none of them a stop
+pub record HasLed {L : Type 0} (happens : L → Step → L → Type 0) (old new : L) : Type 0 where
+  pub run : List Step
+  pub onward : AllGoOn run
+  pub leads : Leads happens old run new
+
+-- and then a stop
+pub record HasStopped {L : Type 0} (happens : L → Step → L → Type 0) (old new : L) : Type 0 where
+  pub before : L
+  pub octets : List ℕ
+  pub led : HasLed happens old before
+  pub stops : happens before (Told Stop octets) new

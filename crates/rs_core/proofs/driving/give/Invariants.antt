@@ -1,9 +1,13 @@
 use Rattle.std.proofs.Common.{◌≡◌}
 use Rattle.rs_core.specs.Core.{client_count}
+use Rattle.rs_core.specs.Links.{HasLed}
 use Rattle.rs_core.proofs.driving.give.Given as goal
 
 abbrev pub invariant-loop-left : goal.invariant-loop-left
-invariant-loop-left g l = client_count l.core ≡ client_count l.fn.core
+invariant-loop-left g l = record {
+  count : client_count l.core ≡ client_count l.fn.core;
+  led : HasLed g.L.Link.happens l.fn.link l.link;
+}
 
 abbrev pub decreases-loop-left : goal.decreases-loop-left
 decreases-loop-left g l = l.left
