@@ -1,6 +1,8 @@
 mod Limits
 mod LocByNumber
+mod Decisions
 mod OneOf
+mod TurnedLoc
 mod Numbering
 mod Orders
 mod Touches
