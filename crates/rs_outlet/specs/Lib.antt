@@ -2,4 +2,5 @@ pub mod Views
 pub mod Due
 pub mod Next
 pub mod HeldBy
+pub mod Places
 pub mod Inside
