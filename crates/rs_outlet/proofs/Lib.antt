@@ -10,3 +10,5 @@ mod TouchedNumbers
 mod Ranges
 mod Ranks
 mod Fitting
+mod Places
+mod Draining

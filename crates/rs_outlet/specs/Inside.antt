@@ -13,14 +13,13 @@ use Rattle.rs_attrs.specs.Meaning.{Attribute}
 use Rattle.rs_open.specs.declared.short.Limit.TheVariants as limits
 use Rattle.rs_outlet.specs.declared.answers.Speech.{Speech}
 use Rattle.rs_outlet.specs.declared.rows.Row.{Row}
-use Rattle.rs_outlet.specs.declared.waiting.Told.{Told}
-use Rattle.rs_outlet.specs.declared.waiting.Told.TheVariants as told
 use Rattle.rs_outlet.specs.declared.waiting.Wait.{Wait}
 use Rattle.rs_outlet.specs.declared.turn.Change.{Change}
 use Rattle.rs_adjin.specs.declared.adj_ins.AdjIns.{AdjIns}
 use Rattle.rs_adjin.specs.AdjIns.{number_of}
 use Rattle.rs_outlet.specs.declared.outlet.Outlet.TheInside.{Inside}
 use Rattle.rs_outlet.specs.Views.{View, Table, Prefixes}
+use Rattle.rs_outlet.specs.Places.{told_of}
 
 -- ---- rows
 
@@ -101,12 +100,6 @@ IsNoNumberOf n es = AllByRecursion (λ e. e.0 ≢ n) es
 abbrev pub put : Table → Prefix → Option (List Attribute) → Table
 put t p None = fin.remove t p
 put t p (Some m) = fin.insert t p m
-
--- what was told at a place, where this is due
-abbrev pub told_of : Told → Option (List Attribute) → Option (List Attribute)
-told_of told.Nothing due = None
-told_of told.Same due = due
-told_of (told.Other attrs) due = Some (arc_value attrs)
 
 -- what was told: what is due, but where something waits
 abbrev pub told_over : Table → List Wait → Table

@@ -3,4 +3,5 @@ pub mod Due
 pub mod Next
 pub mod HeldBy
 pub mod Turns
+pub mod Places
 pub mod Inside

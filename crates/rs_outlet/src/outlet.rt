@@ -14,7 +14,7 @@ ghost use Rattle.rs_open.specs.Writing.{server_open, keepalive};
 ghost use Rattle.rs_open.specs.declared.short.Short.{Short};
 ghost use Rattle.rs_outlet.specs.Next.{note_octets};
 ghost use Rattle.rs_open.specs.declared.short.Limit.TheVariants as limits;
-ghost use Rattle.rs_outlet.specs.Views.{AreNumbered, IsOneOf, IsQuiet, bare, begun, cleared, finished, if_up, touched_at};
+ghost use Rattle.rs_outlet.specs.Views.{AreNumbered, IsDrained, IsOneOf, bare, begun, cleared, finished, if_up, touched_at};
 ghost use Rattle.rs_outlet.specs.Turns.{HasTurned};
 ghost use Rattle.rs_outlet.specs.Inside.{room_of, batch_of, IsNoNumberOf};
 
@@ -302,7 +302,7 @@ impl Outlet {
 
     /// Whether nothing is left to do.
     pub fn is_drained(&self) -> bool
-        ensures { IsTrue result → IsQuiet self.now }
+        ensures { IsTrue result → IsDrained self.now }
     {
         if self.speech.is_none() {
             return false;
