@@ -1,4 +1,4 @@
-use Rattle.std.proofs.Common.{◌≡◌, ◌<◌, ◌≤◌, ◌/◌, ◌^◌, ◌+◌, arith, rules}
+use Rattle.std.proofs.Common.{◌<◌, ◌/◌, ◌^◌, arith, rules}
 use Rattle.std.proofs.lemmas.Bool.Decides.{nat_tests}
 use Rattle.rs_adjin.proofs.Bits.{none_behind, lowest}
 use Rattle.rs_adjin.proofs.held.lowest_from.Goals as goal

@@ -1,4 +1,4 @@
-use Rattle.std.proofs.Common.{◌<◌, arith, ◌∙◌, ap, sym, length}
+use Rattle.std.proofs.Common.{◌<◌, arith, sym, length}
 use Rattle.std.proofs.lemmas.Bool.Decides.{nat_tests}
 use Rattle.rs_adjin.proofs.RouteLists.{stands_below, stands_read, absent_value}
 use Rattle.rs_adjin.proofs.routes.route_in.Goals as goal

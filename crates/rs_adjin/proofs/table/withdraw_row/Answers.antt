@@ -1,4 +1,4 @@
-use Rattle.std.proofs.Common.{◌≡◌, ◌∙◌, ap, sym, true, false, None, Bool}
+use Rattle.std.proofs.Common.{◌∙◌, sym, false, None}
 use Rattle.std.specs.Prelude.{is_some}
 use Rattle.rs_adjin.specs.Routes.{value_in}
 use Rattle.rs_adjin.specs.Numbers.{routes_at}

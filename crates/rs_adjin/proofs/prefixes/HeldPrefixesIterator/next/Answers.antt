@@ -1,5 +1,4 @@
-use Rattle.std.proofs.Common.{◌≡◌, ◌∙◌, ◌+◌, ◌-◌, ◌<◌, ◌≤◌, ap, sym, refl, subst, length, List, [], ◌∷◌, ℕ, suc, Some, None, arith, rules}
-use Rattle.rs_octets.specs.Prefixes.{Prefix}
+use Rattle.std.proofs.Common.{◌≡◌, ◌∙◌, ◌+◌, ◌-◌, ◌<◌, ◌≤◌, ap, sym, refl, length, [], ◌∷◌, suc, Some, arith, rules}
 use Rattle.rs_adjin.specs.Numbers.{prefix_of_in}
 use Rattle.rs_adjin.specs.Listing.{numbered_from}
 use Rattle.rs_adjin.specs.Table.{held_prefix}
