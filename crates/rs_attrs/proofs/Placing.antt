@@ -5,7 +5,6 @@ use Rattle.std.specs.List.{find, AllByRecursion}
 use Rattle.std.proofs.lemmas.List.{drop_more}
 use Rattle.std.proofs.lemmas.Bool.{eqb-true, eq-eqb, ne_eqb}
 use Rattle.rs_attrs.specs.declared.reading_field.Found.{Found}
-use Rattle.rs_attrs.specs.Spellings.{Spelling}
 use Rattle.rs_attrs.specs.Walking.{spelling_in, noted, noted_with, AllOver, AreRising, IsPlaceOf}
 
 -- one that is the first of its type

@@ -7,7 +7,7 @@ use Rattle.rs_attrs.specs.declared.mode.Mode.TheVariants.{Two, Four}
 use Rattle.rs_attrs.specs.declared.mode.Faults.{Faults}
 use Rattle.rs_attrs.specs.declared.reading_field.Found.{Found}
 use Rattle.rs_attrs.specs.Spellings.{Spelling, IsSpelling, Splits, spellings_of, rest_of}
-use Rattle.rs_attrs.specs.Meaning.{Attribute, attribute_with, that_counts, kept_spelling, is_as4, value_meant, meant, meaning_of, kept as kept_of, get, IsMeant, Reads, faults_of}
+use Rattle.rs_attrs.specs.Meaning.{Attribute, attribute_with, that_counts, is_as4, value_meant, meant, meaning_of, kept as kept_of, get, IsMeant, Reads, faults_of}
 use Rattle.rs_attrs.specs.Writing.{IsLegal}
 use Rattle.rs_attrs.specs.Walking.{noted, Keeps, meant_by, AreKept, AreShort}
 use Rattle.rs_attrs.proofs.Walk.{FitOctets, splits_of}

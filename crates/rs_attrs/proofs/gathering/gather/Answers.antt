@@ -1,4 +1,4 @@
-use Rattle.std.proofs.Common.{List, sym, ap, ◌∙◌, arith}
+use Rattle.std.proofs.Common.{ap, ◌∙◌, arith}
 use Rattle.rs_attrs.specs.declared.reading_field.Found.{Found}
 use Rattle.rs_attrs.specs.Flaws.{with_flaw}
 use Rattle.rs_attrs.specs.Walking.{spelling_in}

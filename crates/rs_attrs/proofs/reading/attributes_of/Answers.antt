@@ -7,7 +7,7 @@ use Rattle.rs_attrs.specs.declared.reading_field.Found.{Found}
 use Rattle.rs_attrs.specs.Meaning.{value_meant}
 use Rattle.rs_attrs.specs.Walking.{noted, spelling_in}
 use Rattle.rs_attrs.proofs.Placing.{rising_noted}
-use Rattle.rs_attrs.proofs.Building.{Building, building_start, building_skip, building_noted, added_length}
+use Rattle.rs_attrs.proofs.Building.{Building, building_skip, building_noted, added_length}
 use Rattle.rs_attrs.proofs.reading.attributes_of.Goals as goal
 use Rattle.rs_attrs.proofs.reading.attributes_of.Goals.{then-not-has_no_meaning+in_ok-push_value+in_ok-push, else-not-has_no_meaning}
 
