@@ -1,6 +1,7 @@
 -- Outlets stay those of their clients.
 use Rattle.std.proofs.Common.{◌≡◌, ◌<◌, ◌+◌, ℕ, zero, suc, Bool, List, [], ◌∷◌, ◌++◌, length, refl, sym, ◌∙◌, ap, subst, arith}
 use Rattle.std.specs.Prelude.{slice_index_or}
+use Rattle.rs_adjin.specs.declared.adj_ins.AdjIns.{AdjIns}
 use Rattle.rs_policy.specs.Configuration.{Configuration}
 use Rattle.rs_outlet.specs.Views.{View, bare}
 use Rattle.rs_outlet.specs.declared.answers.Last.{Last}
@@ -12,8 +13,8 @@ pub are_placed : (long : Bool) (config : Configuration) (xs : List View) → len
 are_placed long config xs count each i d lt = subst (λ n. n < length config.clients) (sym (each i d lt).client) (subst (λ n. i < n) count lt)
 
 -- and leaves
-pub turned_kept : (long : Bool) (xs ys : List View) → length ys ≡ length xs → AllTurnedAlone xs ys → AreKept long xs → AreKept long ys
-turned_kept long xs ys count turned each c d lt =
+pub turned_kept : (long : Bool) (config : Configuration) (tables : AdjIns) (xs ys : List View) → length ys ≡ length xs → AllTurnedAlone config tables xs ys → AreKept long xs → AreKept long ys
+turned_kept long config tables xs ys count turned each c d lt =
     let within : c < length xs = subst (λ n. c < n) count lt in
     record { client = (turned c d within).client ∙ (each c d within).client; extended = (turned c d within).extended ∙ (each c d within).extended }
 

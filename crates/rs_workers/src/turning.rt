@@ -25,7 +25,7 @@ pub fn turn_all<R: Threads + Wait + Sync, G: Gate>(
     requires workers { (0 < workers) × (workers ≤ 16) }
     requires clients { client_count tables.now ≡ length config.now.clients }
     requires places { ArePlaced config.now outlets.old }
-    ensures turned { AllTurnedAlone outlets.old outlets.new }
+    ensures turned { AllTurnedAlone config.now tables.now outlets.old outlets.new }
     ensures count { length outlets.new ≡ length outlets.old }
 {
     if outlets.is_empty() {
@@ -34,7 +34,7 @@ pub fn turn_all<R: Threads + Wait + Sync, G: Gate>(
     let size = outlets.len().div_ceil(workers);
     let turn = |start: usize, run: &mut [Outlet]|
         requires { (0 < size) × (client_count tables.now ≡ length config.now.clients) × ArePlaced config.now run.now }
-        ensures { AllTurnedAlone run.entry.now run.exit.now }
+        ensures { AllTurnedAlone config.entry.now tables.entry.now run.entry.now run.exit.now }
     { turn_run(gate, start / size, tables, config, run) };
     thread::for_each_chunk_mut(rt, outlets, size, &turn);
 }
@@ -49,7 +49,7 @@ pub(crate) fn turn_run<G: Gate>(
 )
     requires clients { client_count tables.now ≡ length config.now.clients }
     requires places { ArePlaced config.now run.old }
-    ensures { AllTurnedAlone run.old run.new }
+    ensures { AllTurnedAlone config.now tables.now run.old run.new }
 {
     gate.enter(share);
     for k in 0..run.len() {
@@ -61,7 +61,7 @@ pub(crate) fn turn_run<G: Gate>(
 fn turn_one(outlet: &mut Outlet, tables: &AdjIns, config: &Config)
     requires clients { client_count tables.now ≡ length config.now.clients }
     requires place { outlet.old.client < length config.now.clients }
-    ensures { TurnedAlone outlet.old outlet.new }
+    ensures { TurnedAlone config.now tables.now outlet.old outlet.new }
 {
     let _ = outlet.turn(tables, config);
 }
