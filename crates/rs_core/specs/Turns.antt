@@ -28,8 +28,9 @@ abbrev pub IsTurn : Configuration → AdjIns → ℕ → View → View → Type 
 IsTurn config ins c old new = IsDone config ins c old new ⊎ (new ≡ record old { last = lasts.Refused })
 
 -- all is to be decided for a client that is Established, and nothing else has changed but numbers
-pub record IsMarked (old new : View) : Type 0 where
+pub record IsMarked (ins : AdjIns) (old new : View) : Type 0 where
   pub is : new ≡ record old { touched = if_up old.speech None old.touched; numbers = new.numbers }
+  pub numbered : AreNumbered old ins → AreNumbered new ins
 
 abbrev pub one_refused : Last → ℕ
 one_refused lasts.Refused = 1

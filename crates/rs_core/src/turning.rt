@@ -1,8 +1,7 @@
 //! Turns: what is touched is decided, for each client.
 
 ghost use Rattle.std.specs.Prelude.{◌≡◌, ◌<◌, ◌≤◌, ◌+◌, length};
-ghost use Rattle.rs_policy.specs.Configuration.{Configuration};
-ghost use Rattle.rs_core.specs.Turns.{IsTurn, IsMarked, refused_in};
+ghost use Rattle.rs_core.specs.Turns.{IsMarked, IsTurn, refused_in};
 ghost use Rattle.rs_workers.specs.Turned.{AllTurnedAlone};
 
 use crate::ribs::Ribs;
@@ -116,7 +115,7 @@ impl Ribs {
         ensures extended { self.new.extended ≡ self.old.extended }
         ensures config { self.new.config ≡ config }
         ensures tables { self.new.tables ≡ self.old.tables }
-        ensures touched { ChangesAll (λ c. IsMarked) self.old self.new }
+        ensures touched { ChangesAll (λ c. IsMarked self.old.tables) self.old self.new }
         ensures kept { KeepsFresh self.old self.new }
     {
         self.config = config;
@@ -130,7 +129,7 @@ impl Ribs {
         requires { c < outlet_count self.old }
         ensures settings { KeepsSettings self.old self.new }
         ensures tables { self.new.tables ≡ self.old.tables }
-        ensures outlet { ChangesOwn c (λ v w. IsMarked v w × (AreNumbered v self.old.tables → AreNumbered w self.old.tables)) self.old self.new }
+        ensures outlet { ChangesOwn c (IsMarked self.old.tables) self.old self.new }
     {
         let outlet = &mut self.outlets[c];
         outlet.touch_all();

@@ -1,6 +1,6 @@
-use Rattle.std.proofs.Common.{◌≡◌}
-use Rattle.rs_core.specs.Ribs.{outlet_count}
+use Rattle.rs_core.specs.Touches.{IsTouchedWhereHeld}
+use Rattle.rs_core.proofs.Walks.{IsWalked, IsOtherThan}
 use Rattle.rs_core.proofs.ribs.Ribs.touch_held.Given as goal
 
 abbrev pub invariant-loop-d : goal.invariant-loop-d
-invariant-loop-d l = outlet_count l.self ≡ outlet_count l.fn.self
+invariant-loop-d l = IsWalked (IsOtherThan l.c l.fn.self.tables (IsTouchedWhereHeld l.fn.self.tables l.c)) l.d l.fn.self l.self
