@@ -19,3 +19,6 @@ is_own c = grind (arith, nat_tests)
 
 pub is_other : (c d : ℕ) → c ≢ d → (c == d) ≡ false
 is_other c d ne = grind (arith, nat_tests, ne)
+
+pub same_client : (c d : ℕ) → (c == d) ≡ true → c ≡ d
+same_client c d e = grind (arith, nat_tests, e)

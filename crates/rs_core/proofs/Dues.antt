@@ -1,5 +1,5 @@
 -- What is due to a client depends on what the others hold alone, and on the identifiers of those that hold something.
-use Rattle.std.proofs.Common.{◌≡◌, ◌≢◌, ◌⊎◌, inl, inr, ℕ, zero, suc, Bool, true, false, ◌==◌, List, [], ◌∷◌, refl, sym, ◌∙◌, ap, subst, arith, slice_get}
+use Rattle.std.proofs.Common.{◌≡◌, ◌≢◌, ◌⊎◌, inl, inr, ℕ, zero, suc, Bool, true, false, cond, ◌==◌, List, [], ◌∷◌, refl, sym, ◌∙◌, ap, subst, arith, slice_get}
 use Rattle.std.specs.Prelude.{◌||◌, Option, Some, None, option_and_then, unwrap_or, if◌then◌else◌}
 use Rattle.std.specs.List.{AllByRecursion, filter, filter_map, cons_option}
 use Rattle.rs_octets.specs.Prefixes.{Prefix}
@@ -75,12 +75,13 @@ others_among : (t : Held) (c : ℕ) (p : Prefix) (hs : List (ℕ × List Attribu
 others_among t c p [] = tt
 others_among t c p (h ∷ hs) = others_cons c (rank_to t c p h) (ranks_among t c p hs) (λ r e. place_to t c p h (h.0 == c) (path_has_of t.settings.top.server_as h.1) r refl e) (others_among t c p hs)
 
+kept_by : (P : Rank → Type 0) (b : Bool) (r : Rank) (rs : List Rank) → P r → AllByRecursion P rs → AllByRecursion P (cond b (r ∷ rs) rs)
+kept_by P true r rs h hs = (h, hs)
+kept_by P false r rs h hs = hs
+
 kept : (P : Rank → Type 0) (f : Rank → Bool) (rs : List Rank) → AllByRecursion P rs → AllByRecursion P (filter f rs)
 kept P f [] h = tt
-kept P f (r ∷ rs) h = by_test (f r) refl where
-  by_test : (b : Bool) → f r ≡ b → AllByRecursion P (filter f (r ∷ rs))
-  by_test true e = rw e (h.0, kept P f rs h.1)
-  by_test false e = rw e (kept P f rs h.1)
+kept P f (r ∷ rs) h = kept_by P (f r) r (filter f rs) h.0 (kept P f rs h.1)
 
 unbeaten_kept : (P : Rank → Type 0) (is_better : Rank → Rank → Bool) (rs : List Rank) → AllByRecursion P rs → AllByRecursion P (unbeaten is_better rs)
 unfolding unbeaten

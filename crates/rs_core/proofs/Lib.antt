@@ -3,3 +3,7 @@ pub mod Clients
 pub mod Dues
 pub mod Touching
 pub mod Walks
+pub mod Numbers
+pub mod Freshness
+pub mod Changing
+pub mod Turned

@@ -1,15 +1,16 @@
 -- What touches leave of an outlet, and what they make touched.
-use Rattle.std.proofs.Common.{◌≡◌, ◌≢◌, ◌⊎◌, inl, inr, ℕ, zero, suc, Bool, true, false, ◌||◌, List, [], ◌∷◌, ◌++◌, length, refl, sym, ◌∙◌, ap, subst, arith, slice_index_or}
-use Rattle.std.specs.Prelude.{Option, Some, None, nat_lt, if◌then◌else◌}
+use Rattle.std.proofs.Common.{◌≡◌, ◌<◌, ◌+◌, ℕ, zero, suc, Bool, true, false, ◌||◌, List, [], ◌∷◌, ◌++◌, length, refl, sym, ◌∙◌, ap, subst, arith, slice_index_or, append_assoc, append-nil}
+use Rattle.std.specs.Prelude.{Option, Some, None, IsSome, is_some, nat_lt, if◌then◌else◌}
 use Rattle.std.specs.List.{Contains}
 use Rattle.std.specs.FinSet as set
 use Rattle.std.specs.Ordering.{eq_by_cmp, is_eq}
 use Rattle.std.proofs.lemmas.Cmp.{tied_itself}
 use Rattle.rs_octets.specs.Prefixes.{Prefix, prefix_order}
 use Rattle.rs_octets.specs.PrefixOrder.{prefix_order_total}
+use Rattle.rs_adjin.specs.declared.adj_ins.AdjIns.{AdjIns}
 use Rattle.rs_outlet.specs.declared.answers.Speech.{Speech}
-use Rattle.rs_outlet.specs.Views.{View, Prefixes, if_up, is_touched, touched_at, with_touch}
-use Rattle.rs_core.specs.Touches.{touched_with, IsTouchedAt}
+use Rattle.rs_outlet.specs.Views.{View, AreNumbered, Prefixes, if_up, is_touched, touched_at, with_touch}
+use Rattle.rs_core.specs.Touches.{touched_with, AreHeld, IsTouchedAt, IsTouchedWhereHeld}
 
 tied : (p : Prefix) → eq_by_cmp prefix_order p p ≡ true
 tied p = ap is_eq (tied_itself prefix_order_total p)
@@ -106,3 +107,46 @@ more_touched ps p v w x h rest touched = record { is =
     rest ∙ ap (λ t. record w { touched = t; numbers = x.numbers }) touched
     ∙ ap (λ (y : View). record (touched_at p y) { numbers = x.numbers }) h.is
     ∙ ap (λ (y : View). record y { numbers = x.numbers }) (sym (with_more ps p v)) }
+
+-- ---- a walk over the prefixes that a client holds
+
+-- of all these prefixes those that aren't left were touched
+pub record IsTouching (ins : AdjIns) (all left : List Prefix) (v w : View) : Type 0 where
+  pub done : List Prefix
+  pub split : done ++ left ≡ all
+  pub rest : w ≡ record v { touched = w.touched; numbers = w.numbers }
+  pub touched : AreNumbered v ins → IsTouchedAt done v w
+  pub numbered : AreNumbered v ins → AreNumbered w ins
+
+pub touching_begins : (ins : AdjIns) (all : List Prefix) (v : View) → IsTouching ins all all v v
+touching_begins ins all v = record { done = []; split = refl; rest = refl; touched = λ h. record { is = refl }; numbered = λ h. h }
+
+pub touching_on : (ins : AdjIns) (all left : List Prefix) (p : Prefix) (v w x : View) → IsTouching ins all (p ∷ left) v w → x ≡ record w { touched = x.touched; numbers = x.numbers }
+    → (AreNumbered w ins → x.touched ≡ (touched_at p w).touched) → (AreNumbered w ins → AreNumbered x ins) → IsTouching ins all left v x
+touching_on ins all left p v w x h rest touched numbered = record {
+  done = h.done ++ p ∷ [];
+  split = append_assoc h.done (p ∷ []) left ∙ h.split;
+  rest = rest ∙ ap (λ (y : View). record y { touched = x.touched; numbers = x.numbers }) h.rest;
+  touched = λ k. more_touched h.done p v w x (h.touched k) rest (touched (h.numbered k));
+  numbered = λ k. numbered (h.numbered k);
+}
+
+contains_between : (done left : List Prefix) (p : Prefix) → Contains (done ++ p ∷ left) p
+contains_between [] left p = (0, omega arith, refl)
+contains_between (q ∷ done) left p = let h = contains_between done left p in (suc h.0, omega (arith, h.1), h.2)
+
+-- the next one is one of them
+pub next_of : (ins : AdjIns) (all left : List Prefix) (p : Prefix) (v w : View) → IsTouching ins all (p ∷ left) v w → Contains all p
+next_of ins all left p v w h = subst (λ ps. Contains ps p) h.split (contains_between h.done left p)
+
+-- nothing is left
+pub touching_ends : (ins : AdjIns) (c : ℕ) (all : List Prefix) (v w : View) → AreHeld ins c all → IsTouching ins all [] v w → AreNumbered v ins → IsTouchedWhereHeld ins c v w
+touching_ends ins c all v w held h numbered = record {
+  prefixes = all;
+  held = held;
+  touched = subst (λ ps. IsTouchedAt ps v w) (sym (append-nil h.done) ∙ h.split) (h.touched numbered);
+}
+
+-- each of them has a number
+pub not_some : {A : Type 0} (o : Option A) → o ≡ None → IsSome o → ⊥
+not_some o e h = let f : false ≡ true = sym (ap is_some e) ∙ h in cc

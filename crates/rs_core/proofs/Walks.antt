@@ -1,5 +1,5 @@
 -- Loops that change one outlet after the other.
-use Rattle.std.proofs.Common.{◌≡◌, ◌≢◌, ◌⊎◌, inl, inr, ◌<◌, ◌≤◌, ◌+◌, ℕ, refl, sym, ◌∙◌, ap, subst, arith}
+use Rattle.std.proofs.Common.{◌≡◌, ◌≢◌, ◌⊎◌, inl, inr, ◌<◌, ◌≤◌, ◌+◌, ℕ, zero, suc, List, [], ◌∷◌, length, slice_index_or, slice_set, get_or-set_same, get_or-set_other, refl, sym, ◌∙◌, ap, subst, arith}
 use Rattle.rs_adjin.specs.declared.adj_ins.AdjIns.{AdjIns}
 use Rattle.rs_outlet.specs.Views.{View, AreNumbered}
 use Rattle.rs_core.specs.Ribs.{outlet_in, IsNumbered, KeepsSettings, ChangesOwn, ChangesOthers, ChangesAll}
@@ -55,6 +55,34 @@ walk_past Is k old mid h so = record {
 -- the walk is over
 pub walk_ends : (Is : ℕ → View → View → Type 0) (k : ℕ) (old new : Ribs) → k ≤ old.count → old.count ≤ k → IsWalked Is k old new → IsWalked Is old.count old new
 walk_ends Is k old new most least h = subst (λ n. IsWalked Is n old new) (let e : k ≡ old.count = omega (arith, most, least) in e) h
+
+-- ---- one outlet is set
+
+default_same : (xs : List View) (i : ℕ) (a b : View) → i < length xs → slice_index_or xs i a ≡ slice_index_or xs i b
+default_same [] i a b lt = absurd (omega (arith, lt))
+default_same (x ∷ xs) zero a b lt = refl
+default_same (x ∷ xs) (suc i) a b lt = default_same xs i a b (omega (arith, lt))
+
+pub own_set : (c : ℕ) (Is : View → View → Type 0) (old new : Ribs) (v w : View) → c < old.count → new.outlets.items ≡ slice_set old.outlets.items c w → v ≡ slice_index_or old.outlets.items c v → Is v w → ChangesOwn c Is old new
+own_set c Is old new v w lt set was so = let within : c < length old.outlets.items = subst (λ n. c < n) (sym old.outlets_len) lt in record {
+  own = λ none below. subst (λ x. Is x (outlet_in new c none)) (was ∙ default_same old.outlets.items c v none within)
+      (subst (λ x. Is v x) (sym (ap (λ xs. slice_index_or xs c none) set ∙ get_or-set_same old.outlets.items c w none within)) so);
+  others = λ d none ne. ap (λ xs. slice_index_or xs d none) set ∙ get_or-set_other old.outlets.items c d w none ne;
+}
+
+-- ---- a step before that changes no outlet
+
+pub own_from : (c : ℕ) (Is : View → View → Type 0) (old mid new : Ribs) → mid.count ≡ old.count → mid.outlets.items ≡ old.outlets.items → ChangesOwn c Is mid new → ChangesOwn c Is old new
+own_from c Is old mid new count items h = record {
+  own = λ none lt. subst (λ xs. Is (slice_index_or xs c none) (outlet_in new c none)) items (h.own none (subst (λ n. c < n) (sym count) lt));
+  others = λ d none ne. h.others d none ne ∙ ap (λ xs. slice_index_or xs d none) items;
+}
+
+pub others_from : (c : ℕ) (Is : View → View → Type 0) (old mid new : Ribs) → mid.count ≡ old.count → mid.outlets.items ≡ old.outlets.items → ChangesOthers c Is mid new → ChangesOthers c Is old new
+others_from c Is old mid new count items h = record {
+  own = λ none. h.own none ∙ ap (λ xs. slice_index_or xs c none) items;
+  others = λ d none lt ne. subst (λ xs. Is (slice_index_or xs d none) (outlet_in new d none)) items (h.others d none (subst (λ n. d < n) (sym count) lt) ne);
+}
 
 -- ---- a walk past client c
 

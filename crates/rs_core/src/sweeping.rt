@@ -22,12 +22,24 @@ impl Ribs {
         ensures kept { KeepsFresh self.old self.new }
     {
         for _step in 0..self.tables.numbers().min(SWEEP) {
-            if self.swept as usize >= self.tables.numbers() {
-                self.swept = 0;
-            }
-            self.give_up(self.swept);
-            self.swept = self.swept.wrapping_add(1);
+            self.sweep_next();
         }
+    }
+
+    /// Sweeps the number that is next, and behind the greatest begins again.
+    fn sweep_next(&mut self)
+        ensures settings { KeepsSettings self.old self.new }
+        ensures tables { adj_ins.Same self.old.tables self.new.tables }
+        ensures outlets { self.new.outlets ≡ self.old.outlets }
+        ensures kept { KeepsFresh self.old self.new }
+    {
+        let number = if (self.swept as usize) < self.tables.numbers() {
+            self.swept
+        } else {
+            0
+        };
+        self.swept = number.wrapping_add(1);
+        self.give_up(number);
     }
 
     /// Gives up the number of a prefix that nobody holds or has in a row.
