@@ -61,8 +61,10 @@ told_others c p w old mid new before items numbers sets differs after tables tou
 ) where
   placed : IsNumbered old → IsNumbered mid
   placed h = numbered_kept old mid before.count numbers (λ d none. ap (λ xs. slice_index_or xs d none) items) h
+
   written : Sets old.tables new.tables c p w
   written = subst (λ t. Sets old.tables t c p w) (sym tables) sets
+
   others : IsNumbered old → ChangesOthers c (IsTouchedAt (p ∷ [])) old new
   others h = others_from c (IsTouchedAt (p ∷ [])) old mid new before.count items (touched (placed h))
 

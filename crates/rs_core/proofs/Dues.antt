@@ -40,8 +40,8 @@ with_one s n c p f g x y k None b hs js it e = subst (λ w. ranks_among (held_as
 with_one s n c p f g x y k (Some m) b hs js it e =
     subst (λ w. ranks_among (held_as s n x f) c p ((k, m) ∷ hs) ≡ ranks_among (held_as s n y g) c p (with_holder k w js)) it.held
     ((λ i. cons_option (ranked (it.identifier m refl i)) (ranks_among (held_as s n x f) c p hs)) ∙ ap (λ rs. cons_option (rank_to (held_as s n y g) c p (k, m)) rs) e) where
-  ranked : ℕ → Option Rank
-  ranked id = rank_to (held_as s n y (λ d. id)) c p (k, m)
+      ranked : ℕ → Option Rank
+      ranked id = rank_to (held_as s n y (λ d. id)) c p (k, m)
 
 ranks_alike : (s : Configuration) (n c : ℕ) (p : Prefix) (f g : ℕ → ℕ) (x y : ℕ → Prefix → Option (List Attribute)) (k left : ℕ) → ((d : ℕ) → d ≢ c → IsSameSent (f d) (g d) (x d p) (y d p)) →
     ranks_among (held_as s n x f) c p (holders_from (λ d. x d p) k left) ≡ ranks_among (held_as s n y g) c p (holders_from (λ d. y d p) k left)
@@ -108,5 +108,5 @@ due_alike s n c speech p f g x y same =
     let ranks : List Rank = ranks_among (held_as s n x f) c p (holders_from (λ d. x d p) 0 n) in
     let is : ranks ≡ ranks_among (held_as s n y g) c p (holders_from (λ d. y d p) 0 n) = ranks_alike s n c p f g x y 0 n same in
     by_best s n c speech p f g x y (best_of ranks)
-        (λ r e. (same r.place (first_of_all (λ r. r.place ≢ c) (by_place ranks) r (best_kept (λ r. r.place ≢ c) ranks (others_among (held_as s n x f) c p (holders_from (λ d. x d p) 0 n))) e)).held)
+    (λ r e. (same r.place (first_of_all (λ r. r.place ≢ c) (by_place ranks) r (best_kept (λ r. r.place ≢ c) ranks (others_among (held_as s n x f) c p (holders_from (λ d. x d p) 0 n))) e)).held)
     ∙ ap (λ rs. option_and_then (λ r. route_from (held_as s n y g) c speech p r.place) (best_of rs)) is

@@ -41,12 +41,14 @@ pub record IsStill (old new : AdjIns) (d : ℕ) (v w : View) : Type 0 where
   pub untouched : (p : Prefix) (speech : Speech) → v.speech ≡ Some speech → is_touched w.touched p ≡ false → (is_touched v.touched p ≡ false) × AreSent old new d p
 
 pub still_decided : (old new : Ribs) (d : ℕ) (v w : View) → new.config ≡ old.config → client_count new.tables ≡ client_count old.tables → IsStill old.tables new.tables d v w → IsDecidedBy (due_in old d) v → IsDecidedBy (due_in new d) w
-still_decided old new d v w config count h decided = record { at = λ speech p up un.
-    let was : v.speech ≡ Some speech = sym h.speech ∙ up in
-    let so = h.untouched p speech was un in
-    ap (λ t. map.get t p) h.loc
-    ∙ decided.at speech p was so.0
-    ∙ due_same old.config new.config (client_count old.tables) (client_count new.tables) d speech p (identifier_of old.tables) (identifier_of new.tables) (held_of old.tables) (held_of new.tables) config count so.1 }
+still_decided old new d v w config count h decided = record {
+  at = λ speech p up un.
+      let was : v.speech ≡ Some speech = sym h.speech ∙ up in
+      let so = h.untouched p speech was un in
+      ap (λ t. map.get t p) h.loc
+      ∙ decided.at speech p was so.0
+      ∙ due_same old.config new.config (client_count old.tables) (client_count new.tables) d speech p (identifier_of old.tables) (identifier_of new.tables) (held_of old.tables) (held_of new.tables) config count so.1;
+}
 
 -- an outlet that is as it was
 pub same_still : (old new : AdjIns) (d : ℕ) (v w : View) → w ≡ v → ((p : Prefix) → AreSent old new d p) → IsStill old new d v w
@@ -122,16 +124,17 @@ apart_sent old new c d p q w h apart = λ e ne. record {
 pub changed_fresh : (old new : Ribs) (c : ℕ) (p : Prefix) (w : Option (List Attribute)) → KeepsSettings old new → Sets old.tables new.tables c p w → ChangesOthers c (IsTouchedAt (p ∷ [])) old new → IsFresh old → IsFresh new
 changed_fresh old new c p w settings sets changes = fresh_each old new settings.count (λ d none lt.
     still_decided old new d (outlet_in old d none) (outlet_in new d none) settings.config sets.count (by_client d none lt (equal_or d c))) where
-  not_it : (q : Prefix) → (Contains (p ∷ []) q → ⊥) → same_prefix q p ≡ false
-  not_it q isnt = by_test (same_prefix q p) refl where
-    by_test : (b : Bool) → same_prefix q p ≡ b → same_prefix q p ≡ false
-    by_test true e = absurd (isnt (0, omega arith, sym (same_is q p e)))
-    by_test false e = e
-  by_client : (d : ℕ) (none : View) → d < old.count → (d ≡ c) ⊎ (d ≢ c) → IsStill old.tables new.tables d (outlet_in old d none) (outlet_in new d none)
-  by_client d none lt (inl e) = same_still old.tables new.tables d (outlet_in old d none) (outlet_in new d none)
-      (ap (λ k. outlet_in new k none) e ∙ changes.own none ∙ ap (λ k. outlet_in old k none) (sym e)) (λ q. others_sent old.tables new.tables c d p q w sets e)
-  by_client d none lt (inr ne) = stirred_still old.tables new.tables d (p ∷ []) (outlet_in old d none) (outlet_in new d none) (changes.others d none lt ne)
-      (λ q isnt. apart_sent old.tables new.tables c d p q w sets (not_it q isnt))
+      not_it : (q : Prefix) → (Contains (p ∷ []) q → ⊥) → same_prefix q p ≡ false
+      not_it q isnt = by_test (same_prefix q p) refl where
+        by_test : (b : Bool) → same_prefix q p ≡ b → same_prefix q p ≡ false
+        by_test true e = absurd (isnt (0, omega arith, sym (same_is q p e)))
+        by_test false e = e
+
+      by_client : (d : ℕ) (none : View) → d < old.count → (d ≡ c) ⊎ (d ≢ c) → IsStill old.tables new.tables d (outlet_in old d none) (outlet_in new d none)
+      by_client d none lt (inl e) = same_still old.tables new.tables d (outlet_in old d none) (outlet_in new d none)
+          (ap (λ k. outlet_in new k none) e ∙ changes.own none ∙ ap (λ k. outlet_in old k none) (sym e)) (λ q. others_sent old.tables new.tables c d p q w sets e)
+      by_client d none lt (inr ne) = stirred_still old.tables new.tables d (p ∷ []) (outlet_in old d none) (outlet_in new d none) (changes.others d none lt ne)
+          (λ q isnt. apart_sent old.tables new.tables c d p q w sets (not_it q isnt))
 
 -- ---- one client holds nothing more
 
@@ -161,12 +164,12 @@ none_held (Some m) isnt = absurd (isnt refl)
 pub unlearnt_fresh : (old new : Ribs) (c identifier : ℕ) → KeepsSettings old new → Begins old.tables new.tables c identifier → ChangesOthers c (IsTouchedWhereHeld old.tables c) old new → IsFresh old → IsFresh new
 unlearnt_fresh old new c identifier settings begins changes = fresh_each old new settings.count (λ d none lt.
     still_decided old new d (outlet_in old d none) (outlet_in new d none) settings.config begins.count (by_client d none lt (equal_or d c))) where
-  by_client : (d : ℕ) (none : View) → d < old.count → (d ≡ c) ⊎ (d ≢ c) → IsStill old.tables new.tables d (outlet_in old d none) (outlet_in new d none)
-  by_client d none lt (inl e) = same_still old.tables new.tables d (outlet_in old d none) (outlet_in new d none)
-      (ap (λ k. outlet_in new k none) e ∙ changes.own none ∙ ap (λ k. outlet_in old k none) (sym e)) (λ q. own_sent old.tables new.tables c d identifier q begins e)
-  by_client d none lt (inr ne) = let t = changes.others d none lt ne in
-      stirred_still old.tables new.tables d t.prefixes (outlet_in old d none) (outlet_in new d none) t.touched
-      (λ q isnt. begun_sent old.tables new.tables c d identifier q begins (none_held (held_of old.tables c q) (λ some. isnt ((t.held.all q).1 some))))
+      by_client : (d : ℕ) (none : View) → d < old.count → (d ≡ c) ⊎ (d ≢ c) → IsStill old.tables new.tables d (outlet_in old d none) (outlet_in new d none)
+      by_client d none lt (inl e) = same_still old.tables new.tables d (outlet_in old d none) (outlet_in new d none)
+          (ap (λ k. outlet_in new k none) e ∙ changes.own none ∙ ap (λ k. outlet_in old k none) (sym e)) (λ q. own_sent old.tables new.tables c d identifier q begins e)
+      by_client d none lt (inr ne) = let t = changes.others d none lt ne in
+          stirred_still old.tables new.tables d t.prefixes (outlet_in old d none) (outlet_in new d none) t.touched
+          (λ q isnt. begun_sent old.tables new.tables c d identifier q begins (none_held (held_of old.tables c q) (λ some. isnt ((t.held.all q).1 some))))
 
 -- it held nothing, and all is to be decided for it
 pub begun_fresh : (old new : Ribs) (c identifier : ℕ) (Is : View → View → Type 0) → KeepsSettings old new → Begins old.tables new.tables c identifier → ChangesOwn c Is old new → ((v w : View) → Is v w → w.touched ≡ None) → HoldsNothing old c → IsFresh old → IsFresh new

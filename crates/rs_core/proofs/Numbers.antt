@@ -30,14 +30,18 @@ have_left old new n (e ∷ es) gives none h = (gives.kept e.1 e.0 none.0 h.0, ha
 -- ---- of all
 
 pub numbered_kept : (old new : Ribs) → new.count ≡ old.count → KeepsNumbers old.tables new.tables → ((c : ℕ) (none : View) → outlet_in new c none ≡ outlet_in old c none) → IsNumbered old → IsNumbered new
-numbered_kept old new count keeps outlets h = record { each = λ c none lt.
-    subst (λ (v : View). HaveNumbers v.numbers new.tables) (sym (outlets c none)) (have_kept old.tables new.tables (outlet_in old c none).numbers keeps (h.each c none (subst (λ n. c < n) count lt))) }
+numbered_kept old new count keeps outlets h = record {
+  each = λ c none lt.
+      subst (λ (v : View). HaveNumbers v.numbers new.tables) (sym (outlets c none)) (have_kept old.tables new.tables (outlet_in old c none).numbers keeps (h.each c none (subst (λ n. c < n) count lt)));
+}
 
 -- a number that no outlet has was given up
 pub numbered_left : (old new : Ribs) (n : ℕ) → new.count ≡ old.count → GivesUp old.tables new.tables n → ((c : ℕ) (none : View) → outlet_in new c none ≡ outlet_in old c none)
     → ((c : ℕ) (none : View) → c < old.count → IsNoNumberOf n (outlet_in old c none).numbers) → IsNumbered old → IsNumbered new
-numbered_left old new n count gives outlets free h = record { each = λ c none lt. let within : c < old.count = subst (λ n. c < n) count lt in
-    subst (λ (v : View). HaveNumbers v.numbers new.tables) (sym (outlets c none)) (have_left old.tables new.tables n (outlet_in old c none).numbers gives (free c none within) (h.each c none within)) }
+numbered_left old new n count gives outlets free h = record {
+  each = λ c none lt. let within : c < old.count = subst (λ n. c < n) count lt in
+      subst (λ (v : View). HaveNumbers v.numbers new.tables) (sym (outlets c none)) (have_left old.tables new.tables n (outlet_in old c none).numbers gives (free c none within) (h.each c none within));
+}
 
 -- one outlet has none now
 pub numbered_but : (old new : Ribs) (c : ℕ) (Is : View → View → Type 0) → new.count ≡ old.count → KeepsNumbers old.tables new.tables → ChangesOwn c Is old new → ((v w : View) → Is v w → w.numbers ≡ []) → IsNumbered old → IsNumbered new

@@ -103,10 +103,12 @@ pub one_touched : (p : Prefix) (v w : View) → w ≡ record v { touched = w.tou
 one_touched p v w rest touched = record { is = rest ∙ ap (λ t. record v { touched = t; numbers = w.numbers }) touched }
 
 pub more_touched : (ps : List Prefix) (p : Prefix) (v w x : View) → IsTouchedAt ps v w → x ≡ record w { touched = x.touched; numbers = x.numbers } → x.touched ≡ (touched_at p w).touched → IsTouchedAt (ps ++ p ∷ []) v x
-more_touched ps p v w x h rest touched = record { is =
-    rest ∙ ap (λ t. record w { touched = t; numbers = x.numbers }) touched
-    ∙ ap (λ (y : View). record (touched_at p y) { numbers = x.numbers }) h.is
-    ∙ ap (λ (y : View). record y { numbers = x.numbers }) (sym (with_more ps p v)) }
+more_touched ps p v w x h rest touched = record {
+  is =
+      rest ∙ ap (λ t. record w { touched = t; numbers = x.numbers }) touched
+      ∙ ap (λ (y : View). record (touched_at p y) { numbers = x.numbers }) h.is
+      ∙ ap (λ (y : View). record y { numbers = x.numbers }) (sym (with_more ps p v));
+}
 
 -- ---- a walk over the prefixes that a client holds
 

@@ -34,6 +34,7 @@ walk_on Is By k old mid new lt h settings tables changes so = record {
 } where
   here : (none : View) → Is k (outlet_in old k none) (outlet_in new k none)
   here none = subst (λ v. Is k v (outlet_in new k none)) (h.todo k none (omega arith)) (so (outlet_in mid k none) (outlet_in new k none) (changes.own none (subst (λ n. k < n) (sym h.settings.count) lt)))
+
   by_place : (d : ℕ) (none : View) → d < k + 1 → (d ≡ k) ⊎ (d ≢ k) → Is d (outlet_in old d none) (outlet_in new d none)
   by_place d none below (inl e) = subst (λ j. Is j (outlet_in old j none) (outlet_in new j none)) (sym e) (here none)
   by_place d none below (inr ne) = subst (λ w. Is d (outlet_in old d none) w) (sym (changes.others d none ne)) (h.done d none (omega (arith, below, ne)))
@@ -48,6 +49,7 @@ walk_past Is k old mid h so = record {
 } where
   here : (none : View) → Is k (outlet_in old k none) (outlet_in mid k none)
   here none = subst (λ w. Is k (outlet_in old k none) w) (sym (h.todo k none (omega arith))) (so (outlet_in old k none))
+
   by_place : (d : ℕ) (none : View) → d < k + 1 → (d ≡ k) ⊎ (d ≢ k) → Is d (outlet_in old d none) (outlet_in mid d none)
   by_place d none below (inl e) = subst (λ j. Is j (outlet_in old j none) (outlet_in mid j none)) (sym e) (here none)
   by_place d none below (inr ne) = h.done d none (omega (arith, below, ne))
@@ -118,6 +120,8 @@ pub all_changed : (Is : ℕ → View → View → Type 0) (old new : Ribs) → I
 all_changed Is old new h = record { each = h.done }
 
 pub all_numbered : (Is : ℕ → View → View → Type 0) (old new : Ribs) → IsWalked Is old.count old new → ((d : ℕ) (v w : View) → Is d v w → AreNumbered v old.tables → AreNumbered w old.tables) → IsNumbered old → IsNumbered new
-all_numbered Is old new h so numbered = record { each = λ d none lt.
-    let within : d < old.count = subst (λ n. d < n) h.settings.count lt in
-    subst (λ ins. AreNumbered (outlet_in new d none) ins) (sym h.tables) (so d (outlet_in old d none) (outlet_in new d none) (h.done d none within) (numbered.each d none within)) }
+all_numbered Is old new h so numbered = record {
+  each = λ d none lt.
+      let within : d < old.count = subst (λ n. d < n) h.settings.count lt in
+      subst (λ ins. AreNumbered (outlet_in new d none) ins) (sym h.tables) (so d (outlet_in old d none) (outlet_in new d none) (h.done d none within) (numbered.each d none within));
+}
