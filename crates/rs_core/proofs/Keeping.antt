@@ -4,9 +4,9 @@ use Rattle.std.specs.Prelude.{slice_index_or}
 use Rattle.rs_adjin.specs.declared.adj_ins.AdjIns.{AdjIns}
 use Rattle.rs_policy.specs.Configuration.{Configuration}
 use Rattle.rs_outlet.specs.Views.{View, bare}
-use Rattle.rs_outlet.specs.declared.answers.Last.{Last}
+use Rattle.rs_outlet.specs.declared.answers.Last.TheVariants as lasts
 use Rattle.rs_workers.specs.Turned.{ArePlaced, AllTurnedAlone}
-use Rattle.rs_core.specs.Keeping.{IsOutletOf, AreKept}
+use Rattle.rs_core.specs.Keeping.{IsOutletOf, AreBare, AreKept}
 
 -- what a turn of all asks
 pub are_placed : (long : Bool) (config : Configuration) (xs : List View) → length xs ≡ length config.clients → AreKept long xs → ArePlaced config xs
@@ -31,6 +31,8 @@ push_length [] v = refl
 push_length (x ∷ xs) v = let e = push_length xs v in omega arith
 
 -- one outlet more, which was just made
-pub push_kept : (long : Bool) (xs ys : List View) (c : ℕ) (v : View) (last : Last) → ys ≡ xs ++ v ∷ [] → length xs ≡ c → AreKept long xs → v ≡ bare c long last → AreKept long ys
-push_kept long xs ys c v last e len each made = subst (AreKept long) (sym e)
-    (each_push (λ i o. IsOutletOf i long o) xs v each (record { client = ap (λ (o : View). o.client) made ∙ sym len; extended = ap (λ (o : View). o.extended) made }))
+pub push_bare : (long : Bool) (xs ys : List View) (c : ℕ) (v : View) → ys ≡ xs ++ v ∷ [] → length xs ≡ c → AreBare long xs → v ≡ bare c long lasts.Never → AreBare long ys
+push_bare long xs ys c v e len each made = subst (AreBare long) (sym e) (each_push (λ i o. o ≡ bare i long lasts.Never) xs v each (made ∙ ap (λ n. bare n long lasts.Never) (sym len)))
+
+pub bare_kept : (long : Bool) (xs : List View) → AreBare long xs → AreKept long xs
+bare_kept long xs each c d lt = record { client = ap (λ (o : View). o.client) (each c d lt); extended = ap (λ (o : View). o.extended) (each c d lt) }

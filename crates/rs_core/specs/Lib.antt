@@ -1,5 +1,7 @@
 pub mod Links
 pub mod Keeping
+pub mod Touches
+pub mod Turns
 pub mod Ribs
 pub mod Core
 pub mod Moves

@@ -11,13 +11,16 @@ mod connections;
 mod driving;
 mod endings;
 mod hearing;
+mod learning;
 mod links;
 mod making;
 mod ribs;
 mod route_server;
 mod rules;
+mod sayings;
 mod sending;
 mod sessions;
+mod sweeping;
 mod turning;
 mod updates;
 

@@ -1,6 +1,8 @@
 //! Turns: what is touched is decided, for each client.
 
-ghost use Rattle.std.specs.Prelude.{◌≡◌, ◌<◌, ◌≤◌, length};
+ghost use Rattle.std.specs.Prelude.{◌≡◌, ◌<◌, ◌≤◌, ◌+◌, length};
+ghost use Rattle.rs_core.specs.Turns.{IsMarked, IsTurn, refused_in};
+ghost use Rattle.rs_workers.specs.Turned.{AllTurnedAlone};
 
 use crate::ribs::Ribs;
 use crate::route_server::Core;
@@ -16,9 +18,6 @@ pub struct Turns {
     pub done: usize,
     pub refused: usize,
 }
-
-/// How many numbers of prefixes are swept behind a turn.
-const SWEEP: usize = 4096;
 
 impl Core {
     ghost use Rattle.rs_core.specs.Core.{client_count};
@@ -49,11 +48,14 @@ impl Core {
 }
 
 impl Ribs {
-    ghost use Rattle.rs_core.specs.Ribs.{KeepsSettings, outlet_count};
+    ghost use Rattle.rs_core.specs.Ribs.{ChangesAll, ChangesOwn, IsNumbered, KeepsFresh, KeepsSettings, outlet_count};
 
     /// A turn of all clients, one after the other.
-    fn turn(&mut self)
-        ensures { outlet_count self.new ≡ outlet_count self.old }
+    pub(crate) fn turn(&mut self)
+        ensures settings { KeepsSettings self.old self.new }
+        ensures tables { self.new.tables ≡ self.old.tables }
+        ensures turned { ChangesAll (IsTurn self.old.config self.old.tables) self.old self.new }
+        ensures numbered { IsNumbered self.old → IsNumbered self.new }
     {
         for c in 0..self.count {
             self.turn_one(c);
@@ -63,7 +65,9 @@ impl Ribs {
     /// A turn of all clients by workers.
     fn turn_with<R: Threads + Wait + Sync, G: Gate>(&mut self, rt: &R, workers: usize, gate: &G)
         requires { (0 < workers) × (workers ≤ 16) }
-        ensures { outlet_count self.new ≡ outlet_count self.old }
+        ensures settings { KeepsSettings self.old self.new }
+        ensures tables { self.new.tables ≡ self.old.tables }
+        ensures turned { AllTurnedAlone self.old.outlets.items self.new.outlets.items }
     {
         turn_all(
             rt,
@@ -78,14 +82,19 @@ impl Ribs {
     /// A turn of one client. Whether memory was refused stands in `last`.
     fn turn_one(&mut self, c: usize)
         requires { c < outlet_count self.old }
-        ensures { outlet_count self.new ≡ outlet_count self.old }
+        ensures settings { KeepsSettings self.old self.new }
+        ensures tables { self.new.tables ≡ self.old.tables }
+        ensures outlet { ChangesOwn c (IsTurn self.old.config self.old.tables c) self.old self.new }
     {
         let outlet = &mut self.outlets[c];
         let _ = outlet.turn(&self.tables, &self.config);
     }
 
     /// The answers of the last turn.
-    fn turns(&self) -> Turns {
+    fn turns(&self) -> Turns
+        ensures refused { result.refused ≡ refused_in self.now.outlets.items }
+        ensures all { result.done + result.refused ≡ outlet_count self.now }
+    {
         let mut turns = Turns {
             done: 0,
             refused: 0,
@@ -103,8 +112,11 @@ impl Ribs {
     pub(crate) fn replace(&mut self, config: Config)
         requires { length config.clients ≡ outlet_count self.old }
         ensures count { outlet_count self.new ≡ outlet_count self.old }
+        ensures extended { self.new.extended ≡ self.old.extended }
         ensures config { self.new.config ≡ config }
         ensures tables { self.new.tables ≡ self.old.tables }
+        ensures touched { ChangesAll (λ c. IsMarked self.old.tables) self.old self.new }
+        ensures kept { KeepsFresh self.old self.new }
     {
         self.config = config;
         for c in 0..self.count {
@@ -117,35 +129,9 @@ impl Ribs {
         requires { c < outlet_count self.old }
         ensures settings { KeepsSettings self.old self.new }
         ensures tables { self.new.tables ≡ self.old.tables }
+        ensures outlet { ChangesOwn c (IsMarked self.old.tables) self.old self.new }
     {
         let outlet = &mut self.outlets[c];
         outlet.touch_all();
-    }
-
-    /// Gives up some of the numbers of prefixes that nobody holds or has in a row.
-    fn sweep(&mut self)
-        ensures { outlet_count self.new ≡ outlet_count self.old }
-    {
-        for _step in 0..self.tables.numbers().min(SWEEP) {
-            if self.swept as usize >= self.tables.numbers() {
-                self.swept = 0;
-            }
-            self.give_up(self.swept);
-            self.swept = self.swept.wrapping_add(1);
-        }
-    }
-
-    /// Gives up the number of a prefix that nobody holds or has in a row.
-    fn give_up(&mut self, number: u32)
-        ensures { outlet_count self.new ≡ outlet_count self.old }
-    {
-        if self.tables.at_number(number).is_empty() && self.is_unused(number) {
-            self.tables.release(number);
-        }
-    }
-
-    /// Whether no outlet has a row of this number or is touched there.
-    fn is_unused(&self, number: u32) -> bool {
-        self.outlets.iter().all(|outlet| outlet.is_free(number))
     }
 }

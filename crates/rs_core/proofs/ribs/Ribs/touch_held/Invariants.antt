@@ -1,6 +1,6 @@
-use Rattle.std.proofs.Common.{◌≡◌}
-use Rattle.rs_core.specs.Ribs.{KeepsSettings}
+use Rattle.rs_core.specs.Touches.{IsTouchedWhereHeld}
+use Rattle.rs_core.proofs.Walks.{IsWalked, IsOtherThan}
 use Rattle.rs_core.proofs.ribs.Ribs.touch_held.Given as goal
 
 abbrev pub invariant-loop-d : goal.invariant-loop-d
-invariant-loop-d l = KeepsSettings l.fn.self l.self × (l.self.tables ≡ l.fn.self.tables)
+invariant-loop-d l = IsWalked (IsOtherThan l.c l.fn.self.tables (IsTouchedWhereHeld l.fn.self.tables l.c)) l.d l.fn.self l.self

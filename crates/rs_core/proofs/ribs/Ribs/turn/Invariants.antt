@@ -1,6 +1,6 @@
-use Rattle.std.proofs.Common.{◌≡◌}
-use Rattle.rs_core.specs.Ribs.{outlet_count}
+use Rattle.rs_core.specs.Turns.{IsTurn}
+use Rattle.rs_core.proofs.Walks.{IsWalked}
 use Rattle.rs_core.proofs.ribs.Ribs.turn.Given as goal
 
 abbrev pub invariant-loop-c : goal.invariant-loop-c
-invariant-loop-c l = outlet_count l.self ≡ outlet_count l.fn.self
+invariant-loop-c l = IsWalked (IsTurn l.fn.self.config l.fn.self.tables) l.c l.fn.self l.self

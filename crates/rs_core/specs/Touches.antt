@@ -1,0 +1,40 @@
+-- What touches and what begins make of an outlet.
+use Rattle.std.specs.Prelude.{◌≡◌, ◌≢◌, ◌↔◌, ℕ, true, false, List, [], ◌∷◌, Some, None, IsSome}
+use Rattle.std.specs.List.{Contains}
+use Rattle.std.specs.List.Sorted.{IsStrictlySortedBy}
+use Rattle.rs_octets.specs.Prefixes.{Prefix, prefix_order}
+use Rattle.rs_open.specs.Writing.{keepalive}
+use Rattle.rs_open.specs.declared.short.Short.{Short}
+use Rattle.rs_adjin.specs.AdjIns.{held_of}
+use Rattle.rs_adjin.specs.declared.adj_ins.AdjIns.{AdjIns}
+use Rattle.rs_outlet.specs.Next.{note_octets}
+use Rattle.rs_outlet.specs.Views.{View, touched_at}
+
+-- these prefixes are touched, one after the other
+abbrev pub touched_with : List Prefix → View → View
+touched_with [] v = v
+touched_with (p ∷ ps) v = touched_with ps (touched_at p v)
+
+-- these prefixes were touched, and nothing else has changed but numbers
+pub record IsTouchedAt (ps : List Prefix) (old new : View) : Type 0 where
+  pub is : new ≡ record (touched_with ps old) { numbers = new.numbers }
+
+-- these are the prefixes that a client holds, rising
+pub record AreHeld (ins : AdjIns) (c : ℕ) (ps : List Prefix) : Type 0 where
+  pub rising : IsStrictlySortedBy prefix_order ps
+  pub all : (p : Prefix) → Contains ps p ↔ IsSome (held_of ins c p)
+
+-- what a client holds was touched, and nothing else has changed but numbers
+pub record IsTouchedWhereHeld (ins : AdjIns) (c : ℕ) (old new : View) : Type 0 where
+  pub prefixes : List Prefix
+  pub held : AreHeld ins c prefixes
+  pub touched : IsTouchedAt prefixes old new
+
+-- where nothing was in flight the next message was begun: a NOTIFICATION that waited, a KEEPALIVE that was due, or an UPDATE
+pub record IsBegun (old new : View) : Type 0 where
+  pub rest : new ≡ record old { told = new.told; flight = new.flight; beat = new.beat; note = new.note; marked = new.marked }
+  pub kept : old.flight ≢ [] → new ≡ old
+  pub note : (note : Short) → old.flight ≡ [] → old.note ≡ Some note → new ≡ record old { flight = note_octets note; note = None }
+  pub keepalive : old.flight ≡ [] → old.note ≡ None → old.beat ≡ true → new ≡ record old { flight = keepalive; beat = false }
+  pub update : old.flight ≡ [] → old.note ≡ None → old.beat ≡ false → (new.note ≡ None) × (new.beat ≡ false)
+  pub down : old.flight ≡ [] → old.note ≡ None → old.beat ≡ false → old.speech ≡ None → new ≡ old

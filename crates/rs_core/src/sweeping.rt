@@ -1,0 +1,63 @@
+//! Numbers of prefixes that nobody holds or has in a row are given up, some behind each turn, so that
+//! a client that cycles prefixes makes no table grow for ever.
+
+ghost use Rattle.std.specs.Prelude.{◌≡◌, ◌<◌, ℕ, IsTrue};
+ghost use Rattle.rs_adjin.specs.AdjIns as adj_ins;
+ghost use Rattle.rs_outlet.specs.Views.{View};
+ghost use Rattle.rs_outlet.specs.Inside.{IsNoNumberOf};
+
+use crate::ribs::Ribs;
+
+/// How many numbers of prefixes are swept behind a turn.
+const SWEEP: usize = 4096;
+
+impl Ribs {
+    ghost use Rattle.rs_core.specs.Ribs.{KeepsFresh, KeepsSettings, outlet_count, outlet_in};
+
+    /// Gives up some of the numbers of prefixes that nobody holds or has in a row.
+    pub(crate) fn sweep(&mut self)
+        ensures settings { KeepsSettings self.old self.new }
+        ensures tables { adj_ins.Same self.old.tables self.new.tables }
+        ensures outlets { self.new.outlets ≡ self.old.outlets }
+        ensures kept { KeepsFresh self.old self.new }
+    {
+        for _step in 0..self.tables.numbers().min(SWEEP) {
+            self.sweep_next();
+        }
+    }
+
+    /// Sweeps the number that is next, and behind the greatest begins again.
+    fn sweep_next(&mut self)
+        ensures settings { KeepsSettings self.old self.new }
+        ensures tables { adj_ins.Same self.old.tables self.new.tables }
+        ensures outlets { self.new.outlets ≡ self.old.outlets }
+        ensures kept { KeepsFresh self.old self.new }
+    {
+        let number = if (self.swept as usize) < self.tables.numbers() {
+            self.swept
+        } else {
+            0
+        };
+        self.swept = number.wrapping_add(1);
+        self.give_up(number);
+    }
+
+    /// Gives up the number of a prefix that nobody holds or has in a row.
+    fn give_up(&mut self, number: u32)
+        ensures settings { KeepsSettings self.old self.new }
+        ensures tables { adj_ins.Same self.old.tables self.new.tables }
+        ensures outlets { self.new.outlets ≡ self.old.outlets }
+        ensures kept { KeepsFresh self.old self.new }
+    {
+        if self.tables.at_number(number).is_empty() && self.is_unused(number) {
+            self.tables.release(number);
+        }
+    }
+
+    /// Whether no outlet has a row of this number or is touched there.
+    fn is_unused(&self, number: u32) -> bool
+        ensures { IsTrue result → (c : ℕ) (none : View) → c < outlet_count self.now → IsNoNumberOf number (outlet_in self.now c none).numbers }
+    {
+        self.outlets.iter().all(|outlet| outlet.is_free(number))
+    }
+}
