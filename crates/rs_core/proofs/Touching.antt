@@ -2,11 +2,13 @@
 use Rattle.std.proofs.Common.{◌≡◌, ◌<◌, ◌+◌, ℕ, zero, suc, Bool, true, false, ◌||◌, List, [], ◌∷◌, ◌++◌, length, refl, sym, ◌∙◌, ap, subst, arith, slice_index_or, append_assoc, append-nil}
 use Rattle.std.specs.Prelude.{Option, Some, None, IsSome, is_some, nat_lt, if◌then◌else◌}
 use Rattle.std.specs.List.{Contains}
+use Rattle.std.specs.Map.{keys_of}
 use Rattle.std.specs.FinSet as set
 use Rattle.std.specs.Ordering.{eq_by_cmp, is_eq}
 use Rattle.std.proofs.lemmas.Cmp.{tied_itself}
 use Rattle.rs_octets.specs.Prefixes.{Prefix, prefix_order}
 use Rattle.rs_octets.specs.PrefixOrder.{prefix_order_total}
+use Rattle.rs_adjin.specs.AdjIns.{number_of}
 use Rattle.rs_adjin.specs.declared.adj_ins.AdjIns.{AdjIns}
 use Rattle.rs_outlet.specs.declared.answers.Speech.{Speech}
 use Rattle.rs_outlet.specs.Views.{View, AreNumbered, Prefixes, if_up, is_touched, touched_at, with_touch}
@@ -110,45 +112,48 @@ more_touched ps p v w x h rest touched = record {
       ∙ ap (λ (y : View). record y { numbers = x.numbers }) (sym (with_more ps p v));
 }
 
--- ---- a walk over the prefixes that a client holds
+-- ---- a walk over the prefixes that a client holds, each with its number
 
--- of all these prefixes those that aren't left were touched
-pub record IsTouching (ins : AdjIns) (all left : List Prefix) (v w : View) : Type 0 where
-  pub done : List Prefix
+-- of all these those that aren't left were touched
+pub record IsTouching (ins : AdjIns) (all left : List (Prefix × ℕ)) (v w : View) : Type 0 where
+  pub done : List (Prefix × ℕ)
   pub split : done ++ left ≡ all
   pub rest : w ≡ record v { touched = w.touched; numbers = w.numbers }
-  pub touched : AreNumbered v ins → IsTouchedAt done v w
+  pub touched : AreNumbered v ins → IsTouchedAt (keys_of done) v w
   pub numbered : AreNumbered v ins → AreNumbered w ins
 
-pub touching_begins : (ins : AdjIns) (all : List Prefix) (v : View) → IsTouching ins all all v v
+pub touching_begins : (ins : AdjIns) (all : List (Prefix × ℕ)) (v : View) → IsTouching ins all all v v
 touching_begins ins all v = record { done = []; split = refl; rest = refl; touched = λ h. record { is = refl }; numbered = λ h. h }
 
-pub touching_on : (ins : AdjIns) (all left : List Prefix) (p : Prefix) (v w x : View) → IsTouching ins all (p ∷ left) v w → x ≡ record w { touched = x.touched; numbers = x.numbers }
-    → (AreNumbered w ins → x.touched ≡ (touched_at p w).touched) → (AreNumbered w ins → AreNumbered x ins) → IsTouching ins all left v x
-touching_on ins all left p v w x h rest touched numbered = record {
-  done = h.done ++ p ∷ [];
-  split = append_assoc h.done (p ∷ []) left ∙ h.split;
+keys_more : (es : List (Prefix × ℕ)) (e : Prefix × ℕ) → keys_of (es ++ e ∷ []) ≡ keys_of es ++ e.0 ∷ []
+keys_more [] e = refl
+keys_more (x ∷ es) e = ap (λ ps. x.0 ∷ ps) (keys_more es e)
+
+pub touching_on : (ins : AdjIns) (all left : List (Prefix × ℕ)) (e : Prefix × ℕ) (v w x : View) → IsTouching ins all (e ∷ left) v w → x ≡ record w { touched = x.touched; numbers = x.numbers }
+    → (AreNumbered w ins → x.touched ≡ (touched_at e.0 w).touched) → (AreNumbered w ins → AreNumbered x ins) → IsTouching ins all left v x
+touching_on ins all left e v w x h rest touched numbered = record {
+  done = h.done ++ e ∷ [];
+  split = append_assoc h.done (e ∷ []) left ∙ h.split;
   rest = rest ∙ ap (λ (y : View). record y { touched = x.touched; numbers = x.numbers }) h.rest;
-  touched = λ k. more_touched h.done p v w x (h.touched k) rest (touched (h.numbered k));
+  touched = λ k. subst (λ ps. IsTouchedAt ps v x) (sym (keys_more h.done e)) (more_touched (keys_of h.done) e.0 v w x (h.touched k) rest (touched (h.numbered k)));
   numbered = λ k. numbered (h.numbered k);
 }
 
-contains_between : (done left : List Prefix) (p : Prefix) → Contains (done ++ p ∷ left) p
-contains_between [] left p = (0, omega arith, refl)
-contains_between (q ∷ done) left p = let h = contains_between done left p in (suc h.0, omega (arith, h.1), h.2)
+between : {P : Prefix × ℕ → Type 0} (done left : List (Prefix × ℕ)) (e : Prefix × ℕ) → ((k : ℕ) (d : Prefix × ℕ) → k < length (done ++ e ∷ left) → P (slice_index_or (done ++ e ∷ left) k d)) → P e
+between [] left e all = all zero e (omega arith)
+between {P} (x ∷ done) left e all = between {P} done left e (λ k d h. all (suc k) d (omega (arith, h)))
 
--- the next one is one of them
-pub next_of : (ins : AdjIns) (all left : List Prefix) (p : Prefix) (v w : View) → IsTouching ins all (p ∷ left) v w → Contains all p
-next_of ins all left p v w h = subst (λ ps. Contains ps p) h.split (contains_between h.done left p)
+-- the next one stands at its number
+pub next_number : (ins : AdjIns) (all left : List (Prefix × ℕ)) (e : Prefix × ℕ) (v w : View) → IsTouching ins all (e ∷ left) v w
+    → ((k : ℕ) (d : Prefix × ℕ) → k < length all → number_of ins (slice_index_or all k d).0 ≡ Some (slice_index_or all k d).1) → number_of ins e.0 ≡ Some e.1
+next_number ins all left e v w h numbers =
+    between {λ x. number_of ins x.0 ≡ Some x.1} h.done left e
+        (subst (λ xs. (k : ℕ) (d : Prefix × ℕ) → k < length xs → number_of ins (slice_index_or xs k d).0 ≡ Some (slice_index_or xs k d).1) (sym h.split) numbers)
 
 -- nothing is left
-pub touching_ends : (ins : AdjIns) (c : ℕ) (all : List Prefix) (v w : View) → AreHeld ins c all → IsTouching ins all [] v w → AreNumbered v ins → IsTouchedWhereHeld ins c v w
+pub touching_ends : (ins : AdjIns) (c : ℕ) (all : List (Prefix × ℕ)) (v w : View) → AreHeld ins c (keys_of all) → IsTouching ins all [] v w → AreNumbered v ins → IsTouchedWhereHeld ins c v w
 touching_ends ins c all v w held h numbered = record {
-  prefixes = all;
+  prefixes = keys_of all;
   held = held;
-  touched = subst (λ ps. IsTouchedAt ps v w) (sym (append-nil h.done) ∙ h.split) (h.touched numbered);
+  touched = subst (λ es. IsTouchedAt (keys_of es) v w) (sym (append-nil h.done) ∙ h.split) (h.touched numbered);
 }
-
--- each of them has a number
-pub not_some : {A : Type 0} (o : Option A) → o ≡ None → IsSome o → ⊥
-not_some o e h = let f : false ≡ true = sym (ap is_some e) ∙ h in cc

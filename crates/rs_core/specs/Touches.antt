@@ -1,8 +1,7 @@
 -- What touches and what begins make of an outlet.
 use Rattle.std.specs.Prelude.{◌≡◌, ◌≢◌, ◌↔◌, ℕ, true, false, List, [], ◌∷◌, Some, None, IsSome}
 use Rattle.std.specs.List.{Contains}
-use Rattle.std.specs.List.Sorted.{IsStrictlySortedBy}
-use Rattle.rs_octets.specs.Prefixes.{Prefix, prefix_order}
+use Rattle.rs_octets.specs.Prefixes.{Prefix}
 use Rattle.rs_open.specs.Writing.{keepalive}
 use Rattle.rs_open.specs.declared.short.Short.{Short}
 use Rattle.rs_adjin.specs.AdjIns.{held_of}
@@ -19,9 +18,8 @@ touched_with (p ∷ ps) v = touched_with ps (touched_at p v)
 pub record IsTouchedAt (ps : List Prefix) (old new : View) : Type 0 where
   pub is : new ≡ record (touched_with ps old) { numbers = new.numbers }
 
--- these are the prefixes that a client holds, rising
+-- these are the prefixes that a client holds
 pub record AreHeld (ins : AdjIns) (c : ℕ) (ps : List Prefix) : Type 0 where
-  pub rising : IsStrictlySortedBy prefix_order ps
   pub all : (p : Prefix) → Contains ps p ↔ IsSome (held_of ins c p)
 
 -- what a client holds was touched, and nothing else has changed but numbers

@@ -27,10 +27,8 @@ fn touch_all_of(outlet: &mut Outlet, tables: &AdjIns, c: usize)
     ensures touched { AreNumbered outlet.old tables.now → IsTouchedWhereHeld tables.now c outlet.old outlet.new }
     ensures numbered { AreNumbered outlet.old tables.now → AreNumbered outlet.new tables.now }
 {
-    for prefix in tables.held(c) {
-        if let Some(number) = tables.number(*prefix) {
-            outlet.touch(number, *prefix);
-        }
+    for (prefix, number) in tables.held(c) {
+        outlet.touch(number, prefix);
     }
 }
 

@@ -1,1 +1,2 @@
 pub mod Placing
+mod Answering
