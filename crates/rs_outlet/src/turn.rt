@@ -162,7 +162,7 @@ fn decide_number(
 }
 
 /// Decides each prefix that a client holds or that stands in the Loc-RIB, in the order of their
-/// numbers.
+/// numbers. It is refused where there are more numbers than 32 bits count.
 fn decide_all(
     alloc: Global,
     sources: &Sources<'_>,
