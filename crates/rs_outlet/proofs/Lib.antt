@@ -10,5 +10,6 @@ mod TouchedNumbers
 mod Ranges
 mod Ranks
 mod Fitting
+mod OthersAlone
 mod Places
 mod Draining

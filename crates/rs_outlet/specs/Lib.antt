@@ -1,6 +1,7 @@
 pub mod Views
 pub mod Due
 pub mod Next
+pub mod Alike
 pub mod HeldBy
 pub mod Turns
 pub mod Places

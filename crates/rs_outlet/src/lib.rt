@@ -5,6 +5,7 @@
 mod answers;
 mod deciding;
 mod fill;
+pub mod laws;
 mod outlet;
 mod routes;
 mod rows;

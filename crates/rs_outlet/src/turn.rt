@@ -11,10 +11,10 @@ ghost use Rattle.rs_octets.specs.Prefixes.{Prefix, prefix_order};
 ghost use Rattle.rs_attrs.specs.Meaning.{Attribute};
 ghost use Rattle.rs_adjin.specs.declared.adj_ins.AdjIns.{AdjIns};
 ghost use Rattle.rs_adjin.specs.AdjIns.{client_count, number_of};
-ghost use Rattle.rs_outlet.specs.Views.{AreNumbered, HaveNumbers, is_touched, is_whole};
+ghost use Rattle.rs_outlet.specs.Views.{AreNumbered, HaveNumbers, Prefixes, is_touched, is_whole};
 ghost use Rattle.rs_outlet.specs.Due.{due_to};
 ghost use Rattle.rs_outlet.specs.HeldBy.{held_by};
-ghost use Rattle.rs_outlet.specs.Inside.{ArePlaced, AreDue, AreDecided, HaveRows, IsDecidedAt, attributes_at, is_changed, is_number_touched, is_numbered_in, row_at, shown, loc_of, numbers_from};
+ghost use Rattle.rs_outlet.specs.Inside.{ArePlaced, AreDue, AreDecided, HaveRows, IsDecidedAt, attributes_at, is_changed, is_number_touched, is_numbered_in, row_at, shown, loc_of, numbers_from, touched_of};
 
 use crate::answers::{Last, Speech, Turned};
 use crate::deciding::{Sources, decide};
@@ -114,7 +114,8 @@ fn decide_touched(
     requires client { sources.now.client < length sources.now.config.now.clients }
     requires count { client_count sources.now.ins.now ≡ length sources.now.config.now.clients }
     requires once { IsDistinct nat_eq (keys_of touched.now) }
-    ensures { IfOk result (λ decided. AreDecided sources.now.ins.now (due_to (held_by sources.now) sources.now.client speech) rows.now.rows.items (is_numbered_in touched.now) decided.changes.items) }
+    ensures changes { IfOk result (λ decided. AreDecided sources.now.ins.now (due_to (held_by sources.now) sources.now.client speech) rows.now.rows.items (is_numbered_in touched.now) decided.changes.items) }
+    ensures count { IfOk result (λ decided. decided.count ≡ length touched.now) }
 {
     let mut ranks = Vec::new(alloc);
     let mut changes = Vec::new(alloc);
@@ -161,7 +162,7 @@ fn decide_number(
 }
 
 /// Decides each prefix that a client holds or that stands in the Loc-RIB, in the order of their
-/// numbers.
+/// numbers. It is refused where there are more numbers than 32 bits count.
 fn decide_all(
     alloc: Global,
     sources: &Sources<'_>,
@@ -204,7 +205,8 @@ fn decide_all_touched(
 ) -> Result<Decided, AllocError>
     requires client { sources.now.client < length sources.now.config.now.clients }
     requires count { client_count sources.now.ins.now ≡ length sources.now.config.now.clients }
-    ensures { IfOk result (λ decided. AreDecided sources.now.ins.now (due_to (held_by sources.now) sources.now.client speech) rows.now.rows.items (is_number_touched touched.now.all touched.now.prefixes.entries) decided.changes.items) }
+    ensures changes { IfOk result (λ decided. AreDecided sources.now.ins.now (due_to (held_by sources.now) sources.now.client speech) rows.now.rows.items (is_number_touched touched.now.all touched.now.prefixes.entries) decided.changes.items) }
+    ensures count { HaveNumbers touched.now.prefixes.entries sources.now.ins.now → IfOk result (λ decided. (prefixes : Prefixes) → touched_of touched.now.all touched.now.prefixes.entries ≡ Some prefixes → decided.count ≡ set.len prefixes) }
 {
     if touched.is_all() {
         decide_all(alloc, sources, speech, rows)
@@ -340,6 +342,7 @@ impl Outlet {
         ensures touched { OnOk result (self.new.touched ≡ Some set.empty) }
         ensures loc { OnOk result (AreNumbered self.old sources.now.ins.now → (p : Prefix) → fin.get self.new.loc p ≡ (if is_touched self.old.touched p then due_to (held_by sources.now) sources.now.client speech p else fin.get self.old.loc p)) }
         ensures whole { IfOk result (λ turned. turned.whole ≡ is_whole self.old.touched) }
+        ensures count { AreNumbered self.old sources.now.ins.now → IfOk result (λ turned. (prefixes : Prefixes) → self.old.touched ≡ Some prefixes → turned.decided ≡ set.len prefixes) }
         ensures refused { OnErr result (self.new ≡ self.old) }
         ensures numbered { AreNumbered self.old sources.now.ins.now → AreNumbered self.new sources.now.ins.now }
     {
