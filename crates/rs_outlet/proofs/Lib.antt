@@ -10,3 +10,4 @@ mod Ranks
 mod Fitting
 mod Places
 mod Draining
+mod Chosen

@@ -4,3 +4,4 @@ pub mod Next
 pub mod HeldBy
 pub mod Places
 pub mod Inside
+pub mod Choosing

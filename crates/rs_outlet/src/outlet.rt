@@ -56,7 +56,7 @@ pub struct Outlet {
     pub(crate) last: Last,
     /// The prefixes of the next message, and the places where they wait.
     pub(crate) front: Vec<Prefix>,
-    pub(crate) chosen: Vec<u32>,
+    pub(crate) chosen: Vec<usize>,
 }
 
 impl Model for Outlet {
