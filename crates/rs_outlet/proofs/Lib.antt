@@ -11,3 +11,5 @@ mod Fitting
 mod Places
 mod Draining
 mod Chosen
+mod Standing
+mod Beginning

@@ -5,3 +5,4 @@ pub mod HeldBy
 pub mod Places
 pub mod Inside
 pub mod Choosing
+pub mod Begins

@@ -7,6 +7,7 @@ ghost use Rattle.rs_open.specs.Writing.{keepalive};
 ghost use Rattle.rs_open.specs.declared.short.Short.{Short};
 ghost use Rattle.rs_packer.specs.Packed.{announcement, withdrawal};
 ghost use Rattle.rs_outlet.specs.Next.{note_octets};
+ghost use Rattle.rs_outlet.specs.Begins.{BeginsUpdate};
 ghost use Rattle.rs_outlet.specs.Choosing.{MayUpdate};
 ghost use Rattle.rs_outlet.specs.declared.answers.Speech.{Speech};
 ghost use Rattle.rs_outlet.specs.declared.rows.Row.{Row};
@@ -199,10 +200,11 @@ fn put_update(
 impl Outlet {
     /// Begins the next message, if there is one. None is in flight.
     pub(crate) fn begin_next(&mut self)
-        ensures rest { self.new ≡ record self.old { told = self.new.told; flight = self.new.flight; beat = self.new.beat; note = self.new.note; marked = self.new.marked } }
+        ensures rest { self.new ≡ record self.old { told = self.new.told; flight = self.new.flight; beat = self.new.beat; note = self.new.note; marked = self.new.marked; waits = self.new.waits } }
         ensures note { (note : Short) → self.old.note ≡ Some note → self.new ≡ record self.old { flight = note_octets note; note = None } }
         ensures keepalive { self.old.note ≡ None → self.old.beat ≡ true → self.new ≡ record self.old { flight = keepalive; beat = false } }
         ensures update { self.old.note ≡ None → self.old.beat ≡ false → (self.new.note ≡ None) × (self.new.beat ≡ false) }
+        ensures begins { (speech : Speech) → self.old.note ≡ None → self.old.beat ≡ false → self.old.speech ≡ Some speech → BeginsUpdate speech self.old self.new }
         ensures down { self.old.note ≡ None → self.old.beat ≡ false → self.old.speech ≡ None → self.new ≡ self.old }
     {
         if let Some(note) = self.note {
@@ -233,7 +235,8 @@ impl Outlet {
     /// Begins the next UPDATE, if something waits.
     fn begin_update(&mut self, speech: Speech)
         requires { self.old.speech ≡ Some speech }
-        ensures { self.new ≡ record self.old { told = self.new.told; flight = self.new.flight; marked = self.new.marked } }
+        ensures begins { (spoken : Speech) → self.old.speech ≡ Some spoken → BeginsUpdate spoken self.old self.new }
+        ensures rest { self.new ≡ record self.old { told = self.new.told; flight = self.new.flight; marked = self.new.marked; waits = self.new.waits } }
     {
         self.front.clear();
         self.chosen.clear();
