@@ -13,3 +13,6 @@ mod Fitting
 mod OthersAlone
 mod Places
 mod Draining
+mod Chosen
+mod Standing
+mod Beginning

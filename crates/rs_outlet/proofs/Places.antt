@@ -14,7 +14,8 @@ use Rattle.rs_octets.specs.Prefixes.{Prefix, prefix_order}
 use Rattle.rs_outlet.specs.declared.waiting.Wait.{Wait}
 use Rattle.rs_outlet.specs.Places.{prefixes_at, open_count, open_at}
 use Rattle.rs_outlet.proofs.Orders.{prefixes_total}
-use Rattle.rs_outlet.proofs.LocByNumber.{same, same_is}
+use Rattle.rs_adjin.proofs.Rows.{some_is}
+use Rattle.rs_outlet.proofs.LocByNumber.{same, same_is, same_itself}
 
 -- ---- rising
 
@@ -82,14 +83,11 @@ none_behind p q (w ∷ ws) h is =
     ∙ ap (λ b. cond b (Some w) (open_at q ws)) (none_and w.open)
     ∙ none_behind p q ws h.1 is
 
-some_is : (v w : Wait) → Some v ≡ Some w → v ≡ w
-some_is v w e = cc
-
-behind : (p : Prefix) (ws : List Wait) (n : ℕ) (w : Wait) → AllByRecursion (λ x. prefix_order p x ≡ Less) (prefixes_at ws) → slice_get ws n ≡ Some w → prefix_order p w.prefix ≡ Less
-behind p [] zero w h is = absurd (cc)
-behind p [] (suc n) w h is = absurd (cc)
-behind p (x ∷ ws) zero w h is = ap (λ (t : Wait). prefix_order p t.prefix) (sym (some_is x w is)) ∙ h.0
-behind p (x ∷ ws) (suc n) w h is = behind p ws n w h.1 is
+behind : (p q : Prefix) (ps : List Prefix) (n : ℕ) → AllByRecursion (λ x. prefix_order p x ≡ Less) ps → slice_get ps n ≡ Some q → prefix_order p q ≡ Less
+behind p q [] zero h is = absurd (cc)
+behind p q [] (suc n) h is = absurd (cc)
+behind p q (x ∷ ps) zero h is = ap (prefix_order p) (sym (some_is x q is)) ∙ h.0
+behind p q (x ∷ ps) (suc n) h is = behind p q ps n h.1 is
 
 -- the first place shut
 first_shut : (q : Prefix) (x : Wait) (ws : List Wait) (b : Bool) → same q x.prefix ≡ b → (b ≡ true → open_at q ws ≡ None) → open_at q ws ≡ cond b None (cond (x.open && b) (Some x) (open_at q ws))
@@ -102,21 +100,47 @@ later_shut true true x o apart = absurd (true≢false (apart refl))
 later_shut false true x o apart = refl
 later_shut a false x o apart = refl
 
-shut_apart : (x w : Wait) (q : Prefix) → prefix_order x.prefix w.prefix ≡ Less → same q w.prefix ≡ true → (x.open && same q x.prefix) ≡ false
-shut_apart x w q h is = go (same q x.prefix) refl
+shut_apart : (x : Wait) (p q : Prefix) → prefix_order x.prefix p ≡ Less → same q p ≡ true → (x.open && same q x.prefix) ≡ false
+shut_apart x p q h is = go (same q x.prefix) refl
   where
     go : (b : Bool) → same q x.prefix ≡ b → (x.open && b) ≡ false
-    go true s = absurd (true≢false (sym is ∙ not_same x.prefix q w.prefix h s))
+    go true s = absurd (true≢false (sym is ∙ not_same x.prefix q p h s))
     go false s = none_and x.open
 
-pub closed_at : (ws : List Wait) (n : ℕ) (w y : Wait) → IsStrictlySortedBy prefix_order (prefixes_at ws) → slice_get ws n ≡ Some w → y.open ≡ false → (q : Prefix) → open_at q (slice_set ws n y) ≡ cond (same q w.prefix) None (open_at q ws)
+pub closed_at : (ws : List Wait) (n : ℕ) (p : Prefix) (y : Wait) → IsStrictlySortedBy prefix_order (prefixes_at ws) → slice_get (prefixes_at ws) n ≡ Some p → y.open ≡ false → (q : Prefix) → open_at q (slice_set ws n y) ≡ cond (same q p) None (open_at q ws)
 unfolding IsStrictlySortedBy
-closed_at [] zero w y up is shut q = absurd (cc)
-closed_at [] (suc n) w y up is shut q = absurd (cc)
-closed_at (x ∷ ws) zero w y up is shut q =
+closed_at [] zero p y up is shut q = absurd (cc)
+closed_at [] (suc n) p y up is shut q = absurd (cc)
+closed_at (x ∷ ws) zero p y up is shut q =
     ap (λ b. cond (b && same q y.prefix) (Some y) (open_at q ws)) shut
     ∙ first_shut q x ws (same q x.prefix) refl (none_behind x.prefix q ws up.0)
-    ∙ ap (λ (t : Wait). cond (same q t.prefix) None (open_at q (x ∷ ws))) (some_is x w is)
-closed_at (x ∷ ws) (suc n) w y up is shut q =
-    ap (cond (x.open && same q x.prefix) (Some x)) (closed_at ws n w y up.1 is shut q)
-    ∙ later_shut (x.open && same q x.prefix) (same q w.prefix) x (open_at q ws) (shut_apart x w q (behind x.prefix ws n w up.0 is))
+    ∙ ap (λ r. cond (same q r) None (open_at q (x ∷ ws))) (some_is x.prefix p is)
+closed_at (x ∷ ws) (suc n) p y up is shut q =
+    ap (cond (x.open && same q x.prefix) (Some x)) (closed_at ws n p y up.1 is shut q)
+    ∙ later_shut (x.open && same q x.prefix) (same q p) x (open_at q ws) (shut_apart x p q (behind x.prefix p (prefixes_at ws) n up.0 is))
+
+-- ---- a place read
+
+pub prefix_at : (ws : List Wait) (n : ℕ) (w : Wait) → n < length ws → w ≡ get_or ws n w → slice_get (prefixes_at ws) n ≡ Some w.prefix
+prefix_at [] n w below is = absurd (omega (arith, below))
+prefix_at (x ∷ ws) zero w below is = ap (λ (t : Wait). Some t.prefix) (sym is)
+prefix_at (x ∷ ws) (suc n) w below is = prefix_at ws n w (omega (arith, below)) is
+
+pub none_past : (ws : List Wait) (n : ℕ) (p : Prefix) → length ws ≤ n → slice_get (prefixes_at ws) n ≡ Some p → ⊥
+none_past [] zero p past is = cc
+none_past [] (suc n) p past is = cc
+none_past (x ∷ ws) zero p past is = omega (arith, past)
+none_past (x ∷ ws) (suc n) p past is = none_past ws n p (omega (arith, past)) is
+
+first_open : (q : Prefix) (x : Wait) (ws : List Wait) → x.open ≡ true → same q x.prefix ≡ true → open_at q (x ∷ ws) ≡ Some x
+first_open q x ws is at = λ i. cond (is i && at i) (Some x) (open_at q ws)
+
+-- an open place is what stands of its prefix
+pub found_at : (ws : List Wait) (n : ℕ) (w : Wait) → n < length ws → w ≡ get_or ws n w → w.open ≡ true → IsStrictlySortedBy prefix_order (prefixes_at ws) → open_at w.prefix ws ≡ Some w
+unfolding IsStrictlySortedBy
+found_at [] n w below is opened up = absurd (omega (arith, below))
+found_at (x ∷ ws) zero w below is opened up =
+    first_open w.prefix x ws (ap (λ (t : Wait). t.open) (sym is) ∙ opened) (ap (λ (t : Wait). same w.prefix t.prefix) (sym is) ∙ same_itself w.prefix) ∙ ap (λ t. Some t) (sym is)
+found_at (x ∷ ws) (suc n) w below is opened up =
+    ap (λ b. cond b (Some x) (open_at w.prefix ws)) (shut_apart x w.prefix w.prefix (behind x.prefix w.prefix (prefixes_at ws) n up.0 (prefix_at ws n w (omega (arith, below)) is)) (same_itself w.prefix))
+    ∙ found_at ws n w (omega (arith, below)) is opened up.1

@@ -18,8 +18,8 @@ use Rattle.rs_outlet.specs.declared.turn.Change.{Change}
 use Rattle.rs_adjin.specs.declared.adj_ins.AdjIns.{AdjIns}
 use Rattle.rs_adjin.specs.AdjIns.{number_of}
 use Rattle.rs_outlet.specs.declared.outlet.Outlet.TheInside.{Inside}
-use Rattle.rs_outlet.specs.Views.{View, Table, Prefixes}
-use Rattle.rs_outlet.specs.Places.{told_of}
+use Rattle.rs_outlet.specs.Views.{View, Table, Prefixes, Waiting}
+use Rattle.rs_outlet.specs.Places.{told_of, is_withdrawal}
 
 -- ---- rows
 
@@ -114,6 +114,11 @@ abbrev pub marked_of : List Wait → Prefixes
 marked_of [] = set.empty
 marked_of (w ∷ ws) = if w.open then mark (marked_of ws) w.prefix w.marked else marked_of ws
 
+-- the prefixes that wait, each with whether it is to be withdrawn
+abbrev pub waits_of : List Wait → Waiting
+waits_of [] = fin.empty
+waits_of (w ∷ ws) = if w.open then fin.insert (waits_of ws) w.prefix (is_withdrawal w.due) else waits_of ws
+
 -- ---- what is touched
 
 abbrev pub prefixes_in : List (ℕ × Prefix) → List Prefix
@@ -147,6 +152,7 @@ view_of a = record {
   note = a.note;
   touched = touched_of a.touched.all a.touched.prefixes.entries;
   marked = marked_of a.waits.places.items;
+  waits = waits_of a.waits.places.items;
   numbers = numbers_from 0 a.rows.rows.items ++ a.touched.prefixes.entries;
   last = a.last;
 }

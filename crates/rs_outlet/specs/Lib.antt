@@ -6,3 +6,5 @@ pub mod HeldBy
 pub mod Turns
 pub mod Places
 pub mod Inside
+pub mod Choosing
+pub mod Begins

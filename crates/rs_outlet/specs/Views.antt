@@ -22,10 +22,14 @@ Table = FinMap prefix_order (List Attribute)
 abbrev pub Prefixes : Type 0
 Prefixes = FinSet prefix_order
 
+abbrev pub Waiting : Type 0
+Waiting = FinMap prefix_order Bool
+
 -- `loc`: the Loc-RIB, due at the last turn. `told`: what the messages begun so far leave with the client. `flight`: the
 -- octets still to lend. `beat`: a KEEPALIVE is due. `note`: a NOTIFICATION waits. `touched`: the prefixes to decide at the
--- next turn, and with None all. `marked`: those told that are to be told again. `numbers`: the prefixes that are due or
--- touched by themselves, each with the number that it was touched with.
+-- next turn, and with None all. `marked`: those told that are to be told again. `waits`: the prefixes that wait for a
+-- message, each with whether it is to be withdrawn. `numbers`: the prefixes that are due or touched by themselves, each with
+-- the number that it was touched with.
 pub record View : Type 0 where
   pub client : ℕ
   pub extended : Bool
@@ -37,12 +41,13 @@ pub record View : Type 0 where
   pub note : Option Short
   pub touched : Option Prefixes
   pub marked : Prefixes
+  pub waits : Waiting
   pub numbers : List (ℕ × Prefix)
   pub last : Last
 
 -- nothing is there but what it was made with and the answer of the last turn
 abbrev pub bare : ℕ → Bool → Last → View
-bare client extended last = record { client = client; extended = extended; speech = None; loc = map.empty; told = map.empty; flight = []; beat = false; note = None; touched = Some set.empty; marked = set.empty; numbers = []; last = last }
+bare client extended last = record { client = client; extended = extended; speech = None; loc = map.empty; told = map.empty; flight = []; beat = false; note = None; touched = Some set.empty; marked = set.empty; waits = map.empty; numbers = []; last = last }
 
 abbrev pub cleared : View → View
 cleared v = bare v.client v.extended v.last
@@ -57,7 +62,7 @@ finished note v = record (cleared v) { flight = flight_after note v.flight; note
 
 -- a session begins: nothing is due or told, and all is to be decided
 abbrev pub begun : Speech → View → View
-begun speech v = record v { speech = Some speech; loc = map.empty; told = map.empty; touched = None; marked = set.empty; numbers = [] }
+begun speech v = record v { speech = Some speech; loc = map.empty; told = map.empty; touched = None; marked = set.empty; waits = map.empty; numbers = [] }
 
 -- each of these prefixes has the number beside it
 abbrev pub HaveNumbers : List (ℕ × Prefix) → AdjIns → Type 0
@@ -99,7 +104,7 @@ IsOneOf m a b = (m ≡ a) ⊎ (m ≡ b)
 -- each touched prefix has what is due there, and nothing else has changed but what is touched and the answer of the last turn
 pub record IsDecided (due : Prefix → Option (List Attribute)) (old new : View) : Type 0 where
   pub loc : (p : Prefix) → map.get new.loc p ≡ (if is_touched old.touched p then due p else map.get old.loc p)
-  pub rest : new ≡ record old { loc = new.loc; touched = Some set.empty; numbers = new.numbers; last = new.last }
+  pub rest : new ≡ record old { loc = new.loc; touched = Some set.empty; waits = new.waits; numbers = new.numbers; last = new.last }
 
 -- so many prefixes pass the test
 pub record IsNumberOf (is_in : Prefix → Bool) (n : ℕ) : Type 0 where
@@ -151,6 +156,9 @@ attributes_code = coded_list attribute_code
 
 abbrev pub table_code : Coded Table
 table_code = map.code prefix_code attributes_code
+
+abbrev pub waiting_code : Coded Waiting
+waiting_code = map.code prefix_code coded_bool
 
 abbrev pub prefixes_code : Coded Prefixes
 prefixes_code = set.code prefix_code

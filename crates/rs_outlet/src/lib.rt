@@ -3,6 +3,7 @@
 #![tactic(auto)]
 
 mod answers;
+mod choosing;
 mod deciding;
 mod fill;
 pub mod laws;

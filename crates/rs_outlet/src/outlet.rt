@@ -16,6 +16,7 @@ ghost use Rattle.rs_outlet.specs.Next.{note_octets};
 ghost use Rattle.rs_open.specs.declared.short.Limit.TheVariants as limits;
 ghost use Rattle.rs_outlet.specs.Views.{AreNumbered, IsDrained, IsOneOf, bare, begun, cleared, finished, if_up, touched_at};
 ghost use Rattle.rs_outlet.specs.Turns.{HasTurned};
+ghost use Rattle.rs_outlet.specs.Begins.{BeginsUpdate};
 ghost use Rattle.rs_outlet.specs.Inside.{room_of, batch_of, IsNoNumberOf};
 
 use crate::answers::{Last, Speech, Turned};
@@ -57,17 +58,17 @@ pub struct Outlet {
     pub(crate) last: Last,
     /// The prefixes of the next message, and the places where they wait.
     pub(crate) front: Vec<Prefix>,
-    pub(crate) chosen: Vec<u32>,
+    pub(crate) chosen: Vec<usize>,
 }
 
 impl Model for Outlet {
-    ghost use Rattle.rs_outlet.specs.Views.{View, table_code, prefixes_code};
+    ghost use Rattle.rs_outlet.specs.Views.{View, table_code, prefixes_code, waiting_code};
 
     ghost Value = { View };
 
     ghost use Rattle.std.specs.Coded.{codes};
 
-    ghost coded = { Prim.hlevel (codes, table_code, prefixes_code) };
+    ghost coded = { Prim.hlevel (codes, table_code, prefixes_code, waiting_code) };
 
     ghost use Rattle.rs_outlet.specs.Inside.{view_of, IsKept};
 
@@ -222,7 +223,7 @@ impl Outlet {
         requires clients { client_count ins.now ≡ length config.now.clients }
         ensures client { self.new.client ≡ self.old.client }
         ensures extended { self.new.extended ≡ self.old.extended }
-        ensures rest { self.new ≡ record self.old { loc = self.new.loc; told = self.new.told; touched = self.new.touched; marked = self.new.marked; numbers = self.new.numbers; last = self.new.last } }
+        ensures rest { self.new ≡ record self.old { loc = self.new.loc; told = self.new.told; touched = self.new.touched; marked = self.new.marked; waits = self.new.waits; numbers = self.new.numbers; last = self.new.last } }
         ensures turned { AreNumbered self.old ins.now → IfOk result (HasTurned config.now ins.now self.old self.new) }
         ensures done { IfOk result (λ turned. self.new.last ≡ Last.Done turned) }
         ensures touched { OnOk result (IsSome self.old.speech → self.new.touched ≡ Some set.empty) }
@@ -263,7 +264,7 @@ impl Outlet {
     pub fn again(&mut self)
         ensures client { self.new.client ≡ self.old.client }
         ensures extended { self.new.extended ≡ self.old.extended }
-        ensures rest { self.new ≡ record self.old { told = self.new.told; marked = self.new.marked } }
+        ensures rest { self.new ≡ record self.old { told = self.new.told; marked = self.new.marked; waits = self.new.waits } }
     {
         self.waits.mark_all(&self.rows);
     }
@@ -272,11 +273,12 @@ impl Outlet {
     pub fn begin(&mut self)
         ensures client { self.new.client ≡ self.old.client }
         ensures extended { self.new.extended ≡ self.old.extended }
-        ensures rest { self.new ≡ record self.old { told = self.new.told; flight = self.new.flight; beat = self.new.beat; note = self.new.note; marked = self.new.marked } }
+        ensures rest { self.new ≡ record self.old { told = self.new.told; flight = self.new.flight; beat = self.new.beat; note = self.new.note; marked = self.new.marked; waits = self.new.waits } }
         ensures kept { self.old.flight ≢ [] → self.new ≡ self.old }
         ensures note { (note : Short) → self.old.flight ≡ [] → self.old.note ≡ Some note → self.new ≡ record self.old { flight = note_octets note; note = None } }
         ensures keepalive { self.old.flight ≡ [] → self.old.note ≡ None → self.old.beat ≡ true → self.new ≡ record self.old { flight = keepalive; beat = false } }
         ensures update { self.old.flight ≡ [] → self.old.note ≡ None → self.old.beat ≡ false → (self.new.note ≡ None) × (self.new.beat ≡ false) }
+        ensures begins { (speech : Speech) → self.old.flight ≡ [] → self.old.note ≡ None → self.old.beat ≡ false → self.old.speech ≡ Some speech → BeginsUpdate speech self.old self.new }
         ensures down { self.old.flight ≡ [] → self.old.note ≡ None → self.old.beat ≡ false → self.old.speech ≡ None → self.new ≡ self.old }
     {
         if self.start < self.end {

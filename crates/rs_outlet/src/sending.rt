@@ -2,10 +2,15 @@
 //! due, what is to be withdrawn, or the least prefix that is to be announced with all that share its
 //! attributes.
 
-ghost use Rattle.std.specs.Prelude.{◌≡◌, ◌≤◌, true, false, None, Some, take, vec_len};
+ghost use Rattle.std.specs.Prelude.{◌≡◌, ◌≤◌, ◌<◌, List, Option, [], true, false, None, Some, length, take, vec_len};
 ghost use Rattle.rs_open.specs.Writing.{keepalive};
 ghost use Rattle.rs_open.specs.declared.short.Short.{Short};
+ghost use Rattle.rs_packer.specs.Packed.{announcement, withdrawal};
 ghost use Rattle.rs_outlet.specs.Next.{note_octets};
+ghost use Rattle.rs_outlet.specs.Begins.{BeginsUpdate};
+ghost use Rattle.rs_outlet.specs.Choosing.{MayUpdate};
+ghost use Rattle.rs_outlet.specs.declared.answers.Speech.{Speech};
+ghost use Rattle.rs_outlet.specs.declared.rows.Row.{Row};
 ghost use Rattle.std.specs.Vec.{vec_capacity};
 ghost use Rattle.rs_open.specs.Notes.{limit_octets};
 
@@ -13,7 +18,7 @@ use crate::answers::Speech;
 use crate::outlet::Outlet;
 use crate::rows::Rows;
 use crate::waiting::Waits;
-use rs_attrs::Attrs;
+use rs_attrs::{Attrs, Mode};
 use rs_octets::Prefix;
 use rs_open::{Limit, Short, write_keepalive, write_note};
 use rs_packer::{Packed, fits, pack_announced, pack_withdrawn};
@@ -51,32 +56,112 @@ fn put_keepalive(out: &mut Vec<u8>) -> usize
     write_keepalive(out)
 }
 
-/// Writes the longest withdrawal of these prefixes that fits.
+/// Writes the longest withdrawal of these prefixes that fits into the first octets.
+fn pack_gone(prefixes: &[Prefix], limit: usize, out: &mut [u8]) -> Packed
+    requires some { 0 < length prefixes.now }
+    requires limit { (28 ≤ limit) × (limit ≤ 65535) }
+    requires room { limit ≤ length out.old }
+    ensures some { 0 < result.prefixes }
+    ensures within { result.prefixes ≤ length prefixes.now }
+    ensures octets { take result.octets out.new ≡ withdrawal (take result.prefixes prefixes.now) }
+    ensures most { result.octets ≤ limit }
+{
+    pack_withdrawn(prefixes, &mut out[..limit])
+}
+
+/// Writes the longest announcement of these prefixes that fits into the first octets.
+fn pack_news(attrs: &Attrs, mode: Mode, prefixes: &[Prefix], limit: usize, out: &mut [u8]) -> Packed
+    requires some { 0 < length prefixes.now }
+    requires limit { limit ≤ 65535 }
+    requires room { limit ≤ length out.old }
+    requires fits { length (announcement attrs.now mode (take 1 prefixes.now)) ≤ limit }
+    ensures some { 0 < result.prefixes }
+    ensures within { result.prefixes ≤ length prefixes.now }
+    ensures octets { take result.octets out.new ≡ announcement attrs.now mode (take result.prefixes prefixes.now) }
+    ensures most { result.octets ≤ limit }
+{
+    pack_announced(attrs, mode, prefixes, &mut out[..limit])
+}
+
+/// The longest withdrawal into a message's room.
 fn put_withdrawal(prefixes: &[Prefix], limit: Limit, out: &mut Vec<u8>) -> Packed
+    requires some { 0 < length prefixes.now }
     requires room { limit_octets limit ≤ vec_len out.old }
+    ensures some { 0 < result.prefixes }
+    ensures within { result.prefixes ≤ length prefixes.now }
+    ensures octets { take result.octets out.new.items ≡ withdrawal (take result.prefixes prefixes.now) }
     ensures most { result.octets ≤ limit_octets limit }
     ensures room { vec_len out.new ≡ vec_len out.old }
 {
-    if prefixes.is_empty() {
-        return NOTHING;
-    }
-    pack_withdrawn(prefixes, &mut out[..limit.octets()])
+    pack_gone(prefixes, limit.octets(), out)
 }
 
-/// Writes the longest announcement of these prefixes that fits.
+/// The longest announcement into a message's room.
 fn put_announcement(attrs: &Attrs, speech: Speech, prefixes: &[Prefix], out: &mut Vec<u8>) -> Packed
+    requires some { 0 < length prefixes.now }
     requires room { limit_octets speech.limit ≤ vec_len out.old }
+    requires fits { length (announcement attrs.now speech.mode (take 1 prefixes.now)) ≤ limit_octets speech.limit }
+    ensures some { 0 < result.prefixes }
+    ensures within { result.prefixes ≤ length prefixes.now }
+    ensures octets { take result.octets out.new.items ≡ announcement attrs.now speech.mode (take result.prefixes prefixes.now) }
     ensures most { result.octets ≤ limit_octets speech.limit }
     ensures room { vec_len out.new ≡ vec_len out.old }
 {
-    let limit = speech.limit.octets();
-    let Some(first) = prefixes.first() else {
-        return NOTHING;
-    };
-    if !fits(attrs, speech.mode, first, limit) {
+    pack_news(attrs, speech.mode, prefixes, speech.limit.octets(), out)
+}
+
+/// Writes the withdrawal of what waits for one from a place on, and lists the places.
+fn put_gone(
+    waits: &Waits,
+    first: usize,
+    limit: Limit,
+    chosen: &mut Vec<usize>,
+    front: &mut Vec<Prefix>,
+    out: &mut Vec<u8>,
+) -> Packed
+    requires room { limit_octets limit ≤ vec_len out.old }
+    requires none { (chosen.old.items ≡ []) × (front.old.items ≡ []) }
+    ensures most { result.octets ≤ limit_octets limit }
+    ensures room { vec_len out.new ≡ vec_len out.old }
+    ensures chosen { vec_capacity chosen.new ≡ vec_capacity chosen.old }
+    ensures front { vec_capacity front.new ≡ vec_capacity front.old }
+    ensures update { (rows : List (Option Row)) (speech : Speech) → MayUpdate speech rows waits.now.places.items chosen.new.items front.new.items out.new.items result }
+{
+    waits.collect_withdrawn(first, front.capacity(), chosen, front);
+    if front.is_empty() {
         return NOTHING;
     }
-    pack_announced(attrs, speech.mode, prefixes, &mut out[..limit])
+    put_withdrawal(front, limit, out)
+}
+
+/// Writes the announcement of what waits for the attributes of a row from a place on, and lists the
+/// places.
+fn put_news(
+    rows: &Rows,
+    waits: &Waits,
+    first: usize,
+    attrs: &Attrs,
+    speech: Speech,
+    chosen: &mut Vec<usize>,
+    front: &mut Vec<Prefix>,
+    out: &mut Vec<u8>,
+) -> Packed
+    requires room { limit_octets speech.limit ≤ vec_len out.old }
+    requires none { (chosen.old.items ≡ []) × (front.old.items ≡ []) }
+    ensures most { result.octets ≤ limit_octets speech.limit }
+    ensures room { vec_len out.new ≡ vec_len out.old }
+    ensures chosen { vec_capacity chosen.new ≡ vec_capacity chosen.old }
+    ensures front { vec_capacity front.new ≡ vec_capacity front.old }
+    ensures update { MayUpdate speech rows.now.rows.items waits.now.places.items chosen.new.items front.new.items out.new.items result }
+{
+    waits.collect_announced(rows, first, attrs, front.capacity(), chosen, front);
+    let Some(least) = front.first() else {
+        return NOTHING;
+    };
+    if !fits(attrs, speech.mode, least, speech.limit.octets()) {
+        return NOTHING;
+    }
+    put_announcement(attrs, speech, front, out)
 }
 
 /// Writes the next UPDATE, if something waits, and lists the places of what it tells.
@@ -84,20 +169,21 @@ fn put_update(
     rows: &Rows,
     waits: &mut Waits,
     speech: Speech,
-    chosen: &mut Vec<u32>,
+    chosen: &mut Vec<usize>,
     front: &mut Vec<Prefix>,
     out: &mut Vec<u8>,
 ) -> Packed
     requires room { limit_octets speech.limit ≤ vec_len out.old }
+    requires none { (chosen.old.items ≡ []) × (front.old.items ≡ []) }
     ensures most { result.octets ≤ limit_octets speech.limit }
     ensures room { vec_len out.new ≡ vec_len out.old }
-    ensures chosen { vec_capacity chosen.old ≤ vec_capacity chosen.new }
-    ensures front { vec_capacity front.old ≤ vec_capacity front.new }
+    ensures chosen { vec_capacity chosen.new ≡ vec_capacity chosen.old }
+    ensures front { vec_capacity front.new ≡ vec_capacity front.old }
+    ensures places { waits.new.places.items ≡ waits.old.places.items }
+    ensures update { MayUpdate speech rows.now.rows.items waits.old.places.items chosen.new.items front.new.items out.new.items result }
 {
-    let room = front.capacity();
     if let Some(first) = waits.first_withdrawn() {
-        waits.collect_withdrawn(first, room, chosen, front);
-        return put_withdrawal(front, speech.limit, out);
+        return put_gone(waits, first, speech.limit, chosen, front, out);
     }
     let Some(first) = waits.first_announced() else {
         return NOTHING;
@@ -108,17 +194,17 @@ fn put_update(
     let Some(row) = rows.get(number) else {
         return NOTHING;
     };
-    waits.collect_announced(rows, first, &row.attrs, room, chosen, front);
-    put_announcement(&row.attrs, speech, front, out)
+    put_news(rows, waits, first, &row.attrs, speech, chosen, front, out)
 }
 
 impl Outlet {
     /// Begins the next message, if there is one. None is in flight.
     pub(crate) fn begin_next(&mut self)
-        ensures rest { self.new ≡ record self.old { told = self.new.told; flight = self.new.flight; beat = self.new.beat; note = self.new.note; marked = self.new.marked } }
+        ensures rest { self.new ≡ record self.old { told = self.new.told; flight = self.new.flight; beat = self.new.beat; note = self.new.note; marked = self.new.marked; waits = self.new.waits } }
         ensures note { (note : Short) → self.old.note ≡ Some note → self.new ≡ record self.old { flight = note_octets note; note = None } }
         ensures keepalive { self.old.note ≡ None → self.old.beat ≡ true → self.new ≡ record self.old { flight = keepalive; beat = false } }
         ensures update { self.old.note ≡ None → self.old.beat ≡ false → (self.new.note ≡ None) × (self.new.beat ≡ false) }
+        ensures begins { (speech : Speech) → self.old.note ≡ None → self.old.beat ≡ false → self.old.speech ≡ Some speech → BeginsUpdate speech self.old self.new }
         ensures down { self.old.note ≡ None → self.old.beat ≡ false → self.old.speech ≡ None → self.new ≡ self.old }
     {
         if let Some(note) = self.note {
@@ -149,7 +235,8 @@ impl Outlet {
     /// Begins the next UPDATE, if something waits.
     fn begin_update(&mut self, speech: Speech)
         requires { self.old.speech ≡ Some speech }
-        ensures { self.new ≡ record self.old { told = self.new.told; flight = self.new.flight; marked = self.new.marked } }
+        ensures begins { (spoken : Speech) → self.old.speech ≡ Some spoken → BeginsUpdate spoken self.old self.new }
+        ensures rest { self.new ≡ record self.old { told = self.new.told; flight = self.new.flight; marked = self.new.marked; waits = self.new.waits } }
     {
         self.front.clear();
         self.chosen.clear();
@@ -163,6 +250,7 @@ impl Outlet {
         );
         self.start = 0;
         self.end = packed.octets;
-        self.waits.give_up(&self.chosen, packed.prefixes);
+        self.chosen.truncate(packed.prefixes);
+        self.waits.give_up(&self.chosen);
     }
 }

@@ -337,7 +337,7 @@ impl Outlet {
         requires count { client_count sources.now.ins.now ≡ length sources.now.config.now.clients }
         ensures client { self.new.client ≡ self.old.client }
         ensures extended { self.new.extended ≡ self.old.extended }
-        ensures rest { self.new ≡ record self.old { loc = self.new.loc; told = self.new.told; touched = self.new.touched; marked = self.new.marked; numbers = self.new.numbers; last = self.new.last } }
+        ensures rest { self.new ≡ record self.old { loc = self.new.loc; told = self.new.told; touched = self.new.touched; marked = self.new.marked; waits = self.new.waits; numbers = self.new.numbers; last = self.new.last } }
         ensures done { IfOk result (λ turned. self.new.last ≡ Last.Done turned) }
         ensures touched { OnOk result (self.new.touched ≡ Some set.empty) }
         ensures loc { OnOk result (AreNumbered self.old sources.now.ins.now → (p : Prefix) → fin.get self.new.loc p ≡ (if is_touched self.old.touched p then due_to (held_by sources.now) sources.now.client speech p else fin.get self.old.loc p)) }

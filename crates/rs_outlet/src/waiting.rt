@@ -56,14 +56,14 @@ pub(crate) const END: u32 = 0xffff_ffff;
 /// What waits, by rising prefix.
 #[derive(Drop)]
 pub(crate) struct Waits {
-    places: Vec<Wait>,
-    links: Vec<u32>,
+    pub(crate) places: Vec<Wait>,
+    pub(crate) links: Vec<u32>,
     /// While links are made: the first place of each hash behind the one at hand.
     heads: Vec<u32>,
     /// No place before it is to be withdrawn.
-    gone: usize,
+    pub(crate) gone: usize,
     /// No place before it is to be announced.
-    news: usize,
+    pub(crate) news: usize,
     /// How many are open.
     waiting: usize,
     ghost counted: { open_count places.items ≡ waiting },
@@ -130,10 +130,10 @@ impl Waits {
     }
 
     /// A place waits no more. Answers what was told there, and whether it was to be told again.
-    fn close(&mut self, place: usize) -> (Told, bool)
+    pub(crate) fn close(&mut self, place: usize) -> (Told, bool)
         requires { place < vec_len self.old.places }
         ensures prefixes { prefixes_at self.new.places.items ≡ prefixes_at self.old.places.items }
-        ensures places { (w : Wait) → slice_get self.old.places.items place ≡ Some w → (q : Prefix) → open_at q self.new.places.items ≡ (if eq_by_cmp prefix_order q w.prefix then None else open_at q self.old.places.items) }
+        ensures places { (p : Prefix) → slice_get (prefixes_at self.old.places.items) place ≡ Some p → (q : Prefix) → open_at q self.new.places.items ≡ (if eq_by_cmp prefix_order q p then None else open_at q self.old.places.items) }
     {
         let wait = &mut self.places[place];
         let waited = wait.open;
@@ -202,119 +202,18 @@ impl Waits {
         self.waiting = count_open(&self.places);
         self.link();
     }
-
-    /// The first place that is to be withdrawn.
-    pub(crate) fn first_withdrawn(&mut self) -> Option<usize>
-        ensures { self.new.places.items ≡ self.old.places.items }
-    {
-        self.gone = next_withdrawn(&self.places, self.gone);
-        if self.gone < self.places.len() {
-            Some(self.gone)
-        } else {
-            None
-        }
-    }
-
-    /// Lists prefixes that are to be withdrawn, from this place on, as many as there is room for.
-    pub(crate) fn collect_withdrawn(
-        &self,
-        first: usize,
-        room: usize,
-        chosen: &mut Vec<u32>,
-        front: &mut Vec<Prefix>,
-    )
-        ensures chosen { vec_capacity chosen.old ≤ vec_capacity chosen.new }
-        ensures front { vec_capacity front.old ≤ vec_capacity front.new }
-    {
-        for place in first..self.places.len() {
-            if room <= front.len() {
-                return;
-            }
-            let Some(wait) = self.places.get(place) else {
-                return;
-            };
-            if wait.is_withdrawn() {
-                let _ = front.push(wait.prefix);
-                let _ = chosen.push(u32::try_from(place).unwrap_or(END));
-            }
-        }
-    }
-
-    /// The first place that is to be announced.
-    pub(crate) fn first_announced(&mut self) -> Option<u32>
-        ensures { self.new.places.items ≡ self.old.places.items }
-    {
-        self.news = next_announced(&self.places, self.news);
-        if self.news < self.places.len() {
-            u32::try_from(self.news).ok()
-        } else {
-            None
-        }
-    }
-
-    /// The row that is due at a place.
-    pub(crate) fn number_at(&self, place: u32) -> Option<u32> {
-        match self.places.get(place as usize)?.due {
-            Due::Withdrawn => None,
-            Due::Announced { number, .. } => Some(number),
-        }
-    }
-
-    /// Lists the prefixes from this place on that wait for these attributes, as many as there is room
-    /// for.
-    pub(crate) fn collect_announced(
-        &self,
-        rows: &Rows,
-        first: u32,
-        attrs: &Attrs,
-        room: usize,
-        chosen: &mut Vec<u32>,
-        front: &mut Vec<Prefix>,
-    )
-        ensures chosen { vec_capacity chosen.old ≤ vec_capacity chosen.new }
-        ensures front { vec_capacity front.old ≤ vec_capacity front.new }
-    {
-        let hash = hash_of(attrs);
-        let mut at = first;
-        for _ in 0..self.places.len() {
-            if room <= front.len() {
-                return;
-            }
-            let Some(wait) = self.places.get(at as usize) else {
-                return;
-            };
-            if wait.open && waits_for(rows, wait, hash, attrs) {
-                let _ = front.push(wait.prefix);
-                let _ = chosen.push(at);
-            }
-            at = self.links.get(at as usize).copied().unwrap_or(END);
-        }
-    }
-
-    /// The first so many of these places wait no more.
-    pub(crate) fn give_up(&mut self, chosen: &[u32], count: usize) {
-        for place in chosen.iter().take(count) {
-            self.give_up_one(*place as usize);
-        }
-    }
-
-    fn give_up_one(&mut self, place: usize) {
-        if place < self.places.len() {
-            let _ = self.close(place);
-        }
-    }
 }
 
 impl Wait {
     /// Whether it is to be withdrawn.
-    fn is_withdrawn(&self) -> bool
+    pub(crate) fn is_withdrawn(&self) -> bool
         ensures { result ≡ is_withdrawn self.now }
     {
         self.open && matches!(self.due, Due::Withdrawn)
     }
 
     /// Whether it is to be announced.
-    fn is_announced(&self) -> bool
+    pub(crate) fn is_announced(&self) -> bool
         ensures { result ≡ is_announced self.now }
     {
         self.open && matches!(self.due, Due::Announced { .. })
@@ -332,26 +231,6 @@ impl Told {
             Told::Other(told) => Some(told),
         }
     }
-}
-
-/// The first place from here on that is to be withdrawn; where there is none, the end of the places.
-fn next_withdrawn(places: &[Wait], from: usize) -> usize {
-    for place in from..places.len() {
-        if places[place].is_withdrawn() {
-            return place;
-        }
-    }
-    places.len()
-}
-
-/// The first place from here on that is to be announced; where there is none, the end of the places.
-fn next_announced(places: &[Wait], from: usize) -> usize {
-    for place in from..places.len() {
-        if places[place].is_announced() {
-            return place;
-        }
-    }
-    places.len()
 }
 
 /// How many places wait.
@@ -417,23 +296,6 @@ fn has_before(places: &[Wait], count: usize, prefix: &Prefix) -> bool {
             .binary_search_by(|wait| wait.prefix.cmp(prefix))
             .is_ok(),
         None => false,
-    }
-}
-
-/// Whether a place waits for these attributes, which have this hash.
-fn waits_for(rows: &Rows, wait: &Wait, hash: u32, attrs: &Attrs) -> bool {
-    match wait.due {
-        Due::Withdrawn => false,
-        Due::Announced {
-            number,
-            hash: other,
-        } => {
-            hash == other
-                && match rows.get(number) {
-                    Some(row) => *row.attrs == *attrs,
-                    None => false,
-                }
-        }
     }
 }
 

@@ -19,7 +19,7 @@ IsAnswered config tables old new = ((turned : Turned) × (AreNumbered old tables
 pub record TurnedAlone (config : Configuration) (tables : AdjIns) (old new : View) : Type 0 where
   pub client : new.client ≡ old.client
   pub extended : new.extended ≡ old.extended
-  pub rest : new ≡ record old { loc = new.loc; told = new.told; touched = new.touched; marked = new.marked; numbers = new.numbers; last = new.last }
+  pub rest : new ≡ record old { loc = new.loc; told = new.told; touched = new.touched; marked = new.marked; waits = new.waits; numbers = new.numbers; last = new.last }
   pub answer : IsAnswered config tables old new
   pub numbered : AreNumbered old tables → AreNumbered new tables
 

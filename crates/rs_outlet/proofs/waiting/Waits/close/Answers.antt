@@ -20,5 +20,5 @@ invariant_of-self-clause-rises c =
 pub returns : goal.returns
 returns c = record {
   prefixes = same_prefixes c.args.self.now.places.items c.args.place _ c.index_mut-wait.result.now (ap (λ (w : Wait). w.prefix) c.index_mut-wait.ensures.value);
-  places = λ w is q. closed_at c.args.self.now.places.items c.args.place w _ c.args.self.now.rises is refl q;
+  places = λ p is q. closed_at c.args.self.now.places.items c.args.place p _ c.args.self.now.rises is refl q;
 }

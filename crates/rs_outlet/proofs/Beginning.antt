@@ -1,0 +1,131 @@
+-- What an UPDATE leaves with the client, by the places that it gave up.
+use Rattle.std.proofs.Common.{◌≡◌, ◌<◌, ◌≤◌, ℕ, Bool, true, false, cond, not, ◌&&◌, Option, None, Some, List, [], ◌∷◌, length, take, refl, sym, ap, ◌∙◌, subst, arith, inl, inr}
+use Rattle.std.specs.Prelude.{◌⊎◌, option_map}
+use Rattle.std.specs.List.{AllByRecursion, list_any}
+use Rattle.std.specs.FinMap as fin
+use Rattle.std.specs.FinSet as set
+use Rattle.std.proofs.lemmas.List.{length-take-le}
+use Rattle.rs_octets.specs.Prefixes.{Prefix}
+use Rattle.rs_attrs.specs.Meaning.{Attribute}
+use Rattle.rs_adjin.specs.declared.adj_ins.AdjIns.{AdjIns}
+use Rattle.rs_adjin.specs.AdjIns.{number_of}
+use Rattle.rs_packer.specs.declared.packed.Packed.{Packed}
+use Rattle.rs_outlet.specs.declared.answers.Speech.{Speech}
+use Rattle.rs_outlet.specs.declared.rows.Row.{Row}
+use Rattle.rs_outlet.specs.declared.waiting.Wait.{Wait}
+use Rattle.rs_outlet.specs.Views.{View, AreNumbered, HaveNumbers}
+use Rattle.rs_outlet.specs.Places.{open_at, told_by, marked_by, is_withdrawal}
+use Rattle.rs_outlet.specs.Inside.{told_over, marked_of, waits_of, loc_of, numbers_from, shown}
+use Rattle.rs_outlet.specs.Choosing.{AreChosen, message_of, MayUpdate}
+use Rattle.rs_outlet.specs.Begins.{Settles, Withdraws, Announces, BeginsUpdate}
+use Rattle.rs_adjin.proofs.Rows.{some_is}
+use Rattle.rs_outlet.proofs.LocByNumber.{same, numbered, by_number}
+use Rattle.rs_outlet.proofs.Chosen.{first_chosen}
+use Rattle.rs_outlet.proofs.Standing.{told_at, marked_at, waits_at}
+
+told_cond : (b : Bool) (o : Option Wait) (due : Option (List Attribute)) → told_by (cond b None o) due ≡ cond b due (told_by o due)
+told_cond true o due = refl
+told_cond false o due = refl
+
+marked_cond : (b : Bool) (o : Option Wait) → marked_by (cond b None o) ≡ (not b && marked_by o)
+marked_cond true o = refl
+marked_cond false o = refl
+
+waits_cond : (b : Bool) (o : Option Wait) → option_map (λ w. is_withdrawal w.due) (cond b None o) ≡ cond b None (option_map (λ w. is_withdrawal w.due) o)
+waits_cond true o = refl
+waits_cond false o = refl
+
+-- what is due at the prefixes of rows with these attributes
+rows_due : (rows : List (Option Row)) (ws : List Wait) (m : List Attribute) (ins : AdjIns) → HaveNumbers (numbers_from 0 rows) ins → (ns : List ℕ) (ps : List Prefix) → AreChosen rows ws (Some m) ns ps → AllByRecursion (λ p. fin.get (loc_of rows) p ≡ Some m) ps
+rows_due rows ws m ins h [] [] are = tt
+rows_due rows ws m ins h [] (p ∷ ps) are = absurd are
+rows_due rows ws m ins h (n ∷ ns) [] are = absurd are
+rows_due rows ws m ins h (n ∷ ns) (p ∷ ps) are =
+    let r = are.0.is.1 in
+    let at : number_of ins p ≡ Some r.number = ap (number_of ins) (sym r.prefix) ∙ numbered ins rows h r.number r.row r.at in
+    (by_number ins rows (numbered ins rows h) p (Some r.number) at ∙ ap shown r.at ∙ ap (λ m. Some m) r.attributes, rows_due rows ws m ins h ns ps are.1)
+
+waited_withdrawn : (rows : List (Option Row)) (ws : List Wait) (ns : List ℕ) (ps : List Prefix) → AreChosen rows ws None ns ps → AllByRecursion (λ p. fin.get (waits_of ws) p ≡ Some true) ps
+waited_withdrawn rows ws [] [] are = tt
+waited_withdrawn rows ws [] (p ∷ ps) are = absurd are
+waited_withdrawn rows ws (n ∷ ns) [] are = absurd are
+waited_withdrawn rows ws (n ∷ ns) (p ∷ ps) are =
+    (waits_at ws p ∙ ap (option_map (λ (w : Wait). is_withdrawal w.due)) are.0.waits ∙ ap (λ b. Some b) are.0.is, waited_withdrawn rows ws ns ps are.1)
+
+waited_announced : (rows : List (Option Row)) (ws : List Wait) (m : List Attribute) (ns : List ℕ) (ps : List Prefix) → AreChosen rows ws (Some m) ns ps → AllByRecursion (λ p. fin.get (waits_of ws) p ≡ Some false) ps
+waited_announced rows ws m [] [] are = tt
+waited_announced rows ws m [] (p ∷ ps) are = absurd are
+waited_announced rows ws m (n ∷ ns) [] are = absurd are
+waited_announced rows ws m (n ∷ ns) (p ∷ ps) are =
+    (waits_at ws p ∙ ap (option_map (λ (w : Wait). is_withdrawal w.due)) are.0.waits ∙ ap (λ b. Some b) are.0.is.0, waited_announced rows ws m ns ps are.1)
+
+-- what callers see of rows and places, before and after
+pub record Shows (v : View) (rows : List (Option Row)) (ws : List Wait) : Type 0 where
+  pub loc : v.loc ≡ loc_of rows
+  pub told : v.told ≡ told_over (loc_of rows) ws
+  pub marked : v.marked ≡ marked_of ws
+  pub waits : v.waits ≡ waits_of ws
+  pub numbers : (ins : AdjIns) → AreNumbered v ins → HaveNumbers (numbers_from 0 rows) ins
+
+module _ (speech : Speech) (v w : View) (rows : List (Option Row)) (ws ws' : List Wait) (old : Shows v rows ws) (new : Shows w rows ws') where
+  settled : (ps : List Prefix) → ((q : Prefix) → open_at q ws' ≡ cond (list_any (same q) ps) None (open_at q ws)) → Settles v w ps
+  settled ps is = record {
+    told = λ q.
+        ap (λ t. fin.get t q) new.told ∙ told_at (loc_of rows) ws' q ∙ ap (λ o. told_by o (fin.get (loc_of rows) q)) (is q)
+        ∙ told_cond (list_any (same q) ps) (open_at q ws) (fin.get (loc_of rows) q)
+        ∙ ap (λ t. cond (list_any (same q) ps) (fin.get (loc_of rows) q) t) (sym (ap (λ t. fin.get t q) old.told ∙ told_at (loc_of rows) ws q))
+        ∙ ap (λ t. cond (list_any (same q) ps) (fin.get t q) (fin.get v.told q)) (sym old.loc);
+    marked = λ q.
+        ap (λ s. set.contains s q) new.marked ∙ marked_at ws' q ∙ ap marked_by (is q)
+        ∙ marked_cond (list_any (same q) ps) (open_at q ws)
+        ∙ ap (λ b. not (list_any (same q) ps) && b) (sym (ap (λ s. set.contains s q) old.marked ∙ marked_at ws q));
+    waits = λ q.
+        ap (λ t. fin.get t q) new.waits ∙ waits_at ws' q ∙ ap (option_map (λ (w : Wait). is_withdrawal w.due)) (is q)
+        ∙ waits_cond (list_any (same q) ps) (open_at q ws)
+        ∙ ap (cond (list_any (same q) ps) None) (sym (ap (λ t. fin.get t q) old.waits ∙ waits_at ws q));
+  }
+
+  some_taken : (n : ℕ) (ps : List Prefix) → 0 < n → n ≤ length ps → 0 < length (take n ps)
+  some_taken n ps some within = omega (arith, length-take-le n ps within, some)
+
+  begun : (ns : List ℕ) (ps : List Prefix) (packed : Packed) (said : Option (List Attribute))
+      → ((said : Option (List Attribute)) (qs : List Prefix) → AreChosen rows ws said (take packed.prefixes ns) qs → (q : Prefix) → open_at q ws' ≡ cond (list_any (same q) qs) None (open_at q ws))
+      → AreChosen rows ws said ns ps → 0 < packed.prefixes → packed.prefixes ≤ length ps → w.flight ≡ message_of speech said (take packed.prefixes ps) → Withdraws v w ⊎ Announces speech v w
+  begun ns ps packed None gave are some within flight =
+      let some_chosen = first_chosen rows ws None packed.prefixes ns ps are in
+      inl (record {
+        prefixes = take packed.prefixes ps;
+        some = some_taken packed.prefixes ps some within;
+        waited = subst (λ t. AllByRecursion (λ p. fin.get t p ≡ Some true) (take packed.prefixes ps)) (sym old.waits) (waited_withdrawn rows ws (take packed.prefixes ns) (take packed.prefixes ps) some_chosen);
+        settles = settled (take packed.prefixes ps) (gave None (take packed.prefixes ps) some_chosen);
+        flight = flight;
+      })
+  begun ns ps packed (Some m) gave are some within flight =
+      let some_chosen = first_chosen rows ws (Some m) packed.prefixes ns ps are in
+      inr (record {
+        prefixes = take packed.prefixes ps;
+        attributes = m;
+        some = some_taken packed.prefixes ps some within;
+        waited = subst (λ t. AllByRecursion (λ p. fin.get t p ≡ Some false) (take packed.prefixes ps)) (sym old.waits) (waited_announced rows ws m (take packed.prefixes ns) (take packed.prefixes ps) some_chosen);
+        due = λ ins are_numbered. subst (λ t. AllByRecursion (λ p. fin.get t p ≡ Some m) (take packed.prefixes ps)) (sym old.loc) (rows_due rows ws m ins (old.numbers ins are_numbered) (take packed.prefixes ns) (take packed.prefixes ps) some_chosen);
+        settles = settled (take packed.prefixes ps) (gave (Some m) (take packed.prefixes ps) some_chosen);
+        flight = flight;
+      })
+
+  pub update_begun : (ns : List ℕ) (ps : List Prefix) (octets : List ℕ) (packed : Packed) → MayUpdate speech rows ws ns ps octets packed → w.flight ≡ take packed.octets octets
+      → ((said : Option (List Attribute)) (qs : List Prefix) → AreChosen rows ws said (take packed.prefixes ns) qs → (q : Prefix) → open_at q ws' ≡ cond (list_any (same q) qs) None (open_at q ws))
+      → BeginsUpdate speech v w
+  update_begun ns ps octets packed (inl none) flight gave = inl (record {
+    settles = settled [] (gave None [] (subst (λ (k : Packed). AreChosen rows ws None (take k.prefixes ns) []) (sym none) tt));
+    flight = flight ∙ ap (λ (k : Packed). take k.octets octets) none;
+  })
+  update_begun ns ps octets packed (inr is) flight gave = inr (begun ns ps packed is.said gave is.chosen is.written.some is.written.within (flight ∙ is.written.says))
+
+-- the same of what callers saw before
+pub update_seen : (speech spoken : Speech) (v v' w : View) (rows : List (Option Row)) (ws ws' : List Wait) → v ≡ v' → Some speech ≡ Some spoken → Shows v rows ws → Shows w rows ws'
+    → (ns : List ℕ) (ps : List Prefix) (octets : List ℕ) (packed : Packed) → MayUpdate speech rows ws ns ps octets packed → w.flight ≡ take packed.octets octets
+    → ((said : Option (List Attribute)) (qs : List Prefix) → AreChosen rows ws said (take packed.prefixes ns) qs → (q : Prefix) → open_at q ws' ≡ cond (list_any (same q) qs) None (open_at q ws))
+    → BeginsUpdate spoken v' w
+update_seen speech spoken v v' w rows ws ws' is same_speech old new ns ps octets packed may flight gave =
+    subst (λ (x : View). BeginsUpdate spoken x w) is
+    (subst (λ s. BeginsUpdate s v w) (some_is speech spoken same_speech) (update_begun speech v w rows ws ws' old new ns ps octets packed may flight gave))

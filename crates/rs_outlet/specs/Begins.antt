@@ -1,0 +1,47 @@
+-- What the next UPDATE is (RFC 4271, 4.3): which prefixes it is about, and what it leaves with the client.
+use Rattle.std.specs.Prelude.{◌≡◌, ◌⊎◌, ◌<◌, ◌&&◌, not, Bool, true, false, Some, None, List, [], length, if◌then◌else◌}
+use Rattle.std.specs.List.{AllByRecursion, list_any}
+use Rattle.std.specs.Ordering.{eq_by_cmp}
+use Rattle.std.specs.FinMap as fin
+use Rattle.std.specs.FinSet as set
+use Rattle.rs_octets.specs.Prefixes.{Prefix, prefix_order}
+use Rattle.rs_attrs.specs.Meaning.{Attribute}
+use Rattle.rs_adjin.specs.declared.adj_ins.AdjIns.{AdjIns}
+use Rattle.rs_packer.specs.Packed.{announcement, withdrawal}
+use Rattle.rs_outlet.specs.declared.answers.Speech.{Speech}
+use Rattle.rs_outlet.specs.Views.{View, AreNumbered}
+
+abbrev pub is_among : Prefix → List Prefix → Bool
+is_among q ps = list_any (eq_by_cmp prefix_order q) ps
+
+-- at these prefixes what was told is what is due, and they are marked no more and wait no more; elsewhere all stays
+pub record Settles (v w : View) (ps : List Prefix) : Type 0 where
+  pub told : (q : Prefix) → fin.get w.told q ≡ (if is_among q ps then fin.get v.loc q else fin.get v.told q)
+  pub marked : (q : Prefix) → set.contains w.marked q ≡ (not (is_among q ps) && set.contains v.marked q)
+  pub waits : (q : Prefix) → fin.get w.waits q ≡ (if is_among q ps then None else fin.get v.waits q)
+
+-- nothing is said
+pub record Rests (v w : View) : Type 0 where
+  pub settles : Settles v w []
+  pub flight : w.flight ≡ []
+
+-- some prefixes that wait to be withdrawn are withdrawn
+pub record Withdraws (v w : View) : Type 0 where
+  pub prefixes : List Prefix
+  pub some : 0 < length prefixes
+  pub waited : AllByRecursion (λ p. fin.get v.waits p ≡ Some true) prefixes
+  pub settles : Settles v w prefixes
+  pub flight : w.flight ≡ withdrawal prefixes
+
+-- some prefixes that wait to be announced are announced, with the attributes that are due at each of them
+pub record Announces (speech : Speech) (v w : View) : Type 0 where
+  pub prefixes : List Prefix
+  pub attributes : List Attribute
+  pub some : 0 < length prefixes
+  pub waited : AllByRecursion (λ p. fin.get v.waits p ≡ Some false) prefixes
+  pub due : (ins : AdjIns) → AreNumbered v ins → AllByRecursion (λ p. fin.get v.loc p ≡ Some attributes) prefixes
+  pub settles : Settles v w prefixes
+  pub flight : w.flight ≡ announcement attributes speech.mode prefixes
+
+abbrev pub BeginsUpdate : Speech → View → View → Type 0
+BeginsUpdate speech v w = Rests v w ⊎ (Withdraws v w ⊎ Announces speech v w)

@@ -1,0 +1,60 @@
+-- The places that the next UPDATE is about.
+use Rattle.std.specs.Prelude.{◌≡◌, ◌⊎◌, ℕ, ◌≤◌, ◌<◌, true, false, Option, None, Some, List, [], ◌∷◌, length, take, slice_get}
+use Rattle.std.specs.Arc.{arc_value}
+use Rattle.rs_octets.specs.Prefixes.{Prefix}
+use Rattle.rs_attrs.specs.Meaning.{Attribute}
+use Rattle.rs_packer.specs.Packed.{announcement, withdrawal}
+use Rattle.rs_packer.specs.declared.packed.Packed.{Packed}
+use Rattle.rs_outlet.specs.declared.answers.Speech.{Speech}
+use Rattle.rs_outlet.specs.declared.rows.Row.{Row}
+use Rattle.rs_outlet.specs.declared.waiting.Wait.{Wait}
+use Rattle.rs_outlet.specs.Places.{prefixes_at, open_at, is_withdrawal}
+use Rattle.rs_outlet.specs.Inside.{row_at}
+
+-- a row has the prefix with these attributes
+pub record HasRow (rows : List (Option Row)) (p : Prefix) (m : List Attribute) : Type 0 where
+  pub number : ℕ
+  pub row : Row
+  pub at : row_at rows number ≡ Some row
+  pub prefix : row.prefix ≡ p
+  pub attributes : arc_value row.attrs ≡ m
+
+-- what is to be said of a prefix that waits: that it is withdrawn, or these attributes
+abbrev pub IsSaid : List (Option Row) → Prefix → Wait → Option (List Attribute) → Type 0
+IsSaid rows p w None = is_withdrawal w.due ≡ true
+IsSaid rows p w (Some m) = (is_withdrawal w.due ≡ false) × HasRow rows p m
+
+-- the prefix waits at this place, and this is to be said of it
+pub record IsChosen (rows : List (Option Row)) (ws : List Wait) (said : Option (List Attribute)) (n : ℕ) (p : Prefix) : Type 0 where
+  pub wait : Wait
+  pub at : slice_get (prefixes_at ws) n ≡ Some p
+  pub waits : open_at p ws ≡ Some wait
+  pub is : IsSaid rows p wait said
+
+-- each of the prefixes waits at the place beside it
+abbrev pub AreChosen : List (Option Row) → List Wait → Option (List Attribute) → List ℕ → List Prefix → Type 0
+AreChosen rows ws said [] [] = Unit {0}
+AreChosen rows ws said [] (p ∷ ps) = ⊥
+AreChosen rows ws said (n ∷ ns) [] = ⊥
+AreChosen rows ws said (n ∷ ns) (p ∷ ps) = IsChosen rows ws said n p × AreChosen rows ws said ns ps
+
+-- the first of the prefixes are in the message, and it stands at the front of the octets
+pub record IsWritten (message : List Prefix → List ℕ) (ps : List Prefix) (octets : List ℕ) (packed : Packed) : Type 0 where
+  pub some : 0 < packed.prefixes
+  pub within : packed.prefixes ≤ length ps
+  pub says : take packed.octets octets ≡ message (take packed.prefixes ps)
+
+-- the message that says this of some prefixes
+abbrev pub message_of : Speech → Option (List Attribute) → List Prefix → List ℕ
+message_of speech None ps = withdrawal ps
+message_of speech (Some m) ps = announcement m speech.mode ps
+
+-- an UPDATE about places chosen
+pub record IsUpdate (speech : Speech) (rows : List (Option Row)) (ws : List Wait) (ns : List ℕ) (ps : List Prefix) (octets : List ℕ) (packed : Packed) : Type 0 where
+  pub said : Option (List Attribute)
+  pub chosen : AreChosen rows ws said ns ps
+  pub written : IsWritten (message_of speech said) ps octets packed
+
+-- nothing was written, or an UPDATE
+abbrev pub MayUpdate : Speech → List (Option Row) → List Wait → List ℕ → List Prefix → List ℕ → Packed → Type 0
+MayUpdate speech rows ws ns ps octets packed = (packed ≡ record { octets = 0; prefixes = 0 }) ⊎ IsUpdate speech rows ws ns ps octets packed

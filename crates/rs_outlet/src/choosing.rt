@@ -1,0 +1,213 @@
+//! Which places the next UPDATE is about, and that they wait no more once it is begun.
+
+ghost use Rattle.std.specs.Prelude.{◌≡◌, ◌≤◌, ◌<◌, ℕ, List, Option, None, Some, false, IsTrue, vec_len, slice_get, if◌then◌else◌};
+ghost use Rattle.std.specs.List.{list_any};
+ghost use Rattle.std.specs.Ordering.{eq_by_cmp};
+ghost use Rattle.std.specs.Vec.{vec_capacity};
+ghost use Rattle.rs_octets.specs.Prefixes.{Prefix, prefix_order};
+ghost use Rattle.rs_attrs.specs.Meaning.{Attribute};
+ghost use Rattle.rs_outlet.specs.declared.rows.Row.{Row};
+ghost use Rattle.rs_outlet.specs.declared.waiting.Wait.{Wait};
+ghost use Rattle.rs_outlet.specs.Places.{prefixes_at, open_at, is_withdrawal};
+ghost use Rattle.rs_outlet.specs.Choosing.{HasRow, IsChosen, AreChosen};
+
+use crate::rows::Rows;
+use crate::waiting::{Due, END, Wait, Waits, hash_of};
+use rs_attrs::Attrs;
+use rs_octets::Prefix;
+
+impl Waits {
+    /// The first place that is to be withdrawn.
+    pub(crate) fn first_withdrawn(&mut self) -> Option<usize>
+        ensures { self.new.places.items ≡ self.old.places.items }
+    {
+        self.gone = next_withdrawn(&self.places, self.gone);
+        if self.gone < self.places.len() {
+            Some(self.gone)
+        } else {
+            None
+        }
+    }
+
+    /// The first place that is to be announced.
+    pub(crate) fn first_announced(&mut self) -> Option<usize>
+        ensures { self.new.places.items ≡ self.old.places.items }
+    {
+        self.news = next_announced(&self.places, self.news);
+        if self.news < self.places.len() {
+            Some(self.news)
+        } else {
+            None
+        }
+    }
+
+    /// Lists what is to be withdrawn, from this place on, as much as there is room for.
+    pub(crate) fn collect_withdrawn(
+        &self,
+        first: usize,
+        room: usize,
+        chosen: &mut Vec<usize>,
+        front: &mut Vec<Prefix>,
+    )
+        ensures chosen { vec_capacity chosen.new ≡ vec_capacity chosen.old }
+        ensures front { vec_capacity front.new ≡ vec_capacity front.old }
+        ensures are { (rows : List (Option Row)) → AreChosen rows self.now.places.items None chosen.old.items front.old.items → AreChosen rows self.now.places.items None chosen.new.items front.new.items }
+    {
+        for place in first..self.places.len() {
+            if room <= front.len() {
+                return;
+            }
+            self.list_withdrawn(place, chosen, front);
+        }
+    }
+
+    /// Lists the prefix of a place, if it is to be withdrawn.
+    fn list_withdrawn(&self, place: usize, chosen: &mut Vec<usize>, front: &mut Vec<Prefix>)
+        requires { place < vec_len self.now.places }
+        ensures chosen { vec_capacity chosen.new ≡ vec_capacity chosen.old }
+        ensures front { vec_capacity front.new ≡ vec_capacity front.old }
+        ensures are { (rows : List (Option Row)) → AreChosen rows self.now.places.items None chosen.old.items front.old.items → AreChosen rows self.now.places.items None chosen.new.items front.new.items }
+    {
+        let wait = &self.places[place];
+        if wait.is_withdrawn() {
+            list_place(place, wait.prefix, chosen, front);
+        }
+    }
+
+    /// The row that is due at a place.
+    pub(crate) fn number_at(&self, place: usize) -> Option<u32> {
+        match self.places.get(place)?.due {
+            Due::Withdrawn => None,
+            Due::Announced { number, .. } => Some(number),
+        }
+    }
+
+    /// Lists the prefixes from this place on that wait for these attributes, as many as there is room
+    /// for.
+    pub(crate) fn collect_announced(
+        &self,
+        rows: &Rows,
+        first: usize,
+        attrs: &Attrs,
+        room: usize,
+        chosen: &mut Vec<usize>,
+        front: &mut Vec<Prefix>,
+    )
+        ensures chosen { vec_capacity chosen.new ≡ vec_capacity chosen.old }
+        ensures front { vec_capacity front.new ≡ vec_capacity front.old }
+        ensures are { AreChosen rows.now.rows.items self.now.places.items (Some attrs.now) chosen.old.items front.old.items → AreChosen rows.now.rows.items self.now.places.items (Some attrs.now) chosen.new.items front.new.items }
+    {
+        let hash = hash_of(attrs);
+        let mut place = first;
+        for _ in 0..self.places.len() {
+            if room <= front.len() {
+                return;
+            }
+            if self.places.len() <= place {
+                return;
+            }
+            self.list_announced(rows, place, hash, attrs, chosen, front);
+            place = self.links.get(place).copied().unwrap_or(END) as usize;
+        }
+    }
+
+    /// Lists the prefix of a place, if it waits for these attributes, which have this hash.
+    fn list_announced(
+        &self,
+        rows: &Rows,
+        place: usize,
+        hash: u32,
+        attrs: &Attrs,
+        chosen: &mut Vec<usize>,
+        front: &mut Vec<Prefix>,
+    )
+        requires { place < vec_len self.now.places }
+        ensures chosen { vec_capacity chosen.new ≡ vec_capacity chosen.old }
+        ensures front { vec_capacity front.new ≡ vec_capacity front.old }
+        ensures are { AreChosen rows.now.rows.items self.now.places.items (Some attrs.now) chosen.old.items front.old.items → AreChosen rows.now.rows.items self.now.places.items (Some attrs.now) chosen.new.items front.new.items }
+    {
+        let wait = &self.places[place];
+        if wait.open && waits_for(rows, wait, hash, attrs) {
+            list_place(place, wait.prefix, chosen, front);
+        }
+    }
+
+    /// These places wait no more.
+    pub(crate) fn give_up(&mut self, chosen: &[usize])
+        ensures { (rows : List (Option Row)) (said : Option (List Attribute)) (ps : List Prefix) → AreChosen rows self.old.places.items said chosen.now ps → (q : Prefix) → open_at q self.new.places.items ≡ (if list_any (eq_by_cmp prefix_order q) ps then None else open_at q self.old.places.items) }
+    {
+        for place in chosen {
+            self.give_up_one(*place);
+        }
+    }
+
+    /// A place waits no more.
+    fn give_up_one(&mut self, place: usize)
+        ensures prefixes { prefixes_at self.new.places.items ≡ prefixes_at self.old.places.items }
+        ensures places { (p : Prefix) → slice_get (prefixes_at self.old.places.items) place ≡ Some p → (q : Prefix) → open_at q self.new.places.items ≡ (if eq_by_cmp prefix_order q p then None else open_at q self.old.places.items) }
+    {
+        if place < self.places.len() {
+            let _ = self.close(place);
+        }
+    }
+}
+
+/// The first place from here on that is to be withdrawn; where there is none, the end of the places.
+fn next_withdrawn(places: &[Wait], from: usize) -> usize {
+    for place in from..places.len() {
+        if places[place].is_withdrawn() {
+            return place;
+        }
+    }
+    places.len()
+}
+
+/// The first place from here on that is to be announced; where there is none, the end of the places.
+fn next_announced(places: &[Wait], from: usize) -> usize {
+    for place in from..places.len() {
+        if places[place].is_announced() {
+            return place;
+        }
+    }
+    places.len()
+}
+
+/// Lists a place and its prefix, if there is room for both.
+fn list_place(place: usize, prefix: Prefix, chosen: &mut Vec<usize>, front: &mut Vec<Prefix>)
+    ensures chosen { vec_capacity chosen.new ≡ vec_capacity chosen.old }
+    ensures front { vec_capacity front.new ≡ vec_capacity front.old }
+    ensures are { (rows : List (Option Row)) (ws : List Wait) (said : Option (List Attribute)) → AreChosen rows ws said chosen.old.items front.old.items → IsChosen rows ws said place prefix → AreChosen rows ws said chosen.new.items front.new.items }
+{
+    if chosen.capacity() <= chosen.len() {
+        return;
+    }
+    if front.capacity() <= front.len() {
+        return;
+    }
+    chosen.push_reserved(place);
+    front.push_reserved(prefix);
+}
+
+/// Whether a place waits for these attributes, which have this hash.
+fn waits_for(rows: &Rows, wait: &Wait, hash: u32, attrs: &Attrs) -> bool
+    ensures said { IsTrue result → is_withdrawal wait.now.due ≡ false }
+    ensures row { IsTrue result → HasRow rows.now.rows.items wait.now.prefix attrs.now }
+{
+    let Due::Announced {
+        number,
+        hash: other,
+    } = wait.due
+    else {
+        return false;
+    };
+    if hash != other {
+        return false;
+    }
+    let Some(row) = rows.get(number) else {
+        return false;
+    };
+    if row.prefix != wait.prefix {
+        return false;
+    }
+    *row.attrs == *attrs
+}
