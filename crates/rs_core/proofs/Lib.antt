@@ -1,4 +1,8 @@
 pub mod Keeping
+pub mod Lists
+pub mod Agreeing
+pub mod Acting
+pub mod Ruling
 mod Rows
 pub mod Leading
 pub mod Clients

@@ -23,7 +23,7 @@ use Rattle.rs_core.specs.Runs.{hearing, table, is_established, due}
 -- ---- the configuration and the octets
 
 abbrev client : ℕ → ℕ → Client
-client place limit_as = record { name = place + 97 ∷ []; client_as = limit_as; listen = (0x7f000001, 17901 + place); peer = 0xc000020b + place; limit = None }
+client place limit_as = record { name = (place + 97) ∷ []; client_as = limit_as; listen = (0x7f000001, 17901 + place); peer = 0xc000020b + place; limit = None }
 
 abbrev base : Configuration
 base = record {

@@ -7,3 +7,5 @@ pub mod Core
 pub mod Moves
 pub mod Hearing
 pub mod Runs
+pub mod Agreeing
+pub mod Steps

@@ -1,6 +1,6 @@
 //! What a route server is asked.
 
-ghost use Rattle.std.specs.Prelude.{◌≡◌, ◌<◌, IfSome};
+ghost use Rattle.std.specs.Prelude.{◌≡◌, ◌<◌, List, length, IfSome};
 
 use crate::endings::{Ending, FaultedUpdates};
 use crate::route_server::Core;
@@ -9,19 +9,39 @@ use rs_open::Limit;
 use rs_outlet::{Last, Routes};
 use rs_session::State;
 
+/// Whether a session in this state is Established.
+fn is_up(state: State) -> bool
+    ensures { result ≡ is_up state }
+{
+    match state {
+        State::Established => true,
+        State::Idle | State::OpenSent | State::OpenConfirm | State::Closing => false,
+    }
+}
+
+ghost use Rattle.rs_core.specs.Hearing.{is_up};
+
 impl Core {
     ghost use Rattle.rs_core.specs.Core.{client_count};
+    ghost use Rattle.rs_core.specs.Moves.{Move, config_in};
+    ghost use Rattle.rs_core.specs.Hearing.{Hearing, state_in, mode_in};
+    ghost use Rattle.rs_core.specs.Runs.{hearing, is_established};
+    ghost use Rattle.rs_core.specs.Agreeing.{Agrees, Knows};
+    ghost use Rattle.rs_policy.specs.Configuration.{Configuration};
+    ghost use Rattle.rs_policy.specs.Rules.{client_named};
 
     /// How many clients there are.
     pub fn clients(&self) -> usize
-        ensures { result ≡ client_count self.now }
+        ensures count { result ≡ client_count self.now }
+        ensures configured { (run : List Move) → Agrees self.now run → result ≡ length (config_in run).clients }
     {
         self.count
     }
 
     /// The client of this name.
     pub fn place(&self, name: &str) -> Option<usize>
-        ensures { IfSome result (λ c. c < client_count self.now) }
+        ensures within { IfSome result (λ c. c < client_count self.now) }
+        ensures named { (run : List Move) → Agrees self.now run → result ≡ client_named (config_in run).clients name.now }
     {
         self.ribs.config.place(name)
     }
@@ -29,18 +49,33 @@ impl Core {
     /// Whether a client is Established.
     pub fn is_established(&self, c: usize) -> bool
         requires { c < client_count self.now }
+        ensures { (run : List Move) → Agrees self.now run → result ≡ is_established run c }
     {
-        match self.sessions[c].state() {
-            State::Established => true,
-            State::Idle | State::OpenSent | State::OpenConfirm | State::Closing => false,
-        }
+        self.is_up(c)
+    }
+
+    /// The same, by what was heard of the client alone.
+    pub(crate) fn is_up(&self, c: usize) -> bool
+        requires { c < client_count self.now }
+        ensures { (s : Configuration) (h : Hearing) → Knows self.now s c h → result ≡ is_up (state_in s c h) }
+    {
+        is_up(self.sessions[c].state())
     }
 
     /// How many octets AS numbers have on the session of a client that is Established.
     pub fn mode(&self, c: usize) -> Option<Mode>
         requires { c < client_count self.now }
+        ensures { (run : List Move) → Agrees self.now run → result ≡ mode_in (config_in run) c (hearing c run) }
     {
-        if self.is_established(c) {
+        self.mode_heard(c)
+    }
+
+    /// The same, by what was heard of the client alone.
+    pub(crate) fn mode_heard(&self, c: usize) -> Option<Mode>
+        requires { c < client_count self.now }
+        ensures { (s : Configuration) (h : Hearing) → Knows self.now s c h → result ≡ mode_in s c h }
+    {
+        if self.is_up(c) {
             self.sessions[c].mode()
         } else {
             None

@@ -20,6 +20,26 @@ fn server_open(config: &Config) -> ServerOpen {
     }
 }
 
+ghost use Rattle.std.specs.Prelude.{◌≢◌, ℕ, List, [], ◌∷◌, Some, slice_get, OnOk, OnErr};
+ghost use Rattle.std.specs.Global.{Vec};
+ghost use Rattle.rs_session.specs.Sessions.{is_live};
+ghost use Rattle.rs_core.specs.Moves.{Move, Came, Left, config_in};
+ghost use Rattle.rs_core.specs.Hearing.{Hearing, state_in, leaves};
+ghost use Rattle.rs_core.specs.Runs.{hearing};
+ghost use Rattle.rs_core.specs.Agreeing.{Agrees, AgreesAt, Knows, IsCutShort, Spares};
+ghost use Rattle.rs_core.specs.Steps.{SetsAt};
+ghost use Rattle.rs_policy.specs.Configuration.{Configuration};
+
+/// Whether a session in this state lasts.
+fn lasts(state: State) -> bool
+    ensures { result ≡ is_live state }
+{
+    match state {
+        State::Idle | State::Closing => false,
+        State::OpenSent | State::OpenConfirm | State::Established => true,
+    }
+}
+
 impl Core {
     ghost use Rattle.rs_core.specs.Core.{client_count};
 
@@ -27,7 +47,11 @@ impl Core {
     /// connection already, nothing changes.
     pub fn opened(&mut self, c: usize) -> Result<(), Busy>
         requires { c < client_count self.old }
-        ensures { client_count self.new ≡ client_count self.old }
+        ensures count { client_count self.new ≡ client_count self.old }
+        ensures came { OnOk result ((run : List Move) → Agrees self.old run → Agrees self.new (Came c ∷ run)) }
+        ensures idle { OnOk result ((run : List Move) → Agrees self.old run → state_in (config_in run) c (hearing c run) ≡ State.Idle) }
+        ensures unchanged { OnErr result ((run : List Move) → Agrees self.old run → Agrees self.new run) }
+        ensures busy { OnErr result ((run : List Move) → Agrees self.old run → state_in (config_in run) c (hearing c run) ≢ State.Idle) }
     {
         match self.sessions[c].opened() {
             Ok(_) => {
@@ -41,18 +65,37 @@ impl Core {
     /// The server's OPEN is in flight, and nothing else.
     fn greet(&mut self, c: usize)
         requires { c < client_count self.old }
-        ensures { client_count self.new ≡ client_count self.old }
+        ensures count { client_count self.new ≡ client_count self.old }
+        ensures sessions { self.new.sessions ≡ self.old.sessions }
+        ensures config { self.new.ribs.config ≡ self.old.ribs.config }
+        ensures tables { self.new.ribs.tables ≡ self.old.ribs.tables }
+        ensures emptied { (x : Vec ℕ) → slice_get self.new.buffers.items c ≡ Some x → x.items ≡ [] }
+        ensures others { (d : ℕ) → d ≢ c → slice_get self.new.buffers.items d ≡ slice_get self.old.buffers.items d }
     {
         let said = server_open(&self.ribs.config);
-        self.buffers[c].clear();
+        self.pass_over(c);
         self.ribs.clear(c);
         self.ribs.say_open(c, &said);
+    }
+
+    /// Nothing of a message waits any more.
+    fn pass_over(&mut self, c: usize)
+        requires { c < client_count self.old }
+        ensures count { client_count self.new ≡ client_count self.old }
+        ensures sessions { self.new.sessions ≡ self.old.sessions }
+        ensures ribs { self.new.ribs ≡ self.old.ribs }
+        ensures emptied { (x : Vec ℕ) → slice_get self.new.buffers.items c ≡ Some x → x.items ≡ [] }
+        ensures others { (d : ℕ) → d ≢ c → slice_get self.new.buffers.items d ≡ slice_get self.old.buffers.items d }
+    {
+        let buffer = &mut self.buffers[c];
+        buffer.clear();
     }
 
     /// A connection of a client is lost. All that was learnt by it goes at once.
     pub fn lost(&mut self, c: usize)
         requires { c < client_count self.old }
-        ensures { client_count self.new ≡ client_count self.old }
+        ensures count { client_count self.new ≡ client_count self.old }
+        ensures left { (run : List Move) → Agrees self.old run → Agrees self.new (Left c ∷ run) }
     {
         self.forget(c, Ending::Lost);
     }
@@ -61,24 +104,34 @@ impl Core {
     /// ending.
     pub(crate) fn forget(&mut self, c: usize, ending: Ending)
         requires { c < client_count self.old }
-        ensures { client_count self.new ≡ client_count self.old }
+        ensures spares { Spares c self.old self.new }
+        ensures forgotten { (s : Configuration) (h : Hearing) → IsCutShort self.old s c h → AgreesAt self.new s c (leaves h) }
+    {
+        self.note_ending(c, ending);
+        self.sessions[c].lost();
+        self.pass_over(c);
+        self.ribs.unlearn(c);
+        self.ribs.clear(c);
+    }
+
+    /// Notes for those who watch why a session that lasts now ends.
+    fn note_ending(&mut self, c: usize, ending: Ending)
+        requires { c < client_count self.old }
+        ensures count { client_count self.new ≡ client_count self.old }
+        ensures sessions { self.new.sessions ≡ self.old.sessions }
+        ensures buffers { self.new.buffers ≡ self.old.buffers }
+        ensures ribs { self.new.ribs ≡ self.old.ribs }
     {
         if self.is_live(c) {
             self.watched[c].ending = Some(ending);
         }
-        self.sessions[c].lost();
-        self.buffers[c].clear();
-        self.ribs.unlearn(c);
-        self.ribs.clear(c);
     }
 
     /// Whether the session of a client lasts.
     pub(crate) fn is_live(&self, c: usize) -> bool
         requires { c < client_count self.now }
+        ensures { (s : Configuration) (h : Hearing) → Knows self.now s c h → result ≡ is_live (state_in s c h) }
     {
-        match self.sessions[c].state() {
-            State::Idle | State::Closing => false,
-            State::OpenSent | State::OpenConfirm | State::Established => true,
-        }
+        lasts(self.sessions[c].state())
     }
 }

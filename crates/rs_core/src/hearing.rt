@@ -1,6 +1,6 @@
 //! Octets of a client, in any pieces, and moments: what its session hears.
 
-ghost use Rattle.std.specs.Prelude.{◌≡◌, ◌<◌, ◌≤◌, length, IfOk};
+ghost use Rattle.std.specs.Prelude.{◌≡◌, ◌<◌, ◌≤◌, List, ◌∷◌, length, IfOk};
 
 use crate::endings::Ending;
 use crate::route_server::Core;
@@ -35,6 +35,10 @@ fn fill_up<'a>(
 
 impl Core {
     ghost use Rattle.rs_core.specs.Core.{client_count};
+    ghost use Rattle.rs_core.specs.Moves.{Move, Saw};
+    ghost use Rattle.rs_core.specs.Hearing.{Hearing, sees};
+    ghost use Rattle.rs_core.specs.Agreeing.{Agrees, AgreesAt, Spares};
+    ghost use Rattle.rs_policy.specs.Configuration.{Configuration};
 
     /// Hears octets of a client. Where memory is refused, all is as if the client were lost.
     ///
@@ -130,7 +134,8 @@ impl Core {
     /// A moment is seen, in seconds. One that is less than an earlier one counts as the greatest so
     /// far.
     pub fn moment(&mut self, t: u64)
-        ensures { client_count self.new ≡ client_count self.old }
+        ensures count { client_count self.new ≡ client_count self.old }
+        ensures saw { (run : List Move) → Agrees self.old run → Agrees self.new (Saw t ∷ run) }
     {
         for c in 0..self.count {
             self.see(c, t);
@@ -140,7 +145,8 @@ impl Core {
     /// One client's session sees a moment.
     fn see(&mut self, c: usize, t: u64)
         requires { c < client_count self.old }
-        ensures { client_count self.new ≡ client_count self.old }
+        ensures spares { Spares c self.old self.new }
+        ensures seen { (s : Configuration) (h : Hearing) → AgreesAt self.old s c h → AgreesAt self.new s c (sees t h) }
     {
         match self.sessions[c].moment(t) {
             Act::Down(note) => self.end(c, note, Ending::HoldTimer),

@@ -1,6 +1,7 @@
 //! A route server of which nothing has come.
 
-ghost use Rattle.std.specs.Prelude.{◌≡◌, length, IfOk};
+ghost use Rattle.std.specs.Prelude.{◌≡◌, [], ◌∷◌, length, IfOk};
+ghost use Rattle.rs_core.specs.Steps.{HaveHeardNothing};
 
 use crate::endings::Watched;
 use crate::ribs::Ribs;
@@ -12,7 +13,8 @@ use std::alloc::{AllocError, Global};
 
 /// Sessions without a connection.
 fn sessions(alloc: Global, config: &Config) -> Result<Vec<Session>, AllocError>
-    ensures { IfOk result (λ v. length v.items ≡ length config.now.clients) }
+    ensures count { IfOk result (λ v. length v.items ≡ length config.now.clients) }
+    ensures heard { IfOk result (λ v. HaveHeardNothing config.now v.items) }
 {
     let mut all = Vec::with_capacity(alloc, config.clients())?;
     for c in 0..config.clients() {
@@ -43,10 +45,13 @@ fn buffers(alloc: Global, config: &Config) -> Result<Vec<Vec<u8>>, AllocError>
 
 impl Core {
     ghost use Rattle.rs_core.specs.Core.{client_count};
+    ghost use Rattle.rs_core.specs.Moves.{Ruled};
+    ghost use Rattle.rs_core.specs.Agreeing.{Agrees};
 
     /// A route server with this configuration, whose clients are all Idle.
     pub fn new(alloc: Global, config: Config) -> Result<Core, AllocError>
-        ensures { IfOk result (λ core. client_count core ≡ length config.clients) }
+        ensures count { IfOk result (λ core. client_count core ≡ length config.clients) }
+        ensures agrees { IfOk result (λ core. Agrees core (Ruled config ∷ [])) }
     {
         let count = config.clients();
         let sessions = sessions(alloc, &config)?;

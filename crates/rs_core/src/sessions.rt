@@ -12,6 +12,11 @@ use std::alloc::AllocError;
 
 impl Core {
     ghost use Rattle.rs_core.specs.Core.{client_count};
+    ghost use Rattle.rs_adjin.specs.AdjIns.{Begins};
+    ghost use Rattle.rs_policy.specs.Configuration.{Configuration};
+    ghost use Rattle.rs_core.specs.Hearing.{Hearing};
+    ghost use Rattle.rs_core.specs.Agreeing.{Knows, Spares};
+    ghost use Rattle.rs_core.specs.Steps.{Follows, IsSpared, ActsOn};
 
     /// Hears a whole message.
     pub(crate) fn hear_message(
@@ -71,7 +76,9 @@ impl Core {
     /// The session hears this, and what it asks for is done.
     pub(crate) fn say(&mut self, c: usize, heard: Heard)
         requires { c < client_count self.old }
-        ensures { client_count self.new ≡ client_count self.old }
+        ensures spares { Spares c self.old self.new }
+        ensures buffers { self.new.buffers ≡ self.old.buffers }
+        ensures heard { (s : Configuration) (h next : Hearing) → Follows s c heard h next → Knows self.old s c h → Knows self.new s c next }
     {
         let act = self.sessions[c].message(heard);
         self.act(c, act);
@@ -80,7 +87,12 @@ impl Core {
     /// What a session asks for.
     pub(crate) fn act(&mut self, c: usize, act: Act)
         requires { c < client_count self.old }
-        ensures { client_count self.new ≡ client_count self.old }
+        ensures count { client_count self.new ≡ client_count self.old }
+        ensures sessions { self.new.sessions ≡ self.old.sessions }
+        ensures buffers { self.new.buffers ≡ self.old.buffers }
+        ensures config { self.new.ribs.config ≡ self.old.ribs.config }
+        ensures others { IsSpared c self.old.ribs.tables self.new.ribs.tables }
+        ensures tables { ActsOn act c self.old.sessions.items self.old.ribs.tables self.new.ribs.tables }
     {
         match act {
             Act::None => {}
@@ -95,7 +107,12 @@ impl Core {
     /// A client is Established.
     fn come_up(&mut self, c: usize)
         requires { c < client_count self.old }
-        ensures { client_count self.new ≡ client_count self.old }
+        ensures count { client_count self.new ≡ client_count self.old }
+        ensures sessions { self.new.sessions ≡ self.old.sessions }
+        ensures buffers { self.new.buffers ≡ self.old.buffers }
+        ensures config { self.new.ribs.config ≡ self.old.ribs.config }
+        ensures others { IsSpared c self.old.ribs.tables self.new.ribs.tables }
+        ensures tables { ActsOn Act.Up c self.old.sessions.items self.old.ribs.tables self.new.ribs.tables }
     {
         let session = &self.sessions[c];
         let identifier = session.identifier();
@@ -108,7 +125,11 @@ impl Core {
     /// The session of a client has ended: all that was learnt by it goes at once.
     pub(crate) fn end(&mut self, c: usize, note: Option<Short>, ending: Ending)
         requires { c < client_count self.old }
-        ensures { client_count self.new ≡ client_count self.old }
+        ensures count { client_count self.new ≡ client_count self.old }
+        ensures sessions { self.new.sessions ≡ self.old.sessions }
+        ensures buffers { self.new.buffers ≡ self.old.buffers }
+        ensures config { self.new.ribs.config ≡ self.old.ribs.config }
+        ensures held { Begins self.old.ribs.tables self.new.ribs.tables c 0 }
     {
         self.watched[c].ending = Some(ending);
         self.ribs.unlearn(c);

@@ -1,6 +1,6 @@
-use Rattle.std.proofs.Common.{◌≡◌}
-use Rattle.std.specs.Prelude.{vec_len}
+use Rattle.std.proofs.Common.{◌≡◌, length}
+use Rattle.rs_core.specs.Steps.{HaveHeardNothing}
 use Rattle.rs_core.proofs.making.sessions.Given as goal
 
 abbrev pub invariant-loop-c : goal.invariant-loop-c
-invariant-loop-c l = vec_len l.all ≡ l.c
+invariant-loop-c l = (length l.all.items ≡ l.c) × HaveHeardNothing l.config l.all.items

@@ -1,6 +1,12 @@
-use Rattle.std.proofs.Common.{◌≡◌}
+use Rattle.std.proofs.Common.{◌≡◌, List}
 use Rattle.rs_core.specs.Core.{client_count}
+use Rattle.rs_core.specs.Moves.{Move}
+use Rattle.rs_core.specs.Agreeing.{Agrees}
+use Rattle.rs_core.proofs.Agreeing.{HaveSeen}
 use Rattle.rs_core.proofs.route_server.Core.moment.Given as goal
 
 abbrev pub invariant-loop-c : goal.invariant-loop-c
-invariant-loop-c l = client_count l.self ≡ client_count l.fn.self
+invariant-loop-c l = record {
+  count : client_count l.self ≡ client_count l.fn.self;
+  seen : (run : List Move) → Agrees l.fn.self run → HaveSeen l.t l.c l.self run;
+}

@@ -1,0 +1,212 @@
+-- What a session asks for is done: what is known of its client then.
+use Rattle.std.proofs.Common.{◌≡◌, ◌≢◌, ◌<◌, ◌⊎◌, inl, inr, ℕ, zero, suc, Bool, true, false, List, [], ◌∷◌, length, refl, sym, ◌∙◌, ap, subst}
+use Rattle.std.specs.Prelude.{Option, Some, None, slice_get, slice_set, if◌then◌else◌}
+use Rattle.std.specs.Global.{Vec}
+use Rattle.rs_octets.specs.Prefixes.{Prefix}
+use Rattle.rs_attrs.specs.Meaning.{Attribute}
+use Rattle.rs_attrs.specs.Effects.{Change, table_since}
+use Rattle.rs_open.specs.declared.open.Open.{Open}
+use Rattle.rs_open.specs.declared.short.Short.{Short}
+use Rattle.rs_open.specs.declared.short.Short.TheVariants as short
+use Rattle.rs_session.specs.declared.act.Act.{Act}
+use Rattle.rs_session.specs.declared.act.Act.TheVariants as acts
+use Rattle.rs_session.specs.declared.act.State.{State}
+use Rattle.rs_session.specs.declared.act.State.TheVariants as states
+use Rattle.rs_session.specs.declared.session.Session.{Session}
+use Rattle.rs_session.specs.declared.settings.Settings.{Settings}
+use Rattle.rs_session.specs.Items.{Item, Came, Moment, is_connected, message_count}
+use Rattle.rs_session.specs.Endings.{Fate, GoesOn, Ends}
+use Rattle.rs_session.specs.Sessions.{state_of, state_by, is_live, fate, earlier, item_fate, falls_due, moment_act, act_of, agreed_of, agreed_identifier, identifier_by}
+use Rattle.rs_session.specs.Hearing.{HasHeard, Tells, RespondsTo, Stays, Opens}
+use Rattle.rs_adjin.specs.AdjIns.{held_of, identifier_of, Begins}
+use Rattle.rs_adjin.specs.declared.adj_ins.AdjIns.{AdjIns}
+use Rattle.rs_policy.specs.Configuration.{Configuration}
+use Rattle.rs_core.specs.Hearing.{Hearing, session_in, state_in, is_up, identifier_in, table_in, begins, sees}
+use Rattle.rs_core.specs.Steps.{IsSpared, ActsOn}
+use Rattle.rs_core.specs.Agreeing.{Knows, AgreesAt, Spares}
+use Rattle.rs_core.specs.declared.route_server.Core.{Core}
+use Rattle.rs_core.proofs.Lists.{get_set_same, set_at}
+use Rattle.rs_core.proofs.Agreeing.{begun_held, begun_identifier, others_held, others_identifiers}
+
+-- ---- what a client holds and is known by, by its state
+
+pub down_table : (s : Configuration) (c : ℕ) (h : Hearing) → is_up (state_in s c h) ≡ false → (p : Prefix) → table_in s c h p ≡ None
+down_table s c h e p = ap (λ b. if b then table_since h.changes p else None) e
+
+pub down_identifier : (s : Configuration) (c : ℕ) (h : Hearing) → is_up (state_in s c h) ≡ false → identifier_in s c h ≡ 0
+down_identifier s c h e = ap (λ b. if b then agreed_identifier (session_in s c) h.items else 0) e
+
+pub up_table : (s : Configuration) (c : ℕ) (h : Hearing) → is_up (state_in s c h) ≡ true → (p : Prefix) → table_in s c h p ≡ table_since h.changes p
+up_table s c h e p = ap (λ b. if b then table_since h.changes p else None) e
+
+pub up_identifier : (s : Configuration) (c : ℕ) (h : Hearing) → is_up (state_in s c h) ≡ true → identifier_in s c h ≡ agreed_identifier (session_in s c) h.items
+up_identifier s c h e = ap (λ b. if b then agreed_identifier (session_in s c) h.items else 0) e
+
+up_or_not : (b : Bool) → (b ≡ true) ⊎ (b ≡ false)
+up_or_not true = inl refl
+up_or_not false = inr refl
+
+-- both are what they were
+pub record IsAlike (s : Configuration) (c : ℕ) (h next : Hearing) : Type 0 where
+  pub table : (p : Prefix) → table_in s c h p ≡ table_in s c next p
+  pub identifier : identifier_in s c h ≡ identifier_in s c next
+
+both_down : (s : Configuration) (c : ℕ) (h next : Hearing) → is_up (state_in s c h) ≡ false → is_up (state_in s c next) ≡ false → IsAlike s c h next
+both_down s c h next before now = record {
+  table = λ p. down_table s c h before p ∙ sym (down_table s c next now p);
+  identifier = down_identifier s c h before ∙ sym (down_identifier s c next now);
+}
+
+stays_alike : (s : Configuration) (c : ℕ) (h next : Hearing) → Stays (session_in s c) h.items next.items
+    → (is_up (state_in s c h) ≡ true → is_up (state_in s c next) ≡ true → next.changes ≡ h.changes) → IsAlike s c h next
+stays_alike s c h next stays same = elim (up_or_not (is_up (state_in s c h))) [
+  | inl up ↦
+      let now : is_up (state_in s c next) ≡ true = ap is_up stays.state ∙ up in
+      record {
+        table = λ p. up_table s c h up p ∙ ap (λ cs. table_since cs p) (sym (same up now)) ∙ sym (up_table s c next now p);
+        identifier = up_identifier s c h up ∙ ap identifier_by (sym stays.agreed) ∙ sym (up_identifier s c next now);
+      }
+  | inr down ↦ both_down s c h next down (ap is_up stays.state ∙ down)
+]
+
+says_alike : (message : Short) (s : Configuration) (c : ℕ) (h next : Hearing) → Tells (acts.Say message) (session_in s c) h.items next.items
+    → (is_up (state_in s c h) ≡ true → is_up (state_in s c next) ≡ true → next.changes ≡ h.changes) → IsAlike s c h next
+says_alike short.Open s c h next tells same = both_down s c h next (ap is_up tells.before) (ap is_up tells.now)
+says_alike short.Keepalive s c h next tells same = elim tells [
+  | inl confirms ↦ both_down s c h next (ap is_up confirms.before) (ap is_up confirms.now)
+  | inr beats ↦ stays_alike s c h next beats.same same
+]
+says_alike (short.Note code sub extra count) s c h next tells same = absurd tells
+
+-- ---- what is done
+
+-- the Adj-RIB-In then has what was heard
+pub record Has (ins : AdjIns) (s : Configuration) (c : ℕ) (h : Hearing) : Type 0 where
+  pub table : (p : Prefix) → held_of ins c p ≡ table_in s c h p
+  pub identifier : identifier_of ins c ≡ identifier_in s c h
+
+alike_has : (old new : AdjIns) (s : Configuration) (c : ℕ) (h next : Hearing) → new ≡ old → IsAlike s c h next → Has old s c h → Has new s c next
+alike_has old new s c h next e alike has = record {
+  table = λ p. ap (λ ins. held_of ins c p) e ∙ has.table p ∙ alike.table p;
+  identifier = ap (λ ins. identifier_of ins c) e ∙ has.identifier ∙ alike.identifier;
+}
+
+pub acted_has : (act : Act) (old new : AdjIns) (sessions : List Session) (x : Session) (s : Configuration) (c : ℕ) (h next : Hearing)
+    → ActsOn act c sessions old new → slice_get sessions c ≡ Some x → HasHeard x (session_in s c) next.items
+    → Tells act (session_in s c) h.items next.items
+    → (is_up (state_in s c h) ≡ false → act ≡ acts.Up → next.changes ≡ [])
+    → (is_up (state_in s c h) ≡ true → is_up (state_in s c next) ≡ true → next.changes ≡ h.changes)
+    → Has old s c h → Has new s c next
+acted_has acts.None old new sessions x s c h next does read heard tells fresh same has = alike_has old new s c h next does (stays_alike s c h next tells same) has
+acted_has (acts.Say message) old new sessions x s c h next does read heard tells fresh same has = alike_has old new s c h next does (says_alike message s c h next tells same) has
+acted_has acts.Up old new sessions x s c h next does read heard tells fresh same has =
+    let begins = does x read (session_in s c) next.items heard tells.now in
+    let now : is_up (state_in s c next) ≡ true = ap is_up tells.now in
+    record {
+      table = λ p. begun_held old new c _ begins p ∙ ap (λ cs. table_since cs p) (sym (fresh (ap is_up tells.before) refl)) ∙ sym (up_table s c next now p);
+      identifier = begun_identifier old new c _ begins ∙ sym (up_identifier s c next now);
+    }
+acted_has (acts.Down note) old new sessions x s c h next does read heard tells fresh same has =
+    let now : is_up (state_in s c next) ≡ false = ap is_up tells.now in
+    record {
+      table = λ p. begun_held old new c 0 does p ∙ sym (down_table s c next now p);
+      identifier = begun_identifier old new c 0 does ∙ sym (down_identifier s c next now);
+    }
+acted_has acts.Again old new sessions x s c h next does read heard tells fresh same has = alike_has old new s c h next does (stays_alike s c h next tells.same same) has
+
+-- what is done for one client is done for no other
+
+pub same_spared : (c : ℕ) (old new : AdjIns) → new ≡ old → IsSpared c old new
+same_spared c old new e = record { held = λ d p ne. ap (λ ins. held_of ins d p) e; identifiers = λ d ne. ap (λ ins. identifier_of ins d) e }
+
+pub begins_spared : (c i : ℕ) (old new : AdjIns) → Begins old new c i → IsSpared c old new
+begins_spared c i old new begins = record { held = others_held old new c i begins; identifiers = others_identifiers old new c i begins }
+
+-- ---- a session has heard one item more, and what it asked for is done
+
+pub acted : (old new : Core) (act : Act) (item : Item) (x t : Session) (s : Configuration) (c : ℕ) (h next : Hearing)
+    → slice_get old.sessions.items c ≡ Some x → c < length old.sessions.items → new.sessions.items ≡ slice_set old.sessions.items c t
+    → RespondsTo x t item act → ActsOn act c (slice_set old.sessions.items c t) old.ribs.tables new.ribs.tables
+    → next.items ≡ item ∷ h.items
+    → (is_up (state_in s c h) ≡ false → act_of (session_in s c) item h.items ≡ acts.Up → next.changes ≡ [])
+    → (is_up (state_in s c h) ≡ true → is_up (state_in s c next) ≡ true → next.changes ≡ h.changes)
+    → Knows old s c h → Knows new s c next
+acted old new act item x t s c h next read lt sessions responds does items fresh same knows =
+    let it = responds (session_in s c) h.items (knows.session x read) in
+    let heard : HasHeard t (session_in s c) next.items = subst (λ l. HasHeard t (session_in s c) l) (sym items) it.heard in
+    let tells : Tells act (session_in s c) h.items next.items = subst (λ l. Tells act (session_in s c) h.items l) (sym items) it.tells in
+    let has : Has new.ribs.tables s c next =
+    acted_has act old.ribs.tables new.ribs.tables (slice_set old.sessions.items c t) t s c h next does (get_set_same old.sessions.items c t lt) heard tells
+    (λ down up. fresh down (sym it.act_is ∙ up)) same (record { table = knows.table; identifier = knows.identifier }) in
+    record {
+      session = λ y e. subst (λ z. HasHeard z (session_in s c) next.items) (sym ((set_at old.sessions.items c t lt).own y (ap (λ l. slice_get l c) (sym sessions) ∙ e))) heard;
+      table = has.table;
+      identifier = has.identifier;
+    }
+
+pub acted_spares : (old new : Core) (c : ℕ) (t : Session) → new.count ≡ old.count → new.ribs.config ≡ old.ribs.config → c < length old.sessions.items
+    → new.sessions.items ≡ slice_set old.sessions.items c t → new.buffers ≡ old.buffers → IsSpared c old.ribs.tables new.ribs.tables → Spares c old new
+acted_spares old new c t count config lt sessions buffers spared = record {
+  count = count;
+  config = config;
+  sessions = λ d ne. ap (λ l. slice_get l d) sessions ∙ (set_at old.sessions.items c t lt).others d ne;
+  buffers = λ d ne. ap (λ v. slice_get v.items d) buffers;
+  held = spared.held;
+  identifiers = spared.identifiers;
+}
+
+-- ---- a moment
+
+never_up_by : (b : Bool) (f : Fate) (falls : Bool) → (if b then moment_act f falls else acts.None) ≡ acts.Up → ⊥
+never_up_by false f falls e = cc
+never_up_by true (Ends note) falls e = cc
+never_up_by true GoesOn true e = cc
+never_up_by true GoesOn false e = cc
+
+never_up : (settings : Settings) (t : ℕ) (items : List Item) → act_of settings (Moment t) items ≡ acts.Up → ⊥
+never_up settings t items e = never_up_by (is_live (state_of settings items)) (item_fate settings (Moment t) items) (falls_due settings t items) e
+
+live_by : (b : Bool) (was more : Fate) (n : ℕ) → is_live (state_by b (earlier was more) n) ≡ true → is_live (state_by b was n) ≡ true
+live_by false was more n e = absurd (cc)
+live_by true (Ends note) more n e = e
+live_by true GoesOn (Ends note) n e = absurd (cc)
+live_by true GoesOn GoesOn n e = e
+
+-- a session that lasts behind a moment lasted before it
+live_before : (settings : Settings) (t : ℕ) (items : List Item) → is_live (state_of settings (Moment t ∷ items)) ≡ true → is_live (state_of settings items) ≡ true
+live_before settings t items e = live_by (is_connected items) (fate settings items) (item_fate settings (Moment t) items) (message_count items) e
+
+pub seen : (old new : Core) (act : Act) (x after : Session) (s : Configuration) (c t : ℕ) (h : Hearing)
+    → slice_get old.sessions.items c ≡ Some x → c < length old.sessions.items → new.sessions.items ≡ slice_set old.sessions.items c after → new.buffers ≡ old.buffers
+    → RespondsTo x after (Moment t) act → ActsOn act c (slice_set old.sessions.items c after) old.ribs.tables new.ribs.tables
+    → AgreesAt old s c h → AgreesAt new s c (sees t h)
+seen old new act x after s c t h read lt sessions buffers responds does at = record {
+  knows = acted old new act (Moment t) x after s c h (sees t h) read lt sessions responds does refl
+      (λ down up. absurd (never_up (session_in s c) t h.items up)) (λ before now. refl) at.knows;
+  waits = λ y e. let w = at.waits y (ap (λ v. slice_get v.items c) (sym buffers) ∙ e) in record {
+    rest = λ live. w.rest (live_before (session_in s c) t h.items live);
+    good = λ live. w.good (live_before (session_in s c) t h.items live);
+  };
+}
+
+-- ---- a connection came
+
+pub opens_from : (settings : Settings) (items : List Item) (act : Act) → act ≡ act_of settings Came items → Tells act settings items (Came ∷ items) → Opens settings items (Came ∷ items)
+opens_from settings items act e tells = subst (λ a. Tells a settings items (Came ∷ items)) e tells
+
+pub came : (old new : Core) (act : Act) (x t : Session) (s : Configuration) (c : ℕ) (h : Hearing)
+    → slice_get old.sessions.items c ≡ Some x → c < length old.sessions.items → new.sessions.items ≡ slice_set old.sessions.items c t
+    → ((b : Vec ℕ) → slice_get new.buffers.items c ≡ Some b → b.items ≡ []) → new.ribs.tables ≡ old.ribs.tables
+    → RespondsTo x t Came act → AgreesAt old s c h → AgreesAt new s c (begins h)
+came old new act x t s c h read lt sessions emptied tables responds at =
+    let it = responds (session_in s c) h.items (at.knows.session x read) in
+    let opens = opens_from (session_in s c) h.items act it.act_is it.tells in
+    let alike : IsAlike s c h (begins h) = both_down s c h (begins h) (ap is_up opens.before) (ap is_up opens.now) in
+    record {
+      knows = record {
+        session = λ y e. subst (λ z. HasHeard z (session_in s c) (Came ∷ h.items)) (sym ((set_at old.sessions.items c t lt).own y (ap (λ l. slice_get l c) (sym sessions) ∙ e))) it.heard;
+        table = λ p. ap (λ ins. held_of ins c p) tables ∙ at.knows.table p ∙ alike.table p;
+        identifier = ap (λ ins. identifier_of ins c) tables ∙ at.knows.identifier ∙ alike.identifier;
+      };
+      waits = λ b e. record { rest = λ live. emptied b e; good = λ live. refl };
+    }

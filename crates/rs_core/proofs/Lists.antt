@@ -1,0 +1,53 @@
+-- A value that was written, and tests of a client's number.
+use Rattle.std.proofs.Common.{◌≡◌, ◌≢◌, ◌<◌, ◌⊎◌, inl, inr, ℕ, zero, suc, [], ◌∷◌, ◌++◌, Bool, true, false, ◌==◌, List, length, refl, sym, ◌∙◌, ap, subst, arith}
+use Rattle.std.specs.Prelude.{Option, Some, None, slice_get, slice_set, if◌then◌else◌}
+use Rattle.std.proofs.lemmas.Bool.Decides.{nat_tests}
+use Rattle.rs_core.specs.Steps.{SetsAt}
+
+pub equal_or : (d c : ℕ) → (d ≡ c) ⊎ (d ≢ c)
+equal_or d c = go (d == c) refl where
+  go : (b : Bool) → (d == c) ≡ b → (d ≡ c) ⊎ (d ≢ c)
+  go true e = inl (grind (arith, nat_tests, e))
+  go false e = inr (λ same. absurd (grind (arith, nat_tests, e, same)))
+
+pub some_is : {X : Type 0} (x y : X) → ◌≡◌ {A = Option X} (Some x) (Some y) → x ≡ y
+some_is x y e = cc
+
+pub get_set_same : {X : Type 0} (xs : List X) (i : ℕ) (v : X) → i < length xs → slice_get (slice_set xs i v) i ≡ Some v
+get_set_same [] i v h = absurd (omega arith)
+get_set_same (x ∷ xs) zero v h = refl
+get_set_same (x ∷ xs) (suc i) v h = get_set_same xs i v (omega arith)
+
+get_set_other : {X : Type 0} (xs : List X) (i j : ℕ) (v : X) → i ≢ j → slice_get (slice_set xs i v) j ≡ slice_get xs j
+get_set_other [] i j v h = refl
+get_set_other (x ∷ xs) zero zero v h = absurd (h refl)
+get_set_other (x ∷ xs) zero (suc j) v h = refl
+get_set_other (x ∷ xs) (suc i) zero v h = refl
+get_set_other (x ∷ xs) (suc i) (suc j) v h = get_set_other xs i j v (λ e. h (ap (λ n. suc n) e))
+
+-- one was written
+pub set_at : {X : Type 0} (xs : List X) (c : ℕ) (v : X) → c < length xs → SetsAt c v xs (slice_set xs c v)
+set_at xs c v lt = record {
+  own = λ x e. sym (some_is v x (sym (get_set_same xs c v lt) ∙ e));
+  others = λ d ne. get_set_other xs c d v (λ e. ne (sym e));
+}
+
+same_test : (c : ℕ) → (c == c) ≡ true
+same_test c = grind (arith, nat_tests)
+
+other_test : (c d : ℕ) → d ≢ c → (c == d) ≡ false
+other_test c d ne = grind (arith, nat_tests)
+
+pub own : {A : Type 0} (c : ℕ) (x y : A) → (if c == c then x else y) ≡ x
+own c x y = ap (λ b. if b then x else y) (same_test c)
+
+pub other : {A : Type 0} (c d : ℕ) (x y : A) → d ≢ c → (if c == d then x else y) ≡ y
+other c d x y ne = ap (λ b. if b then x else y) (other_test c d ne)
+
+-- one was put behind the others
+pub got_push : {X : Type 0} (P : ℕ → X → Type 0) (xs : List X) (v : X) → ((i : ℕ) (x : X) → slice_get xs i ≡ Some x → P i x) → P (length xs) v
+    → (i : ℕ) (x : X) → slice_get (xs ++ v ∷ []) i ≡ Some x → P i x
+got_push P [] v each own zero x e = subst (P 0) (some_is v x e) own
+got_push P [] v each own (suc i) x e = absurd (cc)
+got_push P (y ∷ ys) v each own zero x e = each zero x e
+got_push P (y ∷ ys) v each own (suc i) x e = got_push (λ n. P (suc n)) ys v (λ j z f. each (suc j) z f) own i x e

@@ -1,0 +1,86 @@
+-- Another configuration: what is known of each client stays.
+use Rattle.std.proofs.Common.{◌≡◌, ◌<◌, ℕ, Bool, true, List, [], ◌∷◌, length, refl, sym, ◌∙◌, ap, subst}
+use Rattle.std.specs.Prelude.{Option, Some, None, slice_get, if◌then◌else◌}
+use Rattle.std.specs.Global.{Vec}
+use Rattle.rs_octets.specs.declared.heads.Allowed.{Allowed}
+use Rattle.rs_octets.specs.Messages.{rest_of, header_fault_of}
+use Rattle.rs_octets.specs.Prefixes.{Prefix}
+use Rattle.rs_attrs.specs.Effects.{table_since}
+use Rattle.rs_session.specs.declared.session.Session.{Session}
+use Rattle.rs_session.specs.declared.settings.Settings.{Settings}
+use Rattle.rs_session.specs.Sessions.{state_of, is_live, agreed_identifier}
+use Rattle.rs_session.specs.Hearing.{HasHeard}
+use Rattle.rs_adjin.specs.AdjIns.{held_of, identifier_of}
+use Rattle.rs_adjin.specs.declared.adj_ins.AdjIns.{AdjIns}
+use Rattle.rs_policy.specs.Configuration.{Configuration}
+use Rattle.rs_policy.specs.Replacing.{IsFixed}
+use Rattle.rs_core.specs.Moves.{Move, Ruled, config_in}
+use Rattle.rs_core.specs.Hearing.{Hearing, silence, allowed_in, session_in, is_up}
+use Rattle.rs_core.specs.Runs.{hearing}
+use Rattle.rs_core.specs.Steps.{HaveHeardNothing}
+use Rattle.rs_core.specs.Agreeing.{Knows, Waits, AgreesAt, Agrees}
+use Rattle.rs_core.specs.declared.route_server.Core.{Core}
+
+session_fixed : (s t : Configuration) (c : ℕ) → IsFixed s t → session_in s c ≡ session_in t c
+session_fixed s t c h = sym (λ i. record { peer_as = (h.clients c).client_as i; hold = h.hold i; extended = h.extended i })
+
+allowed_fixed : (s t : Configuration) → IsFixed s t → allowed_in s ≡ allowed_in t
+allowed_fixed s t h = sym (λ i. record { long = h.extended i; refresh = h.refresh i })
+
+-- a configuration is looked at for two things
+live_by : Settings → Hearing → Bool
+live_by k h = is_live (state_of k h.items)
+
+waits_by : (s t : Configuration) (c : ℕ) (buffer : List ℕ) (h : Hearing) → session_in s c ≡ session_in t c → allowed_in s ≡ allowed_in t → Waits s c buffer h → Waits t c buffer h
+waits_by s t c buffer h session allowed w = record {
+  rest = λ live. w.rest (ap (λ k. is_live (state_of k h.items)) session ∙ live) ∙ ap (λ a. rest_of a h.octets) allowed;
+  good = λ live. ap (λ a. header_fault_of a (rest_of a h.octets)) (sym allowed) ∙ w.good (ap (λ k. is_live (state_of k h.items)) session ∙ live);
+}
+
+knows_by : (old new : Core) (s t : Configuration) (c : ℕ) (h : Hearing) → session_in s c ≡ session_in t c
+    → new.sessions ≡ old.sessions → new.ribs.tables ≡ old.ribs.tables → Knows old s c h → Knows new t c h
+knows_by old new s t c h session sessions tables w = record {
+  session = λ x e. subst (λ k. HasHeard x k h.items) session (w.session x (ap (λ v. slice_get v.items c) (sym sessions) ∙ e));
+  table = λ p. ap (λ ins. held_of ins c p) tables ∙ w.table p ∙ ap (λ k. if is_up (state_of k h.items) then table_since h.changes p else None) session;
+  identifier = ap (λ ins. identifier_of ins c) tables ∙ w.identifier ∙ ap (λ k. if is_up (state_of k h.items) then agreed_identifier k h.items else 0) session;
+}
+
+-- another configuration that leaves as it is what has to stay
+pub ruled : (old new : Core) (run : List Move) (config : Configuration) → IsFixed (config_in run) config
+    → new.count ≡ old.count → new.ribs.config ≡ config → new.sessions ≡ old.sessions → new.buffers ≡ old.buffers → new.ribs.tables ≡ old.ribs.tables
+    → Agrees old run → Agrees new (Ruled config ∷ run)
+ruled old new run config fixed count is sessions buffers tables h = record {
+  config = is;
+  clients = λ c lt.
+      let at = h.clients c (subst (λ n. c < n) count lt) in
+      let session = session_fixed (config_in run) config c fixed in
+      record {
+        knows = knows_by old new (config_in run) config c (hearing c run) session sessions tables at.knows;
+        waits = λ x e. waits_by (config_in run) config c x.items (hearing c run) session (allowed_fixed (config_in run) config fixed) (at.waits x (ap (λ v. slice_get v.items c) (sym buffers) ∙ e));
+      };
+}
+
+-- the same, where nothing has changed
+pub unchanged : (old new : Core) (run : List Move)
+    → new.count ≡ old.count → new.ribs.config ≡ old.ribs.config → new.sessions ≡ old.sessions → new.buffers ≡ old.buffers → new.ribs.tables ≡ old.ribs.tables
+    → Agrees old run → Agrees new run
+unchanged old new run count is sessions buffers tables h = record {
+  config = is ∙ h.config;
+  clients = λ c lt.
+      let at = h.clients c (subst (λ n. c < n) count lt) in
+      record {
+        knows = knows_by old new (config_in run) (config_in run) c (hearing c run) refl sessions tables at.knows;
+        waits = λ x e. at.waits x (ap (λ v. slice_get v.items c) (sym buffers) ∙ e);
+      };
+}
+
+-- at the start
+pub begun : (core : Core) (config : Configuration) → core.ribs.config ≡ config → HaveHeardNothing config core.sessions.items
+    → ((c : ℕ) (p : Prefix) → held_of core.ribs.tables c p ≡ None) → ((c : ℕ) → identifier_of core.ribs.tables c ≡ 0) → Agrees core (Ruled config ∷ [])
+begun core config is sessions held identifiers = record {
+  config = is;
+  clients = λ c lt. record {
+    knows = record { session = sessions c; table = held c; identifier = identifiers c };
+    waits = λ x e. record { rest = λ live. absurd (let f = live in cc); good = λ live. absurd (let f = live in cc) };
+  };
+}

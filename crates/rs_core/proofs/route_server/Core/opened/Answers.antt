@@ -1,0 +1,53 @@
+use Rattle.std.proofs.Common.{◌≡◌, ◌≢◌, ◌<◌, ℕ, List, ◌∷◌, length, refl, sym, ◌∙◌, ap, subst}
+use Rattle.std.specs.Prelude.{slice_get}
+use Rattle.std.specs.Global.{Vec}
+use Rattle.std.proofs.lemmas.Option.{slice_get_read}
+use Rattle.rs_session.specs.declared.session.Session.{Session}
+use Rattle.rs_adjin.specs.AdjIns.{held_of, identifier_of}
+use Rattle.rs_core.specs.Moves.{Came, config_in}
+use Rattle.rs_core.specs.Hearing.{session_in, begins}
+use Rattle.rs_core.specs.Runs.{hearing}
+use Rattle.rs_core.specs.Agreeing.{AgreesAt}
+use Rattle.rs_core.specs.Core.{client_count}
+use Rattle.rs_core.proofs.Lists.{own, other, set_at}
+use Rattle.rs_core.proofs.Agreeing.{grown}
+use Rattle.rs_core.proofs.Acting.{came, opens_from}
+use Rattle.rs_core.proofs.route_server.Core.opened.Goals as goal
+
+pub returns-in-Ok-clause-came : goal.returns-in-Ok-clause-came
+unfolding client_count
+returns-in-Ok-clause-came c = λ run h.
+    let sessions = c.args.self.now.sessions.items in
+    let lt : c.args.c < length sessions = subst (λ k. c.args.c < k) (sym c.args.self.now.sessions_len) c.requires in
+    let read = slice_get_read sessions (length sessions) c.args.c c.index_mut.result.now refl lt c.index_mut.ensures.value in
+    let it = hearing c.args.c run in
+    let set = ap (λ (v : Vec Session). v.items) c.greet.ensures.sessions in
+    grown c.args.self.now c.greet.new.self c.args.c run (Came c.args.c ∷ run) refl (λ d ne. other c.args.c d (begins (hearing d run)) (hearing d run) ne) h
+    (record {
+      count = c.greet.ensures.count;
+      config = c.greet.ensures.config;
+      sessions = λ d ne. ap (λ l. slice_get l d) set ∙ (set_at sessions c.args.c c.opened.new.self lt).others d ne;
+      buffers = c.greet.ensures.others;
+      held = λ d p ne. ap (λ ins. held_of ins d p) c.greet.ensures.tables;
+      identifiers = λ d ne. ap (λ ins. identifier_of ins d) c.greet.ensures.tables;
+    })
+    (subst (λ k. AgreesAt c.greet.new.self (config_in run) c.args.c k) (sym (own c.args.c (begins it) it))
+    (came c.args.self.now c.greet.new.self c.in-Ok.field-0 c.index_mut.result.now c.opened.new.self (config_in run) c.args.c it read lt set c.greet.ensures.emptied c.greet.ensures.tables
+    c.in-Ok.ensures.ok (h.clients c.args.c c.requires)))
+
+pub returns-in-Ok-clause-idle : goal.returns-in-Ok-clause-idle
+unfolding client_count
+returns-in-Ok-clause-idle c = λ run h.
+    let sessions = c.args.self.now.sessions.items in
+    let lt : c.args.c < length sessions = subst (λ k. c.args.c < k) (sym c.args.self.now.sessions_len) c.requires in
+    let read = slice_get_read sessions (length sessions) c.args.c c.index_mut.result.now refl lt c.index_mut.ensures.value in
+    let it = c.in-Ok.ensures.ok (session_in (config_in run) c.args.c) (hearing c.args.c run).items ((h.clients c.args.c c.requires).knows.session c.index_mut.result.now read) in
+    (opens_from (session_in (config_in run) c.args.c) (hearing c.args.c run).items c.in-Ok.field-0 it.act_is it.tells).before
+
+pub returns-in-Err-clause-busy : goal.returns-in-Err-clause-busy
+unfolding client_count
+returns-in-Err-clause-busy c = λ run h idle.
+    let sessions = c.args.self.now.sessions.items in
+    let lt : c.args.c < length sessions = subst (λ k. c.args.c < k) (sym c.args.self.now.sessions_len) c.requires in
+    let read = slice_get_read sessions (length sessions) c.args.c c.index_mut.result.now refl lt c.index_mut.ensures.value in
+    c.in-Err.ensures.busy_unless_idle (session_in (config_in run) c.args.c) (hearing c.args.c run).items ((h.clients c.args.c c.requires).knows.session c.index_mut.result.now read) idle

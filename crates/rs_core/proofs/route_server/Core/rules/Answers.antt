@@ -1,0 +1,15 @@
+use Rattle.std.proofs.Common.{◌≡◌, refl, subst}
+use Rattle.rs_policy.specs.Replacing.{Replaces}
+use Rattle.rs_core.specs.Core.{client_count}
+use Rattle.rs_core.proofs.Ruling.{ruled}
+use Rattle.rs_core.proofs.route_server.Core.rules.Goals as goal
+
+pub returns-clause-accepted : goal.returns-clause-accepted
+unfolding client_count
+returns-clause-accepted c = λ run h.
+    let replaces = subst (λ s. Replaces s c.args.octets.now c.in_ok-config.config) h.config c.in_ok-config.ensures.accepted in
+    record {
+      config = c.in_ok-config.config;
+      replaces = replaces;
+      agrees = ruled c.args.self.now _ run c.in_ok-config.config replaces.same refl c.replace.ensures.config refl refl c.replace.ensures.tables h;
+    }

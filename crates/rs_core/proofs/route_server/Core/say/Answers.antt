@@ -1,0 +1,18 @@
+use Rattle.std.proofs.Common.{◌≡◌, ◌≢◌, ◌<◌, ℕ, List, ◌∷◌, length, refl, sym, ◌∙◌, ap, subst}
+use Rattle.std.specs.Global.{Vec}
+use Rattle.std.proofs.lemmas.Option.{slice_get_read}
+use Rattle.rs_session.specs.declared.session.Session.{Session}
+use Rattle.rs_session.specs.declared.act.Act.TheVariants as acts
+use Rattle.rs_session.specs.Items.{Message}
+use Rattle.rs_core.specs.Core.{client_count}
+use Rattle.rs_core.proofs.Acting.{acted}
+use Rattle.rs_core.proofs.route_server.Core.say.Goals as goal
+
+pub returns-clause-heard : goal.returns-clause-heard
+unfolding client_count
+returns-clause-heard c = λ s h next follows knows.
+    let sessions = c.args.self.now.sessions.items in
+    let lt : c.args.c < length sessions = subst (λ k. c.args.c < k) (sym c.args.self.now.sessions_len) c.requires in
+    let read = slice_get_read sessions (length sessions) c.args.c c.index_mut.result.now refl lt c.index_mut.ensures.value in
+    acted c.args.self.now c.act.new.self c.message-act.result (Message c.args.heard) c.index_mut.result.now c.message-act.new.self s c.args.c h next read lt
+    (ap (λ (v : Vec Session). v.items) c.act.ensures.sessions) c.message-act.ensures.hears c.act.ensures.tables follows.items (λ down up. follows.fresh down) follows.same knows
