@@ -1,0 +1,49 @@
+use Rattle.std.proofs.Common.{◌≡◌, ◌≢◌, ◌<◌, ℕ, ◌∷◌, length, refl, sym, ◌∙◌, ap, subst}
+use Rattle.std.specs.Prelude.{slice_get}
+use Rattle.std.specs.Global.{Vec}
+use Rattle.std.proofs.lemmas.Option.{slice_get_read}
+use Rattle.rs_session.specs.declared.session.Session.{Session}
+use Rattle.rs_session.specs.Items.{Left}
+use Rattle.rs_session.specs.Hearing.{HasHeard}
+use Rattle.rs_adjin.specs.AdjIns.{held_of, identifier_of}
+use Rattle.rs_core.specs.Core.{client_count}
+use Rattle.rs_core.specs.Hearing.{session_in}
+use Rattle.rs_core.specs.declared.ribs.Ribs.{Ribs}
+use Rattle.rs_core.proofs.Lists.{set_at}
+use Rattle.rs_core.proofs.Agreeing.{begun_held, begun_identifier, others_held, others_identifiers}
+use Rattle.rs_core.proofs.route_server.Core.forget.Goals as goal
+
+pub returns-clause-spares : goal.returns-clause-spares
+unfolding client_count
+returns-clause-spares c =
+    let before = c.note_ending.new.self.sessions.items in
+    let within : c.args.c < c.note_ending.new.self.count = subst (λ k. c.args.c < k) (sym c.note_ending.ensures.count) c.requires in
+    let lt : c.args.c < length before = subst (λ k. c.args.c < k) (sym c.note_ending.new.self.sessions_len) within in
+    let ribs = c.pass_over.ensures.ribs ∙ c.note_ending.ensures.ribs in
+    record {
+      count = c.pass_over.ensures.count ∙ c.note_ending.ensures.count;
+      config = c.clear.ensures.settings.config ∙ c.unlearn.ensures.settings.config ∙ ap (λ (r : Ribs). r.config) ribs;
+      sessions = λ d ne. ap (λ (v : Vec Session). slice_get v.items d) c.pass_over.ensures.sessions ∙ (set_at before c.args.c c.lost.new.self lt).others d ne ∙ ap (λ (v : Vec Session). slice_get v.items d) c.note_ending.ensures.sessions;
+      buffers = λ d ne. c.pass_over.ensures.others d ne ∙ ap (λ (v : Vec (Vec ℕ)). slice_get v.items d) c.note_ending.ensures.buffers;
+      held = λ d p ne. ap (λ t. held_of t d p) c.clear.ensures.tables ∙ others_held c.pass_over.new.self.ribs.tables c.unlearn.new.self.tables c.args.c 0 c.unlearn.ensures.held d p ne ∙ ap (λ (r : Ribs). held_of r.tables d p) ribs;
+      identifiers = λ d ne. ap (λ t. identifier_of t d) c.clear.ensures.tables ∙ others_identifiers c.pass_over.new.self.ribs.tables c.unlearn.new.self.tables c.args.c 0 c.unlearn.ensures.held d ne ∙ ap (λ (r : Ribs). identifier_of r.tables d) ribs;
+    }
+
+pub returns-clause-forgotten : goal.returns-clause-forgotten
+unfolding client_count
+returns-clause-forgotten c = λ s h cut.
+    let before = c.note_ending.new.self.sessions.items in
+    let within : c.args.c < c.note_ending.new.self.count = subst (λ k. c.args.c < k) (sym c.note_ending.ensures.count) c.requires in
+    let lt : c.args.c < length before = subst (λ k. c.args.c < k) (sym c.note_ending.new.self.sessions_len) within in
+    let read = slice_get_read before (length before) c.args.c c.index_mut.result.now refl lt c.index_mut.ensures.value in
+    let was = cut.session c.index_mut.result.now (ap (λ (v : Vec Session). slice_get v.items c.args.c) (sym c.note_ending.ensures.sessions) ∙ read) in
+    let heard = c.lost.ensures.forgotten (session_in s c.args.c) cut.items was h.items (sym cut.moment) in
+    record {
+      knows = record {
+        session = λ x e. subst (λ z. HasHeard z (session_in s c.args.c) (Left ∷ h.items))
+            (sym ((set_at before c.args.c c.lost.new.self lt).own x (ap (λ (v : Vec Session). slice_get v.items c.args.c) (sym c.pass_over.ensures.sessions) ∙ e))) heard;
+        table = λ p. ap (λ t. held_of t c.args.c p) c.clear.ensures.tables ∙ begun_held c.pass_over.new.self.ribs.tables c.unlearn.new.self.tables c.args.c 0 c.unlearn.ensures.held p;
+        identifier = ap (λ t. identifier_of t c.args.c) c.clear.ensures.tables ∙ begun_identifier c.pass_over.new.self.ribs.tables c.unlearn.new.self.tables c.args.c 0 c.unlearn.ensures.held;
+      };
+      waits = λ x e. record { rest = λ live. absurd (let f = live in cc); good = λ live. absurd (let f = live in cc) };
+    }
