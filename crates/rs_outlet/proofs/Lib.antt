@@ -1,6 +1,8 @@
 mod Limits
 mod LocByNumber
+mod Decisions
 mod OneOf
+mod TurnedLoc
 mod Numbering
 mod Orders
 mod Touches
@@ -8,6 +10,7 @@ mod TouchedNumbers
 mod Ranges
 mod Ranks
 mod Fitting
+mod OthersAlone
 mod Places
 mod Draining
 mod Chosen

@@ -4,6 +4,7 @@ use mathlib.Core.Bool.{true≢false}
 use Rattle.std.specs.List.{list_any, IsDistinct, AllByRecursion}
 use Rattle.std.specs.List.Sorted.{IsPermutation}
 use Rattle.std.specs.Map.{lookup, keys_of}
+use Rattle.std.specs.FinSet as set
 use Rattle.std.specs.Ordering.{is_eq}
 use Rattle.std.proofs.lemmas.Cmp.{tied_itself}
 use Rattle.std.proofs.lemmas.Bool.Decides.{nat_tests}
@@ -19,7 +20,7 @@ use Rattle.rs_outlet.specs.Views.{View, Prefixes, HaveNumbers, if_up, with_touch
 use Rattle.rs_outlet.specs.Inside.{prefixes_in, IsNoNumberOf}
 use Rattle.rs_outlet.proofs.Orders.{prefixes_total}
 use Rattle.rs_outlet.proofs.Numbering.{number_once}
-use Rattle.rs_outlet.proofs.Touches.{prefix_eq, prefix_eq-cmp, prefix_eq-is}
+use Rattle.rs_outlet.proofs.Touches.{len-from_list, prefix_eq, prefix_eq-cmp, prefix_eq-is}
 
 abbrev Entry : Type 0
 Entry = ℕ × Prefix
@@ -42,9 +43,13 @@ some_or : {A : Type 0} (b : Bool) (v : A) (o : Option A) → is_some (cond b (So
 some_or true v o = refl
 some_or false v o = refl
 
+pub length-prefixes_in : (es : List Entry) → length (prefixes_in es) ≡ length es
+length-prefixes_in [] = refl
+length-prefixes_in (e ∷ es) = ap suc (length-prefixes_in es)
+
 module _ (ins : AdjIns) where
   -- two prefixes are equal just where their numbers are
-  eq_numbers : (p q : Prefix) (n m : ℕ) → number_of ins p ≡ Some n → number_of ins q ≡ Some m → prefix_eq p q ≡ nat_eq n m
+  pub eq_numbers : (p q : Prefix) (n m : ℕ) → number_of ins p ≡ Some n → number_of ins q ≡ Some m → prefix_eq p q ≡ nat_eq n m
   eq_numbers p q n m a b =
       bool_same (prefix_eq p q) (nat_eq n m)
       (λ h. number_itself n m (some_is n m (sym a ∙ ap (number_of ins) (prefix_eq-is p q h) ∙ b)))
@@ -57,7 +62,7 @@ module _ (ins : AdjIns) where
       (λ i. eq_numbers p e.1 n e.0 is h.0 i || any_number es p n h.1 is i)
       ∙ sym (some_or (nat_eq n e.0) e.1 (lookup (nat_eq n) es))
 
-  any_none : (es : List Entry) (p : Prefix) → HaveNumbers es ins → number_of ins p ≡ None → list_any (prefix_eq p) (prefixes_in es) ≡ false
+  pub any_none : (es : List Entry) (p : Prefix) → HaveNumbers es ins → number_of ins p ≡ None → list_any (prefix_eq p) (prefixes_in es) ≡ false
   any_none [] p h is = refl
   any_none (e ∷ es) p h is =
       elim (prefix_eq p e.1) as (λ b. prefix_eq p e.1 ≡ b → (b || list_any (prefix_eq p) (prefixes_in es)) ≡ false) [
@@ -74,6 +79,11 @@ module _ (ins : AdjIns) where
   unfolding IsDistinct
   distinct_prefixes [] h d = tt
   distinct_prefixes (e ∷ es) h d = (apart e es h.0 h.1 d.0, distinct_prefixes es h.1 d.1)
+
+  -- as many prefixes as entries
+  pub touched_count : (es : List Entry) (prefixes : Prefixes) → HaveNumbers es ins → IsDistinct nat_eq (keys_of es) → Some (set.from_list (prefixes_in es)) ≡ Some prefixes → length es ≡ set.len prefixes
+  touched_count es prefixes h d is =
+      sym (length-prefixes_in es) ∙ sym (len-from_list (prefixes_in es) (distinct_prefixes es h d)) ∙ ap set.len (some_is (set.from_list (prefixes_in es)) prefixes is)
 
   -- an entry more, at its number
   module _ (es fs : List Entry) (n : ℕ) (p : Prefix) (h : HaveNumbers es ins) (k : HaveNumbers fs ins) (is : number_of ins p ≡ Some n)
@@ -106,10 +116,6 @@ none_cons n e es false is h rest = (λ q. absurd (true≢false (sym (number_itse
 pub none_found : (n : ℕ) (es : List Entry) → is_some (lookup (nat_eq n) es) ≡ false → IsNoNumberOf n es
 none_found n [] h = tt
 none_found n (e ∷ es) h = none_cons n e es (nat_eq n e.0) refl h (none_found n es)
-
-pub length-prefixes_in : (es : List Entry) → length (prefixes_in es) ≡ length es
-length-prefixes_in [] = refl
-length-prefixes_in (e ∷ es) = ap suc (length-prefixes_in es)
 
 -- what an insert of a new key answers
 pub inserted : {V E : Type 0} {A : Type 0} (B : V → Type 0) (r : Result (Option V) E) (g : Option V) → IfOk r (λ old. old ≡ g) → IfOk r (λ old. MatchOption old A B) → is_ok r ≡ true → is_some g ≡ false → A

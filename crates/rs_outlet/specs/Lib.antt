@@ -1,7 +1,9 @@
 pub mod Views
 pub mod Due
 pub mod Next
+pub mod Alike
 pub mod HeldBy
+pub mod Turns
 pub mod Places
 pub mod Inside
 pub mod Choosing

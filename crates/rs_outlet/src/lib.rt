@@ -6,6 +6,7 @@ mod answers;
 mod choosing;
 mod deciding;
 mod fill;
+pub mod laws;
 mod outlet;
 mod routes;
 mod rows;

@@ -1,0 +1,5 @@
+use Rattle.rs_outlet.proofs.OthersAlone.{due_is_alike}
+use Rattle.rs_outlet.proofs.laws.due_alike.Goals as goal
+
+pub returns : goal.returns
+returns c = due_is_alike
