@@ -1,6 +1,8 @@
 mod Limits
 mod LocByNumber
+mod Decisions
 mod OneOf
+mod TurnedLoc
 mod Numbering
 mod Orders
 mod Touches
@@ -8,3 +10,5 @@ mod TouchedNumbers
 mod Ranges
 mod Ranks
 mod Fitting
+mod Places
+mod Draining

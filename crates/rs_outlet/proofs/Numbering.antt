@@ -1,5 +1,5 @@
 -- Prefixes and the numbers that the Adj-RIBs-In gave to them.
-use Rattle.std.proofs.Common.{◌≡◌, ℕ, zero, suc, ◌+◌, List, [], ◌∷◌, ◌++◌, Option, None, Some, slice_set, sym, ap, refl, ◌∙◌, subst, arith}
+use Rattle.std.proofs.Common.{◌≡◌, ℕ, zero, suc, ◌+◌, List, [], ◌∷◌, ◌++◌, length, Option, None, Some, slice_set, sym, ap, refl, ◌∙◌, subst, arith}
 use Rattle.std.specs.Prelude.{◌<◌, ◌≤◌}
 use Rattle.std.specs.FinMap as fin
 use Rattle.std.specs.Arc.{arc_value}
@@ -18,6 +18,11 @@ pub number_back : (ins : AdjIns) (p : Prefix) (n : ℕ) → prefix_of ins n ≡ 
 unfolding number_of prefix_of
 number_back ins p n h = ins.table.inverse.back p n h
 
+-- a prefix is the one of its number
+pub number_there : (ins : AdjIns) (p : Prefix) (n : ℕ) → number_of ins p ≡ Some n → prefix_of ins n ≡ Some p
+unfolding number_of prefix_of
+number_there ins p n h = ins.table.inverse.there p n h
+
 pub all_behind : {X : Type 0} (P : X → Type 0) (xs ys : List X) → AllByRecursion P (xs ++ ys) → AllByRecursion P ys
 all_behind P [] ys h = h
 all_behind P (x ∷ xs) ys h = all_behind P xs ys h.1
@@ -33,6 +38,10 @@ all_both P (x ∷ xs) ys h k = (h.0, all_both P xs ys h.1 k)
 pub all_nil : {X : Type 0} (xs : List X) → xs ++ [] ≡ xs
 all_nil [] = refl
 all_nil (x ∷ xs) = ap (λ ys. x ∷ ys) (all_nil xs)
+
+pub no_elements : {X : Type 0} (xs : List X) → length xs ≡ 0 → [] ≡ xs
+no_elements [] h = refl
+no_elements (x ∷ xs) h = absurd (omega (arith, h))
 
 -- two prefixes don't have one number
 pub number_once : (ins : AdjIns) (p q : Prefix) (n : ℕ) → number_of ins p ≡ Some n → number_of ins q ≡ Some n → p ≡ q

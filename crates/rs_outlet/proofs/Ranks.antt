@@ -12,7 +12,12 @@ use Rattle.rs_adjin.specs.Routes.{value_in, IsRising}
 use Rattle.rs_adjin.proofs.RouteLists.{Rising, rising}
 use Rattle.rs_adjin.specs.declared.routes.Route.{Route}
 use Rattle.rs_policy.specs.Verdicts.{Judgement, dropped, passed, verdict}
-use Rattle.rs_decision.specs.Choice.{best_of}
+use Rattle.rs_decision.specs.Choice.{best_of, unbeaten}
+use Rattle.rs_adjin.specs.declared.adj_ins.AdjIns.{AdjIns}
+use Rattle.rs_adjin.specs.AdjIns.{client_count, held_of, number_of}
+use Rattle.rs_adjin.specs.Numbering.{routes_by}
+use Rattle.rs_policy.specs.Configuration.{Configuration}
+use Rattle.rs_outlet.specs.HeldBy.{tables_of}
 use Rattle.rs_decision.specs.Best.{HasDistinctPlaces}
 use Rattle.rs_decision.specs.declared.rank.Rank.{Rank}
 use Rattle.rs_outlet.specs.declared.answers.Speech.{Speech}
@@ -148,3 +153,25 @@ pub past : (xs : List Rank) (k : ℕ) → length xs ≤ k → slice_get xs k ≡
 past [] k h = refl
 past (x ∷ xs) zero h = absurd (omega (arith, h))
 past (x ∷ xs) (suc k) h = past xs k (omega (arith, h))
+
+-- ---- a prefix that nobody holds
+
+none_best : best_of [] ≡ None
+unfolding unbeaten
+none_best = refl
+
+-- nothing is due there
+pub due_unheld : (t : Held) (c : ℕ) (speech : Speech) (p : Prefix) → [] ≡ holders_at t p → due_to t c speech p ≡ None
+due_unheld t c speech p none = sym (due_none t c speech p [] [] none refl none_best)
+
+no_holders : (held : ℕ → Option (List Attribute)) (k n : ℕ) → ((d : ℕ) → held d ≡ None) → [] ≡ holders_from held k n
+no_holders held k zero none = refl
+no_holders held k (suc n) none = no_holders held (suc k) n none ∙ sym (ap (λ o. with_holder k o (holders_from held (suc k) n)) (none k))
+
+-- so at a prefix without a number
+unnumbered_held : (ins : AdjIns) (p : Prefix) → number_of ins p ≡ None → (d : ℕ) → held_of ins d p ≡ None
+unfolding held_of number_of
+unnumbered_held ins p none d = ap (λ o. value_in d (routes_by ins.table.rows.items o)) none
+
+pub due_unnumbered : (config : Configuration) (ins : AdjIns) (c : ℕ) (speech : Speech) (p : Prefix) → number_of ins p ≡ None → due_to (tables_of config ins) c speech p ≡ None
+due_unnumbered config ins c speech p none = due_unheld (tables_of config ins) c speech p (no_holders (λ d. held_of ins d p) 0 (client_count ins) (unnumbered_held ins p none))

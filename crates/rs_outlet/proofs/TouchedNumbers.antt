@@ -44,7 +44,7 @@ some_or false v o = refl
 
 module _ (ins : AdjIns) where
   -- two prefixes are equal just where their numbers are
-  eq_numbers : (p q : Prefix) (n m : ℕ) → number_of ins p ≡ Some n → number_of ins q ≡ Some m → prefix_eq p q ≡ nat_eq n m
+  pub eq_numbers : (p q : Prefix) (n m : ℕ) → number_of ins p ≡ Some n → number_of ins q ≡ Some m → prefix_eq p q ≡ nat_eq n m
   eq_numbers p q n m a b =
       bool_same (prefix_eq p q) (nat_eq n m)
       (λ h. number_itself n m (some_is n m (sym a ∙ ap (number_of ins) (prefix_eq-is p q h) ∙ b)))
@@ -57,7 +57,7 @@ module _ (ins : AdjIns) where
       (λ i. eq_numbers p e.1 n e.0 is h.0 i || any_number es p n h.1 is i)
       ∙ sym (some_or (nat_eq n e.0) e.1 (lookup (nat_eq n) es))
 
-  any_none : (es : List Entry) (p : Prefix) → HaveNumbers es ins → number_of ins p ≡ None → list_any (prefix_eq p) (prefixes_in es) ≡ false
+  pub any_none : (es : List Entry) (p : Prefix) → HaveNumbers es ins → number_of ins p ≡ None → list_any (prefix_eq p) (prefixes_in es) ≡ false
   any_none [] p h is = refl
   any_none (e ∷ es) p h is =
       elim (prefix_eq p e.1) as (λ b. prefix_eq p e.1 ≡ b → (b || list_any (prefix_eq p) (prefixes_in es)) ≡ false) [

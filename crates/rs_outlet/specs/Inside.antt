@@ -1,24 +1,25 @@
 -- How the fields of an outlet make what callers see, and what the fields keep.
-use Rattle.std.specs.Prelude.{◌≡◌, ◌≢◌, ℕ, suc, ◌+◌, ◌≤◌, ◌<◌, Bool, true, false, Option, None, Some, List, [], ◌∷◌, ◌++◌, option_map, slice_range, slice_get, vec_len, if◌then◌else◌}
-use Rattle.std.specs.List.{AllByRecursion}
+use Rattle.std.specs.Prelude.{◌≡◌, ◌≢◌, ◌⊎◌, ℕ, suc, ◌+◌, ◌≤◌, ◌<◌, ◌||◌, Bool, true, false, nat_eq, Option, None, Some, List, [], ◌∷◌, ◌++◌, map, option_map, slice_range, slice_get, vec_len, if◌then◌else◌}
+use Rattle.std.specs.List.{AllByRecursion, IsDistinct, list_any}
+use Rattle.std.specs.Map.{keys_of}
+use Rattle.std.specs.Ordering.{eq_by_cmp}
 use Rattle.std.specs.Vec.{vec_capacity}
 use Rattle.std.specs.Arc.{arc_value}
 use Rattle.std.specs.HashMap.{hash_map_len, spare}
 use Rattle.std.specs.FinMap as fin
 use Rattle.std.specs.FinSet as set
-use Rattle.rs_octets.specs.Prefixes.{Prefix}
+use Rattle.rs_octets.specs.Prefixes.{Prefix, prefix_order}
 use Rattle.rs_attrs.specs.Meaning.{Attribute}
 use Rattle.rs_open.specs.declared.short.Limit.TheVariants as limits
 use Rattle.rs_outlet.specs.declared.answers.Speech.{Speech}
 use Rattle.rs_outlet.specs.declared.rows.Row.{Row}
-use Rattle.rs_outlet.specs.declared.waiting.Told.{Told}
-use Rattle.rs_outlet.specs.declared.waiting.Told.TheVariants as told
 use Rattle.rs_outlet.specs.declared.waiting.Wait.{Wait}
 use Rattle.rs_outlet.specs.declared.turn.Change.{Change}
 use Rattle.rs_adjin.specs.declared.adj_ins.AdjIns.{AdjIns}
 use Rattle.rs_adjin.specs.AdjIns.{number_of}
 use Rattle.rs_outlet.specs.declared.outlet.Outlet.TheInside.{Inside}
 use Rattle.rs_outlet.specs.Views.{View, Table, Prefixes}
+use Rattle.rs_outlet.specs.Places.{told_of}
 
 -- ---- rows
 
@@ -54,6 +55,38 @@ ArePlaced cs ins = AllByRecursion (λ c. number_of ins c.prefix ≡ Some c.numbe
 abbrev pub AreDue : (Prefix → Option (List Attribute)) → List Change → Type 0
 AreDue due cs = AllByRecursion (λ c. option_map arc_value c.due ≡ due c.prefix) cs
 
+-- whether there is a change at p
+abbrev pub is_changed : List Change → Prefix → Bool
+is_changed [] p = false
+is_changed (c ∷ cs) p = eq_by_cmp prefix_order p c.prefix || is_changed cs p
+
+abbrev pub numbers_of : List Change → List ℕ
+numbers_of cs = map (λ c. c.number) cs
+
+-- what stands in the row of a number
+abbrev pub attributes_at : List (Option Row) → ℕ → Option (List Attribute)
+attributes_at rows n = shown (row_at rows n)
+
+-- a change at number n, of what is due there
+pub record IsChangeAt (ins : AdjIns) (due_at : Prefix → Option (List Attribute)) (n : ℕ) (c : Change) : Type 0 where
+  pub number : c.number ≡ n
+  pub placed : number_of ins c.prefix ≡ Some n
+  pub due : option_map arc_value c.due ≡ due_at c.prefix
+
+-- where number n has what is due, no change is added; else one is
+abbrev pub IsDecidedAt : AdjIns → (Prefix → Option (List Attribute)) → ℕ → Option (List Attribute) → List Change → List Change → Type 0
+IsDecidedAt ins due_at n was old new =
+    ((new ≡ old) × ((p : Prefix) → number_of ins p ≡ Some n → was ≡ due_at p))
+    ⊎ ((c : Change) × IsChangeAt ins due_at n c × (new ≡ old ++ c ∷ []))
+
+-- these are the changes at the numbers that pass the test: each once, and none where the row has what is due
+pub record AreDecided (ins : AdjIns) (due_at : Prefix → Option (List Attribute)) (rows : List (Option Row)) (is_in : ℕ → Bool) (cs : List Change) : Type 0 where
+  pub placed : ArePlaced cs ins
+  pub due : AreDue due_at cs
+  pub once : IsDistinct nat_eq (numbers_of cs)
+  pub within : (n : ℕ) → list_any (nat_eq n) (numbers_of cs) ≡ true → is_in n ≡ true
+  pub all : (n : ℕ) → is_in n ≡ true → list_any (nat_eq n) (numbers_of cs) ≡ false → (p : Prefix) → number_of ins p ≡ Some n → attributes_at rows n ≡ due_at p
+
 -- there is a row for each change
 abbrev pub HaveRows : List Change → ℕ → Type 0
 HaveRows cs count = AllByRecursion (λ c. c.number < count) cs
@@ -67,12 +100,6 @@ IsNoNumberOf n es = AllByRecursion (λ e. e.0 ≢ n) es
 abbrev pub put : Table → Prefix → Option (List Attribute) → Table
 put t p None = fin.remove t p
 put t p (Some m) = fin.insert t p m
-
--- what was told at a place, where this is due
-abbrev pub told_of : Told → Option (List Attribute) → Option (List Attribute)
-told_of told.Nothing due = None
-told_of told.Same due = due
-told_of (told.Other attrs) due = Some (arc_value attrs)
 
 -- what was told: what is due, but where something waits
 abbrev pub told_over : Table → List Wait → Table
@@ -92,6 +119,14 @@ marked_of (w ∷ ws) = if w.open then mark (marked_of ws) w.prefix w.marked else
 abbrev pub prefixes_in : List (ℕ × Prefix) → List Prefix
 prefixes_in [] = []
 prefixes_in (e ∷ es) = e.1 ∷ prefixes_in es
+
+-- whether a number is among these
+abbrev pub is_numbered_in : List (ℕ × Prefix) → ℕ → Bool
+is_numbered_in es n = list_any (nat_eq n) (keys_of es)
+
+abbrev pub is_number_touched : Bool → List (ℕ × Prefix) → ℕ → Bool
+is_number_touched true es n = true
+is_number_touched false es n = is_numbered_in es n
 
 abbrev pub touched_of : Bool → List (ℕ × Prefix) → Option Prefixes
 touched_of true es = None

@@ -125,13 +125,7 @@ TurnedAs (Some speech) due held old new turned = IsTurned (due speech) held old 
 
 -- ---- nothing is left to do
 
--- nothing is touched or in flight, and no KEEPALIVE is due
-pub record IsQuiet (v : View) : Type 0 where
-  pub up : IsSome v.speech
-  pub untouched : v.touched ≡ Some set.empty
-  pub flight : v.flight ≡ []
-  pub beat : v.beat ≡ false
-
+-- nothing is touched, marked or in flight, no KEEPALIVE is due, and what was told is what is due
 pub record IsDrained (v : View) : Type 0 where
   pub up : IsSome v.speech
   pub untouched : v.touched ≡ Some set.empty

@@ -14,7 +14,8 @@ ghost use Rattle.rs_open.specs.Writing.{server_open, keepalive};
 ghost use Rattle.rs_open.specs.declared.short.Short.{Short};
 ghost use Rattle.rs_outlet.specs.Next.{note_octets};
 ghost use Rattle.rs_open.specs.declared.short.Limit.TheVariants as limits;
-ghost use Rattle.rs_outlet.specs.Views.{AreNumbered, IsOneOf, IsQuiet, bare, begun, cleared, finished, if_up, touched_at};
+ghost use Rattle.rs_outlet.specs.Views.{AreNumbered, IsDrained, IsOneOf, bare, begun, cleared, finished, if_up, touched_at};
+ghost use Rattle.rs_outlet.specs.Turns.{HasTurned};
 ghost use Rattle.rs_outlet.specs.Inside.{room_of, batch_of, IsNoNumberOf};
 
 use crate::answers::{Last, Speech, Turned};
@@ -222,6 +223,7 @@ impl Outlet {
         ensures client { self.new.client ≡ self.old.client }
         ensures extended { self.new.extended ≡ self.old.extended }
         ensures rest { self.new ≡ record self.old { loc = self.new.loc; told = self.new.told; touched = self.new.touched; marked = self.new.marked; numbers = self.new.numbers; last = self.new.last } }
+        ensures turned { AreNumbered self.old ins.now → IfOk result (HasTurned config.now ins.now self.old self.new) }
         ensures done { IfOk result (λ turned. self.new.last ≡ Last.Done turned) }
         ensures touched { OnOk result (IsSome self.old.speech → self.new.touched ≡ Some set.empty) }
         ensures due { (speech : Speech) → self.old.speech ≡ Some speech → AreNumbered self.old ins.now → (p : Prefix) → IsOneOf (map.get self.new.loc p) (map.get self.old.loc p) (due_to (tables_of config.now ins.now) self.old.client speech p) }
@@ -241,11 +243,13 @@ impl Outlet {
             config,
             client: self.client,
         };
-        let turned = self.turn_up(speech, &sources);
-        if turned.is_err() {
-            self.last = Last::Refused;
+        match self.turn_up(speech, &sources) {
+            Ok(turned) => Ok(turned),
+            Err(error) => {
+                self.last = Last::Refused;
+                Err(error)
+            }
         }
-        turned
     }
 
     /// The answer of the last turn.
@@ -298,7 +302,7 @@ impl Outlet {
 
     /// Whether nothing is left to do.
     pub fn is_drained(&self) -> bool
-        ensures { IsTrue result → IsQuiet self.now }
+        ensures { IsTrue result → IsDrained self.now }
     {
         if self.speech.is_none() {
             return false;

@@ -95,8 +95,8 @@ fn put_update(
     ensures front { vec_capacity front.old ≤ vec_capacity front.new }
 {
     let room = front.capacity();
-    if waits.first_withdrawn().is_some() {
-        waits.collect_withdrawn(room, chosen, front);
+    if let Some(first) = waits.first_withdrawn() {
+        waits.collect_withdrawn(first, room, chosen, front);
         return put_withdrawal(front, speech.limit, out);
     }
     let Some(first) = waits.first_announced() else {

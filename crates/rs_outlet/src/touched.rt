@@ -3,8 +3,10 @@
 //! The set goes by the numbers of the prefixes. Those are given out by the Adj-RIBs-In, so that no
 //! member can choose prefixes that make it slow.
 
-ghost use Rattle.std.specs.Prelude.{◌≡◌, ◌≤◌, ◌+◌, [], Some, true, false, IsTrue, IfOk};
+ghost use Rattle.std.specs.Prelude.{◌≡◌, ◌≤◌, ◌+◌, [], Some, true, false, nat_eq, IsTrue, IfOk};
 ghost use Rattle.std.specs.FinSet as set;
+ghost use Rattle.std.specs.List.{IsDistinct};
+ghost use Rattle.std.specs.Map.{keys_of};
 ghost use Rattle.std.specs.HashMap.{hash_map_len, spare};
 ghost use Rattle.rs_adjin.specs.declared.adj_ins.AdjIns.{AdjIns};
 ghost use Rattle.rs_adjin.specs.AdjIns.{number_of};
@@ -77,7 +79,9 @@ impl Touched {
         }
     }
 
-    pub(crate) fn is_all(&self) -> bool {
+    pub(crate) fn is_all(&self) -> bool
+        ensures { result ≡ self.now.all }
+    {
         self.all
     }
 
@@ -103,7 +107,8 @@ impl Touched {
 
     /// Lists what was touched by itself.
     pub(crate) fn list(&self, alloc: Global) -> Result<Vec<(u32, Prefix)>, AllocError>
-        ensures { IfOk result (λ list. list.items ≡ self.now.prefixes.entries) }
+        ensures all { IfOk result (λ list. list.items ≡ self.now.prefixes.entries) }
+        ensures once { IfOk result (λ list. IsDistinct nat_eq (keys_of list.items)) }
     {
         let mut list = Vec::with_capacity(alloc, self.prefixes.len())?;
         for (number, prefix) in &self.prefixes {

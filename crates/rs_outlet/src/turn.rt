@@ -1,6 +1,8 @@
 //! A turn: what is touched is decided anew, and what the client was not told so waits.
 
-ghost use Rattle.std.specs.Prelude.{◌≡◌, ◌<◌, ◌≤◌, ℕ, List, Option, Some, option_map, length, vec_len, if◌then◌else◌, IfOk, OnOk, OnErr};
+ghost use Rattle.std.specs.Prelude.{◌≡◌, ◌<◌, ◌≤◌, ℕ, List, Option, Some, true, nat_eq, option_copied, option_map, length, vec_len, if◌then◌else◌, IsTrue, IfOk, OnOk, OnErr};
+ghost use Rattle.std.specs.List.{IsDistinct};
+ghost use Rattle.std.specs.Map.{keys_of};
 ghost use Rattle.std.specs.Arc.{arc_value};
 ghost use Rattle.std.specs.FinMap as fin;
 ghost use Rattle.std.specs.FinSet as set;
@@ -9,15 +11,16 @@ ghost use Rattle.rs_octets.specs.Prefixes.{Prefix, prefix_order};
 ghost use Rattle.rs_attrs.specs.Meaning.{Attribute};
 ghost use Rattle.rs_adjin.specs.declared.adj_ins.AdjIns.{AdjIns};
 ghost use Rattle.rs_adjin.specs.AdjIns.{client_count, number_of};
-ghost use Rattle.rs_outlet.specs.Views.{AreNumbered, HaveNumbers, IsOneOf};
+ghost use Rattle.rs_outlet.specs.Views.{AreNumbered, HaveNumbers, is_touched, is_whole};
 ghost use Rattle.rs_outlet.specs.Due.{due_to};
 ghost use Rattle.rs_outlet.specs.HeldBy.{held_by};
-ghost use Rattle.rs_outlet.specs.Inside.{ArePlaced, AreDue, HaveRows, row_at, loc_of, numbers_from};
+ghost use Rattle.rs_outlet.specs.Inside.{ArePlaced, AreDue, AreDecided, HaveRows, IsDecidedAt, attributes_at, is_changed, is_number_touched, is_numbered_in, row_at, shown, loc_of, numbers_from};
 
 use crate::answers::{Last, Speech, Turned};
 use crate::deciding::{Sources, decide};
 use crate::outlet::Outlet;
 use crate::rows::{Row, Rows};
+use crate::touched::Touched;
 use crate::waiting::{Due, Told, Wait, Waits, hash_of};
 use rs_adjin::AdjIns;
 use rs_attrs::Attrs;
@@ -42,7 +45,9 @@ pub(crate) struct Decided {
 }
 
 /// Whether a row has just what is due.
-fn is_due(row: Option<&Row>, due: Option<&Arc<Attrs>>) -> bool {
+fn is_due(row: Option<&Row>, due: Option<&Arc<Attrs>>) -> bool
+    ensures { IsTrue result → shown (option_copied row.entry) ≡ option_map (λ attrs. arc_value attrs.now) due.entry }
+{
     match (row, due) {
         (None, None) => true,
         (Some(row), Some(due)) => row.attrs == *due,
@@ -64,17 +69,17 @@ fn decide_one(
     requires number { number_of sources.now.ins.now prefix ≡ Some number }
     requires client { sources.now.client < length sources.now.config.now.clients }
     requires count { client_count sources.now.ins.now ≡ length sources.now.config.now.clients }
-    ensures placed { ArePlaced changes.old.items sources.now.ins.now → ArePlaced changes.new.items sources.now.ins.now }
-    ensures due { AreDue (due_to (held_by sources.now) sources.now.client speech) changes.old.items → AreDue (due_to (held_by sources.now) sources.now.client speech) changes.new.items }
+    ensures { OnOk result (IsDecidedAt sources.now.ins.now (due_to (held_by sources.now) sources.now.client speech) number (attributes_at rows.now.rows.items number) changes.old.items changes.new.items) }
 {
     let due = decide(alloc, sources, speech, number, &prefix, ranks)?;
-    if !is_due(rows.get(number), due.as_ref()) {
-        changes.push(Change {
-            number,
-            prefix,
-            due,
-        })?;
+    if is_due(rows.get(number), due.as_ref()) {
+        return Ok(());
     }
+    changes.push(Change {
+        number,
+        prefix,
+        due,
+    })?;
     Ok(())
 }
 
@@ -90,8 +95,7 @@ fn decide_at(
 ) -> Result<(), AllocError>
     requires client { sources.now.client < length sources.now.config.now.clients }
     requires count { client_count sources.now.ins.now ≡ length sources.now.config.now.clients }
-    ensures placed { ArePlaced changes.old.items sources.now.ins.now → ArePlaced changes.new.items sources.now.ins.now }
-    ensures due { AreDue (due_to (held_by sources.now) sources.now.client speech) changes.old.items → AreDue (due_to (held_by sources.now) sources.now.client speech) changes.new.items }
+    ensures { OnOk result (IsDecidedAt sources.now.ins.now (due_to (held_by sources.now) sources.now.client speech) number (attributes_at rows.now.rows.items number) changes.old.items changes.new.items) }
 {
     let Some(prefix) = sources.ins.prefix(number) else {
         return Ok(());
@@ -109,8 +113,8 @@ fn decide_touched(
 ) -> Result<Decided, AllocError>
     requires client { sources.now.client < length sources.now.config.now.clients }
     requires count { client_count sources.now.ins.now ≡ length sources.now.config.now.clients }
-    ensures placed { IfOk result (λ decided. ArePlaced decided.changes.items sources.now.ins.now) }
-    ensures due { IfOk result (λ decided. AreDue (due_to (held_by sources.now) sources.now.client speech) decided.changes.items) }
+    requires once { IsDistinct nat_eq (keys_of touched.now) }
+    ensures { IfOk result (λ decided. AreDecided sources.now.ins.now (due_to (held_by sources.now) sources.now.client speech) rows.now.rows.items (is_numbered_in touched.now) decided.changes.items) }
 {
     let mut ranks = Vec::new(alloc);
     let mut changes = Vec::new(alloc);
@@ -144,8 +148,7 @@ fn decide_number(
 ) -> Result<bool, AllocError>
     requires client { sources.now.client < length sources.now.config.now.clients }
     requires count { client_count sources.now.ins.now ≡ length sources.now.config.now.clients }
-    ensures placed { ArePlaced changes.old.items sources.now.ins.now → ArePlaced changes.new.items sources.now.ins.now }
-    ensures due { AreDue (due_to (held_by sources.now) sources.now.client speech) changes.old.items → AreDue (due_to (held_by sources.now) sources.now.client speech) changes.new.items }
+    ensures { OnOk result (IsDecidedAt sources.now.ins.now (due_to (held_by sources.now) sources.now.client speech) number (attributes_at rows.now.rows.items number) changes.old.items changes.new.items) }
 {
     let Some(prefix) = sources.ins.prefix(number) else {
         return Ok(false);
@@ -167,14 +170,15 @@ fn decide_all(
 ) -> Result<Decided, AllocError>
     requires client { sources.now.client < length sources.now.config.now.clients }
     requires count { client_count sources.now.ins.now ≡ length sources.now.config.now.clients }
-    ensures placed { IfOk result (λ decided. ArePlaced decided.changes.items sources.now.ins.now) }
-    ensures due { IfOk result (λ decided. AreDue (due_to (held_by sources.now) sources.now.client speech) decided.changes.items) }
+    ensures { IfOk result (λ decided. AreDecided sources.now.ins.now (due_to (held_by sources.now) sources.now.client speech) rows.now.rows.items (λ number. true) decided.changes.items) }
 {
     let mut ranks = Vec::new(alloc);
     let mut changes = Vec::new(alloc);
     let mut count = 0usize;
-    for number in 0..sources.ins.numbers() {
-        let number = u32::try_from(number).unwrap_or(u32::MAX);
+    let Ok(numbers) = u32::try_from(sources.ins.numbers()) else {
+        return Err(AllocError);
+    };
+    for number in 0..numbers {
         if decide_number(
             alloc,
             sources,
@@ -188,6 +192,26 @@ fn decide_all(
         }
     }
     Ok(Decided { changes, count })
+}
+
+/// Decides what is touched, from the tables and the rules.
+fn decide_all_touched(
+    alloc: Global,
+    sources: &Sources<'_>,
+    speech: Speech,
+    rows: &Rows,
+    touched: &Touched,
+) -> Result<Decided, AllocError>
+    requires client { sources.now.client < length sources.now.config.now.clients }
+    requires count { client_count sources.now.ins.now ≡ length sources.now.config.now.clients }
+    ensures { IfOk result (λ decided. AreDecided sources.now.ins.now (due_to (held_by sources.now) sources.now.client speech) rows.now.rows.items (is_number_touched touched.now.all touched.now.prefixes.entries) decided.changes.items) }
+{
+    if touched.is_all() {
+        decide_all(alloc, sources, speech, rows)
+    } else {
+        let numbers = touched.list(alloc)?;
+        decide_touched(alloc, sources, speech, rows, &numbers)
+    }
 }
 
 /// What waits at a prefix that is due no more, where this was told.
@@ -291,7 +315,7 @@ fn make_room(
 /// Carries out the changes, for which there is room.
 fn commit(rows: &mut Rows, waits: &mut Waits, changes: Vec<Change>, mut fresh: Vec<Wait>)
     requires { HaveRows changes.items (vec_len rows.old.rows) }
-    ensures loc { (ins : AdjIns) (due : Prefix → Option (List Attribute)) → ArePlaced changes.items ins → AreDue due changes.items → HaveNumbers (numbers_from 0 rows.old.rows.items) ins → (q : Prefix) → IsOneOf (fin.get (loc_of rows.new.rows.items) q) (fin.get (loc_of rows.old.rows.items) q) (due q) }
+    ensures loc { (ins : AdjIns) (due : Prefix → Option (List Attribute)) → ArePlaced changes.items ins → AreDue due changes.items → HaveNumbers (numbers_from 0 rows.old.rows.items) ins → (q : Prefix) → fin.get (loc_of rows.new.rows.items) q ≡ (if is_changed changes.items q then due q else fin.get (loc_of rows.old.rows.items) q) }
     ensures numbered { (ins : AdjIns) → ArePlaced changes.items ins → HaveNumbers (numbers_from 0 rows.old.rows.items) ins → HaveNumbers (numbers_from 0 rows.new.rows.items) ins }
 {
     for change in changes {
@@ -301,21 +325,6 @@ fn commit(rows: &mut Rows, waits: &mut Waits, changes: Vec<Change>, mut fresh: V
 }
 
 impl Outlet {
-    /// Decides what is touched, from the tables and the rules.
-    fn decide(&self, speech: Speech, sources: &Sources<'_>) -> Result<Decided, AllocError>
-        requires client { sources.now.client < length sources.now.config.now.clients }
-        requires count { client_count sources.now.ins.now ≡ length sources.now.config.now.clients }
-        ensures placed { IfOk result (λ decided. ArePlaced decided.changes.items sources.now.ins.now) }
-        ensures due { IfOk result (λ decided. AreDue (due_to (held_by sources.now) sources.now.client speech) decided.changes.items) }
-    {
-        if self.touched.is_all() {
-            decide_all(self.alloc, sources, speech, &self.rows)
-        } else {
-            let touched = self.touched.list(self.alloc)?;
-            decide_touched(self.alloc, sources, speech, &self.rows, &touched)
-        }
-    }
-
     /// A turn of a client that is Established. Nothing is written before all memory is there.
     pub(crate) fn turn_up(
         &mut self,
@@ -329,11 +338,18 @@ impl Outlet {
         ensures rest { self.new ≡ record self.old { loc = self.new.loc; told = self.new.told; touched = self.new.touched; marked = self.new.marked; numbers = self.new.numbers; last = self.new.last } }
         ensures done { IfOk result (λ turned. self.new.last ≡ Last.Done turned) }
         ensures touched { OnOk result (self.new.touched ≡ Some set.empty) }
-        ensures due { OnOk result (AreNumbered self.old sources.now.ins.now → (p : Prefix) → IsOneOf (fin.get self.new.loc p) (fin.get self.old.loc p) (due_to (held_by sources.now) sources.now.client speech p)) }
+        ensures loc { OnOk result (AreNumbered self.old sources.now.ins.now → (p : Prefix) → fin.get self.new.loc p ≡ (if is_touched self.old.touched p then due_to (held_by sources.now) sources.now.client speech p else fin.get self.old.loc p)) }
+        ensures whole { IfOk result (λ turned. turned.whole ≡ is_whole self.old.touched) }
         ensures refused { OnErr result (self.new ≡ self.old) }
         ensures numbered { AreNumbered self.old sources.now.ins.now → AreNumbered self.new sources.now.ins.now }
     {
-        let Decided { changes, count } = self.decide(speech, sources)?;
+        let Decided { changes, count } = decide_all_touched(
+            self.alloc,
+            sources,
+            speech,
+            &self.rows,
+            &self.touched,
+        )?;
         let turned = Turned {
             decided: count,
             whole: self.touched.is_all(),

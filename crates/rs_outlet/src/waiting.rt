@@ -5,8 +5,14 @@
 //! next withdrawal, of an announcement to the next place whose attributes have the same hash. A
 //! message is read off along the links, and nothing is looked for in the Loc-RIB.
 
-ghost use Rattle.std.specs.Prelude.{◌≡◌, [], ◌≤◌};
+ghost use Rattle.std.specs.Prelude.{◌≡◌, ◌≤◌, ◌<◌, ◌+◌, ℕ, Option, None, Some, [], true, false, length, vec_len, slice_get, slice_set, option_map, if◌then◌else◌, IfSome};
+ghost use Rattle.std.specs.Arc.{arc_value};
+ghost use Rattle.std.specs.Ordering.{eq_by_cmp};
+ghost use Rattle.std.specs.List.Sorted.{IsStrictlySortedBy, IsStrictlySortedBy-prop};
 ghost use Rattle.std.specs.Vec.{vec_capacity};
+ghost use Rattle.rs_octets.specs.Prefixes.{Prefix, prefix_order};
+ghost use Rattle.rs_outlet.specs.declared.waiting.Wait.{Wait};
+ghost use Rattle.rs_outlet.specs.Places.{prefixes_at, open_count, is_withdrawn, is_announced, open_at, told_of, told_by, marked_by};
 
 use crate::rows::Rows;
 use rs_attrs::Attrs;
@@ -54,12 +60,14 @@ pub(crate) struct Waits {
     links: Vec<u32>,
     /// While links are made: the first place of each hash behind the one at hand.
     heads: Vec<u32>,
-    /// The first place that is to be withdrawn.
-    gone: u32,
+    /// No place before it is to be withdrawn.
+    gone: usize,
     /// No place before it is to be announced.
     news: usize,
     /// How many are open.
-    open: usize,
+    waiting: usize,
+    ghost counted: { open_count places.items ≡ waiting },
+    ghost rises: { IsStrictlySortedBy prefix_order (prefixes_at places.items) } by { IsStrictlySortedBy-prop prefix_order (prefixes_at places.items) },
 }
 
 impl Waits {
@@ -70,9 +78,9 @@ impl Waits {
             places: Vec::new(alloc),
             links: Vec::new(alloc),
             heads: Vec::new(alloc),
-            gone: END,
+            gone: 0,
             news: 0,
-            open: 0,
+            waiting: 0,
         }
     }
 
@@ -82,14 +90,16 @@ impl Waits {
         self.places.clear();
         self.links.clear();
         self.heads.clear();
-        self.gone = END;
+        self.gone = 0;
         self.news = 0;
-        self.open = 0;
+        self.waiting = 0;
     }
 
     /// How many prefixes wait.
-    pub(crate) fn len(&self) -> usize {
-        self.open
+    pub(crate) fn len(&self) -> usize
+        ensures { result ≡ open_count self.now.places.items }
+    {
+        self.waiting
     }
 
     /// Makes room for so many places.
@@ -105,16 +115,33 @@ impl Waits {
     }
 
     /// The place where a prefix waits.
-    pub(crate) fn find(&self, prefix: &Prefix) -> Option<usize> {
+    pub(crate) fn find(&self, prefix: &Prefix) -> Option<usize>
+        ensures { IfSome result (λ place. place < vec_len self.now.places) }
+    {
         let place = self
             .places
             .binary_search_by(|wait| wait.prefix.cmp(prefix))
             .ok()?;
-        if self.places.get(place)?.open {
+        if self.places[place].open {
             Some(place)
         } else {
             None
         }
+    }
+
+    /// A place waits no more. Answers what was told there, and whether it was to be told again.
+    fn close(&mut self, place: usize) -> (Told, bool)
+        requires { place < vec_len self.old.places }
+        ensures prefixes { prefixes_at self.new.places.items ≡ prefixes_at self.old.places.items }
+        ensures places { (w : Wait) → slice_get self.old.places.items place ≡ Some w → (q : Prefix) → open_at q self.new.places.items ≡ (if eq_by_cmp prefix_order q w.prefix then None else open_at q self.old.places.items) }
+    {
+        let wait = &mut self.places[place];
+        let waited = wait.open;
+        wait.open = false;
+        let told = std::mem::replace(&mut wait.told, Told::Nothing);
+        let marked = wait.marked;
+        self.waiting -= usize::from(waited);
+        (told, marked)
     }
 
     /// Takes a prefix out, where it waits: what was told there, and whether it is to be told again.
@@ -124,38 +151,29 @@ impl Waits {
         prefix: &Prefix,
         was_due: Option<Arc<Attrs>>,
     ) -> (Option<Arc<Attrs>>, bool) {
-        let Some(place) = self.find(prefix) else {
-            return (was_due, false);
-        };
-        let Some(wait) = self.places.get_mut(place) else {
-            return (was_due, false);
-        };
-        wait.open = false;
-        self.open = self.open.saturating_sub(1);
-        let marked = wait.marked;
-        match std::mem::replace(&mut wait.told, Told::Nothing) {
-            Told::Nothing => (None, marked),
-            Told::Same => (was_due, marked),
-            Told::Other(told) => (Some(told), marked),
+        match self.find(prefix) {
+            None => (was_due, false),
+            Some(place) => {
+                let (told, marked) = self.close(place);
+                (told.or_due(was_due), marked)
+            }
         }
     }
 
     /// Drops the places that wait no more, and adds others, for which there is room.
     pub(crate) fn add(&mut self, more: Vec<Wait>) {
-        self.places.retain(|wait| wait.open);
-        for wait in more {
-            let _ = self.places.push(wait);
-        }
-        self.places.sort_unstable_by_key(|wait| wait.prefix);
+        add_places(&mut self.places, more);
+        self.waiting = count_open(&self.places);
         self.link();
     }
 
     /// Links the places, which are all open.
-    fn link(&mut self) {
+    fn link(&mut self)
+        ensures { self.new.places.items ≡ self.old.places.items }
+    {
         let count = self.places.len();
-        self.open = count;
         self.news = 0;
-        self.gone = END;
+        self.gone = 0;
         self.links.clear();
         self.heads.clear();
         for _ in 0..count {
@@ -167,71 +185,40 @@ impl Waits {
                 return;
             };
             let here = u32::try_from(place).unwrap_or(END);
-            let next = match wait.due {
-                Due::Withdrawn => std::mem::replace(&mut self.gone, here),
-                Due::Announced { hash, .. } => match self.heads.get_mut(hash as usize % count) {
-                    Some(head) => std::mem::replace(head, here),
-                    None => END,
-                },
-            };
-            if let Some(link) = self.links.get_mut(place) {
-                *link = next;
+            if let Due::Announced { hash, .. } = wait.due
+                && let Some(head) = self.heads.get_mut(hash as usize % count)
+            {
+                let next = std::mem::replace(head, here);
+                if let Some(link) = self.links.get_mut(place) {
+                    *link = next;
+                }
             }
         }
     }
 
     /// Everything that was told waits to be told again: each row, and what waits already.
     pub(crate) fn mark_all(&mut self, rows: &Rows) {
-        self.places.retain(|wait| wait.open);
-        let waited = self.places.len();
-        for place in 0..waited {
-            if let Some(wait) = self.places.get_mut(place) {
-                wait.marked = !matches!(wait.told, Told::Nothing);
-            }
-        }
-        for number in 0..rows.count() {
-            let number = u32::try_from(number).unwrap_or(END);
-            if let Some(row) = rows.get(number)
-                && !self.has_before(waited, &row.prefix)
-            {
-                let _ = self.places.push(Wait {
-                    prefix: row.prefix,
-                    due: Due::Announced {
-                        number,
-                        hash: hash_of(&row.attrs),
-                    },
-                    told: Told::Same,
-                    marked: true,
-                    open: true,
-                });
-            }
-        }
-        self.places.sort_unstable_by_key(|wait| wait.prefix);
+        add_rows(&mut self.places, rows);
+        self.waiting = count_open(&self.places);
         self.link();
     }
 
-    /// Whether a prefix stands at one of the first places.
-    fn has_before(&self, count: usize, prefix: &Prefix) -> bool {
-        match self.places.get(..count) {
-            Some(places) => places
-                .binary_search_by(|wait| wait.prefix.cmp(prefix))
-                .is_ok(),
-            None => false,
-        }
-    }
-
     /// The first place that is to be withdrawn.
-    pub(crate) fn first_withdrawn(&self) -> Option<u32> {
-        if self.gone == END {
-            None
-        } else {
+    pub(crate) fn first_withdrawn(&mut self) -> Option<usize>
+        ensures { self.new.places.items ≡ self.old.places.items }
+    {
+        self.gone = next_withdrawn(&self.places, self.gone);
+        if self.gone < self.places.len() {
             Some(self.gone)
+        } else {
+            None
         }
     }
 
-    /// Lists prefixes that are to be withdrawn, as many as there is room for.
+    /// Lists prefixes that are to be withdrawn, from this place on, as many as there is room for.
     pub(crate) fn collect_withdrawn(
         &self,
+        first: usize,
         room: usize,
         chosen: &mut Vec<u32>,
         front: &mut Vec<Prefix>,
@@ -239,32 +226,30 @@ impl Waits {
         ensures chosen { vec_capacity chosen.old ≤ vec_capacity chosen.new }
         ensures front { vec_capacity front.old ≤ vec_capacity front.new }
     {
-        let mut at = self.gone;
-        for _ in 0..room {
-            let Some(wait) = self.places.get(at as usize) else {
+        for place in first..self.places.len() {
+            if room <= front.len() {
+                return;
+            }
+            let Some(wait) = self.places.get(place) else {
                 return;
             };
-            let _ = front.push(wait.prefix);
-            let _ = chosen.push(at);
-            at = self.links.get(at as usize).copied().unwrap_or(END);
+            if wait.is_withdrawn() {
+                let _ = front.push(wait.prefix);
+                let _ = chosen.push(u32::try_from(place).unwrap_or(END));
+            }
         }
-        let _ = at;
     }
 
     /// The first place that is to be announced.
-    pub(crate) fn first_announced(&mut self) -> Option<u32> {
-        for _ in self.news..self.places.len() {
-            match self.places.get(self.news) {
-                None => return None,
-                Some(wait) => {
-                    if wait.open && matches!(wait.due, Due::Announced { .. }) {
-                        return u32::try_from(self.news).ok();
-                    }
-                }
-            }
-            self.news = self.news.saturating_add(1);
+    pub(crate) fn first_announced(&mut self) -> Option<u32>
+        ensures { self.new.places.items ≡ self.old.places.items }
+    {
+        self.news = next_announced(&self.places, self.news);
+        if self.news < self.places.len() {
+            u32::try_from(self.news).ok()
+        } else {
+            None
         }
-        None
     }
 
     /// The row that is due at a place.
@@ -309,20 +294,129 @@ impl Waits {
     /// The first so many of these places wait no more.
     pub(crate) fn give_up(&mut self, chosen: &[u32], count: usize) {
         for place in chosen.iter().take(count) {
-            self.close(*place);
+            self.give_up_one(*place as usize);
         }
     }
 
-    /// A place waits no more.
-    fn close(&mut self, place: u32) {
-        if let Some(wait) = self.places.get_mut(place as usize) {
-            wait.open = false;
-            wait.told = Told::Nothing;
-            self.open = self.open.saturating_sub(1);
-            if matches!(wait.due, Due::Withdrawn) {
-                self.gone = self.links.get(place as usize).copied().unwrap_or(END);
-            }
+    fn give_up_one(&mut self, place: usize) {
+        if place < self.places.len() {
+            let _ = self.close(place);
         }
+    }
+}
+
+impl Wait {
+    /// Whether it is to be withdrawn.
+    fn is_withdrawn(&self) -> bool
+        ensures { result ≡ is_withdrawn self.now }
+    {
+        self.open && matches!(self.due, Due::Withdrawn)
+    }
+
+    /// Whether it is to be announced.
+    fn is_announced(&self) -> bool
+        ensures { result ≡ is_announced self.now }
+    {
+        self.open && matches!(self.due, Due::Announced { .. })
+    }
+}
+
+impl Told {
+    /// What was told at a place, where this is due.
+    fn or_due(self, due: Option<Arc<Attrs>>) -> Option<Arc<Attrs>>
+        ensures { option_map arc_value result ≡ told_of self (option_map arc_value due) }
+    {
+        match self {
+            Told::Nothing => None,
+            Told::Same => due,
+            Told::Other(told) => Some(told),
+        }
+    }
+}
+
+/// The first place from here on that is to be withdrawn; where there is none, the end of the places.
+fn next_withdrawn(places: &[Wait], from: usize) -> usize {
+    for place in from..places.len() {
+        if places[place].is_withdrawn() {
+            return place;
+        }
+    }
+    places.len()
+}
+
+/// The first place from here on that is to be announced; where there is none, the end of the places.
+fn next_announced(places: &[Wait], from: usize) -> usize {
+    for place in from..places.len() {
+        if places[place].is_announced() {
+            return place;
+        }
+    }
+    places.len()
+}
+
+/// How many places wait.
+fn count_open(places: &[Wait]) -> usize
+    ensures { result ≡ open_count places.now }
+{
+    places.iter().filter(|wait| wait.open).count()
+}
+
+/// Puts the places in order. A prefix has one place.
+fn put_in_order(places: &mut Vec<Wait>)
+    ensures { IsStrictlySortedBy prefix_order (prefixes_at places.new.items) }
+{
+    places.sort_unstable_by_key(|wait| wait.prefix);
+    places.dedup_by_key(|wait| wait.prefix);
+}
+
+/// Drops the places that wait no more, and adds others, for which there is room.
+fn add_places(places: &mut Vec<Wait>, more: Vec<Wait>)
+    ensures { IsStrictlySortedBy prefix_order (prefixes_at places.new.items) }
+{
+    places.retain(|wait| wait.open);
+    for wait in more {
+        let _ = places.push(wait);
+    }
+    put_in_order(places);
+}
+
+/// Drops the places that wait no more, marks those at which something was told, and adds the rows at
+/// which nothing waits, for which there is room.
+fn add_rows(places: &mut Vec<Wait>, rows: &Rows)
+    ensures { IsStrictlySortedBy prefix_order (prefixes_at places.new.items) }
+{
+    places.retain(|wait| wait.open);
+    let waited = places.len();
+    for wait in places.iter_mut() {
+        wait.marked = !matches!(wait.told, Told::Nothing);
+    }
+    for number in 0..rows.count() {
+        let number = u32::try_from(number).unwrap_or(END);
+        if let Some(row) = rows.get(number)
+            && !has_before(places, waited, &row.prefix)
+        {
+            let _ = places.push(Wait {
+                prefix: row.prefix,
+                due: Due::Announced {
+                    number,
+                    hash: hash_of(&row.attrs),
+                },
+                told: Told::Same,
+                marked: true,
+                open: true,
+            });
+        }
+    }
+    put_in_order(places);
+}
+
+/// Whether a prefix stands at one of the first places.
+fn has_before(places: &[Wait], count: usize, prefix: &Prefix) -> bool {
+    match places.get(..count) {
+        Some(places) => places
+            .binary_search_by(|wait| wait.prefix.cmp(prefix))
+            .is_ok(),
+        None => false,
     }
 }
 

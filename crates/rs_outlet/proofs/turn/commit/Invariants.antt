@@ -1,11 +1,11 @@
-use Rattle.std.proofs.Common.{◌≡◌, Option, List, vec_len}
+use Rattle.std.proofs.Common.{◌≡◌, cond, Option, List, vec_len}
 use Rattle.std.specs.FinMap as fin
 use Rattle.std.specs.Vec.Iter.{into_iter_items}
 use Rattle.rs_octets.specs.Prefixes.{Prefix}
 use Rattle.rs_attrs.specs.Meaning.{Attribute}
 use Rattle.rs_adjin.specs.declared.adj_ins.AdjIns.{AdjIns}
-use Rattle.rs_outlet.specs.Views.{HaveNumbers, IsOneOf}
-use Rattle.rs_outlet.specs.Inside.{ArePlaced, AreDue, HaveRows, numbers_from, loc_of}
+use Rattle.rs_outlet.specs.Views.{HaveNumbers}
+use Rattle.rs_outlet.specs.Inside.{ArePlaced, AreDue, HaveRows, is_changed, numbers_from, loc_of}
 use Rattle.rs_outlet.proofs.turn.commit.Given as goal
 
 abbrev pub invariant-loop-change : goal.invariant-loop-change
@@ -14,6 +14,7 @@ invariant-loop-change l = record {
   rows : HaveRows (into_iter_items l.change-iterator) (vec_len l.fn.rows.rows);
   placed : (ins : AdjIns) → ArePlaced l.fn.changes.items ins → ArePlaced (into_iter_items l.change-iterator) ins;
   due : (due : Prefix → Option (List Attribute)) → AreDue due l.fn.changes.items → AreDue due (into_iter_items l.change-iterator);
-  loc : (ins : AdjIns) (due : Prefix → Option (List Attribute)) → ArePlaced l.fn.changes.items ins → AreDue due l.fn.changes.items → HaveNumbers (numbers_from 0 l.fn.rows.rows.items) ins → (q : Prefix) → IsOneOf (fin.get (loc_of l.rows.rows.items) q) (fin.get (loc_of l.fn.rows.rows.items) q) (due q);
+  loc : (ins : AdjIns) (due : Prefix → Option (List Attribute)) → ArePlaced l.fn.changes.items ins → AreDue due l.fn.changes.items → HaveNumbers (numbers_from 0 l.fn.rows.rows.items) ins → (q : Prefix)
+      → cond (is_changed (into_iter_items l.change-iterator) q) (due q) (fin.get (loc_of l.rows.rows.items) q) ≡ cond (is_changed l.fn.changes.items q) (due q) (fin.get (loc_of l.fn.rows.rows.items) q);
   numbered : (ins : AdjIns) → ArePlaced l.fn.changes.items ins → HaveNumbers (numbers_from 0 l.fn.rows.rows.items) ins → HaveNumbers (numbers_from 0 l.rows.rows.items) ins;
 }

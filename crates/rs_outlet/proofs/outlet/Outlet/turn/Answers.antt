@@ -1,0 +1,64 @@
+use Rattle.std.proofs.Common.{◌≡◌, ◌∙◌, ℕ, Bool, false, cond, is_some, None, Some, Option, List, refl, sym, ap, subst}
+use mathlib.Core.Bool.{true≢false}
+use Rattle.std.specs.FinMap as map
+use Rattle.rs_octets.specs.Prefixes.{Prefix}
+use Rattle.rs_attrs.specs.Meaning.{Attribute}
+use Rattle.rs_adjin.proofs.Rows.{some_is}
+use Rattle.rs_outlet.specs.declared.answers.Speech.{Speech}
+use Rattle.rs_adjin.specs.declared.adj_ins.AdjIns.{AdjIns}
+use Rattle.rs_policy.specs.Configuration.{Configuration}
+use Rattle.rs_outlet.specs.declared.answers.Turned.{Turned}
+use Rattle.rs_outlet.specs.declared.answers.Last.TheVariants.{Done}
+use Rattle.rs_outlet.specs.Inside.{view_of}
+use Rattle.rs_outlet.specs.Due.{Held, due_to}
+use Rattle.rs_outlet.specs.HeldBy.{tables_of}
+use Rattle.rs_outlet.specs.Turns.{HasTurned}
+use Rattle.rs_outlet.specs.Views.{View, is_touched}
+use Rattle.rs_outlet.proofs.TurnedLoc.{one_of}
+use Rattle.rs_outlet.proofs.outlet.Outlet.turn.Goals as goal
+
+abbrev nothing : Turned
+nothing = record { decided = 0; whole = false }
+
+-- what is due, by the client and the speech that the outlet has
+for_client : (t : Held) (m was : Option (List Attribute)) (b : Bool) (c d : ℕ) (s u : Speech) (p : Prefix) → c ≡ d → s ≡ u → m ≡ cond b (due_to t c s p) was → m ≡ cond b (due_to t d u p) was
+for_client t m was b c d s u p e f is = is ∙ (λ i. cond b (due_to t (e i) (f i) p) was)
+
+-- an outlet that is not up
+not_up : (config : Configuration) (ins : AdjIns) (v w : View) → v ≡ w → v.speech ≡ None → HasTurned config ins w (record v { last = Done nothing }) nothing
+not_up config ins v w same none = subst (λ (u : View). HasTurned config ins u (record v { last = Done nothing }) nothing) same (record {
+  loc = λ speech up p. absurd (let f : None ≡ Some speech = sym none ∙ up in (cc));
+  touched = λ up. absurd (true≢false (sym up ∙ ap is_some none));
+  whole = λ up. absurd (true≢false (sym up ∙ ap is_some none));
+  down = λ _. (refl, refl);
+  last = refl;
+})
+
+pub returns-in_default-clause-turned : goal.returns-in_default-clause-turned
+returns-in_default-clause-turned c = λ are. not_up c.args.config.now c.args.ins.now (view_of c.self.inside) c.args.self.now c.self.view_is c.in_default.is
+
+pub returns-in-Ok-clause-turned : goal.returns-in-Ok-clause-turned
+returns-in-Ok-clause-turned c = λ are.
+    let now = c.args.self.now in
+    let t = tables_of c.args.config.now c.args.ins.now in
+    record {
+      loc = λ speech up p.
+          for_client t _ (map.get now.loc p) (is_touched now.touched p) _ now.client _ speech p
+          (ap (λ (v : View). v.client) c.self.view_is)
+          (some_is c.in-Some.speech speech (sym c.in-Some.is ∙ ap (λ (v : View). v.speech) c.self.view_is ∙ up))
+          (c.in-Ok.ensures.loc are p);
+      touched = λ up. c.in-Ok.ensures.touched;
+      whole = λ up. c.in-Ok.ensures.whole;
+      down = λ none. absurd (let f : None ≡ Some c.in-Some.speech = sym none ∙ sym (ap (λ (v : View). v.speech) c.self.view_is) ∙ c.in-Some.is in (cc));
+      last = c.in-Ok.ensures.done;
+    }
+
+pub returns-in-Ok-clause-due : goal.returns-in-Ok-clause-due
+returns-in-Ok-clause-due c = λ speech up are p.
+    let now = c.args.self.now in
+    let t = tables_of c.args.config.now c.args.ins.now in
+    one_of (is_touched now.touched p) _ _ _
+    (for_client t _ (map.get now.loc p) (is_touched now.touched p) _ now.client _ speech p
+    (ap (λ (v : View). v.client) c.self.view_is)
+    (some_is c.in-Some.speech speech (sym c.in-Some.is ∙ ap (λ (v : View). v.speech) c.self.view_is ∙ up))
+    (c.in-Ok.ensures.loc are p))

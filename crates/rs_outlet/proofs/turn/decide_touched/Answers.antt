@@ -1,0 +1,23 @@
+use Rattle.std.proofs.Common.{◌<◌, ◌+◌, length, take, arith, refl}
+use Rattle.rs_outlet.specs.Due.{due_to}
+use Rattle.rs_outlet.specs.HeldBy.{held_by}
+use Rattle.rs_outlet.specs.Inside.{is_numbered_in}
+use Rattle.rs_outlet.proofs.Decisions.{none_decided, one_more_decided, entry_new, entry_more}
+use Rattle.rs_outlet.proofs.turn.decide_touched.Goals as goal
+
+pub loop-number-init : goal.loop-number-init
+loop-number-init c =
+    none_decided c.args.sources.now.ins.now (due_to (held_by c.args.sources.now) c.args.sources.now.client c.args.speech) c.args.rows.now.rows.items
+    _ _ c.new-changes.ensures.items (λ m. refl)
+
+pub loop-number-preserved : goal.loop-number-preserved
+loop-number-preserved c =
+    let es = c.args.touched.now in
+    let i = c.loop-number.number-index in
+    let e = c.loop-number-item.result in
+    let below : i < length es = omega arith in
+    one_more_decided c.args.sources.now.ins.now (due_to (held_by c.args.sources.now) c.args.sources.now.client c.args.speech) c.args.rows.now.rows.items
+    (is_numbered_in (take i es)) (is_numbered_in (take (i + 1) es)) e.0 c.loop-number.changes.items _ c.loop-number.invariant
+    (entry_new es i e c.requires.once below c.loop-number-item.is)
+    c.in_ok-decide_at.ensures
+    (entry_more es i e below c.loop-number-item.is)

@@ -1,0 +1,51 @@
+-- The places of what waits: a list of them, and what stands there of a prefix.
+use Rattle.std.specs.Prelude.{ℕ, Bool, ◌&&◌, not, true, false, map, Option, None, Some, List, [], ◌∷◌, count_by, if◌then◌else◌}
+use Rattle.std.specs.Arc.{arc_value}
+use Rattle.std.specs.Ordering.{eq_by_cmp}
+use Rattle.rs_octets.specs.Prefixes.{Prefix, prefix_order}
+use Rattle.rs_attrs.specs.Meaning.{Attribute}
+use Rattle.rs_outlet.specs.declared.waiting.Told.{Told}
+use Rattle.rs_outlet.specs.declared.waiting.Told.TheVariants as told
+use Rattle.rs_outlet.specs.declared.waiting.Due.{Due}
+use Rattle.rs_outlet.specs.declared.waiting.Due.TheVariants as due
+use Rattle.rs_outlet.specs.declared.waiting.Wait.{Wait}
+
+abbrev pub prefixes_at : List Wait → List Prefix
+prefixes_at ws = map (λ w. w.prefix) ws
+
+abbrev pub is_withdrawal : Due → Bool
+is_withdrawal due.Withdrawn = true
+is_withdrawal (due.Announced number hash) = false
+
+-- whether a place waits to be withdrawn
+abbrev pub is_withdrawn : Wait → Bool
+is_withdrawn w = w.open && is_withdrawal w.due
+
+-- whether it waits to be announced
+abbrev pub is_announced : Wait → Bool
+is_announced w = w.open && not (is_withdrawal w.due)
+
+-- how many wait still
+abbrev pub open_count : List Wait → ℕ
+open_count ws = count_by (λ w. w.open) ws
+
+-- the open place of a prefix
+abbrev pub open_at : Prefix → List Wait → Option Wait
+open_at q [] = None
+open_at q (w ∷ ws) = if w.open && eq_by_cmp prefix_order q w.prefix then Some w else open_at q ws
+
+-- what was told at a place, where this is due
+abbrev pub told_of : Told → Option (List Attribute) → Option (List Attribute)
+told_of told.Nothing due = None
+told_of told.Same due = due
+told_of (told.Other attrs) due = Some (arc_value attrs)
+
+-- what was told of a prefix that waits so, or doesn't wait, where this is due
+abbrev pub told_by : Option Wait → Option (List Attribute) → Option (List Attribute)
+told_by None due = due
+told_by (Some w) due = told_of w.told due
+
+-- whether it is to be told again
+abbrev pub marked_by : Option Wait → Bool
+marked_by None = false
+marked_by (Some w) = w.marked
