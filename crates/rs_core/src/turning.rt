@@ -48,14 +48,14 @@ impl Core {
 }
 
 impl Ribs {
-    ghost use Rattle.rs_core.specs.Ribs.{ChangesAll, ChangesOwn, IsNumbered, KeepsFresh, KeepsSettings, outlet_count};
+    ghost use Rattle.rs_core.specs.Ribs.{ChangesAll, ChangesOwn, KeepsFresh, KeepsSettings, outlet_count};
 
     /// A turn of all clients, one after the other.
     pub(crate) fn turn(&mut self)
         ensures settings { KeepsSettings self.old self.new }
         ensures tables { self.new.tables ≡ self.old.tables }
-        ensures turned { ChangesAll (IsTurn self.old.config self.old.tables) self.old self.new }
-        ensures numbered { IsNumbered self.old → IsNumbered self.new }
+        ensures turned { ChangesAll (λ c. IsTurn self.old.config self.old.tables) self.old self.new }
+        ensures kept { KeepsFresh self.old self.new }
     {
         for c in 0..self.count {
             self.turn_one(c);
@@ -84,7 +84,7 @@ impl Ribs {
         requires { c < outlet_count self.old }
         ensures settings { KeepsSettings self.old self.new }
         ensures tables { self.new.tables ≡ self.old.tables }
-        ensures outlet { ChangesOwn c (IsTurn self.old.config self.old.tables c) self.old self.new }
+        ensures outlet { ChangesOwn c (IsTurn self.old.config self.old.tables) self.old self.new }
     {
         let outlet = &mut self.outlets[c];
         let _ = outlet.turn(&self.tables, &self.config);
