@@ -20,11 +20,14 @@ pub struct Turns {
 }
 
 impl Core {
-    ghost use Rattle.rs_core.specs.Core.{client_count};
+    ghost use Rattle.rs_core.specs.Core.{client_count, refused_clients};
 
     /// A turn of all clients, one after the other.
+    #[tactic(auto, unfolding(crate::specs::Core::client_count, crate::specs::Core::refused_clients))]
     pub fn turn(&mut self) -> Turns
-        ensures { client_count self.new ≡ client_count self.old }
+        ensures clients { client_count self.new ≡ client_count self.old }
+        ensures refused { result.refused ≡ refused_clients self.new }
+        ensures all { result.done + result.refused ≡ client_count self.new }
     {
         self.ribs.turn();
         self.ribs.sweep();
@@ -32,6 +35,7 @@ impl Core {
     }
 
     /// A turn of all clients by 1 to 16 workers.
+    #[tactic(auto, unfolding(crate::specs::Core::client_count, crate::specs::Core::refused_clients))]
     pub fn turn_with<R: Threads + Wait + Sync, G: Gate>(
         &mut self,
         rt: &R,
@@ -39,7 +43,9 @@ impl Core {
         gate: &G,
     ) -> Turns
         requires { (0 < workers) × (workers ≤ 16) }
-        ensures { client_count self.new ≡ client_count self.old }
+        ensures clients { client_count self.new ≡ client_count self.old }
+        ensures refused { result.refused ≡ refused_clients self.new }
+        ensures all { result.done + result.refused ≡ client_count self.new }
     {
         self.ribs.turn_with(rt, workers, gate);
         self.ribs.sweep();
