@@ -1,5 +1,5 @@
 -- What a turn leaves.
-use Rattle.std.proofs.Common.{◌≡◌, ◌⊎◌, inl, inr, ℕ, ◌<◌, Bool, true, false, length, refl, sym, ◌∙◌, ap, subst}
+use Rattle.std.proofs.Common.{◌≡◌, inl, inr, ℕ, ◌<◌, Bool, true, false, length, refl, sym, ◌∙◌, ap, subst}
 use Rattle.std.specs.Prelude.{Option, Some, List, if◌then◌else◌}
 use Rattle.std.specs.FinMap as map
 use Rattle.rs_octets.specs.Prefixes.{Prefix}
@@ -13,10 +13,10 @@ use Rattle.rs_outlet.specs.Due.{due_to}
 use Rattle.rs_outlet.specs.HeldBy.{tables_of}
 use Rattle.rs_outlet.specs.Turns.{HasTurned}
 use Rattle.rs_outlet.specs.Views.{View, AreNumbered, HaveNumbers, is_touched}
-use Rattle.rs_core.specs.Turns.{IsDone, IsTurn}
-use Rattle.rs_core.specs.Ribs.{outlet_in, due_in, IsDecidedBy, IsFresh, IsNumbered}
+use Rattle.rs_core.specs.Turns.{IsTurn}
+use Rattle.rs_core.specs.Ribs.{outlet_in, IsDecidedBy, IsFresh, IsNumbered}
 use Rattle.rs_core.specs.declared.ribs.Ribs.{Ribs}
-use Rattle.rs_core.proofs.Walks.{IsWalked, all_numbered}
+use Rattle.rs_core.proofs.Walks.{IsWalked}
 
 pub turn_numbered : (config : Configuration) (ins : AdjIns) (v w : View) → IsTurn config ins v w → AreNumbered v ins → AreNumbered w ins
 turn_numbered config ins v w (inl done) h = done.numbered h
@@ -31,17 +31,21 @@ done_decided config ins c v w turned client spoken h decided = record { at = λ 
   by_touch speech p was false e = decided.at speech p was e
 
 refused_decided : (due : Speech → Prefix → Option (List Attribute)) (v w : View) → w ≡ record v { last = lasts.Refused } → IsDecidedBy due v → IsDecidedBy due w
-refused_decided due v w e decided = record { at = λ speech p up un.
-    ap (λ (x : View). map.get x.loc p) e ∙ decided.at speech p (sym (ap (λ (x : View). x.speech) e) ∙ up) (sym (ap (λ (x : View). is_touched x.touched p) e) ∙ un) }
+refused_decided due v w e decided = record {
+  at = λ speech p up un.
+      ap (λ (x : View). map.get x.loc p) e ∙ decided.at speech p (sym (ap (λ (x : View). x.speech) e) ∙ up) (sym (ap (λ (x : View). is_touched x.touched p) e) ∙ un);
+}
 
 turn_decided : (config : Configuration) (ins : AdjIns) (c : ℕ) (v w : View) → v.client ≡ c → AreNumbered v ins → IsTurn config ins v w → IsDecidedBy (due_to (tables_of config ins) c) v → IsDecidedBy (due_to (tables_of config ins) c) w
 turn_decided config ins c v w client numbered (inl done) decided = done_decided config ins c v w done.turned client (ap (λ (x : View). x.speech) done.rest) (done.decided numbered) decided
 turn_decided config ins c v w client numbered (inr refused) decided = refused_decided (due_to (tables_of config ins) c) v w refused decided
 
 pub turned_fresh : (old new : Ribs) → IsWalked (λ c. IsTurn old.config old.tables) old.count old new → IsNumbered old → IsFresh old → IsFresh new
-turned_fresh old new h numbered fresh = record { each = λ d none lt.
-    let within : d < old.count = subst (λ n. d < n) h.settings.count lt in
-    let there : d < length old.outlets.items = subst (λ n. d < n) (sym old.outlets_len) within in
-    let decided = turn_decided old.config old.tables d (outlet_in old d none) (outlet_in new d none) (old.kept d none there).client (numbered.each d none within) (h.done d none within) (fresh.each d none within) in
-    subst (λ t. IsDecidedBy (due_to (tables_of new.config t) d) (outlet_in new d none)) (sym h.tables)
-    (subst (λ k. IsDecidedBy (due_to (tables_of k old.tables) d) (outlet_in new d none)) (sym h.settings.config) decided) }
+turned_fresh old new h numbered fresh = record {
+  each = λ d none lt.
+      let within : d < old.count = subst (λ n. d < n) h.settings.count lt in
+      let there : d < length old.outlets.items = subst (λ n. d < n) (sym old.outlets_len) within in
+      let decided = turn_decided old.config old.tables d (outlet_in old d none) (outlet_in new d none) (old.kept d none there).client (numbered.each d none within) (h.done d none within) (fresh.each d none within) in
+      subst (λ t. IsDecidedBy (due_to (tables_of new.config t) d) (outlet_in new d none)) (sym h.tables)
+      (subst (λ k. IsDecidedBy (due_to (tables_of k old.tables) d) (outlet_in new d none)) (sym h.settings.config) decided);
+}

@@ -1,8 +1,8 @@
-use Rattle.std.proofs.Common.{◌≡◌, ◌∷◌, ap, subst, sym, ◌∙◌}
+use Rattle.std.proofs.Common.{ap, subst, sym, ◌∙◌}
 use Rattle.std.specs.Map.Iter.{deref}
 use Rattle.std.proofs.lemmas.Map.Iter.{rest_more, rest_all}
 use Rattle.rs_outlet.specs.Views.{View}
-use Rattle.rs_core.proofs.Touching.{IsTouching, touching_begins, touching_on, touching_ends, next_of, not_some}
+use Rattle.rs_core.proofs.Touching.{IsTouching, touching_on, touching_ends, next_of, not_some}
 use Rattle.rs_core.proofs.learning.touch_all_of.Goals as goal
 
 pub loop-prefix-preserved : goal.loop-prefix-preserved
