@@ -7,7 +7,7 @@ use Rattle.rs_attrs.specs.Effects.{same_prefix}
 use Rattle.rs_attrs.proofs.EachOnce.{same_is, same_itself}
 use Rattle.rs_adjin.specs.declared.adj_ins.AdjIns.{AdjIns}
 use Rattle.rs_adjin.specs.Table.{TellsChange}
-use Rattle.rs_adjin.specs.AdjIns.{held_of, identifier_of, KeepsNumbers, Same, Sets}
+use Rattle.rs_adjin.specs.AdjIns.{held_of, KeepsNumbers, Same, Sets}
 use Rattle.rs_core.specs.Touches.{IsTouchedAt}
 use Rattle.rs_core.specs.Ribs.{IsNumbered, KeepsFresh, KeepsSettings, ChangesOthers, TouchesChange}
 use Rattle.rs_core.specs.declared.ribs.Ribs.{Ribs}

@@ -6,7 +6,7 @@ use Rattle.rs_policy.specs.Configuration.{Configuration}
 use Rattle.rs_outlet.specs.Views.{View, bare}
 use Rattle.rs_outlet.specs.declared.answers.Last.TheVariants as lasts
 use Rattle.rs_workers.specs.Turned.{ArePlaced, AllTurnedAlone}
-use Rattle.rs_core.specs.Keeping.{IsOutletOf, AreBare, AreKept}
+use Rattle.rs_core.specs.Keeping.{AreBare, AreKept}
 
 -- what a turn of all asks
 pub are_placed : (long : Bool) (config : Configuration) (xs : List View) → length xs ≡ length config.clients → AreKept long xs → ArePlaced config xs

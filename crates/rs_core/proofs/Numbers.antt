@@ -1,10 +1,8 @@
 -- Numbers of prefixes, and what a call that changes them leaves of those that outlets have.
-use Rattle.std.proofs.Common.{◌≡◌, ◌≢◌, ◌⊎◌, inl, inr, ◌<◌, ℕ, List, [], ◌∷◌, refl, sym, ◌∙◌, ap, subst}
-use Rattle.std.specs.Prelude.{Option, Some}
-use Rattle.std.specs.List.{AllByRecursion}
+use Rattle.std.proofs.Common.{◌≡◌, ◌≢◌, ◌⊎◌, inl, inr, ◌<◌, ℕ, List, [], ◌∷◌, sym, ◌∙◌, ap, subst}
 use Rattle.rs_octets.specs.Prefixes.{Prefix}
 use Rattle.rs_adjin.specs.declared.adj_ins.AdjIns.{AdjIns}
-use Rattle.rs_adjin.specs.AdjIns.{number_of, GivesUp, KeepsNumbers, SameNumbers}
+use Rattle.rs_adjin.specs.AdjIns.{GivesUp, KeepsNumbers, SameNumbers}
 use Rattle.rs_outlet.specs.Inside.{IsNoNumberOf}
 use Rattle.rs_outlet.specs.Views.{View, AreNumbered, HaveNumbers}
 use Rattle.rs_core.specs.Ribs.{outlet_in, IsNumbered, ChangesOwn}

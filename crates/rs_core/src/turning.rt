@@ -20,11 +20,14 @@ pub struct Turns {
 }
 
 impl Core {
-    ghost use Rattle.rs_core.specs.Core.{client_count};
+    ghost use Rattle.rs_core.specs.Core.{client_count, refused_clients};
 
     /// A turn of all clients, one after the other.
+    #[tactic(auto, unfolding(crate::specs::Core::client_count, crate::specs::Core::refused_clients))]
     pub fn turn(&mut self) -> Turns
-        ensures { client_count self.new ≡ client_count self.old }
+        ensures clients { client_count self.new ≡ client_count self.old }
+        ensures refused { result.refused ≡ refused_clients self.new }
+        ensures all { result.done + result.refused ≡ client_count self.new }
     {
         self.ribs.turn();
         self.ribs.sweep();
@@ -32,6 +35,7 @@ impl Core {
     }
 
     /// A turn of all clients by 1 to 16 workers.
+    #[tactic(auto, unfolding(crate::specs::Core::client_count, crate::specs::Core::refused_clients))]
     pub fn turn_with<R: Threads + Wait + Sync, G: Gate>(
         &mut self,
         rt: &R,
@@ -39,7 +43,9 @@ impl Core {
         gate: &G,
     ) -> Turns
         requires { (0 < workers) × (workers ≤ 16) }
-        ensures { client_count self.new ≡ client_count self.old }
+        ensures clients { client_count self.new ≡ client_count self.old }
+        ensures refused { result.refused ≡ refused_clients self.new }
+        ensures all { result.done + result.refused ≡ client_count self.new }
     {
         self.ribs.turn_with(rt, workers, gate);
         self.ribs.sweep();
@@ -48,14 +54,14 @@ impl Core {
 }
 
 impl Ribs {
-    ghost use Rattle.rs_core.specs.Ribs.{ChangesAll, ChangesOwn, IsNumbered, KeepsFresh, KeepsSettings, outlet_count};
+    ghost use Rattle.rs_core.specs.Ribs.{ChangesAll, ChangesOwn, KeepsFresh, KeepsSettings, outlet_count};
 
     /// A turn of all clients, one after the other.
     pub(crate) fn turn(&mut self)
         ensures settings { KeepsSettings self.old self.new }
         ensures tables { self.new.tables ≡ self.old.tables }
-        ensures turned { ChangesAll (IsTurn self.old.config self.old.tables) self.old self.new }
-        ensures numbered { IsNumbered self.old → IsNumbered self.new }
+        ensures turned { ChangesAll (λ c. IsTurn self.old.config self.old.tables) self.old self.new }
+        ensures kept { KeepsFresh self.old self.new }
     {
         for c in 0..self.count {
             self.turn_one(c);
@@ -67,7 +73,7 @@ impl Ribs {
         requires { (0 < workers) × (workers ≤ 16) }
         ensures settings { KeepsSettings self.old self.new }
         ensures tables { self.new.tables ≡ self.old.tables }
-        ensures turned { AllTurnedAlone self.old.outlets.items self.new.outlets.items }
+        ensures turned { AllTurnedAlone self.old.config self.old.tables self.old.outlets.items self.new.outlets.items }
     {
         turn_all(
             rt,
@@ -84,7 +90,7 @@ impl Ribs {
         requires { c < outlet_count self.old }
         ensures settings { KeepsSettings self.old self.new }
         ensures tables { self.new.tables ≡ self.old.tables }
-        ensures outlet { ChangesOwn c (IsTurn self.old.config self.old.tables c) self.old self.new }
+        ensures outlet { ChangesOwn c (IsTurn self.old.config self.old.tables) self.old self.new }
     {
         let outlet = &mut self.outlets[c];
         let _ = outlet.turn(&self.tables, &self.config);

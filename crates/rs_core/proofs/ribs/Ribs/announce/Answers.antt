@@ -1,4 +1,4 @@
-use Rattle.std.proofs.Common.{◌≡◌, Some, ap, subst, sym, ◌∙◌, refl}
+use Rattle.std.proofs.Common.{Some, ◌∙◌, refl}
 use Rattle.std.specs.Arc.{arc_value}
 use Rattle.rs_adjin.specs.AdjIns.{held_of}
 use Rattle.rs_core.proofs.Numbers.{same_kept, kept_on}

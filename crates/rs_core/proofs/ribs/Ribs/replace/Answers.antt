@@ -1,6 +1,6 @@
-use Rattle.std.proofs.Common.{subst, sym}
+use Rattle.std.proofs.Common.{subst}
 use Rattle.rs_core.specs.Turns.{IsMarked}
-use Rattle.rs_core.proofs.Walks.{IsWalked, walk_begins, walk_on, walk_ends, all_changed, all_numbered}
+use Rattle.rs_core.proofs.Walks.{walk_on, walk_ends, all_changed, all_numbered}
 use Rattle.rs_core.proofs.Freshness.{marked_fresh}
 use Rattle.rs_core.proofs.ribs.Ribs.replace.Goals as goal
 

@@ -1,5 +1,5 @@
-use Rattle.std.proofs.Common.{ap, subst, sym, ◌∙◌, ◌≡◌, ◌≤◌, ◌<◌, ◌+◌, arith}
-use Rattle.rs_outlet.specs.Views.{View, AreNumbered}
+use Rattle.std.proofs.Common.{subst, sym, ◌+◌}
+use Rattle.rs_outlet.specs.Views.{AreNumbered}
 use Rattle.rs_core.specs.Touches.{IsTouchedWhereHeld}
 use Rattle.rs_core.proofs.Walks.{IsWalked, IsOtherThan, walk_begins, walk_on, walk_past, own_same, other_stirred, others_changed, others_numbered, walk_ends}
 use Rattle.rs_core.proofs.ribs.Ribs.touch_held.Goals as goal

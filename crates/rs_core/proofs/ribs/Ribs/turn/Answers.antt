@@ -1,7 +1,7 @@
-use Rattle.std.proofs.Common.{subst, sym}
+use Rattle.std.proofs.Common.{subst}
 use Rattle.rs_core.specs.Turns.{IsTurn}
-use Rattle.rs_core.proofs.Walks.{IsWalked, walk_begins, walk_on, walk_ends, all_changed, all_numbered}
-use Rattle.rs_core.proofs.Turned.{turn_numbered}
+use Rattle.rs_core.proofs.Walks.{walk_begins, walk_on, walk_ends, all_changed, all_numbered}
+use Rattle.rs_core.proofs.Turned.{turn_numbered, turned_fresh}
 use Rattle.rs_core.proofs.ribs.Ribs.turn.Goals as goal
 
 pub loop-c-init : goal.loop-c-init
@@ -10,9 +10,17 @@ loop-c-init c = walk_begins _ c.args.self.now
 pub loop-c-preserved : goal.loop-c-preserved
 loop-c-preserved c =
     walk_on _ _ c.loop-c.c c.args.self.now c.loop-c.self c.turn_one.new.self c.loop-c-test.true c.loop-c.invariant c.turn_one.ensures.settings c.turn_one.ensures.tables c.turn_one.ensures.outlet
-    (λ v w so. subst (λ config. IsTurn config c.args.self.now.tables c.loop-c.c v w) c.loop-c.invariant.settings.config (subst (λ ins. IsTurn c.loop-c.self.config ins c.loop-c.c v w) c.loop-c.invariant.tables so))
+    (λ v w so. subst (λ config. IsTurn config c.args.self.now.tables v w) c.loop-c.invariant.settings.config (subst (λ ins. IsTurn c.loop-c.self.config ins v w) c.loop-c.invariant.tables so))
 
 pub returns : goal.returns
 returns c =
-    let done = walk_ends (IsTurn c.args.self.now.config c.args.self.now.tables) c.loop-c.c c.args.self.now c.loop-c.self c.loop-c.auto.c-end c.loop-c-test.false c.loop-c.invariant in
-    record { settings = done.settings; tables = done.tables; turned = all_changed _ c.args.self.now c.loop-c.self done; numbered = λ h. all_numbered _ c.args.self.now c.loop-c.self done (λ d v w so. turn_numbered c.args.self.now.config c.args.self.now.tables d v w so) h }
+    let done = walk_ends (λ k. IsTurn c.args.self.now.config c.args.self.now.tables) c.loop-c.c c.args.self.now c.loop-c.self c.loop-c.auto.c-end c.loop-c-test.false c.loop-c.invariant in
+    record {
+      settings = done.settings;
+      tables = done.tables;
+      turned = all_changed _ c.args.self.now c.loop-c.self done;
+      kept = record {
+        numbered = λ h. all_numbered _ c.args.self.now c.loop-c.self done (λ d v w so. turn_numbered c.args.self.now.config c.args.self.now.tables v w so) h;
+        fresh = λ h f. turned_fresh c.args.self.now c.loop-c.self done h f;
+      };
+    }

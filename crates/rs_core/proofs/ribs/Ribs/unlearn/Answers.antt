@@ -1,6 +1,5 @@
 use Rattle.std.proofs.Common.{subst, refl}
 use Rattle.rs_adjin.specs.AdjIns.{Begins}
-use Rattle.rs_core.specs.Touches.{IsTouchedWhereHeld}
 use Rattle.rs_core.proofs.Numbers.{same_kept, numbered_kept}
 use Rattle.rs_core.proofs.Freshness.{unlearnt_fresh}
 use Rattle.rs_core.proofs.ribs.Ribs.unlearn.Goals as goal
