@@ -1,5 +1,6 @@
 -- Outlets in a list, by their places.
-use Rattle.std.proofs.Common.{◌≡◌, ◌<◌, ℕ, zero, suc, List, [], ◌∷◌, ◌++◌, length, sym, subst, arith}
+use Rattle.std.proofs.Common.{◌≡◌, ◌≢◌, ◌<◌, ◌≤◌, ◌+◌, ℕ, zero, suc, List, [], ◌∷◌, ◌++◌, length, sym, subst, ap, arith, get_or, set, below_more, ◌∙◌, refl}
+use Rattle.std.proofs.lemmas.List.{get_or-set_same, get_or-set_other}
 use Rattle.std.specs.Prelude.{slice_index_or}
 use Rattle.rs_policy.specs.Configuration.{Configuration}
 use Rattle.rs_outlet.specs.Views.{View}
@@ -16,3 +17,22 @@ each_push P (x ∷ xs) v each own (suc i) d lt = each_push (λ n. P (suc n)) xs 
 -- one outlet more, of a client that there is
 pub push_placed : (config : Configuration) (xs ys : List View) (v : View) → ys ≡ xs ++ v ∷ [] → ArePlaced config xs → v.client < length config.clients → ArePlaced config ys
 push_placed config xs ys v e placed own = subst (ArePlaced config) (sym e) (each_push (λ i o. o.client < length config.clients) xs v placed own)
+
+-- what stands at a place within
+within : {X : Type 0} (xs : List X) (k : ℕ) (d e : X) → k < length xs → get_or xs k d ≡ get_or xs k e
+within [] k d e lt = absurd (omega (arith, lt))
+within (x ∷ xs) zero d e lt = refl
+within (x ∷ xs) (suc k) d e lt = within xs k d e (omega (arith, lt))
+
+-- a walk over a list, which has come to k: what stands there becomes v
+pub walked_on : {X : Type 0} (P : X → X → Type 0) (first run : List X) (k : ℕ) (e v : X) → k < length run → P (get_or run k e) v
+    → ((j : ℕ) (d : X) → k ≤ j → get_or run j d ≡ get_or first j d) → ((j : ℕ) (d : X) → j < k → P (get_or first j d) (get_or run j d))
+    → ((j : ℕ) (d : X) → k + 1 ≤ j → get_or (set run k v) j d ≡ get_or first j d) × ((j : ℕ) (d : X) → j < k + 1 → P (get_or first j d) (get_or (set run k v) j d))
+walked_on P first run k e v lt turned behind before = (
+  λ j d le. get_or-set_other run k j v d (λ e. let is = e in absurd (omega (arith, is, le))) ∙ behind j d (omega (arith, le)),
+  λ j d below.
+      below_more (λ i. P (get_or first i d) (get_or (set run k v) i d)) k
+      (λ i less. subst (λ x. P (get_or first i d) x) (sym (get_or-set_other run k i v d (λ e. let is = e in absurd (omega (arith, is, less))))) (before i d less))
+      (subst (λ x. P x (get_or (set run k v) k d)) (within run k e d lt ∙ behind k d (omega arith)) (subst (λ x. P (get_or run k e) x) (sym (get_or-set_same run k v d lt)) turned))
+      j below,
+)
