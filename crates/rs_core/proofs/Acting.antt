@@ -1,22 +1,18 @@
 -- What a session asks for is done: what is known of its client then.
-use Rattle.std.proofs.Common.{◌≡◌, ◌≢◌, ◌<◌, ◌⊎◌, inl, inr, ℕ, zero, suc, Bool, true, false, List, [], ◌∷◌, length, refl, sym, ◌∙◌, ap, subst}
-use Rattle.std.specs.Prelude.{Option, Some, None, slice_get, slice_set, if◌then◌else◌}
+use Rattle.std.proofs.Common.{◌≡◌, ◌<◌, ◌⊎◌, inl, inr, ℕ, Bool, true, false, List, [], ◌∷◌, length, refl, sym, ◌∙◌, ap, subst}
+use Rattle.std.specs.Prelude.{Some, None, slice_get, slice_set, if◌then◌else◌}
 use Rattle.std.specs.Global.{Vec}
 use Rattle.rs_octets.specs.Prefixes.{Prefix}
-use Rattle.rs_attrs.specs.Meaning.{Attribute}
-use Rattle.rs_attrs.specs.Effects.{Change, table_since}
-use Rattle.rs_open.specs.declared.open.Open.{Open}
+use Rattle.rs_attrs.specs.Effects.{table_since}
 use Rattle.rs_open.specs.declared.short.Short.{Short}
 use Rattle.rs_open.specs.declared.short.Short.TheVariants as short
 use Rattle.rs_session.specs.declared.act.Act.{Act}
 use Rattle.rs_session.specs.declared.act.Act.TheVariants as acts
-use Rattle.rs_session.specs.declared.act.State.{State}
-use Rattle.rs_session.specs.declared.act.State.TheVariants as states
 use Rattle.rs_session.specs.declared.session.Session.{Session}
 use Rattle.rs_session.specs.declared.settings.Settings.{Settings}
 use Rattle.rs_session.specs.Items.{Item, Came, Moment, is_connected, message_count}
 use Rattle.rs_session.specs.Endings.{Fate, GoesOn, Ends}
-use Rattle.rs_session.specs.Sessions.{state_of, state_by, is_live, fate, earlier, item_fate, falls_due, moment_act, act_of, agreed_of, agreed_identifier, identifier_by}
+use Rattle.rs_session.specs.Sessions.{state_of, state_by, is_live, fate, earlier, item_fate, falls_due, moment_act, act_of, agreed_identifier, identifier_by}
 use Rattle.rs_session.specs.Hearing.{HasHeard, Tells, RespondsTo, Stays, Opens}
 use Rattle.rs_adjin.specs.AdjIns.{held_of, identifier_of, Begins}
 use Rattle.rs_adjin.specs.declared.adj_ins.AdjIns.{AdjIns}

@@ -1,19 +1,14 @@
 -- Agreement that is joined from what was done for one client, and from what was left alone.
-use Rattle.std.proofs.Common.{◌≡◌, ◌≢◌, ◌<◌, ◌≤◌, ◌+◌, ◌==◌, inl, inr, ℕ, true, false, Bool, List, [], ◌∷◌, length, refl, sym, ◌∙◌, ap, subst, arith}
-use Rattle.std.specs.Prelude.{Option, Some, None, slice_get, if◌then◌else◌}
-use Rattle.std.specs.Global.{Vec}
+use Rattle.std.proofs.Common.{◌≡◌, ◌≢◌, ◌<◌, ◌≤◌, ◌+◌, ◌==◌, inl, inr, ℕ, List, ◌∷◌, refl, sym, ◌∙◌, subst, arith}
+use Rattle.std.specs.Prelude.{None, if◌then◌else◌}
 use Rattle.rs_octets.specs.Prefixes.{Prefix}
-use Rattle.rs_attrs.specs.Meaning.{Attribute}
-use Rattle.rs_session.specs.declared.session.Session.{Session}
-use Rattle.rs_session.specs.Hearing.{HasHeard}
 use Rattle.rs_adjin.specs.AdjIns.{held_of, identifier_of, Begins}
 use Rattle.rs_adjin.specs.declared.adj_ins.AdjIns.{AdjIns}
 use Rattle.rs_policy.specs.Configuration.{Configuration}
 use Rattle.rs_core.specs.Moves.{Move, Saw, config_in}
 use Rattle.rs_core.specs.Hearing.{Hearing, sees}
 use Rattle.rs_core.specs.Runs.{hearing}
-use Rattle.rs_core.specs.Steps.{SetsAt}
-use Rattle.rs_core.specs.Agreeing.{Knows, Waits, AgreesAt, IsCutShort, Agrees, Spares}
+use Rattle.rs_core.specs.Agreeing.{Knows, AgreesAt, IsCutShort, Agrees, Spares}
 use Rattle.rs_core.specs.declared.route_server.Core.{Core}
 use Rattle.rs_core.proofs.Lists.{equal_or, own, other}
 

@@ -1,5 +1,5 @@
 -- Steps of a link, one after the other.
-use Rattle.std.proofs.Common.{◌≡◌, ℕ, Bool, true, false, List, [], ◌∷◌, ◌++◌, refl, subst}
+use Rattle.std.proofs.Common.{◌≡◌, ℕ, true, false, List, [], ◌∷◌, ◌++◌, refl, subst}
 use Rattle.rs_core.specs.declared.links.Event.{Event}
 use Rattle.rs_core.specs.declared.links.Event.TheVariants.{Opened, Octets, Moment, Turn, Room, Lost, Rules, Stop}
 use Rattle.rs_core.specs.Links.{Step, Told, Leads, stops, GoesOn, AllGoOn, HasLed, HasStopped}

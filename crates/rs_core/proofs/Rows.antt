@@ -1,10 +1,10 @@
 -- Worked rows as runs, by computation: four clients, and what is due after each move that counts.
-use Rattle.std.specs.Prelude.{◌≡◌, ℕ, ◌+◌, true, false, List, [], ◌∷◌, ◌++◌, replicate, refl, codes, Option, Some, None}
+use Rattle.std.specs.Prelude.{◌≡◌, ℕ, ◌+◌, true, false, List, [], ◌∷◌, ◌++◌, replicate, refl, codes, Some, None}
 use Rattle.rs_octets.specs.Prefixes.{Prefix}
 use Rattle.rs_attrs.specs.Meaning.{Attribute, all_types}
 use Rattle.rs_attrs.proofs.Rows.{hex, well, u1_attributes}
 use Rattle.rs_open.specs.Notes.{note, note_1}
-use Rattle.rs_session.specs.Items.{Item, Message}
+use Rattle.rs_session.specs.Items.{Message}
 use Rattle.rs_session.specs.declared.heard.Heard.TheVariants as heard
 use Rattle.rs_session.specs.declared.act.State.TheVariants as states
 use Rattle.rs_session.specs.declared.act.Act.TheVariants as acts
@@ -16,9 +16,9 @@ use Rattle.rs_policy.specs.declared.rules.Rule.{Rule}
 use Rattle.rs_policy.specs.declared.rules.Action.TheVariants as actions
 use Rattle.rs_policy.specs.declared.rules.Choice.TheVariants as choices
 use Rattle.rs_decision.specs.Choice.{unbeaten}
-use Rattle.rs_core.specs.Moves.{Move, Ruled, Came, Heard, Saw, Left, Turned, config_in}
+use Rattle.rs_core.specs.Moves.{Move, Ruled, Came, Heard, Left, Turned}
 use Rattle.rs_core.specs.Hearing.{session_in, state_in}
-use Rattle.rs_core.specs.Runs.{hearing, table, is_established, due}
+use Rattle.rs_core.specs.Runs.{hearing, is_established, due}
 
 -- ---- the configuration and the octets
 

@@ -1,24 +1,20 @@
 -- Another configuration: what is known of each client stays.
-use Rattle.std.proofs.Common.{◌≡◌, ◌<◌, ℕ, Bool, true, List, [], ◌∷◌, length, refl, sym, ◌∙◌, ap, subst}
-use Rattle.std.specs.Prelude.{Option, Some, None, slice_get, if◌then◌else◌}
-use Rattle.std.specs.Global.{Vec}
-use Rattle.rs_octets.specs.declared.heads.Allowed.{Allowed}
+use Rattle.std.proofs.Common.{◌≡◌, ◌<◌, ℕ, Bool, List, [], ◌∷◌, refl, sym, ◌∙◌, ap, subst}
+use Rattle.std.specs.Prelude.{None, slice_get, if◌then◌else◌}
 use Rattle.rs_octets.specs.Messages.{rest_of, header_fault_of}
 use Rattle.rs_octets.specs.Prefixes.{Prefix}
 use Rattle.rs_attrs.specs.Effects.{table_since}
-use Rattle.rs_session.specs.declared.session.Session.{Session}
 use Rattle.rs_session.specs.declared.settings.Settings.{Settings}
 use Rattle.rs_session.specs.Sessions.{state_of, is_live, agreed_identifier}
 use Rattle.rs_session.specs.Hearing.{HasHeard}
 use Rattle.rs_adjin.specs.AdjIns.{held_of, identifier_of}
-use Rattle.rs_adjin.specs.declared.adj_ins.AdjIns.{AdjIns}
 use Rattle.rs_policy.specs.Configuration.{Configuration}
 use Rattle.rs_policy.specs.Replacing.{IsFixed}
 use Rattle.rs_core.specs.Moves.{Move, Ruled, config_in}
-use Rattle.rs_core.specs.Hearing.{Hearing, silence, allowed_in, session_in, is_up}
+use Rattle.rs_core.specs.Hearing.{Hearing, allowed_in, session_in, is_up}
 use Rattle.rs_core.specs.Runs.{hearing}
 use Rattle.rs_core.specs.Steps.{HaveHeardNothing}
-use Rattle.rs_core.specs.Agreeing.{Knows, Waits, AgreesAt, Agrees}
+use Rattle.rs_core.specs.Agreeing.{Knows, Waits, Agrees}
 use Rattle.rs_core.specs.declared.route_server.Core.{Core}
 
 session_fixed : (s t : Configuration) (c : ℕ) → IsFixed s t → session_in s c ≡ session_in t c

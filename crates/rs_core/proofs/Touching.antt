@@ -1,6 +1,6 @@
 -- What touches leave of an outlet, and what they make touched.
 use Rattle.std.proofs.Common.{◌≡◌, ◌<◌, ℕ, zero, suc, Bool, true, false, ◌||◌, List, [], ◌∷◌, ◌++◌, length, refl, sym, ◌∙◌, ap, subst, arith, slice_index_or, append_assoc, append-nil}
-use Rattle.std.specs.Prelude.{Option, Some, None, IsSome, is_some, nat_lt, if◌then◌else◌}
+use Rattle.std.specs.Prelude.{Option, Some, None, nat_lt, if◌then◌else◌}
 use Rattle.std.specs.List.{Contains}
 use Rattle.std.specs.Map.{keys_of}
 use Rattle.std.specs.FinSet as set
@@ -139,16 +139,16 @@ touching_on ins all left e v w x h rest touched numbered = record {
   numbered = λ k. numbered (h.numbered k);
 }
 
-between : {P : Prefix × ℕ → Type 0} (done left : List (Prefix × ℕ)) (e : Prefix × ℕ) → ((k : ℕ) (d : Prefix × ℕ) → k < length (done ++ e ∷ left) → P (slice_index_or (done ++ e ∷ left) k d)) → P e
-between [] left e all = all zero e (omega arith)
-between {P} (x ∷ done) left e all = between {P} done left e (λ k d h. all (suc k) d (omega (arith, h)))
+between : (P : Prefix × ℕ → Type 0) (done left : List (Prefix × ℕ)) (e : Prefix × ℕ) → ((k : ℕ) (d : Prefix × ℕ) → k < length (done ++ e ∷ left) → P (slice_index_or (done ++ e ∷ left) k d)) → P e
+between P [] left e all = all zero e (omega arith)
+between P (x ∷ done) left e all = between P done left e (λ k d h. all (suc k) d (omega (arith, h)))
 
 -- the next one stands at its number
 pub next_number : (ins : AdjIns) (all left : List (Prefix × ℕ)) (e : Prefix × ℕ) (v w : View) → IsTouching ins all (e ∷ left) v w
     → ((k : ℕ) (d : Prefix × ℕ) → k < length all → number_of ins (slice_index_or all k d).0 ≡ Some (slice_index_or all k d).1) → number_of ins e.0 ≡ Some e.1
 next_number ins all left e v w h numbers =
-    between {λ x. number_of ins x.0 ≡ Some x.1} h.done left e
-        (subst (λ xs. (k : ℕ) (d : Prefix × ℕ) → k < length xs → number_of ins (slice_index_or xs k d).0 ≡ Some (slice_index_or xs k d).1) (sym h.split) numbers)
+    between (λ x. number_of ins x.0 ≡ Some x.1) h.done left e
+    (subst (λ xs. (k : ℕ) (d : Prefix × ℕ) → k < length xs → number_of ins (slice_index_or xs k d).0 ≡ Some (slice_index_or xs k d).1) (sym h.split) numbers)
 
 -- nothing is left
 pub touching_ends : (ins : AdjIns) (c : ℕ) (all : List (Prefix × ℕ)) (v w : View) → AreHeld ins c (keys_of all) → IsTouching ins all [] v w → AreNumbered v ins → IsTouchedWhereHeld ins c v w

@@ -30,7 +30,7 @@ pub record IsTouchedWhereHeld (ins : AdjIns) (c : ℕ) (old new : View) : Type 0
 
 -- where nothing was in flight the next message was begun: a NOTIFICATION that waited, a KEEPALIVE that was due, or an UPDATE
 pub record IsBegun (old new : View) : Type 0 where
-  pub rest : new ≡ record old { told = new.told; flight = new.flight; beat = new.beat; note = new.note; marked = new.marked }
+  pub rest : new ≡ record old { told = new.told; flight = new.flight; beat = new.beat; note = new.note; marked = new.marked; waits = new.waits }
   pub kept : old.flight ≢ [] → new ≡ old
   pub note : (note : Short) → old.flight ≡ [] → old.note ≡ Some note → new ≡ record old { flight = note_octets note; note = None }
   pub keepalive : old.flight ≡ [] → old.note ≡ None → old.beat ≡ true → new ≡ record old { flight = keepalive; beat = false }

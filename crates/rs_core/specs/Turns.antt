@@ -14,7 +14,7 @@ pub record IsDone (config : Configuration) (ins : AdjIns) (old new : View) : Typ
   pub turned : Turned
   pub last : new.last ≡ lasts.Done turned
   pub decided : AreNumbered old ins → HasTurned config ins old new turned
-  pub rest : new ≡ record old { loc = new.loc; told = new.told; touched = new.touched; marked = new.marked; numbers = new.numbers; last = new.last }
+  pub rest : new ≡ record old { loc = new.loc; told = new.told; touched = new.touched; marked = new.marked; waits = new.waits; numbers = new.numbers; last = new.last }
   pub numbered : AreNumbered old ins → AreNumbered new ins
 
 -- what a turn made of it: a refused one changes nothing but its answer

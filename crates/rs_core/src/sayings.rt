@@ -64,7 +64,7 @@ impl Ribs {
         requires { c < outlet_count self.old }
         ensures settings { KeepsSettings self.old self.new }
         ensures tables { self.new.tables ≡ self.old.tables }
-        ensures outlet { ChangesOwn c (λ v w. w ≡ record v { told = w.told; marked = w.marked }) self.old self.new }
+        ensures outlet { ChangesOwn c (λ v w. w ≡ record v { told = w.told; marked = w.marked; waits = w.waits }) self.old self.new }
         ensures kept { KeepsFresh self.old self.new }
     {
         let outlet = &mut self.outlets[c];

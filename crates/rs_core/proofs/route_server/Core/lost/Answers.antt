@@ -1,4 +1,4 @@
-use Rattle.std.proofs.Common.{◌≡◌, ◌≢◌, ℕ, List, ◌∷◌, refl, sym, ap, subst}
+use Rattle.std.proofs.Common.{◌∷◌, refl, sym, subst}
 use Rattle.rs_core.specs.Moves.{Left, config_in}
 use Rattle.rs_core.specs.Hearing.{leaves}
 use Rattle.rs_core.specs.Runs.{hearing}

@@ -1,4 +1,4 @@
-use Rattle.std.proofs.Common.{◌≡◌, ◌<◌, ◌≤◌, ◌+◌, ℕ, refl, sym, ◌∙◌, ap, subst, arith}
+use Rattle.std.proofs.Common.{refl, ◌∙◌, arith}
 use Rattle.rs_core.specs.Core.{client_count}
 use Rattle.rs_core.proofs.Agreeing.{none_seen, one_seen, all_seen}
 use Rattle.rs_core.proofs.route_server.Core.moment.Goals as goal

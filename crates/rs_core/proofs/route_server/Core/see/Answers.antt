@@ -1,10 +1,8 @@
-use Rattle.std.proofs.Common.{◌≡◌, ◌≢◌, ◌<◌, ℕ, List, ◌∷◌, length, refl, sym, ◌∙◌, ap, subst}
+use Rattle.std.proofs.Common.{◌<◌, length, refl, sym, ap, subst}
 use Rattle.std.specs.Global.{Vec}
 use Rattle.std.proofs.lemmas.Option.{slice_get_read}
 use Rattle.rs_session.specs.declared.session.Session.{Session}
 use Rattle.rs_session.specs.declared.act.Act.TheVariants as acts
-use Rattle.std.specs.Prelude.{slice_set}
-use Rattle.rs_core.specs.Steps.{ActsOn}
 use Rattle.rs_core.specs.Core.{client_count}
 use Rattle.rs_core.proofs.Acting.{seen, acted_spares}
 use Rattle.rs_core.proofs.route_server.Core.see.Goals as goal
