@@ -1,12 +1,17 @@
 #!/usr/bin/env python3
-"""Plays two members to a built rs_served over sockets on loopback, and says what went otherwise than it must.
+"""Plays members to a built rs_served over sockets on loopback, and says what went otherwise than it must.
 
 play_server.py PROGRAM
 
-Each member announces 10,000 routes and must be told the other's, each once and with its sender's attributes,
-octet for octet; then both close, and the server, started with --sessions 2, must end by itself with status 0.
-All waiting is bounded: 60 seconds in all.
+Two members: each announces 10,000 routes and must be told the other's.
+A silent member: one member announces 100,000 routes, another must be told them, while a third comes up and then reads
+nothing; the server's memory must stay below a bound, and the third's session must last.
+Many members: of 512 in the configuration 200 connect; each announces a route and must be told those of all others.
+
+In each play a route must be told once and with its sender's attributes, octet for octet; then all members close, and the
+server, which was started with --sessions, must end by itself with status 0. All waiting is bounded: 60 seconds a play.
 """
+import contextlib
 import pathlib
 import selectors
 import socket
@@ -18,8 +23,9 @@ import time
 
 from results import end, tell
 
-ROUTES = 10_000
 SECONDS = 60
+# What the server may take in the play with a silent member, in KiB.
+MOST_MEMORY = 262_144
 SERVER_AS = 64500
 MARKER = b"\xff" * 16
 OPEN, UPDATE, NOTIFICATION, KEEPALIVE = 1, 2, 3, 4
@@ -44,44 +50,41 @@ def attributes(number, address, group):
 class Member:
     """A member of the exchange: what it announces, and what it has heard."""
 
-    def __init__(self, name, number, address, port, first):
-        self.name, self.number, self.port = name, number, port
-        self.first, self.address = first, address
-        self.heard, self.told, self.wrong, self.is_up = b"", {}, [], False
-        self.socket = socket.create_connection(("127.0.0.1", port), timeout=5)
+    def __init__(self, name, number, address, server, routes, source="127.0.0.1"):
+        self.name, self.number, self.address, self.routes = name, number, address, routes
+        self.heard, self.told, self.wrong, self.is_up = bytearray(), {}, [], False
+        self.beat = time.monotonic()
+        self.socket = socket.create_connection(server, timeout=5, source_address=(source, 0))
         self.socket.setblocking(False)
         capability = b"\x41\x04" + struct.pack(">I", number)
         body = struct.pack(">BHHI", 4, number, 90, int.from_bytes(socket.inet_aton(address), "big"))
         parameters = b"\x02" + bytes([len(capability)]) + capability
         self.out = bytearray(message(OPEN, body + bytes([len(parameters)]) + parameters) + message(KEEPALIVE))
 
-    def prefix(self, at):
-        """The 24 bits of its route with this number."""
-        return struct.pack(">I", (self.first << 24) + (at << 8))[:3]
-
     def announce(self):
         """Announces all routes, ten for each set of attributes."""
-        for group in range(ROUTES // 10):
-            nlri = b"".join(b"\x18" + self.prefix(10 * group + it) for it in range(10))
-            field = attributes(self.number, self.address, group)
+        for group in range(0, len(self.routes), 10):
+            nlri = b"".join(b"\x18" + it for it in self.routes[group : group + 10])
+            field = attributes(self.number, self.address, group // 10)
             self.out += message(UPDATE, b"\0\0" + struct.pack(">H", len(field)) + field + nlri)
 
     def write(self):
-        try:
+        if time.monotonic() > self.beat + 20:
+            self.out += message(KEEPALIVE)
+            self.beat = time.monotonic()
+        with contextlib.suppress(BlockingIOError):
             while self.out:
                 del self.out[: self.socket.send(self.out[:65536])]
-        except BlockingIOError:
-            pass
 
     def read(self):
-        try:
+        with contextlib.suppress(BlockingIOError):
             while piece := self.socket.recv(65536):
                 self.heard += piece
-        except BlockingIOError:
-            pass
-        while len(self.heard) >= 19 and len(self.heard) >= (size := struct.unpack(">H", self.heard[16:18])[0]):
-            whole, self.heard = self.heard[:size], self.heard[size:]
-            self.hear(whole[18], whole[19:])
+        at = 0
+        while len(self.heard) - at >= 19 and len(self.heard) - at >= (size := struct.unpack_from(">H", self.heard, at + 16)[0]):
+            self.hear(self.heard[at + 18], self.heard[at + 19 : at + size])
+            at += size
+        del self.heard[:at]
 
     def hear(self, kind, body):
         if kind == NOTIFICATION:
@@ -92,47 +95,94 @@ class Member:
         elif kind == UPDATE:
             withdrawn = struct.unpack(">H", body[:2])[0]
             size = struct.unpack(">H", body[2 + withdrawn : 4 + withdrawn])[0]
-            field, nlri = body[4 + withdrawn : 4 + withdrawn + size], body[4 + withdrawn + size :]
+            field, nlri = bytes(body[4 + withdrawn : 4 + withdrawn + size]), body[4 + withdrawn + size :]
             if withdrawn:
                 self.wrong.append("was told of a withdrawal")
             for at in range(0, len(nlri), 4):
-                prefix = nlri[at + 1 : at + 4]
+                prefix = bytes(nlri[at + 1 : at + 4])
                 if prefix in self.told:
                     self.wrong.append(f"was told twice of {prefix.hex()}")
                 self.told[prefix] = field
 
-    def wanted_of(self, other):
-        """What it must be told: the other's routes with the other's attributes."""
-        return {other.prefix(at): attributes(other.number, other.address, at // 10) for at in range(ROUTES)}
+    def sent(self):
+        """What others must be told of it."""
+        return {it: attributes(self.number, self.address, at // 10) for at, it in enumerate(self.routes)}
 
 
-def exchange(members, until):
-    """Lets the members speak until each was told as many routes as there are."""
+def routes(first, count):
+    """The first three octets of so many prefixes of 24 bits."""
+    return [struct.pack(">I", (first << 24) + (at << 8))[:3] for at in range(count)]
+
+
+def exchange(members, listening, until):
+    """Lets the members speak until each that listens was told as many routes as the others have."""
+    wanted = {it: sum(len(other.routes) for other in members if other is not it) for it in listening}
     with selectors.DefaultSelector() as selector:
         for it in members:
             selector.register(it.socket, selectors.EVENT_READ, it)
-        while time.monotonic() < until and any(len(it.told) < ROUTES for it in members) and not any(it.wrong for it in members):
+        deaf = [it for it in members if it not in wanted]
+        while time.monotonic() < until and any(len(it.told) < wanted[it] for it in listening) and not any(it.wrong for it in members):
             for it in members:
                 it.write()
             for key, _ in selector.select(0.01):
                 key.data.read()
+            for it in [it for it in deaf if it.is_up]:
+                selector.unregister(it.socket)
+                deaf.remove(it)
 
 
-def differs(server, members, until):
+def differs(server, members, listening, until):
     """What went wrong, or None."""
-    exchange(members, until)
-    for it, other in zip(members, reversed(members)):
+    exchange(members, listening, until)
+    for it in members:
         if it.wrong:
             return f"{it.name} {it.wrong[0]}"
-        if it.told != it.wanted_of(other):
-            return f"{it.name} was told {len(it.told)} routes, and not just the {ROUTES} of {other.name} as they were sent"
+    for it in listening:
+        wanted = {}
+        for other in members:
+            if other is not it:
+                wanted.update(other.sent())
+        if it.told != wanted:
+            return f"{it.name} was told {len(it.told)} routes, and not just the {len(wanted)} of the others as they were sent"
+    return None
+
+
+def ends(server, members, until):
+    """Closes all members; the server must end by itself."""
     for it in members:
         it.socket.close()
     try:
         status = server.wait(max(1, until - time.monotonic()))
     except subprocess.TimeoutExpired:
-        return "the server did not end after both sessions had"
+        return "the server did not end after all sessions had"
     return f"status {status}" if status else None
+
+
+def memory(server):
+    """What a process takes, in KiB."""
+    for line in pathlib.Path(f"/proc/{server.pid}/status").read_text().splitlines():
+        if line.startswith("VmRSS:"):
+            return int(line.split()[1])
+    return 0
+
+
+@contextlib.contextmanager
+def serving(program, clients, sessions):
+    """A server for these clients, each a name, an AS, a port and an address; it listens already."""
+    text = f'as = {SERVER_AS}\nidentifier = "192.0.2.1"\n'
+    for name, number, port, peer in clients:
+        text += f'[[client]]\nname = "{name}"\nas = {number}\nlisten = "127.0.0.1:{port}"\npeer = "{peer}"\n'
+    with tempfile.TemporaryDirectory(prefix="served-") as room:
+        config = pathlib.Path(room) / "config.toml"
+        config.write_text(text)
+        words = [*program, "--config", config, "--sessions", str(sessions), "--workers", "2"]
+        with subprocess.Popen(words, stdout=subprocess.PIPE, stderr=subprocess.STDOUT) as server:
+            try:
+                for _ in {port for _, _, port, _ in clients}:
+                    server.stdout.readline()
+                yield server
+            finally:
+                server.kill()
 
 
 def free_ports(count):
@@ -144,34 +194,68 @@ def free_ports(count):
     return ports
 
 
-def play_members(program):
-    """Plays the two members: what was tried, and what is wrong or None."""
-    until = time.monotonic() + SECONDS
+def two_members(program, until):
+    """Two members of 10,000 routes each."""
     ports = free_ports(2)
-    text = f'as = {SERVER_AS}\nidentifier = "192.0.2.1"\n'
-    for name, number, port in zip(("alpha", "beta"), (64496, 64497), ports):
-        text += f'[[client]]\nname = "{name}"\nas = {number}\nlisten = "127.0.0.1:{port}"\npeer = "127.0.0.1"\n'
-    with tempfile.TemporaryDirectory(prefix="served-") as room:
-        config = pathlib.Path(room) / "config.toml"
-        config.write_text(text)
-        words = [program, "--config", config, "--sessions", "2", "--workers", "2"]
-        with subprocess.Popen(words, stdout=subprocess.PIPE, stderr=subprocess.STDOUT) as server:
-            try:
-                for _ in ports:
-                    server.stdout.readline()
-                members = [
-                    Member("alpha", 64496, "192.0.2.11", ports[0], 10),
-                    Member("beta", 64497, "192.0.2.12", ports[1], 11),
-                ]
-                wrong = differs(server, members, until)
-            except OSError as fault:
-                wrong = str(fault)
-            finally:
-                server.kill()
-    yield f"two members of {ROUTES} routes each", wrong
+    clients = [("alpha", 64496, ports[0], "127.0.0.1"), ("beta", 64497, ports[1], "127.0.0.1")]
+    with serving(program, clients, 2) as server:
+        members = [
+            Member(name, number, f"192.0.2.{11 + at}", ("127.0.0.1", port), routes(10 + at, 10_000))
+            for at, (name, number, port, _) in enumerate(clients)
+        ]
+        return differs(server, members, members, until) or ends(server, members, until)
+
+
+def a_silent_member(program, until):
+    """One member of 100,000 routes, one that is told them, and one that reads nothing once it is up."""
+    ports = free_ports(3)
+    clients = [(name, 64496 + at, ports[at], "127.0.0.1") for at, name in enumerate(("alpha", "beta", "gamma"))]
+    with serving(program, clients, 3) as server:
+        servers = [("127.0.0.1", port) for port in ports]
+        gamma = Member("gamma", 64498, "192.0.2.13", servers[2], [])
+        beta = Member("beta", 64497, "192.0.2.12", servers[1], [])
+        alpha = Member("alpha", 64496, "192.0.2.11", servers[0], routes(10, 65_536) + routes(11, 34_464))
+        members = [alpha, beta, gamma]
+        wrong = differs(server, members, [beta], until)
+        taken = memory(server)
+        if not wrong and not gamma.is_up:
+            wrong = "gamma did not come up"
+        if not wrong and taken > MOST_MEMORY:
+            wrong = f"the server takes {taken} KiB"
+        return wrong or ends(server, members, until)
+
+
+def many_members(program, until):
+    """512 members in the configuration, of which 200 connect and announce a route each."""
+    port = free_ports(1)[0]
+    clients = [(f"member-{at}", 65_000 + at, port, f"127.1.{at // 250}.{1 + at % 250}") for at in range(512)]
+    with serving(program, clients, 200) as server:
+        members = [
+            Member(name, number, f"10.1.{at // 250}.{1 + at % 250}", ("127.0.0.1", port), [struct.pack(">I", (20 << 24) + (at << 8))[:3]], peer)
+            for at, (name, number, _, peer) in enumerate(clients[:200])
+        ]
+        return differs(server, members, members, until) or ends(server, members, until)
+
+
+PLAYS = (
+    ("two members of 10,000 routes each", two_members),
+    ("a member of 100,000 routes beside one that reads nothing", a_silent_member),
+    ("512 members, of which 200 are connected", many_members),
+)
+
+
+def play_members(program):
+    """Plays all: what was tried, and what is wrong or None."""
+    words = [program] if isinstance(program, (str, pathlib.Path)) else list(program)
+    for name, play in PLAYS:
+        try:
+            wrong = play(words, time.monotonic() + SECONDS)
+        except OSError as fault:
+            wrong = str(fault)
+        yield name, wrong
 
 
 if __name__ == "__main__":
-    if len(sys.argv) != 2:
+    if len(sys.argv) < 2:
         sys.exit(__doc__)
-    end(*tell(play_members(sys.argv[1])))
+    end(*tell(play_members(sys.argv[1:])))
