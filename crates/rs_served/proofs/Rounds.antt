@@ -1,5 +1,5 @@
 -- All that a link does between two calls of the core.
-use Rattle.std.proofs.Common.{◌≡◌, ℕ, Bool, true, false, List, [], ◌∷◌, refl, ◌∙◌, subst, cc}
+use Rattle.std.proofs.Common.{◌≡◌, ℕ, Bool, true, false, List, [], ◌∷◌, refl, ◌∙◌, subst}
 use Rattle.rs_core.specs.declared.links.Event.TheVariants.{Stop}
 use Rattle.rs_core.specs.Links.{Step, Told, Leads, GoesOn, AllGoOn, HasStopped}
 use Rattle.rs_served.specs.Calls.{Call, IsFailedAccept}
@@ -7,7 +7,7 @@ use Rattle.rs_served.specs.Handled.{Did, AreHandled, EndBy, Has, Follows, On, Ha
 
 went_on : {P : Type 0} (asked : P → List Call → Type 0) (step : Step) (p : P) (has_failed : Bool) → GoesOn step → Follows asked step p has_failed → (has_failed ≡ false) × Has asked p AreHandled
 went_on asked step p _ on (On h) = (refl, record { deeds = Did step ∷ h.deeds; are = h.are; were = h.were })
-went_on asked step p _ on (Halts octets e h) = absurd (subst GoesOn e on refl)
+went_on asked step p _ on (Halts octets e h) = let k : true ≡ false = subst GoesOn e on in cc
 
 stopped : {P : Type 0} (asked : P → List Call → Type 0) (step : Step) (p : P) (has_failed : Bool) → Follows asked step p has_failed → (has_failed ≡ false → Has asked p AreHandled) × (has_failed ≡ true → Has asked p (EndBy IsFailedAccept))
 stopped asked step p _ (On h) = (λ e. record { deeds = Did step ∷ h.deeds; are = h.are; were = h.were }, λ (e : false ≡ true). cc)

@@ -276,8 +276,9 @@ impl<'a, P: Ports> CoreLink for Link<'a, P> {
 impl<'a, P: Ports> Source for Link<'a, P> {
     fn next(&mut self, piece: &mut [u8; 4096]) -> Event {
         for _ in 0..8 {
-            if let Some(event) = self.step(piece) {
-                return event;
+            match self.step(piece) {
+                Some(event) => return event,
+                None => {}
             }
         }
         Event::Stop

@@ -1,6 +1,6 @@
 //! What the core says, as calls on the ports.
 
-ghost use Rattle.std.specs.Prelude.{◌≡◌, ◌≤◌, length, IfOk, IfErr, IfSome, IsOk};
+ghost use Rattle.std.specs.Prelude.{◌≡◌, ◌≤◌, length, IfOk, IfErr, IsOk};
 ghost use Rattle.rs_served.specs.Calls.{IsFaultOf};
 ghost use Rattle.rs_served.specs.Handled.{Has, AreHandled, EndBy};
 
@@ -94,9 +94,7 @@ impl<'a, P: Ports> Sink for Link<'a, P> {
         self.turn_away();
     }
 
-    fn offer(&mut self, c: usize, octets: &[u8]) -> Option<usize>
-        ensures front { IfSome result (λ n. n ≤ length octets.now) }
-    {
+    fn offer(&mut self, c: usize, octets: &[u8]) -> Option<usize> {
         match self.hand(c, octets) {
             Ok(n) => Some(n),
             Err(key) => {
