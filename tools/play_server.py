@@ -9,7 +9,7 @@ nothing; the server's memory must stay below a bound, and the third's session mu
 Many members: of 512 in the configuration 200 connect; each announces a route and must be told those of all others.
 
 In each play a route must be told once and with its sender's attributes, octet for octet; then all members close, and the
-server, which was started with --sessions, must end by itself with status 0. All waiting is bounded: 60 seconds a play.
+server, which was started with --sessions, must end by itself with status 0. All waiting is bounded: 120 seconds a play.
 """
 import contextlib
 import pathlib
@@ -23,7 +23,7 @@ import time
 
 from results import end, tell
 
-SECONDS = 60
+SECONDS = 120
 # What the server may take in the play with a silent member, in KiB.
 MOST_MEMORY = 262_144
 SERVER_AS = 64500
