@@ -5,8 +5,10 @@
 
 pub mod command;
 pub mod configuration;
+mod events;
 pub mod link;
 pub mod names;
+mod orders;
 pub mod outbox;
 pub mod ports;
 pub mod reports;

@@ -1,7 +1,8 @@
 //! What the server asks of the outside, as one trait: connections, a clock, a file, and places to
 //! print. Nothing else of the crate but its sockets reaches further.
 
-ghost use Rattle.std.specs.Prelude.{◌≡◌, ◌≤◌, ◌+◌, ℕ, min, IfOk, IfSome, IsErr, IsOk, length};
+ghost use Rattle.std.specs.Prelude.{◌≤◌, ◌∷◌, ℕ, List, IfOk, IfSome, length};
+ghost use Rattle.rs_served.specs.Calls.{Call, Waited, Accepted, Read, Wrote, Closed, Timed, Fetched, Said, Logged};
 
 use crate::reports::Report;
 use rs_policy::RulesFault;
@@ -38,48 +39,46 @@ pub enum Line {
     Rules(Result<(), RulesFault>),
 }
 
-/// Listeners, connections, a clock, a file of rules and places to print. `failures` counts the calls
-/// of `wait` and `accept` that failed; at `u64::MAX` it stays.
+/// Listeners, connections, a clock, a file of rules and places to print. `asked ports calls` says that
+/// the ports were asked these calls, the newest first; where it always holds, nothing is known.
 pub trait Ports {
-    ghost failures: { Self → ℕ };
+    ghost asked: { Self → List Call → Type 0 };
 
     /// Waits until something is ready, at most one second, or only asks for what is.
     fn wait(&mut self, pause: bool) -> Result<(), PortFault>
-        ensures ok { IsOk result → failures self.new ≡ failures self.old }
-        ensures err { IsErr result → failures self.new ≡ min (failures self.old + 1) 18446744073709551615 };
+        ensures { (calls : List Call) → asked self.old calls → asked self.new (Waited result ∷ calls) };
 
     /// The next connection that has come; `None` where none has.
     fn accept(&mut self) -> Result<Option<Caller>, PortFault>
-        ensures ok { IsOk result → failures self.new ≡ failures self.old }
-        ensures err { IsErr result → failures self.new ≡ min (failures self.old + 1) 18446744073709551615 };
+        ensures { (calls : List Call) → asked self.old calls → asked self.new (Accepted result ∷ calls) };
 
     /// Reads a piece of a connection. `None` where nothing is there, 0 at the end of input.
     fn read(&mut self, key: usize, piece: &mut [u8; 4096]) -> Result<Option<usize>, PortFault>
         ensures count { IfOk result (λ r. IfSome r (λ n. n ≤ 4096)) }
-        ensures same { failures self.new ≡ failures self.old };
+        ensures asked { (calls : List Call) → asked self.old calls → asked self.new (Read key piece.new result ∷ calls) };
 
     /// Writes a front of the octets. `None` where the connection takes none at present.
     fn write(&mut self, key: usize, octets: &[u8]) -> Result<Option<usize>, PortFault>
         ensures count { IfOk result (λ r. IfSome r (λ n. n ≤ length octets.now)) }
-        ensures same { failures self.new ≡ failures self.old };
+        ensures asked { (calls : List Call) → asked self.old calls → asked self.new (Wrote key octets.now result ∷ calls) };
 
     /// Closes a connection.
     fn close(&mut self, key: usize)
-        ensures { failures self.new ≡ failures self.old };
+        ensures { (calls : List Call) → asked self.old calls → asked self.new (Closed key ∷ calls) };
 
     /// The whole seconds since the start.
     fn seconds(&mut self) -> u64
-        ensures { failures self.new ≡ failures self.old };
+        ensures { (calls : List Call) → asked self.old calls → asked self.new (Timed result ∷ calls) };
 
     /// The text of the file of rules, in place of what stands in `text`.
     fn text(&mut self, text: &mut Vec<u8>) -> Result<(), PortFault>
-        ensures { failures self.new ≡ failures self.old };
+        ensures { (calls : List Call) → asked self.old calls → asked self.new (Fetched text.new.items result ∷ calls) };
 
     /// Prints a line.
     fn say(&mut self, line: &Line)
-        ensures { failures self.new ≡ failures self.old };
+        ensures { (calls : List Call) → asked self.old calls → asked self.new (Said line.now ∷ calls) };
 
     /// Tells an operator what happened and why.
     fn log(&mut self, report: &Report)
-        ensures { failures self.new ≡ failures self.old };
+        ensures { (calls : List Call) → asked self.old calls → asked self.new (Logged report.now ∷ calls) };
 }

@@ -2,10 +2,11 @@
 //! of packets to see it.
 
 use crate::names::Names;
-use rs_attrs::Mode;
+use rs_attrs::{AttributeFault, Cause, Faulted, Mode};
 use rs_core::{Ending, Notice};
 use rs_octets::Notification;
 use rs_open::{Limit, Short};
+use rs_policy::RulesFault;
 use std::net::Ipv4Addr;
 use std::{fmt, io};
 
@@ -29,6 +30,15 @@ pub enum Report {
         client: usize,
         ending: Option<Ending>,
     },
+    /// UPDATEs of a client were not taken as they came (RFC 7606, 2): how many since the last such
+    /// report, and what was wrong with the last.
+    Faulted {
+        client: usize,
+        count: u64,
+        last: Faulted,
+    },
+    /// A text of rules was accepted, or why it was not.
+    Rules(Result<(), RulesFault>),
     /// So many reports of a client were left out, since there was one in that second already.
     LeftOut {
         client: usize,
@@ -118,6 +128,56 @@ impl fmt::Display for Why<'_> {
     }
 }
 
+/// The name of a type of path attribute (RFC 4271, 5; RFC 1997; RFC 4760; RFC 6793; RFC 8092).
+fn attribute_name(kind: u8) -> &'static str {
+    match kind {
+        1 => "ORIGIN",
+        2 => "AS_PATH",
+        3 => "NEXT_HOP",
+        4 => "MULTI_EXIT_DISC",
+        5 => "LOCAL_PREF",
+        6 => "ATOMIC_AGGREGATE",
+        7 => "AGGREGATOR",
+        8 => "COMMUNITIES",
+        14 => "MP_REACH_NLRI",
+        15 => "MP_UNREACH_NLRI",
+        16 => "EXTENDED COMMUNITIES",
+        17 => "AS4_PATH",
+        18 => "AS4_AGGREGATOR",
+        32 => "LARGE_COMMUNITY",
+        _ => "an attribute",
+    }
+}
+
+fn cause_text(cause: Cause) -> &'static str {
+    match cause {
+        Cause::Flags => "wrong flags",
+        Cause::Length => "wrong length",
+        Cause::Value => "malformed value",
+        Cause::Position => "cut off",
+        Cause::Twice => "there twice",
+    }
+}
+
+/// An attribute at fault, behind a comma and what came of it; nothing where there is none.
+#[derive(Drop)]
+struct AtFault(&'static str, Option<AttributeFault>);
+
+impl fmt::Display for AtFault {
+    fn fmt<W: fmt::Write>(&self, f: &mut fmt::Formatter<W>) -> fmt::Result {
+        match self.1 {
+            None => Ok(()),
+            Some(AttributeFault { kind, cause }) => write!(
+                f,
+                ", {} by {} (type {kind}): {}",
+                self.0,
+                attribute_name(kind),
+                cause_text(cause)
+            ),
+        }
+    }
+}
+
 fn mode_text(mode: Mode) -> &'static str {
     match mode {
         Mode::Two => "two-octet",
@@ -149,6 +209,20 @@ impl Report {
                 "{seconds} {} down: {}",
                 names.name(*client),
                 Why(ending)
+            )),
+            Report::Faulted {
+                client,
+                count,
+                last,
+            } => rt.eprintln(format_args!(
+                "{seconds} {}: {count} UPDATEs at fault, the last{}{}",
+                names.name(*client),
+                AtFault("treated as withdraw", last.withdraw),
+                AtFault("with less", last.discard)
+            )),
+            Report::Rules(Ok(())) => rt.eprintln(format_args!("{seconds} rules accepted")),
+            Report::Rules(Err(fault)) => rt.eprintln(format_args!(
+                "{seconds} rules refused: {fault}"
             )),
             Report::LeftOut { client, count } => rt.eprintln(format_args!(
                 "{seconds} {}: {count} reports left out",

@@ -1,7 +1,9 @@
 //! A place for each client: where its connection comes from, the one that it has, and an earlier one
 //! that the server is closing.
 
-ghost use Rattle.std.specs.Prelude.{◌≡◌, ◌≤◌, length};
+ghost use Rattle.std.specs.Prelude.{◌≤◌, length, IfOk, IfErr, IsOk};
+ghost use Rattle.rs_served.specs.Calls.{IsFaultOf};
+ghost use Rattle.rs_served.specs.Handled.{Has, AreHandled, EndBy};
 
 use crate::outbox::Outbox;
 use crate::ports::Ports;
@@ -24,7 +26,6 @@ pub struct Connection {
     /// Since when what waits has waited, or since when the connection is being closed.
     since: u64,
     is_closing: bool,
-    has_failed: bool,
 }
 
 impl Connection {
@@ -34,7 +35,6 @@ impl Connection {
             out: Outbox::new(alloc)?,
             since: 0,
             is_closing: false,
-            has_failed: false,
         })
     }
 
@@ -43,7 +43,6 @@ impl Connection {
         self.key = Some(key);
         self.out.clear();
         self.is_closing = false;
-        self.has_failed = false;
     }
 
     pub fn key(&self) -> Option<usize> {
@@ -75,67 +74,100 @@ impl Connection {
     pub fn is_over(&self, now: u64) -> bool {
         let waited = now.saturating_sub(self.since);
         if self.is_closing {
-            self.has_failed || self.out.is_empty() || waited >= CLOSING
+            self.out.is_empty() || waited >= CLOSING
         } else {
-            self.has_failed || !self.out.is_empty() && waited >= SEND_HOLD
+            !self.out.is_empty() && waited >= SEND_HOLD
         }
     }
 
     /// Hands octets to the connection, as much as there is room for, and answers how many. Where
-    /// there is no room, what waits is written first.
-    pub fn offer<P: Ports>(&mut self, ports: &mut P, octets: &[u8], now: u64) -> usize
-        ensures count { result ≤ length octets.now }
-        ensures failures { P.failures ports.new ≡ P.failures ports.old }
+    /// there is no room, what waits is written first; where that fails the error is the key.
+    pub fn offer<P: Ports>(
+        &mut self,
+        ports: &mut P,
+        octets: &[u8],
+        now: u64,
+    ) -> Result<usize, usize>
+        ensures count { IfOk result (λ n. n ≤ length octets.now) }
+        ensures ok { IsOk result → Has P.asked ports.old AreHandled → Has P.asked ports.new AreHandled }
+        ensures err { IfErr result (λ key. Has P.asked ports.old AreHandled → Has P.asked ports.new (EndBy (IsFaultOf key))) }
     {
-        if self.out.is_full() {
-            self.write(ports, now);
-            self.out.make_room();
-        }
+        self.make_room(ports, now)?;
         if self.out.is_empty() {
             self.since = now;
         }
-        self.out.put(octets)
+        Ok(self.out.put(octets))
     }
 
-    /// Writes what waits, until the socket takes no more.
-    pub fn write<P: Ports>(&mut self, ports: &mut P, now: u64)
-        ensures { P.failures ports.new ≡ P.failures ports.old }
+    /// Writes what waits where there is no room; where that fails the error is the key.
+    fn make_room<P: Ports>(&mut self, ports: &mut P, now: u64) -> Result<(), usize>
+        ensures ok { IsOk result → Has P.asked ports.old AreHandled → Has P.asked ports.new AreHandled }
+        ensures err { IfErr result (λ key. Has P.asked ports.old AreHandled → Has P.asked ports.new (EndBy (IsFaultOf key))) }
+    {
+        if !self.out.is_full() {
+            return Ok(());
+        }
+        self.write(ports, now)?;
+        self.out.make_room();
+        Ok(())
+    }
+
+    /// Writes what waits, until the socket takes no more; where that fails the error is the key.
+    pub fn write<P: Ports>(&mut self, ports: &mut P, now: u64) -> Result<(), usize>
+        ensures ok { IsOk result → Has P.asked ports.old AreHandled → Has P.asked ports.new AreHandled }
+        ensures err { IfErr result (λ key. Has P.asked ports.old AreHandled → Has P.asked ports.new (EndBy (IsFaultOf key))) }
     {
         let Some(key) = self.key else {
-            return;
+            return Ok(());
         };
         for _ in 0..u16::MAX {
             if self.out.is_empty() {
-                return;
+                return Ok(());
             }
             match ports.write(key, self.out.waiting()) {
-                Ok(None) | Ok(Some(0)) => return,
-                Ok(Some(count)) => {
-                    if !self.is_closing {
-                        self.since = now;
-                    }
-                    self.out.took(count);
-                }
-                Err(_) => {
-                    self.has_failed = true;
-                    return;
-                }
+                Ok(None) => return Ok(()),
+                Ok(Some(count)) => self.took(count, now),
+                Err(_) => return Err(key),
             }
+        }
+        Ok(())
+    }
+
+    /// The socket took so many of the octets that wait.
+    fn took(&mut self, count: usize, now: u64) {
+        if !self.is_closing {
+            self.since = now;
+        }
+        self.out.took(count);
+    }
+
+    /// Forgets the connection, and answers its key, if there is one.
+    pub fn forget(&mut self) -> Option<usize> {
+        self.out.clear();
+        self.key.take()
+    }
+
+    /// Closes the connection, if there is one.
+    pub fn close<P: Ports>(&mut self, ports: &mut P)
+        ensures { Has P.asked ports.old AreHandled → Has P.asked ports.new AreHandled }
+    {
+        if let Some(key) = self.forget() {
+            ports.close(key);
         }
     }
 
-    /// Closes the connection, if there is one, and answers whether there was.
-    pub fn close<P: Ports>(&mut self, ports: &mut P) -> bool
-        ensures { P.failures ports.new ≡ P.failures ports.old }
+    /// Goes on with a connection that is being closed: what waits is written, and it is closed where
+    /// nothing waits any more, where its time is up, and where a write fails.
+    pub fn finish<P: Ports>(&mut self, ports: &mut P, now: u64)
+        ensures { Has P.asked ports.old AreHandled → Has P.asked ports.new AreHandled }
     {
-        self.out.clear();
-        self.has_failed = false;
-        match self.key.take() {
-            None => false,
-            Some(key) => {
+        match self.write(ports, now) {
+            Err(key) => {
+                self.forget();
                 ports.close(key);
-                true
             }
+            Ok(()) if self.is_over(now) => self.close(ports),
+            Ok(()) => {}
         }
     }
 }

@@ -1,6 +1,8 @@
 //! The loop of the server.
 
-ghost use Rattle.std.specs.Prelude.{◌≡◌, ◌≤◌, ◌<◌};
+ghost use Rattle.std.specs.Prelude.{◌≡◌, ◌≤◌, ◌<◌, false, true, IsOk, IsErr, IsSome, IsTrue};
+ghost use Rattle.rs_served.specs.Calls.{IsFailedAccept};
+ghost use Rattle.rs_served.specs.Handled.{Has, AreHandled, EndBy, IsServed};
 
 use crate::link::Link;
 use crate::ports::Ports;
@@ -36,13 +38,14 @@ pub struct Limits {
     pub reload: Option<u16>,
 }
 
-/// Serves the clients of a configuration, over ports that listen already. It ends without a fault
-/// once `sessions` begun sessions have ended and their connections are closed.
+/// Serves the clients of a configuration, over ports that listen already and were asked nothing yet.
+/// It ends without a fault once `sessions` begun sessions have ended and their connections are closed.
 ///
 /// # Errors
 ///
 /// `Poll` where `wait` failed, `Listener` where `accept` failed, and `Memory` where memory was refused
-/// at the start. Any other fault of the ports is a lost connection.
+/// at the start, before the first call of the ports. Any other fault of the ports is a lost connection,
+/// and all others go on.
 pub fn serve<R: Threads + Wait + Sync, P: Ports>(
     rt: &R,
     alloc: Global,
@@ -51,6 +54,7 @@ pub fn serve<R: Threads + Wait + Sync, P: Ports>(
     limits: Limits,
 ) -> Result<(), ServeFault>
     requires workers { (0 < limits.workers) × (limits.workers ≤ 16) }
+    ensures ended { IsOk result → IsSome limits.sessions }
 {
     let Ok(seats) = seats(alloc, &config) else {
         return Err(ServeFault::Memory);
@@ -62,6 +66,22 @@ pub fn serve<R: Threads + Wait + Sync, P: Ports>(
         return Err(ServeFault::Memory);
     };
     let mut link = Link::new(ports, seats, Vec::new(alloc), Vec::new(alloc));
+    serve_on(rt, limits, &mut watch, &mut core, &mut link)
+}
+
+/// Serves round by round.
+fn serve_on<R: Threads + Wait + Sync, P: Ports>(
+    rt: &R,
+    limits: Limits,
+    watch: &mut Watch,
+    core: &mut Core,
+    link: &mut Link<'_, P>,
+) -> Result<(), ServeFault>
+    requires workers { (0 < limits.workers) × (limits.workers ≤ 16) }
+    ensures same_ports { link.new.ports.ghost_name ≡ link.old.ports.ghost_name }
+    ensures served { link.old.has_failed ≡ false → Has P.asked link.old.ports.now AreHandled → Has P.asked link.new.ports.now (IsServed result) }
+    ensures ended { IsOk result → IsSome limits.sessions }
+{
     let mut rounds = 0;
     for _ in rt.forever() {
         if !link.begin_round() {
@@ -71,25 +91,68 @@ pub fn serve<R: Threads + Wait + Sync, P: Ports>(
         if rounds == 0 {
             link.read_rules();
         }
-        for _ in rt.forever() {
-            if link.is_wide() {
-                drive_with(rt, limits.workers, &Free, &mut core, &mut link);
-            } else {
-                drive(rt, &mut core, &mut link);
-            }
-            if link.is_over() {
-                break;
-            }
+        match play_round(rt, limits.workers, core, link) {
+            Ok(()) => watch.tell(core, link),
+            Err(_) => return Err(ServeFault::Listener),
         }
-        watch.tell(&core, &mut link);
+        if is_done(limits.sessions, link) {
+            return Ok(());
+        }
+    }
+    unreachable!()
+}
+
+/// As many sessions have ended as were asked for, and their connections are closed.
+fn is_done<P: Ports>(sessions: Option<u64>, link: &Link<'_, P>) -> bool
+    ensures { IsTrue result → IsSome sessions }
+{
+    match sessions {
+        Some(most) => link.ended() >= most && link.has_closed_all(),
+        None => false,
+    }
+}
+
+/// Drives the core until the round is over, with all workers where the link asks for them.
+fn play_round<R: Threads + Wait + Sync, P: Ports>(
+    rt: &R,
+    workers: usize,
+    core: &mut Core,
+    link: &mut Link<'_, P>,
+) -> Result<(), ServeFault>
+    requires workers { (0 < workers) × (workers ≤ 16) }
+    ensures same_ports { link.new.ports.ghost_name ≡ link.old.ports.ghost_name }
+    ensures ok { IsOk result → link.old.has_failed ≡ false → Has P.asked link.old.ports.now AreHandled → (link.new.has_failed ≡ false) × Has P.asked link.new.ports.now AreHandled }
+    ensures err { IsErr result → link.old.has_failed ≡ false → Has P.asked link.old.ports.now AreHandled → Has P.asked link.new.ports.now (EndBy IsFailedAccept) }
+{
+    for _ in rt.forever() {
+        drive_on(rt, workers, core, link);
         if link.has_failed() {
             return Err(ServeFault::Listener);
         }
-        if limits.sessions.is_some_and(|most| link.ended() >= most) && link.has_closed_all() {
-            break;
+        if link.is_over() {
+            return Ok(());
         }
     }
-    Ok(())
+    unreachable!()
+}
+
+/// Drives the core until the link stops, with all workers where it asks for them.
+fn drive_on<R: Threads + Wait + Sync, P: Ports>(
+    rt: &R,
+    workers: usize,
+    core: &mut Core,
+    link: &mut Link<'_, P>,
+)
+    requires workers { (0 < workers) × (workers ≤ 16) }
+    ensures same_ports { link.new.ports.ghost_name ≡ link.old.ports.ghost_name }
+    ensures handled { link.old.has_failed ≡ false → Has P.asked link.old.ports.now AreHandled → link.new.has_failed ≡ false → Has P.asked link.new.ports.now AreHandled }
+    ensures halted { link.old.has_failed ≡ false → Has P.asked link.old.ports.now AreHandled → link.new.has_failed ≡ true → Has P.asked link.new.ports.now (EndBy IsFailedAccept) }
+{
+    if link.is_wide() {
+        drive_with(rt, workers, &Free, core, link);
+    } else {
+        drive(rt, core, link);
+    }
 }
 
 /// The number of a round since the last one in which the file of rules was read: 0 where it is to be

@@ -1,8 +1,6 @@
 //! The ports that are sockets of the system, its clock, the file of the configuration, and the
 //! standard streams.
 
-ghost use Rattle.std.specs.Prelude.{◌≡◌};
-
 use crate::configuration::read_file;
 use crate::names::Names;
 use crate::ports::{Caller, Line, PortFault, Ports};
@@ -43,7 +41,6 @@ pub struct Sockets<'a, R> {
     asked: usize,
     streams: Slab<Stream>,
     start: Instant,
-    failures: u64,
 }
 
 impl<'a, R: Net + Clock + Files + Print + Eprint> Sockets<'a, R> {
@@ -81,14 +78,11 @@ impl<'a, R: Net + Clock + Files + Print + Eprint> Sockets<'a, R> {
             asked: 0,
             streams,
             start: Instant::now(rt)?,
-            failures: 0,
         })
     }
 
     /// Keeps an accepted connection, and tells its caller.
-    fn keep(&mut self, listener: usize, mut stream: TcpStream, from: SocketAddr) -> Option<Caller>
-        ensures { self.new.failures ≡ self.old.failures }
-    {
+    fn keep(&mut self, listener: usize, mut stream: TcpStream, from: SocketAddr) -> Option<Caller> {
         let IpAddr::V4(address) = from.ip() else {
             return None;
         };
@@ -115,7 +109,7 @@ impl<'a, R: Net + Clock + Files + Print + Eprint> Sockets<'a, R> {
 }
 
 impl<'a, R: Net + Clock + Files + Print + Eprint> Ports for Sockets<'a, R> {
-    ghost failures = { λ p. p.failures };
+    ghost asked = { λ ports calls. Unit {0} };
 
     fn wait(&mut self, pause: bool) -> Result<(), PortFault> {
         let most = if pause { 1 } else { 0 };
@@ -124,7 +118,6 @@ impl<'a, R: Net + Clock + Files + Print + Eprint> Ports for Sockets<'a, R> {
             .poll(&mut self.events, Some(Duration::from_secs(most)))
             .is_err()
         {
-            self.failures = self.failures.saturating_add(1);
             return Err(PortFault);
         }
         for event in self.events.iter() {
@@ -151,10 +144,7 @@ impl<'a, R: Net + Clock + Files + Print + Eprint> Ports for Sockets<'a, R> {
                 Err(error) if error.kind() == ErrorKind::WouldBlock => {
                     self.asked = self.asked.saturating_add(1);
                 }
-                Err(_) => {
-                    self.failures = self.failures.saturating_add(1);
-                    return Err(PortFault);
-                }
+                Err(_) => return Err(PortFault),
             }
         }
         Ok(None)
@@ -182,6 +172,7 @@ impl<'a, R: Net + Clock + Files + Print + Eprint> Ports for Sockets<'a, R> {
             return Ok(None);
         };
         match (&stream.stream).write(octets) {
+            Ok(0) => Ok(None),
             Ok(n) => Ok(Some(n)),
             Err(error) if error.kind() == ErrorKind::WouldBlock => Ok(None),
             Err(_) => Err(PortFault),

@@ -1,6 +1,9 @@
 //! What has become of each client between two rounds, told in reports: at most one line for each
 //! client in a second, so that no member can fill a disk.
 
+ghost use Rattle.std.specs.Prelude.{◌≡◌};
+ghost use Rattle.rs_served.specs.Handled.{Has, AreHandled};
+
 use crate::link::Link;
 use crate::ports::Ports;
 use crate::reports::Report;
@@ -12,6 +15,8 @@ use std::alloc::{AllocError, Global};
 struct Told {
     /// Its session was Established.
     is_up: bool,
+    /// How many of its UPDATEs were at fault.
+    faulted: u64,
     /// In which second there was a report last.
     second: Option<u64>,
     /// How many reports were left out since.
@@ -25,22 +30,115 @@ pub struct Watch {
     strangers: Option<u64>,
 }
 
+/// What a client's session is, where it is Established.
+fn up(core: &Core, client: usize) -> Option<Report> {
+    if client >= core.clients() {
+        return None;
+    }
+    Some(Report::Up {
+        client,
+        mode: core.mode(client)?,
+        limit: core.limit(client)?,
+        hold: core.hold(client)?,
+    })
+}
+
+/// How the last session of a client ended.
+fn down(core: &Core, client: usize) -> Report {
+    let ending = if client < core.clients() {
+        core.ending(client)
+    } else {
+        None
+    };
+    Report::Down { client, ending }
+}
+
 impl Told {
+    /// There was no report in this second yet.
+    fn is_free(&self, second: u64) -> bool {
+        self.second != Some(second)
+    }
+
     /// Tells a report, unless there was one in this second.
-    fn tell<P: Ports>(&mut self, link: &mut Link<'_, P>, client: usize, report: &Report) {
-        if self.second == Some(link.now()) {
+    fn tell<P: Ports>(&mut self, link: &mut Link<'_, P>, client: usize, report: &Report)
+        ensures same_ports { link.new.ports.ghost_name ≡ link.old.ports.ghost_name }
+        ensures failed { link.new.has_failed ≡ link.old.has_failed }
+        ensures handled { Has P.asked link.old.ports.now AreHandled → Has P.asked link.new.ports.now AreHandled }
+    {
+        if self.is_free(link.now()) {
+            self.second = Some(link.now());
+            self.tell_left_out(link, client);
+            link.log(report);
+        } else {
             self.left_out = self.left_out.saturating_add(1);
+        }
+    }
+
+    /// Tells how many reports were left out, where there are some.
+    fn tell_left_out<P: Ports>(&mut self, link: &mut Link<'_, P>, client: usize)
+        ensures same_ports { link.new.ports.ghost_name ≡ link.old.ports.ghost_name }
+        ensures failed { link.new.has_failed ≡ link.old.has_failed }
+        ensures handled { Has P.asked link.old.ports.now AreHandled → Has P.asked link.new.ports.now AreHandled }
+    {
+        let count = self.left_out;
+        self.left_out = 0;
+        if count > 0 {
+            link.log(&Report::LeftOut { client, count });
+        }
+    }
+
+    /// Tells the end of a client's session, where one ended.
+    fn tell_end<P: Ports>(&mut self, core: &Core, link: &mut Link<'_, P>, client: usize)
+        ensures same_ports { link.new.ports.ghost_name ≡ link.old.ports.ghost_name }
+        ensures failed { link.new.has_failed ≡ link.old.has_failed }
+        ensures handled { Has P.asked link.old.ports.now AreHandled → Has P.asked link.new.ports.now AreHandled }
+    {
+        if link.take_ended(client) {
+            self.is_up = false;
+            self.tell(link, client, &down(core, client));
+        }
+    }
+
+    /// Tells the begin of a client's session, where one is Established.
+    fn tell_begin<P: Ports>(&mut self, core: &Core, link: &mut Link<'_, P>, client: usize)
+        ensures same_ports { link.new.ports.ghost_name ≡ link.old.ports.ghost_name }
+        ensures failed { link.new.has_failed ≡ link.old.has_failed }
+        ensures handled { Has P.asked link.old.ports.now AreHandled → Has P.asked link.new.ports.now AreHandled }
+    {
+        if self.is_up {
             return;
         }
-        self.second = Some(link.now());
-        if self.left_out > 0 {
-            link.log(&Report::LeftOut {
-                client,
-                count: self.left_out,
-            });
-            self.left_out = 0;
+        if let Some(report) = up(core, client) {
+            self.is_up = true;
+            self.tell(link, client, &report);
         }
-        link.log(report);
+    }
+
+    /// Tells of the UPDATEs that were not taken as they came, where there are more than were told and
+    /// there was no report in this second.
+    fn tell_faulted<P: Ports>(&mut self, core: &Core, link: &mut Link<'_, P>, client: usize)
+        ensures same_ports { link.new.ports.ghost_name ≡ link.old.ports.ghost_name }
+        ensures failed { link.new.has_failed ≡ link.old.has_failed }
+        ensures handled { Has P.asked link.old.ports.now AreHandled → Has P.asked link.new.ports.now AreHandled }
+    {
+        if client >= core.clients() || !self.is_free(link.now()) {
+            return;
+        }
+        let faulted = core.faulted(client);
+        let count = faulted.count.saturating_sub(self.faulted);
+        if count > 0 {
+            self.faulted = faulted.count;
+            let last = faulted.last;
+            self.tell(
+                link,
+                client,
+                &Report::Faulted {
+                    client,
+                    count,
+                    last,
+                },
+            );
+        }
     }
 }
 
@@ -49,6 +147,7 @@ impl Watch {
     pub fn new(alloc: Global, count: usize) -> Result<Watch, AllocError> {
         let nothing = Told {
             is_up: false,
+            faulted: 0,
             second: None,
             left_out: 0,
         };
@@ -59,47 +158,31 @@ impl Watch {
     }
 
     /// Tells what has changed since the last call.
-    pub fn tell<P: Ports>(&mut self, core: &Core, link: &mut Link<'_, P>) {
-        if self.strangers != Some(link.now())
-            && let Some((address, count)) = link.take_strangers()
-        {
+    pub fn tell<P: Ports>(&mut self, core: &Core, link: &mut Link<'_, P>)
+        ensures same_ports { link.new.ports.ghost_name ≡ link.old.ports.ghost_name }
+        ensures failed { link.new.has_failed ≡ link.old.has_failed }
+        ensures handled { Has P.asked link.old.ports.now AreHandled → Has P.asked link.new.ports.now AreHandled }
+    {
+        self.tell_strangers(link);
+        for (client, told) in self.all.iter_mut().enumerate() {
+            told.tell_end(core, link, client);
+            told.tell_begin(core, link, client);
+            told.tell_faulted(core, link, client);
+        }
+    }
+
+    /// Tells of connections of strangers, at most once in a second.
+    fn tell_strangers<P: Ports>(&mut self, link: &mut Link<'_, P>)
+        ensures same_ports { link.new.ports.ghost_name ≡ link.old.ports.ghost_name }
+        ensures failed { link.new.has_failed ≡ link.old.has_failed }
+        ensures handled { Has P.asked link.old.ports.now AreHandled → Has P.asked link.new.ports.now AreHandled }
+    {
+        if self.strangers == Some(link.now()) {
+            return;
+        }
+        if let Some((address, count)) = link.take_strangers() {
             self.strangers = Some(link.now());
             link.log(&Report::Strangers { address, count });
-        }
-        for (client, told) in self.all.iter_mut().enumerate() {
-            if client >= core.clients() {
-                return;
-            }
-            if link.take_ended(client) {
-                told.is_up = false;
-                told.tell(
-                    link,
-                    client,
-                    &Report::Down {
-                        client,
-                        ending: core.ending(client),
-                    },
-                );
-            }
-            if told.is_up {
-                continue;
-            }
-            if let Some(mode) = core.mode(client)
-                && let Some(limit) = core.limit(client)
-                && let Some(hold) = core.hold(client)
-            {
-                told.is_up = true;
-                told.tell(
-                    link,
-                    client,
-                    &Report::Up {
-                        client,
-                        mode,
-                        limit,
-                        hold,
-                    },
-                );
-            }
         }
     }
 }

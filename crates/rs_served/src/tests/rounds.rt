@@ -1,8 +1,10 @@
 //! Sessions over ports in memory.
 
 use crate::ports::Line;
+use crate::reports::Report;
 use crate::serve::{Limits, ServeFault, serve};
-use crate::tests::script::{Said, Script};
+use crate::tests::script::{Broken, Said, Script};
+use rs_attrs::{AttributeFault, Cause};
 use rs_policy::Config;
 use std::alloc::{AllocError, Global};
 use std::sync::Wait;
@@ -130,23 +132,82 @@ fn strangers_and_second_connections_are_closed(rt: HostRuntime) -> Result<(), Fa
         .as_slice())
     );
     assert_eq!(rt; ports.heard(1).get(COMING_UP..), Some(UPDATE));
-    assert!(rt; ports.reports > 0);
+    assert!(rt; !ports.reports.is_empty());
     Ok(())
 }
 
+/// The client whose connection has this key in the exchange with a's second connection.
+fn client_of(key: usize) -> usize {
+    if key == 1 { 1 } else { 0 }
+}
+
 #[test]
-fn a_call_that_fails_ends_one_session_or_the_server(rt: HostRuntime) -> Result<(), Fail> {
-    for failing in 1..60 {
+fn each_call_that_fails_ends_one_session_or_the_server(rt: HostRuntime) -> Result<(), Fail> {
+    for failing in 1..1000 {
         let mut ports = exchange(rt.alloc(), failing)?;
         ports.wire(0, A, &comes_up(OPEN_A), COMING_UP)?;
         ports.end = 40;
         let config = Config::read(rt.alloc(), THREE)?;
-        match serve(&rt, rt.alloc(), &mut ports, config, until(2)) {
-            Ok(()) => assert_eq!(rt; ports.failed(), 0, "at {failing}"),
-            Err(ServeFault::Memory) => assert!(rt; false, "at {failing}"),
-            Err(_) => assert_eq!(rt; ports.failed(), 1, "at {failing}"),
+        let served = serve(&rt, rt.alloc(), &mut ports, config, until(2));
+        match ports.broken {
+            None => {
+                assert!(rt; failing > 30 && served.is_ok());
+                return Ok(());
+            }
+            Some(Broken::Wait) => assert_eq!(rt; served, Err(ServeFault::Poll), "at {failing}"),
+            Some(Broken::Accept) => {
+                assert_eq!(rt; served, Err(ServeFault::Listener), "at {failing}")
+            }
+            Some(Broken::Read(key) | Broken::Write(key)) => {
+                assert_eq!(rt; served, Ok(()), "at {failing}");
+                let lost = Line::Lost(client_of(key));
+                assert!(rt; ports.said.contains(&lost), "at {failing}");
+                assert!(rt; ports.wires.get(key).is_some_and(|wire| !wire.is_open));
+            }
         }
     }
+    assert!(rt; false, "the run goes on for ever");
+    Ok(())
+}
+
+/// 198.51.100.0/24 with an ORIGIN of 3, which no route has.
+const BAD_ORIGIN: &[u8] =
+    b"\xff\xff\xff\xff\xff\xff\xff\xff\xff\xff\xff\xff\xff\xff\xff\xff\x00\x2f\x02\x00\x00\x00\x14\x40\x01\x01\x03\x40\x02\x06\x02\x01\x00\x00\xfb\xf0\x40\x03\x04\xc0\x00\x02\x0b\x18\xc6\x33\x64";
+
+#[test]
+fn faulty_updates_are_reported_once_a_second(rt: HostRuntime) -> Result<(), Fail> {
+    let mut ports = Script::new(rt.alloc(), 0);
+    let [open, keepalive] = comes_up(OPEN_A);
+    let bad = Said {
+        octets: BAD_ORIGIN,
+        behind: COMING_UP,
+    };
+    ports.wire(0, A, &[open, keepalive, bad, bad, bad], COMING_UP)?;
+    ports.stay(0, 30);
+    ports.pace = 1;
+    served(&rt, rt.alloc(), &mut ports, until(1))?;
+    let mut lines = 0u64;
+    let mut updates = 0u64;
+    for report in &ports.reports {
+        if let Report::Faulted {
+            client,
+            count,
+            last,
+        } = report
+        {
+            lines = lines.saturating_add(1);
+            updates = updates.saturating_add(*count);
+            let wanted = AttributeFault {
+                kind: 1,
+                cause: Cause::Value,
+            };
+            assert_eq!(rt; *client, 0);
+            assert_eq!(rt; last.withdraw, Some(wanted));
+            assert_eq!(rt; last.discard, None);
+        }
+    }
+    // All three were heard in one round, so in one second.
+    assert_eq!(rt; (lines, updates), (1, 3));
     Ok(())
 }
 

@@ -1,7 +1,5 @@
 //! Ports in memory: members that say what a script has, and a call that fails where it is wanted.
 
-ghost use Rattle.std.specs.Prelude.{◌≡◌, ◌≤◌, IfOk, IfSome, length};
-
 use crate::ports::{Caller, Line, PortFault, Ports};
 use crate::reports::Report;
 use std::alloc::{AllocError, Global};
@@ -28,7 +26,18 @@ pub struct Wire {
     pub is_open: bool,
 }
 
-/// Ports whose `failing`th call fails.
+/// The call that failed.
+#[derive(Clone, Copy, Debug, PartialEq, Eq)]
+pub enum Broken {
+    Wait,
+    Accept,
+    /// A read of the connection with this key.
+    Read(usize),
+    /// A write to it.
+    Write(usize),
+}
+
+/// Ports whose `failing`th call of those that can fail does.
 #[derive(Drop)]
 pub struct Script {
     alloc: Global,
@@ -36,7 +45,7 @@ pub struct Script {
     accepted: usize,
     calls: u64,
     failing: u64,
-    failures: u64,
+    pub broken: Option<Broken>,
     /// In this round all members close.
     pub end: u64,
     /// How many seconds pass in each round.
@@ -46,7 +55,7 @@ pub struct Script {
     /// What the text is from this round on.
     pub later: Option<(u64, &'static [u8])>,
     pub said: Vec<Line>,
-    pub reports: usize,
+    pub reports: Vec<Report>,
 }
 
 impl Script {
@@ -57,14 +66,14 @@ impl Script {
             accepted: 0,
             calls: 0,
             failing,
-            failures: 0,
+            broken: None,
             end: u64::MAX,
             pace: 0,
             rounds: 0,
             text: b"",
             later: None,
             said: Vec::new(alloc),
-            reports: 0,
+            reports: Vec::new(alloc),
         }
     }
 
@@ -116,34 +125,30 @@ impl Script {
         }
     }
 
-    /// How many calls of `wait` and `accept` have failed.
-    pub fn failed(&self) -> u64 {
-        self.failures
-    }
-
-    fn fails(&mut self) -> bool
-        ensures { self.new.failures ≡ self.old.failures }
-    {
+    /// Counts a call, and answers whether it fails.
+    fn fails(&mut self, call: Broken) -> bool {
         self.calls = self.calls.saturating_add(1);
-        self.calls == self.failing
+        let fails = self.calls == self.failing;
+        if fails {
+            self.broken = Some(call);
+        }
+        fails
     }
 }
 
 impl Ports for Script {
-    ghost failures = { λ p. p.failures };
+    ghost asked = { λ ports calls. Unit {0} };
 
     fn wait(&mut self, _pause: bool) -> Result<(), PortFault> {
         self.rounds = self.rounds.saturating_add(1);
-        if self.fails() {
-            self.failures = self.failures.saturating_add(1);
+        if self.fails(Broken::Wait) {
             return Err(PortFault);
         }
         Ok(())
     }
 
     fn accept(&mut self) -> Result<Option<Caller>, PortFault> {
-        if self.fails() {
-            self.failures = self.failures.saturating_add(1);
+        if self.fails(Broken::Accept) {
             return Err(PortFault);
         }
         match self.wires.get_mut(self.accepted) {
@@ -157,7 +162,7 @@ impl Ports for Script {
     }
 
     fn read(&mut self, key: usize, piece: &mut [u8; 4096]) -> Result<Option<usize>, PortFault> {
-        if self.fails() {
+        if self.fails(Broken::Read(key)) {
             return Err(PortFault);
         }
         let Some(wire) = self.wires.get_mut(key) else {
@@ -180,7 +185,7 @@ impl Ports for Script {
     }
 
     fn write(&mut self, key: usize, octets: &[u8]) -> Result<Option<usize>, PortFault> {
-        if self.fails() {
+        if self.fails(Broken::Write(key)) {
             return Err(PortFault);
         }
         let Some(wire) = self.wires.get_mut(key) else {
@@ -221,7 +226,7 @@ impl Ports for Script {
         let _ = self.said.push(*line);
     }
 
-    fn log(&mut self, _report: &Report) {
-        self.reports = self.reports.saturating_add(1);
+    fn log(&mut self, report: &Report) {
+        let _ = self.reports.push(*report);
     }
 }
