@@ -102,7 +102,7 @@ acted_has acts.Up old new sessions x s c h next does read heard tells fresh same
       table = λ p. begun_held old new c _ begins p ∙ ap (λ cs. table_since cs p) (sym (fresh (ap is_up tells.before) refl)) ∙ sym (up_table s c next now p);
       identifier = begun_identifier old new c _ begins ∙ sym (up_identifier s c next now);
     }
-acted_has (acts.Down note) old new sessions x s c h next does read heard tells fresh same has =
+acted_has (acts.Down _) old new sessions x s c h next does read heard tells fresh same has =
     let now : is_up (state_in s c next) ≡ false = ap is_up tells.now in
     record {
       table = λ p. begun_held old new c 0 does p ∙ sym (down_table s c next now p);
@@ -155,7 +155,7 @@ acted_spares old new c t count config lt sessions buffers spared = record {
 
 never_up_by : (b : Bool) (f : Fate) (falls : Bool) → (if b then moment_act f falls else acts.None) ≡ acts.Up → ⊥
 never_up_by false f falls e = cc
-never_up_by true (Ends note) falls e = cc
+never_up_by true (Ends _) falls e = cc
 never_up_by true GoesOn true e = cc
 never_up_by true GoesOn false e = cc
 
@@ -164,8 +164,8 @@ never_up settings t items e = never_up_by (is_live (state_of settings items)) (i
 
 live_by : (b : Bool) (was more : Fate) (n : ℕ) → is_live (state_by b (earlier was more) n) ≡ true → is_live (state_by b was n) ≡ true
 live_by false was more n e = absurd (cc)
-live_by true (Ends note) more n e = e
-live_by true GoesOn (Ends note) n e = absurd (cc)
+live_by true (Ends _) more n e = e
+live_by true GoesOn (Ends _) n e = absurd (cc)
 live_by true GoesOn GoesOn n e = e
 
 -- a session that lasts behind a moment lasted before it

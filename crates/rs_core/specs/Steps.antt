@@ -39,7 +39,7 @@ ActsOn (acts.Say message) c sessions old new = new ≡ old
 ActsOn acts.Up c sessions old new =
     (x : Session) → slice_get sessions c ≡ Some x
     → Whenever x (λ settings items. state_of settings items ≡ states.Established → Begins old new c (agreed_identifier settings items))
-ActsOn (acts.Down note) c sessions old new = Begins old new c 0
+ActsOn (acts.Down _) c sessions old new = Begins old new c 0
 ActsOn acts.Again c sessions old new = new ≡ old
 
 -- the sessions of clients that are configured so, of which nothing has come
