@@ -4,4 +4,4 @@ pub mod BodyFields
 pub mod Effecting
 pub mod Mandatory
 pub mod OneEffect
-pub mod Rows
+mod WorkedRows
