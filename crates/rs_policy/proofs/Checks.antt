@@ -1,9 +1,9 @@
 -- The answer of some checks and of others behind them.
-use Rattle.std.proofs.Common.{◌≡◌, List, [], ◌∷◌, ◌++◌, Option, Some, None, ℕ, ◌+◌, append_assoc, Result, Ok, Err, IfErr, ◌≢◌, refl, sym, ap, ◌∙◌}
+use Rattle.std.proofs.Common.{◌≡◌, List, [], ◌∷◌, ◌++◌, Option, Some, None, ℕ, ◌+◌, append_assoc, Result, Ok, Err, ◌≢◌, Vec, Global, refl, sym, ap, ◌∙◌}
 use Rattle.std.proofs.lemmas.List.{append-nil}
 use Rattle.std.specs.Result.{IsErrAnd}
 use Rattle.toml.specs.Data.{Data}
-use Rattle.rs_policy.specs.Values.{answer, or_fault, first_failing, fault_in, each_from, checks_from}
+use Rattle.rs_policy.specs.Values.{answer, Answers, AnswersItems, or_fault, first_failing, fault_in, each_from, checks_from}
 use Rattle.rs_policy.specs.declared.faults.ConfigFault.{ConfigFault}
 use Rattle.rs_policy.specs.declared.faults.ConfigFault.TheVariants.{OutOfMemory}
 
@@ -67,9 +67,13 @@ unfolding answer
 answer-none a = refl
 
 -- a fault that `?` passes on
-pub passed_on : {A X : Type 0} (r : Result X ConfigFault) (f : ConfigFault) (m : Result A ConfigFault) → IsErrAnd r (λ e. e ≡ f) → (f ≢ OutOfMemory → m ≡ Err f) → IfErr r (λ e. e ≢ OutOfMemory → m ≡ Err e)
-passed_on (Ok x) f m same e = tt
-passed_on (Err g) f m same e = λ other. e (λ memory. other (same ∙ memory)) ∙ ap Err (sym same)
+pub passed_on : {A : Type 0} (r : Result A ConfigFault) (f : ConfigFault) (m : Result A ConfigFault) → IsErrAnd r (λ e. e ≡ f) → (f ≢ OutOfMemory → m ≡ Err f) → Answers r m
+passed_on (Ok x) f m same e = absurd same
+passed_on (Err g) f m same e = (tt, λ other. e (λ memory. other (same ∙ memory)) ∙ ap Err (sym same))
+
+pub passed_on_items : {A : Type 0} (r : Result (Vec A Global) ConfigFault) (f : ConfigFault) (m : Result (List A) ConfigFault) → IsErrAnd r (λ e. e ≡ f) → (f ≢ OutOfMemory → m ≡ Err f) → AnswersItems r m
+passed_on_items (Ok x) f m same e = absurd same
+passed_on_items (Err g) f m same e = (tt, λ other. e (λ memory. other (same ∙ memory)) ∙ ap Err (sym same))
 
 -- tables one after the other
 

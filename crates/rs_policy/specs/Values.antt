@@ -1,5 +1,6 @@
 -- The value at a key of a table: how it is read, and what is wrong with it.
-use Rattle.std.specs.Prelude.{ℕ, ◌+◌, ◌++◌, ◌==◌, Bool, true, ◌&&◌, ◌||◌, ℤ, pos, int_le, nat_abs, nat_lt, List, [], ◌∷◌, length, codes, bytes_eq, Option, Some, None, Result, Ok, Err, option_map, option_and_then, ok_or, is_some, if◌then◌else◌}
+use Rattle.std.proofs.Common.{Vec, Global}
+use Rattle.std.specs.Prelude.{◌≡◌, ◌≢◌, IfOk, IfErr, vec_items, ℕ, ◌+◌, ◌++◌, ◌==◌, Bool, true, ◌&&◌, ◌||◌, ℤ, pos, int_le, nat_abs, nat_lt, List, [], ◌∷◌, length, codes, bytes_eq, Option, Some, None, Result, Ok, Err, option_map, option_and_then, ok_or, is_some, if◌then◌else◌}
 use Rattle.std.specs.List.{list_all}
 use Rattle.toml.specs.Data.{Data, Items, Members, no_items, item, no_members, member, get, as_integer, as_str, as_array, as_table}
 use Rattle.rs_policy.specs.Keys.{key_text, is_among}
@@ -8,7 +9,7 @@ use Rattle.rs_policy.specs.declared.faults.Key.{Key}
 use Rattle.rs_policy.specs.declared.faults.Key.TheVariants as K
 use Rattle.rs_policy.specs.declared.faults.Place.{Place}
 use Rattle.rs_policy.specs.declared.faults.ConfigFault.{ConfigFault}
-use Rattle.rs_policy.specs.declared.faults.ConfigFault.TheVariants.{Missing, BadValue, TooMany}
+use Rattle.rs_policy.specs.declared.faults.ConfigFault.TheVariants.{Missing, BadValue, TooMany, OutOfMemory}
 use Rattle.rs_policy.specs.declared.rules.Choice.{Choice}
 use Rattle.rs_policy.specs.declared.rules.Choice.TheVariants.{Pass, Drop}
 
@@ -150,6 +151,14 @@ or_fault a (Some f) = Err f
 -- the first fault, or the value where no check fails
 unfoldable pub answer : {A : Type 0} → List (Option ConfigFault) → A → Result A ConfigFault
 answer checks a = or_fault a (first_failing checks)
+
+-- a call answers this: its value, or its first fault. Where memory is refused it answers that instead
+abbrev pub Answers : {A : Type 0} → Result A ConfigFault → Result A ConfigFault → Type 0
+Answers result said = IfOk result (λ v. said ≡ Ok v) × IfErr result (λ f. f ≢ OutOfMemory → said ≡ Err f)
+
+-- the same of a list
+abbrev pub AnswersItems : {A : Type 0} → Result (Vec A Global) ConfigFault → Result (List A) ConfigFault → Type 0
+AnswersItems result said = IfOk result (λ v. said ≡ Ok (vec_items v)) × IfErr result (λ f. f ≢ OutOfMemory → said ≡ Err f)
 
 -- what each of some tables is, counted from n
 unfoldable pub each_from : {A : Type 0} → (ℕ → Data → A) → ℕ → List Data → List A

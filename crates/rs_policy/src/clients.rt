@@ -1,10 +1,10 @@
 //! The clients of a configuration.
 
-ghost use Rattle.std.specs.Prelude.{◌≡◌, ◌≢◌, ◌+◌, [], ◌<◌, ◌^◌, length, IfOk, IfErr};
+ghost use Rattle.std.specs.Prelude.{◌≡◌, ◌+◌, [], ◌<◌, ◌^◌, length, IfOk};
 ghost use Rattle.std.specs.List.{list_any};
 ghost use Rattle.toml.specs.View.{view};
 ghost use Rattle.rs_policy.specs.Seen.{data_of, seen_text};
-ghost use Rattle.rs_policy.specs.Values.{text_as, name_of, required_at, answer};
+ghost use Rattle.rs_policy.specs.Values.{text_as, name_of, required_at, answer, Answers, AnswersItems};
 ghost use Rattle.rs_policy.specs.Documents.{client_place, is_same, client_checks, client_from, clients_checks, clients_from};
 
 use crate::arrays::refuse_others;
@@ -88,8 +88,8 @@ impl Client {
         number: usize,
         earlier: &[Client],
     ) -> Result<Client, ConfigFault>
-        ensures ok { IfOk result (λ c. answer (client_checks number earlier.now (view table.now)) (client_from number (view table.now)) ≡ Ok c) }
-        ensures fault { IfErr result (λ e. e ≢ ConfigFault.OutOfMemory → answer (client_checks number earlier.now (view table.now)) (client_from number (view table.now)) ≡ Err e) }
+        ensures { Answers result
+            (answer (client_checks number earlier.now (view table.now)) (client_from number (view table.now))) }
     {
         let here = Place {
             client: Some(number),
@@ -117,8 +117,8 @@ impl Client {
 
 /// The clients of a configuration, but for their rules, or their first fault.
 pub(crate) fn read_clients(alloc: Global, tables: &[Value]) -> Result<Vec<Client>, ConfigFault>
-    ensures ok { IfOk result (λ v. answer (clients_checks (data_of tables.now)) (clients_from (data_of tables.now)) ≡ Ok v.items) }
-    ensures fault { IfErr result (λ e. e ≢ ConfigFault.OutOfMemory → answer (clients_checks (data_of tables.now)) (clients_from (data_of tables.now)) ≡ Err e) }
+    ensures answers { AnswersItems result
+        (answer (clients_checks (data_of tables.now)) (clients_from (data_of tables.now))) }
     ensures count { IfOk result (λ v. length v.items ≡ length tables.now) }
 {
     let mut clients = Vec::with_capacity(alloc, tables.len())?;

@@ -1,11 +1,11 @@
 //! The configuration of a route server.
 
-ghost use Rattle.std.specs.Prelude.{◌≡◌, ◌≢◌, ◌<◌, length, IfOk, IfErr, IfSome};
+ghost use Rattle.std.specs.Prelude.{◌≡◌, ◌<◌, length, IfSome};
 ghost use Rattle.rs_policy.specs.Rules.{client_named};
 ghost use Rattle.toml.specs.Data.{table};
 ghost use Rattle.toml.specs.View.{view};
 ghost use Rattle.toml.specs.Parse.{parse_document};
-ghost use Rattle.rs_policy.specs.Values.{answer};
+ghost use Rattle.rs_policy.specs.Values.{answer, Answers};
 ghost use Rattle.rs_policy.specs.Configuration.{client_of, policy_of};
 ghost use Rattle.rs_policy.specs.Sound.{IsSound};
 ghost use Rattle.rs_policy.specs.Documents.{document_checks, configuration_of, config_of};
@@ -44,8 +44,7 @@ impl Config {
     /// Reads a configuration in TOML, or answers its first fault.
     #[tactic(auto, unfolding(crate::specs::Documents::config_of))]
     pub fn read(alloc: Global, text: &str) -> Result<Config, ConfigFault>
-        ensures ok { IfOk result (λ c. config_of text.now ≡ Ok c) }
-        ensures fault { IfErr result (λ e. e ≢ ConfigFault.OutOfMemory → config_of text.now ≡ Err e) }
+        ensures { Answers result (config_of text.now) }
     {
         match toml::table_from_str(alloc, text) {
             Ok(table) => Config::from_document(alloc, &Value::Table(table)),
@@ -55,8 +54,8 @@ impl Config {
     }
 
     fn from_document(alloc: Global, document: &Value) -> Result<Config, ConfigFault>
-        ensures ok { IfOk result (λ c. answer (document_checks (view document.now)) (configuration_of (view document.now)) ≡ Ok c) }
-        ensures fault { IfErr result (λ e. e ≢ ConfigFault.OutOfMemory → answer (document_checks (view document.now)) (configuration_of (view document.now)) ≡ Err e) }
+        ensures { Answers result
+            (answer (document_checks (view document.now)) (configuration_of (view document.now))) }
     {
         let top = Top::read(document)?;
         let tables = client_tables(document)?;

@@ -1,9 +1,9 @@
 //! The lists of rules of a configuration.
 
-ghost use Rattle.std.specs.Prelude.{◌≡◌, ◌≢◌, length, IfOk, IfErr};
+ghost use Rattle.std.specs.Prelude.{◌≡◌, length, IfOk};
 ghost use Rattle.toml.specs.View.{view};
 ghost use Rattle.rs_policy.specs.Seen.{data_of};
-ghost use Rattle.rs_policy.specs.Values.{answer};
+ghost use Rattle.rs_policy.specs.Values.{answer, Answers, AnswersItems};
 ghost use Rattle.rs_policy.specs.Documents.{rules_from, rules_checks, list_checks, list_of_rules, list_key, policy_checks, policy_from, policies_checks, policies_from};
 
 use crate::arrays::tables;
@@ -38,8 +38,8 @@ fn rules_of(
     list: List,
     clients: &[Client],
 ) -> Result<Vec<Rule>, ConfigFault>
-    ensures ok { IfOk result (λ v. answer (rules_checks clients.now client list (data_of tables.now)) (rules_from clients.now client list (data_of tables.now)) ≡ Ok v.items) }
-    ensures fault { IfErr result (λ e. e ≢ ConfigFault.OutOfMemory → answer (rules_checks clients.now client list (data_of tables.now)) (rules_from clients.now client list (data_of tables.now)) ≡ Err e) }
+    ensures { AnswersItems result
+        (answer (rules_checks clients.now client list (data_of tables.now)) (rules_from clients.now client list (data_of tables.now))) }
 {
     let mut rules = Vec::with_capacity(alloc, tables.len())?;
     for (index, table) in tables.iter().enumerate() {
@@ -71,8 +71,8 @@ fn read_rules(
     list: List,
     clients: &[Client],
 ) -> Result<Vec<Rule>, ConfigFault>
-    ensures ok { IfOk result (λ v. answer (list_checks clients.now client list (view table.now)) (list_of_rules clients.now client list (view table.now)) ≡ Ok v.items) }
-    ensures fault { IfErr result (λ e. e ≢ ConfigFault.OutOfMemory → answer (list_checks clients.now client list (view table.now)) (list_of_rules clients.now client list (view table.now)) ≡ Err e) }
+    ensures { AnswersItems result
+        (answer (list_checks clients.now client list (view table.now)) (list_of_rules clients.now client list (view table.now))) }
 {
     let here = Place {
         client: Some(client),
@@ -89,8 +89,8 @@ impl Policy {
         client: usize,
         clients: &[Client],
     ) -> Result<Policy, ConfigFault>
-        ensures ok { IfOk result (λ p. answer (policy_checks clients.now client (view table.now)) (policy_from clients.now client (view table.now)) ≡ Ok p) }
-        ensures fault { IfErr result (λ e. e ≢ ConfigFault.OutOfMemory → answer (policy_checks clients.now client (view table.now)) (policy_from clients.now client (view table.now)) ≡ Err e) }
+        ensures { Answers result
+            (answer (policy_checks clients.now client (view table.now)) (policy_from clients.now client (view table.now))) }
     {
         let import = read_rules(alloc, table, client, List::Import, clients)?;
         let export = read_rules(alloc, table, client, List::Export, clients)?;
@@ -104,8 +104,8 @@ pub(crate) fn read_policies(
     tables: &[Value],
     clients: &[Client],
 ) -> Result<Vec<Policy>, ConfigFault>
-    ensures ok { IfOk result (λ v. answer (policies_checks clients.now (data_of tables.now)) (policies_from clients.now (data_of tables.now)) ≡ Ok v.items) }
-    ensures fault { IfErr result (λ e. e ≢ ConfigFault.OutOfMemory → answer (policies_checks clients.now (data_of tables.now)) (policies_from clients.now (data_of tables.now)) ≡ Err e) }
+    ensures answers { AnswersItems result
+        (answer (policies_checks clients.now (data_of tables.now)) (policies_from clients.now (data_of tables.now))) }
     ensures count { IfOk result (λ v. length v.items ≡ length tables.now) }
 {
     let mut policies = Vec::with_capacity(alloc, tables.len())?;

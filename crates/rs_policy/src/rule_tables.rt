@@ -1,9 +1,9 @@
 //! Rules as the tables of a configuration say them.
 
-ghost use Rattle.std.specs.Prelude.{◌≡◌, ◌≢◌, IfOk, IfErr, option_map, position, bytes_eq};
+ghost use Rattle.std.specs.Prelude.{◌≡◌, IfOk, option_map, position, bytes_eq};
 ghost use Rattle.toml.specs.View.{view};
 ghost use Rattle.rs_policy.specs.Seen.{data_of};
-ghost use Rattle.rs_policy.specs.Values.{list_of, text_as, answer};
+ghost use Rattle.rs_policy.specs.Values.{list_of, text_as, answer, Answers};
 ghost use Rattle.rs_policy.specs.Rules.{client_named, range_checks, range_of, test_checks, tests_of, communities_of, stripping_of, strip_at, action_checks, action_of, rule_checks, rule_of};
 
 use crate::arrays::{array_in, is_longer, refuse_others};
@@ -123,8 +123,7 @@ fn read_strip(
     here: Place,
     choice: Choice,
 ) -> Result<Stripping, ConfigFault>
-    ensures ok { IfOk result (λ s. strip_at choice here (view table.now) ≡ Ok s) }
-    ensures fault { IfErr result (λ e. e ≢ ConfigFault.OutOfMemory → strip_at choice here (view table.now) ≡ Err e) }
+    ensures { Answers result (strip_at choice here (view table.now)) }
 {
     let place = Place {
         key: Key::Strip,
@@ -147,8 +146,8 @@ fn read_strip(
 
 #[tactic(auto, unfolding(crate::specs::Values::answer, crate::specs::Rules::action_checks, crate::specs::Rules::action_of))]
 fn read_action(alloc: Global, table: &Value, here: Place) -> Result<Action, ConfigFault>
-    ensures ok { IfOk result (λ a. answer (action_checks here (view table.now)) (action_of here (view table.now)) ≡ Ok a) }
-    ensures fault { IfErr result (λ e. e ≢ ConfigFault.OutOfMemory → answer (action_checks here (view table.now)) (action_of here (view table.now)) ≡ Err e) }
+    ensures { Answers result
+        (answer (action_checks here (view table.now)) (action_of here (view table.now))) }
 {
     match required(table, here, Key::Action, PassOrDrop)? {
         Choice::Drop => {
@@ -175,8 +174,8 @@ pub(crate) fn read_rule(
     here: Place,
     clients: &[Client],
 ) -> Result<Rule, ConfigFault>
-    ensures ok { IfOk result (λ r. answer (rule_checks clients.now here (view table.now)) (rule_of clients.now here (view table.now)) ≡ Ok r) }
-    ensures fault { IfErr result (λ e. e ≢ ConfigFault.OutOfMemory → answer (rule_checks clients.now here (view table.now)) (rule_of clients.now here (view table.now)) ≡ Err e) }
+    ensures { Answers result
+        (answer (rule_checks clients.now here (view table.now)) (rule_of clients.now here (view table.now))) }
 {
     let range = read_range(table, here)?;
     let tests = read_tests(table, here, clients)?;
