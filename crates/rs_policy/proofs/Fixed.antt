@@ -5,7 +5,7 @@ use Rattle.std.proofs.lemmas.Slice.Eq.{bytes_eq-Decides}
 use Rattle.rs_policy.specs.declared.faults.Key.{Key}
 use Rattle.rs_policy.specs.declared.faults.Key.TheVariants as K
 use Rattle.rs_policy.specs.declared.faults.Place.{Place}
-use Rattle.rs_policy.specs.declared.top.Top.{Top}
+use Rattle.rs_policy.specs.declared.config.top.Top.{Top}
 use Rattle.rs_policy.specs.Values.{keyed}
 use Rattle.rs_policy.specs.Configuration.{Client, Configuration, no_client}
 use Rattle.rs_policy.specs.Documents.{the_top, client_place}

@@ -11,7 +11,7 @@ use Rattle.rs_policy.specs.Values.{answer, stranger}
 use Rattle.rs_policy.specs.Configuration.{Client, Policy}
 use Rattle.rs_policy.specs.Documents.{top_checks, top_of, the_top, clients_at, clients_checks, clients_from, rules_at, rules_checks, rules_from, list_checks, list_of_rules, policies_checks, policies_from, document_checks, configuration_of, config_of}
 use Rattle.rs_policy.specs.declared.faults.List.{List as RuleList}
-use Rattle.rs_policy.specs.declared.top.Top.{Top}
+use Rattle.rs_policy.specs.declared.config.top.Top.{Top}
 use Rattle.rs_policy.proofs.Checks.{passes, passes_one, answer-value, answer-append-ok, answer-ok_for}
 
 -- the clients before client number i, from 0

@@ -19,7 +19,7 @@ use Rattle.rs_policy.specs.declared.rules.Stripping.{Stripping}
 use Rattle.rs_policy.specs.declared.rules.Action.{Action}
 use Rattle.rs_policy.specs.declared.rules.Rule.{Rule}
 use Rattle.rs_policy.specs.declared.rules.Tests.{Tests}
-use Rattle.rs_policy.specs.declared.top.Top.{Top}
+use Rattle.rs_policy.specs.declared.config.top.Top.{Top}
 
 pub record SaysTop (d : Data) (top : Top) : Type 0 where
   pub server_as : server_as_at d ≡ Ok top.server_as

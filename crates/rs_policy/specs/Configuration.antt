@@ -1,7 +1,7 @@
 -- What a configuration says.
 use Rattle.std.specs.Prelude.{ℕ, List, [], slice_index_or, Option, None}
 use Rattle.rs_policy.specs.declared.rules.Rule.{Rule}
-use Rattle.rs_policy.specs.declared.top.Top.{Top}
+use Rattle.rs_policy.specs.declared.config.top.Top.{Top}
 
 -- a client; an address is a number of 32 bits
 pub record Client : Type 0 where

@@ -19,7 +19,7 @@ use Rattle.rs_policy.specs.declared.faults.ConfigFault.TheVariants.{Syntax, Twic
 use Rattle.rs_policy.specs.declared.rules.Choice.{Choice}
 use Rattle.rs_policy.specs.declared.rules.Choice.TheVariants.{Pass}
 use Rattle.rs_policy.specs.declared.rules.Rule.{Rule}
-use Rattle.rs_policy.specs.declared.top.Top.{Top}
+use Rattle.rs_policy.specs.declared.config.top.Top.{Top}
 
 -- the top
 

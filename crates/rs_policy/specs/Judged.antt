@@ -1,11 +1,11 @@
 -- What a route and a verdict of the code stand for.
 use Rattle.rs_attrs.specs.Stripping.{lists_in}
 use Rattle.rs_policy.specs.Verdicts.{AnnouncedRoute, Passing, Judgement, dropped, passed}
-use Rattle.rs_policy.specs.declared.verdict.Offer.{Offer}
-use Rattle.rs_policy.specs.declared.verdict.Passed.{Passed}
+use Rattle.rs_policy.specs.declared.rules.verdict.Offer.{Offer}
+use Rattle.rs_policy.specs.declared.rules.verdict.Passed.{Passed}
 use Rattle.rs_attrs.specs.declared.stripping.Strip.{Strip}
-use Rattle.rs_policy.specs.declared.verdict.Fate.{Fate}
-use Rattle.rs_policy.specs.declared.verdict.Fate.TheVariants.{Drop, Pass}
+use Rattle.rs_policy.specs.declared.rules.verdict.Fate.{Fate}
+use Rattle.rs_policy.specs.declared.rules.verdict.Fate.TheVariants.{Drop, Pass}
 
 abbrev pub offered : Offer → AnnouncedRoute
 offered o = record { from = o.from; peer = o.peer; prefix = o.prefix.now; attributes = o.attrs.now }

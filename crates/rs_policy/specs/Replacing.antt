@@ -10,7 +10,7 @@ use Rattle.rs_policy.specs.declared.faults.Place.{Place}
 use Rattle.rs_policy.specs.declared.faults.ConfigFault.TheVariants.{OutOfMemory}
 use Rattle.rs_policy.specs.declared.faults.RulesFault.{RulesFault}
 use Rattle.rs_policy.specs.declared.faults.RulesFault.TheVariants.{Unreadable, Config, Fixed}
-use Rattle.rs_policy.specs.declared.top.Top.{Top}
+use Rattle.rs_policy.specs.declared.config.top.Top.{Top}
 
 abbrev pub alike : Bool → Bool → Bool
 alike a b = if a then b else not b

@@ -8,7 +8,7 @@ use Rattle.rs_policy.specs.declared.rules.Stripping.TheVariants.{Named, All as E
 use Rattle.rs_policy.specs.declared.rules.Action.{Action}
 use Rattle.rs_policy.specs.declared.rules.Action.TheVariants as A
 use Rattle.rs_policy.specs.declared.rules.Rule.{Rule}
-use Rattle.rs_policy.specs.declared.top.Top.{Top}
+use Rattle.rs_policy.specs.declared.config.top.Top.{Top}
 
 -- an AS number that isn't reserved (RFC 7607), an identifier (RFC 4271, 4.2), and no Hold Time of 1 or 2 seconds
 pub record IsSoundTop (top : Top) : Type 0 where

@@ -1,5 +1,14 @@
 //! The configuration of a route server.
 
+mod arrays;
+mod clients;
+mod policies;
+mod replacing;
+mod rule_tables;
+mod texts;
+mod top;
+mod values;
+
 ghost use Rattle.std.specs.Prelude.{◌≡◌, ◌<◌, length, IfSome};
 ghost use Rattle.rs_policy.specs.Rules.{client_named};
 ghost use Rattle.toml.specs.Data.{table};
@@ -10,12 +19,12 @@ ghost use Rattle.rs_policy.specs.Configuration.{client_of, policy_of};
 ghost use Rattle.rs_policy.specs.Sound.{IsSound};
 ghost use Rattle.rs_policy.specs.Documents.{document_checks, configuration_of, config_of};
 
-use crate::clients::{Client, read_clients};
+use crate::config::clients::{Client, read_clients};
+use crate::config::policies::{Policy, read_policies};
+use crate::config::rule_tables::place_of;
+use crate::config::top::{Top, client_tables, refuse_other_keys};
 use crate::faults::ConfigFault;
-use crate::policies::{Policy, read_policies};
-use crate::rule_tables::place_of;
 use crate::rules::Choice;
-use crate::top::{Top, client_tables, refuse_other_keys};
 use std::alloc::Global;
 use std::marker::Model;
 use toml::value::Value;

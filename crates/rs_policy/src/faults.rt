@@ -1,11 +1,13 @@
 //! What can be wrong with a configuration, and where.
 
+mod line;
+
 ghost use Rattle.std.specs.Prelude.{◌≡◌, ◌≤◌, length};
 ghost use Rattle.rs_octets.specs.Writes.{Writes};
 ghost use Rattle.rs_policy.specs.Keys.{key_text};
 ghost use Rattle.rs_policy.specs.FaultTexts.{fault_text, rules_fault_text};
 
-use crate::line::Line;
+use crate::faults::line::Line;
 use rs_octets::put;
 use std::alloc::{AllocError, AllocFailed};
 use std::error::Error;

@@ -1,5 +1,7 @@
 //! Rules as values.
 
+pub(crate) mod verdict;
+
 ghost use Rattle.std.specs.Prelude.{◌≡◌};
 
 use rs_octets::Prefix;

@@ -1,4 +1,0 @@
-use Rattle.rs_policy.proofs.line.Line.+with_digits.Given as goal
-
-abbrev pub decreases-with_digits : goal.decreases-with_digits
-decreases-with_digits l = l.number

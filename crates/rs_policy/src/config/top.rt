@@ -1,0 +1,80 @@
+//! The keys at the top of a configuration.
+
+ghost use Rattle.std.specs.Prelude.{◌≡◌, ◌<◌, ◌≤◌, length, IfOk};
+ghost use Rattle.toml.specs.View.{view};
+ghost use Rattle.rs_policy.specs.Seen.{seen};
+ghost use Rattle.rs_policy.specs.Documents.{clients_at, the_top};
+ghost use Rattle.rs_policy.specs.Keys.{top_keys};
+ghost use Rattle.rs_policy.specs.Values.{answer, stranger};
+
+use crate::config::arrays::{refuse_others, some_tables};
+use crate::config::values::{Flag, HoldTime, Identifier, POSITIVE, PassOrDrop, optional, required};
+use crate::faults::{ConfigFault, Key, Place};
+use crate::rules::Choice;
+use toml::value::Value;
+
+/// What the top says, but for the clients.
+#[derive(Clone, Copy, Debug, PartialEq, Eq)]
+pub(crate) struct Top {
+    pub(crate) server_as: u32,
+    pub(crate) identifier: u32,
+    pub(crate) hold: u16,
+    pub(crate) default: Choice,
+    pub(crate) extended: bool,
+    pub(crate) refresh: bool,
+    pub(crate) multiprotocol: bool,
+}
+
+const KEYS: [Key; 8] = [
+    Key::As,
+    Key::Identifier,
+    Key::Hold,
+    Key::Default,
+    Key::Extended,
+    Key::Refresh,
+    Key::Multiprotocol,
+    Key::Client,
+];
+
+pub(crate) const TOP: Place = Place {
+    client: None,
+    list: None,
+    rule: None,
+    key: Key::Other,
+};
+
+impl Top {
+    ghost use Rattle.rs_policy.specs.Documents.{top_checks, top_of};
+
+    /// What the top of a document says but for the clients, or its first fault.
+    #[tactic(auto, unfolding(crate::specs::Values::answer, crate::specs::Documents::top_checks, crate::specs::Documents::top_of))]
+    pub(crate) fn read(document: &Value) -> Result<Top, ConfigFault>
+        ensures { result ≡ answer (top_checks (view document.now)) (top_of (view document.now)) }
+    {
+        Ok(Top {
+            server_as: required(document, TOP, Key::As, POSITIVE)?,
+            identifier: required(document, TOP, Key::Identifier, Identifier)?,
+            hold: optional(document, TOP, Key::Hold, HoldTime, 90)?,
+            default: optional(document, TOP, Key::Default, PassOrDrop, Choice::Pass)?,
+            extended: optional(document, TOP, Key::Extended, Flag, false)?,
+            refresh: optional(document, TOP, Key::Refresh, Flag, false)?,
+            multiprotocol: optional(document, TOP, Key::Multiprotocol, Flag, false)?,
+        })
+    }
+}
+
+/// The tables of the clients.
+pub(crate) fn client_tables(document: &Value) -> Result<&[Value], ConfigFault>
+    ensures tables { seen result ≡ clients_at (view document.now) }
+    ensures some { IfOk result (λ ds. 0 < length ds.now) }
+    ensures few { IfOk result (λ ds. length ds.now ≤ 512) }
+{
+    some_tables(document, 512, TOP, Key::Client)
+}
+
+/// Refuses a key that the top hasn't.
+pub(crate) fn refuse_other_keys(document: &Value) -> Result<(), ConfigFault>
+    ensures { result ≡ stranger top_keys the_top (view document.now) }
+{
+    refuse_others(document, TOP, &KEYS)
+}
