@@ -1,7 +1,7 @@
 -- What befalls a route server. A run is a list of moves, the newest first.
 use Rattle.std.specs.Prelude.{ℕ, false, List, [], ◌∷◌}
 use Rattle.rs_policy.specs.Configuration.{Configuration}
-use Rattle.rs_policy.specs.declared.top.Top.{Top}
+use Rattle.rs_policy.specs.declared.config.top.Top.{Top}
 use Rattle.rs_policy.specs.declared.rules.Choice.TheVariants as choices
 
 pub data Move : Type 0 where
