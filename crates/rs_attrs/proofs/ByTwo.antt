@@ -10,8 +10,8 @@ use Rattle.rs_attrs.specs.declared.table.Class.TheVariants.{WellKnown, OptionalT
 use Rattle.rs_attrs.specs.Spellings.{Spelling, AreOctets}
 use Rattle.rs_attrs.specs.Paths.{Segment, two_octets, four_octets, segments_of, path_octets, is_set_or_sequence, IsSegment, as_path_in}
 use Rattle.rs_attrs.specs.Table.{outcome_of, is_kept, is_path, is_as4_path, fits_class}
-use Rattle.rs_attrs.specs.Meaning.{as4_path, merged, ignores_as4, aggregator_by, value_by_two}
-use Rattle.rs_attrs.specs.Merging.{segments_in, IsWhole, plain, merged_with, as4_value}
+use Rattle.rs_attrs.specs.Meaning.{as4_path, merged_with, merged, ignores_as4, aggregator_by, value_by_two}
+use Rattle.rs_attrs.specs.Merging.{segments_in, IsWhole, plain, as4_value}
 use Rattle.rs_attrs.proofs.MergedPaths.{whole_segments, merged_is, merged_none}
 
 -- ---- well-formed values

@@ -7,13 +7,14 @@ use Rattle.rs_attrs.specs.declared.mode.Mode.TheVariants.{Two, Four}
 use Rattle.rs_attrs.specs.declared.table.Outcome.TheVariants.{Kept, Withdraw, Discard}
 use Rattle.rs_attrs.specs.declared.table.Class.TheVariants.{WellKnown, OptionalTransitive, Any}
 use Rattle.rs_attrs.specs.declared.table.Shape.TheVariants.{As4Path, Length, Never}
+use Rattle.rs_attrs.specs.declared.table.Partial.TheVariants as partial
 use Rattle.rs_attrs.specs.declared.table.TypeRow.{TypeRow}
 use Rattle.rs_attrs.specs.Spellings.{Spelling, AreOctets, IsSpelling}
 use Rattle.rs_attrs.specs.Paths.{Segment, two_octets, four_octets, path_octets, is_set_or_sequence}
 use Rattle.rs_attrs.specs.Table.{row, outcome_of, outcome_by, is_kept, is_path, fits_class, is_well_formed, common_rows, as4_rows}
-use Rattle.rs_attrs.specs.Meaning.{Attribute, attribute_with, ignores_as4, aggregator_by, value_by_two, kept, kept_spelling, that_counts, is_as4, meaning_of}
+use Rattle.rs_attrs.specs.Meaning.{merged_with, Attribute, attribute_with, ignores_as4, aggregator_by, value_by_two, kept, kept_spelling, that_counts, is_as4, meaning_of}
 use Rattle.rs_attrs.specs.Writing.{IsLegal, IsLegalAttribute}
-use Rattle.rs_attrs.specs.Merging.{segments_in, plain, merged_with, as4_value}
+use Rattle.rs_attrs.specs.Merging.{segments_in, plain, as4_value}
 use Rattle.rs_attrs.proofs.PathLaws.{path_back}
 use Rattle.rs_attrs.proofs.Counting.{counts_has, counts_kind}
 use Rattle.rs_attrs.proofs.Meant.{behind, kept_is}
@@ -37,8 +38,8 @@ same_rows s [] other common = by_tests (nat_eq 17 s.kind) (nat_eq 18 s.kind) ref
     by_tests true b p q = absurd (let is : 17 ≡ s.kind = eqb-true 17 s.kind p in let no : is_as4 17 ≡ false = ap is_as4 is ∙ other in cc)
     by_tests false true p q = absurd (let is : 18 ≡ s.kind = eqb-true 18 s.kind q in let no : is_as4 18 ≡ false = ap is_as4 is ∙ other in cc)
     by_tests false false p q =
-        ap (λ o. outcome_by Two o s) (λ i. cond (p i) (Some (row 17 OptionalTransitive As4Path Discard)) (cond (q i) (Some (row 18 OptionalTransitive (Length 8) Discard)) None))
-        ∙ sym (ap (λ o. outcome_by Four o s) (λ i. cond (p i) (Some (row 17 Any Never Discard)) (cond (q i) (Some (row 18 Any Never Discard)) None)))
+        ap (λ o. outcome_by Two o s) (λ i. cond (p i) (Some (row 17 OptionalTransitive As4Path Discard partial.Never)) (cond (q i) (Some (row 18 OptionalTransitive (Length 8) Discard partial.Never)) None))
+        ∙ sym (ap (λ o. outcome_by Four o s) (λ i. cond (p i) (Some (row 17 Any Never Discard partial.Never)) (cond (q i) (Some (row 18 Any Never Discard partial.Never)) None)))
 same_rows s (r ∷ rs) other common = by_test (nat_eq r.kind s.kind) refl (same_rows s rs other common.1)
   where
     by_test : (b : Bool) → nat_eq r.kind s.kind ≡ b → outcome_by Two (find (λ r. r.kind == s.kind) (rs ++ as4_rows Two)) s ≡ outcome_by Four (find (λ r. r.kind == s.kind) (rs ++ as4_rows Four)) s

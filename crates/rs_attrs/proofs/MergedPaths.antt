@@ -7,9 +7,9 @@ use Rattle.std.proofs.lemmas.List.{append-nil}
 use Rattle.std.proofs.lemmas.List.Sums.{sum_by-cons}
 use Rattle.rs_attrs.specs.Spellings.{AreOctets}
 use Rattle.rs_attrs.specs.Paths.{Segment, AsSize, two_octets, four_octets, segments_of, or_none, segment_octets, path_octets, segment_length, path_length, leading, is_set_or_sequence, IsSegment, IsPath}
-use Rattle.rs_attrs.specs.Meaning.{if_some, merged}
+use Rattle.rs_attrs.specs.Meaning.{if_some, merged_with, merged}
 use Rattle.rs_attrs.specs.Walking.{segment_kinds}
-use Rattle.rs_attrs.specs.Merging.{segments_in, IsWhole, plain, merged_with}
+use Rattle.rs_attrs.specs.Merging.{segments_in, IsWhole, plain}
 use Rattle.rs_attrs.proofs.PathLaws.{path_found}
 use Rattle.rs_attrs.proofs.Leading.{leading_whole}
 

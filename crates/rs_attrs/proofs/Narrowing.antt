@@ -18,7 +18,8 @@ use Rattle.rs_attrs.proofs.ReadBack.{FlagsBack, flags_of_back}
 use Rattle.rs_attrs.specs.Spellings.{Spelling, AreOctets}
 use Rattle.rs_attrs.specs.Paths.{or_none, Segment, two_octets, four_octets, is_set_or_sequence, is_any_segment, IsSegment, IsPath, path_octets, path_length, segments_of, segment_length}
 use Rattle.rs_attrs.specs.Table.{fits_class, rows, outcome_by, outcome_of, is_kept, is_path, is_as4_path, is_well_formed}
-use Rattle.rs_attrs.specs.Meaning.{Attribute, as_trans, aggregator_as}
+use Rattle.rs_octets.specs.Numbers.{as_trans}
+use Rattle.rs_attrs.specs.Meaning.{Attribute, aggregator_as}
 use Rattle.rs_attrs.specs.Writing.{flags_of, spelling_of, IsLegalAttribute, needs_four_octets, as_trans_or, narrowed_segment, path_in, aggregator_in, with_value, narrowed, as4_attribute}
 use Rattle.rs_attrs.proofs.PathLaws.{are_taken, path_back, path_found}
 

@@ -7,7 +7,8 @@ use Rattle.std.proofs.lemmas.Bool.{eqb-true, leb-false}
 use Rattle.std.proofs.lemmas.List.{length-take-le}
 use Rattle.rs_attrs.specs.Spellings.{AreOctets}
 use Rattle.rs_attrs.specs.Paths.{Segment, two_octets, four_octets, number_octets, path_octets, is_set_or_sequence, is_any_segment, IsSegment, segment_length, path_length, leading}
-use Rattle.rs_attrs.specs.Merging.{plain, merged_with}
+use Rattle.rs_attrs.specs.Meaning.{merged_with}
+use Rattle.rs_attrs.specs.Merging.{plain}
 
 -- ---- the segments
 

@@ -9,7 +9,8 @@ use Rattle.rs_attrs.specs.declared.table.Outcome.TheVariants.{Kept, Withdraw, Di
 use Rattle.rs_attrs.specs.Spellings.{Spelling, IsSpelling}
 use Rattle.rs_attrs.specs.Paths.{Segment, two_octets, four_octets, is_set_or_sequence, path_octets, path_length, leading, as_path_in, as4_path_in, or_none}
 use Rattle.rs_attrs.specs.Table.{fits_class, outcome_of, is_kept, is_withdraw, is_discard, is_unknown, is_path}
-use Rattle.rs_attrs.specs.Meaning.{Attribute, attribute_with, partial_of, that_counts, if_kept, kept_spelling, kept, is_as4, as_trans, aggregator_as, as4_path, if_some, ignores_as4, merged, aggregator_by, value_by_two, get, IsRising, AllAbove, stands_twice, some_comes_to, faults_of}
+use Rattle.rs_octets.specs.Numbers.{as_trans}
+use Rattle.rs_attrs.specs.Meaning.{Attribute, attribute_with, partial_of, that_counts, if_kept, kept_spelling, kept, is_as4, aggregator_as, as4_path, if_some, ignores_as4, merged, aggregator_by, value_by_two, get, IsRising, AllAbove, stands_twice, some_comes_to, faults_of}
 use Rattle.rs_attrs.specs.Writing.{flags_of, spelling_of, IsLegal, IsLegalAttribute, with_value, narrowed, narrowed_segment, path_in, aggregator_in, needs_four_octets, path_needs_four_octets, as4_attribute, as4_of, for_two, no_faults, ReadsBack}
 use Rattle.rs_attrs.proofs.Counting.{as4_discarded, IsGood, none_comes_to, not_withdraw, not_discard, not_unknown}
 use Rattle.rs_attrs.proofs.ReadBack.{FlagsBack, flags_of_back, partial_of_back, spellings_back, fits_by, count, count_cons}

@@ -6,8 +6,8 @@ use Rattle.rs_attrs.specs.declared.mode.Mode.TheVariants.{Two}
 use Rattle.rs_attrs.specs.Spellings.{Spelling, AreOctets}
 use Rattle.rs_attrs.specs.Paths.{Segment, AsSize, two_octets, four_octets, number_octets, path_octets, segment_length, path_length, leading}
 use Rattle.rs_attrs.specs.Table.{outcome_of, is_kept}
-use Rattle.rs_attrs.specs.Meaning.{ignores_as4, aggregator_by, value_by_two}
-use Rattle.rs_attrs.specs.Merging.{segments_in, plain, merged_with, as4_value}
+use Rattle.rs_attrs.specs.Meaning.{merged_with, ignores_as4, aggregator_by, value_by_two}
+use Rattle.rs_attrs.specs.Merging.{segments_in, plain, as4_value}
 use Rattle.rs_attrs.proofs.PathLaws.{numbers_size}
 use Rattle.rs_attrs.proofs.MergedPaths.{whole_segments}
 use Rattle.rs_attrs.proofs.ByTwo.{good_path, good_as4_path, good_as4_value, path_value, aggregator_value, other_value}

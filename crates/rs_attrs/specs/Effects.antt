@@ -7,6 +7,7 @@ use Rattle.rs_octets.specs.PrefixFields.{prefixes_of}
 use Rattle.rs_attrs.specs.declared.mode.Mode.{Mode}
 use Rattle.rs_attrs.specs.declared.mode.Faults.{Faults}
 use Rattle.rs_attrs.specs.Meaning.{Attribute, get, Reads, Reading, read_of}
+use Rattle.rs_attrs.specs.Types as types
 
 -- ---- the fields of an UPDATE's body (RFC 4271, 4.3)
 
@@ -71,7 +72,7 @@ reset_of fields faults =
 
 -- ORIGIN, AS_PATH or NEXT_HOP isn't there
 abbrev pub lacks_mandatory : List Attribute → Bool
-lacks_mandatory m = is_none (get 1 m) || is_none (get 2 m) || is_none (get 3 m)
+lacks_mandatory m = is_none (get types.origin m) || is_none (get types.as_path m) || is_none (get types.next_hop m)
 
 abbrev pub HasMandatory : List Attribute → Type 0
 HasMandatory m = lacks_mandatory m ≡ false

@@ -9,29 +9,30 @@ use Rattle.rs_attrs.specs.Table.{row_of, is_kept, is_well_formed}
 use Rattle.rs_attrs.specs.declared.table.TypeRow.{TypeRow}
 use Rattle.rs_attrs.specs.declared.mode.Mode.TheVariants.{Four}
 use Rattle.rs_attrs.specs.declared.getters.AttributeRef.{AttributeRef}
+use Rattle.rs_attrs.specs.Types as types
 
 abbrev pub value_of : ℕ → List Attribute → Option (List ℕ)
 value_of kind m = option_map (λ a. a.value) (get kind m)
 
 -- ORIGIN (RFC 4271, 5.1.1): 0 for IGP, 1 for EGP, 2 for INCOMPLETE
 abbrev pub origin_of : List Attribute → Option ℕ
-origin_of m = option_map (λ value. slice_index value 0) (value_of 1 m)
+origin_of m = option_map (λ value. slice_index value 0) (value_of types.origin m)
 
 -- the segments of AS_PATH (RFC 4271, 5.1.2), none where there is no AS_PATH
 abbrev pub path_of : List Attribute → List Segment
-path_of m = unwrap_or (option_map path_in (value_of 2 m)) []
+path_of m = unwrap_or (option_map path_in (value_of types.as_path m)) []
 
 -- NEXT_HOP, an address as a number (RFC 4271, 5.1.3)
 abbrev pub next_hop_of : List Attribute → Option ℕ
-next_hop_of m = option_map (from_be_bytes w32) (value_of 3 m)
+next_hop_of m = option_map (from_be_bytes w32) (value_of types.next_hop m)
 
 -- MULTI_EXIT_DISC (RFC 4271, 5.1.4)
 abbrev pub med_of : List Attribute → Option ℕ
-med_of m = option_map (from_be_bytes w32) (value_of 4 m)
+med_of m = option_map (from_be_bytes w32) (value_of types.multi_exit_disc m)
 
 -- COMMUNITIES, each four octets (RFC 1997), none where there is no such attribute
 abbrev pub communities_of : List Attribute → List ℕ
-communities_of m = unwrap_or (option_map quads (value_of 8 m)) []
+communities_of m = unwrap_or (option_map quads (value_of types.communities m)) []
 
 abbrev pub has_community : ℕ → List Attribute → Bool
 has_community community m = list_any (λ c. c == community) (communities_of m)

@@ -1,8 +1,8 @@
 -- Paths taken apart from the front, and put together.
-use Rattle.std.specs.Prelude.{◌≡◌, ℕ, ◌-◌, ◌*◌, ◌<◌, Bool, true, false, List, [], ◌∷◌, ◌++◌, length, filter, Option, Some, is_some, nat_lt, if◌then◌else◌}
+use Rattle.std.specs.Prelude.{◌≡◌, ℕ, ◌*◌, ◌<◌, Bool, true, false, List, [], ◌∷◌, length, filter, Option, Some, is_some}
 use Rattle.rs_attrs.specs.declared.reading_two.RawSegment.{RawSegment}
 use Rattle.rs_attrs.specs.Spellings.{Spelling}
-use Rattle.rs_attrs.specs.Paths.{Segment, AsSize, octets_each, numbers_in, segments_of, or_none, is_set_or_sequence, path_length, leading}
+use Rattle.rs_attrs.specs.Paths.{Segment, AsSize, octets_each, numbers_in, segments_of, or_none, is_set_or_sequence}
 use Rattle.rs_attrs.specs.Walking.{segment_kinds}
 
 abbrev pub segments_in : AsSize → Bool → List ℕ → List Segment
@@ -26,12 +26,6 @@ pub record IsCut (size : AsSize) (confederations : Bool) (path : List ℕ) (s : 
   pub octets : length s.numbers.now ≡ octets_each size * s.count
   pub whole : IsWhole size confederations s.rest.now
   pub segments : segments_in size confederations path ≡ segment_in size s ∷ segments_in size confederations s.rest.now
-
--- AS_PATH's leading part and AS4_PATH's segments, if there are any; AS_PATH alone where it is the shorter one
-abbrev pub merged_with : List Segment → List Segment → List Segment
-merged_with path as4 =
-    if nat_lt (path_length path) (path_length as4) then path
-    else leading (path_length path - path_length as4) path ++ as4
 
 -- AS4_PATH's value, where it is there and not ignored
 abbrev pub as4_value : Bool → Option Spelling → List ℕ

@@ -6,6 +6,7 @@ use Rattle.std.specs.List.{flat_map, AllByRecursion}
 use Rattle.rs_attrs.specs.declared.writing.Pass.{Pass}
 use Rattle.rs_attrs.specs.declared.writing.Pass.TheVariants.{Whole, Narrowed, As4, Above}
 use Rattle.rs_attrs.specs.Meaning.{Attribute}
+use Rattle.rs_attrs.specs.Types as types
 use Rattle.std.specs.Int.{w16, to_be_bytes}
 use Rattle.rs_attrs.specs.Paths.{two_octets, path_octets}
 use Rattle.rs_attrs.specs.Writing.{attribute_octets, narrowed, as4_of, narrowed_segment, path_in, as_trans_or, aggregator_in}
@@ -13,9 +14,9 @@ use Rattle.rs_attrs.specs.Writing.{attribute_octets, narrowed, as4_of, narrowed_
 -- what a pass writes of an attribute
 abbrev pub part : Pass → Attribute → List Attribute
 part Whole a = a ∷ []
-part Narrowed a = if nat_lt a.kind 17 then narrowed a ∷ [] else []
+part Narrowed a = if nat_lt a.kind types.as4_path then narrowed a ∷ [] else []
 part As4 a = as4_of a
-part Above a = if nat_lt 18 a.kind then a ∷ [] else []
+part Above a = if nat_lt types.as4_aggregator a.kind then a ∷ [] else []
 
 abbrev pub part_octets : Pass → Attribute → List ℕ
 part_octets pass a = flat_map attribute_octets (part pass a)

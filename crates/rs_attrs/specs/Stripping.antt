@@ -6,6 +6,7 @@ use Rattle.rs_attrs.specs.declared.stripping.Strip.{Strip}
 use Rattle.rs_attrs.specs.Meaning.{Attribute}
 use Rattle.rs_attrs.specs.Paths.{quads}
 use Rattle.rs_attrs.specs.Writing.{with_value}
+use Rattle.rs_attrs.specs.Types as types
 
 abbrev pub lists_in : Strip → List (List ℕ)
 lists_in strip = map (λ list. list.now) strip.lists
@@ -26,7 +27,7 @@ with_communities a (c ∷ communities) = with_value a (flat_map (to_be_bytes w32
 -- an attribute of another type stays as it is
 abbrev pub left_of : List (List ℕ) → Bool → Attribute → List Attribute
 left_of lists all a =
-    if a.kind == 8 then with_communities a (unstripped lists all (quads a.value)) else a ∷ []
+    if a.kind == types.communities then with_communities a (unstripped lists all (quads a.value)) else a ∷ []
 
 abbrev pub stripped_of : List (List ℕ) → Bool → List Attribute → List Attribute
 stripped_of lists all m = flat_map (left_of lists all) m

@@ -5,6 +5,7 @@ ghost use Rattle.rs_attrs.specs.Spellings.{spellings_of, rest_of};
 ghost use Rattle.rs_attrs.specs.Table;
 ghost use Rattle.rs_attrs.specs.Table.{is_kept};
 ghost use Rattle.rs_attrs.specs.Meaning.{faults_of};
+ghost use Rattle.rs_attrs.specs.Types as types;
 ghost use Rattle.rs_attrs.specs.Flaws.{faulted_of};
 ghost use Rattle.rs_attrs.specs.Walking.{spelling_in, noted, noted_with, told_with, AreRising, IsPlaceOf, Keeps};
 
@@ -13,6 +14,7 @@ use crate::mode::{Faults, Mode};
 use crate::reading_field::{Found, next_spelling};
 use crate::reading_values::outcome_of;
 use crate::table::Outcome;
+use crate::types::{MP_REACH_NLRI, MP_UNREACH_NLRI};
 use smallvec::SmallVec;
 use std::alloc::AllocError;
 
@@ -41,9 +43,9 @@ const NOTHING_WRONG: Told = Told {
 
 /// MP_REACH_NLRI or MP_UNREACH_NLRI.
 fn is_mp(kind: u8) -> bool
-    ensures { result ≡ (kind == 14 || kind == 15) }
+    ensures { result ≡ (kind == types.mp_reach_nlri || kind == types.mp_unreach_nlri) }
 {
-    kind == 14 || kind == 15
+    kind == MP_REACH_NLRI || kind == MP_UNREACH_NLRI
 }
 
 /// Notes what is wrong with an attribute, where one of its type came before or not.

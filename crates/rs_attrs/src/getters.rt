@@ -10,6 +10,7 @@ ghost use Rattle.rs_attrs.specs.Getters.{attribute_at, IsWellFormedAs, value_of,
 
 use crate::attrs::{Attrs, Head};
 use crate::segments::{Numbers, Segments};
+use crate::types::{AS_PATH, COMMUNITIES, MULTI_EXIT_DISC, NEXT_HOP, ORIGIN};
 
 /// An attribute as it stands in `Attrs`.
 #[derive(Clone, Copy, Debug)]
@@ -81,7 +82,7 @@ impl Attrs {
     pub fn origin(&self) -> Option<u8>
         ensures { result ≡ origin_of self.now }
     {
-        let value = self.value(1)?;
+        let value = self.value(ORIGIN)?;
         Some(value[0])
     }
 
@@ -89,14 +90,14 @@ impl Attrs {
     pub fn next_hop(&self) -> Option<u32>
         ensures { result ≡ next_hop_of self.now }
     {
-        Some(number(self.value(3)?))
+        Some(number(self.value(NEXT_HOP)?))
     }
 
     /// MULTI_EXIT_DISC (RFC 4271, 5.1.4).
     pub fn med(&self) -> Option<u32>
         ensures { result ≡ med_of self.now }
     {
-        Some(number(self.value(4)?))
+        Some(number(self.value(MULTI_EXIT_DISC)?))
     }
 
     /// The segments of AS_PATH, none where there is no AS_PATH.
@@ -104,7 +105,7 @@ impl Attrs {
         ensures segments { result ≡ path_of self.now }
         ensures short { path_length_of self.now < 2 ^ 64 }
     {
-        match self.value(2) {
+        match self.value(AS_PATH) {
             Some(value) => Segments::of(value),
             None => Segments::of(&[]),
         }
@@ -136,14 +137,14 @@ impl Attrs {
     pub fn has_mandatory(&self) -> bool
         ensures { result ≡ not (lacks_mandatory self.now) }
     {
-        self.get(1).is_some() && self.get(2).is_some() && self.get(3).is_some()
+        self.get(ORIGIN).is_some() && self.get(AS_PATH).is_some() && self.get(NEXT_HOP).is_some()
     }
 
     /// The communities, none where there is no COMMUNITIES (RFC 1997).
     pub(crate) fn communities(&self) -> Numbers<'_>
         ensures { result ≡ communities_of self.now }
     {
-        match self.value(8) {
+        match self.value(COMMUNITIES) {
             Some(value) => Numbers::of(value),
             None => Numbers::of(&[]),
         }

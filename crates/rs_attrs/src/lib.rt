@@ -21,6 +21,7 @@ mod route_tests;
 mod segments;
 mod stripping;
 mod table;
+mod types;
 mod writing;
 
 pub use attrs::Attrs;

@@ -13,6 +13,7 @@ use crate::mode::{Faults, Mode};
 use crate::reading_field::Found;
 use crate::reading_two::push_value_by_two;
 use crate::reading_values::head_of;
+use crate::types::{AGGREGATOR, AS_PATH, AS4_AGGREGATOR, AS4_PATH};
 use smallvec::SmallVec;
 use std::alloc::{AllocError, Global};
 
@@ -20,7 +21,7 @@ use std::alloc::{AllocError, Global};
 fn has_no_meaning(kind: u8) -> bool
     ensures { result ≡ is_as4 kind }
 {
-    kind == 17 || kind == 18
+    kind == AS4_PATH || kind == AS4_AGGREGATOR
 }
 
 /// How much memory the attributes take.
@@ -43,9 +44,9 @@ fn room_for(mode: Mode, kept: &[Found<'_>]) -> Room {
         }
         let len = found.value.len();
         room.values = room.values.saturating_add(match (mode, found.kind) {
-            (Mode::Two, 2) => len.saturating_mul(2),
-            (Mode::Two, 7) => len.saturating_add(2),
-            (Mode::Two, 18) => 0,
+            (Mode::Two, AS_PATH) => len.saturating_mul(2),
+            (Mode::Two, AGGREGATOR) => len.saturating_add(2),
+            (Mode::Two, AS4_AGGREGATOR) => 0,
             _ => len,
         });
     }

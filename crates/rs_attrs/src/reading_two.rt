@@ -9,17 +9,16 @@ ghost use Rattle.rs_attrs.specs.Paths.{two_octets, four_octets, number_octets, p
 ghost use Rattle.rs_attrs.specs.declared.mode.Mode.TheVariants.{Two};
 ghost use Rattle.rs_attrs.specs.Table.{size_in};
 ghost use Rattle.rs_attrs.specs.Meaning;
-ghost use Rattle.rs_attrs.specs.Meaning.{aggregator_by, value_by_two};
+ghost use Rattle.rs_attrs.specs.Meaning.{aggregator_by, merged_with, value_by_two};
 ghost use Rattle.rs_attrs.specs.Walking.{spelling_in, noted, AreKept};
-ghost use Rattle.rs_attrs.specs.Merging.{segments_in, IsWhole, IsCut, plain, merged_with, as4_value};
+ghost use Rattle.rs_attrs.specs.Merging.{segments_in, IsWhole, IsCut, plain, as4_value};
 
 use crate::mode::Mode;
 use crate::reading_field::Found;
 use crate::reading_values::{is_segment_kind, number_size};
+use crate::types::{AGGREGATOR, AS_PATH, AS4_AGGREGATOR, AS4_PATH};
+use rs_octets::AS_TRANS;
 use std::alloc::AllocError;
-
-/// Stands in two octets for an AS number that needs four (RFC 6793, 9).
-const AS_TRANS: u16 = 23456;
 
 /// A segment as it stands at the front of a path, and what follows it.
 #[derive(Clone, Copy)]
@@ -217,16 +216,16 @@ pub(crate) fn push_value_by_two(
     requires here { noted kept.now found.now.kind ≡ Some (spelling_in found.now) }
     ensures { OnOk result (values.new.items ≡ values.old.items ++ value_by_two (noted kept.now) (spelling_in found.now)) }
 {
-    if found.kind != 2 && found.kind != 7 {
+    if found.kind != AS_PATH && found.kind != AGGREGATOR {
         return values.extend_from_slice(found.value);
     }
-    let as4_aggregator = kept_of(kept, 18);
-    let ignores = ignores_as4(kept_of(kept, 7), as4_aggregator);
-    if found.kind == 2 {
+    let as4_aggregator = kept_of(kept, AS4_AGGREGATOR);
+    let ignores = ignores_as4(kept_of(kept, AGGREGATOR), as4_aggregator);
+    if found.kind == AS_PATH {
         push_path(
             values,
             found.value,
-            as4_path_value(ignores, kept_of(kept, 17)),
+            as4_path_value(ignores, kept_of(kept, AS4_PATH)),
         )
     } else {
         push_aggregator(values, found.value, ignores, as4_aggregator)

@@ -11,7 +11,7 @@ ghost use Rattle.rs_attrs.specs.Meaning;
 use crate::attrs::Head;
 use crate::mode::Mode;
 use crate::reading_field::Found;
-use crate::table::{Class, Outcome, Shape, row_of};
+use crate::table::{Class, Outcome, Partial, Shape, partial_in, row_of};
 
 fn is_optional(flags: u8) -> bool
     ensures { result ≡ has_flag 0x80 flags }
@@ -120,10 +120,10 @@ pub(crate) fn outcome_of(mode: Mode, found: &Found<'_>) -> Outcome
 fn partial_of(found: &Found<'_>) -> bool
     ensures { result ≡ Meaning.partial_of (spelling_in found.now) }
 {
-    match found.kind {
-        1 | 2 | 3 | 4 | 6 => false,
-        7 | 8 | 16 | 32 => found.flags & 0x20 != 0,
-        _ => is_transitive(found.flags) || found.flags & 0x20 != 0,
+    match partial_in(found.kind) {
+        Partial::Never => false,
+        Partial::AsReceived => found.flags & 0x20 != 0,
+        Partial::Unrecognized => is_transitive(found.flags) || found.flags & 0x20 != 0,
     }
 }
 

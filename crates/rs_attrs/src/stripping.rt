@@ -7,10 +7,12 @@ ghost use Rattle.rs_attrs.specs.Held.{attribute_by, attributes_in, values_size};
 ghost use Rattle.rs_attrs.specs.Getters.{communities_of};
 ghost use Rattle.rs_attrs.specs.Meaning.{get};
 ghost use Rattle.rs_attrs.specs.Paths.{quads};
+ghost use Rattle.rs_attrs.specs.Types as types;
 ghost use Rattle.rs_attrs.specs.Stripping.{is_stripped, left_of, lists_in, stripped_of, unstripped};
 
 use crate::attrs::{Attrs, Head};
 use crate::segments::Numbers;
+use crate::types::COMMUNITIES;
 use std::alloc::{AllocError, Global};
 
 /// What is taken out of COMMUNITIES (RFC 1997): the communities of both lists, or all.
@@ -74,7 +76,7 @@ fn push_left(
     ensures size { IfOk result (λ _. values_size heads.new.items ≡ length values.new.items) }
     ensures left { IfOk result (λ _. attributes_in heads.new.items values.new.items ≡ attributes_in heads.old.items values.old.items ++ left_of (lists_in strip.now) strip.now.all (attribute_by head.now value.now)) }
 {
-    if head.kind != 8 {
+    if head.kind != COMMUNITIES {
         heads.push(*head)?;
         values.extend_from_slice(value)?;
         return Ok(());
@@ -95,9 +97,9 @@ fn push_left(
 pub fn stripped(alloc: Global, attrs: &Attrs, strip: &Strip<'_>) -> Result<Attrs, AllocError>
     ensures value { IfOk result (λ a. a ≡ stripped_of (lists_in strip.now) strip.now.all attrs.now) }
     ensures communities { IfOk result (λ a. communities_of a ≡ unstripped (lists_in strip.now) strip.now.all (communities_of attrs.now)) }
-    ensures others { IfOk result (λ a. (kind : ℕ) → (kind ≡ 8 → ⊥) → get kind a ≡ get kind attrs.now) }
+    ensures others { IfOk result (λ a. (kind : ℕ) → (kind ≡ types.communities → ⊥) → get kind a ≡ get kind attrs.now) }
 {
-    let (had, left) = match attrs.value(8) {
+    let (had, left) = match attrs.value(COMMUNITIES) {
         Some(value) => (value.len(), left_size(value, strip)),
         None => (0, 0),
     };

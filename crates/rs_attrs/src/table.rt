@@ -6,6 +6,11 @@ ghost use Rattle.std.specs.List.{find};
 ghost use Rattle.rs_attrs.specs.Table;
 
 use crate::mode::Mode;
+use crate::types::{
+    AGGREGATOR, AS_PATH, AS4_AGGREGATOR, AS4_PATH, ATOMIC_AGGREGATE, CLUSTER_LIST, COMMUNITIES,
+    EXTENDED_COMMUNITIES, LARGE_COMMUNITY, LOCAL_PREF, MP_REACH_NLRI, MP_UNREACH_NLRI,
+    MULTI_EXIT_DISC, NEXT_HOP, ORIGIN, ORIGINATOR_ID,
+};
 
 /// What comes of the attribute that counts of a type (RFC 7606, 2).
 #[derive(Clone, Copy, Debug, PartialEq, Eq)]
@@ -44,6 +49,15 @@ pub(crate) enum Shape {
     Never,
 }
 
+/// The partial bit that an attribute of a type has from here on (RFC 4271, 5).
+#[derive(Clone, Copy, Debug, PartialEq, Eq)]
+pub(crate) enum Partial {
+    Never,
+    AsReceived,
+    /// Set where the attribute is transitive, since nobody here recognizes it.
+    Unrecognized,
+}
+
 /// A type of attribute.
 #[derive(Clone, Copy, Debug, PartialEq, Eq)]
 pub(crate) struct TypeRow {
@@ -51,46 +65,48 @@ pub(crate) struct TypeRow {
     pub(crate) class: Class,
     pub(crate) shape: Shape,
     pub(crate) otherwise: Outcome,
+    pub(crate) partial: Partial,
 }
 
 macro_rules! row {
-    ($kind:expr, $class:ident, $shape:expr, $otherwise:ident) => {
+    ($kind:expr => $class:ident, $shape:expr, $otherwise:ident, $partial:ident) => {
         TypeRow {
             kind: $kind,
             class: Class::$class,
             shape: $shape,
             otherwise: Outcome::$otherwise,
+            partial: Partial::$partial,
         }
     };
 }
 
 // The types that have one row for both kinds of peer.
 const COMMON_ROWS: [TypeRow; 14] = [
-    row!(1, WellKnown, Shape::Origin, Withdraw), // ORIGIN
-    row!(2, WellKnown, Shape::AsPath, Withdraw), // AS_PATH
-    row!(3, WellKnown, Shape::Length(4), Withdraw), // NEXT_HOP
-    row!(4, OptionalNonTransitive, Shape::Length(4), Withdraw), // MULTI_EXIT_DISC
-    row!(5, Any, Shape::Never, Discard), // LOCAL_PREF
-    row!(6, WellKnown, Shape::Length(0), Discard), // ATOMIC_AGGREGATE
-    row!(7, OptionalTransitive, Shape::Aggregator, Discard), // AGGREGATOR
-    row!(8, OptionalTransitive, Shape::Communities, Withdraw), // COMMUNITIES
-    row!(9, Any, Shape::Never, Discard), // ORIGINATOR_ID
-    row!(10, Any, Shape::Never, Discard), // CLUSTER_LIST
-    row!(14, Any, Shape::Never, Discard), // MP_REACH_NLRI
-    row!(15, Any, Shape::Never, Discard), // MP_UNREACH_NLRI
-    row!(16, OptionalTransitive, Shape::ExtendedCommunities, Withdraw), // EXTENDED COMMUNITIES
-    row!(32, OptionalTransitive, Shape::LargeCommunities, Withdraw), // LARGE_COMMUNITY
+    row!(ORIGIN => WellKnown, Shape::Origin, Withdraw, Never),
+    row!(AS_PATH => WellKnown, Shape::AsPath, Withdraw, Never),
+    row!(NEXT_HOP => WellKnown, Shape::Length(4), Withdraw, Never),
+    row!(MULTI_EXIT_DISC => OptionalNonTransitive, Shape::Length(4), Withdraw, Never),
+    row!(LOCAL_PREF => Any, Shape::Never, Discard, Never),
+    row!(ATOMIC_AGGREGATE => WellKnown, Shape::Length(0), Discard, Never),
+    row!(AGGREGATOR => OptionalTransitive, Shape::Aggregator, Discard, AsReceived),
+    row!(COMMUNITIES => OptionalTransitive, Shape::Communities, Withdraw, AsReceived),
+    row!(ORIGINATOR_ID => Any, Shape::Never, Discard, Never),
+    row!(CLUSTER_LIST => Any, Shape::Never, Discard, Never),
+    row!(MP_REACH_NLRI => Any, Shape::Never, Discard, Never),
+    row!(MP_UNREACH_NLRI => Any, Shape::Never, Discard, Never),
+    row!(EXTENDED_COMMUNITIES => OptionalTransitive, Shape::ExtendedCommunities, Withdraw, AsReceived),
+    row!(LARGE_COMMUNITY => OptionalTransitive, Shape::LargeCommunities, Withdraw, AsReceived),
 ];
 
 // AS4_PATH and AS4_AGGREGATOR, of a four-octet peer and of a two-octet peer.
 const AS4_ROWS_OF_FOUR: [TypeRow; 2] = [
-    row!(17, Any, Shape::Never, Discard),
-    row!(18, Any, Shape::Never, Discard),
+    row!(AS4_PATH => Any, Shape::Never, Discard, Never),
+    row!(AS4_AGGREGATOR => Any, Shape::Never, Discard, Never),
 ];
 
 const AS4_ROWS_OF_TWO: [TypeRow; 2] = [
-    row!(17, OptionalTransitive, Shape::As4Path, Discard),
-    row!(18, OptionalTransitive, Shape::Length(8), Discard),
+    row!(AS4_PATH => OptionalTransitive, Shape::As4Path, Discard, Never),
+    row!(AS4_AGGREGATOR => OptionalTransitive, Shape::Length(8), Discard, Never),
 ];
 
 fn row_in(rows: &[TypeRow], kind: u8) -> Option<TypeRow>
@@ -102,6 +118,16 @@ fn row_in(rows: &[TypeRow], kind: u8) -> Option<TypeRow>
         }
     }
     None
+}
+
+/// The partial bit that an attribute of this type has from here on.
+pub(crate) fn partial_in(kind: u8) -> Partial
+    ensures { result ≡ Table.partial_in kind }
+{
+    match row_of(Mode::Four, kind) {
+        Some(row) => row.partial,
+        None => Partial::Unrecognized,
+    }
 }
 
 /// The row of a type, if it has one.

@@ -14,7 +14,8 @@ ghost use Rattle.rs_attrs.specs.declared.writing.Pass.TheVariants.{Narrowed, As4
 use crate::attrs::{Attrs, Head};
 use crate::mode::Mode;
 use crate::segments::{Numbers, PathSegment, Segments};
-use rs_octets::put;
+use crate::types::{AGGREGATOR, AS_PATH, AS4_AGGREGATOR, AS4_PATH};
+use rs_octets::{AS_TRANS, put};
 
 /// What a pass over the attributes writes of each.
 #[derive(Clone, Copy)]
@@ -28,17 +29,6 @@ enum Pass {
     /// An attribute of a type above AS4_AGGREGATOR.
     Above,
 }
-
-const AS_PATH: u8 = 2;
-
-const AGGREGATOR: u8 = 7;
-
-const AS4_PATH: u8 = 17;
-
-const AS4_AGGREGATOR: u8 = 18;
-
-/// Stands in two octets for an AS number that needs four (RFC 6793, 9).
-const AS_TRANS: u16 = 23456;
 
 fn flag(worth: u8, is_set: bool) -> u8
     ensures value { result ≡ bit worth is_set }
