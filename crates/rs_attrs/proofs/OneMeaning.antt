@@ -6,15 +6,15 @@ use Rattle.std.proofs.Math.Seq.{take-append_seam, drop-append_seam}
 use Rattle.std.proofs.lemmas.Bool.{cases_lt, eq-eqb, eqb-true, ne_eqb}
 use Rattle.std.proofs.lemmas.Nat.{from_be_bytes-to_be_bytes_2}
 use Rattle.rs_attrs.specs.declared.mode.Mode.{Mode}
-use Rattle.rs_attrs.specs.declared.mode.Faults.{Faults}
+use Rattle.rs_attrs.specs.declared.faults.Faults.{Faults}
 use Rattle.rs_attrs.specs.Spellings.{AreOctets, Spelling, spelling_octets, is_long, IsSpelling, BeginsNoAttribute, spellings_of, rest_of}
 use Rattle.rs_attrs.specs.Paths.{segments_of}
 use Rattle.rs_attrs.specs.Meaning.{Attribute, get, AllAbove, IsRising, Reads, faults_of, kept}
 use Rattle.rs_attrs.specs.Effects.{Fields, IsBody, behind_its_length}
 use Rattle.rs_attrs.specs.ReadingLaws.{FieldsAreRead, FieldsMeanOne, PathsAreRead}
-use Rattle.rs_attrs.proofs.Walk.{FitOctets, splits_of}
-use Rattle.rs_attrs.proofs.Meant.{is_meant}
-use Rattle.rs_attrs.proofs.PathLaws.{path_found, path_back}
+use Rattle.rs_attrs.proofs.Fields.Walk.{FitOctets, splits_of}
+use Rattle.rs_attrs.proofs.Fields.Meant.{is_meant}
+use Rattle.rs_attrs.proofs.Paths.PathLaws.{path_found, path_back}
 
 -- two fronts as long as each other
 same_front : (xs ys vs ws : List ℕ) → length xs ≡ length ys → xs ++ vs ≡ ys ++ ws → (xs ≡ ys) × (vs ≡ ws)

@@ -5,7 +5,7 @@ use Rattle.std.specs.Int.{w16, from_be_bytes, to_be_bytes}
 use Rattle.rs_octets.specs.Prefixes.{Prefix}
 use Rattle.rs_octets.specs.PrefixFields.{prefixes_of}
 use Rattle.rs_attrs.specs.declared.mode.Mode.{Mode}
-use Rattle.rs_attrs.specs.declared.mode.Faults.{Faults}
+use Rattle.rs_attrs.specs.declared.faults.Faults.{Faults}
 use Rattle.rs_attrs.specs.Meaning.{Attribute, get, Reads, Reading, read_of}
 use Rattle.rs_attrs.specs.Types as types
 

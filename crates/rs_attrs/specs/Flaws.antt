@@ -8,11 +8,11 @@ use Rattle.rs_attrs.specs.declared.table.Outcome.TheVariants as outcome
 use Rattle.rs_attrs.specs.declared.table.Shape.{Shape}
 use Rattle.rs_attrs.specs.declared.table.Shape.TheVariants as shape
 use Rattle.rs_attrs.specs.declared.table.TypeRow.{TypeRow}
-use Rattle.rs_attrs.specs.declared.faulted.Cause.{Cause}
-use Rattle.rs_attrs.specs.declared.faulted.Cause.TheVariants as cause
-use Rattle.rs_attrs.specs.declared.faulted.AttributeFault.{AttributeFault}
-use Rattle.rs_attrs.specs.declared.faulted.Faulted.{Faulted}
-use Rattle.rs_attrs.specs.declared.faulted.Flaw.{Flaw}
+use Rattle.rs_attrs.specs.declared.faults.Cause.{Cause}
+use Rattle.rs_attrs.specs.declared.faults.Cause.TheVariants as cause
+use Rattle.rs_attrs.specs.declared.faults.AttributeFault.{AttributeFault}
+use Rattle.rs_attrs.specs.declared.faults.Faulted.{Faulted}
+use Rattle.rs_attrs.specs.declared.faults.Flaw.{Flaw}
 use Rattle.rs_attrs.specs.Spellings.{Spelling, spellings_of, rest_of}
 use Rattle.rs_attrs.specs.Table.{row_of, fits_class, outcome_of, is_kept, is_withdraw, is_discard}
 use Rattle.rs_attrs.specs.Meaning.{that_counts}

@@ -1,6 +1,6 @@
 -- Paths taken apart from the front, and put together.
 use Rattle.std.specs.Prelude.{◌≡◌, ℕ, ◌*◌, ◌<◌, Bool, true, false, List, [], ◌∷◌, length, filter, Option, Some, is_some}
-use Rattle.rs_attrs.specs.declared.reading_two.RawSegment.{RawSegment}
+use Rattle.rs_attrs.specs.declared.reading.two.RawSegment.{RawSegment}
 use Rattle.rs_attrs.specs.Spellings.{Spelling}
 use Rattle.rs_attrs.specs.Paths.{Segment, AsSize, octets_each, numbers_in, segments_of, or_none, is_set_or_sequence}
 use Rattle.rs_attrs.specs.Walking.{segment_kinds}

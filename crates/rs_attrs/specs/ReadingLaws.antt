@@ -1,7 +1,7 @@
 -- Laws of what is read: a field has a meaning, and no other; a path's value is read exactly where it is one.
 use Rattle.std.specs.Prelude.{◌≡◌, ◌↔◌, ℕ, Bool, List, Some}
 use Rattle.rs_attrs.specs.declared.mode.Mode.{Mode}
-use Rattle.rs_attrs.specs.declared.mode.Faults.{Faults}
+use Rattle.rs_attrs.specs.declared.faults.Faults.{Faults}
 use Rattle.rs_attrs.specs.Spellings.{AreOctets}
 use Rattle.rs_attrs.specs.Paths.{AsSize, Segment, IsPath, segments_of}
 use Rattle.rs_attrs.specs.Meaning.{Attribute, Reads, read_of}

@@ -1,35 +1,43 @@
-//! Path attributes.
+//! Path attributes: octets of an UPDATE come in, the attributes of a route go out, and back.
+//!
+//! `read` takes a field of path attributes and the kind of peer, and gives an `Attrs`, which is
+//! always legal, with what is wrong with the field. An `Attrs` is asked by its getters, compared,
+//! ordered, hashed and stripped; `size` and `write_into` spell it for a peer of either kind.
+//!
+//! - `types` names the types, `table` says of each which flags and values it has and what comes of
+//!   one that isn't well formed.
+//! - `reading` and its folder: `field` takes a field apart, `values` judges each attribute by the
+//!   table, `gathering` keeps what counts, `two` puts AS4_PATH and AS4_AGGREGATOR in their places.
+//! - `faults` says what is wrong with a field, for the UPDATE and for the operator.
+//! - `attrs` says how attributes lie in memory; `getters`, `segments` and `stripping` ask and change
+//!   them.
+//! - `writing` and its folder: `head` spells what stands before a value, `narrow` is for two-octet
+//!   peers.
+//! - `laws` are contracts of functions that do nothing.
 #![tactic(auto)]
 
 mod attrs;
-mod faulted;
-#[cfg(test)]
-mod faulted_tests;
-mod gathering;
+mod faults;
 mod getters;
 mod laws;
 mod mode;
 mod reading;
-mod reading_field;
-mod reading_laws;
-#[cfg(test)]
-mod reading_tests;
-mod reading_two;
-mod reading_values;
-#[cfg(test)]
-mod route_tests;
 mod segments;
 mod stripping;
 mod table;
+#[cfg(test)]
+mod tests;
 mod types;
 mod writing;
 
 pub use attrs::Attrs;
-pub use faulted::{AttributeFault, Cause, Faulted};
+pub use faults::{AttributeFault, Cause, Faulted, Faults};
 pub use getters::AttributeRef;
-pub use laws::{attributes_are_legal, changes_overlay, slices_are_octets, spelling_reads_back};
-pub use mode::{Faults, Mode};
+pub use laws::{
+    attributes_are_legal, changes_overlay, fields_are_read, fields_mean_one, paths_are_read,
+    slices_are_octets, spelling_reads_back,
+};
+pub use mode::Mode;
 pub use reading::{Parsed, read};
-pub use reading_laws::{fields_are_read, fields_mean_one, paths_are_read};
 pub use stripping::{Strip, stripped};
 pub use writing::{size, write_into};

@@ -1,5 +1,10 @@
 //! Reads a field of path attributes: what it means, and what is wrong with it.
 
+pub(crate) mod field;
+mod gathering;
+mod two;
+pub(crate) mod values;
+
 ghost use Rattle.std.specs.Prelude.{◌≡◌, ◌++◌, IfOk, OnOk};
 ghost use Rattle.rs_attrs.specs.Flaws.{faulted_of};
 ghost use Rattle.rs_attrs.specs.Meaning.{Reads, is_as4, value_meant};
@@ -7,12 +12,12 @@ ghost use Rattle.rs_attrs.specs.Writing.{IsLegal};
 ghost use Rattle.rs_attrs.specs.Walking.{noted, meant_by, spelling_in, AreRising, AreKept, AreShort};
 
 use crate::attrs::Attrs;
-use crate::faulted::Faulted;
-use crate::gathering::{Told, gather};
-use crate::mode::{Faults, Mode};
-use crate::reading_field::Found;
-use crate::reading_two::push_value_by_two;
-use crate::reading_values::head_of;
+use crate::faults::{Faulted, Faults};
+use crate::mode::Mode;
+use crate::reading::field::Found;
+use crate::reading::gathering::{Told, gather};
+use crate::reading::two::push_value_by_two;
+use crate::reading::values::head_of;
 use crate::types::{AGGREGATOR, AS_PATH, AS4_AGGREGATOR, AS4_PATH};
 use smallvec::SmallVec;
 use std::alloc::{AllocError, Global};

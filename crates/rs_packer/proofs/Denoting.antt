@@ -12,8 +12,8 @@ use Rattle.rs_attrs.specs.Writing.{IsLegal, in_mode, spelt, no_faults}
 use Rattle.rs_attrs.specs.Effects.{Fields, if_ok, is_faulty, prefixes_in, reset_of, same_prefix, has_prefix, is_empty, lacks_mandatory, announced_by}
 use Rattle.rs_attrs.proofs.EachOnce.{same_itself}
 use Rattle.rs_attrs.proofs.HeldLemmas.{short_values}
-use Rattle.rs_attrs.proofs.ReadBack.{reads_back}
-use Rattle.rs_attrs.proofs.ReadBackTwo.{reads_back_two}
+use Rattle.rs_attrs.proofs.Written.ReadBack.{reads_back}
+use Rattle.rs_attrs.proofs.Written.ReadBackTwo.{reads_back_two}
 use Rattle.rs_octets.proofs.Fields.{prefixes_read_back}
 use Rattle.rs_packer.specs.Packed.{prefixes_octets}
 use Rattle.rs_packer.specs.Laws.{AnnouncementHolds, AnnouncementHasEffect, IsWithdrawable, WithdrawalHolds, WithdrawalHasEffect}

@@ -4,7 +4,7 @@ use Rattle.std.specs.Prelude.{Ok}
 use Rattle.rs_octets.specs.Prefixes.{Prefix}
 use Rattle.rs_octets.specs.PrefixFields.{prefixes_of}
 use Rattle.rs_attrs.specs.declared.mode.Mode.{Mode}
-use Rattle.rs_attrs.specs.declared.mode.Faults.{Faults}
+use Rattle.rs_attrs.specs.declared.faults.Faults.{Faults}
 use Rattle.rs_attrs.specs.Meaning.{Attribute, Reads}
 use Rattle.rs_attrs.specs.Writing.{no_faults}
 use Rattle.rs_attrs.specs.Effects.{Change, Effect, Reset, Changes, Fields, HasEffect, IsEffect, has_prefix, prefixes_in, is_empty, lacks_mandatory, announced_by, reset_of}

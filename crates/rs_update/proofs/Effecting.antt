@@ -8,7 +8,7 @@ use Rattle.rs_octets.specs.declared.notification.Notification.{Notification}
 use Rattle.rs_octets.specs.Names.{code_of, sub_of}
 use Rattle.rs_octets.specs.Prefixes.{Prefix, prefix_order}
 use Rattle.rs_attrs.specs.declared.mode.Mode.{Mode}
-use Rattle.rs_attrs.specs.declared.mode.Faults.{Faults}
+use Rattle.rs_attrs.specs.declared.faults.Faults.{Faults}
 use Rattle.rs_attrs.specs.Meaning.{Attribute, Reads}
 use Rattle.rs_attrs.specs.Effects.{Fields, fields_of, Effect, Reset, Change, HasEffect, IsEffect, IsChange, reset_of, is_faulty, is_empty, has_prefix, same_prefix, prefixes_in, treat_as_withdraw}
 use Rattle.rs_update.specs.declared.outcome.Outcome.{Outcome}

@@ -5,7 +5,7 @@ use Rattle.std.specs.declared.sync.Arc.{Arc}
 use Rattle.std.specs.Arc.{arc_value}
 use Rattle.rs_octets.specs.Prefixes.{Prefix}
 use Rattle.rs_attrs.specs.declared.mode.Mode.{Mode}
-use Rattle.rs_attrs.specs.declared.mode.Faults.{Faults}
+use Rattle.rs_attrs.specs.declared.faults.Faults.{Faults}
 use Rattle.rs_attrs.specs.Meaning.{Attribute}
 use Rattle.rs_attrs.specs.Effects.{Fields, Changes, Change, HasEffect, is_empty, has_prefix, prefixes_in, announced_by, lacks_mandatory}
 use Rattle.rs_attrs.proofs.EachOnce.{same_itself}

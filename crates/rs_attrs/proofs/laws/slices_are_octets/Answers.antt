@@ -1,5 +1,5 @@
 use Rattle.std.proofs.Common.{arith}
-use Rattle.rs_attrs.proofs.Legal.{are_octets}
+use Rattle.rs_attrs.proofs.Fields.Legal.{are_octets}
 use Rattle.rs_attrs.proofs.laws.slices_are_octets.Goals as goal
 
 pub returns : goal.returns

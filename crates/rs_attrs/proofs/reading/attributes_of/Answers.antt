@@ -3,11 +3,11 @@ use Rattle.std.specs.Prelude.{Vec}
 use Rattle.std.specs.Global.{Global}
 use Rattle.std.proofs.lemmas.List.{drop_more}
 use Rattle.rs_attrs.specs.declared.attrs.Head.{Head}
-use Rattle.rs_attrs.specs.declared.reading_field.Found.{Found}
+use Rattle.rs_attrs.specs.declared.reading.field.Found.{Found}
 use Rattle.rs_attrs.specs.Meaning.{value_meant}
 use Rattle.rs_attrs.specs.Walking.{noted, spelling_in}
-use Rattle.rs_attrs.proofs.Placing.{rising_noted}
-use Rattle.rs_attrs.proofs.Building.{Building, building_skip, building_noted, added_length}
+use Rattle.rs_attrs.proofs.Fields.Placing.{rising_noted}
+use Rattle.rs_attrs.proofs.Fields.Building.{Building, building_skip, building_noted, added_length}
 use Rattle.rs_attrs.proofs.reading.attributes_of.Goals as goal
 use Rattle.rs_attrs.proofs.reading.attributes_of.Goals.{then-not-has_no_meaning+in_ok-push_value+in_ok-push, else-not-has_no_meaning}
 

@@ -1,5 +1,5 @@
 use Rattle.std.proofs.Common.{drop}
-use Rattle.rs_attrs.proofs.Building.{Building}
+use Rattle.rs_attrs.proofs.Fields.Building.{Building}
 use Rattle.rs_attrs.proofs.reading.attributes_of.Given as goal
 
 abbrev pub invariant-loop-found : goal.invariant-loop-found

@@ -1,5 +1,5 @@
 use Rattle.std.proofs.Common.{arith}
-use Rattle.rs_attrs.proofs.ReadField.{keeps_as, kept_field, short_field, legal_field, field_reads}
+use Rattle.rs_attrs.proofs.Fields.ReadField.{keeps_as, kept_field, short_field, legal_field, field_reads}
 use Rattle.rs_attrs.proofs.reading.read.Goals as goal
 
 pub attributes_of-requires-clause-rising : goal.attributes_of-requires-clause-rising

@@ -2,7 +2,7 @@ use Rattle.std.proofs.Common.{◌≡◌, ◌*◌, ◌≤◌, not, ap, ◌∙◌,
 use Rattle.std.proofs.lemmas.Iterator.Consumers.{YieldsList-from_first, YieldsList-from_filter, count_from_yields_List}
 use Rattle.rs_attrs.specs.Paths.{quads}
 use Rattle.rs_attrs.specs.Stripping.{is_stripped, lists_in, unstripped}
-use Rattle.rs_attrs.proofs.Communities.{unstripped-bound, length-quads_4}
+use Rattle.rs_attrs.proofs.Strips.Communities.{unstripped-bound, length-quads_4}
 use Rattle.rs_attrs.proofs.stripping.left_size.Goals as goal
 
 counted : (c : goal.After-count) → c.count.result ≡ length (unstripped (lists_in c.args.strip.now) c.args.strip.now.all (quads c.args.value.now))

@@ -1,5 +1,5 @@
 use Rattle.rs_attrs.specs.Stripping.{lists_in}
-use Rattle.rs_attrs.proofs.Communities.{append_other, append_some}
+use Rattle.rs_attrs.proofs.Strips.Communities.{append_other, append_some}
 use Rattle.rs_attrs.proofs.stripping.push_left.Goals as goal
 
 pub returns-then-head-ne-COMMUNITIES : goal.returns-then-head-ne-COMMUNITIES

@@ -4,9 +4,9 @@ use Rattle.rs_attrs.specs.Meaning.{get}
 use Rattle.rs_attrs.specs.Writing.{IsLegal}
 use Rattle.rs_attrs.specs.Getters.{communities_of}
 use Rattle.rs_attrs.specs.Stripping.{lists_in, stripped_of}
-use Rattle.rs_attrs.proofs.Communities.{left_whole}
-use Rattle.rs_attrs.proofs.StrippedLegal.{stripped_legal}
-use Rattle.rs_attrs.proofs.StrippedLaws.{others_stay, stripped_communities}
+use Rattle.rs_attrs.proofs.Strips.Communities.{left_whole}
+use Rattle.rs_attrs.proofs.Strips.StrippedLegal.{stripped_legal}
+use Rattle.rs_attrs.proofs.Strips.StrippedLaws.{others_stay, stripped_communities}
 use Rattle.rs_attrs.proofs.stripping.stripped.Goals as goal
 
 held : (c : goal.After-loop-head) → attributes_in c.loop-head.heads.items c.loop-head.values.items ≡ stripped_of (lists_in c.args.strip.now) c.args.strip.now.all c.args.attrs.now

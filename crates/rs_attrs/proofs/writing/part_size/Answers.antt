@@ -3,7 +3,7 @@ use Rattle.rs_attrs.specs.Held.{attribute_by}
 use Rattle.rs_attrs.specs.Passes.{octets_of_length, part_octets}
 use Rattle.rs_attrs.specs.declared.writing.Pass.{Pass}
 use Rattle.rs_attrs.specs.declared.writing.Pass.TheVariants.{Whole, Above}
-use Rattle.rs_attrs.proofs.Parts.{length_of_one, whole_one, above_one}
+use Rattle.rs_attrs.proofs.Written.Parts.{length_of_one, whole_one, above_one}
 use Rattle.rs_attrs.proofs.writing.part_size.Goals as goal
 
 pub returns-in-Whole-clause-value : goal.returns-in-Whole-clause-value

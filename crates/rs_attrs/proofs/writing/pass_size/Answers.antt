@@ -1,5 +1,5 @@
 use Rattle.std.proofs.Common.{arith}
-use Rattle.rs_attrs.proofs.HeadWalk.{heads_most}
+use Rattle.rs_attrs.proofs.Written.HeadWalk.{heads_most}
 use Rattle.rs_attrs.proofs.writing.pass_size.Goals as goal
 
 pub overflow_add-size : goal.overflow_add-size

@@ -1,5 +1,5 @@
 use Rattle.std.proofs.Common.{drop}
-use Rattle.rs_attrs.proofs.HeadWalk.{CountedTo}
+use Rattle.rs_attrs.proofs.Written.HeadWalk.{CountedTo}
 use Rattle.rs_attrs.proofs.writing.pass_size.Given as goal
 
 abbrev pub invariant-loop-head : goal.invariant-loop-head

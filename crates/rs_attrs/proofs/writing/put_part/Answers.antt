@@ -2,8 +2,8 @@ use Rattle.std.proofs.Common.{ap, ◌∙◌}
 use Rattle.rs_attrs.specs.declared.writing.Pass.{Pass}
 use Rattle.rs_attrs.specs.Passes.{part_octets}
 use Rattle.rs_attrs.specs.Held.{attribute_by}
-use Rattle.rs_attrs.proofs.LeftToWrite.{nothing_written}
-use Rattle.rs_attrs.proofs.Parts.{above_none}
+use Rattle.rs_attrs.proofs.Written.LeftToWrite.{nothing_written}
+use Rattle.rs_attrs.proofs.Written.Parts.{above_none}
 use Rattle.rs_attrs.proofs.writing.put_part.Goals as goal
 
 pub returns-else-head-gt-AS4_AGGREGATOR-clause-octets : goal.returns-else-head-gt-AS4_AGGREGATOR-clause-octets

@@ -6,8 +6,8 @@ use Rattle.rs_attrs.specs.declared.writing.Pass.{Pass}
 use Rattle.rs_attrs.specs.Meaning.{Attribute}
 use Rattle.rs_attrs.specs.Held.{attribute_by, attributes_in}
 use Rattle.rs_attrs.specs.Passes.{part_octets, HasSpellingIn}
-use Rattle.rs_attrs.proofs.HeadWalk.{LeftHeld, here, first_at, none_left}
-use Rattle.rs_attrs.proofs.LeftToWrite.{LeftToWrite, left_from, left_next, left_done}
+use Rattle.rs_attrs.proofs.Written.HeadWalk.{LeftHeld, here, first_at, none_left}
+use Rattle.rs_attrs.proofs.Written.LeftToWrite.{LeftToWrite, left_from, left_next, left_done}
 use Rattle.rs_attrs.proofs.writing.put_pass.Goals as goal
 
 abbrev none : Head

@@ -2,8 +2,8 @@ use Rattle.std.proofs.Common.{drop}
 use Rattle.std.specs.List.{AllByRecursion}
 use Rattle.rs_attrs.specs.Held.{attributes_in}
 use Rattle.rs_attrs.specs.Passes.{part_octets, HasSpellingIn}
-use Rattle.rs_attrs.proofs.HeadWalk.{LeftHeld}
-use Rattle.rs_attrs.proofs.LeftToWrite.{LeftToWrite}
+use Rattle.rs_attrs.proofs.Written.HeadWalk.{LeftHeld}
+use Rattle.rs_attrs.proofs.Written.LeftToWrite.{LeftToWrite}
 use Rattle.rs_attrs.proofs.writing.put_pass.Given as goal
 
 abbrev pub invariant-loop-head : goal.invariant-loop-head

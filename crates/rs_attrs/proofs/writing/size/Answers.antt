@@ -5,7 +5,7 @@ use Rattle.rs_attrs.specs.Writing.{spelt}
 use Rattle.rs_attrs.specs.Passes.{passed}
 use Rattle.rs_attrs.specs.declared.mode.Mode.TheVariants.{Two}
 use Rattle.rs_attrs.specs.declared.writing.Pass.TheVariants.{Narrowed, As4, Above}
-use Rattle.rs_attrs.proofs.Parts.{two_length}
+use Rattle.rs_attrs.proofs.Written.Parts.{two_length}
 use Rattle.rs_attrs.proofs.writing.size.Goals as goal
 
 pub returns-in-Two : goal.returns-in-Two

@@ -8,7 +8,7 @@ use Rattle.rs_attrs.specs.Passes.{passed}
 use Rattle.rs_attrs.specs.declared.mode.Mode.{Mode}
 use Rattle.rs_attrs.specs.declared.mode.Mode.TheVariants.{Two}
 use Rattle.rs_attrs.specs.declared.writing.Pass.TheVariants.{Narrowed, As4, Above}
-use Rattle.rs_attrs.proofs.Parts.{two_length, two_passed, two_short, ShortPasses}
+use Rattle.rs_attrs.proofs.Written.Parts.{two_length, two_passed, two_short, ShortPasses}
 use Rattle.rs_attrs.proofs.writing.write_into.Goals as goal
 
 -- what is held has a spelling in this mode, where the attributes have one

@@ -5,7 +5,7 @@ use Rattle.rs_octets.specs.Names.{code_of, sub_of}
 use Rattle.rs_octets.specs.declared.prefix.Prefix.{Prefix as DeclaredPrefix}
 use Rattle.rs_attrs.specs.Effects.{Fields, Reset, Changes, is_faulty, prefixes_in}
 use Rattle.rs_attrs.specs.Flaws.{faulted_of}
-use Rattle.rs_attrs.proofs.Legal.{are_octets}
+use Rattle.rs_attrs.proofs.Fields.Legal.{are_octets}
 use Rattle.rs_attrs.proofs.OneMeaning.{same_fields}
 use Rattle.rs_update.proofs.BodyFields.{body_of_fields}
 use Rattle.rs_update.specs.Outcomes.{fields_in, codes_named}

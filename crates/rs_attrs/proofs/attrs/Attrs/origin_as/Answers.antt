@@ -3,7 +3,7 @@ use Rattle.std.proofs.lemmas.Iterator.{items_from_drains}
 use Rattle.std.proofs.lemmas.Iterator.Consumers.{YieldsList-from_first}
 use Rattle.rs_attrs.specs.Paths.{segment_origin, last_of}
 use Rattle.rs_attrs.specs.Getters.{path_of}
-use Rattle.rs_attrs.proofs.SegmentWalk.{last_of_drained}
+use Rattle.rs_attrs.proofs.Paths.SegmentWalk.{last_of_drained}
 use Rattle.rs_attrs.proofs.attrs.Attrs.origin_as.Goals as goal
 
 pub returns : goal.returns

@@ -1,5 +1,5 @@
 use Rattle.std.proofs.Common.{arith}
-use Rattle.rs_attrs.proofs.SegmentWalk.{length-quads}
+use Rattle.rs_attrs.proofs.Paths.SegmentWalk.{length-quads}
 use Rattle.rs_attrs.proofs.segments.Numbers.of.Goals as goal
 
 pub returns-clause-short : goal.returns-clause-short

@@ -1,5 +1,5 @@
 use Rattle.std.proofs.Common.{length, sym, ap, ◌∙◌}
-use Rattle.rs_attrs.proofs.SegmentWalk.{length-quads}
+use Rattle.rs_attrs.proofs.Paths.SegmentWalk.{length-quads}
 use Rattle.rs_attrs.proofs.segments.PathSegment.count.Goals as goal
 
 pub returns : goal.returns

@@ -2,7 +2,7 @@ use Rattle.std.proofs.Common.{cond, sym, ap, ◌∙◌, Some, None, eq-eqb}
 use Rattle.std.proofs.lemmas.Iterator.{items_from_drains}
 use Rattle.std.proofs.lemmas.Iterator.Consumers.{YieldsList-from_first}
 use Rattle.rs_attrs.specs.Paths.{segment_origin, last_of, quads}
-use Rattle.rs_attrs.proofs.SegmentWalk.{last_of_drained}
+use Rattle.rs_attrs.proofs.Paths.SegmentWalk.{last_of_drained}
 use Rattle.rs_attrs.proofs.segments.PathSegment.origin.Goals as goal
 
 pub returns-then-self-eq2 : goal.returns-then-self-eq2

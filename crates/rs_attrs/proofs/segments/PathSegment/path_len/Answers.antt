@@ -1,7 +1,7 @@
 use Rattle.std.proofs.Common.{cond, length, sym, ap, ◌∙◌}
 use Rattle.std.proofs.lemmas.Bool.{ne_eqb}
 use Rattle.rs_attrs.specs.Paths.{segment_length, quads}
-use Rattle.rs_attrs.proofs.SegmentWalk.{length-quads}
+use Rattle.rs_attrs.proofs.Paths.SegmentWalk.{length-quads}
 use Rattle.rs_attrs.proofs.segments.PathSegment.path_len.Goals as goal
 
 pub returns-else-self-eq1 : goal.returns-else-self-eq1

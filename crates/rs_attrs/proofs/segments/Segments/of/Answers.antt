@@ -1,5 +1,5 @@
 use Rattle.std.proofs.Common.{arith}
-use Rattle.rs_attrs.proofs.SegmentWalk.{path_length-bound}
+use Rattle.rs_attrs.proofs.Paths.SegmentWalk.{path_length-bound}
 use Rattle.rs_attrs.proofs.segments.Segments.of.Goals as goal
 
 pub returns-clause-short : goal.returns-clause-short

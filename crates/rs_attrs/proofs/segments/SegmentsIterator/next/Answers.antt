@@ -1,5 +1,5 @@
 use Rattle.std.proofs.Common.{sym, ap, ◌∙◌, length, arith}
-use Rattle.rs_attrs.proofs.SegmentWalk.{segment_front, segment_step}
+use Rattle.rs_attrs.proofs.Paths.SegmentWalk.{segment_front, segment_step}
 use Rattle.rs_attrs.proofs.segments.SegmentsIterator.next.Goals as goal
 
 pub invariant_of-self : goal.invariant_of-self

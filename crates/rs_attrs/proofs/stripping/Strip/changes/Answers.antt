@@ -5,7 +5,7 @@ use Rattle.std.proofs.lemmas.Iterator.Search.{any_from_yields_List}
 use Rattle.rs_attrs.specs.Getters.{communities_of}
 use Rattle.rs_attrs.specs.Writing.{IsLegal}
 use Rattle.rs_attrs.specs.Stripping.{is_stripped, lists_in}
-use Rattle.rs_attrs.proofs.StrippedLaws.{stripped_same}
+use Rattle.rs_attrs.proofs.Strips.StrippedLaws.{stripped_same}
 use Rattle.rs_attrs.proofs.stripping.Strip.changes.Goals as goal
 
 is_any : (c : goal.After-any) → c.any.result ≡ list_any (is_stripped (lists_in c.args.self.now) c.args.self.now.all) (communities_of c.args.attrs.now)

@@ -2,7 +2,7 @@ use Rattle.std.proofs.Common.{◌==◌, ◌||◌, sym, ap, ◌∙◌, map, rules
 use Rattle.std.specs.List.{list_any}
 use Rattle.std.proofs.lemmas.Iterator.{YieldsList-from_slice}
 use Rattle.std.proofs.lemmas.Iterator.Search.{any_from_yields_List}
-use Rattle.rs_attrs.proofs.Communities.{list_any-map}
+use Rattle.rs_attrs.proofs.Strips.Communities.{list_any-map}
 use Rattle.rs_attrs.proofs.stripping.Strip.takes.Goals as goal
 
 pub returns-else-self : goal.returns-else-self

@@ -1,0 +1,14 @@
+-- What is read of a field: what counts, what is kept, and what it means.
+pub mod Counting
+pub mod CountingWalk
+pub mod Placing
+pub mod GatherWalk
+pub mod FlawWalk
+pub mod Building
+pub mod Meant
+pub mod Legal
+pub mod ReadField
+pub mod Walk
+pub mod ByTwo
+pub mod LegalTwo
+pub mod ShortTwo

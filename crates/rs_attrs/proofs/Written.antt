@@ -1,0 +1,7 @@
+-- What is written, and that it reads back.
+pub mod ReadBack
+pub mod LeftToWrite
+pub mod Narrowing
+pub mod ReadBackTwo
+pub mod Parts
+pub mod HeadWalk

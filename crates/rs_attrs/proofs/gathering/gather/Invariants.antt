@@ -1,9 +1,0 @@
-use Rattle.std.proofs.Common.{length}
-use Rattle.rs_attrs.proofs.GatherWalk.{Gathering}
-use Rattle.rs_attrs.proofs.gathering.gather.Given as goal
-
-abbrev pub invariant-loop-found : goal.invariant-loop-found
-invariant-loop-found l = Gathering l.fn.mode l.fn.field l.came l.kept.items l.told l.rest
-
-abbrev pub decreases-loop-found : goal.decreases-loop-found
-decreases-loop-found l = length l.rest

@@ -1,9 +1,0 @@
-use Rattle.std.proofs.Common.{length}
-use Rattle.rs_attrs.proofs.Leading.{Leading}
-use Rattle.rs_attrs.proofs.reading_two.push_leading.Given as goal
-
-abbrev pub invariant-loop-segment : goal.invariant-loop-segment
-invariant-loop-segment l = Leading l.fn.values.items l.fn.path l.values.items l.fn.keep l.left l.rest
-
-abbrev pub decreases-loop-segment : goal.decreases-loop-segment
-decreases-loop-segment l = length l.rest

@@ -1,0 +1,152 @@
+//! What is wrong with a field of path attributes: what comes of it (RFC 7606, 2), and what a server
+//! tells its operator of it, the first attribute for which the UPDATE is treated as withdraw and the
+//! first that is discarded.
+
+ghost use Rattle.std.specs.Prelude.{◌≡◌, option_map};
+ghost use Rattle.rs_attrs.specs.Flaws.{value_cause, cause_in, flaw_by, cut_off, with_flaw};
+ghost use Rattle.rs_attrs.specs.Walking.{spelling_in};
+
+use crate::mode::Mode;
+use crate::reading::field::Found;
+use crate::reading::values::{fits_class, outcome_of};
+use crate::table::{Outcome, Shape, row_of};
+
+/// What is wrong with a field of path attributes.
+#[derive(Clone, Copy, Debug, PartialEq, Eq)]
+pub struct Faults {
+    /// Type 14 or type 15 stands twice.
+    pub mp_twice: bool,
+    pub withdraw: bool,
+    pub unknown: bool,
+    pub discard: bool,
+}
+
+/// Why an attribute is treated as withdraw, or discarded.
+#[derive(Clone, Copy, Debug, PartialEq, Eq)]
+pub enum Cause {
+    /// The optional or the transitive flag is not that of its type (RFC 7606, 3, c).
+    Flags,
+    /// Its value is too long or too short for its type (RFC 7606, 7).
+    Length,
+    /// Its value is none of its type's, as an ORIGIN over 2 or a path whose segments do not fill it
+    /// (RFC 7606, 7.1 and 7.2).
+    Value,
+    /// It runs past the end of the field, or is cut off before its length (RFC 7606, 4).
+    Position,
+    /// One of its type came before: it is passed over (RFC 7606, 3, g).
+    Twice,
+}
+
+/// An attribute at fault: its type and why. The type is 0 where the field ends before the type.
+#[derive(Clone, Copy, Debug, PartialEq, Eq)]
+pub struct AttributeFault {
+    pub kind: u8,
+    pub cause: Cause,
+}
+
+/// The first attribute of a field that is treated as withdraw, and the first that is discarded. A
+/// type that is discarded whatever it says, as LOCAL_PREF, is none of them.
+#[derive(Clone, Copy, Debug, PartialEq, Eq)]
+pub struct Faulted {
+    pub withdraw: Option<AttributeFault>,
+    pub discard: Option<AttributeFault>,
+}
+
+/// An attribute at fault, and what comes of it.
+#[derive(Clone, Copy, Debug)]
+pub(crate) struct Flaw {
+    pub(crate) outcome: Outcome,
+    pub(crate) fault: AttributeFault,
+}
+
+/// Why a value that is not well formed is not.
+fn cause_of_value(shape: Shape, value: &[u8]) -> Option<Cause>
+    ensures { result ≡ value_cause shape value.now }
+{
+    match shape {
+        Shape::Origin => Some(if value.len() == 1 {
+            Cause::Value
+        } else {
+            Cause::Length
+        }),
+        Shape::AsPath | Shape::As4Path => Some(Cause::Value),
+        Shape::Never => None,
+        _ => Some(Cause::Length),
+    }
+}
+
+/// Why an attribute that is not kept is not.
+fn cause_of(mode: Mode, found: &Found<'_>) -> Option<Cause>
+    ensures { result ≡ cause_in mode (spelling_in found.now) }
+{
+    let row = row_of(mode, found.kind)?;
+    if fits_class(row.class, found.flags) {
+        cause_of_value(row.shape, found.value)
+    } else {
+        Some(Cause::Flags)
+    }
+}
+
+/// What is wrong with an attribute, where one of its type came before or not.
+pub(crate) fn flaw_of(mode: Mode, came_before: bool, found: &Found<'_>) -> Option<Flaw>
+    ensures { result ≡ flaw_by mode came_before (spelling_in found.now) }
+{
+    let kind = found.kind;
+    if came_before {
+        return Some(Flaw {
+            outcome: Outcome::Discard,
+            fault: AttributeFault {
+                kind,
+                cause: Cause::Twice,
+            },
+        });
+    }
+    match outcome_of(mode, found) {
+        Outcome::Kept => None,
+        outcome => {
+            let cause = cause_of(mode, found)?;
+            Some(Flaw {
+                outcome,
+                fault: AttributeFault { kind, cause },
+            })
+        }
+    }
+}
+
+/// What is wrong with a rest that begins with no attribute.
+pub(crate) fn flaw_of_rest(rest: &[u8]) -> Option<Flaw>
+    ensures { result ≡ cut_off rest.now }
+{
+    let kind = match rest {
+        [] => return None,
+        [_] => 0,
+        [_, kind, ..] => *kind,
+    };
+    Some(Flaw {
+        outcome: Outcome::Withdraw,
+        fault: AttributeFault {
+            kind,
+            cause: Cause::Position,
+        },
+    })
+}
+
+/// With a flaw more, behind those that were noted.
+pub(crate) fn noting(faulted: Faulted, flaw: Option<Flaw>) -> Faulted
+    ensures { result ≡ with_flaw faulted flaw }
+{
+    let Some(flaw) = flaw else {
+        return faulted;
+    };
+    match (flaw.outcome, faulted.withdraw, faulted.discard) {
+        (Outcome::Withdraw, None, discard) => Faulted {
+            withdraw: Some(flaw.fault),
+            discard,
+        },
+        (Outcome::Discard, withdraw, None) => Faulted {
+            withdraw,
+            discard: Some(flaw.fault),
+        },
+        _ => faulted,
+    }
+}

@@ -1,0 +1,162 @@
+//! What is told of fields that are not well formed.
+
+use crate::faults::{AttributeFault, Cause, Faulted};
+use crate::mode::Mode;
+use crate::reading::read;
+use std::alloc::{AllocError, Global};
+use std::test::Fail;
+
+// Each row: what it shows, a field, and the two faults that are told.
+
+const ROWS: [(&str, &str, &str); 22] = [
+    ("nothing", "", "none; none"),
+    (
+        "a good field",
+        "40010100 40020602010000fbf0 400304c000020b",
+        "none; none",
+    ),
+    ("an unrecognized optional one", "c06302abcd", "none; none"),
+    (
+        "LOCAL_PREF and MP_REACH_NLRI",
+        "400504000000c8 800e00",
+        "none; none",
+    ),
+    ("ORIGIN 3", "40010103", "1 value; none"),
+    ("ORIGIN of two octets", "4001020000", "1 length; none"),
+    ("ORIGIN optional", "c0010100", "1 flags; none"),
+    ("the flags before the value", "c00105", "1 position; none"),
+    ("the flags and the value", "c0010105", "1 flags; none"),
+    (
+        "AS_PATH that runs over",
+        "40020502010000fb",
+        "2 value; none",
+    ),
+    (
+        "AS_PATH of a confederation",
+        "40020603010000fbf0",
+        "2 value; none",
+    ),
+    ("NEXT_HOP of 3 octets", "400303c00002", "3 length; none"),
+    ("COMMUNITIES of no octet", "c00800", "8 length; none"),
+    (
+        "AGGREGATOR of 6 octets",
+        "c00706fbf0c0000201",
+        "none; 7 length",
+    ),
+    (
+        "AGGREGATOR well-known",
+        "400708fbf00000c0000201",
+        "7 flags; none",
+    ),
+    (
+        "MED twice",
+        "80040400000005 80040400000006",
+        "none; 4 twice",
+    ),
+    (
+        "MED a third time, and ORIGIN before it",
+        "80040400000005 40010103 80040400000006",
+        "1 value; 4 twice",
+    ),
+    (
+        "the first of two in the order of the field",
+        "c00800 40010103",
+        "8 length; none",
+    ),
+    (
+        "the first of two that are discarded",
+        "40060100 c00706fbf0c0000201",
+        "none; 6 length",
+    ),
+    ("a rest of one octet", "40010100 40", "0 position; none"),
+    (
+        "a rest behind a bad attribute",
+        "40010103 4002ff",
+        "1 value; none",
+    ),
+    (
+        "a value that runs past the end",
+        "40010100 c0080400",
+        "8 position; none",
+    ),
+];
+
+const OF_TWO_OCTET_PEERS: [(&str, &str, &str); 4] = [
+    ("AS4_PATH of no segment", "c01100", "none; 17 value"),
+    (
+        "AS4_PATH well-known",
+        "40110602010000fbf0",
+        "17 flags; none",
+    ),
+    (
+        "AS4_AGGREGATOR of 6 octets",
+        "c01206fbf0c0000201",
+        "none; 18 length",
+    ),
+    (
+        "AGGREGATOR of 8 octets",
+        "c007080000fbf0c0000201",
+        "none; 7 length",
+    ),
+];
+
+fn octets(alloc: Global, text: &str) -> Result<Vec<u8>, AllocError> {
+    let mut octets = Vec::new(alloc);
+    let mut high = None;
+    for digit in text.bytes() {
+        let value = match digit {
+            b'0'..=b'9' => digit - b'0',
+            b'a'..=b'f' => digit - b'a' + 10,
+            _ => continue,
+        };
+        high = match high {
+            None => Some(value << 4),
+            Some(before) => {
+                octets.push(before | value)?;
+                None
+            }
+        };
+    }
+    Ok(octets)
+}
+
+fn told(alloc: Global, fault: Option<AttributeFault>) -> Result<String, AllocError> {
+    let Some(AttributeFault { kind, cause }) = fault else {
+        return String::from_str(alloc, "none");
+    };
+    let cause = match cause {
+        Cause::Flags => "flags",
+        Cause::Length => "length",
+        Cause::Value => "value",
+        Cause::Position => "position",
+        Cause::Twice => "twice",
+    };
+    format!(in alloc; "{kind} {cause}")
+}
+
+fn hold(
+    rt: &impl std::process::Abort,
+    alloc: Global,
+    mode: Mode,
+    rows: &[(&str, &str, &str)],
+) -> Result<(), Fail> {
+    for (shows, field, answer) in rows {
+        let field = octets(alloc, field)?;
+        let Faulted { withdraw, discard } = read(alloc, &field, mode)?.faulted;
+        let withdraw = told(alloc, withdraw)?;
+        let discard = told(alloc, discard)?;
+        let both = format!(in alloc; "{withdraw}; {discard}")?;
+        assert_eq!(rt; both.as_str(), *answer, "{shows}");
+    }
+    Ok(())
+}
+
+#[test]
+fn the_first_attributes_at_fault_are_told(rt: HostRuntime) -> Result<(), Fail> {
+    hold(&rt, rt.alloc(), Mode::Four, &ROWS)
+}
+
+#[test]
+fn attributes_of_two_octet_peers_are_told(rt: HostRuntime) -> Result<(), Fail> {
+    hold(&rt, rt.alloc(), Mode::Two, &OF_TWO_OCTET_PEERS)
+}
