@@ -13,7 +13,7 @@ use Rattle.rs_attrs.specs.Meaning.{Attribute, Reads}
 use Rattle.rs_attrs.specs.Effects.{Fields, fields_of, Effect, Reset, Change, HasEffect, IsEffect, IsChange, reset_of, is_faulty, is_empty, has_prefix, same_prefix, prefixes_in, treat_as_withdraw}
 use Rattle.rs_update.specs.declared.outcome.Outcome.{Outcome}
 use Rattle.rs_update.specs.declared.outcome.Outcome.TheVariants as outcomes
-use Rattle.rs_update.specs.Changes.{effect_seen, IsWithdrawn, IsAnnounced}
+use Rattle.rs_update.specs.Outcomes.{effect_seen, IsWithdrawn, IsAnnounced}
 use Rattle.rs_update.proofs.BodyFields.{Fit, body_of_fields, no_body}
 use Rattle.rs_update.proofs.PrefixSets.{same_ties}
 

@@ -2,7 +2,7 @@
 
 ghost use Rattle.std.specs.Prelude.{◌≡◌, option_map};
 ghost use Rattle.rs_attrs.specs.Effects.{cut, fields_of};
-ghost use Rattle.rs_update.specs.Outcomes.{cut_in, fields_in};
+ghost use Rattle.rs_update.specs.Changes.{cut_in, fields_in};
 
 #[derive(Clone, Copy)]
 pub(crate) struct Fields<'a> {

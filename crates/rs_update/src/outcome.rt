@@ -3,9 +3,9 @@
 ghost use Rattle.std.specs.Prelude.{◌≡◌, IfOk, false, option_map};
 ghost use Rattle.rs_octets.specs.Names.{code_of, sub_of};
 ghost use Rattle.rs_attrs.specs.Effects.{HasEffect, effect_of, is_faulty, reset_of, treat_as_withdraw};
-ghost use Rattle.rs_update.specs.Outcomes.{fields_in, codes_named};
+ghost use Rattle.rs_update.specs.Changes.{fields_in, codes_named};
 ghost use Rattle.rs_update.specs.Laws.{IsSameEffect};
-ghost use Rattle.rs_update.specs.Changes.{effect_seen, change_seen, IsRising, AreDistinct, AreApart, HasItsAttributes, HasItsMandatory, TellsFaults, IsWithdrawn, IsAnnounced};
+ghost use Rattle.rs_update.specs.Outcomes.{effect_seen, change_seen, IsRising, AreDistinct, AreApart, HasItsAttributes, HasItsMandatory, TellsFaults, IsWithdrawn, IsAnnounced};
 ghost use Rattle.rs_update.specs.declared.outcome.Outcome.TheVariants.{Reset};
 
 use crate::fields::{Fields, cut_body};

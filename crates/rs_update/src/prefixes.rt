@@ -6,7 +6,7 @@ ghost use Rattle.std.specs.List.Sorted.{IsStrictlySortedBy};
 ghost use Rattle.rs_octets.specs.Prefixes.{prefix_order};
 ghost use Rattle.rs_octets.specs.PrefixFields.{prefixes_of};
 ghost use Rattle.rs_attrs.specs.Effects.{has_prefix, is_faulty, prefixes_in};
-ghost use Rattle.rs_update.specs.Outcomes.{SameMembers, LacksMembers};
+ghost use Rattle.rs_update.specs.Changes.{SameMembers, LacksMembers};
 
 use rs_octets::{Prefix, read_prefixes};
 use std::alloc::{AllocError, Global};

@@ -8,8 +8,8 @@ use Rattle.rs_attrs.specs.Flaws.{faulted_of}
 use Rattle.rs_attrs.proofs.Fields.Legal.{are_octets}
 use Rattle.rs_attrs.proofs.OneMeaning.{same_fields}
 use Rattle.rs_update.proofs.BodyFields.{body_of_fields}
-use Rattle.rs_update.specs.Outcomes.{fields_in, codes_named}
-use Rattle.rs_update.specs.Changes.{change_seen}
+use Rattle.rs_update.specs.Changes.{fields_in, codes_named}
+use Rattle.rs_update.specs.Outcomes.{change_seen}
 use Rattle.rs_update.proofs.Effecting.{no_fields, by_reading, withdrawn_faulty, nlri_faulty, by_reset, is_withdrawn, is_announced, same_withdrawn, same_announced, rising_distinct, BothRise, withdrawn_rise, announced_rise}
 use Rattle.rs_update.proofs.Mandatory.{has_mandatory, seen_complete}
 use Rattle.rs_update.proofs.OneEffect.{effect_is}
