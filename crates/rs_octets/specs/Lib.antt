@@ -9,3 +9,4 @@ pub mod PrefixOrder
 pub mod Writes
 pub mod Numbers
 pub mod Names
+pub mod HoldTimes

@@ -5,6 +5,7 @@
 
 mod fronts;
 mod heads;
+mod hold_times;
 pub mod laws;
 mod notification;
 mod numbers;
@@ -15,6 +16,7 @@ mod writes;
 
 pub use fronts::{Front, read_front};
 pub use heads::{Allowed, Head, HeaderFault, Kind, header, put_header};
+pub use hold_times::is_refused_hold;
 pub use notification::Notification;
 pub use numbers::{AS_TRANS, LONGEST_EXTENDED_MESSAGE, LONGEST_MESSAGE};
 pub use prefix::{FieldFault, Prefix, PrefixIter, put_prefix, read_prefixes};

@@ -8,7 +8,8 @@ use Rattle.rs_open.specs.declared.open.Open.{Open}
 use Rattle.rs_open.specs.declared.open.OpenFault.{OpenFault}
 use Rattle.rs_open.specs.declared.open.OpenFault.TheVariants.{Version, Malformed, Parameter, Hold, Identifier}
 use Rattle.rs_open.specs.Triples.{Triple, Row, triple_octets, row_of}
-use Rattle.rs_open.specs.Opens.{when, rest_faults, row_faults, capability_faults, parameter_faults, is_refused_hold, version_field, my_as_field, hold_field, identifier_field, parameters_length, parameters_of, capabilities_of, four_of, faults_of, said_by, unless, open_of}
+use Rattle.rs_octets.specs.HoldTimes.{is_refused_hold}
+use Rattle.rs_open.specs.Opens.{when, rest_faults, row_faults, capability_faults, parameter_faults, version_field, my_as_field, hold_field, identifier_field, parameters_length, parameters_of, capabilities_of, four_of, faults_of, said_by, unless, open_of}
 use Rattle.rs_open.specs.Good.{AreWhole, IsGoodCapability, IsGoodParameter, IsGoodHold, IsGoodOpen}
 use Rattle.rs_open.proofs.Splitting.{row_is, row_is_only, each_is_triple, none_in_nothing}
 

@@ -9,7 +9,8 @@ use Rattle.rs_open.specs.declared.open.Open.{Open}
 use Rattle.rs_open.specs.declared.open.OpenFault.{OpenFault}
 use Rattle.rs_open.specs.declared.open.OpenFault.TheVariants.{Hold, Identifier}
 use Rattle.rs_open.specs.declared.writing.ServerOpen.{ServerOpen}
-use Rattle.rs_open.specs.Opens.{when, is_refused_hold, unless, open_of}
+use Rattle.rs_octets.specs.HoldTimes.{is_refused_hold}
+use Rattle.rs_open.specs.Opens.{when, unless, open_of}
 use Rattle.rs_open.specs.Writing.{my_as_said, body_said}
 use Rattle.rs_open.specs.Laws.{IsOpenToSay, heard_from}
 use Rattle.rs_open.proofs.Written.{said_with}

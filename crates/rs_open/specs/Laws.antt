@@ -9,7 +9,7 @@ use Rattle.rs_open.specs.declared.open.Open.{Open}
 use Rattle.rs_open.specs.declared.short.Short.{Short}
 use Rattle.rs_open.specs.declared.short.Short.TheVariants as shorts
 use Rattle.rs_open.specs.declared.writing.ServerOpen.{ServerOpen}
-use Rattle.rs_open.specs.Opens.{is_refused_hold}
+use Rattle.rs_octets.specs.HoldTimes.{is_refused_hold}
 use Rattle.rs_open.specs.Writing.{my_as_said, body_said, notification, server_open, short_octets}
 
 -- it is no longer than its receiver takes, as an OPEN of ours and a KEEPALIVE always are

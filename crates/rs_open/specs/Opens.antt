@@ -1,9 +1,10 @@
 -- What the body of an OPEN says, and what is wrong with it (RFC 4271, 4.2 and 6.2). The body is the
 -- version (1 octet), My Autonomous System (2), the Hold Time (2), the BGP Identifier (4), the length
 -- of the parameters (1), and the parameters.
-use Rattle.std.specs.Prelude.{ℕ, ◌==◌, Bool, ◌&&◌, ◌||◌, not, List, [], ◌∷◌, ◌++◌, length, drop, slice_index, Option, option_map, Result, Ok, Err, if◌then◌else◌}
+use Rattle.std.specs.Prelude.{ℕ, ◌==◌, Bool, ◌&&◌, not, List, [], ◌∷◌, ◌++◌, length, drop, slice_index, Option, option_map, Result, Ok, Err, if◌then◌else◌}
 use Rattle.std.specs.List.{flat_map, find, list_any}
 use Rattle.byteorder.specs.Endian.{big_number}
+use Rattle.rs_octets.specs.HoldTimes.{is_refused_hold}
 use Rattle.rs_open.specs.declared.open.Open.{Open}
 use Rattle.rs_open.specs.declared.open.OpenFault.{OpenFault}
 use Rattle.rs_open.specs.declared.open.OpenFault.TheVariants.{Version, Malformed, Parameter, Hold, Identifier}
@@ -77,10 +78,6 @@ abbrev pub parameter_faults : Triple → List OpenFault
 parameter_faults p =
     if holds_capabilities p then row_faults capability_faults (row_of p.value)
     else Parameter ∷ []
-
--- 0, or at least 3 seconds
-abbrev pub is_refused_hold : ℕ → Bool
-is_refused_hold hold = (hold == 1) || (hold == 2)
 
 abbrev pub faults_of : List ℕ → List OpenFault
 faults_of body =

@@ -3,13 +3,13 @@
 ghost use Rattle.std.specs.Prelude.{◌≡◌, ◌≤◌, length};
 ghost use Rattle.rs_open.specs.Triples.{row_of};
 ghost use Rattle.rs_open.specs.Opens.{open_of};
-ghost use Rattle.rs_open.specs.Opens as opens;
 ghost use Rattle.rs_open.specs.Walk.{triple_in, no_capabilities, capability_answer, capabilities_answer, parameters_answer};
 
 use crate::codes::{CAPABILITIES, EXTENDED_MESSAGE, FOUR_OCTET_AS, VERSION};
 use crate::open::{Open, OpenFault};
 use crate::triples::{Triple, first_triple};
 use byteorder::{BigEndian, ByteOrder};
+use rs_octets::is_refused_hold;
 
 /// What the capabilities read so far say.
 #[derive(Clone, Copy)]
@@ -81,13 +81,6 @@ fn read_parameters(parameters: &[u8]) -> Result<Capabilities, OpenFault>
     } else {
         Err(OpenFault::Malformed)
     }
-}
-
-/// Whether a Hold Time is neither 0 nor at least 3 seconds (RFC 4271, 6.2).
-fn is_refused_hold(hold: u16) -> bool
-    ensures { result ≡ opens.is_refused_hold hold }
-{
-    hold == 1 || hold == 2
 }
 
 /// Reads the body of an OPEN, the octets behind its header: at least 10.

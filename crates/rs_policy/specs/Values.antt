@@ -1,8 +1,9 @@
 -- The value at a key of a table: how it is read, and what is wrong with it.
 use Rattle.std.proofs.Common.{Vec, Global}
-use Rattle.std.specs.Prelude.{◌≡◌, ◌≢◌, IfOk, IfErr, vec_items, ℕ, ◌+◌, ◌++◌, ◌==◌, Bool, true, ◌&&◌, ◌||◌, ℤ, pos, int_le, nat_abs, nat_lt, List, [], ◌∷◌, length, codes, bytes_eq, Option, Some, None, Result, Ok, Err, option_map, option_and_then, ok_or, is_some, if◌then◌else◌}
+use Rattle.std.specs.Prelude.{◌≡◌, ◌≢◌, IfOk, IfErr, vec_items, ℕ, ◌+◌, ◌++◌, Bool, true, ◌&&◌, ℤ, pos, int_le, nat_abs, nat_lt, List, [], ◌∷◌, length, codes, bytes_eq, Option, Some, None, Result, Ok, Err, option_map, option_and_then, ok_or, is_some, if◌then◌else◌}
 use Rattle.std.specs.List.{list_all}
 use Rattle.toml.specs.Data.{Data, Items, Members, no_items, item, no_members, member, get, as_integer, as_str, as_array, as_table}
+use Rattle.rs_octets.specs.HoldTimes.{is_refused_hold}
 use Rattle.rs_policy.specs.Keys.{key_text, is_among}
 use Rattle.rs_policy.specs.Texts.{address_of, is_name, no_zero}
 use Rattle.rs_policy.specs.declared.faults.Key.{Key}
@@ -27,7 +28,7 @@ positive = integer_in 1 4294967295
 
 -- seconds: 0, or from 3 on (RFC 4271, 4.2)
 abbrev pub hold_seconds : Data → Option ℕ
-hold_seconds d = option_and_then (λ n. if n == 1 || n == 2 then None else Some n) (integer_in 0 65535 d)
+hold_seconds d = option_and_then (λ n. if is_refused_hold n then None else Some n) (integer_in 0 65535 d)
 
 abbrev pub text_as : {A : Type 0} → (List ℕ → Option A) → Data → Option A
 text_as reads d = option_and_then reads (as_str d)

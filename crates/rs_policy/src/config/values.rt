@@ -10,7 +10,7 @@ ghost use Rattle.rs_policy.specs.Values.{integer_in, hold_seconds, text_as, addr
 use crate::config::texts;
 use crate::faults::{ConfigFault, Key, Place};
 use crate::rules::Choice;
-use rs_octets::Prefix;
+use rs_octets::{Prefix, is_refused_hold};
 use toml::value::Value;
 
 /// A kind of value that a key may have.
@@ -103,9 +103,11 @@ impl Kind for HoldTime {
             low: 0,
             high: 65535,
         };
-        match seconds.read(value) {
-            None | Some(1) | Some(2) => None,
-            Some(seconds) => Some(seconds as u16),
+        let seconds = seconds.read(value)? as u16;
+        if is_refused_hold(seconds) {
+            None
+        } else {
+            Some(seconds)
         }
     }
 }
