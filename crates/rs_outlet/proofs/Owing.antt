@@ -7,7 +7,7 @@ use Rattle.rs_attrs.specs.Comparing.{same_attributes}
 use Rattle.rs_attrs.specs.ComparisonLaws.{attributes_decides, same_attributes_equiv}
 use Rattle.rs_outlet.specs.declared.waiting.Wait.{Wait}
 use Rattle.rs_outlet.specs.Views.{waits_at}
-use Rattle.rs_outlet.specs.Places.{is_withdrawal, told_of, told_by, marked_by, marked_told}
+use Rattle.rs_outlet.specs.Places.{is_withdrawal}
 use Rattle.rs_outlet.specs.Owed.{IsBeside, IsOwed}
 
 and_false : (b : Bool) → (b && false) ≡ false

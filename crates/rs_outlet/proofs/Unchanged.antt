@@ -1,5 +1,5 @@
 -- What was told, what is marked and what waits, where each prefix keeps it.
-use Rattle.std.proofs.Common.{◌≡◌, List, sym, ◌∙◌, subst}
+use Rattle.std.proofs.Common.{◌≡◌, List, sym, ◌∙◌}
 use Rattle.std.specs.FinMap as fin
 use Rattle.std.specs.FinSet as set
 use Rattle.rs_octets.specs.Prefixes.{Prefix}

@@ -1,10 +1,9 @@
-use Rattle.std.proofs.Common.{◌≡◌, true, false, [], ◌∷◌, length, arith, ◌∙◌, cond, sym, ap, subst, vec_len, refl, Some}
+use Rattle.std.proofs.Common.{◌≡◌, false, [], ◌∷◌, length, arith, ◌∙◌, cond, sym, ap, subst, vec_len, refl, Some}
 use Rattle.std.specs.FinMap as fin
 use Rattle.std.specs.List.{AllByRecursion, IsDistinct, list_any}
 use Rattle.std.specs.Vec.Iter.{into_iter_items}
 use Rattle.std.proofs.lemmas.Map.Keys.{IsDistinct-head, IsDistinct-tail}
 use Rattle.rs_adjin.specs.AdjIns.{number_of}
-use Rattle.rs_outlet.specs.declared.turn.Change.{Change}
 use Rattle.rs_outlet.specs.Inside.{ArePlaced, AreDue, HaveRows, is_changed, loc_of}
 use Rattle.rs_outlet.specs.Places.{prefixes_at}
 use Rattle.rs_outlet.specs.Owed.{prefixes_of}
