@@ -17,6 +17,7 @@ mod Adding
 mod Owing
 mod Carrying
 mod Unchanged
+mod Counting
 mod Draining
 mod Chosen
 mod Standing
