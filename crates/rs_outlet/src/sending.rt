@@ -18,7 +18,7 @@ use crate::answers::Speech;
 use crate::outlet::Outlet;
 use crate::rows::Rows;
 use crate::waiting::Waits;
-use rs_attrs::{Attrs, Mode};
+use rs_attrs::{Attrs, Mode, attributes_are_legal};
 use rs_octets::Prefix;
 use rs_open::{Limit, Short, write_keepalive, write_note};
 use rs_packer::{Packed, fits, pack_announced, pack_withdrawn};
@@ -161,6 +161,7 @@ fn put_news(
     if !fits(attrs, speech.mode, least, speech.limit.octets()) {
         return NOTHING;
     }
+    attributes_are_legal(attrs);
     put_announcement(attrs, speech, front, out)
 }
 
