@@ -15,7 +15,7 @@ use Rattle.rs_outlet.specs.declared.answers.Speech.{Speech}
 use Rattle.rs_outlet.specs.declared.rows.Row.{Row}
 use Rattle.rs_outlet.specs.declared.waiting.Wait.{Wait}
 use Rattle.rs_outlet.specs.Views.{View, AreNumbered, HaveNumbers}
-use Rattle.rs_outlet.specs.Places.{open_at, told_by, marked_by, is_withdrawal}
+use Rattle.rs_outlet.specs.Places.{open_at, told_by, marked_told, is_withdrawal}
 use Rattle.rs_outlet.specs.Inside.{told_over, marked_of, waits_of, loc_of, numbers_from, shown}
 use Rattle.rs_outlet.specs.Choosing.{AreChosen, IsLegalSaid, message_of, MayUpdate}
 use Rattle.rs_outlet.specs.Begins.{Settles, Withdraws, Announces, BeginsUpdate}
@@ -28,9 +28,9 @@ told_cond : (b : Bool) (o : Option Wait) (due : Option (List Attribute)) → tol
 told_cond true o due = refl
 told_cond false o due = refl
 
-marked_cond : (b : Bool) (o : Option Wait) → marked_by (cond b None o) ≡ (not b && marked_by o)
-marked_cond true o = refl
-marked_cond false o = refl
+marked_cond : (b : Bool) (o : Option Wait) (due : Option (List Attribute)) → marked_told (cond b None o) due ≡ (not b && marked_told o due)
+marked_cond true o due = refl
+marked_cond false o due = refl
 
 waits_cond : (b : Bool) (o : Option Wait) → option_map (λ w. is_withdrawal w.due) (cond b None o) ≡ cond b None (option_map (λ w. is_withdrawal w.due) o)
 waits_cond true o = refl
@@ -70,7 +70,7 @@ waited_announced rows ws m (n ∷ ns) (p ∷ ps) are =
 pub record Shows (v : View) (rows : List (Option Row)) (ws : List Wait) : Type 0 where
   pub loc : v.loc ≡ loc_of rows
   pub told : v.told ≡ told_over (loc_of rows) ws
-  pub marked : v.marked ≡ marked_of ws
+  pub marked : v.marked ≡ marked_of (loc_of rows) ws
   pub waits : v.waits ≡ waits_of ws
   pub numbers : (ins : AdjIns) → AreNumbered v ins → HaveNumbers (numbers_from 0 rows) ins
 
@@ -83,9 +83,9 @@ module _ (speech : Speech) (v w : View) (rows : List (Option Row)) (ws ws' : Lis
         ∙ ap (λ t. cond (list_any (same q) ps) (fin.get (loc_of rows) q) t) (sym (ap (λ t. fin.get t q) old.told ∙ told_at (loc_of rows) ws q))
         ∙ ap (λ t. cond (list_any (same q) ps) (fin.get t q) (fin.get v.told q)) (sym old.loc);
     marked = λ q.
-        ap (λ s. set.contains s q) new.marked ∙ marked_at ws' q ∙ ap marked_by (is q)
-        ∙ marked_cond (list_any (same q) ps) (open_at q ws)
-        ∙ ap (λ b. not (list_any (same q) ps) && b) (sym (ap (λ s. set.contains s q) old.marked ∙ marked_at ws q));
+        ap (λ s. set.contains s q) new.marked ∙ marked_at (loc_of rows) ws' q ∙ ap (λ o. marked_told o (fin.get (loc_of rows) q)) (is q)
+        ∙ marked_cond (list_any (same q) ps) (open_at q ws) (fin.get (loc_of rows) q)
+        ∙ ap (λ b. not (list_any (same q) ps) && b) (sym (ap (λ s. set.contains s q) old.marked ∙ marked_at (loc_of rows) ws q));
     waits = λ q.
         ap (λ t. fin.get t q) new.waits ∙ waits_at ws' q ∙ ap (option_map (λ (w : Wait). is_withdrawal w.due)) (is q)
         ∙ waits_cond (list_any (same q) ps) (open_at q ws)

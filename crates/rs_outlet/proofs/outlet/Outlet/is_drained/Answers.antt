@@ -17,7 +17,7 @@ returns c = λ t.
     subst IsDrained c.self.view_is (record {
       up = c.if-is_none.ensures;
       untouched = c.if-not-is_empty.ensures refl;
-      unmarked = marked_drained a.waits.places.items none;
+      unmarked = marked_drained (loc_of a.rows.rows.items) a.waits.places.items none;
       told = told_drained (loc_of a.rows.rows.items) a.waits.places.items none;
       flight = empty_range a.octets.items a.start a.end (omega arith);
       beat = c.if-self-2.false;
