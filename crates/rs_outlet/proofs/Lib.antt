@@ -12,8 +12,12 @@ mod Ranks
 mod Fitting
 mod OthersAlone
 mod Places
+mod Finding
+mod Adding
+mod MarkedAgain
 mod Draining
 mod Chosen
 mod Standing
+mod AskedAgain
 mod Beginning
 mod Exact
