@@ -15,6 +15,9 @@ mod Places
 mod Finding
 mod Adding
 mod MarkedAgain
+mod Owing
+mod Carrying
+mod Unchanged
 mod Draining
 mod Chosen
 mod Standing
