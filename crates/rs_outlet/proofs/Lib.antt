@@ -14,6 +14,7 @@ mod OthersAlone
 mod Places
 mod Finding
 mod Adding
+mod MarkedAgain
 mod Owing
 mod Carrying
 mod Unchanged
@@ -21,4 +22,6 @@ mod Counting
 mod Draining
 mod Chosen
 mod Standing
+mod AskedAgain
 mod Beginning
+mod Exact
