@@ -12,7 +12,16 @@ mod Ranks
 mod Fitting
 mod OthersAlone
 mod Places
+mod Finding
+mod Adding
+mod MarkedAgain
+mod Owing
+mod Carrying
+mod Unchanged
+mod Counting
 mod Draining
 mod Chosen
 mod Standing
+mod AskedAgain
 mod Beginning
+mod Exact

@@ -5,6 +5,9 @@ pub mod Alike
 pub mod HeldBy
 pub mod Turns
 pub mod Places
+pub mod Marking
+pub mod Owed
+pub mod Counted
 pub mod Inside
 pub mod Choosing
 pub mod Begins
