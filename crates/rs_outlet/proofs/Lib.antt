@@ -18,6 +18,7 @@ mod MarkedAgain
 mod Owing
 mod Carrying
 mod Unchanged
+mod Counting
 mod Draining
 mod Chosen
 mod Standing

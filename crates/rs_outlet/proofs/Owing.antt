@@ -10,7 +10,7 @@ use Rattle.rs_outlet.specs.Views.{waits_at}
 use Rattle.rs_outlet.specs.Places.{is_withdrawal}
 use Rattle.rs_outlet.specs.Owed.{IsBeside, IsOwed}
 
-and_false : (b : Bool) → (b && false) ≡ false
+pub and_false : (b : Bool) → (b && false) ≡ false
 and_false true = refl
 and_false false = refl
 

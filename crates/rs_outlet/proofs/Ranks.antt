@@ -1,7 +1,7 @@
 -- The ranks of candidates have distinct places, and the route of a place is what its sender holds.
 use Rattle.std.proofs.Common.{◌≡◌, ◌≢◌, ◌<◌, ◌≤◌, ◌+◌, ◌==◌, ℕ, zero, suc, Bool, true, false, Option, None, Some, List, [], ◌∷◌, length, map, refl, sym, ap, ◌∙◌, subst, arith}
 use Rattle.std.specs.Prelude.{unwrap_or, option_and_then, slice_get, if◌then◌else◌}
-use Rattle.std.specs.List.{All, AllByRecursion, cons_option}
+use Rattle.std.specs.List.{All, AllByRecursion, cons_option, list_any}
 use Rattle.std.specs.Arc.{arc_value}
 use Rattle.std.proofs.lemmas.List.Elements.{All-from_recursion, recursion_from_All}
 use Rattle.std.proofs.lemmas.Bool.Decides.{nat_tests}
@@ -21,7 +21,7 @@ use Rattle.rs_outlet.specs.HeldBy.{tables_of}
 use Rattle.rs_decision.specs.Best.{HasDistinctPlaces}
 use Rattle.rs_decision.specs.declared.rank.Rank.{Rank}
 use Rattle.rs_outlet.specs.declared.answers.Speech.{Speech}
-use Rattle.rs_outlet.specs.Due.{Held, rank_by, rank_to, ranks_among, holders_at, passed_on, if_fits, route_from, due_to}
+use Rattle.rs_outlet.specs.Due.{Held, any_holds, rank_by, rank_to, ranks_among, holders_at, passed_on, if_fits, route_from, due_to}
 
 place_by : (t : Held) (from : ℕ) (m : List Attribute) (j : Judgement) (r : Rank) → rank_by t from m j ≡ Some r → r.place ≡ from
 place_by t from m dropped r e = cc e
@@ -175,3 +175,6 @@ unnumbered_held ins p none d = ap (λ o. value_in d (routes_by ins.table.rows.it
 
 pub due_unnumbered : (config : Configuration) (ins : AdjIns) (c : ℕ) (speech : Speech) (p : Prefix) → number_of ins p ≡ None → due_to (tables_of config ins) c speech p ≡ None
 due_unnumbered config ins c speech p none = due_unheld (tables_of config ins) c speech p (no_holders (λ d. held_of ins d p) 0 (client_count ins) (unnumbered_held ins p none))
+
+pub none_holds : (config : Configuration) (ins : AdjIns) (p : Prefix) → number_of ins p ≡ None → any_holds (tables_of config ins) p ≡ false
+none_holds config ins p none = ap (list_any (λ h. true)) (sym (no_holders (λ d. held_of ins d p) 0 (client_count ins) (unnumbered_held ins p none)))

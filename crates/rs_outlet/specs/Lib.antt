@@ -7,6 +7,7 @@ pub mod Turns
 pub mod Places
 pub mod Marking
 pub mod Owed
+pub mod Counted
 pub mod Inside
 pub mod Choosing
 pub mod Begins

@@ -8,8 +8,8 @@ use Rattle.rs_policy.specs.Configuration.{Configuration}
 use Rattle.rs_outlet.specs.declared.answers.Speech.{Speech}
 use Rattle.rs_outlet.specs.declared.answers.Last.TheVariants.{Done}
 use Rattle.rs_outlet.specs.declared.answers.Turned.{Turned}
-use Rattle.rs_outlet.specs.Views.{View, Prefixes, is_touched, is_whole}
-use Rattle.rs_outlet.specs.Due.{due_to}
+use Rattle.rs_outlet.specs.Views.{View, IsCount, is_touched, is_whole}
+use Rattle.rs_outlet.specs.Due.{any_holds, due_to}
 use Rattle.rs_outlet.specs.HeldBy.{tables_of}
 
 -- what a turn does that is not refused, where each prefix stands at its number: each touched prefix has what is due there,
@@ -20,6 +20,6 @@ pub record HasTurned (config : Configuration) (ins : AdjIns) (old new : View) (t
   pub marked : new.marked ≡ old.marked
   pub touched : IsSome old.speech → new.touched ≡ Some set.empty
   pub whole : IsSome old.speech → turned.whole ≡ is_whole old.touched
-  pub count : (prefixes : Prefixes) → IsSome old.speech → old.touched ≡ Some prefixes → turned.decided ≡ set.len prefixes
+  pub count : IsSome old.speech → IsCount (any_holds (tables_of config ins)) old.loc old.touched turned.decided
   pub down : old.speech ≡ None → (turned ≡ record { decided = 0; whole = false }) × (new ≡ record old { last = Done turned })
   pub last : new.last ≡ Done turned

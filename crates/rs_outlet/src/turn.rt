@@ -1,6 +1,6 @@
 //! A turn: what is touched is decided anew, and what the client was not told so waits.
 
-ghost use Rattle.std.specs.Prelude.{◌≡◌, ◌<◌, ◌≤◌, ◌+◌, ◌++◌, ℕ, [], List, Option, None, Some, true, nat_eq, option_copied, option_map, length, vec_len, if◌then◌else◌, IsTrue, IfSome, IfOk, OnOk, OnErr};
+ghost use Rattle.std.specs.Prelude.{◌≡◌, ◌<◌, ◌≤◌, ◌+◌, ◌++◌, ℕ, [], List, Option, None, Some, true, false, nat_eq, option_copied, option_map, length, vec_len, if◌then◌else◌, IsTrue, IfSome, IfOk, OnOk, OnErr};
 ghost use Rattle.std.specs.List.{IsDistinct};
 ghost use Rattle.std.specs.Map.{keys_of};
 ghost use Rattle.std.specs.Arc.{arc_value};
@@ -10,12 +10,13 @@ ghost use Rattle.std.specs.Ordering.{eq_by_cmp};
 ghost use Rattle.rs_octets.specs.Prefixes.{Prefix, prefix_order};
 ghost use Rattle.rs_attrs.specs.Meaning.{Attribute};
 ghost use Rattle.rs_adjin.specs.declared.adj_ins.AdjIns.{AdjIns};
-ghost use Rattle.rs_adjin.specs.AdjIns.{client_count, number_of};
-ghost use Rattle.rs_outlet.specs.Views.{AreNumbered, HaveNumbers, Prefixes, WaitsAreExact, is_touched, is_whole};
+ghost use Rattle.rs_adjin.specs.AdjIns.{client_count, number_of, prefix_of};
+ghost use Rattle.rs_outlet.specs.Views.{AreNumbered, HaveNumbers, IsCount, IsNumberOf, Prefixes, WaitsAreExact, is_touched, is_whole};
 ghost use Rattle.std.specs.Vec.{vec_capacity};
 ghost use Rattle.rs_outlet.specs.Places.{open_at, open_count};
 ghost use Rattle.rs_outlet.specs.Owed.{IsBeside, IsCarriedOut, IsOpenAt, IsOwed, Keeps, listed, prefixes_of};
-ghost use Rattle.rs_outlet.specs.Due.{due_to};
+ghost use Rattle.rs_outlet.specs.Due.{any_holds, due_to};
+ghost use Rattle.rs_outlet.specs.Counted.{is_counted, is_standing};
 ghost use Rattle.rs_outlet.specs.HeldBy.{held_by};
 ghost use Rattle.rs_outlet.specs.Inside.{ArePlaced, AreDue, AreDecided, HaveRows, IsDecidedAt, attributes_at, is_changed, is_number_touched, is_numbered_in, row_at, shown, loc_of, numbers_from, touched_of};
 
@@ -152,7 +153,9 @@ fn decide_number(
 ) -> Result<bool, AllocError>
     requires client { sources.now.client < length sources.now.config.now.clients }
     requires count { client_count sources.now.ins.now ≡ length sources.now.config.now.clients }
-    ensures { OnOk result (IsDecidedAt sources.now.ins.now (due_to (held_by sources.now) sources.now.client speech) number (attributes_at rows.now.rows.items number) changes.old.items changes.new.items) }
+    ensures changes { OnOk result (IsDecidedAt sources.now.ins.now (due_to (held_by sources.now) sources.now.client speech) number (attributes_at rows.now.rows.items number) changes.old.items changes.new.items) }
+    ensures free { prefix_of sources.now.ins.now number ≡ None → IfOk result (λ decided. decided ≡ false) }
+    ensures standing { (p : Prefix) → number_of sources.now.ins.now p ≡ Some number → IfOk result (λ decided. decided ≡ is_standing rows.now.rows.items (any_holds (held_by sources.now)) p number) }
 {
     let Some(prefix) = sources.ins.prefix(number) else {
         return Ok(false);
@@ -174,7 +177,8 @@ fn decide_all(
 ) -> Result<Decided, AllocError>
     requires client { sources.now.client < length sources.now.config.now.clients }
     requires count { client_count sources.now.ins.now ≡ length sources.now.config.now.clients }
-    ensures { IfOk result (λ decided. AreDecided sources.now.ins.now (due_to (held_by sources.now) sources.now.client speech) rows.now.rows.items (λ number. true) decided.changes.items) }
+    ensures changes { IfOk result (λ decided. AreDecided sources.now.ins.now (due_to (held_by sources.now) sources.now.client speech) rows.now.rows.items (λ number. true) decided.changes.items) }
+    ensures count { IfOk result (λ decided. IsNumberOf (is_counted sources.now.ins.now rows.now.rows.items (any_holds (held_by sources.now))) decided.count) }
 {
     let mut ranks = Vec::new(alloc);
     let mut changes = Vec::new(alloc);
@@ -183,7 +187,7 @@ fn decide_all(
         return Err(AllocError);
     };
     for number in 0..numbers {
-        if decide_number(
+        let decided = decide_number(
             alloc,
             sources,
             speech,
@@ -191,9 +195,8 @@ fn decide_all(
             number,
             &mut ranks,
             &mut changes,
-        )? {
-            count = count.saturating_add(1);
-        }
+        )?;
+        count += usize::from(decided);
     }
     Ok(Decided { changes, count })
 }
@@ -210,6 +213,7 @@ fn decide_all_touched(
     requires count { client_count sources.now.ins.now ≡ length sources.now.config.now.clients }
     ensures changes { IfOk result (λ decided. AreDecided sources.now.ins.now (due_to (held_by sources.now) sources.now.client speech) rows.now.rows.items (is_number_touched touched.now.all touched.now.prefixes.entries) decided.changes.items) }
     ensures count { HaveNumbers touched.now.prefixes.entries sources.now.ins.now → IfOk result (λ decided. (prefixes : Prefixes) → touched_of touched.now.all touched.now.prefixes.entries ≡ Some prefixes → decided.count ≡ set.len prefixes) }
+    ensures whole { touched.now.all ≡ true → IfOk result (λ decided. IsNumberOf (is_counted sources.now.ins.now rows.now.rows.items (any_holds (held_by sources.now))) decided.count) }
 {
     if touched.is_all() {
         decide_all(alloc, sources, speech, rows)
@@ -375,7 +379,7 @@ impl Outlet {
         ensures touched { OnOk result (self.new.touched ≡ Some set.empty) }
         ensures loc { OnOk result (AreNumbered self.old sources.now.ins.now → (p : Prefix) → fin.get self.new.loc p ≡ (if is_touched self.old.touched p then due_to (held_by sources.now) sources.now.client speech p else fin.get self.old.loc p)) }
         ensures whole { IfOk result (λ turned. turned.whole ≡ is_whole self.old.touched) }
-        ensures count { AreNumbered self.old sources.now.ins.now → IfOk result (λ turned. (prefixes : Prefixes) → self.old.touched ≡ Some prefixes → turned.decided ≡ set.len prefixes) }
+        ensures count { AreNumbered self.old sources.now.ins.now → IfOk result (λ turned. IsCount (any_holds (held_by sources.now)) self.old.loc self.old.touched turned.decided) }
         ensures told { AreNumbered self.old sources.now.ins.now → OnOk result (self.new.told ≡ self.old.told) }
         ensures marked { AreNumbered self.old sources.now.ins.now → OnOk result (self.new.marked ≡ self.old.marked) }
         ensures exact { AreNumbered self.old sources.now.ins.now → WaitsAreExact self.old → OnOk result (WaitsAreExact self.new) }

@@ -1,21 +1,25 @@
-use Rattle.std.proofs.Common.{◌≡◌, ℕ, ◌==◌, true, false, not, is_some, Option, None, Some, [], length, map, inl, refl, sym, ap, ◌∙◌, arith}
+use Rattle.std.proofs.Common.{◌≡◌, ℕ, ◌==◌, Bool, true, false, not, ◌||◌, is_some, Option, None, Some, List, [], ◌∷◌, length, map, inl, refl, sym, ap, ◌∙◌, arith}
 use mathlib.Core.Bool.{true≢false}
 use Rattle.std.specs.Prelude.{option_copied}
 use Rattle.std.specs.Borrow.{Bor}
+use Rattle.std.specs.List.{list_any}
 use Rattle.std.proofs.lemmas.Bool.Decides.{nat_tests}
 use Rattle.rs_adjin.specs.Listing.{sent_by}
+use Rattle.rs_adjin.specs.declared.routes.Route.{Route}
+use Rattle.rs_outlet.specs.Due.{any_holds}
 use Rattle.rs_outlet.specs.HeldBy.{held_by}
 use Rattle.rs_outlet.specs.Inside.{attributes_at, shown}
 use Rattle.rs_outlet.specs.declared.rows.Row.{Row}
 use Rattle.rs_outlet.proofs.Numbering.{no_elements, number_back, number_there}
 use Rattle.rs_outlet.proofs.Ranks.{due_unheld}
 use Rattle.rs_outlet.proofs.turn.decide_number.Goals as goal
+use Rattle.rs_outlet.proofs.turn.decide_number.Goals.{else-is_empty-via-then-is_empty+else-is_none, else-is_empty-via-else-is_empty}
 
 pub decide_one-requires-clause-number : goal.decide_one-requires-clause-number
 decide_one-requires-clause-number c = number_back c.args.sources.now.ins.now c.in-Some.prefix c.args.number (sym c.prefix.ensures ∙ c.in-Some.is)
 
-pub returns-in_default : goal.returns-in_default
-returns-in_default c =
+pub returns-in_default-clause-changes : goal.returns-in_default-clause-changes
+returns-in_default-clause-changes c =
     inl (refl, λ p at. absurd (let f : None ≡ Some p = sym c.in_default.is ∙ c.prefix.ensures ∙ number_there c.args.sources.now.ins.now p c.args.number at in (cc)))
 
 shown_none : (r : Option (Bor Row)) → is_some r ≡ false → shown (option_copied r) ≡ None
@@ -25,11 +29,38 @@ shown_none (Some row) h = absurd (true≢false h)
 zero_is : (n : ℕ) → (n == 0) ≡ true → n ≡ 0
 zero_is n h = grind (arith, nat_tests, h)
 
-pub returns-then-is_none : goal.returns-then-is_none
-returns-then-is_none c =
+pub returns-then-is_none-clause-changes : goal.returns-then-is_none-clause-changes
+returns-then-is_none-clause-changes c =
     let t = held_by c.args.sources.now in
     let n = c.args.number in
     let routes = c.at_number.result.now in
     let was : attributes_at c.args.rows.now.rows.items n ≡ None = ap shown (sym c.get.ensures) ∙ shown_none c.get.result (c.is_none.ensures ∙ ap not c.if-is_none.true) in
     let none : [] ≡ routes = no_elements routes (zero_is (length routes) (sym c.is_empty.ensures ∙ c.if-is_empty.true)) in
     inl (refl, λ p at. was ∙ sym (due_unheld t c.args.sources.now.client c.args.speech p (ap (map sent_by) none ∙ (c.at_number.ensures p at).all)))
+
+pub returns-in_default-clause-standing : goal.returns-in_default-clause-standing
+returns-in_default-clause-standing c = λ p at.
+    absurd (let f : None ≡ Some p = sym c.in_default.is ∙ c.prefix.ensures ∙ number_there c.args.sources.now.ins.now p c.args.number at in (cc))
+
+some_copied : (r : Option (Bor Row)) → is_some r ≡ true → is_some (option_copied r) ≡ true
+some_copied None h = absurd (true≢false (sym h))
+some_copied (Some row) h = refl
+
+any_sent : (routes : List Route) → (length routes == 0) ≡ false → list_any (λ h. true) (map sent_by routes) ≡ true
+any_sent [] h = absurd (true≢false h)
+any_sent (r ∷ routes) h = refl
+
+or_true : (b c : Bool) → c ≡ true → true ≡ (b || c)
+or_true true c h = refl
+or_true false c h = sym h
+
+pub returns-clause-standing : goal.returns-clause-standing
+returns-clause-standing c = λ p at.
+    let t = held_by c.args.sources.now in
+    elim c.else-is_empty.branch [
+      | else-is_empty-via-then-is_empty+else-is_none w ↦
+          sym (ap (λ b. b || any_holds t p) (ap is_some (sym w.get.ensures) ∙ some_copied w.get.result (w.is_none.ensures ∙ ap not w.if-is_none.false)))
+      | else-is_empty-via-else-is_empty w ↦
+          or_true _ (any_holds t p)
+          (ap (list_any (λ h. true)) (sym (c.at_number.ensures p at).all) ∙ any_sent c.at_number.result.now (sym c.is_empty.ensures ∙ w.if-is_empty.false))
+    ]

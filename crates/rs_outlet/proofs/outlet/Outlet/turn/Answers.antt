@@ -32,7 +32,7 @@ not_up config ins v w same none = subst (λ (u : View). HasTurned config ins u (
   marked = refl;
   touched = λ up. absurd (true≢false (sym up ∙ ap is_some none));
   whole = λ up. absurd (true≢false (sym up ∙ ap is_some none));
-  count = λ prefixes up is. absurd (true≢false (sym up ∙ ap is_some none));
+  count = λ up. absurd (true≢false (sym up ∙ ap is_some none));
   down = λ _. (refl, refl);
   last = refl;
 })
@@ -54,7 +54,7 @@ returns-in-Ok-clause-turned c = λ are.
       marked = c.in-Ok.ensures.marked are;
       touched = λ up. c.in-Ok.ensures.touched;
       whole = λ up. c.in-Ok.ensures.whole;
-      count = λ prefixes up is. c.in-Ok.ensures.count are prefixes is;
+      count = λ up. c.in-Ok.ensures.count are;
       down = λ none. absurd (let f : None ≡ Some c.in-Some.speech = sym none ∙ sym (ap (λ (v : View). v.speech) c.self.view_is) ∙ c.in-Some.is in (cc));
       last = c.in-Ok.ensures.done;
     }

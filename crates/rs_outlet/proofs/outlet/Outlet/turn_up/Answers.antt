@@ -1,6 +1,6 @@
 use Rattle.std.proofs.Common.{◌≡◌, ◌∙◌, ◌++◌, cond, ap, ℕ, List, Some, refl, sym, subst}
 use Rattle.std.specs.FinMap as fin
-use Rattle.rs_outlet.specs.Due.{due_to}
+use Rattle.rs_outlet.specs.Due.{any_holds, due_to}
 use Rattle.rs_outlet.specs.HeldBy.{held_by}
 use Rattle.std.specs.List.{AllByRecursion}
 use Rattle.rs_octets.specs.Prefixes.{Prefix}
@@ -9,12 +9,14 @@ use Rattle.rs_adjin.specs.declared.adj_ins.AdjIns.{AdjIns}
 use Rattle.rs_outlet.specs.declared.waiting.Wait.{Wait}
 use Rattle.rs_outlet.specs.Places.{open_at}
 use Rattle.rs_outlet.specs.Owed.{Keeps}
-use Rattle.rs_outlet.specs.Views.{View, Table, AreNumbered, HaveNumbers, WaitsAreExact, is_touched}
+use Rattle.rs_outlet.specs.Views.{View, Table, AreNumbered, IsCount, HaveNumbers, WaitsAreExact, is_touched}
 use Rattle.rs_outlet.specs.Inside.{numbers_from, loc_of, is_changed, view_of}
 use Rattle.rs_outlet.proofs.Numbering.{all_front, all_behind, all_both, have_rows}
 use Rattle.rs_outlet.proofs.Carrying.{distinct_prefixes, keeps_both, keeps_same}
 use Rattle.rs_outlet.proofs.Unchanged.{told_kept, marked_kept, exact_kept}
-use Rattle.rs_outlet.proofs.Ranks.{due_unnumbered}
+use Rattle.rs_outlet.proofs.Ranks.{due_unnumbered, none_holds}
+use Rattle.rs_outlet.proofs.Counting.{count_touched, counted_by_prefix}
+use Rattle.rs_outlet.proofs.LocByNumber.{numbered}
 use Rattle.rs_outlet.proofs.TurnedLoc.{turned_at}
 use Rattle.rs_outlet.proofs.outlet.Outlet.turn_up.Goals as goal
 
@@ -55,12 +57,20 @@ returns-clause-loc c = λ are p.
     ∙ ap (λ (v : View). cond (is_touched v.touched p) (due_at p) (fin.get v.loc p)) c.self.view_is
 
 pub returns-clause-count : goal.returns-clause-count
-returns-clause-count c = λ are prefixes is.
+returns-clause-count c = λ are.
+    let config = c.args.sources.now.config.now in
     let ins = c.args.sources.now.ins.now in
     let a = c.self.inside in
+    let rows = a.rows.rows.items in
+    let es = a.touched.prefixes.entries in
+    let held = any_holds (held_by c.args.sources.now) in
+    let count = c.in_ok-changes.field-0.count in
     let P = λ (e : ℕ × Prefix). number_of ins e.1 ≡ Some e.0 in
     let was = subst (λ (v : View). AreNumbered v ins) (sym c.self.view_is) are in
-    c.in_ok-changes.ensures.count (all_behind P (numbers_from 0 a.rows.rows.items) a.touched.prefixes.entries was) prefixes (ap (λ (v : View). v.touched) c.self.view_is ∙ is)
+    subst (λ (v : View). IsCount held v.loc v.touched count) c.self.view_is
+    (count_touched held (loc_of rows) a.touched.all es count
+    (λ all. counted_by_prefix ins rows held count (numbered ins rows (all_front P (numbers_from 0 rows) es was)) (none_holds config ins) (c.in_ok-changes.ensures.whole all))
+    (c.in_ok-changes.ensures.count (all_behind P (numbers_from 0 rows) es was)))
 
 -- the rows have their numbers when the changes are carried out
 there : (ins : AdjIns) (v w : View) (rows es ns : List (ℕ × Prefix)) → v ≡ w → v.numbers ≡ rows ++ es → ns ≡ rows → AreNumbered w ins → HaveNumbers ns ins
@@ -77,8 +87,8 @@ returns-clause-told c = λ are.
     let a = c.self.inside in
     let loc = loc_of a.rows.rows.items in
     let ws = a.waits.places.items in
-    let numbered = there ins (view_of a) c.args.self.now (numbers_from 0 a.rows.rows.items) a.touched.prefixes.entries _ c.self.view_is refl c.make_room.ensures.numbers are in
-    let kept = c.commit.ensures.keeps ins c.in_ok-changes.ensures.changes.placed numbered in
+    let with_numbers = there ins (view_of a) c.args.self.now (numbers_from 0 a.rows.rows.items) a.touched.prefixes.entries _ c.self.view_is refl c.make_room.ensures.numbers are in
+    let kept = c.commit.ensures.keeps ins c.in_ok-changes.ensures.changes.placed with_numbers in
     told_kept loc (loc_of c.commit.new.rows.rows.items) ws c.commit.new.waits.places.items
     (keeps loc (loc_of c.make_room.new.rows.rows.items) (loc_of c.commit.new.rows.rows.items) ws c.make_room.new.waits.places.items c.commit.new.waits.places.items c.make_room.ensures.loc c.make_room.ensures.waits kept)
     ∙ ap (λ (v : View). v.told) c.self.view_is
@@ -89,8 +99,8 @@ returns-clause-marked c = λ are.
     let a = c.self.inside in
     let loc = loc_of a.rows.rows.items in
     let ws = a.waits.places.items in
-    let numbered = there ins (view_of a) c.args.self.now (numbers_from 0 a.rows.rows.items) a.touched.prefixes.entries _ c.self.view_is refl c.make_room.ensures.numbers are in
-    let kept = c.commit.ensures.keeps ins c.in_ok-changes.ensures.changes.placed numbered in
+    let with_numbers = there ins (view_of a) c.args.self.now (numbers_from 0 a.rows.rows.items) a.touched.prefixes.entries _ c.self.view_is refl c.make_room.ensures.numbers are in
+    let kept = c.commit.ensures.keeps ins c.in_ok-changes.ensures.changes.placed with_numbers in
     marked_kept loc (loc_of c.commit.new.rows.rows.items) ws c.commit.new.waits.places.items
     (keeps loc (loc_of c.make_room.new.rows.rows.items) (loc_of c.commit.new.rows.rows.items) ws c.make_room.new.waits.places.items c.commit.new.waits.places.items c.make_room.ensures.loc c.make_room.ensures.waits kept)
     ∙ ap (λ (v : View). v.marked) c.self.view_is
@@ -101,8 +111,8 @@ returns-clause-exact c = λ are exact.
     let a = c.self.inside in
     let loc = loc_of a.rows.rows.items in
     let ws = a.waits.places.items in
-    let numbered = there ins (view_of a) c.args.self.now (numbers_from 0 a.rows.rows.items) a.touched.prefixes.entries _ c.self.view_is refl c.make_room.ensures.numbers are in
-    let kept = c.commit.ensures.keeps ins c.in_ok-changes.ensures.changes.placed numbered in
+    let with_numbers = there ins (view_of a) c.args.self.now (numbers_from 0 a.rows.rows.items) a.touched.prefixes.entries _ c.self.view_is refl c.make_room.ensures.numbers are in
+    let kept = c.commit.ensures.keeps ins c.in_ok-changes.ensures.changes.placed with_numbers in
     exact_kept loc (loc_of c.commit.new.rows.rows.items) ws c.commit.new.waits.places.items
     (keeps loc (loc_of c.make_room.new.rows.rows.items) (loc_of c.commit.new.rows.rows.items) ws c.make_room.new.waits.places.items c.commit.new.waits.places.items c.make_room.ensures.loc c.make_room.ensures.waits kept)
     (subst WaitsAreExact (sym c.self.view_is) exact)
