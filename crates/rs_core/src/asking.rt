@@ -1,6 +1,6 @@
 //! What a route server is asked.
 
-ghost use Rattle.std.specs.Prelude.{◌≡◌, ◌<◌, List, length, IfSome};
+ghost use Rattle.std.specs.Prelude.{◌≡◌, ◌==◌, ◌&&◌, ◌<◌, false, List, length, IfSome};
 
 use crate::endings::{Ending, FaultedUpdates};
 use crate::route_server::Core;
@@ -19,12 +19,22 @@ fn is_up(state: State) -> bool
     }
 }
 
-ghost use Rattle.rs_core.specs.Hearing.{is_up};
+/// Whether a session in this state has ended, and its connection has not.
+fn is_closing(state: State) -> bool
+    ensures { result ≡ is_closing state }
+{
+    match state {
+        State::Closing => true,
+        State::Idle | State::OpenSent | State::OpenConfirm | State::Established => false,
+    }
+}
+
+ghost use Rattle.rs_core.specs.Hearing.{is_up, is_closing};
 
 impl Core {
-    ghost use Rattle.rs_core.specs.Core.{client_count};
+    ghost use Rattle.rs_core.specs.Core.{client_count, lent_octets};
     ghost use Rattle.rs_core.specs.Moves.{Move, config_in};
-    ghost use Rattle.rs_core.specs.Hearing.{Hearing, state_in, mode_in};
+    ghost use Rattle.rs_core.specs.Hearing.{Hearing, state_in, mode_in, limit_in};
     ghost use Rattle.rs_core.specs.Runs.{hearing, is_established};
     ghost use Rattle.rs_core.specs.Agreeing.{Agrees, Knows};
     ghost use Rattle.rs_policy.specs.Configuration.{Configuration};
@@ -85,8 +95,9 @@ impl Core {
     /// How long a message to a client that is Established may be.
     pub fn limit(&self, c: usize) -> Option<Limit>
         requires { c < client_count self.now }
+        ensures { (run : List Move) → Agrees self.now run → result ≡ limit_in (config_in run) c (hearing c run) }
     {
-        if self.is_established(c) {
+        if self.is_up(c) {
             Some(self.sessions[c].limit())
         } else {
             None
@@ -145,14 +156,14 @@ impl Core {
     /// Whether the session of a client has ended with nothing left to send.
     pub fn wants_close(&mut self, c: usize) -> bool
         requires { c < client_count self.old }
-        ensures { client_count self.new ≡ client_count self.old }
+        ensures count { client_count self.new ≡ client_count self.old }
+        ensures closing { (run : List Move) → Agrees self.old run → result ≡ (is_closing (state_in (config_in run) c (hearing c run)) && (length (lent_octets self.new c) == 0)) }
+        ensures unchanged { (run : List Move) → Agrees self.old run → is_closing (state_in (config_in run) c (hearing c run)) ≡ false → self.new ≡ self.old }
     {
-        match self.sessions[c].state() {
-            State::Closing => {
-                self.begin(c);
-                self.lent(c).is_empty()
-            }
-            State::Idle | State::OpenSent | State::OpenConfirm | State::Established => false,
+        if !is_closing(self.sessions[c].state()) {
+            return false;
         }
+        self.begin(c);
+        self.lent(c).is_empty()
     }
 }
