@@ -270,7 +270,7 @@ impl<'a, P: Ports> Link<'a, P> {
 impl<'a, P: Ports> CoreLink for Link<'a, P> {
     ghost happens = { λ old step new. (new.ports.ghost_name ≡ old.ports.ghost_name) × (old.has_failed ≡ false → Has P.asked old.ports.now AreHandled → Follows P.asked step new.ports.now new.has_failed) };
 
-    ghost text = { λ link. link.text.items };
+    ghost text = { λ link. link.text.now.items };
 }
 
 impl<'a, P: Ports> Source for Link<'a, P> {
@@ -285,6 +285,6 @@ impl<'a, P: Ports> Source for Link<'a, P> {
     }
 
     fn rules(&self) -> &[u8] {
-        &self.text
+        self.text.as_slice()
     }
 }

@@ -32,7 +32,7 @@ pub(crate) enum Phase {
 #[derive(Drop)]
 pub struct Link<'a, P> {
     pub(crate) ports: &'a mut P,
-    pub(crate) seats: Vec<Seat>,
+    pub(crate) seats: &'a mut Vec<Seat>,
     pub(crate) fresh: Option<Caller>,
     pub(crate) phase: Phase,
     /// The client whose connection is read, and how many pieces of it the round has read.
@@ -52,8 +52,8 @@ pub struct Link<'a, P> {
     /// A call of `accept` failed.
     pub(crate) has_failed: bool,
     /// The text of rules that was handed over last, and the one that was read.
-    pub(crate) text: Vec<u8>,
-    pub(crate) read: Vec<u8>,
+    pub(crate) text: &'a mut Vec<u8>,
+    pub(crate) read: &'a mut Vec<u8>,
     pub(crate) has_text: bool,
     /// The file could not be read at the last reading.
     pub(crate) is_unreadable: bool,
@@ -63,7 +63,12 @@ pub struct Link<'a, P> {
 
 impl<'a, P: Ports> Link<'a, P> {
     /// A link over ports, with the place of each client.
-    pub fn new(ports: &'a mut P, seats: Vec<Seat>, text: Vec<u8>, read: Vec<u8>) -> Link<'a, P>
+    pub fn new(
+        ports: &'a mut P,
+        seats: &'a mut Vec<Seat>,
+        text: &'a mut Vec<u8>,
+        read: &'a mut Vec<u8>,
+    ) -> Link<'a, P>
         ensures same_ports { result.ports.ghost_name ≡ ports.entry.ghost_name }
         ensures value { result.ports.now ≡ ports.old }
         ensures fine { result.has_failed ≡ false }
@@ -125,7 +130,7 @@ impl<'a, P: Ports> Link<'a, P> {
         if self.has_text && self.read.as_slice() == self.text.as_slice() {
             return;
         }
-        mem::swap(&mut self.read, &mut self.text);
+        mem::swap(self.read, self.text);
         self.has_text = true;
         self.phase = Phase::Rules;
     }
@@ -136,7 +141,7 @@ impl<'a, P: Ports> Link<'a, P> {
         ensures failed { self.new.has_failed ≡ self.old.has_failed }
         ensures handled { Has P.asked self.old.ports.now AreHandled → Has P.asked self.new.ports.now AreHandled }
     {
-        self.ports.text(&mut self.read).is_ok()
+        self.ports.text(self.read).is_ok()
     }
 
     /// Says that rules were accepted, or why they weren't.

@@ -1,6 +1,6 @@
 //! The loop of the server.
 
-ghost use Rattle.std.specs.Prelude.{◌≡◌, ◌≤◌, ◌<◌, false, true, IsOk, IsErr, IsSome, IsTrue};
+ghost use Rattle.std.specs.Prelude.{◌≡◌, ◌≤◌, ◌<◌, [], false, true, IsOk, IsErr, IsSome, IsTrue};
 ghost use Rattle.rs_served.specs.Calls.{IsFailedAccept};
 ghost use Rattle.rs_served.specs.Handled.{Has, AreHandled, EndBy, IsServed};
 
@@ -46,6 +46,7 @@ pub struct Limits {
 /// `Poll` where `wait` failed, `Listener` where `accept` failed, and `Memory` where memory was refused
 /// at the start, before the first call of the ports. Any other fault of the ports is a lost connection,
 /// and all others go on.
+#[tactic(auto, using(crate::proofs::Handling::unasked))]
 pub fn serve<R: Threads + Wait + Sync, P: Ports>(
     rt: &R,
     alloc: Global,
@@ -54,9 +55,10 @@ pub fn serve<R: Threads + Wait + Sync, P: Ports>(
     limits: Limits,
 ) -> Result<(), ServeFault>
     requires workers { (0 < limits.workers) × (limits.workers ≤ 16) }
+    ensures served { P.asked ports.old [] → Has P.asked ports.new (IsServed result) }
     ensures ended { IsOk result → IsSome limits.sessions }
 {
-    let Ok(seats) = seats(alloc, &config) else {
+    let Ok(mut seats) = seats(alloc, &config) else {
         return Err(ServeFault::Memory);
     };
     let Ok(mut watch) = Watch::new(alloc, config.clients()) else {
@@ -65,7 +67,9 @@ pub fn serve<R: Threads + Wait + Sync, P: Ports>(
     let Ok(mut core) = Core::new(alloc, config) else {
         return Err(ServeFault::Memory);
     };
-    let mut link = Link::new(ports, seats, Vec::new(alloc), Vec::new(alloc));
+    let mut text = Vec::new(alloc);
+    let mut read = Vec::new(alloc);
+    let mut link = Link::new(ports, &mut seats, &mut text, &mut read);
     serve_on(rt, limits, &mut watch, &mut core, &mut link)
 }
 
@@ -87,10 +91,7 @@ fn serve_on<R: Threads + Wait + Sync, P: Ports>(
         if !link.begin_round() {
             return Err(ServeFault::Poll);
         }
-        rounds = next_round(rounds, limits.reload);
-        if rounds == 0 {
-            link.read_rules();
-        }
+        rounds = reload(rounds, limits.reload, link);
         match play_round(rt, limits.workers, core, link) {
             Ok(()) => watch.tell(core, link),
             Err(_) => return Err(ServeFault::Listener),
@@ -100,6 +101,20 @@ fn serve_on<R: Threads + Wait + Sync, P: Ports>(
         }
     }
     unreachable!()
+}
+
+/// Reads the file of rules in a round in which it is to be read, and answers the number of the round
+/// since the last such one.
+fn reload<P: Ports>(rounds: u16, every: Option<u16>, link: &mut Link<'_, P>) -> u16
+    ensures same_ports { link.new.ports.ghost_name ≡ link.old.ports.ghost_name }
+    ensures failed { link.new.has_failed ≡ link.old.has_failed }
+    ensures handled { Has P.asked link.old.ports.now AreHandled → Has P.asked link.new.ports.now AreHandled }
+{
+    let next = next_round(rounds, every);
+    if next == 0 {
+        link.read_rules();
+    }
+    next
 }
 
 /// As many sessions have ended as were asked for, and their connections are closed.
