@@ -4,3 +4,4 @@ pub mod LineLemmas
 pub mod OutputLemmas
 pub mod ReplayLemmas
 pub mod PlayLemmas
+pub mod Replaying

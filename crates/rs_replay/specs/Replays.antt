@@ -107,6 +107,13 @@ pub record IsPlayed (settings : Configuration) (takes : List ℕ → Type 0) (ov
   pub gives : Gives put (written (name_in names) acts) result
   pub took : AllTookAll acts
 
+-- nothing was read yet, and the core was not stopped
+pub record IsAtFirst (r : lines.Reading) (n : ℕ) (stop : Option Stop) : Type 0 where
+  pub rest : r.rest ≡ []
+  pub goes : r.is_over ≡ false
+  pub number : n ≡ 0
+  pub running : stop ≡ None
+
 -- Want of memory may come before the configuration's names are there.
 abbrev pub HasPlayed : Configuration → (List ℕ → Type 0) → Type 0 → (List ℕ → Type 0) → Result (Unit {0}) ReplayFault → Type 0
 HasPlayed settings takes over put result = IsPlayed settings takes over put result ⊎ ((result ≡ Err Memory) × takes [] × put [])
@@ -122,3 +129,43 @@ pub record Happens {R W G : Type 0} (takes : R → List ℕ → R → Type 0) (a
   pub took : TookAll step
   pub goes : (first : R) (to : W) (sayings : List Saying) (octets : List ℕ) → Plays takes at_end fails puts loses (place_in names) first to sayings octets reader writer r n stop →
       Plays takes at_end fails puts loses (place_in names) first to (sayings ++ saying_at step) (octets ++ line_at (name_in names) step) reader2 writer2 r2 n2 stop2
+
+-- A recording goes on by a line of output that no step of the core's link asks for: what was said stays, and the line comes behind what was written.
+pub record Adds {R W G : Type 0} (takes : R → List ℕ → R → Type 0) (at_end : R → Type 0) (fails : R → ℕ) (puts : W → List ℕ → W → Type 0) (loses : W → ℕ)
+    (names : Names) (reads writes : G) (reader : R) (writer : W) (r : lines.Reading) (n : ℕ) (stop : Option Stop) (line : List ℕ)
+    (names2 : Names) (reads2 writes2 : G) (reader2 : R) (writer2 : W) (r2 : lines.Reading) (n2 : ℕ) (stop2 : Option Stop) : Type 0 where
+  pub same_names : names2 ≡ names
+  pub same_reader : reads2 ≡ reads
+  pub same_writer : writes2 ≡ writes
+  pub goes : (first : R) (to : W) (sayings : List Saying) (octets : List ℕ) → Plays takes at_end fails puts loses (place_in names) first to sayings octets reader writer r n stop →
+      Plays takes at_end fails puts loses (place_in names) first to sayings (octets ++ line) reader2 writer2 r2 n2 stop2
+
+-- the lines of routes, where there was memory for them
+abbrev pub routes_told : {V E : Type 0} → (V → List ℕ) → Result V E → List ℕ
+routes_told octets (Ok made) = octets made
+routes_told octets (Err refused) = []
+
+-- What was read up to here says what was done, and the replay ends with this answer.
+pub record IsOver {R W : Type 0} (takes : R → List ℕ → R → Type 0) (at_end : R → Type 0) (puts : W → List ℕ → W → Type 0)
+    (place : List ℕ → Option ℕ) (first : R) (to : W) (sayings : List Saying) (octets : List ℕ) (reader : R) (writer : W) (answer : Result (Unit {0}) ReplayFault) : Type 0 where
+  pub text : List ℕ
+  pub taken : takes first text reader
+  pub ends : Ends place text (at_end reader) sayings answer
+  pub gives : Gives (λ xs. puts to xs writer) octets answer
+
+-- Some acts were done since the first reader and writer, and then the replay ended with this answer. Each offer took all.
+pub record PlaysOut {R W : Type 0} (takes : R → List ℕ → R → Type 0) (at_end : R → Type 0) (puts : W → List ℕ → W → Type 0)
+    (names : Names) (first : R) (to : W) (reader : R) (writer : W) (answer : Result (Unit {0}) ReplayFault) : Type 0 where
+  pub acts : List Act
+  pub took : AllTookAll acts
+  pub over : IsOver takes at_end puts (place_in names) first to (said acts) (written (name_in names) acts) reader writer answer
+
+-- Since the first reader and writer these acts were done, by a recording with these names, and now all stands so.
+pub record HasDone {R W G : Type 0} (takes : R → List ℕ → R → Type 0) (at_end : R → Type 0) (fails : R → ℕ) (puts : W → List ℕ → W → Type 0) (loses : W → ℕ)
+    (names : Names) (reads writes : G) (first : R) (to : W) (acts : List Act)
+    (names2 : Names) (reads2 writes2 : G) (reader : R) (writer : W) (r : lines.Reading) (n : ℕ) (stop : Option Stop) : Type 0 where
+  pub same_names : names2 ≡ names
+  pub same_reader : reads2 ≡ reads
+  pub same_writer : writes2 ≡ writes
+  pub took : AllTookAll acts
+  pub plays : Plays takes at_end fails puts loses (place_in names) first to (said acts) (written (name_in names) acts) reader writer r n stop

@@ -2,13 +2,15 @@
 //! does becomes lines of another. The core stops where a line asks for routes, where the text is
 //! over, and where something failed.
 
-ghost use Rattle.std.specs.Prelude.{◌≡◌, ◌≤◌, ◌++◌, ◌∷◌, ℕ, List, [], Some, None, false, length, take, codes, IfOk, IfSome, OnOk, Option};
+ghost use Rattle.std.specs.Prelude.{◌≡◌, ◌≤◌, ◌++◌, ◌∷◌, ℕ, List, [], Some, None, false, length, take, codes, Err, IfOk, IfSome, OnOk, Option};
 ghost use Rattle.rs_core.specs.Links as links;
 ghost use Rattle.rs_replay.specs.Output.{fault_line};
 ghost use Rattle.rs_replay.specs.Trace.{Saying};
 ghost use Rattle.rs_replay.specs.Entries.{saying_in};
 ghost use Rattle.rs_replay.specs.Played.{Puts, failures_read, failures_written, failed, saying_told};
-ghost use Rattle.rs_replay.specs.Replays.{place_in, name_in, stop_of, sayings_in, saying_read, ReadsOn, TellsAs, FailsOn, AreNamesOf};
+ghost use Rattle.rs_replay.specs.Replays.{Adds, AreNamesOf, FailsOn, IsOver, Plays, ReadsOn, TellsAs, name_in, place_in, routes_told, saying_read, sayings_in, stop_of};
+ghost use Rattle.rs_replay.specs.declared.recording.Stop.TheVariants as stops;
+ghost use Rattle.rs_replay.specs.declared.fault.ReplayFault.TheVariants as faults;
 
 use crate::fault::ReplayFault;
 use crate::lines::Lines;
@@ -141,49 +143,75 @@ fn write_line<W: TextOut>(
     }
 }
 
-/// Reads a trace, and writes what comes of it.
+/// What a recording reads by, and the buffers that it fills. The recording itself owns nothing: so
+/// where it ends, its reader and its writer are known to be what it left them.
 #[derive(Drop)]
-pub struct Recording<'a, R, W> {
-    alloc: Global,
+pub struct Kept {
     names: Names,
     lines: Lines,
-    /// How many lines were read.
-    number: u64,
     /// The text of the last line `rules`.
     rules: Vec<u8>,
     /// The line that is written.
     line: Vec<u8>,
+}
+
+impl Kept {
+    /// Before the first line. It has the clients of the configuration.
+    pub fn new(alloc: Global, config: &Config) -> Result<Kept, AllocError>
+        ensures names { IfOk result (λ kept. AreNamesOf kept.names config.now) }
+        ensures fresh { IfOk result (λ kept. (kept.lines.rest ≡ []) × (kept.lines.is_over ≡ false)) }
+    {
+        Ok(Kept {
+            names: Names::new(alloc, config)?,
+            lines: Lines::new(alloc)?,
+            rules: Vec::new(alloc),
+            line: Vec::new(alloc),
+        })
+    }
+}
+
+/// Reads a trace, and writes what comes of it.
+#[derive(Drop)]
+pub struct Recording<'a, R, W> {
+    alloc: Global,
+    names: &'a Names,
+    lines: &'a mut Lines,
+    /// How many lines were read.
+    number: u64,
+    rules: &'a mut Vec<u8>,
+    line: &'a mut Vec<u8>,
     stop: Option<Stop>,
     reader: &'a mut R,
     writer: &'a mut W,
 }
 
 impl<'a, R: TextIn, W: TextOut> Recording<'a, R, W> {
-    /// Before the first line. It has the clients of the configuration.
+    /// Before the first line.
     pub fn new(
         alloc: Global,
-        config: &Config,
+        kept: &'a mut Kept,
         reader: &'a mut R,
         writer: &'a mut W,
-    ) -> Result<Recording<'a, R, W>, AllocError>
-        ensures names { IfOk result (λ r. AreNamesOf r.names config.now) }
-        ensures reader { IfOk result (λ r. r.reader.ghost_name ≡ reader.entry.ghost_name) }
-        ensures writer { IfOk result (λ r. r.writer.ghost_name ≡ writer.entry.ghost_name) }
-        ensures given { IfOk result (λ r. r.reader.now ≡ reader.old) }
-        ensures lent { IfOk result (λ r. r.writer.now ≡ writer.old) }
-        ensures fresh { IfOk result (λ r. (r.lines.rest ≡ []) × (r.lines.is_over ≡ false) × (r.number ≡ 0) × (r.stop ≡ None)) }
+    ) -> Recording<'a, R, W>
+        ensures names { result.names.now ≡ kept.old.names }
+        ensures lines { result.lines.now ≡ kept.old.lines }
+        ensures reader { result.reader.ghost_name ≡ reader.entry.ghost_name }
+        ensures writer { result.writer.ghost_name ≡ writer.entry.ghost_name }
+        ensures given { result.reader.now ≡ reader.old }
+        ensures lent { result.writer.now ≡ writer.old }
+        ensures fresh { (result.number ≡ 0) × (result.stop ≡ None) }
     {
-        Ok(Recording {
+        Recording {
             alloc,
-            names: Names::new(alloc, config)?,
-            lines: Lines::new(alloc)?,
+            names: &kept.names,
+            lines: &mut kept.lines,
             number: 0,
-            rules: Vec::new(alloc),
-            line: Vec::new(alloc),
+            rules: &mut kept.rules,
+            line: &mut kept.line,
             stop: None,
             reader,
             writer,
-        })
+        }
     }
 
     /// Why the core was stopped.
@@ -202,23 +230,45 @@ impl<'a, R: TextIn, W: TextOut> Recording<'a, R, W> {
 
     /// The name of a client.
     pub fn name(&self, c: usize) -> &[u8]
-        ensures { result.now ≡ name_in self.now.names c }
+        ensures { result.now ≡ name_in self.now.names.now c }
     {
         self.names.name(c)
     }
 
     /// Tells a client's routes, in these lines, where there was memory for them.
-    pub fn tell_routes(&mut self, lines: &Result<Vec<u8>, AllocError>) {
+    pub fn tell_routes(&mut self, lines: &Result<Vec<u8>, AllocError>)
+        ensures { Adds R.takes R.at_end R.failures W.puts W.failures self.old.names.now self.old.reader.ghost_name self.old.writer.ghost_name self.old.reader.now self.old.writer.now self.old.lines.now self.old.number self.old.stop (routes_told (λ made. made.items) lines.now) self.new.names.now self.new.reader.ghost_name self.new.writer.ghost_name self.new.reader.now self.new.writer.now self.new.lines.now self.new.number self.new.stop }
+    {
         match lines {
             Ok(lines) => self.stop = write_line(self.writer, self.stop, Ok(()), lines),
             Err(_) => self.stop = write_line(self.writer, self.stop, Err(AllocError), &[]),
         }
     }
 
+    /// The replay is over by a fault: that of a line is told as the last. Answers why it is over then.
+    pub fn end_at(&mut self, fault: ReplayFault) -> ReplayFault
+        requires { self.old.stop ≡ Some (stops.Fault fault) }
+        ensures reader { self.new.reader.ghost_name ≡ self.old.reader.ghost_name }
+        ensures writer { self.new.writer.ghost_name ≡ self.old.writer.ghost_name }
+        ensures over { (first : R) (to : W) (sayings : List Saying) (octets : List ℕ) → Plays R.takes R.at_end R.failures W.puts W.failures (place_in self.old.names.now) first to sayings octets self.old.reader.now self.old.writer.now self.old.lines.now self.old.number self.old.stop → IsOver R.takes R.at_end W.puts (place_in self.old.names.now) first to sayings octets self.new.reader.now self.new.writer.now (Err result) }
+    {
+        match fault {
+            ReplayFault::Line(number, fault) => self.end_at_line(number, fault),
+            ReplayFault::Memory => ReplayFault::Memory,
+            ReplayFault::Reading => ReplayFault::Reading,
+            ReplayFault::Writing => ReplayFault::Writing,
+        }
+    }
+
     /// Tells the fault of a line as the last, and answers why the replay is over.
-    pub fn end_at(&mut self, number: u64, fault: LineFault) -> ReplayFault {
-        let made = output::faulty(self.alloc, &mut self.line, number, fault);
-        self.stop = write_line(self.writer, self.stop, made, &self.line);
+    fn end_at_line(&mut self, number: u64, fault: LineFault) -> ReplayFault
+        requires { self.old.stop ≡ Some (stops.Fault (faults.Line number fault)) }
+        ensures reader { self.new.reader.ghost_name ≡ self.old.reader.ghost_name }
+        ensures writer { self.new.writer.ghost_name ≡ self.old.writer.ghost_name }
+        ensures over { (first : R) (to : W) (sayings : List Saying) (octets : List ℕ) → Plays R.takes R.at_end R.failures W.puts W.failures (place_in self.old.names.now) first to sayings octets self.old.reader.now self.old.writer.now self.old.lines.now self.old.number self.old.stop → IsOver R.takes R.at_end W.puts (place_in self.old.names.now) first to sayings octets self.new.reader.now self.new.writer.now (Err result) }
+    {
+        let made = output::faulty(self.alloc, self.line, number, fault);
+        self.stop = write_line(self.writer, self.stop, made, self.line);
         match self.stop {
             Some(Stop::Fault(failure)) => failure,
             _ => ReplayFault::Line(number, fault),
@@ -229,9 +279,9 @@ impl<'a, R: TextIn, W: TextOut> Recording<'a, R, W> {
 impl<'a, R: TextIn, W: TextOut> Link for Recording<'a, R, W> {
     ghost use Rattle.rs_replay.specs.Replays.{Happens};
 
-    ghost happens = { λ old step new. Happens R.takes R.at_end R.failures W.puts W.failures old.names old.reader.ghost_name old.writer.ghost_name old.reader.now old.writer.now old.lines old.number old.stop step new.names new.reader.ghost_name new.writer.ghost_name new.reader.now new.writer.now new.lines new.number new.stop };
+    ghost happens = { λ old step new. Happens R.takes R.at_end R.failures W.puts W.failures old.names.now old.reader.ghost_name old.writer.ghost_name old.reader.now old.writer.now old.lines.now old.number old.stop step new.names.now new.reader.ghost_name new.writer.ghost_name new.reader.now new.writer.now new.lines.now new.number new.stop };
 
-    ghost text = { λ r. r.rules.items };
+    ghost text = { λ r. r.rules.now.items };
 }
 
 impl<'a, R: TextIn, W: TextOut> Source for Recording<'a, R, W> {
@@ -239,10 +289,10 @@ impl<'a, R: TextIn, W: TextOut> Source for Recording<'a, R, W> {
         if self.stop.is_some() {
             return Event::Stop;
         }
-        let (names, lines, number) = (&self.names, &mut self.lines, &mut self.number);
+        let (names, lines, number) = (self.names, &mut *self.lines, &mut self.number);
         match next_entry(names, lines, number, self.reader, piece) {
             Ok(entry) => {
-                let (event, stop) = event_of(&mut self.rules, entry, piece);
+                let (event, stop) = event_of(self.rules, entry, piece);
                 self.stop = stop;
                 event
             }
@@ -254,7 +304,7 @@ impl<'a, R: TextIn, W: TextOut> Source for Recording<'a, R, W> {
     }
 
     fn rules(&self) -> &[u8] {
-        &self.rules
+        self.rules.as_slice()
     }
 }
 
@@ -262,28 +312,28 @@ impl<'a, R: TextIn, W: TextOut> Sink for Recording<'a, R, W> {
     fn begin(&mut self, _c: usize) {}
 
     fn busy(&mut self, c: usize) {
-        let made = output::busy(&mut self.line, self.names.name(c));
-        self.stop = write_line(self.writer, self.stop, made, &self.line);
+        let made = output::busy(self.line, self.names.name(c));
+        self.stop = write_line(self.writer, self.stop, made, self.line);
     }
 
     fn offer(&mut self, c: usize, octets: &[u8]) -> Option<usize> {
-        let made = output::sent(self.alloc, &mut self.line, self.names.name(c), octets);
-        self.stop = write_line(self.writer, self.stop, made, &self.line);
+        let made = output::sent(self.alloc, self.line, self.names.name(c), octets);
+        self.stop = write_line(self.writer, self.stop, made, self.line);
         Some(octets.len())
     }
 
     fn memory(&mut self, c: usize) {
-        let made = output::memory(&mut self.line, self.names.name(c));
-        self.stop = write_line(self.writer, self.stop, made, &self.line);
+        let made = output::memory(self.line, self.names.name(c));
+        self.stop = write_line(self.writer, self.stop, made, self.line);
     }
 
     fn end(&mut self, c: usize) {
-        let made = output::closed(&mut self.line, self.names.name(c));
-        self.stop = write_line(self.writer, self.stop, made, &self.line);
+        let made = output::closed(self.line, self.names.name(c));
+        self.stop = write_line(self.writer, self.stop, made, self.line);
     }
 
     fn ruled(&mut self, answer: &Result<(), RulesFault>) {
-        let made = output::ruled(&mut self.line, answer);
-        self.stop = write_line(self.writer, self.stop, made, &self.line);
+        let made = output::ruled(self.line, answer);
+        self.stop = write_line(self.writer, self.stop, made, self.line);
     }
 }

@@ -1,9 +1,10 @@
 //! Plays a recorded session through the core.
 
-ghost use Rattle.std.specs.Prelude.{◌<◌, ◌≤◌};
+ghost use Rattle.std.specs.Prelude.{◌≡◌, ◌<◌, ◌≤◌};
+ghost use Rattle.rs_replay.specs.Replays.{HasPlayed, IsAtFirst, PlaysOut};
 
 use crate::fault::ReplayFault;
-use crate::recording::{Recording, Stop};
+use crate::recording::{Kept, Recording, Stop};
 use crate::tables::route_lines;
 use crate::text::{TextIn, TextOut};
 use rs_core::{Core, drive_with};
@@ -24,27 +25,43 @@ pub fn replay<T: Threads + Wait + Sync, R: TextIn, W: TextOut>(
     workers: usize,
 ) -> Result<(), ReplayFault>
     requires { (0 < workers) × (workers ≤ 16) }
+    ensures { HasPlayed config (λ text. R.takes reader.old text reader.new) (R.at_end reader.new) (λ octets. W.puts writer.old octets writer.new) result }
 {
-    let Ok(mut recording) = Recording::new(alloc, &config, reader, writer) else {
+    let Ok(mut kept) = Kept::new(alloc, &config) else {
         return Err(ReplayFault::Memory);
     };
     let Ok(mut core) = Core::new(alloc, config) else {
         return Err(ReplayFault::Memory);
     };
+    let mut recording = Recording::new(alloc, &mut kept, reader, writer);
+    play_on(rt, alloc, workers, &mut core, &mut recording)
+}
+
+/// Lets the core run until the recording is over, and tells routes where it stops for them.
+fn play_on<T: Threads + Wait + Sync, R: TextIn, W: TextOut>(
+    rt: &T,
+    alloc: Global,
+    workers: usize,
+    core: &mut Core,
+    recording: &mut Recording<'_, R, W>,
+) -> Result<(), ReplayFault>
+    requires workers { (0 < workers) × (workers ≤ 16) }
+    requires first { IsAtFirst recording.old.lines.now recording.old.number recording.old.stop }
+    ensures reader { recording.new.reader.ghost_name ≡ recording.old.reader.ghost_name }
+    ensures writer { recording.new.writer.ghost_name ≡ recording.old.writer.ghost_name }
+    ensures played { PlaysOut R.takes R.at_end W.puts recording.old.names.now recording.old.reader.now recording.old.writer.now recording.new.reader.now recording.new.writer.now result }
+{
     for _ in rt.forever() {
-        drive_with(rt, workers, &Free, &mut core, &mut recording);
+        drive_with(rt, workers, &Free, core, recording);
         match recording.stop() {
             None => {}
             Some(Stop::Table(c)) => {
                 recording.resume();
-                let lines = route_lines(alloc, &core, c, recording.name(c));
+                let lines = route_lines(alloc, core, c, recording.name(c));
                 recording.tell_routes(&lines);
             }
             Some(Stop::End) => return Ok(()),
-            Some(Stop::Fault(ReplayFault::Line(number, fault))) => {
-                return Err(recording.end_at(number, fault));
-            }
-            Some(Stop::Fault(fault)) => return Err(fault),
+            Some(Stop::Fault(fault)) => return Err(recording.end_at(fault)),
         }
     }
     unreachable!()
