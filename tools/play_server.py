@@ -7,6 +7,8 @@ Two members: each announces 10,000 routes and must be told the other's.
 A silent member: one member announces 100,000 routes, another must be told them, while a third comes up and then reads
 nothing; the server's memory must stay below a bound, and the third's session must last.
 Many members: of 512 in the configuration 200 connect; each announces a route and must be told those of all others.
+A restless member: one member and a stranger connect 300 times, as fast as they can; on standard output there may be no more
+than a line of each in a second, and the lines that were left out must be counted.
 
 In each play a route must be told once and with its sender's attributes, octet for octet; then all members close, and the
 server, which was started with --sessions, must end by itself with status 0. All waiting is bounded: 120 seconds a play.
@@ -225,6 +227,43 @@ def a_silent_member(program, until):
         return wrong or ends(server, members, until)
 
 
+def comes_and_goes(server, source):
+    """Connects, waits for what the server does, and closes: whether the connection began a session."""
+    with socket.create_connection(server, timeout=5, source_address=(source, 0)) as connection, contextlib.suppress(ConnectionResetError):
+        return connection.recv(64) != b""
+    return False
+
+
+def counted(lines, printed, counting):
+    """How many of these lines there are, and how many were left out by the lines that count them."""
+    return sum(line in printed for line in lines), sum(int(line.rpartition(" ")[2]) for line in lines if line.startswith(counting))
+
+
+def a_restless_member(program, until):
+    """A member and a stranger that connect and close at once, over and over: few lines, and all are counted."""
+    port = free_ports(1)[0]
+    with serving(program, [("alpha", 64496, port, "127.0.0.1")], 300) as server:
+        start, begun, refused = time.monotonic(), 0, 0
+        while begun < 300 and time.monotonic() < until:
+            began = comes_and_goes(("127.0.0.1", port), "127.0.0.1")
+            begun, refused = begun + began, refused + (not began)
+            if begun < 300:
+                comes_and_goes(("127.0.0.1", port), "127.0.0.2")
+        if wrong := ends(server, [], until):
+            return wrong
+        most = time.monotonic() - start + 2
+        lines = server.stdout.read().decode().splitlines()
+    alpha = counted(lines, ("begin alpha", "busy alpha", "lost alpha", "close alpha"), "left out alpha ")
+    strangers = counted(lines, ("stranger",), "strangers ")
+    if max(alpha[0], strangers[0]) > most:
+        return f"{alpha[0]} lines of alpha and {strangers[0]} of strangers in {most:.0f} seconds"
+    if sum(alpha) != 2 * begun + refused:
+        return f"{alpha[0]} lines of alpha, and {alpha[1]} left out, for {begun} sessions and {refused} refused connections"
+    if sum(strangers) != begun + refused - 1:
+        return f"{strangers[0]} lines of strangers, and {strangers[1]} left out, for {begun + refused - 1}"
+    return None
+
+
 def many_members(program, until):
     """512 members in the configuration, of which 200 connect and announce a route each."""
     port = free_ports(1)[0]
@@ -241,6 +280,7 @@ PLAYS = (
     ("two members of 10,000 routes each", two_members),
     ("a member of 100,000 routes beside one that reads nothing", a_silent_member),
     ("512 members, of which 200 are connected", many_members),
+    ("a member and a stranger that come and go 300 times", a_restless_member),
 )
 
 

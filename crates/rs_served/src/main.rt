@@ -1,16 +1,19 @@
 //! The live route server. `command` reads the command line; `serve` is the loop, which gives the
 //! core events by a `link` over `ports`; `sockets` are the ports of the system. `seats` and `outbox`
-//! are what the link keeps of each connection, `watch` and `reports` tell an operator what happened.
+//! are what the link keeps of each connection, `watch` and `reports` tell an operator what happened,
+//! and `lines` is standard output, both within `rations`.
 #![tactic(auto)]
 
 pub mod command;
 pub mod configuration;
 mod events;
+pub mod lines;
 pub mod link;
 pub mod names;
 mod orders;
 pub mod outbox;
 pub mod ports;
+pub mod rations;
 pub mod reports;
 pub mod seats;
 pub mod serve;
@@ -60,7 +63,9 @@ fn run<R: Threads + Wait + Sync + Net + Clock + Files + Print + Eprint>(
         sessions: options.sessions,
         reload: options.reload,
     };
-    match serve(rt, alloc, &mut ports, config, limits) {
+    let served = serve(rt, alloc, &mut ports, config, limits);
+    ports.finish();
+    match served {
         Ok(()) => Ok(0),
         Err(fault) => {
             eprintln!(rt; "{fault}")?;

@@ -20,7 +20,7 @@ pub struct Caller {
     pub key: usize,
 }
 
-/// A line that the server prints.
+/// A line that the server prints on standard output.
 #[derive(Clone, Copy, Debug, PartialEq, Eq)]
 pub enum Line {
     /// A connection of a client begins.
@@ -74,7 +74,7 @@ pub trait Ports {
     fn text(&mut self, text: &mut Vec<u8>) -> Result<(), PortFault>
         ensures { (calls : List Call) → asked self.old calls → asked self.new (Fetched text.new.items result ∷ calls) };
 
-    /// Prints a line.
+    /// Prints a line, now or later, or counts it among those that are left out.
     fn say(&mut self, line: &Line)
         ensures { (calls : List Call) → asked self.old calls → asked self.new (Said line.now ∷ calls) };
 

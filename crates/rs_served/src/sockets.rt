@@ -2,6 +2,7 @@
 //! standard streams.
 
 use crate::configuration::read_file;
+use crate::lines::Lines;
 use crate::names::Names;
 use crate::ports::{Caller, Line, PortFault, Ports};
 use crate::reports::Report;
@@ -25,6 +26,18 @@ struct Stream {
     is_ready: bool,
 }
 
+/// A fault of a connection that was to be accepted and not of the listener, as accept(2) tells them too.
+fn is_passing(kind: ErrorKind) -> bool {
+    matches!(
+        kind,
+        ErrorKind::ConnectionAborted
+            | ErrorKind::Interrupted
+            | ErrorKind::HostUnreachable
+            | ErrorKind::NetworkDown
+            | ErrorKind::NetworkUnreachable
+    )
+}
+
 /// Listeners and connections under one poll.
 #[derive(Drop)]
 pub struct Sockets<'a, R> {
@@ -32,6 +45,7 @@ pub struct Sockets<'a, R> {
     /// The file of the configuration.
     path: &'a str,
     names: &'a Names,
+    lines: Lines<'a>,
     /// Reports are told on standard error.
     is_logging: bool,
     poll: Poll,
@@ -71,6 +85,7 @@ impl<'a, R: Net + Clock + Files + Print + Eprint> Sockets<'a, R> {
             rt,
             path,
             names,
+            lines: Lines::new(alloc, names)?,
             is_logging,
             poll,
             events,
@@ -79,6 +94,11 @@ impl<'a, R: Net + Clock + Files + Print + Eprint> Sockets<'a, R> {
             streams,
             start: Instant::now(rt)?,
         })
+    }
+
+    /// Prints all lines that wait.
+    pub fn finish(&mut self) {
+        self.lines.say_waiting(self.rt, u64::MAX);
     }
 
     /// Keeps an accepted connection, and tells its caller.
@@ -126,6 +146,8 @@ impl<'a, R: Net + Clock + Files + Print + Eprint> Ports for Sockets<'a, R> {
             }
         }
         self.asked = 0;
+        let second = self.seconds();
+        self.lines.say_waiting(self.rt, second);
         Ok(())
     }
 
@@ -144,6 +166,7 @@ impl<'a, R: Net + Clock + Files + Print + Eprint> Ports for Sockets<'a, R> {
                 Err(error) if error.kind() == ErrorKind::WouldBlock => {
                     self.asked = self.asked.saturating_add(1);
                 }
+                Err(error) if is_passing(error.kind()) => {}
                 Err(_) => return Err(PortFault),
             }
         }
@@ -201,17 +224,8 @@ impl<'a, R: Net + Clock + Files + Print + Eprint> Ports for Sockets<'a, R> {
     }
 
     fn say(&mut self, line: &Line) {
-        let name = |c: usize| self.names.name(c);
-        let _ = match line {
-            Line::Begin(c) => self.rt.println(format_args!("begin {}", name(*c))),
-            Line::Busy(c) => self.rt.println(format_args!("busy {}", name(*c))),
-            Line::Stranger => self.rt.println(format_args!("stranger")),
-            Line::Close(c) => self.rt.println(format_args!("close {}", name(*c))),
-            Line::Lost(c) => self.rt.println(format_args!("lost {}", name(*c))),
-            Line::Memory(c) => self.rt.println(format_args!("memory {}", name(*c))),
-            Line::Rules(Ok(())) => self.rt.println(format_args!("rules accepted")),
-            Line::Rules(Err(fault)) => self.rt.println(format_args!("rules refused: {fault}")),
-        };
+        let second = self.seconds();
+        self.lines.say(self.rt, second, line);
     }
 
     fn log(&mut self, report: &Report) {

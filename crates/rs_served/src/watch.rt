@@ -1,11 +1,12 @@
-//! What has become of each client between two rounds, told in reports: at most one line for each
-//! client in a second, so that no member can fill a disk.
+//! What has become of each client between two rounds, told in reports: at most one of each client in a
+//! second, so that no member can fill a disk.
 
 ghost use Rattle.std.specs.Prelude.{◌≡◌};
 ghost use Rattle.rs_served.specs.Handled.{Has, AreHandled};
 
 use crate::link::Link;
 use crate::ports::Ports;
+use crate::rations::Ration;
 use crate::reports::Report;
 use rs_core::Core;
 use std::alloc::{AllocError, Global};
@@ -17,10 +18,7 @@ struct Told {
     is_up: bool,
     /// How many of its UPDATEs were at fault.
     faulted: u64,
-    /// In which second there was a report last.
-    second: Option<u64>,
-    /// How many reports were left out since.
-    left_out: u64,
+    reports: Ration<Report>,
 }
 
 /// What was told of each client.
@@ -53,37 +51,37 @@ fn down(core: &Core, client: usize) -> Report {
     Report::Down { client, ending }
 }
 
-impl Told {
-    /// There was no report in this second yet.
-    fn is_free(&self, second: u64) -> bool {
-        self.second != Some(second)
+/// Tells how many reports of a client were left out, where there are some.
+fn tell_left_out<P: Ports>(link: &mut Link<'_, P>, client: usize, count: u64)
+    ensures same_ports { link.new.ports.ghost_name ≡ link.old.ports.ghost_name }
+    ensures failed { link.new.has_failed ≡ link.old.has_failed }
+    ensures handled { Has P.asked link.old.ports.now AreHandled → Has P.asked link.new.ports.now AreHandled }
+{
+    if count > 0 {
+        link.log(&Report::LeftOut { client, count });
     }
+}
 
-    /// Tells a report, unless there was one in this second.
+impl Told {
+    /// Tells a report, now or in a later second.
     fn tell<P: Ports>(&mut self, link: &mut Link<'_, P>, client: usize, report: &Report)
         ensures same_ports { link.new.ports.ghost_name ≡ link.old.ports.ghost_name }
         ensures failed { link.new.has_failed ≡ link.old.has_failed }
         ensures handled { Has P.asked link.old.ports.now AreHandled → Has P.asked link.new.ports.now AreHandled }
     {
-        if self.is_free(link.now()) {
-            self.second = Some(link.now());
-            self.tell_left_out(link, client);
-            link.log(report);
-        } else {
-            self.left_out = self.left_out.saturating_add(1);
-        }
+        self.reports.put(*report);
+        self.tell_waiting(link, client);
     }
 
-    /// Tells how many reports were left out, where there are some.
-    fn tell_left_out<P: Ports>(&mut self, link: &mut Link<'_, P>, client: usize)
+    /// Tells the report that waits for this second, behind the count of those that were left out.
+    fn tell_waiting<P: Ports>(&mut self, link: &mut Link<'_, P>, client: usize)
         ensures same_ports { link.new.ports.ghost_name ≡ link.old.ports.ghost_name }
         ensures failed { link.new.has_failed ≡ link.old.has_failed }
         ensures handled { Has P.asked link.old.ports.now AreHandled → Has P.asked link.new.ports.now AreHandled }
     {
-        let count = self.left_out;
-        self.left_out = 0;
-        if count > 0 {
-            link.log(&Report::LeftOut { client, count });
+        if let Some(due) = self.reports.take(link.now()) {
+            tell_left_out(link, client, due.left_out);
+            link.log(&due.item);
         }
     }
 
@@ -121,7 +119,7 @@ impl Told {
         ensures failed { link.new.has_failed ≡ link.old.has_failed }
         ensures handled { Has P.asked link.old.ports.now AreHandled → Has P.asked link.new.ports.now AreHandled }
     {
-        if client >= core.clients() || !self.is_free(link.now()) {
+        if client >= core.clients() || !self.reports.is_free(link.now()) {
             return;
         }
         let faulted = core.faulted(client);
@@ -148,8 +146,7 @@ impl Watch {
         let nothing = Told {
             is_up: false,
             faulted: 0,
-            second: None,
-            left_out: 0,
+            reports: Ration::new(),
         };
         Ok(Watch {
             all: vec![in alloc; nothing; count]?,
@@ -165,6 +162,7 @@ impl Watch {
     {
         self.tell_strangers(link);
         for (client, told) in self.all.iter_mut().enumerate() {
+            told.tell_waiting(link, client);
             told.tell_end(core, link, client);
             told.tell_begin(core, link, client);
             told.tell_faulted(core, link, client);
