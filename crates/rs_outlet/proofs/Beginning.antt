@@ -1,7 +1,10 @@
 -- What an UPDATE leaves with the client, by the places that it gave up.
-use Rattle.std.proofs.Common.{◌≡◌, ◌<◌, ◌≤◌, ℕ, Bool, true, false, cond, not, ◌&&◌, Option, None, Some, List, [], ◌∷◌, length, take, refl, sym, ap, ◌∙◌, subst, arith, inl, inr}
+use Rattle.std.proofs.Common.{◌≡◌, ◌≢◌, ◌<◌, ◌≤◌, ℕ, Bool, true, false, cond, not, ◌&&◌, Option, None, Some, List, [], ◌∷◌, length, take, refl, sym, ap, ◌∙◌, subst, arith, inl, inr}
 use Rattle.std.specs.Prelude.{◌⊎◌, option_map}
 use Rattle.std.specs.List.{AllByRecursion, list_any}
+use Rattle.std.specs.Cmp.{first_so}
+use mathlib.Core.Bool.{true≢false}
+use Rattle.std.proofs.lemmas.List.Elements.{All-from_all_within, recursion_from_All}
 use Rattle.std.specs.FinMap as fin
 use Rattle.std.specs.FinSet as set
 use Rattle.std.proofs.lemmas.List.{length-take, length-take-le}
@@ -15,10 +18,10 @@ use Rattle.rs_outlet.specs.declared.answers.Speech.{Speech}
 use Rattle.rs_outlet.specs.declared.rows.Row.{Row}
 use Rattle.rs_outlet.specs.declared.waiting.Wait.{Wait}
 use Rattle.rs_outlet.specs.Views.{View, AreNumbered, HaveNumbers}
-use Rattle.rs_outlet.specs.Places.{open_at, told_by, marked_told, is_withdrawal}
+use Rattle.rs_outlet.specs.Places.{open_at, told_by, marked_told, is_withdrawal, is_withdrawn}
 use Rattle.rs_outlet.specs.Inside.{told_over, marked_of, waits_of, loc_of, numbers_from, shown}
-use Rattle.rs_outlet.specs.Choosing.{AreChosen, IsLegalSaid, message_of, MayUpdate}
-use Rattle.rs_outlet.specs.Begins.{Settles, Withdraws, Announces, BeginsUpdate}
+use Rattle.rs_outlet.specs.Choosing.{AreChosen, IsInTurn, IsLegalSaid, NoneWithdrawn, message_of, MayUpdate}
+use Rattle.rs_outlet.specs.Begins.{NoneGone, Settles, Withdraws, Announces, BeginsUpdate}
 use Rattle.rs_adjin.proofs.Rows.{some_is}
 use Rattle.rs_outlet.proofs.LocByNumber.{same, numbered, by_number}
 use Rattle.rs_outlet.proofs.Chosen.{first_chosen}
@@ -66,6 +69,20 @@ waited_announced rows ws m (n ∷ ns) [] are = absurd are
 waited_announced rows ws m (n ∷ ns) (p ∷ ps) are =
     (waits_at ws p ∙ ap (option_map (λ (w : Wait). is_withdrawal w.due)) are.0.waits ∙ ap (λ b. Some b) are.0.is.0, waited_announced rows ws m ns ps are.1)
 
+-- where no place is to be withdrawn, no prefix waits for that
+none_open : (ws : List Wait) → AllByRecursion (λ w. is_withdrawn w ≡ false) ws → (q : Prefix) → option_map (λ (w : Wait). is_withdrawal w.due) (open_at q ws) ≢ Some true
+none_open [] h q e = cc
+none_open (w ∷ ws) h q e =
+    elim (w.open && same q w.prefix) as (λ b. (w.open && same q w.prefix) ≡ b → option_map (λ (w : Wait). is_withdrawal w.due) (cond b (Some w) (open_at q ws)) ≡ Some true → ⊥) [
+      | true ↦ λ t e. true≢false (sym (λ i. first_so w.open (same q w.prefix) t i && some_is (is_withdrawal w.due) true e i) ∙ h.0)
+      | false ↦ λ _ e. none_open ws h.1 q e
+    ] refl e
+
+pub none_gone : (v : View) (ws : List Wait) → v.waits ≡ waits_of ws → NoneWithdrawn ws → NoneGone v
+none_gone v ws waits none q e =
+    none_open ws (recursion_from_All (λ w. is_withdrawn w ≡ false) ws (All-from_all_within (λ w. is_withdrawn w ≡ false) ws none)) q
+    (sym (waits_at ws q) ∙ sym (ap (λ t. fin.get t q) waits) ∙ e)
+
 -- what callers see of rows and places, before and after
 pub record Shows (v : View) (rows : List (Option Row)) (ws : List Wait) : Type 0 where
   pub loc : v.loc ≡ loc_of rows
@@ -97,8 +114,8 @@ module _ (speech : Speech) (v w : View) (rows : List (Option Row)) (ws ws' : Lis
 
   begun : (ns : List ℕ) (ps : List Prefix) (packed : Packed) (said : Option (List Attribute))
       → ((said : Option (List Attribute)) (qs : List Prefix) → AreChosen rows ws said (take packed.prefixes ns) qs → (q : Prefix) → open_at q ws' ≡ cond (list_any (same q) qs) None (open_at q ws))
-      → AreChosen rows ws said ns ps → IsLegalSaid said → length w.flight ≤ limit_octets speech.limit → 0 < packed.prefixes → packed.prefixes ≤ length ps → w.flight ≡ message_of speech said (take packed.prefixes ps) → Withdraws speech v w ⊎ Announces speech v w
-  begun ns ps packed None gave are legal fits some within flight =
+      → AreChosen rows ws said ns ps → IsLegalSaid said → IsInTurn said ws → length w.flight ≤ limit_octets speech.limit → 0 < packed.prefixes → packed.prefixes ≤ length ps → w.flight ≡ message_of speech said (take packed.prefixes ps) → Withdraws speech v w ⊎ Announces speech v w
+  begun ns ps packed None gave are legal in_turn fits some within flight =
       let some_chosen = first_chosen rows ws None packed.prefixes ns ps are in
       inl (record {
         prefixes = take packed.prefixes ps;
@@ -109,9 +126,10 @@ module _ (speech : Speech) (v w : View) (rows : List (Option Row)) (ws ws' : Lis
         flight = flight;
         fits = fits;
       })
-  begun ns ps packed (Some m) gave are legal fits some within flight =
+  begun ns ps packed (Some m) gave are legal in_turn fits some within flight =
       let some_chosen = first_chosen rows ws (Some m) packed.prefixes ns ps are in
       inr (record {
+        gone = none_gone v ws old.waits in_turn;
         prefixes = take packed.prefixes ps;
         attributes = m;
         some = some_taken packed.prefixes ps some within;
@@ -128,12 +146,13 @@ module _ (speech : Speech) (v w : View) (rows : List (Option Row)) (ws ws' : Lis
       → ((said : Option (List Attribute)) (qs : List Prefix) → AreChosen rows ws said (take packed.prefixes ns) qs → (q : Prefix) → open_at q ws' ≡ cond (list_any (same q) qs) None (open_at q ws))
       → BeginsUpdate speech v w
   update_begun ns ps octets packed (inl none) most flight gave = inl (record {
-    settles = settled [] (gave None [] (subst (λ (k : Packed). AreChosen rows ws None (take k.prefixes ns) []) (sym none) tt));
-    flight = flight ∙ ap (λ (k : Packed). take k.octets octets) none;
+    gone = none_gone v ws old.waits none.1;
+    settles = settled [] (gave None [] (subst (λ (k : Packed). AreChosen rows ws None (take k.prefixes ns) []) (sym none.0) tt));
+    flight = flight ∙ ap (λ (k : Packed). take k.octets octets) none.0;
   })
   update_begun ns ps octets packed (inr is) most flight gave =
       let taken : length w.flight ≤ limit_octets speech.limit = omega (arith, ap length flight, length-take packed.octets octets, most) in
-      inr (begun ns ps packed is.said gave is.chosen is.legal taken is.written.some is.written.within (flight ∙ is.written.says))
+      inr (begun ns ps packed is.said gave is.chosen is.legal is.in_turn taken is.written.some is.written.within (flight ∙ is.written.says))
 
 -- the same of what callers saw before
 pub update_seen : (speech spoken : Speech) (v v' w : View) (rows : List (Option Row)) (ws ws' : List Wait) → v ≡ v' → Some speech ≡ Some spoken → Shows v rows ws → Shows w rows ws'

@@ -1,5 +1,5 @@
 -- What the next UPDATE is (RFC 4271, 4.3): which prefixes it is about, and what it leaves with the client.
-use Rattle.std.specs.Prelude.{◌≡◌, ◌⊎◌, ◌<◌, ◌≤◌, ◌&&◌, not, Bool, true, false, Some, None, List, [], length, if◌then◌else◌}
+use Rattle.std.specs.Prelude.{◌≡◌, ◌≢◌, ◌⊎◌, ◌<◌, ◌≤◌, ◌&&◌, not, Bool, true, false, Some, None, List, [], length, if◌then◌else◌}
 use Rattle.std.specs.List.{AllByRecursion, list_any}
 use Rattle.std.specs.Ordering.{eq_by_cmp}
 use Rattle.std.specs.FinMap as fin
@@ -22,8 +22,13 @@ pub record Settles (v w : View) (ps : List Prefix) : Type 0 where
   pub marked : (q : Prefix) → set.contains w.marked q ≡ (not (is_among q ps) && set.contains v.marked q)
   pub waits : (q : Prefix) → fin.get w.waits q ≡ (if is_among q ps then None else fin.get v.waits q)
 
--- nothing is said
+-- no prefix waits to be withdrawn
+abbrev pub NoneGone : View → Type 0
+NoneGone v = (p : Prefix) → fin.get v.waits p ≢ Some true
+
+-- nothing is said, which is so only where no prefix waits to be withdrawn
 pub record Rests (v w : View) : Type 0 where
+  pub gone : NoneGone v
   pub settles : Settles v w []
   pub flight : w.flight ≡ []
 
@@ -38,8 +43,9 @@ pub record Withdraws (speech : Speech) (v w : View) : Type 0 where
   pub fits : length w.flight ≤ limit_octets speech.limit
 
 -- some prefixes that wait to be announced are announced, with the attributes that are due at each of them, in a message that
--- the client takes
+-- the client takes, once no prefix waits to be withdrawn
 pub record Announces (speech : Speech) (v w : View) : Type 0 where
+  pub gone : NoneGone v
   pub prefixes : List Prefix
   pub attributes : List Attribute
   pub some : 0 < length prefixes

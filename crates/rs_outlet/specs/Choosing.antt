@@ -1,5 +1,8 @@
 -- The places that the next UPDATE is about.
-use Rattle.std.specs.Prelude.{◌≡◌, ◌⊎◌, ℕ, ◌≤◌, ◌<◌, true, false, Option, None, Some, List, [], ◌∷◌, length, take, slice_get}
+use Rattle.std.specs.Prelude.{◌≡◌, ◌⊎◌, ℕ, ◌≤◌, ◌<◌, Bool, true, false, Option, None, Some, List, [], ◌∷◌, length, take, slice_get, vec_len, Vec}
+use Rattle.std.specs.List.{AllWithin, HoldsAt}
+use Rattle.std.specs.Global.{Global}
+use Rattle.std.specs.Vec.{vec_capacity}
 use Rattle.std.specs.Arc.{arc_value}
 use Rattle.rs_octets.specs.Prefixes.{Prefix, IsIpv4Prefix}
 use Rattle.rs_attrs.specs.Meaning.{Attribute}
@@ -9,8 +12,21 @@ use Rattle.rs_packer.specs.declared.packed.Packed.{Packed}
 use Rattle.rs_outlet.specs.declared.answers.Speech.{Speech}
 use Rattle.rs_outlet.specs.declared.rows.Row.{Row}
 use Rattle.rs_outlet.specs.declared.waiting.Wait.{Wait}
-use Rattle.rs_outlet.specs.Places.{prefixes_at, open_at, is_withdrawal}
+use Rattle.rs_outlet.specs.Places.{prefixes_at, open_at, is_withdrawal, is_withdrawn}
 use Rattle.rs_outlet.specs.Inside.{row_at}
+
+-- a place that passes the test; none where there is none
+abbrev pub IsFound : (Wait → Bool) → List Wait → Option ℕ → Type 0
+IsFound test ws None = AllWithin (λ w. test w ≡ false) ws 0 (length ws)
+IsFound test ws (Some n) = (n < length ws) × HoldsAt (λ w. test w ≡ true) ws n
+
+-- there is room for a place and for its prefix
+abbrev pub HaveRoom : Vec ℕ Global → Vec Prefix Global → Type 0
+HaveRoom chosen front = (vec_len chosen < vec_capacity chosen) × (vec_len front < vec_capacity front)
+
+-- none of the places is to be withdrawn
+abbrev pub NoneWithdrawn : List Wait → Type 0
+NoneWithdrawn ws = AllWithin (λ w. is_withdrawn w ≡ false) ws 0 (length ws)
 
 -- a row has the prefix with these attributes
 pub record HasRow (rows : List (Option Row)) (p : Prefix) (m : List Attribute) : Type 0 where
@@ -56,13 +72,19 @@ abbrev pub IsLegalSaid : Option (List Attribute) → Type 0
 IsLegalSaid None = Unit {0}
 IsLegalSaid (Some m) = IsLegal m
 
+-- an announcement comes once nothing is left to be withdrawn
+abbrev pub IsInTurn : Option (List Attribute) → List Wait → Type 0
+IsInTurn None ws = Unit {0}
+IsInTurn (Some m) ws = NoneWithdrawn ws
+
 -- an UPDATE about places chosen
 pub record IsUpdate (speech : Speech) (rows : List (Option Row)) (ws : List Wait) (ns : List ℕ) (ps : List Prefix) (octets : List ℕ) (packed : Packed) : Type 0 where
   pub said : Option (List Attribute)
   pub legal : IsLegalSaid said
+  pub in_turn : IsInTurn said ws
   pub chosen : AreChosen rows ws said ns ps
   pub written : IsWritten (message_of speech said) ps octets packed
 
--- nothing was written, or an UPDATE
+-- nothing was written, which is so only where nothing is to be withdrawn, or an UPDATE
 abbrev pub MayUpdate : Speech → List (Option Row) → List Wait → List ℕ → List Prefix → List ℕ → Packed → Type 0
-MayUpdate speech rows ws ns ps octets packed = (packed ≡ record { octets = 0; prefixes = 0 }) ⊎ IsUpdate speech rows ws ns ps octets packed
+MayUpdate speech rows ws ns ps octets packed = ((packed ≡ record { octets = 0; prefixes = 0 }) × NoneWithdrawn ws) ⊎ IsUpdate speech rows ws ns ps octets packed

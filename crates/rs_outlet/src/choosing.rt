@@ -1,15 +1,15 @@
 //! Which places the next UPDATE is about, and that they wait no more once it is begun.
 
-ghost use Rattle.std.specs.Prelude.{◌≡◌, ◌≤◌, ◌<◌, ℕ, List, Option, None, Some, false, IsTrue, vec_len, slice_get, if◌then◌else◌};
-ghost use Rattle.std.specs.List.{list_any};
+ghost use Rattle.std.specs.Prelude.{◌≡◌, ◌≤◌, ◌<◌, ℕ, length, true, List, Option, None, Some, false, IsTrue, vec_len, slice_get, if◌then◌else◌};
+ghost use Rattle.std.specs.List.{AllWithin, HoldsAt, list_any};
 ghost use Rattle.std.specs.Ordering.{eq_by_cmp};
 ghost use Rattle.std.specs.Vec.{vec_capacity};
 ghost use Rattle.rs_octets.specs.Prefixes.{Prefix, prefix_order};
 ghost use Rattle.rs_attrs.specs.Meaning.{Attribute};
 ghost use Rattle.rs_outlet.specs.declared.rows.Row.{Row};
 ghost use Rattle.rs_outlet.specs.declared.waiting.Wait.{Wait};
-ghost use Rattle.rs_outlet.specs.Places.{prefixes_at, open_at, is_withdrawal};
-ghost use Rattle.rs_outlet.specs.Choosing.{HasRow, IsChosen, AreChosen};
+ghost use Rattle.rs_outlet.specs.Places.{prefixes_at, open_at, is_withdrawal, is_withdrawn, is_announced};
+ghost use Rattle.rs_outlet.specs.Choosing.{HasRow, HaveRoom, IsFound, IsChosen, AreChosen};
 
 use crate::rows::Rows;
 use crate::waiting::{Due, END, Wait, Waits, hash_of};
@@ -19,7 +19,8 @@ use rs_octets::Prefix;
 impl Waits {
     /// The first place that is to be withdrawn.
     pub(crate) fn first_withdrawn(&mut self) -> Option<usize>
-        ensures { self.new.places.items ≡ self.old.places.items }
+        ensures places { self.new.places.items ≡ self.old.places.items }
+        ensures first { IsFound is_withdrawn self.old.places.items result }
     {
         self.gone = next_withdrawn(&self.places, self.gone);
         if self.gone < self.places.len() {
@@ -31,7 +32,8 @@ impl Waits {
 
     /// The first place that is to be announced.
     pub(crate) fn first_announced(&mut self) -> Option<usize>
-        ensures { self.new.places.items ≡ self.old.places.items }
+        ensures places { self.new.places.items ≡ self.old.places.items }
+        ensures first { IsFound is_announced self.old.places.items result }
     {
         self.news = next_announced(&self.places, self.news);
         if self.news < self.places.len() {
@@ -51,6 +53,7 @@ impl Waits {
     )
         ensures chosen { vec_capacity chosen.new ≡ vec_capacity chosen.old }
         ensures front { vec_capacity front.new ≡ vec_capacity front.old }
+        ensures some { first < vec_len self.now.places → HoldsAt (λ w. is_withdrawn w ≡ true) self.now.places.items first → vec_len front.old < room → HaveRoom chosen.old front.old → 0 < vec_len front.new }
         ensures are { (rows : List (Option Row)) → AreChosen rows self.now.places.items None chosen.old.items front.old.items → AreChosen rows self.now.places.items None chosen.new.items front.new.items }
     {
         for place in first..self.places.len() {
@@ -66,6 +69,8 @@ impl Waits {
         requires { place < vec_len self.now.places }
         ensures chosen { vec_capacity chosen.new ≡ vec_capacity chosen.old }
         ensures front { vec_capacity front.new ≡ vec_capacity front.old }
+        ensures grows { vec_len front.old ≤ vec_len front.new }
+        ensures listed { HoldsAt (λ w. is_withdrawn w ≡ true) self.now.places.items place → HaveRoom chosen.old front.old → 0 < vec_len front.new }
         ensures are { (rows : List (Option Row)) → AreChosen rows self.now.places.items None chosen.old.items front.old.items → AreChosen rows self.now.places.items None chosen.new.items front.new.items }
     {
         let wait = &self.places[place];
@@ -155,7 +160,10 @@ impl Waits {
 }
 
 /// The first place from here on that is to be withdrawn; where there is none, the end of the places.
-fn next_withdrawn(places: &[Wait], from: usize) -> usize {
+fn next_withdrawn(places: &[Wait], from: usize) -> usize
+    ensures before { AllWithin (λ w. is_withdrawn w ≡ false) places.now from result }
+    ensures there { result < length places.now → HoldsAt (λ w. is_withdrawn w ≡ true) places.now result }
+{
     for place in from..places.len() {
         if places[place].is_withdrawn() {
             return place;
@@ -165,7 +173,10 @@ fn next_withdrawn(places: &[Wait], from: usize) -> usize {
 }
 
 /// The first place from here on that is to be announced; where there is none, the end of the places.
-fn next_announced(places: &[Wait], from: usize) -> usize {
+fn next_announced(places: &[Wait], from: usize) -> usize
+    ensures before { AllWithin (λ w. is_announced w ≡ false) places.now from result }
+    ensures there { result < length places.now → HoldsAt (λ w. is_announced w ≡ true) places.now result }
+{
     for place in from..places.len() {
         if places[place].is_announced() {
             return place;
@@ -178,6 +189,8 @@ fn next_announced(places: &[Wait], from: usize) -> usize {
 fn list_place(place: usize, prefix: Prefix, chosen: &mut Vec<usize>, front: &mut Vec<Prefix>)
     ensures chosen { vec_capacity chosen.new ≡ vec_capacity chosen.old }
     ensures front { vec_capacity front.new ≡ vec_capacity front.old }
+    ensures grows { vec_len front.old ≤ vec_len front.new }
+    ensures listed { HaveRoom chosen.old front.old → 0 < vec_len front.new }
     ensures are { (rows : List (Option Row)) (ws : List Wait) (said : Option (List Attribute)) → AreChosen rows ws said chosen.old.items front.old.items → IsChosen rows ws said place prefix → AreChosen rows ws said chosen.new.items front.new.items }
 {
     if chosen.capacity() <= chosen.len() {

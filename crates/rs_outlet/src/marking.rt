@@ -19,6 +19,8 @@ impl Waits {
     {
         add_rows(&mut self.places, rows);
         self.waiting = count_open(&self.places);
+        self.gone = 0;
+        self.news = 0;
         self.link();
     }
 }

@@ -9,10 +9,12 @@ ghost use Rattle.rs_packer.specs.Packed.{announcement, withdrawal};
 ghost use Rattle.rs_outlet.specs.Next.{note_octets};
 ghost use Rattle.rs_outlet.specs.Begins.{BeginsUpdate};
 ghost use Rattle.rs_outlet.specs.Views.{WaitsAreExact};
-ghost use Rattle.rs_outlet.specs.Choosing.{MayUpdate};
+ghost use Rattle.rs_outlet.specs.Choosing.{HaveRoom, MayUpdate, NoneWithdrawn};
 ghost use Rattle.rs_outlet.specs.declared.answers.Speech.{Speech};
 ghost use Rattle.rs_outlet.specs.declared.rows.Row.{Row};
+ghost use Rattle.std.specs.List.{HoldsAt};
 ghost use Rattle.std.specs.Vec.{vec_capacity};
+ghost use Rattle.rs_outlet.specs.Places.{is_withdrawn};
 ghost use Rattle.rs_open.specs.Notes.{limit_octets};
 
 use crate::answers::Speech;
@@ -121,6 +123,8 @@ fn put_gone(
     out: &mut Vec<u8>,
 ) -> Packed
     requires room { limit_octets limit ≤ vec_len out.old }
+    requires some { (first < vec_len waits.now.places) × HoldsAt (λ w. is_withdrawn w ≡ true) waits.now.places.items first }
+    requires empty { HaveRoom chosen.old front.old }
     requires none { (chosen.old.items ≡ []) × (front.old.items ≡ []) }
     ensures most { result.octets ≤ limit_octets limit }
     ensures room { vec_len out.new ≡ vec_len out.old }
@@ -148,6 +152,7 @@ fn put_news(
     out: &mut Vec<u8>,
 ) -> Packed
     requires room { limit_octets speech.limit ≤ vec_len out.old }
+    requires in_turn { NoneWithdrawn waits.now.places.items }
     requires none { (chosen.old.items ≡ []) × (front.old.items ≡ []) }
     ensures most { result.octets ≤ limit_octets speech.limit }
     ensures room { vec_len out.new ≡ vec_len out.old }
@@ -176,6 +181,7 @@ fn put_update(
     out: &mut Vec<u8>,
 ) -> Packed
     requires room { limit_octets speech.limit ≤ vec_len out.old }
+    requires empty { HaveRoom chosen.old front.old }
     requires none { (chosen.old.items ≡ []) × (front.old.items ≡ []) }
     ensures most { result.octets ≤ limit_octets speech.limit }
     ensures room { vec_len out.new ≡ vec_len out.old }

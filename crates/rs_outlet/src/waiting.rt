@@ -6,7 +6,7 @@
 //! message is read off along the links, and nothing is looked for in the Loc-RIB.
 
 ghost use Rattle.std.specs.Prelude.{◌≡◌, ◌≤◌, ◌<◌, ◌+◌, ℕ, Option, None, Some, [], true, false, length, vec_len, slice_get, slice_set, option_map, if◌then◌else◌, IfSome, OnOk, ◌++◌};
-ghost use Rattle.std.specs.List.{Contains, IsDistinct, list_any};
+ghost use Rattle.std.specs.List.{AllWithin, Contains, IsDistinct, list_any};
 ghost use Rattle.std.specs.Arc.{arc_value};
 ghost use Rattle.std.specs.Ordering.{eq_by_cmp};
 ghost use Rattle.std.specs.List.Sorted.{IsPermutation, IsStrictlySortedBy, IsStrictlySortedBy-prop};
@@ -67,6 +67,8 @@ pub(crate) struct Waits {
     /// How many are open.
     pub(crate) waiting: usize,
     ghost counted: { open_count places.items ≡ waiting },
+    ghost withdrawn: { AllWithin (λ w. is_withdrawn w ≡ false) places.items 0 gone },
+    ghost announced: { AllWithin (λ w. is_announced w ≡ false) places.items 0 news },
     ghost rises: { IsStrictlySortedBy prefix_order (prefixes_at places.items) } by { IsStrictlySortedBy-prop prefix_order (prefixes_at places.items) },
 }
 
@@ -180,6 +182,8 @@ impl Waits {
     {
         add_places(&mut self.places, more);
         self.waiting = count_open(&self.places);
+        self.gone = 0;
+        self.news = 0;
         self.link();
     }
 
@@ -188,8 +192,6 @@ impl Waits {
         ensures { self.new.places.items ≡ self.old.places.items }
     {
         let count = self.places.len();
-        self.news = 0;
-        self.gone = 0;
         self.links.clear();
         self.heads.clear();
         for _ in 0..count {

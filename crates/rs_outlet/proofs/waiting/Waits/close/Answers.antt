@@ -1,9 +1,11 @@
-use Rattle.std.proofs.Common.{◌≡◌, ◌∙◌, Some, refl, sym, subst, ap, rules}
+use Rattle.std.proofs.Common.{◌≡◌, ◌∙◌, false, Some, refl, sym, subst, ap, rules}
 use Rattle.std.specs.Prelude.{slice_get}
+use Rattle.std.proofs.lemmas.List.Elements.{AllWithin-set}
 use Rattle.std.proofs.lemmas.Option.{get_or_from_slice_get}
 use Rattle.std.specs.List.Sorted.{IsStrictlySortedBy}
 use Rattle.rs_octets.specs.Prefixes.{prefix_order}
 use Rattle.rs_outlet.specs.declared.waiting.Wait.{Wait}
+use Rattle.rs_outlet.specs.Places.{is_withdrawn, is_announced}
 use Rattle.rs_outlet.proofs.Places.{count_shut, count_one, count_less, same_prefixes, closed_at}
 use Rattle.rs_outlet.proofs.waiting.Waits.close.Goals as goal
 
@@ -18,6 +20,12 @@ invariant_of-self-clause-rises c =
     subst (IsStrictlySortedBy prefix_order)
     (sym (same_prefixes c.args.self.now.places.items c.args.place _ c.index_mut-wait.result.now (ap (λ (w : Wait). w.prefix) c.index_mut-wait.ensures.value)))
     c.args.self.now.rises
+
+pub invariant_of-self-clause-withdrawn : goal.invariant_of-self-clause-withdrawn
+invariant_of-self-clause-withdrawn c = AllWithin-set (λ w. is_withdrawn w ≡ false) c.args.self.now.places.items 0 c.args.self.now.gone c.args.place _ (search rules) refl c.args.self.now.withdrawn
+
+pub invariant_of-self-clause-announced : goal.invariant_of-self-clause-announced
+invariant_of-self-clause-announced c = AllWithin-set (λ w. is_announced w ≡ false) c.args.self.now.places.items 0 c.args.self.now.news c.args.place _ (search rules) refl c.args.self.now.announced
 
 pub returns : goal.returns
 returns c =

@@ -1,12 +1,16 @@
-use Rattle.std.proofs.Common.{◌≡◌, List, Option, None}
+use Rattle.std.proofs.Common.{◌≡◌, ◌<◌, true, List, Option, None, vec_len}
+use Rattle.std.specs.List.{HoldsAt}
+use Rattle.rs_outlet.specs.Places.{is_withdrawn}
 use Rattle.std.specs.Vec.{vec_capacity}
 use Rattle.rs_outlet.specs.declared.rows.Row.{Row}
-use Rattle.rs_outlet.specs.Choosing.{AreChosen}
+use Rattle.rs_outlet.specs.Choosing.{AreChosen, HaveRoom}
 use Rattle.rs_outlet.proofs.waiting.Waits.collect_withdrawn.Given as goal
 
 abbrev pub invariant-loop-place : goal.invariant-loop-place
 invariant-loop-place l = record {
   chosen : vec_capacity l.chosen ≡ vec_capacity l.fn.chosen;
   front : vec_capacity l.front ≡ vec_capacity l.fn.front;
+  first : l.place ≡ l.first → (vec_len l.front ≡ vec_len l.fn.front) × (vec_len l.chosen ≡ vec_len l.fn.chosen);
+  some : l.first < l.place → HoldsAt (λ w. is_withdrawn w ≡ true) l.self.places.items l.first → vec_len l.fn.front < l.room → HaveRoom l.fn.chosen l.fn.front → 0 < vec_len l.front;
   are : (rows : List (Option Row)) → AreChosen rows l.self.places.items None l.fn.chosen.items l.fn.front.items → AreChosen rows l.self.places.items None l.chosen.items l.front.items;
 }
