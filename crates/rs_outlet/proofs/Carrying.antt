@@ -9,7 +9,7 @@ use Rattle.rs_attrs.specs.Meaning.{Attribute}
 use Rattle.rs_adjin.specs.declared.adj_ins.AdjIns.{AdjIns}
 use Rattle.rs_adjin.specs.AdjIns.{number_of}
 use Rattle.rs_outlet.specs.declared.waiting.Wait.{Wait}
-use Rattle.rs_outlet.specs.declared.turn.Change.{Change}
+use Rattle.rs_outlet.specs.declared.changes.Change.{Change}
 use Rattle.rs_outlet.specs.Inside.{ArePlaced, numbers_of}
 use Rattle.rs_outlet.specs.Places.{AreFresh, open_at, prefixes_at, told_by, marked_by, marked_told}
 use Rattle.rs_outlet.specs.Owed.{IsCarriedOut, IsExactAt, IsOpenAt, IsOwed, Keeps, listed, prefixes_of}

@@ -5,7 +5,7 @@ use Rattle.std.specs.FinMap as fin
 use Rattle.std.specs.Arc.{arc_value}
 use Rattle.rs_adjin.proofs.Rows.{some_is}
 use Rattle.rs_outlet.specs.declared.rows.Row.{Row}
-use Rattle.rs_outlet.specs.declared.turn.Change.{Change}
+use Rattle.rs_outlet.specs.declared.changes.Change.{Change}
 use Rattle.rs_outlet.specs.Views.{Table, HaveNumbers}
 use Rattle.rs_outlet.specs.Inside.{row_at, loc_of, numbers_from, ArePlaced, HaveRows, IsNoNumberOf}
 use Rattle.std.specs.List.{AllByRecursion}

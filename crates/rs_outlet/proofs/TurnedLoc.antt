@@ -10,7 +10,7 @@ use Rattle.rs_attrs.specs.Meaning.{Attribute}
 use Rattle.rs_adjin.specs.declared.adj_ins.AdjIns.{AdjIns}
 use Rattle.rs_adjin.specs.AdjIns.{number_of}
 use Rattle.rs_outlet.specs.declared.rows.Row.{Row}
-use Rattle.rs_outlet.specs.declared.turn.Change.{Change}
+use Rattle.rs_outlet.specs.declared.changes.Change.{Change}
 use Rattle.rs_outlet.specs.Views.{HaveNumbers, IsOneOf, is_touched}
 use Rattle.rs_outlet.specs.Inside.{AreDecided, ArePlaced, attributes_at, is_changed, is_number_touched, is_numbered_in, loc_of, numbers_from, numbers_of, prefixes_in, touched_of}
 use Rattle.rs_outlet.proofs.LocByNumber.{same, same_is, by_number, numbered}

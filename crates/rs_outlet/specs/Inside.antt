@@ -14,7 +14,7 @@ use Rattle.rs_open.specs.declared.short.Limit.TheVariants as limits
 use Rattle.rs_outlet.specs.declared.answers.Speech.{Speech}
 use Rattle.rs_outlet.specs.declared.rows.Row.{Row}
 use Rattle.rs_outlet.specs.declared.waiting.Wait.{Wait}
-use Rattle.rs_outlet.specs.declared.turn.Change.{Change}
+use Rattle.rs_outlet.specs.declared.changes.Change.{Change}
 use Rattle.rs_adjin.specs.declared.adj_ins.AdjIns.{AdjIns}
 use Rattle.rs_adjin.specs.AdjIns.{number_of}
 use Rattle.rs_outlet.specs.declared.outlet.Outlet.TheInside.{Inside}

@@ -3,6 +3,7 @@
 #![tactic(auto)]
 
 mod answers;
+mod changes;
 mod choosing;
 mod deciding;
 mod fill;

@@ -11,7 +11,7 @@ use Rattle.rs_outlet.proofs.Carrying.{fresh_step, keeps_both, keeps_same, keeps_
 use Rattle.rs_outlet.proofs.LocByNumber.{same, same_is, by_number, numbered}
 use Rattle.rs_outlet.proofs.Numbering.{no_elements}
 use Rattle.rs_outlet.proofs.TurnedLoc.{change_done}
-use Rattle.rs_outlet.proofs.turn.commit.Goals as goal
+use Rattle.rs_outlet.proofs.changes.commit.Goals as goal
 
 pub loop-change-init : goal.loop-change-init
 loop-change-init c =

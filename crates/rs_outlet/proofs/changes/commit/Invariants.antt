@@ -11,7 +11,7 @@ use Rattle.rs_outlet.specs.Places.{AreFresh, open_at, open_count, prefixes_at}
 use Rattle.rs_outlet.specs.Owed.{Keeps, prefixes_of}
 use Rattle.rs_outlet.specs.Inside.{ArePlaced, AreDue, HaveRows, is_changed, numbers_from, loc_of}
 use Rattle.rs_outlet.proofs.LocByNumber.{same}
-use Rattle.rs_outlet.proofs.turn.commit.Given as goal
+use Rattle.rs_outlet.proofs.changes.commit.Given as goal
 
 abbrev pub invariant-loop-change : goal.invariant-loop-change
 invariant-loop-change l = record {

@@ -9,7 +9,7 @@ use Rattle.rs_outlet.proofs.OneOf.{cond_twice}
 use Rattle.rs_adjin.specs.AdjIns.{number_of}
 use Rattle.rs_adjin.proofs.Rows.{some_is}
 use Rattle.rs_outlet.specs.declared.rows.Row.{Row}
-use Rattle.rs_outlet.proofs.turn.carry_out.Goals as goal
+use Rattle.rs_outlet.proofs.changes.carry_out.Goals as goal
 
 pub returns-in-None-clause-loc : goal.returns-in-None-clause-loc
 returns-in-None-clause-loc c = λ ins is h q.
