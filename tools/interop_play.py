@@ -7,10 +7,11 @@ import threading
 import time
 
 from routers import Place, Route
-from speaker import IPV4_UNICAST, Speaker, attribute, attributes, prefixes, update
+from speaker import IPV4_UNICAST, ROUTE_REFRESH, Speaker, attribute, attributes, message, prefixes, update
 
 PLACE = Place("127.0.0.2", 17990, 64500)
 PLAIN = 9
+REFRESH = b"\2\0"
 # How long each thing may take, in seconds.
 PATIENCE = 60
 
@@ -22,7 +23,7 @@ CHECKS = (
     ("withdrawal arrives", "the plain member withdraws a route, and it is gone from the daemon's table"),
     ("withdraws", "it withdraws a route by its own command, and the plain member is told"),
     ("faulty route stays out", "the plain member announces a route with a faulty ORIGIN, new or in place of one: neither is in the daemon's table, and its session lasts"),
-    ("asks again", "by its own command for ROUTE-REFRESH all routes come again, as its own count of what it heard tells, and its table is as before"),
+    ("asks again", "by its own command for ROUTE-REFRESH all routes come again, as its own count of what it heard tells, its table is as before, and the plain member hears nothing"),
     ("the server's stop", "the server is ended by SIGTERM: the session is down, and no route of it is left in the table"),
 )
 
@@ -30,12 +31,12 @@ CHECKS = (
 class Plain(Speaker):
     """A member that keeps what it is told, as a daemon would."""
 
-    name = "plain"
+    name, shows_zero = "plain", False
 
     def __init__(self):
-        self.number, self.table, self.noted, self.stays = 65536, {}, None, True
+        self.number, self.table, self.count, self.noted, self.stays = 65536, {}, 0, None, True
         self.prefixes = [f"10.{4 * PLAIN + it // 256}.{it % 256}.0/24" for it in range(1000)]
-        super().__init__(self.number, f"10.255.0.{PLAIN}", PLACE[:2], f"127.0.1.{PLAIN}", IPV4_UNICAST)
+        super().__init__(self.number, f"10.255.0.{PLAIN}", PLACE[:2], f"127.0.1.{PLAIN}", IPV4_UNICAST + REFRESH)
 
     def sent(self):
         kinds = [
@@ -62,6 +63,7 @@ class Plain(Speaker):
             self.table.pop(text(prefix), None)
         for prefix in prefixes(nlri):
             self.table[text(prefix)] = meaning(field)
+            self.count += 1
 
     def speak(self, over):
         """Speaks until it is over, beside the play."""
@@ -185,8 +187,8 @@ class Play:
             due = self.others(member)
             self.wait(lambda: set(self.table(member)) == set(due))
             table = self.table(member)
-            missing, strange = len(due.keys() - table.keys()), len(table.keys() - due.keys())
-            self.note("hears all others", member, set(table) == set(due), f"{missing} missing, {strange} too many")
+            missing, strange = sorted(due.keys() - table.keys()), sorted(table.keys() - due.keys())
+            self.note("hears all others", member, set(table) == set(due), f"missing {few(missing)}, too many {few(strange)}")
             other = [(prefix, it, table[prefix]) for prefix, it in due.items() if prefix in table and not alike(member, it, table[prefix])]
             told = f"{len(other)} otherwise, as {other[0][0]}: {plainly(other[0][2])} for {plainly(other[0][1])}" if other else "none was heard"
             self.note("as they were sent", member, not other and bool(table), told)
@@ -220,7 +222,7 @@ class Play:
 
     def ask_again(self):
         for it in self.members:
-            before, table = it.heard(), self.table(it)
+            before, table, quiet = it.heard(), self.table(it), self.plain.count
             it.refresh()
             least = len(set(table.values()))
             again = self.wait(lambda: it.heard() >= before + least, 20 if it.refreshes else 3)
@@ -228,23 +230,38 @@ class Play:
                 self.seen["asks again", it.name] = "has no command that sends it"
                 continue
             same = self.wait(lambda: self.table(it) == table, 20)
-            good = again and same and self.first(it)
-            self.note("asks again", it, good and f"{it.heard() - before} {it.counts}", f"{it.heard() - before} {it.counts}")
+            good = again and same and self.first(it) and self.plain.count == quiet
+            words = f"{it.heard() - before} {it.counts}"
+            self.note("asks again", it, good and words, f"{words}; the plain member was told {self.plain.count - quiet}")
+
+        # The plain member is told each route once.
+        before = self.plain.count
+        self.plain.out += message(ROUTE_REFRESH, b"\0\1\0\1")
+        self.wait(lambda: self.plain.count >= before + len(self.plain.table), 20)
+        time.sleep(1)
+        told, due = self.plain.count - before, len(self.plain.table)
+        self.note("asks again", self.plain, told == due and f"{told} routes", f"{told} routes, and {due} are due")
 
     def stop(self):
         self.server.terminate()
         self.server.wait(20)
         for it in self.members:
-            good = self.wait(lambda: not it.is_up() and not self.table(it))
-            self.note("the server's stop", it, good and f"says {it.state()}", f"{it.state()}, {len(self.table(it))} routes")
+            good = self.wait(lambda: not it.is_up() and (it.keeps_told or not self.table(it)))
+            words = f"says {it.state()}" + (", keeps what it was told by its nature" if it.keeps_told else "")
+            self.note("the server's stop", it, good and words, f"{it.state()}, {len(self.table(it))} routes")
         self.note("the server's stop", self.plain, self.wait(lambda: not self.plain.stays) and self.plain.noted is None and "the connection is closed", self.plain.noted or "the connection is there")
 
 
 def alike(member, sent, shown):
     """Whether a route is shown as it was sent. Where a daemon shows 0 for no MED, 0 is none."""
-    if getattr(member, "shows_zero", False):
+    if member.shows_zero:
         sent, shown = (it._replace(med=it.med or 0) for it in (sent, shown))
     return sent == shown
+
+
+def few(prefixes):
+    """How many prefixes, and the first of them."""
+    return f"{len(prefixes)}" + (f" ({', '.join(prefixes[:3])})" if prefixes else "")
 
 
 def plainly(it):

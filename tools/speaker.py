@@ -8,7 +8,7 @@ import struct
 import time
 
 MARKER = b"\xff" * 16
-OPEN, UPDATE, NOTIFICATION, KEEPALIVE = 1, 2, 3, 4
+OPEN, UPDATE, NOTIFICATION, KEEPALIVE, ROUTE_REFRESH = 1, 2, 3, 4, 5
 IPV4_UNICAST = b"\x01\x04\x00\x01\x00\x01"
 
 

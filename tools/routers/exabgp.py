@@ -11,6 +11,7 @@ LINE = re.compile(r"ipv4 unicast ([\d.]+/\d+) next-hop ([\d.]+)(.*)")
 
 class ExaBgp(Router):
     name, package, has_short = "exabgp", "exabgp", True
+    keeps_told = True
 
     @staticmethod
     def missing():

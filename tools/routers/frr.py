@@ -38,7 +38,9 @@ class Frr(Router):
         networks = "\n".join(f"  network {it} route-map kind{at % 4}" for at, it in enumerate(self.prefixes))
         return {"bgpd.conf": f"""frr defaults traditional
 {chr(10).join(maps)}
+ip prefix-list own permit {self.prefixes[0].partition("/")[0]}/14 le 24
 route-map to_server permit 10
+ match ip address prefix-list own
  set ip next-hop {self.next_hop}
 exit
 router bgp {self.number}

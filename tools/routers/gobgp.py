@@ -63,10 +63,10 @@ multihop-ttl = 2
         return "gobgpd", "-f", room / "gobgpd.conf", "-t", "toml", "--api-hosts", f"{self.address}:{self.place.port + 1}", "--pprof-disable"
 
     def after_start(self):
-        # Its command may end before all that is in the file was taken: what is not there yet is given again.
+        # Its command may end before the end of the file was taken: what is not there yet is given again, first.
         table, missing = self.room / "routes.mrt", self.sent()
         for _ in range(50):
-            table.write_bytes(dump(missing))
+            table.write_bytes(dump({**missing, **self.sent()}))
             self.ask("mrt", "inject", "global", str(table))
             there = loaded(self.ask("-j", "global", "rib")) or {}
             if not (missing := {prefix: it for prefix, it in self.sent().items() if prefix not in there}):

@@ -40,6 +40,8 @@ class Router:
     settings, has_short, refreshes = "nothing", False, True
     # What its own count of what it heard counts; whether it shows 0 where a route has no MED.
     counts, shows_zero = "UPDATEs", False
+    # Whether its table keeps what it was told when the session is down.
+    keeps_told = False
 
     def __init__(self, place, number, at, room, short):
         self.place, self.number, self.at = place, number, at
