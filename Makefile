@@ -2,7 +2,7 @@
 # It stands on `rt`, the command of the Rattle toolchain, and on Python 3.
 
 .DEFAULT_GOAL := help
-.PHONY: help demo build serve test attack examples clean
+.PHONY: help demo build serve test interop attack examples clean
 
 PROGRAMS := rs_replay rs_served
 
@@ -27,6 +27,10 @@ serve: ## run the live server for the two members of examples/small.toml, on loo
 test: ## the gate: every proof from nothing, must-fail edits, tests, recorded sessions
 	@python3 tools/gate.py
 
+interop: ## try BIRD, OpenBGPD, FRR, GoBGP and ExaBGP as members, and write docs/INTEROP.md (MEMBER=bird: that one alone, no page)
+	@[ -x out/rs_served ] || { echo "out/rs_served isn't there: make build makes it"; exit 1; }
+	@python3 tools/interop.py out/rs_served $(if $(MEMBER),--member $(MEMBER),--page docs/INTEROP.md)
+
 attack: ## try the wrong programs of attacks/, beyond those of the gate (CRATE=rs_octets: those of one crate)
 	@python3 tools/attack.py $(CRATE)
 
@@ -34,4 +38,4 @@ examples: ## compare the example configurations with those that are tested
 	@python3 tools/check_examples.py
 
 clean: ## remove all that was built
-	rm -rf out crates/*/out tools/__pycache__
+	rm -rf out crates/*/out tools/__pycache__ tools/routers/__pycache__

@@ -24,91 +24,46 @@ import tempfile
 import time
 
 from results import end, tell
+from speaker import Speaker, attributes, prefixes, update
 
 SECONDS = 120
 # What the server may take in the play with a silent member, in KiB.
 MOST_MEMORY = 262_144
 SERVER_AS = 64500
-MARKER = b"\xff" * 16
-OPEN, UPDATE, NOTIFICATION, KEEPALIVE = 1, 2, 3, 4
 
 
-def message(kind, body=b""):
-    """A BGP message."""
-    return MARKER + struct.pack(">HB", 19 + len(body), kind) + body
-
-
-def attributes(number, address, group):
-    """ORIGIN, AS_PATH of one sequence, NEXT_HOP and MULTI_EXIT_DISC, as a member in this AS sends them."""
-    path = struct.pack(">BBI", 2, 1, number)
-    return (
-        b"\x40\x01\x01\x00"
-        + b"\x40\x02" + bytes([len(path)]) + path
-        + b"\x40\x03\x04" + socket.inet_aton(address)
-        + b"\x80\x04\x04" + struct.pack(">I", group)
-    )
-
-
-class Member:
+class Member(Speaker):
     """A member of the exchange: what it announces, and what it has heard."""
 
     def __init__(self, name, number, address, server, routes, source="127.0.0.1"):
+        super().__init__(number, address, server, source)
         self.name, self.number, self.address, self.routes = name, number, address, routes
-        self.heard, self.told, self.wrong, self.is_up = bytearray(), {}, [], False
-        self.beat = time.monotonic()
-        self.socket = socket.create_connection(server, timeout=5, source_address=(source, 0))
-        self.socket.setblocking(False)
-        capability = b"\x41\x04" + struct.pack(">I", number)
-        body = struct.pack(">BHHI", 4, number, 90, int.from_bytes(socket.inet_aton(address), "big"))
-        parameters = b"\x02" + bytes([len(capability)]) + capability
-        self.out = bytearray(message(OPEN, body + bytes([len(parameters)]) + parameters) + message(KEEPALIVE))
+        self.told, self.wrong = {}, []
 
-    def announce(self):
+    def attributes(self, group):
+        """Those of the group's routes."""
+        return attributes([self.number], self.address, group)
+
+    def came_up(self):
         """Announces all routes, ten for each set of attributes."""
         for group in range(0, len(self.routes), 10):
             nlri = b"".join(b"\x18" + it for it in self.routes[group : group + 10])
-            field = attributes(self.number, self.address, group // 10)
-            self.out += message(UPDATE, b"\0\0" + struct.pack(">H", len(field)) + field + nlri)
+            self.out += update(field=self.attributes(group // 10), nlri=nlri)
 
-    def write(self):
-        if time.monotonic() > self.beat + 20:
-            self.out += message(KEEPALIVE)
-            self.beat = time.monotonic()
-        with contextlib.suppress(BlockingIOError):
-            while self.out:
-                del self.out[: self.socket.send(self.out[:65536])]
+    def refused(self, body):
+        self.wrong.append(f"was sent the NOTIFICATION {body.hex()}")
 
-    def read(self):
-        with contextlib.suppress(BlockingIOError):
-            while piece := self.socket.recv(65536):
-                self.heard += piece
-        at = 0
-        while len(self.heard) - at >= 19 and len(self.heard) - at >= (size := struct.unpack_from(">H", self.heard, at + 16)[0]):
-            self.hear(self.heard[at + 18], self.heard[at + 19 : at + size])
-            at += size
-        del self.heard[:at]
-
-    def hear(self, kind, body):
-        if kind == NOTIFICATION:
-            self.wrong.append(f"was sent the NOTIFICATION {body.hex()}")
-        elif kind == KEEPALIVE and not self.is_up:
-            self.is_up = True
-            self.announce()
-        elif kind == UPDATE:
-            withdrawn = struct.unpack(">H", body[:2])[0]
-            size = struct.unpack(">H", body[2 + withdrawn : 4 + withdrawn])[0]
-            field, nlri = bytes(body[4 + withdrawn : 4 + withdrawn + size]), body[4 + withdrawn + size :]
-            if withdrawn:
-                self.wrong.append("was told of a withdrawal")
-            for at in range(0, len(nlri), 4):
-                prefix = bytes(nlri[at + 1 : at + 4])
-                if prefix in self.told:
-                    self.wrong.append(f"was told twice of {prefix.hex()}")
-                self.told[prefix] = field
+    def told_of(self, withdrawn, field, nlri):
+        if withdrawn:
+            self.wrong.append("was told of a withdrawal")
+        for prefix in prefixes(nlri):
+            if prefix[1:] in self.told:
+                self.wrong.append(f"was told twice of {prefix.hex()}")
+            self.told[prefix[1:]] = field
 
     def sent(self):
         """What others must be told of it."""
-        return {it: attributes(self.number, self.address, at // 10) for at, it in enumerate(self.routes)}
+        return {it: self.attributes(at // 10) for at, it in enumerate(self.routes)}
 
 
 def routes(first, count):

@@ -1,0 +1,99 @@
+#!/usr/bin/env python3
+"""Plays BIRD, OpenBGPD, FRR, GoBGP and ExaBGP as members of a built rs_served, and says what each saw.
+
+interop.py PROGRAM [--member NAME] [--page FILE]
+
+All that are installed are members at once, beside a plain member of our own, on loopback addresses. The play runs twice:
+with four-octet AS numbers in all sessions, then with two-octet sessions where a daemon can be told so. What is not
+installed is skipped with a word, and a skip is not counted as passed. FILE is made anew with the tables of what was seen.
+"""
+import argparse
+import collections
+import contextlib
+import datetime
+import os
+import pathlib
+import platform
+import signal
+import subprocess
+import sys
+import tempfile
+import time
+
+from interop_play import CHECKS, Play
+from results import end
+from routers import ALL
+
+# All of it, in seconds.
+MOST = 570
+
+
+def write_page(page, members, plays, missing):
+    """The tables of what was seen."""
+    today = datetime.date.today()
+    text = ["# Members that were tried", ""]
+    text += [
+        "What common BGP daemons see as members of this server: all at once beside a plain member of our own, each with",
+        "1,000 routes of four kinds (as they are; with communities; prepended, with a MED; with others' AS numbers in the",
+        "path, a MED and a community), on loopback, `multiprotocol = true` and `refresh = true` in the server's",
+        "configuration. This page is made by `make interop`.",
+        "",
+        f"{today.day} {today:%B %Y}, {platform.system()} {platform.release()}, {os.cpu_count()} processors.",
+        "",
+        "| Member | Version | What it is told beyond its neighbour, its routes and that it may take and send all |",
+        "|---|---|---|",
+    ]
+    text += [f"| {it.name} | {it.version()} | {it.settings} |" for it in members]
+    text += [f"| {name} | skipped: {why} | |" for name, why in missing]
+    for title, seen in plays:
+        names = [it.name for it in members] + ["plain"]
+        text += ["", f"## {title}", "", "| | " + " | ".join(names) + " |", "|---" * (len(names) + 1) + "|"]
+        for check, _ in CHECKS:
+            text.append(f"| {check} | " + " | ".join(seen.get((check, name), "") for name in names) + " |")
+    text += ["", "## What a line says", ""] + [f"- **{check}**: {words}" for check, words in CHECKS]
+    page.write_text("\n".join(text) + "\n")
+
+
+def played(title, program, members, short, until):
+    """One play: its title, and what was seen, by check and member."""
+    print(title, flush=True)
+    with tempfile.TemporaryDirectory(prefix="interop-") as room, contextlib.ExitStack() as stack:
+        os.chmod(room, 0o755)
+        play = Play(program, members, room, short, until)
+        stack.callback(play.end)
+        play.run()
+        return title, play.seen
+
+
+def main():
+    parser = argparse.ArgumentParser(description=__doc__, formatter_class=argparse.RawDescriptionHelpFormatter)
+    parser.add_argument("program", nargs="+")
+    parser.add_argument("--member", choices=[it.name for it in ALL])
+    parser.add_argument("--page", type=pathlib.Path)
+    options = parser.parse_args()
+    # Whatever ends this script, the processes that it started are ended too.
+    signal.signal(signal.SIGTERM, lambda *_: sys.exit("ended by a signal"))
+    wanted = [it for it in ALL if options.member in (None, it.name)]
+    missing = [(it.name, it.missing()) for it in wanted if it.missing()]
+    members = [it for it in wanted if not it.missing()]
+    for name, why in missing:
+        print(f"{name}: skipped: {why}")
+    if not members:
+        sys.exit("no member is installed: nothing was tried")
+    until = time.monotonic() + MOST
+    plays = [played("Sessions with four-octet AS numbers", options.program, members, False, until)]
+    able = [it for it in members if it.has_short]
+    if able:
+        names = ", ".join(it.name for it in able)
+        plays.append(played(f"Two-octet sessions of {names}", options.program, members, True, until))
+    held, differ = 0, 0
+    for _, seen in plays:
+        held += sum(words.startswith("yes") for words in seen.values())
+        differ += sum(words.startswith("no: ") for words in seen.values())
+    if options.page:
+        write_page(options.page, members, plays, missing)
+    end(held, differ)
+
+
+if __name__ == "__main__":
+    main()
