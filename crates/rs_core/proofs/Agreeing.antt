@@ -1,5 +1,5 @@
 -- Agreement that is joined from what was done for one client, and from what was left alone.
-use Rattle.std.proofs.Common.{◌≡◌, ◌≢◌, ◌<◌, ◌≤◌, ◌+◌, ◌==◌, inl, inr, ℕ, List, ◌∷◌, refl, sym, ◌∙◌, subst, arith}
+use Rattle.std.proofs.Common.{◌≡◌, ◌≢◌, ◌<◌, ◌≤◌, ◌+◌, ◌==◌, inl, inr, ℕ, Bool, true, false, List, ◌∷◌, refl, sym, ◌∙◌, subst, arith}
 use Rattle.std.specs.Prelude.{None, if◌then◌else◌}
 use Rattle.rs_octets.specs.Prefixes.{Prefix}
 use Rattle.rs_adjin.specs.AdjIns.{held_of, identifier_of, Begins}
@@ -28,6 +28,17 @@ others_held old new c i h d p ne = h.held d p ∙ flip c d ne None (held_of old 
 
 pub others_identifiers : (old new : AdjIns) (c i : ℕ) → Begins old new c i → (d : ℕ) → d ≢ c → identifier_of new d ≡ identifier_of old d
 others_identifiers old new c i h d ne = h.identifiers d ∙ flip c d ne i (identifier_of old d)
+
+-- begun, and begun again
+pub begun_again : (old mid new : AdjIns) (c i : ℕ) → Begins old mid c 0 → Begins mid new c i → Begins old new c i
+begun_again old mid new c i h k = record {
+  count = k.count ∙ h.count;
+  identifiers = λ d. k.identifiers d ∙ twice d (d == c) i (identifier_of mid d) 0 (identifier_of old d) (h.identifiers d);
+  held = λ d p. k.held d p ∙ twice d (d == c) None (held_of mid d p) None (held_of old d p) (h.held d p);
+} where
+  twice : {A : Type 0} (d : ℕ) (b : Bool) (x y w z : A) → y ≡ (if b then w else z) → (if b then x else y) ≡ (if b then x else z)
+  twice d true x y w z e = refl
+  twice d false x y w z e = e
 
 -- ---- the others
 
