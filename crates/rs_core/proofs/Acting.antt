@@ -17,8 +17,9 @@ use Rattle.rs_session.specs.Hearing.{HasHeard, Tells, RespondsTo, Stays, Opens}
 use Rattle.rs_adjin.specs.AdjIns.{held_of, identifier_of, Begins}
 use Rattle.rs_adjin.specs.declared.adj_ins.AdjIns.{AdjIns}
 use Rattle.rs_policy.specs.Configuration.{Configuration}
-use Rattle.rs_core.specs.Hearing.{Hearing, session_in, state_in, is_up, identifier_in, table_in, begins, sees}
-use Rattle.rs_core.specs.Steps.{IsSpared, ActsOn}
+use Rattle.rs_session.specs.declared.heard.Heard.{Heard}
+use Rattle.rs_core.specs.Hearing.{Hearing, takes_in, without_change, session_in, state_in, is_up, identifier_in, table_in, begins, sees}
+use Rattle.rs_core.specs.Steps.{Follows, IsSpared, ActsOn}
 use Rattle.rs_core.specs.Agreeing.{Knows, AgreesAt, Spares}
 use Rattle.rs_core.specs.declared.route_server.Core.{Core}
 use Rattle.rs_core.proofs.Lists.{get_set_same, set_at}
@@ -206,3 +207,11 @@ came old new act x t s c h read lt sessions emptied tables responds at =
       };
       waits = λ b e. record { rest = λ live. emptied b e; good = λ live. refl };
     }
+
+-- a message that changes nothing
+pub alone_follows : (s : Configuration) (c : ℕ) (message : Heard) (h : Hearing) → Follows s c message h (takes_in s c (without_change message) h)
+alone_follows s c message h = record {
+  items = refl;
+  fresh = λ down. ap (λ b. if b then h.changes else []) down;
+  same = λ up now. ap (λ b. if b then h.changes else []) up;
+}

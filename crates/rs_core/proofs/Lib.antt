@@ -3,6 +3,12 @@ pub mod Lists
 pub mod Agreeing
 pub mod Acting
 pub mod Ruling
+pub mod Listening
+pub mod Cutting
+pub mod Filling
+pub mod Updating
+pub mod Saying
+pub mod Limits
 mod Rows
 pub mod Leading
 pub mod Clients

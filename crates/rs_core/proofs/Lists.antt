@@ -1,6 +1,6 @@
 -- A value that was written, and tests of a client's number.
 use Rattle.std.proofs.Common.{◌≡◌, ◌≢◌, ◌<◌, ◌⊎◌, inl, inr, ℕ, zero, suc, [], ◌∷◌, ◌++◌, Bool, true, false, ◌==◌, List, length, refl, sym, ◌∙◌, ap, subst, arith}
-use Rattle.std.specs.Prelude.{Option, Some, slice_get, slice_set, if◌then◌else◌}
+use Rattle.std.specs.Prelude.{Option, Some, Result, Ok, Err, OnOk, OnErr, slice_get, slice_set, if◌then◌else◌}
 use Rattle.std.proofs.lemmas.Bool.Decides.{nat_tests}
 use Rattle.rs_core.specs.Steps.{SetsAt}
 
@@ -51,3 +51,11 @@ got_push P [] v each own zero x e = subst (P 0) (some_is v x e) own
 got_push P [] v each own (suc i) x e = absurd (cc)
 got_push P (y ∷ ys) v each own zero x e = each zero x e
 got_push P (y ∷ ys) v each own (suc i) x e = got_push (λ n. P (suc n)) ys v (λ j z f. each (suc j) z f) own i x e
+
+pub on_err : {A E P : Type 0} (r : Result A E) → P → OnErr r P
+on_err (Ok x) p = tt
+on_err (Err e) p = p
+
+pub map_ok : {A E P Q : Type 0} (r : Result A E) → OnOk r P → (P → Q) → OnOk r Q
+map_ok (Ok x) p f = f p
+map_ok (Err e) p f = tt

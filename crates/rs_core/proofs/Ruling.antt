@@ -33,7 +33,7 @@ waits_by s t c buffer h session allowed w = record {
   good = λ live. ap (λ a. header_fault_of a (rest_of a h.octets)) (sym allowed) ∙ w.good (ap (λ k. is_live (state_of k h.items)) session ∙ live);
 }
 
-knows_by : (old new : Core) (s t : Configuration) (c : ℕ) (h : Hearing) → session_in s c ≡ session_in t c
+pub knows_by : (old new : Core) (s t : Configuration) (c : ℕ) (h : Hearing) → session_in s c ≡ session_in t c
     → new.sessions ≡ old.sessions → new.ribs.tables ≡ old.ribs.tables → Knows old s c h → Knows new t c h
 knows_by old new s t c h session sessions tables w = record {
   session = λ x e. subst (λ k. HasHeard x k h.items) session (w.session x (ap (λ v. slice_get v.items c) (sym sessions) ∙ e));

@@ -1,5 +1,17 @@
 -- What the parts of a call do for one client.
-use Rattle.std.specs.Prelude.{◌≡◌, ◌≢◌, ℕ, true, false, List, [], ◌∷◌, Some, slice_get}
+use Rattle.std.specs.Prelude.{◌≡◌, ◌≢◌, ◌≤◌, ◌⊎◌, ℕ, true, false, List, [], ◌∷◌, ◌++◌, length, Option, Some, None, IsSome, slice_get, if◌then◌else◌}
+use Rattle.std.specs.Global.{Vec}
+use Rattle.rs_octets.specs.declared.heads.Allowed.{Allowed}
+use Rattle.rs_octets.specs.declared.heads.Kind.{Kind}
+use Rattle.rs_octets.specs.Fronts.{Wants}
+use Rattle.rs_octets.specs.Messages.{rest_of}
+use Rattle.rs_attrs.specs.Meaning.{Attribute}
+use Rattle.rs_attrs.specs.Effects.{Change, has_prefix}
+use Rattle.rs_update.specs.Laws.{IsSameChange}
+use Rattle.rs_session.specs.declared.heard.Heard.TheVariants as heard
+use Rattle.rs_session.specs.Sessions.{is_live}
+use Rattle.rs_core.specs.Agreeing.{Knows, IsCutShort, Waits}
+use Rattle.rs_core.specs.declared.route_server.Core.{Core}
 use Rattle.rs_session.specs.declared.heard.Heard.{Heard}
 use Rattle.rs_session.specs.declared.act.Act.{Act}
 use Rattle.rs_session.specs.declared.act.Act.TheVariants as acts
@@ -13,7 +25,7 @@ use Rattle.rs_adjin.specs.AdjIns.{held_of, identifier_of, Begins}
 use Rattle.rs_octets.specs.Prefixes.{Prefix}
 use Rattle.rs_adjin.specs.declared.adj_ins.AdjIns.{AdjIns}
 use Rattle.rs_policy.specs.Configuration.{Configuration}
-use Rattle.rs_core.specs.Hearing.{Hearing, session_in, state_in, is_up}
+use Rattle.rs_core.specs.Hearing.{Hearing, allowed_in, session_in, state_in, is_up, body_said, takes_in, hears}
 
 -- the value of client c is v, and those of the others are what they were
 pub record SetsAt {X : Type 0} (c : ℕ) (v : X) (old new : List X) : Type 0 where
@@ -45,3 +57,66 @@ ActsOn acts.Again c sessions old new = new ≡ old
 -- the sessions of clients that are configured so, of which nothing has come
 abbrev pub HaveHeardNothing : Configuration → List Session → Type 0
 HaveHeardNothing s sessions = (c : ℕ) (x : Session) → slice_get sessions c ≡ Some x → HasHeard x (session_in s c) []
+
+-- ---- messages
+
+-- a session that lasts hears a message of this type with this body
+abbrev pub Hears : Kind → List ℕ → ℕ → Core → Core → Type 0
+Hears kind body c old new =
+    (s : Configuration) (h : Hearing) → old.ribs.config ≡ s → is_live (state_in s c h) ≡ true → Knows old s c h
+    → Knows new s c (takes_in s c (body_said s c h kind body) h)
+
+-- memory was refused in the midst
+abbrev pub CutsShort : ℕ → Core → Core → Type 0
+CutsShort c old new = (s : Configuration) (h : Hearing) → Knows old s c h → IsCutShort new s c h
+
+-- the change withdraws and announces these, and announces with attributes
+pub record IsAnnouncing (withdrawn announced : List Prefix) (change : Change) : Type 0 where
+  pub withdrawn_are : (p : Prefix) → has_prefix p change.withdrawn ≡ has_prefix p withdrawn
+  pub announced_are : (p : Prefix) → has_prefix p change.announced ≡ has_prefix p announced
+  pub with_attributes : (p : Prefix) → has_prefix p announced ≡ true → IsSome change.attributes
+
+-- each of these prefixes has w at client c, and each other one what it had
+pub record HasOverlaid (c : ℕ) (prefixes : List Prefix) (w : Option (List Attribute)) (old new : AdjIns) : Type 0 where
+  pub held : (p : Prefix) → held_of new c p ≡ (if has_prefix p prefixes then w else held_of old c p)
+  pub identifier : identifier_of new c ≡ identifier_of old c
+
+-- an Established session takes an UPDATE that is the same change
+abbrev pub Changes : ℕ → List Prefix → List Prefix → Option (List Attribute) → Core → Core → Type 0
+Changes c withdrawn announced attributes old new =
+    (s : Configuration) (h : Hearing) (change : Change) → is_live (state_in s c h) ≡ true → Knows old s c h
+    → IsSameChange (record { withdrawn = withdrawn; announced = announced; attributes = attributes }) change
+    → Knows new s c (takes_in s c (record { message = heard.Update None; change = Some change }) h)
+
+-- ---- pieces
+
+-- the last octets that went behind others were wanted there
+pub record IsWanted (allowed : Allowed) (octets : List ℕ) : Type 0 where
+  pub before : List ℕ
+  pub last : List ℕ
+  pub n : ℕ
+  pub whole : octets ≡ before ++ last
+  pub wants : Wants allowed before n
+  pub within : length last ≤ n
+
+-- the front of a piece went behind what waited, as far as it was wanted and as there was of it
+pub record FillsUp (allowed : Allowed) (old piece new rest : List ℕ) : Type 0 where
+  pub front : List ℕ
+  pub whole : piece ≡ front ++ rest
+  pub behind : new ≡ old ++ front
+  pub wanted : (front ≡ []) ⊎ IsWanted allowed new
+  pub enough : (rest ≡ []) ⊎ ((n : ℕ) → Wants allowed new n → ⊥)
+
+-- between two messages of a client: nothing waits
+pub record IsBetween (core : Core) (s : Configuration) (c : ℕ) (h : Hearing) : Type 0 where
+  pub knows : Knows core s c h
+  pub rest : is_live (state_in s c h) ≡ true → rest_of (allowed_in s) h.octets ≡ []
+  pub empty : is_live (state_in s c h) ≡ true → (x : Vec ℕ) → slice_get core.buffers.items c ≡ Some x → x.items ≡ []
+
+-- the front of a piece was heard, and this waits now, which is nothing where the piece has more
+pub record HasHeardFront (core : Core) (s : Configuration) (c : ℕ) (h : Hearing) (piece buffer rest : List ℕ) : Type 0 where
+  pub front : List ℕ
+  pub whole : piece ≡ front ++ rest
+  pub knows : Knows core s c (hears s c front h)
+  pub waits : Waits s c buffer (hears s c front h)
+  pub all : (rest ≡ []) ⊎ (buffer ≡ [])

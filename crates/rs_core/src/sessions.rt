@@ -1,22 +1,30 @@
 //! What a message says to a client's session, and what the session asks for.
 
-ghost use Rattle.std.specs.Prelude.{◌≡◌, ◌<◌, ◌≤◌, ◌+◌, length};
+ghost use Rattle.std.specs.Prelude.{◌≡◌, ◌<◌, ◌≤◌, ◌+◌, length, OnOk, OnErr};
 ghost use Rattle.rs_octets.specs.Headers.{least_length};
 
 use crate::endings::{Ending, Notice};
 use crate::route_server::Core;
 use rs_octets::Kind;
-use rs_open::{AddressFamily, Open, Short, read_open, read_refresh};
+use rs_open::{AddressFamily, Open, OpenFault, Short, read_open, read_refresh};
 use rs_session::{Act, Heard};
 use std::alloc::AllocError;
+
+/// The Hold Time that a good OPEN asks for, or else the one before.
+fn hold_of(open: Result<Open, OpenFault>, before: u16) -> u16 {
+    match open {
+        Ok(Open { hold, .. }) => hold,
+        Err(_) => before,
+    }
+}
 
 impl Core {
     ghost use Rattle.rs_core.specs.Core.{client_count};
     ghost use Rattle.rs_adjin.specs.AdjIns.{Begins};
     ghost use Rattle.rs_policy.specs.Configuration.{Configuration};
-    ghost use Rattle.rs_core.specs.Hearing.{Hearing};
+    ghost use Rattle.rs_core.specs.Hearing.{Hearing, takes_in, without_change};
     ghost use Rattle.rs_core.specs.Agreeing.{Knows, Spares};
-    ghost use Rattle.rs_core.specs.Steps.{Follows, IsSpared, ActsOn};
+    ghost use Rattle.rs_core.specs.Steps.{CutsShort, Follows, Hears, IsSpared, ActsOn};
 
     /// Hears a whole message.
     pub(crate) fn hear_message(
@@ -27,7 +35,10 @@ impl Core {
     ) -> Result<(), AllocError>
         requires client { c < client_count self.old }
         requires body { least_length kind ≤ 19 + length body.now }
-        ensures { client_count self.new ≡ client_count self.old }
+        ensures spares { Spares c self.old self.new }
+        ensures buffers { self.new.buffers ≡ self.old.buffers }
+        ensures heard { OnOk result (Hears kind body.now c self.old self.new) }
+        ensures refused { OnErr result (CutsShort c self.old self.new) }
     {
         match kind {
             Kind::Open => self.hear_open(c, body),
@@ -43,31 +54,33 @@ impl Core {
     fn hear_open(&mut self, c: usize, body: &[u8])
         requires client { c < client_count self.old }
         requires body { 10 ≤ length body.now }
-        ensures { client_count self.new ≡ client_count self.old }
+        ensures spares { Spares c self.old self.new }
+        ensures buffers { self.new.buffers ≡ self.old.buffers }
+        ensures heard { Hears Kind.Open body.now c self.old self.new }
     {
         let open = read_open(body);
-        if let Ok(Open { hold, .. }) = open {
-            self.watched[c].hold = hold;
-        }
+        self.watched[c].hold = hold_of(open, self.watched[c].hold);
         self.say(c, Heard::Open(open));
     }
 
     /// A NOTIFICATION (RFC 4271, 4.5).
     fn hear_note(&mut self, c: usize, body: &[u8])
         requires { c < client_count self.old }
-        ensures { client_count self.new ≡ client_count self.old }
+        ensures spares { Spares c self.old self.new }
+        ensures buffers { self.new.buffers ≡ self.old.buffers }
+        ensures heard { Hears Kind.Note body.now c self.old self.new }
     {
-        match self.sessions[c].message(Heard::Note) {
-            Act::Down(note) => self.end(c, note, Ending::Heard(Notice::of(body))),
-            act => self.act(c, act),
-        }
+        self.say(c, Heard::Note);
+        self.watched[c].ending = Some(Ending::Heard(Notice::of(body)));
     }
 
     /// A ROUTE-REFRESH (RFC 2918, 3).
     fn hear_refresh(&mut self, c: usize, body: &[u8])
         requires client { c < client_count self.old }
         requires body { 4 ≤ length body.now }
-        ensures { client_count self.new ≡ client_count self.old }
+        ensures spares { Spares c self.old self.new }
+        ensures buffers { self.new.buffers ≡ self.old.buffers }
+        ensures heard { Hears Kind.Refresh body.now c self.old self.new }
     {
         let AddressFamily { afi, safi } = read_refresh(body);
         self.say(c, Heard::Refresh { afi, safi });
@@ -78,6 +91,7 @@ impl Core {
         requires { c < client_count self.old }
         ensures spares { Spares c self.old self.new }
         ensures buffers { self.new.buffers ≡ self.old.buffers }
+        ensures alone { (s : Configuration) (h : Hearing) → Knows self.old s c h → Knows self.new s c (takes_in s c (without_change heard) h) }
         ensures heard { (s : Configuration) (h next : Hearing) → Follows s c heard h next → Knows self.old s c h → Knows self.new s c next }
     {
         let act = self.sessions[c].message(heard);

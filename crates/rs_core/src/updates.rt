@@ -1,14 +1,14 @@
 //! UPDATEs: what they change in the Adj-RIBs-In, and whom that touches.
 
-ghost use Rattle.std.specs.Prelude.{◌≡◌, ◌<◌, true, false, MatchOption};
+ghost use Rattle.std.specs.Prelude.{◌≡◌, ◌<◌, true, false, ◌∷◌, Some, None, is_some, is_none, option_map, MatchOption, OnOk, OnErr};
 ghost use Rattle.std.specs.List.{IsDistinct};
 ghost use Rattle.std.specs.Arc.{arc_value};
 ghost use Rattle.rs_octets.specs.Prefixes.{Prefix};
-ghost use Rattle.rs_attrs.specs.Effects.{same_prefix, has_prefix, HasMandatory};
+ghost use Rattle.rs_attrs.specs.Effects.{Change, is_empty, same_prefix, has_prefix, HasMandatory};
 
 use crate::route_server::Core;
 use rs_attrs::Attrs;
-use rs_octets::{Notification, Prefix};
+use rs_octets::{Kind, Notification, Prefix};
 use rs_session::{Act, Heard};
 use rs_update::{Outcome, effect};
 use std::alloc::AllocError;
@@ -16,13 +16,20 @@ use std::sync::Arc;
 
 impl Core {
     ghost use Rattle.rs_core.specs.Core.{client_count};
+    ghost use Rattle.rs_policy.specs.Configuration.{Configuration, client_of};
+    ghost use Rattle.rs_core.specs.Hearing.{Hearing, state_in, is_up, reset_beyond};
+    ghost use Rattle.rs_core.specs.Agreeing.{Knows, Spares};
+    ghost use Rattle.rs_core.specs.Steps.{Changes, CutsShort, HasOverlaid, Hears, IsAnnouncing, IsSpared};
 
     /// Hears the UPDATE with this body.
     pub(crate) fn hear_update(&mut self, c: usize, body: &[u8]) -> Result<(), AllocError>
         requires { c < client_count self.old }
-        ensures { client_count self.new ≡ client_count self.old }
+        ensures spares { Spares c self.old self.new }
+        ensures buffers { self.new.buffers ≡ self.old.buffers }
+        ensures heard { OnOk result (Hears Kind.Update body.now c self.old self.new) }
+        ensures refused { OnErr result (CutsShort c self.old self.new) }
     {
-        let Some(mode) = self.mode(c) else {
+        let Some(mode) = self.mode_heard(c) else {
             self.say(c, Heard::Update(None));
             return Ok(());
         };
@@ -55,6 +62,8 @@ impl Core {
         requires withdrawn { IsDistinct same_prefix withdrawn.now }
         requires announced { IsDistinct same_prefix announced.now }
         requires apart { (p : Prefix) → has_prefix p withdrawn.now ≡ true → has_prefix p announced.now ≡ false }
+        ensures { (s : Configuration) (h : Hearing) (change : Change) → self.now.ribs.config ≡ s → is_up (state_in s c h) ≡ true → Knows self.now s c h
+            → IsAnnouncing withdrawn.now announced.now change → result ≡ is_some (reset_beyond (client_of s c).limit (change ∷ h.changes)) }
     {
         match self.ribs.config.limit(c) {
             None => false,
@@ -72,7 +81,11 @@ impl Core {
     ) -> Result<(), AllocError>
         requires client { c < client_count self.old }
         requires mandatory { MatchOption attrs (Unit {0}) (λ m. HasMandatory (arc_value m)) }
-        ensures { client_count self.new ≡ client_count self.old }
+        requires attributes { is_none attrs ≡ is_empty announced.now }
+        ensures spares { Spares c self.old self.new }
+        ensures buffers { self.new.buffers ≡ self.old.buffers }
+        ensures heard { OnOk result (Changes c withdrawn.now announced.now (option_map arc_value attrs) self.old self.new) }
+        ensures refused { OnErr result (CutsShort c self.old self.new) }
     {
         match self.sessions[c].message(Heard::Update(None)) {
             Act::None => {
@@ -91,7 +104,12 @@ impl Core {
 
     fn withdraw_all(&mut self, c: usize, prefixes: &[Prefix])
         requires { c < client_count self.old }
-        ensures { client_count self.new ≡ client_count self.old }
+        ensures count { client_count self.new ≡ client_count self.old }
+        ensures sessions { self.new.sessions ≡ self.old.sessions }
+        ensures buffers { self.new.buffers ≡ self.old.buffers }
+        ensures config { self.new.ribs.config ≡ self.old.ribs.config }
+        ensures others { IsSpared c self.old.ribs.tables self.new.ribs.tables }
+        ensures held { HasOverlaid c prefixes.now None self.old.ribs.tables self.new.ribs.tables }
     {
         for prefix in prefixes {
             self.ribs.withdraw(c, *prefix);
@@ -106,7 +124,12 @@ impl Core {
     ) -> Result<(), AllocError>
         requires client { c < client_count self.old }
         requires mandatory { HasMandatory (arc_value attrs.now) }
-        ensures { client_count self.new ≡ client_count self.old }
+        ensures count { client_count self.new ≡ client_count self.old }
+        ensures sessions { self.new.sessions ≡ self.old.sessions }
+        ensures buffers { self.new.buffers ≡ self.old.buffers }
+        ensures config { self.new.ribs.config ≡ self.old.ribs.config }
+        ensures others { IsSpared c self.old.ribs.tables self.new.ribs.tables }
+        ensures held { OnOk result (HasOverlaid c prefixes.now (Some (arc_value attrs.now)) self.old.ribs.tables self.new.ribs.tables) }
     {
         for prefix in prefixes {
             self.ribs.announce(c, *prefix, attrs)?;

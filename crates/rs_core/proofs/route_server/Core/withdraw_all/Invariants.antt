@@ -1,6 +1,15 @@
-use Rattle.std.proofs.Common.{◌≡◌}
+use Rattle.std.proofs.Common.{◌≡◌, take}
+use Rattle.std.specs.Prelude.{None}
 use Rattle.rs_core.specs.Core.{client_count}
+use Rattle.rs_core.specs.Steps.{IsSpared, HasOverlaid}
 use Rattle.rs_core.proofs.route_server.Core.withdraw_all.Given as goal
 
 abbrev pub invariant-loop-prefix : goal.invariant-loop-prefix
-invariant-loop-prefix l = client_count l.self ≡ client_count l.fn.self
+invariant-loop-prefix l = record {
+  count : client_count l.self ≡ client_count l.fn.self;
+  sessions : l.self.sessions ≡ l.fn.self.sessions;
+  buffers : l.self.buffers ≡ l.fn.self.buffers;
+  config : l.self.ribs.config ≡ l.fn.self.ribs.config;
+  others : IsSpared l.c l.fn.self.ribs.tables l.self.ribs.tables;
+  held : HasOverlaid l.c (take l.prefix-index l.prefixes) None l.fn.self.ribs.tables l.self.ribs.tables;
+}

@@ -1,0 +1,166 @@
+-- A message that comes in several pieces, and is filled up from the front of the last.
+use Rattle.std.proofs.Common.{◌≡◌, ◌<◌, ◌≤◌, ◌-◌, ◌+◌, ◌⊎◌, inl, inr, ℕ, Bool, true, false, List, [], ◌∷◌, ◌++◌, length, drop, take, refl, sym, ◌∙◌, ap, subst, arith, length-append}
+use Rattle.std.specs.Prelude.{Result, Ok, Err, nat_lt, if◌then◌else◌}
+use Rattle.std.proofs.lemmas.List.{append-nil, take-append-le}
+use Rattle.std.proofs.lemmas.Bool.Decides.{nat_tests}
+use Rattle.std.proofs.Math.Seq.{drop-append_seam}
+use Rattle.rs_octets.specs.declared.heads.Allowed.{Allowed}
+use Rattle.rs_octets.specs.declared.heads.Head.{Head}
+use Rattle.rs_octets.specs.declared.heads.HeaderFault.{HeaderFault}
+use Rattle.rs_octets.specs.declared.heads.Kind.{Kind}
+use Rattle.rs_octets.specs.declared.fronts.Front.{Front}
+use Rattle.rs_octets.specs.declared.fronts.Front.TheVariants as fronts
+use Rattle.rs_octets.specs.Headers.{header_of}
+use Rattle.rs_octets.specs.Fronts.{IsFront, BeginsWith, BeginsFaulty, Wants, wanted_by}
+use Rattle.rs_octets.specs.Messages.{heard_of, newly_heard, rest_of, header_fault_of}
+use Rattle.rs_octets.proofs.Cut.{pieces_join, alone, heard_alone}
+use Rattle.rs_octets.proofs.GoodHeaders.{of_type_is}
+use Rattle.rs_octets.proofs.Pieces.{newly_is}
+use Rattle.rs_octets.proofs.Fronting.{message_in_front, fault_in_front, waits, still_waits}
+use Rattle.rs_session.specs.Sessions.{is_live}
+use Rattle.rs_policy.specs.Configuration.{Configuration}
+use Rattle.rs_session.specs.declared.heard.Heard.TheVariants as heard
+use Rattle.rs_core.specs.Hearing.{Hearing, allowed_in, session_in, state_in, without_change, body_said, takes_in, with_octets}
+use Rattle.rs_core.specs.Steps.{IsWanted, FillsUp, HasHeardFront}
+use Rattle.rs_core.specs.Agreeing.{Knows, Waits}
+use Rattle.rs_core.specs.declared.route_server.Core.{Core}
+use Rattle.rs_core.proofs.Cutting.{with_others, hears_as, hears_message, hears_fault, over, fault_ends}
+
+-- ---- what is wanted is no message and no fault
+
+cons_nil : {A : Type 0} (x : A) (xs : List A) → ◌≡◌ {A = List A} (x ∷ xs) [] → ⊥
+cons_nil x xs e = cc
+
+no_message : (a : Allowed) (octets : List ℕ) (kind : Kind) (body rest : List ℕ) → BeginsWith a octets kind body rest → heard_of a octets ≡ [] → ⊥
+no_message a octets kind body rest at e = cons_nil _ _ (sym (message_in_front a octets kind body rest at).0 ∙ e)
+
+no_fault : (a : Allowed) (octets : List ℕ) (fault : HeaderFault) → BeginsFaulty a octets fault → heard_of a octets ≡ [] → ⊥
+no_fault a octets fault at e = cons_nil _ _ (sym (fault_in_front a octets fault at).0 ∙ e)
+
+pub not_wanted : (a : Allowed) (octets : List ℕ) (front : Front) → IsFront a octets front → ((k : ℕ) → front ≡ fronts.Wants k → ⊥) → (n : ℕ) → Wants a octets n → ⊥
+not_wanted a octets (fronts.Message kind body rest) is not n wants = no_message a octets kind body.now rest.now is (waits a octets n wants).0
+not_wanted a octets (fronts.Fault fault) is not n wants = no_fault a octets fault is (waits a octets n wants).0
+not_wanted a octets (fronts.Wants k) is not n wants = absurd (not k refl)
+
+-- ---- a message that was filled up has just its octets
+
+none_long : (octets : List ℕ) → length octets ≤ 0 → octets ≡ []
+none_long [] le = refl
+none_long (x ∷ xs) le = absurd (omega (arith, le))
+
+short_or_not : (n : ℕ) → (nat_lt n 19 ≡ true) ⊎ (nat_lt n 19 ≡ false)
+short_or_not n = go (nat_lt n 19) refl where
+  go : (b : Bool) → nat_lt n 19 ≡ b → (nat_lt n 19 ≡ true) ⊎ (nat_lt n 19 ≡ false)
+  go true e = inl e
+  go false e = inr e
+
+-- the head of a good header says how long the message is
+length_said : (n size : ℕ) (head : Result Head HeaderFault) (size_of : ℕ) (kind : Kind) → 0 < n → n ≡ wanted_by size head → head ≡ Ok (record { length = size_of; kind = kind }) → size + n ≡ size_of
+length_said n size (Ok head) size_of kind some e is = let f : head.length ≡ size_of = (cc) in omega (arith, some, e, f)
+length_said n size (Err fault) size_of kind some e is = absurd (omega (arith, some, e))
+
+pub just_it : (a : Allowed) (octets : List ℕ) (kind : Kind) (body rest : List ℕ) → IsWanted a octets → BeginsWith a octets kind body rest → rest ≡ []
+just_it a octets kind body rest w at = elim (nat_cases (length w.last) w.n w.within) [
+  | inl less ↦ absurd (no_message a octets kind body rest at (subst (λ o. heard_of a o ≡ []) (sym w.whole) (waits a (w.before ++ w.last) (w.n - length w.last) (still_waits a w.before w.last w.n w.wants less)).0))
+  | inr all ↦ none_long rest (elim (short_or_not (length w.before)) [
+    | inl short ↦
+        let n_is : w.n ≡ 19 - length w.before = w.wants.1 ∙ ap (λ b. if b then 19 - length w.before else wanted_by (length w.before) (header_of a (take 19 w.before))) short in
+        let lt : length w.before < 19 = grind (arith, nat_tests, short) in
+        omega (arith, sizes, all, n_is, lt, at.is.0)
+    | inr long ↦
+        let le : 19 ≤ length w.before = grind (arith, nat_tests, long) in
+        let n_is : w.n ≡ wanted_by (length w.before) (header_of a (take 19 w.before)) =
+        w.wants.1 ∙ ap (λ b. if b then 19 - length w.before else wanted_by (length w.before) (header_of a (take 19 w.before))) long in
+        let heads : take 19 w.before ≡ take 19 at.message =
+        sym (take-append-le 19 w.before w.last le) ∙ ap (take 19) (sym w.whole ∙ at.whole) ∙ take-append-le 19 at.message rest at.is.0 in
+        let said : length w.before + w.n ≡ length at.message = length_said w.n (length w.before) (header_of a (take 19 w.before)) (length at.message) kind w.wants.0 n_is (ap (header_of a) heads ∙ at.is.1) in
+        omega (arith, sizes, all, said)
+  ])
+] where
+  sizes : length at.message + length rest ≡ length w.before + length w.last
+  sizes = sym (length-append at.message rest) ∙ ap length (sym at.whole ∙ w.whole) ∙ length-append w.before w.last
+
+  nat_cases : (m n : ℕ) → m ≤ n → (m < n) ⊎ (m ≡ n)
+  nat_cases m n le = go (nat_lt m n) refl where
+    go : (b : Bool) → nat_lt m n ≡ b → (m < n) ⊎ (m ≡ n)
+    go true e = inl (grind (arith, nat_tests, e))
+    go false e = inr (grind (arith, nat_tests, e, le))
+
+-- ---- what waits says nothing
+
+nothing_new : (a : Allowed) (octets : List ℕ) → newly_heard a octets [] ≡ []
+nothing_new a octets =
+    ap (λ l. drop (length (heard_of a octets)) (heard_of a l)) (append-nil octets)
+    ∙ ap (drop (length (heard_of a octets))) (sym (append-nil (heard_of a octets))) ∙ drop-append_seam (heard_of a octets) []
+
+pub waiting_silent : (a : Allowed) (octets : List ℕ) → header_fault_of a (rest_of a octets) ≡ [] → heard_of a (rest_of a octets) ≡ []
+waiting_silent a octets good = ap (heard_of a) (sym (append-nil (rest_of a octets))) ∙ sym (newly_is a octets [] good) ∙ nothing_new a octets
+
+-- octets behind what waits are heard with it
+pub newly_waiting : (s : Configuration) (c : ℕ) (buffer front : List ℕ) (h : Hearing) → is_live (state_in s c h) ≡ true → Waits s c buffer h
+    → newly_heard (allowed_in s) h.octets front ≡ heard_of (allowed_in s) (buffer ++ front)
+newly_waiting s c buffer front h live w = newly_is (allowed_in s) h.octets front (w.good live) ∙ ap (λ r. heard_of (allowed_in s) (r ++ front)) (sym (w.rest live))
+
+pub rest_waiting : (s : Configuration) (c : ℕ) (buffer front : List ℕ) (h : Hearing) → is_live (state_in s c h) ≡ true → Waits s c buffer h
+    → rest_of (allowed_in s) (h.octets ++ front) ≡ rest_of (allowed_in s) (buffer ++ front)
+rest_waiting s c buffer front h live w = (pieces_join (allowed_in s) h.octets front).1 ∙ ap (λ r. rest_of (allowed_in s) (r ++ front)) (sym (w.rest live))
+
+-- a message or a fault stands in the buffer only where something went behind what waited
+pub was_filled : (s : Configuration) (c : ℕ) (buffer new : List ℕ) (h : Hearing) (front : List ℕ) → is_live (state_in s c h) ≡ true → Waits s c buffer h → new ≡ buffer ++ front
+    → (front ≡ []) ⊎ IsWanted (allowed_in s) new → (heard_of (allowed_in s) new ≡ [] → ⊥) → IsWanted (allowed_in s) new
+was_filled s c buffer new h front live w behind (inl none) some =
+    absurd (some (ap (heard_of (allowed_in s)) (behind ∙ ap (λ f. buffer ++ f) none ∙ append-nil buffer ∙ w.rest live) ∙ waiting_silent (allowed_in s) h.octets (w.good live)))
+was_filled s c buffer new h front live w behind (inr is) some = is
+
+-- ---- what the front of a piece makes of it
+
+pub waiting_on : (core : Core) (s : Configuration) (c : ℕ) (h : Hearing) (buffer new piece rest : List ℕ) (n : ℕ) → is_live (state_in s c h) ≡ true → Waits s c buffer h
+    → FillsUp (allowed_in s) buffer piece new rest → Wants (allowed_in s) new n → Knows core s c h → HasHeardFront core s c h piece new rest
+waiting_on core s c h buffer new piece rest n live w fills wants knows =
+    let a = allowed_in s in
+    let it = waits a new n wants in
+    let left : rest_of a (h.octets ++ fills.front) ≡ new = rest_waiting s c buffer fills.front h live w ∙ ap (rest_of a) (sym fills.behind) ∙ it.1 in
+    let e = hears_as s c fills.front [] h (newly_waiting s c buffer fills.front h live w ∙ ap (heard_of a) (sym fills.behind) ∙ it.0) in
+    record {
+      front = fills.front;
+      whole = fills.whole;
+      knows = subst (λ k. Knows core s c k) (sym e) (with_others core s c (h.octets ++ fills.front) h knows);
+      waits = subst (λ k. Waits s c new k) (sym e) (record { rest = λ _. sym left; good = λ _. ap (header_fault_of a) left ∙ it.2 });
+      all = elim fills.enough [ inl none ↦ inl none | inr not ↦ absurd (not n wants) ];
+    }
+
+pub waiting_fault : (core : Core) (s : Configuration) (c : ℕ) (h : Hearing) (buffer new piece rest : List ℕ) (fault : HeaderFault) → is_live (state_in s c h) ≡ true → Waits s c buffer h
+    → FillsUp (allowed_in s) buffer piece new rest → BeginsFaulty (allowed_in s) new fault → Knows core s c (takes_in s c (without_change (heard.Header fault)) h)
+    → HasHeardFront core s c h piece [] rest
+waiting_fault core s c h buffer new piece rest fault live w fills faulty knows =
+    let a = allowed_in s in
+    let e = hears_fault s c h fills.front fault live (newly_waiting s c buffer fills.front h live w ∙ ap (heard_of a) (sym fills.behind) ∙ (fault_in_front a new fault faulty).0) in
+    let next : Hearing = takes_in s c (without_change (heard.Header fault)) h in
+    record {
+      front = fills.front;
+      whole = fills.whole;
+      knows = subst (λ k. Knows core s c k) (sym e) (with_others core s c (h.octets ++ fills.front) next knows);
+      waits = subst (λ k. Waits s c [] k) (sym e) (over s c [] (with_octets (h.octets ++ fills.front) next) (fault_ends (session_in s c) fault h.items));
+      all = inr refl;
+    }
+
+pub waiting_message : (core : Core) (s : Configuration) (c : ℕ) (h : Hearing) (buffer new piece rest : List ℕ) (kind : Kind) (body behind : List ℕ) → is_live (state_in s c h) ≡ true
+    → Waits s c buffer h → FillsUp (allowed_in s) buffer piece new rest → BeginsWith (allowed_in s) new kind body behind
+    → Knows core s c (takes_in s c (body_said s c h kind body) h) → HasHeardFront core s c h piece [] rest
+waiting_message core s c h buffer new piece rest kind body behind live w fills at knows =
+    let a = allowed_in s in
+    let filled = was_filled s c buffer new h fills.front live w fills.behind fills.wanted (no_message a new kind body behind at) in
+    let whole : new ≡ at.message = at.whole ∙ ap (λ r. at.message ++ r) (just_it a new kind body behind filled at) ∙ append-nil at.message in
+    let is_message = of_type_is a kind at.message at.is in
+    let left : rest_of a (h.octets ++ fills.front) ≡ [] =
+    rest_waiting s c buffer fills.front h live w ∙ ap (rest_of a) (sym fills.behind ∙ whole) ∙ (alone a at.message is_message).1 in
+    let e = hears_message s c h kind body fills.front at.message at.is at.body_is live
+    (newly_waiting s c buffer fills.front h live w ∙ ap (heard_of a) (sym fills.behind ∙ whole) ∙ heard_alone a at.message is_message) in
+    let next : Hearing = takes_in s c (body_said s c h kind body) h in
+    record {
+      front = fills.front;
+      whole = fills.whole;
+      knows = subst (λ k. Knows core s c k) (sym e) (with_others core s c (h.octets ++ fills.front) next knows);
+      waits = subst (λ k. Waits s c [] k) (sym e) (record { rest = λ _. sym left; good = λ _. ap (header_fault_of a) left });
+      all = inr refl;
+    }

@@ -1,0 +1,173 @@
+-- What UPDATEs make of a client's Adj-RIB-In.
+use Rattle.std.proofs.Common.{◌≡◌, ◌≢◌, ◌<◌, ◌==◌, ◌&&◌, ◌||◌, ℕ, zero, suc, Bool, true, false, List, [], ◌∷◌, length, take, get_or, refl, sym, ◌∙◌, ap, subst, arith}
+use Rattle.std.specs.Prelude.{Option, Some, None, find, slice_get, slice_set, if◌then◌else◌}
+use Rattle.std.proofs.lemmas.Bool.Decides.{nat_tests}
+use Rattle.rs_octets.specs.Prefixes.{Prefix}
+use Rattle.rs_attrs.specs.Meaning.{Attribute}
+use Rattle.rs_attrs.specs.Effects.{Effect, Reset, Changes, Change, same_prefix, has_prefix, mentions, attributes_after, table_since}
+use Rattle.rs_update.specs.Laws.{IsSameChange, IsSameEffect}
+use Rattle.rs_update.proofs.OneEffect.{overlay_alike}
+use Rattle.rs_session.specs.declared.heard.Heard.TheVariants as heard
+use Rattle.rs_session.specs.declared.heard.Heard.{Heard}
+use Rattle.rs_session.specs.declared.act.Act.{Act}
+use Rattle.rs_session.specs.declared.act.Act.TheVariants as acts
+use Rattle.rs_session.specs.declared.act.State.{State}
+use Rattle.rs_session.specs.declared.act.State.TheVariants as states
+use Rattle.rs_session.proofs.Updates.{updates_are_taken}
+use Rattle.rs_session.specs.declared.session.Session.{Session}
+use Rattle.rs_session.specs.Items.{Message}
+use Rattle.rs_session.specs.Sessions.{is_live, identifier_by}
+use Rattle.rs_session.specs.Hearing.{HasHeard, RespondsTo, Takes}
+use Rattle.rs_adjin.specs.AdjIns.{held_of, identifier_of, Sets, Same}
+use Rattle.rs_adjin.specs.declared.adj_ins.AdjIns.{AdjIns}
+use Rattle.rs_policy.specs.Configuration.{Configuration}
+use Rattle.rs_core.specs.Hearing.{Hearing, session_in, state_in, is_up, takes_in}
+use Rattle.rs_core.specs.Steps.{IsSpared, HasOverlaid}
+use Rattle.rs_core.specs.Agreeing.{Knows, IsCutShort}
+use Rattle.rs_core.specs.declared.route_server.Core.{Core}
+use Rattle.rs_core.proofs.Lists.{set_at}
+use Rattle.rs_core.proofs.Acting.{up_table, up_identifier}
+
+-- ---- prefixes one by one
+
+or_false : (b : Bool) → (b || false) ≡ b
+or_false true = refl
+or_false false = refl
+
+or_assoc : (a b d : Bool) → (a || (b || d)) ≡ ((a || b) || d)
+or_assoc true b d = refl
+or_assoc false b d = refl
+
+has_one_more : (p : Prefix) (ps : List Prefix) (k : ℕ) (q : Prefix) → k < length ps → q ≡ get_or ps k q → has_prefix p (take (suc k) ps) ≡ (has_prefix p (take k ps) || same_prefix p q)
+has_one_more p [] k q lt e = absurd (omega (arith, lt))
+has_one_more p (x ∷ xs) zero q lt e = or_false (same_prefix p x) ∙ ap (λ y. same_prefix p y) (sym e)
+has_one_more p (x ∷ xs) (suc k) q lt e = ap (λ b. same_prefix p x || b) (has_one_more p xs k q (omega (arith, lt)) e) ∙ or_assoc (same_prefix p x) (has_prefix p (take k xs)) (same_prefix p q)
+
+-- another one is written
+over_one : {A : Type 0} (has same : Bool) (w o : A) → (if same then w else (if has then w else o)) ≡ (if has || same then w else o)
+over_one true true w o = refl
+over_one true false w o = refl
+over_one false true w o = refl
+over_one false false w o = refl
+
+own_test : (c : ℕ) (b : Bool) → ((c == c) && b) ≡ b
+own_test c b = let e : (c == c) ≡ true = grind (arith, nat_tests) in ap (λ x. x && b) e
+
+other_test : (c d : ℕ) (b : Bool) → d ≢ c → ((d == c) && b) ≡ false
+other_test c d b ne = let e : (d == c) ≡ false = grind (arith, nat_tests, ne) in ap (λ x. x && b) e
+
+pub none_overlaid : (c : ℕ) (w : Option (List Attribute)) (ins : AdjIns) → HasOverlaid c [] w ins ins
+none_overlaid c w ins = record { held = λ p. refl; identifier = refl }
+
+pub one_overlaid : (c k n : ℕ) (ps : List Prefix) (q : Prefix) (w : Option (List Attribute)) (old mid new : AdjIns) → n ≡ suc k → k < length ps → q ≡ get_or ps k q
+    → Sets mid new c q w → HasOverlaid c (take k ps) w old mid → HasOverlaid c (take n ps) w old new
+one_overlaid c k n ps q w old mid new next lt read sets has = record {
+  held = λ p.
+      sets.held c p
+      ∙ ap (λ b. if b then w else held_of mid c p) (own_test c (same_prefix p q))
+      ∙ ap (λ o. if same_prefix p q then w else o) (has.held p)
+      ∙ over_one (has_prefix p (take k ps)) (same_prefix p q) w (held_of old c p)
+      ∙ ap (λ b. if b then w else held_of old c p) (sym (ap (λ j. has_prefix p (take j ps)) next ∙ has_one_more p ps k q lt read));
+  identifier = sets.identifiers c ∙ has.identifier;
+}
+
+pub one_spared : (c : ℕ) (q : Prefix) (w : Option (List Attribute)) (old mid new : AdjIns) → Sets mid new c q w → IsSpared c old mid → IsSpared c old new
+one_spared c q w old mid new sets spared = record {
+  held = λ d p ne. sets.held d p ∙ ap (λ b. if b then w else held_of mid d p) (other_test c d (same_prefix p q) ne) ∙ spared.held d p ne;
+  identifiers = λ d ne. sets.identifiers d ∙ spared.identifiers d ne;
+}
+
+pub none_spared : (c : ℕ) (ins : AdjIns) → IsSpared c ins ins
+none_spared c ins = record { held = λ d p ne. refl; identifiers = λ d ne. refl }
+
+pub same_spared_behind : (c : ℕ) (old mid new : AdjIns) → Same mid new → IsSpared c old mid → IsSpared c old new
+same_spared_behind c old mid new same spared = record {
+  held = λ d p ne. same.held d p ∙ spared.held d p ne;
+  identifiers = λ d ne. same.identifiers d ∙ spared.identifiers d ne;
+}
+
+-- ---- a change
+
+chosen : (said : Bool) (x : Change) (later : Option Change) (p : Prefix) → attributes_after p (if said then Some x else later) ≡ (if said then attributes_after p (Some x) else attributes_after p later)
+chosen true x later p = refl
+chosen false x later p = refl
+
+pub found : (x : Change) (changes : List Change) (p : Prefix) → table_since (x ∷ changes) p ≡ (if mentions p x then attributes_after p (Some x) else table_since changes p)
+found x changes p = chosen (mentions p x) x (find (mentions p) changes) p
+
+-- what is withdrawn goes first, and then what is announced comes
+in_two_steps : {A : Type 0} (w a : Bool) (m none o : A) → (if a then m else (if w then none else o)) ≡ (if w || a then (if a then m else none) else o)
+in_two_steps true true m none o = refl
+in_two_steps true false m none o = refl
+in_two_steps false true m none o = refl
+in_two_steps false false m none o = refl
+
+pub changed : (old new : Core) (x t : Session) (s : Configuration) (c : ℕ) (h : Hearing) (W A : List Prefix) (m : Option (List Attribute)) (change : Change)
+    → slice_get old.sessions.items c ≡ Some x → c < length old.sessions.items → new.sessions.items ≡ slice_set old.sessions.items c t
+    → RespondsTo x t (Message (heard.Update None)) acts.None → Takes x acts.None
+    → ((p : Prefix) → held_of new.ribs.tables c p ≡ (if has_prefix p A then m else (if has_prefix p W then None else held_of old.ribs.tables c p)))
+    → identifier_of new.ribs.tables c ≡ identifier_of old.ribs.tables c
+    → is_live (state_in s c h) ≡ true → IsSameChange (record { withdrawn = W; announced = A; attributes = m }) change
+    → Knows old s c h → Knows new s c (takes_in s c (record { message = heard.Update None; change = Some change }) h)
+changed old new x t s c h W A m change read lt sessions responds takes held identifier live same knows =
+    let y : Change = record { withdrawn = W; announced = A; attributes = m } in
+    let next : Hearing = takes_in s c (record { message = heard.Update None; change = Some change }) h in
+    let was = knows.session x read in
+    let it = responds (session_in s c) h.items was in
+    let up : is_up (state_in s c h) ≡ true = ap is_up (takes (session_in s c) h.items was refl live) in
+    let now : is_up (state_in s c next) ≡ true = ap is_up it.tells.state ∙ up in
+    let grown : next.changes ≡ change ∷ h.changes = ap (λ b. if b then change ∷ h.changes else []) up in
+    record {
+      session = λ z e. subst (λ v. HasHeard v (session_in s c) next.items) (sym ((set_at old.sessions.items c t lt).own z (ap (λ l. slice_get l c) (sym sessions) ∙ e))) it.heard;
+      table = λ p.
+          held p
+          ∙ ap (λ o. if has_prefix p A then m else (if has_prefix p W then None else o)) (knows.table p ∙ up_table s c h up p)
+          ∙ in_two_steps (has_prefix p W) (has_prefix p A) m None (table_since h.changes p)
+          ∙ sym (found y h.changes p)
+          ∙ overlay_alike y change h.changes p same
+          ∙ ap (λ cs. table_since cs p) (sym grown)
+          ∙ sym (up_table s c next now p);
+      identifier = identifier ∙ knows.identifier ∙ up_identifier s c h up ∙ ap identifier_by (sym it.tells.agreed) ∙ sym (up_identifier s c next now);
+    }
+
+-- ---- what the code found an UPDATE to do is what is computed of it
+
+pub is_reset : (e : Effect) (code sub : ℕ) → IsSameEffect (Reset code sub) e → e ≡ Reset code sub
+is_reset (Reset other subcode) code sub same = λ i. Reset (sym same.0 i) (sym same.1 i)
+is_reset (Changes y) code sub same = absurd same
+
+pub record IsChanging (x : Change) (e : Effect) : Type 0 where
+  pub change : Change
+  pub is : e ≡ Changes change
+  pub same : IsSameChange x change
+
+pub is_change : (x : Change) (e : Effect) → IsSameEffect (Changes x) e → IsChanging x e
+is_change x (Reset code sub) same = absurd same
+is_change x (Changes y) same = record { change = y; is = refl; same = same }
+
+-- ---- a change that isn't taken, or not wholly
+
+-- a session of which memory was refused has heard one message more, at the same moment
+pub cut_after : (old new : Core) (x t : Session) (s : Configuration) (c : ℕ) (h : Hearing) (message : Heard) (act : Act) → slice_get old.sessions.items c ≡ Some x → c < length old.sessions.items
+    → new.sessions.items ≡ slice_set old.sessions.items c t → RespondsTo x t (Message message) act → Knows old s c h → IsCutShort new s c h
+cut_after old new x t s c h message act read lt sessions responds knows =
+    let it = responds (session_in s c) h.items (knows.session x read) in
+    record {
+      items = Message message ∷ h.items;
+      moment = refl;
+      session = λ z e. subst (λ v. HasHeard v (session_in s c) (Message message ∷ h.items)) (sym ((set_at old.sessions.items c t lt).own z (ap (λ l. slice_get l c) (sym sessions) ∙ e))) it.heard;
+    }
+
+up_is : (state : State) → is_up state ≡ true → state ≡ states.Established
+up_is states.Idle e = absurd (cc)
+up_is states.OpenSent e = absurd (cc)
+up_is states.OpenConfirm e = absurd (cc)
+up_is states.Established e = refl
+up_is states.Closing e = absurd (cc)
+
+-- an Established session takes an UPDATE that is no reset
+pub not_taken : (core : Core) (x t : Session) (s : Configuration) (c : ℕ) (h : Hearing) (act : Act) → slice_get core.sessions.items c ≡ Some x → RespondsTo x t (Message (heard.Update None)) act
+    → is_live (state_in s c h) ≡ true → is_up (state_in s c h) ≡ true → Knows core s c h → (act ≡ acts.None → ⊥) → ⊥
+not_taken core x t s c h act read responds live up knows not =
+    let it = responds (session_in s c) h.items (knows.session x read) in
+    not (it.act_is ∙ (updates_are_taken (session_in s c) h.items live).taken (up_is (state_in s c h) up))

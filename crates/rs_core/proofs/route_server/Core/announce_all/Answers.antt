@@ -1,0 +1,57 @@
+use Rattle.std.proofs.Common.{refl, ◌∙◌, subst, arith}
+use Rattle.std.specs.Prelude.{Some}
+use Rattle.std.specs.Arc.{arc_value}
+use Rattle.std.proofs.lemmas.List.{take_all}
+use Rattle.rs_core.specs.Core.{client_count}
+use Rattle.rs_core.specs.Steps.{HasOverlaid}
+use Rattle.rs_core.proofs.Updating.{none_overlaid, one_overlaid, none_spared, one_spared, same_spared_behind}
+use Rattle.rs_core.proofs.route_server.Core.announce_all.Goals as goal
+
+pub loop-prefix-init : goal.loop-prefix-init
+unfolding client_count
+loop-prefix-init c = record {
+  count = refl;
+  sessions = refl;
+  buffers = refl;
+  config = refl;
+  others = none_spared c.args.c c.args.self.now.ribs.tables;
+  held = none_overlaid c.args.c (Some (arc_value c.args.attrs.now)) c.args.self.now.ribs.tables;
+}
+
+pub loop-prefix-preserved : goal.loop-prefix-preserved
+unfolding client_count
+loop-prefix-preserved c = record {
+  count = c.loop-prefix.invariant.count;
+  sessions = c.loop-prefix.invariant.sessions;
+  buffers = c.loop-prefix.invariant.buffers;
+  config = c.announce.ensures.settings.config ∙ c.loop-prefix.invariant.config;
+  others = one_spared c.args.c c.prefix-item.result (Some (arc_value c.args.attrs.now)) c.args.self.now.ribs.tables c.loop-prefix.self.ribs.tables c.announce.new.self.tables c.in_ok-announce.ensures.held c.loop-prefix.invariant.others;
+  held = one_overlaid c.args.c c.loop-prefix.prefix-index _ c.args.prefixes.now c.prefix-item.result (Some (arc_value c.args.attrs.now)) c.args.self.now.ribs.tables c.loop-prefix.self.ribs.tables c.announce.new.self.tables (omega arith) c.loop-prefix-test.true c.prefix-item.is c.in_ok-announce.ensures.held c.loop-prefix.invariant.held;
+}
+
+pub returns-clause-sessions : goal.returns-clause-sessions
+returns-clause-sessions c = c.loop-prefix.invariant.sessions
+
+pub returns-clause-buffers : goal.returns-clause-buffers
+returns-clause-buffers c = c.loop-prefix.invariant.buffers
+
+pub returns-clause-config : goal.returns-clause-config
+returns-clause-config c = c.loop-prefix.invariant.config
+
+pub returns-clause-others : goal.returns-clause-others
+returns-clause-others c = c.loop-prefix.invariant.others
+
+pub returns-clause-held : goal.returns-clause-held
+returns-clause-held c = subst (λ ps. HasOverlaid c.args.c ps (Some (arc_value c.args.attrs.now)) c.args.self.now.ribs.tables c.loop-prefix.self.ribs.tables) (take_all c.loop-prefix.prefix-index c.args.prefixes.now (omega arith)) c.loop-prefix.invariant.held
+
+pub returns-in_err-announce-clause-sessions : goal.returns-in_err-announce-clause-sessions
+returns-in_err-announce-clause-sessions c = c.loop-prefix.invariant.sessions
+
+pub returns-in_err-announce-clause-buffers : goal.returns-in_err-announce-clause-buffers
+returns-in_err-announce-clause-buffers c = c.loop-prefix.invariant.buffers
+
+pub returns-in_err-announce-clause-config : goal.returns-in_err-announce-clause-config
+returns-in_err-announce-clause-config c = c.announce.ensures.settings.config ∙ c.loop-prefix.invariant.config
+
+pub returns-in_err-announce-clause-others : goal.returns-in_err-announce-clause-others
+returns-in_err-announce-clause-others c = same_spared_behind c.args.c c.args.self.now.ribs.tables c.loop-prefix.self.ribs.tables c.announce.new.self.tables c.in_err-announce.ensures.refused c.loop-prefix.invariant.others

@@ -1,0 +1,40 @@
+use Rattle.std.proofs.Common.{◌<◌, [], ◌∷◌, length, refl, sym, ◌∙◌, ap, subst}
+use Rattle.std.specs.Prelude.{Some, None, if◌then◌else◌}
+use Rattle.std.specs.Global.{Vec}
+use Rattle.std.proofs.lemmas.Option.{slice_get_read}
+use Rattle.rs_session.specs.declared.session.Session.{Session}
+use Rattle.rs_session.specs.declared.heard.Heard.TheVariants as heard
+use Rattle.rs_session.specs.declared.act.Act.TheVariants as acts
+use Rattle.rs_session.specs.Items.{Message}
+use Rattle.rs_core.specs.Core.{client_count}
+use Rattle.rs_core.specs.Hearing.{takes_in}
+use Rattle.rs_core.proofs.Lists.{on_err}
+use Rattle.rs_core.proofs.Acting.{acted, acted_spares}
+use Rattle.rs_core.proofs.Updating.{cut_after, not_taken}
+use Rattle.rs_core.proofs.route_server.Core.change.Goals as goal
+
+pub returns-in-Some-clause-refused : goal.returns-in-Some-clause-refused
+unfolding client_count
+returns-in-Some-clause-refused c =
+    let sessions = c.args.self.now.sessions.items in
+    let lt : c.args.c < length sessions = subst (λ k. c.args.c < k) (sym c.args.self.now.sessions_len) c.requires.client in
+    let read = slice_get_read sessions (length sessions) c.args.c c.index_mut.result.now refl lt c.index_mut.ensures.value in
+    on_err c.announce_all.result (λ s h knows. cut_after c.args.self.now c.announce_all.new.self c.index_mut.result.now c.message.new.self s c.args.c h (heard.Update None) acts.None read lt
+    (ap (λ (v : Vec Session). v.items) (c.announce_all.ensures.sessions ∙ c.withdraw_all.ensures.sessions)) c.in-None.ensures.hears knows)
+
+pub returns-in_default : goal.returns-in_default
+unfolding client_count
+returns-in_default c =
+    let sessions = c.args.self.now.sessions.items in
+    let lt : c.args.c < length sessions = subst (λ k. c.args.c < k) (sym c.args.self.now.sessions_len) c.requires.client in
+    let read = slice_get_read sessions (length sessions) c.args.c c.index_mut.result.now refl lt c.index_mut.ensures.value in
+    let set = ap (λ (v : Vec Session). v.items) c.act.ensures.sessions in
+    record {
+      spares = acted_spares c.args.self.now c.act.new.self c.args.c c.message.new.self c.act.ensures.count c.act.ensures.config lt set c.act.ensures.buffers c.act.ensures.others;
+      buffers = c.act.ensures.buffers;
+      heard = λ s h change live knows same. acted c.args.self.now c.act.new.self c.message.result (Message (heard.Update None)) c.index_mut.result.now c.message.new.self s c.args.c h
+          (takes_in s c.args.c (record { message = heard.Update None; change = Some change }) h) read lt set c.message.ensures.hears c.act.ensures.tables refl
+          (λ down up. ap (λ b. if b then change ∷ h.changes else []) down)
+          (λ up now. absurd (not_taken c.args.self.now c.index_mut.result.now c.message.new.self s c.args.c h c.message.result read c.message.ensures.hears live up knows c.in_default.not-None)) knows;
+      refused = tt;
+    }

@@ -1,0 +1,53 @@
+use Rattle.std.proofs.Common.{ℕ, ◌∷◌, refl, sym, ◌∙◌, subst}
+use Rattle.std.specs.Prelude.{Some, None, option_map}
+use Rattle.std.specs.Arc.{arc_value}
+use Rattle.rs_attrs.specs.Effects.{effect_of}
+use Rattle.rs_update.specs.Laws.{IsSameChange, IsSameEffect}
+use Rattle.rs_update.specs.Changes.{effect_seen, HasItsAttributes}
+use Rattle.rs_policy.specs.Configuration.{client_of}
+use Rattle.rs_session.specs.declared.heard.Heard.TheVariants as heard
+use Rattle.rs_core.specs.Core.{client_count}
+use Rattle.rs_core.specs.Hearing.{takes_in}
+use Rattle.rs_core.specs.Steps.{IsAnnouncing}
+use Rattle.rs_core.proofs.Lists.{on_err, map_ok}
+use Rattle.rs_core.proofs.Agreeing.{cut_short}
+use Rattle.rs_core.proofs.Ruling.{knows_by}
+use Rattle.rs_core.proofs.Updating.{is_change}
+use Rattle.rs_core.proofs.Saying.{update_reset, update_changes, moded_up, is_reset_beyond, is_none_beyond, reset_follows, announcing}
+use Rattle.rs_core.proofs.route_server.Core.hear_update.Goals as goal
+
+pub returns-in_err-code-clause-refused : goal.returns-in_err-code-clause-refused
+unfolding client_count
+returns-in_err-code-clause-refused c = on_err c.from_residual.result (λ s h knows. cut_short c.args.self.now s c.args.c h knows)
+
+pub returns-in-Reset-clause-heard : goal.returns-in-Reset-clause-heard
+unfolding client_count
+returns-in-Reset-clause-heard c = λ s h config live knows.
+    update_reset c.say-in-Reset.new.self s c.args.c h c.args.body.now c.in-Some.mode c.in-Reset.code c.in-Reset.sub (sym (c.in-Some.ensures s h knows)) (subst (λ o. IsSameEffect (effect_seen o) (effect_of c.args.body.now c.in-Some.mode)) c.in-Reset.is c.in_ok-code.ensures.computed) (c.say-in-Reset.ensures.alone s h knows)
+
+pub returns-then-is_beyond-clause-heard : goal.returns-then-is_beyond-clause-heard
+unfolding client_count
+returns-then-is_beyond-clause-heard c = λ s h config live knows.
+    let mode = sym (c.in-Some.ensures s h knows) in
+    let it = is_change _ (effect_of c.args.body.now c.in-Some.mode) (subst (λ o. IsSameEffect (effect_seen o) (effect_of c.args.body.now c.in-Some.mode)) c.in-Change.is c.in_ok-code.ensures.computed) in
+    let as_noted = knows_by c.args.self.now _ s s c.args.c h refl refl refl knows in
+    let says = c.is_beyond.ensures s h it.change config (moded_up s c.args.c h c.in-Some.mode mode) as_noted
+    (subst (λ a. IsAnnouncing c.deref.result.now a it.change) (sym c.deref-in-Change.ensures.value) (subst (λ w. IsAnnouncing w c.in-Change.announced.items it.change) (sym c.deref.ensures.value) (announcing arc_value c.in-Change.attrs c.in-Change.withdrawn.items c.in-Change.announced.items it.change (subst HasItsAttributes c.in-Change.is c.in_ok-code.ensures.attributes) it.same))) in
+    let reset : ℕ × ℕ = (c.code.result, c.sub.result) in
+    let beyond = is_reset_beyond (client_of s c.args.c).limit (it.change ∷ h.changes) (sym says ∙ c.if-is_beyond.true) in
+    update_changes c.say-then-is_beyond.new.self s c.args.c h c.args.body.now c.in-Some.mode it.change (Some reset) mode it.is (beyond ∙ (λ i. Some (sym c.code.ensures i, sym c.sub.ensures i)))
+    (c.say-then-is_beyond.ensures.heard s h (takes_in s c.args.c (record { message = heard.Update (Some reset); change = Some it.change }) h) (reset_follows s c.args.c h reset it.change) as_noted)
+
+pub returns-else-is_beyond-clause-heard : goal.returns-else-is_beyond-clause-heard
+unfolding client_count
+returns-else-is_beyond-clause-heard c = map_ok c.change.result c.change.ensures.heard (λ changes s h config live knows.
+    let mode = sym (c.in-Some.ensures s h knows) in
+    let it = is_change _ (effect_of c.args.body.now c.in-Some.mode) (subst (λ o. IsSameEffect (effect_seen o) (effect_of c.args.body.now c.in-Some.mode)) c.in-Change.is c.in_ok-code.ensures.computed) in
+    let as_noted = knows_by c.args.self.now _ s s c.args.c h refl refl refl knows in
+    let says = c.is_beyond.ensures s h it.change config (moded_up s c.args.c h c.in-Some.mode mode) as_noted
+    (subst (λ a. IsAnnouncing c.deref.result.now a it.change) (sym c.deref-in-Change.ensures.value) (subst (λ w. IsAnnouncing w c.in-Change.announced.items it.change) (sym c.deref.ensures.value) (announcing arc_value c.in-Change.attrs c.in-Change.withdrawn.items c.in-Change.announced.items it.change (subst HasItsAttributes c.in-Change.is c.in_ok-code.ensures.attributes) it.same))) in
+    update_changes c.change.new.self s c.args.c h c.args.body.now c.in-Some.mode it.change None mode it.is
+    (is_none_beyond (client_of s c.args.c).limit (it.change ∷ h.changes) (sym says ∙ c.if-is_beyond.false))
+    (changes s h it.change live as_noted
+    (subst (λ a. IsSameChange (record { withdrawn = c.deref-in-Change-2.result.now; announced = a; attributes = option_map arc_value c.in-Change.attrs }) it.change) (sym c.deref-in-Change-3.ensures.value)
+    (subst (λ w. IsSameChange (record { withdrawn = w; announced = c.in-Change.announced.items; attributes = option_map arc_value c.in-Change.attrs }) it.change) (sym c.deref-in-Change-2.ensures.value) it.same))))
