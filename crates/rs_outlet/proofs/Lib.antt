@@ -16,3 +16,4 @@ mod Draining
 mod Chosen
 mod Standing
 mod Beginning
+mod Exact

@@ -132,7 +132,7 @@ none_past [] (suc n) p past is = cc
 none_past (x ∷ ws) zero p past is = omega (arith, past)
 none_past (x ∷ ws) (suc n) p past is = none_past ws n p (omega (arith, past)) is
 
-first_open : (q : Prefix) (x : Wait) (ws : List Wait) → x.open ≡ true → same q x.prefix ≡ true → open_at q (x ∷ ws) ≡ Some x
+pub first_open : (q : Prefix) (x : Wait) (ws : List Wait) → x.open ≡ true → same q x.prefix ≡ true → open_at q (x ∷ ws) ≡ Some x
 first_open q x ws is at = λ i. cond (is i && at i) (Some x) (open_at q ws)
 
 -- an open place is what stands of its prefix

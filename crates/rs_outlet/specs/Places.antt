@@ -1,5 +1,5 @@
 -- The places of what waits: a list of them, and what stands there of a prefix.
-use Rattle.std.specs.Prelude.{ℕ, Bool, ◌&&◌, not, true, false, map, Option, None, Some, List, [], ◌∷◌, count_by, if◌then◌else◌}
+use Rattle.std.specs.Prelude.{is_some, ℕ, Bool, ◌&&◌, not, true, false, map, Option, None, Some, List, [], ◌∷◌, count_by, if◌then◌else◌}
 use Rattle.std.specs.Arc.{arc_value}
 use Rattle.std.specs.Ordering.{eq_by_cmp}
 use Rattle.rs_octets.specs.Prefixes.{Prefix, prefix_order}
@@ -49,3 +49,8 @@ told_by (Some w) due = told_of w.told due
 abbrev pub marked_by : Option Wait → Bool
 marked_by None = false
 marked_by (Some w) = w.marked
+
+-- whether something was told there that is to be told again, where this is due
+abbrev pub marked_told : Option Wait → Option (List Attribute) → Bool
+marked_told None due = false
+marked_told (Some w) due = w.marked && is_some (told_of w.told due)
