@@ -19,3 +19,7 @@ pub mod Numbers
 pub mod Freshness
 pub mod Changing
 pub mod Turned
+pub mod Telling
+pub mod Spoken
+pub mod Voicing
+pub mod Around

@@ -7,5 +7,7 @@ pub mod Core
 pub mod Moves
 pub mod Hearing
 pub mod Runs
+pub mod Telling
+pub mod Voices
 pub mod Agreeing
 pub mod Steps

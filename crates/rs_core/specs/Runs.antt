@@ -9,7 +9,7 @@ use Rattle.rs_policy.specs.Configuration.{Configuration}
 use Rattle.rs_outlet.specs.declared.answers.Speech.{Speech}
 use Rattle.rs_outlet.specs.Due.{Held, due_to}
 use Rattle.rs_core.specs.Moves.{Move, Ruled, Came, Heard, Saw, Left, Turned, Began, Took, config_in}
-use Rattle.rs_core.specs.Hearing.{Hearing, silence, session_in, state_in, is_up, identifier_in, table_in, hears, begins, sees, leaves}
+use Rattle.rs_core.specs.Hearing.{Hearing, silence, session_in, state_in, is_up, identifier_in, table_in, hears, begins, sees, leaves, takes}
 
 -- ---- what was heard of a client
 
@@ -22,7 +22,7 @@ hearing c (Saw t ∷ run) = sees t (hearing c run)
 hearing c (Left d ∷ run) = if d == c then leaves (hearing c run) else hearing c run
 hearing c (Turned refused ∷ run) = hearing c run
 hearing c (Began d ∷ run) = hearing c run
-hearing c (Took d octets ∷ run) = hearing c run
+hearing c (Took d octets ∷ run) = if d == c then takes octets (hearing c run) else hearing c run
 
 -- the table of a client: what its UPDATEs mean, while it is Established (RFC 4271, 3.2)
 abbrev pub table : List Move → ℕ → Prefix → Option (List Attribute)

@@ -1,6 +1,8 @@
 //! The way of octets to a client.
 
-ghost use Rattle.std.specs.Prelude.{◌≡◌, ◌<◌, ◌≤◌, length};
+ghost use Rattle.std.specs.Prelude.{◌≡◌, ◌<◌, ◌≤◌, List, ◌∷◌, length, take};
+ghost use Rattle.rs_core.specs.Moves.{Move, Began, Took};
+ghost use Rattle.rs_core.specs.Agreeing.{Agrees};
 
 use crate::route_server::Core;
 
@@ -10,7 +12,8 @@ impl Core {
     /// Begins the next message to a client where none is in flight.
     pub(crate) fn begin(&mut self, c: usize)
         requires { c < client_count self.old }
-        ensures { client_count self.new ≡ client_count self.old }
+        ensures count { client_count self.new ≡ client_count self.old }
+        ensures began { (run : List Move) → Agrees self.old run → Agrees self.new (Began c ∷ run) }
     {
         self.ribs.begin(c);
     }
@@ -27,6 +30,8 @@ impl Core {
     /// It lends nothing where there is no message to begin, and to a client that is Idle.
     pub fn writable(&mut self, c: usize) -> &[u8]
         requires { c < client_count self.old }
+        ensures count { client_count self.new ≡ client_count self.old }
+        ensures began { (run : List Move) → Agrees self.old run → Agrees self.new (Began c ∷ run) }
     {
         self.begin(c);
         self.lent(c)
@@ -36,7 +41,8 @@ impl Core {
     pub fn took(&mut self, c: usize, n: usize)
         requires client { c < client_count self.old }
         requires lent { n ≤ length (lent_octets self.old c) }
-        ensures { client_count self.new ≡ client_count self.old }
+        ensures count { client_count self.new ≡ client_count self.old }
+        ensures took { (run : List Move) → Agrees self.old run → Agrees self.new (Took c (take n (lent_octets self.old c)) ∷ run) }
     {
         self.ribs.took(c, n);
     }
