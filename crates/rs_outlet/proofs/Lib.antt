@@ -12,6 +12,11 @@ mod Ranks
 mod Fitting
 mod OthersAlone
 mod Places
+mod Finding
+mod Adding
+mod Owing
+mod Carrying
+mod Unchanged
 mod Draining
 mod Chosen
 mod Standing

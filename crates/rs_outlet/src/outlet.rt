@@ -14,7 +14,7 @@ ghost use Rattle.rs_open.specs.Writing.{server_open, keepalive};
 ghost use Rattle.rs_open.specs.declared.short.Short.{Short};
 ghost use Rattle.rs_outlet.specs.Next.{note_octets};
 ghost use Rattle.rs_open.specs.declared.short.Limit.TheVariants as limits;
-ghost use Rattle.rs_outlet.specs.Views.{AreNumbered, WaitsAreExact, IsDrained, IsOneOf, bare, begun, cleared, finished, if_up, touched_at};
+ghost use Rattle.rs_outlet.specs.Views.{AreNumbered, IsDrained, IsOneOf, WaitsAreExact, bare, begun, cleared, finished, if_up, touched_at};
 ghost use Rattle.rs_outlet.specs.Turns.{HasTurned};
 ghost use Rattle.rs_outlet.specs.Begins.{BeginsUpdate};
 ghost use Rattle.rs_outlet.specs.Inside.{room_of, batch_of, IsNoNumberOf};
@@ -230,6 +230,7 @@ impl Outlet {
         ensures due { (speech : Speech) → self.old.speech ≡ Some speech → AreNumbered self.old ins.now → (p : Prefix) → IsOneOf (map.get self.new.loc p) (map.get self.old.loc p) (due_to (tables_of config.now ins.now) self.old.client speech p) }
         ensures refused { OnErr result (self.new ≡ record self.old { last = Last.Refused }) }
         ensures numbered { AreNumbered self.old ins.now → AreNumbered self.new ins.now }
+        ensures exact { AreNumbered self.old ins.now → WaitsAreExact self.old → WaitsAreExact self.new }
     {
         let Some(speech) = self.speech else {
             let turned = Turned {
