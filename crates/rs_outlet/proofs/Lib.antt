@@ -17,8 +17,10 @@ mod Adding
 mod Owing
 mod Carrying
 mod Unchanged
+mod MarkedAgain
 mod Draining
 mod Chosen
 mod Standing
+mod AskedAgain
 mod Beginning
 mod Exact

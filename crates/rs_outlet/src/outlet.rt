@@ -266,6 +266,8 @@ impl Outlet {
         ensures client { self.new.client ≡ self.old.client }
         ensures extended { self.new.extended ≡ self.old.extended }
         ensures rest { self.new ≡ record self.old { told = self.new.told; marked = self.new.marked; waits = self.new.waits } }
+        ensures told { self.new.told ≡ self.old.told }
+        ensures exact { WaitsAreExact self.old → WaitsAreExact self.new }
     {
         self.waits.mark_all(&self.rows);
     }

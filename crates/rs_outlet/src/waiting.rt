@@ -6,7 +6,7 @@
 //! message is read off along the links, and nothing is looked for in the Loc-RIB.
 
 ghost use Rattle.std.specs.Prelude.{◌≡◌, ◌≤◌, ◌<◌, ◌+◌, ℕ, Option, None, Some, [], true, false, length, vec_len, slice_get, slice_set, option_map, if◌then◌else◌, IfSome, OnOk, ◌++◌};
-ghost use Rattle.std.specs.List.{IsDistinct};
+ghost use Rattle.std.specs.List.{Contains, IsDistinct, list_any};
 ghost use Rattle.std.specs.Arc.{arc_value};
 ghost use Rattle.std.specs.Ordering.{eq_by_cmp};
 ghost use Rattle.std.specs.List.Sorted.{IsPermutation, IsStrictlySortedBy, IsStrictlySortedBy-prop};
@@ -15,7 +15,6 @@ ghost use Rattle.rs_octets.specs.Prefixes.{Prefix, prefix_order};
 ghost use Rattle.rs_outlet.specs.declared.waiting.Wait.{Wait};
 ghost use Rattle.rs_outlet.specs.Places.{AreFresh, IsOpenPlace, still_open, prefixes_at, open_count, is_withdrawn, is_announced, open_at, told_of, told_by, marked_by};
 
-use crate::rows::Rows;
 use rs_attrs::Attrs;
 use rs_octets::Prefix;
 use std::alloc::{AllocError, Global};
@@ -66,7 +65,7 @@ pub(crate) struct Waits {
     /// No place before it is to be announced.
     pub(crate) news: usize,
     /// How many are open.
-    waiting: usize,
+    pub(crate) waiting: usize,
     ghost counted: { open_count places.items ≡ waiting },
     ghost rises: { IsStrictlySortedBy prefix_order (prefixes_at places.items) } by { IsStrictlySortedBy-prop prefix_order (prefixes_at places.items) },
 }
@@ -185,7 +184,7 @@ impl Waits {
     }
 
     /// Links the places, which are all open.
-    fn link(&mut self)
+    pub(crate) fn link(&mut self)
         ensures { self.new.places.items ≡ self.old.places.items }
     {
         let count = self.places.len();
@@ -211,13 +210,6 @@ impl Waits {
                 }
             }
         }
-    }
-
-    /// Everything that was told waits to be told again: each row, and what waits already.
-    pub(crate) fn mark_all(&mut self, rows: &Rows) {
-        add_rows(&mut self.places, rows);
-        self.waiting = count_open(&self.places);
-        self.link();
     }
 }
 
@@ -251,15 +243,17 @@ impl Told {
 }
 
 /// How many places wait.
-fn count_open(places: &[Wait]) -> usize
+pub(crate) fn count_open(places: &[Wait]) -> usize
     ensures { result ≡ open_count places.now }
 {
     places.iter().filter(|wait| wait.open).count()
 }
 
 /// Puts the places in order. A prefix has one place.
-fn put_in_order(places: &mut Vec<Wait>)
+pub(crate) fn put_in_order(places: &mut Vec<Wait>)
     ensures rises { IsStrictlySortedBy prefix_order (prefixes_at places.new.items) }
+    ensures from { (w : Wait) → Contains places.new.items w → Contains places.old.items w }
+    ensures all { (q : Prefix) → list_any (eq_by_cmp prefix_order q) (prefixes_at places.new.items) ≡ list_any (eq_by_cmp prefix_order q) (prefixes_at places.old.items) }
     ensures kept { IsDistinct (eq_by_cmp prefix_order) (prefixes_at places.old.items) → IsPermutation places.old.items places.new.items }
 {
     places.sort_unstable_by_key(|wait| wait.prefix);
@@ -277,46 +271,6 @@ fn add_places(places: &mut Vec<Wait>, more: Vec<Wait>)
         places.push_reserved(wait);
     }
     put_in_order(places);
-}
-
-/// Drops the places that wait no more, marks those at which something was told, and adds the rows at
-/// which nothing waits, for which there is room.
-fn add_rows(places: &mut Vec<Wait>, rows: &Rows)
-    ensures { IsStrictlySortedBy prefix_order (prefixes_at places.new.items) }
-{
-    places.retain(|wait| wait.open);
-    let waited = places.len();
-    for wait in places.iter_mut() {
-        wait.marked = !matches!(wait.told, Told::Nothing);
-    }
-    for number in 0..rows.count() {
-        let number = u32::try_from(number).unwrap_or(END);
-        if let Some(row) = rows.get(number)
-            && !has_before(places, waited, &row.prefix)
-        {
-            let _ = places.push(Wait {
-                prefix: row.prefix,
-                due: Due::Announced {
-                    number,
-                    hash: hash_of(&row.attrs),
-                },
-                told: Told::Same,
-                marked: true,
-                open: true,
-            });
-        }
-    }
-    put_in_order(places);
-}
-
-/// Whether a prefix stands at one of the first places.
-fn has_before(places: &[Wait], count: usize, prefix: &Prefix) -> bool {
-    match places.get(..count) {
-        Some(places) => places
-            .binary_search_by(|wait| wait.prefix.cmp(prefix))
-            .is_ok(),
-        None => false,
-    }
 }
 
 /// A hash of attributes.
