@@ -23,3 +23,5 @@ pub mod Telling
 pub mod Spoken
 pub mod Voicing
 pub mod Around
+pub mod Serving
+pub mod Mandated

@@ -34,17 +34,20 @@ use Rattle.rs_octets.proofs.GoodHeaders.{written_is_message}
 use Rattle.rs_open.proofs.ShortMessages.{short_is_message}
 use Rattle.rs_packer.specs.Packed.{announcement, withdrawal}
 use Rattle.rs_outlet.specs.Begins.{BeginsUpdate}
+use Rattle.rs_outlet.specs.Due.{due_to}
+use Rattle.rs_outlet.specs.HeldBy.{tables_of}
 use Rattle.rs_outlet.specs.declared.answers.Last.{Last}
-use Rattle.rs_outlet.specs.Views.{View, WaitsAreExact, waits_at, AreNumbered, bare, cleared, finished, begun, touched_at}
+use Rattle.rs_outlet.specs.Views.{View, WaitsAreExact, waits_at, AreNumbered, is_touched, bare, cleared, finished, begun, touched_at}
 use Rattle.rs_adjin.specs.declared.adj_ins.AdjIns.{AdjIns}
 use Rattle.rs_core.specs.Touches.{IsBegun, IsTouchedAt, touched_with}
-use Rattle.rs_core.specs.Turns.{IsMarked}
+use Rattle.rs_core.specs.Turns.{IsMarked, IsDone, IsTurn}
 use Rattle.rs_core.specs.Hearing.{Hearing, session_in, state_in, is_up}
 use Rattle.rs_core.specs.Runs.{speech_by, speech_in}
 use Rattle.rs_core.specs.Telling.{Speaks, each_message, no_table}
 use Rattle.rs_core.specs.Voices.{IsInOrder, SpeaksTo, SaysTheSame, IsGreeting, IsRaised, IsSilent, TellsAgain, Voices, speech_of}
 use Rattle.rs_core.proofs.Telling.{silence_speaks, speaks_on, speaks_same}
 use Rattle.rs_core.proofs.Spoken.{announced_speaks, withdrawn_speaks}
+use Rattle.rs_core.proofs.Mandated.{due_has_mandatory}
 
 -- ---- outlets that say the same
 
@@ -134,7 +137,7 @@ up_by true o speech e = refl
 up_by false o speech e = absurd (let f : ◌≡◌ {A = Option Speech} None (Some speech) = e in cc)
 
 -- who is spoken to is Established
-spoken_up : (s : Configuration) (c : ℕ) (h : Hearing) (speech : Speech) → speech_in s c h ≡ Some speech → is_up (state_in s c h) ≡ true
+pub spoken_up : (s : Configuration) (c : ℕ) (h : Hearing) (speech : Speech) → speech_in s c h ≡ Some speech → is_up (state_in s c h) ≡ true
 spoken_up s c h speech e = up_by (is_up (state_in s c h)) (speech_by s.top.extended (agreed_of (session_in s c) h.items)) speech e
 
 down_speech : (s : Configuration) (c : ℕ) (h : Hearing) → is_up (state_in s c h) ≡ false → speech_in s c h ≡ None
@@ -361,3 +364,25 @@ begun_voice s c h ins v w numbered b at = by_flight v.flight refl where
   by_flight : (f : List ℕ) → v.flight ≡ f → SpeaksTo s c h w
   by_flight [] e = by_note v.note e refl
   by_flight (x ∷ xs) e = voiced_same s c h v w (same_is v w (b.kept (λ empty. let f : ◌≡◌ {A = List ℕ} (x ∷ xs) [] = sym e ∙ empty in cc))) at
+
+-- ---- a turn
+
+done_voice : (s : Configuration) (c : ℕ) (h : Hearing) (config : Configuration) (ins : AdjIns) (v w : View) → AreNumbered v ins → IsDone config ins v w → SpeaksTo s c h v → SpeaksTo s c h w
+done_voice s c h config ins v w numbered done at =
+    let turned = done.decided numbered in
+    voiced_by s s c h h v w refl (λ l. l) (ap (λ (x : View). h.taken ++ x.flight) done.rest) (ap (λ (x : View). x.speech) done.rest) (ap (λ (x : View). x.note) done.rest) turned.told
+    (record { mandatory = λ p m e. by_speech v.speech refl p m e; exact = done.exact numbered at.order.exact }) at where
+      by_speech : (o : Option Speech) → v.speech ≡ o → (p : Prefix) (m : List Attribute) → fin.get w.loc p ≡ Some m → lacks_mandatory m ≡ false
+      by_speech None none p m e = at.order.mandatory p m (ap (λ (x : View). fin.get x.loc p) (sym ((done.decided numbered).down none).1) ∙ e)
+      by_speech (Some speech) up p m e = by_touch (is_touched v.touched p) refl where
+        by_touch : (b : Bool) → is_touched v.touched p ≡ b → lacks_mandatory m ≡ false
+        by_touch true t = due_has_mandatory config ins v.client speech p m
+            (sym ((done.decided numbered).loc speech up p ∙ ap (λ b. if b then due_to (tables_of config ins) v.client speech p else fin.get v.loc p) t) ∙ e)
+        by_touch false t = at.order.mandatory p m
+            (sym ((done.decided numbered).loc speech up p ∙ ap (λ b. if b then due_to (tables_of config ins) v.client speech p else fin.get v.loc p) t) ∙ e)
+
+-- decided or refused, it says the same
+pub turned_voice : (s : Configuration) (c : ℕ) (h : Hearing) (config : Configuration) (ins : AdjIns) (v w : View) → AreNumbered v ins → IsTurn config ins v w → SpeaksTo s c h v → SpeaksTo s c h w
+turned_voice s c h config ins v w numbered (inl done) at = done_voice s c h config ins v w numbered done at
+turned_voice s c h config ins v w numbered (inr refused) at =
+    voiced_same s c h v w (record { is = refused ∙ (λ i. record v { beat = (sym refused i).beat; touched = (sym refused i).touched; numbers = (sym refused i).numbers; last = w.last }) }) at

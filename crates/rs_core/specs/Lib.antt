@@ -6,8 +6,8 @@ pub mod Ribs
 pub mod Core
 pub mod Moves
 pub mod Hearing
-pub mod Runs
 pub mod Telling
+pub mod Runs
 pub mod Voices
 pub mod Agreeing
 pub mod Steps
