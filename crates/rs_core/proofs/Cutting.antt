@@ -1,5 +1,5 @@
 -- Pieces of octets that are heard message by message, and what then waits.
-use Rattle.std.proofs.Common.{◌≡◌, ℕ, zero, suc, Bool, true, false, List, [], ◌∷◌, ◌++◌, refl, sym, ◌∙◌, ap, subst}
+use Rattle.std.proofs.Common.{◌≡◌, ◌≢◌, ◌<◌, ℕ, zero, suc, Bool, true, false, List, [], ◌∷◌, ◌++◌, length, refl, sym, ◌∙◌, ap, subst, arith}
 use Rattle.std.specs.Prelude.{Some, Result, Ok, Err, slice_get, if◌then◌else◌}
 use Rattle.std.specs.Global.{Vec}
 use Rattle.rs_octets.specs.declared.heads.Allowed.{Allowed}
@@ -20,13 +20,32 @@ use Rattle.rs_adjin.specs.AdjIns.{held_of, identifier_of}
 use Rattle.rs_policy.specs.Configuration.{Configuration}
 use Rattle.rs_core.specs.Hearing.{Hearing, allowed_in, session_in, state_in, without_change, body_said, said_by, said_in, takes_in, listens_to, with_octets, hears}
 use Rattle.rs_core.specs.Steps.{IsBetween}
-use Rattle.rs_core.specs.Agreeing.{Knows, Waits, AgreesAt, IsCutShort}
+use Rattle.rs_core.specs.Agreeing.{Knows, Waits, AgreesAt, IsCutShort, Spares}
 use Rattle.rs_core.specs.declared.route_server.Core.{Core}
-use Rattle.rs_core.proofs.Listening.{Heards, hears_moment, deaf}
+use Rattle.rs_core.proofs.Listening.{Heards, hears_joined, hears_moment, deaf}
+use Rattle.rs_core.proofs.Ruling.{knows_by}
 
 -- what is known is known whatever the octets were
 pub with_others : (core : Core) (s : Configuration) (c : ℕ) (octets : List ℕ) (h : Hearing) → Knows core s c h → Knows core s c (with_octets octets h)
 with_others core s c octets h knows = record { session = knows.session; table = knows.table; identifier = knows.identifier }
+
+-- and where nothing but what waits has changed
+pub unmoved : (old new : Core) (s : Configuration) (c : ℕ) (h : Hearing) → new.sessions ≡ old.sessions → new.ribs ≡ old.ribs → Knows old s c h → Knows new s c h
+unmoved old new s c h sessions ribs knows = knows_by old new s s c h refl sessions (ap (λ r. r.tables) ribs) knows
+
+pub waiting_spares : (old new : Core) (c : ℕ) → new.count ≡ old.count → new.sessions ≡ old.sessions → new.ribs ≡ old.ribs
+    → ((d : ℕ) → d ≢ c → slice_get new.buffers.items d ≡ slice_get old.buffers.items d) → Spares c old new
+waiting_spares old new c count sessions ribs others = record {
+  count = count;
+  config = ap (λ r. r.config) ribs;
+  sessions = λ d ne. ap (λ v. slice_get v.items d) sessions;
+  buffers = others;
+  held = λ d p ne. ap (λ r. held_of r.tables d p) ribs;
+  identifiers = λ d ne. ap (λ r. identifier_of r.tables d) ribs;
+}
+
+pub same_spares : (core : Core) (c : ℕ) → Spares c core core
+same_spares core c = waiting_spares core core c refl refl refl (λ d ne. refl)
 
 -- ---- octets behind whole messages
 
@@ -125,16 +144,25 @@ after_beginning old new s c h octets n live between wants sessions ribs buffer =
     let rest = rest_between a h.octets octets none ∙ it.1 in
     let e = hears_as s c octets [] h (newly_between a h.octets octets none ∙ it.0) in
     subst (λ k. AgreesAt new s c k) (sym e) (record {
-      knows = record {
-        session = λ x f. between.knows.session x (ap (λ v. slice_get v.items c) (sym sessions) ∙ f);
-        table = λ p. ap (λ r. held_of r.tables c p) ribs ∙ between.knows.table p;
-        identifier = ap (λ r. identifier_of r.tables c) ribs ∙ between.knows.identifier;
-      };
+      knows = with_others new s c (h.octets ++ octets) h (unmoved old new s c h sessions ribs between.knows);
       waits = λ x f. record {
         rest = λ _. buffer x f ∙ sym rest;
         good = λ _. ap (header_fault_of a) rest ∙ it.2;
       };
     })
+
+pub got : {X : Type 0} (xs : List X) (i : ℕ) → i < length xs → (x : X) × (slice_get xs i ≡ Some x)
+got [] i h = absurd (omega arith)
+got (x ∷ xs) zero h = (x, refl)
+got (x ∷ xs) (suc i) h = got xs i (omega arith)
+
+-- what went behind nothing
+pub alone_waits : (old new : Core) (s : Configuration) (c : ℕ) (h : Hearing) (octets : List ℕ) → c < length old.buffers.items → is_live (state_in s c h) ≡ true → IsBetween old s c h
+    → ((x y : Vec ℕ) → slice_get old.buffers.items c ≡ Some x → slice_get new.buffers.items c ≡ Some y → y.items ≡ x.items ++ octets)
+    → (y : Vec ℕ) → slice_get new.buffers.items c ≡ Some y → y.items ≡ octets
+alone_waits old new s c h octets lt live between behind y e =
+    let x = got old.buffers.items c lt in
+    behind x.0 y x.1 e ∙ ap (λ l. l ++ octets) (between.empty live x.0 x.1)
 
 -- ---- the end of a piece
 
@@ -165,3 +193,16 @@ is_between core s c h x read none at = record {
 -- what was heard before memory was refused counts no more
 pub cut_before : (core : Core) (s : Configuration) (c : ℕ) (before : List ℕ) (h : Hearing) → IsCutShort core s c (hears s c before h) → IsCutShort core s c h
 cut_before core s c before h cut = record { items = cut.items; moment = cut.moment ∙ hears_moment s c before h; session = cut.session }
+
+pub cut_unmoved : (old new : Core) (s : Configuration) (c : ℕ) (h : Hearing) → new.sessions ≡ old.sessions → IsCutShort old s c h → IsCutShort new s c h
+cut_unmoved old new s c h sessions cut = record { items = cut.items; moment = cut.moment; session = λ x e. cut.session x (ap (λ v. slice_get v.items c) (sym sessions) ∙ e) }
+
+-- ---- one piece behind another
+
+pub agrees_joined : (core : Core) (s : Configuration) (c : ℕ) (piece first later : List ℕ) (h : Hearing) → piece ≡ first ++ later
+    → AgreesAt core s c (hears s c later (hears s c first h)) → AgreesAt core s c (hears s c piece h)
+agrees_joined core s c piece first later h whole at = subst (λ k. AgreesAt core s c k) (hears_joined s c first later h ∙ ap (λ p. hears s c p h) (sym whole)) at
+
+pub between_joined : (core : Core) (s : Configuration) (c : ℕ) (first later : List ℕ) (h : Hearing)
+    → IsBetween core s c (hears s c later (hears s c first h)) → IsBetween core s c (hears s c (first ++ later) h)
+between_joined core s c first later h between = subst (λ k. IsBetween core s c k) (hears_joined s c first later h) between

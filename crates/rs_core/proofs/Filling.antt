@@ -1,6 +1,7 @@
 -- A message that comes in several pieces, and is filled up from the front of the last.
-use Rattle.std.proofs.Common.{◌≡◌, ◌<◌, ◌≤◌, ◌-◌, ◌+◌, ◌⊎◌, inl, inr, ℕ, Bool, true, false, List, [], ◌∷◌, ◌++◌, length, drop, take, refl, sym, ◌∙◌, ap, subst, arith, length-append}
-use Rattle.std.specs.Prelude.{Result, Ok, Err, nat_lt, if◌then◌else◌}
+use Rattle.std.proofs.Common.{◌≡◌, ◌<◌, ◌≤◌, ◌-◌, ◌+◌, ◌==◌, ◌⊎◌, inl, inr, ℕ, Bool, true, false, List, [], ◌∷◌, ◌++◌, length, drop, take, refl, sym, ◌∙◌, ap, subst, arith, length-append}
+use Rattle.std.specs.Prelude.{Some, Result, Ok, Err, nat_lt, slice_get, if◌then◌else◌}
+use Rattle.std.specs.Global.{Vec}
 use Rattle.std.proofs.lemmas.List.{append-nil, take-append-le}
 use Rattle.std.proofs.lemmas.Bool.Decides.{nat_tests}
 use Rattle.std.proofs.Math.Seq.{drop-append_seam}
@@ -20,11 +21,11 @@ use Rattle.rs_octets.proofs.Fronting.{message_in_front, fault_in_front, waits, s
 use Rattle.rs_session.specs.Sessions.{is_live}
 use Rattle.rs_policy.specs.Configuration.{Configuration}
 use Rattle.rs_session.specs.declared.heard.Heard.TheVariants as heard
-use Rattle.rs_core.specs.Hearing.{Hearing, allowed_in, session_in, state_in, without_change, body_said, takes_in, with_octets}
-use Rattle.rs_core.specs.Steps.{IsWanted, FillsUp, HasHeardFront}
-use Rattle.rs_core.specs.Agreeing.{Knows, Waits}
+use Rattle.rs_core.specs.Hearing.{Hearing, allowed_in, session_in, state_in, without_change, body_said, takes_in, with_octets, hears}
+use Rattle.rs_core.specs.Steps.{IsWanted, FillsUp, HasHeardFront, IsBetween}
+use Rattle.rs_core.specs.Agreeing.{Knows, Waits, AgreesAt}
 use Rattle.rs_core.specs.declared.route_server.Core.{Core}
-use Rattle.rs_core.proofs.Cutting.{with_others, hears_as, hears_message, hears_fault, over, fault_ends}
+use Rattle.rs_core.proofs.Cutting.{unmoved, with_others, hears_as, hears_message, hears_fault, over, fault_ends}
 
 -- ---- what is wanted is no message and no fault
 
@@ -47,6 +48,9 @@ not_wanted a octets (fronts.Wants k) is not n wants = absurd (not k refl)
 none_long : (octets : List ℕ) → length octets ≤ 0 → octets ≡ []
 none_long [] le = refl
 none_long (x ∷ xs) le = absurd (omega (arith, le))
+
+pub is_none : (octets : List ℕ) → (length octets == 0) ≡ true → octets ≡ []
+is_none octets e = none_long octets (let n : length octets ≡ 0 = grind (arith, nat_tests, e) in omega (arith, n))
 
 short_or_not : (n : ℕ) → (nat_lt n 19 ≡ true) ⊎ (nat_lt n 19 ≡ false)
 short_or_not n = go (nat_lt n 19) refl where
@@ -163,4 +167,31 @@ waiting_message core s c h buffer new piece rest kind body behind live w fills a
       knows = subst (λ k. Knows core s c k) (sym e) (with_others core s c (h.octets ++ fills.front) next knows);
       waits = subst (λ k. Waits s c [] k) (sym e) (record { rest = λ _. sym left; good = λ _. ap (header_fault_of a) left });
       all = inr refl;
+    }
+
+-- ---- the buffer is put back
+
+-- what waits of a piece of which nothing is left
+pub front_agrees : (mid new : Core) (s : Configuration) (c : ℕ) (h : Hearing) (piece buffer rest : List ℕ) → new.sessions ≡ mid.sessions → new.ribs ≡ mid.ribs
+    → ((x : Vec ℕ) → slice_get new.buffers.items c ≡ Some x → x.items ≡ buffer) → rest ≡ [] → HasHeardFront mid s c h piece buffer rest → AgreesAt new s c (hears s c piece h)
+front_agrees mid new s c h piece buffer rest sessions ribs put none was =
+    let whole : was.front ≡ piece = sym (was.whole ∙ ap (λ r. was.front ++ r) none ∙ append-nil was.front) in
+    subst (λ p. AgreesAt new s c (hears s c p h)) whole (record {
+      knows = unmoved mid new s c (hears s c was.front h) sessions ribs was.knows;
+      waits = λ x e. subst (λ b. Waits s c b (hears s c was.front h)) (sym (put x e)) was.waits;
+    })
+
+some_left : (rest buffer : List ℕ) → (length rest == 0) ≡ false → (rest ≡ []) ⊎ (buffer ≡ []) → buffer ≡ []
+some_left rest buffer e (inl none) = absurd (let f : true ≡ false = sym (ap (λ r. length r == 0) none) ∙ e in cc)
+some_left rest buffer e (inr empty) = empty
+
+-- nothing waits where the piece has more
+pub front_between : (mid new : Core) (s : Configuration) (c : ℕ) (h : Hearing) (piece buffer rest : List ℕ) → new.sessions ≡ mid.sessions → new.ribs ≡ mid.ribs
+    → ((x : Vec ℕ) → slice_get new.buffers.items c ≡ Some x → x.items ≡ buffer) → (length rest == 0) ≡ false → (was : HasHeardFront mid s c h piece buffer rest)
+    → IsBetween new s c (hears s c was.front h)
+front_between mid new s c h piece buffer rest sessions ribs put some was =
+    let none = some_left rest buffer some was.all in record {
+      knows = unmoved mid new s c (hears s c was.front h) sessions ribs was.knows;
+      rest = λ live. sym (was.waits.rest live) ∙ none;
+      empty = λ live x e. put x e ∙ none;
     }

@@ -59,3 +59,7 @@ on_err (Err e) p = p
 pub map_ok : {A E P Q : Type 0} (r : Result A E) → OnOk r P → (P → Q) → OnOk r Q
 map_ok (Ok x) p f = f p
 map_ok (Err e) p f = tt
+
+pub map_err : {A E P Q : Type 0} (r : Result A E) → OnErr r P → (P → Q) → OnErr r Q
+map_err (Ok x) p f = tt
+map_err (Err e) p f = f p

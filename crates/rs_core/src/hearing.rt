@@ -1,6 +1,7 @@
 //! Octets of a client, in any pieces, and moments: what its session hears.
 
-ghost use Rattle.std.specs.Prelude.{◌≡◌, ◌<◌, ◌≤◌, List, ◌∷◌, length, IfOk};
+ghost use Rattle.std.specs.Prelude.{◌≡◌, ◌≢◌, ◌<◌, ◌≤◌, ℕ, true, List, ◌∷◌, ◌++◌, Some, length, slice_get, IfOk, OnOk, OnErr};
+ghost use Rattle.std.specs.Global.{Vec};
 
 use crate::endings::Ending;
 use crate::route_server::Core;
@@ -11,33 +12,47 @@ use std::alloc::AllocError;
 use std::mem;
 
 /// What a header from a client may say.
-fn allowed(config: &Config) -> Allowed {
+fn allowed(config: &Config) -> Allowed
+    ensures { result ≡ allowed_in config.now }
+{
     Allowed {
         long: config.extended(),
         refresh: config.refresh(),
     }
 }
 
-/// Fills a buffer up from the front of a piece, as far as its message is known to reach. Answers what
-/// is left of the piece.
+/// Fills a buffer up from the front of a piece, until there is no more of it or a message or a refused
+/// header stands in the buffer. Answers what is left of the piece.
 fn fill_up<'a>(
     buffer: &mut Vec<u8>,
     piece: &'a [u8],
     allowed: Allowed,
-) -> Result<&'a [u8], AllocError> {
-    let Front::Wants(wanted) = read_front(buffer, allowed) else {
-        return Ok(piece);
-    };
-    let (front, rest) = piece.split_at(wanted.min(piece.len()));
-    buffer.extend_from_slice(front)?;
+) -> Result<&'a [u8], AllocError>
+    ensures { IfOk result (λ rest. FillsUp allowed buffer.old.items piece.now buffer.new.items rest.now) }
+{
+    let mut rest = piece;
+    while !rest.is_empty() {
+        let Front::Wants(wanted) = read_front(buffer, allowed) else {
+            return Ok(rest);
+        };
+        let (front, behind) = rest.split_at(wanted.min(rest.len()));
+        buffer.extend_from_slice(front)?;
+        rest = behind;
+    }
     Ok(rest)
 }
 
+ghost use Rattle.rs_core.specs.Hearing.{allowed_in};
+ghost use Rattle.rs_core.specs.Steps.{FillsUp};
+
 impl Core {
     ghost use Rattle.rs_core.specs.Core.{client_count};
-    ghost use Rattle.rs_core.specs.Moves.{Move, Saw};
-    ghost use Rattle.rs_core.specs.Hearing.{Hearing, sees};
-    ghost use Rattle.rs_core.specs.Agreeing.{Agrees, AgreesAt, Spares};
+    ghost use Rattle.rs_core.specs.Moves as moves;
+    ghost use Rattle.rs_core.specs.Moves.{Move, Saw, Left};
+    ghost use Rattle.rs_core.specs.Hearing.{Hearing, hears, sees, state_in};
+    ghost use Rattle.rs_core.specs.Agreeing.{Agrees, AgreesAt, IsCutShort, Knows, Spares, Waits};
+    ghost use Rattle.rs_core.specs.Steps.{HasHeardFront, IsBetween};
+    ghost use Rattle.rs_session.specs.Sessions.{is_live};
     ghost use Rattle.rs_policy.specs.Configuration.{Configuration};
 
     /// Hears octets of a client. Where memory is refused, all is as if the client were lost.
@@ -47,7 +62,9 @@ impl Core {
     /// `AllocError` where memory was refused.
     pub fn octets(&mut self, c: usize, piece: &[u8]) -> Result<(), AllocError>
         requires { c < client_count self.old }
-        ensures { client_count self.new ≡ client_count self.old }
+        ensures count { client_count self.new ≡ client_count self.old }
+        ensures heard { OnOk result ((run : List Move) → Agrees self.old run → Agrees self.new (moves.Heard c piece.now ∷ run)) }
+        ensures refused { OnErr result ((run : List Move) → Agrees self.old run → Agrees self.new (Left c ∷ run)) }
     {
         match self.hear(c, piece) {
             Ok(()) => Ok(()),
@@ -61,7 +78,9 @@ impl Core {
     /// Hears octets behind those that wait in the buffer.
     fn hear(&mut self, c: usize, piece: &[u8]) -> Result<(), AllocError>
         requires { c < client_count self.old }
-        ensures { client_count self.new ≡ client_count self.old }
+        ensures spares { Spares c self.old self.new }
+        ensures heard { OnOk result ((s : Configuration) (h : Hearing) → self.old.ribs.config ≡ s → AgreesAt self.old s c h → AgreesAt self.new s c (hears s c piece.now h)) }
+        ensures refused { OnErr result ((s : Configuration) (h : Hearing) → self.old.ribs.config ≡ s → AgreesAt self.old s c h → IsCutShort self.new s c h) }
     {
         if !self.is_live(c) {
             return Ok(());
@@ -69,10 +88,13 @@ impl Core {
         if self.buffers[c].is_empty() {
             return self.hear_piece(c, piece);
         }
-        let mut buffer = mem::replace(&mut self.buffers[c], Vec::new(self.alloc));
+        let mut buffer = self.take_buffer(c);
         let heard = self.hear_waiting(c, &mut buffer, piece);
-        self.buffers[c] = buffer;
+        self.put_buffer(c, buffer);
         let rest = heard?;
+        if rest.is_empty() {
+            return Ok(());
+        }
         self.hear_piece(c, rest)
     }
 
@@ -85,11 +107,15 @@ impl Core {
         piece: &'a [u8],
     ) -> Result<&'a [u8], AllocError>
         requires { c < client_count self.old }
-        ensures { client_count self.new ≡ client_count self.old }
+        ensures spares { Spares c self.old self.new }
+        ensures buffers { self.new.buffers ≡ self.old.buffers }
+        ensures heard { IfOk result (λ rest. (s : Configuration) (h : Hearing) → self.old.ribs.config ≡ s → is_live (state_in s c h) ≡ true → Knows self.old s c h
+            → Waits s c buffer.old.items h → HasHeardFront self.new s c h piece.now buffer.new.items rest.now) }
+        ensures refused { OnErr result ((s : Configuration) (h : Hearing) → self.old.ribs.config ≡ s → is_live (state_in s c h) ≡ true → Knows self.old s c h
+            → Waits s c buffer.old.items h → IsCutShort self.new s c h) }
     {
         let allowed = allowed(&self.ribs.config);
         let rest = fill_up(buffer, piece, allowed)?;
-        let rest = fill_up(buffer, rest, allowed)?;
         match read_front(buffer, allowed) {
             Front::Wants(_) => {}
             Front::Fault(fault) => {
@@ -108,15 +134,19 @@ impl Core {
     /// message waits.
     fn hear_piece(&mut self, c: usize, piece: &[u8]) -> Result<(), AllocError>
         requires { c < client_count self.old }
-        ensures { client_count self.new ≡ client_count self.old }
+        ensures spares { Spares c self.old self.new }
+        ensures heard { OnOk result ((s : Configuration) (h : Hearing) → self.old.ribs.config ≡ s → IsBetween self.old s c h → AgreesAt self.new s c (hears s c piece.now h)) }
+        ensures refused { OnErr result ((s : Configuration) (h : Hearing) → self.old.ribs.config ≡ s → IsBetween self.old s c h → IsCutShort self.new s c h) }
     {
         let allowed = allowed(&self.ribs.config);
         let mut octets = piece;
-        while !octets.is_empty() && self.is_live(c) {
+        while !octets.is_empty() {
+            if !self.is_live(c) {
+                return Ok(());
+            }
             match read_front(octets, allowed) {
                 Front::Wants(_) => {
-                    self.buffers[c].extend_from_slice(octets)?;
-                    return Ok(());
+                    return self.wait(c, octets);
                 }
                 Front::Fault(fault) => {
                     self.say(c, Heard::Header(fault));
@@ -129,6 +159,46 @@ impl Core {
             }
         }
         Ok(())
+    }
+
+    /// Keeps octets that are no whole message yet.
+    fn wait(&mut self, c: usize, octets: &[u8]) -> Result<(), AllocError>
+        requires { c < client_count self.old }
+        ensures count { client_count self.new ≡ client_count self.old }
+        ensures sessions { self.new.sessions ≡ self.old.sessions }
+        ensures ribs { self.new.ribs ≡ self.old.ribs }
+        ensures behind { OnOk result ((x y : Vec ℕ) → slice_get self.old.buffers.items c ≡ Some x → slice_get self.new.buffers.items c ≡ Some y → y.items ≡ x.items ++ octets.now) }
+        ensures others { (d : ℕ) → d ≢ c → slice_get self.new.buffers.items d ≡ slice_get self.old.buffers.items d }
+    {
+        let buffer = &mut self.buffers[c];
+        buffer.extend_from_slice(octets)
+    }
+
+    /// Takes the octets of a client that wait.
+    fn take_buffer(&mut self, c: usize) -> Vec<u8>
+        requires { c < client_count self.old }
+        ensures count { client_count self.new ≡ client_count self.old }
+        ensures sessions { self.new.sessions ≡ self.old.sessions }
+        ensures ribs { self.new.ribs ≡ self.old.ribs }
+        ensures taken { slice_get self.old.buffers.items c ≡ Some result }
+        ensures others { (d : ℕ) → d ≢ c → slice_get self.new.buffers.items d ≡ slice_get self.old.buffers.items d }
+    {
+        let none = Vec::new(self.alloc);
+        let buffer = &mut self.buffers[c];
+        mem::replace(buffer, none)
+    }
+
+    /// These octets of a client wait now.
+    fn put_buffer(&mut self, c: usize, octets: Vec<u8>)
+        requires { c < client_count self.old }
+        ensures count { client_count self.new ≡ client_count self.old }
+        ensures sessions { self.new.sessions ≡ self.old.sessions }
+        ensures ribs { self.new.ribs ≡ self.old.ribs }
+        ensures put { (x : Vec ℕ) → slice_get self.new.buffers.items c ≡ Some x → x.items ≡ octets.items }
+        ensures others { (d : ℕ) → d ≢ c → slice_get self.new.buffers.items d ≡ slice_get self.old.buffers.items d }
+    {
+        let buffer = &mut self.buffers[c];
+        *buffer = octets;
     }
 
     /// A moment is seen, in seconds. One that is less than an earlier one counts as the greatest so

@@ -1,9 +1,17 @@
-use Rattle.std.proofs.Common.{◌≡◌, length}
-use Rattle.rs_core.specs.Core.{client_count}
+use Rattle.std.proofs.Common.{◌≡◌, ℕ, List, ◌++◌, length}
+use Rattle.rs_policy.specs.Configuration.{Configuration}
+use Rattle.rs_core.specs.Hearing.{Hearing, hears}
+use Rattle.rs_core.specs.Steps.{IsBetween}
+use Rattle.rs_core.specs.Agreeing.{Spares}
 use Rattle.rs_core.proofs.route_server.Core.hear_piece.Given as goal
 
-abbrev pub invariant-loop-self : goal.invariant-loop-self
-invariant-loop-self l = client_count l.self ≡ client_count l.fn.self
+abbrev pub invariant-loop-octets : goal.invariant-loop-octets
+invariant-loop-octets l = record {
+  spares : Spares l.c l.fn.self l.self;
+  buffers : l.self.buffers ≡ l.fn.self.buffers;
+  heard : (before : List ℕ) × (l.piece ≡ before ++ l.octets)
+      × ((s : Configuration) (h : Hearing) → l.fn.self.ribs.config ≡ s → IsBetween l.fn.self s l.c h → IsBetween l.self s l.c (hears s l.c before h));
+}
 
-abbrev pub decreases-loop-self : goal.decreases-loop-self
-decreases-loop-self l = length l.octets
+abbrev pub decreases-loop-octets : goal.decreases-loop-octets
+decreases-loop-octets l = length l.octets

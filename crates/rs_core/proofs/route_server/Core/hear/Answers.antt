@@ -1,0 +1,74 @@
+use Rattle.std.proofs.Common.{◌≡◌, ◌<◌, ◌==◌, length, refl, sym, ◌∙◌, ap, subst, arith}
+use Rattle.std.proofs.lemmas.Option.{slice_get_read}
+use Rattle.rs_core.specs.Core.{client_count}
+use Rattle.rs_core.specs.Hearing.{hears}
+use Rattle.rs_core.specs.declared.ribs.Ribs.{Ribs}
+use Rattle.rs_core.proofs.Lists.{map_ok, map_err}
+use Rattle.rs_core.proofs.Cutting.{unmoved, deaf_agrees, is_between, cut_before, agrees_joined}
+use Rattle.rs_core.proofs.Filling.{is_none, front_agrees, front_between}
+use Rattle.rs_core.proofs.route_server.Core.hear.Goals as goal
+
+pub returns-then-not-is_live-clause-heard : goal.returns-then-not-is_live-clause-heard
+unfolding client_count
+returns-then-not-is_live-clause-heard c = λ s h config at.
+    deaf_agrees c.args.self.now s c.args.c c.args.piece.now h (sym (c.is_live.ensures s h at.knows) ∙ c.if-not-is_live.true) at.knows
+
+pub returns-then-is_empty-clause-heard : goal.returns-then-is_empty-clause-heard
+unfolding client_count
+returns-then-is_empty-clause-heard c = map_ok c.hear_piece.result c.hear_piece.ensures.heard (λ heard s h config at.
+    let buffers = c.args.self.now.buffers.items in
+    let lt : c.args.c < length buffers = subst (λ k. c.args.c < k) (sym c.args.self.now.buffers_len) c.requires in
+    let read = slice_get_read buffers (length buffers) c.args.c c.index.result.now refl lt c.index.ensures in
+    let size : length c.index.result.now.items ≡ c.index.result.now.len = omega (arith, c.index.result.now.ok.0) in
+    heard s h config (is_between c.args.self.now s c.args.c h c.index.result.now read (is_none c.index.result.now.items (ap (λ n. n == 0) size ∙ sym c.is_empty.ensures ∙ c.if-is_empty.true)) at))
+
+pub returns-then-is_empty-clause-refused : goal.returns-then-is_empty-clause-refused
+unfolding client_count
+returns-then-is_empty-clause-refused c = map_err c.hear_piece.result c.hear_piece.ensures.refused (λ refused s h config at.
+    let buffers = c.args.self.now.buffers.items in
+    let lt : c.args.c < length buffers = subst (λ k. c.args.c < k) (sym c.args.self.now.buffers_len) c.requires in
+    let read = slice_get_read buffers (length buffers) c.args.c c.index.result.now refl lt c.index.ensures in
+    let size : length c.index.result.now.items ≡ c.index.result.now.len = omega (arith, c.index.result.now.ok.0) in
+    refused s h config (is_between c.args.self.now s c.args.c h c.index.result.now read (is_none c.index.result.now.items (ap (λ n. n == 0) size ∙ sym c.is_empty.ensures ∙ c.if-is_empty.true)) at))
+
+pub returns-then-is_empty-2-clause-heard : goal.returns-then-is_empty-2-clause-heard
+unfolding client_count
+returns-then-is_empty-2-clause-heard c = λ s h config at.
+    let i = c.args.c in
+    let taken = c.take_buffer-buffer in
+    let heard = c.hear_waiting-heard in
+    let live = sym (c.is_live.ensures s h at.knows) ∙ c.if-not-is_live.false in
+    let front = c.in_ok-rest.ensures.heard s h (ap (λ (r : Ribs). r.config) taken.ensures.ribs ∙ config) live
+    (unmoved c.args.self.now taken.new.self s i h taken.ensures.sessions taken.ensures.ribs at.knows) (at.waits taken.result taken.ensures.taken) in
+    front_agrees heard.new.self c.put_buffer.new.self s i h c.args.piece.now heard.new.buffer.items c.in_ok-rest.rest.now c.put_buffer.ensures.sessions c.put_buffer.ensures.ribs c.put_buffer.ensures.put
+    (is_none c.in_ok-rest.rest.now (sym c.is_empty-2.ensures ∙ c.if-is_empty-2.true)) front
+
+pub returns-clause-heard : goal.returns-clause-heard
+unfolding client_count
+returns-clause-heard c = map_ok c.hear_piece-2.result c.hear_piece-2.ensures.heard (λ on s h config at.
+    let i = c.args.c in
+    let taken = c.take_buffer-buffer in
+    let heard = c.hear_waiting-heard in
+    let live = sym (c.is_live.ensures s h at.knows) ∙ c.if-not-is_live.false in
+    let first = ap (λ (r : Ribs). r.config) taken.ensures.ribs ∙ config in
+    let front = c.in_ok-rest.ensures.heard s h first live
+    (unmoved c.args.self.now taken.new.self s i h taken.ensures.sessions taken.ensures.ribs at.knows) (at.waits taken.result taken.ensures.taken) in
+    agrees_joined c.hear_piece-2.new.self s i c.args.piece.now front.front c.in_ok-rest.rest.now h front.whole
+    (on s (hears s i front.front h) (ap (λ (r : Ribs). r.config) c.put_buffer.ensures.ribs ∙ heard.ensures.spares.config ∙ first)
+    (front_between heard.new.self c.put_buffer.new.self s i h c.args.piece.now heard.new.buffer.items c.in_ok-rest.rest.now c.put_buffer.ensures.sessions c.put_buffer.ensures.ribs c.put_buffer.ensures.put
+    (sym c.is_empty-2.ensures ∙ c.if-is_empty-2.false) front)))
+
+pub returns-clause-refused : goal.returns-clause-refused
+unfolding client_count
+returns-clause-refused c = map_err c.hear_piece-2.result c.hear_piece-2.ensures.refused (λ on s h config at.
+    let i = c.args.c in
+    let taken = c.take_buffer-buffer in
+    let heard = c.hear_waiting-heard in
+    let live = sym (c.is_live.ensures s h at.knows) ∙ c.if-not-is_live.false in
+    let first = ap (λ (r : Ribs). r.config) taken.ensures.ribs ∙ config in
+    let front = c.in_ok-rest.ensures.heard s h first live
+    (unmoved c.args.self.now taken.new.self s i h taken.ensures.sessions taken.ensures.ribs at.knows) (at.waits taken.result taken.ensures.taken) in
+    cut_before c.hear_piece-2.new.self s i front.front h
+    (on s (hears s i front.front h) (ap (λ (r : Ribs). r.config) c.put_buffer.ensures.ribs ∙ heard.ensures.spares.config ∙ first)
+    (front_between heard.new.self c.put_buffer.new.self s i h c.args.piece.now heard.new.buffer.items c.in_ok-rest.rest.now c.put_buffer.ensures.sessions c.put_buffer.ensures.ribs c.put_buffer.ensures.put
+    (sym c.is_empty-2.ensures ∙ c.if-is_empty-2.false) front)))

@@ -1,0 +1,103 @@
+use Rattle.std.proofs.Common.{◌≡◌, ◌<◌, ◌++◌, length, sym, ◌∙◌, ap, subst, append_assoc}
+use Rattle.std.proofs.lemmas.List.{append-nil}
+use Rattle.rs_octets.specs.Fronts.{BeginsWith, BeginsFaulty, Wants}
+use Rattle.rs_octets.specs.Messages.{IsMessageOf}
+use Rattle.rs_core.specs.Core.{client_count}
+use Rattle.rs_core.specs.Hearing.{Hearing, allowed_in, hears}
+use Rattle.rs_core.specs.Agreeing.{AgreesAt}
+use Rattle.rs_core.proofs.Lists.{on_err, map_ok}
+use Rattle.rs_core.proofs.Agreeing.{spares_both, cut_short}
+use Rattle.rs_core.proofs.Cutting.{unmoved, alone_waits, after_message, after_fault, fault_between, after_beginning, after_all, deaf_agrees, cut_before, agrees_joined, between_joined, waiting_spares}
+use Rattle.rs_core.proofs.Filling.{is_none}
+use Rattle.rs_core.proofs.route_server.Core.hear_piece.Goals as goal
+
+pub returns-then-not-is_live-clause-heard : goal.returns-then-not-is_live-clause-heard
+unfolding client_count
+returns-then-not-is_live-clause-heard c = λ s h config between.
+    let it = c.loop-octets.invariant.heard in
+    let at = it.2 s h config between in
+    agrees_joined c.loop-octets.self s c.args.c c.args.piece.now it.0 c.loop-octets.octets.now h it.1
+    (deaf_agrees c.loop-octets.self s c.args.c c.loop-octets.octets.now (hears s c.args.c it.0 h) (sym (c.is_live.ensures s (hears s c.args.c it.0 h) at.knows) ∙ c.if-not-is_live.true) at.knows)
+
+pub returns-in-Wants-clause-spares : goal.returns-in-Wants-clause-spares
+unfolding client_count
+returns-in-Wants-clause-spares c = spares_both c.args.c c.args.self.now c.loop-octets.self c.wait.new.self c.loop-octets.invariant.spares
+    (waiting_spares c.loop-octets.self c.wait.new.self c.args.c c.wait.ensures.count c.wait.ensures.sessions c.wait.ensures.ribs c.wait.ensures.others)
+
+pub returns-in-Wants-clause-heard : goal.returns-in-Wants-clause-heard
+unfolding client_count
+returns-in-Wants-clause-heard c = map_ok c.wait.result c.wait.ensures.behind (λ behind s h config between.
+    let it = c.loop-octets.invariant.heard in
+    let at = it.2 s h config between in
+    let before : Hearing = hears s c.args.c it.0 h in
+    let live = sym (c.is_live.ensures s before at.knows) ∙ c.if-not-is_live.false in
+    let wants : Wants (allowed_in s) c.loop-octets.octets.now c.in-Wants.field-0 = subst (λ a. Wants a c.loop-octets.octets.now c.in-Wants.field-0) (c.allowed-allowed.ensures ∙ ap allowed_in config) c.in-Wants.ensures.front in
+    let within : c.args.c < c.loop-octets.self.count = subst (λ n. c.args.c < n) (sym c.loop-octets.invariant.spares.count) c.requires in
+    let lt : c.args.c < length c.loop-octets.self.buffers.items = subst (λ n. c.args.c < n) (sym c.loop-octets.self.buffers_len) within in
+    agrees_joined c.wait.new.self s c.args.c c.args.piece.now it.0 c.loop-octets.octets.now h it.1
+    (after_beginning c.loop-octets.self c.wait.new.self s c.args.c before c.loop-octets.octets.now c.in-Wants.field-0 live at wants c.wait.ensures.sessions c.wait.ensures.ribs
+    (alone_waits c.loop-octets.self c.wait.new.self s c.args.c before c.loop-octets.octets.now lt live at behind)))
+
+pub returns-in-Wants-clause-refused : goal.returns-in-Wants-clause-refused
+unfolding client_count
+returns-in-Wants-clause-refused c = on_err c.wait.result (λ s h config between.
+    let it = c.loop-octets.invariant.heard in
+    let at = it.2 s h config between in
+    let before : Hearing = hears s c.args.c it.0 h in
+    cut_before c.wait.new.self s c.args.c it.0 h
+    (cut_short c.wait.new.self s c.args.c before (unmoved c.loop-octets.self c.wait.new.self s c.args.c before c.wait.ensures.sessions c.wait.ensures.ribs at.knows)))
+
+pub returns-in-Fault-clause-heard : goal.returns-in-Fault-clause-heard
+unfolding client_count
+returns-in-Fault-clause-heard c = λ s h config between.
+    let it = c.loop-octets.invariant.heard in
+    let at = it.2 s h config between in
+    let before : Hearing = hears s c.args.c it.0 h in
+    let live = sym (c.is_live.ensures s before at.knows) ∙ c.if-not-is_live.false in
+    let faulty : BeginsFaulty (allowed_in s) c.loop-octets.octets.now c.in-Fault.fault = subst (λ a. BeginsFaulty a c.loop-octets.octets.now c.in-Fault.fault) (c.allowed-allowed.ensures ∙ ap allowed_in config) c.in-Fault.ensures.front in
+    agrees_joined c.say.new.self s c.args.c c.args.piece.now it.0 c.loop-octets.octets.now h it.1
+    (after_fault c.say.new.self s c.args.c before c.loop-octets.octets.now c.in-Fault.fault live (fault_between s c.args.c c.loop-octets.self before c.loop-octets.octets.now c.in-Fault.fault live at faulty)
+    (c.say.ensures.alone s before at.knows))
+
+pub returns-in_err-hear_message-in-Message-clause-refused : goal.returns-in_err-hear_message-in-Message-clause-refused
+unfolding client_count
+returns-in_err-hear_message-in-Message-clause-refused c = on_err c.from_residual.result (λ s h config between.
+    let it = c.loop-octets.invariant.heard in
+    let at = it.2 s h config between in
+    cut_before c.hear_message.new.self s c.args.c it.0 h (c.in_err-hear_message-in-Message.ensures.refused s (hears s c.args.c it.0 h) at.knows))
+
+pub loop-octets-preserved : goal.loop-octets-preserved
+unfolding client_count
+loop-octets-preserved c =
+    let it = c.loop-octets.invariant.heard in
+    let at = c.in-Message.ensures.front in
+    record {
+      spares = spares_both c.args.c c.args.self.now c.loop-octets.self c.hear_message.new.self c.loop-octets.invariant.spares c.hear_message.ensures.spares;
+      buffers = c.hear_message.ensures.buffers ∙ c.loop-octets.invariant.buffers;
+      heard = (
+        it.0 ++ at.message,
+        it.1 ∙ ap (λ o. it.0 ++ o) at.whole ∙ sym (append_assoc it.0 at.message c.in-Message.rest.now),
+        λ s h config between.
+            let was = it.2 s h config between in
+            let before : Hearing = hears s c.args.c it.0 h in
+            let live = sym (c.is_live.ensures s before was.knows) ∙ c.if-not-is_live.false in
+            let begins : BeginsWith (allowed_in s) c.loop-octets.octets.now c.in-Message.kind c.in-Message.body.now c.in-Message.rest.now = record {
+              message = at.message;
+              is = subst (λ a. IsMessageOf a c.in-Message.kind at.message) (c.allowed-allowed.ensures ∙ ap allowed_in config) at.is;
+              body_is = at.body_is;
+              whole = at.whole;
+            } in
+            between_joined c.hear_message.new.self s c.args.c it.0 at.message h
+            (after_message c.loop-octets.self c.hear_message.new.self s c.args.c before c.loop-octets.octets.now c.in-Message.kind c.in-Message.body.now c.in-Message.rest.now begins live c.hear_message.ensures.buffers was
+            (c.in_ok-hear_message-in-Message.ensures.heard s before (c.loop-octets.invariant.spares.config ∙ config) live was.knows)),
+      );
+    }
+
+pub returns-clause-heard : goal.returns-clause-heard
+unfolding client_count
+returns-clause-heard c = λ s h config between.
+    let it = c.loop-octets.invariant.heard in
+    let at = it.2 s h config between in
+    let none = is_none c.loop-octets.octets.now (sym c.is_empty.ensures ∙ c.loop-octets-test.false) in
+    let whole : c.args.piece.now ≡ it.0 = it.1 ∙ ap (λ o. it.0 ++ o) none ∙ append-nil it.0 in
+    subst (λ p. AgreesAt c.loop-octets.self s c.args.c (hears s c.args.c p h)) (sym whole) (after_all c.loop-octets.self s c.args.c (hears s c.args.c it.0 h) at)
