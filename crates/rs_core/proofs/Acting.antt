@@ -128,7 +128,7 @@ begins_spared c i old new begins = record { held = others_held old new c i begin
 pub acted : (old new : Core) (act : Act) (item : Item) (x t : Session) (s : Configuration) (c : ℕ) (h next : Hearing)
     → slice_get old.sessions.items c ≡ Some x → c < length old.sessions.items → new.sessions.items ≡ slice_set old.sessions.items c t
     → RespondsTo x t item act → ActsOn act c (slice_set old.sessions.items c t) old.ribs.tables new.ribs.tables
-    → new.ribs.config ≡ old.ribs.config → ((none : View) → Voices act c (slice_set old.sessions.items c t) (outlet_in old.ribs c none) (outlet_in new.ribs c none))
+    → new.ribs.config ≡ old.ribs.config → ((none : View) → Voices act old.ribs.extended c (slice_set old.sessions.items c t) (outlet_in old.ribs c none) (outlet_in new.ribs c none))
     → (act_of (session_in s c) item h.items ≡ acts.Say short.Open → ⊥) → next.items ≡ item ∷ h.items → next.taken ≡ h.taken
     → (is_up (state_in s c h) ≡ false → act_of (session_in s c) item h.items ≡ acts.Up → next.changes ≡ [])
     → (is_up (state_in s c h) ≡ true → is_up (state_in s c next) ≡ true → next.changes ≡ h.changes)
@@ -145,7 +145,7 @@ acted old new act item x t s c h next read lt sessions responds does config voic
       session = λ y e. subst (λ z. HasHeard z (session_in s c) next.items) (sym ((set_at old.sessions.items c t lt).own y (ap (λ l. slice_get l c) (sym sessions) ∙ e))) heard;
       table = has.table;
       identifier = has.identifier;
-      outlet = λ is none. acted_voice act (slice_set old.sessions.items c t) t s c h next (outlet_in old.ribs c none) (outlet_in new.ribs c none) (voices none) got heard tells
+      outlet = λ is none. acted_voice act old.ribs.extended s (old.ribs.long ∙ ap (λ (k : Configuration). k.top.extended) (sym config ∙ is)) (slice_set old.sessions.items c t) t c h next (outlet_in old.ribs c none) (outlet_in new.ribs c none) (voices none) got heard tells
           (λ e. never (sym it.act_is ∙ e)) taken (knows.outlet (sym config ∙ is) none);
     }
 
@@ -185,7 +185,7 @@ live_before settings t items e = live_by (is_connected items) (fate settings ite
 pub seen : (old new : Core) (act : Act) (x after : Session) (s : Configuration) (c t : ℕ) (h : Hearing)
     → slice_get old.sessions.items c ≡ Some x → c < length old.sessions.items → new.sessions.items ≡ slice_set old.sessions.items c after → new.buffers ≡ old.buffers
     → RespondsTo x after (Moment t) act → ActsOn act c (slice_set old.sessions.items c after) old.ribs.tables new.ribs.tables
-    → new.ribs.config ≡ old.ribs.config → ((none : View) → Voices act c (slice_set old.sessions.items c after) (outlet_in old.ribs c none) (outlet_in new.ribs c none))
+    → new.ribs.config ≡ old.ribs.config → ((none : View) → Voices act old.ribs.extended c (slice_set old.sessions.items c after) (outlet_in old.ribs c none) (outlet_in new.ribs c none))
     → AgreesAt old s c h → AgreesAt new s c (sees t h)
 seen old new act x after s c t h read lt sessions buffers responds does config voices at = record {
   knows = acted old new act (Moment t) x after s c h (sees t h) read lt sessions responds does config voices (never_open_by_moment (session_in s c) t h.items) refl refl
@@ -223,6 +223,7 @@ came old new act x t s c h read lt sessions emptied tables greets responds at =
 pub alone_follows : (s : Configuration) (c : ℕ) (message : Heard) (h : Hearing) → Follows s c message h (takes_in s c (without_change message) h)
 alone_follows s c message h = record {
   items = refl;
+  taken = refl;
   fresh = λ down. ap (λ b. if b then h.changes else []) down;
   same = λ up now. ap (λ b. if b then h.changes else []) up;
 }

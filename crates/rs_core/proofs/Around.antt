@@ -1,6 +1,7 @@
 -- What calls on the RIBs of one client do to the outlets of all.
 use Rattle.std.proofs.Common.{◌≡◌, ◌≢◌, ◌⊎◌, inl, inr, ◌<◌, ℕ, Bool, true, false, List, [], ◌∷◌, refl, sym, ◌∙◌, ap, subst}
-use Rattle.std.specs.Prelude.{Option, Some, None}
+use Rattle.std.specs.Prelude.{Option, Some, None, slice_index_or}
+use Rattle.std.specs.Global.{Vec}
 use Rattle.std.specs.FinMap as fin
 use Rattle.rs_octets.specs.Prefixes.{Prefix}
 use Rattle.rs_attrs.specs.Meaning.{Attribute}
@@ -11,7 +12,7 @@ use Rattle.rs_adjin.specs.declared.adj_ins.AdjIns.{AdjIns}
 use Rattle.rs_outlet.specs.Views.{View, cleared, finished}
 use Rattle.rs_open.specs.declared.short.Short.{Short}
 use Rattle.rs_core.specs.Touches.{IsTouchedWhereHeld, IsTouchedAt, IsAskedAgain}
-use Rattle.rs_core.specs.Ribs.{outlet_in, ChangesOthers, ChangesOwn, TouchesChange}
+use Rattle.rs_core.specs.Ribs.{outlet_in, ChangesAround, ChangesOthers, ChangesOwn, TouchesChange}
 use Rattle.rs_core.specs.Voices.{IsInOrder, SaysTheSame, IsSilent, TellsAgain, KeepsVoices, TouchesOthers}
 use Rattle.rs_core.specs.declared.ribs.Ribs.{Ribs}
 use Rattle.rs_core.proofs.Voicing.{same_is, same_on, touched_same, in_order}
@@ -28,6 +29,10 @@ voices_on c old mid new count a b d none lt ne = same_on (outlet_in old d none) 
 pub held_voices : (c : ℕ) (ins : AdjIns) (old new : Ribs) → ChangesOthers c (IsTouchedWhereHeld ins c) old new → KeepsVoices c old new
 held_voices c ins old new changes d none lt ne = let t = changes.others d none lt ne in touched_same t.prefixes _ _ t.touched
 
+-- and its own has changed
+pub around_voices : (c : ℕ) (Is : View → View → Type 0) (ins : AdjIns) (old new : Ribs) → ChangesAround c Is (IsTouchedWhereHeld ins c) old new → KeepsVoices c old new
+around_voices c Is ins old new changes d none lt ne = let t = changes.others d none lt ne in touched_same t.prefixes _ _ t.touched
+
 same_or : (a b : Option (List Attribute)) → (a ≡ b) ⊎ (a ≢ b)
 same_or None None = inl refl
 same_or None (Some n) = inr (λ e. absurd (let f : ◌≡◌ {A = Option (List Attribute)} None (Some n) = e in cc))
@@ -41,8 +46,8 @@ same_or (Some m) (Some n) = by_test (same_attributes m n) refl where
 pub change_touches : (c : ℕ) (p : Prefix) (old new : Ribs) → TouchesChange c p old new → TouchesOthers c old new
 change_touches c p old new touches = elim (same_or (held_of new.tables c p) (held_of old.tables c p)) [
   | inl same ↦ let e = touches.unchanged same in record {
-      own = λ none. ap (λ v. outlet_in (record old { outlets = v }) c none) e;
-      others = λ d none lt ne. same_is _ _ (ap (λ v. outlet_in (record old { outlets = v }) d none) e);
+      own = λ none. ap (λ (v : Vec View). slice_index_or v.items c none) e;
+      others = λ d none lt ne. same_is _ _ (ap (λ (v : Vec View). slice_index_or v.items d none) e);
     }
   | inr differs ↦ let changes = touches.changed differs in record {
       own = changes.own;

@@ -135,9 +135,9 @@ pub due_below : (s : Configuration) (n c : ℕ) (speech : Speech) (p : Prefix) (
 due_below s n c speech p f g x y same =
     let holders : List (ℕ × List Attribute) = holders_from (λ d. x d p) 0 n in
     let ranks : List Rank = ranks_among (held_as s n x f) c p holders in
-    let is : ranks ≡ ranks_among (held_as s n y g) c p (holders_from (λ d. y d p) 0 n) = ranks_alike s n c p f g x y 0 n refl same in
+    let is : ranks ≡ ranks_among (held_as s n y g) c p (holders_from (λ d. y d p) 0 n) = ranks_alike s n c p f g x y 0 n (omega arith) same in
     let others = best_kept (λ r. r.place ≢ c) ranks (others_among (held_as s n x f) c p holders) in
-    let below = best_kept (λ r. r.place < n) ranks (ranks_below (held_as s n x f) c n p holders (holders_below (λ d. x d p) n 0 n refl)) in
+    let below = best_kept (λ r. r.place < n) ranks (ranks_below (held_as s n x f) c n p holders (holders_below (λ d. x d p) n 0 n (omega arith))) in
     by_best s n c speech p f g x y (best_of ranks)
     (λ r e. (same r.place (first_of_all (λ r. r.place < n) (by_place ranks) r below e) (first_of_all (λ r. r.place ≢ c) (by_place ranks) r others e)).held)
     ∙ ap (λ rs. option_and_then (λ r. route_from (held_as s n y g) c speech p r.place) (best_of rs)) is

@@ -24,4 +24,5 @@ pub mod Spoken
 pub mod Voicing
 pub mod Around
 pub mod Serving
+pub mod Outgoing
 pub mod Mandated

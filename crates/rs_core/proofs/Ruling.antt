@@ -50,9 +50,9 @@ knows_by old new s t c h session sessions tables outlet w = record {
   outlet = outlet;
 }
 
--- what is known is known where neither the sessions nor the RIBs have changed
-pub knows_same : (old new : Core) (s : Configuration) (c : ℕ) (h : Hearing) → new.sessions ≡ old.sessions → new.ribs ≡ old.ribs → Knows old s c h → Knows new s c h
-knows_same old new s c h sessions ribs w = knows_by old new s s c h refl sessions (ap (λ (r : Ribs). r.tables) ribs)
+-- where nothing but what waits has changed, what is known is known
+pub unmoved : (old new : Core) (s : Configuration) (c : ℕ) (h : Hearing) → new.sessions ≡ old.sessions → new.ribs ≡ old.ribs → Knows old s c h → Knows new s c h
+unmoved old new s c h sessions ribs w = knows_by old new s s c h refl sessions (ap (λ (r : Ribs). r.tables) ribs)
     (λ config none. subst (λ r. SpeaksTo s c h (outlet_in r c none)) (sym ribs) (w.outlet (sym (ap (λ (r : Ribs). r.config) ribs) ∙ config) none)) w
 
 speech_fixed : (s t : Configuration) (c : ℕ) (h : Hearing) → session_in s c ≡ session_in t c → speech_in t c h ≡ speech_in s c h
@@ -86,7 +86,7 @@ unchanged old new run count ribs sessions buffers h = record {
   clients = λ c lt.
       let at = h.clients c (subst (λ n. c < n) count lt) in
       record {
-        knows = knows_same old new (config_in run) c (hearing c run) sessions ribs at.knows;
+        knows = unmoved old new (config_in run) c (hearing c run) sessions ribs at.knows;
         waits = λ x e. at.waits x (ap (λ v. slice_get v.items c) (sym buffers) ∙ e);
       };
 }

@@ -1,13 +1,17 @@
 -- What a message of an outlet makes of what its client was told.
-use Rattle.std.proofs.Common.{◌≡◌, ◌≢◌, ◌⊎◌, inl, inr, ◌<◌, ◌≤◌, ◌||◌, ℕ, Bool, true, false, List, [], ◌∷◌, ◌++◌, length, refl, sym, ◌∙◌, ap, subst, arith}
+use Rattle.std.proofs.Common.{◌≡◌, ◌≢◌, ◌⊎◌, inl, inr, ◌<◌, ◌≤◌, ◌||◌, ◌&&◌, nat_eq, ℕ, Bool, true, false, List, [], ◌∷◌, ◌++◌, length, refl, sym, ◌∙◌, ap, subst, arith}
 use Rattle.std.specs.Prelude.{Option, Some, None, if◌then◌else◌}
 use Rattle.std.specs.List.{AllByRecursion}
 use Rattle.std.specs.FinMap as fin
+use Rattle.std.specs.Ordering.{eq_by_cmp, is_eq, nat_cmp, ordering_then}
+use Rattle.std.specs.declared.cmp.Ordering.{Ordering}
+use Rattle.std.specs.declared.cmp.Ordering.TheVariants.{Less, Equal, Greater}
+use Rattle.std.proofs.lemmas.Bool.Decides.{nat_tests}
 use Rattle.std.specs.FinSet as set
 use Rattle.std.proofs.lemmas.List.{append-nil}
 use Rattle.rs_octets.specs.declared.heads.Kind.TheVariants as kinds
 use Rattle.rs_octets.specs.Messages.{IsMessageOf, body_of}
-use Rattle.rs_octets.specs.Prefixes.{Prefix}
+use Rattle.rs_octets.specs.Prefixes.{Prefix, prefix_order}
 use Rattle.rs_attrs.specs.declared.mode.Mode.{Mode}
 use Rattle.rs_attrs.specs.Meaning.{Attribute}
 use Rattle.rs_attrs.specs.Writing.{spelt}
@@ -18,20 +22,31 @@ use Rattle.rs_packer.specs.Laws.{IsAnnounceable, IsWithdrawable}
 use Rattle.rs_packer.proofs.EachOnce.{announcement_announces, withdrawal_withdraws}
 use Rattle.rs_packer.proofs.UpdateMessages.{update_is_message}
 use Rattle.rs_outlet.specs.Begins.{is_among}
-use Rattle.rs_outlet.proofs.Touches.{any_eq-cmp}
 use Rattle.rs_core.specs.Telling.{each_message, no_table, Speaks}
 use Rattle.rs_core.proofs.Telling.{speaks_over, speaks_same}
 
+both_equal : (r s : Ordering) → is_eq (ordering_then r s) ≡ (is_eq r && is_eq s)
+both_equal Less s = refl
+both_equal Equal s = refl
+both_equal Greater s = refl
+
+numbers_equal : (x y : ℕ) → is_eq (nat_cmp x y) ≡ nat_eq x y
+numbers_equal x y = grind (arith, nat_tests)
+
+tied_same : (a b : Prefix) → eq_by_cmp prefix_order a b ≡ same_prefix a b
+tied_same a b = both_equal (nat_cmp a.bits b.bits) (nat_cmp a.len b.len) ∙ (λ i. numbers_equal a.bits b.bits i && numbers_equal a.len b.len i)
+
 among_has : (q : Prefix) (ps : List Prefix) → is_among q ps ≡ has_prefix q ps
-among_has q ps = any_eq-cmp q ps
+among_has q [] = refl
+among_has q (p ∷ ps) = λ i. tied_same q p i || among_has q ps i
 
 -- what holds of each of them holds of one that is among them
 all_at : (P : Prefix → Type 0) (ps : List Prefix) (q : Prefix) → AllByRecursion P ps → has_prefix q ps ≡ true → P q
 all_at P [] q h e = absurd (let f : false ≡ true = e in cc)
-all_at P (p ∷ ps) q h e = by_test (same_prefix q p) refl where
-  by_test : (b : Bool) → same_prefix q p ≡ b → P q
-  by_test true f = subst P (sym (same_is q p f)) h.0
-  by_test false f = all_at P ps q h.1 (sym (ap (λ b. b || has_prefix q ps) f) ∙ e)
+all_at P (p ∷ ps) q h e = by_test (same_prefix q p) refl (all_at P ps q h.1) where
+  by_test : (b : Bool) → same_prefix q p ≡ b → (has_prefix q ps ≡ true → P q) → P q
+  by_test true f later = subst P (sym (same_is q p f)) h.0
+  by_test false f later = later (sym (ap (λ b. b || has_prefix q ps) f) ∙ e)
 
 -- these prefixes are announced with the attributes that are due there
 pub announced_speaks : (mode : Mode) (octets flight : List ℕ) (t loc u : Prefix → Option (List Attribute)) (ps : List Prefix) (m : List Attribute) → IsAnnounceable m mode ps

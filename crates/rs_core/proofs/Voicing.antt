@@ -5,7 +5,7 @@ use Rattle.std.proofs.lemmas.List.{append-nil, take-append-drop}
 use Rattle.std.specs.Prelude.{Option, Some, None, slice_get, if◌then◌else◌}
 use Rattle.std.specs.FinMap as fin
 use Rattle.std.specs.FinSet as set
-use Rattle.rs_octets.specs.Prefixes.{Prefix}
+use Rattle.rs_octets.specs.Prefixes.{Prefix, prefix_order}
 use Rattle.rs_attrs.specs.declared.mode.Mode.{Mode}
 use Rattle.rs_attrs.specs.Meaning.{Attribute}
 use Rattle.rs_session.specs.declared.act.Act.{Act}
@@ -17,7 +17,7 @@ use Rattle.rs_session.specs.declared.heard.Heard.{Heard}
 use Rattle.rs_session.specs.declared.settings.Settings.{Settings}
 use Rattle.rs_session.specs.Items.{Item, Message, Moment, message_count}
 use Rattle.rs_session.specs.Endings.{Fate, GoesOn, Ends}
-use Rattle.rs_session.specs.Sessions.{state_of, is_live, agreed_of, act_of, message_act, moment_act, item_fate, falls_due, is_request}
+use Rattle.rs_session.specs.Sessions.{state_of, is_live, agreed_of, limit_by, mode_in, mode_by, act_of, message_act, moment_act, item_fate, falls_due, is_request}
 use Rattle.rs_session.specs.Hearing.{HasHeard, Tells, Stays, Says, ComesUp}
 use Rattle.rs_open.specs.declared.short.Short.{Short}
 use Rattle.rs_open.specs.declared.short.Short.TheVariants as short
@@ -28,6 +28,8 @@ use Rattle.rs_attrs.specs.Comparing.{same_attributes}
 use Rattle.rs_attrs.specs.Effects.{lacks_mandatory}
 use Rattle.rs_open.specs.Notes.{limit_octets}
 use Rattle.rs_open.specs.Writing.{keepalive, server_open}
+use Rattle.rs_open.specs.declared.open.Open.{Open}
+use Rattle.rs_open.specs.declared.writing.ServerOpen.{ServerOpen}
 use Rattle.rs_open.specs.declared.short.Limit.{Limit}
 use Rattle.rs_open.specs.declared.short.Limit.TheVariants as limits
 use Rattle.rs_octets.proofs.GoodHeaders.{written_is_message}
@@ -44,7 +46,7 @@ use Rattle.rs_core.specs.Turns.{IsMarked, IsDone, IsTurn}
 use Rattle.rs_core.specs.Hearing.{Hearing, session_in, state_in, is_up}
 use Rattle.rs_core.specs.Runs.{speech_by, speech_in}
 use Rattle.rs_core.specs.Telling.{Speaks, each_message, no_table}
-use Rattle.rs_core.specs.Voices.{IsInOrder, SpeaksTo, SaysTheSame, IsGreeting, IsRaised, IsSilent, TellsAgain, Voices, speech_of}
+use Rattle.rs_core.specs.Voices.{IsInOrder, SpeaksTo, SaysTheSame, IsGreeting, IsRaised, IsSilent, TellsAgain, Voices, speech_within}
 use Rattle.rs_core.proofs.Telling.{silence_speaks, speaks_on, speaks_same}
 use Rattle.rs_core.proofs.Spoken.{announced_speaks, withdrawn_speaks}
 use Rattle.rs_core.proofs.Mandated.{due_has_mandatory}
@@ -83,10 +85,13 @@ nothing_in_order v loc told waits = record {
   exact = λ p. waits p ∙ sym (λ i. waits_at (loc p i) (told p i) (set.contains v.marked p));
 }
 
+none_in : {X : Type 0} (p : Prefix) → fin.get (fin.empty {X = X} {R = prefix_order}) p ≡ None
+none_in p = fin.get-empty prefix_order p
+
 pub bare_silent : (c : ℕ) (long : Bool) (last : Last) (v : View) → v ≡ bare c long last → IsSilent v
 bare_silent c long last v e = record {
   speech = ap (λ (x : View). x.speech) e;
-  order = nothing_in_order v (λ p. ap (λ (x : View). fin.get x.loc p) e) (λ p. ap (λ (x : View). fin.get x.told p) e) (λ p. ap (λ (x : View). fin.get x.waits p) e);
+  order = nothing_in_order v (λ p. ap (λ (x : View). fin.get x.loc p) e ∙ none_in p) (λ p. ap (λ (x : View). fin.get x.told p) e ∙ none_in p) (λ p. ap (λ (x : View). fin.get x.waits p) e ∙ none_in p);
 }
 
 pub cleared_silent : (v w : View) → w ≡ cleared v → IsSilent w
@@ -95,7 +100,7 @@ cleared_silent v w e = bare_silent v.client v.extended v.last w e
 pub finished_silent : (note : Option Short) (v w : View) → w ≡ finished note v → IsSilent w
 finished_silent note v w e = record {
   speech = ap (λ (x : View). x.speech) e;
-  order = nothing_in_order w (λ p. ap (λ (x : View). fin.get x.loc p) e) (λ p. ap (λ (x : View). fin.get x.told p) e) (λ p. ap (λ (x : View). fin.get x.waits p) e);
+  order = nothing_in_order w (λ p. ap (λ (x : View). fin.get x.loc p) e ∙ none_in p) (λ p. ap (λ (x : View). fin.get x.told p) e ∙ none_in p) (λ p. ap (λ (x : View). fin.get x.waits p) e ∙ none_in p);
 }
 
 pub begun_raised : (speech : Speech) (v w : View) → w ≡ begun speech v → IsRaised (Some speech) v w
@@ -103,8 +108,8 @@ begun_raised speech v w e = record {
   speech = ap (λ (x : View). x.speech) e;
   flight = ap (λ (x : View). x.flight) e;
   note = ap (λ (x : View). x.note) e;
-  told = λ p. ap (λ (x : View). fin.get x.told p) e;
-  order = nothing_in_order w (λ p. ap (λ (x : View). fin.get x.loc p) e) (λ p. ap (λ (x : View). fin.get x.told p) e) (λ p. ap (λ (x : View). fin.get x.waits p) e);
+  told = λ p. ap (λ (x : View). fin.get x.told p) e ∙ none_in p;
+  order = nothing_in_order w (λ p. ap (λ (x : View). fin.get x.loc p) e ∙ none_in p) (λ p. ap (λ (x : View). fin.get x.told p) e ∙ none_in p) (λ p. ap (λ (x : View). fin.get x.waits p) e ∙ none_in p);
 }
 
 -- ---- touches
@@ -115,7 +120,7 @@ touched_rest (p ∷ ps) v = touched_rest ps (touched_at p v)
 
 pub touched_same : (ps : List Prefix) (v w : View) → IsTouchedAt ps v w → SaysTheSame v w
 touched_same ps v w h = same_on v (touched_with ps v) w
-    (record { is = touched_rest ps v })
+    (record { is = touched_rest ps v ∙ (λ i. let x = sym (touched_rest ps v) i in record v { beat = x.beat; touched = (touched_with ps v).touched; numbers = x.numbers; last = x.last }) })
     (record { is = h.is ∙ (λ i. record (touched_with ps v) { beat = (sym h.is i).beat; touched = (sym h.is i).touched; numbers = w.numbers; last = (sym h.is i).last }) })
 
 pub marked_same : (ins : AdjIns) (v w : View) → IsMarked ins v w → SaysTheSame v w
@@ -178,7 +183,7 @@ voiced_over s c h v dead down silent = record {
 stays_speech : (s : Configuration) (c : ℕ) (h next : Hearing) → Stays (session_in s c) h.items next.items → speech_in s c next ≡ speech_in s c h
 stays_speech s c h next stays = λ i. if is_up (stays.state i) then speech_by s.top.extended (stays.agreed i) else None
 
-stayed : (s : Configuration) (c : ℕ) (h next : Hearing) (v w : View) → Stays (session_in s c) h.items next.items → next.taken ≡ h.taken → TellsAgain v w → SpeaksTo s c h v → SpeaksTo s c next w
+pub stayed : (s : Configuration) (c : ℕ) (h next : Hearing) (v w : View) → Stays (session_in s c) h.items next.items → next.taken ≡ h.taken → TellsAgain v w → SpeaksTo s c h v → SpeaksTo s c next w
 stayed s c h next v w stays taken same at = voiced_on s s c h next v w (stays_speech s c h next stays) (λ l. ap is_live (sym stays.state) ∙ l) taken same at
 
 both_down : (s : Configuration) (c : ℕ) (h next : Hearing) → is_up (state_in s c h) ≡ false → is_up (state_in s c next) ≡ false → speech_in s c next ≡ speech_in s c h
@@ -193,28 +198,36 @@ said_voice short.Keepalive s c h next v w not tells taken same at = elim tells [
 ]
 said_voice (short.Note code sub extra count) s c h next v w not tells taken same at = absurd tells
 
-raised_voice : (s : Configuration) (c : ℕ) (h next : Hearing) (v w : View) → ComesUp (session_in s c) h.items next.items → IsRaised (speech_of (session_in s c) next.items) v w
-    → next.taken ≡ h.taken → SpeaksTo s c h v → SpeaksTo s c next w
-raised_voice s c h next v w tells raised taken at =
+-- where there is no room, no long messages were agreed on
+room_said : (long extended : Bool) (sent : Open) → long ≡ extended
+    → ◌≡◌ {A = Option Speech} (Some (record { mode = mode_in sent.four; limit = if long then limit_by extended (Some sent) else limits.Short })) (Some (record { mode = mode_in sent.four; limit = limit_by extended (Some sent) }))
+room_said true true sent e = refl
+room_said false false sent e = refl
+room_said true false sent e = absurd (let f : true ≡ false = e in cc)
+room_said false true sent e = absurd (let f : false ≡ true = e in cc)
+
+raised_voice : (s : Configuration) (c : ℕ) (h next : Hearing) (v w : View) (long : Bool) → long ≡ s.top.extended → ComesUp (session_in s c) h.items next.items
+    → IsRaised (speech_within long (session_in s c) (agreed_of (session_in s c) next.items)) v w → next.taken ≡ h.taken → SpeaksTo s c h v → SpeaksTo s c next w
+raised_voice s c h next v w long room tells raised taken at =
     let was_live : is_live (state_in s c h) ≡ true = ap is_live tells.before in
     let was_none : v.speech ≡ None = at.speech ∙ down_speech s c h (ap is_up tells.before) in
-    let some : w.speech ≡ Some _ = raised.speech ∙ ap (speech_by s.top.extended) tells.agreed in
+    let agreed : w.speech ≡ speech_by s.top.extended (Some tells.sent) = raised.speech ∙ ap (speech_within long (session_in s c)) tells.agreed ∙ room_said long s.top.extended tells.sent room in
     record {
-      speech = raised.speech ∙ sym (ap (λ b. if b then speech_of (session_in s c) next.items else None) (ap is_up tells.now));
+      speech = agreed ∙ sym (ap (speech_by s.top.extended) tells.agreed) ∙ sym (ap (λ b. if b then speech_by s.top.extended (agreed_of (session_in s c) next.items) else None) (ap is_up tells.now));
       quiet = λ l. raised.note ∙ at.quiet was_live;
-      before = λ l none mode. absurd (let f : ◌≡◌ {A = Option Speech} None (Some _) = sym none ∙ some in cc);
+      before = λ l none mode. absurd (let f : ◌≡◌ {A = Option Speech} None (speech_by s.top.extended (Some tells.sent)) = sym none ∙ agreed in cc);
       since = λ sp is. speaks_same sp.mode (next.taken ++ w.flight) no_table (fin.get w.told) raised.told
           (subst (λ o. Speaks sp.mode o no_table) (λ i. sym taken i ++ sym raised.flight i) (at.before was_live was_none sp.mode));
       order = raised.order;
     }
 
-pub acted_voice : (act : Act) (sessions : List Session) (x : Session) (s : Configuration) (c : ℕ) (h next : Hearing) (v w : View) → Voices act c sessions v w → slice_get sessions c ≡ Some x
+pub acted_voice : (act : Act) (long : Bool) (s : Configuration) → long ≡ s.top.extended → (sessions : List Session) (x : Session) (c : ℕ) (h next : Hearing) (v w : View) → Voices act long c sessions v w → slice_get sessions c ≡ Some x
     → HasHeard x (session_in s c) next.items → Tells act (session_in s c) h.items next.items → (act ≡ acts.Say short.Open → ⊥) → next.taken ≡ h.taken → SpeaksTo s c h v → SpeaksTo s c next w
-acted_voice acts.None sessions x s c h next v w voices read heard tells not taken at = stayed s c h next v w tells taken (same_again v w voices) at
-acted_voice (acts.Say message) sessions x s c h next v w voices read heard tells not taken at = said_voice message s c h next v w (λ e. not (ap (λ (m : Short). acts.Say m) e)) tells taken voices at
-acted_voice acts.Up sessions x s c h next v w voices read heard tells not taken at = raised_voice s c h next v w tells (voices x read (session_in s c) next.items heard tells.now) taken at
-acted_voice (acts.Down _) sessions x s c h next v w voices read heard tells not taken at = voiced_over s c next w (ap is_live tells.now) (ap is_up tells.now) voices
-acted_voice acts.Again sessions x s c h next v w voices read heard tells not taken at = stayed s c h next v w tells.same taken voices at
+acted_voice acts.None long s room sessions x c h next v w voices read heard tells not taken at = stayed s c h next v w tells taken (same_again v w voices) at
+acted_voice (acts.Say message) long s room sessions x c h next v w voices read heard tells not taken at = said_voice message s c h next v w (λ e. not (ap (λ (m : Short). acts.Say m) e)) tells taken voices at
+acted_voice acts.Up long s room sessions x c h next v w voices read heard tells not taken at = raised_voice s c h next v w long room tells (voices x read (session_in s c) next.items heard tells.now) taken at
+acted_voice (acts.Down _) long s room sessions x c h next v w voices read heard tells not taken at = voiced_over s c next w (ap is_live tells.now) (ap is_up tells.now) voices
+acted_voice acts.Again long s room sessions x c h next v w voices read heard tells not taken at = stayed s c h next v w tells.same taken voices at
 
 -- no message and no moment asks for an OPEN of ours
 
@@ -385,4 +398,23 @@ done_voice s c h config ins v w numbered done at =
 pub turned_voice : (s : Configuration) (c : ℕ) (h : Hearing) (config : Configuration) (ins : AdjIns) (v w : View) → AreNumbered v ins → IsTurn config ins v w → SpeaksTo s c h v → SpeaksTo s c h w
 turned_voice s c h config ins v w numbered (inl done) at = done_voice s c h config ins v w numbered done at
 turned_voice s c h config ins v w numbered (inr refused) at =
-    voiced_same s c h v w (record { is = refused ∙ (λ i. record v { beat = (sym refused i).beat; touched = (sym refused i).touched; numbers = (sym refused i).numbers; last = w.last }) }) at
+    voiced_same s c h v w (record { is = refused ∙ (λ i. record v { beat = (sym refused i).beat; touched = (sym refused i).touched; numbers = (sym refused i).numbers; last = (sym refused i).last }) }) at
+
+-- ---- coming up
+
+pub raised_is : (a : Option Open) (long : Bool) (settings : Settings) (mode : Mode) (limit : Limit) → Some mode ≡ mode_by a → limit ≡ limit_by settings.extended a
+    → ◌≡◌ {A = Option Speech} (Some (record { mode = mode; limit = if long then limit else limits.Short })) (speech_within long settings a)
+raised_is None long settings mode limit m l = absurd (let f : ◌≡◌ {A = Option Mode} (Some mode) None = m in cc)
+raised_is (Some sent) long settings mode limit m l = let same : mode ≡ mode_in sent.four = cc in λ i. Some (record { mode = same i; limit = if long then l i else limits.Short })
+
+-- all was emptied, and then an OPEN put in
+pub greets : (said : ServerOpen) (u v w : View) → v ≡ cleared u → w ≡ record v { flight = server_open said } → IsGreeting w
+greets said u v w e f = let was = cleared_silent u v e in record {
+  said = said;
+  flight = ap (λ (x : View). x.flight) f;
+  note = ap (λ (x : View). x.note) f ∙ ap (λ (x : View). x.note) e;
+  silent = record {
+    speech = ap (λ (x : View). x.speech) f ∙ was.speech;
+    order = in_order v w (ap (λ (x : View). x.loc) f) (ap (λ (x : View). x.told) f) (ap (λ (x : View). x.marked) f) (ap (λ (x : View). x.waits) f) was.order;
+  };
+}

@@ -1,11 +1,13 @@
 -- What an outlet says to its client, by what was heard of the client.
-use Rattle.std.specs.Prelude.{◌≡◌, ◌≢◌, ◌<◌, ℕ, true, false, List, ◌++◌, Option, Some, None, slice_get, if◌then◌else◌}
+use Rattle.std.specs.Prelude.{◌≡◌, ◌≢◌, ◌<◌, ℕ, Bool, true, false, List, ◌++◌, Option, Some, None, slice_get, if◌then◌else◌}
 use Rattle.std.specs.FinMap as fin
 use Rattle.rs_octets.specs.Prefixes.{Prefix}
 use Rattle.rs_attrs.specs.declared.mode.Mode.{Mode}
 use Rattle.rs_attrs.specs.Meaning.{Attribute}
 use Rattle.rs_attrs.specs.Effects.{lacks_mandatory}
 use Rattle.rs_open.specs.Writing.{server_open}
+use Rattle.rs_open.specs.declared.open.Open.{Open}
+use Rattle.rs_open.specs.declared.short.Limit.TheVariants as limits
 use Rattle.rs_open.specs.declared.writing.ServerOpen.{ServerOpen}
 use Rattle.rs_session.specs.declared.act.Act.{Act}
 use Rattle.rs_session.specs.declared.act.Act.TheVariants as acts
@@ -13,13 +15,13 @@ use Rattle.rs_session.specs.declared.act.State.TheVariants as states
 use Rattle.rs_session.specs.declared.session.Session.{Session}
 use Rattle.rs_session.specs.declared.settings.Settings.{Settings}
 use Rattle.rs_session.specs.Items.{Item}
-use Rattle.rs_session.specs.Sessions.{state_of, is_live, agreed_of}
+use Rattle.rs_session.specs.Sessions.{state_of, is_live, agreed_of, limit_by, mode_in}
 use Rattle.rs_session.specs.Hearing.{Whenever}
 use Rattle.rs_policy.specs.Configuration.{Configuration}
 use Rattle.rs_outlet.specs.declared.answers.Speech.{Speech}
 use Rattle.rs_outlet.specs.Views.{View, WaitsAreExact}
 use Rattle.rs_core.specs.Hearing.{Hearing, state_in}
-use Rattle.rs_core.specs.Runs.{speech_by, speech_in}
+use Rattle.rs_core.specs.Runs.{speech_in}
 use Rattle.rs_core.specs.Telling.{Speaks, no_table}
 use Rattle.rs_core.specs.Ribs.{outlet_in}
 use Rattle.rs_core.specs.declared.ribs.Ribs.{Ribs}
@@ -81,15 +83,17 @@ pub record TouchesOthers (c : ℕ) (old new : Ribs) : Type 0 where
   pub own : (none : View) → outlet_in new c none ≡ outlet_in old c none
   pub others : KeepsVoices c old new
 
-abbrev pub speech_of : Settings → List Item → Option Speech
-speech_of settings items = speech_by settings.extended (agreed_of settings items)
+-- by its OPEN, in long messages only where the outlet has room for them
+abbrev pub speech_within : Bool → Settings → Option Open → Option Speech
+speech_within long settings None = None
+speech_within long settings (Some sent) = Some (record { mode = mode_in sent.four; limit = if long then limit_by settings.extended (Some sent) else limits.Short })
 
 -- what is done to the outlet of a client as its session asks for it
-abbrev pub Voices : Act → ℕ → List Session → View → View → Type 0
-Voices acts.None c sessions v w = SaysTheSame v w
-Voices (acts.Say message) c sessions v w = SaysTheSame v w
-Voices acts.Up c sessions v w =
+abbrev pub Voices : Act → Bool → ℕ → List Session → View → View → Type 0
+Voices acts.None long c sessions v w = SaysTheSame v w
+Voices (acts.Say message) long c sessions v w = SaysTheSame v w
+Voices acts.Up long c sessions v w =
     (x : Session) → slice_get sessions c ≡ Some x
-    → Whenever x (λ settings items. state_of settings items ≡ states.Established → IsRaised (speech_of settings items) v w)
-Voices (acts.Down _) c sessions v w = IsSilent w
-Voices acts.Again c sessions v w = TellsAgain v w
+    → Whenever x (λ settings items. state_of settings items ≡ states.Established → IsRaised (speech_within long settings (agreed_of settings items)) v w)
+Voices (acts.Down _) long c sessions v w = IsSilent w
+Voices acts.Again long c sessions v w = TellsAgain v w

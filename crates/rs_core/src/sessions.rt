@@ -111,7 +111,7 @@ impl Core {
         ensures others { IsSpared c self.old.ribs.tables self.new.ribs.tables }
         ensures tables { ActsOn act c self.old.sessions.items self.old.ribs.tables self.new.ribs.tables }
         ensures voices { KeepsVoices c self.old.ribs self.new.ribs }
-        ensures own { (none : View) → Voices act c self.old.sessions.items (outlet_in self.old.ribs c none) (outlet_in self.new.ribs c none) }
+        ensures own { (none : View) → Voices act self.old.ribs.extended c self.old.sessions.items (outlet_in self.old.ribs c none) (outlet_in self.new.ribs c none) }
     {
         match act {
             Act::None => {}
@@ -133,7 +133,7 @@ impl Core {
         ensures others { IsSpared c self.old.ribs.tables self.new.ribs.tables }
         ensures tables { ActsOn Act.Up c self.old.sessions.items self.old.ribs.tables self.new.ribs.tables }
         ensures voices { KeepsVoices c self.old.ribs self.new.ribs }
-        ensures own { (none : View) → Voices Act.Up c self.old.sessions.items (outlet_in self.old.ribs c none) (outlet_in self.new.ribs c none) }
+        ensures own { (none : View) → Voices Act.Up self.old.ribs.extended c self.old.sessions.items (outlet_in self.old.ribs c none) (outlet_in self.new.ribs c none) }
     {
         let session = &self.sessions[c];
         let identifier = session.identifier();

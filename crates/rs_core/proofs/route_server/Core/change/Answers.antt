@@ -7,9 +7,10 @@ use Rattle.rs_session.specs.declared.heard.Heard.TheVariants as heard
 use Rattle.rs_session.specs.declared.act.Act.TheVariants as acts
 use Rattle.rs_session.specs.Items.{Message}
 use Rattle.rs_core.specs.Core.{client_count}
-use Rattle.rs_core.specs.Hearing.{takes_in}
+use Rattle.rs_core.specs.Hearing.{session_in, takes_in}
 use Rattle.rs_core.proofs.Lists.{on_err}
 use Rattle.rs_core.proofs.Acting.{acted, acted_spares}
+use Rattle.rs_core.proofs.Voicing.{never_open_by_message}
 use Rattle.rs_core.proofs.Updating.{cut_after, not_taken}
 use Rattle.rs_core.proofs.route_server.Core.change.Goals as goal
 
@@ -30,10 +31,10 @@ returns-in_default c =
     let read = slice_get_read sessions (length sessions) c.args.c c.index_mut.result.now refl lt c.index_mut.ensures.value in
     let set = ap (λ (v : Vec Session). v.items) c.act.ensures.sessions in
     record {
-      spares = acted_spares c.args.self.now c.act.new.self c.args.c c.message.new.self c.act.ensures.count c.act.ensures.config lt set c.act.ensures.buffers c.act.ensures.others;
+      spares = acted_spares c.args.self.now c.act.new.self c.args.c c.message.new.self c.act.ensures.count c.act.ensures.config lt set c.act.ensures.buffers c.act.ensures.others c.act.ensures.voices;
       buffers = c.act.ensures.buffers;
       heard = λ s h change live knows same. acted c.args.self.now c.act.new.self c.message.result (Message (heard.Update None)) c.index_mut.result.now c.message.new.self s c.args.c h
-          (takes_in s c.args.c (record { message = heard.Update None; change = Some change }) h) read lt set c.message.ensures.hears c.act.ensures.tables refl
+          (takes_in s c.args.c (record { message = heard.Update None; change = Some change }) h) read lt set c.message.ensures.hears c.act.ensures.tables c.act.ensures.config c.act.ensures.own (never_open_by_message (session_in s c.args.c) (heard.Update None) h.items) refl refl
           (λ down up. ap (λ b. if b then change ∷ h.changes else []) down)
           (λ up now. absurd (not_taken c.args.self.now c.index_mut.result.now c.message.new.self s c.args.c h c.message.result read c.message.ensures.hears live up knows c.in_default.not-None)) knows;
       refused = tt;

@@ -7,7 +7,8 @@ use Rattle.rs_core.specs.Hearing.{Hearing, allowed_in, hears}
 use Rattle.rs_core.specs.Agreeing.{AgreesAt}
 use Rattle.rs_core.proofs.Lists.{on_err, map_ok}
 use Rattle.rs_core.proofs.Agreeing.{spares_both, cut_short}
-use Rattle.rs_core.proofs.Cutting.{unmoved, alone_waits, after_message, after_fault, fault_between, after_beginning, after_all, deaf_agrees, cut_before, agrees_joined, between_joined, waiting_spares}
+use Rattle.rs_core.proofs.Ruling.{unmoved}
+use Rattle.rs_core.proofs.Cutting.{alone_waits, after_message, after_fault, fault_between, after_beginning, after_all, deaf_agrees, cut_before, agrees_joined, between_joined, waiting_spares}
 use Rattle.rs_core.proofs.Filling.{is_none}
 use Rattle.rs_core.proofs.route_server.Core.hear_piece.Goals as goal
 
