@@ -19,3 +19,5 @@ pub mod Numbers
 pub mod Freshness
 pub mod Changing
 pub mod Turned
+pub mod Closing
+pub mod Continuing
