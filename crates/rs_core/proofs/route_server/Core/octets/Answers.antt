@@ -17,11 +17,3 @@ returns-in-Ok-clause-heard c = λ run h.
     (λ d ne. other c.args.c d (hears (config_in run) d piece (hearing d run)) (hearing d run) ne) h c.hear.ensures.spares
     (subst (λ k. AgreesAt c.hear.new.self (config_in run) c.args.c k) (sym (own c.args.c (hears (config_in run) c.args.c piece it) it))
     (c.in-Ok.ensures.heard (config_in run) it h.config (h.clients c.args.c c.requires)))
-
-pub returns-in-Ok-clause-unheard : goal.returns-in-Ok-clause-unheard
-unfolding client_count
-returns-in-Ok-clause-unheard c = λ run h dead. (refl, (c.in-Ok.ensures.unheard (config_in run) (hearing c.args.c run) (h.clients c.args.c c.requires).knows dead).1)
-
-pub returns-in-Err-clause-unheard : goal.returns-in-Err-clause-unheard
-unfolding client_count
-returns-in-Err-clause-unheard c = λ run h dead. let it = c.in-Err.ensures.unheard (config_in run) (hearing c.args.c run) (h.clients c.args.c c.requires).knows dead in absurd (cc)
