@@ -11,3 +11,6 @@ pub mod Runs
 pub mod Voices
 pub mod Agreeing
 pub mod Steps
+pub mod Courses
+pub mod Asking
+pub mod Answers

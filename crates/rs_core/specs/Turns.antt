@@ -1,5 +1,5 @@
 -- What a turn makes of the outlets.
-use Rattle.std.specs.Prelude.{◌≡◌, ◌⊎◌, ℕ, suc, ◌+◌, List, [], ◌∷◌, None}
+use Rattle.std.specs.Prelude.{◌≡◌, ◌⊎◌, ℕ, ◌+◌, List, [], ◌∷◌, None}
 use Rattle.rs_adjin.specs.declared.adj_ins.AdjIns.{AdjIns}
 use Rattle.rs_policy.specs.Configuration.{Configuration}
 use Rattle.rs_outlet.specs.declared.answers.Last.{Last}
@@ -31,16 +31,6 @@ abbrev pub one_refused : Last → ℕ
 one_refused lasts.Refused = 1
 one_refused lasts.Never = 0
 one_refused (lasts.Done turned) = 0
-
-abbrev pub if_refused : Last → ℕ → List ℕ → List ℕ
-if_refused lasts.Refused c others = c ∷ others
-if_refused lasts.Never c others = others
-if_refused (lasts.Done turned) c others = others
-
--- at which of them memory was refused at the last turn, counted from this number
-abbrev pub refused_from : ℕ → List View → List ℕ
-refused_from c [] = []
-refused_from c (v ∷ vs) = if_refused v.last c (refused_from (suc c) vs)
 
 -- at how many of them memory was refused at the last turn
 abbrev pub refused_in : List View → ℕ

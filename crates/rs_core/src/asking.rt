@@ -19,10 +19,22 @@ fn is_up(state: State) -> bool
     }
 }
 
+/// Whether a session in this state has ended, and its connection lasts.
+fn is_closing(state: State) -> bool
+    ensures { result ≡ is_closing state }
+{
+    match state {
+        State::Closing => true,
+        State::Idle | State::OpenSent | State::OpenConfirm | State::Established => false,
+    }
+}
+
 ghost use Rattle.rs_core.specs.Hearing.{is_up};
+ghost use Rattle.rs_core.specs.Asking.{is_closing};
 
 impl Core {
-    ghost use Rattle.rs_core.specs.Core.{client_count};
+    ghost use Rattle.rs_core.specs.Core.{client_count, is_refusal, is_refused};
+    ghost use Rattle.rs_core.specs.Asking.{WantsClose};
     ghost use Rattle.rs_core.specs.Moves.{Move, config_in};
     ghost use Rattle.rs_core.specs.Hearing.{Hearing, state_in, mode_in};
     ghost use Rattle.rs_core.specs.Runs.{hearing, is_established, IsServed};
@@ -129,6 +141,7 @@ impl Core {
     /// The answer of a client's last turn.
     pub fn last(&self, c: usize) -> Last
         requires { c < client_count self.now }
+        ensures { is_refusal result ≡ is_refused self.now c }
     {
         let outlet = &self.ribs.outlets[c];
         outlet.last()
@@ -146,14 +159,21 @@ impl Core {
     /// Whether the session of a client has ended with nothing left to send.
     pub fn wants_close(&mut self, c: usize) -> bool
         requires { c < client_count self.old }
-        ensures { client_count self.new ≡ client_count self.old }
+        ensures count { client_count self.new ≡ client_count self.old }
+        ensures wants { (run : List Move) → Agrees self.old run → WantsClose self.new c run result }
     {
-        match self.sessions[c].state() {
-            State::Closing => {
-                self.begin(c);
-                self.lent(c).is_empty()
-            }
-            State::Idle | State::OpenSent | State::OpenConfirm | State::Established => false,
+        if !self.is_closing(c) {
+            return false;
         }
+        self.begin(c);
+        self.lent(c).is_empty()
+    }
+
+    /// Whether the session of a client has ended, and its connection lasts.
+    fn is_closing(&self, c: usize) -> bool
+        requires { c < client_count self.now }
+        ensures { (s : Configuration) (h : Hearing) → Knows self.now s c h → result ≡ is_closing (state_in s c h) }
+    {
+        is_closing(self.sessions[c].state())
     }
 }

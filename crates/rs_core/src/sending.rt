@@ -1,13 +1,13 @@
 //! The way of octets to a client.
 
 ghost use Rattle.std.specs.Prelude.{◌≡◌, ◌<◌, ◌≤◌, List, ◌∷◌, length, take};
-ghost use Rattle.rs_core.specs.Moves.{Move, Began, Took};
-ghost use Rattle.rs_core.specs.Agreeing.{Agrees};
 
 use crate::route_server::Core;
 
 impl Core {
     ghost use Rattle.rs_core.specs.Core.{client_count, lent_octets};
+    ghost use Rattle.rs_core.specs.Moves.{Move, Began, Took};
+    ghost use Rattle.rs_core.specs.Agreeing.{Agrees};
 
     /// Begins the next message to a client where none is in flight.
     pub(crate) fn begin(&mut self, c: usize)
@@ -30,8 +30,6 @@ impl Core {
     /// It lends nothing where there is no message to begin, and to a client that is Idle.
     pub fn writable(&mut self, c: usize) -> &[u8]
         requires { c < client_count self.old }
-        ensures count { client_count self.new ≡ client_count self.old }
-        ensures began { (run : List Move) → Agrees self.old run → Agrees self.new (Began c ∷ run) }
     {
         self.begin(c);
         self.lent(c)

@@ -20,7 +20,7 @@ pub struct Turns {
 }
 
 impl Core {
-    ghost use Rattle.rs_core.specs.Core.{client_count, refused_clients, who_refused};
+    ghost use Rattle.rs_core.specs.Core.{client_count, refused_below, refused_clients};
     ghost use Rattle.rs_core.specs.Moves.{Move, Turned};
     ghost use Rattle.rs_core.specs.Agreeing.{Agrees};
 
@@ -30,7 +30,7 @@ impl Core {
         ensures clients { client_count self.new ≡ client_count self.old }
         ensures refused { result.refused ≡ refused_clients self.new }
         ensures all { result.done + result.refused ≡ client_count self.new }
-        ensures turned { (run : List Move) → Agrees self.old run → Agrees self.new (Turned (who_refused self.new) ∷ run) }
+        ensures turned { (run : List Move) → Agrees self.old run → Agrees self.new (Turned (refused_below self.new (client_count self.new)) ∷ run) }
     {
         self.ribs.turn();
         self.ribs.sweep();
@@ -49,7 +49,7 @@ impl Core {
         ensures clients { client_count self.new ≡ client_count self.old }
         ensures refused { result.refused ≡ refused_clients self.new }
         ensures all { result.done + result.refused ≡ client_count self.new }
-        ensures turned { (run : List Move) → Agrees self.old run → Agrees self.new (Turned (who_refused self.new) ∷ run) }
+        ensures turned { (run : List Move) → Agrees self.old run → Agrees self.new (Turned (refused_below self.new (client_count self.new)) ∷ run) }
     {
         self.ribs.turn_with(rt, workers, gate);
         self.ribs.sweep();
