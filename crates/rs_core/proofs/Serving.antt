@@ -4,7 +4,7 @@ use Rattle.std.specs.Prelude.{Option, Some, None, IsSome, if◌then◌else◌}
 use Rattle.std.specs.FinMap as fin
 use Rattle.std.specs.FinSet as set
 use Rattle.std.proofs.lemmas.List.{append-nil}
-use Rattle.rs_octets.specs.Prefixes.{Prefix}
+use Rattle.rs_octets.specs.Prefixes.{Prefix, prefix_order}
 use Rattle.rs_attrs.specs.Meaning.{Attribute}
 use Rattle.rs_adjin.specs.AdjIns.{client_count, held_of, identifier_of}
 use Rattle.rs_policy.specs.Configuration.{Configuration}
@@ -55,7 +55,7 @@ drained_served core run c none speech lt drained h up =
       told_is other agreed is p =
           due_spoken run c other p is
           ∙ sym (due_is core run c other p h)
-          ∙ sym ((core.fresh.each c none (subst (λ n. c < n) (sym core.ribs_len) lt)).at other p agreed (ap (λ t. is_touched t p) drained.untouched))
+          ∙ sym ((core.fresh.each c none (subst (λ n. c < n) (sym core.ribs_len) lt)).at other p agreed (ap (λ t. is_touched t p) drained.untouched ∙ set.contains-empty prefix_order p))
           ∙ ap (λ t. fin.get t p) (sym drained.told)
 
 -- a client whose outlet is drained is served

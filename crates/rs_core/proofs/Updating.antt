@@ -4,7 +4,7 @@ use Rattle.std.specs.Prelude.{Option, Some, None, find, slice_get, slice_set, if
 use Rattle.std.proofs.lemmas.Bool.Decides.{nat_tests}
 use Rattle.rs_octets.specs.Prefixes.{Prefix}
 use Rattle.rs_attrs.specs.Meaning.{Attribute}
-use Rattle.rs_attrs.specs.Effects.{Effect, Reset, Changes, Change, same_prefix, has_prefix, mentions, attributes_after, table_since}
+use Rattle.rs_attrs.specs.Effects.{Effect, Reset, Changes, Change, is_empty, same_prefix, has_prefix, mentions, attributes_after, table_since}
 use Rattle.rs_update.specs.Laws.{IsSameChange, IsSameEffect}
 use Rattle.rs_update.proofs.OneEffect.{overlay_alike}
 use Rattle.rs_session.specs.declared.heard.Heard.TheVariants as heard
@@ -90,6 +90,11 @@ same_spared_behind c old mid new same spared = record {
 }
 
 -- ---- a change
+
+-- a list that is empty has no prefix
+pub none_there : (p : Prefix) (ps : List Prefix) → is_empty ps ≡ true → has_prefix p ps ≡ false
+none_there p [] e = refl
+none_there p (q ∷ ps) e = absurd (let f : false ≡ true = e in cc)
 
 chosen : (said : Bool) (x : Change) (later : Option Change) (p : Prefix) → attributes_after p (if said then Some x else later) ≡ (if said then attributes_after p (Some x) else attributes_after p later)
 chosen true x later p = refl
