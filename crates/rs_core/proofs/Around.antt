@@ -9,13 +9,12 @@ use Rattle.rs_attrs.specs.Comparing.{same_attributes}
 use Rattle.rs_attrs.specs.ComparisonLaws.{attributes_decides}
 use Rattle.rs_adjin.specs.AdjIns.{held_of}
 use Rattle.rs_adjin.specs.declared.adj_ins.AdjIns.{AdjIns}
-use Rattle.rs_outlet.specs.Views.{View, cleared, finished}
-use Rattle.rs_open.specs.declared.short.Short.{Short}
-use Rattle.rs_core.specs.Touches.{IsTouchedWhereHeld, IsTouchedAt, IsAskedAgain}
+use Rattle.rs_outlet.specs.Views.{View}
+use Rattle.rs_core.specs.Touches.{IsTouchedWhereHeld, IsAskedAgain}
 use Rattle.rs_core.specs.Ribs.{outlet_in, ChangesAround, ChangesOthers, ChangesOwn, TouchesChange}
-use Rattle.rs_core.specs.Voices.{IsInOrder, SaysTheSame, IsSilent, TellsAgain, KeepsVoices, TouchesOthers}
+use Rattle.rs_core.specs.Voices.{TellsAgain, KeepsVoices, TouchesOthers}
 use Rattle.rs_core.specs.declared.ribs.Ribs.{Ribs}
-use Rattle.rs_core.proofs.Voicing.{same_is, same_on, touched_same, in_order}
+use Rattle.rs_core.proofs.Voicing.{same_is, same_on, touched_same}
 
 -- the outlet of one client has changed
 pub own_voices : (c : ℕ) (Is : View → View → Type 0) (old new : Ribs) → ChangesOwn c Is old new → KeepsVoices c old new
@@ -46,13 +45,13 @@ same_or (Some m) (Some n) = by_test (same_attributes m n) refl where
 pub change_touches : (c : ℕ) (p : Prefix) (old new : Ribs) → TouchesChange c p old new → TouchesOthers c old new
 change_touches c p old new touches = elim (same_or (held_of new.tables c p) (held_of old.tables c p)) [
   | inl same ↦ let e = touches.unchanged same in record {
-      own = λ none. ap (λ (v : Vec View). slice_index_or v.items c none) e;
-      others = λ d none lt ne. same_is _ _ (ap (λ (v : Vec View). slice_index_or v.items d none) e);
-    }
+    own = λ none. ap (λ (v : Vec View). slice_index_or v.items c none) e;
+    others = λ d none lt ne. same_is _ _ (ap (λ (v : Vec View). slice_index_or v.items d none) e);
+  }
   | inr differs ↦ let changes = touches.changed differs in record {
-      own = changes.own;
-      others = λ d none lt ne. touched_same (p ∷ []) _ _ (changes.others d none lt ne);
-    }
+    own = changes.own;
+    others = λ d none lt ne. touched_same (p ∷ []) _ _ (changes.others d none lt ne);
+  }
 ]
 
 pub none_touched : (c : ℕ) (old : Ribs) → TouchesOthers c old old

@@ -1,8 +1,8 @@
 -- What is due has ORIGIN, AS_PATH and NEXT_HOP, as each route that is held.
-use Rattle.std.proofs.Common.{◌≡◌, ℕ, Bool, true, false, ◌||◌, List, refl, sym, ◌∙◌, ap, subst}
+use Rattle.std.proofs.Common.{◌≡◌, ℕ, Bool, true, false, ◌||◌, List, refl, sym, ◌∙◌, ap}
 use Rattle.std.specs.Prelude.{Option, Some, None, is_none, nat_le, length, [], ◌∷◌, option_and_then, if◌then◌else◌}
 use Rattle.rs_octets.specs.Prefixes.{Prefix}
-use Rattle.rs_attrs.specs.Meaning.{Attribute, get}
+use Rattle.rs_attrs.specs.Meaning.{Attribute}
 use Rattle.rs_attrs.specs.Effects.{lacks_mandatory}
 use Rattle.rs_attrs.specs.Stripping.{stripped_of}
 use Rattle.rs_attrs.proofs.StrippedLaws.{others_stay}

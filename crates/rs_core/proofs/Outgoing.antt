@@ -1,11 +1,11 @@
 -- What goes out to clients leaves what was heard of them.
-use Rattle.std.proofs.Common.{◌≡◌, ◌≢◌, ◌<◌, ℕ, List, [], ◌∷◌, ◌++◌, length, take, drop, refl, sym, ◌∙◌, ap, subst}
-use Rattle.std.specs.Prelude.{slice_get, slice_index_or, if◌then◌else◌}
+use Rattle.std.proofs.Common.{◌≡◌, ◌<◌, ℕ, List, ◌∷◌, ◌++◌, length, take, drop, refl, sym, ◌∙◌, ap, subst}
+use Rattle.std.specs.Prelude.{slice_get, slice_index_or}
 use Rattle.std.specs.Global.{Vec}
 use Rattle.std.proofs.lemmas.Option.{slice_get_read}
 use Rattle.rs_adjin.specs.AdjIns.{held_of, identifier_of, Same}
 use Rattle.rs_policy.specs.Configuration.{Configuration}
-use Rattle.rs_outlet.specs.Views.{View, AreNumbered}
+use Rattle.rs_outlet.specs.Views.{View}
 use Rattle.rs_core.specs.Moves.{Move, Turned, Began, Took, config_in}
 use Rattle.rs_core.specs.Hearing.{Hearing, takes}
 use Rattle.rs_core.specs.Runs.{hearing}

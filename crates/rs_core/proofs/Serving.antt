@@ -1,24 +1,22 @@
 -- Where an outlet is drained, its client was told what is due to it.
-use Rattle.std.proofs.Common.{◌≡◌, ◌≢◌, ◌<◌, ℕ, Bool, true, false, List, [], ◌∷◌, ◌++◌, length, refl, sym, ◌∙◌, ap, subst}
-use Rattle.std.specs.Prelude.{Option, Some, None, IsSome, if◌then◌else◌}
+use Rattle.std.proofs.Common.{◌≡◌, ◌<◌, ℕ, true, false, List, ◌++◌, length, refl, sym, ◌∙◌, ap, subst}
+use Rattle.std.specs.Prelude.{Option, Some, None, IsSome}
 use Rattle.std.specs.FinMap as fin
 use Rattle.std.specs.FinSet as set
 use Rattle.std.proofs.lemmas.List.{append-nil}
 use Rattle.rs_octets.specs.Prefixes.{Prefix, prefix_order}
-use Rattle.rs_attrs.specs.Meaning.{Attribute}
 use Rattle.rs_adjin.specs.AdjIns.{client_count, held_of, identifier_of}
 use Rattle.rs_policy.specs.Configuration.{Configuration}
 use Rattle.rs_outlet.specs.declared.answers.Speech.{Speech}
 use Rattle.rs_outlet.specs.Due.{due_to}
 use Rattle.rs_outlet.specs.Views.{View, IsDrained, is_touched}
 use Rattle.rs_core.specs.Moves.{Move, config_in}
-use Rattle.rs_core.specs.Hearing.{Hearing, state_in, is_up}
 use Rattle.rs_core.specs.Runs.{hearing, speech_in, held_in, due, due_by, IsServed}
-use Rattle.rs_core.specs.Ribs.{due_in, outlet_in, IsDecidedBy, IsFresh}
+use Rattle.rs_core.specs.Ribs.{due_in, outlet_in}
 use Rattle.rs_core.specs.Telling.{Speaks}
-use Rattle.rs_core.specs.Agreeing.{Agrees, AgreesAt, Knows}
+use Rattle.rs_core.specs.Agreeing.{Agrees}
 use Rattle.rs_core.specs.declared.route_server.Core.{Core}
-use Rattle.rs_core.proofs.Dues.{IsSameSent, held_as, due_below}
+use Rattle.rs_core.proofs.Dues.{held_as, due_below}
 use Rattle.rs_core.proofs.Telling.{speaks_same}
 use Rattle.rs_core.proofs.Voicing.{spoken_up}
 

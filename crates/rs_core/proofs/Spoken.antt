@@ -1,29 +1,24 @@
 -- What a message of an outlet makes of what its client was told.
-use Rattle.std.proofs.Common.{◌≡◌, ◌≢◌, ◌⊎◌, inl, inr, ◌<◌, ◌≤◌, ◌||◌, ◌&&◌, nat_eq, ℕ, Bool, true, false, List, [], ◌∷◌, ◌++◌, length, refl, sym, ◌∙◌, ap, subst, arith}
+use Rattle.std.proofs.Common.{◌≡◌, ◌||◌, ◌&&◌, nat_eq, ℕ, Bool, true, false, List, [], ◌∷◌, ◌++◌, refl, sym, ◌∙◌, ap, subst, arith}
 use Rattle.std.specs.Prelude.{Option, Some, None, if◌then◌else◌}
 use Rattle.std.specs.List.{AllByRecursion}
-use Rattle.std.specs.FinMap as fin
 use Rattle.std.specs.Ordering.{eq_by_cmp, is_eq, nat_cmp, ordering_then}
 use Rattle.std.specs.declared.cmp.Ordering.{Ordering}
 use Rattle.std.specs.declared.cmp.Ordering.TheVariants.{Less, Equal, Greater}
 use Rattle.std.proofs.lemmas.Bool.Decides.{nat_tests}
-use Rattle.std.specs.FinSet as set
-use Rattle.std.proofs.lemmas.List.{append-nil}
-use Rattle.rs_octets.specs.declared.heads.Kind.TheVariants as kinds
-use Rattle.rs_octets.specs.Messages.{IsMessageOf, body_of}
 use Rattle.rs_octets.specs.Prefixes.{Prefix, prefix_order}
 use Rattle.rs_attrs.specs.declared.mode.Mode.{Mode}
 use Rattle.rs_attrs.specs.Meaning.{Attribute}
 use Rattle.rs_attrs.specs.Writing.{spelt}
-use Rattle.rs_attrs.specs.Effects.{Change, Changes, HasEffect, has_prefix, lacks_mandatory, mentions, attributes_after, once, overlaid, same_prefix}
+use Rattle.rs_attrs.specs.Effects.{Change, has_prefix, once, overlaid, same_prefix}
 use Rattle.rs_attrs.proofs.EachOnce.{same_is, once_has}
 use Rattle.rs_packer.specs.Packed.{announcement, withdrawal}
 use Rattle.rs_packer.specs.Laws.{IsAnnounceable, IsWithdrawable}
 use Rattle.rs_packer.proofs.EachOnce.{announcement_announces, withdrawal_withdraws}
 use Rattle.rs_packer.proofs.UpdateMessages.{update_is_message}
 use Rattle.rs_outlet.specs.Begins.{is_among}
-use Rattle.rs_core.specs.Telling.{each_message, no_table, Speaks}
-use Rattle.rs_core.proofs.Telling.{speaks_over, speaks_same}
+use Rattle.rs_core.specs.Telling.{each_message, Speaks}
+use Rattle.rs_core.proofs.Telling.{speaks_over}
 
 both_equal : (r s : Ordering) → is_eq (ordering_then r s) ≡ (is_eq r && is_eq s)
 both_equal Less s = refl

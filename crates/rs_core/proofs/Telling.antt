@@ -1,7 +1,7 @@
 -- Octets that mean a table, and one message more behind them.
-use Rattle.std.proofs.Common.{◌≡◌, ◌<◌, ◌≤◌, ◌||◌, ℕ, Bool, true, false, List, [], ◌∷◌, ◌++◌, length, take, refl, sym, ◌∙◌, ap, subst, arith}
-use Rattle.std.specs.Prelude.{Option, Some, None, reverse, Ok, if◌then◌else◌}
-use Rattle.std.specs.List.{AllByRecursion, AllZip, list_any}
+use Rattle.std.proofs.Common.{◌≡◌, ℕ, Bool, true, false, List, [], ◌∷◌, ◌++◌, take, refl, sym, ◌∙◌, ap, subst}
+use Rattle.std.specs.Prelude.{Option, reverse}
+use Rattle.std.specs.List.{AllZip}
 use Rattle.std.proofs.lemmas.List.{append-nil, reverse-append}
 use Rattle.rs_octets.specs.declared.heads.Kind.{Kind}
 use Rattle.rs_octets.specs.declared.heads.Kind.TheVariants as kinds
@@ -12,7 +12,7 @@ use Rattle.rs_octets.proofs.Cut.{pieces_join, alone}
 use Rattle.rs_octets.proofs.GoodHeaders.{of_type_is}
 use Rattle.rs_attrs.specs.declared.mode.Mode.{Mode}
 use Rattle.rs_attrs.specs.Meaning.{Attribute}
-use Rattle.rs_attrs.specs.Effects.{Change, Changes, HasEffect, MeansTable, overlaid, table_of, table_since}
+use Rattle.rs_attrs.specs.Effects.{Change, Changes, HasEffect, MeansTable, overlaid, table_since}
 use Rattle.rs_attrs.proofs.Overlaying.{newest_overlays}
 use Rattle.rs_core.specs.Telling.{each_message, is_update, heads_update, body_if, updates_among, updates_in, no_table, Speaks}
 

@@ -1,5 +1,5 @@
 -- What an outlet says to its client, behind each thing that befalls it.
-use Rattle.std.proofs.Common.{◌≡◌, ◌≢◌, ◌⊎◌, inl, inr, ◌<◌, ℕ, zero, suc, Bool, true, false, List, [], ◌∷◌, ◌++◌, ◌≤◌, ◌&&◌, not, length, refl, sym, ◌∙◌, ap, subst, take, drop, arith, append_assoc}
+use Rattle.std.proofs.Common.{◌≡◌, inl, inr, ◌<◌, ℕ, zero, suc, Bool, true, false, List, [], ◌∷◌, ◌++◌, ◌≤◌, ◌&&◌, not, length, refl, sym, ◌∙◌, ap, subst, take, drop, arith, append_assoc}
 use Rattle.std.specs.List.{AllByRecursion}
 use Rattle.std.proofs.lemmas.List.{append-nil, take-append-drop}
 use Rattle.std.specs.Prelude.{Option, Some, None, slice_get, if◌then◌else◌}
@@ -97,8 +97,8 @@ bare_silent c long last v e = record {
 pub cleared_silent : (v w : View) → w ≡ cleared v → IsSilent w
 cleared_silent v w e = bare_silent v.client v.extended v.last w e
 
-pub finished_silent : (note : Option Short) (v w : View) → w ≡ finished note v → IsSilent w
-finished_silent note v w e = record {
+pub finished_silent : (said : Option Short) (v w : View) → w ≡ finished said v → IsSilent w
+finished_silent said v w e = record {
   speech = ap (λ (x : View). x.speech) e;
   order = nothing_in_order w (λ p. ap (λ (x : View). fin.get x.loc p) e ∙ none_in p) (λ p. ap (λ (x : View). fin.get x.told p) e ∙ none_in p) (λ p. ap (λ (x : View). fin.get x.waits p) e ∙ none_in p);
 }
@@ -237,14 +237,14 @@ request_open false e = cc
 
 message_open : (b : Bool) (f : Fate) (n : ℕ) (message : Heard) → (if b then message_act f n message else acts.None) ≡ acts.Say short.Open → ⊥
 message_open false f n message e = cc
-message_open true (Ends note) n message e = cc
+message_open true (Ends said) n message e = cc
 message_open true GoesOn zero message e = cc
 message_open true GoesOn (suc zero) message e = cc
 message_open true GoesOn (suc (suc n)) message e = request_open (is_request message) e
 
 moment_open : (b : Bool) (f : Fate) (falls : Bool) → (if b then moment_act f falls else acts.None) ≡ acts.Say short.Open → ⊥
 moment_open false f falls e = cc
-moment_open true (Ends note) falls e = cc
+moment_open true (Ends said) falls e = cc
 moment_open true GoesOn true e = cc
 moment_open true GoesOn false e = cc
 
@@ -367,7 +367,7 @@ begun_voice s c h ins v w numbered b at = by_flight v.flight refl where
   by_beat true empty quiet e = let is = b.keepalive empty quiet e in said_next s c h v w empty quiet (ap (λ (x : View). x.note) is ∙ quiet) rest_speech rest_order
       (λ mode none before. subst (λ f. Speaks mode (h.taken ++ f) no_table) (sym (ap (λ (x : View). x.flight) is)) (beats mode h.taken no_table before))
       (λ sp up since. subst (λ f. Speaks sp.mode (h.taken ++ f) (fin.get w.told)) (sym (ap (λ (x : View). x.flight) is))
-          (beats sp.mode h.taken (fin.get w.told) (subst (λ t. Speaks sp.mode h.taken (fin.get t)) (sym (ap (λ (x : View). x.told) is)) since))) at
+      (beats sp.mode h.taken (fin.get w.told) (subst (λ t. Speaks sp.mode h.taken (fin.get t)) (sym (ap (λ (x : View). x.told) is)) since))) at
   by_beat false empty quiet e = by_speech v.speech empty quiet e refl
 
   by_note : (o : Option Short) → v.flight ≡ [] → v.note ≡ o → SpeaksTo s c h w

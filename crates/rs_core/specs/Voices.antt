@@ -14,7 +14,6 @@ use Rattle.rs_session.specs.declared.act.Act.TheVariants as acts
 use Rattle.rs_session.specs.declared.act.State.TheVariants as states
 use Rattle.rs_session.specs.declared.session.Session.{Session}
 use Rattle.rs_session.specs.declared.settings.Settings.{Settings}
-use Rattle.rs_session.specs.Items.{Item}
 use Rattle.rs_session.specs.Sessions.{state_of, is_live, agreed_of, limit_by, mode_in}
 use Rattle.rs_session.specs.Hearing.{Whenever}
 use Rattle.rs_policy.specs.Configuration.{Configuration}

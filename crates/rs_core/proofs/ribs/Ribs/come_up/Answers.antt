@@ -1,5 +1,5 @@
 use Rattle.std.proofs.Common.{◌≡◌, ◌<◌, ap, subst, sym, ◌∙◌, refl}
-use Rattle.rs_adjin.specs.AdjIns.{number_of, held_of, identifier_of, Begins}
+use Rattle.rs_adjin.specs.AdjIns.{number_of, Begins}
 use Rattle.std.specs.Prelude.{if◌then◌else◌}
 use Rattle.rs_open.specs.declared.short.Limit.TheVariants as limits
 use Rattle.rs_outlet.specs.Views.{View, begun}

@@ -1,5 +1,4 @@
 use Rattle.std.proofs.Common.{◌<◌, sym, ◌∙◌, ap, subst}
-use Rattle.rs_outlet.specs.Views.{View}
 use Rattle.rs_core.specs.Core.{client_count}
 use Rattle.rs_core.specs.Ribs.{outlet_in}
 use Rattle.rs_core.specs.Voices.{KeepsVoices}

@@ -1,5 +1,4 @@
 use Rattle.std.proofs.Common.{refl}
-use Rattle.rs_core.specs.Core.{client_count, refused_clients}
 use Rattle.rs_core.proofs.Outgoing.{turned_agrees}
 use Rattle.rs_core.proofs.route_server.Core.turn.Goals as goal
 
