@@ -2,7 +2,6 @@
 use Rattle.std.proofs.Common.{◌≡◌, ◌≢◌, ◌<◌, ℕ, zero, suc, Bool, true, false, List, [], ◌∷◌, ◌++◌, length, refl, sym, ◌∙◌, ap, subst, arith}
 use Rattle.std.specs.Prelude.{Some, Result, Ok, Err, slice_get, if◌then◌else◌}
 use Rattle.std.specs.Global.{Vec}
-use Rattle.std.proofs.lemmas.Bool.{false≢true}
 use Rattle.rs_octets.specs.declared.heads.Allowed.{Allowed}
 use Rattle.rs_octets.specs.declared.heads.HeaderFault.{HeaderFault}
 use Rattle.rs_octets.specs.declared.heads.Kind.{Kind}
@@ -22,23 +21,27 @@ use Rattle.rs_policy.specs.Configuration.{Configuration}
 use Rattle.rs_core.specs.Hearing.{Hearing, allowed_in, session_in, state_in, without_change, body_said, said_by, said_in, takes_in, listens_to, with_octets, hears}
 use Rattle.rs_core.specs.Steps.{IsBetween}
 use Rattle.rs_core.specs.Agreeing.{Knows, Waits, AgreesAt, IsCutShort, Spares}
+use Rattle.rs_core.specs.Ribs.{outlet_in}
 use Rattle.rs_core.specs.declared.route_server.Core.{Core}
 use Rattle.rs_core.proofs.Listening.{Heards, hears_joined, hears_moment, deaf}
-use Rattle.rs_core.proofs.Ruling.{knows_by}
+use Rattle.rs_core.proofs.Ruling.{unmoved}
+use Rattle.rs_core.proofs.Voicing.{same_again, same_is, voiced_on}
 
 -- what is known is known whatever the octets were
 pub with_others : (core : Core) (s : Configuration) (c : ℕ) (octets : List ℕ) (h : Hearing) → Knows core s c h → Knows core s c (with_octets octets h)
-with_others core s c octets h knows = record { session = knows.session; table = knows.table; identifier = knows.identifier }
-
--- and where nothing but what waits has changed
-pub unmoved : (old new : Core) (s : Configuration) (c : ℕ) (h : Hearing) → new.sessions ≡ old.sessions → new.ribs ≡ old.ribs → Knows old s c h → Knows new s c h
-unmoved old new s c h sessions ribs knows = knows_by old new s s c h refl sessions (ap (λ r. r.tables) ribs) knows
+with_others core s c octets h knows = record {
+  session = knows.session;
+  table = knows.table;
+  identifier = knows.identifier;
+  outlet = λ config none. let v = outlet_in core.ribs c none in voiced_on s s c h (with_octets octets h) v v refl (λ l. l) refl (same_again v v (same_is v v refl)) (knows.outlet config none);
+}
 
 pub waiting_spares : (old new : Core) (c : ℕ) → new.count ≡ old.count → new.sessions ≡ old.sessions → new.ribs ≡ old.ribs
     → ((d : ℕ) → d ≢ c → slice_get new.buffers.items d ≡ slice_get old.buffers.items d) → Spares c old new
 waiting_spares old new c count sessions ribs others = record {
   count = count;
   config = ap (λ r. r.config) ribs;
+  voices = λ d none lt ne. same_is _ _ (ap (λ r. outlet_in r d none) ribs);
   sessions = λ d ne. ap (λ v. slice_get v.items d) sessions;
   buffers = others;
   held = λ d p ne. ap (λ r. held_of r.tables d p) ribs;
@@ -106,9 +109,12 @@ fault_ends_by true GoesOn settings fault (suc (suc n)) k = refl
 pub fault_ends : (settings : Settings) (fault : HeaderFault) (items : List Item) → is_live (state_of settings (Message (heard.Header fault) ∷ items)) ≡ false
 fault_ends settings fault items = fault_ends_by (is_connected items) (fate settings items) settings fault (message_count items) (suc (message_count items))
 
+true_false : (b : Bool) → b ≡ true → b ≡ false → ⊥
+true_false b t f = cc
+
 -- nothing waits for a session that has ended
 pub over : (s : Configuration) (c : ℕ) (buffer : List ℕ) (h : Hearing) → is_live (state_in s c h) ≡ false → Waits s c buffer h
-over s c buffer h dead = record { rest = λ live. absurd (false≢true (sym dead ∙ live)); good = λ live. absurd (false≢true (sym dead ∙ live)) }
+over s c buffer h dead = record { rest = λ live. absurd (true_false (is_live (state_in s c h)) live dead); good = λ live. absurd (true_false (is_live (state_in s c h)) live dead) }
 
 pub hears_fault : (s : Configuration) (c : ℕ) (h : Hearing) (octets : List ℕ) (fault : HeaderFault) → is_live (state_in s c h) ≡ true
     → newly_heard (allowed_in s) h.octets octets ≡ Err fault ∷ []

@@ -15,7 +15,6 @@ use Rattle.rs_attrs.specs.Effects.{Effect, Reset, Changes, Change, effect_of, ta
 use Rattle.rs_open.specs.Opens.{open_of}
 use Rattle.rs_open.specs.Refreshes.{family_of}
 use Rattle.rs_open.specs.declared.refresh.AddressFamily.{AddressFamily}
-use Rattle.rs_open.specs.declared.short.Limit.{Limit}
 use Rattle.rs_session.specs.declared.heard.Heard.{Heard}
 use Rattle.rs_session.specs.declared.heard.Heard.TheVariants as heard
 use Rattle.rs_session.specs.declared.act.State.{State}
@@ -23,7 +22,7 @@ use Rattle.rs_session.specs.declared.act.State.TheVariants as states
 use Rattle.rs_session.specs.declared.settings.Settings.{Settings}
 use Rattle.rs_session.specs.Items as items
 use Rattle.rs_session.specs.Items.{Item}
-use Rattle.rs_session.specs.Sessions.{state_of, is_live, agreed_mode, agreed_limit, agreed_identifier}
+use Rattle.rs_session.specs.Sessions.{state_of, is_live, agreed_mode, agreed_identifier}
 use Rattle.rs_policy.specs.Configuration.{Configuration, client_of}
 
 -- ---- what is configured of a client's session
@@ -38,14 +37,15 @@ session_in s c = record { peer_as = (client_of s c).client_as; hold = s.top.hold
 -- ---- one client
 
 -- the octets since its connection came; what befell its session, the newest first; what its UPDATEs changed since it is
--- Established, the newest first
+-- Established, the newest first; the octets that its link took of us since its connection came
 pub record Hearing : Type 0 where
   pub octets : List ℕ
   pub items : List Item
   pub changes : List Change
+  pub taken : List ℕ
 
 abbrev pub silence : Hearing
-silence = record { octets = []; items = []; changes = [] }
+silence = record { octets = []; items = []; changes = []; taken = [] }
 
 abbrev pub state_in : Configuration → ℕ → Hearing → State
 state_in s c h = state_of (session_in s c) h.items
@@ -57,20 +57,9 @@ is_up states.OpenConfirm = false
 is_up states.Established = true
 is_up states.Closing = false
 
-abbrev pub is_closing : State → Bool
-is_closing states.Idle = false
-is_closing states.OpenSent = false
-is_closing states.OpenConfirm = false
-is_closing states.Established = false
-is_closing states.Closing = true
-
 -- how many octets AS numbers have in the UPDATEs of a client that is Established (RFC 6793, 3)
 abbrev pub mode_in : Configuration → ℕ → Hearing → Option Mode
 mode_in s c h = if is_up (state_in s c h) then agreed_mode (session_in s c) h.items else None
-
--- how long a message to a client that is Established may be (RFC 8654, 4)
-abbrev pub limit_in : Configuration → ℕ → Hearing → Option Limit
-limit_in s c h = if is_up (state_in s c h) then Some (agreed_limit (session_in s c) h.items) else None
 
 -- the BGP Identifier of a client that is Established (RFC 4271, 4.2)
 abbrev pub identifier_in : Configuration → ℕ → Hearing → ℕ
@@ -139,6 +128,7 @@ takes_in s c said h = record {
   octets = h.octets;
   items = items.Message said.message ∷ h.items;
   changes = if is_up (state_in s c h) then with_change said.change h.changes else [];
+  taken = h.taken;
 }
 
 -- a message or a fault: it is heard while the session lasts
@@ -152,17 +142,21 @@ listens_to s c (message ∷ messages) h = listens_to s c messages (listens s c m
 -- ---- what each move makes of it
 
 abbrev pub with_octets : List ℕ → Hearing → Hearing
-with_octets octets h = record { octets = octets; items = h.items; changes = h.changes }
+with_octets octets h = record { octets = octets; items = h.items; changes = h.changes; taken = h.taken }
 
 -- octets come: what they say that those before them did not is heard
 abbrev pub hears : Configuration → ℕ → List ℕ → Hearing → Hearing
 hears s c octets h = with_octets (h.octets ++ octets) (listens_to s c (newly_heard (allowed_in s) h.octets octets) h)
 
 abbrev pub begins : Hearing → Hearing
-begins h = record { octets = []; items = items.Came ∷ h.items; changes = [] }
+begins h = record { octets = []; items = items.Came ∷ h.items; changes = []; taken = [] }
 
 abbrev pub sees : ℕ → Hearing → Hearing
-sees t h = record { octets = h.octets; items = items.Moment t ∷ h.items; changes = h.changes }
+sees t h = record { octets = h.octets; items = items.Moment t ∷ h.items; changes = h.changes; taken = h.taken }
 
 abbrev pub leaves : Hearing → Hearing
-leaves h = record { octets = []; items = items.Left ∷ h.items; changes = [] }
+leaves h = record { octets = []; items = items.Left ∷ h.items; changes = []; taken = [] }
+
+-- its link takes octets
+abbrev pub takes : List ℕ → Hearing → Hearing
+takes octets h = record { octets = h.octets; items = h.items; changes = h.changes; taken = h.taken ++ octets }

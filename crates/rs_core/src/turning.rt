@@ -1,6 +1,6 @@
 //! Turns: what is touched is decided, for each client.
 
-ghost use Rattle.std.specs.Prelude.{◌≡◌, ◌<◌, ◌≤◌, ◌+◌, length};
+ghost use Rattle.std.specs.Prelude.{◌≡◌, ◌<◌, ◌≤◌, ◌+◌, List, ◌∷◌, length};
 ghost use Rattle.rs_core.specs.Turns.{IsMarked, IsTurn, refused_in};
 ghost use Rattle.rs_workers.specs.Turned.{AllTurnedAlone};
 
@@ -20,7 +20,9 @@ pub struct Turns {
 }
 
 impl Core {
-    ghost use Rattle.rs_core.specs.Core.{client_count, refused_clients};
+    ghost use Rattle.rs_core.specs.Core.{client_count, refused_below, refused_clients};
+    ghost use Rattle.rs_core.specs.Moves.{Move, Turned};
+    ghost use Rattle.rs_core.specs.Agreeing.{Agrees};
 
     /// A turn of all clients, one after the other.
     #[tactic(auto, unfolding(crate::specs::Core::client_count, crate::specs::Core::refused_clients))]
@@ -28,6 +30,7 @@ impl Core {
         ensures clients { client_count self.new ≡ client_count self.old }
         ensures refused { result.refused ≡ refused_clients self.new }
         ensures all { result.done + result.refused ≡ client_count self.new }
+        ensures turned { (run : List Move) → Agrees self.old run → Agrees self.new (Turned (refused_below self.new (client_count self.new)) ∷ run) }
     {
         self.ribs.turn();
         self.ribs.sweep();
@@ -46,6 +49,7 @@ impl Core {
         ensures clients { client_count self.new ≡ client_count self.old }
         ensures refused { result.refused ≡ refused_clients self.new }
         ensures all { result.done + result.refused ≡ client_count self.new }
+        ensures turned { (run : List Move) → Agrees self.old run → Agrees self.new (Turned (refused_below self.new (client_count self.new)) ∷ run) }
     {
         self.ribs.turn_with(rt, workers, gate);
         self.ribs.sweep();
@@ -54,7 +58,7 @@ impl Core {
 }
 
 impl Ribs {
-    ghost use Rattle.rs_core.specs.Ribs.{ChangesAll, ChangesOwn, KeepsFresh, KeepsSettings, outlet_count};
+    ghost use Rattle.rs_core.specs.Ribs.{ChangesAll, ChangesOwn, IsNumbered, KeepsFresh, KeepsSettings, outlet_count};
 
     /// A turn of all clients, one after the other.
     pub(crate) fn turn(&mut self)
@@ -73,7 +77,9 @@ impl Ribs {
         requires { (0 < workers) × (workers ≤ 16) }
         ensures settings { KeepsSettings self.old self.new }
         ensures tables { self.new.tables ≡ self.old.tables }
-        ensures turned { AllTurnedAlone self.old.config self.old.tables self.old.outlets.items self.new.outlets.items }
+        ensures alone { AllTurnedAlone self.old.config self.old.tables self.old.outlets.items self.new.outlets.items }
+        ensures turned { IsNumbered self.old → ChangesAll (λ c. IsTurn self.old.config self.old.tables) self.old self.new }
+        ensures kept { KeepsFresh self.old self.new }
     {
         turn_all(
             rt,
@@ -116,7 +122,8 @@ impl Ribs {
 
     /// Another configuration: all is decided anew at the next turn.
     pub(crate) fn replace(&mut self, config: Config)
-        requires { length config.clients ≡ outlet_count self.old }
+        requires clients { length config.clients ≡ outlet_count self.old }
+        requires extended { config.top.extended ≡ self.old.extended }
         ensures count { outlet_count self.new ≡ outlet_count self.old }
         ensures extended { self.new.extended ≡ self.old.extended }
         ensures config { self.new.config ≡ config }

@@ -1,4 +1,7 @@
+use Rattle.std.proofs.Common.{subst}
+use Rattle.rs_core.specs.Asking.{WantsClose}
 use Rattle.rs_core.proofs.Leading.{led_same, led_once}
+use Rattle.rs_core.proofs.Continuing.{kept, closed}
 use Rattle.rs_core.proofs.driving.end_if_wanted.Goals as goal
 
 pub returns-then-wants_close-clause-led : goal.returns-then-wants_close-clause-led
@@ -6,3 +9,11 @@ returns-then-wants_close-clause-led g c = led_once g.L.Link.happens _ _ _ c.end.
 
 pub returns-else-wants_close-clause-led : goal.returns-else-wants_close-clause-led
 returns-else-wants_close-clause-led g c = led_same g.L.Link.happens _
+
+pub returns-then-wants_close-clause-ended : goal.returns-then-wants_close-clause-ended
+returns-then-wants_close-clause-ended g c = closed g.L.Link.happens _ c.wants_close.new.self _ _ _ c.args.c c.wants_close.ensures.count c.lost.ensures.count
+    (λ run h. subst (WantsClose c.wants_close.new.self c.args.c run) c.if-wants_close.true (c.wants_close.ensures.wants run h)) c.lost.ensures.left c.end.ensures
+
+pub returns-else-wants_close-clause-ended : goal.returns-else-wants_close-clause-ended
+returns-else-wants_close-clause-ended g c = kept g.L.Link.happens _ _ _ c.args.c c.wants_close.ensures.count
+    (λ run h. subst (WantsClose c.wants_close.new.self c.args.c run) c.if-wants_close.false (c.wants_close.ensures.wants run h))
