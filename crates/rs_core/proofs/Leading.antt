@@ -32,7 +32,7 @@ led_on happens a b c p q = record {
   leads = leads_on happens a p.run b q.run c p.leads q.leads;
 }
 
-stop_is : (event : Event) → stops event ≡ true → event ≡ Stop
+pub stop_is : (event : Event) → stops event ≡ true → event ≡ Stop
 stop_is Stop e = refl
 stop_is (Opened c) e = let h : false ≡ true = e in cc
 stop_is (Octets c n) e = let h : false ≡ true = e in cc

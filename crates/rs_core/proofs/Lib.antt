@@ -19,3 +19,4 @@ pub mod Numbers
 pub mod Freshness
 pub mod Changing
 pub mod Turned
+pub mod Continuing

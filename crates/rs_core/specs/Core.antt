@@ -1,5 +1,8 @@
 -- What contracts see of a route server.
-use Rattle.std.specs.Prelude.{ℕ, List}
+use Rattle.std.specs.Prelude.{ℕ, zero, suc, Bool, true, false, List, [], ◌∷◌, Option, Some, None, slice_get, if◌then◌else◌}
+use Rattle.rs_outlet.specs.declared.answers.Last.{Last}
+use Rattle.rs_outlet.specs.declared.answers.Last.TheVariants as lasts
+use Rattle.rs_outlet.specs.Views.{View}
 use Rattle.rs_core.specs.Ribs.{lent_by}
 use Rattle.rs_core.specs.Turns.{refused_in}
 use Rattle.rs_core.specs.declared.route_server.Core.{Core}
@@ -14,3 +17,21 @@ lent_octets core c = lent_by core.ribs c
 -- at how many clients memory was refused at the last turn
 unfoldable pub refused_clients : Core → ℕ
 refused_clients core = refused_in core.ribs.outlets.items
+
+abbrev pub is_refusal : Last → Bool
+is_refusal lasts.Refused = true
+is_refusal lasts.Never = false
+is_refusal (lasts.Done turned) = false
+
+abbrev pub refusal_in : Option View → Bool
+refusal_in None = false
+refusal_in (Some o) = is_refusal o.last
+
+-- whether memory was refused for a client at the last turn
+unfoldable pub is_refused : Core → ℕ → Bool
+is_refused core c = refusal_in (slice_get core.ribs.outlets.items c)
+
+-- for which of the first so many clients, the greatest first
+abbrev pub refused_below : Core → ℕ → List ℕ
+refused_below core zero = []
+refused_below core (suc c) = if is_refused core c then c ∷ refused_below core c else refused_below core c

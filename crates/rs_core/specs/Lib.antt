@@ -9,3 +9,5 @@ pub mod Hearing
 pub mod Runs
 pub mod Agreeing
 pub mod Steps
+pub mod Courses
+pub mod Answers

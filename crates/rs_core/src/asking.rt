@@ -1,6 +1,6 @@
 //! What a route server is asked.
 
-ghost use Rattle.std.specs.Prelude.{◌≡◌, ◌==◌, ◌&&◌, ◌<◌, false, List, length, IfSome};
+ghost use Rattle.std.specs.Prelude.{◌≡◌, ◌==◌, ◌&&◌, ◌<◌, true, false, List, ◌∷◌, length, IfSome};
 
 use crate::endings::{Ending, FaultedUpdates};
 use crate::route_server::Core;
@@ -32,8 +32,8 @@ fn is_closing(state: State) -> bool
 ghost use Rattle.rs_core.specs.Hearing.{is_up, is_closing};
 
 impl Core {
-    ghost use Rattle.rs_core.specs.Core.{client_count, lent_octets};
-    ghost use Rattle.rs_core.specs.Moves.{Move, config_in};
+    ghost use Rattle.rs_core.specs.Core.{client_count, is_refusal, is_refused, lent_octets};
+    ghost use Rattle.rs_core.specs.Moves.{Move, Began, config_in};
     ghost use Rattle.rs_core.specs.Hearing.{Hearing, state_in, mode_in, limit_in};
     ghost use Rattle.rs_core.specs.Runs.{hearing, is_established};
     ghost use Rattle.rs_core.specs.Agreeing.{Agrees, Knows};
@@ -140,6 +140,7 @@ impl Core {
     /// The answer of a client's last turn.
     pub fn last(&self, c: usize) -> Last
         requires { c < client_count self.now }
+        ensures { is_refusal result ≡ is_refused self.now c }
     {
         let outlet = &self.ribs.outlets[c];
         outlet.last()
@@ -159,6 +160,7 @@ impl Core {
         ensures count { client_count self.new ≡ client_count self.old }
         ensures closing { (run : List Move) → Agrees self.old run → result ≡ (is_closing (state_in (config_in run) c (hearing c run)) && (length (lent_octets self.new c) == 0)) }
         ensures unchanged { (run : List Move) → Agrees self.old run → is_closing (state_in (config_in run) c (hearing c run)) ≡ false → self.new ≡ self.old }
+        ensures began { (run : List Move) → Agrees self.old run → is_closing (state_in (config_in run) c (hearing c run)) ≡ true → Agrees self.new (Began c ∷ run) }
     {
         if !is_closing(self.sessions[c].state()) {
             return false;

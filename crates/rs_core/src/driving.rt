@@ -1,8 +1,10 @@
 //! Drives a route server by a link.
 
-ghost use Rattle.std.specs.Prelude.{◌≡◌, ◌<◌, ◌≤◌, length};
-ghost use Rattle.rs_core.specs.Core.{client_count};
-ghost use Rattle.rs_core.specs.Links.{HasLed, HasStopped, stops};
+ghost use Rattle.std.specs.Prelude.{◌≡◌, ◌≢◌, ◌<◌, ◌≤◌, true, false, List, [], take};
+ghost use Rattle.rs_core.specs.Core.{client_count, is_refused, refused_below};
+ghost use Rattle.rs_core.specs.Links.{HasLed, HasStopped, Leads, Memory, Step, octets_of, stops};
+ghost use Rattle.rs_core.specs.Courses.{Continues, memories};
+ghost use Rattle.rs_core.specs.Answers.{Answers, Drives, Ended, Ends, Gives, Offers};
 
 use crate::links::{Event, Sink, Source};
 use crate::route_server::Core;
@@ -17,6 +19,7 @@ use std::thread::Threads;
 pub fn drive<L: Source + Sink>(rt: &impl Wait, core: &mut Core, link: &mut L)
     ensures count { client_count core.new ≡ client_count core.old }
     ensures led { HasStopped L.happens link.old link.new }
+    ensures drives { Continues L.happens core.old link.old core.new link.new Drives }
 {
     let mut piece = [0; 4096];
     for _ in rt.forever() {
@@ -25,6 +28,7 @@ pub fn drive<L: Source + Sink>(rt: &impl Wait, core: &mut Core, link: &mut L)
             return;
         }
         answer(core, link, event, &piece);
+        end_closed(core, link);
     }
 }
 
@@ -39,6 +43,7 @@ pub fn drive_with<R: Threads + Wait + Sync, G: Gate, L: Source + Sink>(
     requires { (0 < workers) × (workers ≤ 16) }
     ensures count { client_count core.new ≡ client_count core.old }
     ensures led { HasStopped L.happens link.old link.new }
+    ensures drives { Continues L.happens core.old link.old core.new link.new Drives }
 {
     let mut piece = [0; 4096];
     for _ in rt.forever() {
@@ -47,6 +52,7 @@ pub fn drive_with<R: Threads + Wait + Sync, G: Gate, L: Source + Sink>(
             return;
         }
         answer_with(rt, workers, gate, core, link, event, &piece);
+        end_closed(core, link);
     }
 }
 
@@ -66,19 +72,20 @@ fn is_stop(event: Event) -> bool
     }
 }
 
-/// What an event asks for, and the ends of those that want to be closed then.
+/// Answers an event that is no stop.
 fn answer<L: Source + Sink>(core: &mut Core, link: &mut L, event: Event, piece: &[u8; 4096])
+    requires { stops event ≡ false }
     ensures count { client_count core.new ≡ client_count core.old }
     ensures led { HasLed L.happens link.old link.new }
+    ensures answers { Continues L.happens core.old link.old core.new link.new (λ n. Answers n (octets_of event piece.now (L.text link.old)) event) }
 {
-    if event == Event::Turn {
-        core.turn();
+    match event {
+        Event::Turn => turn(core, link),
+        _ => handle(core, link, event, piece),
     }
-    handle(core, link, event, piece);
-    end_closed(core, link);
 }
 
-/// The same with a turn by workers.
+/// The same, where a turn is by workers.
 fn answer_with<R: Threads + Wait + Sync, G: Gate, L: Source + Sink>(
     rt: &R,
     workers: usize,
@@ -88,56 +95,95 @@ fn answer_with<R: Threads + Wait + Sync, G: Gate, L: Source + Sink>(
     event: Event,
     piece: &[u8; 4096],
 )
+    requires workers { (0 < workers) × (workers ≤ 16) }
+    requires event { stops event ≡ false }
+    ensures count { client_count core.new ≡ client_count core.old }
+    ensures led { HasLed L.happens link.old link.new }
+    ensures answers { Continues L.happens core.old link.old core.new link.new (λ n. Answers n (octets_of event piece.now (L.text link.old)) event) }
+{
+    match event {
+        Event::Turn => turn_with(rt, workers, gate, core, link),
+        _ => handle(core, link, event, piece),
+    }
+}
+
+/// A turn of all clients.
+fn turn<L: Sink>(core: &mut Core, link: &mut L)
+    ensures count { client_count core.new ≡ client_count core.old }
+    ensures led { HasLed L.happens link.old link.new }
+    ensures answers { Continues L.happens core.old link.old core.new link.new (λ n. Answers n [] Event.Turn) }
+{
+    core.turn();
+    tell_refused(core, link);
+}
+
+/// A turn of all clients by workers.
+fn turn_with<R: Threads + Wait + Sync, G: Gate, L: Sink>(
+    rt: &R,
+    workers: usize,
+    gate: &G,
+    core: &mut Core,
+    link: &mut L,
+)
     requires { (0 < workers) × (workers ≤ 16) }
     ensures count { client_count core.new ≡ client_count core.old }
     ensures led { HasLed L.happens link.old link.new }
+    ensures answers { Continues L.happens core.old link.old core.new link.new (λ n. Answers n [] Event.Turn) }
 {
-    if event == Event::Turn {
-        core.turn_with(rt, workers, gate);
-    }
-    handle(core, link, event, piece);
-    end_closed(core, link);
+    core.turn_with(rt, workers, gate);
+    tell_refused(core, link);
 }
 
-/// What an event asks for; a turn was done already. An event of a client that is not there, or of more
-/// octets than a piece has, is passed over.
+/// Answers an event that is neither a turn nor a stop. An event of a client that is not there, or of
+/// more octets than a piece has, is passed over.
 #[tactic(auto, unfolding(crate::specs::Core::client_count, crate::specs::Core::lent_octets), using(crate::proofs::Leading::led_same))]
 fn handle<L: Source + Sink>(core: &mut Core, link: &mut L, event: Event, piece: &[u8; 4096])
+    requires turn { event ≢ Event.Turn }
+    requires stop { stops event ≡ false }
     ensures count { client_count core.new ≡ client_count core.old }
     ensures led { HasLed L.happens link.old link.new }
+    ensures answers { Continues L.happens core.old link.old core.new link.new (λ n. Answers n (octets_of event piece.now (L.text link.old)) event) }
 {
     match event {
-        Event::Opened(c) if c < core.clients() => open(core, link, c),
-        Event::Octets(c, n) if c < core.clients() && n <= 4096 => hear(core, link, c, &piece[..n]),
-        Event::Room(c, n) if c < core.clients() => give(core, link, c, n),
-        Event::Lost(c) if c < core.clients() => core.lost(c),
+        Event::Opened(c) => open(core, link, c),
+        Event::Octets(c, len) => hear(core, link, c, len, piece),
         Event::Moment(t) => core.moment(t),
+        Event::Turn => {}
+        Event::Room(c, room) => fill(core, link, c, room),
+        Event::Lost(c) => lose(core, link, c),
         Event::Rules => rule(core, link),
-        Event::Opened(_) | Event::Octets(_, _) | Event::Room(_, _) | Event::Lost(_) => {}
-        Event::Turn => tell_refused(core, link),
         Event::Stop => {}
     }
 }
 
 /// A connection of a client has come.
 fn open<L: Sink>(core: &mut Core, link: &mut L, c: usize)
-    requires { c < client_count core.old }
     ensures count { client_count core.new ≡ client_count core.old }
     ensures led { HasLed L.happens link.old link.new }
+    ensures answers { Continues L.happens core.old link.old core.new link.new (λ n. Answers n [] (Event.Opened c)) }
 {
+    if c >= core.clients() {
+        return;
+    }
     match core.opened(c) {
         Ok(()) => link.begin(c),
         Err(Busy) => link.busy(c),
     }
 }
 
-/// Octets of a client have come.
-fn hear<L: Sink>(core: &mut Core, link: &mut L, c: usize, octets: &[u8])
-    requires { c < client_count core.old }
+/// Octets of a client have come, so many in a piece.
+fn hear<L: Sink>(core: &mut Core, link: &mut L, c: usize, len: usize, piece: &[u8; 4096])
     ensures count { client_count core.new ≡ client_count core.old }
     ensures led { HasLed L.happens link.old link.new }
+    ensures answers { Continues L.happens core.old link.old core.new link.new (λ n. Answers n (take len piece.now) (Event.Octets c len)) }
 {
-    match core.octets(c, octets) {
+    if c >= core.clients() {
+        return;
+    }
+    if len > 4096 {
+        return;
+    }
+    match core.octets(c, &piece[..len]) {
         Ok(()) => {}
         Err(_) => {
             link.memory(c);
@@ -146,20 +192,44 @@ fn hear<L: Sink>(core: &mut Core, link: &mut L, c: usize, octets: &[u8])
     }
 }
 
+/// A connection of a client is lost.
+fn lose<L: Sink>(core: &mut Core, link: &mut L, c: usize)
+    ensures count { client_count core.new ≡ client_count core.old }
+    ensures led { HasLed L.happens link.old link.new }
+    ensures answers { Continues L.happens core.old link.old core.new link.new (λ n. Answers n [] (Event.Lost c)) }
+{
+    if c < core.clients() {
+        core.lost(c);
+    }
+}
+
 /// Another text of rules has come.
 fn rule<L: Source + Sink>(core: &mut Core, link: &mut L)
     ensures count { client_count core.new ≡ client_count core.old }
     ensures led { HasLed L.happens link.old link.new }
+    ensures answers { Continues L.happens core.old link.old core.new link.new (λ n. Answers n (L.text link.old) Event.Rules) }
 {
     let answer = core.rules(link.rules());
     link.ruled(&answer);
 }
 
 /// The link of a client has room for so many octets.
+fn fill<L: Sink>(core: &mut Core, link: &mut L, c: usize, room: u64)
+    ensures count { client_count core.new ≡ client_count core.old }
+    ensures led { HasLed L.happens link.old link.new }
+    ensures answers { Continues L.happens core.old link.old core.new link.new (λ n. Answers n [] (Event.Room c room)) }
+{
+    if c < core.clients() {
+        give(core, link, c, room);
+    }
+}
+
+/// Offers a client what is lent to it, until the room is used or nothing is taken.
 fn give<L: Sink>(core: &mut Core, link: &mut L, c: usize, room: u64)
     requires { c < client_count core.old }
     ensures count { client_count core.new ≡ client_count core.old }
     ensures led { HasLed L.happens link.old link.new }
+    ensures gives { Continues L.happens core.old link.old core.new link.new (λ n. Gives n c room) }
 {
     let mut left = room;
     while left > 0 {
@@ -175,6 +245,8 @@ fn give<L: Sink>(core: &mut Core, link: &mut L, c: usize, room: u64)
 fn cut(room: u64, len: usize) -> usize
     ensures len { result ≤ len }
     ensures room { result ≤ room }
+    ensures cut { room ≤ len → result ≡ room }
+    ensures all { len ≤ room → result ≡ len }
 {
     if room < len as u64 {
         room as usize
@@ -189,6 +261,7 @@ fn offer<L: Sink>(core: &mut Core, link: &mut L, c: usize, room: u64) -> u64
     ensures within { result ≤ room }
     ensures count { client_count core.new ≡ client_count core.old }
     ensures led { HasLed L.happens link.old link.new }
+    ensures offers { Continues L.happens core.old link.old core.new link.new (λ n. Offers n c room result) }
 {
     core.begin(c);
     let lent = core.lent(c);
@@ -208,23 +281,27 @@ fn offer<L: Sink>(core: &mut Core, link: &mut L, c: usize, room: u64) -> u64
     }
 }
 
-/// Tells of each client at whose turn memory was refused.
+/// Tells of each client for which memory was refused at its turn.
 fn tell_refused<L: Sink>(core: &Core, link: &mut L)
-    ensures { HasLed L.happens link.old link.new }
+    ensures led { HasLed L.happens link.old link.new }
+    ensures told { (first : L) (steps : List Step) → Leads L.happens first steps link.old → Leads L.happens first (memories (refused_below core.now (client_count core.now)) steps) link.new }
 {
     for c in 0..core.clients() {
         tell_if_refused(core, link, c);
     }
 }
 
-/// Tells of a client at whose turn memory was refused.
+/// Tells of a client if memory was refused for it at its turn.
 fn tell_if_refused<L: Sink>(core: &Core, link: &mut L, c: usize)
     requires { c < client_count core.now }
-    ensures { HasLed L.happens link.old link.new }
+    ensures led { HasLed L.happens link.old link.new }
+    ensures refused { is_refused core.now c ≡ true → L.happens link.old (Memory c) link.new }
+    ensures done { is_refused core.now c ≡ false → link.new ≡ link.old }
 {
     match core.last(c) {
         Last::Refused => link.memory(c),
-        _ => {}
+        Last::Never => {}
+        Last::Done(_) => {}
     }
 }
 
@@ -232,6 +309,7 @@ fn tell_if_refused<L: Sink>(core: &Core, link: &mut L, c: usize)
 fn end_closed<L: Sink>(core: &mut Core, link: &mut L)
     ensures count { client_count core.new ≡ client_count core.old }
     ensures led { HasLed L.happens link.old link.new }
+    ensures ends { Continues L.happens core.old link.old core.new link.new (λ n. Ends n n) }
 {
     for c in 0..core.clients() {
         end_if_wanted(core, link, c);
@@ -243,6 +321,7 @@ fn end_if_wanted<L: Sink>(core: &mut Core, link: &mut L, c: usize)
     requires { c < client_count core.old }
     ensures count { client_count core.new ≡ client_count core.old }
     ensures led { HasLed L.happens link.old link.new }
+    ensures ended { Continues L.happens core.old link.old core.new link.new (λ n. Ended n c) }
 {
     if core.wants_close(c) {
         link.end(c);

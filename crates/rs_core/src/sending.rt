@@ -1,16 +1,19 @@
 //! The way of octets to a client.
 
-ghost use Rattle.std.specs.Prelude.{◌≡◌, ◌<◌, ◌≤◌, length};
+ghost use Rattle.std.specs.Prelude.{◌≡◌, ◌<◌, ◌≤◌, List, ◌∷◌, length, take};
 
 use crate::route_server::Core;
 
 impl Core {
     ghost use Rattle.rs_core.specs.Core.{client_count, lent_octets};
+    ghost use Rattle.rs_core.specs.Moves.{Move, Began, Took};
+    ghost use Rattle.rs_core.specs.Agreeing.{Agrees};
 
     /// Begins the next message to a client where none is in flight.
     pub(crate) fn begin(&mut self, c: usize)
         requires { c < client_count self.old }
-        ensures { client_count self.new ≡ client_count self.old }
+        ensures count { client_count self.new ≡ client_count self.old }
+        ensures began { (run : List Move) → Agrees self.old run → Agrees self.new (Began c ∷ run) }
     {
         self.ribs.begin(c);
     }
@@ -36,7 +39,8 @@ impl Core {
     pub fn took(&mut self, c: usize, n: usize)
         requires client { c < client_count self.old }
         requires lent { n ≤ length (lent_octets self.old c) }
-        ensures { client_count self.new ≡ client_count self.old }
+        ensures count { client_count self.new ≡ client_count self.old }
+        ensures took { (run : List Move) → Agrees self.old run → Agrees self.new (Took c (take n (lent_octets self.old c)) ∷ run) }
     {
         self.ribs.took(c, n);
     }

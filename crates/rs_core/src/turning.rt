@@ -1,6 +1,6 @@
 //! Turns: what is touched is decided, for each client.
 
-ghost use Rattle.std.specs.Prelude.{◌≡◌, ◌<◌, ◌≤◌, ◌+◌, length};
+ghost use Rattle.std.specs.Prelude.{◌≡◌, ◌<◌, ◌≤◌, ◌+◌, List, ◌∷◌, length};
 ghost use Rattle.rs_core.specs.Turns.{IsMarked, IsTurn, refused_in};
 ghost use Rattle.rs_workers.specs.Turned.{AllTurnedAlone};
 
@@ -20,7 +20,9 @@ pub struct Turns {
 }
 
 impl Core {
-    ghost use Rattle.rs_core.specs.Core.{client_count, refused_clients};
+    ghost use Rattle.rs_core.specs.Core.{client_count, refused_below, refused_clients};
+    ghost use Rattle.rs_core.specs.Moves.{Move, Turned};
+    ghost use Rattle.rs_core.specs.Agreeing.{Agrees};
 
     /// A turn of all clients, one after the other.
     #[tactic(auto, unfolding(crate::specs::Core::client_count, crate::specs::Core::refused_clients))]
@@ -28,6 +30,7 @@ impl Core {
         ensures clients { client_count self.new ≡ client_count self.old }
         ensures refused { result.refused ≡ refused_clients self.new }
         ensures all { result.done + result.refused ≡ client_count self.new }
+        ensures turned { (run : List Move) → Agrees self.old run → Agrees self.new (Turned (refused_below self.new (client_count self.new)) ∷ run) }
     {
         self.ribs.turn();
         self.ribs.sweep();
@@ -46,6 +49,7 @@ impl Core {
         ensures clients { client_count self.new ≡ client_count self.old }
         ensures refused { result.refused ≡ refused_clients self.new }
         ensures all { result.done + result.refused ≡ client_count self.new }
+        ensures turned { (run : List Move) → Agrees self.old run → Agrees self.new (Turned (refused_below self.new (client_count self.new)) ∷ run) }
     {
         self.ribs.turn_with(rt, workers, gate);
         self.ribs.sweep();

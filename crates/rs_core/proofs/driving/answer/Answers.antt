@@ -1,5 +1,5 @@
-use Rattle.rs_core.proofs.Leading.{led_on}
+use Rattle.rs_core.proofs.Continuing.{as_event}
 use Rattle.rs_core.proofs.driving.answer.Goals as goal
 
-pub returns-clause-led : goal.returns-clause-led
-returns-clause-led g c = led_on g.L.Link.happens _ _ _ c.handle.ensures.led c.end_closed.ensures.led
+pub returns-in-Turn-clause-answers : goal.returns-in-Turn-clause-answers
+returns-in-Turn-clause-answers g c = as_event g.L.Link.happens _ _ _ _ c.args.event _ c.args.piece.now (g.L.Link.text c.args.link.now) c.in-Turn.is c.turn.ensures.answers

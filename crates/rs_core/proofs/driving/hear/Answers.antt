@@ -1,8 +1,48 @@
+use Rattle.std.proofs.Common.{◌<◌, ◌≤◌, subst, arith}
+use Rattle.rs_core.specs.Core.{client_count}
+use Rattle.rs_core.specs.Moves.{Heard, Left}
+use Rattle.rs_core.specs.Links.{Memory, End}
+use Rattle.rs_core.specs.Courses.{called, moved}
+use Rattle.rs_core.specs.Answers.{Answers, Hears, Drops}
+use Rattle.rs_core.specs.declared.links.Event.TheVariants as events
 use Rattle.rs_core.proofs.Leading.{led_same, led_once, led_by}
+use Rattle.rs_core.proofs.Continuing.{goes, passes, over_piece, over_length}
 use Rattle.rs_core.proofs.driving.hear.Goals as goal
+
+pub returns-then-c-clients-clause-led : goal.returns-then-c-clients-clause-led
+returns-then-c-clients-clause-led g c = led_same g.L.Link.happens _
+
+pub returns-then-len-gt4096-clause-led : goal.returns-then-len-gt4096-clause-led
+returns-then-len-gt4096-clause-led g c = led_same g.L.Link.happens _
 
 pub returns-in-Ok-clause-led : goal.returns-in-Ok-clause-led
 returns-in-Ok-clause-led g c = led_same g.L.Link.happens _
 
 pub returns-in-Err-clause-led : goal.returns-in-Err-clause-led
 returns-in-Err-clause-led g c = led_by g.L.Link.happens _ _ _ _ (led_once g.L.Link.happens _ _ _ c.memory.ensures tt) c.end.ensures tt
+
+pub returns-then-c-clients-clause-answers : goal.returns-then-c-clients-clause-answers
+returns-then-c-clients-clause-answers g c =
+    let over : client_count c.args.core.now ≤ c.args.c = omega (arith, c.if-c-clients.true, c.clients.ensures.count) in
+    passes g.L.Link.happens c.args.core.now c.args.link.now (events.Octets c.args.c c.args.len) _ (over_piece _ _ c.args.len over)
+
+pub returns-then-len-gt4096-clause-answers : goal.returns-then-len-gt4096-clause-answers
+returns-then-len-gt4096-clause-answers g c =
+    let over : 4096 < c.args.len = omega (arith, c.if-len-gt4096.true) in
+    passes g.L.Link.happens c.args.core.now c.args.link.now (events.Octets c.args.c c.args.len) _ (over_length _ c.args.c _ over)
+
+pub returns-in-Ok-clause-answers : goal.returns-in-Ok-clause-answers
+returns-in-Ok-clause-answers g c =
+    let here : c.args.c < client_count c.args.core.now = omega (arith, c.if-c-clients.false, c.clients.ensures.count) in
+    let within : c.args.len ≤ 4096 = omega (arith, c.if-len-gt4096.false) in
+    goes g.L.Link.happens _ _ _ _ (λ n. Answers n _ (events.Octets c.args.c c.args.len)) (moved (Heard c.args.c _)) c.octets.ensures.count
+    (λ first x l. l) (λ x h. c.in-Ok.ensures.heard x.run h)
+    (λ n x count h. Hears c.args.c c.args.len x (subst (λ k. c.args.c < k) count here) within)
+
+pub returns-in-Err-clause-answers : goal.returns-in-Err-clause-answers
+returns-in-Err-clause-answers g c =
+    let here : c.args.c < client_count c.args.core.now = omega (arith, c.if-c-clients.false, c.clients.ensures.count) in
+    let within : c.args.len ≤ 4096 = omega (arith, c.if-len-gt4096.false) in
+    goes g.L.Link.happens _ _ _ _ (λ n. Answers n _ (events.Octets c.args.c c.args.len)) (λ x. moved (Left c.args.c) (called (End c.args.c) (called (Memory c.args.c) x))) c.octets.ensures.count
+    (λ first x l. (c.memory.new.self, (c.args.link.now, l, c.memory.ensures), c.end.ensures)) (λ x h. c.in-Err.ensures.refused x.run h)
+    (λ n x count h. Drops c.args.c c.args.len x (subst (λ k. c.args.c < k) count here) within)

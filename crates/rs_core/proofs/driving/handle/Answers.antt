@@ -1,0 +1,33 @@
+use Rattle.std.proofs.Common.{◌≡◌, true, false, sym, ◌∙◌, ap}
+use Rattle.rs_core.specs.Links.{stops}
+use Rattle.rs_core.specs.Moves.{Saw}
+use Rattle.rs_core.specs.Courses.{moved}
+use Rattle.rs_core.specs.Answers.{Answers, Sees}
+use Rattle.rs_core.specs.declared.links.Event.TheVariants as events
+use Rattle.rs_core.proofs.Continuing.{goes, as_event}
+use Rattle.rs_core.proofs.driving.handle.Goals as goal
+
+pub returns-in-Opened-clause-answers : goal.returns-in-Opened-clause-answers
+returns-in-Opened-clause-answers g c = as_event g.L.Link.happens _ _ _ _ c.args.event _ c.args.piece.now (g.L.Link.text c.args.link.now) c.in-Opened.is c.open.ensures.answers
+
+pub returns-in-Octets-clause-answers : goal.returns-in-Octets-clause-answers
+returns-in-Octets-clause-answers g c = as_event g.L.Link.happens _ _ _ _ c.args.event _ c.args.piece.now (g.L.Link.text c.args.link.now) c.in-Octets.is c.hear.ensures.answers
+
+pub returns-in-Moment-clause-answers : goal.returns-in-Moment-clause-answers
+returns-in-Moment-clause-answers g c = as_event g.L.Link.happens _ _ _ _ c.args.event (events.Moment c.in-Moment.t) c.args.piece.now (g.L.Link.text c.args.link.now) c.in-Moment.is
+    (goes g.L.Link.happens _ _ _ _ (λ n. Answers n _ (events.Moment c.in-Moment.t)) (moved (Saw c.in-Moment.t)) c.moment.ensures.count (λ first x l. l) (λ x h. c.moment.ensures.saw x.run h) (λ n x count h. Sees c.in-Moment.t x))
+
+pub returns-in-Turn : goal.returns-in-Turn
+returns-in-Turn g c = absurd (c.requires.turn c.in-Turn.is)
+
+pub returns-in-Room-clause-answers : goal.returns-in-Room-clause-answers
+returns-in-Room-clause-answers g c = as_event g.L.Link.happens _ _ _ _ c.args.event _ c.args.piece.now (g.L.Link.text c.args.link.now) c.in-Room.is c.fill.ensures.answers
+
+pub returns-in-Lost-clause-answers : goal.returns-in-Lost-clause-answers
+returns-in-Lost-clause-answers g c = as_event g.L.Link.happens _ _ _ _ c.args.event _ c.args.piece.now (g.L.Link.text c.args.link.now) c.in-Lost.is c.lose.ensures.answers
+
+pub returns-in-Rules-clause-answers : goal.returns-in-Rules-clause-answers
+returns-in-Rules-clause-answers g c = as_event g.L.Link.happens _ _ _ _ c.args.event _ c.args.piece.now (g.L.Link.text c.args.link.now) c.in-Rules.is c.rule.ensures.answers
+
+pub returns-in-Stop : goal.returns-in-Stop
+returns-in-Stop g c = absurd (let f : true ≡ false = sym (ap stops c.in-Stop.is) ∙ c.requires.stop in cc)

@@ -1,0 +1,26 @@
+use Rattle.std.proofs.Common.{◌<◌, ◌≤◌, subst, arith}
+use Rattle.rs_core.specs.Core.{client_count}
+use Rattle.rs_core.specs.Moves.{Left}
+use Rattle.rs_core.specs.Courses.{moved}
+use Rattle.rs_core.specs.Answers.{Answers, Loses}
+use Rattle.rs_core.specs.declared.links.Event.TheVariants as events
+use Rattle.rs_core.proofs.Leading.{led_same}
+use Rattle.rs_core.proofs.Continuing.{goes, passes, over_client}
+use Rattle.rs_core.proofs.driving.lose.Goals as goal
+
+pub returns-then-c-clients-clause-led : goal.returns-then-c-clients-clause-led
+returns-then-c-clients-clause-led g c = led_same g.L.Link.happens _
+
+pub returns-else-c-clients-clause-led : goal.returns-else-c-clients-clause-led
+returns-else-c-clients-clause-led g c = led_same g.L.Link.happens _
+
+pub returns-then-c-clients-clause-answers : goal.returns-then-c-clients-clause-answers
+returns-then-c-clients-clause-answers g c =
+    let here : c.args.c < client_count c.args.core.now = omega (arith, c.if-c-clients.true, c.clients.ensures.count) in
+    goes g.L.Link.happens _ _ _ _ (λ n. Answers n _ (events.Lost c.args.c)) (moved (Left c.args.c)) c.lost.ensures.count
+    (λ first x l. l) (λ x h. c.lost.ensures.left x.run h) (λ n x count h. Loses c.args.c x (subst (λ k. c.args.c < k) count here))
+
+pub returns-else-c-clients-clause-answers : goal.returns-else-c-clients-clause-answers
+returns-else-c-clients-clause-answers g c =
+    let over : client_count c.args.core.now ≤ c.args.c = omega (arith, c.if-c-clients.false, c.clients.ensures.count) in
+    passes g.L.Link.happens c.args.core.now c.args.link.now (events.Lost c.args.c) _ (over_client _ _ over)
