@@ -21,8 +21,12 @@ use Rattle.rs_session.specs.declared.heard.Heard.{Heard}
 use Rattle.rs_core.specs.Hearing.{Hearing, takes_in, without_change, session_in, state_in, is_up, identifier_in, table_in, begins, sees}
 use Rattle.rs_core.specs.Steps.{Follows, IsSpared, ActsOn}
 use Rattle.rs_core.specs.Agreeing.{Knows, AgreesAt, Spares}
+use Rattle.rs_outlet.specs.Views.{View}
+use Rattle.rs_core.specs.Ribs.{outlet_in}
+use Rattle.rs_core.specs.Voices.{IsGreeting, KeepsVoices, Voices}
 use Rattle.rs_core.specs.declared.route_server.Core.{Core}
 use Rattle.rs_core.proofs.Lists.{get_set_same, set_at}
+use Rattle.rs_core.proofs.Voicing.{acted_voice, greeted, never_open_by_moment}
 use Rattle.rs_core.proofs.Agreeing.{begun_held, begun_identifier, others_held, others_identifiers}
 
 -- ---- what a client holds and is known by, by its state
@@ -124,32 +128,37 @@ begins_spared c i old new begins = record { held = others_held old new c i begin
 pub acted : (old new : Core) (act : Act) (item : Item) (x t : Session) (s : Configuration) (c : ℕ) (h next : Hearing)
     → slice_get old.sessions.items c ≡ Some x → c < length old.sessions.items → new.sessions.items ≡ slice_set old.sessions.items c t
     → RespondsTo x t item act → ActsOn act c (slice_set old.sessions.items c t) old.ribs.tables new.ribs.tables
-    → next.items ≡ item ∷ h.items
+    → new.ribs.config ≡ old.ribs.config → ((none : View) → Voices act old.ribs.extended c (slice_set old.sessions.items c t) (outlet_in old.ribs c none) (outlet_in new.ribs c none))
+    → (act_of (session_in s c) item h.items ≡ acts.Say short.Open → ⊥) → next.items ≡ item ∷ h.items → next.taken ≡ h.taken
     → (is_up (state_in s c h) ≡ false → act_of (session_in s c) item h.items ≡ acts.Up → next.changes ≡ [])
     → (is_up (state_in s c h) ≡ true → is_up (state_in s c next) ≡ true → next.changes ≡ h.changes)
     → Knows old s c h → Knows new s c next
-acted old new act item x t s c h next read lt sessions responds does items fresh same knows =
+acted old new act item x t s c h next read lt sessions responds does config voices never items taken fresh same knows =
     let it = responds (session_in s c) h.items (knows.session x read) in
     let heard : HasHeard t (session_in s c) next.items = subst (λ l. HasHeard t (session_in s c) l) (sym items) it.heard in
     let tells : Tells act (session_in s c) h.items next.items = subst (λ l. Tells act (session_in s c) h.items l) (sym items) it.tells in
+    let got = get_set_same old.sessions.items c t lt in
     let has : Has new.ribs.tables s c next =
-    acted_has act old.ribs.tables new.ribs.tables (slice_set old.sessions.items c t) t s c h next does (get_set_same old.sessions.items c t lt) heard tells
+    acted_has act old.ribs.tables new.ribs.tables (slice_set old.sessions.items c t) t s c h next does got heard tells
     (λ down up. fresh down (sym it.act_is ∙ up)) same (record { table = knows.table; identifier = knows.identifier }) in
     record {
       session = λ y e. subst (λ z. HasHeard z (session_in s c) next.items) (sym ((set_at old.sessions.items c t lt).own y (ap (λ l. slice_get l c) (sym sessions) ∙ e))) heard;
       table = has.table;
       identifier = has.identifier;
+      outlet = λ is none. acted_voice act old.ribs.extended s (old.ribs.long ∙ ap (λ (k : Configuration). k.top.extended) (sym config ∙ is)) (slice_set old.sessions.items c t) t c h next (outlet_in old.ribs c none) (outlet_in new.ribs c none) (voices none) got heard tells
+          (λ e. never (sym it.act_is ∙ e)) taken (knows.outlet (sym config ∙ is) none);
     }
 
 pub acted_spares : (old new : Core) (c : ℕ) (t : Session) → new.count ≡ old.count → new.ribs.config ≡ old.ribs.config → c < length old.sessions.items
-    → new.sessions.items ≡ slice_set old.sessions.items c t → new.buffers ≡ old.buffers → IsSpared c old.ribs.tables new.ribs.tables → Spares c old new
-acted_spares old new c t count config lt sessions buffers spared = record {
+    → new.sessions.items ≡ slice_set old.sessions.items c t → new.buffers ≡ old.buffers → IsSpared c old.ribs.tables new.ribs.tables → KeepsVoices c old.ribs new.ribs → Spares c old new
+acted_spares old new c t count config lt sessions buffers spared voices = record {
   count = count;
   config = config;
   sessions = λ d ne. ap (λ l. slice_get l d) sessions ∙ (set_at old.sessions.items c t lt).others d ne;
   buffers = λ d ne. ap (λ v. slice_get v.items d) buffers;
   held = spared.held;
   identifiers = spared.identifiers;
+  voices = voices;
 }
 
 -- ---- a moment
@@ -176,9 +185,10 @@ live_before settings t items e = live_by (is_connected items) (fate settings ite
 pub seen : (old new : Core) (act : Act) (x after : Session) (s : Configuration) (c t : ℕ) (h : Hearing)
     → slice_get old.sessions.items c ≡ Some x → c < length old.sessions.items → new.sessions.items ≡ slice_set old.sessions.items c after → new.buffers ≡ old.buffers
     → RespondsTo x after (Moment t) act → ActsOn act c (slice_set old.sessions.items c after) old.ribs.tables new.ribs.tables
+    → new.ribs.config ≡ old.ribs.config → ((none : View) → Voices act old.ribs.extended c (slice_set old.sessions.items c after) (outlet_in old.ribs c none) (outlet_in new.ribs c none))
     → AgreesAt old s c h → AgreesAt new s c (sees t h)
-seen old new act x after s c t h read lt sessions buffers responds does at = record {
-  knows = acted old new act (Moment t) x after s c h (sees t h) read lt sessions responds does refl
+seen old new act x after s c t h read lt sessions buffers responds does config voices at = record {
+  knows = acted old new act (Moment t) x after s c h (sees t h) read lt sessions responds does config voices (never_open_by_moment (session_in s c) t h.items) refl refl
       (λ down up. absurd (never_up (session_in s c) t h.items up)) (λ before now. refl) at.knows;
   waits = λ y e. let w = at.waits y (ap (λ v. slice_get v.items c) (sym buffers) ∙ e) in record {
     rest = λ live. w.rest (live_before (session_in s c) t h.items live);
@@ -193,9 +203,9 @@ opens_from settings items act e tells = subst (λ a. Tells a settings items (Cam
 
 pub came : (old new : Core) (act : Act) (x t : Session) (s : Configuration) (c : ℕ) (h : Hearing)
     → slice_get old.sessions.items c ≡ Some x → c < length old.sessions.items → new.sessions.items ≡ slice_set old.sessions.items c t
-    → ((b : Vec ℕ) → slice_get new.buffers.items c ≡ Some b → b.items ≡ []) → new.ribs.tables ≡ old.ribs.tables
+    → ((b : Vec ℕ) → slice_get new.buffers.items c ≡ Some b → b.items ≡ []) → new.ribs.tables ≡ old.ribs.tables → ((none : View) → IsGreeting (outlet_in new.ribs c none))
     → RespondsTo x t Came act → AgreesAt old s c h → AgreesAt new s c (begins h)
-came old new act x t s c h read lt sessions emptied tables responds at =
+came old new act x t s c h read lt sessions emptied tables greets responds at =
     let it = responds (session_in s c) h.items (at.knows.session x read) in
     let opens = opens_from (session_in s c) h.items act it.act_is it.tells in
     let alike : IsAlike s c h (begins h) = both_down s c h (begins h) (ap is_up opens.before) (ap is_up opens.now) in
@@ -204,6 +214,7 @@ came old new act x t s c h read lt sessions emptied tables responds at =
         session = λ y e. subst (λ z. HasHeard z (session_in s c) (Came ∷ h.items)) (sym ((set_at old.sessions.items c t lt).own y (ap (λ l. slice_get l c) (sym sessions) ∙ e))) it.heard;
         table = λ p. ap (λ ins. held_of ins c p) tables ∙ at.knows.table p ∙ alike.table p;
         identifier = ap (λ ins. identifier_of ins c) tables ∙ at.knows.identifier ∙ alike.identifier;
+        outlet = λ _ none. greeted s c (begins h) (outlet_in new.ribs c none) (greets none) refl (ap is_up opens.now);
       };
       waits = λ b e. record { rest = λ live. emptied b e; good = λ live. refl };
     }
@@ -212,6 +223,7 @@ came old new act x t s c h read lt sessions emptied tables responds at =
 pub alone_follows : (s : Configuration) (c : ℕ) (message : Heard) (h : Hearing) → Follows s c message h (takes_in s c (without_change message) h)
 alone_follows s c message h = record {
   items = refl;
+  taken = refl;
   fresh = λ down. ap (λ b. if b then h.changes else []) down;
   same = λ up now. ap (λ b. if b then h.changes else []) up;
 }

@@ -1,5 +1,5 @@
 -- Agreement that is joined from what was done for one client, and from what was left alone.
-use Rattle.std.proofs.Common.{◌≡◌, ◌≢◌, ◌<◌, ◌≤◌, ◌+◌, ◌==◌, inl, inr, ℕ, List, ◌∷◌, refl, sym, ◌∙◌, subst, arith}
+use Rattle.std.proofs.Common.{◌≡◌, ◌≢◌, ◌<◌, ◌≤◌, ◌+◌, ◌==◌, inl, inr, ℕ, Bool, true, false, List, ◌∷◌, refl, sym, ◌∙◌, subst, arith}
 use Rattle.std.specs.Prelude.{None, if◌then◌else◌}
 use Rattle.rs_octets.specs.Prefixes.{Prefix}
 use Rattle.rs_adjin.specs.AdjIns.{held_of, identifier_of, Begins}
@@ -9,8 +9,11 @@ use Rattle.rs_core.specs.Moves.{Move, Saw, config_in}
 use Rattle.rs_core.specs.Hearing.{Hearing, sees}
 use Rattle.rs_core.specs.Runs.{hearing}
 use Rattle.rs_core.specs.Agreeing.{Knows, AgreesAt, IsCutShort, Agrees, Spares}
+use Rattle.rs_core.specs.Ribs.{outlet_in}
 use Rattle.rs_core.specs.declared.route_server.Core.{Core}
 use Rattle.rs_core.proofs.Lists.{equal_or, own, other}
+use Rattle.rs_core.proofs.Voicing.{voiced_same}
+use Rattle.rs_core.proofs.Around.{voices_on}
 
 -- ---- one client has begun, or begun again
 
@@ -29,14 +32,27 @@ others_held old new c i h d p ne = h.held d p ∙ flip c d ne None (held_of old 
 pub others_identifiers : (old new : AdjIns) (c i : ℕ) → Begins old new c i → (d : ℕ) → d ≢ c → identifier_of new d ≡ identifier_of old d
 others_identifiers old new c i h d ne = h.identifiers d ∙ flip c d ne i (identifier_of old d)
 
+-- begun, and begun again
+pub begun_again : (old mid new : AdjIns) (c i : ℕ) → Begins old mid c 0 → Begins mid new c i → Begins old new c i
+begun_again old mid new c i h k = record {
+  count = k.count ∙ h.count;
+  identifiers = λ d. k.identifiers d ∙ twice d (d == c) i (identifier_of mid d) 0 (identifier_of old d) (h.identifiers d);
+  held = λ d p. k.held d p ∙ twice d (d == c) None (held_of mid d p) None (held_of old d p) (h.held d p);
+} where
+  twice : {A : Type 0} (d : ℕ) (b : Bool) (x y w z : A) → y ≡ (if b then w else z) → (if b then x else y) ≡ (if b then x else z)
+  twice d true x y w z e = refl
+  twice d false x y w z e = e
+
 -- ---- the others
 
-pub spared : (c d : ℕ) (old new : Core) (s : Configuration) (h : Hearing) → Spares c old new → d ≢ c → AgreesAt old s d h → AgreesAt new s d h
-spared c d old new s h it ne at = record {
+pub spared : (c d : ℕ) (old new : Core) (s : Configuration) (h : Hearing) → Spares c old new → d ≢ c → d < old.count → AgreesAt old s d h → AgreesAt new s d h
+spared c d old new s h it ne lt at = record {
   knows = record {
     session = λ x e. at.knows.session x (sym (it.sessions d ne) ∙ e);
     table = λ p. it.held d p ne ∙ at.knows.table p;
     identifier = it.identifiers d ne ∙ at.knows.identifier;
+    outlet = λ config none. voiced_same s d h (outlet_in old.ribs d none) (outlet_in new.ribs d none) (it.voices d none (subst (λ n. d < n) (sym old.ribs_len) lt) ne)
+        (at.knows.outlet (sym it.config ∙ config) none);
   };
   waits = λ x e. at.waits x (sym (it.buffers d ne) ∙ e);
 }
@@ -49,6 +65,7 @@ spares_both c old mid new a b = record {
   buffers = λ d ne. b.buffers d ne ∙ a.buffers d ne;
   held = λ d p ne. b.held d p ne ∙ a.held d p ne;
   identifiers = λ d ne. b.identifiers d ne ∙ a.identifiers d ne;
+  voices = voices_on c old.ribs mid.ribs new.ribs (mid.ribs_len ∙ a.count ∙ sym old.ribs_len) a.voices b.voices;
 }
 
 -- what is common to all, told of one client
@@ -58,7 +75,7 @@ grown old new c run more config others h it at = record {
   config = it.config ∙ h.config ∙ sym config;
   clients = λ d lt. subst (λ s. AgreesAt new s d (hearing d more)) (sym config) (elim (equal_or d c) [
     | inl same ↦ subst (λ i. AgreesAt new (config_in run) i (hearing i more)) (sym same) at
-    | inr ne ↦ subst (λ k. AgreesAt new (config_in run) d k) (sym (others d ne)) (spared c d old new (config_in run) (hearing d run) it ne (h.clients d (subst (λ n. d < n) it.count lt)))
+    | inr ne ↦ subst (λ k. AgreesAt new (config_in run) d k) (sym (others d ne)) (let within = subst (λ n. d < n) it.count lt in spared c d old new (config_in run) (hearing d run) it ne within (h.clients d within))
   ]);
 }
 
@@ -82,10 +99,10 @@ one_seen t c n old new run next lt it sees_at h = record {
   config = it.config ∙ h.config;
   seen = λ d below within. elim (equal_or d c) [
     | inl same ↦ subst (λ i. AgreesAt new (config_in run) i (sees t (hearing i run))) (sym same) (sees_at (config_in run) (hearing c run) (h.unseen c (omega arith) lt))
-    | inr ne ↦ spared c d old new (config_in run) (sees t (hearing d run)) it ne (h.seen d (omega (arith, below, next, ne)) (subst (λ k. d < k) it.count within))
+    | inr ne ↦ let there = subst (λ k. d < k) it.count within in spared c d old new (config_in run) (sees t (hearing d run)) it ne there (h.seen d (omega (arith, below, next, ne)) there)
   ];
-  unseen = λ d above within. spared c d old new (config_in run) (hearing d run) it (λ e. absurd (omega (arith, e, above, next)))
-      (h.unseen d (omega (arith, above, next)) (subst (λ k. d < k) it.count within));
+  unseen = λ d above within. let there = subst (λ k. d < k) it.count within in
+      spared c d old new (config_in run) (hearing d run) it (λ e. absurd (omega (arith, e, above, next))) there (h.unseen d (omega (arith, above, next)) there);
 }
 
 pub all_seen : (t n : ℕ) (core : Core) (run : List Move) → core.count ≤ n → HaveSeen t n core run → Agrees core (Saw t ∷ run)

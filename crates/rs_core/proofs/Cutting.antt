@@ -22,23 +22,27 @@ use Rattle.rs_policy.specs.Configuration.{Configuration}
 use Rattle.rs_core.specs.Hearing.{Hearing, allowed_in, session_in, state_in, without_change, body_said, said_by, said_in, takes_in, listens_to, with_octets, hears}
 use Rattle.rs_core.specs.Steps.{IsBetween}
 use Rattle.rs_core.specs.Agreeing.{Knows, Waits, AgreesAt, IsCutShort, Spares}
+use Rattle.rs_core.specs.Ribs.{outlet_in}
 use Rattle.rs_core.specs.declared.route_server.Core.{Core}
 use Rattle.rs_core.proofs.Listening.{Heards, hears_joined, hears_moment, deaf}
-use Rattle.rs_core.proofs.Ruling.{knows_by}
+use Rattle.rs_core.proofs.Ruling.{unmoved}
+use Rattle.rs_core.proofs.Voicing.{same_again, same_is, voiced_on}
 
 -- what is known is known whatever the octets were
 pub with_others : (core : Core) (s : Configuration) (c : ℕ) (octets : List ℕ) (h : Hearing) → Knows core s c h → Knows core s c (with_octets octets h)
-with_others core s c octets h knows = record { session = knows.session; table = knows.table; identifier = knows.identifier }
-
--- and where nothing but what waits has changed
-pub unmoved : (old new : Core) (s : Configuration) (c : ℕ) (h : Hearing) → new.sessions ≡ old.sessions → new.ribs ≡ old.ribs → Knows old s c h → Knows new s c h
-unmoved old new s c h sessions ribs knows = knows_by old new s s c h refl sessions (ap (λ r. r.tables) ribs) knows
+with_others core s c octets h knows = record {
+  session = knows.session;
+  table = knows.table;
+  identifier = knows.identifier;
+  outlet = λ config none. let v = outlet_in core.ribs c none in voiced_on s s c h (with_octets octets h) v v refl (λ l. l) refl (same_again v v (same_is v v refl)) (knows.outlet config none);
+}
 
 pub waiting_spares : (old new : Core) (c : ℕ) → new.count ≡ old.count → new.sessions ≡ old.sessions → new.ribs ≡ old.ribs
     → ((d : ℕ) → d ≢ c → slice_get new.buffers.items d ≡ slice_get old.buffers.items d) → Spares c old new
 waiting_spares old new c count sessions ribs others = record {
   count = count;
   config = ap (λ r. r.config) ribs;
+  voices = λ d none lt ne. same_is _ _ (ap (λ r. outlet_in r d none) ribs);
   sessions = λ d ne. ap (λ v. slice_get v.items d) sessions;
   buffers = others;
   held = λ d p ne. ap (λ r. held_of r.tables d p) ribs;

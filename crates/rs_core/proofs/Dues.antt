@@ -1,5 +1,5 @@
 -- What is due to a client depends on what the others hold alone, and on the identifiers of those that hold something.
-use Rattle.std.proofs.Common.{◌≡◌, ◌≢◌, inl, inr, ℕ, zero, suc, Bool, true, false, cond, ◌==◌, List, [], ◌∷◌, refl, sym, ◌∙◌, ap, subst, slice_get}
+use Rattle.std.proofs.Common.{◌≡◌, ◌≢◌, ◌<◌, ◌+◌, arith, inl, inr, ℕ, zero, suc, Bool, true, false, cond, ◌==◌, List, [], ◌∷◌, refl, sym, ◌∙◌, ap, subst, slice_get}
 use Rattle.std.specs.Prelude.{◌||◌, Option, Some, None, option_and_then, unwrap_or, if◌then◌else◌}
 use Rattle.std.specs.List.{AllByRecursion, filter, cons_option}
 use Rattle.rs_octets.specs.Prefixes.{Prefix}
@@ -43,14 +43,15 @@ with_one s n c p f g x y k (Some m) b hs js it e =
       ranked : ℕ → Option Rank
       ranked id = rank_to (held_as s n y (λ d. id)) c p (k, m)
 
-ranks_alike : (s : Configuration) (n c : ℕ) (p : Prefix) (f g : ℕ → ℕ) (x y : ℕ → Prefix → Option (List Attribute)) (k left : ℕ) → ((d : ℕ) → d ≢ c → IsSameSent (f d) (g d) (x d p) (y d p)) →
+ranks_alike : (s : Configuration) (n c : ℕ) (p : Prefix) (f g : ℕ → ℕ) (x y : ℕ → Prefix → Option (List Attribute)) (k left : ℕ) → k + left ≡ n → ((d : ℕ) → d < n → d ≢ c → IsSameSent (f d) (g d) (x d p) (y d p)) →
     ranks_among (held_as s n x f) c p (holders_from (λ d. x d p) k left) ≡ ranks_among (held_as s n y g) c p (holders_from (λ d. y d p) k left)
-ranks_alike s n c p f g x y k zero same = refl
-ranks_alike s n c p f g x y k (suc left) same = elim (equal_or k c) [
+ranks_alike s n c p f g x y k zero sum same = refl
+ranks_alike s n c p f g x y k (suc left) sum same = elim (equal_or k c) [
   | inl own ↦ without (held_as s n x f) c p k (x k p) (holders_from (λ d. x d p) (suc k) left) own
-      ∙ ranks_alike s n c p f g x y (suc k) left same
+      ∙ ranks_alike s n c p f g x y (suc k) left (omega (arith, sum)) same
       ∙ sym (without (held_as s n y g) c p k (y k p) (holders_from (λ d. y d p) (suc k) left) own)
-  | inr ne ↦ with_one s n c p f g x y k (x k p) (y k p) (holders_from (λ d. x d p) (suc k) left) (holders_from (λ d. y d p) (suc k) left) (same k ne) (ranks_alike s n c p f g x y (suc k) left same)
+  | inr ne ↦ with_one s n c p f g x y k (x k p) (y k p) (holders_from (λ d. x d p) (suc k) left) (holders_from (λ d. y d p) (suc k) left) (same k (omega (arith, sum)) ne)
+      (ranks_alike s n c p f g x y (suc k) left (omega (arith, sum)) same)
 ]
 
 -- ---- no candidate is of the client itself
@@ -101,12 +102,46 @@ by_best : (s : Configuration) (n c : ℕ) (speech : Speech) (p : Prefix) (f g : 
 by_best s n c speech p f g x y None same = refl
 by_best s n c speech p f g x y (Some r) same = ap (λ w. route_from (held_as s n (λ d q. w) f) c speech p r.place) (same r refl)
 
--- where all others hold the same, the same is due
+-- ---- each candidate is one of the clients
+
+place_is_by : (t : Held) (from : ℕ) (m : List Attribute) (j : Judgement) (r : Rank) → rank_by t from m j ≡ Some r → r.place ≡ from
+place_is_by t from m dropped r e = absurd (let f : ◌≡◌ {A = Option Rank} None (Some r) = e in (cc))
+place_is_by t from m (passed preference lists all) r e = sym (ap (λ o. (unwrap_or o r).place) e)
+
+place_is : (t : Held) (c : ℕ) (p : Prefix) (h : ℕ × List Attribute) (b : Bool) (r : Rank) → (if b then None else rank_by t h.0 h.1 (verdict t.settings h.0 c p h.1)) ≡ Some r → r.place ≡ h.0
+place_is t c p h true r e = absurd (let f : ◌≡◌ {A = Option Rank} None (Some r) = e in (cc))
+place_is t c p h false r e = place_is_by t h.0 h.1 (verdict t.settings h.0 c p h.1) r e
+
+one_below : (n : ℕ) (o : Option Rank) (rs : List Rank) → ((r : Rank) → o ≡ Some r → r.place < n) → AllByRecursion (λ r. r.place < n) rs → AllByRecursion (λ r. r.place < n) (cons_option o rs)
+one_below n None rs is h = h
+one_below n (Some r) rs is h = (is r refl, h)
+
+ranks_below : (t : Held) (c n : ℕ) (p : Prefix) (hs : List (ℕ × List Attribute)) → AllByRecursion (λ h. h.0 < n) hs → AllByRecursion (λ r. r.place < n) (ranks_among t c p hs)
+ranks_below t c n p [] below = tt
+ranks_below t c n p (h ∷ hs) below = one_below n (rank_to t c p h) (ranks_among t c p hs)
+    (λ r e. subst (λ k. k < n) (sym (place_is t c p h ((h.0 == c) || path_has_of t.settings.top.server_as h.1) r e)) below.0) (ranks_below t c n p hs below.1)
+
+held_below : (n k : ℕ) (w : Option (List Attribute)) (hs : List (ℕ × List Attribute)) → k < n → AllByRecursion (λ h. h.0 < n) hs → AllByRecursion (λ h. h.0 < n) (with_holder k w hs)
+held_below n k None hs lt below = below
+held_below n k (Some m) hs lt below = (lt, below)
+
+holders_below : (x : ℕ → Option (List Attribute)) (n k left : ℕ) → k + left ≡ n → AllByRecursion (λ h. h.0 < n) (holders_from x k left)
+holders_below x n k zero sum = tt
+holders_below x n k (suc left) sum = held_below n k (x k) (holders_from x (suc k) left) (omega (arith, sum)) (holders_below x n (suc k) left (omega (arith, sum)))
+
+-- where all other clients hold the same, the same is due
+pub due_below : (s : Configuration) (n c : ℕ) (speech : Speech) (p : Prefix) (f g : ℕ → ℕ) (x y : ℕ → Prefix → Option (List Attribute)) → ((d : ℕ) → d < n → d ≢ c → IsSameSent (f d) (g d) (x d p) (y d p)) →
+    due_to (held_as s n x f) c speech p ≡ due_to (held_as s n y g) c speech p
+due_below s n c speech p f g x y same =
+    let holders : List (ℕ × List Attribute) = holders_from (λ d. x d p) 0 n in
+    let ranks : List Rank = ranks_among (held_as s n x f) c p holders in
+    let is : ranks ≡ ranks_among (held_as s n y g) c p (holders_from (λ d. y d p) 0 n) = ranks_alike s n c p f g x y 0 n (omega arith) same in
+    let others = best_kept (λ r. r.place ≢ c) ranks (others_among (held_as s n x f) c p holders) in
+    let below = best_kept (λ r. r.place < n) ranks (ranks_below (held_as s n x f) c n p holders (holders_below (λ d. x d p) n 0 n (omega arith))) in
+    by_best s n c speech p f g x y (best_of ranks)
+    (λ r e. (same r.place (first_of_all (λ r. r.place < n) (by_place ranks) r below e) (first_of_all (λ r. r.place ≢ c) (by_place ranks) r others e)).held)
+    ∙ ap (λ rs. option_and_then (λ r. route_from (held_as s n y g) c speech p r.place) (best_of rs)) is
+
 pub due_alike : (s : Configuration) (n c : ℕ) (speech : Speech) (p : Prefix) (f g : ℕ → ℕ) (x y : ℕ → Prefix → Option (List Attribute)) → ((d : ℕ) → d ≢ c → IsSameSent (f d) (g d) (x d p) (y d p)) →
     due_to (held_as s n x f) c speech p ≡ due_to (held_as s n y g) c speech p
-due_alike s n c speech p f g x y same =
-    let ranks : List Rank = ranks_among (held_as s n x f) c p (holders_from (λ d. x d p) 0 n) in
-    let is : ranks ≡ ranks_among (held_as s n y g) c p (holders_from (λ d. y d p) 0 n) = ranks_alike s n c p f g x y 0 n same in
-    by_best s n c speech p f g x y (best_of ranks)
-    (λ r e. (same r.place (first_of_all (λ r. r.place ≢ c) (by_place ranks) r (best_kept (λ r. r.place ≢ c) ranks (others_among (held_as s n x f) c p (holders_from (λ d. x d p) 0 n))) e)).held)
-    ∙ ap (λ rs. option_and_then (λ r. route_from (held_as s n y g) c speech p r.place) (best_of rs)) is
+due_alike s n c speech p f g x y same = due_below s n c speech p f g x y (λ d _ ne. same d ne)

@@ -25,7 +25,8 @@ use Rattle.rs_core.specs.Hearing.{Hearing, allowed_in, session_in, state_in, wit
 use Rattle.rs_core.specs.Steps.{IsWanted, FillsUp, HasHeardFront, IsBetween}
 use Rattle.rs_core.specs.Agreeing.{Knows, Waits, AgreesAt}
 use Rattle.rs_core.specs.declared.route_server.Core.{Core}
-use Rattle.rs_core.proofs.Cutting.{unmoved, with_others, hears_as, hears_message, hears_fault, over, fault_ends}
+use Rattle.rs_core.proofs.Ruling.{unmoved}
+use Rattle.rs_core.proofs.Cutting.{with_others, hears_as, hears_message, hears_fault, over, fault_ends}
 
 -- ---- what is wanted is no message and no fault
 

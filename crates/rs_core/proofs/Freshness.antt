@@ -15,7 +15,7 @@ use Rattle.rs_outlet.specs.Due.{due_to}
 use Rattle.rs_outlet.specs.Views.{View, if_up, is_touched}
 use Rattle.rs_core.specs.Touches.{IsTouchedAt, IsTouchedWhereHeld}
 use Rattle.rs_core.specs.Turns.{IsMarked}
-use Rattle.rs_core.specs.Ribs.{outlet_in, due_in, HoldsNothing, IsDecidedBy, IsFresh, KeepsSettings, ChangesOthers, ChangesOwn, ChangesAll}
+use Rattle.rs_core.specs.Ribs.{outlet_in, due_in, IsDecidedBy, IsFresh, KeepsSettings, ChangesOthers, ChangesOwn, ChangesAll}
 use Rattle.rs_core.specs.declared.ribs.Ribs.{Ribs}
 use Rattle.rs_core.proofs.Clients.{equal_or, is_own, is_other}
 use Rattle.rs_core.proofs.Dues.{IsSameSent, held_as, due_alike}
@@ -172,7 +172,7 @@ unlearnt_fresh old new c identifier settings begins changes = fresh_each old new
           (λ q isnt. begun_sent old.tables new.tables c d identifier q begins (none_held (held_of old.tables c q) (λ some. isnt ((t.held.all q).1 some))))
 
 -- it held nothing, and all is to be decided for it
-pub begun_fresh : (old new : Ribs) (c identifier : ℕ) (Is : View → View → Type 0) → KeepsSettings old new → Begins old.tables new.tables c identifier → ChangesOwn c Is old new → ((v w : View) → Is v w → w.touched ≡ None) → HoldsNothing old c → IsFresh old → IsFresh new
+pub begun_fresh : (old new : Ribs) (c identifier : ℕ) (Is : View → View → Type 0) → KeepsSettings old new → Begins old.tables new.tables c identifier → ChangesOwn c Is old new → ((v w : View) → Is v w → w.touched ≡ None) → ((p : Prefix) → held_of old.tables c p ≡ None) → IsFresh old → IsFresh new
 begun_fresh old new c identifier Is settings begins changes all nothing = fresh_each old new settings.count (λ d none lt decided. by_client d none lt decided (equal_or d c)) where
   by_client : (d : ℕ) (none : View) → d < old.count → IsDecidedBy (due_in old d) (outlet_in old d none) → (d ≡ c) ⊎ (d ≢ c) → IsDecidedBy (due_in new d) (outlet_in new d none)
   by_client d none lt decided (inl e) = all_decided (due_in new d) (outlet_in new d none)

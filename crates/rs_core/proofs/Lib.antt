@@ -19,4 +19,12 @@ pub mod Numbers
 pub mod Freshness
 pub mod Changing
 pub mod Turned
+pub mod Telling
+pub mod Spoken
+pub mod Voicing
+pub mod Around
+pub mod Serving
+pub mod Outgoing
+pub mod Mandated
+pub mod Taking
 pub mod Continuing

@@ -5,17 +5,25 @@ use Rattle.rs_octets.specs.Messages.{rest_of, header_fault_of}
 use Rattle.rs_octets.specs.Prefixes.{Prefix}
 use Rattle.rs_attrs.specs.Effects.{table_since}
 use Rattle.rs_session.specs.declared.settings.Settings.{Settings}
-use Rattle.rs_session.specs.Sessions.{state_of, is_live, agreed_identifier}
+use Rattle.rs_session.specs.Sessions.{state_of, is_live, agreed_of, agreed_identifier}
 use Rattle.rs_session.specs.Hearing.{HasHeard}
 use Rattle.rs_adjin.specs.AdjIns.{held_of, identifier_of}
 use Rattle.rs_policy.specs.Configuration.{Configuration}
 use Rattle.rs_policy.specs.Replacing.{IsFixed}
 use Rattle.rs_core.specs.Moves.{Move, Ruled, config_in}
-use Rattle.rs_core.specs.Hearing.{Hearing, allowed_in, session_in, is_up}
-use Rattle.rs_core.specs.Runs.{hearing}
+use Rattle.rs_outlet.specs.Views.{View}
+use Rattle.rs_outlet.specs.declared.answers.Last.TheVariants as lasts
+use Rattle.rs_core.specs.Hearing.{Hearing, silence, allowed_in, session_in, is_up}
+use Rattle.rs_core.specs.Keeping.{AreBare}
+use Rattle.rs_core.specs.Runs.{hearing, speech_by, speech_in}
+use Rattle.rs_core.specs.Ribs.{outlet_in, ChangesAll}
+use Rattle.rs_core.specs.Turns.{IsMarked}
+use Rattle.rs_core.specs.Voices.{SpeaksTo}
 use Rattle.rs_core.specs.Steps.{HaveHeardNothing}
 use Rattle.rs_core.specs.Agreeing.{Knows, Waits, Agrees}
+use Rattle.rs_core.specs.declared.ribs.Ribs.{Ribs}
 use Rattle.rs_core.specs.declared.route_server.Core.{Core}
+use Rattle.rs_core.proofs.Voicing.{bare_silent, marked_same, same_again, voiced_on, voiced_over}
 
 session_fixed : (s t : Configuration) (c : ℕ) → IsFixed s t → session_in s c ≡ session_in t c
 session_fixed s t c h = sym (λ i. record { peer_as = (h.clients c).client_as i; hold = h.hold i; extended = h.extended i })
@@ -34,49 +42,68 @@ waits_by s t c buffer h session allowed w = record {
 }
 
 pub knows_by : (old new : Core) (s t : Configuration) (c : ℕ) (h : Hearing) → session_in s c ≡ session_in t c
-    → new.sessions ≡ old.sessions → new.ribs.tables ≡ old.ribs.tables → Knows old s c h → Knows new t c h
-knows_by old new s t c h session sessions tables w = record {
+    → new.sessions ≡ old.sessions → new.ribs.tables ≡ old.ribs.tables → (new.ribs.config ≡ t → (none : View) → SpeaksTo t c h (outlet_in new.ribs c none)) → Knows old s c h → Knows new t c h
+knows_by old new s t c h session sessions tables outlet w = record {
   session = λ x e. subst (λ k. HasHeard x k h.items) session (w.session x (ap (λ v. slice_get v.items c) (sym sessions) ∙ e));
   table = λ p. ap (λ ins. held_of ins c p) tables ∙ w.table p ∙ ap (λ k. if is_up (state_of k h.items) then table_since h.changes p else None) session;
   identifier = ap (λ ins. identifier_of ins c) tables ∙ w.identifier ∙ ap (λ k. if is_up (state_of k h.items) then agreed_identifier k h.items else 0) session;
+  outlet = outlet;
 }
+
+-- where nothing but what waits has changed, what is known is known
+pub unmoved : (old new : Core) (s : Configuration) (c : ℕ) (h : Hearing) → new.sessions ≡ old.sessions → new.ribs ≡ old.ribs → Knows old s c h → Knows new s c h
+unmoved old new s c h sessions ribs w = knows_by old new s s c h refl sessions (ap (λ (r : Ribs). r.tables) ribs)
+    (λ config none. subst (λ r. SpeaksTo s c h (outlet_in r c none)) (sym ribs) (w.outlet (sym (ap (λ (r : Ribs). r.config) ribs) ∙ config) none)) w
+
+speech_fixed : (s t : Configuration) (c : ℕ) (h : Hearing) → session_in s c ≡ session_in t c → speech_in t c h ≡ speech_in s c h
+speech_fixed s t c h e = sym (ap (λ (k : Settings). if is_up (state_of k h.items) then speech_by k.extended (agreed_of k h.items) else None) e)
 
 -- another configuration that leaves as it is what has to stay
 pub ruled : (old new : Core) (run : List Move) (config : Configuration) → IsFixed (config_in run) config
     → new.count ≡ old.count → new.ribs.config ≡ config → new.sessions ≡ old.sessions → new.buffers ≡ old.buffers → new.ribs.tables ≡ old.ribs.tables
-    → Agrees old run → Agrees new (Ruled config ∷ run)
-ruled old new run config fixed count is sessions buffers tables h = record {
+    → ChangesAll (λ c. IsMarked old.ribs.tables) old.ribs new.ribs → Agrees old run → Agrees new (Ruled config ∷ run)
+ruled old new run config fixed count is sessions buffers tables marked h = record {
   config = is;
   clients = λ c lt.
-      let at = h.clients c (subst (λ n. c < n) count lt) in
+      let there = subst (λ n. c < n) count lt in
+      let at = h.clients c there in
       let session = session_fixed (config_in run) config c fixed in
       record {
-        knows = knows_by old new (config_in run) config c (hearing c run) session sessions tables at.knows;
+        knows = knows_by old new (config_in run) config c (hearing c run) session sessions tables
+            (λ _ none. voiced_on (config_in run) config c (hearing c run) (hearing c run) (outlet_in old.ribs c none) (outlet_in new.ribs c none) (speech_fixed (config_in run) config c (hearing c run) session)
+            (λ l. ap (λ k. is_live (state_of k (hearing c run).items)) session ∙ l) refl
+            (same_again _ _ (marked_same old.ribs.tables _ _ (marked.each c none (subst (λ n. c < n) (sym old.ribs_len) there)))) (at.knows.outlet h.config none)) at.knows;
         waits = λ x e. waits_by (config_in run) config c x.items (hearing c run) session (allowed_fixed (config_in run) config fixed) (at.waits x (ap (λ v. slice_get v.items c) (sym buffers) ∙ e));
       };
 }
 
 -- the same, where nothing has changed
 pub unchanged : (old new : Core) (run : List Move)
-    → new.count ≡ old.count → new.ribs.config ≡ old.ribs.config → new.sessions ≡ old.sessions → new.buffers ≡ old.buffers → new.ribs.tables ≡ old.ribs.tables
+    → new.count ≡ old.count → new.ribs ≡ old.ribs → new.sessions ≡ old.sessions → new.buffers ≡ old.buffers
     → Agrees old run → Agrees new run
-unchanged old new run count is sessions buffers tables h = record {
-  config = is ∙ h.config;
+unchanged old new run count ribs sessions buffers h = record {
+  config = ap (λ (r : Ribs). r.config) ribs ∙ h.config;
   clients = λ c lt.
       let at = h.clients c (subst (λ n. c < n) count lt) in
       record {
-        knows = knows_by old new (config_in run) (config_in run) c (hearing c run) refl sessions tables at.knows;
+        knows = unmoved old new (config_in run) c (hearing c run) sessions ribs at.knows;
         waits = λ x e. at.waits x (ap (λ v. slice_get v.items c) (sym buffers) ∙ e);
       };
 }
 
 -- at the start
 pub begun : (core : Core) (config : Configuration) → core.ribs.config ≡ config → HaveHeardNothing config core.sessions.items
-    → ((c : ℕ) (p : Prefix) → held_of core.ribs.tables c p ≡ None) → ((c : ℕ) → identifier_of core.ribs.tables c ≡ 0) → Agrees core (Ruled config ∷ [])
-begun core config is sessions held identifiers = record {
+    → ((c : ℕ) (p : Prefix) → held_of core.ribs.tables c p ≡ None) → ((c : ℕ) → identifier_of core.ribs.tables c ≡ 0) → AreBare config.top.extended core.ribs.outlets.items → Agrees core (Ruled config ∷ [])
+begun core config is sessions held identifiers bare = record {
   config = is;
   clients = λ c lt. record {
-    knows = record { session = sessions c; table = held c; identifier = identifiers c };
+    knows = record {
+      session = sessions c;
+      table = held c;
+      identifier = identifiers c;
+      outlet = λ _ none. voiced_over config c silence (outlet_in core.ribs c none) refl refl
+          (bare_silent c config.top.extended lasts.Never (outlet_in core.ribs c none) (bare c none (subst (λ n. c < n) (sym (core.ribs.outlets_len ∙ core.ribs_len)) lt)));
+    };
     waits = λ x e. record { rest = λ live. absurd (let f = live in cc); good = λ live. absurd (let f = live in cc) };
   };
 }

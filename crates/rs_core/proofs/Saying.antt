@@ -86,6 +86,7 @@ pub reset_follows : (s : Configuration) (c : ℕ) (h : Hearing) (reset : ℕ × 
     → Follows s c (heard.Update (Some reset)) h (takes_in s c (record { message = heard.Update (Some reset); change = Some change }) h)
 reset_follows s c h reset change = record {
   items = refl;
+  taken = refl;
   fresh = λ down. ap (λ b. if b then change ∷ h.changes else []) down;
   same = λ up now. absurd (false≢true (sym (reset_ends (session_in s c) reset h.items) ∙ now));
 }

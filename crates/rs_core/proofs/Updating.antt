@@ -4,7 +4,7 @@ use Rattle.std.specs.Prelude.{Option, Some, None, find, slice_get, slice_set, if
 use Rattle.std.proofs.lemmas.Bool.Decides.{nat_tests}
 use Rattle.rs_octets.specs.Prefixes.{Prefix}
 use Rattle.rs_attrs.specs.Meaning.{Attribute}
-use Rattle.rs_attrs.specs.Effects.{Effect, Reset, Changes, Change, same_prefix, has_prefix, mentions, attributes_after, table_since}
+use Rattle.rs_attrs.specs.Effects.{Effect, Reset, Changes, Change, is_empty, same_prefix, has_prefix, mentions, attributes_after, table_since}
 use Rattle.rs_update.specs.Laws.{IsSameChange, IsSameEffect}
 use Rattle.rs_update.proofs.OneEffect.{overlay_alike}
 use Rattle.rs_session.specs.declared.heard.Heard.TheVariants as heard
@@ -24,7 +24,10 @@ use Rattle.rs_policy.specs.Configuration.{Configuration}
 use Rattle.rs_core.specs.Hearing.{Hearing, session_in, state_in, is_up, takes_in}
 use Rattle.rs_core.specs.Steps.{IsSpared, HasOverlaid}
 use Rattle.rs_core.specs.Agreeing.{Knows, IsCutShort}
+use Rattle.rs_outlet.specs.Views.{View}
+use Rattle.rs_core.specs.Ribs.{outlet_in}
 use Rattle.rs_core.specs.declared.route_server.Core.{Core}
+use Rattle.rs_core.proofs.Voicing.{same_again, same_is, stayed}
 use Rattle.rs_core.proofs.Lists.{set_at}
 use Rattle.rs_core.proofs.Acting.{up_table, up_identifier}
 
@@ -88,6 +91,11 @@ same_spared_behind c old mid new same spared = record {
 
 -- ---- a change
 
+-- a list that is empty has no prefix
+pub none_there : (p : Prefix) (ps : List Prefix) → is_empty ps ≡ true → has_prefix p ps ≡ false
+none_there p [] e = refl
+none_there p (q ∷ ps) e = absurd (let f : false ≡ true = e in cc)
+
 chosen : (said : Bool) (x : Change) (later : Option Change) (p : Prefix) → attributes_after p (if said then Some x else later) ≡ (if said then attributes_after p (Some x) else attributes_after p later)
 chosen true x later p = refl
 chosen false x later p = refl
@@ -107,9 +115,10 @@ pub changed : (old new : Core) (x t : Session) (s : Configuration) (c : ℕ) (h 
     → RespondsTo x t (Message (heard.Update None)) acts.None → Takes x acts.None
     → ((p : Prefix) → held_of new.ribs.tables c p ≡ (if has_prefix p A then m else (if has_prefix p W then None else held_of old.ribs.tables c p)))
     → identifier_of new.ribs.tables c ≡ identifier_of old.ribs.tables c
+    → new.ribs.config ≡ old.ribs.config → ((none : View) → outlet_in new.ribs c none ≡ outlet_in old.ribs c none)
     → is_live (state_in s c h) ≡ true → IsSameChange (record { withdrawn = W; announced = A; attributes = m }) change
     → Knows old s c h → Knows new s c (takes_in s c (record { message = heard.Update None; change = Some change }) h)
-changed old new x t s c h W A m change read lt sessions responds takes held identifier live same knows =
+changed old new x t s c h W A m change read lt sessions responds takes held identifier config own live same knows =
     let y : Change = record { withdrawn = W; announced = A; attributes = m } in
     let next : Hearing = takes_in s c (record { message = heard.Update None; change = Some change }) h in
     let was = knows.session x read in
@@ -128,6 +137,7 @@ changed old new x t s c h W A m change read lt sessions responds takes held iden
           ∙ ap (λ cs. table_since cs p) (sym grown)
           ∙ sym (up_table s c next now p);
       identifier = identifier ∙ knows.identifier ∙ up_identifier s c h up ∙ ap identifier_by (sym it.tells.agreed) ∙ sym (up_identifier s c next now);
+      outlet = λ is none. stayed s c h next (outlet_in old.ribs c none) (outlet_in new.ribs c none) it.tells refl (same_again _ _ (same_is _ _ (own none))) (knows.outlet (sym config ∙ is) none);
     }
 
 -- ---- what the code found an UPDATE to do is what is computed of it

@@ -60,7 +60,7 @@ walk_ends Is k old new most least h = subst (λ n. IsWalked Is n old new) (let e
 
 -- ---- one outlet is set
 
-default_same : (xs : List View) (i : ℕ) (a b : View) → i < length xs → slice_index_or xs i a ≡ slice_index_or xs i b
+pub default_same : (xs : List View) (i : ℕ) (a b : View) → i < length xs → slice_index_or xs i a ≡ slice_index_or xs i b
 default_same [] i a b lt = absurd (omega (arith, lt))
 default_same (x ∷ xs) zero a b lt = refl
 default_same (x ∷ xs) (suc i) a b lt = default_same xs i a b (omega (arith, lt))

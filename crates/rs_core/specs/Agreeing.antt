@@ -8,20 +8,24 @@ use Rattle.rs_session.specs.Items.{Item, greatest}
 use Rattle.rs_session.specs.Sessions.{is_live}
 use Rattle.rs_session.specs.Hearing.{HasHeard}
 use Rattle.rs_adjin.specs.AdjIns.{held_of, identifier_of}
+use Rattle.rs_outlet.specs.Views.{View}
 use Rattle.rs_policy.specs.Configuration.{Configuration}
 use Rattle.rs_policy.specs.Replacing.{Replaces}
 use Rattle.rs_core.specs.Moves.{Move, Ruled, config_in}
 use Rattle.rs_core.specs.Hearing.{Hearing, allowed_in, session_in, state_in, identifier_in, table_in}
 use Rattle.rs_core.specs.Runs.{hearing}
+use Rattle.rs_core.specs.Ribs.{outlet_in}
+use Rattle.rs_core.specs.Voices.{SpeaksTo, KeepsVoices}
 use Rattle.rs_core.specs.declared.route_server.Core.{Core}
 
 -- ---- one client
 
--- its session has heard this, and its Adj-RIB-In has what that means
+-- its session has heard this, its Adj-RIB-In has what that means, and its outlet says what agrees with it
 pub record Knows (core : Core) (s : Configuration) (c : ℕ) (h : Hearing) : Type 0 where
   pub session : (x : Session) → slice_get core.sessions.items c ≡ Some x → HasHeard x (session_in s c) h.items
   pub table : (p : Prefix) → held_of core.ribs.tables c p ≡ table_in s c h p
   pub identifier : identifier_of core.ribs.tables c ≡ identifier_in s c h
+  pub outlet : core.ribs.config ≡ s → (none : View) → SpeaksTo s c h (outlet_in core.ribs c none)
 
 -- while the session lasts, what waits is what the cut leaves of the octets, and its header, as far as it is there, is good
 pub record Waits (s : Configuration) (c : ℕ) (buffer : List ℕ) (h : Hearing) : Type 0 where
@@ -50,7 +54,7 @@ pub record IsRuled (octets : List ℕ) (core : Core) (run : List Move) : Type 0 
   pub replaces : Replaces (config_in run) octets config
   pub agrees : Agrees core (Ruled config ∷ run)
 
--- whatever belongs to another client is what it was, and so is the configuration
+-- whatever belongs to another client is what it was, but for touches, and so is the configuration
 pub record Spares (c : ℕ) (old new : Core) : Type 0 where
   pub count : new.count ≡ old.count
   pub config : new.ribs.config ≡ old.ribs.config
@@ -58,3 +62,4 @@ pub record Spares (c : ℕ) (old new : Core) : Type 0 where
   pub buffers : (d : ℕ) → d ≢ c → slice_get new.buffers.items d ≡ slice_get old.buffers.items d
   pub held : (d : ℕ) (p : Prefix) → d ≢ c → held_of new.ribs.tables d p ≡ held_of old.ribs.tables d p
   pub identifiers : (d : ℕ) → d ≢ c → identifier_of new.ribs.tables d ≡ identifier_of old.ribs.tables d
+  pub voices : KeepsVoices c old.ribs new.ribs

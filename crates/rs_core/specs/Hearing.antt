@@ -38,14 +38,15 @@ session_in s c = record { peer_as = (client_of s c).client_as; hold = s.top.hold
 -- ---- one client
 
 -- the octets since its connection came; what befell its session, the newest first; what its UPDATEs changed since it is
--- Established, the newest first
+-- Established, the newest first; the octets that its link took of us since its connection came
 pub record Hearing : Type 0 where
   pub octets : List ℕ
   pub items : List Item
   pub changes : List Change
+  pub taken : List ℕ
 
 abbrev pub silence : Hearing
-silence = record { octets = []; items = []; changes = [] }
+silence = record { octets = []; items = []; changes = []; taken = [] }
 
 abbrev pub state_in : Configuration → ℕ → Hearing → State
 state_in s c h = state_of (session_in s c) h.items
@@ -139,6 +140,7 @@ takes_in s c said h = record {
   octets = h.octets;
   items = items.Message said.message ∷ h.items;
   changes = if is_up (state_in s c h) then with_change said.change h.changes else [];
+  taken = h.taken;
 }
 
 -- a message or a fault: it is heard while the session lasts
@@ -152,17 +154,21 @@ listens_to s c (message ∷ messages) h = listens_to s c messages (listens s c m
 -- ---- what each move makes of it
 
 abbrev pub with_octets : List ℕ → Hearing → Hearing
-with_octets octets h = record { octets = octets; items = h.items; changes = h.changes }
+with_octets octets h = record { octets = octets; items = h.items; changes = h.changes; taken = h.taken }
 
 -- octets come: what they say that those before them did not is heard
 abbrev pub hears : Configuration → ℕ → List ℕ → Hearing → Hearing
 hears s c octets h = with_octets (h.octets ++ octets) (listens_to s c (newly_heard (allowed_in s) h.octets octets) h)
 
 abbrev pub begins : Hearing → Hearing
-begins h = record { octets = []; items = items.Came ∷ h.items; changes = [] }
+begins h = record { octets = []; items = items.Came ∷ h.items; changes = []; taken = [] }
 
 abbrev pub sees : ℕ → Hearing → Hearing
-sees t h = record { octets = h.octets; items = items.Moment t ∷ h.items; changes = h.changes }
+sees t h = record { octets = h.octets; items = items.Moment t ∷ h.items; changes = h.changes; taken = h.taken }
 
 abbrev pub leaves : Hearing → Hearing
-leaves h = record { octets = []; items = items.Left ∷ h.items; changes = [] }
+leaves h = record { octets = []; items = items.Left ∷ h.items; changes = []; taken = [] }
+
+-- its link takes octets
+abbrev pub takes : List ℕ → Hearing → Hearing
+takes octets h = record { octets = h.octets; items = h.items; changes = h.changes; taken = h.taken ++ octets }

@@ -6,8 +6,11 @@ pub mod Ribs
 pub mod Core
 pub mod Moves
 pub mod Hearing
+pub mod Telling
 pub mod Runs
+pub mod Voices
 pub mod Agreeing
 pub mod Steps
 pub mod Courses
 pub mod Answers
+pub mod Serving

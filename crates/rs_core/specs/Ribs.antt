@@ -66,6 +66,11 @@ pub record ChangesOthers (c : ℕ) (Is : View → View → Type 0) (old new : Ri
   pub own : (none : View) → outlet_in new c none ≡ outlet_in old c none
   pub others : (d : ℕ) (none : View) → d < old.count → d ≢ c → Is (outlet_in old d none) (outlet_in new d none)
 
+-- the outlet of client c has changed so, and those of all others so
+pub record ChangesAround (c : ℕ) (Is Around : View → View → Type 0) (old new : Ribs) : Type 0 where
+  pub own : (none : View) → c < old.count → Is (outlet_in old c none) (outlet_in new c none)
+  pub others : (d : ℕ) (none : View) → d < old.count → d ≢ c → Around (outlet_in old d none) (outlet_in new d none)
+
 -- each client's outlet has changed so
 pub record ChangesAll (Is : ℕ → View → View → Type 0) (old new : Ribs) : Type 0 where
   pub each : (d : ℕ) (none : View) → d < old.count → Is d (outlet_in old d none) (outlet_in new d none)
@@ -74,7 +79,3 @@ pub record ChangesAll (Is : ℕ → View → View → Type 0) (old new : Ribs) :
 pub record TouchesChange (c : ℕ) (p : Prefix) (old new : Ribs) : Type 0 where
   pub changed : held_of new.tables c p ≢ held_of old.tables c p → ChangesOthers c (IsTouchedAt (p ∷ [])) old new
   pub unchanged : held_of new.tables c p ≡ held_of old.tables c p → new.outlets ≡ old.outlets
-
--- a client holds nothing
-abbrev pub HoldsNothing : Ribs → ℕ → Type 0
-HoldsNothing ribs c = (p : Prefix) → held_of ribs.tables c p ≡ None

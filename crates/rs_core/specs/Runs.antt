@@ -1,7 +1,8 @@
 -- What a run means for each client: what was heard of it, and what RFC 7947 makes due to it.
-use Rattle.std.specs.Prelude.{ℕ, ◌==◌, Bool, List, [], ◌∷◌, length, Option, Some, None, if◌then◌else◌}
+use Rattle.std.specs.Prelude.{◌≡◌, ℕ, ◌==◌, true, Bool, List, [], ◌∷◌, length, Option, Some, None, if◌then◌else◌}
 use Rattle.rs_octets.specs.Prefixes.{Prefix}
 use Rattle.rs_attrs.specs.Meaning.{Attribute}
+use Rattle.rs_attrs.specs.Effects.{MeansTable}
 use Rattle.rs_open.specs.declared.open.Open.{Open}
 use Rattle.rs_session.specs.Sessions.{agreed_of, limit_by}
 use Rattle.rs_session.specs.Sessions as sessions
@@ -9,7 +10,8 @@ use Rattle.rs_policy.specs.Configuration.{Configuration}
 use Rattle.rs_outlet.specs.declared.answers.Speech.{Speech}
 use Rattle.rs_outlet.specs.Due.{Held, due_to}
 use Rattle.rs_core.specs.Moves.{Move, Ruled, Came, Heard, Saw, Left, Turned, Began, Took, config_in}
-use Rattle.rs_core.specs.Hearing.{Hearing, silence, session_in, state_in, is_up, identifier_in, table_in, hears, begins, sees, leaves}
+use Rattle.rs_core.specs.Telling.{updates_in}
+use Rattle.rs_core.specs.Hearing.{Hearing, silence, session_in, state_in, is_up, identifier_in, table_in, hears, begins, sees, leaves, takes}
 
 -- ---- what was heard of a client
 
@@ -22,7 +24,7 @@ hearing c (Saw t ∷ run) = sees t (hearing c run)
 hearing c (Left d ∷ run) = if d == c then leaves (hearing c run) else hearing c run
 hearing c (Turned refused ∷ run) = hearing c run
 hearing c (Began d ∷ run) = hearing c run
-hearing c (Took d octets ∷ run) = hearing c run
+hearing c (Took d octets ∷ run) = if d == c then takes octets (hearing c run) else hearing c run
 
 -- the table of a client: what its UPDATEs mean, while it is Established (RFC 4271, 3.2)
 abbrev pub table : List Move → ℕ → Prefix → Option (List Attribute)
@@ -59,3 +61,15 @@ due_by held c (Some speech) p = due_to held c speech p
 -- the best of the other clients' routes that the rules pass, where it fits; nothing to a client that isn't Established
 abbrev pub due : List Move → ℕ → Prefix → Option (List Attribute)
 due run c p = due_by (held_in run) c (speech_in (config_in run) c (hearing c run)) p
+
+-- ---- what a client was told
+
+-- its table is the meaning of the UPDATEs that its link took since its connection came, as its OPEN asks to be spoken to
+abbrev pub IsTold : List Move → ℕ → (Prefix → Option (List Attribute)) → Type 0
+IsTold run c table =
+    (speech : Speech) → speech_in (config_in run) c (hearing c run) ≡ Some speech → MeansTable (updates_in (hearing c run).taken) speech.mode table
+
+-- a client is Established, and the UPDATEs that its link took mean exactly the table that is due to it
+pub record IsServed (run : List Move) (c : ℕ) : Type 0 where
+  pub established : is_established run c ≡ true
+  pub told : IsTold run c (due run c)

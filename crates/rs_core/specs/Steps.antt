@@ -35,6 +35,7 @@ pub record SetsAt {X : Type 0} (c : ℕ) (v : X) (old new : List X) : Type 0 whe
 -- one message more was heard, which changed nothing, or ends the session
 pub record Follows (s : Configuration) (c : ℕ) (message : Heard) (h next : Hearing) : Type 0 where
   pub items : next.items ≡ items.Message message ∷ h.items
+  pub taken : next.taken ≡ h.taken
   pub fresh : is_up (state_in s c h) ≡ false → next.changes ≡ []
   pub same : is_up (state_in s c h) ≡ true → is_up (state_in s c next) ≡ true → next.changes ≡ h.changes
 

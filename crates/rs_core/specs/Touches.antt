@@ -6,8 +6,10 @@ use Rattle.rs_open.specs.Writing.{keepalive}
 use Rattle.rs_open.specs.declared.short.Short.{Short}
 use Rattle.rs_adjin.specs.AdjIns.{held_of}
 use Rattle.rs_adjin.specs.declared.adj_ins.AdjIns.{AdjIns}
+use Rattle.rs_outlet.specs.declared.answers.Speech.{Speech}
+use Rattle.rs_outlet.specs.Begins.{BeginsUpdate}
 use Rattle.rs_outlet.specs.Next.{note_octets}
-use Rattle.rs_outlet.specs.Views.{View, touched_at}
+use Rattle.rs_outlet.specs.Views.{View, WaitsAreExact, touched_at}
 
 -- these prefixes are touched, one after the other
 abbrev pub touched_with : List Prefix → View → View
@@ -28,6 +30,12 @@ pub record IsTouchedWhereHeld (ins : AdjIns) (c : ℕ) (old new : View) : Type 0
   pub held : AreHeld ins c prefixes
   pub touched : IsTouchedAt prefixes old new
 
+-- the client asked for all again: what was told stays, and is to be told again
+pub record IsAskedAgain (old new : View) : Type 0 where
+  pub rest : new ≡ record old { told = new.told; marked = new.marked; waits = new.waits }
+  pub told : new.told ≡ old.told
+  pub exact : WaitsAreExact old → WaitsAreExact new
+
 -- where nothing was in flight the next message was begun: a NOTIFICATION that waited, a KEEPALIVE that was due, or an UPDATE
 pub record IsBegun (old new : View) : Type 0 where
   pub rest : new ≡ record old { told = new.told; flight = new.flight; beat = new.beat; note = new.note; marked = new.marked; waits = new.waits }
@@ -35,4 +43,6 @@ pub record IsBegun (old new : View) : Type 0 where
   pub note : (note : Short) → old.flight ≡ [] → old.note ≡ Some note → new ≡ record old { flight = note_octets note; note = None }
   pub keepalive : old.flight ≡ [] → old.note ≡ None → old.beat ≡ true → new ≡ record old { flight = keepalive; beat = false }
   pub update : old.flight ≡ [] → old.note ≡ None → old.beat ≡ false → (new.note ≡ None) × (new.beat ≡ false)
+  pub begins : (speech : Speech) → old.flight ≡ [] → old.note ≡ None → old.beat ≡ false → old.speech ≡ Some speech → BeginsUpdate speech old new
   pub down : old.flight ≡ [] → old.note ≡ None → old.beat ≡ false → old.speech ≡ None → new ≡ old
+  pub exact : WaitsAreExact old → WaitsAreExact new

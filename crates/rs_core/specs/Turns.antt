@@ -6,7 +6,7 @@ use Rattle.rs_outlet.specs.declared.answers.Last.{Last}
 use Rattle.rs_outlet.specs.declared.answers.Last.TheVariants as lasts
 use Rattle.rs_outlet.specs.declared.answers.Turned.{Turned}
 use Rattle.rs_outlet.specs.Turns.{HasTurned}
-use Rattle.rs_outlet.specs.Views.{View, AreNumbered, if_up}
+use Rattle.rs_outlet.specs.Views.{View, AreNumbered, WaitsAreExact, if_up}
 
 -- what a turn that was not refused made of an outlet: where each prefix stands at its number, what is touched was
 -- decided, and nothing else
@@ -16,6 +16,7 @@ pub record IsDone (config : Configuration) (ins : AdjIns) (old new : View) : Typ
   pub decided : AreNumbered old ins → HasTurned config ins old new turned
   pub rest : new ≡ record old { loc = new.loc; told = new.told; touched = new.touched; marked = new.marked; waits = new.waits; numbers = new.numbers; last = new.last }
   pub numbered : AreNumbered old ins → AreNumbered new ins
+  pub exact : AreNumbered old ins → WaitsAreExact old → WaitsAreExact new
 
 -- what a turn made of it: a refused one changes nothing but its answer
 abbrev pub IsTurn : Configuration → AdjIns → View → View → Type 0

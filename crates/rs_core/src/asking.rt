@@ -1,6 +1,6 @@
 //! What a route server is asked.
 
-ghost use Rattle.std.specs.Prelude.{◌≡◌, ◌==◌, ◌&&◌, ◌<◌, true, false, List, ◌∷◌, length, IfSome};
+ghost use Rattle.std.specs.Prelude.{◌≡◌, ◌==◌, ◌&&◌, ◌<◌, true, false, List, ◌∷◌, length, IfSome, IsTrue};
 
 use crate::endings::{Ending, FaultedUpdates};
 use crate::route_server::Core;
@@ -35,7 +35,7 @@ impl Core {
     ghost use Rattle.rs_core.specs.Core.{client_count, is_refusal, is_refused, lent_octets};
     ghost use Rattle.rs_core.specs.Moves.{Move, Began, config_in};
     ghost use Rattle.rs_core.specs.Hearing.{Hearing, state_in, mode_in, limit_in};
-    ghost use Rattle.rs_core.specs.Runs.{hearing, is_established};
+    ghost use Rattle.rs_core.specs.Runs.{hearing, is_established, IsServed};
     ghost use Rattle.rs_core.specs.Agreeing.{Agrees, Knows};
     ghost use Rattle.rs_policy.specs.Configuration.{Configuration};
     ghost use Rattle.rs_policy.specs.Rules.{client_named};
@@ -149,6 +149,7 @@ impl Core {
     /// Whether a client is Established and has got all that it is due.
     pub fn is_drained(&self, c: usize) -> bool
         requires { c < client_count self.now }
+        ensures served { IsTrue result → (run : List Move) → Agrees self.now run → IsServed run c }
     {
         let outlet = &self.ribs.outlets[c];
         outlet.is_drained()

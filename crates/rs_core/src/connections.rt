@@ -27,7 +27,9 @@ ghost use Rattle.rs_core.specs.Moves.{Move, Came, Left, config_in};
 ghost use Rattle.rs_core.specs.Hearing.{Hearing, state_in, leaves};
 ghost use Rattle.rs_core.specs.Runs.{hearing};
 ghost use Rattle.rs_core.specs.Agreeing.{Agrees, AgreesAt, Knows, IsCutShort, Spares};
-ghost use Rattle.rs_core.specs.Steps.{SetsAt};
+ghost use Rattle.rs_outlet.specs.Views.{View};
+ghost use Rattle.rs_core.specs.Ribs.{outlet_in};
+ghost use Rattle.rs_core.specs.Voices.{IsGreeting, KeepsVoices};
 ghost use Rattle.rs_policy.specs.Configuration.{Configuration};
 
 /// Whether a session in this state lasts.
@@ -71,6 +73,8 @@ impl Core {
         ensures tables { self.new.ribs.tables ≡ self.old.ribs.tables }
         ensures emptied { (x : Vec ℕ) → slice_get self.new.buffers.items c ≡ Some x → x.items ≡ [] }
         ensures others { (d : ℕ) → d ≢ c → slice_get self.new.buffers.items d ≡ slice_get self.old.buffers.items d }
+        ensures voices { KeepsVoices c self.old.ribs self.new.ribs }
+        ensures own { (none : View) → IsGreeting (outlet_in self.new.ribs c none) }
     {
         let said = server_open(&self.ribs.config);
         self.pass_over(c);

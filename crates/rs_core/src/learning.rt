@@ -33,7 +33,7 @@ fn touch_all_of(outlet: &mut Outlet, tables: &AdjIns, c: usize)
 }
 
 impl Ribs {
-    ghost use Rattle.rs_core.specs.Ribs.{ChangesOthers, ChangesOwn, HoldsNothing, IsFresh, IsNumbered, KeepsFresh, KeepsSettings, TouchesChange, outlet_count};
+    ghost use Rattle.rs_core.specs.Ribs.{ChangesAround, ChangesOthers, ChangesOwn, IsNumbered, KeepsFresh, KeepsSettings, TouchesChange, outlet_count};
 
     // ---- what a client announces
 
@@ -104,15 +104,16 @@ impl Ribs {
 
     // ---- sessions begin and end
 
-    /// A client is Established: it holds nothing, and all is to be decided for it.
+    /// A client is Established: it holds nothing, what it held is touched for the others, and all is
+    /// to be decided for it.
     pub(crate) fn come_up(&mut self, c: usize, identifier: u32, mode: Mode, limit: Limit)
         requires { c < outlet_count self.old }
         ensures settings { KeepsSettings self.old self.new }
         ensures held { adj_ins.Begins self.old.tables self.new.tables c identifier }
-        ensures outlet { ChangesOwn c (λ v w. w ≡ begun (record { mode = mode; limit = if self.old.extended then limit else limits.Short }) v) self.old self.new }
-        ensures numbered { IsNumbered self.old → IsNumbered self.new }
-        ensures fresh { HoldsNothing self.old c → IsFresh self.old → IsFresh self.new }
+        ensures outlet { IsNumbered self.old → ChangesAround c (λ v w. w ≡ begun (record { mode = mode; limit = if self.old.extended then limit else limits.Short }) v) (IsTouchedWhereHeld self.old.tables c) self.old self.new }
+        ensures kept { KeepsFresh self.old self.new }
     {
+        self.unlearn(c);
         self.tables.begin(c, identifier);
         let limit = if self.extended { limit } else { Limit::Short };
         self.begin_session(c, mode, limit);

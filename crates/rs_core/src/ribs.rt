@@ -29,6 +29,7 @@ pub(crate) struct Ribs {
     ghost tables_len: { adj_ins.client_count tables ≡ count },
     ghost outlets_len: { length outlets.items ≡ count },
     ghost kept: { AreKept extended outlets.items },
+    ghost long: { extended ≡ config.top.extended },
 }
 
 /// Outlets of clients that are not Established.

@@ -1,6 +1,8 @@
 //! The parts of the route server.
 
 ghost use Rattle.std.specs.Prelude.{◌≡◌, length};
+ghost use Rattle.std.proofs.Props.{props};
+ghost use Rattle.rs_core.specs.Ribs.{IsFresh, IsNumbered};
 
 use crate::endings::Watched;
 use crate::ribs::Ribs;
@@ -23,4 +25,6 @@ pub struct Core {
     ghost buffers_len: { length buffers.items ≡ count },
     ghost ribs_len: { ribs.count ≡ count },
     ghost watched_len: { length watched.items ≡ count },
+    ghost numbered: { IsNumbered ribs } by { Prim.hlevel props },
+    ghost fresh: { IsFresh ribs },
 }

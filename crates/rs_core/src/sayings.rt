@@ -3,7 +3,7 @@
 ghost use Rattle.std.specs.Prelude.{◌≡◌, ◌<◌, ◌≤◌, true, length, drop};
 ghost use Rattle.rs_open.specs.Writing.{server_open};
 ghost use Rattle.rs_outlet.specs.Views.{cleared, finished};
-ghost use Rattle.rs_core.specs.Touches.{IsBegun};
+ghost use Rattle.rs_core.specs.Touches.{IsAskedAgain, IsBegun};
 
 use crate::ribs::Ribs;
 use rs_open::{ServerOpen, Short};
@@ -64,7 +64,7 @@ impl Ribs {
         requires { c < outlet_count self.old }
         ensures settings { KeepsSettings self.old self.new }
         ensures tables { self.new.tables ≡ self.old.tables }
-        ensures outlet { ChangesOwn c (λ v w. w ≡ record v { told = w.told; marked = w.marked; waits = w.waits }) self.old self.new }
+        ensures outlet { ChangesOwn c IsAskedAgain self.old self.new }
         ensures kept { KeepsFresh self.old self.new }
     {
         let outlet = &mut self.outlets[c];

@@ -24,6 +24,9 @@ impl Core {
     ghost use Rattle.rs_policy.specs.Configuration.{Configuration};
     ghost use Rattle.rs_core.specs.Hearing.{Hearing, takes_in, without_change};
     ghost use Rattle.rs_core.specs.Agreeing.{Knows, Spares};
+    ghost use Rattle.rs_outlet.specs.Views.{View};
+    ghost use Rattle.rs_core.specs.Ribs.{outlet_in};
+    ghost use Rattle.rs_core.specs.Voices.{IsSilent, KeepsVoices, Voices};
     ghost use Rattle.rs_core.specs.Steps.{CutsShort, Follows, Hears, IsSpared, ActsOn};
 
     /// Hears a whole message.
@@ -107,6 +110,8 @@ impl Core {
         ensures config { self.new.ribs.config ≡ self.old.ribs.config }
         ensures others { IsSpared c self.old.ribs.tables self.new.ribs.tables }
         ensures tables { ActsOn act c self.old.sessions.items self.old.ribs.tables self.new.ribs.tables }
+        ensures voices { KeepsVoices c self.old.ribs self.new.ribs }
+        ensures own { (none : View) → Voices act self.old.ribs.extended c self.old.sessions.items (outlet_in self.old.ribs c none) (outlet_in self.new.ribs c none) }
     {
         match act {
             Act::None => {}
@@ -127,6 +132,8 @@ impl Core {
         ensures config { self.new.ribs.config ≡ self.old.ribs.config }
         ensures others { IsSpared c self.old.ribs.tables self.new.ribs.tables }
         ensures tables { ActsOn Act.Up c self.old.sessions.items self.old.ribs.tables self.new.ribs.tables }
+        ensures voices { KeepsVoices c self.old.ribs self.new.ribs }
+        ensures own { (none : View) → Voices Act.Up self.old.ribs.extended c self.old.sessions.items (outlet_in self.old.ribs c none) (outlet_in self.new.ribs c none) }
     {
         let session = &self.sessions[c];
         let identifier = session.identifier();
@@ -144,6 +151,8 @@ impl Core {
         ensures buffers { self.new.buffers ≡ self.old.buffers }
         ensures config { self.new.ribs.config ≡ self.old.ribs.config }
         ensures held { Begins self.old.ribs.tables self.new.ribs.tables c 0 }
+        ensures voices { KeepsVoices c self.old.ribs self.new.ribs }
+        ensures own { (none : View) → IsSilent (outlet_in self.new.ribs c none) }
     {
         self.watched[c].ending = Some(ending);
         self.ribs.unlearn(c);

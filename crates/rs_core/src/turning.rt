@@ -58,7 +58,7 @@ impl Core {
 }
 
 impl Ribs {
-    ghost use Rattle.rs_core.specs.Ribs.{ChangesAll, ChangesOwn, KeepsFresh, KeepsSettings, outlet_count};
+    ghost use Rattle.rs_core.specs.Ribs.{ChangesAll, ChangesOwn, IsNumbered, KeepsFresh, KeepsSettings, outlet_count};
 
     /// A turn of all clients, one after the other.
     pub(crate) fn turn(&mut self)
@@ -77,7 +77,9 @@ impl Ribs {
         requires { (0 < workers) × (workers ≤ 16) }
         ensures settings { KeepsSettings self.old self.new }
         ensures tables { self.new.tables ≡ self.old.tables }
-        ensures turned { AllTurnedAlone self.old.config self.old.tables self.old.outlets.items self.new.outlets.items }
+        ensures alone { AllTurnedAlone self.old.config self.old.tables self.old.outlets.items self.new.outlets.items }
+        ensures turned { IsNumbered self.old → ChangesAll (λ c. IsTurn self.old.config self.old.tables) self.old self.new }
+        ensures kept { KeepsFresh self.old self.new }
     {
         turn_all(
             rt,
@@ -120,7 +122,8 @@ impl Ribs {
 
     /// Another configuration: all is decided anew at the next turn.
     pub(crate) fn replace(&mut self, config: Config)
-        requires { length config.clients ≡ outlet_count self.old }
+        requires clients { length config.clients ≡ outlet_count self.old }
+        requires extended { config.top.extended ≡ self.old.extended }
         ensures count { outlet_count self.new ≡ outlet_count self.old }
         ensures extended { self.new.extended ≡ self.old.extended }
         ensures config { self.new.config ≡ config }

@@ -19,6 +19,7 @@ impl Core {
     ghost use Rattle.rs_policy.specs.Configuration.{Configuration, client_of};
     ghost use Rattle.rs_core.specs.Hearing.{Hearing, state_in, is_up, reset_beyond};
     ghost use Rattle.rs_core.specs.Agreeing.{Knows, Spares};
+    ghost use Rattle.rs_core.specs.Voices.{TouchesOthers};
     ghost use Rattle.rs_core.specs.Steps.{Changes, CutsShort, HasOverlaid, Hears, IsAnnouncing, IsSpared};
 
     /// Hears the UPDATE with this body.
@@ -110,6 +111,7 @@ impl Core {
         ensures config { self.new.ribs.config ≡ self.old.ribs.config }
         ensures others { IsSpared c self.old.ribs.tables self.new.ribs.tables }
         ensures held { HasOverlaid c prefixes.now None self.old.ribs.tables self.new.ribs.tables }
+        ensures touched { TouchesOthers c self.old.ribs self.new.ribs }
     {
         for prefix in prefixes {
             self.ribs.withdraw(c, *prefix);
@@ -130,6 +132,7 @@ impl Core {
         ensures config { self.new.ribs.config ≡ self.old.ribs.config }
         ensures others { IsSpared c self.old.ribs.tables self.new.ribs.tables }
         ensures held { OnOk result (HasOverlaid c prefixes.now (Some (arc_value attrs.now)) self.old.ribs.tables self.new.ribs.tables) }
+        ensures touched { TouchesOthers c self.old.ribs self.new.ribs }
     {
         for prefix in prefixes {
             self.ribs.announce(c, *prefix, attrs)?;

@@ -4,7 +4,7 @@ use Rattle.std.specs.Prelude.{slice_get}
 use mathlib.Core.Bool.{true≢false}
 use Rattle.std.specs.List.{list_any}
 use Rattle.std.specs.List.Sorted.{IsStrictlySortedBy}
-use Rattle.rs_octets.specs.Prefixes.{Prefix, prefix_order}
+use Rattle.rs_octets.specs.Prefixes.{Prefix, IsIpv4Prefix, prefix_order}
 use Rattle.rs_attrs.specs.Meaning.{Attribute}
 use Rattle.rs_outlet.specs.declared.rows.Row.{Row}
 use Rattle.rs_outlet.specs.declared.waiting.Wait.{Wait}
@@ -79,14 +79,14 @@ both false b h = absurd (true≢false (sym h))
 said_withdrawn : (w : Wait) → is_withdrawn w ≡ true → (w.open ≡ true) × (is_withdrawal w.due ≡ true)
 said_withdrawn w h = both w.open (is_withdrawal w.due) h
 
-pub chosen_withdrawn : (rows : List (Option Row)) (ws : List Wait) (n : ℕ) (w : Wait) → IsStrictlySortedBy prefix_order (prefixes_at ws) → n < length ws → w ≡ get_or ws n w → is_withdrawn w ≡ true → IsChosen rows ws None n w.prefix
-chosen_withdrawn rows ws n w up below at h =
+pub chosen_withdrawn : (rows : List (Option Row)) (ws : List Wait) (n : ℕ) (w : Wait) → IsStrictlySortedBy prefix_order (prefixes_at ws) → n < length ws → w ≡ get_or ws n w → IsIpv4Prefix w.prefix → is_withdrawn w ≡ true → IsChosen rows ws None n w.prefix
+chosen_withdrawn rows ws n w up below at legal h =
     let s = said_withdrawn w h in
-    record { wait = w; at = prefix_at ws n w below at; waits = found_at ws n w below at s.0 up; is = s.1 }
+    record { wait = w; at = prefix_at ws n w below at; waits = found_at ws n w below at s.0 up; legal = legal; is = s.1 }
 
-pub chosen_announced : (rows : List (Option Row)) (ws : List Wait) (n : ℕ) (w : Wait) (m : List Attribute) → IsStrictlySortedBy prefix_order (prefixes_at ws) → n < length ws → w ≡ get_or ws n w → w.open ≡ true → is_withdrawal w.due ≡ false → HasRow rows w.prefix m → IsChosen rows ws (Some m) n w.prefix
-chosen_announced rows ws n w m up below at opened said row =
-    record { wait = w; at = prefix_at ws n w below at; waits = found_at ws n w below at opened up; is = (said, row) }
+pub chosen_announced : (rows : List (Option Row)) (ws : List Wait) (n : ℕ) (w : Wait) (m : List Attribute) → IsStrictlySortedBy prefix_order (prefixes_at ws) → n < length ws → w ≡ get_or ws n w → IsIpv4Prefix w.prefix → w.open ≡ true → is_withdrawal w.due ≡ false → HasRow rows w.prefix m → IsChosen rows ws (Some m) n w.prefix
+chosen_announced rows ws n w m up below at legal opened said row =
+    record { wait = w; at = prefix_at ws n w below at; waits = found_at ws n w below at opened up; legal = legal; is = (said, row) }
 
 pub none_chosen : (rows : List (Option Row)) (ws : List Wait) (said : Option (List Attribute)) (ns : List ℕ) (ps : List Prefix) → ns ≡ [] → ps ≡ [] → AreChosen rows ws said ns ps
 none_chosen rows ws said [] [] a b = tt

@@ -12,7 +12,15 @@ mod Ranks
 mod Fitting
 mod OthersAlone
 mod Places
+mod Finding
+mod Adding
+mod Owing
+mod Carrying
+mod Unchanged
+mod MarkedAgain
 mod Draining
 mod Chosen
 mod Standing
+mod AskedAgain
 mod Beginning
+mod Exact

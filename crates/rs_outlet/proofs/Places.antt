@@ -54,6 +54,11 @@ count_shut ws n y d b k m below was shut count one =
     let new : ◌≡◌ {A = ℕ} (cond y.open 1 0) 0 = ap (λ b. cond b 1 0) shut in
     omega (arith, e, old, new, count, one)
 
+pub count_less : (ws : List Wait) (n : ℕ) (y d : Wait) → n < length ws → y.open ≡ false → open_count (slice_set ws n y) ≤ open_count ws
+count_less ws n y d below shut =
+    let e = count_shut ws n y d (get_or ws n d).open (open_count ws) (cond (get_or ws n d).open 1 0) below refl shut refl refl in
+    omega (arith, e)
+
 -- an open place is one of them
 pub count_one : (ws : List Wait) (n : ℕ) (d : Wait) (b : Bool) (k m : ℕ) → n < length ws → (get_or ws n d).open ≡ b → open_count ws ≡ k → m ≡ cond b 1 0 → m ≤ k
 count_one ws n d b k m below was count one =
@@ -63,7 +68,7 @@ count_one ws n d b k m below was count one =
 
 -- ---- what stands of a prefix
 
-less_apart : (r : Ordering) → r ≡ Less → is_eq r ≡ false
+pub less_apart : (r : Ordering) → r ≡ Less → is_eq r ≡ false
 less_apart Less h = refl
 less_apart Equal h = absurd (cc)
 less_apart Greater h = absurd (cc)
@@ -71,6 +76,13 @@ less_apart Greater h = absurd (cc)
 none_and : (b : Bool) → (b && false) ≡ false
 none_and true = refl
 none_and false = refl
+
+-- a place of another prefix, or one that waits no more
+pub later_at : (q : Prefix) (w : Wait) (ws : List Wait) → same q w.prefix ≡ false → open_at q (w ∷ ws) ≡ open_at q ws
+later_at q w ws is = ap (λ b. cond (w.open && b) (Some w) (open_at q ws)) is ∙ ap (λ b. cond b (Some w) (open_at q ws)) (none_and w.open)
+
+pub shut_at : (q : Prefix) (w : Wait) (ws : List Wait) → w.open ≡ false → open_at q (w ∷ ws) ≡ open_at q ws
+shut_at q w ws is = ap (λ b. cond (b && same q w.prefix) (Some w) (open_at q ws)) is
 
 not_same : (p q x : Prefix) → prefix_order p x ≡ Less → same q p ≡ true → same q x ≡ false
 not_same p q x h is = ap (λ r. eq_by_cmp prefix_order r x) (same_is q p is) ∙ less_apart (prefix_order p x) h
@@ -132,7 +144,7 @@ none_past [] (suc n) p past is = cc
 none_past (x ∷ ws) zero p past is = omega (arith, past)
 none_past (x ∷ ws) (suc n) p past is = none_past ws n p (omega (arith, past)) is
 
-first_open : (q : Prefix) (x : Wait) (ws : List Wait) → x.open ≡ true → same q x.prefix ≡ true → open_at q (x ∷ ws) ≡ Some x
+pub first_open : (q : Prefix) (x : Wait) (ws : List Wait) → x.open ≡ true → same q x.prefix ≡ true → open_at q (x ∷ ws) ≡ Some x
 first_open q x ws is at = λ i. cond (is i && at i) (Some x) (open_at q ws)
 
 -- an open place is what stands of its prefix
@@ -144,3 +156,14 @@ found_at (x ∷ ws) zero w below is opened up =
 found_at (x ∷ ws) (suc n) w below is opened up =
     ap (λ b. cond b (Some x) (open_at w.prefix ws)) (shut_apart x w.prefix w.prefix (behind x.prefix w.prefix (prefixes_at ws) n up.0 (prefix_at ws n w (omega (arith, below)) is)) (same_itself w.prefix))
     ∙ found_at ws n w (omega (arith, below)) is opened up.1
+
+-- where it waits no more, nothing stands of its prefix
+pub shut_here : (ws : List Wait) (n : ℕ) (w : Wait) → n < length ws → w ≡ get_or ws n w → w.open ≡ false → IsStrictlySortedBy prefix_order (prefixes_at ws) → open_at w.prefix ws ≡ None
+unfolding IsStrictlySortedBy
+shut_here [] n w below is shut up = absurd (omega (arith, below))
+shut_here (x ∷ ws) zero w below is shut up =
+    shut_at w.prefix x ws (ap (λ (t : Wait). t.open) (sym is) ∙ shut)
+    ∙ none_behind x.prefix w.prefix ws up.0 (ap (λ (t : Wait). same w.prefix t.prefix) (sym is) ∙ same_itself w.prefix)
+shut_here (x ∷ ws) (suc n) w below is shut up =
+    ap (λ b. cond b (Some x) (open_at w.prefix ws)) (shut_apart x w.prefix w.prefix (behind x.prefix w.prefix (prefixes_at ws) n up.0 (prefix_at ws n w (omega (arith, below)) is)) (same_itself w.prefix))
+    ∙ shut_here ws n w (omega (arith, below)) is shut up.1

@@ -7,7 +7,7 @@ use Rattle.rs_octets.specs.Prefixes.{Prefix, prefix_order}
 use Rattle.rs_attrs.specs.Meaning.{Attribute}
 use Rattle.rs_outlet.specs.declared.waiting.Wait.{Wait}
 use Rattle.rs_outlet.specs.Views.{Table, Prefixes}
-use Rattle.rs_outlet.specs.Places.{open_at, told_of, told_by, marked_by, is_withdrawal}
+use Rattle.rs_outlet.specs.Places.{open_at, told_of, told_by, marked_told, is_withdrawal}
 use Rattle.rs_outlet.specs.Inside.{told_over, marked_of, waits_of, put, mark}
 use Rattle.rs_outlet.proofs.Orders.{prefixes_total}
 use Rattle.rs_outlet.proofs.LocByNumber.{same, same_is}
@@ -45,13 +45,21 @@ contains-mark s p false q = set.contains-remove prefixes_total s p q ∙ and_con
     and_cond true o = refl
     and_cond false o = refl
 
-pub marked_at : (ws : List Wait) (q : Prefix) → set.contains (marked_of ws) q ≡ marked_by (open_at q ws)
-marked_at [] q = set.contains-empty prefix_order q
-marked_at (w ∷ ws) q = go w.open (same q w.prefix) refl (marked_at ws q)
+pub marked_at : (loc : Table) (ws : List Wait) (q : Prefix) → set.contains (marked_of loc ws) q ≡ marked_told (open_at q ws) (fin.get loc q)
+marked_at loc [] q = set.contains-empty prefix_order q
+marked_at loc (w ∷ ws) q = go w.open (same q w.prefix) refl (marked_at loc ws q)
   where
-    go : (a b : Bool) → same q w.prefix ≡ b → set.contains (marked_of ws) q ≡ marked_by (open_at q ws) → set.contains (cond a (mark (marked_of ws) w.prefix w.marked) (marked_of ws)) q ≡ marked_by (cond (a && b) (Some w) (open_at q ws))
-    go true true s rest = contains-mark (marked_of ws) w.prefix w.marked q ∙ ap (λ b. cond b w.marked (set.contains (marked_of ws) q)) s
-    go true false s rest = contains-mark (marked_of ws) w.prefix w.marked q ∙ ap (λ b. cond b w.marked (set.contains (marked_of ws) q)) s ∙ rest
+    S : Prefixes
+    S = marked_of loc ws
+
+    m : Bool
+    m = marked_told (Some w) (fin.get loc w.prefix)
+
+    go : (a b : Bool) → same q w.prefix ≡ b → set.contains S q ≡ marked_told (open_at q ws) (fin.get loc q) → set.contains (cond a (mark S w.prefix m) S) q ≡ marked_told (cond (a && b) (Some w) (open_at q ws)) (fin.get loc q)
+    go true true s rest =
+        contains-mark S w.prefix m q ∙ ap (λ b. cond b m (set.contains S q)) s
+        ∙ ap (λ p. marked_told (Some w) (fin.get loc p)) (sym (same_is q w.prefix s))
+    go true false s rest = contains-mark S w.prefix m q ∙ ap (λ b. cond b m (set.contains S q)) s ∙ rest
     go false b s rest = rest
 
 pub waits_at : (ws : List Wait) (q : Prefix) → fin.get (waits_of ws) q ≡ option_map (λ w. is_withdrawal w.due) (open_at q ws)

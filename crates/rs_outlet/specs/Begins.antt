@@ -1,11 +1,13 @@
 -- What the next UPDATE is (RFC 4271, 4.3): which prefixes it is about, and what it leaves with the client.
-use Rattle.std.specs.Prelude.{◌≡◌, ◌⊎◌, ◌<◌, ◌&&◌, not, Bool, true, false, Some, None, List, [], length, if◌then◌else◌}
+use Rattle.std.specs.Prelude.{◌≡◌, ◌⊎◌, ◌<◌, ◌≤◌, ◌&&◌, not, Bool, true, false, Some, None, List, [], length, if◌then◌else◌}
 use Rattle.std.specs.List.{AllByRecursion, list_any}
 use Rattle.std.specs.Ordering.{eq_by_cmp}
 use Rattle.std.specs.FinMap as fin
 use Rattle.std.specs.FinSet as set
-use Rattle.rs_octets.specs.Prefixes.{Prefix, prefix_order}
+use Rattle.rs_octets.specs.Prefixes.{Prefix, IsIpv4Prefix, prefix_order}
 use Rattle.rs_attrs.specs.Meaning.{Attribute}
+use Rattle.rs_attrs.specs.Writing.{IsLegal}
+use Rattle.rs_open.specs.Notes.{limit_octets}
 use Rattle.rs_adjin.specs.declared.adj_ins.AdjIns.{AdjIns}
 use Rattle.rs_packer.specs.Packed.{announcement, withdrawal}
 use Rattle.rs_outlet.specs.declared.answers.Speech.{Speech}
@@ -25,23 +27,29 @@ pub record Rests (v w : View) : Type 0 where
   pub settles : Settles v w []
   pub flight : w.flight ≡ []
 
--- some prefixes that wait to be withdrawn are withdrawn
-pub record Withdraws (v w : View) : Type 0 where
+-- some prefixes that wait to be withdrawn are withdrawn, in a message that the client takes
+pub record Withdraws (speech : Speech) (v w : View) : Type 0 where
   pub prefixes : List Prefix
   pub some : 0 < length prefixes
+  pub prefixes_legal : AllByRecursion IsIpv4Prefix prefixes
   pub waited : AllByRecursion (λ p. fin.get v.waits p ≡ Some true) prefixes
   pub settles : Settles v w prefixes
   pub flight : w.flight ≡ withdrawal prefixes
+  pub fits : length w.flight ≤ limit_octets speech.limit
 
--- some prefixes that wait to be announced are announced, with the attributes that are due at each of them
+-- some prefixes that wait to be announced are announced, with the attributes that are due at each of them, in a message that
+-- the client takes
 pub record Announces (speech : Speech) (v w : View) : Type 0 where
   pub prefixes : List Prefix
   pub attributes : List Attribute
   pub some : 0 < length prefixes
+  pub prefixes_legal : AllByRecursion IsIpv4Prefix prefixes
+  pub legal : IsLegal attributes
   pub waited : AllByRecursion (λ p. fin.get v.waits p ≡ Some false) prefixes
   pub due : (ins : AdjIns) → AreNumbered v ins → AllByRecursion (λ p. fin.get v.loc p ≡ Some attributes) prefixes
   pub settles : Settles v w prefixes
   pub flight : w.flight ≡ announcement attributes speech.mode prefixes
+  pub fits : length w.flight ≤ limit_octets speech.limit
 
 abbrev pub BeginsUpdate : Speech → View → View → Type 0
-BeginsUpdate speech v w = Rests v w ⊎ (Withdraws v w ⊎ Announces speech v w)
+BeginsUpdate speech v w = Rests v w ⊎ (Withdraws speech v w ⊎ Announces speech v w)

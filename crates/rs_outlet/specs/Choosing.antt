@@ -1,8 +1,9 @@
 -- The places that the next UPDATE is about.
 use Rattle.std.specs.Prelude.{◌≡◌, ◌⊎◌, ℕ, ◌≤◌, ◌<◌, true, false, Option, None, Some, List, [], ◌∷◌, length, take, slice_get}
 use Rattle.std.specs.Arc.{arc_value}
-use Rattle.rs_octets.specs.Prefixes.{Prefix}
+use Rattle.rs_octets.specs.Prefixes.{Prefix, IsIpv4Prefix}
 use Rattle.rs_attrs.specs.Meaning.{Attribute}
+use Rattle.rs_attrs.specs.Writing.{IsLegal}
 use Rattle.rs_packer.specs.Packed.{announcement, withdrawal}
 use Rattle.rs_packer.specs.declared.packed.Packed.{Packed}
 use Rattle.rs_outlet.specs.declared.answers.Speech.{Speech}
@@ -29,6 +30,7 @@ pub record IsChosen (rows : List (Option Row)) (ws : List Wait) (said : Option (
   pub wait : Wait
   pub at : slice_get (prefixes_at ws) n ≡ Some p
   pub waits : open_at p ws ≡ Some wait
+  pub legal : IsIpv4Prefix p
   pub is : IsSaid rows p wait said
 
 -- each of the prefixes waits at the place beside it
@@ -49,9 +51,15 @@ abbrev pub message_of : Speech → Option (List Attribute) → List Prefix → L
 message_of speech None ps = withdrawal ps
 message_of speech (Some m) ps = announcement m speech.mode ps
 
+-- what is said is legal
+abbrev pub IsLegalSaid : Option (List Attribute) → Type 0
+IsLegalSaid None = Unit {0}
+IsLegalSaid (Some m) = IsLegal m
+
 -- an UPDATE about places chosen
 pub record IsUpdate (speech : Speech) (rows : List (Option Row)) (ws : List Wait) (ns : List ℕ) (ps : List Prefix) (octets : List ℕ) (packed : Packed) : Type 0 where
   pub said : Option (List Attribute)
+  pub legal : IsLegalSaid said
   pub chosen : AreChosen rows ws said ns ps
   pub written : IsWritten (message_of speech said) ps octets packed
 

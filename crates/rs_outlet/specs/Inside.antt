@@ -19,7 +19,7 @@ use Rattle.rs_adjin.specs.declared.adj_ins.AdjIns.{AdjIns}
 use Rattle.rs_adjin.specs.AdjIns.{number_of}
 use Rattle.rs_outlet.specs.declared.outlet.Outlet.TheInside.{Inside}
 use Rattle.rs_outlet.specs.Views.{View, Table, Prefixes, Waiting}
-use Rattle.rs_outlet.specs.Places.{told_of, is_withdrawal}
+use Rattle.rs_outlet.specs.Places.{told_of, marked_told, is_withdrawal}
 
 -- ---- rows
 
@@ -110,9 +110,10 @@ abbrev pub mark : Prefixes → Prefix → Bool → Prefixes
 mark s p true = set.insert s p
 mark s p false = set.remove s p
 
-abbrev pub marked_of : List Wait → Prefixes
-marked_of [] = set.empty
-marked_of (w ∷ ws) = if w.open then mark (marked_of ws) w.prefix w.marked else marked_of ws
+-- the prefixes at which something was told that is to be told again
+abbrev pub marked_of : Table → List Wait → Prefixes
+marked_of loc [] = set.empty
+marked_of loc (w ∷ ws) = if w.open then mark (marked_of loc ws) w.prefix (marked_told (Some w) (fin.get loc w.prefix)) else marked_of loc ws
 
 -- the prefixes that wait, each with whether it is to be withdrawn
 abbrev pub waits_of : List Wait → Waiting
@@ -151,7 +152,7 @@ view_of a = record {
   beat = a.beat;
   note = a.note;
   touched = touched_of a.touched.all a.touched.prefixes.entries;
-  marked = marked_of a.waits.places.items;
+  marked = marked_of (loc_of a.rows.rows.items) a.waits.places.items;
   waits = waits_of a.waits.places.items;
   numbers = numbers_from 0 a.rows.rows.items ++ a.touched.prefixes.entries;
   last = a.last;

@@ -5,6 +5,8 @@ pub mod Alike
 pub mod HeldBy
 pub mod Turns
 pub mod Places
+pub mod Owed
+pub mod Marking
 pub mod Inside
 pub mod Choosing
 pub mod Begins

@@ -1,5 +1,6 @@
 -- The places of what waits: a list of them, and what stands there of a prefix.
-use Rattle.std.specs.Prelude.{ℕ, Bool, ◌&&◌, not, true, false, map, Option, None, Some, List, [], ◌∷◌, count_by, if◌then◌else◌}
+use Rattle.std.specs.Prelude.{◌≡◌, ◌<◌, length, slice_get, is_some, ℕ, Bool, ◌&&◌, not, true, false, map, Option, None, Some, List, [], ◌∷◌, count_by, if◌then◌else◌}
+use Rattle.std.specs.List.{AllByRecursion, IsDistinct, filter, list_any}
 use Rattle.std.specs.Arc.{arc_value}
 use Rattle.std.specs.Ordering.{eq_by_cmp}
 use Rattle.rs_octets.specs.Prefixes.{Prefix, prefix_order}
@@ -25,6 +26,10 @@ is_withdrawn w = w.open && is_withdrawal w.due
 abbrev pub is_announced : Wait → Bool
 is_announced w = w.open && not (is_withdrawal w.due)
 
+-- those that wait still
+abbrev pub still_open : List Wait → List Wait
+still_open ws = filter (λ w. w.open) ws
+
 -- how many wait still
 abbrev pub open_count : List Wait → ℕ
 open_count ws = count_by (λ w. w.open) ws
@@ -49,3 +54,22 @@ told_by (Some w) due = told_of w.told due
 abbrev pub marked_by : Option Wait → Bool
 marked_by None = false
 marked_by (Some w) = w.marked
+
+-- whether something was told there that is to be told again, where this is due
+abbrev pub marked_told : Option Wait → Option (List Attribute) → Bool
+marked_told None due = false
+marked_told (Some w) due = w.marked && is_some (told_of w.told due)
+
+-- the open place of a prefix stands here
+pub record IsOpenPlace (q : Prefix) (ws : List Wait) (n : ℕ) : Type 0 where
+  pub wait : Wait
+  pub at : slice_get ws n ≡ Some wait
+  pub prefix : wait.prefix ≡ q
+  pub stands : open_at q ws ≡ Some wait
+  pub within : n < length ws
+
+-- these wait, each at a prefix of its own at which nothing waits among the places
+pub record AreFresh (places fresh : List Wait) : Type 0 where
+  pub waiting : AllByRecursion (λ w. w.open ≡ true) fresh
+  pub apart : IsDistinct (eq_by_cmp prefix_order) (prefixes_at fresh)
+  pub alone : (q : Prefix) → list_any (eq_by_cmp prefix_order q) (prefixes_at fresh) ≡ true → open_at q places ≡ None

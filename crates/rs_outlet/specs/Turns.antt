@@ -13,9 +13,11 @@ use Rattle.rs_outlet.specs.Due.{due_to}
 use Rattle.rs_outlet.specs.HeldBy.{tables_of}
 
 -- what a turn does that is not refused, where each prefix stands at its number: each touched prefix has what is due there,
--- each other what it had; an outlet that is not up decides nothing
+-- each other what it had; what was told stays, and what is to be told again; an outlet that is not up decides nothing
 pub record HasTurned (config : Configuration) (ins : AdjIns) (old new : View) (turned : Turned) : Type 0 where
   pub loc : (speech : Speech) → old.speech ≡ Some speech → (p : Prefix) → map.get new.loc p ≡ (if is_touched old.touched p then due_to (tables_of config ins) old.client speech p else map.get old.loc p)
+  pub told : new.told ≡ old.told
+  pub marked : new.marked ≡ old.marked
   pub touched : IsSome old.speech → new.touched ≡ Some set.empty
   pub whole : IsSome old.speech → turned.whole ≡ is_whole old.touched
   pub count : (prefixes : Prefixes) → IsSome old.speech → old.touched ≡ Some prefixes → turned.decided ≡ set.len prefixes

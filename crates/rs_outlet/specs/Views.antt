@@ -1,5 +1,5 @@
 -- What contracts see of an outlet, and what its calls make of that.
-use Rattle.std.specs.Prelude.{◌≡◌, ◌⊎◌, ℕ, Bool, true, false, ◌||◌, List, [], nat_lt, Option, Some, None, IsSome, if◌then◌else◌, refl}
+use Rattle.std.specs.Prelude.{◌≡◌, ◌⊎◌, ℕ, Bool, true, false, ◌&&◌, not, ◌||◌, List, [], nat_lt, Option, Some, None, IsSome, if◌then◌else◌, refl}
 use Rattle.std.specs.List.{AllByRecursion}
 use Rattle.rs_adjin.specs.AdjIns.{number_of}
 use Rattle.rs_adjin.specs.declared.adj_ins.AdjIns.{AdjIns}
@@ -10,6 +10,7 @@ use Rattle.std.specs.FinMap.{FinMap}
 use Rattle.std.specs.FinSet.{FinSet}
 use Rattle.rs_octets.specs.Prefixes.{Prefix, prefix_order}
 use Rattle.rs_attrs.specs.Meaning.{Attribute}
+use Rattle.rs_attrs.specs.Comparing.{same_attributes}
 use Rattle.rs_open.specs.declared.short.Short.{Short}
 use Rattle.rs_outlet.specs.declared.answers.Speech.{Speech}
 use Rattle.rs_outlet.specs.declared.answers.Last.{Last}
@@ -127,6 +128,19 @@ pub record IsTurned (due : Prefix → Option (List Attribute)) (held : Prefix �
 abbrev pub TurnedAs : Option Speech → (Speech → Prefix → Option (List Attribute)) → (Prefix → Bool) → View → View → Turned → Type 0
 TurnedAs None due held old new turned = (turned ≡ record { decided = 0; whole = false }) × (new ≡ record old { last = Done turned })
 TurnedAs (Some speech) due held old new turned = IsTurned (due speech) held old new turned
+
+-- ---- what waits
+
+-- whether a prefix waits for a message, and whether that is a withdrawal, where this is due and this was told
+abbrev pub waits_at : Option (List Attribute) → Option (List Attribute) → Bool → Option Bool
+waits_at None None marked = None
+waits_at None (Some told) marked = Some true
+waits_at (Some due) None marked = Some false
+waits_at (Some due) (Some told) marked = if same_attributes due told && not marked then None else Some false
+
+-- the prefixes that wait are those at which something else is due than was told, and those marked
+abbrev pub WaitsAreExact : View → Type 0
+WaitsAreExact v = (p : Prefix) → map.get v.waits p ≡ waits_at (map.get v.loc p) (map.get v.told p) (set.contains v.marked p)
 
 -- ---- nothing is left to do
 

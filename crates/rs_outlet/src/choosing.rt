@@ -70,6 +70,7 @@ impl Waits {
     {
         let wait = &self.places[place];
         if wait.is_withdrawn() {
+            let _len = wait.prefix.len();
             list_place(place, wait.prefix, chosen, front);
         }
     }
@@ -128,6 +129,7 @@ impl Waits {
     {
         let wait = &self.places[place];
         if wait.open && waits_for(rows, wait, hash, attrs) {
+            let _len = wait.prefix.len();
             list_place(place, wait.prefix, chosen, front);
         }
     }

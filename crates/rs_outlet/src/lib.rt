@@ -7,6 +7,7 @@ mod choosing;
 mod deciding;
 mod fill;
 pub mod laws;
+mod marking;
 mod outlet;
 mod routes;
 mod rows;

@@ -1,6 +1,6 @@
 //! The outlet of a client.
 
-ghost use Rattle.std.specs.Prelude.{◌≡◌, ◌≢◌, ◌≤◌, ◌<◌, true, Some, None, [], false, length, take, drop, vec_len, option_map, IsSome, IfOk, OnOk, OnErr, IsTrue};
+ghost use Rattle.std.specs.Prelude.{◌≡◌, ◌≢◌, ◌↔◌, ◌≤◌, ◌<◌, true, Some, None, [], false, length, take, drop, vec_len, option_map, IsSome, IfOk, OnOk, OnErr, IsTrue};
 ghost use Rattle.std.specs.Arc.{arc_value};
 ghost use Rattle.std.specs.FinMap as map;
 ghost use Rattle.std.specs.FinSet as set;
@@ -14,7 +14,7 @@ ghost use Rattle.rs_open.specs.Writing.{server_open, keepalive};
 ghost use Rattle.rs_open.specs.declared.short.Short.{Short};
 ghost use Rattle.rs_outlet.specs.Next.{note_octets};
 ghost use Rattle.rs_open.specs.declared.short.Limit.TheVariants as limits;
-ghost use Rattle.rs_outlet.specs.Views.{AreNumbered, IsDrained, IsOneOf, bare, begun, cleared, finished, if_up, touched_at};
+ghost use Rattle.rs_outlet.specs.Views.{AreNumbered, IsDrained, IsOneOf, WaitsAreExact, bare, begun, cleared, finished, if_up, touched_at};
 ghost use Rattle.rs_outlet.specs.Turns.{HasTurned};
 ghost use Rattle.rs_outlet.specs.Begins.{BeginsUpdate};
 ghost use Rattle.rs_outlet.specs.Inside.{room_of, batch_of, IsNoNumberOf};
@@ -230,6 +230,7 @@ impl Outlet {
         ensures due { (speech : Speech) → self.old.speech ≡ Some speech → AreNumbered self.old ins.now → (p : Prefix) → IsOneOf (map.get self.new.loc p) (map.get self.old.loc p) (due_to (tables_of config.now ins.now) self.old.client speech p) }
         ensures refused { OnErr result (self.new ≡ record self.old { last = Last.Refused }) }
         ensures numbered { AreNumbered self.old ins.now → AreNumbered self.new ins.now }
+        ensures exact { AreNumbered self.old ins.now → WaitsAreExact self.old → WaitsAreExact self.new }
     {
         let Some(speech) = self.speech else {
             let turned = Turned {
@@ -265,6 +266,8 @@ impl Outlet {
         ensures client { self.new.client ≡ self.old.client }
         ensures extended { self.new.extended ≡ self.old.extended }
         ensures rest { self.new ≡ record self.old { told = self.new.told; marked = self.new.marked; waits = self.new.waits } }
+        ensures told { self.new.told ≡ self.old.told }
+        ensures exact { WaitsAreExact self.old → WaitsAreExact self.new }
     {
         self.waits.mark_all(&self.rows);
     }
@@ -280,6 +283,7 @@ impl Outlet {
         ensures update { self.old.flight ≡ [] → self.old.note ≡ None → self.old.beat ≡ false → (self.new.note ≡ None) × (self.new.beat ≡ false) }
         ensures begins { (speech : Speech) → self.old.flight ≡ [] → self.old.note ≡ None → self.old.beat ≡ false → self.old.speech ≡ Some speech → BeginsUpdate speech self.old self.new }
         ensures down { self.old.flight ≡ [] → self.old.note ≡ None → self.old.beat ≡ false → self.old.speech ≡ None → self.new ≡ self.old }
+        ensures exact { WaitsAreExact self.old → WaitsAreExact self.new }
     {
         if self.start < self.end {
             return;
@@ -304,7 +308,8 @@ impl Outlet {
 
     /// Whether nothing is left to do.
     pub fn is_drained(&self) -> bool
-        ensures { IsTrue result → IsDrained self.now }
+        ensures drained { IsTrue result → IsDrained self.now }
+        ensures exact { WaitsAreExact self.now → (IsTrue result ↔ IsDrained self.now) }
     {
         if self.speech.is_none() {
             return false;

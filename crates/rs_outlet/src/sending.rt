@@ -8,6 +8,7 @@ ghost use Rattle.rs_open.specs.declared.short.Short.{Short};
 ghost use Rattle.rs_packer.specs.Packed.{announcement, withdrawal};
 ghost use Rattle.rs_outlet.specs.Next.{note_octets};
 ghost use Rattle.rs_outlet.specs.Begins.{BeginsUpdate};
+ghost use Rattle.rs_outlet.specs.Views.{WaitsAreExact};
 ghost use Rattle.rs_outlet.specs.Choosing.{MayUpdate};
 ghost use Rattle.rs_outlet.specs.declared.answers.Speech.{Speech};
 ghost use Rattle.rs_outlet.specs.declared.rows.Row.{Row};
@@ -18,7 +19,7 @@ use crate::answers::Speech;
 use crate::outlet::Outlet;
 use crate::rows::Rows;
 use crate::waiting::Waits;
-use rs_attrs::{Attrs, Mode};
+use rs_attrs::{Attrs, Mode, attributes_are_legal};
 use rs_octets::Prefix;
 use rs_open::{Limit, Short, write_keepalive, write_note};
 use rs_packer::{Packed, fits, pack_announced, pack_withdrawn};
@@ -161,6 +162,7 @@ fn put_news(
     if !fits(attrs, speech.mode, least, speech.limit.octets()) {
         return NOTHING;
     }
+    attributes_are_legal(attrs);
     put_announcement(attrs, speech, front, out)
 }
 
@@ -205,6 +207,7 @@ impl Outlet {
         ensures keepalive { self.old.note ≡ None → self.old.beat ≡ true → self.new ≡ record self.old { flight = keepalive; beat = false } }
         ensures update { self.old.note ≡ None → self.old.beat ≡ false → (self.new.note ≡ None) × (self.new.beat ≡ false) }
         ensures begins { (speech : Speech) → self.old.note ≡ None → self.old.beat ≡ false → self.old.speech ≡ Some speech → BeginsUpdate speech self.old self.new }
+        ensures exact { WaitsAreExact self.old → WaitsAreExact self.new }
         ensures down { self.old.note ≡ None → self.old.beat ≡ false → self.old.speech ≡ None → self.new ≡ self.old }
     {
         if let Some(note) = self.note {

@@ -3,7 +3,7 @@
 //! The set goes by the numbers of the prefixes. Those are given out by the Adj-RIBs-In, so that no
 //! member can choose prefixes that make it slow.
 
-ghost use Rattle.std.specs.Prelude.{◌≡◌, ◌≤◌, ◌+◌, [], Some, true, false, nat_eq, IsTrue, IfOk};
+ghost use Rattle.std.specs.Prelude.{◌≡◌, ◌↔◌, ◌≤◌, ◌+◌, [], Some, true, false, nat_eq, IsTrue, IfOk};
 ghost use Rattle.std.specs.FinSet as set;
 ghost use Rattle.std.specs.List.{IsDistinct};
 ghost use Rattle.std.specs.Map.{keys_of};
@@ -86,7 +86,7 @@ impl Touched {
     }
 
     pub(crate) fn is_empty(&self) -> bool
-        ensures { IsTrue result → touched_of self.now.all self.now.prefixes.entries ≡ Some set.empty }
+        ensures { IsTrue result ↔ touched_of self.now.all self.now.prefixes.entries ≡ Some set.empty }
     {
         if self.all {
             return false;

@@ -1,6 +1,6 @@
 //! A turn: what is touched is decided anew, and what the client was not told so waits.
 
-ghost use Rattle.std.specs.Prelude.{◌≡◌, ◌<◌, ◌≤◌, ℕ, List, Option, Some, true, nat_eq, option_copied, option_map, length, vec_len, if◌then◌else◌, IsTrue, IfOk, OnOk, OnErr};
+ghost use Rattle.std.specs.Prelude.{◌≡◌, ◌<◌, ◌≤◌, ◌+◌, ◌++◌, ℕ, [], List, Option, None, Some, true, nat_eq, option_copied, option_map, length, vec_len, if◌then◌else◌, IsTrue, IfSome, IfOk, OnOk, OnErr};
 ghost use Rattle.std.specs.List.{IsDistinct};
 ghost use Rattle.std.specs.Map.{keys_of};
 ghost use Rattle.std.specs.Arc.{arc_value};
@@ -11,7 +11,10 @@ ghost use Rattle.rs_octets.specs.Prefixes.{Prefix, prefix_order};
 ghost use Rattle.rs_attrs.specs.Meaning.{Attribute};
 ghost use Rattle.rs_adjin.specs.declared.adj_ins.AdjIns.{AdjIns};
 ghost use Rattle.rs_adjin.specs.AdjIns.{client_count, number_of};
-ghost use Rattle.rs_outlet.specs.Views.{AreNumbered, HaveNumbers, Prefixes, is_touched, is_whole};
+ghost use Rattle.rs_outlet.specs.Views.{AreNumbered, HaveNumbers, Prefixes, WaitsAreExact, is_touched, is_whole};
+ghost use Rattle.std.specs.Vec.{vec_capacity};
+ghost use Rattle.rs_outlet.specs.Places.{open_at, open_count};
+ghost use Rattle.rs_outlet.specs.Owed.{IsBeside, IsCarriedOut, IsOpenAt, IsOwed, Keeps, listed, prefixes_of};
 ghost use Rattle.rs_outlet.specs.Due.{due_to};
 ghost use Rattle.rs_outlet.specs.HeldBy.{held_by};
 ghost use Rattle.rs_outlet.specs.Inside.{ArePlaced, AreDue, AreDecided, HaveRows, IsDecidedAt, attributes_at, is_changed, is_number_touched, is_numbered_in, row_at, shown, loc_of, numbers_from, touched_of};
@@ -217,7 +220,10 @@ fn decide_all_touched(
 }
 
 /// What waits at a prefix that is due no more, where this was told.
-fn withdrawn_wait(prefix: Prefix, told: Option<Arc<Attrs>>, marked: bool) -> Option<Wait> {
+fn withdrawn_wait(prefix: Prefix, told: Option<Arc<Attrs>>, marked: bool) -> Option<Wait>
+    ensures owed { IsOwed result None (option_map arc_value told) marked }
+    ensures place { IfSome result (IsOpenAt prefix) }
+{
     let told = told?;
     Some(Wait {
         prefix,
@@ -229,7 +235,9 @@ fn withdrawn_wait(prefix: Prefix, told: Option<Arc<Attrs>>, marked: bool) -> Opt
 }
 
 /// What is known of what was told, beside what is due: none where nothing waits.
-fn told_beside(due: &Arc<Attrs>, told: Option<Arc<Attrs>>, marked: bool) -> Option<Told> {
+fn told_beside(due: &Arc<Attrs>, told: Option<Arc<Attrs>>, marked: bool) -> Option<Told>
+    ensures { IsBeside result (arc_value due.now) (option_map arc_value told) marked }
+{
     match told {
         None => Some(Told::Nothing),
         Some(told) => {
@@ -251,7 +259,10 @@ fn announced_wait(
     due: &Arc<Attrs>,
     told: Option<Arc<Attrs>>,
     marked: bool,
-) -> Option<Wait> {
+) -> Option<Wait>
+    ensures owed { IsOwed result (Some (arc_value due.now)) (option_map arc_value told) marked }
+    ensures place { IfSome result (IsOpenAt prefix) }
+{
     let told = told_beside(due, told, marked)?;
     let hash = hash_of(due);
     Some(Wait {
@@ -264,18 +275,27 @@ fn announced_wait(
 }
 
 /// Lists what waits, if anything does. There is room for it.
-fn list_wait(fresh: &mut Vec<Wait>, wait: Option<Wait>) {
+fn list_wait(fresh: &mut Vec<Wait>, wait: Option<Wait>)
+    requires { vec_len fresh.old < vec_capacity fresh.old }
+    ensures items { fresh.new.items ≡ fresh.old.items ++ listed wait }
+    ensures capacity { vec_capacity fresh.new ≡ vec_capacity fresh.old }
+{
     if let Some(wait) = wait {
-        let _ = fresh.push(wait);
+        fresh.push_reserved(wait);
     }
 }
 
 /// Carries out one change: its row has what is due, and what waits there then is listed.
 fn carry_out(rows: &mut Rows, waits: &mut Waits, fresh: &mut Vec<Wait>, change: Change)
-    requires { change.number < vec_len rows.old.rows }
+    requires number { change.number < vec_len rows.old.rows }
+    requires more { vec_len fresh.old < vec_capacity fresh.old }
     ensures room { vec_len rows.new.rows ≡ vec_len rows.old.rows }
     ensures loc { (ins : AdjIns) → number_of ins change.prefix ≡ Some change.number → HaveNumbers (numbers_from 0 rows.old.rows.items) ins → (q : Prefix) → fin.get (loc_of rows.new.rows.items) q ≡ (if eq_by_cmp prefix_order q change.prefix then option_map arc_value change.due else fin.get (loc_of rows.old.rows.items) q) }
     ensures numbered { (ins : AdjIns) → number_of ins change.prefix ≡ Some change.number → HaveNumbers (numbers_from 0 rows.old.rows.items) ins → HaveNumbers (numbers_from 0 rows.new.rows.items) ins }
+    ensures waits { IsCarriedOut change (attributes_at rows.old.rows.items change.number) waits.old.places.items fresh.old.items waits.new.places.items fresh.new.items }
+    ensures count { open_count waits.new.places.items ≤ open_count waits.old.places.items }
+    ensures capacity { vec_capacity waits.new.places ≡ vec_capacity waits.old.places }
+    ensures fresh { vec_capacity fresh.new ≡ vec_capacity fresh.old }
 {
     let Change {
         number,
@@ -306,19 +326,32 @@ fn make_room(
     ensures numbers { numbers_from 0 rows.new.rows.items ≡ numbers_from 0 rows.old.rows.items }
     ensures waits { waits.new.places.items ≡ waits.old.places.items }
     ensures room { OnOk result (numbers ≤ vec_len rows.new.rows) }
+    ensures none { IfOk result (λ fresh. fresh.items ≡ []) }
+    ensures fresh { IfOk result (λ fresh. changes ≤ vec_capacity fresh) }
+    ensures more { OnOk result (open_count waits.old.places.items + changes ≤ vec_capacity waits.new.places) }
 {
     let fresh = Vec::with_capacity(alloc, changes)?;
     rows.grow(numbers)?;
-    let more = rows.used().saturating_add(waits.len());
-    waits.reserve(more.saturating_add(changes))?;
+    let Some(more) = rows.used().checked_add(changes) else {
+        return Err(AllocError);
+    };
+    let Some(count) = waits.len().checked_add(more) else {
+        return Err(AllocError);
+    };
+    waits.reserve(count)?;
     Ok(fresh)
 }
 
 /// Carries out the changes, for which there is room.
 fn commit(rows: &mut Rows, waits: &mut Waits, changes: Vec<Change>, mut fresh: Vec<Wait>)
-    requires { HaveRows changes.items (vec_len rows.old.rows) }
+    requires rows { HaveRows changes.items (vec_len rows.old.rows) }
+    requires once { IsDistinct (eq_by_cmp prefix_order) (prefixes_of changes.items) }
+    requires none { fresh.items ≡ [] }
+    requires fresh { vec_len changes ≤ vec_capacity fresh }
+    requires waits { open_count waits.old.places.items + vec_len changes ≤ vec_capacity waits.old.places }
     ensures loc { (ins : AdjIns) (due : Prefix → Option (List Attribute)) → ArePlaced changes.items ins → AreDue due changes.items → HaveNumbers (numbers_from 0 rows.old.rows.items) ins → (q : Prefix) → fin.get (loc_of rows.new.rows.items) q ≡ (if is_changed changes.items q then due q else fin.get (loc_of rows.old.rows.items) q) }
     ensures numbered { (ins : AdjIns) → ArePlaced changes.items ins → HaveNumbers (numbers_from 0 rows.old.rows.items) ins → HaveNumbers (numbers_from 0 rows.new.rows.items) ins }
+    ensures keeps { (ins : AdjIns) → ArePlaced changes.items ins → HaveNumbers (numbers_from 0 rows.old.rows.items) ins → (q : Prefix) → Keeps (open_at q waits.old.places.items) (fin.get (loc_of rows.old.rows.items) q) (open_at q waits.new.places.items) (fin.get (loc_of rows.new.rows.items) q) }
 {
     for change in changes {
         carry_out(rows, waits, &mut fresh, change);
@@ -343,6 +376,9 @@ impl Outlet {
         ensures loc { OnOk result (AreNumbered self.old sources.now.ins.now → (p : Prefix) → fin.get self.new.loc p ≡ (if is_touched self.old.touched p then due_to (held_by sources.now) sources.now.client speech p else fin.get self.old.loc p)) }
         ensures whole { IfOk result (λ turned. turned.whole ≡ is_whole self.old.touched) }
         ensures count { AreNumbered self.old sources.now.ins.now → IfOk result (λ turned. (prefixes : Prefixes) → self.old.touched ≡ Some prefixes → turned.decided ≡ set.len prefixes) }
+        ensures told { AreNumbered self.old sources.now.ins.now → OnOk result (self.new.told ≡ self.old.told) }
+        ensures marked { AreNumbered self.old sources.now.ins.now → OnOk result (self.new.marked ≡ self.old.marked) }
+        ensures exact { AreNumbered self.old sources.now.ins.now → WaitsAreExact self.old → OnOk result (WaitsAreExact self.new) }
         ensures refused { OnErr result (self.new ≡ self.old) }
         ensures numbered { AreNumbered self.old sources.now.ins.now → AreNumbered self.new sources.now.ins.now }
     {

@@ -5,16 +5,16 @@
 //! next withdrawal, of an announcement to the next place whose attributes have the same hash. A
 //! message is read off along the links, and nothing is looked for in the Loc-RIB.
 
-ghost use Rattle.std.specs.Prelude.{◌≡◌, ◌≤◌, ◌<◌, ◌+◌, ℕ, Option, None, Some, [], true, false, length, vec_len, slice_get, slice_set, option_map, if◌then◌else◌, IfSome};
+ghost use Rattle.std.specs.Prelude.{◌≡◌, ◌≤◌, ◌<◌, ◌+◌, ℕ, Option, None, Some, [], true, false, length, vec_len, slice_get, slice_set, option_map, if◌then◌else◌, IfSome, OnOk, ◌++◌};
+ghost use Rattle.std.specs.List.{Contains, IsDistinct, list_any};
 ghost use Rattle.std.specs.Arc.{arc_value};
 ghost use Rattle.std.specs.Ordering.{eq_by_cmp};
-ghost use Rattle.std.specs.List.Sorted.{IsStrictlySortedBy, IsStrictlySortedBy-prop};
+ghost use Rattle.std.specs.List.Sorted.{IsPermutation, IsStrictlySortedBy, IsStrictlySortedBy-prop};
 ghost use Rattle.std.specs.Vec.{vec_capacity};
 ghost use Rattle.rs_octets.specs.Prefixes.{Prefix, prefix_order};
 ghost use Rattle.rs_outlet.specs.declared.waiting.Wait.{Wait};
-ghost use Rattle.rs_outlet.specs.Places.{prefixes_at, open_count, is_withdrawn, is_announced, open_at, told_of, told_by, marked_by};
+ghost use Rattle.rs_outlet.specs.Places.{AreFresh, IsOpenPlace, still_open, prefixes_at, open_count, is_withdrawn, is_announced, open_at, told_of, told_by, marked_by};
 
-use crate::rows::Rows;
 use rs_attrs::Attrs;
 use rs_octets::Prefix;
 use std::alloc::{AllocError, Global};
@@ -65,7 +65,7 @@ pub(crate) struct Waits {
     /// No place before it is to be announced.
     pub(crate) news: usize,
     /// How many are open.
-    waiting: usize,
+    pub(crate) waiting: usize,
     ghost counted: { open_count places.items ≡ waiting },
     ghost rises: { IsStrictlySortedBy prefix_order (prefixes_at places.items) } by { IsStrictlySortedBy-prop prefix_order (prefixes_at places.items) },
 }
@@ -104,7 +104,8 @@ impl Waits {
 
     /// Makes room for so many places.
     pub(crate) fn reserve(&mut self, count: usize) -> Result<(), AllocError>
-        ensures { self.new.places.items ≡ self.old.places.items }
+        ensures items { self.new.places.items ≡ self.old.places.items }
+        ensures room { OnOk result (count ≤ vec_capacity self.new.places) }
     {
         let more = count.saturating_sub(self.places.len());
         self.places.reserve(more)?;
@@ -116,16 +117,18 @@ impl Waits {
 
     /// The place where a prefix waits.
     pub(crate) fn find(&self, prefix: &Prefix) -> Option<usize>
-        ensures { IfSome result (λ place. place < vec_len self.now.places) }
+        ensures found { IfSome result (λ place. IsOpenPlace prefix.now self.now.places.items place) }
+        ensures absent { result ≡ None → open_at prefix.now self.now.places.items ≡ None }
     {
-        let place = self
-            .places
-            .binary_search_by(|wait| wait.prefix.cmp(prefix))
-            .ok()?;
-        if self.places[place].open {
-            Some(place)
-        } else {
-            None
+        match self.places.binary_search_by_key(prefix, |wait| wait.prefix) {
+            Err(_) => None,
+            Ok(place) => {
+                if self.places[place].open {
+                    Some(place)
+                } else {
+                    None
+                }
+            }
         }
     }
 
@@ -134,6 +137,9 @@ impl Waits {
         requires { place < vec_len self.old.places }
         ensures prefixes { prefixes_at self.new.places.items ≡ prefixes_at self.old.places.items }
         ensures places { (p : Prefix) → slice_get (prefixes_at self.old.places.items) place ≡ Some p → (q : Prefix) → open_at q self.new.places.items ≡ (if eq_by_cmp prefix_order q p then None else open_at q self.old.places.items) }
+        ensures told { (w : Wait) → slice_get self.old.places.items place ≡ Some w → (result.0 ≡ w.told) × (result.1 ≡ w.marked) }
+        ensures count { open_count self.new.places.items ≤ open_count self.old.places.items }
+        ensures capacity { vec_capacity self.new.places ≡ vec_capacity self.old.places }
     {
         let wait = &mut self.places[place];
         let waited = wait.open;
@@ -150,7 +156,13 @@ impl Waits {
         &mut self,
         prefix: &Prefix,
         was_due: Option<Arc<Attrs>>,
-    ) -> (Option<Arc<Attrs>>, bool) {
+    ) -> (Option<Arc<Attrs>>, bool)
+        ensures told { option_map arc_value result.0 ≡ told_by (open_at prefix.now self.old.places.items) (option_map arc_value was_due) }
+        ensures marked { result.1 ≡ marked_by (open_at prefix.now self.old.places.items) }
+        ensures places { (q : Prefix) → open_at q self.new.places.items ≡ (if eq_by_cmp prefix_order q prefix.now then None else open_at q self.old.places.items) }
+        ensures count { open_count self.new.places.items ≤ open_count self.old.places.items }
+        ensures capacity { vec_capacity self.new.places ≡ vec_capacity self.old.places }
+    {
         match self.find(prefix) {
             None => (was_due, false),
             Some(place) => {
@@ -161,14 +173,18 @@ impl Waits {
     }
 
     /// Drops the places that wait no more, and adds others, for which there is room.
-    pub(crate) fn add(&mut self, more: Vec<Wait>) {
+    pub(crate) fn add(&mut self, more: Vec<Wait>)
+        requires room { open_count self.old.places.items + vec_len more ≤ vec_capacity self.old.places }
+        requires fresh { AreFresh self.old.places.items more.items }
+        ensures { (q : Prefix) → open_at q self.new.places.items ≡ open_at q (self.old.places.items ++ more.items) }
+    {
         add_places(&mut self.places, more);
         self.waiting = count_open(&self.places);
         self.link();
     }
 
     /// Links the places, which are all open.
-    fn link(&mut self)
+    pub(crate) fn link(&mut self)
         ensures { self.new.places.items ≡ self.old.places.items }
     {
         let count = self.places.len();
@@ -194,13 +210,6 @@ impl Waits {
                 }
             }
         }
-    }
-
-    /// Everything that was told waits to be told again: each row, and what waits already.
-    pub(crate) fn mark_all(&mut self, rows: &Rows) {
-        add_rows(&mut self.places, rows);
-        self.waiting = count_open(&self.places);
-        self.link();
     }
 }
 
@@ -234,15 +243,18 @@ impl Told {
 }
 
 /// How many places wait.
-fn count_open(places: &[Wait]) -> usize
+pub(crate) fn count_open(places: &[Wait]) -> usize
     ensures { result ≡ open_count places.now }
 {
     places.iter().filter(|wait| wait.open).count()
 }
 
 /// Puts the places in order. A prefix has one place.
-fn put_in_order(places: &mut Vec<Wait>)
-    ensures { IsStrictlySortedBy prefix_order (prefixes_at places.new.items) }
+pub(crate) fn put_in_order(places: &mut Vec<Wait>)
+    ensures rises { IsStrictlySortedBy prefix_order (prefixes_at places.new.items) }
+    ensures from { (w : Wait) → Contains places.new.items w → Contains places.old.items w }
+    ensures all { (q : Prefix) → list_any (eq_by_cmp prefix_order q) (prefixes_at places.new.items) ≡ list_any (eq_by_cmp prefix_order q) (prefixes_at places.old.items) }
+    ensures kept { IsDistinct (eq_by_cmp prefix_order) (prefixes_at places.old.items) → IsPermutation places.old.items places.new.items }
 {
     places.sort_unstable_by_key(|wait| wait.prefix);
     places.dedup_by_key(|wait| wait.prefix);
@@ -250,53 +262,15 @@ fn put_in_order(places: &mut Vec<Wait>)
 
 /// Drops the places that wait no more, and adds others, for which there is room.
 fn add_places(places: &mut Vec<Wait>, more: Vec<Wait>)
-    ensures { IsStrictlySortedBy prefix_order (prefixes_at places.new.items) }
+    requires { open_count places.old.items + vec_len more ≤ vec_capacity places.old }
+    ensures rises { IsStrictlySortedBy prefix_order (prefixes_at places.new.items) }
+    ensures kept { IsDistinct (eq_by_cmp prefix_order) (prefixes_at (still_open places.old.items ++ more.items)) → IsPermutation (still_open places.old.items ++ more.items) places.new.items }
 {
     places.retain(|wait| wait.open);
     for wait in more {
-        let _ = places.push(wait);
+        places.push_reserved(wait);
     }
     put_in_order(places);
-}
-
-/// Drops the places that wait no more, marks those at which something was told, and adds the rows at
-/// which nothing waits, for which there is room.
-fn add_rows(places: &mut Vec<Wait>, rows: &Rows)
-    ensures { IsStrictlySortedBy prefix_order (prefixes_at places.new.items) }
-{
-    places.retain(|wait| wait.open);
-    let waited = places.len();
-    for wait in places.iter_mut() {
-        wait.marked = !matches!(wait.told, Told::Nothing);
-    }
-    for number in 0..rows.count() {
-        let number = u32::try_from(number).unwrap_or(END);
-        if let Some(row) = rows.get(number)
-            && !has_before(places, waited, &row.prefix)
-        {
-            let _ = places.push(Wait {
-                prefix: row.prefix,
-                due: Due::Announced {
-                    number,
-                    hash: hash_of(&row.attrs),
-                },
-                told: Told::Same,
-                marked: true,
-                open: true,
-            });
-        }
-    }
-    put_in_order(places);
-}
-
-/// Whether a prefix stands at one of the first places.
-fn has_before(places: &[Wait], count: usize, prefix: &Prefix) -> bool {
-    match places.get(..count) {
-        Some(places) => places
-            .binary_search_by(|wait| wait.prefix.cmp(prefix))
-            .is_ok(),
-        None => false,
-    }
 }
 
 /// A hash of attributes.

@@ -4,7 +4,7 @@ use Rattle.rs_adjin.specs.declared.adj_ins.AdjIns.{AdjIns}
 use Rattle.rs_policy.specs.Configuration.{Configuration}
 use Rattle.rs_outlet.specs.declared.answers.Last.TheVariants.{Refused}
 use Rattle.rs_outlet.specs.declared.answers.Turned.{Turned}
-use Rattle.rs_outlet.specs.Views.{View, AreNumbered}
+use Rattle.rs_outlet.specs.Views.{View, AreNumbered, WaitsAreExact}
 use Rattle.rs_outlet.specs.Turns.{HasTurned}
 
 -- each outlet's client is one of the configuration's
@@ -22,6 +22,7 @@ pub record TurnedAlone (config : Configuration) (tables : AdjIns) (old new : Vie
   pub rest : new ≡ record old { loc = new.loc; told = new.told; touched = new.touched; marked = new.marked; waits = new.waits; numbers = new.numbers; last = new.last }
   pub answer : IsAnswered config tables old new
   pub numbered : AreNumbered old tables → AreNumbered new tables
+  pub exact : AreNumbered old tables → WaitsAreExact old → WaitsAreExact new
 
 -- each outlet, in its old place, is turned as if it were alone
 abbrev pub AllTurnedAlone : Configuration → AdjIns → List View → List View → Type 0

@@ -7,6 +7,7 @@ use Rattle.rs_outlet.proofs.sending.put_gone.Goals as goal
 pub returns-clause-update : goal.returns-clause-update
 returns-clause-update c = λ rows speech. inr (record {
   said = None;
+  legal = tt;
   chosen = c.collect_withdrawn.ensures.are rows (none_chosen rows c.args.waits.now.places.items None _ _ c.requires.none.0 c.requires.none.1);
   written = record { some = c.put_withdrawal.ensures.some; within = subst (λ (xs : List Prefix). c.put_withdrawal.result.prefixes ≤ length xs) c.deref.ensures.value c.put_withdrawal.ensures.within; says = c.put_withdrawal.ensures.octets ∙ ap (λ xs. withdrawal (take c.put_withdrawal.result.prefixes xs)) c.deref.ensures.value };
 })

@@ -14,7 +14,7 @@ use Rattle.rs_outlet.proofs.turn.carry_out.Goals as goal
 pub returns-in-None-clause-loc : goal.returns-in-None-clause-loc
 returns-in-None-clause-loc c = λ ins is h q.
     let rows = c.args.rows.now.rows.items in
-    let below : c.args.change.number < length rows = omega (arith, c.requires, c.args.rows.now.rows.ok) in
+    let below : c.args.change.number < length rows = omega (arith, c.requires.number, c.args.rows.now.rows.ok) in
     ap (λ xs. fin.get (loc_of xs) q) c.take-was.ensures.rows
     ∙ loc_set ins rows c.args.change.number None below c.args.change.prefix (numbered ins rows h) is (λ r e. cc e) q
     ∙ ap (λ o. cond (same q c.args.change.prefix) (option_map arc_value o) (fin.get (loc_of rows) q)) (sym c.in-None.is)
@@ -25,8 +25,8 @@ returns-in-Some-clause-loc c = λ ins is h q.
     let n = c.args.change.number in
     let p = c.args.change.prefix in
     let mid = c.take-was.new.self.rows.items in
-    let below : n < length rows = omega (arith, c.requires, c.args.rows.now.rows.ok) in
-    let again : n < length mid = omega (arith, c.requires, c.take-was.ensures.room, c.take-was.new.self.rows.ok) in
+    let below : n < length rows = omega (arith, c.requires.number, c.args.rows.now.rows.ok) in
+    let again : n < length mid = omega (arith, c.requires.number, c.take-was.ensures.room, c.take-was.new.self.rows.ok) in
     let kept : HaveNumbers (numbers_from 0 mid) ins = subst (λ xs. HaveNumbers (numbers_from 0 xs) ins) (sym c.take-was.ensures.rows) (numbers_erase ins rows n h) in
     let erased = ap (λ xs. fin.get (loc_of xs) q) c.take-was.ensures.rows ∙ loc_set ins rows n None below p (numbered ins rows h) is (λ r e. cc e) q in
     ap (λ xs. fin.get (loc_of xs) q) c.put.ensures.rows

@@ -1,11 +1,38 @@
-use Rattle.std.proofs.Common.{◌≡◌, [], ◌∷◌, length, arith, ◌∙◌, cond, sym, ap, subst, vec_len, refl}
+use Rattle.std.proofs.Common.{◌≡◌, false, [], ◌∷◌, length, arith, ◌∙◌, cond, sym, ap, subst, vec_len, refl, Some}
 use Rattle.std.specs.FinMap as fin
+use Rattle.std.specs.List.{AllByRecursion, IsDistinct, list_any}
 use Rattle.std.specs.Vec.Iter.{into_iter_items}
+use Rattle.std.proofs.lemmas.Map.Keys.{IsDistinct-head, IsDistinct-tail}
+use Rattle.rs_adjin.specs.AdjIns.{number_of}
 use Rattle.rs_outlet.specs.Inside.{ArePlaced, AreDue, HaveRows, is_changed, loc_of}
-use Rattle.rs_outlet.proofs.LocByNumber.{same}
+use Rattle.rs_outlet.specs.Places.{prefixes_at}
+use Rattle.rs_outlet.specs.Owed.{prefixes_of}
+use Rattle.rs_outlet.proofs.Carrying.{fresh_step, keeps_both, keeps_same, keeps_step, length_step, none_fresh, none_more, none_unlisted, unlisted_rest, unlisted_step}
+use Rattle.rs_outlet.proofs.LocByNumber.{same, same_is, by_number, numbered}
 use Rattle.rs_outlet.proofs.Numbering.{no_elements}
 use Rattle.rs_outlet.proofs.TurnedLoc.{change_done}
 use Rattle.rs_outlet.proofs.turn.commit.Goals as goal
+
+pub loop-change-init : goal.loop-change-init
+loop-change-init c =
+    let are : into_iter_items c.into_iter-change-iterator.result ≡ c.args.changes.items = c.into_iter-change-iterator.ensures.into_iter_gives.0 in
+    let none = c.requires.none in
+    record {
+      room = refl;
+      rows = subst (λ cs. HaveRows cs (vec_len c.args.rows.now.rows)) (sym are) c.requires.rows;
+      placed = λ ins p. subst (λ cs. ArePlaced cs ins) (sym are) p;
+      due = λ due d. subst (AreDue due) (sym are) d;
+      loc = λ ins due p d h q. ap (λ cs. cond (is_changed cs q) (due q) (fin.get (loc_of c.args.rows.now.rows.items) q)) are;
+      numbered = λ ins p h. h;
+      more = omega (arith, ap length are, ap length none, c.args.fresh.ok, c.args.changes.ok);
+      spare = c.requires.fresh;
+      count = omega arith;
+      capacity = refl;
+      fresh = none_fresh c.args.waits.now.places.items c.args.fresh.items none;
+      once = subst (λ cs. IsDistinct same (prefixes_of cs)) (sym are) c.requires.once;
+      unlisted = none_unlisted c.args.fresh.items _ none;
+      keeps = λ ins p h q. keeps_same _ _ _ _ (none_more q c.args.waits.now.places.items c.args.fresh.items none) refl;
+    }
 
 pub loop-change-preserved : goal.loop-change-preserved
 loop-change-preserved c =
@@ -14,6 +41,11 @@ loop-change-preserved c =
     let inv = c.loop-change.invariant in
     let are : into_iter_items c.loop-change.change-iterator ≡ x ∷ rest = c.in-Some.ensures.steps.0 in
     let rows : HaveRows (x ∷ rest) (vec_len c.args.rows.now.rows) = subst (λ cs. HaveRows cs (vec_len c.args.rows.now.rows)) are inv.rows in
+    let was = c.loop-change.rows.rows.items in
+    let fs = c.loop-change.fresh.items in
+    let once : IsDistinct same (prefixes_of (x ∷ rest)) = subst (λ cs. IsDistinct same (prefixes_of cs)) are inv.once in
+    let unlisted : AllByRecursion (λ q. list_any (same q) (prefixes_at fs) ≡ false) (prefixes_of (x ∷ rest)) = subst (λ cs. AllByRecursion (λ q. list_any (same q) (prefixes_at fs) ≡ false) (prefixes_of cs)) are inv.unlisted in
+    let carried = c.carry_out.ensures.waits in
     record {
       room = c.carry_out.ensures.room ∙ inv.room;
       rows = rows.1;
@@ -23,9 +55,22 @@ loop-change-preserved c =
           change_done due x rest q _ _ (same q x.prefix) refl
           (c.carry_out.ensures.loc ins ((subst (λ cs. ArePlaced cs ins) are (inv.placed ins p)).0) (inv.numbered ins p h) q)
           ((subst (AreDue due) are (inv.due due d)).0)
-          ∙ ap (λ cs. cond (is_changed cs q) (due q) (fin.get (loc_of c.loop-change.rows.rows.items) q)) (sym are)
+          ∙ ap (λ cs. cond (is_changed cs q) (due q) (fin.get (loc_of was) q)) (sym are)
           ∙ inv.loc ins due p d h q;
       numbered = λ ins p h. c.carry_out.ensures.numbered ins ((subst (λ cs. ArePlaced cs ins) are (inv.placed ins p)).0) (inv.numbered ins p h);
+      more = omega (arith, inv.more, ap length are, length_step x _ _ fs _ _ carried, c.loop-change.fresh.ok, c.carry_out.new.fresh.ok);
+      spare = omega (arith, inv.spare, c.carry_out.ensures.fresh);
+      count = omega (arith, inv.count, c.carry_out.ensures.count);
+      capacity = c.carry_out.ensures.capacity ∙ inv.capacity;
+      fresh = fresh_step x _ _ fs _ _ carried unlisted.0 inv.fresh;
+      once = IsDistinct-tail same x.prefix (prefixes_of rest) once;
+      unlisted = unlisted_rest x rest fs c.carry_out.new.fresh.items (unlisted_step x _ _ fs _ _ carried) (IsDistinct-head same x.prefix (prefixes_of rest) once) unlisted.1;
+      keeps = λ ins p h q.
+          let placed = (subst (λ cs. ArePlaced cs ins) are (inv.placed ins p)).0 in
+          keeps_both _ _ _ _ _ _ (inv.keeps ins p h q)
+          (keeps_step x _ _ fs _ _ carried unlisted.0 q (same q x.prefix) (fin.get (loc_of was) q) _ refl
+          (λ s. by_number ins was (numbered ins was (inv.numbered ins p h)) q (Some x.number) (ap (number_of ins) (same_is q x.prefix s) ∙ placed))
+          (c.carry_out.ensures.loc ins placed (inv.numbered ins p h) q));
     }
 
 pub returns-clause-loc : goal.returns-clause-loc
@@ -34,3 +79,7 @@ returns-clause-loc c = λ ins due p d h q.
     let none : [] ≡ into_iter_items it = no_elements _ (let e : length (into_iter_items it) ≡ 0 = omega (arith, c.in-None.ensures.steps.0, it.rest.ok) in e) in
     ap (λ cs. cond (is_changed cs q) (due q) (fin.get (loc_of c.loop-change.rows.rows.items) q)) none
     ∙ c.loop-change.invariant.loc ins due p d h q
+
+pub returns-clause-keeps : goal.returns-clause-keeps
+returns-clause-keeps c = λ ins p h q.
+    keeps_both _ _ _ _ _ _ (c.loop-change.invariant.keeps ins p h q) (keeps_same _ _ _ _ (c.add.ensures q) refl)

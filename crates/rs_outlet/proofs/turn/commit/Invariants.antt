@@ -1,11 +1,16 @@
-use Rattle.std.proofs.Common.{◌≡◌, cond, Option, List, vec_len}
+use Rattle.std.proofs.Common.{◌≡◌, ◌≤◌, ◌+◌, false, cond, Option, List, length, vec_len, ◌++◌}
 use Rattle.std.specs.FinMap as fin
+use Rattle.std.specs.List.{AllByRecursion, IsDistinct, list_any}
+use Rattle.std.specs.Vec.{vec_capacity}
 use Rattle.std.specs.Vec.Iter.{into_iter_items}
 use Rattle.rs_octets.specs.Prefixes.{Prefix}
 use Rattle.rs_attrs.specs.Meaning.{Attribute}
 use Rattle.rs_adjin.specs.declared.adj_ins.AdjIns.{AdjIns}
 use Rattle.rs_outlet.specs.Views.{HaveNumbers}
+use Rattle.rs_outlet.specs.Places.{AreFresh, open_at, open_count, prefixes_at}
+use Rattle.rs_outlet.specs.Owed.{Keeps, prefixes_of}
 use Rattle.rs_outlet.specs.Inside.{ArePlaced, AreDue, HaveRows, is_changed, numbers_from, loc_of}
+use Rattle.rs_outlet.proofs.LocByNumber.{same}
 use Rattle.rs_outlet.proofs.turn.commit.Given as goal
 
 abbrev pub invariant-loop-change : goal.invariant-loop-change
@@ -17,4 +22,13 @@ invariant-loop-change l = record {
   loc : (ins : AdjIns) (due : Prefix → Option (List Attribute)) → ArePlaced l.fn.changes.items ins → AreDue due l.fn.changes.items → HaveNumbers (numbers_from 0 l.fn.rows.rows.items) ins → (q : Prefix)
       → cond (is_changed (into_iter_items l.change-iterator) q) (due q) (fin.get (loc_of l.rows.rows.items) q) ≡ cond (is_changed l.fn.changes.items q) (due q) (fin.get (loc_of l.fn.rows.rows.items) q);
   numbered : (ins : AdjIns) → ArePlaced l.fn.changes.items ins → HaveNumbers (numbers_from 0 l.fn.rows.rows.items) ins → HaveNumbers (numbers_from 0 l.rows.rows.items) ins;
+  more : vec_len l.fresh + length (into_iter_items l.change-iterator) ≤ vec_len l.fn.changes;
+  spare : vec_len l.fn.changes ≤ vec_capacity l.fresh;
+  count : open_count l.waits.places.items ≤ open_count l.fn.waits.places.items;
+  capacity : vec_capacity l.waits.places ≡ vec_capacity l.fn.waits.places;
+  fresh : AreFresh l.waits.places.items l.fresh.items;
+  once : IsDistinct same (prefixes_of (into_iter_items l.change-iterator));
+  unlisted : AllByRecursion (λ q. list_any (same q) (prefixes_at l.fresh.items) ≡ false) (prefixes_of (into_iter_items l.change-iterator));
+  keeps : (ins : AdjIns) → ArePlaced l.fn.changes.items ins → HaveNumbers (numbers_from 0 l.fn.rows.rows.items) ins → (q : Prefix)
+      → Keeps (open_at q l.fn.waits.places.items) (fin.get (loc_of l.fn.rows.rows.items) q) (open_at q (l.waits.places.items ++ l.fresh.items)) (fin.get (loc_of l.rows.rows.items) q);
 }

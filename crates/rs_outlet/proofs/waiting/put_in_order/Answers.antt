@@ -1,8 +1,14 @@
-use Rattle.std.proofs.Common.{sym, subst, rules}
+use Rattle.std.proofs.Common.{List, ◌∙◌, sym, ap, subst, rules}
+use Rattle.std.specs.List.{Contains, list_any}
 use Rattle.std.specs.List.Sorted.{IsStrictlySortedBy}
 use Rattle.std.proofs.lemmas.Fn.{dedup_same}
-use Rattle.std.proofs.lemmas.List.Kept.{IsStrictlySortedBy-dedup}
-use Rattle.std.proofs.lemmas.List.Sorted.{answers_always}
+use Rattle.std.proofs.lemmas.List.Kept.{Contains-from_dedup, IsStrictlySortedBy-dedup}
+use Rattle.std.proofs.lemmas.List.Sorted.{answers_always, Contains-permutation, IsPermutation-map, IsPermutation-sym, list_any-IsPermutation}
+use Rattle.rs_outlet.specs.declared.waiting.Wait.{Wait}
+use Rattle.rs_outlet.specs.Places.{prefixes_at}
+use Rattle.rs_outlet.proofs.LocByNumber.{same}
+use Rattle.rs_outlet.proofs.MarkedAgain.{deduped}
+use Rattle.rs_outlet.proofs.Adding.{ordered}
 use Rattle.rs_outlet.proofs.Places.{by_prefix, places_total, prefixes_rise}
 use Rattle.rs_outlet.proofs.Touches.{prefix_eq, prefix_eq-cmp}
 use Rattle.rs_outlet.proofs.waiting.put_in_order.Goals as goal
@@ -11,4 +17,13 @@ pub returns : goal.returns
 returns c =
     let up = c.sort_unstable_by_key.ensures.sorted (λ w. w.prefix) (answers_always _ _ _ (λ f a r g h. search rules)) in
     let kept = dedup_same _ (λ v w. prefix_eq v.prefix w.prefix) _ (λ x y b f' x' y' k. search rules) _ _ c.dedup_by_key.ensures.filtered in
-    prefixes_rise _ (subst (IsStrictlySortedBy by_prefix) (sym kept) (IsStrictlySortedBy-dedup places_total (λ v w. sym (prefix_eq-cmp v.prefix w.prefix)) _ up))
+    let moved = c.sort_unstable_by_key.ensures.permutation in
+    record {
+      rises = prefixes_rise _ (subst (IsStrictlySortedBy by_prefix) (sym kept) (IsStrictlySortedBy-dedup places_total (λ v w. sym (prefix_eq-cmp v.prefix w.prefix)) _ up));
+      from = λ w here. Contains-permutation _ _ w (IsPermutation-sym _ _ moved) (Contains-from_dedup (λ v w. prefix_eq v.prefix w.prefix) _ w (subst (λ (xs : List Wait). Contains xs w) kept here));
+      all = λ q.
+          ap (λ xs. list_any (same q) (prefixes_at xs)) kept
+          ∙ deduped (λ v w. prefix_eq v.prefix w.prefix) (λ v w. sym (prefix_eq-cmp v.prefix w.prefix)) q _
+          ∙ sym (list_any-IsPermutation (same q) _ _ (IsPermutation-map (λ (w : Wait). w.prefix) _ _ moved));
+      kept = λ d. ordered (λ v w. prefix_eq v.prefix w.prefix) (λ v w. sym (prefix_eq-cmp v.prefix w.prefix)) _ _ _ c.sort_unstable_by_key.ensures.permutation kept d;
+    }

@@ -11,4 +11,5 @@ returns c =
       rest = c.turn.ensures.rest;
       answer = answered c.args.config.now c.args.tables.now old new c.turn.result c.turn.ensures.turned c.turn.ensures.refused;
       numbered = c.turn.ensures.numbered;
+      exact = c.turn.ensures.exact;
     }

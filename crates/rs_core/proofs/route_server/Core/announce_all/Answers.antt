@@ -1,9 +1,10 @@
-use Rattle.std.proofs.Common.{refl, ◌∙◌, subst, arith}
+use Rattle.std.proofs.Common.{refl, ◌∙◌, subst, arith, sym}
 use Rattle.std.specs.Prelude.{Some}
 use Rattle.std.specs.Arc.{arc_value}
 use Rattle.std.proofs.lemmas.List.{take_all}
 use Rattle.rs_core.specs.Core.{client_count}
 use Rattle.rs_core.specs.Steps.{HasOverlaid}
+use Rattle.rs_core.proofs.Around.{change_touches, none_touched, touches_on}
 use Rattle.rs_core.proofs.Updating.{none_overlaid, one_overlaid, none_spared, one_spared, same_spared_behind}
 use Rattle.rs_core.proofs.route_server.Core.announce_all.Goals as goal
 
@@ -16,6 +17,7 @@ loop-prefix-init c = record {
   config = refl;
   others = none_spared c.args.c c.args.self.now.ribs.tables;
   held = none_overlaid c.args.c (Some (arc_value c.args.attrs.now)) c.args.self.now.ribs.tables;
+  touched = none_touched c.args.c c.args.self.now.ribs;
 }
 
 pub loop-prefix-preserved : goal.loop-prefix-preserved
@@ -27,6 +29,8 @@ loop-prefix-preserved c = record {
   config = c.announce.ensures.settings.config ∙ c.loop-prefix.invariant.config;
   others = one_spared c.args.c c.prefix-item.result (Some (arc_value c.args.attrs.now)) c.args.self.now.ribs.tables c.loop-prefix.self.ribs.tables c.announce.new.self.tables c.in_ok-announce.ensures.held c.loop-prefix.invariant.others;
   held = one_overlaid c.args.c c.loop-prefix.prefix-index _ c.args.prefixes.now c.prefix-item.result (Some (arc_value c.args.attrs.now)) c.args.self.now.ribs.tables c.loop-prefix.self.ribs.tables c.announce.new.self.tables (omega arith) c.loop-prefix-test.true c.prefix-item.is c.in_ok-announce.ensures.held c.loop-prefix.invariant.held;
+  touched = touches_on c.args.c c.args.self.now.ribs c.loop-prefix.self.ribs c.announce.new.self (c.loop-prefix.self.ribs_len ∙ c.loop-prefix.invariant.count ∙ sym c.args.self.now.ribs_len) c.loop-prefix.invariant.touched
+      (change_touches c.args.c c.prefix-item.result c.loop-prefix.self.ribs c.announce.new.self (c.announce.ensures.touched c.loop-prefix.self.numbered));
 }
 
 pub returns-clause-sessions : goal.returns-clause-sessions
@@ -55,3 +59,11 @@ returns-in_err-announce-clause-config c = c.announce.ensures.settings.config ∙
 
 pub returns-in_err-announce-clause-others : goal.returns-in_err-announce-clause-others
 returns-in_err-announce-clause-others c = same_spared_behind c.args.c c.args.self.now.ribs.tables c.loop-prefix.self.ribs.tables c.announce.new.self.tables c.in_err-announce.ensures.refused c.loop-prefix.invariant.others
+
+pub returns-clause-touched : goal.returns-clause-touched
+returns-clause-touched c = c.loop-prefix.invariant.touched
+
+pub returns-in_err-announce-clause-touched : goal.returns-in_err-announce-clause-touched
+unfolding client_count
+returns-in_err-announce-clause-touched c = touches_on c.args.c c.args.self.now.ribs c.loop-prefix.self.ribs c.announce.new.self (c.loop-prefix.self.ribs_len ∙ c.loop-prefix.invariant.count ∙ sym c.args.self.now.ribs_len) c.loop-prefix.invariant.touched
+    (change_touches c.args.c c.prefix-item.result c.loop-prefix.self.ribs c.announce.new.self (c.announce.ensures.touched c.loop-prefix.self.numbered))

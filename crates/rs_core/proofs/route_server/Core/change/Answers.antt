@@ -1,5 +1,9 @@
 use Rattle.std.proofs.Common.{◌<◌, [], ◌∷◌, length, refl, sym, ◌∙◌, ap, subst}
-use Rattle.std.specs.Prelude.{Some, None, if◌then◌else◌}
+use Rattle.std.specs.Prelude.{Some, None, is_none, option_map, if◌then◌else◌}
+use Rattle.std.specs.Arc.{arc_value}
+use Rattle.rs_attrs.specs.Effects.{has_prefix}
+use Rattle.rs_update.specs.Laws.{IsSameChange}
+use Rattle.rs_adjin.specs.AdjIns.{held_of}
 use Rattle.std.specs.Global.{Vec}
 use Rattle.std.proofs.lemmas.Option.{slice_get_read}
 use Rattle.rs_session.specs.declared.session.Session.{Session}
@@ -7,10 +11,12 @@ use Rattle.rs_session.specs.declared.heard.Heard.TheVariants as heard
 use Rattle.rs_session.specs.declared.act.Act.TheVariants as acts
 use Rattle.rs_session.specs.Items.{Message}
 use Rattle.rs_core.specs.Core.{client_count}
-use Rattle.rs_core.specs.Hearing.{takes_in}
-use Rattle.rs_core.proofs.Lists.{on_err}
+use Rattle.rs_core.specs.Hearing.{session_in, takes_in}
+use Rattle.rs_core.proofs.Lists.{on_err, map_ok}
 use Rattle.rs_core.proofs.Acting.{acted, acted_spares}
-use Rattle.rs_core.proofs.Updating.{cut_after, not_taken}
+use Rattle.rs_core.proofs.Voicing.{never_open_by_message}
+use Rattle.rs_core.proofs.Around.{voices_on}
+use Rattle.rs_core.proofs.Updating.{changed, cut_after, none_there, not_taken}
 use Rattle.rs_core.proofs.route_server.Core.change.Goals as goal
 
 pub returns-in-Some-clause-refused : goal.returns-in-Some-clause-refused
@@ -30,11 +36,51 @@ returns-in_default c =
     let read = slice_get_read sessions (length sessions) c.args.c c.index_mut.result.now refl lt c.index_mut.ensures.value in
     let set = ap (λ (v : Vec Session). v.items) c.act.ensures.sessions in
     record {
-      spares = acted_spares c.args.self.now c.act.new.self c.args.c c.message.new.self c.act.ensures.count c.act.ensures.config lt set c.act.ensures.buffers c.act.ensures.others;
+      spares = acted_spares c.args.self.now c.act.new.self c.args.c c.message.new.self c.act.ensures.count c.act.ensures.config lt set c.act.ensures.buffers c.act.ensures.others c.act.ensures.voices;
       buffers = c.act.ensures.buffers;
       heard = λ s h change live knows same. acted c.args.self.now c.act.new.self c.message.result (Message (heard.Update None)) c.index_mut.result.now c.message.new.self s c.args.c h
-          (takes_in s c.args.c (record { message = heard.Update None; change = Some change }) h) read lt set c.message.ensures.hears c.act.ensures.tables refl
+          (takes_in s c.args.c (record { message = heard.Update None; change = Some change }) h) read lt set c.message.ensures.hears c.act.ensures.tables c.act.ensures.config c.act.ensures.own (never_open_by_message (session_in s c.args.c) (heard.Update None) h.items) refl refl
           (λ down up. ap (λ b. if b then change ∷ h.changes else []) down)
           (λ up now. absurd (not_taken c.args.self.now c.index_mut.result.now c.message.new.self s c.args.c h c.message.result read c.message.ensures.hears live up knows c.in_default.not-None)) knows;
       refused = tt;
     }
+
+pub returns-in-None-attrs-clause-heard : goal.returns-in-None-attrs-clause-heard
+unfolding client_count
+returns-in-None-attrs-clause-heard c = λ s h change live knows same.
+    let sessions = c.args.self.now.sessions.items in
+    let lt : c.args.c < length sessions = subst (λ k. c.args.c < k) (sym c.args.self.now.sessions_len) c.requires.client in
+    let read = slice_get_read sessions (length sessions) c.args.c c.index_mut.result.now refl lt c.index_mut.ensures.value in
+    let none = sym c.requires.attributes ∙ ap is_none c.in-None-attrs.is in
+    changed c.args.self.now c.withdraw_all.new.self c.index_mut.result.now c.message.new.self s c.args.c h c.args.withdrawn.now c.args.announced.now (option_map arc_value c.args.attrs) change read lt
+    (ap (λ (v : Vec Session). v.items) c.withdraw_all.ensures.sessions) c.in-None.ensures.hears c.in-None.ensures.takes
+    (λ p. c.withdraw_all.ensures.held.held p
+        ∙ sym (ap (λ b. if b then option_map arc_value c.args.attrs else (if has_prefix p c.args.withdrawn.now then None else held_of c.args.self.now.ribs.tables c.args.c p)) (none_there p c.args.announced.now none)))
+    c.withdraw_all.ensures.held.identifier c.withdraw_all.ensures.config c.withdraw_all.ensures.touched.own live same knows
+
+pub returns-in-Some-clause-spares : goal.returns-in-Some-clause-spares
+unfolding client_count
+returns-in-Some-clause-spares c =
+    let sessions = c.args.self.now.sessions.items in
+    let lt : c.args.c < length sessions = subst (λ k. c.args.c < k) (sym c.args.self.now.sessions_len) c.requires.client in
+    acted_spares c.args.self.now c.announce_all.new.self c.args.c c.message.new.self (c.announce_all.ensures.count ∙ c.withdraw_all.ensures.count) (c.announce_all.ensures.config ∙ c.withdraw_all.ensures.config) lt
+    (ap (λ (v : Vec Session). v.items) (c.announce_all.ensures.sessions ∙ c.withdraw_all.ensures.sessions)) (c.announce_all.ensures.buffers ∙ c.withdraw_all.ensures.buffers)
+    (record {
+      held = λ d p ne. c.announce_all.ensures.others.held d p ne ∙ c.withdraw_all.ensures.others.held d p ne;
+      identifiers = λ d ne. c.announce_all.ensures.others.identifiers d ne ∙ c.withdraw_all.ensures.others.identifiers d ne;
+    })
+    (voices_on c.args.c c.args.self.now.ribs c.withdraw_all.new.self.ribs c.announce_all.new.self.ribs (c.withdraw_all.new.self.ribs_len ∙ c.withdraw_all.ensures.count ∙ sym c.args.self.now.ribs_len)
+    c.withdraw_all.ensures.touched.others c.announce_all.ensures.touched.others)
+
+pub returns-in-Some-clause-heard : goal.returns-in-Some-clause-heard
+unfolding client_count
+returns-in-Some-clause-heard c = map_ok c.announce_all.result c.announce_all.ensures.held (λ held s h change live knows same.
+    let sessions = c.args.self.now.sessions.items in
+    let lt : c.args.c < length sessions = subst (λ k. c.args.c < k) (sym c.args.self.now.sessions_len) c.requires.client in
+    let read = slice_get_read sessions (length sessions) c.args.c c.index_mut.result.now refl lt c.index_mut.ensures.value in
+    changed c.args.self.now c.announce_all.new.self c.index_mut.result.now c.message.new.self s c.args.c h c.args.withdrawn.now c.args.announced.now (Some (arc_value c.in-Some.attrs)) change read lt
+    (ap (λ (v : Vec Session). v.items) (c.announce_all.ensures.sessions ∙ c.withdraw_all.ensures.sessions)) c.in-None.ensures.hears c.in-None.ensures.takes
+    (λ p. held.held p ∙ ap (λ o. if has_prefix p c.args.announced.now then Some (arc_value c.in-Some.attrs) else o) (c.withdraw_all.ensures.held.held p))
+    (held.identifier ∙ c.withdraw_all.ensures.held.identifier) (c.announce_all.ensures.config ∙ c.withdraw_all.ensures.config)
+    (λ none. c.announce_all.ensures.touched.own none ∙ c.withdraw_all.ensures.touched.own none) live
+    (subst (λ o. IsSameChange (record { withdrawn = c.args.withdrawn.now; announced = c.args.announced.now; attributes = option_map arc_value o }) change) c.in-Some.is same) knows)

@@ -7,9 +7,13 @@ use Rattle.rs_session.specs.Items.{Left}
 use Rattle.rs_session.specs.Hearing.{HasHeard}
 use Rattle.rs_adjin.specs.AdjIns.{held_of, identifier_of}
 use Rattle.rs_core.specs.Core.{client_count}
-use Rattle.rs_core.specs.Hearing.{session_in}
+use Rattle.rs_core.specs.Hearing.{session_in, leaves}
+use Rattle.rs_core.specs.Ribs.{outlet_in}
+use Rattle.rs_core.specs.Voices.{KeepsVoices}
 use Rattle.rs_core.specs.declared.ribs.Ribs.{Ribs}
 use Rattle.rs_core.proofs.Lists.{set_at}
+use Rattle.rs_core.proofs.Around.{held_voices, own_voices, voices_on}
+use Rattle.rs_core.proofs.Voicing.{cleared_silent, voiced_over}
 use Rattle.rs_core.proofs.Agreeing.{begun_held, begun_identifier, others_held, others_identifiers}
 use Rattle.rs_core.proofs.route_server.Core.forget.Goals as goal
 
@@ -27,6 +31,10 @@ returns-clause-spares c =
       buffers = λ d ne. c.pass_over.ensures.others d ne ∙ ap (λ (v : Vec (Vec ℕ)). slice_get v.items d) c.note_ending.ensures.buffers;
       held = λ d p ne. ap (λ t. held_of t d p) c.clear.ensures.tables ∙ others_held c.pass_over.new.self.ribs.tables c.unlearn.new.self.tables c.args.c 0 c.unlearn.ensures.held d p ne ∙ ap (λ (r : Ribs). held_of r.tables d p) ribs;
       identifiers = λ d ne. ap (λ t. identifier_of t d) c.clear.ensures.tables ∙ others_identifiers c.pass_over.new.self.ribs.tables c.unlearn.new.self.tables c.args.c 0 c.unlearn.ensures.held d ne ∙ ap (λ (r : Ribs). identifier_of r.tables d) ribs;
+      voices = subst (λ r. KeepsVoices c.args.c r c.clear.new.self) ribs
+          (voices_on c.args.c c.pass_over.new.self.ribs c.unlearn.new.self c.clear.new.self c.unlearn.ensures.settings.count
+          (held_voices c.args.c c.pass_over.new.self.ribs.tables c.pass_over.new.self.ribs c.unlearn.new.self (c.unlearn.ensures.touched c.pass_over.new.self.numbered))
+          (own_voices c.args.c _ c.unlearn.new.self c.clear.new.self c.clear.ensures.outlet));
     }
 
 pub returns-clause-forgotten : goal.returns-clause-forgotten
@@ -44,6 +52,8 @@ returns-clause-forgotten c = λ s h cut.
             (sym ((set_at before c.args.c c.lost.new.self lt).own x (ap (λ (v : Vec Session). slice_get v.items c.args.c) (sym c.pass_over.ensures.sessions) ∙ e))) heard;
         table = λ p. ap (λ t. held_of t c.args.c p) c.clear.ensures.tables ∙ begun_held c.pass_over.new.self.ribs.tables c.unlearn.new.self.tables c.args.c 0 c.unlearn.ensures.held p;
         identifier = ap (λ t. identifier_of t c.args.c) c.clear.ensures.tables ∙ begun_identifier c.pass_over.new.self.ribs.tables c.unlearn.new.self.tables c.args.c 0 c.unlearn.ensures.held;
+        outlet = λ _ none. voiced_over s c.args.c (leaves h) (outlet_in c.clear.new.self c.args.c none) refl refl
+            (cleared_silent (outlet_in c.unlearn.new.self c.args.c none) (outlet_in c.clear.new.self c.args.c none) (c.clear.ensures.outlet.own none (subst (λ n. c.args.c < n) (sym (c.unlearn.ensures.settings.count ∙ c.pass_over.new.self.ribs_len)) (subst (λ n. c.args.c < n) (sym (c.pass_over.ensures.count ∙ c.note_ending.ensures.count)) c.requires))));
       };
       waits = λ x e. record { rest = λ live. absurd (let f = live in cc); good = λ live. absurd (let f = live in cc) };
     }

@@ -5,7 +5,8 @@ use Rattle.rs_core.specs.Core.{client_count}
 use Rattle.rs_core.specs.Hearing.{hears}
 use Rattle.rs_core.specs.declared.ribs.Ribs.{Ribs}
 use Rattle.rs_core.proofs.Lists.{map_ok, map_err}
-use Rattle.rs_core.proofs.Cutting.{unmoved, deaf_agrees, is_between, cut_before, agrees_joined}
+use Rattle.rs_core.proofs.Ruling.{unmoved}
+use Rattle.rs_core.proofs.Cutting.{deaf_agrees, is_between, cut_before, agrees_joined}
 use Rattle.rs_core.proofs.Filling.{is_none, front_agrees, front_between}
 use Rattle.rs_core.proofs.route_server.Core.hear.Goals as goal
 

@@ -3,11 +3,11 @@ use Rattle.rs_session.specs.declared.heard.Heard.TheVariants as heard
 use Rattle.rs_core.specs.Core.{client_count}
 use Rattle.rs_core.specs.Hearing.{takes_in, without_change}
 use Rattle.rs_core.specs.Agreeing.{Knows}
-use Rattle.rs_core.proofs.Ruling.{knows_by}
+use Rattle.rs_core.proofs.Ruling.{unmoved}
 use Rattle.rs_core.proofs.route_server.Core.hear_open.Goals as goal
 
 pub returns-clause-heard : goal.returns-clause-heard
 unfolding client_count
 returns-clause-heard c = λ s h config live knows.
     subst (λ o. Knows c.say.new.self s c.args.c (takes_in s c.args.c (without_change (heard.Open o)) h)) c.read_open-open.ensures
-    (c.say.ensures.alone s h (knows_by c.args.self.now _ s s c.args.c h refl refl refl knows))
+    (c.say.ensures.alone s h (unmoved c.args.self.now _ s c.args.c h refl refl knows))

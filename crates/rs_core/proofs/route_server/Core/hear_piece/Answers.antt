@@ -1,15 +1,25 @@
-use Rattle.std.proofs.Common.{◌≡◌, ◌<◌, ◌++◌, length, sym, ◌∙◌, ap, subst, append_assoc}
+use Rattle.std.proofs.Common.{◌≡◌, ◌<◌, [], ◌++◌, length, refl, sym, ◌∙◌, ap, subst, append_assoc}
 use Rattle.std.proofs.lemmas.List.{append-nil}
 use Rattle.rs_octets.specs.Fronts.{BeginsWith, BeginsFaulty, Wants}
 use Rattle.rs_octets.specs.Messages.{IsMessageOf}
 use Rattle.rs_core.specs.Core.{client_count}
 use Rattle.rs_core.specs.Hearing.{Hearing, allowed_in, hears}
 use Rattle.rs_core.specs.Agreeing.{AgreesAt}
+use Rattle.rs_core.specs.Steps.{IsBetween}
 use Rattle.rs_core.proofs.Lists.{on_err, map_ok}
 use Rattle.rs_core.proofs.Agreeing.{spares_both, cut_short}
-use Rattle.rs_core.proofs.Cutting.{unmoved, alone_waits, after_message, after_fault, fault_between, after_beginning, after_all, deaf_agrees, cut_before, agrees_joined, between_joined, waiting_spares}
+use Rattle.rs_core.proofs.Ruling.{unmoved}
+use Rattle.rs_core.proofs.Cutting.{alone_waits, after_message, after_fault, fault_between, after_beginning, after_all, deaf_agrees, cut_before, agrees_joined, between_joined, same_spares, waiting_spares}
+use Rattle.rs_core.proofs.Listening.{hears_nothing}
 use Rattle.rs_core.proofs.Filling.{is_none}
 use Rattle.rs_core.proofs.route_server.Core.hear_piece.Goals as goal
+
+pub loop-octets-init : goal.loop-octets-init
+loop-octets-init c = record {
+  spares = same_spares c.args.self.now c.args.c;
+  buffers = refl;
+  heard = ([], refl, λ s h config between. subst (λ k. IsBetween c.args.self.now s c.args.c k) (sym (hears_nothing s c.args.c h)) between);
+}
 
 pub returns-then-not-is_live-clause-heard : goal.returns-then-not-is_live-clause-heard
 unfolding client_count

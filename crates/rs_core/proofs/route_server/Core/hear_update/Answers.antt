@@ -11,7 +11,7 @@ use Rattle.rs_core.specs.Hearing.{takes_in}
 use Rattle.rs_core.specs.Steps.{IsAnnouncing}
 use Rattle.rs_core.proofs.Lists.{on_err, map_ok}
 use Rattle.rs_core.proofs.Agreeing.{cut_short}
-use Rattle.rs_core.proofs.Ruling.{knows_by}
+use Rattle.rs_core.proofs.Ruling.{unmoved}
 use Rattle.rs_core.proofs.Updating.{is_change}
 use Rattle.rs_core.proofs.Saying.{update_reset, update_changes, moded_up, is_reset_beyond, is_none_beyond, reset_follows, announcing}
 use Rattle.rs_core.proofs.route_server.Core.hear_update.Goals as goal
@@ -30,7 +30,7 @@ unfolding client_count
 returns-then-is_beyond-clause-heard c = λ s h config live knows.
     let mode = sym (c.in-Some.ensures s h knows) in
     let it = is_change _ (effect_of c.args.body.now c.in-Some.mode) (subst (λ o. IsSameEffect (effect_seen o) (effect_of c.args.body.now c.in-Some.mode)) c.in-Change.is c.in_ok-code.ensures.computed) in
-    let as_noted = knows_by c.args.self.now _ s s c.args.c h refl refl refl knows in
+    let as_noted = unmoved c.args.self.now _ s c.args.c h refl refl knows in
     let says = c.is_beyond.ensures s h it.change config (moded_up s c.args.c h c.in-Some.mode mode) as_noted
     (subst (λ a. IsAnnouncing c.deref.result.now a it.change) (sym c.deref-in-Change.ensures.value) (subst (λ w. IsAnnouncing w c.in-Change.announced.items it.change) (sym c.deref.ensures.value) (announcing arc_value c.in-Change.attrs c.in-Change.withdrawn.items c.in-Change.announced.items it.change (subst HasItsAttributes c.in-Change.is c.in_ok-code.ensures.attributes) it.same))) in
     let reset : ℕ × ℕ = (c.code.result, c.sub.result) in
@@ -43,7 +43,7 @@ unfolding client_count
 returns-else-is_beyond-clause-heard c = map_ok c.change.result c.change.ensures.heard (λ changes s h config live knows.
     let mode = sym (c.in-Some.ensures s h knows) in
     let it = is_change _ (effect_of c.args.body.now c.in-Some.mode) (subst (λ o. IsSameEffect (effect_seen o) (effect_of c.args.body.now c.in-Some.mode)) c.in-Change.is c.in_ok-code.ensures.computed) in
-    let as_noted = knows_by c.args.self.now _ s s c.args.c h refl refl refl knows in
+    let as_noted = unmoved c.args.self.now _ s c.args.c h refl refl knows in
     let says = c.is_beyond.ensures s h it.change config (moded_up s c.args.c h c.in-Some.mode mode) as_noted
     (subst (λ a. IsAnnouncing c.deref.result.now a it.change) (sym c.deref-in-Change.ensures.value) (subst (λ w. IsAnnouncing w c.in-Change.announced.items it.change) (sym c.deref.ensures.value) (announcing arc_value c.in-Change.attrs c.in-Change.withdrawn.items c.in-Change.announced.items it.change (subst HasItsAttributes c.in-Change.is c.in_ok-code.ensures.attributes) it.same))) in
     update_changes c.change.new.self s c.args.c h c.args.body.now c.in-Some.mode it.change None mode it.is

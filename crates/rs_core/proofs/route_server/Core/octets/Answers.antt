@@ -1,11 +1,11 @@
 use Rattle.std.proofs.Common.{◌∷◌, refl, sym, subst}
-use Rattle.rs_core.specs.Moves.{Heard, config_in}
-use Rattle.rs_core.specs.Hearing.{hears}
+use Rattle.rs_core.specs.Moves.{Heard, Left, config_in}
+use Rattle.rs_core.specs.Hearing.{hears, leaves}
 use Rattle.rs_core.specs.Runs.{hearing}
 use Rattle.rs_core.specs.Agreeing.{AgreesAt}
 use Rattle.rs_core.specs.Core.{client_count}
 use Rattle.rs_core.proofs.Lists.{own, other}
-use Rattle.rs_core.proofs.Agreeing.{grown}
+use Rattle.rs_core.proofs.Agreeing.{grown, spares_both}
 use Rattle.rs_core.proofs.route_server.Core.octets.Goals as goal
 
 pub returns-in-Ok-clause-heard : goal.returns-in-Ok-clause-heard
@@ -17,6 +17,15 @@ returns-in-Ok-clause-heard c = λ run h.
     (λ d ne. other c.args.c d (hears (config_in run) d piece (hearing d run)) (hearing d run) ne) h c.hear.ensures.spares
     (subst (λ k. AgreesAt c.hear.new.self (config_in run) c.args.c k) (sym (own c.args.c (hears (config_in run) c.args.c piece it) it))
     (c.in-Ok.ensures.heard (config_in run) it h.config (h.clients c.args.c c.requires)))
+
+pub returns-in-Err-clause-refused : goal.returns-in-Err-clause-refused
+unfolding client_count
+returns-in-Err-clause-refused c = λ run h.
+    let it = hearing c.args.c run in
+    grown c.args.self.now c.forget.new.self c.args.c run (Left c.args.c ∷ run) refl (λ d ne. other c.args.c d (leaves (hearing d run)) (hearing d run) ne) h
+    (spares_both c.args.c c.args.self.now c.hear.new.self c.forget.new.self c.hear.ensures.spares c.forget.ensures.spares)
+    (subst (λ k. AgreesAt c.forget.new.self (config_in run) c.args.c k) (sym (own c.args.c (leaves it) it))
+    (c.forget.ensures.forgotten (config_in run) it (c.in-Err.ensures.refused (config_in run) it h.config (h.clients c.args.c c.requires))))
 
 pub returns-in-Ok-clause-unheard : goal.returns-in-Ok-clause-unheard
 unfolding client_count

@@ -30,9 +30,10 @@ returns-in-Ok-clause-came c = λ run h.
       buffers = c.greet.ensures.others;
       held = λ d p ne. ap (λ ins. held_of ins d p) c.greet.ensures.tables;
       identifiers = λ d ne. ap (λ ins. identifier_of ins d) c.greet.ensures.tables;
+      voices = c.greet.ensures.voices;
     })
     (subst (λ k. AgreesAt c.greet.new.self (config_in run) c.args.c k) (sym (own c.args.c (begins it) it))
-    (came c.args.self.now c.greet.new.self c.in-Ok.field-0 c.index_mut.result.now c.opened.new.self (config_in run) c.args.c it read lt set c.greet.ensures.emptied c.greet.ensures.tables
+    (came c.args.self.now c.greet.new.self c.in-Ok.field-0 c.index_mut.result.now c.opened.new.self (config_in run) c.args.c it read lt set c.greet.ensures.emptied c.greet.ensures.tables c.greet.ensures.own
     c.in-Ok.ensures.ok (h.clients c.args.c c.requires)))
 
 pub returns-in-Ok-clause-idle : goal.returns-in-Ok-clause-idle

@@ -14,7 +14,7 @@ returns-in-Down-clause-seen c = λ s h at.
     let lt : c.args.c < length sessions = subst (λ k. c.args.c < k) (sym c.args.self.now.sessions_len) c.requires in
     let read = slice_get_read sessions (length sessions) c.args.c c.index_mut.result.now refl lt c.index_mut.ensures.value in
     seen c.args.self.now c.end.new.self (acts.Down c.in-Down.note) c.index_mut.result.now c.moment.new.self s c.args.c c.args.t h read lt
-    (ap (λ (v : Vec Session). v.items) c.end.ensures.sessions) c.end.ensures.buffers c.in-Down.ensures.hears c.end.ensures.held at
+    (ap (λ (v : Vec Session). v.items) c.end.ensures.sessions) c.end.ensures.buffers c.in-Down.ensures.hears c.end.ensures.held c.end.ensures.config c.end.ensures.own at
 
 pub returns-in_default : goal.returns-in_default
 unfolding client_count
@@ -24,7 +24,7 @@ returns-in_default c =
     let read = slice_get_read sessions (length sessions) c.args.c c.index_mut.result.now refl lt c.index_mut.ensures.value in
     let set = ap (λ (v : Vec Session). v.items) c.act.ensures.sessions in
     record {
-      spares = acted_spares c.args.self.now c.act.new.self c.args.c c.moment.new.self c.act.ensures.count c.act.ensures.config lt set c.act.ensures.buffers c.act.ensures.others;
+      spares = acted_spares c.args.self.now c.act.new.self c.args.c c.moment.new.self c.act.ensures.count c.act.ensures.config lt set c.act.ensures.buffers c.act.ensures.others c.act.ensures.voices;
       seen = λ s h at. seen c.args.self.now c.act.new.self c.moment.result c.index_mut.result.now c.moment.new.self s c.args.c c.args.t h read lt set c.act.ensures.buffers c.moment.ensures.hears
-          c.act.ensures.tables at;
+          c.act.ensures.tables c.act.ensures.config c.act.ensures.own at;
     }

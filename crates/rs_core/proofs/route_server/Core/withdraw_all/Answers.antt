@@ -1,8 +1,9 @@
-use Rattle.std.proofs.Common.{refl, ◌∙◌, subst, arith}
+use Rattle.std.proofs.Common.{refl, ◌∙◌, subst, arith, sym}
 use Rattle.std.specs.Prelude.{None}
 use Rattle.std.proofs.lemmas.List.{take_all}
 use Rattle.rs_core.specs.Core.{client_count}
 use Rattle.rs_core.specs.Steps.{HasOverlaid}
+use Rattle.rs_core.proofs.Around.{change_touches, none_touched, touches_on}
 use Rattle.rs_core.proofs.Updating.{none_overlaid, one_overlaid, none_spared, one_spared}
 use Rattle.rs_core.proofs.route_server.Core.withdraw_all.Goals as goal
 
@@ -15,6 +16,7 @@ loop-prefix-init c = record {
   config = refl;
   others = none_spared c.args.c c.args.self.now.ribs.tables;
   held = none_overlaid c.args.c None c.args.self.now.ribs.tables;
+  touched = none_touched c.args.c c.args.self.now.ribs;
 }
 
 pub loop-prefix-preserved : goal.loop-prefix-preserved
@@ -26,6 +28,8 @@ loop-prefix-preserved c = record {
   config = c.withdraw.ensures.settings.config ∙ c.loop-prefix.invariant.config;
   others = one_spared c.args.c c.prefix-item.result None c.args.self.now.ribs.tables c.loop-prefix.self.ribs.tables c.withdraw.new.self.tables c.withdraw.ensures.held c.loop-prefix.invariant.others;
   held = one_overlaid c.args.c c.loop-prefix.prefix-index _ c.args.prefixes.now c.prefix-item.result None c.args.self.now.ribs.tables c.loop-prefix.self.ribs.tables c.withdraw.new.self.tables (omega arith) c.loop-prefix-test.true c.prefix-item.is c.withdraw.ensures.held c.loop-prefix.invariant.held;
+  touched = touches_on c.args.c c.args.self.now.ribs c.loop-prefix.self.ribs c.withdraw.new.self (c.loop-prefix.self.ribs_len ∙ c.loop-prefix.invariant.count ∙ sym c.args.self.now.ribs_len) c.loop-prefix.invariant.touched
+      (change_touches c.args.c c.prefix-item.result c.loop-prefix.self.ribs c.withdraw.new.self (c.withdraw.ensures.touched c.loop-prefix.self.numbered));
 }
 
 pub returns-clause-sessions : goal.returns-clause-sessions
@@ -42,3 +46,6 @@ returns-clause-others c = c.loop-prefix.invariant.others
 
 pub returns-clause-held : goal.returns-clause-held
 returns-clause-held c = subst (λ ps. HasOverlaid c.args.c ps None c.args.self.now.ribs.tables c.loop-prefix.self.ribs.tables) (take_all c.loop-prefix.prefix-index c.args.prefixes.now (omega arith)) c.loop-prefix.invariant.held
+
+pub returns-clause-touched : goal.returns-clause-touched
+returns-clause-touched c = c.loop-prefix.invariant.touched

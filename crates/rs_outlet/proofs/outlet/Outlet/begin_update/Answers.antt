@@ -19,7 +19,7 @@ returns-clause-begins c = λ spoken e.
     (record { loc = refl; told = refl; marked = refl; waits = refl; numbers = λ ins h. all_front (λ (e : ℕ × Prefix). number_of ins e.1 ≡ Some e.0) (numbers_from 0 rows) _ h })
     (record { loc = refl; told = refl; marked = refl; waits = refl; numbers = λ ins h. all_front (λ (e : ℕ × Prefix). number_of ins e.1 ≡ Some e.0) (numbers_from 0 rows) _ h })
     c.put_update-packed.new.chosen.items c.put_update-packed.new.front.items c.put_update-packed.new.out.items c.put_update-packed.result
-    c.put_update-packed.ensures.update
+    c.put_update-packed.ensures.update c.put_update-packed.ensures.most
     (from_start c.put_update-packed.new.out.items c.put_update-packed.result.octets)
     (λ said qs are q.
     c.give_up.ensures rows said qs

@@ -28,6 +28,8 @@ for_client t m was b c d s u p e f is = is ∙ (λ i. cond b (due_to t (e i) (f 
 not_up : (config : Configuration) (ins : AdjIns) (v w : View) → v ≡ w → v.speech ≡ None → HasTurned config ins w (record v { last = Done nothing }) nothing
 not_up config ins v w same none = subst (λ (u : View). HasTurned config ins u (record v { last = Done nothing }) nothing) same (record {
   loc = λ speech up p. absurd (let f : None ≡ Some speech = sym none ∙ up in (cc));
+  told = refl;
+  marked = refl;
   touched = λ up. absurd (true≢false (sym up ∙ ap is_some none));
   whole = λ up. absurd (true≢false (sym up ∙ ap is_some none));
   count = λ prefixes up is. absurd (true≢false (sym up ∙ ap is_some none));
@@ -48,6 +50,8 @@ returns-in-Ok-clause-turned c = λ are.
           (ap (λ (v : View). v.client) c.self.view_is)
           (some_is c.in-Some.speech speech (sym c.in-Some.is ∙ ap (λ (v : View). v.speech) c.self.view_is ∙ up))
           (c.in-Ok.ensures.loc are p);
+      told = c.in-Ok.ensures.told are;
+      marked = c.in-Ok.ensures.marked are;
       touched = λ up. c.in-Ok.ensures.touched;
       whole = λ up. c.in-Ok.ensures.whole;
       count = λ prefixes up is. c.in-Ok.ensures.count are prefixes is;

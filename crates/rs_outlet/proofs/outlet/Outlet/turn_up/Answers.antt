@@ -1,20 +1,31 @@
-use Rattle.std.proofs.Common.{◌≡◌, ◌∙◌, cond, ap, ℕ, Some, sym, subst}
+use Rattle.std.proofs.Common.{◌≡◌, ◌∙◌, ◌++◌, cond, ap, ℕ, List, Some, refl, sym, subst}
 use Rattle.std.specs.FinMap as fin
 use Rattle.rs_outlet.specs.Due.{due_to}
 use Rattle.rs_outlet.specs.HeldBy.{held_by}
 use Rattle.std.specs.List.{AllByRecursion}
 use Rattle.rs_octets.specs.Prefixes.{Prefix}
 use Rattle.rs_adjin.specs.AdjIns.{number_of}
-use Rattle.rs_outlet.specs.Views.{View, AreNumbered, HaveNumbers, is_touched}
-use Rattle.rs_outlet.specs.Inside.{numbers_from, is_changed}
+use Rattle.rs_adjin.specs.declared.adj_ins.AdjIns.{AdjIns}
+use Rattle.rs_outlet.specs.declared.waiting.Wait.{Wait}
+use Rattle.rs_outlet.specs.Places.{open_at}
+use Rattle.rs_outlet.specs.Owed.{Keeps}
+use Rattle.rs_outlet.specs.Views.{View, Table, AreNumbered, HaveNumbers, WaitsAreExact, is_touched}
+use Rattle.rs_outlet.specs.Inside.{numbers_from, loc_of, is_changed, view_of}
 use Rattle.rs_outlet.proofs.Numbering.{all_front, all_behind, all_both, have_rows}
+use Rattle.rs_outlet.proofs.Carrying.{distinct_prefixes, keeps_both, keeps_same}
+use Rattle.rs_outlet.proofs.Unchanged.{told_kept, marked_kept, exact_kept}
 use Rattle.rs_outlet.proofs.Ranks.{due_unnumbered}
 use Rattle.rs_outlet.proofs.TurnedLoc.{turned_at}
 use Rattle.rs_outlet.proofs.outlet.Outlet.turn_up.Goals as goal
 
-pub commit-requires : goal.commit-requires
-commit-requires c =
+pub commit-requires-clause-rows : goal.commit-requires-clause-rows
+commit-requires-clause-rows c =
     have_rows c.in_ok-changes.field-0.changes.items c.args.sources.now.ins.now c.numbers-numbers.result _ c.numbers-numbers.ensures c.in_ok-fresh.ensures.room c.in_ok-changes.ensures.changes.placed
+
+pub commit-requires-clause-once : goal.commit-requires-clause-once
+commit-requires-clause-once c =
+    let decided = c.in_ok-changes.ensures.changes in
+    distinct_prefixes c.args.sources.now.ins.now c.in_ok-changes.field-0.changes.items decided.placed decided.once
 
 pub returns-clause-numbered : goal.returns-clause-numbered
 returns-clause-numbered c = λ numbered.
@@ -50,3 +61,48 @@ returns-clause-count c = λ are prefixes is.
     let P = λ (e : ℕ × Prefix). number_of ins e.1 ≡ Some e.0 in
     let was = subst (λ (v : View). AreNumbered v ins) (sym c.self.view_is) are in
     c.in_ok-changes.ensures.count (all_behind P (numbers_from 0 a.rows.rows.items) a.touched.prefixes.entries was) prefixes (ap (λ (v : View). v.touched) c.self.view_is ∙ is)
+
+-- the rows have their numbers when the changes are carried out
+there : (ins : AdjIns) (v w : View) (rows es ns : List (ℕ × Prefix)) → v ≡ w → v.numbers ≡ rows ++ es → ns ≡ rows → AreNumbered w ins → HaveNumbers ns ins
+there ins v w rows es ns is numbers same are =
+    let P = λ (e : ℕ × Prefix). number_of ins e.1 ≡ Some e.0 in
+    subst (AllByRecursion P) (sym same) (all_front P rows es (subst (AllByRecursion P) numbers (subst (λ (v : View). AreNumbered v ins) (sym is) are)))
+
+keeps : (loc loc1 loc2 : Table) (ws ws1 ws2 : List Wait) → loc1 ≡ loc → ws1 ≡ ws → ((q : Prefix) → Keeps (open_at q ws1) (fin.get loc1 q) (open_at q ws2) (fin.get loc2 q)) → (q : Prefix) → Keeps (open_at q ws) (fin.get loc q) (open_at q ws2) (fin.get loc2 q)
+keeps loc loc1 loc2 ws ws1 ws2 e f h q = keeps_both _ _ _ _ _ _ (keeps_same _ _ _ _ (ap (open_at q) f) (ap (λ t. fin.get t q) e)) (h q)
+
+pub returns-clause-told : goal.returns-clause-told
+returns-clause-told c = λ are.
+    let ins = c.args.sources.now.ins.now in
+    let a = c.self.inside in
+    let loc = loc_of a.rows.rows.items in
+    let ws = a.waits.places.items in
+    let numbered = there ins (view_of a) c.args.self.now (numbers_from 0 a.rows.rows.items) a.touched.prefixes.entries _ c.self.view_is refl c.make_room.ensures.numbers are in
+    let kept = c.commit.ensures.keeps ins c.in_ok-changes.ensures.changes.placed numbered in
+    told_kept loc (loc_of c.commit.new.rows.rows.items) ws c.commit.new.waits.places.items
+    (keeps loc (loc_of c.make_room.new.rows.rows.items) (loc_of c.commit.new.rows.rows.items) ws c.make_room.new.waits.places.items c.commit.new.waits.places.items c.make_room.ensures.loc c.make_room.ensures.waits kept)
+    ∙ ap (λ (v : View). v.told) c.self.view_is
+
+pub returns-clause-marked : goal.returns-clause-marked
+returns-clause-marked c = λ are.
+    let ins = c.args.sources.now.ins.now in
+    let a = c.self.inside in
+    let loc = loc_of a.rows.rows.items in
+    let ws = a.waits.places.items in
+    let numbered = there ins (view_of a) c.args.self.now (numbers_from 0 a.rows.rows.items) a.touched.prefixes.entries _ c.self.view_is refl c.make_room.ensures.numbers are in
+    let kept = c.commit.ensures.keeps ins c.in_ok-changes.ensures.changes.placed numbered in
+    marked_kept loc (loc_of c.commit.new.rows.rows.items) ws c.commit.new.waits.places.items
+    (keeps loc (loc_of c.make_room.new.rows.rows.items) (loc_of c.commit.new.rows.rows.items) ws c.make_room.new.waits.places.items c.commit.new.waits.places.items c.make_room.ensures.loc c.make_room.ensures.waits kept)
+    ∙ ap (λ (v : View). v.marked) c.self.view_is
+
+pub returns-clause-exact : goal.returns-clause-exact
+returns-clause-exact c = λ are exact.
+    let ins = c.args.sources.now.ins.now in
+    let a = c.self.inside in
+    let loc = loc_of a.rows.rows.items in
+    let ws = a.waits.places.items in
+    let numbered = there ins (view_of a) c.args.self.now (numbers_from 0 a.rows.rows.items) a.touched.prefixes.entries _ c.self.view_is refl c.make_room.ensures.numbers are in
+    let kept = c.commit.ensures.keeps ins c.in_ok-changes.ensures.changes.placed numbered in
+    exact_kept loc (loc_of c.commit.new.rows.rows.items) ws c.commit.new.waits.places.items
+    (keeps loc (loc_of c.make_room.new.rows.rows.items) (loc_of c.commit.new.rows.rows.items) ws c.make_room.new.waits.places.items c.commit.new.waits.places.items c.make_room.ensures.loc c.make_room.ensures.waits kept)
+    (subst WaitsAreExact (sym c.self.view_is) exact)

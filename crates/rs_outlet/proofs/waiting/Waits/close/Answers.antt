@@ -1,8 +1,10 @@
-use Rattle.std.proofs.Common.{refl, sym, subst, ap, rules}
+use Rattle.std.proofs.Common.{◌≡◌, ◌∙◌, Some, refl, sym, subst, ap, rules}
+use Rattle.std.specs.Prelude.{slice_get}
+use Rattle.std.proofs.lemmas.Option.{get_or_from_slice_get}
 use Rattle.std.specs.List.Sorted.{IsStrictlySortedBy}
 use Rattle.rs_octets.specs.Prefixes.{prefix_order}
 use Rattle.rs_outlet.specs.declared.waiting.Wait.{Wait}
-use Rattle.rs_outlet.proofs.Places.{count_shut, count_one, same_prefixes, closed_at}
+use Rattle.rs_outlet.proofs.Places.{count_shut, count_one, count_less, same_prefixes, closed_at}
 use Rattle.rs_outlet.proofs.waiting.Waits.close.Goals as goal
 
 pub overflow_sub-self : goal.overflow_sub-self
@@ -18,7 +20,14 @@ invariant_of-self-clause-rises c =
     c.args.self.now.rises
 
 pub returns : goal.returns
-returns c = record {
-  prefixes = same_prefixes c.args.self.now.places.items c.args.place _ c.index_mut-wait.result.now (ap (λ (w : Wait). w.prefix) c.index_mut-wait.ensures.value);
-  places = λ p is q. closed_at c.args.self.now.places.items c.args.place p _ c.args.self.now.rises is refl q;
-}
+returns c =
+    let ws = c.args.self.now.places.items in
+    let was = c.index_mut-wait.result.now in
+    let is : (w : Wait) → slice_get ws c.args.place ≡ Some w → was ≡ w = λ w at. c.index_mut-wait.ensures.value ∙ get_or_from_slice_get ws c.args.place w was at in
+    record {
+      prefixes = same_prefixes ws c.args.place _ was (ap (λ (w : Wait). w.prefix) c.index_mut-wait.ensures.value);
+      places = λ p at q. closed_at ws c.args.place p _ c.args.self.now.rises at refl q;
+      told = λ w at. (c.replace-told.ensures.value ∙ ap (λ (w : Wait). w.told) (is w at), ap (λ (w : Wait). w.marked) (is w at));
+      count = count_less ws c.args.place _ was (search rules) refl;
+      capacity = refl;
+    }

@@ -1,0 +1,119 @@
+-- What goes out to clients leaves what was heard of them.
+use Rattle.std.proofs.Common.{◌≡◌, ◌≢◌, ◌<◌, ℕ, List, [], ◌∷◌, ◌++◌, length, take, drop, refl, sym, ◌∙◌, ap, subst}
+use Rattle.std.specs.Prelude.{slice_get, slice_index_or, if◌then◌else◌}
+use Rattle.std.specs.Global.{Vec}
+use Rattle.std.proofs.lemmas.Option.{slice_get_read}
+use Rattle.rs_adjin.specs.AdjIns.{held_of, identifier_of, Same}
+use Rattle.rs_policy.specs.Configuration.{Configuration}
+use Rattle.rs_outlet.specs.Views.{View, AreNumbered}
+use Rattle.rs_core.specs.Moves.{Move, Turned, Began, Took, config_in}
+use Rattle.rs_core.specs.Hearing.{Hearing, takes}
+use Rattle.rs_core.specs.Runs.{hearing}
+use Rattle.rs_core.specs.Ribs.{outlet_in, flight_in, lent_by, ChangesAll, ChangesOwn, KeepsSettings}
+use Rattle.rs_core.specs.Turns.{IsTurn}
+use Rattle.rs_core.specs.Touches.{IsBegun}
+use Rattle.rs_core.specs.Voices.{SpeaksTo}
+use Rattle.rs_core.specs.Agreeing.{Agrees, AgreesAt, Spares}
+use Rattle.rs_core.specs.declared.ribs.Ribs.{Ribs}
+use Rattle.rs_core.specs.declared.route_server.Core.{Core}
+use Rattle.rs_core.proofs.Lists.{own, other}
+use Rattle.rs_core.proofs.Agreeing.{grown}
+use Rattle.rs_core.proofs.Around.{own_voices}
+use Rattle.rs_core.proofs.Walks.{default_same}
+use Rattle.rs_core.proofs.Voicing.{begun_voice, took_voice, turned_voice}
+
+-- nothing but the outlet of one client has changed
+pub record MovesOutlet (c : ℕ) (Is : View → View → Type 0) (old new : Core) : Type 0 where
+  pub count : new.count ≡ old.count
+  pub sessions : new.sessions ≡ old.sessions
+  pub buffers : new.buffers ≡ old.buffers
+  pub settings : KeepsSettings old.ribs new.ribs
+  pub tables : new.ribs.tables ≡ old.ribs.tables
+  pub outlet : ChangesOwn c Is old.ribs new.ribs
+
+moved_spares : (c : ℕ) (Is : View → View → Type 0) (old new : Core) → MovesOutlet c Is old new → Spares c old new
+moved_spares c Is old new m = record {
+  count = m.count;
+  config = m.settings.config;
+  sessions = λ d ne. ap (λ v. slice_get v.items d) m.sessions;
+  buffers = λ d ne. ap (λ v. slice_get v.items d) m.buffers;
+  held = λ d p ne. ap (λ t. held_of t d p) m.tables;
+  identifiers = λ d ne. ap (λ t. identifier_of t d) m.tables;
+  voices = own_voices c Is old.ribs new.ribs m.outlet;
+}
+
+moved_at : (c : ℕ) (octets : List ℕ) (Is : View → View → Type 0) (old new : Core) (s : Configuration) (h : Hearing) → MovesOutlet c Is old new
+    → (new.ribs.config ≡ s → (none : View) → SpeaksTo s c (takes octets h) (outlet_in new.ribs c none)) → AgreesAt old s c h → AgreesAt new s c (takes octets h)
+moved_at c octets Is old new s h m outlet at = record {
+  knows = record {
+    session = λ x e. at.knows.session x (ap (λ v. slice_get v.items c) (sym m.sessions) ∙ e);
+    table = λ p. ap (λ t. held_of t c p) m.tables ∙ at.knows.table p;
+    identifier = ap (λ t. identifier_of t c) m.tables ∙ at.knows.identifier;
+    outlet = outlet;
+  };
+  waits = λ x e. let w = at.waits x (ap (λ v. slice_get v.items c) (sym m.buffers) ∙ e) in record { rest = w.rest; good = w.good };
+}
+
+still_at : (c : ℕ) (Is : View → View → Type 0) (old new : Core) (s : Configuration) (h : Hearing) → MovesOutlet c Is old new
+    → (new.ribs.config ≡ s → (none : View) → SpeaksTo s c h (outlet_in new.ribs c none)) → AgreesAt old s c h → AgreesAt new s c h
+still_at c Is old new s h m outlet at = record {
+  knows = record {
+    session = λ x e. at.knows.session x (ap (λ v. slice_get v.items c) (sym m.sessions) ∙ e);
+    table = λ p. ap (λ t. held_of t c p) m.tables ∙ at.knows.table p;
+    identifier = ap (λ t. identifier_of t c) m.tables ∙ at.knows.identifier;
+    outlet = outlet;
+  };
+  waits = λ x e. at.waits x (ap (λ v. slice_get v.items c) (sym m.buffers) ∙ e);
+}
+
+within : (old : Core) (c : ℕ) → c < old.count → c < old.ribs.count
+within old c lt = subst (λ n. c < n) (sym old.ribs_len) lt
+
+-- the next message was begun
+pub begun_agrees : (c : ℕ) (old new : Core) (run : List Move) → c < old.count → MovesOutlet c IsBegun old new → Agrees old run → Agrees new (Began c ∷ run)
+begun_agrees c old new run lt m h = grown old new c run (Began c ∷ run) refl (λ d ne. refl) h (moved_spares c IsBegun old new m)
+    (still_at c IsBegun old new (config_in run) (hearing c run) m
+    (λ config none. begun_voice (config_in run) c (hearing c run) old.ribs.tables (outlet_in old.ribs c none) (outlet_in new.ribs c none) (old.numbered.each c none (within old c lt)) (m.outlet.own none (within old c lt))
+    ((h.clients c lt).knows.outlet h.config none)) (h.clients c lt))
+
+abbrev pub IsTakenFrom : ℕ → View → View → Type 0
+IsTakenFrom n v w = w ≡ record v { flight = drop n v.flight }
+
+-- what is lent is what is in flight
+pub lent_is : (core : Core) (c : ℕ) (none : View) → c < core.count → lent_by core.ribs c ≡ (outlet_in core.ribs c none).flight
+lent_is core c none lt =
+    let xs : List View = core.ribs.outlets.items in
+    let there : c < length xs = subst (λ n. c < n) (sym (core.ribs.outlets_len ∙ core.ribs_len)) lt in
+    ap flight_in (slice_get_read xs (length xs) c (outlet_in core.ribs c none) refl there (default_same xs c none (outlet_in core.ribs c none) there))
+
+-- octets of it were taken
+pub took_agrees : (c n : ℕ) (old new : Core) (run : List Move) (octets : List ℕ) → c < old.count → ((none : View) → octets ≡ take n (outlet_in old.ribs c none).flight) → MovesOutlet c (IsTakenFrom n) old new → Agrees old run
+    → Agrees new (Took c octets ∷ run)
+took_agrees c n old new run octets lt are m h =
+    grown old new c run (Took c octets ∷ run) refl (λ d ne. other c d (takes octets (hearing d run)) (hearing d run) ne) h (moved_spares c (IsTakenFrom n) old new m)
+    (subst (λ k. AgreesAt new (config_in run) c k) (sym (own c (takes octets (hearing c run)) (hearing c run)))
+    (moved_at c octets (IsTakenFrom n) old new (config_in run) (hearing c run) m
+    (λ config none. took_voice (config_in run) c n (hearing c run) (takes octets (hearing c run)) (outlet_in old.ribs c none) (outlet_in new.ribs c none) (m.outlet.own none (within old c lt)) refl
+    (ap (λ o. (hearing c run).taken ++ o) (are none)) ((h.clients c lt).knows.outlet h.config none)) (h.clients c lt)))
+
+-- a turn of all, and then some numbers were given up
+pub turned_agrees : (old new : Core) (mid : Ribs) (run : List Move) (refused : List ℕ) → new.count ≡ old.count → new.sessions ≡ old.sessions → new.buffers ≡ old.buffers
+    → KeepsSettings old.ribs mid → mid.tables ≡ old.ribs.tables → ChangesAll (λ c. IsTurn old.ribs.config old.ribs.tables) old.ribs mid
+    → KeepsSettings mid new.ribs → Same mid.tables new.ribs.tables → new.ribs.outlets ≡ mid.outlets → Agrees old run → Agrees new (Turned refused ∷ run)
+turned_agrees old new mid run refused count sessions buffers settings tables turned after same outlets h = record {
+  config = after.config ∙ settings.config ∙ h.config;
+  clients = λ d lt.
+      let there = subst (λ n. d < n) count lt in
+      let at = h.clients d there in
+      record {
+        knows = record {
+          session = λ x e. at.knows.session x (ap (λ v. slice_get v.items d) (sym sessions) ∙ e);
+          table = λ p. same.held d p ∙ ap (λ t. held_of t d p) tables ∙ at.knows.table p;
+          identifier = same.identifiers d ∙ ap (λ t. identifier_of t d) tables ∙ at.knows.identifier;
+          outlet = λ config none. subst (λ v. SpeaksTo (config_in run) d (hearing d run) v) (sym (ap (λ (v : Vec View). slice_index_or v.items d none) outlets))
+              (turned_voice (config_in run) d (hearing d run) old.ribs.config old.ribs.tables (outlet_in old.ribs d none) (outlet_in mid d none) (old.numbered.each d none (within old d there))
+              (turned.each d none (within old d there)) (at.knows.outlet h.config none));
+        };
+        waits = λ x e. at.waits x (ap (λ v. slice_get v.items d) (sym buffers) ∙ e);
+      };
+}

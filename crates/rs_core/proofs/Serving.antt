@@ -1,0 +1,64 @@
+-- Where an outlet is drained, its client was told what is due to it.
+use Rattle.std.proofs.Common.{◌≡◌, ◌≢◌, ◌<◌, ℕ, Bool, true, false, List, [], ◌∷◌, ◌++◌, length, refl, sym, ◌∙◌, ap, subst}
+use Rattle.std.specs.Prelude.{Option, Some, None, IsSome, if◌then◌else◌}
+use Rattle.std.specs.FinMap as fin
+use Rattle.std.specs.FinSet as set
+use Rattle.std.proofs.lemmas.List.{append-nil}
+use Rattle.rs_octets.specs.Prefixes.{Prefix, prefix_order}
+use Rattle.rs_attrs.specs.Meaning.{Attribute}
+use Rattle.rs_adjin.specs.AdjIns.{client_count, held_of, identifier_of}
+use Rattle.rs_policy.specs.Configuration.{Configuration}
+use Rattle.rs_outlet.specs.declared.answers.Speech.{Speech}
+use Rattle.rs_outlet.specs.Due.{due_to}
+use Rattle.rs_outlet.specs.Views.{View, IsDrained, is_touched}
+use Rattle.rs_core.specs.Moves.{Move, config_in}
+use Rattle.rs_core.specs.Hearing.{Hearing, state_in, is_up}
+use Rattle.rs_core.specs.Runs.{hearing, speech_in, held_in, due, due_by, IsServed}
+use Rattle.rs_core.specs.Ribs.{due_in, outlet_in, IsDecidedBy, IsFresh}
+use Rattle.rs_core.specs.Telling.{Speaks}
+use Rattle.rs_core.specs.Agreeing.{Agrees, AgreesAt, Knows}
+use Rattle.rs_core.specs.declared.route_server.Core.{Core}
+use Rattle.rs_core.proofs.Dues.{IsSameSent, held_as, due_below}
+use Rattle.rs_core.proofs.Telling.{speaks_same}
+use Rattle.rs_core.proofs.Voicing.{spoken_up}
+
+-- what is due by the tables is due by the run
+due_is : (core : Core) (run : List Move) (c : ℕ) (speech : Speech) (p : Prefix) → Agrees core run → due_in core.ribs c speech p ≡ due_to (held_in run) c speech p
+due_is core run c speech p h =
+    due_below core.ribs.config (client_count core.ribs.tables) c speech p (identifier_of core.ribs.tables) (λ d. (held_in run).identifier d) (held_of core.ribs.tables) (λ d q. (held_in run).held d q)
+    (λ d lt ne. let knows = (h.clients d (subst (λ n. d < n) (core.ribs.tables_len ∙ core.ribs_len) lt)).knows in record { held = knows.table p; identifier = λ m some. knows.identifier })
+    ∙ (λ i. due_to (held_as (h.config i) (counts i) (λ d q. (held_in run).held d q) (λ d. (held_in run).identifier d)) c speech p) where
+      counts : client_count core.ribs.tables ≡ length (config_in run).clients
+      counts = core.ribs.tables_len ∙ sym core.ribs.clients_len ∙ ap (λ (s : Configuration). length s.clients) h.config
+
+-- the client is spoken to as what was heard of it says
+due_spoken : (run : List Move) (c : ℕ) (speech : Speech) (p : Prefix) → speech_in (config_in run) c (hearing c run) ≡ Some speech → due run c p ≡ due_to (held_in run) c speech p
+due_spoken run c speech p e = ap (λ o. due_by (held_in run) c o p) e
+
+spoken : (o : Option Speech) → IsSome o → (A : Type 0) → ((speech : Speech) → o ≡ Some speech → A) → A
+spoken None some A so = absurd (let f : false ≡ true = some in cc)
+spoken (Some speech) some A so = so speech refl
+
+drained_served : (core : Core) (run : List Move) (c : ℕ) (none : View) (speech : Speech) → c < core.count → IsDrained (outlet_in core.ribs c none) → Agrees core run → (outlet_in core.ribs c none).speech ≡ Some speech → IsServed run c
+drained_served core run c none speech lt drained h up =
+    let v : View = outlet_in core.ribs c none in
+    let at = (h.clients c lt).knows.outlet h.config none in
+    let heard : speech_in (config_in run) c (hearing c run) ≡ Some speech = sym at.speech ∙ up in
+    record {
+      established = spoken_up (config_in run) c (hearing c run) speech heard;
+      told = λ other is.
+          let agreed : v.speech ≡ Some other = at.speech ∙ is in
+          let said = subst (λ o. Speaks other.mode o (fin.get v.told)) (ap (λ f. (hearing c run).taken ++ f) drained.flight ∙ append-nil (hearing c run).taken) (at.since other agreed) in
+          (speaks_same other.mode (hearing c run).taken (fin.get v.told) (due run c) (λ p. told_is other agreed is p) said).means;
+    } where
+      told_is : (other : Speech) → (outlet_in core.ribs c none).speech ≡ Some other → speech_in (config_in run) c (hearing c run) ≡ Some other → (p : Prefix) → due run c p ≡ fin.get (outlet_in core.ribs c none).told p
+      told_is other agreed is p =
+          due_spoken run c other p is
+          ∙ sym (due_is core run c other p h)
+          ∙ sym ((core.fresh.each c none (subst (λ n. c < n) (sym core.ribs_len) lt)).at other p agreed (ap (λ t. is_touched t p) drained.untouched ∙ set.contains-empty prefix_order p))
+          ∙ ap (λ t. fin.get t p) (sym drained.told)
+
+-- a client whose outlet is drained is served
+pub drained_is_served : (core : Core) (run : List Move) (c : ℕ) (none : View) → c < core.count → IsDrained (outlet_in core.ribs c none) → Agrees core run → IsServed run c
+drained_is_served core run c none lt drained h =
+    spoken (outlet_in core.ribs c none).speech drained.up (IsServed run c) (λ speech up. drained_served core run c none speech lt drained h up)

@@ -1,0 +1,17 @@
+use Rattle.std.proofs.Common.{◌<◌, sym, ◌∙◌, subst}
+use Rattle.rs_core.specs.Core.{client_count}
+use Rattle.rs_core.specs.Ribs.{outlet_in}
+use Rattle.rs_core.proofs.Around.{held_voices, own_voices, voices_on}
+use Rattle.rs_core.proofs.Voicing.{finished_silent}
+use Rattle.rs_core.proofs.route_server.Core.end.Goals as goal
+
+pub returns-clause-voices : goal.returns-clause-voices
+returns-clause-voices c =
+    voices_on c.args.c c.args.self.now.ribs c.unlearn.new.self c.finish.new.self c.unlearn.ensures.settings.count
+    (held_voices c.args.c c.args.self.now.ribs.tables c.args.self.now.ribs c.unlearn.new.self (c.unlearn.ensures.touched c.args.self.now.numbered))
+    (own_voices c.args.c _ c.unlearn.new.self c.finish.new.self c.finish.ensures.outlet)
+
+pub returns-clause-own : goal.returns-clause-own
+unfolding client_count
+returns-clause-own c = λ none. finished_silent c.args.note (outlet_in c.unlearn.new.self c.args.c none) (outlet_in c.finish.new.self c.args.c none)
+    (c.finish.ensures.outlet.own none (subst (λ n. c.args.c < n) (sym (c.unlearn.ensures.settings.count ∙ c.args.self.now.ribs_len)) c.requires))

@@ -1,0 +1,99 @@
+-- What an outlet says to its client, by what was heard of the client.
+use Rattle.std.specs.Prelude.{◌≡◌, ◌≢◌, ◌<◌, ℕ, Bool, true, false, List, ◌++◌, Option, Some, None, slice_get, if◌then◌else◌}
+use Rattle.std.specs.FinMap as fin
+use Rattle.rs_octets.specs.Prefixes.{Prefix}
+use Rattle.rs_attrs.specs.declared.mode.Mode.{Mode}
+use Rattle.rs_attrs.specs.Meaning.{Attribute}
+use Rattle.rs_attrs.specs.Effects.{lacks_mandatory}
+use Rattle.rs_open.specs.Writing.{server_open}
+use Rattle.rs_open.specs.declared.open.Open.{Open}
+use Rattle.rs_open.specs.declared.short.Limit.TheVariants as limits
+use Rattle.rs_open.specs.declared.writing.ServerOpen.{ServerOpen}
+use Rattle.rs_session.specs.declared.act.Act.{Act}
+use Rattle.rs_session.specs.declared.act.Act.TheVariants as acts
+use Rattle.rs_session.specs.declared.act.State.TheVariants as states
+use Rattle.rs_session.specs.declared.session.Session.{Session}
+use Rattle.rs_session.specs.declared.settings.Settings.{Settings}
+use Rattle.rs_session.specs.Items.{Item}
+use Rattle.rs_session.specs.Sessions.{state_of, is_live, agreed_of, limit_by, mode_in}
+use Rattle.rs_session.specs.Hearing.{Whenever}
+use Rattle.rs_policy.specs.Configuration.{Configuration}
+use Rattle.rs_outlet.specs.declared.answers.Speech.{Speech}
+use Rattle.rs_outlet.specs.Views.{View, WaitsAreExact}
+use Rattle.rs_core.specs.Hearing.{Hearing, state_in}
+use Rattle.rs_core.specs.Runs.{speech_in}
+use Rattle.rs_core.specs.Telling.{Speaks, no_table}
+use Rattle.rs_core.specs.Ribs.{outlet_in}
+use Rattle.rs_core.specs.declared.ribs.Ribs.{Ribs}
+
+-- each route of the Loc-RIB has ORIGIN, AS_PATH and NEXT_HOP, and what waits is what was told otherwise than it is due
+pub record IsInOrder (v : View) : Type 0 where
+  pub mandatory : (p : Prefix) (m : List Attribute) → fin.get v.loc p ≡ Some m → lacks_mandatory m ≡ false
+  pub exact : WaitsAreExact v
+
+-- An Established client is spoken to as its OPEN asks, and the octets taken and in flight mean what it was told. Before, while
+-- the session lasts, no UPDATE is among them, and no NOTIFICATION waits.
+pub record SpeaksTo (s : Configuration) (c : ℕ) (h : Hearing) (v : View) : Type 0 where
+  pub speech : v.speech ≡ speech_in s c h
+  pub quiet : is_live (state_in s c h) ≡ true → v.note ≡ None
+  pub before : is_live (state_in s c h) ≡ true → v.speech ≡ None → (mode : Mode) → Speaks mode (h.taken ++ v.flight) no_table
+  pub since : (speech : Speech) → v.speech ≡ Some speech → Speaks speech.mode (h.taken ++ v.flight) (fin.get v.told)
+  pub order : IsInOrder v
+
+-- ---- how an outlet changes
+
+-- a KEEPALIVE fell due, prefixes were touched, or a turn was refused
+pub record SaysTheSame (v w : View) : Type 0 where
+  pub is : w ≡ record v { beat = w.beat; touched = w.touched; numbers = w.numbers; last = w.last }
+
+-- what a client was told goes, and it is spoken to like this
+pub record IsRaised (agreed : Option Speech) (v w : View) : Type 0 where
+  pub speech : w.speech ≡ agreed
+  pub flight : w.flight ≡ v.flight
+  pub note : w.note ≡ v.note
+  pub told : (p : Prefix) → fin.get w.told p ≡ None
+  pub order : IsInOrder w
+
+-- nothing is told any more
+pub record IsSilent (v : View) : Type 0 where
+  pub speech : v.speech ≡ None
+  pub order : IsInOrder v
+
+-- all is to be told again
+pub record TellsAgain (v w : View) : Type 0 where
+  pub speech : w.speech ≡ v.speech
+  pub flight : w.flight ≡ v.flight
+  pub note : w.note ≡ v.note
+  pub told : w.told ≡ v.told
+  pub order : IsInOrder v → IsInOrder w
+
+-- the server's OPEN is in flight, and nothing else
+pub record IsGreeting (v : View) : Type 0 where
+  pub said : ServerOpen
+  pub flight : v.flight ≡ server_open said
+  pub note : v.note ≡ None
+  pub silent : IsSilent v
+
+-- the outlets of the others say the same
+abbrev pub KeepsVoices : ℕ → Ribs → Ribs → Type 0
+KeepsVoices c old new = (d : ℕ) (none : View) → d < old.count → d ≢ c → SaysTheSame (outlet_in old d none) (outlet_in new d none)
+
+-- and so does its own
+pub record TouchesOthers (c : ℕ) (old new : Ribs) : Type 0 where
+  pub own : (none : View) → outlet_in new c none ≡ outlet_in old c none
+  pub others : KeepsVoices c old new
+
+-- by its OPEN, in long messages only where the outlet has room for them
+abbrev pub speech_within : Bool → Settings → Option Open → Option Speech
+speech_within long settings None = None
+speech_within long settings (Some sent) = Some (record { mode = mode_in sent.four; limit = if long then limit_by settings.extended (Some sent) else limits.Short })
+
+-- what is done to the outlet of a client as its session asks for it
+abbrev pub Voices : Act → Bool → ℕ → List Session → View → View → Type 0
+Voices acts.None long c sessions v w = SaysTheSame v w
+Voices (acts.Say message) long c sessions v w = SaysTheSame v w
+Voices acts.Up long c sessions v w =
+    (x : Session) → slice_get sessions c ≡ Some x
+    → Whenever x (λ settings items. state_of settings items ≡ states.Established → IsRaised (speech_within long settings (agreed_of settings items)) v w)
+Voices (acts.Down _) long c sessions v w = IsSilent w
+Voices acts.Again long c sessions v w = TellsAgain v w

@@ -1,0 +1,79 @@
+-- A search for a prefix among places that rise by prefix.
+use Rattle.std.proofs.Common.{◌≡◌, ◌≢◌, ◌<◌, ◌≤◌, ℕ, zero, suc, Bool, true, false, None, Some, List, [], ◌∷◌, length, get_or, nat_lt, refl, sym, ap, ◌∙◌, subst, arith}
+use Rattle.std.specs.List.{AllByRecursion}
+use Rattle.std.specs.List.Sorted.{IsNonDecreasingBy, IsPartitionPoint, IsStrictlySortedBy}
+use Rattle.std.specs.Ordering.{ordering_index}
+use Rattle.std.specs.Cmp.{alike_right, tied_itself}
+use Rattle.std.specs.declared.cmp.Ordering.{Ordering}
+use Rattle.std.specs.declared.cmp.Ordering.TheVariants.{Less, Equal, Greater}
+use Rattle.std.proofs.lemmas.Bool.{ltb-true, ltb-false}
+use Rattle.std.proofs.lemmas.Option.{slice_get_read}
+use Rattle.rs_octets.specs.Prefixes.{Prefix, prefix_order}
+use Rattle.rs_outlet.specs.declared.waiting.Wait.{Wait}
+use Rattle.rs_outlet.specs.Places.{IsOpenPlace, open_at, prefixes_at}
+use Rattle.rs_outlet.proofs.Orders.{prefixes_total, exact_prefixes}
+use Rattle.rs_outlet.proofs.LocByNumber.{same, same_is}
+use Rattle.rs_outlet.proofs.Places.{found_at, later_at, shut_here}
+
+-- a prefix before another stands no later against a third
+rises : (a b q : Prefix) → prefix_order a b ≡ Less → ordering_index (prefix_order a q) ≤ ordering_index (prefix_order b q)
+rises a b q e = by_answer (prefix_order b q) refl
+  where
+    most : (r s : Ordering) → ordering_index s ≡ 2 → ordering_index r ≤ ordering_index s
+    most Less s g = omega (arith, g)
+    most Equal s g = omega (arith, g)
+    most Greater s g = omega (arith, g)
+
+    by_answer : (r : Ordering) → prefix_order b q ≡ r → ordering_index (prefix_order a q) ≤ ordering_index (prefix_order b q)
+    by_answer Less f = omega (arith, ap ordering_index (prefixes_total.trans a b q e f))
+    by_answer Equal f = omega (arith, ap ordering_index (sym (alike_right prefixes_total b q a f) ∙ e))
+    by_answer Greater f = most (prefix_order a q) (prefix_order b q) (ap ordering_index f)
+
+after_first : (p q : Prefix) (ws : List Wait) → AllByRecursion (λ x. prefix_order p x ≡ Less) (prefixes_at ws) → (j : ℕ) (d : Wait) → j < length ws
+    → ordering_index (prefix_order p q) ≤ ordering_index (prefix_order (get_or ws j d).prefix q)
+after_first p q [] above j d h = absurd (omega arith)
+after_first p q (w ∷ ws) above zero d h = rises p w.prefix q above.0
+after_first p q (w ∷ ws) above (suc j) d h = after_first p q ws above.1 j d (omega arith)
+
+pub searchable : (q : Prefix) (ws : List Wait) → IsStrictlySortedBy prefix_order (prefixes_at ws) → IsNonDecreasingBy (λ w. ordering_index (prefix_order w.prefix q)) ws
+unfolding IsStrictlySortedBy
+searchable q [] up i j d h k = absurd (omega arith)
+searchable q (w ∷ ws) up zero zero d h k = omega arith
+searchable q (w ∷ ws) up zero (suc j) d h k = after_first w.prefix q ws up.0 j d (omega arith)
+searchable q (w ∷ ws) up (suc i) zero d h k = absurd (omega arith)
+searchable q (w ∷ ws) up (suc i) (suc j) d h k = searchable q ws up.1 i j d (omega arith) (omega arith)
+
+apart : (q : Prefix) (w : Wait) → prefix_order w.prefix q ≢ Equal → same q w.prefix ≡ false
+apart q w h =
+    elim (same q w.prefix) as (λ b. same q w.prefix ≡ b → b ≡ false) [
+      | true ↦ λ s. absurd (h (ap (prefix_order w.prefix) (same_is q w.prefix s) ∙ tied_itself prefixes_total w.prefix))
+      | false ↦ λ _. refl
+    ] refl
+
+none_equal : (q : Prefix) (ws : List Wait) → ((k : ℕ) (d : Wait) → k < length ws → prefix_order (get_or ws k d).prefix q ≢ Equal) → open_at q ws ≡ None
+none_equal q [] h = refl
+none_equal q (w ∷ ws) h = later_at q w ws (apart q w (h 0 w (omega arith))) ∙ none_equal q ws (λ k d below. h (suc k) d (omega arith))
+
+-- between the places before a prefix and those behind it there is none of it
+pub absent_place : (q : Prefix) (ws : List Wait) (i : ℕ) → IsPartitionPoint (λ w. prefix_order w.prefix q ≡ Less) (λ w. prefix_order w.prefix q ≡ Greater) ws i → open_at q ws ≡ None
+absent_place q ws i parts = none_equal q ws (λ k d below is. by_side k d below is (nat_lt k i) refl)
+  where
+    by_side : (k : ℕ) (d : Wait) → k < length ws → prefix_order (get_or ws k d).prefix q ≡ Equal → (b : Bool) → nat_lt k i ≡ b → ⊥
+    by_side k d below is true h = let no : Less ≡ Equal = sym (parts.0 k d (omega arith) (ltb-true k i h)) ∙ is in cc
+    by_side k d below is false h = let no : Greater ≡ Equal = sym (parts.1 k d (ltb-false k i h) below) ∙ is in cc
+
+module _ (q : Prefix) (ws : List Wait) (n : ℕ) (w : Wait) (up : IsStrictlySortedBy prefix_order (prefixes_at ws)) (below : n < length ws) (is : w ≡ get_or ws n w) (equal : prefix_order (get_or ws n w).prefix q ≡ Equal) where
+  here : w.prefix ≡ q
+  here = ap (λ (v : Wait). v.prefix) is ∙ exact_prefixes (get_or ws n w).prefix q equal
+
+  pub open_place : w.open ≡ true → IsOpenPlace q ws n
+  open_place opened = record {
+    wait = w;
+    at = slice_get_read ws (length ws) n w refl below is;
+    prefix = here;
+    stands = subst (λ p. open_at p ws ≡ Some w) here (found_at ws n w below is opened up);
+    within = below;
+  }
+
+  pub shut_place : w.open ≡ false → open_at q ws ≡ None
+  shut_place shut = subst (λ p. open_at p ws ≡ None) here (shut_here ws n w below is shut up)

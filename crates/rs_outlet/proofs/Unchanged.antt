@@ -1,0 +1,36 @@
+-- What was told, what is marked and what waits, where each prefix keeps it.
+use Rattle.std.proofs.Common.{◌≡◌, List, sym, ◌∙◌}
+use Rattle.std.specs.FinMap as fin
+use Rattle.std.specs.FinSet as set
+use Rattle.rs_octets.specs.Prefixes.{Prefix}
+use Rattle.rs_outlet.specs.declared.waiting.Wait.{Wait}
+use Rattle.rs_outlet.specs.Views.{View, Table, WaitsAreExact}
+use Rattle.rs_outlet.specs.Views as views
+use Rattle.rs_outlet.specs.Places.{open_at, told_by, marked_told}
+use Rattle.rs_outlet.specs.Inside.{told_over, marked_of, waits_of}
+use Rattle.rs_outlet.specs.Owed.{IsExactAt, Keeps}
+use Rattle.rs_outlet.proofs.Orders.{prefixes_total, exact_prefixes}
+use Rattle.rs_outlet.proofs.Standing.{told_at, marked_at, waits_at}
+
+-- what is said of a prefix by the tables, and by the place that stands open for it
+abbrev pub AreExact : Table → List Wait → Type 0
+AreExact loc ws = (q : Prefix) → fin.get (waits_of ws) q ≡ views.waits_at (fin.get loc q) (fin.get (told_over loc ws) q) (set.contains (marked_of loc ws) q)
+
+by_place : (loc : Table) (ws : List Wait) (q : Prefix) → views.waits_at (fin.get loc q) (fin.get (told_over loc ws) q) (set.contains (marked_of loc ws) q) ≡ views.waits_at (fin.get loc q) (told_by (open_at q ws) (fin.get loc q)) (marked_told (open_at q ws) (fin.get loc q))
+by_place loc ws q = λ i. views.waits_at (fin.get loc q) (told_at loc ws q i) (marked_at loc ws q i)
+
+pub exact_place : (loc : Table) (ws : List Wait) → AreExact loc ws → (q : Prefix) → IsExactAt (open_at q ws) (fin.get loc q)
+exact_place loc ws h q = sym (waits_at ws q) ∙ h q ∙ by_place loc ws q
+
+pub exact_places : (loc : Table) (ws : List Wait) → ((q : Prefix) → IsExactAt (open_at q ws) (fin.get loc q)) → AreExact loc ws
+exact_places loc ws h q = waits_at ws q ∙ h q ∙ sym (by_place loc ws q)
+
+module _ (loc loc' : Table) (ws ws' : List Wait) (keeps : (q : Prefix) → Keeps (open_at q ws) (fin.get loc q) (open_at q ws') (fin.get loc' q)) where
+  pub told_kept : told_over loc' ws' ≡ told_over loc ws
+  told_kept = fin.same_map prefixes_total exact_prefixes _ _ (λ q. told_at loc' ws' q ∙ (keeps q).told ∙ sym (told_at loc ws q))
+
+  pub marked_kept : marked_of loc' ws' ≡ marked_of loc ws
+  marked_kept = set.same_set prefixes_total exact_prefixes _ _ (λ q. marked_at loc' ws' q ∙ (keeps q).marked ∙ sym (marked_at loc ws q))
+
+  pub exact_kept : AreExact loc ws → AreExact loc' ws'
+  exact_kept h = exact_places loc' ws' (λ q. (keeps q).exact (exact_place loc ws h q))

@@ -1,0 +1,16 @@
+use Rattle.std.proofs.Common.{◌∙◌, ap}
+use Rattle.rs_outlet.specs.Views.{View}
+use Rattle.rs_outlet.specs.Inside.{loc_of}
+use Rattle.rs_outlet.proofs.AskedAgain.{told_again, exact_again}
+use Rattle.rs_outlet.proofs.outlet.Outlet.again.Goals as goal
+
+pub returns-clause-told : goal.returns-clause-told
+returns-clause-told c =
+    let a = c.self.inside in
+    told_again (loc_of a.rows.rows.items) a.waits.places.items c.mark_all.new.self.places.items c.mark_all.ensures ∙ ap (λ (v : View). v.told) c.self.view_is
+
+pub returns-clause-exact : goal.returns-clause-exact
+returns-clause-exact c = λ exact.
+    let a = c.self.inside in
+    exact_again (loc_of a.rows.rows.items) a.waits.places.items c.mark_all.new.self.places.items c.mark_all.ensures c.args.self.now
+    (ap (λ (v : View). v.loc) c.self.view_is) (ap (λ (v : View). v.told) c.self.view_is) (ap (λ (v : View). v.marked) c.self.view_is) (ap (λ (v : View). v.waits) c.self.view_is) exact
