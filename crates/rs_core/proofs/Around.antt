@@ -46,13 +46,13 @@ same_or (Some m) (Some n) = by_test (same_attributes m n) refl where
 pub change_touches : (c : ℕ) (p : Prefix) (old new : Ribs) → TouchesChange c p old new → TouchesOthers c old new
 change_touches c p old new touches = elim (same_or (held_of new.tables c p) (held_of old.tables c p)) [
   | inl same ↦ let e = touches.unchanged same in record {
-      own = λ none. ap (λ (v : Vec View). slice_index_or v.items c none) e;
-      others = λ d none lt ne. same_is _ _ (ap (λ (v : Vec View). slice_index_or v.items d none) e);
-    }
+    own = λ none. ap (λ (v : Vec View). slice_index_or v.items c none) e;
+    others = λ d none lt ne. same_is _ _ (ap (λ (v : Vec View). slice_index_or v.items d none) e);
+  }
   | inr differs ↦ let changes = touches.changed differs in record {
-      own = changes.own;
-      others = λ d none lt ne. touched_same (p ∷ []) _ _ (changes.others d none lt ne);
-    }
+    own = changes.own;
+    others = λ d none lt ne. touched_same (p ∷ []) _ _ (changes.others d none lt ne);
+  }
 ]
 
 pub none_touched : (c : ℕ) (old : Ribs) → TouchesOthers c old old

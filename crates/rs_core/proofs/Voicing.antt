@@ -367,7 +367,7 @@ begun_voice s c h ins v w numbered b at = by_flight v.flight refl where
   by_beat true empty quiet e = let is = b.keepalive empty quiet e in said_next s c h v w empty quiet (ap (λ (x : View). x.note) is ∙ quiet) rest_speech rest_order
       (λ mode none before. subst (λ f. Speaks mode (h.taken ++ f) no_table) (sym (ap (λ (x : View). x.flight) is)) (beats mode h.taken no_table before))
       (λ sp up since. subst (λ f. Speaks sp.mode (h.taken ++ f) (fin.get w.told)) (sym (ap (λ (x : View). x.flight) is))
-          (beats sp.mode h.taken (fin.get w.told) (subst (λ t. Speaks sp.mode h.taken (fin.get t)) (sym (ap (λ (x : View). x.told) is)) since))) at
+      (beats sp.mode h.taken (fin.get w.told) (subst (λ t. Speaks sp.mode h.taken (fin.get t)) (sym (ap (λ (x : View). x.told) is)) since))) at
   by_beat false empty quiet e = by_speech v.speech empty quiet e refl
 
   by_note : (o : Option Short) → v.flight ≡ [] → v.note ≡ o → SpeaksTo s c h w

@@ -55,7 +55,7 @@ returns-in-None-attrs-clause-heard c = λ s h change live knows same.
     changed c.args.self.now c.withdraw_all.new.self c.index_mut.result.now c.message.new.self s c.args.c h c.args.withdrawn.now c.args.announced.now (option_map arc_value c.args.attrs) change read lt
     (ap (λ (v : Vec Session). v.items) c.withdraw_all.ensures.sessions) c.in-None.ensures.hears c.in-None.ensures.takes
     (λ p. c.withdraw_all.ensures.held.held p
-        ∙ sym (ap (λ b. if b then option_map arc_value c.args.attrs else (if has_prefix p c.args.withdrawn.now then None else held_of c.args.self.now.ribs.tables c.args.c p)) (none_there p c.args.announced.now none)))
+    ∙ sym (ap (λ b. if b then option_map arc_value c.args.attrs else (if has_prefix p c.args.withdrawn.now then None else held_of c.args.self.now.ribs.tables c.args.c p)) (none_there p c.args.announced.now none)))
     c.withdraw_all.ensures.held.identifier c.withdraw_all.ensures.config c.withdraw_all.ensures.touched.own live same knows
 
 pub returns-in-Some-clause-spares : goal.returns-in-Some-clause-spares
