@@ -1,5 +1,5 @@
 -- How route servers and links go on, one call after another.
-use Rattle.std.proofs.Common.{◌≡◌, ◌≢◌, ◌<◌, ◌≤◌, ◌-◌, ◌==◌, ◌||◌, ◌⊎◌, inl, inr, ℕ, zero, suc, nat_le, nat_lt, Bool, true, false, List, [], ◌∷◌, length, take, refl, sym, ◌∙◌, ap, subst, arith}
+use Rattle.std.proofs.Common.{◌≡◌, ◌≢◌, ◌<◌, ◌≤◌, ◌-◌, ◌==◌, ◌||◌, ◌&&◌, ◌⊎◌, inl, inr, ℕ, zero, suc, nat_le, nat_lt, Bool, true, false, List, [], ◌∷◌, length, take, refl, sym, ◌∙◌, ap, subst, arith}
 use Rattle.std.specs.Prelude.{Result, Ok, Err, OnOk, OnErr, IfErr, if◌then◌else◌}
 use Rattle.std.proofs.lemmas.Bool.Decides.{nat_tests}
 use Rattle.std.proofs.lemmas.List.{take_all}
@@ -8,11 +8,9 @@ use Rattle.rs_policy.specs.declared.faults.RulesFault.{RulesFault}
 use Rattle.rs_core.specs.Core.{client_count, lent_octets, is_refused, refused_below}
 use Rattle.rs_core.specs.Moves.{Move, Ruled, Left, Turned, Began, config_in}
 use Rattle.rs_core.specs.Agreeing.{Agrees, IsRuled}
-use Rattle.rs_core.specs.Asking.{IsPaid, IsKept}
-use Rattle.rs_core.specs.Asking as asking
 use Rattle.rs_core.specs.Links.{Step, Told, Memory, End, Replaced, Leads, octets_of, stops}
 use Rattle.rs_core.specs.Courses.{Course, called, moved, memories, Stands, Continues}
-use Rattle.rs_core.specs.Answers.{is_passed_over, AreFalling, Answers, Passes, Turns, Rules, Keeps, Ends, Ended, Lasts, Owes, Closes, Gives, Goes_on, Offers, Rounds, Round, Drives}
+use Rattle.rs_core.specs.Answers.{is_passed_over, closes, AreFalling, Answers, Passes, Turns, Rules, Keeps, Ends, Ended, Lasts, Owes, Closes, Gives, Goes_on, Offers, Rounds, Round, Drives}
 use Rattle.rs_core.specs.declared.links.Event.{Event}
 use Rattle.rs_core.specs.declared.links.Event.TheVariants as events
 use Rattle.rs_core.specs.declared.route_server.Core.{Core}
@@ -150,23 +148,6 @@ turned happens old before new after count agrees told =
     goes happens old before new after (λ n. Answers n [] events.Turn) (λ x. record { steps = memories refused x.steps; run = Turned refused ∷ x.run }) count
     (λ first x l. told first x.steps l) (λ x h. agrees x.run h) (λ n x k h. Turns refused x (subst (λ m. AreFalling m refused) (count ∙ k) (falling new (client_count new))))
 
--- ---- the ends
-
-pub kept : {L : Type 0} (happens : L → Step → L → Type 0) (old new : Core) (link : L) (c : ℕ) → client_count new ≡ client_count old
-    → ((run : List Move) → Agrees old run → IsKept new c run) → Continues happens old link new link (λ n. Ended n c)
-kept {L} happens old new link c count by = record { on = λ first n x at. so first n x at (by x.run at.agrees) } where
-  so : (first : L) (n : ℕ) (x : Course) → Stands happens first n old link x → IsKept new c x.run → (y : Course) × Stands happens first n new link y × Ended n c x y
-  so first n x at (asking.Lasts not agrees) = (x, record { clients = count ∙ at.clients; leads = at.leads; agrees = agrees }, Lasts x not)
-  so first n x at (asking.Owes closing some agrees) =
-      (moved (Began c) x, record { clients = count ∙ at.clients; leads = at.leads; agrees = agrees }, Owes (lent_octets new c) x closing some (record { core = new; clients = count ∙ at.clients; agrees = agrees; lent = refl }))
-
-pub closed : {L : Type 0} (happens : L → Step → L → Type 0) (old asked new : Core) (before after : L) (c : ℕ) → client_count asked ≡ client_count old → client_count new ≡ client_count asked
-    → ((run : List Move) → Agrees old run → IsPaid asked c run) → ((run : List Move) → Agrees asked run → Agrees new (Left c ∷ run)) → happens before (End c) after
-    → Continues happens old before new after (λ n. Ended n c)
-closed happens old asked new before after c count on paid left step =
-    goes happens old before new after (λ n. Ended n c) (λ x. moved (Left c) (called (End c) (moved (Began c) x))) (on ∙ count) (λ first x l. (before, l, step)) (λ x h. left _ (paid x.run h).agrees)
-    (λ n x k h. let p = paid x.run h in Closes x p.closing (record { core = asked; clients = count ∙ k; agrees = p.agrees; lent = p.nothing }))
-
 -- ---- octets that are lent
 
 pub none_are : (octets : List ℕ) → (length octets == 0) ≡ true → octets ≡ []
@@ -175,6 +156,43 @@ none_are (x ∷ xs) e = absurd (grind (arith, nat_tests, e))
 
 pub some_are : (octets : List ℕ) → (length octets == 0) ≡ false → octets ≢ []
 some_are octets e none = absurd (let h : (length octets == 0) ≡ true = ap (λ l. length l == 0) none in grind (arith, nat_tests, e, h))
+
+-- ---- the ends
+
+-- what a route server answers about a client
+pub record IsAsked (old new : Core) (c : ℕ) (wants : Bool) : Type 0 where
+  pub count : client_count new ≡ client_count old
+  pub is : (run : List Move) → Agrees old run → wants ≡ (closes run c && (length (lent_octets new c) == 0))
+  pub unchanged : (run : List Move) → Agrees old run → closes run c ≡ false → new ≡ old
+  pub began : (run : List Move) → Agrees old run → closes run c ≡ true → Agrees new (Began c ∷ run)
+
+kept_by : (b : Bool) (octets : List ℕ) → b ≡ true → false ≡ (b && (length octets == 0)) → octets ≢ []
+kept_by true octets closing is = some_are octets (sym is)
+kept_by false octets closing is = absurd (let f : false ≡ true = closing in cc)
+
+pub kept : {L : Type 0} (happens : L → Step → L → Type 0) (old new : Core) (link : L) (c : ℕ) (wants : Bool) → IsAsked old new c wants → wants ≡ false → Continues happens old link new link (λ n. Ended n c)
+kept {L} happens old new link c wants asked not = record { on = λ first n x at. so first n x at (closes x.run c) refl } where
+  so : (first : L) (n : ℕ) (x : Course) → Stands happens first n old link x → (b : Bool) → closes x.run c ≡ b → (y : Course) × Stands happens first n new link y × Ended n c x y
+  so first n x at false e =
+      (x, record { clients = asked.count ∙ at.clients; leads = at.leads; agrees = subst (λ k. Agrees k x.run) (sym (asked.unchanged x.run at.agrees e)) at.agrees }, Lasts x e)
+  so first n x at true e =
+      let agrees = asked.began x.run at.agrees e in
+      let some = kept_by (closes x.run c) (lent_octets new c) e (sym not ∙ asked.is x.run at.agrees) in
+      (moved (Began c) x, record { clients = asked.count ∙ at.clients; leads = at.leads; agrees = agrees }, Owes (lent_octets new c) x e some (record { core = new; clients = asked.count ∙ at.clients; agrees = agrees; lent = refl }))
+
+closing_by : (b t : Bool) → true ≡ (b && t) → (b ≡ true) × (t ≡ true)
+closing_by true t is = (refl, sym is)
+closing_by false t is = absurd (let f : true ≡ false = is in cc)
+
+pub closed : {L : Type 0} (happens : L → Step → L → Type 0) (old asked new : Core) (before after : L) (c : ℕ) (wants : Bool) → IsAsked old asked c wants → wants ≡ true
+    → client_count new ≡ client_count asked → ((run : List Move) → Agrees asked run → Agrees new (Left c ∷ run)) → happens before (End c) after
+    → Continues happens old before new after (λ n. Ended n c)
+closed happens old asked new before after c wants by does count left step =
+    goes happens old before new after (λ n. Ended n c) (λ x. moved (Left c) (called (End c) (moved (Began c) x))) (count ∙ by.count) (λ first x l. (before, l, step))
+    (λ x h. left _ (by.began x.run h (closing x h).0))
+    (λ n x k h. Closes x (closing x h).0 (record { core = asked; clients = by.count ∙ k; agrees = by.began x.run h (closing x h).0; lent = none_are (lent_octets asked c) (closing x h).1 })) where
+      closing : (x : Course) → Agrees old x.run → (closes x.run c ≡ true) × ((length (lent_octets asked c) == 0) ≡ true)
+      closing x h = closing_by (closes x.run c) (length (lent_octets asked c) == 0) (sym does ∙ by.is x.run h)
 
 -- ---- so far, and the rest of the way
 

@@ -2,6 +2,7 @@
 use Rattle.std.proofs.Common.{◌≡◌, ◌≢◌, ◌<◌, ℕ, zero, suc, Bool, true, false, List, [], ◌∷◌, ◌++◌, length, refl, sym, ◌∙◌, ap, subst, arith}
 use Rattle.std.specs.Prelude.{Some, Result, Ok, Err, slice_get, if◌then◌else◌}
 use Rattle.std.specs.Global.{Vec}
+use Rattle.std.proofs.lemmas.Bool.{false≢true}
 use Rattle.rs_octets.specs.declared.heads.Allowed.{Allowed}
 use Rattle.rs_octets.specs.declared.heads.HeaderFault.{HeaderFault}
 use Rattle.rs_octets.specs.declared.heads.Kind.{Kind}
@@ -109,12 +110,9 @@ fault_ends_by true GoesOn settings fault (suc (suc n)) k = refl
 pub fault_ends : (settings : Settings) (fault : HeaderFault) (items : List Item) → is_live (state_of settings (Message (heard.Header fault) ∷ items)) ≡ false
 fault_ends settings fault items = fault_ends_by (is_connected items) (fate settings items) settings fault (message_count items) (suc (message_count items))
 
-true_false : (b : Bool) → b ≡ true → b ≡ false → ⊥
-true_false b t f = cc
-
 -- nothing waits for a session that has ended
 pub over : (s : Configuration) (c : ℕ) (buffer : List ℕ) (h : Hearing) → is_live (state_in s c h) ≡ false → Waits s c buffer h
-over s c buffer h dead = record { rest = λ live. absurd (true_false (is_live (state_in s c h)) live dead); good = λ live. absurd (true_false (is_live (state_in s c h)) live dead) }
+over s c buffer h dead = record { rest = λ live. absurd (false≢true (sym dead ∙ live)); good = λ live. absurd (false≢true (sym dead ∙ live)) }
 
 pub hears_fault : (s : Configuration) (c : ℕ) (h : Hearing) (octets : List ℕ) (fault : HeaderFault) → is_live (state_in s c h) ≡ true
     → newly_heard (allowed_in s) h.octets octets ≡ Err fault ∷ []

@@ -26,5 +26,5 @@ pub mod Around
 pub mod Serving
 pub mod Outgoing
 pub mod Mandated
-pub mod Closing
+pub mod Taking
 pub mod Continuing

@@ -1,6 +1,7 @@
 -- What an UPDATE says to a session, as the code finds it.
 use Rattle.std.proofs.Common.{◌≡◌, ℕ, zero, suc, Bool, true, false, List, [], ◌∷◌, length, refl, sym, ◌∙◌, ap, subst}
 use Rattle.std.specs.Prelude.{Option, Some, None, IsSome, is_none, is_some, nat_lt, option_map, if◌then◌else◌}
+use Rattle.std.proofs.lemmas.Bool.{false≢true}
 use Rattle.rs_octets.specs.declared.heads.Kind.TheVariants as kinds
 use Rattle.rs_octets.specs.Prefixes.{Prefix}
 use Rattle.rs_attrs.specs.declared.mode.Mode.{Mode}
@@ -80,9 +81,6 @@ reset_ends_by true GoesOn settings reset (suc (suc n)) k = refl
 reset_ends : (settings : Settings) (reset : ℕ × ℕ) (items : List Item) → is_up (state_of settings (Message (heard.Update (Some reset)) ∷ items)) ≡ false
 reset_ends settings reset items = reset_ends_by (is_connected items) (fate settings items) settings reset (message_count items) (suc (message_count items))
 
-true_false : (b : Bool) → b ≡ true → b ≡ false → ⊥
-true_false b t f = cc
-
 -- a change that resets the session changes nothing any more
 pub reset_follows : (s : Configuration) (c : ℕ) (h : Hearing) (reset : ℕ × ℕ) (change : Change)
     → Follows s c (heard.Update (Some reset)) h (takes_in s c (record { message = heard.Update (Some reset); change = Some change }) h)
@@ -90,7 +88,7 @@ reset_follows s c h reset change = record {
   items = refl;
   taken = refl;
   fresh = λ down. ap (λ b. if b then change ∷ h.changes else []) down;
-  same = λ up now. absurd (true_false _ now (reset_ends (session_in s c) reset h.items));
+  same = λ up now. absurd (false≢true (sym (reset_ends (session_in s c) reset h.items) ∙ now));
 }
 
 -- ---- the lists of the code

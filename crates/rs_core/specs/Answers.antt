@@ -1,17 +1,29 @@
 -- Which calls on the sink follow which event, and what befalls the route server by it.
 use Rattle.std.specs.Prelude.{◌≡◌, ◌≢◌, ◌<◌, ◌≤◌, ◌-◌, ◌||◌, ℕ, zero, suc, Bool, true, false, nat_le, nat_lt, List, [], ◌∷◌, length, take, Some, None, Ok, Err, ⊤}
+use Rattle.rs_session.specs.declared.act.State.TheVariants as states
 use Rattle.rs_policy.specs.Configuration.{Configuration}
 use Rattle.rs_policy.specs.Replacing.{Replaces, Refuses}
 use Rattle.rs_policy.specs.declared.faults.RulesFault.{RulesFault}
 use Rattle.rs_core.specs.Moves.{Move, Ruled, Came, Heard, Saw, Left, Turned, Began, Took, config_in}
+use Rattle.rs_core.specs.Hearing.{state_in, is_closing}
+use Rattle.rs_core.specs.Runs.{hearing}
 use Rattle.rs_core.specs.Core.{client_count, lent_octets}
 use Rattle.rs_core.specs.Agreeing.{Agrees}
-use Rattle.rs_core.specs.Asking.{IsIdle, IsClosing}
 use Rattle.rs_core.specs.Links.{Told, Begin, Busy, Offer, Memory, End, Replaced, stops}
 use Rattle.rs_core.specs.Courses.{Course, called, moved, memories}
 use Rattle.rs_core.specs.declared.links.Event.{Event}
 use Rattle.rs_core.specs.declared.links.Event.TheVariants as events
 use Rattle.rs_core.specs.declared.route_server.Core.{Core}
+
+-- ---- a client, behind a run
+
+-- it has no connection
+abbrev pub IsIdle : List Move → ℕ → Type 0
+IsIdle run c = state_in (config_in run) c (hearing c run) ≡ states.Idle
+
+-- its session has ended, and its connection has not
+abbrev pub closes : List Move → ℕ → Bool
+closes run c = is_closing (state_in (config_in run) c (hearing c run))
 
 -- behind this run a route server of n clients lends this to a client
 pub record Lends (n c : ℕ) (run : List Move) (octets : List ℕ) : Type 0 where
@@ -73,9 +85,9 @@ pub data Answers (n : ℕ) (octets : List ℕ) : Event → Course → Course →
 
 -- a client whose session has ended, and to which nothing more is lent, is ended
 pub data Ended (n c : ℕ) : Course → Course → Type 0 where
-  Lasts : (x : Course) → (IsClosing x.run c → ⊥) → Ended n c x x
-  Owes : (octets : List ℕ) (x : Course) → IsClosing x.run c → octets ≢ [] → Lends n c (Began c ∷ x.run) octets → Ended n c x (moved (Began c) x)
-  Closes : (x : Course) → IsClosing x.run c → Lends n c (Began c ∷ x.run) [] → Ended n c x (moved (Left c) (called (End c) (moved (Began c) x)))
+  Lasts : (x : Course) → closes x.run c ≡ false → Ended n c x x
+  Owes : (octets : List ℕ) (x : Course) → closes x.run c ≡ true → octets ≢ [] → Lends n c (Began c ∷ x.run) octets → Ended n c x (moved (Began c) x)
+  Closes : (x : Course) → closes x.run c ≡ true → Lends n c (Began c ∷ x.run) [] → Ended n c x (moved (Left c) (called (End c) (moved (Began c) x)))
 
 -- so for each of the first so many clients, one after the other
 abbrev pub Ends : ℕ → ℕ → Course → Course → Type 0

@@ -15,6 +15,7 @@ use Rattle.rs_attrs.specs.Effects.{Effect, Reset, Changes, Change, effect_of, ta
 use Rattle.rs_open.specs.Opens.{open_of}
 use Rattle.rs_open.specs.Refreshes.{family_of}
 use Rattle.rs_open.specs.declared.refresh.AddressFamily.{AddressFamily}
+use Rattle.rs_open.specs.declared.short.Limit.{Limit}
 use Rattle.rs_session.specs.declared.heard.Heard.{Heard}
 use Rattle.rs_session.specs.declared.heard.Heard.TheVariants as heard
 use Rattle.rs_session.specs.declared.act.State.{State}
@@ -22,7 +23,7 @@ use Rattle.rs_session.specs.declared.act.State.TheVariants as states
 use Rattle.rs_session.specs.declared.settings.Settings.{Settings}
 use Rattle.rs_session.specs.Items as items
 use Rattle.rs_session.specs.Items.{Item}
-use Rattle.rs_session.specs.Sessions.{state_of, is_live, agreed_mode, agreed_identifier}
+use Rattle.rs_session.specs.Sessions.{state_of, is_live, agreed_mode, agreed_limit, agreed_identifier}
 use Rattle.rs_policy.specs.Configuration.{Configuration, client_of}
 
 -- ---- what is configured of a client's session
@@ -57,9 +58,20 @@ is_up states.OpenConfirm = false
 is_up states.Established = true
 is_up states.Closing = false
 
+abbrev pub is_closing : State → Bool
+is_closing states.Idle = false
+is_closing states.OpenSent = false
+is_closing states.OpenConfirm = false
+is_closing states.Established = false
+is_closing states.Closing = true
+
 -- how many octets AS numbers have in the UPDATEs of a client that is Established (RFC 6793, 3)
 abbrev pub mode_in : Configuration → ℕ → Hearing → Option Mode
 mode_in s c h = if is_up (state_in s c h) then agreed_mode (session_in s c) h.items else None
+
+-- how long a message to a client that is Established may be (RFC 8654, 4)
+abbrev pub limit_in : Configuration → ℕ → Hearing → Option Limit
+limit_in s c h = if is_up (state_in s c h) then Some (agreed_limit (session_in s c) h.items) else None
 
 -- the BGP Identifier of a client that is Established (RFC 4271, 4.2)
 abbrev pub identifier_in : Configuration → ℕ → Hearing → ℕ

@@ -12,5 +12,5 @@ pub mod Voices
 pub mod Agreeing
 pub mod Steps
 pub mod Courses
-pub mod Asking
 pub mod Answers
+pub mod Serving

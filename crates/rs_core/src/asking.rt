@@ -1,6 +1,6 @@
 //! What a route server is asked.
 
-ghost use Rattle.std.specs.Prelude.{◌≡◌, ◌<◌, List, length, IfSome, IsTrue};
+ghost use Rattle.std.specs.Prelude.{◌≡◌, ◌==◌, ◌&&◌, ◌<◌, true, false, List, ◌∷◌, length, IfSome, IsTrue};
 
 use crate::endings::{Ending, FaultedUpdates};
 use crate::route_server::Core;
@@ -19,7 +19,7 @@ fn is_up(state: State) -> bool
     }
 }
 
-/// Whether a session in this state has ended, and its connection lasts.
+/// Whether a session in this state has ended, and its connection has not.
 fn is_closing(state: State) -> bool
     ensures { result ≡ is_closing state }
 {
@@ -29,14 +29,12 @@ fn is_closing(state: State) -> bool
     }
 }
 
-ghost use Rattle.rs_core.specs.Hearing.{is_up};
-ghost use Rattle.rs_core.specs.Asking.{is_closing};
+ghost use Rattle.rs_core.specs.Hearing.{is_up, is_closing};
 
 impl Core {
-    ghost use Rattle.rs_core.specs.Core.{client_count, is_refusal, is_refused};
-    ghost use Rattle.rs_core.specs.Asking.{WantsClose};
-    ghost use Rattle.rs_core.specs.Moves.{Move, config_in};
-    ghost use Rattle.rs_core.specs.Hearing.{Hearing, state_in, mode_in};
+    ghost use Rattle.rs_core.specs.Core.{client_count, is_refusal, is_refused, lent_octets};
+    ghost use Rattle.rs_core.specs.Moves.{Move, Began, config_in};
+    ghost use Rattle.rs_core.specs.Hearing.{Hearing, state_in, mode_in, limit_in};
     ghost use Rattle.rs_core.specs.Runs.{hearing, is_established, IsServed};
     ghost use Rattle.rs_core.specs.Agreeing.{Agrees, Knows};
     ghost use Rattle.rs_policy.specs.Configuration.{Configuration};
@@ -97,8 +95,9 @@ impl Core {
     /// How long a message to a client that is Established may be.
     pub fn limit(&self, c: usize) -> Option<Limit>
         requires { c < client_count self.now }
+        ensures { (run : List Move) → Agrees self.now run → result ≡ limit_in (config_in run) c (hearing c run) }
     {
-        if self.is_established(c) {
+        if self.is_up(c) {
             Some(self.sessions[c].limit())
         } else {
             None
@@ -160,20 +159,14 @@ impl Core {
     pub fn wants_close(&mut self, c: usize) -> bool
         requires { c < client_count self.old }
         ensures count { client_count self.new ≡ client_count self.old }
-        ensures wants { (run : List Move) → Agrees self.old run → WantsClose self.new c run result }
+        ensures closing { (run : List Move) → Agrees self.old run → result ≡ (is_closing (state_in (config_in run) c (hearing c run)) && (length (lent_octets self.new c) == 0)) }
+        ensures unchanged { (run : List Move) → Agrees self.old run → is_closing (state_in (config_in run) c (hearing c run)) ≡ false → self.new ≡ self.old }
+        ensures began { (run : List Move) → Agrees self.old run → is_closing (state_in (config_in run) c (hearing c run)) ≡ true → Agrees self.new (Began c ∷ run) }
     {
-        if !self.is_closing(c) {
+        if !is_closing(self.sessions[c].state()) {
             return false;
         }
         self.begin(c);
         self.lent(c).is_empty()
-    }
-
-    /// Whether the session of a client has ended, and its connection lasts.
-    fn is_closing(&self, c: usize) -> bool
-        requires { c < client_count self.now }
-        ensures { (s : Configuration) (h : Hearing) → Knows self.now s c h → result ≡ is_closing (state_in s c h) }
-    {
-        is_closing(self.sessions[c].state())
     }
 }

@@ -1,6 +1,6 @@
 //! Octets of a client, in any pieces, and moments: what its session hears.
 
-ghost use Rattle.std.specs.Prelude.{◌≡◌, ◌≢◌, ◌<◌, ◌≤◌, ℕ, true, List, ◌∷◌, ◌++◌, Some, length, slice_get, IfOk, OnOk, OnErr};
+ghost use Rattle.std.specs.Prelude.{◌≡◌, ◌≢◌, ◌<◌, ◌≤◌, ℕ, true, false, List, ◌∷◌, ◌++◌, Some, length, slice_get, IfOk, OnOk, OnErr};
 ghost use Rattle.std.specs.Global.{Vec};
 
 use crate::endings::Ending;
@@ -48,14 +48,16 @@ ghost use Rattle.rs_core.specs.Steps.{FillsUp};
 impl Core {
     ghost use Rattle.rs_core.specs.Core.{client_count};
     ghost use Rattle.rs_core.specs.Moves as moves;
-    ghost use Rattle.rs_core.specs.Moves.{Move, Saw, Left};
+    ghost use Rattle.rs_core.specs.Moves.{Move, Saw, Left, config_in};
     ghost use Rattle.rs_core.specs.Hearing.{Hearing, hears, sees, state_in};
+    ghost use Rattle.rs_core.specs.Runs.{hearing};
     ghost use Rattle.rs_core.specs.Agreeing.{Agrees, AgreesAt, IsCutShort, Knows, Spares, Waits};
     ghost use Rattle.rs_core.specs.Steps.{HasHeardFront, IsBetween};
     ghost use Rattle.rs_session.specs.Sessions.{is_live};
     ghost use Rattle.rs_policy.specs.Configuration.{Configuration};
 
-    /// Hears octets of a client. Where memory is refused, all is as if the client were lost.
+    /// Hears octets of a client. Where memory is refused, all is as if the client were lost. Those of
+    /// a client that is Idle or Closing change nothing.
     ///
     /// # Errors
     ///
@@ -65,6 +67,7 @@ impl Core {
         ensures count { client_count self.new ≡ client_count self.old }
         ensures heard { OnOk result ((run : List Move) → Agrees self.old run → Agrees self.new (moves.Heard c piece.now ∷ run)) }
         ensures refused { OnErr result ((run : List Move) → Agrees self.old run → Agrees self.new (Left c ∷ run)) }
+        ensures unheard { (run : List Move) → Agrees self.old run → is_live (state_in (config_in run) c (hearing c run)) ≡ false → (result ≡ Ok tt) × (self.new ≡ self.old) }
     {
         match self.hear(c, piece) {
             Ok(()) => Ok(()),
@@ -81,6 +84,7 @@ impl Core {
         ensures spares { Spares c self.old self.new }
         ensures heard { OnOk result ((s : Configuration) (h : Hearing) → self.old.ribs.config ≡ s → AgreesAt self.old s c h → AgreesAt self.new s c (hears s c piece.now h)) }
         ensures refused { OnErr result ((s : Configuration) (h : Hearing) → self.old.ribs.config ≡ s → AgreesAt self.old s c h → IsCutShort self.new s c h) }
+        ensures unheard { (s : Configuration) (h : Hearing) → Knows self.old s c h → is_live (state_in s c h) ≡ false → (result ≡ Ok tt) × (self.new ≡ self.old) }
     {
         if !self.is_live(c) {
             return Ok(());

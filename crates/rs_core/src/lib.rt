@@ -11,6 +11,7 @@ mod connections;
 mod driving;
 mod endings;
 mod hearing;
+pub mod laws;
 mod learning;
 mod links;
 mod making;

@@ -1,5 +1,3 @@
-use Rattle.std.proofs.Common.{subst}
-use Rattle.rs_core.specs.Asking.{WantsClose}
 use Rattle.rs_core.proofs.Leading.{led_same, led_once}
 use Rattle.rs_core.proofs.Continuing.{kept, closed}
 use Rattle.rs_core.proofs.driving.end_if_wanted.Goals as goal
@@ -11,9 +9,12 @@ pub returns-else-wants_close-clause-led : goal.returns-else-wants_close-clause-l
 returns-else-wants_close-clause-led g c = led_same g.L.Link.happens _
 
 pub returns-then-wants_close-clause-ended : goal.returns-then-wants_close-clause-ended
-returns-then-wants_close-clause-ended g c = closed g.L.Link.happens _ c.wants_close.new.self _ _ _ c.args.c c.wants_close.ensures.count c.lost.ensures.count
-    (λ run h. subst (WantsClose c.wants_close.new.self c.args.c run) c.if-wants_close.true (c.wants_close.ensures.wants run h)) c.lost.ensures.left c.end.ensures
+returns-then-wants_close-clause-ended g c =
+    let asked = c.wants_close.ensures in
+    closed g.L.Link.happens _ _ _ _ _ c.args.c c.wants_close.result (record { count = asked.count; is = asked.closing; unchanged = asked.unchanged; began = asked.began }) c.if-wants_close.true
+    c.lost.ensures.count c.lost.ensures.left c.end.ensures
 
 pub returns-else-wants_close-clause-ended : goal.returns-else-wants_close-clause-ended
-returns-else-wants_close-clause-ended g c = kept g.L.Link.happens _ _ _ c.args.c c.wants_close.ensures.count
-    (λ run h. subst (WantsClose c.wants_close.new.self c.args.c run) c.if-wants_close.false (c.wants_close.ensures.wants run h))
+returns-else-wants_close-clause-ended g c =
+    let asked = c.wants_close.ensures in
+    kept g.L.Link.happens _ _ _ c.args.c c.wants_close.result (record { count = asked.count; is = asked.closing; unchanged = asked.unchanged; began = asked.began }) c.if-wants_close.false

@@ -1,4 +1,5 @@
 use Rattle.std.proofs.Common.{◌≡◌, ◌<◌, ◌==◌, length, refl, sym, ◌∙◌, ap, subst, arith}
+use Rattle.std.proofs.lemmas.Bool.{false≢true}
 use Rattle.std.proofs.lemmas.Option.{slice_get_read}
 use Rattle.rs_core.specs.Core.{client_count}
 use Rattle.rs_core.specs.Hearing.{hears}
@@ -73,3 +74,19 @@ returns-clause-refused c = map_err c.hear_piece-2.result c.hear_piece-2.ensures.
     (on s (hears s i front.front h) (ap (λ (r : Ribs). r.config) c.put_buffer.ensures.ribs ∙ heard.ensures.spares.config ∙ first)
     (front_between heard.new.self c.put_buffer.new.self s i h c.args.piece.now heard.new.buffer.items c.in_ok-rest.rest.now c.put_buffer.ensures.sessions c.put_buffer.ensures.ribs c.put_buffer.ensures.put
     (sym c.is_empty-2.ensures ∙ c.if-is_empty-2.false) front)))
+
+pub returns-then-is_empty-clause-unheard : goal.returns-then-is_empty-clause-unheard
+unfolding client_count
+returns-then-is_empty-clause-unheard c = λ s h knows dead. absurd (false≢true (sym dead ∙ sym (c.is_live.ensures s h knows) ∙ c.if-not-is_live.false))
+
+pub returns-in_err-rest-clause-unheard : goal.returns-in_err-rest-clause-unheard
+unfolding client_count
+returns-in_err-rest-clause-unheard c = λ s h knows dead. absurd (false≢true (sym dead ∙ sym (c.is_live.ensures s h knows) ∙ c.if-not-is_live.false))
+
+pub returns-then-is_empty-2-clause-unheard : goal.returns-then-is_empty-2-clause-unheard
+unfolding client_count
+returns-then-is_empty-2-clause-unheard c = λ s h knows dead. absurd (false≢true (sym dead ∙ sym (c.is_live.ensures s h knows) ∙ c.if-not-is_live.false))
+
+pub returns-clause-unheard : goal.returns-clause-unheard
+unfolding client_count
+returns-clause-unheard c = λ s h knows dead. absurd (false≢true (sym dead ∙ sym (c.is_live.ensures s h knows) ∙ c.if-not-is_live.false))

@@ -26,3 +26,11 @@ returns-in-Err-clause-refused c = λ run h.
     (spares_both c.args.c c.args.self.now c.hear.new.self c.forget.new.self c.hear.ensures.spares c.forget.ensures.spares)
     (subst (λ k. AgreesAt c.forget.new.self (config_in run) c.args.c k) (sym (own c.args.c (leaves it) it))
     (c.forget.ensures.forgotten (config_in run) it (c.in-Err.ensures.refused (config_in run) it h.config (h.clients c.args.c c.requires))))
+
+pub returns-in-Ok-clause-unheard : goal.returns-in-Ok-clause-unheard
+unfolding client_count
+returns-in-Ok-clause-unheard c = λ run h dead. (refl, (c.in-Ok.ensures.unheard (config_in run) (hearing c.args.c run) (h.clients c.args.c c.requires).knows dead).1)
+
+pub returns-in-Err-clause-unheard : goal.returns-in-Err-clause-unheard
+unfolding client_count
+returns-in-Err-clause-unheard c = λ run h dead. let it = c.in-Err.ensures.unheard (config_in run) (hearing c.args.c run) (h.clients c.args.c c.requires).knows dead in absurd (cc)
