@@ -5,7 +5,7 @@ use Rattle.rs_octets.specs.Prefixes.{Prefix}
 use Rattle.rs_attrs.specs.Meaning.{Attribute}
 use Rattle.rs_attrs.specs.Effects.{lacks_mandatory}
 use Rattle.rs_attrs.specs.Stripping.{stripped_of}
-use Rattle.rs_attrs.proofs.StrippedLaws.{others_stay}
+use Rattle.rs_attrs.proofs.Strips.StrippedLaws.{others_stay}
 use Rattle.rs_open.specs.Notes.{limit_octets}
 use Rattle.rs_adjin.specs.AdjIns.{held_of}
 use Rattle.rs_adjin.specs.declared.adj_ins.AdjIns.{AdjIns}

@@ -3,7 +3,7 @@ use Rattle.std.specs.Prelude.{Some, None, option_map}
 use Rattle.std.specs.Arc.{arc_value}
 use Rattle.rs_attrs.specs.Effects.{effect_of}
 use Rattle.rs_update.specs.Laws.{IsSameChange, IsSameEffect}
-use Rattle.rs_update.specs.Changes.{effect_seen, HasItsAttributes}
+use Rattle.rs_update.specs.Outcomes.{effect_seen, HasItsAttributes}
 use Rattle.rs_policy.specs.Configuration.{client_of}
 use Rattle.rs_session.specs.declared.heard.Heard.TheVariants as heard
 use Rattle.rs_core.specs.Core.{client_count}
