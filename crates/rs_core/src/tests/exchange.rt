@@ -40,7 +40,7 @@ pub fn message(alloc: Global, digits: &str) -> Result<Vec<u8>, Fail> {
     for pair in digits.as_bytes().chunks(2) {
         let mut octet = 0u32;
         for digit in pair {
-            octet = octet * 16 % 256 + char::from(*digit).to_digit(16).unwrap_or(0);
+            octet = octet % 16 * 16 + char::from(*digit).to_digit(16).unwrap_or(0) % 16;
         }
         octets.push((octet % 256) as u8)?;
     }
@@ -85,7 +85,8 @@ fn take(core: &mut Core, c: usize, room: usize, taken: &mut Vec<u8>) -> Result<u
     requires { c < client_count core.old }
     ensures { client_count core.new ≡ client_count core.old }
 {
-    let lent = core.writable(c);
+    core.begin(c);
+    let lent = core.lent(c);
     let count = lent.len().min(room);
     taken.extend_from_slice(&lent[..count])?;
     core.took(c, count);
@@ -95,11 +96,11 @@ fn take(core: &mut Core, c: usize, room: usize, taken: &mut Vec<u8>) -> Result<u
 /// What the link of a client takes, up to so many octets.
 pub fn sent(alloc: Global, core: &mut Core, c: usize, room: usize) -> Result<Vec<u8>, Fail> {
     let mut taken = Vec::new(alloc);
-    if c >= core.clients() {
-        return Ok(taken);
-    }
     let mut left = room;
     for _ in 0..room {
+        if c >= core.clients() {
+            break;
+        }
         let count = take(core, c, left, &mut taken)?;
         if count == 0 {
             break;
