@@ -82,9 +82,10 @@ module _ {R W G : Type 0} (takes : R → List ℕ → R → Type 0) (at_end : R 
 pub led_to_stop : {L : Type 0} (happens : L → links.Step → L → Type 0) (P : L → List Act → Type 0)
     → ((old new : L) (s : links.Step) (acts : List Act) → happens old s new → P old acts → P new (Did s ∷ acts))
     → (old new : L) (acts : List Act) → HasStopped happens old new → P old acts → (all : List Act) × P new all
-led_to_stop happens P step old new acts h p =
-    (Did (links.Told events.Stop h.octets) ∷ steps_done h.led.run acts,
-    step h.before new (links.Told events.Stop h.octets) (steps_done h.led.run acts) h.stops (led_on happens P step h.led.run old h.before acts h.led.leads p))
+led_to_stop happens P step old new acts h p = (
+  Did (links.Told events.Stop h.octets) ∷ steps_done h.led.run acts,
+  step h.before new (links.Told events.Stop h.octets) (steps_done h.led.run acts) h.stops (led_on happens P step h.led.run old h.before acts h.led.leads p),
+)
 
 -- Where a route server and its link go on by a drive, what was done before and what the drive does is a run of the route server.
 pub record HasGone {L : Type 0} (P : L → List Act → Type 0) (settings : Configuration) (core : Core) (link : L) : Type 0 where
@@ -117,6 +118,16 @@ pub played_out : {R W : Type 0} (takes : R → List ℕ → R → Type 0) (at_en
     → IsPlayed settings (λ text. takes first text reader) (at_end reader) (λ octets. puts to octets writer) answer
 played_out takes at_end puts settings names first to reader writer answer named o =
     record { names = names; named = named; acts = o.acts; text = o.over.text; taken = o.over.taken; ends = o.over.ends; gives = o.over.gives; took = o.took; run = o.run; ran = o.ran }
+
+-- and it is so by whatever names the reader and the writer go at the end
+pub played_at : {R W : Type 0} (takes : R → List ℕ → R → Type 0) (at_end : R → Type 0) (puts : W → List ℕ → W → Type 0)
+    (settings : Configuration) (first : R) (to : W) (answer : Result (Unit {0}) ReplayFault) (reader last : R) (writer wrote : W)
+    → reader ≡ last → writer ≡ wrote
+    → IsPlayed settings (λ text. takes first text reader) (at_end reader) (λ octets. puts to octets writer) answer
+    → IsPlayed settings (λ text. takes first text last) (at_end last) (λ octets. puts to octets wrote) answer
+played_at takes at_end puts settings first to answer reader last writer wrote e f h =
+    subst (λ r. IsPlayed settings (λ text. takes first text r) (at_end r) (λ octets. puts to octets wrote) answer) e
+    (subst (λ w. IsPlayed settings (λ text. takes first text reader) (at_end reader) (λ octets. puts to octets w) answer) f h)
 
 -- the fault of a stop
 abbrev fault_in : Option Stop → ReplayFault

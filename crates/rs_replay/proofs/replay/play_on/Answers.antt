@@ -44,8 +44,8 @@ gone g first old new settings before after c h = gone_on (Stepped g) (λ link ac
 told_one : (g : given.Over) (first old resumed new : Recording g.row.R.Denot g.row.W.Denot) (c : ℕ) (line : List ℕ) (acts : List Act)
     → old.stop ≡ Some (Table c) → resumed ≡ record old { stop = None }
     → Adds g.R.TextIn.takes g.R.TextIn.at_end g.R.TextIn.failures g.W.TextOut.puts g.W.TextOut.failures
-        resumed.names.now resumed.reader.ghost_name resumed.writer.ghost_name resumed.reader.now resumed.writer.now resumed.lines.now resumed.number resumed.stop line
-        new.names.now new.reader.ghost_name new.writer.ghost_name new.reader.now new.writer.now new.lines.now new.number new.stop
+    resumed.names.now resumed.reader.ghost_name resumed.writer.ghost_name resumed.reader.now resumed.writer.now resumed.lines.now resumed.number resumed.stop line
+    new.names.now new.reader.ghost_name new.writer.ghost_name new.reader.now new.writer.now new.lines.now new.number new.stop
     → Does g first acts old → Does g first (ToldRoutes c line ∷ acts) new
 told_one g first old resumed new c line acts stop is adds done = told g.R.TextIn.takes g.R.TextIn.at_end g.R.TextIn.failures g.W.TextOut.puts g.W.TextOut.failures
     first.names.now first.reader.ghost_name first.writer.ghost_name first.reader.now first.writer.now acts c line
@@ -53,8 +53,8 @@ told_one g first old resumed new c line acts stop is adds done = told g.R.TextIn
     new.names.now new.reader.ghost_name new.writer.ghost_name new.reader.now new.writer.now new.lines.now new.number new.stop
     stop
     (subst (λ (a : Recording g.row.R.Denot g.row.W.Denot). Adds g.R.TextIn.takes g.R.TextIn.at_end g.R.TextIn.failures g.W.TextOut.puts g.W.TextOut.failures
-        a.names.now a.reader.ghost_name a.writer.ghost_name a.reader.now a.writer.now a.lines.now a.number a.stop line
-        new.names.now new.reader.ghost_name new.writer.ghost_name new.reader.now new.writer.now new.lines.now new.number new.stop) is adds)
+    a.names.now a.reader.ghost_name a.writer.ghost_name a.reader.now a.writer.now a.lines.now a.number a.stop line
+    new.names.now new.reader.ghost_name new.writer.ghost_name new.reader.now new.writer.now new.lines.now new.number new.stop) is adds)
     done
 
 told_gone : (g : given.Over) (first old new : Recording g.row.R.Denot g.row.W.Denot) (c : ℕ) (line : List ℕ) (settings : Configuration) (core : Core)
@@ -73,7 +73,7 @@ told_gone g first old new c line settings core one h = record {
 played_to : (g : given.Over) (first last : Recording g.row.R.Denot g.row.W.Denot) (settings : Configuration) (core : Core) (stop : Stop) (answer : Result (Unit {0}) ReplayFault) (reader : g.row.R.Denot) (writer : g.row.W.Denot)
     → HasGone (λ link acts. Does g first acts link) settings core last → last.stop ≡ Some stop
     → ((acts : List Act) → Plays g.R.TextIn.takes g.R.TextIn.at_end g.R.TextIn.failures g.W.TextOut.puts g.W.TextOut.failures (place_in last.names.now) first.reader.now first.writer.now (said acts) (written (name_in first.names.now) acts) last.reader.now last.writer.now last.lines.now last.number (Some stop)
-        → IsOver g.R.TextIn.takes g.R.TextIn.at_end g.W.TextOut.puts (place_in last.names.now) first.reader.now first.writer.now (said acts) (written (name_in first.names.now) acts) reader writer answer)
+    → IsOver g.R.TextIn.takes g.R.TextIn.at_end g.W.TextOut.puts (place_in last.names.now) first.reader.now first.writer.now (said acts) (written (name_in first.names.now) acts) reader writer answer)
     → PlaysOut settings g.R.TextIn.takes g.R.TextIn.at_end g.W.TextOut.puts first.names.now first.reader.now first.writer.now reader writer answer
 played_to g first last settings core stop answer reader writer h at over = record {
   acts = h.acts;
@@ -81,7 +81,7 @@ played_to g first last settings core stop answer reader writer h at over = recor
   ran = h.ran;
   took = h.done.took;
   over = subst (λ ns. Plays g.R.TextIn.takes g.R.TextIn.at_end g.R.TextIn.failures g.W.TextOut.puts g.W.TextOut.failures (place_in ns) first.reader.now first.writer.now (said h.acts) (written (name_in first.names.now) h.acts) last.reader.now last.writer.now last.lines.now last.number (Some stop)
-          → IsOver g.R.TextIn.takes g.R.TextIn.at_end g.W.TextOut.puts (place_in ns) first.reader.now first.writer.now (said h.acts) (written (name_in first.names.now) h.acts) reader writer answer)
+      → IsOver g.R.TextIn.takes g.R.TextIn.at_end g.W.TextOut.puts (place_in ns) first.reader.now first.writer.now (said h.acts) (written (name_in first.names.now) h.acts) reader writer answer)
       h.done.same_names (over h.acts)
       (subst (λ x. Plays g.R.TextIn.takes g.R.TextIn.at_end g.R.TextIn.failures g.W.TextOut.puts g.W.TextOut.failures (place_in first.names.now) first.reader.now first.writer.now (said h.acts) (written (name_in first.names.now) h.acts) last.reader.now last.writer.now last.lines.now last.number x) at h.done.plays);
 }
@@ -90,33 +90,38 @@ pub loop-init : goal.loop-init
 loop-init g c =
     let now = c.args.recording.now in
     let done = done_first g.R.TextIn.takes g.R.TextIn.at_end g.R.TextIn.failures g.W.TextOut.puts g.W.TextOut.failures now.names.now now.reader.ghost_name now.writer.ghost_name now.reader.now now.writer.now now.lines.now now.number now.stop
-        (g.met.R.TextIn.takes_none now.reader.now) (g.met.W.TextOut.puts_none now.writer.now) c.requires.first in
+    (g.met.R.TextIn.takes_none now.reader.now) (g.met.W.TextOut.puts_none now.writer.now) c.requires.first in
     (([], done), λ settings clients agrees. record { acts = []; run = Ruled settings ∷ []; done = done; ran = Begins; clients = clients; agrees = agrees })
 
 pub loop-preserved-in-None-stop : goal.loop-preserved-in-None-stop
-loop-preserved-in-None-stop g c =
-    (led g c.args.recording.now c.loop.recording c.drive_with.new.link c.loop.invariant.0 c.drive_with.ensures.led,
-    λ settings clients agrees. gone g c.args.recording.now c.loop.recording c.drive_with.new.link settings c.loop.core c.drive_with.new.core c.drive_with.ensures.drives (c.loop.invariant.1 settings clients agrees))
+loop-preserved-in-None-stop g c = (
+  led g c.args.recording.now c.loop.recording c.drive_with.new.link c.loop.invariant.0 c.drive_with.ensures.led,
+  λ settings clients agrees. gone g c.args.recording.now c.loop.recording c.drive_with.new.link settings c.loop.core c.drive_with.new.core c.drive_with.ensures.drives (c.loop.invariant.1 settings clients agrees),
+)
 
 pub loop-preserved-in-Some-Table : goal.loop-preserved-in-Some-Table
 loop-preserved-in-Some-Table g c =
     let first = c.args.recording.now in
     let last = c.drive_with.new.link in
-    let one = λ acts done. told_one g first last c.resume.new.self c.tell_routes.new.self c.in-Some-Table.c _ acts (sym c.stop.ensures ∙ c.in-Some-Table.is ∙ ap Some c.in-Some-Table.field-0-is) c.resume.ensures c.tell_routes.ensures done in
-    let before = led g first c.loop.recording last c.loop.invariant.0 c.drive_with.ensures.led in
-    ((_, one before.0 before.1),
-    λ settings clients agrees. told_gone g first last c.tell_routes.new.self c.in-Some-Table.c _ settings c.drive_with.new.core one
-        (gone g first c.loop.recording last settings c.loop.core c.drive_with.new.core c.drive_with.ensures.drives (c.loop.invariant.1 settings clients agrees)))
+    let stop : last.stop ≡ Some (Table c.in-Some-Table.c) = sym c.stop.ensures ∙ c.in-Some-Table.is ∙ ap Some c.in-Some-Table.field-0-is in
+    let before = led g first c.loop.recording last c.loop.invariant.0 c.drive_with.ensures.led in (
+      (_, told_one g first last c.resume.new.self c.tell_routes.new.self c.in-Some-Table.c _ before.0 stop c.resume.ensures c.tell_routes.ensures before.1),
+      λ settings clients agrees. told_gone g first last c.tell_routes.new.self c.in-Some-Table.c _ settings c.drive_with.new.core
+          (λ acts done. told_one g first last c.resume.new.self c.tell_routes.new.self c.in-Some-Table.c _ acts stop c.resume.ensures c.tell_routes.ensures done)
+          (gone g first c.loop.recording last settings c.loop.core c.drive_with.new.core c.drive_with.ensures.drives (c.loop.invariant.1 settings clients agrees)),
+    )
 
 pub loop-preserved : goal.loop-preserved
 loop-preserved g c =
     let first = c.args.recording.now in
     let last = c.drive_with.new.link in
-    let one = λ acts done. told_one g first last c.resume.new.self c.tell_routes.new.self c.in-Some-Table.c _ acts (sym c.stop.ensures ∙ c.in-Some-Table.is ∙ ap Some c.in-Some-Table.field-0-is) c.resume.ensures c.tell_routes.ensures done in
-    let before = led g first c.loop.recording last c.loop.invariant.0 c.drive_with.ensures.led in
-    ((_, one before.0 before.1),
-    λ settings clients agrees. told_gone g first last c.tell_routes.new.self c.in-Some-Table.c _ settings c.drive_with.new.core one
-        (gone g first c.loop.recording last settings c.loop.core c.drive_with.new.core c.drive_with.ensures.drives (c.loop.invariant.1 settings clients agrees)))
+    let stop : last.stop ≡ Some (Table c.in-Some-Table.c) = sym c.stop.ensures ∙ c.in-Some-Table.is ∙ ap Some c.in-Some-Table.field-0-is in
+    let before = led g first c.loop.recording last c.loop.invariant.0 c.drive_with.ensures.led in (
+      (_, told_one g first last c.resume.new.self c.tell_routes.new.self c.in-Some-Table.c _ before.0 stop c.resume.ensures c.tell_routes.ensures before.1),
+      λ settings clients agrees. told_gone g first last c.tell_routes.new.self c.in-Some-Table.c _ settings c.drive_with.new.core
+          (λ acts done. told_one g first last c.resume.new.self c.tell_routes.new.self c.in-Some-Table.c _ acts stop c.resume.ensures c.tell_routes.ensures done)
+          (gone g first c.loop.recording last settings c.loop.core c.drive_with.new.core c.drive_with.ensures.drives (c.loop.invariant.1 settings clients agrees)),
+    )
 
 pub returns-in-Some-End-clause-reader : goal.returns-in-Some-End-clause-reader
 returns-in-Some-End-clause-reader g c = (led g c.args.recording.now c.loop.recording c.drive_with.new.link c.loop.invariant.0 c.drive_with.ensures.led).1.same_reader
@@ -129,9 +134,9 @@ returns-in-Some-End-clause-played g c = λ settings clients agrees.
     let first = c.args.recording.now in
     let last = c.drive_with.new.link in
     played_to g first last settings c.drive_with.new.core End (Ok tt) last.reader.now last.writer.now
-        (gone g first c.loop.recording last settings c.loop.core c.drive_with.new.core c.drive_with.ensures.drives (c.loop.invariant.1 settings clients agrees))
-        (sym c.stop.ensures ∙ c.in-Some-End.is ∙ ap Some c.in-Some-End.field-0-is)
-        (λ acts p. over_at_end g.R.TextIn.takes g.R.TextIn.at_end g.R.TextIn.failures g.W.TextOut.puts g.W.TextOut.failures (place_in last.names.now) first.reader.now first.writer.now (said acts) (written (name_in first.names.now) acts) last.reader.now last.writer.now last.lines.now last.number p)
+    (gone g first c.loop.recording last settings c.loop.core c.drive_with.new.core c.drive_with.ensures.drives (c.loop.invariant.1 settings clients agrees))
+    (sym c.stop.ensures ∙ c.in-Some-End.is ∙ ap Some c.in-Some-End.field-0-is)
+    (λ acts p. over_at_end g.R.TextIn.takes g.R.TextIn.at_end g.R.TextIn.failures g.W.TextOut.puts g.W.TextOut.failures (place_in last.names.now) first.reader.now first.writer.now (said acts) (written (name_in first.names.now) acts) last.reader.now last.writer.now last.lines.now last.number p)
 
 pub returns-in-Some-Fault-clause-reader : goal.returns-in-Some-Fault-clause-reader
 returns-in-Some-Fault-clause-reader g c = c.end_at.ensures.reader ∙ (led g c.args.recording.now c.loop.recording c.drive_with.new.link c.loop.invariant.0 c.drive_with.ensures.led).1.same_reader
@@ -145,6 +150,6 @@ returns-in-Some-Fault-clause-played g c = λ settings clients agrees.
     let last = c.drive_with.new.link in
     let at = sym c.stop.ensures ∙ c.in-Some-Fault.is in
     played_to g first last settings c.drive_with.new.core c.in-Some-Fault.field-0 (Err c.end_at.result) c.end_at.new.self.reader.now c.end_at.new.self.writer.now
-        (gone g first c.loop.recording last settings c.loop.core c.drive_with.new.core c.drive_with.ensures.drives (c.loop.invariant.1 settings clients agrees)) at
-        (λ acts p. c.end_at.ensures.over first.reader.now first.writer.now (said acts) (written (name_in first.names.now) acts)
-            (subst (λ x. Plays g.R.TextIn.takes g.R.TextIn.at_end g.R.TextIn.failures g.W.TextOut.puts g.W.TextOut.failures (place_in last.names.now) first.reader.now first.writer.now (said acts) (written (name_in first.names.now) acts) last.reader.now last.writer.now last.lines.now last.number x) (sym at) p))
+    (gone g first c.loop.recording last settings c.loop.core c.drive_with.new.core c.drive_with.ensures.drives (c.loop.invariant.1 settings clients agrees)) at
+    (λ acts p. c.end_at.ensures.over first.reader.now first.writer.now (said acts) (written (name_in first.names.now) acts)
+    (subst (λ x. Plays g.R.TextIn.takes g.R.TextIn.at_end g.R.TextIn.failures g.W.TextOut.puts g.W.TextOut.failures (place_in last.names.now) first.reader.now first.writer.now (said acts) (written (name_in first.names.now) acts) last.reader.now last.writer.now last.lines.now last.number x) (sym at) p))

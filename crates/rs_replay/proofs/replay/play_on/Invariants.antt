@@ -20,4 +20,4 @@ abbrev pub invariant-loop : goal.invariant-loop
 invariant-loop g l =
     ((acts : List Act) × Does g l.initial.recording acts l.recording)
     × ((settings : Configuration) → client_count l.initial.core ≡ length settings.clients → Agrees l.initial.core (Ruled settings ∷ [])
-        → HasGone (λ link acts. Does g l.initial.recording acts link) settings l.core l.recording)
+    → HasGone (λ link acts. Does g l.initial.recording acts link) settings l.core l.recording)
