@@ -1,10 +1,16 @@
 -- A replay as the steps of the core's link and the routes that were told between them.
-use Rattle.std.proofs.Common.{◌≡◌, ℕ, ◌+◌, ◌⊎◌, List, [], ◌∷◌, ◌++◌, refl, sym, ◌∙◌, ap, inl, inr, Option, Some, None, subst, true, false}
+use Rattle.std.proofs.Common.{◌≡◌, ℕ, ◌+◌, ◌⊎◌, length, List, [], ◌∷◌, ◌++◌, refl, sym, ◌∙◌, ap, inl, inr, Option, Some, None, subst, true, false}
 use Rattle.std.specs.Prelude.{⊤, Result, Ok, Err}
 use Rattle.std.proofs.lemmas.List.{append-nil}
 use Rattle.rs_core.specs.Links as links
 use Rattle.rs_core.specs.Links.{HasStopped, Leads}
 use Rattle.rs_core.specs.declared.links.Event.TheVariants as events
+use Rattle.rs_core.specs.declared.route_server.Core.{Core}
+use Rattle.rs_core.specs.Core.{client_count}
+use Rattle.rs_core.specs.Moves.{Move}
+use Rattle.rs_core.specs.Agreeing.{Agrees}
+use Rattle.rs_core.specs.Courses.{Continues}
+use Rattle.rs_core.specs.Answers.{Drives}
 use Rattle.rs_policy.specs.Configuration.{Configuration}
 use Rattle.rs_replay.specs.declared.trace.LineFault.{LineFault}
 use Rattle.rs_replay.specs.declared.names.Names.{Names}
@@ -16,16 +22,11 @@ use Rattle.rs_replay.specs.Lines as lines
 use Rattle.rs_replay.specs.Output.{fault_line}
 use Rattle.rs_replay.specs.Trace.{Saying, Listed}
 use Rattle.rs_replay.specs.Played.{Act, Did, ToldRoutes, said, written, AllTookAll, Puts, SaysFirst, Stands, line_at}
-use Rattle.rs_replay.specs.Replays.{Plays, Happens, Adds, HasDone, IsAtFirst, IsOver, FailsOn, IsPlayed, PlaysOut, AreNamesOf, place_in, name_in}
+use Rattle.rs_replay.specs.Replays.{Plays, Happens, HasRun, Drove, steps_done, Adds, HasDone, IsAtFirst, IsOver, FailsOn, IsPlayed, PlaysOut, AreNamesOf, place_in, name_in}
 use Rattle.rs_replay.specs.Text.{whole_lines}
 use Rattle.rs_replay.proofs.PlayLemmas.{stands_first}
 use Rattle.rs_replay.proofs.ReplayLemmas.{follows_start}
 use mathlib.Core.Bool.{true≢false}
-
--- the acts of steps, before which others were done
-abbrev pub steps_done : List links.Step → List Act → List Act
-steps_done [] acts = acts
-steps_done (s ∷ run) acts = Did s ∷ steps_done run acts
 
 -- what each step keeps, a run of steps keeps
 pub led_on : {L : Type 0} (happens : L → links.Step → L → Type 0) (P : L → List Act → Type 0)
@@ -86,13 +87,47 @@ led_to_stop happens P step old new acts h p = (
   step h.before new (links.Told events.Stop h.octets) (steps_done h.led.run acts) h.stops (led_on happens P step h.led.run old h.before acts h.led.leads p),
 )
 
+-- Where a route server and its link go on by a drive, what was done before and what the drive does is a run of the route server.
+pub record HasGone {L : Type 0} (P : L → List Act → Type 0) (settings : Configuration) (core : Core) (link : L) : Type 0 where
+  pub acts : List Act
+  pub run : List Move
+  pub done : P link acts
+  pub ran : HasRun settings acts run
+  pub clients : client_count core ≡ length settings.clients
+  pub agrees : Agrees core run
+
+pub gone_on : {L : Type 0} (happens : L → links.Step → L → Type 0) (P : L → List Act → Type 0)
+    → ((old new : L) (s : links.Step) (acts : List Act) → happens old s new → P old acts → P new (Did s ∷ acts))
+    → (settings : Configuration) (old : Core) (before : L) (new : Core) (after : L) → Continues happens old before new after Drives
+    → HasGone P settings old before → HasGone P settings new after
+gone_on happens P step settings old before new after c g =
+    let on = c.on before (length settings.clients) (record { steps = []; run = g.run }) (record { clients = g.clients; leads = refl; agrees = g.agrees }) in
+    record {
+      acts = steps_done on.0.steps g.acts;
+      run = on.0.run;
+      done = led_on happens P step on.0.steps before after g.acts on.1.leads g.done;
+      ran = Drove g.acts g.run on.0 g.ran on.2;
+      clients = on.1.clients;
+      agrees = on.1.agrees;
+    }
+
 -- a replay that is over was played
 pub played_out : {R W : Type 0} (takes : R → List ℕ → R → Type 0) (at_end : R → Type 0) (puts : W → List ℕ → W → Type 0)
     (settings : Configuration) (names : Names) (first : R) (to : W) (reader : R) (writer : W) (answer : Result (Unit {0}) ReplayFault)
-    → AreNamesOf names settings → PlaysOut takes at_end puts names first to reader writer answer
+    → AreNamesOf names settings → PlaysOut settings takes at_end puts names first to reader writer answer
     → IsPlayed settings (λ text. takes first text reader) (at_end reader) (λ octets. puts to octets writer) answer
 played_out takes at_end puts settings names first to reader writer answer named o =
-    record { names = names; named = named; acts = o.acts; text = o.over.text; taken = o.over.taken; ends = o.over.ends; gives = o.over.gives; took = o.took }
+    record { names = names; named = named; acts = o.acts; text = o.over.text; taken = o.over.taken; ends = o.over.ends; gives = o.over.gives; took = o.took; run = o.run; ran = o.ran }
+
+-- and it is so by whatever names the reader and the writer go at the end
+pub played_at : {R W : Type 0} (takes : R → List ℕ → R → Type 0) (at_end : R → Type 0) (puts : W → List ℕ → W → Type 0)
+    (settings : Configuration) (first : R) (to : W) (answer : Result (Unit {0}) ReplayFault) (reader last : R) (writer wrote : W)
+    → reader ≡ last → writer ≡ wrote
+    → IsPlayed settings (λ text. takes first text reader) (at_end reader) (λ octets. puts to octets writer) answer
+    → IsPlayed settings (λ text. takes first text last) (at_end last) (λ octets. puts to octets wrote) answer
+played_at takes at_end puts settings first to answer reader last writer wrote e f h =
+    subst (λ r. IsPlayed settings (λ text. takes first text r) (at_end r) (λ octets. puts to octets wrote) answer) e
+    (subst (λ w. IsPlayed settings (λ text. takes first text reader) (at_end reader) (λ octets. puts to octets w) answer) f h)
 
 -- the fault of a stop
 abbrev fault_in : Option Stop → ReplayFault

@@ -1,8 +1,11 @@
 -- From what a reader gives to what a writer is given.
-use Rattle.std.specs.Prelude.{◌≡◌, ◌⊎◌, ◌<◌, ℕ, ◌+◌, List, [], ◌∷◌, ◌++◌, take, map, true, false, Option, Some, None, Result, Ok, Err, position, bytes_eq, slice_get, ⊤}
+use Rattle.std.specs.Prelude.{◌≡◌, ◌⊎◌, ◌<◌, ℕ, ◌+◌, List, [], ◌∷◌, ◌++◌, length, take, map, true, false, Option, Some, None, Result, Ok, Err, position, bytes_eq, slice_get, ⊤}
 use Rattle.rs_policy.specs.Configuration.{Configuration}
 use Rattle.rs_core.specs.declared.links.Event.{Event}
 use Rattle.rs_core.specs.Links as links
+use Rattle.rs_core.specs.Moves.{Move, Ruled}
+use Rattle.rs_core.specs.Courses.{Course}
+use Rattle.rs_core.specs.Answers.{Drives}
 use Rattle.rs_replay.specs.declared.trace.LineFault.{LineFault}
 use Rattle.rs_replay.specs.declared.trace.Entry.{Entry}
 use Rattle.rs_replay.specs.declared.names.Names.{Names}
@@ -15,7 +18,7 @@ use Rattle.rs_replay.specs.Output.{fault_line}
 use Rattle.rs_replay.specs.Trace.{Saying, Listed}
 use Rattle.rs_replay.specs.Entries.{saying_in}
 use Rattle.rs_replay.specs.Text.{lines_of, outcome, tells, IsRead}
-use Rattle.rs_replay.specs.Played.{Act, Did, said, written, saying_told, saying_at, line_at, TookAll, AllTookAll, SaysFirst, Stands, PutsFront, Puts, failed, failures_read, failures_written}
+use Rattle.rs_replay.specs.Played.{Act, Did, ToldRoutes, said, written, saying_told, saying_at, line_at, TookAll, AllTookAll, SaysFirst, Stands, PutsFront, Puts, failed, failures_read, failures_written}
 
 -- the client of a name, and the name of a client
 abbrev pub place_in : Names → List ℕ → Option ℕ
@@ -96,7 +99,21 @@ Gives put octets (Err Writing) = BreaksOff put octets
 abbrev pub AreNamesOf : Names → Configuration → Type 0
 AreNamesOf names settings = map (λ name. name.items) names.names.items ≡ map (λ client. client.name) settings.clients
 
--- The octets that were taken say what was done, in that order, and the octets that were put are its output. Each offer took all.
+-- the acts of steps, before which others were done
+abbrev pub steps_done : List links.Step → List Act → List Act
+steps_done [] acts = acts
+steps_done (s ∷ run) acts = Did s ∷ steps_done run acts
+
+-- What was done is what a link and a route server of so many clients do together in drives (one behind the other), and routes that were told
+-- between them; this run was made by it.
+pub data HasRun (settings : Configuration) : List Act → List Move → Type 0 where
+  Begins : HasRun settings [] (Ruled settings ∷ [])
+  Drove : (acts : List Act) (run : List Move) (y : Course) → HasRun settings acts run
+      → Drives (length settings.clients) (record { steps = []; run = run }) y → HasRun settings (steps_done y.steps acts) y.run
+  Tells : (c : ℕ) (told : List ℕ) (acts : List Act) (run : List Move) → HasRun settings acts run → HasRun settings (ToldRoutes c told ∷ acts) run
+
+-- The octets that were taken say what was done, in that order, and the octets that were put are its output. What was done is a run of
+-- the route server, and each offer took all.
 pub record IsPlayed (settings : Configuration) (takes : List ℕ → Type 0) (over : Type 0) (put : List ℕ → Type 0) (result : Result (Unit {0}) ReplayFault) : Type 0 where
   pub names : Names
   pub named : AreNamesOf names settings
@@ -106,6 +123,8 @@ pub record IsPlayed (settings : Configuration) (takes : List ℕ → Type 0) (ov
   pub ends : Ends (place_in names) text over (said acts) result
   pub gives : Gives put (written (name_in names) acts) result
   pub took : AllTookAll acts
+  pub run : List Move
+  pub ran : HasRun settings acts run
 
 -- nothing was read yet, and the core was not stopped
 pub record IsAtFirst (r : lines.Reading) (n : ℕ) (stop : Option Stop) : Type 0 where
@@ -154,9 +173,11 @@ pub record IsOver {R W : Type 0} (takes : R → List ℕ → R → Type 0) (at_e
   pub gives : Gives (λ xs. puts to xs writer) octets answer
 
 -- Some acts were done since the first reader and writer, and then the replay ended with this answer. Each offer took all.
-pub record PlaysOut {R W : Type 0} (takes : R → List ℕ → R → Type 0) (at_end : R → Type 0) (puts : W → List ℕ → W → Type 0)
+pub record PlaysOut {R W : Type 0} (settings : Configuration) (takes : R → List ℕ → R → Type 0) (at_end : R → Type 0) (puts : W → List ℕ → W → Type 0)
     (names : Names) (first : R) (to : W) (reader : R) (writer : W) (answer : Result (Unit {0}) ReplayFault) : Type 0 where
   pub acts : List Act
+  pub run : List Move
+  pub ran : HasRun settings acts run
   pub took : AllTookAll acts
   pub over : IsOver takes at_end puts (place_in names) first to (said acts) (written (name_in names) acts) reader writer answer
 

@@ -1,6 +1,10 @@
 //! Plays a recorded session through the core.
 
-ghost use Rattle.std.specs.Prelude.{◌≡◌, ◌<◌, ◌≤◌};
+ghost use Rattle.std.specs.Prelude.{◌≡◌, ◌<◌, ◌≤◌, [], ◌∷◌, length};
+ghost use Rattle.rs_policy.specs.Configuration.{Configuration};
+ghost use Rattle.rs_core.specs.Core.{client_count};
+ghost use Rattle.rs_core.specs.Moves.{Ruled};
+ghost use Rattle.rs_core.specs.Agreeing.{Agrees};
 ghost use Rattle.rs_replay.specs.Replays.{HasPlayed, IsAtFirst, PlaysOut};
 
 use crate::fault::ReplayFault;
@@ -49,7 +53,7 @@ fn play_on<T: Threads + Wait + Sync, R: TextIn, W: TextOut>(
     requires first { IsAtFirst recording.old.lines.now recording.old.number recording.old.stop }
     ensures reader { recording.new.reader.ghost_name ≡ recording.old.reader.ghost_name }
     ensures writer { recording.new.writer.ghost_name ≡ recording.old.writer.ghost_name }
-    ensures played { PlaysOut R.takes R.at_end W.puts recording.old.names.now recording.old.reader.now recording.old.writer.now recording.new.reader.now recording.new.writer.now result }
+    ensures played { (settings : Configuration) → client_count core.old ≡ length settings.clients → Agrees core.old (Ruled settings ∷ []) → PlaysOut settings R.takes R.at_end W.puts recording.old.names.now recording.old.reader.now recording.old.writer.now recording.new.reader.now recording.new.writer.now result }
 {
     for _ in rt.forever() {
         drive_with(rt, workers, &Free, core, recording);

@@ -1,8 +1,13 @@
 -- What was done so far is what the steps of the link were, and the routes that were told between them.
-use Rattle.std.proofs.Common.{List}
+use Rattle.std.proofs.Common.{◌≡◌, List, [], ◌∷◌, length}
+use Rattle.rs_policy.specs.Configuration.{Configuration}
+use Rattle.rs_core.specs.Core.{client_count}
+use Rattle.rs_core.specs.Moves.{Ruled}
+use Rattle.rs_core.specs.Agreeing.{Agrees}
 use Rattle.rs_replay.specs.declared.recording.Recording.{Recording}
 use Rattle.rs_replay.specs.Played.{Act}
 use Rattle.rs_replay.specs.Replays.{HasDone}
+use Rattle.rs_replay.proofs.Replaying.{HasGone}
 use Rattle.rs_replay.proofs.replay.play_on.Given as goal
 
 -- these acts lead from one recording to the other
@@ -12,4 +17,7 @@ Does g first acts now = HasDone g.R.TextIn.takes g.R.TextIn.at_end g.R.TextIn.fa
     now.names.now now.reader.ghost_name now.writer.ghost_name now.reader.now now.writer.now now.lines.now now.number now.stop
 
 abbrev pub invariant-loop : goal.invariant-loop
-invariant-loop g l = (acts : List Act) × Does g l.initial.recording acts l.recording
+invariant-loop g l =
+    ((acts : List Act) × Does g l.initial.recording acts l.recording)
+    × ((settings : Configuration) → client_count l.initial.core ≡ length settings.clients → Agrees l.initial.core (Ruled settings ∷ [])
+    → HasGone (λ link acts. Does g l.initial.recording acts link) settings l.core l.recording)
