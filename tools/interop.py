@@ -49,19 +49,20 @@ def write_page(page, members, plays, missing):
         names = [it.name for it in members] + ["plain"]
         text += ["", f"## {title}", "", "| | " + " | ".join(names) + " |", "|---" * (len(names) + 1) + "|"]
         for check, _ in CHECKS:
-            text.append(f"| {check} | " + " | ".join(seen.get((check, name), "not tried") for name in names) + " |")
+            text.append(f"| {check} | " + " | ".join(seen.get((check, name), "") for name in names) + " |")
     text += ["", "## What a line says", ""] + [f"- **{check}**: {words}" for check, words in CHECKS]
     page.write_text("\n".join(text) + "\n")
 
 
-def played(program, members, short, until):
-    """One play: what was seen, by check and member."""
+def played(title, program, members, short, until):
+    """One play: its title, and what was seen, by check and member."""
+    print(title, flush=True)
     with tempfile.TemporaryDirectory(prefix="interop-") as room, contextlib.ExitStack() as stack:
         os.chmod(room, 0o755)
         play = Play(program, members, room, short, until)
         stack.callback(play.end)
         play.run()
-        return play.seen
+        return title, play.seen
 
 
 def main():
@@ -80,18 +81,15 @@ def main():
     if not members:
         sys.exit("no member is installed: nothing was tried")
     until = time.monotonic() + MOST
-    plays = [("Sessions with four-octet AS numbers", played(options.program, members, False, until))]
+    plays = [played("Sessions with four-octet AS numbers", options.program, members, False, until)]
     able = [it for it in members if it.has_short]
     if able:
         names = ", ".join(it.name for it in able)
-        plays.append((f"Two-octet sessions of {names}", played(options.program, members, True, until)))
+        plays.append(played(f"Two-octet sessions of {names}", options.program, members, True, until))
     held, differ = 0, 0
-    for title, seen in plays:
-        print(title)
-        for (check, name), words in seen.items():
-            print(f"  {name}: {check}: {words}")
-            held += words.startswith("yes")
-            differ += words.startswith("no")
+    for _, seen in plays:
+        held += sum(words.startswith("yes") for words in seen.values())
+        differ += sum(words.startswith("no: ") for words in seen.values())
     if options.page:
         write_page(options.page, members, plays, missing)
     end(held, differ)

@@ -18,7 +18,7 @@ PATIENCE = 60
 CHECKS = (
     ("comes up", "the session is Established, as the daemon says, and is the first one that it had"),
     ("hears all others", "its own show command lists just the 1,000 routes of each other member"),
-    ("as they were sent", "each of these with the AS_PATH, NEXT_HOP, MED and communities that its sender was told to send"),
+    ("as they were sent", "each of these with the AS_PATH, NEXT_HOP, MED and communities that its sender was told to send (OpenBGPD shows a MED of 0 where there is none)"),
     ("is heard", "the plain member was told all of its 1,000 routes, so"),
     ("withdrawal arrives", "the plain member withdraws a route, and it is gone from the daemon's table"),
     ("withdraws", "it withdraws a route by its own command, and the plain member is told"),

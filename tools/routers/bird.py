@@ -57,7 +57,7 @@ protocol bgp route_server {{
 
     def state(self):
         found = re.search(r"^route_server\s+BGP\s+\S+\s+\S+\s+\S+ *(.*)$", self.ask("show", "protocols"), re.M)
-        return found[1].strip() if found else "not there"
+        return " ".join(found[1].split()) if found else "not there"
 
     def is_up(self):
         return self.state() == "Established"
