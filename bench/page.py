@@ -1,0 +1,175 @@
+"""The page of bench.py: the tables, the goals as ratios in one run, and what the words mean."""
+import datetime
+
+WORDS = """
+## What is played
+
+Clients speak over 127.0.0.0/8, all in one process of two threads (`bench/rsload`). The same seed gives the same octets for each
+server. All NEXT_HOPs are data alone.
+
+| Work | Means |
+|---|---|
+| `packed AxB` | A clients announce B prefixes each, 500 to a set of attributes |
+| `internet AxB` | 1 to 5 prefixes to a set of attributes; AS_PATH of 2 to 6 four-octet numbers; MED, communities, large communities, AGGREGATOR on a part of them; a fifth of the clients in a four-octet AS |
+| `overlap AxB` | as `internet`, but each prefix is announced by three clients, so that a choice is made, and paths that are hidden by it show |
+| `deaf AxB` | as `internet`, with one client more that comes up and then reads nothing; what stands in the row is the others' |
+
+Behind the start (all clients up, then all announce at once) come single changes (one announcement or withdrawal at a time beside the
+full table), a flap (client 0 closes its connection, comes back and announces again) and a client that comes late, without routes.
+
+## Columns
+
+- **converged**: from the first UPDATE sent until the last client holds exactly its table. `-`: it never did; the cause stands under the table.
+- **CPU**, **CPU in all**: processor seconds of the server and its descendants until then, and over the whole run.
+- **us/route**: CPU by routes told. **octets/route**: the greatest memory by routes that are due to all clients together; **peak MB** is that memory (VmHWM of all processes, shared pages counted twice).
+- **wrong**: what clients hold, against what the choice of the best route of the others makes (RFC 4271, 9.1.2.2; RFC 7947, 2.3.2): missing routes, routes that aren't due, other routes than the best, altered attributes (compared octet by octet, but for their order and the form of their lengths), and routes sent back to their sender. A router drops these last for its own AS in the path.
+- **one**, **gone**: milliseconds until the last client has a single announcement, or withdrawal: the middle and the 99th of a hundred.
+- **flap gone**, **back**: from the drop until nobody has a route of it, from its first UPDATE behind the return until all have them again. **late**: from Established until the late client has all.
+
+## What each server is told
+
+- `bird`: one table; a client whose own route is the best is told none, so paths are hidden. `bird-tables`: a table for each client, joined by pipes, where its own routes have less preference.
+- `openbgpd`: `transparent-as yes`, `set nexthop no-modify`, `rde evaluate all`, and for each client a rule against its own routes, so that no path is hidden.
+- `frr`: `route-server-client`, one choice for all; it sends routes back to their sender. `gobgp`: `route-server-client`, `external-compare-router-id`.
+
+Times depend on what else runs on the machine: compare rows of one run alone. rsload is Rust and has no dependency: `cargo` builds it,
+without a network.
+"""
+
+
+LATER = (
+    "| Work | Server | one p50 ms | one p99 ms | gone p50 ms | gone p99 ms | flap gone s | back s | late s | CPU in all s |",
+    "|---|---|---:|---:|---:|---:|---:|---:|---:|---:|",
+)
+
+
+def value(report, phase, name):
+    """A figure of a report, or None."""
+    return report.get(phase, {}).get(name)
+
+
+def shown(number, digits=3):
+    """A figure with so many digits."""
+    if number is None:
+        return "-"
+    if number >= 100 or number == int(number):
+        return f"{number:.0f}"
+    return f"{number:.{digits}g}"
+
+
+def wrong(report):
+    """What clients hold that they should not, and the other way round."""
+    found = []
+    for phase in ("initial", "flap", "late"):
+        for name, words in (("missing", "missing"), ("extra", "too many"), ("not_best", "not best"), ("altered", "altered")):
+            if count := value(report, phase, name):
+                found.append(f"{count:.0f} {words}" + (f" ({phase})" if phase != "initial" else ""))
+    for name, words in (("own_returned", "sent back"), ("altered_prefixes", "told altered"), ("drops", "sessions lost"), ("malformed", "malformed")):
+        if count := value(report, "whole", name):
+            found.append(f"{count:.0f} {words}")
+    return ", ".join(found) or "nothing"
+
+
+def told(report, phase):
+    """Routes that all clients together were told."""
+    return value(report, phase, "announced") or None
+
+
+def ratio(one, other, by=1.0):
+    return None if one is None or not other else by * one / other
+
+
+def start_rows(rows):
+    yield "| Work | Server | converged s | CPU s | us/route | octets/route | peak MB | UPDATEs | wrong | load |"
+    yield "|---|---|---:|---:|---:|---:|---:|---:|---|---:|"
+    for work, server, report, load in rows:
+        if "initial" not in report:
+            yield f"| {work} | {server} | - | - | - | - | - | - | {report.get('fault', 'it did not come up')} | {load:.1f} |"
+            continue
+        cpu, peak = value(report, "initial", "server_cpu_s"), value(report, "whole", "server_peak_mb")
+        figures = [
+            value(report, "initial", "complete_s"),
+            cpu,
+            ratio(cpu, told(report, "initial"), 1e6),
+            ratio(peak, value(report, "initial", "due"), 2**20),
+            peak,
+            value(report, "initial", "updates"),
+        ]
+        yield f"| {work} | {server} | {' | '.join(map(shown, figures))} | {wrong(report)} | {load:.1f} |"
+
+
+def later_rows(rows):
+    names = (
+        ("single", "announce_ms_p50"),
+        ("single", "announce_ms_p99"),
+        ("single", "withdraw_ms_p50"),
+        ("single", "withdraw_ms_p99"),
+        ("flap", "withdrawn_s"),
+        ("flap", "reannounced_s"),
+        ("late", "full_s"),
+        ("whole", "server_cpu_s"),
+    )
+    for work, server, report, _ in rows:
+        if "single" in report or "flap" in report or "late" in report:
+            yield f"| {work} | {server} | " + " | ".join(shown(value(report, *it)) for it in names) + " |"
+
+
+def faults(rows):
+    """What went wrong in a phase, in rsload's words."""
+    for work, server, report, _ in rows:
+        for phase, figures in report.items():
+            if isinstance(figures, dict) and "fault" in figures:
+                yield f"- {work}, {server}: {phase}: {figures['fault']}"
+        if differences := report.get("whole", {}).get("attribute_differences"):
+            yield f"- {work}, {server}: altered attributes: {differences}"
+
+
+def least(rows, work, server, phase, name):
+    """The least figure of a server's runs of a work."""
+    found = [value(report, phase, name) for it, who, report, _ in rows if it == work and who == server]
+    found = [it for it in found if it is not None]
+    return min(found) if found else None
+
+
+def goals(rows, work):
+    """Each goal: its words, its phase, our figure, the other's, whether it is met (None: not known)."""
+    wanted = (
+        ("converged no later than BIRD with one table", "bird", 1.0, "initial", "complete_s"),
+        ("less processor time than BIRD with one table", "bird", 1.0, "initial", "server_cpu_s"),
+        ("at most half the memory of BIRD with tables", "bird-tables", 0.5, "whole", "server_peak_mb"),
+        ("a single announcement (p50) no later than BIRD's", "bird", 1.0, "single", "announce_ms_p50"),
+        ("a single withdrawal (p50) no later than BIRD's", "bird", 1.0, "single", "withdraw_ms_p50"),
+        ("a flap gone no later than BIRD's", "bird", 1.0, "flap", "withdrawn_s"),
+        ("a flap back no later than BIRD's", "bird", 1.0, "flap", "reannounced_s"),
+    )
+    found = []
+    for words, other, bound, phase, name in wanted:
+        ours, theirs = least(rows, work, "ours", phase, name), least(rows, work, other, phase, name)
+        met = None if ours is None or theirs is None else ours <= bound * theirs
+        found.append((words, phase, ours, theirs, met))
+    own = [report for _, server, report, _ in rows if server == "ours"]
+    found.append(("no route altered, missing or sent back, in any work", None, None, None, all("initial" in it and wrong(it) == "nothing" for it in own) if own else None))
+    return found
+
+
+def page(rows, judged, met, seen, machine, versions, missing):
+    """The whole page."""
+    today = datetime.date.today()
+    text = ["# Among other route servers", ""]
+    text += [f"Made by `make bench` on {today.day} {today:%B %Y}: {machine}. One server after the other; the load average before each run stands in its row.", ""]
+    text += ["Servers: " + ", ".join(f"{name} ({version()})" if callable(version) else f"{name} ({version})" for name, version in versions) + "."]
+    text += [f"Skipped: {name} {why}." for name, why in missing]
+    if met:
+        text += ["", "## Goals", "", f"As ratios in one run, of `{judged}`, the least of each server's runs.", "", "| Goal | ours | other | ratio | |", "|---|---:|---:|---:|---|"]
+        for words, _, ours, theirs, is_met in met:
+            state = "met" if is_met else "not known" if is_met is None else "**missed**"
+            text.append(f"| {words} | {shown(ours)} | {shown(theirs)} | {shown(ratio(ours, theirs), 2)} | {state} |")
+    for phase, lines in (seen or {}).items():
+        text += ["", f"Where ours spends its processor time in that work, phase `{phase}`, by `perf` (clock samples), in parts of a hundred:", ""]
+        text += [f"    {it}" for it in lines.splitlines()]
+    text += ["", "## From nothing until all hold their tables", "", *start_rows(rows)]
+    if later := list(later_rows(rows)):
+        text += ["", "## Afterwards", "", *LATER, *later]
+    if lines := list(faults(rows)):
+        text += ["", "## What went wrong", "", *lines]
+    return "\n".join(text) + "\n" + WORDS
