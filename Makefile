@@ -2,7 +2,7 @@
 # It stands on `rt`, the command of the Rattle toolchain, and on Python 3.
 
 .DEFAULT_GOAL := help
-.PHONY: help demo build serve test interop attack examples clean
+.PHONY: help demo build serve test interop bench attack examples clean
 
 PROGRAMS := rs_replay rs_served
 
@@ -31,6 +31,10 @@ interop: ## try BIRD, OpenBGPD, FRR, GoBGP and ExaBGP as members, and write docs
 	@[ -x out/rs_served ] || { echo "out/rs_served isn't there: make build makes it"; exit 1; }
 	@python3 tools/interop.py out/rs_served $(if $(MEMBER),--member $(MEMBER),--page docs/INTEROP.md)
 
+bench: ## measure the server among BIRD, OpenBGPD, FRR and GoBGP, and write docs/BENCH.md (FULL=1: all works, about an hour)
+	@[ -x out/rs_served ] || { echo "out/rs_served isn't there: make build makes it"; exit 1; }
+	@python3 bench/bench.py out/rs_served $(if $(FULL),--full) --page docs/BENCH.md
+
 attack: ## try the wrong programs of attacks/, beyond those of the gate (CRATE=rs_octets: those of one crate)
 	@python3 tools/attack.py $(CRATE)
 
@@ -38,4 +42,4 @@ examples: ## compare the example configurations with those that are tested
 	@python3 tools/check_examples.py
 
 clean: ## remove all that was built
-	rm -rf out crates/*/out tools/__pycache__ tools/routers/__pycache__
+	rm -rf out crates/*/out tools/__pycache__ tools/routers/__pycache__ bench/__pycache__

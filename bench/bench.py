@@ -18,13 +18,15 @@ import signal
 import subprocess
 import sys
 import tempfile
+import threading
 import time
 
 from page import goals, page
 from servers import HOST, PORT, servers
 
 HERE = pathlib.Path(__file__).resolve().parent
-RSLOAD = HERE / "rsload" / "target" / "release" / "rsload"
+BUILT = HERE.parent / "out" / "rsload"
+RSLOAD = BUILT / "release" / "rsload"
 
 # Each work with its options. What the words mean is in the page.
 QUICK = (
@@ -50,11 +52,11 @@ def build():
     """Builds the load."""
     if not shutil.which("cargo"):
         sys.exit("cargo is not installed: rsload, the load, is built by it")
-    subprocess.run(["cargo", "build", "--release", "--offline", "-q"], cwd=HERE / "rsload", check=True)
+    subprocess.run(["cargo", "build", "--release", "--offline", "-q", "--target-dir", BUILT], cwd=HERE / "rsload", check=True)
 
 
-def run(server, options, room, changes):
-    """One run: the report of rsload, or what went wrong."""
+def run(server, options, room, changes, began=None):
+    """One run: the report of rsload, or what went wrong. `began` is given the moment at which each phase began."""
     words = options.split()
     target = ["--target", f"{HOST}:{PORT}"]
     kind = "ours" if server.name.startswith("ours") else server.name
@@ -65,23 +67,34 @@ def run(server, options, room, changes):
         time.sleep(1)
         report = room / "report.json"
         more = ["--changes", str(changes), "--gap-ms", "30", "--latency-budget", "15", "--timeout", "150", "--max-rss-mb", "6000"]
-        try:
-            subprocess.run([RSLOAD, "run", *words, *target, *more, "--pid", str(process.pid), "--label", server.name, "--json", report], timeout=400)
-        except subprocess.TimeoutExpired:
-            return {"fault": "took too long"}
+        own = ["--pid", str(process.pid), "--label", server.name, "--json", report]
+        with subprocess.Popen([RSLOAD, "run", *words, *target, *more, *own], stdout=subprocess.PIPE, text=True) as load:
+            last = threading.Timer(400, load.kill)
+            last.start()
+            for line in load.stdout:
+                if began is not None:
+                    began[line.strip()] = time.monotonic()
+            last.cancel()
     return json.loads(report.read_text()) if report.exists() else {"fault": "no report"}
 
 
-def profile(server, options, room, seconds):
-    """Where the processor's time goes in ours, by perf; or why there is no such table."""
+def profile(server, options, room, phases):
+    """Where the processor's time goes in ours in each of these phases, by perf; or why there is no such table."""
     if not shutil.which("perf"):
-        return "perf is not installed, so there is no profile."
-    inner, data = server.words, room / "perf.data"
-    server.words = lambda folder: ["perf", "record", "-q", "-e", "cpu-clock", "-F", "499", "-o", data, "--", *inner(folder)]
-    run(server, options + " --phases a", room, 0)
-    ran = subprocess.run(["perf", "report", "--stdio", "--no-children", "-i", data, "--percent-limit", "1"], capture_output=True, text=True, timeout=seconds)
-    lines = [it.rstrip() for it in ran.stdout.splitlines() if it.strip() and not it.startswith("#")]
-    return "\n".join(lines[:25]) or "perf told nothing."
+        return {"perf": "perf is not installed, so there is no profile."}
+    inner, data, began = server.words, room / "perf.data", {}
+    server.words = lambda folder: ["perf", "record", "-q", "-e", "cpu-clock", "-F", "999", "-k", "CLOCK_MONOTONIC", "-o", data, "--", *inner(folder)]
+    run(server, options, room, 50, began)
+    order, seen = list(began), {}
+    for phase in phases:
+        if phase not in order[:-1]:
+            continue
+        times = f"{began[phase]:.6f},{began[order[order.index(phase) + 1]]:.6f}"
+        words = ["perf", "report", "--stdio", "--no-children", "-i", data, "--time", times, "--percent-limit", "2", "-F", "overhead,symbol"]
+        told = subprocess.run(words, capture_output=True, text=True, timeout=120).stdout
+        lines = [it.strip(" -") for it in told.splitlines() if it.strip() and not it.startswith("#")]
+        seen[phase] = "\n".join(lines[:20]) or "perf told nothing."
+    return seen
 
 
 def main():
@@ -121,10 +134,11 @@ def main():
         judged = next((it for it in JUDGED if any(work == it for work, *_ in rows)), None)
         met = goals(rows, judged) if judged else []
         seen = None
-        if any(it[-1] is False for it in met):
+        phases = dict.fromkeys(it[1] for it in met if it[-1] is False)
+        if phases:
             room = pathlib.Path(folder) / "profile"
             room.mkdir()
-            seen = profile(there[0], dict(works)[judged], room, 120)
+            seen = profile(there[0], dict(works)[judged], room, [it for it in phases if it])
     machine = f"{platform.processor() or platform.machine()}, {os.cpu_count()} processors, {platform.system()} {platform.release()}"
     text = page(rows, judged, met, seen, machine, [(it.name, it.version()) for it in there], [(it.name, it.missing) for it in wanted if it.missing])
     if options.page:

@@ -37,6 +37,12 @@ without a network.
 """
 
 
+LATER = (
+    "| Work | Server | one p50 ms | one p99 ms | gone p50 ms | gone p99 ms | flap gone s | back s | late s | CPU in all s |",
+    "|---|---|---:|---:|---:|---:|---:|---:|---:|---:|",
+)
+
+
 def value(report, phase, name):
     """A figure of a report, or None."""
     return report.get(phase, {}).get(name)
@@ -103,8 +109,6 @@ def later_rows(rows):
         ("late", "full_s"),
         ("whole", "server_cpu_s"),
     )
-    yield "| Work | Server | one p50 ms | one p99 ms | gone p50 ms | gone p99 ms | flap gone s | back s | late s | CPU in all s |"
-    yield "|---|---|---:|---:|---:|---:|---:|---:|---:|---:|"
     for work, server, report, _ in rows:
         if "single" in report or "flap" in report or "late" in report:
             yield f"| {work} | {server} | " + " | ".join(shown(value(report, *it)) for it in names) + " |"
@@ -128,7 +132,7 @@ def least(rows, work, server, phase, name):
 
 
 def goals(rows, work):
-    """Each goal: its words, our figure, the other's, whether it is met (None: not known)."""
+    """Each goal: its words, its phase, our figure, the other's, whether it is met (None: not known)."""
     wanted = (
         ("converged no later than BIRD with one table", "bird", 1.0, "initial", "complete_s"),
         ("less processor time than BIRD with one table", "bird", 1.0, "initial", "server_cpu_s"),
@@ -142,9 +146,9 @@ def goals(rows, work):
     for words, other, bound, phase, name in wanted:
         ours, theirs = least(rows, work, "ours", phase, name), least(rows, work, other, phase, name)
         met = None if ours is None or theirs is None else ours <= bound * theirs
-        found.append((words, ours, theirs, met))
+        found.append((words, phase, ours, theirs, met))
     own = [report for _, server, report, _ in rows if server == "ours"]
-    found.append(("no route altered, missing or sent back, in any work", None, None, all("initial" in it and wrong(it) == "nothing" for it in own) if own else None))
+    found.append(("no route altered, missing or sent back, in any work", None, None, None, all("initial" in it and wrong(it) == "nothing" for it in own) if own else None))
     return found
 
 
@@ -157,12 +161,15 @@ def page(rows, judged, met, seen, machine, versions, missing):
     text += [f"Skipped: {name} {why}." for name, why in missing]
     if met:
         text += ["", "## Goals", "", f"As ratios in one run, of `{judged}`, the least of each server's runs.", "", "| Goal | ours | other | ratio | |", "|---|---:|---:|---:|---|"]
-        for words, ours, theirs, is_met in met:
+        for words, _, ours, theirs, is_met in met:
             state = "met" if is_met else "not known" if is_met is None else "**missed**"
             text.append(f"| {words} | {shown(ours)} | {shown(theirs)} | {shown(ratio(ours, theirs), 2)} | {state} |")
-    if seen:
-        text += ["", "Where the processor's time goes in ours in that work, by `perf` (clock samples), in parts of a hundred:", "", *(f"    {it}" for it in seen.splitlines())]
-    text += ["", "## From nothing until all hold their tables", "", *start_rows(rows), "", "## Afterwards", "", *later_rows(rows)]
+    for phase, lines in (seen or {}).items():
+        text += ["", f"Where ours spends its processor time in that work, phase `{phase}`, by `perf` (clock samples), in parts of a hundred:", ""]
+        text += [f"    {it}" for it in lines.splitlines()]
+    text += ["", "## From nothing until all hold their tables", "", *start_rows(rows)]
+    if later := list(later_rows(rows)):
+        text += ["", "## Afterwards", "", *LATER, *later]
     if lines := list(faults(rows)):
         text += ["", "## What went wrong", "", *lines]
     return "\n".join(text) + "\n" + WORDS

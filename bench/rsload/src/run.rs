@@ -758,7 +758,9 @@ impl Shared {
         report.num("not_best", not_best as f64);
     }
 
-    fn phase_start(&self) -> (Stats, Usage) {
+    /// Says that a phase begins, for who measures the server beside this.
+    fn phase_start(&self, name: &str) -> (Stats, Usage) {
+        println!("{name}");
         self.own_cpu.store(usage(&[std::process::id()]).cpu.to_bits(), SeqCst);
         (self.stats(), self.usage())
     }
@@ -826,7 +828,7 @@ impl Shared {
 
         // (a) initial convergence
         let mut r = Report::new("initial");
-        let (s0, u0) = self.phase_start();
+        let (s0, u0) = self.phase_start("initial");
         let dues: Vec<usize> = (0..n).map(|k| w.due(k, &announcing)).collect();
         for k in 0..n {
             self.set_cond(k, Cond { total: Some(dues[k]), owner: None });
@@ -867,7 +869,7 @@ impl Shared {
         // (b) single changes
         if self.n.phases.contains('b') && !fatal && !w.single.is_empty() {
             let mut r = Report::new("single");
-            let (s0, u0) = self.phase_start();
+            let (s0, u0) = self.phase_start("single");
             let base: Vec<usize> = (0..n).map(|k| self.lock(k).present).collect();
             let (mut ann, mut wdr) = (Vec::new(), Vec::new());
             let (mut ann1, mut failed) = (Vec::new(), 0);
@@ -927,7 +929,7 @@ impl Shared {
         // (c) flap of client 0
         if self.n.phases.contains('c') && !fatal && n > 1 {
             let mut r = Report::new("flap");
-            let (s0, u0) = self.phase_start();
+            let (s0, u0) = self.phase_start("flap");
             announcing[0] = false;
             let less: Vec<usize> = (0..n).map(|k| w.due(k, &announcing)).collect();
             announcing[0] = true;
@@ -1004,7 +1006,7 @@ impl Shared {
         let fatal = fatal || !self.alive() || (0..n).any(|k| !self.is_up(k));
         if self.n.phases.contains('d') && !fatal && w.o.late > 0 {
             let mut r = Report::new("late");
-            let (s0, u0) = self.phase_start();
+            let (s0, u0) = self.phase_start("late");
             let late: Vec<usize> = (n..n + w.o.late).collect();
             for &k in &late {
                 let due = w.due(k, &announcing);
@@ -1034,6 +1036,7 @@ impl Shared {
         }
 
         // the whole
+        println!("whole");
         let mut r = Report::new("whole");
         let s = self.stats();
         r.num("drops", s.drops as f64);
