@@ -23,6 +23,8 @@ pub mod Telling
 pub mod Spoken
 pub mod Voicing
 pub mod Around
+pub mod Ordering
+pub mod Refusing
 pub mod Serving
 pub mod Outgoing
 pub mod Mandated

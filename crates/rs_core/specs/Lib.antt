@@ -5,9 +5,11 @@ pub mod Turns
 pub mod Ribs
 pub mod Core
 pub mod Moves
+pub mod Points
 pub mod Hearing
 pub mod Telling
 pub mod Runs
+pub mod Orders
 pub mod Voices
 pub mod Agreeing
 pub mod Steps
