@@ -30,3 +30,4 @@ pub mod Outgoing
 pub mod Mandated
 pub mod Taking
 pub mod Continuing
+pub mod InTurn

@@ -16,3 +16,4 @@ pub mod Steps
 pub mod Courses
 pub mod Answers
 pub mod Serving
+pub mod InTurn
