@@ -21,6 +21,8 @@ pub mod Changing
 pub mod Turned
 pub mod Telling
 pub mod Spoken
+pub mod Conversing
+pub mod Uttering
 pub mod Voicing
 pub mod Around
 pub mod Ordering
@@ -31,3 +33,4 @@ pub mod Mandated
 pub mod Taking
 pub mod Continuing
 pub mod InTurn
+pub mod Sent
