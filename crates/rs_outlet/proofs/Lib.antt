@@ -12,9 +12,11 @@ mod Ranks
 mod Fitting
 mod OthersAlone
 mod Places
+mod Withdrawals
 mod Finding
 mod Adding
 mod MarkedAgain
+mod MarkedAll
 mod Owing
 mod Carrying
 mod Unchanged

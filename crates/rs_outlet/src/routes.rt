@@ -1,6 +1,6 @@
 //! The routes of a Loc-RIB, one after the other.
 
-use crate::rows::Rows;
+use crate::table::Rows;
 use rs_adjin::NumberedPrefixes;
 use rs_attrs::Attrs;
 use rs_octets::Prefix;
