@@ -1,4 +1,5 @@
 mod Limits
+mod Listings
 mod LocByNumber
 mod Decisions
 mod OneOf

@@ -351,7 +351,9 @@ impl Outlet {
     }
 
     /// The routes of the Loc-RIB, by rising prefix.
-    pub fn routes<'a>(&'a self, ins: &'a AdjIns) -> Routes<'a> {
+    pub fn routes<'a>(&'a self, ins: &'a AdjIns) -> Routes<'a>
+        ensures { AreNumbered self.now ins.now → result ≡ map.entries self.now.loc }
+    {
         Routes::new(ins.iter(), &self.rows)
     }
 }
