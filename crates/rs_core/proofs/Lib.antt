@@ -28,3 +28,5 @@ pub mod Outgoing
 pub mod Mandated
 pub mod Taking
 pub mod Continuing
+pub mod Owing
+pub mod Paying

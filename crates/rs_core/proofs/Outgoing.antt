@@ -66,7 +66,7 @@ still_at c Is old new s h m outlet at = record {
   waits = λ x e. at.waits x (ap (λ v. slice_get v.items c) (sym m.buffers) ∙ e);
 }
 
-within : (old : Core) (c : ℕ) → c < old.count → c < old.ribs.count
+pub within : (old : Core) (c : ℕ) → c < old.count → c < old.ribs.count
 within old c lt = subst (λ n. c < n) (sym old.ribs_len) lt
 
 -- the next message was begun

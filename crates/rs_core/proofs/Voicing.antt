@@ -128,7 +128,7 @@ marked_same ins v w h = record { is = h.is ∙ (λ i. record v { beat = (sym h.i
 
 -- ---- what was said stays said
 
-up_live : (s : Configuration) (c : ℕ) (h : Hearing) → is_up (state_in s c h) ≡ true → is_live (state_in s c h) ≡ true
+pub up_live : (s : Configuration) (c : ℕ) (h : Hearing) → is_up (state_in s c h) ≡ true → is_live (state_in s c h) ≡ true
 up_live s c h e = by_state (state_in s c h) e where
   by_state : (x : State) → is_up x ≡ true → is_live x ≡ true
   by_state states.Idle e = absurd (let f : false ≡ true = e in cc)
