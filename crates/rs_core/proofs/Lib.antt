@@ -30,3 +30,5 @@ pub mod Taking
 pub mod Continuing
 pub mod Owing
 pub mod Paying
+pub mod Drained
+pub mod Sent

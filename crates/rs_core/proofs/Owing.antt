@@ -89,7 +89,7 @@ pays octets rest limit all most fewer =
 keeps : (rest all limit : ℕ) → rest ≤ all → rest * limit ≤ all * limit
 keeps rest all limit le = mul-le rest limit all limit le (omega arith)
 
-some_owed : (a b : ℕ) → a + b ≡ 0 → (a ≡ 0) × (b ≡ 0)
+pub some_owed : (a b : ℕ) → a + b ≡ 0 → (a ≡ 0) × (b ≡ 0)
 some_owed a b e = (omega (arith, e), omega (arith, e))
 
 pub both_zero : (a b : ℕ) → (a ≡ 0 → b ≡ 0) → (b ≡ 0 → a ≡ 0) → (a == 0) ≡ (b == 0)
@@ -98,13 +98,13 @@ both_zero zero (suc b) f g = absurd (let e = f refl in omega (arith, e))
 both_zero (suc a) zero f g = absurd (let e = g refl in omega (arith, e))
 both_zero (suc a) (suc b) f g = grind (arith, nat_tests)
 
-no_length : (octets : List ℕ) → length octets ≡ 0 → octets ≡ []
+pub no_length : (octets : List ℕ) → length octets ≡ 0 → octets ≡ []
 no_length [] e = refl
 no_length (o ∷ os) e = absurd (omega (arith, e))
 
 -- ---- an UPDATE begins
 
-limit_least : (limit : Limit) → 1 ≤ limit_octets limit
+pub limit_least : (limit : Limit) → 1 ≤ limit_octets limit
 limit_least limits.Short = omega arith
 limit_least limits.Long = omega arith
 
@@ -114,7 +114,7 @@ zero_and n = omega arith
 twice_zero : (n : ℕ) → 0 + (0 + n) ≡ n
 twice_zero n = omega arith
 
-none_times : (n limit : ℕ) → 1 ≤ limit → n * limit ≡ 0 → n ≡ 0
+pub none_times : (n limit : ℕ) → 1 ≤ limit → n * limit ≡ 0 → n ≡ 0
 none_times zero limit one e = refl
 none_times (suc n) limit one e = absurd (
     let most : 1 * limit ≤ suc n * limit = mul-le 1 limit (suc n) limit (omega arith) (omega arith) in
@@ -177,9 +177,9 @@ module _ (v w : View) (b : IsBegun v w) where
       let less = update_owes speech v w (b.begins speech empty quiet silent up) in
       let then_none = b.update empty quiet silent in
       let e : owed_by w ≡ length w.flight + fin.len w.waits * limit_octets speech.limit =
-          owed_is w None false (Some speech) then_none.0 then_none.1 (same_speech ∙ up) ∙ ap (λ n. length w.flight + n) (zero_and (fin.len w.waits * limit_octets speech.limit)) in
+      owed_is w None false (Some speech) then_none.0 then_none.1 (same_speech ∙ up) ∙ ap (λ n. length w.flight + n) (zero_and (fin.len w.waits * limit_octets speech.limit)) in
       let f : owed_by v ≡ fin.len v.waits * limit_octets speech.limit =
-          owed_is v None false (Some speech) quiet silent up ∙ ap (λ l. length l + (0 + fin.len v.waits * limit_octets speech.limit)) empty ∙ twice_zero (fin.len v.waits * limit_octets speech.limit) in
+      owed_is v None false (Some speech) quiet silent up ∙ ap (λ l. length l + (0 + fin.len v.waits * limit_octets speech.limit)) empty ∙ twice_zero (fin.len v.waits * limit_octets speech.limit) in
       subst (λ n. n ≤ owed_by v) (sym e) (subst (λ n. length w.flight + fin.len w.waits * limit_octets speech.limit ≤ n) (sym f) less)
 
   -- no more is owed than before
@@ -221,12 +221,12 @@ module _ (v w : View) (b : IsBegun v w) where
     by_note None e = by_beat v.beat e refl
 
   -- where nothing begins nothing is owed, if no UPDATE is left out of those that wait
-  pub none_begun : ((speech : Speech) → Rests v w → fin.len v.waits ≡ 0) → w.flight ≡ [] → owed_by v ≡ 0
+  pub none_begun : ((speech : Speech) → v.speech ≡ Some speech → Rests v w → fin.len v.waits ≡ 0) → w.flight ≡ [] → owed_by v ≡ 0
   none_begun all none = by_flight v.flight refl where
-    by_update : (speech : Speech) → BeginsUpdate speech v w → fin.len v.waits ≡ 0
-    by_update speech (inl rests) = all speech rests
-    by_update speech (inr (inl gone)) = absurd (long_octets (withdrawal gone.prefixes) _ (withdrawal_length gone.prefixes) (sym gone.flight ∙ none))
-    by_update speech (inr (inr news)) = absurd (announced_some speech news.attributes news.prefixes (sym news.flight ∙ none)) where
+    by_update : (speech : Speech) → v.speech ≡ Some speech → BeginsUpdate speech v w → fin.len v.waits ≡ 0
+    by_update speech up (inl rests) = all speech up rests
+    by_update speech up (inr (inl gone)) = absurd (long_octets (withdrawal gone.prefixes) _ (withdrawal_length gone.prefixes) (sym gone.flight ∙ none))
+    by_update speech up (inr (inr news)) = absurd (announced_some speech news.attributes news.prefixes (sym news.flight ∙ none)) where
       announced_some : (speech : Speech) (m : List Attribute) (ps : List Prefix) → announcement m speech.mode ps ≡ [] → ⊥
       announced_some speech m ps e = let l = update_length (spelt m speech.mode) ps in let z : length (announcement m speech.mode ps) ≡ 0 = ap length e in omega (arith, l, z)
 
@@ -234,7 +234,7 @@ module _ (v w : View) (b : IsBegun v w) where
     by_speech None empty quiet silent e = owed_is v None false None quiet silent e ∙ ap (λ f. length f + 0) empty
     by_speech (Some speech) empty quiet silent e =
         owed_is v None false (Some speech) quiet silent e
-        ∙ (λ i. length (empty i) + (0 + by_update speech (b.begins speech empty quiet silent e) i * limit_octets speech.limit))
+        ∙ (λ i. length (empty i) + (0 + by_update speech e (b.begins speech empty quiet silent e) i * limit_octets speech.limit))
         ∙ twice_zero (0 * limit_octets speech.limit) ∙ (let z : 0 * limit_octets speech.limit ≡ 0 = omega arith in z)
 
     by_beat : (d : Bool) → v.flight ≡ [] → v.note ≡ None → v.beat ≡ d → owed_by v ≡ 0
