@@ -1,5 +1,5 @@
 -- What is owed to a client by its outlet, as messages begin and octets are taken.
-use Rattle.std.proofs.Common.{◌≡◌, ◌≢◌, inl, inr, ℕ, zero, suc, ◌<◌, ◌≤◌, ◌+◌, ◌-◌, ◌*◌, ◌==◌, ◌||◌, cond, Bool, true, false, List, [], ◌∷◌, length, drop, refl, sym, ◌∙◌, ap, subst, arith}
+use Rattle.std.proofs.Common.{◌≡◌, inl, inr, ℕ, zero, suc, ◌<◌, ◌≤◌, ◌+◌, ◌-◌, ◌*◌, ◌==◌, ◌||◌, cond, Bool, true, false, List, [], ◌∷◌, length, drop, refl, sym, ◌∙◌, ap, subst, arith}
 use Rattle.std.specs.Prelude.{Option, Some, None, is_some}
 use Rattle.std.specs.List.{AllByRecursion}
 use Rattle.std.specs.Ordering.{eq_by_cmp}
@@ -24,7 +24,7 @@ use Rattle.rs_outlet.specs.Begins.{Settles, Rests, BeginsUpdate, is_among}
 use Rattle.rs_outlet.specs.Next.{note_octets}
 use Rattle.rs_outlet.specs.Views.{View}
 use Rattle.rs_octets.specs.PrefixOrder.{prefix_order_total, prefix_order_exact}
-use Rattle.rs_core.specs.Owing.{beat_octets, waiting_octets, owed_behind, owed_by}
+use Rattle.rs_core.specs.Owing.{waiting_octets, owed_behind, owed_by}
 use Rattle.rs_core.specs.Touches.{IsBegun}
 
 -- ---- maps without some keys

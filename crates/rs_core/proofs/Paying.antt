@@ -1,5 +1,5 @@
 -- What is owed to clients, as the outlet of one of them changes.
-use Rattle.std.proofs.Common.{◌≡◌, ◌≢◌, inl, inr, ◌⊎◌, ℕ, ◌<◌, ◌≤◌, ◌+◌, true, false, List, length, drop, refl, sym, ◌∙◌, ap, subst, arith}
+use Rattle.std.proofs.Common.{◌≡◌, ◌≢◌, inl, inr, ◌⊎◌, ℕ, ◌<◌, ◌≤◌, ◌+◌, true, false, List, length, refl, sym, ◌∙◌, ap, subst}
 use Rattle.std.specs.Prelude.{None, Some, slice_get}
 use Rattle.std.proofs.lemmas.Option.{slice_get_read}
 use Rattle.rs_outlet.specs.declared.answers.Speech.{Speech}
@@ -7,7 +7,7 @@ use Rattle.rs_outlet.specs.Views.{View, bare}
 use Rattle.rs_outlet.specs.declared.answers.Last.TheVariants as lasts
 use Rattle.rs_core.specs.Moves.{Move, config_in}
 use Rattle.rs_core.specs.Runs.{hearing, is_established}
-use Rattle.rs_core.specs.Ribs.{outlet_in, lent_by}
+use Rattle.rs_core.specs.Ribs.{outlet_in}
 use Rattle.rs_core.specs.Touches.{IsBegun}
 use Rattle.rs_core.specs.Agreeing.{Agrees}
 use Rattle.rs_core.specs.Owing.{owed_by, is_decided_for, is_none}

@@ -4,8 +4,7 @@ use Rattle.std.specs.Prelude.{if◌then◌else◌}
 use Rattle.rs_core.specs.Moves.{Move, Began, Took, config_in}
 use Rattle.rs_core.specs.Hearing.{state_in, is_up, takes}
 use Rattle.rs_core.specs.Runs.{hearing, is_established}
-use Rattle.rs_core.specs.Agreeing.{Agrees}
-use Rattle.rs_core.specs.Core.{client_count, lent_octets, owed, is_decided}
+use Rattle.rs_core.specs.Core.{client_count, lent_octets, owed}
 use Rattle.rs_core.specs.Paying.{HasLent, HasTaken, Sends, Start, Lends, Takes, IsSentOf, SendsAllOwed}
 use Rattle.rs_core.specs.declared.route_server.Core.{Core}
 use Rattle.rs_core.proofs.Lists.{equal_or, own, other}
