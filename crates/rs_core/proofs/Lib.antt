@@ -31,6 +31,7 @@ pub mod Mandated
 pub mod Taking
 pub mod Continuing
 pub mod InTurn
+pub mod Answered
 pub mod Owing
 pub mod Paying
 pub mod Drained

@@ -292,8 +292,15 @@ or_false false = refl
 told_next : (speech : Speech) (points : List Point) (taken : List ℕ) (v w : View) (ins : AdjIns) (p : Prefix) → AreNumbered v ins → IsInOrder v → rest_of each_message taken ≡ [] → BeginsUpdate speech v w
     → fin.get v.loc p ≡ latest (dues_at points p) → IsToldInOrder speech.mode points taken v p → IsToldInOrder speech.mode (Offered taken ∷ points) (taken ++ w.flight) w p
 told_next speech points taken v w ins p numbered order whole (inl rests) due t = subst (λ o. IsToldInOrder speech.mode (Offered taken ∷ points) o w p) (sym (ap (λ l. taken ++ l) rests.flight ∙ append-nil taken))
-    (record { values = t.values; asked = t.asked; tells = t.tells; order = inl t.order; told = rests.settles.told p ∙ t.told; marked = λ m. t.marked (sym (rests.settles.marked p) ∙ m);
-      pending = λ a there. rests.settles.marked p ∙ t.pending a (ap is_some (sym (rests.settles.told p)) ∙ there) })
+    (record {
+      values = t.values;
+      asked = t.asked;
+      tells = t.tells;
+      order = inl t.order;
+      told = rests.settles.told p ∙ t.told;
+      marked = λ m. t.marked (sym (rests.settles.marked p) ∙ m);
+      pending = λ a there. rests.settles.marked p ∙ t.pending a (ap is_some (sym (rests.settles.told p)) ∙ there);
+    })
 told_next speech points taken v w ins p numbered order whole (inr (inl gone)) due t =
     let ok : IsWithdrawable gone.prefixes = record { prefixes = gone.prefixes_legal; fits = let most = limit_most speech.limit in let fits : length (withdrawal gone.prefixes) ≤ limit_octets speech.limit = subst (λ f. length f ≤ limit_octets speech.limit) gone.flight gone.fits in omega (arith, most, fits) } in
     subst (λ f. IsToldInOrder speech.mode (Offered taken ∷ points) (taken ++ f) w p) (sym gone.flight)
