@@ -33,4 +33,9 @@ pub mod Mandated
 pub mod Taking
 pub mod Continuing
 pub mod InTurn
+pub mod Answered
+pub mod Owing
+pub mod Paying
+pub mod Drained
+pub mod Conversed
 pub mod Sent

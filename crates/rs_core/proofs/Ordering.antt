@@ -1,6 +1,6 @@
 -- The order of what a client is told, behind each thing that befalls it.
 use Rattle.std.proofs.Common.{◌≡◌, ◌≢◌, ◌⊎◌, inl, inr, ◌≤◌, ℕ, Bool, true, false, not, ◌&&◌, ◌||◌, List, [], ◌∷◌, ◌++◌, length, take, drop, refl, sym, ◌∙◌, ap, subst, arith, append_assoc}
-use Rattle.std.specs.Prelude.{Option, Some, None, reverse, slice_get, if◌then◌else◌}
+use Rattle.std.specs.Prelude.{Option, Some, None, is_some, reverse, slice_get, if◌then◌else◌}
 use Rattle.std.specs.List.{AllZip}
 use Rattle.std.specs.FinMap as fin
 use Rattle.std.specs.FinSet as set
@@ -27,7 +27,7 @@ use Rattle.rs_session.specs.declared.act.Act.{Act}
 use Rattle.rs_session.specs.declared.act.Act.TheVariants as acts
 use Rattle.rs_session.specs.declared.session.Session.{Session}
 use Rattle.rs_session.specs.Sessions.{is_live}
-use Rattle.rs_session.specs.Hearing.{HasHeard, Tells, Stays, Says}
+use Rattle.rs_session.specs.Hearing.{Asks, HasHeard, Tells, Stays, Says}
 use Rattle.rs_adjin.specs.declared.adj_ins.AdjIns.{AdjIns}
 use Rattle.rs_policy.specs.Configuration.{Configuration}
 use Rattle.rs_packer.specs.Packed.{announcement, withdrawal}
@@ -38,7 +38,7 @@ use Rattle.rs_outlet.specs.declared.answers.Speech.{Speech}
 use Rattle.rs_outlet.specs.declared.answers.Last.{Last}
 use Rattle.rs_outlet.specs.Begins.{BeginsUpdate, Settles}
 use Rattle.rs_outlet.specs.Views.{View, AreNumbered, waits_at}
-use Rattle.rs_core.specs.Points.{Point, Offered, Value, asked_if, dues_at, latest}
+use Rattle.rs_core.specs.Points.{Point, Asked, Offered, Value, asked_if, dues_at, latest}
 use Rattle.rs_core.specs.Orders.{IsOrdered, IsToldInOrder, TellsAt, TellsInOrder, told_by}
 use Rattle.rs_core.specs.Hearing.{Hearing, session_in, state_in, is_up, offers, decides}
 use Rattle.rs_core.specs.Telling.{each_message, updates_in}
@@ -46,7 +46,7 @@ use Rattle.rs_core.specs.Core.{is_refusal}
 use Rattle.rs_core.specs.Touches.{IsBegun}
 use Rattle.rs_core.specs.Turns.{IsDone, IsTurn}
 use Rattle.rs_core.specs.Conversations.{own_open}
-use Rattle.rs_core.specs.Voices.{IsInOrder, IsGreeting, IsRaised, SaysTheSame, SpeaksTo, Voices}
+use Rattle.rs_core.specs.Voices.{IsInOrder, IsGreeting, IsRaised, SaysTheSame, SpeaksTo, TellsAgain, Voices}
 use Rattle.rs_core.proofs.Telling.{updates_more, zip_more}
 use Rattle.rs_core.proofs.Spoken.{all_at, among_has}
 use Rattle.rs_core.proofs.Uttering.{all_gone, due_mandatory, limit_most}
@@ -54,47 +54,44 @@ use Rattle.rs_core.proofs.Voicing.{down_speech, spoken_up, still, up_live}
 
 -- ---- what goes on as before
 
-asked_dues : (b : Bool) (points : List Point) (p : Prefix) → dues_at (asked_if b points) p ≡ dues_at points p
-asked_dues true points p = refl
-asked_dues false points p = refl
+-- the same was told, and the same is marked
+told_on : (mode : Mode) (points : List Point) (octets : List ℕ) (v w : View) (p : Prefix) → w.told ≡ v.told → w.marked ≡ v.marked → IsToldInOrder mode points octets v p → IsToldInOrder mode points octets w p
+told_on mode points octets v w p told marked h = record {
+  values = h.values;
+  asked = h.asked;
+  tells = h.tells;
+  order = h.order;
+  told = ap (λ t. fin.get t p) told ∙ h.told;
+  marked = λ m. h.marked (ap (λ s. set.contains s p) (sym marked) ∙ m);
+  pending = λ a t. ap (λ s. set.contains s p) marked ∙ h.pending a (ap (λ x. fin.contains_key x p) (sym told) ∙ t);
+}
 
-not_asked : (b : Bool) (points : List Point) → (b ≡ true → ⊥) → asked_if b points ≡ points
-not_asked true points never = absurd (never refl)
-not_asked false points never = refl
-
--- the same was told, and perhaps the client asked
-told_on : (b : Bool) (mode : Mode) (points : List Point) (octets : List ℕ) (v w : View) (p : Prefix) → fin.get w.told p ≡ fin.get v.told p
-    → (set.contains w.marked p ≡ true → (set.contains v.marked p ≡ true) ⊎ (b ≡ true)) → IsToldInOrder mode points octets v p → IsToldInOrder mode (asked_if b points) octets w p
-told_on true mode points octets v w p told marks h = record { values = h.values; asked = true; tells = h.tells; order = (refl, h.asked, h.order); told = told ∙ h.told; marked = λ m. refl }
-told_on false mode points octets v w p told marks h = record { values = h.values; asked = h.asked; tells = h.tells; order = h.order; told = told ∙ h.told; marked = λ m. by_mark (marks m) } where
-  by_mark : (set.contains v.marked p ≡ true) ⊎ (false ≡ true) → h.asked ≡ true
-  by_mark (inl was) = h.marked was
-  by_mark (inr never) = absurd (false≢true never)
-
--- the outlet says the same, and perhaps the client asked while it was Established
-pub ordered_on : (s t : Configuration) (c : ℕ) (h next : Hearing) (v w : View) (b : Bool) → next.points ≡ asked_if b h.points → (b ≡ true → is_up (state_in s c h) ≡ true)
-    → next.taken ++ w.flight ≡ h.taken ++ v.flight → w.speech ≡ v.speech → w.loc ≡ v.loc → w.told ≡ v.told
-    → ((p : Prefix) → set.contains w.marked p ≡ true → (set.contains v.marked p ≡ true) ⊎ (b ≡ true))
+-- the outlet says the same
+pub ordered_on : (s t : Configuration) (c : ℕ) (h next : Hearing) (v w : View) → next.points ≡ h.points → next.taken ++ w.flight ≡ h.taken ++ v.flight
+    → w.speech ≡ v.speech → w.loc ≡ v.loc → w.told ≡ v.told → w.marked ≡ v.marked
     → (is_live (state_in t c next) ≡ true → is_up (state_in t c next) ≡ false → (is_live (state_in s c h) ≡ true) × (is_up (state_in s c h) ≡ false))
     → IsOrdered s c h v → IsOrdered t c next w
-ordered_on s t c h next v w b points requests octets speech loc told marks down at = record {
-  before = λ l d. let was = down l d in let u = at.before was.0 was.1 in
-      let same : next.points ≡ h.points = points ∙ not_asked b h.points (λ e. absurd (false≢true (sym was.1 ∙ requests e))) in
-      record {
-        dues = λ p. ap (λ ps. dues_at ps p) same ∙ u.dues p;
-        order = λ mode p. subst (λ ps. TellsInOrder mode ps p [] false) (sym same) (u.order mode p);
-        updates = ap updates_in octets ∙ u.updates;
-      };
-  loc = λ sp is p. ap (λ t. fin.get t p) loc ∙ at.loc sp (sym speech ∙ is) p ∙ ap latest (sym (ap (λ ps. dues_at ps p) points ∙ asked_dues b h.points p));
+ordered_on s t c h next v w points octets speech loc told marked down at = record {
+  before = λ l d. let was = down l d in let u = at.before was.0 was.1 in record {
+    dues = λ p. ap (λ ps. dues_at ps p) points ∙ u.dues p;
+    order = λ mode p. subst (λ ps. TellsInOrder mode ps p [] false) (sym points) (u.order mode p);
+    updates = ap updates_in octets ∙ u.updates;
+  };
+  loc = λ sp is p. ap (λ t. fin.get t p) loc ∙ at.loc sp (sym speech ∙ is) p ∙ sym (ap (λ ps. latest (dues_at ps p)) points);
   told = λ sp is p. subst (λ ps. IsToldInOrder sp.mode ps (next.taken ++ w.flight) w p) (sym points)
-      (subst (λ o. IsToldInOrder sp.mode (asked_if b h.points) o w p) (sym octets)
-      (told_on b sp.mode h.points (h.taken ++ v.flight) v w p (ap (λ t. fin.get t p) told) (marks p) (at.told sp (sym speech ∙ is) p)));
+      (subst (λ o. IsToldInOrder sp.mode h.points o w p) (sym octets) (told_on sp.mode h.points (h.taken ++ v.flight) v w p told marked (at.told sp (sym speech ∙ is) p)));
 }
+
+-- nothing but a KEEPALIVE that is due, what is touched and the last answer has changed
+same_on : (s t : Configuration) (c : ℕ) (h next : Hearing) (v w : View) → next.points ≡ h.points → next.taken ≡ h.taken
+    → (is_live (state_in t c next) ≡ true → is_up (state_in t c next) ≡ false → (is_live (state_in s c h) ≡ true) × (is_up (state_in s c h) ≡ false))
+    → SaysTheSame v w → IsOrdered s c h v → IsOrdered t c next w
+same_on s t c h next v w points taken down same at = ordered_on s t c h next v w points (λ i. taken i ++ (ap (λ (x : View). x.flight) same.is) i) (ap (λ (x : View). x.speech) same.is)
+    (ap (λ (x : View). x.loc) same.is) (ap (λ (x : View). x.told) same.is) (ap (λ (x : View). x.marked) same.is) down at
 
 -- nothing was heard since
 pub same_ordered : (s : Configuration) (c : ℕ) (h : Hearing) (v w : View) → SaysTheSame v w → IsOrdered s c h v → IsOrdered s c h w
-same_ordered s c h v w same at = ordered_on s s c h h v w false refl (λ e. absurd (false≢true e)) (ap (λ (x : View). h.taken ++ x.flight) same.is) (ap (λ (x : View). x.speech) same.is)
-    (ap (λ (x : View). x.loc) same.is) (ap (λ (x : View). x.told) same.is) (λ p m. inl (ap (λ (x : View). set.contains x.marked p) (sym same.is) ∙ m)) (λ l d. (l, d)) at
+same_ordered s c h v w same at = same_on s s c h h v w refl refl (λ l d. (l, d)) same at
 
 -- the session is over, or there is none
 pub over_ordered : (s : Configuration) (c : ℕ) (h : Hearing) (v : View) → is_live (state_in s c h) ≡ false → v.speech ≡ None → IsOrdered s c h v
@@ -119,6 +116,10 @@ greeted_ordered s c h v greets none points = record {
 
 -- ---- what a session asks for is done
 
+not_asked : (b : Bool) (points : List Point) → (b ≡ true → ⊥) → asked_if b points ≡ points
+not_asked true points never = absurd (never refl)
+not_asked false points never = refl
+
 raised_ordered : (s : Configuration) (c : ℕ) (h next : Hearing) (v w : View) (agreed : Option Speech) → IsRaised agreed v w → next.points ≡ h.points → next.taken ≡ h.taken
     → is_live (state_in s c h) ≡ true → is_up (state_in s c h) ≡ false → is_up (state_in s c next) ≡ true → IsOrdered s c h v → IsOrdered s c next w
 raised_ordered s c h next v w agreed raised points taken live down up at = let u = at.before live down in record {
@@ -135,59 +136,71 @@ raised_ordered s c h next v w agreed raised points taken live down up at = let u
     order = subst (λ ps. TellsInOrder sp.mode ps p [] false) (sym points) (u.order sp.mode p);
     told = raised.told p;
     marked = λ m. absurd (false≢true (sym (raised.marked p) ∙ m));
+    pending = λ a t. absurd (false≢true a);
   };
 }
 
-pub stayed_ordered : (s : Configuration) (c : ℕ) (h next : Hearing) (v w : View) (b : Bool) → next.points ≡ asked_if b h.points → (b ≡ true → is_up (state_in s c h) ≡ true)
-    → Stays (session_in s c) h.items next.items → next.taken ≡ h.taken → SaysTheSame v w → IsOrdered s c h v → IsOrdered s c next w
-stayed_ordered s c h next v w b points requests stays taken same at =
-    ordered_on s s c h next v w b points requests (λ i. taken i ++ (ap (λ (x : View). x.flight) same.is) i) (ap (λ (x : View). x.speech) same.is)
-    (ap (λ (x : View). x.loc) same.is) (ap (λ (x : View). x.told) same.is) (λ p m. inl (ap (λ (x : View). set.contains x.marked p) (sym same.is) ∙ m))
-    (λ l d. (ap is_live (sym stays.state) ∙ l, ap is_up (sym stays.state) ∙ d)) at
+pub stayed_ordered : (s : Configuration) (c : ℕ) (h next : Hearing) (v w : View) → next.points ≡ h.points → Stays (session_in s c) h.items next.items → next.taken ≡ h.taken → SaysTheSame v w
+    → IsOrdered s c h v → IsOrdered s c next w
+stayed_ordered s c h next v w points stays taken same at = same_on s s c h next v w points taken (λ l d. (ap is_live (sym stays.state) ∙ l, ap is_up (sym stays.state) ∙ d)) same at
 
-said_ordered : (message : Short) (s : Configuration) (c : ℕ) (h next : Hearing) (v w : View) (b : Bool) → next.points ≡ asked_if b h.points → (b ≡ true → is_up (state_in s c h) ≡ true)
-    → (message ≡ short.Open → ⊥) → Says message (session_in s c) h.items next.items → next.taken ≡ h.taken → SaysTheSame v w → IsOrdered s c h v → IsOrdered s c next w
-said_ordered short.Open s c h next v w b points requests not tells taken same at = absurd (not refl)
-said_ordered short.Keepalive s c h next v w b points requests not tells taken same at = elim tells [
-  | inl confirms ↦ ordered_on s s c h next v w b points requests (λ i. taken i ++ (ap (λ (x : View). x.flight) same.is) i) (ap (λ (x : View). x.speech) same.is)
-      (ap (λ (x : View). x.loc) same.is) (ap (λ (x : View). x.told) same.is) (λ p m. inl (ap (λ (x : View). set.contains x.marked p) (sym same.is) ∙ m))
-      (λ l d. (ap is_live confirms.before, ap is_up confirms.before)) at
-  | inr beats ↦ stayed_ordered s c h next v w b points requests beats.same taken same at
+said_ordered : (message : Short) (s : Configuration) (c : ℕ) (h next : Hearing) (v w : View) → next.points ≡ h.points → (message ≡ short.Open → ⊥) → Says message (session_in s c) h.items next.items
+    → next.taken ≡ h.taken → SaysTheSame v w → IsOrdered s c h v → IsOrdered s c next w
+said_ordered short.Open s c h next v w points not tells taken same at = absurd (not refl)
+said_ordered short.Keepalive s c h next v w points not tells taken same at = elim tells [
+  | inl confirms ↦ same_on s s c h next v w points taken (λ l d. (ap is_live confirms.before, ap is_up confirms.before)) same at
+  | inr beats ↦ stayed_ordered s c h next v w points beats.same taken same at
 ]
-said_ordered (short.Note code sub extra count) s c h next v w b points requests not tells taken same at = absurd tells
+said_ordered (short.Note code sub extra count) s c h next v w points not tells taken same at = absurd tells
+
+-- the client asked for all routes
+again_ordered : (s : Configuration) (c : ℕ) (h next : Hearing) (v w : View) → IsInOrder v → next.points ≡ Asked ∷ h.points → Asks (session_in s c) h.items next.items → next.taken ≡ h.taken → TellsAgain v w
+    → IsOrdered s c h v → IsOrdered s c next w
+again_ordered s c h next v w in_order points tells taken same at = record {
+  before = λ l d. absurd (false≢true (sym d ∙ ap is_up (tells.same.state ∙ tells.before)));
+  loc = λ sp is p. ap (λ t. fin.get t p) same.loc ∙ at.loc sp (sym same.speech ∙ is) p ∙ sym (ap (λ ps. latest (dues_at ps p)) points);
+  told = λ sp is p. let t = at.told sp (sym same.speech ∙ is) p in record {
+    values = t.values;
+    asked = true;
+    tells = subst (λ o. TellsAt sp.mode o p t.values) (λ i. sym taken i ++ sym same.flight i) t.tells;
+    order = subst (λ ps. TellsInOrder sp.mode ps p t.values true) (sym points) (refl, t.asked, t.order);
+    told = ap (λ x. fin.get x p) same.told ∙ t.told;
+    marked = λ m. refl;
+    pending = λ a there. same.marked in_order p ∙ ap (λ x. fin.contains_key x p) (sym same.told) ∙ there;
+  };
+}
 
 pub acted_ordered : (act : Act) (long : Bool) (sessions : List Session) (x : Session) (s : Configuration) (c : ℕ) (h next : Hearing) (v w : View) (b : Bool)
-    → next.points ≡ asked_if b h.points → (b ≡ true → is_up (state_in s c h) ≡ true) → (act ≡ acts.Again → b ≡ true)
+    → IsInOrder v → next.points ≡ asked_if b h.points → (act ≡ acts.Again → b ≡ true) → (b ≡ true → act ≡ acts.Again)
     → Voices act long c sessions v w → slice_get sessions c ≡ Some x → HasHeard x (session_in s c) next.items → Tells act (session_in s c) h.items next.items
     → (act ≡ acts.Say short.Open → ⊥) → next.taken ≡ h.taken → IsOrdered s c h v → IsOrdered s c next w
-acted_ordered acts.None long sessions x s c h next v w b points requests again voices read heard tells not taken at = stayed_ordered s c h next v w b points requests tells taken (still v w voices) at
-acted_ordered (acts.Say message) long sessions x s c h next v w b points requests again voices read heard tells not taken at =
-    said_ordered message s c h next v w b points requests (λ e. not (ap (λ (m : Short). acts.Say m) e)) tells taken voices at
-acted_ordered acts.Up long sessions x s c h next v w b points requests again voices read heard tells not taken at =
-    let down : is_up (state_in s c h) ≡ false = ap is_up tells.before in
-    raised_ordered s c h next v w _ (voices x read (session_in s c) next.items heard tells.now) (points ∙ not_asked b h.points (λ e. absurd (false≢true (sym down ∙ requests e)))) taken
-    (ap is_live tells.before) down (ap is_up tells.now) at
-acted_ordered (acts.Down _) long sessions x s c h next v w b points requests again voices read heard tells not taken at = over_ordered s c next w (ap is_live tells.now) voices.speech
-acted_ordered acts.Again long sessions x s c h next v w b points requests again voices read heard tells not taken at =
-    ordered_on s s c h next v w b points requests (λ i. taken i ++ voices.flight i) voices.speech voices.loc voices.told (λ p m. inr (again refl))
-    (λ l d. (ap is_live (sym tells.same.state) ∙ l, ap is_up (sym tells.same.state) ∙ d)) at
+acted_ordered acts.None long sessions x s c h next v w b in_order points again only voices read heard tells not taken at =
+    stayed_ordered s c h next v w (points ∙ not_asked b h.points (λ e. let f : ◌≡◌ {A = Act} acts.None acts.Again = only e in cc)) tells taken (still v w voices) at
+acted_ordered (acts.Say message) long sessions x s c h next v w b in_order points again only voices read heard tells not taken at =
+    said_ordered message s c h next v w (points ∙ not_asked b h.points (λ e. let f : ◌≡◌ {A = Act} (acts.Say message) acts.Again = only e in cc))
+    (λ e. not (ap (λ (m : Short). acts.Say m) e)) tells taken voices at
+acted_ordered acts.Up long sessions x s c h next v w b in_order points again only voices read heard tells not taken at =
+    raised_ordered s c h next v w _ (voices x read (session_in s c) next.items heard tells.now)
+    (points ∙ not_asked b h.points (λ e. let f : ◌≡◌ {A = Act} acts.Up acts.Again = only e in cc)) taken (ap is_live tells.before) (ap is_up tells.before) (ap is_up tells.now) at
+acted_ordered (acts.Down _) long sessions x s c h next v w b in_order points again only voices read heard tells not taken at = over_ordered s c next w (ap is_live tells.now) voices.speech
+acted_ordered acts.Again long sessions x s c h next v w b in_order points again only voices read heard tells not taken at =
+    again_ordered s c h next v w in_order (points ∙ ap (λ a. asked_if a h.points) (again refl)) tells taken voices at
 
 -- ---- octets are taken
 
 pub took_ordered : (s : Configuration) (c n : ℕ) (h next : Hearing) (v w : View) → w ≡ record v { flight = drop n v.flight } → next.items ≡ h.items → next.taken ≡ h.taken ++ take n v.flight → next.points ≡ h.points
     → IsOrdered s c h v → IsOrdered s c next w
 took_ordered s c n h next v w e items taken points at =
-    ordered_on s s c h next v w false points (λ e. absurd (false≢true e))
+    ordered_on s s c h next v w points
     ((λ i. taken i ++ (e i).flight) ∙ append_assoc h.taken (take n v.flight) (drop n v.flight) ∙ ap (λ l. h.taken ++ l) (take-append-drop n v.flight))
-    (ap (λ (x : View). x.speech) e) (ap (λ (x : View). x.loc) e) (ap (λ (x : View). x.told) e) (λ p m. inl (ap (λ (x : View). set.contains x.marked p) (sym e) ∙ m))
+    (ap (λ (x : View). x.speech) e) (ap (λ (x : View). x.loc) e) (ap (λ (x : View). x.told) e) (ap (λ (x : View). x.marked) e)
     (λ l d. (ap (λ k. is_live (state_in s c (record h { items = k }))) (sym items) ∙ l, ap (λ k. is_up (state_in s c (record h { items = k }))) (sym items) ∙ d)) at
 
 -- ---- the next message begins
 
 -- no UPDATE: what was told stays
 offered_on : (s : Configuration) (c : ℕ) (h : Hearing) (v w : View) → (rest_of each_message (h.taken ++ v.flight) ≡ [] → updates_in (h.taken ++ w.flight) ≡ updates_in (h.taken ++ v.flight))
-    → w.speech ≡ v.speech → w.loc ≡ v.loc → ((p : Prefix) → fin.get w.told p ≡ fin.get v.told p) → ((p : Prefix) → set.contains w.marked p ≡ set.contains v.marked p)
-    → SpeaksTo s c h v → IsOrdered s c h v → IsOrdered s c (offers true h) w
+    → w.speech ≡ v.speech → w.loc ≡ v.loc → w.told ≡ v.told → w.marked ≡ v.marked → SpeaksTo s c h v → IsOrdered s c h v → IsOrdered s c (offers true h) w
 offered_on s c h v w updates speech loc told marks says at = record {
   before = λ l d. let u = at.before l d in record {
     dues = u.dues;
@@ -204,8 +217,9 @@ offered_on s c h v w updates speech loc told marks says at = record {
       are = t.tells.are;
     };
     order = inl t.order;
-    told = told p ∙ t.told;
-    marked = λ m. t.marked (sym (marks p) ∙ m);
+    told = ap (λ x. fin.get x p) told ∙ t.told;
+    marked = λ m. t.marked (ap (λ x. set.contains x p) (sym marks) ∙ m);
+    pending = λ a there. ap (λ x. set.contains x p) marks ∙ t.pending a (ap (λ x. fin.contains_key x p) (sym told) ∙ there);
   };
 }
 
@@ -254,6 +268,7 @@ one_update mode points taken flight v w change ps p effect updates mention after
     order = inr (record { value = fin.get v.loc p; earlier = t.values; was_asked = t.asked; are = refl; before = t.order; taken_tells = t.tells; due = due; news = is_news (news e); answered = refl });
     told = settles.told p ∙ ap (λ b. if b then fin.get v.loc p else fin.get v.told p) (among_has p ps ∙ e);
     marked = λ m. absurd (false≢true (sym (settles.marked p ∙ ap (λ b. not b && set.contains v.marked p) (among_has p ps ∙ e)) ∙ m));
+    pending = λ a there. absurd (false≢true a);
   }
   by_test false e = record {
     values = t.values;
@@ -267,6 +282,8 @@ one_update mode points taken flight v w change ps p effect updates mention after
     order = inl t.order;
     told = settles.told p ∙ ap (λ b. if b then fin.get v.loc p else fin.get v.told p) (among_has p ps ∙ e) ∙ t.told;
     marked = λ m. t.marked (sym (settles.marked p ∙ ap (λ b. not b && set.contains v.marked p) (among_has p ps ∙ e)) ∙ m);
+    pending = λ a there. settles.marked p ∙ ap (λ b. not b && set.contains v.marked p) (among_has p ps ∙ e)
+        ∙ t.pending a (ap is_some (sym (settles.told p ∙ ap (λ b. if b then fin.get v.loc p else fin.get v.told p) (among_has p ps ∙ e))) ∙ there);
   }
 
 or_false : (b : Bool) → (b || false) ≡ b
@@ -277,7 +294,15 @@ or_false false = refl
 told_next : (speech : Speech) (points : List Point) (taken : List ℕ) (v w : View) (ins : AdjIns) (p : Prefix) → AreNumbered v ins → IsInOrder v → rest_of each_message taken ≡ [] → BeginsUpdate speech v w
     → fin.get v.loc p ≡ latest (dues_at points p) → IsToldInOrder speech.mode points taken v p → IsToldInOrder speech.mode (Offered taken ∷ points) (taken ++ w.flight) w p
 told_next speech points taken v w ins p numbered order whole (inl rests) due t = subst (λ o. IsToldInOrder speech.mode (Offered taken ∷ points) o w p) (sym (ap (λ l. taken ++ l) rests.flight ∙ append-nil taken))
-    (record { values = t.values; asked = t.asked; tells = t.tells; order = inl t.order; told = rests.settles.told p ∙ t.told; marked = λ m. t.marked (sym (rests.settles.marked p) ∙ m) })
+    (record {
+      values = t.values;
+      asked = t.asked;
+      tells = t.tells;
+      order = inl t.order;
+      told = rests.settles.told p ∙ t.told;
+      marked = λ m. t.marked (sym (rests.settles.marked p) ∙ m);
+      pending = λ a there. rests.settles.marked p ∙ t.pending a (ap is_some (sym (rests.settles.told p)) ∙ there);
+    })
 told_next speech points taken v w ins p numbered order whole (inr (inl gone)) due t =
     let ok : IsWithdrawable gone.prefixes = record { prefixes = gone.prefixes_legal; fits = let most = limit_most speech.limit in let fits : length (withdrawal gone.prefixes) ≤ limit_octets speech.limit = subst (λ f. length f ≤ limit_octets speech.limit) gone.flight gone.fits in omega (arith, most, fits) } in
     subst (λ f. IsToldInOrder speech.mode (Offered taken ∷ points) (taken ++ f) w p) (sym gone.flight)
@@ -310,7 +335,7 @@ pub begun_ordered : (s : Configuration) (c : ℕ) (h : Hearing) (ins : AdjIns) (
 begun_ordered s c h ins v w numbered b says at = by_flight v.flight refl where
   same : w ≡ v → IsOrdered s c (offers true h) w
   same e = offered_on s c h v w (λ whole. ap (λ (x : View). updates_in (h.taken ++ x.flight)) e) (ap (λ (x : View). x.speech) e) (ap (λ (x : View). x.loc) e)
-      (λ p. ap (λ (x : View). fin.get x.told p) e) (λ p. ap (λ (x : View). set.contains x.marked p) e) says at
+      (ap (λ (x : View). x.told) e) (ap (λ (x : View). x.marked) e) says at
 
   bare_octets : v.flight ≡ [] → h.taken ++ v.flight ≡ h.taken
   bare_octets empty = ap (λ l. h.taken ++ l) empty ∙ append-nil h.taken
@@ -333,7 +358,7 @@ begun_ordered s c h ins v w numbered b says at = by_flight v.flight refl where
       ap (λ (x : View). updates_in (h.taken ++ x.flight)) is
       ∙ updates_more h.taken keepalive kinds.Keepalive (subst (λ o. rest_of each_message o ≡ []) before whole) (written_is_message each_message kinds.Keepalive [] refl (omega arith) (omega arith))
       ∙ append-nil (updates_in h.taken) ∙ sym (ap updates_in before))
-      (ap (λ (x : View). x.speech) is) (ap (λ (x : View). x.loc) is) (λ p. ap (λ (x : View). fin.get x.told p) is) (λ p. ap (λ (x : View). set.contains x.marked p) is) says at
+      (ap (λ (x : View). x.speech) is) (ap (λ (x : View). x.loc) is) (ap (λ (x : View). x.told) is) (ap (λ (x : View). x.marked) is) says at
   by_beat false empty quiet e = by_speech v.speech empty quiet e refl
 
   by_note : (o : Option Short) → v.flight ≡ [] → v.note ≡ o → IsOrdered s c (offers true h) w
@@ -368,13 +393,13 @@ decided_ordered s c h due v w up flight speech told marked loc at = record {
     order = t.order;
     told = ap (λ x. fin.get x p) told ∙ t.told;
     marked = λ m. t.marked (ap (λ x. set.contains x p) (sym marked) ∙ m);
+    pending = λ a there. ap (λ x. set.contains x p) marked ∙ t.pending a (ap (λ x. fin.contains_key x p) (sym told) ∙ there);
   };
 }
 
 -- nothing was decided: the outlet is not up, or memory was refused
 not_decided : (s : Configuration) (c : ℕ) (h : Hearing) (due : Prefix → Value) (v w : View) → SaysTheSame v w → IsOrdered s c h v → IsOrdered s c (decides false due h) w
-not_decided s c h due v w same at = ordered_on s s c h (decides false due h) v w false refl (λ e. absurd (false≢true e)) (ap (λ (x : View). h.taken ++ x.flight) same.is) (ap (λ (x : View). x.speech) same.is)
-    (ap (λ (x : View). x.loc) same.is) (ap (λ (x : View). x.told) same.is) (λ p m. inl (ap (λ (x : View). set.contains x.marked p) (sym same.is) ∙ m)) (λ l d. (l, d)) at
+not_decided s c h due v w same at = same_on s s c h (decides false due h) v w refl refl (λ l d. (l, d)) same at
 
 last_same : (v w : View) (last : Last) → w ≡ record v { last = last } → SaysTheSame v w
 last_same v w last e = record { is = e ∙ (λ i. record v { beat = (sym e i).beat; touched = (sym e i).touched; numbers = (sym e i).numbers; last = (sym e i).last }) }

@@ -1,44 +1,60 @@
--- Which messages a client is sent over a run.
-use Rattle.std.proofs.Common.{◌≡◌, inl, inr, ◌<◌, ℕ, List, [], ◌++◌, length, refl, sym, ◌∙◌, ap, subst, append_assoc}
-use Rattle.std.specs.Prelude.{Option, Some, None, false}
-use Rattle.std.proofs.lemmas.Option.{slice_get_read}
-use Rattle.rs_attrs.specs.declared.mode.Mode.{Mode}
-use Rattle.rs_open.specs.declared.writing.ServerOpen.{ServerOpen}
-use Rattle.rs_session.specs.Endings.{Fate, GoesOn, Ends}
-use Rattle.rs_session.specs.Sessions.{fate}
-use Rattle.rs_outlet.specs.Views.{View, bare}
-use Rattle.rs_outlet.specs.declared.answers.Last.TheVariants as lasts
-use Rattle.rs_core.specs.Conversations.{Outgoing, Concludes, Converses, outgoing_of, own_open, update_mode}
-use Rattle.rs_core.specs.Core.{client_count, lent_octets, outgoing, outgoing_in}
-use Rattle.rs_core.specs.Hearing.{Hearing, session_in}
-use Rattle.rs_core.specs.Moves.{config_in}
-use Rattle.rs_core.specs.Ribs.{outlet_in}
-use Rattle.rs_core.specs.Runs.{hearing}
-use Rattle.rs_core.specs.Sent.{IsFrontOfConversation, SendsInOrder}
-use Rattle.rs_core.proofs.Outgoing.{lent_is}
-use Rattle.rs_core.proofs.Walks.{default_same}
+-- What is owed behind a turn is sent, by what is lent and taken alone.
+use Rattle.std.proofs.Common.{◌≡◌, ◌≢◌, inl, inr, ◌⊎◌, ℕ, ◌<◌, ◌≤◌, ◌+◌, ◌==◌, Bool, true, false, List, ◌∷◌, take, refl, sym, ◌∙◌, ap, subst, arith}
+use Rattle.std.specs.Prelude.{if◌then◌else◌}
+use Rattle.rs_core.specs.Moves.{Move, Began, Took, config_in}
+use Rattle.rs_core.specs.Hearing.{state_in, is_up, takes}
+use Rattle.rs_core.specs.Runs.{hearing, is_established}
+use Rattle.rs_core.specs.Core.{client_count, lent_octets, owed}
+use Rattle.rs_core.specs.Paying.{HasLent, HasTaken, Sends, Start, Lends, Takes, IsSentOf, SendsAllOwed}
+use Rattle.rs_core.specs.declared.route_server.Core.{Core}
+use Rattle.rs_core.proofs.Lists.{equal_or, own, other}
 
-front_of : (end : Fate) (said : ServerOpen) (mode : Option Mode) (taken : List ℕ) (out : Outgoing) → Concludes end said mode taken out → IsFrontOfConversation end said mode taken
-front_of GoesOn said mode taken out h = record { missing = out.flight; last = None; asked = inl refl; whole = h.1 }
-front_of (Ends (Some note)) said mode taken out (_, inl (_, whole)) = record { missing = out.flight; last = None; asked = inl refl; whole = whole }
-front_of (Ends (Some note)) said mode taken out (_, inr (_, whole)) = record { missing = out.flight; last = Some note; asked = inr refl; whole = whole }
-front_of (Ends None) said mode taken out h = record { missing = h.1.missing; last = None; asked = inl refl; whole = h.1.whole }
+-- who is Established stays so
+took_up : (run : List Move) (c d : ℕ) (octets : List ℕ) → is_established (Took d octets ∷ run) c ≡ is_established run c
+took_up run c d octets = by_test (d == c) where
+  by_test : (b : Bool) → is_up (state_in (config_in run) c (if b then takes octets (hearing c run) else hearing c run)) ≡ is_established run c
+  by_test true = refl
+  by_test false = refl
 
-pub any_view : View
-any_view = bare 0 false lasts.Never
+counts : (c : ℕ) (old : Core) (before : List Move) (n : ℕ) (new : Core) (run : List Move) → Sends c old before n new run → client_count new ≡ client_count old
+counts c old before n new run Start = refl
+counts c old before n new run (Lends d m x y moves octets sends lt lent) = lent.count ∙ counts c old before m x moves sends
+counts c old before n new run (Takes d k m x y moves sends lt taken) = taken.count ∙ counts c old before m x moves sends
 
-pub sends_in_order : SendsInOrder
-unfolding client_count lent_octets outgoing
-sends_in_order core run c lt h =
-    let s = config_in run in
-    let it : Hearing = hearing c run in
-    let v : View = outlet_in core.ribs c any_view in
-    let xs : List View = core.ribs.outlets.items in
-    let there : c < length xs = subst (λ n. c < n) (sym (core.ribs.outlets_len ∙ core.ribs_len)) lt in
-    let out = ap outgoing_in (slice_get_read xs (length xs) c v refl there (default_same xs c any_view v there)) in
-    let messages = ((h.clients c lt).knows.outlet h.config any_view).messages in
-    record {
-      lent = lent_is core c any_view lt ∙ sym (ap (λ (o : Outgoing). o.flight) out);
-      messages = subst (λ o. Converses (session_in s c) (own_open s) it.items it.taken o) (sym out) messages;
-      taken = λ connected. front_of (fate (session_in s c) it.items) (own_open s) (update_mode (session_in s c) it.items) it.taken (outgoing_of v) (messages.connected connected);
-    }
+less : (n first was now : ℕ) → now ≤ was → n + was ≤ first → n + now ≤ first
+less n first was now down enough = omega (arith, down, enough)
+
+paid : (n k first was now : ℕ) → now + k ≡ was → n + was ≤ first → n + k + now ≤ first
+paid n k first was now down enough = omega (arith, down, enough)
+
+lent_on : (c d n : ℕ) (old x y : Core) (run : List Move) (octets : List ℕ) → c < client_count x → HasLent d x octets y → IsSentOf c n old x run → IsSentOf c n old y (Began d ∷ run)
+lent_on c d n old x y run octets lt lent sent = record {
+  agrees = lent.began run sent.agrees;
+  established = sent.established;
+  decided = lent.owes.spares.decided c lt ∙ sent.decided;
+  enough = less n (owed old c) (owed x c) (owed y c) (down (equal_or d c)) sent.enough;
+} where
+  down : (d ≡ c) ⊎ (d ≢ c) → owed y c ≤ owed x c
+  down (inl same) = subst (λ i. owed y i ≤ owed x i) same (lent.owes.owing run sent.agrees (subst (λ i. is_established run i ≡ true) (sym same) sent.established))
+  down (inr ne) = let e = lent.owes.spares.others c lt (λ same. ne (sym same)) in omega (arith, e)
+
+taken_on : (c d k n : ℕ) (old x y : Core) (run : List Move) → c < client_count x → HasTaken d k x y → IsSentOf c n old x run
+    → IsSentOf c (if d == c then n + k else n) old y (Took d (take k (lent_octets x d)) ∷ run)
+taken_on c d k n old x y run lt taken sent = record {
+  agrees = taken.took run sent.agrees;
+  established = took_up run c d (take k (lent_octets x d)) ∙ sent.established;
+  decided = taken.owes.spares.decided c lt ∙ sent.decided;
+  enough = down (equal_or d c);
+} where
+  down : (d ≡ c) ⊎ (d ≢ c) → (if d == c then n + k else n) + owed y c ≤ owed old c
+  down (inl same) = subst (λ m. m + owed y c ≤ owed old c) (sym (ap (λ i. if i == c then n + k else n) same ∙ own c (n + k) n))
+      (paid n k (owed old c) (owed x c) (owed y c) (subst (λ i. owed y i + k ≡ owed x i) same taken.owes.owing) sent.enough)
+  down (inr ne) = subst (λ m. m + owed y c ≤ owed old c) (sym (other d c (n + k) n (λ same. ne (sym same))))
+      (less n (owed old c) (owed x c) (owed y c) (let e = taken.owes.spares.others c lt (λ same. ne (sym same)) in omega (arith, e)) sent.enough)
+
+pub sends_all_owed : SendsAllOwed
+sends_all_owed c old before lt h up all n new run Start = record { agrees = h; established = up; decided = all; enough = omega arith }
+sends_all_owed c old before lt h up all n new run (Lends d m x y moves octets sends there lent) =
+    lent_on c d m old x new moves octets (subst (λ k. c < k) (sym (counts c old before m x moves sends)) lt) lent (sends_all_owed c old before lt h up all m x moves sends)
+sends_all_owed c old before lt h up all n new run (Takes d k m x y moves sends there taken) =
+    taken_on c d k m old x new moves (subst (λ i. c < i) (sym (counts c old before m x moves sends)) lt) taken (sends_all_owed c old before lt h up all m x moves sends)

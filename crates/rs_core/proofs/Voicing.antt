@@ -47,7 +47,7 @@ use Rattle.rs_core.specs.Hearing.{Hearing, session_in, state_in, is_up}
 use Rattle.rs_core.specs.Runs.{speech_by, speech_in}
 use Rattle.rs_core.specs.Telling.{Speaks, each_message, no_table}
 use Rattle.rs_core.specs.Conversations.{Converses, outgoing_of, own_open}
-use Rattle.rs_core.specs.Voices.{IsInOrder, SpeaksTo, SaysTheSame, IsLeftAlone, IsFinished, IsGreeting, IsRaised, IsSilent, TellsAgain, Voices, speech_within}
+use Rattle.rs_core.specs.Voices.{IsInOrder, SpeaksTo, SaysTheSame, IsLeftAlone, IsFinished, IsGreeting, IsRaised, IsSilent, TellsAgain, TellsTheSame, Voices, speech_within}
 use Rattle.rs_core.proofs.Conversing.{Moves, IsHeardOrSeen, acted_converses, took_converses, keepalive_converses, note_converses, routine_converses, mode_up}
 use Rattle.rs_core.proofs.Uttering.{agreed_by_speech, all_gone, due_mandatory, limit_most, update_goes_on}
 use Rattle.rs_core.proofs.Telling.{silence_speaks, speaks_on, speaks_same}
@@ -82,7 +82,7 @@ in_order v w loc told marked waits o = record {
 same_order : (v w : View) → SaysTheSame v w → IsInOrder v → IsInOrder w
 same_order v w h o = in_order v w (ap (λ (x : View). x.loc) h.is) (ap (λ (x : View). x.told) h.is) (ap (λ (x : View). x.marked) h.is) (ap (λ (x : View). x.waits) h.is) o
 
-pub same_again : (v w : View) → SaysTheSame v w → TellsAgain v w
+pub same_again : (v w : View) → SaysTheSame v w → TellsTheSame v w
 same_again v w h = record {
   speech = ap (λ (x : View). x.speech) h.is;
   flight = ap (λ (x : View). x.flight) h.is;
@@ -91,6 +91,9 @@ same_again v w h = record {
   told = ap (λ (x : View). x.told) h.is;
   order = same_order v w h;
 }
+
+again_same : (v w : View) → TellsAgain v w → TellsTheSame v w
+again_same v w h = record { speech = h.speech; flight = h.flight; note = h.note; loc = h.loc; told = h.told; order = h.order }
 
 -- ---- outlets in which nothing is told
 
@@ -197,7 +200,7 @@ voiced_by s t c h next v w speech live octets spoken note told order messages at
 }
 
 pub voiced_on : (s t : Configuration) (c : ℕ) (h next : Hearing) (v w : View) → speech_in t c next ≡ speech_in s c h → (is_live (state_in t c next) ≡ true → is_live (state_in s c h) ≡ true)
-    → next.taken ≡ h.taken → TellsAgain v w → IsConversing t c next w → SpeaksTo s c h v → SpeaksTo t c next w
+    → next.taken ≡ h.taken → TellsTheSame v w → IsConversing t c next w → SpeaksTo s c h v → SpeaksTo t c next w
 voiced_on s t c h next v w speech live taken same messages at =
     voiced_by s t c h next v w speech live (λ i. taken i ++ same.flight i) same.speech same.note same.told (same.order at.order) messages at
 
@@ -221,7 +224,7 @@ voiced_over s c h v dead down silent order messages = record {
 stays_speech : (s : Configuration) (c : ℕ) (h next : Hearing) → Stays (session_in s c) h.items next.items → speech_in s c next ≡ speech_in s c h
 stays_speech s c h next stays = λ i. if is_up (stays.state i) then speech_by s.top.extended (stays.agreed i) else None
 
-pub stayed : (s : Configuration) (c : ℕ) (h next : Hearing) (v w : View) → Stays (session_in s c) h.items next.items → next.taken ≡ h.taken → TellsAgain v w → IsConversing s c next w → SpeaksTo s c h v → SpeaksTo s c next w
+pub stayed : (s : Configuration) (c : ℕ) (h next : Hearing) (v w : View) → Stays (session_in s c) h.items next.items → next.taken ≡ h.taken → TellsTheSame v w → IsConversing s c next w → SpeaksTo s c h v → SpeaksTo s c next w
 stayed s c h next v w stays taken same messages at = voiced_on s s c h next v w (stays_speech s c h next stays) (λ l. ap is_live (sym stays.state) ∙ l) taken same messages at
 
 both_down : (s : Configuration) (c : ℕ) (h next : Hearing) → is_up (state_in s c h) ≡ false → is_up (state_in s c next) ≡ false → speech_in s c next ≡ speech_in s c h
@@ -276,7 +279,7 @@ acted_by (acts.Say message) long s room sessions x c h next v w voices read hear
 acted_by acts.Up long s room sessions x c h next v w voices read heard tells not taken messages at =
     raised_voice s c h next v w long room tells (voices x read (session_in s c) next.items heard tells.now) taken messages at
 acted_by (acts.Down ending) long s room sessions x c h next v w voices read heard tells not taken messages at = voiced_over s c next w (ap is_live tells.now) (ap is_up tells.now) voices.speech voices.order messages
-acted_by acts.Again long s room sessions x c h next v w voices read heard tells not taken messages at = stayed s c h next v w tells.same taken voices messages at
+acted_by acts.Again long s room sessions x c h next v w voices read heard tells not taken messages at = stayed s c h next v w tells.same taken (again_same v w voices) messages at
 
 pub acted_voice : (item : Item) (act : Act) (long : Bool) (s : Configuration) → long ≡ s.top.extended → (sessions : List Session) (x : Session) (c : ℕ) (h next : Hearing) (v w : View) → IsHeardOrSeen item
     → act ≡ act_of (session_in s c) item h.items → next.items ≡ item ∷ h.items → Voices act long c sessions v w → slice_get sessions c ≡ Some x → HasHeard x (session_in s c) next.items

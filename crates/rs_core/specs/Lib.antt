@@ -3,6 +3,7 @@ pub mod Keeping
 pub mod Touches
 pub mod Turns
 pub mod Ribs
+pub mod Owing
 pub mod Core
 pub mod Moves
 pub mod Points
@@ -13,9 +14,10 @@ pub mod Orders
 pub mod Conversations
 pub mod Voices
 pub mod Agreeing
+pub mod Paying
 pub mod Steps
 pub mod Courses
 pub mod Answers
 pub mod Serving
 pub mod InTurn
-pub mod Sent
+pub mod Conversed

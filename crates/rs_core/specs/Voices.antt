@@ -74,13 +74,23 @@ pub record IsFinished (note : Option Short) (v w : View) : Type 0 where
   pub order : IsInOrder w
   pub out : outgoing_of w ≡ record { flight = flight_after note v.flight; note = note; beat = false }
 
--- all is to be told again
+-- what was told stays
+pub record TellsTheSame (v w : View) : Type 0 where
+  pub speech : w.speech ≡ v.speech
+  pub flight : w.flight ≡ v.flight
+  pub note : w.note ≡ v.note
+  pub loc : w.loc ≡ v.loc
+  pub told : w.told ≡ v.told
+  pub order : IsInOrder v → IsInOrder w
+
+-- what was told stays, and just that is to be told again
 pub record TellsAgain (v w : View) : Type 0 where
   pub speech : w.speech ≡ v.speech
   pub flight : w.flight ≡ v.flight
   pub note : w.note ≡ v.note
   pub loc : w.loc ≡ v.loc
   pub told : w.told ≡ v.told
+  pub marked : IsInOrder v → (p : Prefix) → set.contains w.marked p ≡ fin.contains_key v.told p
   pub order : IsInOrder v → IsInOrder w
 
 -- this OPEN is in flight, and nothing else

@@ -1,4 +1,5 @@
 pub mod Views
+pub mod Left
 pub mod Due
 pub mod Next
 pub mod Alike
@@ -9,5 +10,6 @@ pub mod Marking
 pub mod Owed
 pub mod Counted
 pub mod Inside
+pub mod Listing
 pub mod Choosing
 pub mod Begins

@@ -14,7 +14,7 @@ use Rattle.rs_core.proofs.Agreeing.{grown}
 use Rattle.rs_open.specs.Writing.{server_open}
 use Rattle.rs_core.specs.Conversations.{own_open}
 use Rattle.rs_core.proofs.Outgoing.{lent_is}
-use Rattle.rs_core.proofs.Sent.{any_view}
+use Rattle.rs_core.proofs.Conversed.{any_view}
 use Rattle.rs_core.proofs.Acting.{came, opens_from}
 use Rattle.rs_core.proofs.route_server.Core.opened.Goals as goal
 
