@@ -9,7 +9,7 @@ ghost use Rattle.std.specs.Prelude.{◌≡◌, ◌≤◌, ◌<◌, ◌+◌, ℕ,
 ghost use Rattle.std.specs.List.{AllWithin, Contains, IsDistinct, list_any};
 ghost use Rattle.std.specs.Arc.{arc_value};
 ghost use Rattle.std.specs.Ordering.{eq_by_cmp};
-ghost use Rattle.std.specs.List.Sorted.{IsPermutation, IsStrictlySortedBy, IsStrictlySortedBy-prop};
+ghost use Rattle.std.specs.List.Sorted.{IsPermutation, IsSortedByKey, IsStrictlySortedBy, IsStrictlySortedBy-prop};
 ghost use Rattle.std.specs.Vec.{vec_capacity};
 ghost use Rattle.rs_octets.specs.Prefixes.{Prefix, prefix_order};
 ghost use Rattle.rs_outlet.specs.declared.waiting.Wait.{Wait};
@@ -258,8 +258,21 @@ pub(crate) fn put_in_order(places: &mut Vec<Wait>)
     ensures all { (q : Prefix) → list_any (eq_by_cmp prefix_order q) (prefixes_at places.new.items) ≡ list_any (eq_by_cmp prefix_order q) (prefixes_at places.old.items) }
     ensures kept { IsDistinct (eq_by_cmp prefix_order) (prefixes_at places.old.items) → IsPermutation places.old.items places.new.items }
 {
-    places.sort_unstable_by_key(|wait| wait.prefix);
+    sort_by_prefix(places);
     places.dedup_by_key(|wait| wait.prefix);
+}
+
+/// Sorts the places. What waited before is in order, and a stable sort goes over such a run once; it
+/// wants a buffer, and where it is refused one the sort does without.
+fn sort_by_prefix(places: &mut Vec<Wait>)
+    ensures permutation { IsPermutation places.old.items places.new.items }
+    ensures sorted { IsSortedByKey (λ w. w.prefix) prefix_order places.new.items }
+    ensures capacity { vec_capacity places.new ≡ vec_capacity places.old }
+{
+    match places.sort_by_key(|wait| wait.prefix) {
+        Ok(()) => {}
+        Err(_) => places.sort_unstable_by_key(|wait| wait.prefix),
+    }
 }
 
 /// Drops the places that wait no more, and adds others, for which there is room.
