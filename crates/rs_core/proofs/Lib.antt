@@ -23,8 +23,11 @@ pub mod Telling
 pub mod Spoken
 pub mod Voicing
 pub mod Around
+pub mod Ordering
+pub mod Refusing
 pub mod Serving
 pub mod Outgoing
 pub mod Mandated
 pub mod Taking
 pub mod Continuing
+pub mod InTurn

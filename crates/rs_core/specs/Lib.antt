@@ -5,12 +5,15 @@ pub mod Turns
 pub mod Ribs
 pub mod Core
 pub mod Moves
+pub mod Points
 pub mod Hearing
 pub mod Telling
 pub mod Runs
+pub mod Orders
 pub mod Voices
 pub mod Agreeing
 pub mod Steps
 pub mod Courses
 pub mod Answers
 pub mod Serving
+pub mod InTurn
