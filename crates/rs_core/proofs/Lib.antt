@@ -31,3 +31,7 @@ pub mod Mandated
 pub mod Taking
 pub mod Continuing
 pub mod InTurn
+pub mod Owing
+pub mod Paying
+pub mod Drained
+pub mod Sent

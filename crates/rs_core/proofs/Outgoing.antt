@@ -87,7 +87,7 @@ still_at c Is old new s h m outlet ordered at = record {
   waits = λ x e. let w = at.waits x (ap (λ v. slice_get v.items c) (sym m.buffers) ∙ e) in record { rest = w.rest; good = w.good };
 }
 
-within : (old : Core) (c : ℕ) → c < old.count → c < old.ribs.count
+pub within : (old : Core) (c : ℕ) → c < old.count → c < old.ribs.count
 within old c lt = subst (λ n. c < n) (sym old.ribs_len) lt
 
 -- the next message was begun

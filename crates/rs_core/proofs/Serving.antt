@@ -33,7 +33,7 @@ due_is core run c speech p h =
 pub due_spoken : (run : List Move) (c : ℕ) (speech : Speech) (p : Prefix) → speech_in (config_in run) c (hearing c run) ≡ Some speech → due run c p ≡ due_to (held_in run) c speech p
 due_spoken run c speech p e = ap (λ o. due_by (held_in run) c o p) e
 
-spoken : (o : Option Speech) → IsSome o → (A : Type 0) → ((speech : Speech) → o ≡ Some speech → A) → A
+pub spoken : (o : Option Speech) → IsSome o → (A : Type 0) → ((speech : Speech) → o ≡ Some speech → A) → A
 spoken None some A so = absurd (let f : false ≡ true = some in cc)
 spoken (Some speech) some A so = so speech refl
 

@@ -6,6 +6,7 @@ use Rattle.rs_attrs.specs.Meaning.{Attribute}
 use Rattle.rs_outlet.specs.declared.answers.Last.{Last}
 use Rattle.rs_outlet.specs.declared.answers.Last.TheVariants as lasts
 use Rattle.rs_outlet.specs.Views.{View}
+use Rattle.rs_core.specs.Owing.{owed_by, is_decided_for}
 use Rattle.rs_core.specs.Ribs.{lent_by}
 use Rattle.rs_core.specs.Turns.{refused_in}
 use Rattle.rs_core.specs.declared.route_server.Core.{Core}
@@ -25,6 +26,22 @@ loc_in (Some o) p = fin.get o.loc p
 unfoldable pub loc_rib : Core → ℕ → Prefix → Option (List Attribute)
 loc_rib core c p = loc_in (slice_get core.ribs.outlets.items c) p
 
+abbrev pub owed_in : Option View → ℕ
+owed_in None = 0
+owed_in (Some o) = owed_by o
+
+-- at most so many octets are still to be sent to a client, by what was decided
+unfoldable pub owed : Core → ℕ → ℕ
+owed core c = owed_in (slice_get core.ribs.outlets.items c)
+
+abbrev pub decided_in : Option View → Bool
+decided_in None = false
+decided_in (Some o) = is_decided_for o
+
+-- whether nothing is touched for a client
+unfoldable pub is_decided : Core → ℕ → Bool
+is_decided core c = decided_in (slice_get core.ribs.outlets.items c)
+
 -- at how many clients memory was refused at the last turn
 unfoldable pub refused_clients : Core → ℕ
 refused_clients core = refused_in core.ribs.outlets.items
@@ -41,6 +58,14 @@ refusal_in (Some o) = is_refusal o.last
 -- whether memory was refused for a client at the last turn
 unfoldable pub is_refused : Core → ℕ → Bool
 is_refused core c = refusal_in (slice_get core.ribs.outlets.items c)
+
+abbrev pub last_in : Option View → Last
+last_in None = lasts.Never
+last_in (Some o) = o.last
+
+-- the answer of a client's last turn
+unfoldable pub last_of : Core → ℕ → Last
+last_of core c = last_in (slice_get core.ribs.outlets.items c)
 
 -- for which of the first so many clients, the greatest first
 abbrev pub refused_below : Core → ℕ → List ℕ

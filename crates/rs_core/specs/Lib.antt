@@ -3,6 +3,7 @@ pub mod Keeping
 pub mod Touches
 pub mod Turns
 pub mod Ribs
+pub mod Owing
 pub mod Core
 pub mod Moves
 pub mod Points
@@ -12,6 +13,7 @@ pub mod Runs
 pub mod Orders
 pub mod Voices
 pub mod Agreeing
+pub mod Paying
 pub mod Steps
 pub mod Courses
 pub mod Answers

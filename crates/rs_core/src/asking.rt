@@ -32,7 +32,7 @@ fn is_closing(state: State) -> bool
 ghost use Rattle.rs_core.specs.Hearing.{is_up, is_closing};
 
 impl Core {
-    ghost use Rattle.rs_core.specs.Core.{client_count, is_refusal, is_refused, lent_octets};
+    ghost use Rattle.rs_core.specs.Core.{client_count, is_refusal, is_refused, last_of, lent_octets, owed, is_decided};
     ghost use Rattle.rs_core.specs.Moves.{Move, Began, config_in};
     ghost use Rattle.rs_core.specs.Hearing.{Hearing, state_in, mode_in, limit_in};
     ghost use Rattle.rs_core.specs.Runs.{hearing, is_established, IsServed};
@@ -140,7 +140,8 @@ impl Core {
     /// The answer of a client's last turn.
     pub fn last(&self, c: usize) -> Last
         requires { c < client_count self.now }
-        ensures { is_refusal result ≡ is_refused self.now c }
+        ensures last { result ≡ last_of self.now c }
+        ensures refused { is_refusal result ≡ is_refused self.now c }
     {
         let outlet = &self.ribs.outlets[c];
         outlet.last()
@@ -150,6 +151,7 @@ impl Core {
     pub fn is_drained(&self, c: usize) -> bool
         requires { c < client_count self.now }
         ensures served { IsTrue result → (run : List Move) → Agrees self.now run → IsServed run c }
+        ensures exact { (run : List Move) → Agrees self.now run → result ≡ (is_established run c && (is_decided self.now c && (owed self.now c == 0))) }
     {
         let outlet = &self.ribs.outlets[c];
         outlet.is_drained()
@@ -160,6 +162,7 @@ impl Core {
         requires { c < client_count self.old }
         ensures count { client_count self.new ≡ client_count self.old }
         ensures closing { (run : List Move) → Agrees self.old run → result ≡ (is_closing (state_in (config_in run) c (hearing c run)) && (length (lent_octets self.new c) == 0)) }
+        ensures owing { (run : List Move) → Agrees self.old run → result ≡ (is_closing (state_in (config_in run) c (hearing c run)) && (owed self.old c == 0)) }
         ensures unchanged { (run : List Move) → Agrees self.old run → is_closing (state_in (config_in run) c (hearing c run)) ≡ false → self.new ≡ self.old }
         ensures began { (run : List Move) → Agrees self.old run → is_closing (state_in (config_in run) c (hearing c run)) ≡ true → Agrees self.new (Began c ∷ run) }
     {

@@ -1,6 +1,7 @@
 //! Laws of what a route server does over a run, and together with its link.
 
 ghost use Rattle.rs_core.specs.InTurn.{HasWhatWasDue, TellsInTurn};
+ghost use Rattle.rs_core.specs.Paying.{SendsAllOwed};
 ghost use Rattle.rs_core.specs.Serving.{ServesByOffers};
 
 /// From the start on, behind any number of drives: where a client is served by the run, the UPDATEs
@@ -23,4 +24,12 @@ pub fn loc_rib_is_what_was_due()
 #[tactic(auto, using(crate::proofs::InTurn::tells_in_turn))]
 pub fn clients_are_told_in_turn()
     ensures { TellsInTurn }
+{}
+
+/// Where a turn has decided all for a client that is Established, what is owed to it then is enough: with
+/// no more octets than that it is drained, if nothing happens but that messages begin and octets are
+/// taken.
+#[tactic(auto, using(crate::proofs::Sent::sends_all_owed))]
+pub fn sends_all_owed()
+    ensures { SendsAllOwed }
 {}

@@ -1,6 +1,6 @@
 //! Turns: what is touched is decided, for each client.
 
-ghost use Rattle.std.specs.Prelude.{◌≡◌, ◌<◌, ◌≤◌, ◌+◌, List, ◌∷◌, length};
+ghost use Rattle.std.specs.Prelude.{◌≡◌, ◌<◌, ◌≤◌, ◌+◌, ℕ, true, false, List, ◌∷◌, length};
 ghost use Rattle.rs_core.specs.Turns.{IsMarked, IsTurn, refused_in};
 ghost use Rattle.rs_workers.specs.Turned.{AllTurnedAlone};
 
@@ -20,9 +20,10 @@ pub struct Turns {
 }
 
 impl Core {
-    ghost use Rattle.rs_core.specs.Core.{client_count, refused_below, refused_clients};
+    ghost use Rattle.rs_core.specs.Core.{client_count, is_decided, is_refused, refused_below, refused_clients};
     ghost use Rattle.rs_core.specs.Moves.{Move, Turned};
     ghost use Rattle.rs_core.specs.Agreeing.{Agrees};
+    ghost use Rattle.rs_core.specs.Runs.{is_established};
 
     /// A turn of all clients, one after the other.
     #[tactic(auto, unfolding(crate::specs::Core::client_count, crate::specs::Core::refused_clients))]
@@ -31,6 +32,7 @@ impl Core {
         ensures refused { result.refused ≡ refused_clients self.new }
         ensures all { result.done + result.refused ≡ client_count self.new }
         ensures turned { (run : List Move) → Agrees self.old run → Agrees self.new (Turned (refused_below self.new (client_count self.new)) ∷ run) }
+        ensures decided { (c : ℕ) (run : List Move) → c < client_count self.old → Agrees self.old run → is_established run c ≡ true → is_refused self.new c ≡ false → is_decided self.new c ≡ true }
     {
         self.ribs.turn();
         self.ribs.sweep();
@@ -50,6 +52,7 @@ impl Core {
         ensures refused { result.refused ≡ refused_clients self.new }
         ensures all { result.done + result.refused ≡ client_count self.new }
         ensures turned { (run : List Move) → Agrees self.old run → Agrees self.new (Turned (refused_below self.new (client_count self.new)) ∷ run) }
+        ensures decided { (c : ℕ) (run : List Move) → c < client_count self.old → Agrees self.old run → is_established run c ≡ true → is_refused self.new c ≡ false → is_decided self.new c ≡ true }
     {
         self.ribs.turn_with(rt, workers, gate);
         self.ribs.sweep();

@@ -43,6 +43,13 @@ marked_drained loc (w ∷ ws) h =
     ap (λ b. cond b (mark (marked_of loc ws) w.prefix (marked_told (Some w) (fin.get loc w.prefix))) (marked_of loc ws)) f.0
     ∙ marked_drained loc ws f.1
 
+pub waits_drained : (ws : List Wait) → open_count ws ≡ 0 → waits_of ws ≡ fin.empty
+waits_drained [] h = refl
+waits_drained (w ∷ ws) h =
+    let f = first_shut w ws h in
+    ap (λ b. cond b (fin.insert (waits_of ws) w.prefix (is_withdrawal w.due)) (waits_of ws)) f.0
+    ∙ waits_drained ws f.1
+
 -- ---- the other way round
 
 none_open : (ws : List Wait) → ((q : Prefix) → open_at q ws ≡ None) → open_count ws ≡ 0
@@ -70,3 +77,7 @@ drained_open v ws exact waits told marked = none_open ws (λ q.
     ∙ (λ i. views.waits_at (fin.get v.loc q) (fin.get (told i) q) (set.contains (marked i) q))
     ∙ ap (views.waits_at (fin.get v.loc q) (fin.get v.loc q)) (set.contains-empty prefix_order q)
     ∙ none_waits (fin.get v.loc q)))
+
+-- where nothing waits no place is open
+pub empty_open : (ws : List Wait) → waits_of ws ≡ fin.empty → open_count ws ≡ 0
+empty_open ws e = none_open ws (λ q. unmapped (λ w. is_withdrawal w.due) (open_at q ws) (sym (waits_at ws q) ∙ ap (λ t. fin.get t q) e ∙ fin.get-empty prefix_order q))

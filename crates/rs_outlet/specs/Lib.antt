@@ -1,4 +1,5 @@
 pub mod Views
+pub mod Left
 pub mod Due
 pub mod Next
 pub mod Alike

@@ -15,6 +15,7 @@ ghost use Rattle.rs_open.specs.declared.short.Short.{Short};
 ghost use Rattle.rs_outlet.specs.Next.{note_octets};
 ghost use Rattle.rs_open.specs.declared.short.Limit.TheVariants as limits;
 ghost use Rattle.rs_outlet.specs.Views.{AreNumbered, IsDrained, IsOneOf, WaitsAreExact, bare, begun, cleared, finished, if_up, touched_at};
+ghost use Rattle.rs_outlet.specs.Left.{HasNothingLeft};
 ghost use Rattle.rs_outlet.specs.Turns.{HasTurned};
 ghost use Rattle.rs_outlet.specs.Begins.{BeginsUpdate};
 ghost use Rattle.rs_outlet.specs.Inside.{room_of, batch_of, IsNoNumberOf};
@@ -310,6 +311,7 @@ impl Outlet {
     pub fn is_drained(&self) -> bool
         ensures drained { IsTrue result → IsDrained self.now }
         ensures exact { WaitsAreExact self.now → (IsTrue result ↔ IsDrained self.now) }
+        ensures left { IsTrue result ↔ HasNothingLeft self.now }
     {
         if self.speech.is_none() {
             return false;

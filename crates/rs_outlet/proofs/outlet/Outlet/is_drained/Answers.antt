@@ -1,9 +1,10 @@
-use Rattle.std.proofs.Common.{◌≡◌, ℕ, true, nat_eq, arith, refl, sym, ap, subst}
+use Rattle.std.proofs.Common.{◌≡◌, ℕ, true, nat_eq, arith, refl, sym, ap, subst, ◌∙◌}
 use Rattle.std.proofs.lemmas.Bool.Decides.{nat_tests}
 use Rattle.rs_outlet.specs.Views.{View, IsDrained}
 use Rattle.rs_outlet.specs.Inside.{loc_of}
+use Rattle.rs_outlet.specs.Left.{HasNothingLeft}
 use Rattle.rs_outlet.specs.Places.{open_count}
-use Rattle.rs_outlet.proofs.Draining.{told_drained, marked_drained, drained_open}
+use Rattle.rs_outlet.proofs.Draining.{told_drained, marked_drained, waits_drained, drained_open, empty_open}
 use Rattle.rs_outlet.proofs.Ranges.{empty_range}
 use Rattle.rs_outlet.proofs.outlet.Outlet.is_drained.Goals as goal
 
@@ -32,4 +33,17 @@ returns-clause-exact c = λ exact.
       returns-clause-drained c,
       λ d. is_zero c.len.result _ c.len.ensures
           (drained_open c.args.self.now a.waits.places.items exact (sym (ap (λ (v : View). v.waits) c.self.view_is)) d.told d.unmarked),
+    )
+
+pub returns-clause-left : goal.returns-clause-left
+returns-clause-left c =
+    let a = c.self.inside in (
+      λ t. subst HasNothingLeft c.self.view_is (record {
+        up = c.if-is_none.ensures;
+        untouched = c.if-not-is_empty.ensures.0 refl;
+        flight = empty_range a.octets.items a.start a.end (omega arith);
+        beat = c.if-self-2.false;
+        waits = waits_drained a.waits.places.items (zero_is c.len.result _ t c.len.ensures);
+      }),
+      λ h. is_zero c.len.result _ c.len.ensures (empty_open a.waits.places.items (ap (λ (v : View). v.waits) c.self.view_is ∙ h.waits)),
     )
