@@ -1,11 +1,12 @@
 //! The live route server. `command` reads the command line; `serve` is the loop, which gives the
-//! core events by a `link` over `ports`; `sockets` are the ports of the system. `seats` and `outbox`
-//! are what the link keeps of each connection, `watch` and `reports` tell an operator what happened,
-//! and `lines` is standard output, both within `rations`.
+//! core events by a `link` over `ports`; `sockets` are the ports of the system, with the listeners of
+//! `doors`. `seats` and `outbox` are what the link keeps of each connection, `watch` and `reports` tell
+//! an operator what happened, and `lines` is standard output, both within `rations`.
 #![tactic(auto)]
 
 pub mod command;
 pub mod configuration;
+mod doors;
 mod events;
 pub mod lines;
 pub mod link;
