@@ -19,7 +19,7 @@ use Rattle.rs_adjin.specs.declared.adj_ins.AdjIns.{AdjIns}
 use Rattle.rs_adjin.specs.AdjIns.{number_of}
 use Rattle.rs_outlet.specs.declared.outlet.Outlet.TheInside.{Inside}
 use Rattle.rs_outlet.specs.Views.{View, Table, Prefixes, Waiting}
-use Rattle.rs_outlet.specs.Places.{told_of, marked_told, is_withdrawal}
+use Rattle.rs_outlet.specs.Places.{told_of, marked_told, is_withdrawal, withdrawn_count}
 
 -- ---- rows
 
@@ -174,4 +174,5 @@ pub record IsKept (a : Inside) : Type 0 where
   pub front : batch_of a.extended ≤ vec_capacity a.front
   pub chosen : batch_of a.extended ≤ vec_capacity a.chosen
   pub touched : 4096 ≤ hash_map_len a.touched.prefixes + spare a.touched.prefixes
+  pub places : a.rows.used + withdrawn_count a.waits.places.items ≤ vec_capacity a.waits.places
   pub extended : (speech : Speech) → a.speech ≡ Some speech → speech.limit ≡ limits.Long → a.extended ≡ true

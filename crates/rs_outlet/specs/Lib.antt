@@ -10,5 +10,6 @@ pub mod Marking
 pub mod Owed
 pub mod Counted
 pub mod Inside
+pub mod Listing
 pub mod Choosing
 pub mod Begins

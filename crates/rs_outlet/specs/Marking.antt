@@ -1,6 +1,7 @@
 -- What waits once a client asked for everything again.
 use Rattle.std.specs.Prelude.{◌≡◌, ◌⊎◌, Bool, true, false, Option, None, Some, IsSome, List, [], ◌∷◌, ◌++◌}
 use Rattle.std.specs.FinMap as fin
+use Rattle.rs_octets.specs.Prefixes.{Prefix}
 use Rattle.rs_attrs.specs.Meaning.{Attribute}
 use Rattle.rs_outlet.specs.declared.rows.Row.{Row}
 use Rattle.rs_outlet.specs.declared.waiting.Told.{Told}
@@ -27,6 +28,10 @@ WaitsAgain due (Some w) z = (z.due ≡ w.due) × (z.told ≡ w.told) × (z.marke
 abbrev pub MayWaitAgain : Option (List Attribute) → Option Wait → Option Wait → Type 0
 MayWaitAgain due was None = was ≡ None
 MayWaitAgain due was (Some z) = WaitsAgain due was z
+
+-- where a place is to be announced, something is due
+abbrev pub AreDueAt : Table → List Wait → Type 0
+AreDueAt loc ws = (q : Prefix) (w : Wait) → open_at q ws ≡ Some w → is_withdrawal w.due ≡ false → IsSome (fin.get loc q)
 
 -- a place among others that waits so, where this is due and these waited
 pub record IsPlacedAgain (loc : Table) (ws : List Wait) (z : Wait) : Type 0 where

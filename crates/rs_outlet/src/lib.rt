@@ -13,6 +13,7 @@ mod outlet;
 mod routes;
 mod rows;
 mod sending;
+mod table;
 mod touched;
 mod turn;
 mod waiting;

@@ -23,7 +23,7 @@ ghost use Rattle.rs_outlet.specs.Inside.{room_of, batch_of, IsNoNumberOf};
 use crate::answers::{Last, Speech, Turned};
 use crate::deciding::Sources;
 use crate::routes::Routes;
-use crate::rows::Rows;
+use crate::table::Rows;
 use crate::touched::Touched;
 use crate::waiting::Waits;
 use rs_adjin::AdjIns;
@@ -268,6 +268,7 @@ impl Outlet {
         ensures extended { self.new.extended ≡ self.old.extended }
         ensures rest { self.new ≡ record self.old { told = self.new.told; marked = self.new.marked; waits = self.new.waits } }
         ensures told { self.new.told ≡ self.old.told }
+        ensures marked { WaitsAreExact self.old → (p : Prefix) → set.contains self.new.marked p ≡ map.contains_key self.old.told p }
         ensures exact { WaitsAreExact self.old → WaitsAreExact self.new }
     {
         self.waits.mark_all(&self.rows);
@@ -352,7 +353,9 @@ impl Outlet {
     }
 
     /// The routes of the Loc-RIB, by rising prefix.
-    pub fn routes<'a>(&'a self, ins: &'a AdjIns) -> Routes<'a> {
+    pub fn routes<'a>(&'a self, ins: &'a AdjIns) -> Routes<'a>
+        ensures { AreNumbered self.now ins.now → result ≡ map.entries self.now.loc }
+    {
         Routes::new(ins.iter(), &self.rows)
     }
 }

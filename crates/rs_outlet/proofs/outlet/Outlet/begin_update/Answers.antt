@@ -22,7 +22,7 @@ returns-clause-begins c = λ spoken e.
     c.put_update-packed.ensures.update c.put_update-packed.ensures.most
     (from_start c.put_update-packed.new.out.items c.put_update-packed.result.octets)
     (λ said qs are q.
-    c.give_up.ensures rows said qs
+    c.give_up.ensures.places rows said qs
     (subst (λ ws. AreChosen rows ws said c.deref.result.now qs) (sym c.put_update-packed.ensures.places)
     (subst (λ ns. AreChosen rows a.waits.places.items said ns qs) (sym (c.deref.ensures.value ∙ c.truncate.ensures.items)) are)) q
     ∙ ap (λ ws. cond (list_any (same q) qs) None (open_at q ws)) c.put_update-packed.ensures.places)

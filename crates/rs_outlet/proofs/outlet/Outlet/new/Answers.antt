@@ -1,4 +1,5 @@
-use Rattle.std.proofs.Common.{arith, ◌∙◌}
+use Rattle.std.proofs.Common.{ap, arith, ◌∙◌}
+use Rattle.rs_outlet.specs.Places.{withdrawn_count}
 use Rattle.rs_outlet.proofs.outlet.Outlet.new.Goals as goal
 
 pub invariant_of-result : goal.invariant_of-result
@@ -9,5 +10,6 @@ invariant_of-result c = record {
   front = omega (arith, c.batch.ensures, c.in_ok-with_capacity.ensures.capacity);
   chosen = omega (arith, c.batch-2.ensures, c.in_ok-with_capacity-2.ensures.capacity);
   touched = c.in_ok-new.ensures.room;
+  places = omega (arith, c.new.ensures.used, ap withdrawn_count c.new-2.ensures);
   extended = λ speech e. cc e;
 }
