@@ -1,6 +1,7 @@
 -- What a session asks for is done: what is known of its client then.
-use Rattle.std.proofs.Common.{◌≡◌, ◌<◌, ◌⊎◌, inl, inr, ℕ, Bool, true, false, List, [], ◌∷◌, length, refl, sym, ◌∙◌, ap, subst}
+use Rattle.std.proofs.Common.{◌≡◌, ◌<◌, ◌⊎◌, inl, inr, ℕ, zero, suc, Bool, true, false, ◌&&◌, List, [], ◌∷◌, length, refl, sym, ◌∙◌, ap, subst}
 use Rattle.std.specs.Prelude.{Some, None, slice_get, slice_set, if◌then◌else◌}
+use Rattle.std.proofs.lemmas.Bool.{false≢true}
 use Rattle.std.specs.Global.{Vec}
 use Rattle.rs_octets.specs.Prefixes.{Prefix}
 use Rattle.rs_attrs.specs.Effects.{table_since}
@@ -10,15 +11,16 @@ use Rattle.rs_session.specs.declared.act.Act.{Act}
 use Rattle.rs_session.specs.declared.act.Act.TheVariants as acts
 use Rattle.rs_session.specs.declared.session.Session.{Session}
 use Rattle.rs_session.specs.declared.settings.Settings.{Settings}
-use Rattle.rs_session.specs.Items.{Item, Came, Moment, is_connected, message_count}
+use Rattle.rs_session.specs.Items.{Item, Came, Message, Moment, is_connected, message_count}
 use Rattle.rs_session.specs.Endings.{Fate, GoesOn, Ends}
-use Rattle.rs_session.specs.Sessions.{state_of, state_by, is_live, fate, earlier, item_fate, falls_due, moment_act, act_of, agreed_identifier, identifier_by}
+use Rattle.rs_session.specs.Sessions.{state_of, state_by, is_live, is_request, fate, earlier, item_fate, falls_due, message_act, moment_act, act_of, agreed_identifier, identifier_by}
 use Rattle.rs_session.specs.Hearing.{HasHeard, Tells, RespondsTo, Stays, Opens}
 use Rattle.rs_adjin.specs.AdjIns.{held_of, identifier_of, Begins}
 use Rattle.rs_adjin.specs.declared.adj_ins.AdjIns.{AdjIns}
 use Rattle.rs_policy.specs.Configuration.{Configuration}
 use Rattle.rs_session.specs.declared.heard.Heard.{Heard}
 use Rattle.rs_core.specs.Hearing.{Hearing, takes_in, without_change, session_in, state_in, is_up, identifier_in, table_in, begins, sees}
+use Rattle.rs_core.specs.Points.{asked_if}
 use Rattle.rs_core.specs.Steps.{Follows, IsSpared, ActsOn}
 use Rattle.rs_core.specs.Agreeing.{Knows, AgreesAt, Spares}
 use Rattle.rs_outlet.specs.Views.{View}
@@ -27,6 +29,7 @@ use Rattle.rs_core.specs.Voices.{IsGreeting, KeepsVoices, Voices}
 use Rattle.rs_core.specs.declared.route_server.Core.{Core}
 use Rattle.rs_core.proofs.Lists.{get_set_same, set_at}
 use Rattle.rs_core.proofs.Voicing.{acted_voice, greeted, never_open_by_moment}
+use Rattle.rs_core.proofs.Ordering.{acted_ordered, greeted_ordered}
 use Rattle.rs_core.proofs.Agreeing.{begun_held, begun_identifier, others_held, others_identifiers}
 
 -- ---- what a client holds and is known by, by its state
@@ -125,15 +128,63 @@ begins_spared c i old new begins = record { held = others_held old new c i begin
 
 -- ---- a session has heard one item more, and what it asked for is done
 
+-- the client asked for all routes again by this item, or it did not
+pub record HasAskedIf (item : Item) (s : Configuration) (c : ℕ) (h next : Hearing) : Type 0 where
+  pub has_asked : Bool
+  pub points : next.points ≡ asked_if has_asked h.points
+  pub is_up : has_asked ≡ true → is_up (state_in s c h) ≡ true
+  pub again : act_of (session_in s c) item h.items ≡ acts.Again → has_asked ≡ true
+
+up_and : (a b : Bool) → (a && b) ≡ true → a ≡ true
+up_and true b e = refl
+up_and false b e = e
+
+-- all is told again only where an Established client asks for it
+asks_by : (b : Bool) (was now : Fate) (n : ℕ) (message : Heard) → (if is_live (state_by b was n) then message_act now n message else acts.None) ≡ acts.Again
+    → (is_up (state_by b was n) && is_request message) ≡ true
+asks_by false was now n message e = absurd (let f : ◌≡◌ {A = Act} acts.None acts.Again = e in cc)
+asks_by true (Ends _) now n message e = absurd (let f : ◌≡◌ {A = Act} acts.None acts.Again = e in cc)
+asks_by true GoesOn (Ends said) zero message e = absurd (let f : ◌≡◌ {A = Act} (acts.Down said) acts.Again = e in cc)
+asks_by true GoesOn (Ends said) (suc zero) message e = absurd (let f : ◌≡◌ {A = Act} (acts.Down said) acts.Again = e in cc)
+asks_by true GoesOn (Ends said) (suc (suc n)) message e = absurd (let f : ◌≡◌ {A = Act} (acts.Down said) acts.Again = e in cc)
+asks_by true GoesOn GoesOn zero message e = absurd (let f : ◌≡◌ {A = Act} (acts.Say short.Keepalive) acts.Again = e in cc)
+asks_by true GoesOn GoesOn (suc zero) message e = absurd (let f : ◌≡◌ {A = Act} acts.Up acts.Again = e in cc)
+asks_by true GoesOn GoesOn (suc (suc n)) message e = by_test (is_request message) e where
+  by_test : (r : Bool) → (if r then acts.Again else acts.None) ≡ acts.Again → r ≡ true
+  by_test true e = refl
+  by_test false e = absurd (let f : ◌≡◌ {A = Act} acts.None acts.Again = e in cc)
+
+pub asked_by_message : (s : Configuration) (c : ℕ) (message : Heard) (h next : Hearing) → next.points ≡ asked_if (is_up (state_in s c h) && is_request message) h.points → HasAskedIf (Message message) s c h next
+asked_by_message s c message h next points = record {
+  has_asked = is_up (state_in s c h) && is_request message;
+  points = points;
+  is_up = up_and (is_up (state_in s c h)) (is_request message);
+  again = asks_by (is_connected h.items) (fate (session_in s c) h.items) (item_fate (session_in s c) (Message message) h.items) (message_count h.items) message;
+}
+
+never_again_by : (b : Bool) (f : Fate) (falls : Bool) → (if b then moment_act f falls else acts.None) ≡ acts.Again → ⊥
+never_again_by false f falls e = cc
+never_again_by true (Ends _) falls e = cc
+never_again_by true GoesOn true e = cc
+never_again_by true GoesOn false e = cc
+
+pub asked_by_no_moment : (s : Configuration) (c t : ℕ) (h : Hearing) → HasAskedIf (Moment t) s c h (sees t h)
+asked_by_no_moment s c t h = record {
+  has_asked = false;
+  points = refl;
+  is_up = λ e. absurd (false≢true e);
+  again = λ e. absurd (never_again_by (is_live (state_of (session_in s c) h.items)) (item_fate (session_in s c) (Moment t) h.items) (falls_due (session_in s c) t h.items) e);
+}
+
 pub acted : (old new : Core) (act : Act) (item : Item) (x t : Session) (s : Configuration) (c : ℕ) (h next : Hearing)
     → slice_get old.sessions.items c ≡ Some x → c < length old.sessions.items → new.sessions.items ≡ slice_set old.sessions.items c t
     → RespondsTo x t item act → ActsOn act c (slice_set old.sessions.items c t) old.ribs.tables new.ribs.tables
     → new.ribs.config ≡ old.ribs.config → ((none : View) → Voices act old.ribs.extended c (slice_set old.sessions.items c t) (outlet_in old.ribs c none) (outlet_in new.ribs c none))
-    → (act_of (session_in s c) item h.items ≡ acts.Say short.Open → ⊥) → next.items ≡ item ∷ h.items → next.taken ≡ h.taken
+    → (act_of (session_in s c) item h.items ≡ acts.Say short.Open → ⊥) → next.items ≡ item ∷ h.items → next.taken ≡ h.taken → HasAskedIf item s c h next
     → (is_up (state_in s c h) ≡ false → act_of (session_in s c) item h.items ≡ acts.Up → next.changes ≡ [])
     → (is_up (state_in s c h) ≡ true → is_up (state_in s c next) ≡ true → next.changes ≡ h.changes)
     → Knows old s c h → Knows new s c next
-acted old new act item x t s c h next read lt sessions responds does config voices never items taken fresh same knows =
+acted old new act item x t s c h next read lt sessions responds does config voices never items taken asked fresh same knows =
     let it = responds (session_in s c) h.items (knows.session x read) in
     let heard : HasHeard t (session_in s c) next.items = subst (λ l. HasHeard t (session_in s c) l) (sym items) it.heard in
     let tells : Tells act (session_in s c) h.items next.items = subst (λ l. Tells act (session_in s c) h.items l) (sym items) it.tells in
@@ -147,6 +198,8 @@ acted old new act item x t s c h next read lt sessions responds does config voic
       identifier = has.identifier;
       outlet = λ is none. acted_voice act old.ribs.extended s (old.ribs.long ∙ ap (λ (k : Configuration). k.top.extended) (sym config ∙ is)) (slice_set old.sessions.items c t) t c h next (outlet_in old.ribs c none) (outlet_in new.ribs c none) (voices none) got heard tells
           (λ e. never (sym it.act_is ∙ e)) taken (knows.outlet (sym config ∙ is) none);
+      ordered = λ is none. acted_ordered act old.ribs.extended (slice_set old.sessions.items c t) t s c h next (outlet_in old.ribs c none) (outlet_in new.ribs c none) asked.has_asked asked.points asked.is_up
+          (λ e. asked.again (sym it.act_is ∙ e)) (voices none) got heard tells (λ e. never (sym it.act_is ∙ e)) taken (knows.ordered (sym config ∙ is) none);
     }
 
 pub acted_spares : (old new : Core) (c : ℕ) (t : Session) → new.count ≡ old.count → new.ribs.config ≡ old.ribs.config → c < length old.sessions.items
@@ -188,7 +241,7 @@ pub seen : (old new : Core) (act : Act) (x after : Session) (s : Configuration) 
     → new.ribs.config ≡ old.ribs.config → ((none : View) → Voices act old.ribs.extended c (slice_set old.sessions.items c after) (outlet_in old.ribs c none) (outlet_in new.ribs c none))
     → AgreesAt old s c h → AgreesAt new s c (sees t h)
 seen old new act x after s c t h read lt sessions buffers responds does config voices at = record {
-  knows = acted old new act (Moment t) x after s c h (sees t h) read lt sessions responds does config voices (never_open_by_moment (session_in s c) t h.items) refl refl
+  knows = acted old new act (Moment t) x after s c h (sees t h) read lt sessions responds does config voices (never_open_by_moment (session_in s c) t h.items) refl refl (asked_by_no_moment s c t h)
       (λ down up. absurd (never_up (session_in s c) t h.items up)) (λ before now. refl) at.knows;
   waits = λ y e. let w = at.waits y (ap (λ v. slice_get v.items c) (sym buffers) ∙ e) in record {
     rest = λ live. w.rest (live_before (session_in s c) t h.items live);
@@ -215,6 +268,7 @@ came old new act x t s c h read lt sessions emptied tables greets responds at =
         table = λ p. ap (λ ins. held_of ins c p) tables ∙ at.knows.table p ∙ alike.table p;
         identifier = ap (λ ins. identifier_of ins c) tables ∙ at.knows.identifier ∙ alike.identifier;
         outlet = λ _ none. greeted s c (begins h) (outlet_in new.ribs c none) (greets none) refl (ap is_up opens.now);
+        ordered = λ _ none. greeted_ordered s c (begins h) (outlet_in new.ribs c none) (greets none) refl refl;
       };
       waits = λ b e. record { rest = λ live. emptied b e; good = λ live. refl };
     }
@@ -224,6 +278,7 @@ pub alone_follows : (s : Configuration) (c : ℕ) (message : Heard) (h : Hearing
 alone_follows s c message h = record {
   items = refl;
   taken = refl;
+  points = refl;
   fresh = λ down. ap (λ b. if b then h.changes else []) down;
   same = λ up now. ap (λ b. if b then h.changes else []) up;
 }

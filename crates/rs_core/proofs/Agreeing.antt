@@ -14,6 +14,7 @@ use Rattle.rs_core.specs.declared.route_server.Core.{Core}
 use Rattle.rs_core.proofs.Lists.{equal_or, own, other}
 use Rattle.rs_core.proofs.Voicing.{voiced_same}
 use Rattle.rs_core.proofs.Around.{voices_on}
+use Rattle.rs_core.proofs.Ordering.{same_ordered}
 
 -- ---- one client has begun, or begun again
 
@@ -53,6 +54,8 @@ spared c d old new s h it ne lt at = record {
     identifier = it.identifiers d ne ∙ at.knows.identifier;
     outlet = λ config none. voiced_same s d h (outlet_in old.ribs d none) (outlet_in new.ribs d none) (it.voices d none (subst (λ n. d < n) (sym old.ribs_len) lt) ne)
         (at.knows.outlet (sym it.config ∙ config) none);
+    ordered = λ config none. same_ordered s d h (outlet_in old.ribs d none) (outlet_in new.ribs d none) (it.voices d none (subst (λ n. d < n) (sym old.ribs_len) lt) ne)
+        (at.knows.ordered (sym it.config ∙ config) none);
   };
   waits = λ x e. at.waits x (sym (it.buffers d ne) ∙ e);
 }

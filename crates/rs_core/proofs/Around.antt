@@ -66,6 +66,7 @@ asked_again v w h = record {
   speech = ap (λ (x : View). x.speech) h.rest;
   flight = ap (λ (x : View). x.flight) h.rest;
   note = ap (λ (x : View). x.note) h.rest;
+  loc = ap (λ (x : View). x.loc) h.rest;
   told = h.told;
   order = λ o. record { mandatory = λ p m e. o.mandatory p m (ap (λ (x : View). fin.get x.loc p) (sym h.rest) ∙ e); exact = h.exact o.exact };
 }

@@ -1,5 +1,5 @@
 -- Pieces of octets that are heard message by message, and what then waits.
-use Rattle.std.proofs.Common.{◌≡◌, ◌≢◌, ◌<◌, ℕ, zero, suc, Bool, true, false, List, [], ◌∷◌, ◌++◌, length, refl, sym, ◌∙◌, ap, subst, arith}
+use Rattle.std.proofs.Common.{◌≡◌, ◌≢◌, ◌<◌, inl, ℕ, zero, suc, Bool, true, false, List, [], ◌∷◌, ◌++◌, length, refl, sym, ◌∙◌, ap, subst, arith}
 use Rattle.std.specs.Prelude.{Some, Result, Ok, Err, slice_get, if◌then◌else◌}
 use Rattle.std.specs.Global.{Vec}
 use Rattle.std.proofs.lemmas.Bool.{false≢true}
@@ -27,6 +27,7 @@ use Rattle.rs_core.specs.declared.route_server.Core.{Core}
 use Rattle.rs_core.proofs.Listening.{Heards, hears_joined, hears_moment, deaf}
 use Rattle.rs_core.proofs.Ruling.{unmoved}
 use Rattle.rs_core.proofs.Voicing.{same_again, same_is, voiced_on}
+use Rattle.rs_core.proofs.Ordering.{ordered_on}
 
 -- what is known is known whatever the octets were
 pub with_others : (core : Core) (s : Configuration) (c : ℕ) (octets : List ℕ) (h : Hearing) → Knows core s c h → Knows core s c (with_octets octets h)
@@ -35,6 +36,8 @@ with_others core s c octets h knows = record {
   table = knows.table;
   identifier = knows.identifier;
   outlet = λ config none. let v = outlet_in core.ribs c none in voiced_on s s c h (with_octets octets h) v v refl (λ l. l) refl (same_again v v (same_is v v refl)) (knows.outlet config none);
+  ordered = λ config none. let v = outlet_in core.ribs c none in
+      ordered_on s s c h (with_octets octets h) v v false refl (λ e. absurd (false≢true e)) refl refl refl refl (λ p m. inl m) (λ l d. (l, d)) (knows.ordered config none);
 }
 
 pub waiting_spares : (old new : Core) (c : ℕ) → new.count ≡ old.count → new.sessions ≡ old.sessions → new.ribs ≡ old.ribs

@@ -23,6 +23,8 @@ pub mod Telling
 pub mod Spoken
 pub mod Voicing
 pub mod Around
+pub mod Ordering
+pub mod Refusing
 pub mod Serving
 pub mod Outgoing
 pub mod Mandated
@@ -32,3 +34,4 @@ pub mod Owing
 pub mod Paying
 pub mod Drained
 pub mod Sent
+pub mod InTurn

@@ -32,10 +32,10 @@ set_at xs c v lt = record {
   others = λ d ne. get_set_other xs c d v (λ e. ne (sym e));
 }
 
-same_test : (c : ℕ) → (c == c) ≡ true
+pub same_test : (c : ℕ) → (c == c) ≡ true
 same_test c = grind (arith, nat_tests)
 
-other_test : (c d : ℕ) → d ≢ c → (c == d) ≡ false
+pub other_test : (c d : ℕ) → d ≢ c → (c == d) ≡ false
 other_test c d ne = grind (arith, nat_tests)
 
 pub own : {A : Type 0} (c : ℕ) (x y : A) → (if c == c then x else y) ≡ x

@@ -1,5 +1,5 @@
 -- Another configuration: what is known of each client stays.
-use Rattle.std.proofs.Common.{◌≡◌, ◌<◌, ℕ, Bool, List, [], ◌∷◌, refl, sym, ◌∙◌, ap, subst}
+use Rattle.std.proofs.Common.{◌≡◌, ◌<◌, inl, ℕ, Bool, false, List, [], ◌∷◌, ◌++◌, refl, sym, ◌∙◌, ap, subst}
 use Rattle.std.specs.Prelude.{None, slice_get, if◌then◌else◌}
 use Rattle.rs_octets.specs.Messages.{rest_of, header_fault_of}
 use Rattle.rs_octets.specs.Prefixes.{Prefix}
@@ -24,6 +24,10 @@ use Rattle.rs_core.specs.Agreeing.{Knows, Waits, Agrees}
 use Rattle.rs_core.specs.declared.ribs.Ribs.{Ribs}
 use Rattle.rs_core.specs.declared.route_server.Core.{Core}
 use Rattle.rs_core.proofs.Voicing.{bare_silent, marked_same, same_again, voiced_on, voiced_over}
+use Rattle.rs_core.proofs.Ordering.{ordered_on, over_ordered}
+use Rattle.rs_core.specs.Orders.{IsOrdered}
+use Rattle.std.specs.FinSet as set
+use Rattle.std.proofs.lemmas.Bool.{false≢true}
 
 session_fixed : (s t : Configuration) (c : ℕ) → IsFixed s t → session_in s c ≡ session_in t c
 session_fixed s t c h = sym (λ i. record { peer_as = (h.clients c).client_as i; hold = h.hold i; extended = h.extended i })
@@ -42,18 +46,21 @@ waits_by s t c buffer h session allowed w = record {
 }
 
 pub knows_by : (old new : Core) (s t : Configuration) (c : ℕ) (h : Hearing) → session_in s c ≡ session_in t c
-    → new.sessions ≡ old.sessions → new.ribs.tables ≡ old.ribs.tables → (new.ribs.config ≡ t → (none : View) → SpeaksTo t c h (outlet_in new.ribs c none)) → Knows old s c h → Knows new t c h
-knows_by old new s t c h session sessions tables outlet w = record {
+    → new.sessions ≡ old.sessions → new.ribs.tables ≡ old.ribs.tables → (new.ribs.config ≡ t → (none : View) → SpeaksTo t c h (outlet_in new.ribs c none))
+    → (new.ribs.config ≡ t → (none : View) → IsOrdered t c h (outlet_in new.ribs c none)) → Knows old s c h → Knows new t c h
+knows_by old new s t c h session sessions tables outlet ordered w = record {
   session = λ x e. subst (λ k. HasHeard x k h.items) session (w.session x (ap (λ v. slice_get v.items c) (sym sessions) ∙ e));
   table = λ p. ap (λ ins. held_of ins c p) tables ∙ w.table p ∙ ap (λ k. if is_up (state_of k h.items) then table_since h.changes p else None) session;
   identifier = ap (λ ins. identifier_of ins c) tables ∙ w.identifier ∙ ap (λ k. if is_up (state_of k h.items) then agreed_identifier k h.items else 0) session;
   outlet = outlet;
+  ordered = ordered;
 }
 
 -- where nothing but what waits has changed, what is known is known
 pub unmoved : (old new : Core) (s : Configuration) (c : ℕ) (h : Hearing) → new.sessions ≡ old.sessions → new.ribs ≡ old.ribs → Knows old s c h → Knows new s c h
 unmoved old new s c h sessions ribs w = knows_by old new s s c h refl sessions (ap (λ (r : Ribs). r.tables) ribs)
-    (λ config none. subst (λ r. SpeaksTo s c h (outlet_in r c none)) (sym ribs) (w.outlet (sym (ap (λ (r : Ribs). r.config) ribs) ∙ config) none)) w
+    (λ config none. subst (λ r. SpeaksTo s c h (outlet_in r c none)) (sym ribs) (w.outlet (sym (ap (λ (r : Ribs). r.config) ribs) ∙ config) none))
+    (λ config none. subst (λ r. IsOrdered s c h (outlet_in r c none)) (sym ribs) (w.ordered (sym (ap (λ (r : Ribs). r.config) ribs) ∙ config) none)) w
 
 speech_fixed : (s t : Configuration) (c : ℕ) (h : Hearing) → session_in s c ≡ session_in t c → speech_in t c h ≡ speech_in s c h
 speech_fixed s t c h e = sym (ap (λ (k : Settings). if is_up (state_of k h.items) then speech_by k.extended (agreed_of k h.items) else None) e)
@@ -72,7 +79,13 @@ ruled old new run config fixed count is sessions buffers tables marked h = recor
         knows = knows_by old new (config_in run) config c (hearing c run) session sessions tables
             (λ _ none. voiced_on (config_in run) config c (hearing c run) (hearing c run) (outlet_in old.ribs c none) (outlet_in new.ribs c none) (speech_fixed (config_in run) config c (hearing c run) session)
             (λ l. ap (λ k. is_live (state_of k (hearing c run).items)) session ∙ l) refl
-            (same_again _ _ (marked_same old.ribs.tables _ _ (marked.each c none (subst (λ n. c < n) (sym old.ribs_len) there)))) (at.knows.outlet h.config none)) at.knows;
+            (same_again _ _ (marked_same old.ribs.tables _ _ (marked.each c none (subst (λ n. c < n) (sym old.ribs_len) there)))) (at.knows.outlet h.config none))
+            (λ _ none. let same = marked_same old.ribs.tables _ _ (marked.each c none (subst (λ n. c < n) (sym old.ribs_len) there)) in
+            let v = outlet_in old.ribs c none in
+            ordered_on (config_in run) config c (hearing c run) (hearing c run) v (outlet_in new.ribs c none) false refl (λ e. absurd (false≢true e))
+            (ap (λ (x : View). (hearing c run).taken ++ x.flight) same.is) (ap (λ (x : View). x.speech) same.is) (ap (λ (x : View). x.loc) same.is) (ap (λ (x : View). x.told) same.is)
+            (λ p m. inl (ap (λ (x : View). set.contains x.marked p) (sym same.is) ∙ m))
+            (λ l d. (ap (λ k. is_live (state_of k (hearing c run).items)) session ∙ l, ap (λ k. is_up (state_of k (hearing c run).items)) session ∙ d)) (at.knows.ordered h.config none)) at.knows;
         waits = λ x e. waits_by (config_in run) config c x.items (hearing c run) session (allowed_fixed (config_in run) config fixed) (at.waits x (ap (λ v. slice_get v.items c) (sym buffers) ∙ e));
       };
 }
@@ -103,6 +116,8 @@ begun core config is sessions held identifiers bare = record {
       identifier = identifiers c;
       outlet = λ _ none. voiced_over config c silence (outlet_in core.ribs c none) refl refl
           (bare_silent c config.top.extended lasts.Never (outlet_in core.ribs c none) (bare c none (subst (λ n. c < n) (sym (core.ribs.outlets_len ∙ core.ribs_len)) lt)));
+      ordered = λ _ none. over_ordered config c silence (outlet_in core.ribs c none) refl
+          (bare_silent c config.top.extended lasts.Never (outlet_in core.ribs c none) (bare c none (subst (λ n. c < n) (sym (core.ribs.outlets_len ∙ core.ribs_len)) lt))).speech;
     };
     waits = λ x e. record { rest = λ live. absurd (let f = live in cc); good = λ live. absurd (let f = live in cc) };
   };

@@ -87,6 +87,7 @@ pub reset_follows : (s : Configuration) (c : ℕ) (h : Hearing) (reset : ℕ × 
 reset_follows s c h reset change = record {
   items = refl;
   taken = refl;
+  points = refl;
   fresh = λ down. ap (λ b. if b then change ∷ h.changes else []) down;
   same = λ up now. absurd (false≢true (sym (reset_ends (session_in s c) reset h.items) ∙ now));
 }

@@ -21,7 +21,7 @@ use Rattle.rs_core.proofs.Telling.{speaks_same}
 use Rattle.rs_core.proofs.Voicing.{spoken_up}
 
 -- what is due by the tables is due by the run
-due_is : (core : Core) (run : List Move) (c : ℕ) (speech : Speech) (p : Prefix) → Agrees core run → due_in core.ribs c speech p ≡ due_to (held_in run) c speech p
+pub due_is : (core : Core) (run : List Move) (c : ℕ) (speech : Speech) (p : Prefix) → Agrees core run → due_in core.ribs c speech p ≡ due_to (held_in run) c speech p
 due_is core run c speech p h =
     due_below core.ribs.config (client_count core.ribs.tables) c speech p (identifier_of core.ribs.tables) (λ d. (held_in run).identifier d) (held_of core.ribs.tables) (λ d q. (held_in run).held d q)
     (λ d lt ne. let knows = (h.clients d (subst (λ n. d < n) (core.ribs.tables_len ∙ core.ribs_len) lt)).knows in record { held = knows.table p; identifier = λ m some. knows.identifier })
@@ -30,7 +30,7 @@ due_is core run c speech p h =
       counts = core.ribs.tables_len ∙ sym core.ribs.clients_len ∙ ap (λ (s : Configuration). length s.clients) h.config
 
 -- the client is spoken to as what was heard of it says
-due_spoken : (run : List Move) (c : ℕ) (speech : Speech) (p : Prefix) → speech_in (config_in run) c (hearing c run) ≡ Some speech → due run c p ≡ due_to (held_in run) c speech p
+pub due_spoken : (run : List Move) (c : ℕ) (speech : Speech) (p : Prefix) → speech_in (config_in run) c (hearing c run) ≡ Some speech → due run c p ≡ due_to (held_in run) c speech p
 due_spoken run c speech p e = ap (λ o. due_by (held_in run) c o p) e
 
 pub spoken : (o : Option Speech) → IsSome o → (A : Type 0) → ((speech : Speech) → o ≡ Some speech → A) → A

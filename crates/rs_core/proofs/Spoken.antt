@@ -31,12 +31,12 @@ numbers_equal x y = grind (arith, nat_tests)
 tied_same : (a b : Prefix) → eq_by_cmp prefix_order a b ≡ same_prefix a b
 tied_same a b = both_equal (nat_cmp a.bits b.bits) (nat_cmp a.len b.len) ∙ (λ i. numbers_equal a.bits b.bits i && numbers_equal a.len b.len i)
 
-among_has : (q : Prefix) (ps : List Prefix) → is_among q ps ≡ has_prefix q ps
+pub among_has : (q : Prefix) (ps : List Prefix) → is_among q ps ≡ has_prefix q ps
 among_has q [] = refl
 among_has q (p ∷ ps) = λ i. tied_same q p i || among_has q ps i
 
 -- what holds of each of them holds of one that is among them
-all_at : (P : Prefix → Type 0) (ps : List Prefix) (q : Prefix) → AllByRecursion P ps → has_prefix q ps ≡ true → P q
+pub all_at : (P : Prefix → Type 0) (ps : List Prefix) (q : Prefix) → AllByRecursion P ps → has_prefix q ps ≡ true → P q
 all_at P [] q h e = absurd (let f : false ≡ true = e in cc)
 all_at P (p ∷ ps) q h e = by_test (same_prefix q p) refl (all_at P ps q h.1) where
   by_test : (b : Bool) → same_prefix q p ≡ b → (has_prefix q ps ≡ true → P q) → P q

@@ -9,7 +9,7 @@ use Rattle.rs_session.specs.Endings.{Fate}
 use Rattle.rs_session.specs.Sessions.{state_by, is_live, fate}
 use Rattle.rs_policy.specs.Configuration.{Configuration}
 use Rattle.rs_core.specs.Moves.{config_in}
-use Rattle.rs_core.specs.Hearing.{Hearing, session_in, state_in, is_up, said_in, takes_in, listens, listens_to, hears, begins, leaves, takes, allowed_in}
+use Rattle.rs_core.specs.Hearing.{Hearing, session_in, state_in, is_up, said_in, takes_in, listens, listens_to, hears, begins, leaves, takes, offers, allowed_in}
 use Rattle.rs_core.specs.Runs.{hearing, due}
 use Rattle.rs_core.specs.Telling.{updates_in}
 use Rattle.rs_core.specs.Links.{Step, Told}
@@ -74,9 +74,9 @@ cut k room octets within = take-take k room octets (omega (arith, within, length
 
 offers_keep : (n d room k c : ℕ) (x y : Course) → Offers n d room k x y → IsTakenBy c x → IsTakenBy c y
 offers_keep n d room k c x y (Nothing u lends) so = so
-offers_keep n d room k c x y (Fails octets u some lends) so = left (d == c) (hearing c u.run) (taken_by c u.steps) so
+offers_keep n d room k c x y (Fails octets u some lends) so = left (d == c) (offers (d == c) (hearing c u.run)) (taken_by c u.steps) so
 offers_keep n d room k c x y (Takes octets j u some lends within) so = λ on.
-    took (d == c) (hearing c u.run) (taken_by c u.steps) (take j octets) so on
+    took (d == c) (offers (d == c) (hearing c u.run)) (taken_by c u.steps) (take j octets) so on
     ∙ ap (λ l. if d == c then taken_by c u.steps ++ l else taken_by c u.steps) (sym (cut j room octets within))
 
 gives_keep : (n d room c : ℕ) (x y : Course) → Gives n d room x y → IsTakenBy c x → IsTakenBy c y
@@ -100,7 +100,7 @@ answers_keep n octets event c x y (Keeps fault u refuses) so = so
 ended_keep : (n d c : ℕ) (x y : Course) → Ended n d x y → IsTakenBy c x → IsTakenBy c y
 ended_keep n d c x y (Lasts u not) so = so
 ended_keep n d c x y (Owes octets u closing some lends) so = so
-ended_keep n d c x y (Closes u closing lends) so = left (d == c) (hearing c u.run) (taken_by c u.steps) so
+ended_keep n d c x y (Closes u closing lends) so = left (d == c) (offers (d == c) (hearing c u.run)) (taken_by c u.steps) so
 
 ends_keep : (n k c : ℕ) (x y : Course) → Ends n k x y → IsTakenBy c x → IsTakenBy c y
 ends_keep n zero c x y ends so = subst (IsTakenBy c) ends so

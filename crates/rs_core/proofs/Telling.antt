@@ -38,7 +38,7 @@ messages_more octets m kind none is =
       joined.1 ∙ ap (λ r. rest_of each_message (r ++ m)) none ∙ one.1,
     )
 
-updates_more : (octets m : List ℕ) (kind : Kind) → rest_of each_message octets ≡ [] → IsMessageOf each_message kind m
+pub updates_more : (octets m : List ℕ) (kind : Kind) → rest_of each_message octets ≡ [] → IsMessageOf each_message kind m
     → updates_in (octets ++ m) ≡ updates_in octets ++ body_if (is_update kind) m []
 updates_more octets m kind none is =
     ap updates_among (messages_more octets m kind none is).0
@@ -55,7 +55,7 @@ speaks_on mode octets m kind t other is s = record {
       (sym (updates_more octets m kind s.whole is ∙ ap (λ b. updates_in octets ++ body_if b m []) other ∙ append-nil (updates_in octets))) s.means;
 }
 
-zip_more : {A B : Type 0} (R : A → B → Type 0) (xs : List A) (ys : List B) (x : A) (y : B) → AllZip R xs ys → R x y → AllZip R (xs ++ x ∷ []) (ys ++ y ∷ [])
+pub zip_more : {A B : Type 0} (R : A → B → Type 0) (xs : List A) (ys : List B) (x : A) (y : B) → AllZip R xs ys → R x y → AllZip R (xs ++ x ∷ []) (ys ++ y ∷ [])
 zip_more R [] [] x y h r = (r, tt)
 zip_more R [] (b ∷ ys) x y h r = absurd h
 zip_more R (a ∷ xs) [] x y h r = absurd h

@@ -24,7 +24,7 @@ turn_numbered config ins v w (inr refused) h = subst (λ es. HaveNumbers es ins)
 
 -- ---- what is due to a client stays so, and what was touched is
 
-done_decided : (config : Configuration) (ins : AdjIns) (c : ℕ) (v w : View) (turned : Turned) → v.client ≡ c → w.speech ≡ v.speech → HasTurned config ins v w turned → IsDecidedBy (due_to (tables_of config ins) c) v → IsDecidedBy (due_to (tables_of config ins) c) w
+pub done_decided : (config : Configuration) (ins : AdjIns) (c : ℕ) (v w : View) (turned : Turned) → v.client ≡ c → w.speech ≡ v.speech → HasTurned config ins v w turned → IsDecidedBy (due_to (tables_of config ins) c) v → IsDecidedBy (due_to (tables_of config ins) c) w
 done_decided config ins c v w turned client spoken h decided = record { at = λ speech p up un. let was : v.speech ≡ Some speech = sym spoken ∙ up in h.loc speech was p ∙ by_touch speech p was (is_touched v.touched p) refl } where
   by_touch : (speech : Speech) (p : Prefix) → v.speech ≡ Some speech → (b : Bool) → is_touched v.touched p ≡ b → (if b then due_to (tables_of config ins) v.client speech p else map.get v.loc p) ≡ due_to (tables_of config ins) c speech p
   by_touch speech p was true e = ap (λ k. due_to (tables_of config ins) k speech p) client

@@ -29,7 +29,8 @@ use Rattle.rs_core.specs.Ribs.{outlet_in}
 use Rattle.rs_core.specs.declared.route_server.Core.{Core}
 use Rattle.rs_core.proofs.Voicing.{same_again, same_is, stayed}
 use Rattle.rs_core.proofs.Lists.{set_at}
-use Rattle.rs_core.proofs.Acting.{up_table, up_identifier}
+use Rattle.rs_core.proofs.Acting.{asked_by_message, up_table, up_identifier}
+use Rattle.rs_core.proofs.Ordering.{stayed_ordered}
 
 -- ---- prefixes one by one
 
@@ -138,6 +139,8 @@ changed old new x t s c h W A m change read lt sessions responds takes held iden
           ∙ sym (up_table s c next now p);
       identifier = identifier ∙ knows.identifier ∙ up_identifier s c h up ∙ ap identifier_by (sym it.tells.agreed) ∙ sym (up_identifier s c next now);
       outlet = λ is none. stayed s c h next (outlet_in old.ribs c none) (outlet_in new.ribs c none) it.tells refl (same_again _ _ (same_is _ _ (own none))) (knows.outlet (sym config ∙ is) none);
+      ordered = λ is none. let asked = asked_by_message s c (heard.Update None) h next refl in
+          stayed_ordered s c h next (outlet_in old.ribs c none) (outlet_in new.ribs c none) asked.has_asked asked.points asked.is_up it.tells refl (same_is _ _ (own none)) (knows.ordered (sym config ∙ is) none);
     }
 
 -- ---- what the code found an UPDATE to do is what is computed of it

@@ -73,6 +73,7 @@ same_again v w h = record {
   speech = ap (λ (x : View). x.speech) h.is;
   flight = ap (λ (x : View). x.flight) h.is;
   note = ap (λ (x : View). x.note) h.is;
+  loc = ap (λ (x : View). x.loc) h.is;
   told = ap (λ (x : View). x.told) h.is;
   order = same_order v w h;
 }
@@ -108,7 +109,9 @@ begun_raised speech v w e = record {
   speech = ap (λ (x : View). x.speech) e;
   flight = ap (λ (x : View). x.flight) e;
   note = ap (λ (x : View). x.note) e;
+  loc = λ p. ap (λ (x : View). fin.get x.loc p) e ∙ none_in p;
   told = λ p. ap (λ (x : View). fin.get x.told p) e ∙ none_in p;
+  marked = λ p. ap (λ (x : View). set.contains x.marked p) e ∙ set.contains-empty prefix_order p;
   order = nothing_in_order w (λ p. ap (λ (x : View). fin.get x.loc p) e ∙ none_in p) (λ p. ap (λ (x : View). fin.get x.told p) e ∙ none_in p) (λ p. ap (λ (x : View). fin.get x.waits p) e ∙ none_in p);
 }
 
@@ -145,7 +148,7 @@ up_by false o speech e = absurd (let f : ◌≡◌ {A = Option Speech} None (Som
 pub spoken_up : (s : Configuration) (c : ℕ) (h : Hearing) (speech : Speech) → speech_in s c h ≡ Some speech → is_up (state_in s c h) ≡ true
 spoken_up s c h speech e = up_by (is_up (state_in s c h)) (speech_by s.top.extended (agreed_of (session_in s c) h.items)) speech e
 
-down_speech : (s : Configuration) (c : ℕ) (h : Hearing) → is_up (state_in s c h) ≡ false → speech_in s c h ≡ None
+pub down_speech : (s : Configuration) (c : ℕ) (h : Hearing) → is_up (state_in s c h) ≡ false → speech_in s c h ≡ None
 down_speech s c h e = ap (λ b. if b then speech_by s.top.extended (agreed_of (session_in s c) h.items) else None) e
 
 -- the speech is that of before, and so is what was said in all
@@ -305,7 +308,7 @@ noted s c h v w note waits speech order at = record {
   over : is_live (state_in s c h) ≡ true → ⊥
   over l = let f : ◌≡◌ {A = Option Short} None (Some note) = sym (at.quiet l) ∙ waits in cc
 
-limit_most : (limit : Limit) → limit_octets limit ≤ 65535
+pub limit_most : (limit : Limit) → limit_octets limit ≤ 65535
 limit_most limits.Short = omega arith
 limit_most limits.Long = omega arith
 
@@ -318,11 +321,11 @@ gone_by (Some m) (Some n) marked e = by_test (same_attributes m n && not marked)
   by_test false e = absurd (let f : ◌≡◌ {A = Option Bool} (Some false) (Some true) = e in cc)
 
 -- nothing is due where a prefix waits to be withdrawn
-all_gone : (v : View) (ps : List Prefix) → WaitsAreExact v → AllByRecursion (λ p. fin.get v.waits p ≡ Some true) ps → AllByRecursion (λ p. fin.get v.loc p ≡ None) ps
+pub all_gone : (v : View) (ps : List Prefix) → WaitsAreExact v → AllByRecursion (λ p. fin.get v.waits p ≡ Some true) ps → AllByRecursion (λ p. fin.get v.loc p ≡ None) ps
 all_gone v [] exact h = tt
 all_gone v (p ∷ ps) exact h = (gone_by (fin.get v.loc p) (fin.get v.told p) (set.contains v.marked p) (sym (exact p) ∙ h.0), all_gone v ps exact h.1)
 
-due_mandatory : (v : View) (ps : List Prefix) (m : List Attribute) → IsInOrder v → 0 < length ps → AllByRecursion (λ p. fin.get v.loc p ≡ Some m) ps → lacks_mandatory m ≡ false
+pub due_mandatory : (v : View) (ps : List Prefix) (m : List Attribute) → IsInOrder v → 0 < length ps → AllByRecursion (λ p. fin.get v.loc p ≡ Some m) ps → lacks_mandatory m ≡ false
 due_mandatory v [] m order some h = absurd (omega (arith, some))
 due_mandatory v (p ∷ ps) m order some h = order.mandatory p m h.0
 

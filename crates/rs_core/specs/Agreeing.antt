@@ -16,16 +16,18 @@ use Rattle.rs_core.specs.Hearing.{Hearing, allowed_in, session_in, state_in, ide
 use Rattle.rs_core.specs.Runs.{hearing}
 use Rattle.rs_core.specs.Ribs.{outlet_in}
 use Rattle.rs_core.specs.Voices.{SpeaksTo, KeepsVoices}
+use Rattle.rs_core.specs.Orders.{IsOrdered}
 use Rattle.rs_core.specs.declared.route_server.Core.{Core}
 
 -- ---- one client
 
--- its session has heard this, its Adj-RIB-In has what that means, and its outlet says what agrees with it
+-- its session has heard this, its Adj-RIB-In has what that means, and its outlet says what agrees with it, in order
 pub record Knows (core : Core) (s : Configuration) (c : ℕ) (h : Hearing) : Type 0 where
   pub session : (x : Session) → slice_get core.sessions.items c ≡ Some x → HasHeard x (session_in s c) h.items
   pub table : (p : Prefix) → held_of core.ribs.tables c p ≡ table_in s c h p
   pub identifier : identifier_of core.ribs.tables c ≡ identifier_in s c h
   pub outlet : core.ribs.config ≡ s → (none : View) → SpeaksTo s c h (outlet_in core.ribs c none)
+  pub ordered : core.ribs.config ≡ s → (none : View) → IsOrdered s c h (outlet_in core.ribs c none)
 
 -- while the session lasts, what waits is what the cut leaves of the octets, and its header, as far as it is there, is good
 pub record Waits (s : Configuration) (c : ℕ) (buffer : List ℕ) (h : Hearing) : Type 0 where

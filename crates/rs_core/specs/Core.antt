@@ -1,5 +1,8 @@
 -- What contracts see of a route server.
 use Rattle.std.specs.Prelude.{ℕ, zero, suc, Bool, true, false, List, [], ◌∷◌, Option, Some, None, slice_get, if◌then◌else◌}
+use Rattle.std.specs.FinMap as fin
+use Rattle.rs_octets.specs.Prefixes.{Prefix}
+use Rattle.rs_attrs.specs.Meaning.{Attribute}
 use Rattle.rs_outlet.specs.declared.answers.Last.{Last}
 use Rattle.rs_outlet.specs.declared.answers.Last.TheVariants as lasts
 use Rattle.rs_outlet.specs.Views.{View}
@@ -14,6 +17,14 @@ client_count core = core.count
 -- what is left of the message in flight to a client
 unfoldable pub lent_octets : Core → ℕ → List ℕ
 lent_octets core c = lent_by core.ribs c
+
+abbrev pub loc_in : Option View → Prefix → Option (List Attribute)
+loc_in None p = None
+loc_in (Some o) p = fin.get o.loc p
+
+-- what the Loc-RIB of a client has
+unfoldable pub loc_rib : Core → ℕ → Prefix → Option (List Attribute)
+loc_rib core c p = loc_in (slice_get core.ribs.outlets.items c) p
 
 abbrev pub owed_in : Option View → ℕ
 owed_in None = 0

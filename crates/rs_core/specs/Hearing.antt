@@ -1,5 +1,5 @@
 -- What a client's octets mean: what its session heard (RFC 4271, 8), and what its UPDATEs changed (RFC 4271, 4.3; RFC 7606).
-use Rattle.std.specs.Prelude.{ℕ, Bool, true, false, List, [], ◌∷◌, ◌++◌, length, filter, take, is_some, nat_lt, Option, Some, None, Result, Ok, Err, if◌then◌else◌}
+use Rattle.std.specs.Prelude.{ℕ, Bool, true, false, ◌&&◌, List, [], ◌∷◌, ◌++◌, length, filter, take, is_some, nat_lt, Option, Some, None, Result, Ok, Err, if◌then◌else◌}
 use Rattle.std.specs.List.{flat_map}
 use Rattle.rs_octets.specs.declared.heads.Allowed.{Allowed}
 use Rattle.rs_octets.specs.declared.heads.Kind.{Kind}
@@ -23,8 +23,9 @@ use Rattle.rs_session.specs.declared.act.State.TheVariants as states
 use Rattle.rs_session.specs.declared.settings.Settings.{Settings}
 use Rattle.rs_session.specs.Items as items
 use Rattle.rs_session.specs.Items.{Item}
-use Rattle.rs_session.specs.Sessions.{state_of, is_live, agreed_mode, agreed_limit, agreed_identifier}
+use Rattle.rs_session.specs.Sessions.{state_of, is_live, is_request, agreed_mode, agreed_limit, agreed_identifier}
 use Rattle.rs_policy.specs.Configuration.{Configuration, client_of}
+use Rattle.rs_core.specs.Points.{Point, Value, Decided, Offered, asked_if}
 
 -- ---- what is configured of a client's session
 
@@ -38,15 +39,17 @@ session_in s c = record { peer_as = (client_of s c).client_as; hold = s.top.hold
 -- ---- one client
 
 -- the octets since its connection came; what befell its session, the newest first; what its UPDATEs changed since it is
--- Established, the newest first; the octets that its link took of us since its connection came
+-- Established, the newest first; the octets that its link took of us since its connection came; what befell it since then that
+-- decides what it is told, the newest first
 pub record Hearing : Type 0 where
   pub octets : List ℕ
   pub items : List Item
   pub changes : List Change
   pub taken : List ℕ
+  pub points : List Point
 
 abbrev pub silence : Hearing
-silence = record { octets = []; items = []; changes = []; taken = [] }
+silence = record { octets = []; items = []; changes = []; taken = []; points = [] }
 
 abbrev pub state_in : Configuration → ℕ → Hearing → State
 state_in s c h = state_of (session_in s c) h.items
@@ -141,6 +144,7 @@ takes_in s c said h = record {
   items = items.Message said.message ∷ h.items;
   changes = if is_up (state_in s c h) then with_change said.change h.changes else [];
   taken = h.taken;
+  points = asked_if (is_up (state_in s c h) && is_request said.message) h.points;
 }
 
 -- a message or a fault: it is heard while the session lasts
@@ -154,21 +158,29 @@ listens_to s c (message ∷ messages) h = listens_to s c messages (listens s c m
 -- ---- what each move makes of it
 
 abbrev pub with_octets : List ℕ → Hearing → Hearing
-with_octets octets h = record { octets = octets; items = h.items; changes = h.changes; taken = h.taken }
+with_octets octets h = record { octets = octets; items = h.items; changes = h.changes; taken = h.taken; points = h.points }
 
 -- octets come: what they say that those before them did not is heard
 abbrev pub hears : Configuration → ℕ → List ℕ → Hearing → Hearing
 hears s c octets h = with_octets (h.octets ++ octets) (listens_to s c (newly_heard (allowed_in s) h.octets octets) h)
 
 abbrev pub begins : Hearing → Hearing
-begins h = record { octets = []; items = items.Came ∷ h.items; changes = []; taken = [] }
+begins h = record { octets = []; items = items.Came ∷ h.items; changes = []; taken = []; points = [] }
 
 abbrev pub sees : ℕ → Hearing → Hearing
-sees t h = record { octets = h.octets; items = items.Moment t ∷ h.items; changes = h.changes; taken = h.taken }
+sees t h = record { octets = h.octets; items = items.Moment t ∷ h.items; changes = h.changes; taken = h.taken; points = h.points }
 
 abbrev pub leaves : Hearing → Hearing
-leaves h = record { octets = []; items = items.Left ∷ h.items; changes = []; taken = [] }
+leaves h = record { octets = []; items = items.Left ∷ h.items; changes = []; taken = []; points = [] }
 
 -- its link takes octets
 abbrev pub takes : List ℕ → Hearing → Hearing
-takes octets h = record { octets = h.octets; items = h.items; changes = h.changes; taken = h.taken ++ octets }
+takes octets h = record { octets = h.octets; items = h.items; changes = h.changes; taken = h.taken ++ octets; points = h.points }
+
+-- the next message to it began, where none was in flight
+abbrev pub offers : Bool → Hearing → Hearing
+offers own h = record { octets = h.octets; items = h.items; changes = h.changes; taken = h.taken; points = if own then Offered h.taken ∷ h.points else h.points }
+
+-- what is due to it was decided at a turn
+abbrev pub decides : Bool → (Prefix → Value) → Hearing → Hearing
+decides turned due h = record { octets = h.octets; items = h.items; changes = h.changes; taken = h.taken; points = if turned then Decided due ∷ h.points else h.points }

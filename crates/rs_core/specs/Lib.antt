@@ -6,9 +6,11 @@ pub mod Ribs
 pub mod Owing
 pub mod Core
 pub mod Moves
+pub mod Points
 pub mod Hearing
 pub mod Telling
 pub mod Runs
+pub mod Orders
 pub mod Voices
 pub mod Agreeing
 pub mod Paying
@@ -16,3 +18,4 @@ pub mod Steps
 pub mod Courses
 pub mod Answers
 pub mod Serving
+pub mod InTurn

@@ -1,5 +1,6 @@
--- What a run means for each client: what was heard of it, and what RFC 7947 makes due to it.
-use Rattle.std.specs.Prelude.{◌≡◌, ℕ, ◌==◌, true, Bool, List, [], ◌∷◌, length, Option, Some, None, if◌then◌else◌}
+-- What a run means for each client: what befell it, and what RFC 7947 makes due to it.
+use Rattle.std.specs.Prelude.{◌≡◌, ℕ, ◌==◌, true, Bool, ◌&&◌, not, List, [], ◌∷◌, length, Option, Some, None, if◌then◌else◌}
+use Rattle.std.specs.List.{list_any}
 use Rattle.rs_octets.specs.Prefixes.{Prefix}
 use Rattle.rs_attrs.specs.Meaning.{Attribute}
 use Rattle.rs_attrs.specs.Effects.{MeansTable}
@@ -11,27 +12,8 @@ use Rattle.rs_outlet.specs.declared.answers.Speech.{Speech}
 use Rattle.rs_outlet.specs.Due.{Held, due_to}
 use Rattle.rs_core.specs.Moves.{Move, Ruled, Came, Heard, Saw, Left, Turned, Began, Took, config_in}
 use Rattle.rs_core.specs.Telling.{updates_in}
-use Rattle.rs_core.specs.Hearing.{Hearing, silence, session_in, state_in, is_up, identifier_in, table_in, hears, begins, sees, leaves, takes}
-
--- ---- what was heard of a client
-
-abbrev pub hearing : ℕ → List Move → Hearing
-hearing c [] = silence
-hearing c (Ruled config ∷ run) = hearing c run
-hearing c (Came d ∷ run) = if d == c then begins (hearing c run) else hearing c run
-hearing c (Heard d octets ∷ run) = if d == c then hears (config_in run) c octets (hearing c run) else hearing c run
-hearing c (Saw t ∷ run) = sees t (hearing c run)
-hearing c (Left d ∷ run) = if d == c then leaves (hearing c run) else hearing c run
-hearing c (Turned refused ∷ run) = hearing c run
-hearing c (Began d ∷ run) = hearing c run
-hearing c (Took d octets ∷ run) = if d == c then takes octets (hearing c run) else hearing c run
-
--- the table of a client: what its UPDATEs mean, while it is Established (RFC 4271, 3.2)
-abbrev pub table : List Move → ℕ → Prefix → Option (List Attribute)
-table run c p = table_in (config_in run) c (hearing c run) p
-
-abbrev pub is_established : List Move → ℕ → Bool
-is_established run c = is_up (state_in (config_in run) c (hearing c run))
+use Rattle.rs_core.specs.Hearing.{Hearing, silence, session_in, state_in, is_up, identifier_in, table_in, hears, begins, sees, leaves, takes, offers, decides}
+use Rattle.rs_core.specs.Points.{dues_at}
 
 -- ---- what is due to a client (RFC 7947, 2.3)
 
@@ -45,13 +27,13 @@ speech_by extended (Some sent) = Some (record { mode = sessions.mode_in sent.fou
 abbrev pub speech_in : Configuration → ℕ → Hearing → Option Speech
 speech_in s c h = if is_up (state_in s c h) then speech_by s.top.extended (agreed_of (session_in s c) h.items) else None
 
--- what each client holds and is known by: the candidates are chosen from this
-abbrev pub held_in : List Move → Held
-held_in run = record {
-  settings = config_in run;
-  count = length (config_in run).clients;
-  held = λ c p. table run c p;
-  identifier = λ c. identifier_in (config_in run) c (hearing c run);
+-- what each client holds and is known by, where this was heard of each: the candidates are chosen from this
+abbrev pub held_among : Configuration → (ℕ → Hearing) → Held
+held_among s heard = record {
+  settings = s;
+  count = length s.clients;
+  held = λ c p. table_in s c (heard c) p;
+  identifier = λ c. identifier_in s c (heard c);
 }
 
 abbrev pub due_by : Held → ℕ → Option Speech → Prefix → Option (List Attribute)
@@ -59,8 +41,46 @@ due_by held c None p = None
 due_by held c (Some speech) p = due_to held c speech p
 
 -- the best of the other clients' routes that the rules pass, where it fits; nothing to a client that isn't Established
+abbrev pub due_among : Configuration → (ℕ → Hearing) → ℕ → Prefix → Option (List Attribute)
+due_among s heard c p = due_by (held_among s heard) c (speech_in s c (heard c)) p
+
+-- ---- what befell a client
+
+-- it is one of these
+abbrev pub is_listed : ℕ → List ℕ → Bool
+is_listed c clients = list_any (λ d. d == c) clients
+
+abbrev pub hearing : ℕ → List Move → Hearing
+hearing c [] = silence
+hearing c (Ruled config ∷ run) = hearing c run
+hearing c (Came d ∷ run) = if d == c then begins (hearing c run) else hearing c run
+hearing c (Heard d octets ∷ run) = if d == c then hears (config_in run) c octets (hearing c run) else hearing c run
+hearing c (Saw t ∷ run) = sees t (hearing c run)
+hearing c (Left d ∷ run) = if d == c then leaves (hearing c run) else hearing c run
+hearing c (Turned refused ∷ run) =
+    decides (is_up (state_in (config_in run) c (hearing c run)) && not (is_listed c refused)) (due_among (config_in run) (λ d. hearing d run) c) (hearing c run)
+hearing c (Began d ∷ run) = offers (d == c) (hearing c run)
+hearing c (Took d octets ∷ run) = if d == c then takes octets (hearing c run) else hearing c run
+
+-- the table of a client: what its UPDATEs mean, while it is Established (RFC 4271, 3.2)
+abbrev pub table : List Move → ℕ → Prefix → Option (List Attribute)
+table run c p = table_in (config_in run) c (hearing c run) p
+
+abbrev pub is_established : List Move → ℕ → Bool
+is_established run c = is_up (state_in (config_in run) c (hearing c run))
+
+-- what each client holds and is known by
+abbrev pub held_in : List Move → Held
+held_in run = held_among (config_in run) (λ c. hearing c run)
+
+-- what is due to a client now
 abbrev pub due : List Move → ℕ → Prefix → Option (List Attribute)
-due run c p = due_by (held_in run) c (speech_in (config_in run) c (hearing c run)) p
+due run c p = due_among (config_in run) (λ d. hearing d run) c p
+
+-- what was due to it at the turns since its connection came, while it was Established, the newest first; a turn at which memory
+-- was refused for it is none
+abbrev pub dues : List Move → ℕ → Prefix → List (Option (List Attribute))
+dues run c p = dues_at (hearing c run).points p
 
 -- ---- what a client was told
 

@@ -1,5 +1,5 @@
 -- What the parts of a call do for one client.
-use Rattle.std.specs.Prelude.{◌≡◌, ◌≢◌, ◌≤◌, ◌⊎◌, ℕ, true, false, List, [], ◌∷◌, ◌++◌, length, Option, Some, None, IsSome, slice_get, if◌then◌else◌}
+use Rattle.std.specs.Prelude.{◌≡◌, ◌≢◌, ◌≤◌, ◌⊎◌, ◌&&◌, ℕ, true, false, List, [], ◌∷◌, ◌++◌, length, Option, Some, None, IsSome, slice_get, if◌then◌else◌}
 use Rattle.std.specs.Global.{Vec}
 use Rattle.rs_octets.specs.declared.heads.Allowed.{Allowed}
 use Rattle.rs_octets.specs.declared.heads.Kind.{Kind}
@@ -9,7 +9,8 @@ use Rattle.rs_attrs.specs.Meaning.{Attribute}
 use Rattle.rs_attrs.specs.Effects.{Change, has_prefix}
 use Rattle.rs_update.specs.Laws.{IsSameChange}
 use Rattle.rs_session.specs.declared.heard.Heard.TheVariants as heard
-use Rattle.rs_session.specs.Sessions.{is_live}
+use Rattle.rs_session.specs.Sessions.{is_live, is_request}
+use Rattle.rs_core.specs.Points.{asked_if}
 use Rattle.rs_core.specs.Agreeing.{Knows, IsCutShort, Waits}
 use Rattle.rs_core.specs.declared.route_server.Core.{Core}
 use Rattle.rs_session.specs.declared.heard.Heard.{Heard}
@@ -36,6 +37,7 @@ pub record SetsAt {X : Type 0} (c : ℕ) (v : X) (old new : List X) : Type 0 whe
 pub record Follows (s : Configuration) (c : ℕ) (message : Heard) (h next : Hearing) : Type 0 where
   pub items : next.items ≡ items.Message message ∷ h.items
   pub taken : next.taken ≡ h.taken
+  pub points : next.points ≡ asked_if (is_up (state_in s c h) && is_request message) h.points
   pub fresh : is_up (state_in s c h) ≡ false → next.changes ≡ []
   pub same : is_up (state_in s c h) ≡ true → is_up (state_in s c next) ≡ true → next.changes ≡ h.changes
 

@@ -1,6 +1,7 @@
 -- What an outlet says to its client, by what was heard of the client.
 use Rattle.std.specs.Prelude.{◌≡◌, ◌≢◌, ◌<◌, ℕ, Bool, true, false, List, ◌++◌, Option, Some, None, slice_get, if◌then◌else◌}
 use Rattle.std.specs.FinMap as fin
+use Rattle.std.specs.FinSet as set
 use Rattle.rs_octets.specs.Prefixes.{Prefix}
 use Rattle.rs_attrs.specs.declared.mode.Mode.{Mode}
 use Rattle.rs_attrs.specs.Meaning.{Attribute}
@@ -50,7 +51,9 @@ pub record IsRaised (agreed : Option Speech) (v w : View) : Type 0 where
   pub speech : w.speech ≡ agreed
   pub flight : w.flight ≡ v.flight
   pub note : w.note ≡ v.note
+  pub loc : (p : Prefix) → fin.get w.loc p ≡ None
   pub told : (p : Prefix) → fin.get w.told p ≡ None
+  pub marked : (p : Prefix) → set.contains w.marked p ≡ false
   pub order : IsInOrder w
 
 -- nothing is told any more
@@ -63,6 +66,7 @@ pub record TellsAgain (v w : View) : Type 0 where
   pub speech : w.speech ≡ v.speech
   pub flight : w.flight ≡ v.flight
   pub note : w.note ≡ v.note
+  pub loc : w.loc ≡ v.loc
   pub told : w.told ≡ v.told
   pub order : IsInOrder v → IsInOrder w
 

@@ -1,5 +1,6 @@
-//! Laws of what a route server and its link do together.
+//! Laws of what a route server does over a run, and together with its link.
 
+ghost use Rattle.rs_core.specs.InTurn.{HasWhatWasDue, TellsInTurn};
 ghost use Rattle.rs_core.specs.Paying.{SendsAllOwed};
 ghost use Rattle.rs_core.specs.Serving.{ServesByOffers};
 
@@ -16,4 +17,19 @@ pub fn serves_by_offers()
 #[tactic(auto, using(crate::proofs::Sent::sends_all_owed))]
 pub fn sends_all_owed()
     ensures { SendsAllOwed }
+{}
+
+/// At each point of each run the Loc-RIB of a client that is Established is what was due to it at its
+/// last turn since it is so, and empty before the first.
+#[tactic(auto, using(crate::proofs::InTurn::has_what_was_due))]
+pub fn loc_rib_is_what_was_due()
+    ensures { HasWhatWasDue }
+{}
+
+/// At each point of each run the UPDATEs that the link of an Established client took tell each prefix
+/// what was due at the turns, in order; each value is what was due at the last turn before its message
+/// began; and no value comes twice in a row, but where the client asked for all routes between.
+#[tactic(auto, using(crate::proofs::InTurn::tells_in_turn))]
+pub fn clients_are_told_in_turn()
+    ensures { TellsInTurn }
 {}

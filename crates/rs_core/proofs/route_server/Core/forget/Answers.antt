@@ -14,6 +14,7 @@ use Rattle.rs_core.specs.declared.ribs.Ribs.{Ribs}
 use Rattle.rs_core.proofs.Lists.{set_at}
 use Rattle.rs_core.proofs.Around.{held_voices, own_voices, voices_on}
 use Rattle.rs_core.proofs.Voicing.{cleared_silent, voiced_over}
+use Rattle.rs_core.proofs.Ordering.{over_ordered}
 use Rattle.rs_core.proofs.Agreeing.{begun_held, begun_identifier, others_held, others_identifiers}
 use Rattle.rs_core.proofs.route_server.Core.forget.Goals as goal
 
@@ -54,6 +55,8 @@ returns-clause-forgotten c = λ s h cut.
         identifier = ap (λ t. identifier_of t c.args.c) c.clear.ensures.tables ∙ begun_identifier c.pass_over.new.self.ribs.tables c.unlearn.new.self.tables c.args.c 0 c.unlearn.ensures.held;
         outlet = λ _ none. voiced_over s c.args.c (leaves h) (outlet_in c.clear.new.self c.args.c none) refl refl
             (cleared_silent (outlet_in c.unlearn.new.self c.args.c none) (outlet_in c.clear.new.self c.args.c none) (c.clear.ensures.outlet.own none (subst (λ n. c.args.c < n) (sym (c.unlearn.ensures.settings.count ∙ c.pass_over.new.self.ribs_len)) (subst (λ n. c.args.c < n) (sym (c.pass_over.ensures.count ∙ c.note_ending.ensures.count)) c.requires))));
+        ordered = λ _ none. over_ordered s c.args.c (leaves h) (outlet_in c.clear.new.self c.args.c none) refl
+            (cleared_silent (outlet_in c.unlearn.new.self c.args.c none) (outlet_in c.clear.new.self c.args.c none) (c.clear.ensures.outlet.own none (subst (λ n. c.args.c < n) (sym (c.unlearn.ensures.settings.count ∙ c.pass_over.new.self.ribs_len)) (subst (λ n. c.args.c < n) (sym (c.pass_over.ensures.count ∙ c.note_ending.ensures.count)) c.requires)))).speech;
       };
       waits = λ x e. record { rest = λ live. absurd (let f = live in cc); good = λ live. absurd (let f = live in cc) };
     }

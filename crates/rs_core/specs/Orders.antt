@@ -1,0 +1,72 @@
+-- The order of what a client is told (RFC 4271, 9.2): each UPDATE tells what was due at the last turn, and nothing twice in a
+-- row but where the client asked for it.
+use Rattle.std.specs.Prelude.{◌≡◌, ◌≢◌, ◌⊎◌, ℕ, Bool, true, false, List, [], ◌∷◌, ◌++◌, reverse, Some, if◌then◌else◌}
+use Rattle.std.specs.List.{AllZip}
+use Rattle.std.specs.FinMap as fin
+use Rattle.std.specs.FinSet as set
+use Rattle.rs_octets.specs.Prefixes.{Prefix}
+use Rattle.rs_attrs.specs.declared.mode.Mode.{Mode}
+use Rattle.rs_attrs.specs.Effects.{Change, Changes, HasEffect, attributes_after, mentions}
+use Rattle.rs_session.specs.Sessions.{is_live}
+use Rattle.rs_policy.specs.Configuration.{Configuration}
+use Rattle.rs_outlet.specs.declared.answers.Speech.{Speech}
+use Rattle.rs_outlet.specs.Views.{View}
+use Rattle.rs_core.specs.Points.{Point, Decided, Asked, Offered, Value, dues_at, latest}
+use Rattle.rs_core.specs.Hearing.{Hearing, state_in, is_up}
+use Rattle.rs_core.specs.Telling.{updates_in}
+
+-- what these changes tell a prefix, one value for each that mentions it; the newest stand first
+abbrev pub told_by : List Change → Prefix → List Value
+told_by [] p = []
+told_by (change ∷ changes) p = if mentions p change then attributes_after p (Some change) ∷ told_by changes p else told_by changes p
+
+-- the UPDATEs in these octets tell a prefix these values, the newest first
+pub record TellsAt (mode : Mode) (octets : List ℕ) (p : Prefix) (values : List Value) : Type 0 where
+  pub changes : List Change
+  pub have : AllZip (λ body change. HasEffect body mode (Changes change)) (updates_in octets) changes
+  pub are : values ≡ told_by (reverse changes) p
+
+-- one value more was told, by a message that began where all before it was taken: what was due at the last turn, and it was
+-- not what was told last, or the client had asked since
+pub record TellsOneMore (mode : Mode) (points : List Point) (taken : List ℕ) (p : Prefix) (Before : List Value → Bool → Type 0) (values : List Value) (asked : Bool) : Type 0 where
+  pub value : Value
+  pub earlier : List Value
+  pub was_asked : Bool
+  pub are : values ≡ value ∷ earlier
+  pub before : Before earlier was_asked
+  pub taken_tells : TellsAt mode taken p earlier
+  pub due : value ≡ latest (dues_at points p)
+  pub news : (value ≢ latest earlier) ⊎ (was_asked ≡ true)
+  pub answered : asked ≡ false
+
+-- by what befell a client, it was told these values at a prefix, the newest first, and has or has not asked since
+abbrev pub TellsInOrder : Mode → List Point → Prefix → List Value → Bool → Type 0
+TellsInOrder mode [] p values asked = (values ≡ []) × (asked ≡ false)
+TellsInOrder mode (Decided due ∷ points) p values asked = TellsInOrder mode points p values asked
+TellsInOrder mode (Asked ∷ points) p values asked = (asked ≡ true) × (was_asked : Bool) × TellsInOrder mode points p values was_asked
+TellsInOrder mode (Offered taken ∷ points) p values asked =
+    TellsInOrder mode points p values asked ⊎ TellsOneMore mode points taken p (λ earlier was_asked. TellsInOrder mode points p earlier was_asked) values asked
+
+-- ---- an outlet
+
+-- these octets tell a prefix what the outlet has as told, in order; it is marked only where the client asked since
+pub record IsToldInOrder (mode : Mode) (points : List Point) (octets : List ℕ) (v : View) (p : Prefix) : Type 0 where
+  pub values : List Value
+  pub asked : Bool
+  pub tells : TellsAt mode octets p values
+  pub order : TellsInOrder mode points p values asked
+  pub told : fin.get v.told p ≡ latest values
+  pub marked : set.contains v.marked p ≡ true → asked ≡ true
+
+-- nothing was decided, asked for or told
+pub record IsUntold (points : List Point) (octets : List ℕ) : Type 0 where
+  pub dues : (p : Prefix) → dues_at points p ≡ []
+  pub order : (mode : Mode) (p : Prefix) → TellsInOrder mode points p [] false
+  pub updates : updates_in octets ≡ []
+
+-- Of a client that is Established the Loc-RIB is what was due at the last turn, and the octets taken and in flight tell it
+-- in order. Before, while the session lasts, there was nothing of it.
+pub record IsOrdered (s : Configuration) (c : ℕ) (h : Hearing) (v : View) : Type 0 where
+  pub before : is_live (state_in s c h) ≡ true → is_up (state_in s c h) ≡ false → IsUntold h.points (h.taken ++ v.flight)
+  pub loc : (speech : Speech) → v.speech ≡ Some speech → (p : Prefix) → fin.get v.loc p ≡ latest (dues_at h.points p)
+  pub told : (speech : Speech) → v.speech ≡ Some speech → (p : Prefix) → IsToldInOrder speech.mode h.points (h.taken ++ v.flight) v p
