@@ -27,6 +27,6 @@ returns c =
           ∙ deduped (λ v w. prefix_eq v.prefix w.prefix) (λ v w. sym (prefix_eq-cmp v.prefix w.prefix)) q _
           ∙ sym (list_any-IsPermutation (same q) _ _ (IsPermutation-map (λ (w : Wait). w.prefix) _ _ moved));
       withdrawn = withdrawn_ordered (λ v w. prefix_eq v.prefix w.prefix) _ _ _ moved kept;
-      capacity = c.dedup_by_key.ensures.capacity ∙ c.sort_unstable_by_key.ensures.capacity;
+      capacity = c.dedup_by_key.ensures.capacity ∙ c.sort_by_prefix.ensures.capacity;
       kept = λ d. ordered (λ v w. prefix_eq v.prefix w.prefix) (λ v w. sym (prefix_eq-cmp v.prefix w.prefix)) _ _ _ moved kept d;
     }
