@@ -1,5 +1,5 @@
 -- How the fields of an outlet make what callers see, and what the fields keep.
-use Rattle.std.specs.Prelude.{◌≡◌, ◌≢◌, ◌⊎◌, ℕ, suc, ◌+◌, ◌≤◌, ◌<◌, ◌||◌, Bool, true, false, nat_eq, Option, None, Some, List, [], ◌∷◌, ◌++◌, map, option_map, slice_range, slice_get, vec_len, if◌then◌else◌}
+use Rattle.std.specs.Prelude.{◌≡◌, ◌≢◌, ◌⊎◌, ℕ, suc, ◌+◌, ◌-◌, ◌≤◌, ◌<◌, ◌||◌, Bool, true, false, nat_eq, Option, None, Some, List, [], ◌∷◌, ◌++◌, map, option_map, slice_range, slice_get, vec_len, if◌then◌else◌}
 use Rattle.std.specs.List.{AllByRecursion, IsDistinct, list_any}
 use Rattle.std.specs.Map.{keys_of}
 use Rattle.std.specs.Ordering.{eq_by_cmp}
@@ -8,6 +8,7 @@ use Rattle.std.specs.Arc.{arc_value}
 use Rattle.std.specs.HashMap.{hash_map_len, spare}
 use Rattle.std.specs.FinMap as fin
 use Rattle.std.specs.FinSet as set
+use Rattle.rs_octets.specs.Numbers.{longest_message, longest_extended_message}
 use Rattle.rs_octets.specs.Prefixes.{Prefix, prefix_order}
 use Rattle.rs_attrs.specs.Meaning.{Attribute}
 use Rattle.rs_open.specs.declared.short.Limit.TheVariants as limits
@@ -159,13 +160,12 @@ view_of a = record {
 }
 
 abbrev pub room_of : Bool → ℕ
-room_of false = 4096
-room_of true = 65535
+room_of false = longest_message
+room_of true = longest_extended_message
 
--- the most prefixes that one message holds
+-- the most prefixes that one message holds, each of one octet, behind the header and two lengths
 abbrev pub batch_of : Bool → ℕ
-batch_of false = 4073
-batch_of true = 65512
+batch_of extended = room_of extended - 23
 
 pub record IsKept (a : Inside) : Type 0 where
   pub octets : vec_len a.octets ≡ room_of a.extended

@@ -27,7 +27,7 @@ use crate::touched::Touched;
 use crate::waiting::Waits;
 use rs_adjin::AdjIns;
 use rs_attrs::{Attrs, Mode};
-use rs_octets::Prefix;
+use rs_octets::{LONGEST_EXTENDED_MESSAGE, LONGEST_MESSAGE, Prefix};
 use rs_open::{Limit, ServerOpen, Short, short_size, write_open};
 use rs_policy::Config;
 use std::alloc::{AllocError, Global};
@@ -82,14 +82,21 @@ fn room(extended: bool) -> usize
     ensures value { result ≡ room_of extended }
     ensures most { result ≤ 65535 }
 {
-    if extended { 65535 } else { 4096 }
+    usize::from(if extended {
+        LONGEST_EXTENDED_MESSAGE
+    } else {
+        LONGEST_MESSAGE
+    })
 }
 
-/// The most prefixes that one message holds.
+/// The octets of an UPDATE without prefixes and attributes: its header and two lengths.
+const EMPTY_UPDATE: usize = 23;
+
+/// The most prefixes that one message holds, each of one octet.
 fn batch(extended: bool) -> usize
     ensures { result ≡ batch_of extended }
 {
-    if extended { 65512 } else { 4073 }
+    room(extended) - EMPTY_UPDATE
 }
 
 /// Writes the server's OPEN at the front of a message's room.
