@@ -274,7 +274,7 @@ impl Outlet {
         ensures extended { self.new.extended ≡ self.old.extended }
         ensures rest { self.new ≡ record self.old { told = self.new.told; marked = self.new.marked; waits = self.new.waits } }
         ensures told { self.new.told ≡ self.old.told }
-        ensures marked { WaitsAreExact self.old → (p : Prefix) → set.contains self.new.marked p ≡ map.contains_key self.old.told p }
+        ensures marked { (p : Prefix) → set.contains self.new.marked p ≡ map.contains_key self.old.told p }
         ensures exact { WaitsAreExact self.old → WaitsAreExact self.new }
     {
         self.waits.mark_all(&self.rows);
