@@ -14,8 +14,6 @@ mod routes;
 mod rows;
 mod sending;
 mod table;
-#[cfg(test)]
-mod tests;
 mod touched;
 mod turn;
 mod waiting;
