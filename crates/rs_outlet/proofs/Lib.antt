@@ -20,6 +20,7 @@ mod MarkedAgain
 mod MarkedAll
 mod Owing
 mod Carrying
+mod Backing
 mod Unchanged
 mod Counting
 mod Draining
