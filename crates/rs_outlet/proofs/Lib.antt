@@ -18,6 +18,7 @@ mod MarkedAgain
 mod Owing
 mod Carrying
 mod Backing
+mod Rising
 mod Unchanged
 mod Counting
 mod Draining
