@@ -21,6 +21,7 @@ mod MarkedAll
 mod Owing
 mod Carrying
 mod Backing
+mod Rising
 mod Unchanged
 mod Counting
 mod Draining

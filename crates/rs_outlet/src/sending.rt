@@ -13,9 +13,9 @@ ghost use Rattle.rs_outlet.specs.Choosing.{HaveRoom, MayUpdate, NoneWithdrawn, W
 ghost use Rattle.rs_outlet.specs.Inside.{AreBacked, RowsFit};
 ghost use Rattle.rs_outlet.specs.declared.answers.Speech.{Speech};
 ghost use Rattle.rs_outlet.specs.declared.rows.Row.{Row};
-ghost use Rattle.std.specs.List.{HoldsAt};
+ghost use Rattle.std.specs.List.{AllWithin, HoldsAt};
 ghost use Rattle.std.specs.Vec.{vec_capacity};
-ghost use Rattle.rs_outlet.specs.Places.{is_withdrawn};
+ghost use Rattle.rs_outlet.specs.Places.{is_announced, is_withdrawn};
 ghost use Rattle.rs_open.specs.Notes.{limit_octets};
 
 use crate::answers::Speech;
@@ -125,6 +125,7 @@ fn put_gone(
 ) -> Packed
     requires room { limit_octets limit ≤ vec_len out.old }
     requires some { (first < vec_len waits.now.places) × HoldsAt (λ w. is_withdrawn w ≡ true) waits.now.places.items first }
+    requires before { AllWithin (λ w. is_withdrawn w ≡ false) waits.now.places.items 0 first }
     requires empty { HaveRoom chosen.old front.old }
     requires none { (chosen.old.items ≡ []) × (front.old.items ≡ []) }
     ensures most { result.octets ≤ limit_octets limit }
@@ -155,6 +156,7 @@ fn put_news(
     requires room { limit_octets speech.limit ≤ vec_len out.old }
     requires in_turn { NoneWithdrawn waits.now.places.items }
     requires some { (first < vec_len waits.now.places) × HoldsAt (WaitsFor rows.now.rows.items attrs.now) waits.now.places.items first }
+    requires before { AllWithin (λ w. is_announced w ≡ false) waits.now.places.items 0 first }
     requires fit { RowsFit speech rows.now.rows.items }
     requires empty { HaveRoom chosen.old front.old }
     requires none { (chosen.old.items ≡ []) × (front.old.items ≡ []) }

@@ -1,4 +1,4 @@
-use Rattle.std.proofs.Common.{◌≡◌, ◌∙◌, None, Some, List, Option, length, ap, arith, inl, refl, subst, sym}
+use Rattle.std.proofs.Common.{◌≡◌, ◌∙◌, None, Some, List, length, ap, arith, inl, refl, subst, sym}
 use Rattle.std.specs.Option.{option_copied}
 use Rattle.std.specs.Prelude.{option_map}
 use Rattle.std.specs.Arc.{arc_value}
@@ -7,7 +7,7 @@ use Rattle.rs_outlet.specs.declared.rows.Row.{Row}
 use Rattle.rs_outlet.specs.declared.waiting.Wait.{Wait}
 use Rattle.rs_outlet.specs.Choosing.{IsFound, WaitsFor}
 use Rattle.rs_outlet.specs.Inside.{row_by}
-use Rattle.rs_outlet.specs.Places.{is_announced, is_withdrawn}
+use Rattle.rs_outlet.specs.Places.{is_announced}
 use Rattle.rs_outlet.proofs.Chosen.{first_row, first_waits, nothing_waits}
 use Rattle.rs_outlet.proofs.sending.put_update.Goals as goal
 

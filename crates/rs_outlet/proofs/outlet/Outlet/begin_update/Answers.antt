@@ -15,7 +15,7 @@ pub returns-clause-begins : goal.returns-clause-begins
 returns-clause-begins c = λ spoken e.
     let a = c.self.inside in
     let rows = a.rows.rows.items in
-    update_seen c.args.speech spoken (view_of a) c.args.self.now _ rows a.waits.places.items c.give_up.new.self.places.items c.self.view_is (sym c.requires ∙ e)
+    update_seen c.args.speech spoken (view_of a) c.args.self.now _ rows a.waits.places.items c.give_up.new.self.places.items c.self.view_is (sym c.requires ∙ e) a.waits.rises
     (record { loc = refl; told = refl; marked = refl; waits = refl; numbers = λ ins h. all_front (λ (e : ℕ × Prefix). number_of ins e.1 ≡ Some e.0) (numbers_from 0 rows) _ h })
     (record { loc = refl; told = refl; marked = refl; waits = refl; numbers = λ ins h. all_front (λ (e : ℕ × Prefix). number_of ins e.1 ≡ Some e.0) (numbers_from 0 rows) _ h })
     c.put_update-packed.new.chosen.items c.put_update-packed.new.front.items c.put_update-packed.new.out.items c.put_update-packed.result
