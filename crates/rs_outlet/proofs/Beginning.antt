@@ -19,7 +19,7 @@ use Rattle.rs_outlet.specs.declared.rows.Row.{Row}
 use Rattle.rs_outlet.specs.declared.waiting.Wait.{Wait}
 use Rattle.rs_outlet.specs.Views.{View, AreNumbered, HaveNumbers}
 use Rattle.rs_outlet.specs.Places.{open_at, told_by, marked_told, is_withdrawal, is_withdrawn}
-use Rattle.rs_outlet.specs.Inside.{told_over, marked_of, waits_of, loc_of, numbers_from, shown}
+use Rattle.rs_outlet.specs.Inside.{AreBacked, told_over, marked_of, waits_of, loc_of, numbers_from, shown}
 use Rattle.rs_outlet.specs.Choosing.{AreChosen, IsInTurn, IsLegalSaid, NoneWithdrawn, message_of, MayUpdate}
 use Rattle.rs_outlet.specs.Begins.{NoneGone, Settles, Withdraws, Announces, BeginsUpdate}
 use Rattle.rs_adjin.proofs.Rows.{some_is}
@@ -146,13 +146,27 @@ module _ (speech : Speech) (v w : View) (rows : List (Option Row)) (ws ws' : Lis
       → ((said : Option (List Attribute)) (qs : List Prefix) → AreChosen rows ws said (take packed.prefixes ns) qs → (q : Prefix) → open_at q ws' ≡ cond (list_any (same q) qs) None (open_at q ws))
       → BeginsUpdate speech v w
   update_begun ns ps octets packed (inl none) most flight gave = inl (record {
-    gone = none_gone v ws old.waits none.1;
+    none = λ p. ap (λ t. fin.get t p) old.waits ∙ waits_at ws p ∙ ap (option_map (λ (w : Wait). is_withdrawal w.due)) (none.1 p);
     settles = settled [] (gave None [] (subst (λ (k : Packed). AreChosen rows ws None (take k.prefixes ns) []) (sym none.0) tt));
     flight = flight ∙ ap (λ (k : Packed). take k.octets octets) none.0;
   })
   update_begun ns ps octets packed (inr is) most flight gave =
       let taken : length w.flight ≤ limit_octets speech.limit = omega (arith, ap length flight, length-take packed.octets octets, most) in
       inr (begun ns ps packed is.said gave is.chosen is.legal is.in_turn taken is.written.some is.written.within (flight ∙ is.written.says))
+
+-- what waits still has its row
+left_open : (b : Bool) (o : Option Wait) (w : Wait) → cond b None o ≡ Some w → o ≡ Some w
+left_open true o w e = absurd (let f : ◌≡◌ {A = Option Wait} None (Some w) = e in cc)
+left_open false o w e = e
+
+pub backed_left : (speech : Speech) (rows : List (Option Row)) (ws ws' : List Wait) (ns : List ℕ) (ps : List Prefix) (octets : List ℕ) (packed : Packed) → MayUpdate speech rows ws ns ps octets packed
+    → ((said : Option (List Attribute)) (qs : List Prefix) → AreChosen rows ws said (take packed.prefixes ns) qs → (q : Prefix) → open_at q ws' ≡ cond (list_any (same q) qs) None (open_at q ws))
+    → AreBacked rows ws → AreBacked rows ws'
+backed_left speech rows ws ws' ns ps octets packed (inl none) gave backed q w is =
+    backed q w (sym (gave None [] (subst (λ (k : Packed). AreChosen rows ws None (take k.prefixes ns) []) (sym none.0) tt) q) ∙ is)
+backed_left speech rows ws ws' ns ps octets packed (inr update) gave backed q w is =
+    let qs = take packed.prefixes ps in
+    backed q w (left_open (list_any (same q) qs) (open_at q ws) w (sym (gave update.said qs (first_chosen rows ws update.said packed.prefixes ns ps update.chosen) q) ∙ is))
 
 -- the same of what callers saw before
 pub update_seen : (speech spoken : Speech) (v v' w : View) (rows : List (Option Row)) (ws ws' : List Wait) → v ≡ v' → Some speech ≡ Some spoken → Shows v rows ws → Shows w rows ws'

@@ -17,6 +17,7 @@ mod Adding
 mod MarkedAgain
 mod Owing
 mod Carrying
+mod Backing
 mod Unchanged
 mod Counting
 mod Draining

@@ -26,9 +26,9 @@ pub record Settles (v w : View) (ps : List Prefix) : Type 0 where
 abbrev pub NoneGone : View → Type 0
 NoneGone v = (p : Prefix) → fin.get v.waits p ≢ Some true
 
--- nothing is said, which is so only where no prefix waits to be withdrawn
+-- nothing is said, which is so only where nothing waits
 pub record Rests (v w : View) : Type 0 where
-  pub gone : NoneGone v
+  pub none : (p : Prefix) → fin.get v.waits p ≡ None
   pub settles : Settles v w []
   pub flight : w.flight ≡ []
 

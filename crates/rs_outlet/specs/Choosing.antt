@@ -1,5 +1,5 @@
 -- The places that the next UPDATE is about.
-use Rattle.std.specs.Prelude.{◌≡◌, ◌⊎◌, ℕ, ◌≤◌, ◌<◌, Bool, true, false, Option, None, Some, List, [], ◌∷◌, length, take, slice_get, vec_len, Vec}
+use Rattle.std.specs.Prelude.{◌≡◌, ◌⊎◌, ℕ, ◌≤◌, ◌<◌, Bool, true, false, Option, None, Some, List, [], ◌∷◌, length, option_map, take, slice_get, vec_len, Vec}
 use Rattle.std.specs.List.{AllWithin, HoldsAt}
 use Rattle.std.specs.Global.{Global}
 use Rattle.std.specs.Vec.{vec_capacity}
@@ -13,7 +13,7 @@ use Rattle.rs_outlet.specs.declared.answers.Speech.{Speech}
 use Rattle.rs_outlet.specs.declared.rows.Row.{Row}
 use Rattle.rs_outlet.specs.declared.waiting.Wait.{Wait}
 use Rattle.rs_outlet.specs.Places.{prefixes_at, open_at, is_withdrawal, is_withdrawn}
-use Rattle.rs_outlet.specs.Inside.{row_at}
+use Rattle.rs_outlet.specs.Inside.{IsBacked, row_at, row_by}
 
 -- a place that passes the test; none where there is none
 abbrev pub IsFound : (Wait → Bool) → List Wait → Option ℕ → Type 0
@@ -85,6 +85,16 @@ pub record IsUpdate (speech : Speech) (rows : List (Option Row)) (ws : List Wait
   pub chosen : AreChosen rows ws said ns ps
   pub written : IsWritten (message_of speech said) ps octets packed
 
--- nothing was written, which is so only where nothing is to be withdrawn, or an UPDATE
+-- none of the places waits
+abbrev pub NoneOpen : List Wait → Type 0
+NoneOpen ws = (q : Prefix) → open_at q ws ≡ None
+
+-- a place that waits for these attributes, and has its row
+pub record WaitsFor (rows : List (Option Row)) (m : List Attribute) (w : Wait) : Type 0 where
+  pub opened : w.open ≡ true
+  pub backed : IsBacked rows w.prefix w.due
+  pub said : option_map (λ r. arc_value r.attrs) (row_by rows w.due) ≡ Some m
+
+-- nothing was written, which is so only where nothing waits, or an UPDATE
 abbrev pub MayUpdate : Speech → List (Option Row) → List Wait → List ℕ → List Prefix → List ℕ → Packed → Type 0
-MayUpdate speech rows ws ns ps octets packed = ((packed ≡ record { octets = 0; prefixes = 0 }) × NoneWithdrawn ws) ⊎ IsUpdate speech rows ws ns ps octets packed
+MayUpdate speech rows ws ns ps octets packed = ((packed ≡ record { octets = 0; prefixes = 0 }) × NoneOpen ws) ⊎ IsUpdate speech rows ws ns ps octets packed

@@ -9,6 +9,8 @@ pub mod Places
 pub mod Marking
 pub mod Owed
 pub mod Counted
+pub mod Hashing
 pub mod Inside
 pub mod Choosing
 pub mod Begins
+pub mod Begun

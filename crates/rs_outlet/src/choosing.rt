@@ -1,6 +1,6 @@
 //! Which places the next UPDATE is about, and that they wait no more once it is begun.
 
-ghost use Rattle.std.specs.Prelude.{◌≡◌, ◌≤◌, ◌<◌, ℕ, length, true, List, Option, None, Some, false, IsTrue, vec_len, slice_get, if◌then◌else◌};
+ghost use Rattle.std.specs.Prelude.{◌≡◌, ◌≤◌, ◌<◌, ℕ, length, true, List, Option, None, Some, false, IsTrue, vec_len, option_copied, slice_get, if◌then◌else◌};
 ghost use Rattle.std.specs.List.{AllWithin, HoldsAt, list_any};
 ghost use Rattle.std.specs.Ordering.{eq_by_cmp};
 ghost use Rattle.std.specs.Vec.{vec_capacity};
@@ -9,9 +9,11 @@ ghost use Rattle.rs_attrs.specs.Meaning.{Attribute};
 ghost use Rattle.rs_outlet.specs.declared.rows.Row.{Row};
 ghost use Rattle.rs_outlet.specs.declared.waiting.Wait.{Wait};
 ghost use Rattle.rs_outlet.specs.Places.{prefixes_at, open_at, is_withdrawal, is_withdrawn, is_announced};
-ghost use Rattle.rs_outlet.specs.Choosing.{HasRow, HaveRoom, IsFound, IsChosen, AreChosen};
+ghost use Rattle.rs_outlet.specs.Choosing.{HasRow, HaveRoom, IsFound, IsChosen, AreChosen, WaitsFor};
+ghost use Rattle.rs_outlet.specs.Hashing.{attributes_hash};
+ghost use Rattle.rs_outlet.specs.Inside.{row_by};
 
-use crate::rows::Rows;
+use crate::rows::{Row, Rows};
 use crate::waiting::{Due, END, Wait, Waits, hash_of};
 use rs_attrs::Attrs;
 use rs_octets::Prefix;
@@ -80,11 +82,14 @@ impl Waits {
         }
     }
 
-    /// The row that is due at a place.
-    pub(crate) fn number_at(&self, place: usize) -> Option<u32> {
-        match self.places.get(place)?.due {
+    /// The row of what is due at a place.
+    pub(crate) fn row_for<'a>(&self, rows: &'a Rows, place: usize) -> Option<&'a Row>
+        requires { place < vec_len self.now.places }
+        ensures { HoldsAt (λ w. option_copied result ≡ row_by rows.now.rows.items w.due) self.now.places.items place }
+    {
+        match self.places[place].due {
             Due::Withdrawn => None,
-            Due::Announced { number, .. } => Some(number),
+            Due::Announced { number, .. } => rows.get(number),
         }
     }
 
@@ -101,6 +106,7 @@ impl Waits {
     )
         ensures chosen { vec_capacity chosen.new ≡ vec_capacity chosen.old }
         ensures front { vec_capacity front.new ≡ vec_capacity front.old }
+        ensures some { first < vec_len self.now.places → HoldsAt (WaitsFor rows.now.rows.items attrs.now) self.now.places.items first → vec_len front.old < room → HaveRoom chosen.old front.old → 0 < vec_len front.new }
         ensures are { AreChosen rows.now.rows.items self.now.places.items (Some attrs.now) chosen.old.items front.old.items → AreChosen rows.now.rows.items self.now.places.items (Some attrs.now) chosen.new.items front.new.items }
     {
         let hash = hash_of(attrs);
@@ -130,6 +136,8 @@ impl Waits {
         requires { place < vec_len self.now.places }
         ensures chosen { vec_capacity chosen.new ≡ vec_capacity chosen.old }
         ensures front { vec_capacity front.new ≡ vec_capacity front.old }
+        ensures grows { vec_len front.old ≤ vec_len front.new }
+        ensures listed { HoldsAt (WaitsFor rows.now.rows.items attrs.now) self.now.places.items place → hash ≡ attributes_hash attrs.now → HaveRoom chosen.old front.old → 0 < vec_len front.new }
         ensures are { AreChosen rows.now.rows.items self.now.places.items (Some attrs.now) chosen.old.items front.old.items → AreChosen rows.now.rows.items self.now.places.items (Some attrs.now) chosen.new.items front.new.items }
     {
         let wait = &self.places[place];
@@ -207,6 +215,7 @@ fn list_place(place: usize, prefix: Prefix, chosen: &mut Vec<usize>, front: &mut
 fn waits_for(rows: &Rows, wait: &Wait, hash: u32, attrs: &Attrs) -> bool
     ensures said { IsTrue result → is_withdrawal wait.now.due ≡ false }
     ensures row { IsTrue result → HasRow rows.now.rows.items wait.now.prefix attrs.now }
+    ensures all { WaitsFor rows.now.rows.items attrs.now wait.now → hash ≡ attributes_hash attrs.now → result ≡ true }
 {
     let Due::Announced {
         number,

@@ -5,7 +5,7 @@ ghost use Rattle.std.specs.FinMap as fin;
 ghost use Rattle.std.specs.List.Sorted.{IsStrictlySortedBy};
 ghost use Rattle.rs_octets.specs.Prefixes.{Prefix, prefix_order};
 ghost use Rattle.rs_outlet.specs.Places.{open_at, prefixes_at, still_open};
-ghost use Rattle.rs_outlet.specs.Inside.{loc_of};
+ghost use Rattle.rs_outlet.specs.Inside.{AreBacked, loc_of};
 ghost use Rattle.rs_outlet.specs.Marking.{MayAddRow, MayWaitAgain, is_told, remarked};
 
 use crate::rows::{Row, Rows};
@@ -15,7 +15,8 @@ use rs_octets::Prefix;
 impl Waits {
     /// Everything that was told waits to be told again: each row, and what waits already.
     pub(crate) fn mark_all(&mut self, rows: &Rows)
-        ensures { (q : Prefix) → MayWaitAgain (fin.get (loc_of rows.now.rows.items) q) (open_at q self.old.places.items) (open_at q self.new.places.items) }
+        ensures again { (q : Prefix) → MayWaitAgain (fin.get (loc_of rows.now.rows.items) q) (open_at q self.old.places.items) (open_at q self.new.places.items) }
+        ensures backed { AreBacked rows.now.rows.items self.old.places.items → AreBacked rows.now.rows.items self.new.places.items }
     {
         add_rows(&mut self.places, rows);
         self.waiting = count_open(&self.places);
@@ -39,6 +40,7 @@ fn add_rows(places: &mut Vec<Wait>, rows: &Rows)
     requires { IsStrictlySortedBy prefix_order (prefixes_at places.old.items) }
     ensures rises { IsStrictlySortedBy prefix_order (prefixes_at places.new.items) }
     ensures again { (q : Prefix) → MayWaitAgain (fin.get (loc_of rows.now.rows.items) q) (open_at q places.old.items) (open_at q places.new.items) }
+    ensures backed { AreBacked rows.now.rows.items places.old.items → AreBacked rows.now.rows.items places.new.items }
 {
     drop_shut(places);
     mark_told(places);
@@ -72,7 +74,7 @@ fn mark_told(places: &mut Vec<Wait>)
 fn add_row(places: &mut Vec<Wait>, waited: usize, number: u32, row: &Row)
     requires waited { waited ≤ vec_len places.old }
     requires rises { IsStrictlySortedBy prefix_order (prefixes_at (take waited places.old.items)) }
-    ensures { MayAddRow (take waited places.old.items) row.now places.old.items places.new.items }
+    ensures { MayAddRow (take waited places.old.items) number row.now places.old.items places.new.items }
 {
     if places.capacity() <= places.len() {
         return;

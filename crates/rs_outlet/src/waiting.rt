@@ -13,6 +13,7 @@ ghost use Rattle.std.specs.List.Sorted.{IsPermutation, IsStrictlySortedBy, IsStr
 ghost use Rattle.std.specs.Vec.{vec_capacity};
 ghost use Rattle.rs_octets.specs.Prefixes.{Prefix, prefix_order};
 ghost use Rattle.rs_outlet.specs.declared.waiting.Wait.{Wait};
+ghost use Rattle.rs_outlet.specs.Hashing.{attributes_hash};
 ghost use Rattle.rs_outlet.specs.Places.{AreFresh, IsOpenPlace, still_open, prefixes_at, open_count, is_withdrawn, is_announced, open_at, told_of, told_by, marked_by};
 
 use rs_attrs::Attrs;
@@ -276,7 +277,9 @@ fn add_places(places: &mut Vec<Wait>, more: Vec<Wait>)
 }
 
 /// A hash of attributes.
-pub(crate) fn hash_of(attrs: &Attrs) -> u32 {
+pub(crate) fn hash_of(attrs: &Attrs) -> u32
+    ensures { result ≡ attributes_hash attrs.now }
+{
     let hash = BuildHasherDefault::<FoldHasher>::new().hash_one(attrs);
     (hash % 0x1_0000_0000) as u32
 }

@@ -7,10 +7,25 @@ use Rattle.rs_outlet.proofs.outlet.Outlet.again.Goals as goal
 pub returns-clause-told : goal.returns-clause-told
 returns-clause-told c =
     let a = c.self.inside in
-    told_again (loc_of a.rows.rows.items) a.waits.places.items c.mark_all.new.self.places.items c.mark_all.ensures ∙ ap (λ (v : View). v.told) c.self.view_is
+    told_again (loc_of a.rows.rows.items) a.waits.places.items c.mark_all.new.self.places.items c.mark_all.ensures.again ∙ ap (λ (v : View). v.told) c.self.view_is
 
 pub returns-clause-exact : goal.returns-clause-exact
 returns-clause-exact c = λ exact.
     let a = c.self.inside in
-    exact_again (loc_of a.rows.rows.items) a.waits.places.items c.mark_all.new.self.places.items c.mark_all.ensures c.args.self.now
+    exact_again (loc_of a.rows.rows.items) a.waits.places.items c.mark_all.new.self.places.items c.mark_all.ensures.again c.args.self.now
     (ap (λ (v : View). v.loc) c.self.view_is) (ap (λ (v : View). v.told) c.self.view_is) (ap (λ (v : View). v.marked) c.self.view_is) (ap (λ (v : View). v.waits) c.self.view_is) exact
+
+pub invariant_of-self : goal.invariant_of-self
+invariant_of-self c =
+    let kept = c.self.invariant in
+    record {
+      octets = kept.octets;
+      started = kept.started;
+      ended = kept.ended;
+      front = kept.front;
+      chosen = kept.chosen;
+      touched = kept.touched;
+      extended = kept.extended;
+      backed = c.mark_all.ensures.backed kept.backed;
+      fit = kept.fit;
+    }

@@ -1,0 +1,30 @@
+use Rattle.std.proofs.Common.{◌≡◌, ◌<◌, ◌∙◌, ℕ, zero, suc, arith, inl, inr, refl, sym, subst, vec_len}
+use Rattle.std.specs.Prelude.{◌⊎◌}
+use Rattle.std.specs.List.{HoldsAt}
+use Rattle.std.specs.Vec.{vec_capacity}
+use Rattle.rs_outlet.specs.Choosing.{WaitsFor}
+use Rattle.rs_outlet.proofs.waiting.Waits.collect_announced.Goals as goal
+
+none_or_some : (n : ℕ) → (n ≡ 0) ⊎ (0 < n)
+none_or_some zero = inl refl
+none_or_some (suc n) = inr (omega arith)
+
+pub loop-preserved : goal.loop-preserved
+loop-preserved c =
+    let inv = c.loop.invariant in
+    record {
+      chosen = c.list_announced.ensures.chosen ∙ inv.chosen;
+      front = c.list_announced.ensures.front ∙ inv.front;
+      hash = inv.hash;
+      first = λ never. absurd (omega (arith, never));
+      some = λ _ at below room. elim (none_or_some c.loop.counter) [
+        | inl start ↦
+            let was = inv.first start in
+            c.list_announced.ensures.listed (subst (HoldsAt (WaitsFor c.args.rows.now.rows.items c.args.attrs.now) c.args.self.now.places.items) (sym was.0) at) inv.hash
+            (omega (arith, room.0, was.2, inv.chosen), omega (arith, room.1, was.1, inv.front))
+        | inr more ↦
+            let some : 0 < vec_len c.loop.front = inv.some more at below room in
+            omega (arith, some, c.list_announced.ensures.grows)
+      ];
+      are = λ are. c.list_announced.ensures.are (inv.are are);
+    }
