@@ -12,13 +12,14 @@ use Rattle.rs_session.specs.declared.act.Act.TheVariants as acts
 use Rattle.rs_session.specs.declared.session.Session.{Session}
 use Rattle.rs_session.specs.declared.settings.Settings.{Settings}
 use Rattle.rs_session.specs.Items.{Item, Came, Message, Moment, is_connected, message_count}
-use Rattle.rs_session.specs.Endings.{Fate, GoesOn, Ends}
+use Rattle.rs_session.specs.Endings.{Fate, GoesOn, Ends, message_fate}
 use Rattle.rs_session.specs.Sessions.{state_of, state_by, is_live, is_request, fate, earlier, item_fate, falls_due, message_act, moment_act, act_of, agreed_identifier, identifier_by}
 use Rattle.rs_session.specs.Hearing.{HasHeard, Tells, RespondsTo, Stays, Opens}
 use Rattle.rs_adjin.specs.AdjIns.{held_of, identifier_of, Begins}
 use Rattle.rs_adjin.specs.declared.adj_ins.AdjIns.{AdjIns}
 use Rattle.rs_policy.specs.Configuration.{Configuration}
 use Rattle.rs_session.specs.declared.heard.Heard.{Heard}
+use Rattle.rs_session.specs.declared.heard.Heard.TheVariants as heard
 use Rattle.rs_core.specs.Hearing.{Hearing, takes_in, without_change, session_in, state_in, is_up, identifier_in, table_in, begins, sees}
 use Rattle.rs_core.specs.Points.{asked_if}
 use Rattle.rs_core.specs.Steps.{Follows, IsSpared, ActsOn}
@@ -132,12 +133,8 @@ begins_spared c i old new begins = record { held = others_held old new c i begin
 pub record HasAskedIf (item : Item) (s : Configuration) (c : ℕ) (h next : Hearing) : Type 0 where
   pub has_asked : Bool
   pub points : next.points ≡ asked_if has_asked h.points
-  pub is_up : has_asked ≡ true → is_up (state_in s c h) ≡ true
   pub again : act_of (session_in s c) item h.items ≡ acts.Again → has_asked ≡ true
-
-up_and : (a b : Bool) → (a && b) ≡ true → a ≡ true
-up_and true b e = refl
-up_and false b e = e
+  pub only : has_asked ≡ true → act_of (session_in s c) item h.items ≡ acts.Again
 
 -- all is told again only where an Established client asks for it
 asks_by : (b : Bool) (was now : Fate) (n : ℕ) (message : Heard) → (if is_live (state_by b was n) then message_act now n message else acts.None) ≡ acts.Again
@@ -154,12 +151,25 @@ asks_by true GoesOn GoesOn (suc (suc n)) message e = by_test (is_request message
   by_test true e = refl
   by_test false e = absurd (let f : ◌≡◌ {A = Act} acts.None acts.Again = e in cc)
 
+asked_is_told : (b : Bool) (was : Fate) (n peer_as : ℕ) (message : Heard) → (is_up (state_by b was n) && is_request message) ≡ true
+    → (if is_live (state_by b was n) then message_act (message_fate peer_as n message) n message else acts.None) ≡ acts.Again
+asked_is_told false was n peer_as message e = absurd (false≢true e)
+asked_is_told true (Ends _) n peer_as message e = absurd (false≢true e)
+asked_is_told true GoesOn zero peer_as message e = absurd (false≢true e)
+asked_is_told true GoesOn (suc zero) peer_as message e = absurd (false≢true e)
+asked_is_told true GoesOn (suc (suc n)) peer_as (heard.Refresh afi safi) e = ap (λ r. if r then acts.Again else acts.None) e
+asked_is_told true GoesOn (suc (suc n)) peer_as (heard.Open read) e = absurd (false≢true e)
+asked_is_told true GoesOn (suc (suc n)) peer_as (heard.Update reset) e = absurd (false≢true e)
+asked_is_told true GoesOn (suc (suc n)) peer_as heard.Note e = absurd (false≢true e)
+asked_is_told true GoesOn (suc (suc n)) peer_as heard.Keepalive e = absurd (false≢true e)
+asked_is_told true GoesOn (suc (suc n)) peer_as (heard.Header fault) e = absurd (false≢true e)
+
 pub asked_by_message : (s : Configuration) (c : ℕ) (message : Heard) (h next : Hearing) → next.points ≡ asked_if (is_up (state_in s c h) && is_request message) h.points → HasAskedIf (Message message) s c h next
 asked_by_message s c message h next points = record {
   has_asked = is_up (state_in s c h) && is_request message;
   points = points;
-  is_up = up_and (is_up (state_in s c h)) (is_request message);
   again = asks_by (is_connected h.items) (fate (session_in s c) h.items) (item_fate (session_in s c) (Message message) h.items) (message_count h.items) message;
+  only = asked_is_told (is_connected h.items) (fate (session_in s c) h.items) (message_count h.items) (session_in s c).peer_as message;
 }
 
 never_again_by : (b : Bool) (f : Fate) (falls : Bool) → (if b then moment_act f falls else acts.None) ≡ acts.Again → ⊥
@@ -172,7 +182,7 @@ pub asked_by_no_moment : (s : Configuration) (c t : ℕ) (h : Hearing) → HasAs
 asked_by_no_moment s c t h = record {
   has_asked = false;
   points = refl;
-  is_up = λ e. absurd (false≢true e);
+  only = λ e. absurd (false≢true e);
   again = λ e. absurd (never_again_by (is_live (state_of (session_in s c) h.items)) (item_fate (session_in s c) (Moment t) h.items) (falls_due (session_in s c) t h.items) e);
 }
 
@@ -198,8 +208,8 @@ acted old new act item x t s c h next read lt sessions responds does config voic
       identifier = has.identifier;
       outlet = λ is none. acted_voice act old.ribs.extended s (old.ribs.long ∙ ap (λ (k : Configuration). k.top.extended) (sym config ∙ is)) (slice_set old.sessions.items c t) t c h next (outlet_in old.ribs c none) (outlet_in new.ribs c none) (voices none) got heard tells
           (λ e. never (sym it.act_is ∙ e)) taken (knows.outlet (sym config ∙ is) none);
-      ordered = λ is none. acted_ordered act old.ribs.extended (slice_set old.sessions.items c t) t s c h next (outlet_in old.ribs c none) (outlet_in new.ribs c none) asked.has_asked asked.points asked.is_up
-          (λ e. asked.again (sym it.act_is ∙ e)) (voices none) got heard tells (λ e. never (sym it.act_is ∙ e)) taken (knows.ordered (sym config ∙ is) none);
+      ordered = λ is none. acted_ordered act old.ribs.extended (slice_set old.sessions.items c t) t s c h next (outlet_in old.ribs c none) (outlet_in new.ribs c none) asked.has_asked asked.points
+          (λ e. asked.again (sym it.act_is ∙ e)) (λ e. it.act_is ∙ asked.only e) (voices none) got heard tells (λ e. never (sym it.act_is ∙ e)) taken (knows.ordered (sym config ∙ is) none);
     }
 
 pub acted_spares : (old new : Core) (c : ℕ) (t : Session) → new.count ≡ old.count → new.ribs.config ≡ old.ribs.config → c < length old.sessions.items

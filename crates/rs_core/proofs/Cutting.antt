@@ -1,5 +1,5 @@
 -- Pieces of octets that are heard message by message, and what then waits.
-use Rattle.std.proofs.Common.{◌≡◌, ◌≢◌, ◌<◌, inl, ℕ, zero, suc, Bool, true, false, List, [], ◌∷◌, ◌++◌, length, refl, sym, ◌∙◌, ap, subst, arith}
+use Rattle.std.proofs.Common.{◌≡◌, ◌≢◌, ◌<◌, ℕ, zero, suc, Bool, true, false, List, [], ◌∷◌, ◌++◌, length, refl, sym, ◌∙◌, ap, subst, arith}
 use Rattle.std.specs.Prelude.{Some, Result, Ok, Err, slice_get, if◌then◌else◌}
 use Rattle.std.specs.Global.{Vec}
 use Rattle.std.proofs.lemmas.Bool.{false≢true}
@@ -37,7 +37,7 @@ with_others core s c octets h knows = record {
   identifier = knows.identifier;
   outlet = λ config none. let v = outlet_in core.ribs c none in voiced_on s s c h (with_octets octets h) v v refl (λ l. l) refl (same_again v v (same_is v v refl)) (knows.outlet config none);
   ordered = λ config none. let v = outlet_in core.ribs c none in
-      ordered_on s s c h (with_octets octets h) v v false refl (λ e. absurd (false≢true e)) refl refl refl refl (λ p m. inl m) (λ l d. (l, d)) (knows.ordered config none);
+      ordered_on s s c h (with_octets octets h) v v refl refl refl refl refl refl (λ l d. (l, d)) (knows.ordered config none);
 }
 
 pub waiting_spares : (old new : Core) (c : ℕ) → new.count ≡ old.count → new.sessions ≡ old.sessions → new.ribs ≡ old.ribs

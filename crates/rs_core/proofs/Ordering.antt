@@ -27,7 +27,7 @@ use Rattle.rs_session.specs.declared.act.Act.{Act}
 use Rattle.rs_session.specs.declared.act.Act.TheVariants as acts
 use Rattle.rs_session.specs.declared.session.Session.{Session}
 use Rattle.rs_session.specs.Sessions.{is_live}
-use Rattle.rs_session.specs.Hearing.{HasHeard, Tells, Stays, Says}
+use Rattle.rs_session.specs.Hearing.{Asks, HasHeard, Tells, Stays, Says}
 use Rattle.rs_adjin.specs.declared.adj_ins.AdjIns.{AdjIns}
 use Rattle.rs_policy.specs.Configuration.{Configuration}
 use Rattle.rs_packer.specs.Packed.{announcement, withdrawal}
@@ -38,61 +38,57 @@ use Rattle.rs_outlet.specs.declared.answers.Speech.{Speech}
 use Rattle.rs_outlet.specs.declared.answers.Last.{Last}
 use Rattle.rs_outlet.specs.Begins.{BeginsUpdate, Settles}
 use Rattle.rs_outlet.specs.Views.{View, AreNumbered, waits_at}
-use Rattle.rs_core.specs.Points.{Point, Offered, Value, asked_if, dues_at, latest}
+use Rattle.rs_core.specs.Points.{Point, Asked, Offered, Value, asked_if, dues_at, latest}
 use Rattle.rs_core.specs.Orders.{IsOrdered, IsToldInOrder, TellsAt, TellsInOrder, told_by}
 use Rattle.rs_core.specs.Hearing.{Hearing, session_in, state_in, is_up, offers, decides}
 use Rattle.rs_core.specs.Telling.{each_message, updates_in}
 use Rattle.rs_core.specs.Core.{is_refusal}
 use Rattle.rs_core.specs.Touches.{IsBegun}
 use Rattle.rs_core.specs.Turns.{IsDone, IsTurn}
-use Rattle.rs_core.specs.Voices.{IsInOrder, IsGreeting, IsRaised, SaysTheSame, SpeaksTo, Voices}
+use Rattle.rs_core.specs.Voices.{IsInOrder, IsGreeting, IsRaised, SaysTheSame, SpeaksTo, TellsAgain, Voices}
 use Rattle.rs_core.proofs.Telling.{updates_more, zip_more}
 use Rattle.rs_core.proofs.Spoken.{all_at, among_has}
 use Rattle.rs_core.proofs.Voicing.{all_gone, down_speech, due_mandatory, limit_most, spoken_up, up_live}
 
 -- ---- what goes on as before
 
-asked_dues : (b : Bool) (points : List Point) (p : Prefix) → dues_at (asked_if b points) p ≡ dues_at points p
-asked_dues true points p = refl
-asked_dues false points p = refl
+-- the same was told, and the same is marked
+told_on : (mode : Mode) (points : List Point) (octets : List ℕ) (v w : View) (p : Prefix) → w.told ≡ v.told → w.marked ≡ v.marked → IsToldInOrder mode points octets v p → IsToldInOrder mode points octets w p
+told_on mode points octets v w p told marked h = record {
+  values = h.values;
+  asked = h.asked;
+  tells = h.tells;
+  order = h.order;
+  told = ap (λ t. fin.get t p) told ∙ h.told;
+  marked = λ m. h.marked (ap (λ s. set.contains s p) (sym marked) ∙ m);
+}
 
-not_asked : (b : Bool) (points : List Point) → (b ≡ true → ⊥) → asked_if b points ≡ points
-not_asked true points never = absurd (never refl)
-not_asked false points never = refl
-
--- the same was told, and perhaps the client asked
-told_on : (b : Bool) (mode : Mode) (points : List Point) (octets : List ℕ) (v w : View) (p : Prefix) → fin.get w.told p ≡ fin.get v.told p
-    → (set.contains w.marked p ≡ true → (set.contains v.marked p ≡ true) ⊎ (b ≡ true)) → IsToldInOrder mode points octets v p → IsToldInOrder mode (asked_if b points) octets w p
-told_on true mode points octets v w p told marks h = record { values = h.values; asked = true; tells = h.tells; order = (refl, h.asked, h.order); told = told ∙ h.told; marked = λ m. refl }
-told_on false mode points octets v w p told marks h = record { values = h.values; asked = h.asked; tells = h.tells; order = h.order; told = told ∙ h.told; marked = λ m. by_mark (marks m) } where
-  by_mark : (set.contains v.marked p ≡ true) ⊎ (false ≡ true) → h.asked ≡ true
-  by_mark (inl was) = h.marked was
-  by_mark (inr never) = absurd (false≢true never)
-
--- the outlet says the same, and perhaps the client asked while it was Established
-pub ordered_on : (s t : Configuration) (c : ℕ) (h next : Hearing) (v w : View) (b : Bool) → next.points ≡ asked_if b h.points → (b ≡ true → is_up (state_in s c h) ≡ true)
-    → next.taken ++ w.flight ≡ h.taken ++ v.flight → w.speech ≡ v.speech → w.loc ≡ v.loc → w.told ≡ v.told
-    → ((p : Prefix) → set.contains w.marked p ≡ true → (set.contains v.marked p ≡ true) ⊎ (b ≡ true))
+-- the outlet says the same
+pub ordered_on : (s t : Configuration) (c : ℕ) (h next : Hearing) (v w : View) → next.points ≡ h.points → next.taken ++ w.flight ≡ h.taken ++ v.flight
+    → w.speech ≡ v.speech → w.loc ≡ v.loc → w.told ≡ v.told → w.marked ≡ v.marked
     → (is_live (state_in t c next) ≡ true → is_up (state_in t c next) ≡ false → (is_live (state_in s c h) ≡ true) × (is_up (state_in s c h) ≡ false))
     → IsOrdered s c h v → IsOrdered t c next w
-ordered_on s t c h next v w b points requests octets speech loc told marks down at = record {
-  before = λ l d. let was = down l d in let u = at.before was.0 was.1 in
-      let same : next.points ≡ h.points = points ∙ not_asked b h.points (λ e. absurd (false≢true (sym was.1 ∙ requests e))) in
-      record {
-        dues = λ p. ap (λ ps. dues_at ps p) same ∙ u.dues p;
-        order = λ mode p. subst (λ ps. TellsInOrder mode ps p [] false) (sym same) (u.order mode p);
-        updates = ap updates_in octets ∙ u.updates;
-      };
-  loc = λ sp is p. ap (λ t. fin.get t p) loc ∙ at.loc sp (sym speech ∙ is) p ∙ ap latest (sym (ap (λ ps. dues_at ps p) points ∙ asked_dues b h.points p));
+ordered_on s t c h next v w points octets speech loc told marked down at = record {
+  before = λ l d. let was = down l d in let u = at.before was.0 was.1 in record {
+    dues = λ p. ap (λ ps. dues_at ps p) points ∙ u.dues p;
+    order = λ mode p. subst (λ ps. TellsInOrder mode ps p [] false) (sym points) (u.order mode p);
+    updates = ap updates_in octets ∙ u.updates;
+  };
+  loc = λ sp is p. ap (λ t. fin.get t p) loc ∙ at.loc sp (sym speech ∙ is) p ∙ sym (ap (λ ps. latest (dues_at ps p)) points);
   told = λ sp is p. subst (λ ps. IsToldInOrder sp.mode ps (next.taken ++ w.flight) w p) (sym points)
-      (subst (λ o. IsToldInOrder sp.mode (asked_if b h.points) o w p) (sym octets)
-      (told_on b sp.mode h.points (h.taken ++ v.flight) v w p (ap (λ t. fin.get t p) told) (marks p) (at.told sp (sym speech ∙ is) p)));
+      (subst (λ o. IsToldInOrder sp.mode h.points o w p) (sym octets) (told_on sp.mode h.points (h.taken ++ v.flight) v w p told marked (at.told sp (sym speech ∙ is) p)));
 }
+
+-- nothing but a KEEPALIVE that is due, what is touched and the last answer has changed
+same_on : (s t : Configuration) (c : ℕ) (h next : Hearing) (v w : View) → next.points ≡ h.points → next.taken ≡ h.taken
+    → (is_live (state_in t c next) ≡ true → is_up (state_in t c next) ≡ false → (is_live (state_in s c h) ≡ true) × (is_up (state_in s c h) ≡ false))
+    → SaysTheSame v w → IsOrdered s c h v → IsOrdered t c next w
+same_on s t c h next v w points taken down same at = ordered_on s t c h next v w points (λ i. taken i ++ (ap (λ (x : View). x.flight) same.is) i) (ap (λ (x : View). x.speech) same.is)
+    (ap (λ (x : View). x.loc) same.is) (ap (λ (x : View). x.told) same.is) (ap (λ (x : View). x.marked) same.is) down at
 
 -- nothing was heard since
 pub same_ordered : (s : Configuration) (c : ℕ) (h : Hearing) (v w : View) → SaysTheSame v w → IsOrdered s c h v → IsOrdered s c h w
-same_ordered s c h v w same at = ordered_on s s c h h v w false refl (λ e. absurd (false≢true e)) (ap (λ (x : View). h.taken ++ x.flight) same.is) (ap (λ (x : View). x.speech) same.is)
-    (ap (λ (x : View). x.loc) same.is) (ap (λ (x : View). x.told) same.is) (λ p m. inl (ap (λ (x : View). set.contains x.marked p) (sym same.is) ∙ m)) (λ l d. (l, d)) at
+same_ordered s c h v w same at = same_on s s c h h v w refl refl (λ l d. (l, d)) same at
 
 -- the session is over, or there is none
 pub over_ordered : (s : Configuration) (c : ℕ) (h : Hearing) (v : View) → is_live (state_in s c h) ≡ false → v.speech ≡ None → IsOrdered s c h v
@@ -117,6 +113,10 @@ greeted_ordered s c h v greets none points = record {
 
 -- ---- what a session asks for is done
 
+not_asked : (b : Bool) (points : List Point) → (b ≡ true → ⊥) → asked_if b points ≡ points
+not_asked true points never = absurd (never refl)
+not_asked false points never = refl
+
 raised_ordered : (s : Configuration) (c : ℕ) (h next : Hearing) (v w : View) (agreed : Option Speech) → IsRaised agreed v w → next.points ≡ h.points → next.taken ≡ h.taken
     → is_live (state_in s c h) ≡ true → is_up (state_in s c h) ≡ false → is_up (state_in s c next) ≡ true → IsOrdered s c h v → IsOrdered s c next w
 raised_ordered s c h next v w agreed raised points taken live down up at = let u = at.before live down in record {
@@ -136,48 +136,59 @@ raised_ordered s c h next v w agreed raised points taken live down up at = let u
   };
 }
 
-pub stayed_ordered : (s : Configuration) (c : ℕ) (h next : Hearing) (v w : View) (b : Bool) → next.points ≡ asked_if b h.points → (b ≡ true → is_up (state_in s c h) ≡ true)
-    → Stays (session_in s c) h.items next.items → next.taken ≡ h.taken → SaysTheSame v w → IsOrdered s c h v → IsOrdered s c next w
-stayed_ordered s c h next v w b points requests stays taken same at =
-    ordered_on s s c h next v w b points requests (λ i. taken i ++ (ap (λ (x : View). x.flight) same.is) i) (ap (λ (x : View). x.speech) same.is)
-    (ap (λ (x : View). x.loc) same.is) (ap (λ (x : View). x.told) same.is) (λ p m. inl (ap (λ (x : View). set.contains x.marked p) (sym same.is) ∙ m))
-    (λ l d. (ap is_live (sym stays.state) ∙ l, ap is_up (sym stays.state) ∙ d)) at
+pub stayed_ordered : (s : Configuration) (c : ℕ) (h next : Hearing) (v w : View) → next.points ≡ h.points → Stays (session_in s c) h.items next.items → next.taken ≡ h.taken → SaysTheSame v w
+    → IsOrdered s c h v → IsOrdered s c next w
+stayed_ordered s c h next v w points stays taken same at = same_on s s c h next v w points taken (λ l d. (ap is_live (sym stays.state) ∙ l, ap is_up (sym stays.state) ∙ d)) same at
 
-said_ordered : (message : Short) (s : Configuration) (c : ℕ) (h next : Hearing) (v w : View) (b : Bool) → next.points ≡ asked_if b h.points → (b ≡ true → is_up (state_in s c h) ≡ true)
-    → (message ≡ short.Open → ⊥) → Says message (session_in s c) h.items next.items → next.taken ≡ h.taken → SaysTheSame v w → IsOrdered s c h v → IsOrdered s c next w
-said_ordered short.Open s c h next v w b points requests not tells taken same at = absurd (not refl)
-said_ordered short.Keepalive s c h next v w b points requests not tells taken same at = elim tells [
-  | inl confirms ↦ ordered_on s s c h next v w b points requests (λ i. taken i ++ (ap (λ (x : View). x.flight) same.is) i) (ap (λ (x : View). x.speech) same.is)
-      (ap (λ (x : View). x.loc) same.is) (ap (λ (x : View). x.told) same.is) (λ p m. inl (ap (λ (x : View). set.contains x.marked p) (sym same.is) ∙ m))
-      (λ l d. (ap is_live confirms.before, ap is_up confirms.before)) at
-  | inr beats ↦ stayed_ordered s c h next v w b points requests beats.same taken same at
+said_ordered : (message : Short) (s : Configuration) (c : ℕ) (h next : Hearing) (v w : View) → next.points ≡ h.points → (message ≡ short.Open → ⊥) → Says message (session_in s c) h.items next.items
+    → next.taken ≡ h.taken → SaysTheSame v w → IsOrdered s c h v → IsOrdered s c next w
+said_ordered short.Open s c h next v w points not tells taken same at = absurd (not refl)
+said_ordered short.Keepalive s c h next v w points not tells taken same at = elim tells [
+  | inl confirms ↦ same_on s s c h next v w points taken (λ l d. (ap is_live confirms.before, ap is_up confirms.before)) same at
+  | inr beats ↦ stayed_ordered s c h next v w points beats.same taken same at
 ]
-said_ordered (short.Note code sub extra count) s c h next v w b points requests not tells taken same at = absurd tells
+said_ordered (short.Note code sub extra count) s c h next v w points not tells taken same at = absurd tells
+
+-- the client asked for all routes
+again_ordered : (s : Configuration) (c : ℕ) (h next : Hearing) (v w : View) → next.points ≡ Asked ∷ h.points → Asks (session_in s c) h.items next.items → next.taken ≡ h.taken → TellsAgain v w
+    → IsOrdered s c h v → IsOrdered s c next w
+again_ordered s c h next v w points tells taken same at = record {
+  before = λ l d. absurd (false≢true (sym d ∙ ap is_up (tells.same.state ∙ tells.before)));
+  loc = λ sp is p. ap (λ t. fin.get t p) same.loc ∙ at.loc sp (sym same.speech ∙ is) p ∙ sym (ap (λ ps. latest (dues_at ps p)) points);
+  told = λ sp is p. let t = at.told sp (sym same.speech ∙ is) p in record {
+    values = t.values;
+    asked = true;
+    tells = subst (λ o. TellsAt sp.mode o p t.values) (λ i. sym taken i ++ sym same.flight i) t.tells;
+    order = subst (λ ps. TellsInOrder sp.mode ps p t.values true) (sym points) (refl, t.asked, t.order);
+    told = ap (λ x. fin.get x p) same.told ∙ t.told;
+    marked = λ m. refl;
+  };
+}
 
 pub acted_ordered : (act : Act) (long : Bool) (sessions : List Session) (x : Session) (s : Configuration) (c : ℕ) (h next : Hearing) (v w : View) (b : Bool)
-    → next.points ≡ asked_if b h.points → (b ≡ true → is_up (state_in s c h) ≡ true) → (act ≡ acts.Again → b ≡ true)
+    → next.points ≡ asked_if b h.points → (act ≡ acts.Again → b ≡ true) → (b ≡ true → act ≡ acts.Again)
     → Voices act long c sessions v w → slice_get sessions c ≡ Some x → HasHeard x (session_in s c) next.items → Tells act (session_in s c) h.items next.items
     → (act ≡ acts.Say short.Open → ⊥) → next.taken ≡ h.taken → IsOrdered s c h v → IsOrdered s c next w
-acted_ordered acts.None long sessions x s c h next v w b points requests again voices read heard tells not taken at = stayed_ordered s c h next v w b points requests tells taken voices at
-acted_ordered (acts.Say message) long sessions x s c h next v w b points requests again voices read heard tells not taken at =
-    said_ordered message s c h next v w b points requests (λ e. not (ap (λ (m : Short). acts.Say m) e)) tells taken voices at
-acted_ordered acts.Up long sessions x s c h next v w b points requests again voices read heard tells not taken at =
-    let down : is_up (state_in s c h) ≡ false = ap is_up tells.before in
-    raised_ordered s c h next v w _ (voices x read (session_in s c) next.items heard tells.now) (points ∙ not_asked b h.points (λ e. absurd (false≢true (sym down ∙ requests e)))) taken
-    (ap is_live tells.before) down (ap is_up tells.now) at
-acted_ordered (acts.Down _) long sessions x s c h next v w b points requests again voices read heard tells not taken at = over_ordered s c next w (ap is_live tells.now) voices.speech
-acted_ordered acts.Again long sessions x s c h next v w b points requests again voices read heard tells not taken at =
-    ordered_on s s c h next v w b points requests (λ i. taken i ++ voices.flight i) voices.speech voices.loc voices.told (λ p m. inr (again refl))
-    (λ l d. (ap is_live (sym tells.same.state) ∙ l, ap is_up (sym tells.same.state) ∙ d)) at
+acted_ordered acts.None long sessions x s c h next v w b points again only voices read heard tells not taken at =
+    stayed_ordered s c h next v w (points ∙ not_asked b h.points (λ e. let f : ◌≡◌ {A = Act} acts.None acts.Again = only e in cc)) tells taken voices at
+acted_ordered (acts.Say message) long sessions x s c h next v w b points again only voices read heard tells not taken at =
+    said_ordered message s c h next v w (points ∙ not_asked b h.points (λ e. let f : ◌≡◌ {A = Act} (acts.Say message) acts.Again = only e in cc))
+    (λ e. not (ap (λ (m : Short). acts.Say m) e)) tells taken voices at
+acted_ordered acts.Up long sessions x s c h next v w b points again only voices read heard tells not taken at =
+    raised_ordered s c h next v w _ (voices x read (session_in s c) next.items heard tells.now)
+    (points ∙ not_asked b h.points (λ e. let f : ◌≡◌ {A = Act} acts.Up acts.Again = only e in cc)) taken (ap is_live tells.before) (ap is_up tells.before) (ap is_up tells.now) at
+acted_ordered (acts.Down _) long sessions x s c h next v w b points again only voices read heard tells not taken at = over_ordered s c next w (ap is_live tells.now) voices.speech
+acted_ordered acts.Again long sessions x s c h next v w b points again only voices read heard tells not taken at =
+    again_ordered s c h next v w (points ∙ ap (λ a. asked_if a h.points) (again refl)) tells taken voices at
 
 -- ---- octets are taken
 
 pub took_ordered : (s : Configuration) (c n : ℕ) (h next : Hearing) (v w : View) → w ≡ record v { flight = drop n v.flight } → next.items ≡ h.items → next.taken ≡ h.taken ++ take n v.flight → next.points ≡ h.points
     → IsOrdered s c h v → IsOrdered s c next w
 took_ordered s c n h next v w e items taken points at =
-    ordered_on s s c h next v w false points (λ e. absurd (false≢true e))
+    ordered_on s s c h next v w points
     ((λ i. taken i ++ (e i).flight) ∙ append_assoc h.taken (take n v.flight) (drop n v.flight) ∙ ap (λ l. h.taken ++ l) (take-append-drop n v.flight))
-    (ap (λ (x : View). x.speech) e) (ap (λ (x : View). x.loc) e) (ap (λ (x : View). x.told) e) (λ p m. inl (ap (λ (x : View). set.contains x.marked p) (sym e) ∙ m))
+    (ap (λ (x : View). x.speech) e) (ap (λ (x : View). x.loc) e) (ap (λ (x : View). x.told) e) (ap (λ (x : View). x.marked) e)
     (λ l d. (ap (λ k. is_live (state_in s c (record h { items = k }))) (sym items) ∙ l, ap (λ k. is_up (state_in s c (record h { items = k }))) (sym items) ∙ d)) at
 
 -- ---- the next message begins
@@ -371,8 +382,7 @@ decided_ordered s c h due v w up flight speech told marked loc at = record {
 
 -- nothing was decided: the outlet is not up, or memory was refused
 not_decided : (s : Configuration) (c : ℕ) (h : Hearing) (due : Prefix → Value) (v w : View) → SaysTheSame v w → IsOrdered s c h v → IsOrdered s c (decides false due h) w
-not_decided s c h due v w same at = ordered_on s s c h (decides false due h) v w false refl (λ e. absurd (false≢true e)) (ap (λ (x : View). h.taken ++ x.flight) same.is) (ap (λ (x : View). x.speech) same.is)
-    (ap (λ (x : View). x.loc) same.is) (ap (λ (x : View). x.told) same.is) (λ p m. inl (ap (λ (x : View). set.contains x.marked p) (sym same.is) ∙ m)) (λ l d. (l, d)) at
+not_decided s c h due v w same at = same_on s s c h (decides false due h) v w refl refl (λ l d. (l, d)) same at
 
 last_same : (v w : View) (last : Last) → w ≡ record v { last = last } → SaysTheSame v w
 last_same v w last e = record { is = e ∙ (λ i. record v { beat = (sym e i).beat; touched = (sym e i).touched; numbers = (sym e i).numbers; last = (sym e i).last }) }

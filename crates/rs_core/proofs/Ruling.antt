@@ -26,8 +26,6 @@ use Rattle.rs_core.specs.declared.route_server.Core.{Core}
 use Rattle.rs_core.proofs.Voicing.{bare_silent, marked_same, same_again, voiced_on, voiced_over}
 use Rattle.rs_core.proofs.Ordering.{ordered_on, over_ordered}
 use Rattle.rs_core.specs.Orders.{IsOrdered}
-use Rattle.std.specs.FinSet as set
-use Rattle.std.proofs.lemmas.Bool.{false≢true}
 
 session_fixed : (s t : Configuration) (c : ℕ) → IsFixed s t → session_in s c ≡ session_in t c
 session_fixed s t c h = sym (λ i. record { peer_as = (h.clients c).client_as i; hold = h.hold i; extended = h.extended i })
@@ -82,9 +80,8 @@ ruled old new run config fixed count is sessions buffers tables marked h = recor
             (same_again _ _ (marked_same old.ribs.tables _ _ (marked.each c none (subst (λ n. c < n) (sym old.ribs_len) there)))) (at.knows.outlet h.config none))
             (λ _ none. let same = marked_same old.ribs.tables _ _ (marked.each c none (subst (λ n. c < n) (sym old.ribs_len) there)) in
             let v = outlet_in old.ribs c none in
-            ordered_on (config_in run) config c (hearing c run) (hearing c run) v (outlet_in new.ribs c none) false refl (λ e. absurd (false≢true e))
-            (ap (λ (x : View). (hearing c run).taken ++ x.flight) same.is) (ap (λ (x : View). x.speech) same.is) (ap (λ (x : View). x.loc) same.is) (ap (λ (x : View). x.told) same.is)
-            (λ p m. inl (ap (λ (x : View). set.contains x.marked p) (sym same.is) ∙ m))
+            ordered_on (config_in run) config c (hearing c run) (hearing c run) v (outlet_in new.ribs c none) refl
+            (ap (λ (x : View). (hearing c run).taken ++ x.flight) same.is) (ap (λ (x : View). x.speech) same.is) (ap (λ (x : View). x.loc) same.is) (ap (λ (x : View). x.told) same.is) (ap (λ (x : View). x.marked) same.is)
             (λ l d. (ap (λ k. is_live (state_of k (hearing c run).items)) session ∙ l, ap (λ k. is_up (state_of k (hearing c run).items)) session ∙ d)) (at.knows.ordered h.config none)) at.knows;
         waits = λ x e. waits_by (config_in run) config c x.items (hearing c run) session (allowed_fixed (config_in run) config fixed) (at.waits x (ap (λ v. slice_get v.items c) (sym buffers) ∙ e));
       };

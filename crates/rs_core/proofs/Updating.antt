@@ -29,7 +29,8 @@ use Rattle.rs_core.specs.Ribs.{outlet_in}
 use Rattle.rs_core.specs.declared.route_server.Core.{Core}
 use Rattle.rs_core.proofs.Voicing.{same_again, same_is, stayed}
 use Rattle.rs_core.proofs.Lists.{set_at}
-use Rattle.rs_core.proofs.Acting.{asked_by_message, up_table, up_identifier}
+use Rattle.rs_core.specs.Points.{Point, asked_if}
+use Rattle.rs_core.proofs.Acting.{up_table, up_identifier}
 use Rattle.rs_core.proofs.Ordering.{stayed_ordered}
 
 -- ---- prefixes one by one
@@ -111,6 +112,11 @@ in_two_steps true false m none o = refl
 in_two_steps false true m none o = refl
 in_two_steps false false m none o = refl
 
+-- an UPDATE is no request
+unasked : (b : Bool) (points : List Point) → asked_if (b && false) points ≡ points
+unasked true points = refl
+unasked false points = refl
+
 pub changed : (old new : Core) (x t : Session) (s : Configuration) (c : ℕ) (h : Hearing) (W A : List Prefix) (m : Option (List Attribute)) (change : Change)
     → slice_get old.sessions.items c ≡ Some x → c < length old.sessions.items → new.sessions.items ≡ slice_set old.sessions.items c t
     → RespondsTo x t (Message (heard.Update None)) acts.None → Takes x acts.None
@@ -139,8 +145,7 @@ changed old new x t s c h W A m change read lt sessions responds takes held iden
           ∙ sym (up_table s c next now p);
       identifier = identifier ∙ knows.identifier ∙ up_identifier s c h up ∙ ap identifier_by (sym it.tells.agreed) ∙ sym (up_identifier s c next now);
       outlet = λ is none. stayed s c h next (outlet_in old.ribs c none) (outlet_in new.ribs c none) it.tells refl (same_again _ _ (same_is _ _ (own none))) (knows.outlet (sym config ∙ is) none);
-      ordered = λ is none. let asked = asked_by_message s c (heard.Update None) h next refl in
-          stayed_ordered s c h next (outlet_in old.ribs c none) (outlet_in new.ribs c none) asked.has_asked asked.points asked.is_up it.tells refl (same_is _ _ (own none)) (knows.ordered (sym config ∙ is) none);
+      ordered = λ is none. stayed_ordered s c h next (outlet_in old.ribs c none) (outlet_in new.ribs c none) (unasked (is_up (state_in s c h)) h.points) it.tells refl (same_is _ _ (own none)) (knows.ordered (sym config ∙ is) none);
     }
 
 -- ---- what the code found an UPDATE to do is what is computed of it
