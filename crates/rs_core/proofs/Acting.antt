@@ -208,7 +208,7 @@ acted old new act item x t s c h next read lt sessions responds does config voic
       identifier = has.identifier;
       outlet = λ is none. acted_voice act old.ribs.extended s (old.ribs.long ∙ ap (λ (k : Configuration). k.top.extended) (sym config ∙ is)) (slice_set old.sessions.items c t) t c h next (outlet_in old.ribs c none) (outlet_in new.ribs c none) (voices none) got heard tells
           (λ e. never (sym it.act_is ∙ e)) taken (knows.outlet (sym config ∙ is) none);
-      ordered = λ is none. acted_ordered act old.ribs.extended (slice_set old.sessions.items c t) t s c h next (outlet_in old.ribs c none) (outlet_in new.ribs c none) asked.has_asked asked.points
+      ordered = λ is none. acted_ordered act old.ribs.extended (slice_set old.sessions.items c t) t s c h next (outlet_in old.ribs c none) (outlet_in new.ribs c none) asked.has_asked (knows.outlet (sym config ∙ is) none).order asked.points
           (λ e. asked.again (sym it.act_is ∙ e)) (λ e. it.act_is ∙ asked.only e) (voices none) got heard tells (λ e. never (sym it.act_is ∙ e)) taken (knows.ordered (sym config ∙ is) none);
     }
 

@@ -30,8 +30,9 @@ pub mod Outgoing
 pub mod Mandated
 pub mod Taking
 pub mod Continuing
+pub mod InTurn
+pub mod Answered
 pub mod Owing
 pub mod Paying
 pub mod Drained
 pub mod Sent
-pub mod InTurn

@@ -1,6 +1,6 @@
 -- The order of what a client is told, behind each thing that befalls it.
 use Rattle.std.proofs.Common.{◌≡◌, ◌≢◌, ◌⊎◌, inl, inr, ◌≤◌, ℕ, Bool, true, false, not, ◌&&◌, ◌||◌, List, [], ◌∷◌, ◌++◌, length, take, drop, refl, sym, ◌∙◌, ap, subst, arith, append_assoc}
-use Rattle.std.specs.Prelude.{Option, Some, None, reverse, slice_get, if◌then◌else◌}
+use Rattle.std.specs.Prelude.{Option, Some, None, is_some, reverse, slice_get, if◌then◌else◌}
 use Rattle.std.specs.List.{AllZip}
 use Rattle.std.specs.FinMap as fin
 use Rattle.std.specs.FinSet as set
@@ -61,6 +61,7 @@ told_on mode points octets v w p told marked h = record {
   order = h.order;
   told = ap (λ t. fin.get t p) told ∙ h.told;
   marked = λ m. h.marked (ap (λ s. set.contains s p) (sym marked) ∙ m);
+  pending = λ a t. ap (λ s. set.contains s p) marked ∙ h.pending a (ap (λ x. fin.contains_key x p) (sym told) ∙ t);
 }
 
 -- the outlet says the same
@@ -133,6 +134,7 @@ raised_ordered s c h next v w agreed raised points taken live down up at = let u
     order = subst (λ ps. TellsInOrder sp.mode ps p [] false) (sym points) (u.order sp.mode p);
     told = raised.told p;
     marked = λ m. absurd (false≢true (sym (raised.marked p) ∙ m));
+    pending = λ a t. absurd (false≢true a);
   };
 }
 
@@ -150,9 +152,9 @@ said_ordered short.Keepalive s c h next v w points not tells taken same at = eli
 said_ordered (short.Note code sub extra count) s c h next v w points not tells taken same at = absurd tells
 
 -- the client asked for all routes
-again_ordered : (s : Configuration) (c : ℕ) (h next : Hearing) (v w : View) → next.points ≡ Asked ∷ h.points → Asks (session_in s c) h.items next.items → next.taken ≡ h.taken → TellsAgain v w
+again_ordered : (s : Configuration) (c : ℕ) (h next : Hearing) (v w : View) → IsInOrder v → next.points ≡ Asked ∷ h.points → Asks (session_in s c) h.items next.items → next.taken ≡ h.taken → TellsAgain v w
     → IsOrdered s c h v → IsOrdered s c next w
-again_ordered s c h next v w points tells taken same at = record {
+again_ordered s c h next v w in_order points tells taken same at = record {
   before = λ l d. absurd (false≢true (sym d ∙ ap is_up (tells.same.state ∙ tells.before)));
   loc = λ sp is p. ap (λ t. fin.get t p) same.loc ∙ at.loc sp (sym same.speech ∙ is) p ∙ sym (ap (λ ps. latest (dues_at ps p)) points);
   told = λ sp is p. let t = at.told sp (sym same.speech ∙ is) p in record {
@@ -162,24 +164,25 @@ again_ordered s c h next v w points tells taken same at = record {
     order = subst (λ ps. TellsInOrder sp.mode ps p t.values true) (sym points) (refl, t.asked, t.order);
     told = ap (λ x. fin.get x p) same.told ∙ t.told;
     marked = λ m. refl;
+    pending = λ a there. same.marked in_order p ∙ ap (λ x. fin.contains_key x p) (sym same.told) ∙ there;
   };
 }
 
 pub acted_ordered : (act : Act) (long : Bool) (sessions : List Session) (x : Session) (s : Configuration) (c : ℕ) (h next : Hearing) (v w : View) (b : Bool)
-    → next.points ≡ asked_if b h.points → (act ≡ acts.Again → b ≡ true) → (b ≡ true → act ≡ acts.Again)
+    → IsInOrder v → next.points ≡ asked_if b h.points → (act ≡ acts.Again → b ≡ true) → (b ≡ true → act ≡ acts.Again)
     → Voices act long c sessions v w → slice_get sessions c ≡ Some x → HasHeard x (session_in s c) next.items → Tells act (session_in s c) h.items next.items
     → (act ≡ acts.Say short.Open → ⊥) → next.taken ≡ h.taken → IsOrdered s c h v → IsOrdered s c next w
-acted_ordered acts.None long sessions x s c h next v w b points again only voices read heard tells not taken at =
+acted_ordered acts.None long sessions x s c h next v w b in_order points again only voices read heard tells not taken at =
     stayed_ordered s c h next v w (points ∙ not_asked b h.points (λ e. let f : ◌≡◌ {A = Act} acts.None acts.Again = only e in cc)) tells taken voices at
-acted_ordered (acts.Say message) long sessions x s c h next v w b points again only voices read heard tells not taken at =
+acted_ordered (acts.Say message) long sessions x s c h next v w b in_order points again only voices read heard tells not taken at =
     said_ordered message s c h next v w (points ∙ not_asked b h.points (λ e. let f : ◌≡◌ {A = Act} (acts.Say message) acts.Again = only e in cc))
     (λ e. not (ap (λ (m : Short). acts.Say m) e)) tells taken voices at
-acted_ordered acts.Up long sessions x s c h next v w b points again only voices read heard tells not taken at =
+acted_ordered acts.Up long sessions x s c h next v w b in_order points again only voices read heard tells not taken at =
     raised_ordered s c h next v w _ (voices x read (session_in s c) next.items heard tells.now)
     (points ∙ not_asked b h.points (λ e. let f : ◌≡◌ {A = Act} acts.Up acts.Again = only e in cc)) taken (ap is_live tells.before) (ap is_up tells.before) (ap is_up tells.now) at
-acted_ordered (acts.Down _) long sessions x s c h next v w b points again only voices read heard tells not taken at = over_ordered s c next w (ap is_live tells.now) voices.speech
-acted_ordered acts.Again long sessions x s c h next v w b points again only voices read heard tells not taken at =
-    again_ordered s c h next v w (points ∙ ap (λ a. asked_if a h.points) (again refl)) tells taken voices at
+acted_ordered (acts.Down _) long sessions x s c h next v w b in_order points again only voices read heard tells not taken at = over_ordered s c next w (ap is_live tells.now) voices.speech
+acted_ordered acts.Again long sessions x s c h next v w b in_order points again only voices read heard tells not taken at =
+    again_ordered s c h next v w in_order (points ∙ ap (λ a. asked_if a h.points) (again refl)) tells taken voices at
 
 -- ---- octets are taken
 
@@ -195,8 +198,7 @@ took_ordered s c n h next v w e items taken points at =
 
 -- no UPDATE: what was told stays
 offered_on : (s : Configuration) (c : ℕ) (h : Hearing) (v w : View) → (rest_of each_message (h.taken ++ v.flight) ≡ [] → updates_in (h.taken ++ w.flight) ≡ updates_in (h.taken ++ v.flight))
-    → w.speech ≡ v.speech → w.loc ≡ v.loc → ((p : Prefix) → fin.get w.told p ≡ fin.get v.told p) → ((p : Prefix) → set.contains w.marked p ≡ set.contains v.marked p)
-    → SpeaksTo s c h v → IsOrdered s c h v → IsOrdered s c (offers true h) w
+    → w.speech ≡ v.speech → w.loc ≡ v.loc → w.told ≡ v.told → w.marked ≡ v.marked → SpeaksTo s c h v → IsOrdered s c h v → IsOrdered s c (offers true h) w
 offered_on s c h v w updates speech loc told marks says at = record {
   before = λ l d. let u = at.before l d in record {
     dues = u.dues;
@@ -213,8 +215,9 @@ offered_on s c h v w updates speech loc told marks says at = record {
       are = t.tells.are;
     };
     order = inl t.order;
-    told = told p ∙ t.told;
-    marked = λ m. t.marked (sym (marks p) ∙ m);
+    told = ap (λ x. fin.get x p) told ∙ t.told;
+    marked = λ m. t.marked (ap (λ x. set.contains x p) (sym marks) ∙ m);
+    pending = λ a there. ap (λ x. set.contains x p) marks ∙ t.pending a (ap (λ x. fin.contains_key x p) (sym told) ∙ there);
   };
 }
 
@@ -263,6 +266,7 @@ one_update mode points taken flight v w change ps p effect updates mention after
     order = inr (record { value = fin.get v.loc p; earlier = t.values; was_asked = t.asked; are = refl; before = t.order; taken_tells = t.tells; due = due; news = is_news (news e); answered = refl });
     told = settles.told p ∙ ap (λ b. if b then fin.get v.loc p else fin.get v.told p) (among_has p ps ∙ e);
     marked = λ m. absurd (false≢true (sym (settles.marked p ∙ ap (λ b. not b && set.contains v.marked p) (among_has p ps ∙ e)) ∙ m));
+    pending = λ a there. absurd (false≢true a);
   }
   by_test false e = record {
     values = t.values;
@@ -276,6 +280,8 @@ one_update mode points taken flight v w change ps p effect updates mention after
     order = inl t.order;
     told = settles.told p ∙ ap (λ b. if b then fin.get v.loc p else fin.get v.told p) (among_has p ps ∙ e) ∙ t.told;
     marked = λ m. t.marked (sym (settles.marked p ∙ ap (λ b. not b && set.contains v.marked p) (among_has p ps ∙ e)) ∙ m);
+    pending = λ a there. settles.marked p ∙ ap (λ b. not b && set.contains v.marked p) (among_has p ps ∙ e)
+        ∙ t.pending a (ap is_some (sym (settles.told p ∙ ap (λ b. if b then fin.get v.loc p else fin.get v.told p) (among_has p ps ∙ e))) ∙ there);
   }
 
 or_false : (b : Bool) → (b || false) ≡ b
@@ -286,7 +292,15 @@ or_false false = refl
 told_next : (speech : Speech) (points : List Point) (taken : List ℕ) (v w : View) (ins : AdjIns) (p : Prefix) → AreNumbered v ins → IsInOrder v → rest_of each_message taken ≡ [] → BeginsUpdate speech v w
     → fin.get v.loc p ≡ latest (dues_at points p) → IsToldInOrder speech.mode points taken v p → IsToldInOrder speech.mode (Offered taken ∷ points) (taken ++ w.flight) w p
 told_next speech points taken v w ins p numbered order whole (inl rests) due t = subst (λ o. IsToldInOrder speech.mode (Offered taken ∷ points) o w p) (sym (ap (λ l. taken ++ l) rests.flight ∙ append-nil taken))
-    (record { values = t.values; asked = t.asked; tells = t.tells; order = inl t.order; told = rests.settles.told p ∙ t.told; marked = λ m. t.marked (sym (rests.settles.marked p) ∙ m) })
+    (record {
+      values = t.values;
+      asked = t.asked;
+      tells = t.tells;
+      order = inl t.order;
+      told = rests.settles.told p ∙ t.told;
+      marked = λ m. t.marked (sym (rests.settles.marked p) ∙ m);
+      pending = λ a there. rests.settles.marked p ∙ t.pending a (ap is_some (sym (rests.settles.told p)) ∙ there);
+    })
 told_next speech points taken v w ins p numbered order whole (inr (inl gone)) due t =
     let ok : IsWithdrawable gone.prefixes = record { prefixes = gone.prefixes_legal; fits = let most = limit_most speech.limit in let fits : length (withdrawal gone.prefixes) ≤ limit_octets speech.limit = subst (λ f. length f ≤ limit_octets speech.limit) gone.flight gone.fits in omega (arith, most, fits) } in
     subst (λ f. IsToldInOrder speech.mode (Offered taken ∷ points) (taken ++ f) w p) (sym gone.flight)
@@ -319,7 +333,7 @@ pub begun_ordered : (s : Configuration) (c : ℕ) (h : Hearing) (ins : AdjIns) (
 begun_ordered s c h ins v w numbered b says at = by_flight v.flight refl where
   same : w ≡ v → IsOrdered s c (offers true h) w
   same e = offered_on s c h v w (λ whole. ap (λ (x : View). updates_in (h.taken ++ x.flight)) e) (ap (λ (x : View). x.speech) e) (ap (λ (x : View). x.loc) e)
-      (λ p. ap (λ (x : View). fin.get x.told p) e) (λ p. ap (λ (x : View). set.contains x.marked p) e) says at
+      (ap (λ (x : View). x.told) e) (ap (λ (x : View). x.marked) e) says at
 
   bare_octets : v.flight ≡ [] → h.taken ++ v.flight ≡ h.taken
   bare_octets empty = ap (λ l. h.taken ++ l) empty ∙ append-nil h.taken
@@ -342,7 +356,7 @@ begun_ordered s c h ins v w numbered b says at = by_flight v.flight refl where
       ap (λ (x : View). updates_in (h.taken ++ x.flight)) is
       ∙ updates_more h.taken keepalive kinds.Keepalive (subst (λ o. rest_of each_message o ≡ []) before whole) (written_is_message each_message kinds.Keepalive [] refl (omega arith) (omega arith))
       ∙ append-nil (updates_in h.taken) ∙ sym (ap updates_in before))
-      (ap (λ (x : View). x.speech) is) (ap (λ (x : View). x.loc) is) (λ p. ap (λ (x : View). fin.get x.told p) is) (λ p. ap (λ (x : View). set.contains x.marked p) is) says at
+      (ap (λ (x : View). x.speech) is) (ap (λ (x : View). x.loc) is) (ap (λ (x : View). x.told) is) (ap (λ (x : View). x.marked) is) says at
   by_beat false empty quiet e = by_speech v.speech empty quiet e refl
 
   by_note : (o : Option Short) → v.flight ≡ [] → v.note ≡ o → IsOrdered s c (offers true h) w
@@ -377,6 +391,7 @@ decided_ordered s c h due v w up flight speech told marked loc at = record {
     order = t.order;
     told = ap (λ x. fin.get x p) told ∙ t.told;
     marked = λ m. t.marked (ap (λ x. set.contains x p) (sym marked) ∙ m);
+    pending = λ a there. ap (λ x. set.contains x p) marked ∙ t.pending a (ap (λ x. fin.contains_key x p) (sym told) ∙ there);
   };
 }
 

@@ -18,7 +18,7 @@ use Rattle.rs_policy.specs.declared.rules.Choice.TheVariants as choices
 use Rattle.rs_decision.specs.Choice.{unbeaten}
 use Rattle.rs_core.specs.Moves.{Move, Ruled, Came, Heard, Left, Turned}
 use Rattle.rs_core.specs.Hearing.{session_in, state_in}
-use Rattle.rs_core.specs.Runs.{hearing, is_established, due}
+use Rattle.rs_core.specs.Runs.{hearing, is_established, due, dues}
 
 -- ---- the configuration and the octets
 
@@ -165,6 +165,23 @@ gone = refl
 back : due (Heard 0 u1 ∷ Turned [] ∷ Heard 0 w1 ∷ announced) 1 n24 ≡ Some u1_attributes
 unfolding all_types matches outcome verdict unbeaten
 back = refl
+
+-- what was due at the turns: a turn that was refused for a client is none of its turns, and a new connection begins anew
+withdrawn_behind_a_turn : dues (Turned [] ∷ Heard 0 w1 ∷ announced) 1 n24 ≡ None ∷ Some u1_attributes ∷ []
+unfolding all_types matches outcome verdict unbeaten
+withdrawn_behind_a_turn = refl
+
+back_before_a_turn : dues (Turned [] ∷ Heard 0 u1 ∷ Heard 0 w1 ∷ announced) 1 n24 ≡ Some u1_attributes ∷ Some u1_attributes ∷ []
+unfolding all_types matches outcome verdict unbeaten
+back_before_a_turn = refl
+
+refused_for_b : dues (Turned (1 ∷ []) ∷ Heard 0 w1 ∷ announced) 1 n24 ≡ Some u1_attributes ∷ []
+unfolding all_types matches outcome verdict unbeaten
+refused_for_b = refl
+
+connected_anew : dues (Came 1 ∷ Left 1 ∷ announced) 1 n24 ≡ []
+unfolding all_types matches outcome verdict unbeaten
+connected_anew = refl
 
 -- ---- a receiver is lost and comes again
 

@@ -1,5 +1,5 @@
 -- Another configuration: what is known of each client stays.
-use Rattle.std.proofs.Common.{◌≡◌, ◌<◌, inl, ℕ, Bool, false, List, [], ◌∷◌, ◌++◌, refl, sym, ◌∙◌, ap, subst}
+use Rattle.std.proofs.Common.{◌≡◌, ◌<◌, ℕ, Bool, List, [], ◌∷◌, ◌++◌, refl, sym, ◌∙◌, ap, subst}
 use Rattle.std.specs.Prelude.{None, slice_get, if◌then◌else◌}
 use Rattle.rs_octets.specs.Messages.{rest_of, header_fault_of}
 use Rattle.rs_octets.specs.Prefixes.{Prefix}

@@ -37,6 +37,15 @@ pub spoken : (o : Option Speech) → IsSome o → (A : Type 0) → ((speech : Sp
 spoken None some A so = absurd (let f : false ≡ true = some in cc)
 spoken (Some speech) some A so = so speech refl
 
+-- what was told last is what is due
+pub told_is_due : (core : Core) (run : List Move) (c : ℕ) (none : View) (speech : Speech) → c < core.count → IsDrained (outlet_in core.ribs c none) → Agrees core run → (outlet_in core.ribs c none).speech ≡ Some speech
+    → speech_in (config_in run) c (hearing c run) ≡ Some speech → (p : Prefix) → due run c p ≡ fin.get (outlet_in core.ribs c none).told p
+told_is_due core run c none speech lt drained h up is p =
+    due_spoken run c speech p is
+    ∙ sym (due_is core run c speech p h)
+    ∙ sym ((core.fresh.each c none (subst (λ n. c < n) (sym core.ribs_len) lt)).at speech p up (ap (λ t. is_touched t p) drained.untouched ∙ set.contains-empty prefix_order p))
+    ∙ ap (λ t. fin.get t p) (sym drained.told)
+
 drained_served : (core : Core) (run : List Move) (c : ℕ) (none : View) (speech : Speech) → c < core.count → IsDrained (outlet_in core.ribs c none) → Agrees core run → (outlet_in core.ribs c none).speech ≡ Some speech → IsServed run c
 drained_served core run c none speech lt drained h up =
     let v : View = outlet_in core.ribs c none in
@@ -47,14 +56,8 @@ drained_served core run c none speech lt drained h up =
       told = λ other is.
           let agreed : v.speech ≡ Some other = at.speech ∙ is in
           let said = subst (λ o. Speaks other.mode o (fin.get v.told)) (ap (λ f. (hearing c run).taken ++ f) drained.flight ∙ append-nil (hearing c run).taken) (at.since other agreed) in
-          (speaks_same other.mode (hearing c run).taken (fin.get v.told) (due run c) (λ p. told_is other agreed is p) said).means;
-    } where
-      told_is : (other : Speech) → (outlet_in core.ribs c none).speech ≡ Some other → speech_in (config_in run) c (hearing c run) ≡ Some other → (p : Prefix) → due run c p ≡ fin.get (outlet_in core.ribs c none).told p
-      told_is other agreed is p =
-          due_spoken run c other p is
-          ∙ sym (due_is core run c other p h)
-          ∙ sym ((core.fresh.each c none (subst (λ n. c < n) (sym core.ribs_len) lt)).at other p agreed (ap (λ t. is_touched t p) drained.untouched ∙ set.contains-empty prefix_order p))
-          ∙ ap (λ t. fin.get t p) (sym drained.told)
+          (speaks_same other.mode (hearing c run).taken (fin.get v.told) (due run c) (λ p. told_is_due core run c none other lt drained h agreed is p) said).means;
+    }
 
 -- a client whose outlet is drained is served
 pub drained_is_served : (core : Core) (run : List Move) (c : ℕ) (none : View) → c < core.count → IsDrained (outlet_in core.ribs c none) → Agrees core run → IsServed run c

@@ -1,5 +1,5 @@
 -- What a client is told over a run, as laws of each route server that agrees with it.
-use Rattle.std.specs.Prelude.{◌≡◌, ◌≢◌, ◌⊎◌, ◌<◌, ℕ, Bool, true, false, List, [], ◌∷◌, ◌++◌, Some, None, ⊤}
+use Rattle.std.specs.Prelude.{◌≡◌, ◌≢◌, ◌⊎◌, ◌<◌, ℕ, Bool, true, false, List, [], ◌∷◌, ◌++◌, Some, None, is_some, ⊤}
 use Rattle.rs_octets.specs.Prefixes.{Prefix}
 use Rattle.rs_attrs.specs.declared.mode.Mode.{Mode}
 use Rattle.rs_outlet.specs.declared.answers.Speech.{Speech}
@@ -7,7 +7,7 @@ use Rattle.rs_core.specs.Points.{Point, Decided, Asked, Offered, Value, dues_at,
 use Rattle.rs_core.specs.Orders.{TellsAt, TellsInOrder}
 use Rattle.rs_core.specs.Moves.{Move, config_in}
 use Rattle.rs_core.specs.Core.{client_count, loc_rib}
-use Rattle.rs_core.specs.Runs.{hearing, speech_in, is_established, dues}
+use Rattle.rs_core.specs.Runs.{hearing, speech_in, is_established, due, dues}
 use Rattle.rs_core.specs.Agreeing.{Agrees}
 use Rattle.rs_core.specs.declared.route_server.Core.{Core}
 
@@ -39,6 +39,13 @@ has_asked (Decided due ∷ points) = has_asked points
 has_asked (Asked ∷ points) = true
 has_asked (Offered taken ∷ points) = has_asked points
 
+-- the UPDATEs in these octets told a prefix this value last, in order, and the client has not asked since
+pub record HasBeenAnswered (mode : Mode) (points : List Point) (octets : List ℕ) (p : Prefix) (value : Value) : Type 0 where
+  pub values : List Value
+  pub tells : TellsAt mode octets p values
+  pub last : latest values ≡ value
+  pub order : TellsInOrder mode points p values false
+
 -- ---- laws
 
 -- What the UPDATEs in these octets tell a prefix, behind none at first, was due at the turns, behind none at first, in this
@@ -63,3 +70,7 @@ abbrev pub HasWhatWasDue : Type 0
 HasWhatWasDue =
     (core : Core) (run : List Move) (c : ℕ) (p : Prefix) → c < client_count core → Agrees core run
     → is_established run c ≡ true → loc_rib core c p ≡ latest (dues run c p)
+
+-- what is due to a client at each prefix that has a route it was told last, by an UPDATE that began behind its last request
+pub record IsAnswered (run : List Move) (c : ℕ) : Type 0 where
+  pub told : (speech : Speech) (p : Prefix) → speech_in (config_in run) c (hearing c run) ≡ Some speech → is_some (due run c p) ≡ true → HasBeenAnswered speech.mode (hearing c run).points (hearing c run).taken p (due run c p)

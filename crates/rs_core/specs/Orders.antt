@@ -49,7 +49,7 @@ TellsInOrder mode (Offered taken ∷ points) p values asked =
 
 -- ---- an outlet
 
--- these octets tell a prefix what the outlet has as told, in order; it is marked only where the client asked since
+-- these octets tell a prefix what the outlet has as told, in order; what was told is marked exactly where the client asked since
 pub record IsToldInOrder (mode : Mode) (points : List Point) (octets : List ℕ) (v : View) (p : Prefix) : Type 0 where
   pub values : List Value
   pub asked : Bool
@@ -57,6 +57,7 @@ pub record IsToldInOrder (mode : Mode) (points : List Point) (octets : List ℕ)
   pub order : TellsInOrder mode points p values asked
   pub told : fin.get v.told p ≡ latest values
   pub marked : set.contains v.marked p ≡ true → asked ≡ true
+  pub pending : asked ≡ true → fin.contains_key v.told p ≡ true → set.contains v.marked p ≡ true
 
 -- nothing was decided, asked for or told
 pub record IsUntold (points : List Point) (octets : List ℕ) : Type 0 where

@@ -37,6 +37,7 @@ impl Core {
     ghost use Rattle.rs_core.specs.Hearing.{Hearing, state_in, hold_in, mode_in, limit_in};
     ghost use Rattle.rs_core.specs.Runs.{hearing, is_established, IsServed};
     ghost use Rattle.rs_core.specs.Agreeing.{Agrees, Knows};
+    ghost use Rattle.rs_core.specs.InTurn.{IsAnswered};
     ghost use Rattle.rs_policy.specs.Configuration.{Configuration};
     ghost use Rattle.rs_policy.specs.Rules.{client_named};
 
@@ -152,6 +153,7 @@ impl Core {
     pub fn is_drained(&self, c: usize) -> bool
         requires { c < client_count self.now }
         ensures served { IsTrue result → (run : List Move) → Agrees self.now run → IsServed run c }
+        ensures answered { IsTrue result → (run : List Move) → Agrees self.now run → IsAnswered run c }
         ensures exact { (run : List Move) → Agrees self.now run → result ≡ (is_established run c && (is_decided self.now c && (owed self.now c == 0))) }
     {
         let outlet = &self.ribs.outlets[c];

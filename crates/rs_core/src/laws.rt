@@ -11,14 +11,6 @@ pub fn serves_by_offers()
     ensures { ServesByOffers }
 {}
 
-/// Where a turn has decided all for a client that is Established, what is owed to it then is enough: with
-/// no more octets than that it is drained, if nothing happens but that messages begin and octets are
-/// taken.
-#[tactic(auto, using(crate::proofs::Sent::sends_all_owed))]
-pub fn sends_all_owed()
-    ensures { SendsAllOwed }
-{}
-
 /// At each point of each run the Loc-RIB of a client that is Established is what was due to it at its
 /// last turn since it is so, and empty before the first.
 #[tactic(auto, using(crate::proofs::InTurn::has_what_was_due))]
@@ -32,4 +24,12 @@ pub fn loc_rib_is_what_was_due()
 #[tactic(auto, using(crate::proofs::InTurn::tells_in_turn))]
 pub fn clients_are_told_in_turn()
     ensures { TellsInTurn }
+{}
+
+/// Where a turn has decided all for a client that is Established, what is owed to it then is enough: with
+/// no more octets than that it is drained, if nothing happens but that messages begin and octets are
+/// taken.
+#[tactic(auto, using(crate::proofs::Sent::sends_all_owed))]
+pub fn sends_all_owed()
+    ensures { SendsAllOwed }
 {}

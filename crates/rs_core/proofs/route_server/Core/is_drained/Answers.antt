@@ -4,6 +4,7 @@ use Rattle.rs_outlet.specs.Left.{HasNothingLeft}
 use Rattle.rs_outlet.specs.Views.{IsDrained}
 use Rattle.rs_core.specs.Core.{client_count}
 use Rattle.rs_core.proofs.Serving.{drained_is_served}
+use Rattle.rs_core.proofs.Answered.{drained_is_answered}
 use Rattle.rs_core.proofs.Drained.{drained_exactly}
 use Rattle.rs_core.proofs.Paying.{nobody}
 use Rattle.rs_core.proofs.Walks.{default_same}
@@ -13,6 +14,7 @@ pub returns : goal.returns
 unfolding client_count
 returns c = record {
   served = λ drained run h. drained_is_served c.args.self.now run c.args.c c.index-outlet.result.now c.requires (subst IsDrained c.index-outlet.ensures (c.is_drained.ensures.drained drained)) h;
+  answered = λ drained run h. drained_is_answered c.args.self.now run c.args.c c.index-outlet.result.now c.requires (subst IsDrained c.index-outlet.ensures (c.is_drained.ensures.drained drained)) h;
   exact = λ run h.
       let outlets = c.args.self.now.ribs.outlets.items in
       let there : c.args.c < length outlets = omega (arith, c.requires, c.args.self.now.ribs_len, c.args.self.now.ribs.outlets_len) in

@@ -1,0 +1,41 @@
+-- Where an outlet is drained, what its client asked for again was told again.
+use Rattle.std.proofs.Common.{◌≡◌, ◌<◌, ℕ, Bool, true, false, List, ◌++◌, refl, sym, ◌∙◌, ap, subst}
+use Rattle.std.specs.Prelude.{is_some}
+use Rattle.std.specs.FinMap as fin
+use Rattle.std.specs.FinSet as set
+use Rattle.std.proofs.lemmas.Bool.{false≢true}
+use Rattle.std.proofs.lemmas.List.{append-nil}
+use Rattle.rs_octets.specs.Prefixes.{prefix_order}
+use Rattle.rs_outlet.specs.Views.{View, IsDrained}
+use Rattle.rs_core.specs.Moves.{Move}
+use Rattle.rs_core.specs.Hearing.{Hearing}
+use Rattle.rs_core.specs.InTurn.{IsAnswered}
+use Rattle.rs_core.specs.Orders.{TellsAt, TellsInOrder}
+use Rattle.rs_core.specs.Ribs.{outlet_in}
+use Rattle.rs_core.specs.Runs.{hearing, due}
+use Rattle.rs_core.specs.Agreeing.{Agrees}
+use Rattle.rs_core.specs.declared.route_server.Core.{Core}
+use Rattle.rs_core.proofs.Serving.{told_is_due}
+
+not_asked : (asked : Bool) → (asked ≡ true → ⊥) → asked ≡ false
+not_asked true never = absurd (never refl)
+not_asked false never = refl
+
+pub drained_is_answered : (core : Core) (run : List Move) (c : ℕ) (none : View) → c < core.count → IsDrained (outlet_in core.ribs c none) → Agrees core run → IsAnswered run c
+drained_is_answered core run c none lt drained h = record {
+  told = λ speech p is some.
+      let v : View = outlet_in core.ribs c none in
+      let at = (h.clients c lt).knows in
+      let it : Hearing = hearing c run in
+      let up = (at.outlet h.config none).speech ∙ is in
+      let t = (at.ordered h.config none).told speech up p in
+      let same : due run c p ≡ fin.get v.told p = told_is_due core run c none speech lt drained h up is p in
+      let there : fin.contains_key v.told p ≡ true = ap is_some (sym same) ∙ some in
+      let unmarked : set.contains v.marked p ≡ false = ap (λ x. set.contains x p) drained.unmarked ∙ set.contains-empty prefix_order p in
+      record {
+        values = t.values;
+        tells = subst (λ o. TellsAt speech.mode o p t.values) (ap (λ f. it.taken ++ f) drained.flight ∙ append-nil it.taken) t.tells;
+        last = sym t.told ∙ sym same;
+        order = subst (λ a. TellsInOrder speech.mode it.points p t.values a) (not_asked t.asked (λ a. false≢true (sym unmarked ∙ t.pending a there))) t.order;
+      };
+}
