@@ -29,7 +29,7 @@ use crate::settings::{read_settings, tell_settings_fault};
 use crate::text::{OverRead, OverWrite};
 use rs_policy::Config;
 use std::io;
-use std::io::{BufWriter, IsTerminal};
+use std::io::{BufWriter, ErrorKind, IsTerminal};
 use std::process::ExitCode;
 use std::rt::{Env, Files};
 use std::sync::Wait;
@@ -40,6 +40,18 @@ fn ask<R: Env + Print + Eprint + AllocGlobal>(rt: &R) -> io::Result<Asked> {
     let alloc = rt.alloc();
     let words: Vec<String> = std::env::args(rt)?.collect(alloc)?;
     read_command(rt, alloc, &words)
+}
+
+/// Tells on standard error why the command line was not read, or its help not told; answers the status
+/// to end with.
+fn tell_asking_fault<R: Eprint>(rt: &R, error: &io::Error) -> u8 {
+    let fault = match error.kind() {
+        ErrorKind::OutOfMemory => ReplayFault::Memory,
+        _ => ReplayFault::Writing,
+    };
+    // Where standard error is closed there is nobody to tell.
+    let _ = eprintln!(rt; "{fault}");
+    3
 }
 
 /// Plays standard input to standard output.
@@ -88,13 +100,12 @@ fn main(rt: HostRuntime) -> ExitCode {
     let options = match ask(&rt) {
         Ok(Asked::Play(options)) => options,
         Ok(Asked::End(status)) => return ExitCode::from(status),
-        Err(_) => return ExitCode::from(3),
+        Err(error) => return ExitCode::from(tell_asking_fault(&rt, &error)),
     };
     let config = match read_settings(&rt, options.config.as_str()) {
         Ok(config) => config,
         Err(fault) => {
-            tell_settings_fault(&rt, &fault);
-            return ExitCode::from(2);
+            return ExitCode::from(tell_settings_fault(&rt, &fault));
         }
     };
     let played = if options.progress && rt.stderr().is_terminal() {

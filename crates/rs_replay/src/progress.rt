@@ -31,7 +31,7 @@ impl Watch for Unwatched {
 /// The octets of the message that a client is in (RFC 4271, 4.1): how many have come, and the length
 /// and the type that its header gives.
 #[derive(Clone, Copy)]
-struct Message {
+pub(crate) struct Message {
     came: usize,
     length: usize,
     kind: u8,
@@ -45,7 +45,7 @@ const UPDATE: u8 = 2;
 
 impl Message {
     /// None has come.
-    fn new() -> Message {
+    pub(crate) fn new() -> Message {
         Message {
             came: 0,
             length: HEADER,
@@ -71,7 +71,7 @@ impl Message {
     }
 
     /// How many UPDATEs end within the octets that come next.
-    fn take_all(&mut self, octets: &[u8]) -> u64 {
+    pub(crate) fn take_all(&mut self, octets: &[u8]) -> u64 {
         let mut updates: u64 = 0;
         for octet in octets {
             if self.take(*octet) {
@@ -114,7 +114,7 @@ impl<'a, R: Eprint> Progress<'a, R> {
         }
     }
 
-    /// It was told at this line how far the replay is, or that was `LINES` lines ago.
+    /// The line at which it was told last is `LINES` lines ago, or more.
     fn is_due(&self, number: u64) -> bool
         ensures { IsTrue result ↔ self.now.told_at + 65536 ≤ number }
     {

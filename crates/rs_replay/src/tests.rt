@@ -12,6 +12,7 @@ use std::test::Fail;
 use std::thread::Threads;
 
 mod devices;
+mod watching;
 
 /// Four members.
 const MEMBERS: &str = r#"as = 64500
