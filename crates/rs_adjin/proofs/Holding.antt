@@ -20,7 +20,7 @@ use Rattle.rs_adjin.specs.Numbers.{number_in, prefix_of_in, routes_at, routes_of
 use Rattle.rs_adjin.specs.Held.{has_number, one_if, Marks, SameSet}
 use Rattle.rs_adjin.specs.Listing.{Lists, Counts, numbered_from}
 use Rattle.rs_adjin.specs.Table.{IsTable, Writes, KeepsOthers, Clears, IsHeldBy, has_prefix_of, held_prefix}
-use Rattle.rs_adjin.proofs.Members.{Has, Apart, kept, keeps, apart_kept}
+use Rattle.rs_octets.proofs.Members.{Has, Apart, kept, keeps, apart_kept}
 use Rattle.rs_adjin.proofs.RouteLists.{is_rising}
 use Rattle.rs_adjin.proofs.Rows.{at_prefix, some_is, row_within}
 use Rattle.rs_adjin.proofs.NumberLists.{member_has, has_member, all_are, numbered_apart, numbered_len}
