@@ -8,4 +8,4 @@ the repository.
 """
 import beside
 
-beside.measure("held", ("rs_octets", "rs_attrs", "rs_adjin"), "rs_adjin rs_attrs rs_octets anyhow", __doc__)
+beside.measure("held", ("rs_adjin", "rs_attrs", "rs_octets"), __doc__)

@@ -6,4 +6,4 @@ otherwise); how it is measured stands in beside.py. It writes nothing in the rep
 """
 import beside
 
-beside.measure("read", ("rs_octets", "rs_attrs"), "rs_attrs anyhow", __doc__)
+beside.measure("read", ("rs_attrs",), __doc__)

@@ -6,8 +6,13 @@ play_sessions.py PROGRAM FOLDER [NAME..]
 A session NAME is FOLDER/NAME.trace, given on standard input, with the configuration NAME.toml (no such
 file: four_members.toml above the folder), what the program must write in NAME.out, and the exit status that
 it must end with in NAME.status (no such file: 0). Each is played by 1, 2, 3 and 16 workers.
+
+Where no NAME is given, one trace more is played with --progress: with a terminal on standard error it must be told there
+how far the replay is, and without one nothing; what is written is the same.
 """
+import os
 import pathlib
+import pty
 import subprocess
 import sys
 
@@ -37,14 +42,40 @@ def differs(program, folder, name, workers):
     return None
 
 
+def progress_differs(program, folder):
+    """What is wrong with what is told of a long replay, or None."""
+    first = (folder / "first_route.trace").read_bytes()
+    trace = first + b"moment 7\nmoment 7\n" + b"#\n" * 140_000 + b"moment 7\nmoment 8\n"
+    at = first.count(b"\n") + 1
+    told = [at, at + 65_536, at + 2 * 65_536, at + 140_003]
+    wanted = "".join(f"{line} lines read, 1 UPDATEs heard\r\n" for line in told).encode()
+    words = [program, "--config", folder.parent / "four_members.toml", "--progress"]
+    ours, theirs = pty.openpty()
+    try:
+        watched = subprocess.run(words, input=trace, stdout=subprocess.PIPE, stderr=theirs, timeout=60)
+        seen = os.read(ours, 65_536)
+    finally:
+        os.close(ours)
+        os.close(theirs)
+    alone = subprocess.run(words, input=trace, capture_output=True, timeout=60)
+    if (watched.returncode, alone.returncode, alone.stderr) != (0, 0, b""):
+        return f"status {watched.returncode} and {alone.returncode}, and without a terminal: {alone.stderr}"
+    if seen != wanted:
+        return f"told {seen} and not {wanted}"
+    output = (folder / "first_route.out").read_bytes()
+    return None if watched.stdout == alone.stdout == output else "what is written is another than without --progress"
+
+
 def play(program, folder, names=()):
     """Plays the sessions: each, and what is wrong with it or None."""
-    names = names or sorted(it.stem for it in folder.glob("*.trace"))
+    chosen, names = names, names or sorted(it.stem for it in folder.glob("*.trace"))
     if not names:
         yield "sessions", f"none in {folder}"
     for name in names:
         wrong = ((workers, differs(program, folder, name, workers)) for workers in WORKERS)
         yield f"session {name}", next((f"{it[0]} workers: {it[1]}" for it in wrong if it[1]), None)
+    if not chosen:
+        yield "what --progress tells", progress_differs(program, folder)
 
 
 if __name__ == "__main__":

@@ -2,11 +2,16 @@
 
 mod conf;
 mod net;
+mod phases;
 mod procs;
-mod run;
+mod report;
+mod session;
+mod shared;
+mod wait;
 mod work;
 
-use run::{NetOpts, Report, Shared, Value};
+use report::{Report, Value};
+use shared::{NetOpts, Shared};
 use std::collections::HashMap;
 use std::fmt::Write as _;
 use std::net::Ipv4Addr;
@@ -211,7 +216,7 @@ fn main() {
     };
     let label = a.one("label").unwrap_or("server").to_string();
     let s = Shared::new(Work::new(o.clone()), n);
-    let reports = s.run();
+    let reports = phases::run(s);
     let j = json(&label, &o, &reports);
     match a.one("json") {
         Some(f) => std::fs::write(f, &j).unwrap_or_else(|e| die(&format!("{f}: {e}"))),

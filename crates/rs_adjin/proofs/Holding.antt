@@ -14,13 +14,14 @@ use Rattle.rs_attrs.proofs.EachOnce.{same_is, same_itself}
 use Rattle.rs_adjin.specs.declared.routes.Route.{Route}
 use Rattle.rs_adjin.specs.declared.held.Held.{Held}
 use Rattle.rs_adjin.specs.declared.numbers.Numbered.{Numbered}
-use Rattle.rs_adjin.specs.Routes.{value_in}
+use Rattle.rs_adjin.specs.Routes.{value_in, IsRising}
 use Rattle.rs_adjin.specs.Numbering.{routes_by}
 use Rattle.rs_adjin.specs.Numbers.{number_in, prefix_of_in, routes_at, routes_of, KeepsNumbers, SameNumbers}
 use Rattle.rs_adjin.specs.Held.{has_number, one_if, Marks, SameSet}
 use Rattle.rs_adjin.specs.Listing.{Lists, Counts, numbered_from}
-use Rattle.rs_adjin.specs.Table.{Writes, KeepsOthers, Clears, IsHeldBy, has_prefix_of, held_prefix}
-use Rattle.rs_adjin.proofs.Members.{Has, Apart, kept, keeps, apart_kept}
+use Rattle.rs_adjin.specs.Table.{IsTable, Writes, KeepsOthers, Clears, IsHeldBy, has_prefix_of, held_prefix}
+use Rattle.rs_octets.proofs.Members.{Has, Apart, kept, keeps, apart_kept}
+use Rattle.rs_adjin.proofs.RouteLists.{is_rising}
 use Rattle.rs_adjin.proofs.Rows.{at_prefix, some_is, row_within}
 use Rattle.rs_adjin.proofs.NumberLists.{member_has, has_member, all_are, numbered_apart, numbered_len}
 use Rattle.rs_adjin.proofs.Counting.{is_in, is_in_from, has_from, has_is_in, at_flip, not_true, not_false, iff, left_of, left_kept, distinct_apart, apart_distinct, counts_alike}
@@ -128,6 +129,13 @@ number_cases table n = go (prefix_of_in table n) refl
 
 pub at_number : (table : Numbered) (p : Prefix) (n : ℕ) → number_in table p ≡ Some n → routes_at table p ≡ routes_of table n
 at_number table p n is = ap (routes_by table.rows.items) is
+
+-- the routes in each row are by rising client
+pub row_rises : (table : Numbered) → IsTable table → (n : ℕ) → IsRising (routes_of table n)
+row_rises table whole n = elim (number_cases table n) [
+  | inl none ↦ subst IsRising (sym none) (is_rising [] tt)
+  | inr there ↦ subst IsRising (at_number table there.0 n there.1) (whole.rising there.0)
+]
 
 pub same_number : (table : Numbered) (p q : Prefix) (n : ℕ) → number_in table p ≡ Some n → number_in table q ≡ Some n → q ≡ p
 same_number table p q n at there = some_is q p (sym (table.inverse.there q n there) ∙ table.inverse.there p n at)

@@ -6,7 +6,7 @@ use Rattle.std.specs.Map.{keys_of}
 use Rattle.std.proofs.lemmas.Bool.{cases_eq}
 use Rattle.rs_octets.specs.Prefixes.{Prefix}
 use Rattle.rs_adjin.specs.Listing.{with_numbered, numbered_from}
-use Rattle.rs_adjin.proofs.Members.{Has, Apart}
+use Rattle.rs_octets.proofs.Members.{Has, Apart}
 
 -- ---- the next of a list
 

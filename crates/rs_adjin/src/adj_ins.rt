@@ -12,10 +12,12 @@ ghost use Rattle.rs_adjin.specs.declared.routes.Route.{Route};
 ghost use Rattle.rs_adjin.specs.declared.held.Held.{Held};
 ghost use Rattle.rs_adjin.specs.Table.{IsTable, IsOfClients, IsHeldBy, TellsChange};
 ghost use Rattle.rs_adjin.specs.Mandatory.{HasMandatory, AllHaveMandatory};
+ghost use Rattle.rs_adjin.specs.Numbers.{routes_at};
 ghost use Rattle.rs_adjin.specs.Listing.{Counts};
 
 use crate::candidates::Candidates;
 use crate::held::Held;
+use crate::holders::Holders;
 use crate::numbers::Numbered;
 use crate::prefixes::{HeldPrefixes, NumberedPrefixes};
 use crate::routes::{Route, route_in};
@@ -40,7 +42,7 @@ pub struct AdjIns {
 }
 
 impl AdjIns {
-    ghost use Rattle.rs_adjin.specs.AdjIns.{client_count, identifier_of, held_of, Sets, Clears, Begins, Same, ListsRoutes, SetsAt, TellsChangeAt, would_hold, candidates_of, number_of, prefix_of, KeepsNumbers, SameNumbers, GivesUp};
+    ghost use Rattle.rs_adjin.specs.AdjIns.{client_count, identifier_of, held_of, Sets, Clears, Begins, Same, ListsHolders, SetsAt, TellsChangeAt, would_hold, candidates_of, number_of, prefix_of, KeepsNumbers, SameNumbers, GivesUp};
 
     /// Empty tables for so many clients.
     pub fn new(alloc: Global, clients: usize) -> Result<AdjIns, AllocError>
@@ -195,9 +197,9 @@ impl AdjIns {
         held.count() - gone + (announced.len() - again)
     }
 
-    /// The routes for a prefix, by rising client.
-    pub fn at(&self, prefix: Prefix) -> &[Route]
-        ensures { ListsRoutes self.now prefix result.now }
+    /// The routes for a prefix as they stand in its row.
+    fn routes(&self, prefix: Prefix) -> &[Route]
+        ensures { result.now ≡ routes_at self.now.table prefix }
     {
         match self.table.number(prefix) {
             Some(number) => self.table.routes(number),
@@ -205,14 +207,18 @@ impl AdjIns {
         }
     }
 
+    /// The clients that hold a prefix, rising, each with the attributes that it announced.
+    pub fn at(&self, prefix: Prefix) -> Holders<'_>
+        ensures { ListsHolders self.now prefix result }
+    {
+        Holders::new(self.routes(prefix))
+    }
+
     /// The attributes that the client announced for a prefix.
     pub fn route(&self, client: usize, prefix: Prefix) -> Option<&Arc<Attrs>>
         ensures { option_map (λ attrs. arc_value attrs.now) result ≡ held_of self.now client prefix }
     {
-        match self.table.number(prefix) {
-            Some(number) => route_in(self.table.routes(number), client),
-            None => None,
-        }
+        route_in(self.routes(prefix), client)
     }
 
     /// The candidates for a prefix: the routes with their senders' BGP Identifiers, by rising
@@ -221,7 +227,7 @@ impl AdjIns {
         ensures value { result ≡ candidates_of self.now prefix }
         ensures known { All (λ c. c.client < client_count self.now) result }
     {
-        Candidates::new(self.at(prefix), &self.identifiers)
+        Candidates::new(self.routes(prefix), &self.identifiers)
     }
 
     /// The number of a prefix. A prefix that a client has a route for has one, and it keeps it until
@@ -248,11 +254,18 @@ impl AdjIns {
         self.table.count()
     }
 
-    /// The routes for the prefix of a number, by rising client.
-    pub fn at_number(&self, number: u32) -> &[Route]
-        ensures { (p : Prefix) → number_of self.now p ≡ Some number → ListsRoutes self.now p result.now }
+    /// The clients that hold the prefix of a number, as `at` lists them.
+    pub fn at_number(&self, number: u32) -> Holders<'_>
+        ensures { (p : Prefix) → number_of self.now p ≡ Some number → ListsHolders self.now p result }
     {
-        self.table.routes(number)
+        Holders::new(self.table.routes(number))
+    }
+
+    /// The attributes that the client announced for the prefix of a number.
+    pub fn route_at(&self, client: usize, number: u32) -> Option<&Arc<Attrs>>
+        ensures { (p : Prefix) → number_of self.now p ≡ Some number → option_map (λ attrs. arc_value attrs.now) result ≡ held_of self.now client p }
+    {
+        route_in(self.table.routes(number), client)
     }
 
     /// Each prefix that has a number, rising, with it: each that any client holds is among them.

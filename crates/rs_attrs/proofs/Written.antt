@@ -4,4 +4,3 @@ pub mod LeftToWrite
 pub mod Narrowing
 pub mod ReadBackTwo
 pub mod Parts
-pub mod HeadWalk

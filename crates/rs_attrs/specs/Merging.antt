@@ -1,6 +1,6 @@
 -- Paths taken apart from the front, and put together.
-use Rattle.std.specs.Prelude.{◌≡◌, ℕ, ◌*◌, ◌<◌, Bool, true, false, List, [], ◌∷◌, length, filter, Option, Some, is_some}
-use Rattle.rs_attrs.specs.declared.reading.two.RawSegment.{RawSegment}
+use Rattle.std.specs.Prelude.{◌≡◌, ℕ, ◌*◌, ◌<◌, ◌==◌, Bool, true, false, List, [], ◌∷◌, length, filter, Option, Some, None, is_some}
+use Rattle.rs_attrs.specs.declared.segments.RawSegment.{RawSegment}
 use Rattle.rs_attrs.specs.Spellings.{Spelling}
 use Rattle.rs_attrs.specs.Paths.{Segment, AsSize, octets_each, numbers_in, segments_of, or_none, is_set_or_sequence}
 use Rattle.rs_attrs.specs.Walking.{segment_kinds}
@@ -26,6 +26,11 @@ pub record IsCut (size : AsSize) (confederations : Bool) (path : List ℕ) (s : 
   pub octets : length s.numbers.now ≡ octets_each size * s.count
   pub whole : IsWhole size confederations s.rest.now
   pub segments : segments_in size confederations path ≡ segment_in size s ∷ segments_in size confederations s.rest.now
+
+-- whether the rest is a row of segments; with no segment at the front, whether no octet is left
+abbrev pub is_whole_behind : AsSize → Bool → List ℕ → Option RawSegment → Bool
+is_whole_behind size confederations value None = length value == 0
+is_whole_behind size confederations value (Some s) = is_some (segments_of size (segment_kinds confederations) s.rest.now)
 
 -- AS4_PATH's value, where it is there and not ignored
 abbrev pub as4_value : Bool → Option Spelling → List ℕ

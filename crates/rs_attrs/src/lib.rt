@@ -9,10 +9,11 @@
 //! - `reading` and its folder: `field` takes a field apart, `values` judges each attribute by the
 //!   table, `gathering` keeps what counts, `two` puts AS4_PATH and AS4_AGGREGATOR in their places.
 //! - `faults` says what is wrong with a field, for the UPDATE and for the operator.
-//! - `attrs` says how attributes lie in memory; `getters`, `segments` and `stripping` ask and change
-//!   them.
-//! - `writing` and its folder: `head` spells what stands before a value, `narrow` is for two-octet
-//!   peers.
+//! - `attrs` says how attributes lie in memory; `getters` and `stripping` ask and change them.
+//! - `segments` takes a path apart, for AS numbers in two octets and in four.
+//! - `writing` and its folder: `parts` is the list of what is to be written, by rising type, which
+//!   `size` counts and `write_into` writes; `head` spells what stands before a value, `narrow` the
+//!   values for two-octet peers.
 //! - `laws` are contracts of functions that do nothing.
 #![tactic(auto)]
 

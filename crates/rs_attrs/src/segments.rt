@@ -1,13 +1,72 @@
 //! The segments of a path and the numbers in them, read from their octets as they are asked for.
+//!
+//! `first_segment` takes the segment off the front, for AS numbers in two or four octets; all that
+//! goes over a path goes by it.
 
-ghost use Rattle.std.specs.Prelude.{◌≡◌, ◌<◌, ◌*◌, ◌^◌, ◌==◌, true, length};
+ghost use Rattle.std.specs.Prelude.{◌≡◌, ℕ, ◌<◌, ◌≤◌, ◌+◌, ◌*◌, ◌^◌, ◌==◌, true, [], length, slice_index, is_some, MatchOption, IfSome};
 ghost use Rattle.std.specs.Iterator.{YieldsFirst, item_count};
 ghost use Rattle.std.specs.List.{list_any};
-ghost use Rattle.rs_attrs.specs.Paths.{four_octets, quads, segment_length, path_length, segment_origin};
-ghost use Rattle.rs_attrs.specs.Table.{is_path};
+ghost use Rattle.rs_attrs.specs.Paths.{four_octets, octets_each, quads, segments_of, segment_length, path_length, segment_origin};
+ghost use Rattle.rs_attrs.specs.Table.{is_path, size_in};
+ghost use Rattle.rs_attrs.specs.Walking.{segment_kinds};
+ghost use Rattle.rs_attrs.specs.Merging.{segments_in, is_whole_behind, IsWhole, IsCut};
 ghost use Rattle.rs_attrs.specs.Writing.{path_in, needs_four_octets};
 
+use crate::mode::Mode;
 use std::marker::Model;
+
+/// A segment as it stands at the front of a path, and what follows it.
+#[derive(Clone, Copy)]
+pub(crate) struct RawSegment<'a> {
+    pub(crate) kind: u8,
+    pub(crate) count: u8,
+    pub(crate) numbers: &'a [u8],
+    pub(crate) rest: &'a [u8],
+}
+
+/// How many octets an AS number has.
+pub(crate) fn number_size(mode: Mode) -> usize
+    ensures value { result ≡ octets_each (size_in mode) }
+    ensures most { result < 5 }
+{
+    match mode {
+        Mode::Two => 2,
+        Mode::Four => 4,
+    }
+}
+
+pub(crate) fn is_segment_kind(kind: u8, confederations: bool) -> bool
+    ensures { result ≡ segment_kinds confederations kind }
+{
+    kind == 1 || kind == 2 || confederations && (kind == 3 || kind == 4)
+}
+
+/// The segment at the front of octets, where a whole one of these kinds stands there.
+pub(crate) fn first_segment(path: &[u8], mode: Mode, confederations: bool) -> Option<RawSegment<'_>>
+    ensures whole { is_some (segments_of (size_in mode) (segment_kinds confederations) path.now) ≡ (is_whole_behind (size_in mode) confederations path.now result) }
+    ensures segment { IsWhole (size_in mode) confederations path.now → MatchOption result (segments_in (size_in mode) confederations path.now ≡ []) (λ s. IsCut (size_in mode) confederations path.now s) }
+    ensures shorter { IfSome result (λ s. length s.numbers.now + length s.rest.now + 2 ≤ length path.now) }
+    ensures octets { IfSome result (λ s. (i : ℕ) → slice_index s.numbers.now i < 256) }
+    ensures byte { IfSome result (λ s. s.count < 256) }
+{
+    if path.len() < 2 {
+        return None;
+    }
+    let kind = path[0];
+    let count = path[1];
+    let (_, behind) = path.split_at(2);
+    let size = number_size(mode) * usize::from(count);
+    if !is_segment_kind(kind, confederations) || count == 0 || behind.len() < size {
+        return None;
+    }
+    let (numbers, rest) = behind.split_at(size);
+    Some(RawSegment {
+        kind,
+        count,
+        numbers,
+        rest,
+    })
+}
 
 /// The numbers that octets spell, four octets each.
 #[derive(Debug, Drop)]
@@ -164,14 +223,11 @@ impl<'a> Iterator for Segments<'a> {
     ghost remaining = { item_count (λ segments. segments) };
 
     fn next(&mut self) -> Option<PathSegment<'a>> {
-        if self.octets.len() < 2 {
-            return None;
-        }
-        let kind = self.octets[0];
-        let count = self.octets[1];
-        let (_, behind) = self.octets.split_at(2);
-        let (numbers, rest) = behind.split_at(4 * usize::from(count));
-        self.octets = rest;
-        Some(PathSegment { kind, numbers })
+        let segment = first_segment(self.octets, Mode::Four, false)?;
+        self.octets = segment.rest;
+        Some(PathSegment {
+            kind: segment.kind,
+            numbers: segment.numbers,
+        })
     }
 }

@@ -93,7 +93,11 @@ fn push_left(
 }
 
 /// The attributes without the communities that are taken out. COMMUNITIES keeps its flags, and goes
-/// where no community is left. It fails only where memory is wanting.
+/// where no community is left.
+///
+/// # Errors
+///
+/// `AllocError` where memory was refused.
 pub fn stripped(alloc: Global, attrs: &Attrs, strip: &Strip<'_>) -> Result<Attrs, AllocError>
     ensures value { IfOk result (λ a. a ≡ stripped_of (lists_in strip.now) strip.now.all attrs.now) }
     ensures communities { IfOk result (λ a. communities_of a ≡ unstripped (lists_in strip.now) strip.now.all (communities_of attrs.now)) }

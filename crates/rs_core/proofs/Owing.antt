@@ -20,7 +20,7 @@ use Rattle.rs_packer.specs.Packed.{announcement, withdrawal}
 use Rattle.rs_packer.proofs.Announcing.{update_length}
 use Rattle.rs_packer.proofs.Withdrawing.{withdrawal_length}
 use Rattle.rs_outlet.specs.declared.answers.Speech.{Speech}
-use Rattle.rs_outlet.specs.Begins.{Settles, Rests, BeginsUpdate, is_among}
+use Rattle.rs_outlet.specs.Begins.{Settles, BeginsUpdate, is_among}
 use Rattle.rs_outlet.specs.Next.{note_octets}
 use Rattle.rs_outlet.specs.Views.{View}
 use Rattle.rs_octets.specs.PrefixOrder.{prefix_order_total, prefix_order_exact}
@@ -74,6 +74,11 @@ fewer {X} t p ps x e =
 -- nothing is there
 none_there : {X : Type 0} (t : FinMap prefix_order X) (p : Prefix) → fin.len t ≡ 0 → fin.get t p ≡ None
 none_there t p e = ap (λ m. fin.get m p) (fin.empty_of_len t e) ∙ fin.get-empty prefix_order p
+
+empty_len : {X : Type 0} (t : FinMap prefix_order X) → ((p : Prefix) → fin.get t p ≡ None) → fin.len t ≡ 0
+empty_len {X} t none =
+    ap fin.len (fin.same_map prefix_order_total prefix_order_exact t fin.empty (λ q. none q ∙ sym (fin.get-empty prefix_order q)))
+    ∙ fin.len-empty prefix_order X
 
 waits_are : (v w : View) (ps : List Prefix) → Settles v w ps → w.waits ≡ without v.waits ps
 waits_are v w ps s = fin.same_map prefix_order_total prefix_order_exact w.waits (without v.waits ps) (λ q. s.waits q ∙ sym (get_without v.waits ps q))
@@ -220,13 +225,13 @@ module _ (v w : View) (b : IsBegun v w) where
     by_note (Some note) e = ap (λ (x : View). x.flight) (b.note note empty e) ∙ no_length (note_octets note) (sym (ap (λ o. owed_behind o v.beat v.speech (fin.len v.waits)) e) ∙ behind)
     by_note None e = by_beat v.beat e refl
 
-  -- where nothing begins nothing is owed, if no UPDATE is left out of those that wait
-  pub none_begun : ((speech : Speech) → v.speech ≡ Some speech → Rests v w → fin.len v.waits ≡ 0) → w.flight ≡ [] → owed_by v ≡ 0
-  none_begun all none = by_flight v.flight refl where
-    by_update : (speech : Speech) → v.speech ≡ Some speech → BeginsUpdate speech v w → fin.len v.waits ≡ 0
-    by_update speech up (inl rests) = all speech up rests
-    by_update speech up (inr (inl gone)) = absurd (long_octets (withdrawal gone.prefixes) _ (withdrawal_length gone.prefixes) (sym gone.flight ∙ none))
-    by_update speech up (inr (inr news)) = absurd (announced_some speech news.attributes news.prefixes (sym news.flight ∙ none)) where
+  -- where nothing begins nothing is owed
+  pub none_begun : w.flight ≡ [] → owed_by v ≡ 0
+  none_begun none = by_flight v.flight refl where
+    by_update : (speech : Speech) → BeginsUpdate speech v w → fin.len v.waits ≡ 0
+    by_update speech (inl rests) = empty_len v.waits rests.none
+    by_update speech (inr (inl gone)) = absurd (long_octets (withdrawal gone.prefixes) _ (withdrawal_length gone.prefixes) (sym gone.flight ∙ none))
+    by_update speech (inr (inr news)) = absurd (announced_some speech news.attributes news.prefixes (sym news.flight ∙ none)) where
       announced_some : (speech : Speech) (m : List Attribute) (ps : List Prefix) → announcement m speech.mode ps ≡ [] → ⊥
       announced_some speech m ps e = let l = update_length (spelt m speech.mode) ps in let z : length (announcement m speech.mode ps) ≡ 0 = ap length e in omega (arith, l, z)
 
@@ -234,7 +239,7 @@ module _ (v w : View) (b : IsBegun v w) where
     by_speech None empty quiet silent e = owed_is v None false None quiet silent e ∙ ap (λ f. length f + 0) empty
     by_speech (Some speech) empty quiet silent e =
         owed_is v None false (Some speech) quiet silent e
-        ∙ (λ i. length (empty i) + (0 + by_update speech e (b.begins speech empty quiet silent e) i * limit_octets speech.limit))
+        ∙ (λ i. length (empty i) + (0 + by_update speech (b.begins speech empty quiet silent e) i * limit_octets speech.limit))
         ∙ twice_zero (0 * limit_octets speech.limit) ∙ (let z : 0 * limit_octets speech.limit ≡ 0 = omega arith in z)
 
     by_beat : (d : Bool) → v.flight ≡ [] → v.note ≡ None → v.beat ≡ d → owed_by v ≡ 0

@@ -2,7 +2,6 @@
 use Rattle.std.proofs.Common.{◌≡◌, ◌≢◌, inl, inr, ◌⊎◌, ℕ, ◌<◌, ◌≤◌, ◌+◌, true, false, List, length, refl, sym, ◌∙◌, ap, subst}
 use Rattle.std.specs.Prelude.{None, Some, slice_get}
 use Rattle.std.proofs.lemmas.Option.{slice_get_read}
-use Rattle.rs_outlet.specs.declared.answers.Speech.{Speech}
 use Rattle.rs_outlet.specs.Views.{View, bare}
 use Rattle.rs_outlet.specs.declared.answers.Last.TheVariants as lasts
 use Rattle.rs_core.specs.Moves.{Move, config_in}
@@ -17,7 +16,7 @@ use Rattle.rs_core.specs.declared.route_server.Core.{Core}
 use Rattle.rs_core.proofs.Lists.{equal_or}
 use Rattle.rs_core.proofs.Walks.{default_same}
 use Rattle.rs_core.proofs.Outgoing.{MovesOutlet, IsTakenFrom, lent_is, within}
-use Rattle.rs_core.proofs.Voicing.{spoken_up, up_live}
+use Rattle.rs_core.proofs.Voicing.{up_live}
 use Rattle.rs_core.proofs.Owing.{begun_owes, none_owed, none_begun, took_owes}
 
 -- in place of the outlet of a client that there is not
@@ -61,7 +60,7 @@ pub begun_owes_no_more : (c : ℕ) (old new : Core) → c < old.count → MovesO
 begun_owes_no_more c old new lt m = record {
   spares = moved_spares_owed c IsBegun old new lt m (λ v w b. ap (λ (x : View). x.touched) b.rest);
   none = λ e. lent_at new c now ∙ none_owed v w begun (sym (owed_is old c lt) ∙ e);
-  over = λ run h down none. owed_is old c lt ∙ none_begun v w begun (λ speech up rests. absurd (unspoken run h down speech up)) (sym (lent_at new c now) ∙ none);
+  all = λ none. owed_is old c lt ∙ none_begun v w begun (sym (lent_at new c now) ∙ none);
   owing = λ run h up. subst (λ n. n ≤ owed old c) (sym (owed_is new c now)) (subst (λ n. owed_by w ≤ n) (sym (owed_is old c lt)) (begun_owes v w begun (quiet run h up)));
 } where
   v : View
@@ -75,11 +74,6 @@ begun_owes_no_more c old new lt m = record {
 
   begun : IsBegun v w
   begun = m.outlet.own nobody (within old c lt)
-
-  unspoken : (run : List Move) → Agrees old run → is_established run c ≡ false → (speech : Speech) → v.speech ≡ Some speech → ⊥
-  unspoken run h down speech up =
-      let there = spoken_up (config_in run) c (hearing c run) speech (sym ((h.clients c lt).knows.outlet h.config nobody).speech ∙ up) in
-      let f : true ≡ false = sym there ∙ down in cc
 
   quiet : (run : List Move) → Agrees old run → is_established run c ≡ true → v.note ≡ None
   quiet run h up = ((h.clients c lt).knows.outlet h.config nobody).quiet (up_live (config_in run) c (hearing c run) up)

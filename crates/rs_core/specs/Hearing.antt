@@ -23,7 +23,7 @@ use Rattle.rs_session.specs.declared.act.State.TheVariants as states
 use Rattle.rs_session.specs.declared.settings.Settings.{Settings}
 use Rattle.rs_session.specs.Items as items
 use Rattle.rs_session.specs.Items.{Item}
-use Rattle.rs_session.specs.Sessions.{state_of, is_live, is_request, agreed_mode, agreed_limit, agreed_identifier}
+use Rattle.rs_session.specs.Sessions.{state_of, is_live, is_request, agreed_hold, agreed_mode, agreed_limit, agreed_identifier}
 use Rattle.rs_policy.specs.Configuration.{Configuration, client_of}
 use Rattle.rs_core.specs.Points.{Point, Value, Decided, Offered, asked_if}
 
@@ -75,6 +75,10 @@ mode_in s c h = if is_up (state_in s c h) then agreed_mode (session_in s c) h.it
 -- how long a message to a client that is Established may be (RFC 8654, 4)
 abbrev pub limit_in : Configuration → ℕ → Hearing → Option Limit
 limit_in s c h = if is_up (state_in s c h) then Some (agreed_limit (session_in s c) h.items) else None
+
+-- the Hold Time used with a client that is Established, in seconds; 0 for none (RFC 4271, 4.2)
+abbrev pub hold_in : Configuration → ℕ → Hearing → Option ℕ
+hold_in s c h = if is_up (state_in s c h) then agreed_hold (session_in s c) h.items else None
 
 -- the BGP Identifier of a client that is Established (RFC 4271, 4.2)
 abbrev pub identifier_in : Configuration → ℕ → Hearing → ℕ

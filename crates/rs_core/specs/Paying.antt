@@ -1,5 +1,5 @@
 -- What messages that begin, and octets that are taken, make of what is owed to clients.
-use Rattle.std.specs.Prelude.{◌≡◌, ◌≢◌, ◌<◌, ◌≤◌, ◌+◌, ◌==◌, ℕ, true, false, List, [], ◌∷◌, take, if◌then◌else◌}
+use Rattle.std.specs.Prelude.{◌≡◌, ◌≢◌, ◌<◌, ◌≤◌, ◌+◌, ◌==◌, ℕ, true, List, [], ◌∷◌, take, if◌then◌else◌}
 use Rattle.rs_core.specs.Moves.{Move, Began, Took}
 use Rattle.rs_core.specs.Runs.{is_established}
 use Rattle.rs_core.specs.Agreeing.{Agrees}
@@ -11,12 +11,12 @@ pub record SparesOwed (c : ℕ) (old new : Core) : Type 0 where
   pub others : (d : ℕ) → d < client_count old → d ≢ c → owed new d ≡ owed old d
   pub decided : (d : ℕ) → d < client_count old → is_decided new d ≡ is_decided old d
 
--- the next message to a client began where none was in flight, and none did where nothing was owed; where none did for a client
--- that is not Established, nothing was owed; to an Established client no more is owed than before
+-- the next message to a client began where none was in flight: nothing is in flight then just where nothing was owed; to an
+-- Established client no more is owed than before
 pub record OwesNoMore (c : ℕ) (old new : Core) : Type 0 where
   pub spares : SparesOwed c old new
   pub none : owed old c ≡ 0 → lent_octets new c ≡ []
-  pub over : (run : List Move) → Agrees old run → is_established run c ≡ false → lent_octets new c ≡ [] → owed old c ≡ 0
+  pub all : lent_octets new c ≡ [] → owed old c ≡ 0
   pub owing : (run : List Move) → Agrees old run → is_established run c ≡ true → owed new c ≤ owed old c
 
 -- so many octets of it were taken, and so many fewer are owed

@@ -36,7 +36,7 @@ pub record IsTouchedWhereHeld (ins : AdjIns) (c : ℕ) (old new : View) : Type 0
 pub record IsAskedAgain (old new : View) : Type 0 where
   pub rest : new ≡ record old { told = new.told; marked = new.marked; waits = new.waits }
   pub told : new.told ≡ old.told
-  pub marked : WaitsAreExact old → (p : Prefix) → set.contains new.marked p ≡ map.contains_key old.told p
+  pub marked : (p : Prefix) → set.contains new.marked p ≡ map.contains_key old.told p
   pub exact : WaitsAreExact old → WaitsAreExact new
 
 -- where nothing was in flight the next message was begun: a NOTIFICATION that waited, a KEEPALIVE that was due, or an UPDATE

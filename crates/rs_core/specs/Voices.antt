@@ -90,7 +90,7 @@ pub record TellsAgain (v w : View) : Type 0 where
   pub note : w.note ≡ v.note
   pub loc : w.loc ≡ v.loc
   pub told : w.told ≡ v.told
-  pub marked : IsInOrder v → (p : Prefix) → set.contains w.marked p ≡ fin.contains_key v.told p
+  pub marked : (p : Prefix) → set.contains w.marked p ≡ fin.contains_key v.told p
   pub order : IsInOrder v → IsInOrder w
 
 -- this OPEN is in flight, and nothing else

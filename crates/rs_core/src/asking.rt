@@ -34,7 +34,7 @@ ghost use Rattle.rs_core.specs.Hearing.{is_up, is_closing};
 impl Core {
     ghost use Rattle.rs_core.specs.Core.{client_count, is_refusal, is_refused, last_of, lent_octets, owed, is_decided};
     ghost use Rattle.rs_core.specs.Moves.{Move, Began, config_in};
-    ghost use Rattle.rs_core.specs.Hearing.{Hearing, state_in, mode_in, limit_in};
+    ghost use Rattle.rs_core.specs.Hearing.{Hearing, state_in, hold_in, mode_in, limit_in};
     ghost use Rattle.rs_core.specs.Runs.{hearing, is_established, IsServed};
     ghost use Rattle.rs_core.specs.Agreeing.{Agrees, Knows};
     ghost use Rattle.rs_core.specs.InTurn.{IsAnswered};
@@ -105,12 +105,13 @@ impl Core {
         }
     }
 
-    /// The Hold Time of a client that is Established, in seconds; 0 for none (RFC 4271, 4.2).
+    /// The Hold Time used with a client that is Established, in seconds; 0 for none (RFC 4271, 4.2).
     pub fn hold(&self, c: usize) -> Option<u16>
         requires { c < client_count self.now }
+        ensures { (run : List Move) → Agrees self.now run → result ≡ hold_in (config_in run) c (hearing c run) }
     {
-        if self.is_established(c) {
-            Some(self.ribs.config.hold().min(self.watched[c].hold))
+        if self.is_up(c) {
+            self.sessions[c].hold()
         } else {
             None
         }

@@ -64,8 +64,6 @@ pub struct FaultedUpdates {
 /// What is kept of a client for those who watch.
 #[derive(Clone, Copy, Debug)]
 pub(crate) struct Watched {
-    /// The Hold Time that the client's last OPEN asked for.
-    pub(crate) hold: u16,
     pub(crate) ending: Option<Ending>,
     pub(crate) faulted: FaultedUpdates,
 }
@@ -73,7 +71,6 @@ pub(crate) struct Watched {
 impl Watched {
     /// Of a client that had no session yet.
     pub(crate) const NONE: Watched = Watched {
-        hold: 0,
         ending: None,
         faulted: FaultedUpdates {
             count: 0,

@@ -1,9 +1,22 @@
-//! The route server (RFC 7947): sessions, Adj-RIBs-In and outlets of all clients. Each event is one
-//! call.
+//! The route server (RFC 7947): sessions, Adj-RIBs-In and outlets of all clients. Each event is
+//! one call.
 //!
 //! Octets come in by `octets`, are cut into messages and heard by the client's session; an UPDATE
-//! changes the Adj-RIBs-In and touches every other client's outlet. A turn decides what is touched.
-//! What is due goes out by `writable`. Nothing calls back up. `drive` makes these calls for a link.
+//! changes the Adj-RIBs-In and touches every other client's outlet. A turn decides what is
+//! touched. What is due goes out by `writable`. Nothing calls back up. `drive` makes these calls
+//! for a link.
+//!
+//! - `route_server` has the parts of the `Core`, `making` the first one, `ribs` the RIBs of all
+//!   clients.
+//! - Octets: `connections` are opened and lost; `hearing` cuts what comes; `sessions` hear
+//!   messages and `updates` the UPDATEs; `learning` puts routes into the Adj-RIBs-In and touches
+//!   the outlets.
+//! - Turns: `turning` decides what is touched, and `sweeping` gives up numbers that nobody uses.
+//! - Out: `sayings` begins messages, `sending` lends octets and hears how many were taken;
+//!   `endings` say why a session ended.
+//! - `rules` puts another configuration in; `asking` is what a caller can ask.
+//! - `driving` drives all this by a link of `links`; `laws` are contracts of functions that do
+//!   nothing.
 #![tactic(auto, unfolding(crate::specs::Core::client_count, crate::specs::Core::lent_octets))]
 
 mod asking;

@@ -6,17 +6,9 @@ ghost use Rattle.rs_octets.specs.Headers.{least_length};
 use crate::endings::{Ending, Notice};
 use crate::route_server::Core;
 use rs_octets::Kind;
-use rs_open::{AddressFamily, Open, OpenFault, Short, read_open, read_refresh};
+use rs_open::{AddressFamily, Short, read_open, read_refresh};
 use rs_session::{Act, Heard};
 use std::alloc::AllocError;
-
-/// The Hold Time that a good OPEN asks for, or else the one before.
-fn hold_of(open: Result<Open, OpenFault>, before: u16) -> u16 {
-    match open {
-        Ok(Open { hold, .. }) => hold,
-        Err(_) => before,
-    }
-}
 
 impl Core {
     ghost use Rattle.rs_core.specs.Core.{client_count};
@@ -61,9 +53,7 @@ impl Core {
         ensures buffers { self.new.buffers ≡ self.old.buffers }
         ensures heard { Hears Kind.Open body.now c self.old self.new }
     {
-        let open = read_open(body);
-        self.watched[c].hold = hold_of(open, self.watched[c].hold);
-        self.say(c, Heard::Open(open));
+        self.say(c, Heard::Open(read_open(body)));
     }
 
     /// A NOTIFICATION (RFC 4271, 4.5).

@@ -1,6 +1,9 @@
-//! Worked examples of a small exchange, by calls of the core.
+//! Worked examples of a small exchange, by calls of the core and over a link in memory.
 
+mod cycling;
+mod driving;
 mod exchange;
+mod link;
 mod routes;
 mod sessions;
 mod turns;

@@ -7,7 +7,7 @@ use Rattle.std.proofs.lemmas.List.Sorted.{Contains-permutation, IsPermutation-sy
 use Rattle.rs_decision.specs.declared.rank.Rank.{Rank}
 use Rattle.rs_decision.specs.Choice.{med_of, by_preference, by_path, by_origin, by_med, by_identifier, by_address, by_place, best_of}
 use Rattle.rs_decision.specs.Best.{HasDistinctPlaces, IsLevel, HasLowestMed, IsUnbeaten, BestIsUnbeaten, BestIgnoresOrder}
-use Rattle.rs_decision.proofs.Members.{Has, has, contains, Apart, apart, only}
+use Rattle.rs_octets.proofs.Members.{Has, has, contains, ApartBy, apart_by, only}
 use Rattle.rs_decision.proofs.Filters.{from_unbeaten, to_unbeaten, unbeaten_apart, lowest_is_least, least_is_lowest, lowest_in, lowest_same, lowest_joins, highest_is_greatest, greatest_is_highest, highest_in, highest_same, highest_joins}
 
 abbrev preference : Rank → ℕ
@@ -129,14 +129,14 @@ unbeaten_is_left ranks b u =
     let up : Has (by_med ranks) y = lowest_in identifier (by_med ranks) y at in
     u.place y (member y up) (same y up) (med_is_lowest ranks y up) (lowest_same identifier (by_med ranks) b y at_identifier at) (lowest_same address (by_identifier ranks) b y at_address hy))
 
-all_apart : (ranks : List Rank) → HasDistinctPlaces ranks → Apart place (by_place ranks)
+all_apart : (ranks : List Rank) → HasDistinctPlaces ranks → ApartBy place (by_place ranks)
 all_apart ranks distinct =
     unbeaten_apart place _ (by_address ranks)
     (unbeaten_apart place _ (by_identifier ranks)
     (unbeaten_apart place _ (by_med ranks)
     (unbeaten_apart place _ (by_origin ranks)
     (unbeaten_apart place _ (by_path ranks)
-    (unbeaten_apart place _ (by_preference ranks) (unbeaten_apart place _ ranks (apart place ranks distinct)))))))
+    (unbeaten_apart place _ (by_preference ranks) (unbeaten_apart place _ ranks (apart_by place ranks distinct)))))))
 
 -- and alone, where no two have the same place
 pub unbeaten_is_only : (ranks : List Rank) (b : Rank) → HasDistinctPlaces ranks → IsUnbeaten ranks b → by_place ranks ≡ b ∷ []

@@ -11,7 +11,7 @@ use Rattle.rs_decision.specs.Best.{HasDistinctPlaces, IsOnlyOneLeft, IsLevel, Ha
 use Rattle.rs_decision.specs.Rank.{is_level, leads, has_lower_med, precedes, blank, rank_at}
 use Rattle.std.proofs.lemmas.Option.{slice_get_read}
 use Rattle.rs_decision.proofs.Chosen.{unbeaten_is_only}
-use Rattle.rs_decision.proofs.Members.{has, contains, any_false, none_of}
+use Rattle.rs_octets.proofs.Members.{has, contains, any_false, none_of}
 
 -- ---- lexicographic order: a last test behind a first key
 

@@ -5,7 +5,7 @@ use Rattle.std.specs.List.{list_any}
 use Rattle.std.proofs.lemmas.Bool.Decides.{nat_tests}
 use Rattle.rs_decision.specs.declared.rank.Rank.{Rank}
 use Rattle.rs_decision.specs.Choice.{unbeaten}
-use Rattle.rs_decision.proofs.Members.{Has, kept, keeps, any_false, none_of, Apart, apart_kept}
+use Rattle.rs_octets.proofs.Members.{Has, kept, keeps, any_false, none_of, ApartBy, apart_kept_by}
 
 pub not_below : (a b : ℕ) → b ≤ a → nat_lt a b ≡ false
 not_below a b h = grind (arith, nat_tests)
@@ -27,9 +27,9 @@ pub to_unbeaten : (better : Rank → Rank → Bool) (xs : List Rank) (x : Rank) 
 unfolding unbeaten
 to_unbeaten better xs x h none = keeps (λ r. not (list_any (λ y. better y r) xs)) xs x h (ap not (any_false (λ y. better y x) xs none))
 
-pub unbeaten_apart : (key : Rank → ℕ) (better : Rank → Rank → Bool) (xs : List Rank) → Apart key xs → Apart key (unbeaten better xs)
+pub unbeaten_apart : (key : Rank → ℕ) (better : Rank → Rank → Bool) (xs : List Rank) → ApartBy key xs → ApartBy key (unbeaten better xs)
 unfolding unbeaten
-unbeaten_apart key better xs all = apart_kept key (λ r. not (list_any (λ y. better y r) xs)) xs all
+unbeaten_apart key better xs all = apart_kept_by key (λ r. not (list_any (λ y. better y r) xs)) xs all
 
 -- ---- a filter by the lowest key
 

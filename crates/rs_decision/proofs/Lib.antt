@@ -1,4 +1,3 @@
-pub mod Members
 pub mod Filters
 pub mod Chosen
 pub mod Compared

@@ -2,6 +2,12 @@
 //!
 //! What comes in is the list of the candidates' ranks, what goes out is the place of the best one
 //! in that list. Nothing is kept between two calls, and no call takes memory.
+//!
+//! - `rank` is what the choice looks at in a route.
+//! - `choice` has the call, `best`: filters over the whole list, in the order of the standard's
+//!   steps.
+//! - `laws` are contracts of functions that do nothing: the best is unbeaten, and the order of the
+//!   list doesn't matter.
 #![tactic(auto)]
 
 mod choice;

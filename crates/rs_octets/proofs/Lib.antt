@@ -9,3 +9,4 @@ pub mod Pieces
 pub mod PrefixLemmas
 pub mod Rows
 pub mod Writing
+pub mod Members

@@ -1,5 +1,14 @@
-//! OPEN and the short messages: what a peer's OPEN says, the octets of ours, and what a ROUTE-REFRESH
-//! asks for.
+//! OPEN and the short messages (RFC 4271, 4.2, 4.4 and 4.5).
+//!
+//! The body of a peer's OPEN comes in, and out goes what it says or its first fault; so for the
+//! body of a ROUTE-REFRESH. What a session says by itself comes in, and out go the octets of our
+//! OPEN, KEEPALIVE or NOTIFICATION.
+//!
+//! - `open` says what an OPEN is and what can be wrong with one; `reading` reads it by `triples`,
+//!   of which parameters and capabilities are made; `codes` has their numbers.
+//! - `refresh` reads a ROUTE-REFRESH.
+//! - `short` has the messages that a session says by itself, `writing` their octets.
+//! - `laws` are contracts of functions that do nothing.
 #![tactic(auto)]
 
 mod codes;

@@ -14,7 +14,7 @@ use Rattle.rs_outlet.specs.Views.{Table, View, WaitsAreExact}
 use Rattle.rs_outlet.specs.Views as views
 use Rattle.rs_outlet.specs.Places.{open_at, told_of, told_by, marked_told, is_withdrawal}
 use Rattle.rs_outlet.specs.Inside.{told_over, marked_of, waits_of}
-use Rattle.rs_outlet.specs.Marking.{AreDueAt, MayWaitAgain, is_told}
+use Rattle.rs_outlet.specs.Marking.{MayWaitAgain, is_told}
 use Rattle.rs_outlet.proofs.Orders.{prefixes_total, exact_prefixes}
 use Rattle.rs_outlet.proofs.Standing.{told_at, marked_at, waits_at}
 
@@ -78,11 +78,6 @@ marks due was None h all = none_due due all ∙ sym (ap (λ o. is_some (told_by 
 marks due None (Some z) h all = λ i. h.3 i && is_some (told_of (h.2 i) due)
 marks due (Some w) (Some z) h all = (λ i. h.2 i && is_some (told_of (h.1 i) due)) ∙ told_part w.told due
 
-due_waits : (due t : Option (List Attribute)) (k : Bool) → Some false ≡ views.waits_at due t k → IsSome due
-due_waits None None k h = absurd (cc)
-due_waits None (Some m) k h = absurd (cc)
-due_waits (Some d) t k h = refl
-
 module _ (loc : Table) (ws zs : List Wait) (again : (q : Prefix) → MayWaitAgain (fin.get loc q) (open_at q ws) (open_at q zs)) where
   pub told_again : told_over loc zs ≡ told_over loc ws
   told_again = fin.same_map prefixes_total exact_prefixes (told_over loc zs) (told_over loc ws) (λ q. told_at loc zs q ∙ told_so (fin.get loc q) (open_at q ws) (open_at q zs) (again q) ∙ sym (told_at loc ws q))
@@ -97,18 +92,10 @@ module _ (loc : Table) (ws zs : List Wait) (again : (q : Prefix) → MayWaitAgai
   pub marked_all : ((q : Prefix) → IsSome (fin.get loc q) → IsSome (open_at q zs)) → (q : Prefix) → set.contains (marked_of loc zs) q ≡ is_some (fin.get (told_over loc ws) q)
   marked_all all q = marked_at loc zs q ∙ marks (fin.get loc q) (open_at q ws) (open_at q zs) (again q) (all q) ∙ sym (ap is_some (told_at loc ws q))
 
-  exact_before : (v : View) → loc ≡ v.loc → told_over loc ws ≡ v.told → marked_of loc ws ≡ v.marked → waits_of ws ≡ v.waits → WaitsAreExact v → (q : Prefix) → IsExact (fin.get loc q) (open_at q ws)
-  exact_before v a b c d exact q =
-      sym (waits_at ws q) ∙ ap (λ t. fin.get t q) d ∙ exact q
-      ∙ sym (λ i. views.waits_at (fin.get (a i) q) (fin.get (b i) q) (set.contains (c i) q))
-      ∙ by_place ws q
-
-  pub due_before : (v : View) → loc ≡ v.loc → told_over loc ws ≡ v.told → marked_of loc ws ≡ v.marked → waits_of ws ≡ v.waits → WaitsAreExact v → AreDueAt loc ws
-  due_before v a b c d exact q w at no_withdrawal =
-      due_waits (fin.get loc q) (told_by (open_at q ws) (fin.get loc q)) (marked_told (open_at q ws) (fin.get loc q))
-      (ap (λ x. Some x) (sym no_withdrawal) ∙ sym (ap (option_map (λ (w : Wait). is_withdrawal w.due)) at) ∙ exact_before v a b c d exact q)
-
   pub exact_again : (v : View) → loc ≡ v.loc → told_over loc ws ≡ v.told → marked_of loc ws ≡ v.marked → waits_of ws ≡ v.waits → WaitsAreExact v → (q : Prefix) → seen zs q
   exact_again v a b c d exact q =
-      let was = exact_before v a b c d exact q in
+      let was : IsExact (fin.get loc q) (open_at q ws) =
+      sym (waits_at ws q) ∙ ap (λ t. fin.get t q) d ∙ exact q
+      ∙ sym (λ i. views.waits_at (fin.get (a i) q) (fin.get (b i) q) (set.contains (c i) q))
+      ∙ by_place ws q in
       waits_at zs q ∙ exact_so (fin.get loc q) (open_at q ws) (open_at q zs) (again q) was ∙ sym (by_place zs q)

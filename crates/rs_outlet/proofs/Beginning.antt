@@ -1,6 +1,6 @@
 -- What an UPDATE leaves with the client, by the places that it gave up.
 use Rattle.std.proofs.Common.{◌≡◌, ◌≢◌, ◌<◌, ◌≤◌, ℕ, Bool, true, false, cond, not, ◌&&◌, Option, None, Some, List, [], ◌∷◌, length, take, refl, sym, ap, ◌∙◌, subst, arith, inl, inr}
-use Rattle.std.specs.Prelude.{◌⊎◌, option_map}
+use Rattle.std.specs.Prelude.{◌⊎◌, is_none, option_map}
 use Rattle.std.specs.List.{AllByRecursion, list_any}
 use Rattle.std.specs.Cmp.{first_so}
 use mathlib.Core.Bool.{true≢false}
@@ -8,7 +8,7 @@ use Rattle.std.proofs.lemmas.List.Elements.{All-from_all_within, recursion_from_
 use Rattle.std.specs.FinMap as fin
 use Rattle.std.specs.FinSet as set
 use Rattle.std.proofs.lemmas.List.{length-take, length-take-le}
-use Rattle.rs_octets.specs.Prefixes.{Prefix, IsIpv4Prefix}
+use Rattle.rs_octets.specs.Prefixes.{Prefix, IsIpv4Prefix, prefix_order}
 use Rattle.rs_attrs.specs.Meaning.{Attribute}
 use Rattle.rs_adjin.specs.declared.adj_ins.AdjIns.{AdjIns}
 use Rattle.rs_adjin.specs.AdjIns.{number_of}
@@ -18,10 +18,12 @@ use Rattle.rs_outlet.specs.declared.answers.Speech.{Speech}
 use Rattle.rs_outlet.specs.declared.rows.Row.{Row}
 use Rattle.rs_outlet.specs.declared.waiting.Wait.{Wait}
 use Rattle.rs_outlet.specs.Views.{View, AreNumbered, HaveNumbers}
-use Rattle.rs_outlet.specs.Places.{open_at, told_by, marked_told, is_withdrawal, is_withdrawn}
-use Rattle.rs_outlet.specs.Inside.{told_over, marked_of, waits_of, loc_of, numbers_from, shown}
-use Rattle.rs_outlet.specs.Choosing.{AreChosen, IsInTurn, IsLegalSaid, NoneWithdrawn, message_of, MayUpdate}
-use Rattle.rs_outlet.specs.Begins.{NoneGone, Settles, Withdraws, Announces, BeginsUpdate}
+use Rattle.rs_outlet.specs.Places.{open_at, prefixes_at, told_by, marked_told, is_withdrawal, is_withdrawn}
+use Rattle.rs_outlet.specs.Inside.{AreBacked, told_over, marked_of, waits_of, loc_of, numbers_from, shown}
+use Rattle.std.specs.List.Sorted.{IsStrictlySortedBy}
+use Rattle.rs_outlet.proofs.Rising.{least_chosen, prefixes_rise, rise_take}
+use Rattle.rs_outlet.specs.Choosing.{AreChosen, IsFirst, IsInTurn, Rise, IsLegalSaid, NoneWithdrawn, message_of, MayUpdate}
+use Rattle.rs_outlet.specs.Begins.{AreLeastFirst, NoneGone, Settles, Withdraws, Announces, BeginsUpdate}
 use Rattle.rs_adjin.proofs.Rows.{some_is}
 use Rattle.rs_outlet.proofs.LocByNumber.{same, numbered, by_number}
 use Rattle.rs_outlet.proofs.Chosen.{first_chosen}
@@ -91,7 +93,7 @@ pub record Shows (v : View) (rows : List (Option Row)) (ws : List Wait) : Type 0
   pub waits : v.waits ≡ waits_of ws
   pub numbers : (ins : AdjIns) → AreNumbered v ins → HaveNumbers (numbers_from 0 rows) ins
 
-module _ (speech : Speech) (v w : View) (rows : List (Option Row)) (ws ws' : List Wait) (old : Shows v rows ws) (new : Shows w rows ws') where
+module _ (speech : Speech) (v w : View) (rows : List (Option Row)) (ws ws' : List Wait) (old : Shows v rows ws) (new : Shows w rows ws') (up : IsStrictlySortedBy prefix_order (prefixes_at ws)) where
   settled : (ps : List Prefix) → ((q : Prefix) → open_at q ws' ≡ cond (list_any (same q) ps) None (open_at q ws)) → Settles v w ps
   settled ps is = record {
     told = λ q.
@@ -112,21 +114,28 @@ module _ (speech : Speech) (v w : View) (rows : List (Option Row)) (ws ws' : Lis
   some_taken : (n : ℕ) (ps : List Prefix) → 0 < n → n ≤ length ps → 0 < length (take n ps)
   some_taken n ps some within = omega (arith, length-take-le n ps within, some)
 
+  in_order : (said : Option (List Attribute)) (k : ℕ) (ns : List ℕ) (ps : List Prefix) → Rise ns → IsFirst said ws ns → AreChosen rows ws said (take k ns) (take k ps) → AreLeastFirst (λ q. fin.get v.waits q ≡ Some (is_none said)) (take k ps)
+  in_order said k ns ps rise first are = record {
+    rising = prefixes_rise rows ws up said (take k ns) (take k ps) (rise_take k ns rise) are;
+    least = λ p q head waits. least_chosen rows ws said k ns ps up first are p q head (sym (ap (λ t. fin.get t q) old.waits ∙ waits_at ws q) ∙ waits);
+  }
+
   begun : (ns : List ℕ) (ps : List Prefix) (packed : Packed) (said : Option (List Attribute))
       → ((said : Option (List Attribute)) (qs : List Prefix) → AreChosen rows ws said (take packed.prefixes ns) qs → (q : Prefix) → open_at q ws' ≡ cond (list_any (same q) qs) None (open_at q ws))
-      → AreChosen rows ws said ns ps → IsLegalSaid said → IsInTurn said ws → length w.flight ≤ limit_octets speech.limit → 0 < packed.prefixes → packed.prefixes ≤ length ps → w.flight ≡ message_of speech said (take packed.prefixes ps) → Withdraws speech v w ⊎ Announces speech v w
-  begun ns ps packed None gave are legal in_turn fits some within flight =
+      → Rise ns → IsFirst said ws ns → AreChosen rows ws said ns ps → IsLegalSaid said → IsInTurn said ws → length w.flight ≤ limit_octets speech.limit → 0 < packed.prefixes → packed.prefixes ≤ length ps → w.flight ≡ message_of speech said (take packed.prefixes ps) → Withdraws speech v w ⊎ Announces speech v w
+  begun ns ps packed None gave rise first are legal in_turn fits some within flight =
       let some_chosen = first_chosen rows ws None packed.prefixes ns ps are in
       inl (record {
         prefixes = take packed.prefixes ps;
         some = some_taken packed.prefixes ps some within;
         prefixes_legal = chosen_legal rows ws None (take packed.prefixes ns) (take packed.prefixes ps) some_chosen;
         waited = subst (λ t. AllByRecursion (λ p. fin.get t p ≡ Some true) (take packed.prefixes ps)) (sym old.waits) (waited_withdrawn rows ws (take packed.prefixes ns) (take packed.prefixes ps) some_chosen);
+        order = in_order None packed.prefixes ns ps rise first some_chosen;
         settles = settled (take packed.prefixes ps) (gave None (take packed.prefixes ps) some_chosen);
         flight = flight;
         fits = fits;
       })
-  begun ns ps packed (Some m) gave are legal in_turn fits some within flight =
+  begun ns ps packed (Some m) gave rise first are legal in_turn fits some within flight =
       let some_chosen = first_chosen rows ws (Some m) packed.prefixes ns ps are in
       inr (record {
         gone = none_gone v ws old.waits in_turn;
@@ -136,6 +145,7 @@ module _ (speech : Speech) (v w : View) (rows : List (Option Row)) (ws ws' : Lis
         prefixes_legal = chosen_legal rows ws (Some m) (take packed.prefixes ns) (take packed.prefixes ps) some_chosen;
         legal = legal;
         waited = subst (λ t. AllByRecursion (λ p. fin.get t p ≡ Some false) (take packed.prefixes ps)) (sym old.waits) (waited_announced rows ws m (take packed.prefixes ns) (take packed.prefixes ps) some_chosen);
+        order = in_order (Some m) packed.prefixes ns ps rise first some_chosen;
         due = λ ins are_numbered. subst (λ t. AllByRecursion (λ p. fin.get t p ≡ Some m) (take packed.prefixes ps)) (sym old.loc) (rows_due rows ws m ins (old.numbers ins are_numbered) (take packed.prefixes ns) (take packed.prefixes ps) some_chosen);
         settles = settled (take packed.prefixes ps) (gave (Some m) (take packed.prefixes ps) some_chosen);
         flight = flight;
@@ -146,19 +156,33 @@ module _ (speech : Speech) (v w : View) (rows : List (Option Row)) (ws ws' : Lis
       → ((said : Option (List Attribute)) (qs : List Prefix) → AreChosen rows ws said (take packed.prefixes ns) qs → (q : Prefix) → open_at q ws' ≡ cond (list_any (same q) qs) None (open_at q ws))
       → BeginsUpdate speech v w
   update_begun ns ps octets packed (inl none) most flight gave = inl (record {
-    gone = none_gone v ws old.waits none.1;
+    none = λ p. ap (λ t. fin.get t p) old.waits ∙ waits_at ws p ∙ ap (option_map (λ (w : Wait). is_withdrawal w.due)) (none.1 p);
     settles = settled [] (gave None [] (subst (λ (k : Packed). AreChosen rows ws None (take k.prefixes ns) []) (sym none.0) tt));
     flight = flight ∙ ap (λ (k : Packed). take k.octets octets) none.0;
   })
   update_begun ns ps octets packed (inr is) most flight gave =
       let taken : length w.flight ≤ limit_octets speech.limit = omega (arith, ap length flight, length-take packed.octets octets, most) in
-      inr (begun ns ps packed is.said gave is.chosen is.legal is.in_turn taken is.written.some is.written.within (flight ∙ is.written.says))
+      inr (begun ns ps packed is.said gave is.rise is.first is.chosen is.legal is.in_turn taken is.written.some is.written.within (flight ∙ is.written.says))
+
+-- what waits still has its row
+left_open : (b : Bool) (o : Option Wait) (w : Wait) → cond b None o ≡ Some w → o ≡ Some w
+left_open true o w e = absurd (let f : ◌≡◌ {A = Option Wait} None (Some w) = e in cc)
+left_open false o w e = e
+
+pub backed_left : (speech : Speech) (rows : List (Option Row)) (ws ws' : List Wait) (ns : List ℕ) (ps : List Prefix) (octets : List ℕ) (packed : Packed) → MayUpdate speech rows ws ns ps octets packed
+    → ((said : Option (List Attribute)) (qs : List Prefix) → AreChosen rows ws said (take packed.prefixes ns) qs → (q : Prefix) → open_at q ws' ≡ cond (list_any (same q) qs) None (open_at q ws))
+    → AreBacked rows ws → AreBacked rows ws'
+backed_left speech rows ws ws' ns ps octets packed (inl none) gave backed q w is =
+    backed q w (sym (gave None [] (subst (λ (k : Packed). AreChosen rows ws None (take k.prefixes ns) []) (sym none.0) tt) q) ∙ is)
+backed_left speech rows ws ws' ns ps octets packed (inr update) gave backed q w is =
+    let qs = take packed.prefixes ps in
+    backed q w (left_open (list_any (same q) qs) (open_at q ws) w (sym (gave update.said qs (first_chosen rows ws update.said packed.prefixes ns ps update.chosen) q) ∙ is))
 
 -- the same of what callers saw before
-pub update_seen : (speech spoken : Speech) (v v' w : View) (rows : List (Option Row)) (ws ws' : List Wait) → v ≡ v' → Some speech ≡ Some spoken → Shows v rows ws → Shows w rows ws'
+pub update_seen : (speech spoken : Speech) (v v' w : View) (rows : List (Option Row)) (ws ws' : List Wait) → v ≡ v' → Some speech ≡ Some spoken → IsStrictlySortedBy prefix_order (prefixes_at ws) → Shows v rows ws → Shows w rows ws'
     → (ns : List ℕ) (ps : List Prefix) (octets : List ℕ) (packed : Packed) → MayUpdate speech rows ws ns ps octets packed → packed.octets ≤ limit_octets speech.limit → w.flight ≡ take packed.octets octets
     → ((said : Option (List Attribute)) (qs : List Prefix) → AreChosen rows ws said (take packed.prefixes ns) qs → (q : Prefix) → open_at q ws' ≡ cond (list_any (same q) qs) None (open_at q ws))
     → BeginsUpdate spoken v' w
-update_seen speech spoken v v' w rows ws ws' is same_speech old new ns ps octets packed may most flight gave =
+update_seen speech spoken v v' w rows ws ws' is same_speech up old new ns ps octets packed may most flight gave =
     subst (λ (x : View). BeginsUpdate spoken x w) is
-    (subst (λ s. BeginsUpdate s v w) (some_is speech spoken same_speech) (update_begun speech v w rows ws ws' old new ns ps octets packed may most flight gave))
+    (subst (λ s. BeginsUpdate s v w) (some_is speech spoken same_speech) (update_begun speech v w rows ws ws' old new up ns ps octets packed may most flight gave))

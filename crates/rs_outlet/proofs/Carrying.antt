@@ -8,6 +8,7 @@ use Rattle.rs_octets.specs.Prefixes.{Prefix}
 use Rattle.rs_attrs.specs.Meaning.{Attribute}
 use Rattle.rs_adjin.specs.declared.adj_ins.AdjIns.{AdjIns}
 use Rattle.rs_adjin.specs.AdjIns.{number_of}
+use Rattle.rs_outlet.specs.declared.rows.Row.{Row}
 use Rattle.rs_outlet.specs.declared.waiting.Wait.{Wait}
 use Rattle.rs_outlet.specs.declared.changes.Change.{Change}
 use Rattle.rs_outlet.specs.Inside.{ArePlaced, numbers_of}
@@ -109,9 +110,9 @@ none_more q ws fs none = ap (λ xs. open_at q (ws ++ xs)) none ∙ ap (open_at q
 
 -- ---- a change carried out
 
-module _ (c : Change) (was_due : Option (List Attribute)) (ws fs ws' fs' : List Wait) (h : IsCarriedOut c was_due ws fs ws' fs') where
+module _ (c : Change) (was_due : Option (List Attribute)) (rows : List (Option Row)) (ws fs ws' fs' : List Wait) (h : IsCarriedOut c was_due rows ws fs ws' fs') where
   -- what stands behind it, at its prefix and elsewhere
-  here : (q : Prefix) → same q c.prefix ≡ true → open_at q fs ≡ None → open_at q (ws' ++ fs') ≡ h.wait
+  pub here : (q : Prefix) → same q c.prefix ≡ true → open_at q fs ≡ None → open_at q (ws' ++ fs') ≡ h.wait
   unfolding first_of_two
   here q is none =
       open_both q ws' fs'
@@ -120,7 +121,7 @@ module _ (c : Change) (was_due : Option (List Attribute)) (ws fs ws' fs' : List 
       ∙ ap (λ o. first_of_two o (open_at q (listed h.wait))) none
       ∙ open_listed c.prefix q h.wait h.place ∙ ap (λ b. cond b h.wait None) is
 
-  apart : (q : Prefix) → same q c.prefix ≡ false → open_at q (ws' ++ fs') ≡ open_at q (ws ++ fs)
+  pub apart : (q : Prefix) → same q c.prefix ≡ false → open_at q (ws' ++ fs') ≡ open_at q (ws ++ fs)
   apart q is =
       let kept : open_at q fs' ≡ open_at q fs =
       ap (open_at q) h.added ∙ open_both q fs (listed h.wait)

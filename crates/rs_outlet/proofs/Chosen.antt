@@ -1,15 +1,23 @@
 -- Places chosen for a message: one more of them, and the first of them given up.
-use Rattle.std.proofs.Common.{◌≡◌, ◌+◌, ◌<◌, ◌≤◌, ℕ, zero, suc, Bool, true, false, cond, ◌&&◌, ◌||◌, Option, None, Some, List, [], ◌∷◌, ◌++◌, length, take, get_or, refl, sym, ap, ◌∙◌, subst, arith}
-use Rattle.std.specs.Prelude.{slice_get}
+use Rattle.std.proofs.Common.{◌≡◌, ◌+◌, ◌<◌, ◌≤◌, ℕ, zero, suc, Bool, true, false, cond, not, ◌&&◌, ◌||◌, Option, None, Some, List, [], ◌∷◌, ◌++◌, length, take, get_or, refl, sym, ap, ◌∙◌, subst, arith}
+use Rattle.std.specs.Prelude.{option_map, slice_get}
+use Rattle.std.proofs.lemmas.List.Elements.{All-from_all_within, recursion_from_All}
 use mathlib.Core.Bool.{true≢false}
-use Rattle.std.specs.List.{list_any}
+use Rattle.std.specs.List.{AllByRecursion, HoldsAt, list_any}
 use Rattle.std.specs.List.Sorted.{IsStrictlySortedBy}
 use Rattle.rs_octets.specs.Prefixes.{Prefix, IsIpv4Prefix, prefix_order}
 use Rattle.rs_attrs.specs.Meaning.{Attribute}
+use Rattle.std.specs.Arc.{arc_value}
+use Rattle.rs_open.specs.Notes.{limit_octets}
+use Rattle.rs_packer.specs.Packed.{announcement}
+use Rattle.rs_outlet.specs.declared.answers.Speech.{Speech}
+use Rattle.rs_outlet.specs.Inside.{AreBacked, FitsAlone, IsBacked, RowsFit, prefix_and_hash, row_by}
 use Rattle.rs_outlet.specs.declared.rows.Row.{Row}
+use Rattle.rs_outlet.specs.declared.waiting.Due.{Due}
+use Rattle.rs_outlet.specs.declared.waiting.Due.TheVariants as due
 use Rattle.rs_outlet.specs.declared.waiting.Wait.{Wait}
-use Rattle.rs_outlet.specs.Places.{prefixes_at, open_at, is_withdrawn, is_withdrawal}
-use Rattle.rs_outlet.specs.Choosing.{HasRow, IsChosen, AreChosen}
+use Rattle.rs_outlet.specs.Places.{prefixes_at, open_at, is_announced, is_withdrawn, is_withdrawal}
+use Rattle.rs_outlet.specs.Choosing.{HasRow, IsChosen, IsFound, AreChosen, NoneOpen, WaitsFor}
 use Rattle.rs_outlet.proofs.LocByNumber.{same}
 use Rattle.rs_outlet.proofs.Places.{prefix_at, found_at}
 
@@ -98,3 +106,75 @@ take_past zero [] h = refl
 take_past zero (x ∷ xs) h = absurd (omega (arith, h))
 take_past (suc n) [] h = refl
 take_past (suc n) (x ∷ xs) h = ap (λ ys. x ∷ ys) (take_past n xs (omega (arith, h)))
+
+-- the first prefix chosen for attributes fits beside them
+pub first_fits : (speech : Speech) (rows : List (Option Row)) (ws : List Wait) (m : List Attribute) (ns : List ℕ) (ps : List Prefix) → RowsFit speech rows → AreChosen rows ws (Some m) ns ps → 0 < length ps → length (announcement m speech.mode (take 1 ps)) ≤ limit_octets speech.limit
+first_fits speech rows ws m [] [] fit are some = absurd (omega (arith, some))
+first_fits speech rows ws m [] (p ∷ ps) fit are some = absurd are
+first_fits speech rows ws m (n ∷ ns) [] fit are some = absurd are
+first_fits speech rows ws m (n ∷ ns) (p ∷ ps) fit are some =
+    let r = are.0.is.1 in
+    subst (FitsAlone speech p) r.attributes (subst (λ q. FitsAlone speech q (arc_value r.row.attrs)) r.prefix (fit r.number r.row r.at))
+
+-- ---- where nothing is to be withdrawn or announced, nothing waits
+
+either_way : (w : Wait) → w.open ≡ true → is_withdrawn w ≡ false → is_announced w ≡ false → ⊥
+either_way w opened a b = go (is_withdrawal w.due) (sym (ap (λ o. o && is_withdrawal w.due) opened) ∙ a) (sym (ap (λ o. o && not (is_withdrawal w.due)) opened) ∙ b)
+  where
+    go : (x : Bool) → x ≡ false → not x ≡ false → ⊥
+    go true e f = true≢false e
+    go false e f = true≢false f
+
+nothing_open : (ws : List Wait) → AllByRecursion (λ w. is_withdrawn w ≡ false) ws → AllByRecursion (λ w. is_announced w ≡ false) ws → NoneOpen ws
+nothing_open [] h k q = refl
+nothing_open (w ∷ ws) h k q =
+    elim w.open as (λ b. w.open ≡ b → cond (b && same q w.prefix) (Some w) (open_at q ws) ≡ None) [
+      | true ↦ λ t. absurd (either_way w t h.0 k.0)
+      | false ↦ λ _. nothing_open ws h.1 k.1 q
+    ] refl
+
+pub nothing_waits : (ws : List Wait) → IsFound is_withdrawn ws None → IsFound is_announced ws None → NoneOpen ws
+nothing_waits ws h k =
+    nothing_open ws (recursion_from_All (λ w. is_withdrawn w ≡ false) ws (All-from_all_within (λ w. is_withdrawn w ≡ false) ws h))
+    (recursion_from_All (λ w. is_announced w ≡ false) ws (All-from_all_within (λ w. is_announced w ≡ false) ws k))
+
+-- ---- the first place to be announced
+
+same_element : (ws : List Wait) (n : ℕ) (d e : Wait) → n < length ws → get_or ws n d ≡ get_or ws n e
+same_element [] n d e below = absurd (omega (arith, below))
+same_element (w ∷ ws) zero d e below = refl
+same_element (w ∷ ws) (suc n) d e below = same_element ws n d e (omega (arith, below))
+
+element : (ws : List Wait) (n : ℕ) → n < length ws → Wait
+element [] n below = absurd (omega (arith, below))
+element (w ∷ ws) zero below = w
+element (w ∷ ws) (suc n) below = element ws n (omega (arith, below))
+
+news_of : (w : Wait) → is_announced w ≡ true → (w.open ≡ true) × (not (is_withdrawal w.due) ≡ true)
+news_of w h = both w.open (not (is_withdrawal w.due)) h
+
+there_backed : (rows : List (Option Row)) (ws : List Wait) (n : ℕ) (d : Wait) → IsStrictlySortedBy prefix_order (prefixes_at ws) → AreBacked rows ws → n < length ws → (get_or ws n d).open ≡ true → IsBacked rows (get_or ws n d).prefix (get_or ws n d).due
+there_backed rows ws n d up backed below opened =
+    let w = get_or ws n d in
+    backed w.prefix w (found_at ws n w below (same_element ws n d w below) opened up)
+
+has_row : (rows : List (Option Row)) (p : Prefix) (d : Due) → IsBacked rows p d → not (is_withdrawal d) ≡ true → row_by rows d ≡ None → ⊥
+has_row rows p due.Withdrawn backed news none = true≢false (sym news)
+has_row rows p (due.Announced number hash) backed news none = absurd (let f : ◌≡◌ {A = Option (Prefix × ℕ)} None (Some (p, hash)) = sym (ap (option_map prefix_and_hash) none) ∙ backed in (cc))
+
+module _ (rows : List (Option Row)) (ws : List Wait) (n : ℕ) (up : IsStrictlySortedBy prefix_order (prefixes_at ws)) (backed : AreBacked rows ws) (found : IsFound is_announced ws (Some n)) where
+  -- it has a row
+  pub first_row : HoldsAt (λ w. None ≡ row_by rows w.due) ws n → ⊥
+  first_row none =
+      let d = element ws n found.0 in
+      let news = news_of (get_or ws n d) (found.1 d) in
+      has_row rows (get_or ws n d).prefix (get_or ws n d).due (there_backed rows ws n d up backed found.0 news.0) news.1 (sym (none d))
+
+  pub first_waits : (m : List Attribute) (o : Option Row) → option_map (λ (r : Row). arc_value r.attrs) o ≡ Some m → HoldsAt (λ w. o ≡ row_by rows w.due) ws n → HoldsAt (WaitsFor rows m) ws n
+  first_waits m o value at d =
+      let news = news_of (get_or ws n d) (found.1 d) in
+      record {
+        opened = news.0;
+        backed = there_backed rows ws n d up backed found.0 news.0;
+        said = sym (ap (option_map (λ (r : Row). arc_value r.attrs)) (at d)) ∙ value;
+      }

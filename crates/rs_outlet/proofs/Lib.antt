@@ -20,6 +20,8 @@ mod MarkedAgain
 mod MarkedAll
 mod Owing
 mod Carrying
+mod Backing
+mod Rising
 mod Unchanged
 mod Counting
 mod Draining

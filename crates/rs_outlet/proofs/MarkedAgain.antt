@@ -14,8 +14,8 @@ use Rattle.rs_octets.specs.Prefixes.{Prefix, prefix_order}
 use Rattle.rs_outlet.specs.declared.rows.Row.{Row}
 use Rattle.rs_outlet.specs.declared.waiting.Wait.{Wait}
 use Rattle.rs_outlet.specs.Views.{Table}
-use Rattle.rs_outlet.specs.Places.{open_at, prefixes_at, still_open}
-use Rattle.rs_outlet.specs.Inside.{loc_of, row_at}
+use Rattle.rs_outlet.specs.Places.{is_withdrawal, open_at, prefixes_at, still_open}
+use Rattle.rs_outlet.specs.Inside.{AreBacked, IsBacked, loc_of, prefix_and_hash, row_at}
 use Rattle.rs_outlet.specs.Marking.{IsPlacedAgain, MayAddRow, MayWaitAgain, WaitsAgain, remarked}
 use Rattle.rs_adjin.proofs.Rows.{some_is}
 use Rattle.rs_outlet.proofs.Orders.{exact_prefixes, prefixes_total}
@@ -161,6 +161,12 @@ marked_first loc ws up =
     All-from_recursion (IsPlacedAgain loc ws) (map remarked (still_open ws))
     (all_mapped remarked (Stands ws) (IsPlacedAgain loc ws) (λ w h. record { opened = h.0; again = subst (λ o. WaitsAgain (fin.get loc w.prefix) o (remarked w)) (sym h.1) (refl, refl, refl) }) (still_open ws) (still_stand ws up))
 
+-- what waited has the rows that it had
+pub backed_first : (rows : List (Option Row)) (ws : List Wait) → IsStrictlySortedBy prefix_order (prefixes_at ws) → AreBacked rows ws → All (λ z. IsBacked rows z.prefix z.due) (map remarked (still_open ws))
+backed_first rows ws up backed =
+    All-from_recursion (λ z. IsBacked rows z.prefix z.due) (map remarked (still_open ws))
+    (all_mapped remarked (Stands ws) (λ z. IsBacked rows z.prefix z.due) (λ w h. backed w.prefix w h.1) (still_open ws) (still_stand ws up))
+
 -- ---- a row
 
 row_due : (rows : List (Option Row)) (n : ℕ) (r : Row) → row_at rows n ≡ Some r → IsSome (fin.get (loc_of rows) r.prefix)
@@ -180,7 +186,7 @@ row_due (Some x ∷ rows) (suc n) r is =
     there true h = refl
     there false h = h
 
-marked_more : (rows : List (Option Row)) (n : ℕ) (r : Row) (ws base old new : List Wait) → row_at rows n ≡ Some r → base ≡ map remarked (still_open ws) → MayAddRow base r old new → All (IsPlacedAgain (loc_of rows) ws) old → All (IsPlacedAgain (loc_of rows) ws) new
+marked_more : (rows : List (Option Row)) (n : ℕ) (r : Row) (ws base old new : List Wait) → row_at rows n ≡ Some r → base ≡ map remarked (still_open ws) → MayAddRow base n r old new → All (IsPlacedAgain (loc_of rows) ws) old → All (IsPlacedAgain (loc_of rows) ws) new
 marked_more rows n r ws base old new is first (inl stays) all = subst (All (IsPlacedAgain (loc_of rows) ws)) (sym stays) all
 marked_more rows n r ws base old new is first (inr adds) all =
     let none : open_at adds.wait.prefix ws ≡ None =
@@ -190,7 +196,7 @@ marked_more rows n r ws base old new is first (inr adds) all =
     subst (All (IsPlacedAgain (loc_of rows) ws)) (sym adds.added)
     (All-push (IsPlacedAgain (loc_of rows) ws) old adds.wait all (record {
       opened = adds.opened;
-      again = subst (λ o. WaitsAgain (fin.get (loc_of rows) adds.wait.prefix) o adds.wait) (sym none) (due, adds.said, adds.told, adds.marked);
+      again = subst (λ o. WaitsAgain (fin.get (loc_of rows) adds.wait.prefix) o adds.wait) (sym none) (due, ap is_withdrawal adds.due, adds.told, adds.marked);
     }))
 
 -- while rows are added: those that waited stand in front
@@ -198,17 +204,30 @@ pub record AreMarking (rows : List (Option Row)) (ws base : List Wait) (waited :
   pub front : take waited xs ≡ base
   pub within : waited ≤ length xs
   pub all : All (IsPlacedAgain (loc_of rows) ws) xs
+  pub backed : AreBacked rows ws → All (λ z. IsBacked rows z.prefix z.due) xs
 
-pub marking_more : (rows : List (Option Row)) (n : ℕ) (r : Row) (ws base : List Wait) (waited : ℕ) (old new : List Wait) → row_at rows n ≡ Some r → base ≡ map remarked (still_open ws) → MayAddRow (take waited old) r old new
+pub marking_more : (rows : List (Option Row)) (n : ℕ) (r : Row) (ws base : List Wait) (waited : ℕ) (old new : List Wait) → row_at rows n ≡ Some r → base ≡ map remarked (still_open ws) → MayAddRow (take waited old) n r old new
     → AreMarking rows ws base waited old → AreMarking rows ws base waited new
 marking_more rows n r ws base waited old new is first (inl stays) are = subst (AreMarking rows ws base waited) (sym stays) are
 marking_more rows n r ws base waited old new is first (inr adds) are = record {
   front = ap (take waited) adds.added ∙ take-append-le waited old (adds.wait ∷ []) are.within ∙ are.front;
   within = omega (arith, are.within, ap length adds.added, length-append old (adds.wait ∷ []));
   all = marked_more rows n r ws (take waited old) old new is (are.front ∙ first) (inr adds) are.all;
+  backed = λ backed. subst (All (λ z. IsBacked rows z.prefix z.due)) (sym adds.added)
+      (All-push (λ z. IsBacked rows z.prefix z.due) old adds.wait (are.backed backed)
+      (subst (λ p. IsBacked rows p adds.wait.due) (sym adds.prefix) (subst (IsBacked rows r.prefix) (sym adds.due) (ap (option_map prefix_and_hash) is))));
 }
 
 -- ---- all of it
+
+pub backed_again : (rows : List (Option Row)) (xs zs : List Wait) → All (λ z. IsBacked rows z.prefix z.due) xs → ((w : Wait) → Contains zs w → Contains xs w) → AreBacked rows zs
+backed_again rows xs zs all from q z is = (at_place P q z zs every is).0
+  where
+    P : Wait → Type 0
+    P w = IsBacked rows w.prefix w.due
+
+    every : AllByRecursion P zs
+    every = recursion_from_All P zs (λ k d below. All-contains P xs (get_or zs k d) all (from (get_or zs k d) (All-contains_itself zs k d below)))
 
 pub marked_again : (loc : Table) (ws base xs zs : List Wait) (n : ℕ) → base ≡ map remarked (still_open ws) → take n xs ≡ base → All (IsPlacedAgain loc ws) xs
     → ((w : Wait) → Contains zs w → Contains xs w) → ((q : Prefix) → list_any (same q) (prefixes_at zs) ≡ list_any (same q) (prefixes_at xs)) → (q : Prefix) → MayWaitAgain (fin.get loc q) (open_at q ws) (open_at q zs)

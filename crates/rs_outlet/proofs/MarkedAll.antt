@@ -1,6 +1,6 @@
 -- A client asked for everything again: there is room for each row at which nothing waits.
 use Rattle.std.proofs.Common.{◌≡◌, ◌≢◌, ◌≤◌, ◌<◌, ◌+◌, ℕ, zero, suc, Bool, true, false, cond, ◌&&◌, ◌||◌, not, Option, None, Some, IsSome, List, [], ◌∷◌, ◌++◌, length, length-append, map, take, drop, get_or, inl, inr, refl, sym, ap, ◌∙◌, subst, arith}
-use Rattle.std.specs.Prelude.{is_some, count_by}
+use Rattle.std.specs.Prelude.{is_some, count_by, option_map}
 use mathlib.Core.Bool.{true≢false}
 use Rattle.std.specs.List.{All, AllByRecursion, Contains, list_any}
 use Rattle.std.specs.List.Sorted.{IsStrictlySortedBy}
@@ -11,11 +11,13 @@ use Rattle.std.proofs.lemmas.List.Elements.{All-contains, All-contains_itself, r
 use Rattle.std.proofs.lemmas.List.Sums.{sum_by-cons, sum_by-append, sum_by-drop_more, sum_by-le-sum_by}
 use Rattle.rs_octets.specs.Prefixes.{Prefix, prefix_order}
 use Rattle.rs_outlet.specs.declared.rows.Row.{Row}
+use Rattle.rs_outlet.specs.declared.waiting.Due.{Due}
+use Rattle.rs_outlet.specs.declared.waiting.Due.TheVariants as due
 use Rattle.rs_outlet.specs.declared.waiting.Wait.{Wait}
 use Rattle.rs_outlet.specs.Views.{Table}
 use Rattle.rs_outlet.specs.Places.{is_withdrawal, is_withdrawn, open_at, prefixes_at, still_open, withdrawn_count}
-use Rattle.rs_outlet.specs.Inside.{loc_of, row_at}
-use Rattle.rs_outlet.specs.Marking.{AreDueAt, IsPlacedAgain, MayAddRow, remarked}
+use Rattle.rs_outlet.specs.Inside.{AreBacked, IsBacked, loc_of, prefix_and_hash, row_at}
+use Rattle.rs_outlet.specs.Marking.{IsPlacedAgain, MayAddRow, remarked}
 use Rattle.rs_adjin.proofs.Rows.{number_is, some_is}
 use Rattle.rs_outlet.proofs.Orders.{prefixes_total}
 use Rattle.rs_outlet.proofs.LocByNumber.{same, same_is, same_itself}
@@ -128,10 +130,23 @@ withdrawn_still (w ∷ ws) =
 pub still_opened : (ws : List Wait) → IsStrictlySortedBy prefix_order (prefixes_at ws) → AllByRecursion (λ w. w.open ≡ true) (map remarked (still_open ws))
 still_opened ws up = all_mapped remarked _ (λ w. w.open ≡ true) (λ w h. h.0) (still_open ws) (still_stand ws up)
 
-rows_still : (rows : List (Option Row)) (ws : List Wait) → IsStrictlySortedBy prefix_order (prefixes_at ws) → AreDueAt (loc_of rows) ws → AllByRecursion (λ w. is_withdrawn w ≡ false → RowOf rows w.prefix) (map remarked (still_open ws))
-rows_still rows ws up due =
+row_within : (rows : List (Option Row)) (n : ℕ) (r : Row) → row_at rows n ≡ Some r → n < length rows
+row_within [] n r is = absurd (cc)
+row_within (x ∷ rows) zero r is = omega arith
+row_within (x ∷ rows) (suc n) r is = omega (arith, row_within rows n r is)
+
+row_backed : (rows : List (Option Row)) (p : Prefix) (d : Due) → IsBacked rows p d → is_withdrawal d ≡ false → RowOf rows p
+row_backed rows p due.Withdrawn h said = absurd (true≢false said)
+row_backed rows p (due.Announced n hash) h said = go (row_at rows n) refl h
+  where
+    go : (o : Option Row) → row_at rows n ≡ o → option_map prefix_and_hash o ≡ Some (p, hash) → RowOf rows p
+    go None at is = absurd (cc)
+    go (Some r) at is = record { number = n; row = r; at = at; prefix = ap (λ (e : Prefix × ℕ). e.0) (some_is (prefix_and_hash r) (p, hash) is); within = row_within rows n r at }
+
+rows_still : (rows : List (Option Row)) (ws : List Wait) → IsStrictlySortedBy prefix_order (prefixes_at ws) → AreBacked rows ws → AllByRecursion (λ w. is_withdrawn w ≡ false → RowOf rows w.prefix) (map remarked (still_open ws))
+rows_still rows ws up backed =
     all_mapped remarked _ (λ w. is_withdrawn w ≡ false → RowOf rows w.prefix)
-    (λ w h no. due_row rows w.prefix (due w.prefix w h.1 (sym (ap (λ b. b && is_withdrawal w.due) h.0) ∙ no))) (still_open ws) (still_stand ws up)
+    (λ w h none. row_backed rows w.prefix w.due (backed w.prefix w h.1) (sym (ap (λ b. b && is_withdrawal w.due) h.0) ∙ none)) (still_open ws) (still_stand ws up)
 
 -- ---- while rows are added
 
@@ -141,10 +156,10 @@ pub record AreListed (rows : List (Option Row)) (base : List Wait) (k capacity :
   pub listed : (n : ℕ) (r : Row) → n < k → row_at rows n ≡ Some r → is_in xs r.prefix ≡ true
 
 pub none_listed_yet : (rows : List (Option Row)) (ws base : List Wait) (used capacity : ℕ) → IsStrictlySortedBy prefix_order (prefixes_at ws) → IsStrictlySortedBy prefix_order (prefixes_at base) → base ≡ map remarked (still_open ws)
-    → count_by is_some rows ≡ used → used + withdrawn_count ws ≤ capacity → AreDueAt (loc_of rows) ws → AreListed rows base 0 capacity base
-none_listed_yet rows ws base used capacity up rise first count room due = record {
+    → count_by is_some rows ≡ used → used + withdrawn_count ws ≤ capacity → AreBacked rows ws → AreListed rows base 0 capacity base
+none_listed_yet rows ws base used capacity up rise first count room backed = record {
   spare =
-      let most = room_for rows base rise (subst (AllByRecursion (λ w. is_withdrawn w ≡ false → RowOf rows w.prefix)) (sym first) (rows_still rows ws up due)) in
+      let most = room_for rows base rise (subst (AllByRecursion (λ w. is_withdrawn w ≡ false → RowOf rows w.prefix)) (sym first) (rows_still rows ws up backed)) in
       omega (arith, most, count, room, withdrawn_still ws, ap withdrawn_count first);
   listed = λ n r below _. absurd (let e = below in omega (arith, e));
 }
@@ -181,38 +196,38 @@ in_whole q n xs h =
       | false ↦ λ f. absurd (true≢false (sym h ∙ any_front q n xs f))
     ] refl
 
-still_in : (q : Prefix) (base old new : List Wait) (row : Row) → MayAddRow base row old new → is_in old q ≡ true → is_in new q ≡ true
-still_in q base old new row (inl stays) h = ap (λ xs. is_in xs q) stays ∙ h
-still_in q base old new row (inr adds) h = ap (λ xs. is_in xs q) adds.added ∙ any_more q old (adds.wait ∷ []) h
+still_in : (q : Prefix) (base old new : List Wait) (n : ℕ) (row : Row) → MayAddRow base n row old new → is_in old q ≡ true → is_in new q ≡ true
+still_in q base old new n row (inl stays) h = ap (λ xs. is_in xs q) stays ∙ h
+still_in q base old new n row (inr adds) h = ap (λ xs. is_in xs q) adds.added ∙ any_more q old (adds.wait ∷ []) h
 
-one_longer : (base old new : List Wait) (row : Row) → MayAddRow base row old new → length new ≤ length old + 1
-one_longer base old new row (inl stays) = omega (arith, ap length stays)
-one_longer base old new row (inr adds) = omega (arith, ap length adds.added, length-append old (adds.wait ∷ []))
+one_longer : (base old new : List Wait) (n : ℕ) (row : Row) → MayAddRow base n row old new → length new ≤ length old + 1
+one_longer base old new n row (inl stays) = omega (arith, ap length stays)
+one_longer base old new n row (inr adds) = omega (arith, ap length adds.added, length-append old (adds.wait ∷ []))
 
 -- a row whose prefix is listed adds no place
-no_longer : (base old new : List Wait) (row : Row) → AllByRecursion (λ w. w.open ≡ true) base → is_in base row.prefix ≡ true → MayAddRow base row old new → length new ≤ length old
-no_longer base old new row opened there (inl stays) = omega (arith, ap length stays)
-no_longer base old new row opened there (inr adds) = absurd (true≢false (sym there ∙ none_listed row.prefix base opened adds.alone))
+no_longer : (base old new : List Wait) (n : ℕ) (row : Row) → AllByRecursion (λ w. w.open ≡ true) base → is_in base row.prefix ≡ true → MayAddRow base n row old new → length new ≤ length old
+no_longer base old new n row opened there (inl stays) = omega (arith, ap length stays)
+no_longer base old new n row opened there (inr adds) = absurd (true≢false (sym there ∙ none_listed row.prefix base opened adds.alone))
 
 pub one_more_listed : (rows : List (Option Row)) (base : List Wait) (k waited capacity : ℕ) (r : Row) (old new : List Wait) → k < length rows → row_at rows k ≡ Some r → AllByRecursion (λ w. w.open ≡ true) base → take waited old ≡ base
-    → MayAddRow base r old new → (length old < capacity → is_in new r.prefix ≡ true) → AreListed rows base k capacity old → AreListed rows base (k + 1) capacity new
+    → MayAddRow base k r old new → (length old < capacity → is_in new r.prefix ≡ true) → AreListed rows base k capacity old → AreListed rows base (k + 1) capacity new
 one_more_listed rows base k waited capacity r old new below at opened front may lists are = go (is_in base r.prefix) refl
   where
     before : is_in new r.prefix ≡ true → (n : ℕ) (s : Row) → n < k + 1 → row_at rows n ≡ Some s → is_in new s.prefix ≡ true
     before here n s more is = elim (number_is n k) [
       | inl e ↦ ap (λ (t : Row). is_in new t.prefix) (some_is s r (sym is ∙ ap (row_at rows) e ∙ at)) ∙ here
-      | inr ne ↦ still_in s.prefix base old new r may (are.listed n s (at_last n k more ne) is)
+      | inr ne ↦ still_in s.prefix base old new k r may (are.listed n s (at_last n k more ne) is)
     ]
 
     go : (b : Bool) → is_in base r.prefix ≡ b → AreListed rows base (k + 1) capacity new
     go true there = record {
-      spare = omega (arith, are.spare, fresh_more base rows k (Some r) false below at (ap not there), no_longer base old new r opened there may);
-      listed = before (still_in r.prefix base old new r may (in_whole r.prefix waited old (ap (λ xs. is_in xs r.prefix) front ∙ there)));
+      spare = omega (arith, are.spare, fresh_more base rows k (Some r) false below at (ap not there), no_longer base old new k r opened there may);
+      listed = before (still_in r.prefix base old new k r may (in_whole r.prefix waited old (ap (λ xs. is_in xs r.prefix) front ∙ there)));
     }
     go false alone =
         let one = fresh_more base rows k (Some r) true below at (ap not alone) in
         record {
-          spare = omega (arith, are.spare, one, one_longer base old new r may);
+          spare = omega (arith, are.spare, one, one_longer base old new k r may);
           listed = before (lists (omega (arith, are.spare, one)));
         }
 
@@ -238,10 +253,10 @@ all_listed rows base xs zs k capacity past are same_prefixes opened q due =
 
 -- ---- how many are to be withdrawn
 
-pub withdrawn_added : (base old new : List Wait) (row : Row) → MayAddRow base row old new → withdrawn_count new ≤ withdrawn_count old
-withdrawn_added base old new row (inl stays) = omega (arith, ap withdrawn_count stays)
-withdrawn_added base old new row (inr adds) =
-    let none : ◌≡◌ {A = ℕ} (one_if (is_withdrawn adds.wait)) 0 = ap one_if (ap (λ b. adds.wait.open && b) adds.said ∙ and_none adds.wait.open) in
+pub withdrawn_added : (base old new : List Wait) (n : ℕ) (row : Row) → MayAddRow base n row old new → withdrawn_count new ≤ withdrawn_count old
+withdrawn_added base old new n row (inl stays) = omega (arith, ap withdrawn_count stays)
+withdrawn_added base old new n row (inr adds) =
+    let none : ◌≡◌ {A = ℕ} (one_if (is_withdrawn adds.wait)) 0 = ap one_if (ap (λ d. adds.wait.open && is_withdrawal d) adds.due ∙ and_none adds.wait.open) in
     omega (arith, ap withdrawn_count adds.added, sum_by-append (λ v. one_if (is_withdrawn v)) old (adds.wait ∷ []), sum_by-cons (λ v. one_if (is_withdrawn v)) adds.wait [], none)
   where
     and_none : (b : Bool) → (b && false) ≡ false

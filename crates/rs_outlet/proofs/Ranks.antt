@@ -1,16 +1,15 @@
 -- The ranks of candidates have distinct places, and the route of a place is what its sender holds.
-use Rattle.std.proofs.Common.{◌≡◌, ◌≢◌, ◌<◌, ◌≤◌, ◌+◌, ◌==◌, ℕ, zero, suc, Bool, true, false, Option, None, Some, List, [], ◌∷◌, length, map, refl, sym, ap, ◌∙◌, subst, arith}
-use Rattle.std.specs.Prelude.{unwrap_or, option_and_then, slice_get, if◌then◌else◌}
-use Rattle.std.specs.List.{All, AllByRecursion, cons_option, list_any}
+use Rattle.std.proofs.Common.{◌≡◌, ◌≢◌, ◌<◌, ◌≤◌, ◌+◌, ◌==◌, ℕ, zero, suc, Bool, true, false, Option, None, Some, List, [], ◌∷◌, ◌++◌, append_assoc, length, map, refl, sym, ap, ◌∙◌, subst, arith}
+use Rattle.std.proofs.lemmas.Option.{slice_get_read}
+use Rattle.std.specs.Prelude.{unwrap_or, option_and_then, slice_get, slice_index_or, if◌then◌else◌}
+use Rattle.std.specs.List.{All, AllByRecursion, AllPairs, cons_option, list_any}
 use Rattle.std.specs.Arc.{arc_value}
 use Rattle.std.proofs.lemmas.List.Elements.{All-from_recursion, recursion_from_All}
 use Rattle.std.proofs.lemmas.Bool.Decides.{nat_tests}
 use Rattle.rs_octets.specs.Prefixes.{Prefix}
 use Rattle.rs_attrs.specs.Meaning.{Attribute}
-use Rattle.rs_adjin.specs.Listing.{sent_by, holders_from, with_holder}
-use Rattle.rs_adjin.specs.Routes.{value_in, IsRising}
-use Rattle.rs_adjin.proofs.RouteLists.{Rising, rising}
-use Rattle.rs_adjin.specs.declared.routes.Route.{Route}
+use Rattle.rs_adjin.specs.Listing.{holders_from, with_holder}
+use Rattle.rs_adjin.specs.Routes.{value_in}
 use Rattle.rs_policy.specs.Verdicts.{Judgement, dropped, passed, verdict}
 use Rattle.rs_decision.specs.Choice.{best_of, unbeaten}
 use Rattle.rs_adjin.specs.declared.adj_ins.AdjIns.{AdjIns}
@@ -38,11 +37,31 @@ each_cons : (P : ℕ → Type 0) (from : ℕ) (o : Option Rank) (rest : List Ran
 each_cons P from None rest is h hs = hs
 each_cons P from (Some r) rest is h hs = (subst P (sym (is r refl)) h, hs)
 
--- what holds of the routes' clients holds of the ranks' places
-pub each_place : (P : ℕ → Type 0) (t : Held) (c : ℕ) (p : Prefix) (rs : List Route) → AllByRecursion (λ r. P r.client) rs → AllByRecursion (λ r. P r.place) (ranks_among t c p (map sent_by rs))
-each_place P t c p [] h = tt
-each_place P t c p (r ∷ rs) h =
-    each_cons P r.client (rank_to t c p (sent_by r)) _ (λ rank e. rank_place t c p (sent_by r) rank e) h.0 (each_place P t c p rs h.1)
+-- what holds of the holders holds of the ranks' places
+pub each_place : (P : ℕ → Type 0) (t : Held) (c : ℕ) (p : Prefix) (hs : List (ℕ × List Attribute)) → AllByRecursion (λ h. P h.0) hs → AllByRecursion (λ r. P r.place) (ranks_among t c p hs)
+each_place P t c p [] all = tt
+each_place P t c p (h ∷ hs) all = each_cons P h.0 (rank_to t c p h) _ (λ rank e. rank_place t c p h rank e) all.0 (each_place P t c p hs all.1)
+
+-- one more of the holders is ranked, or is no candidate
+pub taken_some : (t : Held) (c : ℕ) (p : Prefix) (all done new : List Rank) (hs rest : List (ℕ × List Attribute)) (h : ℕ × List Attribute) (r : Rank) → hs ≡ h ∷ rest → all ≡ done ++ ranks_among t c p hs → rank_to t c p h ≡ Some r → new ≡ done ++ r ∷ []
+    → all ≡ new ++ ranks_among t c p rest
+taken_some t c p all done new hs rest h r is so found pushed =
+    so ∙ ap (λ hs. done ++ ranks_among t c p hs) is ∙ ap (λ o. done ++ cons_option o (ranks_among t c p rest)) found
+    ∙ sym (append_assoc done (r ∷ []) (ranks_among t c p rest)) ∙ ap (λ l. l ++ ranks_among t c p rest) (sym pushed)
+
+pub taken_none : (t : Held) (c : ℕ) (p : Prefix) (all done : List Rank) (hs rest : List (ℕ × List Attribute)) (h : ℕ × List Attribute) → hs ≡ h ∷ rest → all ≡ done ++ ranks_among t c p hs → rank_to t c p h ≡ None → all ≡ done ++ ranks_among t c p rest
+taken_none t c p all done hs rest h is so none = so ∙ ap (λ hs. done ++ ranks_among t c p hs) is ∙ ap (λ o. done ++ cons_option o (ranks_among t c p rest)) none
+
+abbrev Rising : List (ℕ × List Attribute) → Type 0
+Rising [] = Unit {0}
+Rising (h ∷ hs) = AllByRecursion (λ (g : ℕ × List Attribute). h.0 < g.0) hs × Rising hs
+
+rising : (hs : List (ℕ × List Attribute)) → AllPairs (λ g h. g.0 < h.0) hs → Rising hs
+rising [] up = tt
+rising (h ∷ hs) up = (
+  recursion_from_All (λ (g : ℕ × List Attribute). h.0 < g.0) hs (λ k d below. up 0 (suc k) d (omega arith) (omega (arith, below))),
+  rising hs (λ i j d before below. up (suc i) (suc j) d (omega (arith, before)) (omega (arith, below))),
+)
 
 abbrev Apart : List Rank → Type 0
 Apart [] = Unit {0}
@@ -52,10 +71,10 @@ apart_cons : (from : ℕ) (o : Option Rank) (rest : List Rank) → ((r : Rank) �
 apart_cons from None rest is above h = h
 apart_cons from (Some r) rest is above h = (subst (λ n. AllByRecursion (λ s. n < s.place) rest) (sym (is r refl)) above, h)
 
-apart_ranks : (t : Held) (c : ℕ) (p : Prefix) (rs : List Route) → Rising rs → Apart (ranks_among t c p (map sent_by rs))
-apart_ranks t c p [] h = tt
-apart_ranks t c p (r ∷ rs) h =
-    apart_cons r.client (rank_to t c p (sent_by r)) _ (λ rank e. rank_place t c p (sent_by r) rank e) (each_place (λ n. r.client < n) t c p rs h.0) (apart_ranks t c p rs h.1)
+apart_ranks : (t : Held) (c : ℕ) (p : Prefix) (hs : List (ℕ × List Attribute)) → Rising hs → Apart (ranks_among t c p hs)
+apart_ranks t c p [] up = tt
+apart_ranks t c p (h ∷ hs) up =
+    apart_cons h.0 (rank_to t c p h) _ (λ rank e. rank_place t c p h rank e) (each_place (λ n. h.0 < n) t c p hs up.0) (apart_ranks t c p hs up.1)
 
 distinct : (rs : List Rank) → Apart rs → HasDistinctPlaces rs
 distinct [] h i j d up below = absurd (omega (arith, below))
@@ -65,70 +84,22 @@ distinct (r ∷ rs) h (suc i) zero d up below = absurd (omega arith)
 distinct (r ∷ rs) h (suc i) (suc j) d up below = distinct rs h.1 i j d (omega arith) (omega (arith, below))
 
 -- no two candidates have one place
-pub distinct_places : (t : Held) (c : ℕ) (p : Prefix) (rs : List Route) → IsRising rs → HasDistinctPlaces (ranks_among t c p (map sent_by rs))
-distinct_places t c p rs up = distinct _ (apart_ranks t c p rs (rising rs up))
-
--- the candidates' places are of clients that there are
-pub known_places : (n : ℕ) (t : Held) (c : ℕ) (p : Prefix) (rs : List Route) → All (λ r. r.client < n) rs → All (λ r. r.place < n) (ranks_among t c p (map sent_by rs))
-known_places n t c p rs known =
-    All-from_recursion (λ r. r.place < n) _ (each_place (λ k. k < n) t c p rs (recursion_from_All (λ r. r.client < n) rs known))
-
--- ---- what a client has among those who hold a prefix
-
-abbrev found : ℕ → List (ℕ × List Attribute) → Option (List Attribute)
-found c [] = None
-found c (h ∷ hs) = if c == h.0 then Some h.1 else found c hs
-
-found_sent : (c : ℕ) (rs : List Route) → value_in c rs ≡ found c (map sent_by rs)
-found_sent c [] = refl
-found_sent c (r ∷ rs) = ap (λ o. if c == r.client then Some (arc_value r.attrs) else o) (found_sent c rs)
-
-found_other : (c k : ℕ) (o : Option (List Attribute)) (hs : List (ℕ × List Attribute)) → (c == k) ≡ false → found c (with_holder k o hs) ≡ found c hs
-found_other c k None hs e = refl
-found_other c k (Some m) hs e = rw e refl
-
-found_here : (c k : ℕ) (o : Option (List Attribute)) (hs : List (ℕ × List Attribute)) → (c == k) ≡ true → found c hs ≡ None → found c (with_holder k o hs) ≡ o
-found_here c k None hs e none = none
-found_here c k (Some m) hs e none = rw e refl
-
-not_same : (c k : ℕ) → c ≢ k → (c == k) ≡ false
-not_same c k ne = grind (arith, nat_tests, ne)
-
-same : (c k : ℕ) → (c == k) ≡ true → c ≡ k
-same c k e = grind (arith, nat_tests, e)
-
-later : (c k : ℕ) → k ≤ c → (c == k) ≡ false → suc k ≤ c
-later c k low e = grind (arith, nat_tests, low, e)
-
-found_above : (f : ℕ → Option (List Attribute)) (c k n : ℕ) → c < k → found c (holders_from f k n) ≡ None
-found_above f c k zero below = refl
-found_above f c k (suc n) below =
-    found_other c k (f k) (holders_from f (suc k) n) (not_same c k (λ e. absurd (omega (arith, e, below)))) ∙ found_above f c (suc k) n (omega (arith, below))
-
-found_held : (f : ℕ → Option (List Attribute)) (c k n : ℕ) → k ≤ c → c < k + n → found c (holders_from f k n) ≡ f c
-found_held f c k zero low high = absurd (omega (arith, low, high))
-found_held f c k (suc n) low high =
-    elim (c == k) as (λ b. (c == k) ≡ b → found c (holders_from f k (suc n)) ≡ f c) [
-      | true ↦ λ e.
-          found_here c k (f k) (holders_from f (suc k) n) e (found_above f c (suc k) n (omega (arith, same c k e))) ∙ ap f (sym (same c k e))
-      | false ↦ λ e.
-          found_other c k (f k) (holders_from f (suc k) n) e
-          ∙ found_held f c (suc k) n (later c k low e) (omega (arith, high))
-    ] refl
-
--- the route of a client among those listed is what it holds
-pub held_in : (f : ℕ → Option (List Attribute)) (n c : ℕ) (rs : List Route) → map sent_by rs ≡ holders_from f 0 n → c < n → f c ≡ value_in c rs
-held_in f n c rs all known = sym (found_held f c 0 n (omega arith) (omega (arith, known))) ∙ ap (found c) (sym all) ∙ sym (found_sent c rs)
+pub distinct_places : (t : Held) (c : ℕ) (p : Prefix) (hs : List (ℕ × List Attribute)) → AllPairs (λ g h. g.0 < h.0) hs → HasDistinctPlaces (ranks_among t c p hs)
+distinct_places t c p hs up = distinct _ (apart_ranks t c p hs (rising hs up))
 
 each_got : (P : Rank → Type 0) (xs : List Rank) (k : ℕ) (r : Rank) → AllByRecursion P xs → slice_get xs k ≡ Some r → P r
 each_got P [] k r h e = absurd (cc e)
 each_got P (x ∷ xs) zero r h e = subst P (ap (λ o. unwrap_or o r) e) h.0
 each_got P (x ∷ xs) (suc k) r h e = each_got P xs k r h.1 e
 
--- so is the place of one of them
-pub known_place : (n : ℕ) (t : Held) (c : ℕ) (p : Prefix) (rs : List Route) (ranks : List Rank) (k : ℕ) (r : Rank) → All (λ r. r.client < n) rs → ranks ≡ ranks_among t c p (map sent_by rs) → slice_get ranks k ≡ Some r → r.place < n
-known_place n t c p rs ranks k r known is got =
-    each_got (λ r. r.place < n) (ranks_among t c p (map sent_by rs)) k r (each_place (λ k. k < n) t c p rs (recursion_from_All (λ r. r.client < n) rs known)) (ap (λ xs. slice_get xs k) (sym is) ∙ got)
+-- the rank that was read stands among the ranks
+pub ranked_at : (ranks again : List Rank) (k : ℕ) (r : Rank) → ranks ≡ again → k < length again → r ≡ slice_index_or again k r → slice_get ranks k ≡ Some r
+ranked_at ranks again k r same below is = ap (λ xs. slice_get xs k) same ∙ slice_get_read again _ k r refl below is
+
+-- the place of a candidate is of a client that there is
+pub known_place : (n : ℕ) (t : Held) (c : ℕ) (p : Prefix) (hs : List (ℕ × List Attribute)) (ranks : List Rank) (k : ℕ) (r : Rank) → All (λ h. h.0 < n) hs → ranks ≡ ranks_among t c p hs → slice_get ranks k ≡ Some r → r.place < n
+known_place n t c p hs ranks k r known is got =
+    each_got (λ r. r.place < n) (ranks_among t c p hs) k r (each_place (λ k. k < n) t c p hs (recursion_from_All (λ h. h.0 < n) hs known)) (ap (λ xs. slice_get xs k) (sym is) ∙ got)
 
 -- ---- what is due, by the best of the ranks
 

@@ -6,6 +6,7 @@ use Rattle.std.specs.List.Sorted.{IsPermutation}
 use Rattle.std.proofs.lemmas.List.Sorted.{sum_by-IsPermutation}
 use Rattle.std.proofs.lemmas.List.Sums.{sum_by-append, sum_by-cons, sum_by-le-sum_by, sum_by-set}
 use Rattle.rs_outlet.specs.declared.rows.Row.{Row}
+use Rattle.rs_outlet.specs.declared.waiting.Due.TheVariants as due
 use Rattle.rs_outlet.specs.declared.waiting.Wait.{Wait}
 use Rattle.rs_outlet.specs.Places.{is_withdrawal, is_withdrawn, open_count, still_open, withdrawn_count}
 use Rattle.rs_outlet.specs.Owed.{listed}
@@ -100,10 +101,10 @@ withdrawn_listed fs new (Some w) is =
     one_at_most true = omega arith
     one_at_most false = omega arith
 
-pub announced_listed : (fs new : List Wait) (o : Option Wait) → IfSome o (λ w. is_withdrawal w.due ≡ false) → new ≡ fs ++ listed o → withdrawn_count new ≤ withdrawn_count fs
-announced_listed fs new None said is = omega (arith, ap withdrawn_count is, sum_by-append (λ v. one_if (is_withdrawn v)) fs [])
-announced_listed fs new (Some w) said is =
-    let none : ◌≡◌ {A = ℕ} (one_if (is_withdrawn w)) 0 = ap one_if (ap (λ b. w.open && b) said ∙ and_false w.open) in
+pub announced_listed : (fs new : List Wait) (o : Option Wait) (number hash : ℕ) → IfSome o (λ w. w.due ≡ due.Announced number hash) → new ≡ fs ++ listed o → withdrawn_count new ≤ withdrawn_count fs
+announced_listed fs new None number hash said is = omega (arith, ap withdrawn_count is, sum_by-append (λ v. one_if (is_withdrawn v)) fs [])
+announced_listed fs new (Some w) number hash said is =
+    let none : ◌≡◌ {A = ℕ} (one_if (is_withdrawn w)) 0 = ap one_if (ap (λ d. w.open && is_withdrawal d) said ∙ and_false w.open) in
     omega (arith, ap withdrawn_count is, none, sum_by-append (λ v. one_if (is_withdrawn v)) fs (w ∷ []), sum_by-cons (λ v. one_if (is_withdrawn v)) w [])
 
 pub withdrawn_front : (ws more front rest : List Wait) → front ++ rest ≡ still_open ws ++ more → withdrawn_count front ≤ withdrawn_count ws + withdrawn_count more

@@ -1,5 +1,7 @@
 -- What the next UPDATE is (RFC 4271, 4.3): which prefixes it is about, and what it leaves with the client.
-use Rattle.std.specs.Prelude.{◌≡◌, ◌≢◌, ◌⊎◌, ◌<◌, ◌≤◌, ◌&&◌, not, Bool, true, false, Some, None, List, [], length, if◌then◌else◌}
+use Rattle.std.specs.Prelude.{◌≡◌, ◌≢◌, ◌⊎◌, ◌<◌, ◌≤◌, ◌&&◌, not, Bool, true, false, Some, None, List, [], length, slice_get, if◌then◌else◌}
+use Rattle.std.specs.declared.cmp.Ordering.TheVariants.{Less}
+use Rattle.std.specs.List.Sorted.{IsStrictlySortedBy}
 use Rattle.std.specs.List.{AllByRecursion, list_any}
 use Rattle.std.specs.Ordering.{eq_by_cmp}
 use Rattle.std.specs.FinMap as fin
@@ -22,13 +24,18 @@ pub record Settles (v w : View) (ps : List Prefix) : Type 0 where
   pub marked : (q : Prefix) → set.contains w.marked q ≡ (not (is_among q ps) && set.contains v.marked q)
   pub waits : (q : Prefix) → fin.get w.waits q ≡ (if is_among q ps then None else fin.get v.waits q)
 
+-- the prefixes rise, and none of those that wait for the like comes before the first of them
+pub record AreLeastFirst (waits : Prefix → Type 0) (prefixes : List Prefix) : Type 0 where
+  pub rising : IsStrictlySortedBy prefix_order prefixes
+  pub least : (p q : Prefix) → slice_get prefixes 0 ≡ Some p → waits q → prefix_order q p ≢ Less
+
 -- no prefix waits to be withdrawn
 abbrev pub NoneGone : View → Type 0
 NoneGone v = (p : Prefix) → fin.get v.waits p ≢ Some true
 
--- nothing is said, which is so only where no prefix waits to be withdrawn
+-- nothing is said, which is so only where nothing waits
 pub record Rests (v w : View) : Type 0 where
-  pub gone : NoneGone v
+  pub none : (p : Prefix) → fin.get v.waits p ≡ None
   pub settles : Settles v w []
   pub flight : w.flight ≡ []
 
@@ -38,6 +45,7 @@ pub record Withdraws (speech : Speech) (v w : View) : Type 0 where
   pub some : 0 < length prefixes
   pub prefixes_legal : AllByRecursion IsIpv4Prefix prefixes
   pub waited : AllByRecursion (λ p. fin.get v.waits p ≡ Some true) prefixes
+  pub order : AreLeastFirst (λ p. fin.get v.waits p ≡ Some true) prefixes
   pub settles : Settles v w prefixes
   pub flight : w.flight ≡ withdrawal prefixes
   pub fits : length w.flight ≤ limit_octets speech.limit
@@ -52,6 +60,7 @@ pub record Announces (speech : Speech) (v w : View) : Type 0 where
   pub prefixes_legal : AllByRecursion IsIpv4Prefix prefixes
   pub legal : IsLegal attributes
   pub waited : AllByRecursion (λ p. fin.get v.waits p ≡ Some false) prefixes
+  pub order : AreLeastFirst (λ p. fin.get v.waits p ≡ Some false) prefixes
   pub due : (ins : AdjIns) → AreNumbered v ins → AllByRecursion (λ p. fin.get v.loc p ≡ Some attributes) prefixes
   pub settles : Settles v w prefixes
   pub flight : w.flight ≡ announcement attributes speech.mode prefixes

@@ -1,6 +1,6 @@
 -- The places that the next UPDATE is about.
-use Rattle.std.specs.Prelude.{◌≡◌, ◌⊎◌, ℕ, ◌≤◌, ◌<◌, Bool, true, false, Option, None, Some, List, [], ◌∷◌, length, take, slice_get, vec_len, Vec}
-use Rattle.std.specs.List.{AllWithin, HoldsAt}
+use Rattle.std.specs.Prelude.{◌≡◌, ◌⊎◌, ℕ, ◌≤◌, ◌<◌, Bool, true, false, Option, None, Some, List, [], ◌∷◌, ◌++◌, length, option_map, take, slice_get, vec_len, Vec}
+use Rattle.std.specs.List.{AllByRecursion, AllWithin, HoldsAt}
 use Rattle.std.specs.Global.{Global}
 use Rattle.std.specs.Vec.{vec_capacity}
 use Rattle.std.specs.Arc.{arc_value}
@@ -12,13 +12,22 @@ use Rattle.rs_packer.specs.declared.packed.Packed.{Packed}
 use Rattle.rs_outlet.specs.declared.answers.Speech.{Speech}
 use Rattle.rs_outlet.specs.declared.rows.Row.{Row}
 use Rattle.rs_outlet.specs.declared.waiting.Wait.{Wait}
-use Rattle.rs_outlet.specs.Places.{prefixes_at, open_at, is_withdrawal, is_withdrawn}
-use Rattle.rs_outlet.specs.Inside.{row_at}
+use Rattle.rs_outlet.specs.Places.{prefixes_at, open_at, is_announced, is_withdrawal, is_withdrawn}
+use Rattle.rs_outlet.specs.Inside.{IsBacked, row_at, row_by}
 
--- a place that passes the test; none where there is none
+-- the first place that passes the test; none where there is none
 abbrev pub IsFound : (Wait → Bool) → List Wait → Option ℕ → Type 0
 IsFound test ws None = AllWithin (λ w. test w ≡ false) ws 0 (length ws)
-IsFound test ws (Some n) = (n < length ws) × HoldsAt (λ w. test w ≡ true) ws n
+IsFound test ws (Some n) = (n < length ws) × HoldsAt (λ w. test w ≡ true) ws n × AllWithin (λ w. test w ≡ false) ws 0 n
+
+-- a place is listed behind others, or not
+abbrev pub MayList : ℕ → List ℕ → List ℕ → Type 0
+MayList n old new = (new ≡ old) ⊎ (new ≡ old ++ n ∷ [])
+
+-- the places listed rise
+abbrev pub Rise : List ℕ → Type 0
+Rise [] = Unit {0}
+Rise (n ∷ ns) = AllByRecursion (λ m. n < m) ns × Rise ns
 
 -- there is room for a place and for its prefix
 abbrev pub HaveRoom : Vec ℕ Global → Vec Prefix Global → Type 0
@@ -77,14 +86,35 @@ abbrev pub IsInTurn : Option (List Attribute) → List Wait → Type 0
 IsInTurn None ws = Unit {0}
 IsInTurn (Some m) ws = NoneWithdrawn ws
 
+-- whether this, or the like, is to be said at a place
+abbrev pub is_said : Option (List Attribute) → Wait → Bool
+is_said None w = is_withdrawn w
+is_said (Some m) w = is_announced w
+
+-- the first of the places is the first at which the like is to be said
+abbrev pub IsFirst : Option (List Attribute) → List Wait → List ℕ → Type 0
+IsFirst said ws ns = (n : ℕ) → slice_get ns 0 ≡ Some n → AllWithin (λ w. is_said said w ≡ false) ws 0 n
+
 -- an UPDATE about places chosen
 pub record IsUpdate (speech : Speech) (rows : List (Option Row)) (ws : List Wait) (ns : List ℕ) (ps : List Prefix) (octets : List ℕ) (packed : Packed) : Type 0 where
   pub said : Option (List Attribute)
   pub legal : IsLegalSaid said
   pub in_turn : IsInTurn said ws
   pub chosen : AreChosen rows ws said ns ps
+  pub rise : Rise ns
+  pub first : IsFirst said ws ns
   pub written : IsWritten (message_of speech said) ps octets packed
 
--- nothing was written, which is so only where nothing is to be withdrawn, or an UPDATE
+-- none of the places waits
+abbrev pub NoneOpen : List Wait → Type 0
+NoneOpen ws = (q : Prefix) → open_at q ws ≡ None
+
+-- a place that waits for these attributes, and has its row
+pub record WaitsFor (rows : List (Option Row)) (m : List Attribute) (w : Wait) : Type 0 where
+  pub opened : w.open ≡ true
+  pub backed : IsBacked rows w.prefix w.due
+  pub said : option_map (λ r. arc_value r.attrs) (row_by rows w.due) ≡ Some m
+
+-- nothing was written, which is so only where nothing waits, or an UPDATE
 abbrev pub MayUpdate : Speech → List (Option Row) → List Wait → List ℕ → List Prefix → List ℕ → Packed → Type 0
-MayUpdate speech rows ws ns ps octets packed = ((packed ≡ record { octets = 0; prefixes = 0 }) × NoneWithdrawn ws) ⊎ IsUpdate speech rows ws ns ps octets packed
+MayUpdate speech rows ws ns ps octets packed = ((packed ≡ record { octets = 0; prefixes = 0 }) × NoneOpen ws) ⊎ IsUpdate speech rows ws ns ps octets packed

@@ -1,5 +1,5 @@
 -- How the fields of an outlet make what callers see, and what the fields keep.
-use Rattle.std.specs.Prelude.{◌≡◌, ◌≢◌, ◌⊎◌, ℕ, suc, ◌+◌, ◌≤◌, ◌<◌, ◌||◌, Bool, true, false, nat_eq, Option, None, Some, List, [], ◌∷◌, ◌++◌, map, option_map, slice_range, slice_get, vec_len, if◌then◌else◌}
+use Rattle.std.specs.Prelude.{◌≡◌, ◌≢◌, ◌⊎◌, ℕ, suc, ◌+◌, ◌-◌, ◌≤◌, ◌<◌, ◌||◌, Bool, true, false, nat_eq, Option, None, Some, List, [], ◌∷◌, ◌++◌, map, option_map, slice_range, slice_get, vec_len, length, IfSome, if◌then◌else◌}
 use Rattle.std.specs.List.{AllByRecursion, IsDistinct, list_any}
 use Rattle.std.specs.Map.{keys_of}
 use Rattle.std.specs.Ordering.{eq_by_cmp}
@@ -8,6 +8,7 @@ use Rattle.std.specs.Arc.{arc_value}
 use Rattle.std.specs.HashMap.{hash_map_len, spare}
 use Rattle.std.specs.FinMap as fin
 use Rattle.std.specs.FinSet as set
+use Rattle.rs_octets.specs.Numbers.{longest_message, longest_extended_message}
 use Rattle.rs_octets.specs.Prefixes.{Prefix, prefix_order}
 use Rattle.rs_attrs.specs.Meaning.{Attribute}
 use Rattle.rs_open.specs.declared.short.Limit.TheVariants as limits
@@ -19,7 +20,12 @@ use Rattle.rs_adjin.specs.declared.adj_ins.AdjIns.{AdjIns}
 use Rattle.rs_adjin.specs.AdjIns.{number_of}
 use Rattle.rs_outlet.specs.declared.outlet.Outlet.TheInside.{Inside}
 use Rattle.rs_outlet.specs.Views.{View, Table, Prefixes, Waiting}
-use Rattle.rs_outlet.specs.Places.{told_of, marked_told, is_withdrawal, withdrawn_count}
+use Rattle.rs_open.specs.Notes.{limit_octets}
+use Rattle.rs_packer.specs.Packed.{announcement}
+use Rattle.rs_outlet.specs.declared.waiting.Due.{Due}
+use Rattle.rs_outlet.specs.declared.waiting.Due.TheVariants as due
+use Rattle.rs_outlet.specs.Hashing.{attributes_hash}
+use Rattle.rs_outlet.specs.Places.{open_at, told_of, marked_told, is_withdrawal, withdrawn_count}
 
 -- ---- rows
 
@@ -120,6 +126,46 @@ abbrev pub waits_of : List Wait → Waiting
 waits_of [] = fin.empty
 waits_of (w ∷ ws) = if w.open then fin.insert (waits_of ws) w.prefix (is_withdrawal w.due) else waits_of ws
 
+-- ---- each place to be announced has its row, and each row fits
+
+-- the row of what is due at a place
+abbrev pub row_by : List (Option Row) → Due → Option Row
+row_by rows due.Withdrawn = None
+row_by rows (due.Announced number hash) = row_at rows number
+
+abbrev pub prefix_and_hash : Row → Prefix × ℕ
+prefix_and_hash r = (r.prefix, attributes_hash (arc_value r.attrs))
+
+-- the row of a number has this prefix, and attributes of this hash
+abbrev pub IsRowOf : List (Option Row) → ℕ → Prefix → ℕ → Type 0
+IsRowOf rows n p hash = option_map prefix_and_hash (row_at rows n) ≡ Some (p, hash)
+
+-- a place of this prefix that is to be announced has the row of the prefix
+abbrev pub IsBacked : List (Option Row) → Prefix → Due → Type 0
+IsBacked rows p due.Withdrawn = Unit {0}
+IsBacked rows p (due.Announced number hash) = IsRowOf rows number p hash
+
+abbrev pub AreBacked : List (Option Row) → List Wait → Type 0
+AreBacked rows ws = (q : Prefix) (w : Wait) → open_at q ws ≡ Some w → IsBacked rows w.prefix w.due
+
+-- a message to the client has room for these attributes beside this prefix
+abbrev pub FitsAlone : Speech → Prefix → List Attribute → Type 0
+FitsAlone speech p m = length (announcement m speech.mode (p ∷ [])) ≤ limit_octets speech.limit
+
+abbrev pub RowsFit : Speech → List (Option Row) → Type 0
+RowsFit speech rows = (n : ℕ) (r : Row) → row_at rows n ≡ Some r → FitsAlone speech r.prefix (arc_value r.attrs)
+
+abbrev pub ChangesFit : Speech → List Change → Type 0
+ChangesFit speech cs = AllByRecursion (λ c. IfSome c.due (λ attrs. FitsAlone speech c.prefix (arc_value attrs))) cs
+
+-- a row that has a route has this prefix
+abbrev pub IsOwn : Option Row → Prefix → Type 0
+IsOwn o p = (r : Row) → o ≡ Some r → r.prefix ≡ p
+
+-- each change stands at a row that is free or has its prefix
+abbrev pub AreOwn : List Change → List (Option Row) → Type 0
+AreOwn cs rows = AllByRecursion (λ c. IsOwn (row_at rows c.number) c.prefix) cs
+
 -- ---- what is touched
 
 abbrev pub prefixes_in : List (ℕ × Prefix) → List Prefix
@@ -159,13 +205,12 @@ view_of a = record {
 }
 
 abbrev pub room_of : Bool → ℕ
-room_of false = 4096
-room_of true = 65535
+room_of false = longest_message
+room_of true = longest_extended_message
 
--- the most prefixes that one message holds
+-- the most prefixes that one message holds, each of one octet, behind the header and two lengths
 abbrev pub batch_of : Bool → ℕ
-batch_of false = 4073
-batch_of true = 65512
+batch_of extended = room_of extended - 23
 
 pub record IsKept (a : Inside) : Type 0 where
   pub octets : vec_len a.octets ≡ room_of a.extended
@@ -176,3 +221,5 @@ pub record IsKept (a : Inside) : Type 0 where
   pub touched : 4096 ≤ hash_map_len a.touched.prefixes + spare a.touched.prefixes
   pub places : a.rows.used + withdrawn_count a.waits.places.items ≤ vec_capacity a.waits.places
   pub extended : (speech : Speech) → a.speech ≡ Some speech → speech.limit ≡ limits.Long → a.extended ≡ true
+  pub backed : AreBacked a.rows.rows.items a.waits.places.items
+  pub fit : (speech : Speech) → a.speech ≡ Some speech → RowsFit speech a.rows.rows.items

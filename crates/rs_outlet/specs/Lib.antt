@@ -9,7 +9,9 @@ pub mod Places
 pub mod Marking
 pub mod Owed
 pub mod Counted
+pub mod Hashing
 pub mod Inside
 pub mod Listing
 pub mod Choosing
 pub mod Begins
+pub mod Begun

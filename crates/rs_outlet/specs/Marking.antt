@@ -1,9 +1,11 @@
 -- What waits once a client asked for everything again.
-use Rattle.std.specs.Prelude.{◌≡◌, ◌⊎◌, Bool, true, false, Option, None, Some, IsSome, List, [], ◌∷◌, ◌++◌}
+use Rattle.std.specs.Prelude.{◌≡◌, ◌⊎◌, ℕ, Bool, true, false, Option, None, Some, IsSome, List, [], ◌∷◌, ◌++◌}
 use Rattle.std.specs.FinMap as fin
-use Rattle.rs_octets.specs.Prefixes.{Prefix}
 use Rattle.rs_attrs.specs.Meaning.{Attribute}
 use Rattle.rs_outlet.specs.declared.rows.Row.{Row}
+use Rattle.std.specs.Arc.{arc_value}
+use Rattle.rs_outlet.specs.Hashing.{attributes_hash}
+use Rattle.rs_outlet.specs.declared.waiting.Due.TheVariants as due
 use Rattle.rs_outlet.specs.declared.waiting.Told.{Told}
 use Rattle.rs_outlet.specs.declared.waiting.Told.TheVariants as told
 use Rattle.rs_outlet.specs.declared.waiting.Wait.{Wait}
@@ -29,25 +31,21 @@ abbrev pub MayWaitAgain : Option (List Attribute) → Option Wait → Option Wai
 MayWaitAgain due was None = was ≡ None
 MayWaitAgain due was (Some z) = WaitsAgain due was z
 
--- where a place is to be announced, something is due
-abbrev pub AreDueAt : Table → List Wait → Type 0
-AreDueAt loc ws = (q : Prefix) (w : Wait) → open_at q ws ≡ Some w → is_withdrawal w.due ≡ false → IsSome (fin.get loc q)
-
 -- a place among others that waits so, where this is due and these waited
 pub record IsPlacedAgain (loc : Table) (ws : List Wait) (z : Wait) : Type 0 where
   pub opened : z.open ≡ true
   pub again : WaitsAgain (fin.get loc z.prefix) (open_at z.prefix ws) z
 
--- a place for a row, whose prefix stands at none of these places
-pub record IsRowAdded (base : List Wait) (row : Row) (old new : List Wait) : Type 0 where
+-- a place for the row of a number, whose prefix stands at none of these places
+pub record IsRowAdded (base : List Wait) (number : ℕ) (row : Row) (old new : List Wait) : Type 0 where
   pub wait : Wait
   pub prefix : wait.prefix ≡ row.prefix
   pub opened : wait.open ≡ true
-  pub said : is_withdrawal wait.due ≡ false
+  pub due : wait.due ≡ due.Announced number (attributes_hash (arc_value row.attrs))
   pub told : wait.told ≡ told.Same
   pub marked : wait.marked ≡ true
   pub alone : open_at row.prefix base ≡ None
   pub added : new ≡ old ++ wait ∷ []
 
-abbrev pub MayAddRow : List Wait → Row → List Wait → List Wait → Type 0
-MayAddRow base row old new = (new ≡ old) ⊎ IsRowAdded base row old new
+abbrev pub MayAddRow : List Wait → ℕ → Row → List Wait → List Wait → Type 0
+MayAddRow base number row old new = (new ≡ old) ⊎ IsRowAdded base number row old new

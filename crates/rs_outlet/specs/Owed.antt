@@ -7,6 +7,8 @@ use Rattle.rs_attrs.specs.Meaning.{Attribute}
 use Rattle.rs_outlet.specs.declared.changes.Change.{Change}
 use Rattle.rs_outlet.specs.declared.waiting.Told.{Told}
 use Rattle.rs_outlet.specs.declared.waiting.Wait.{Wait}
+use Rattle.rs_outlet.specs.declared.rows.Row.{Row}
+use Rattle.rs_outlet.specs.Inside.{IsBacked}
 use Rattle.rs_outlet.specs.Views.{waits_at}
 use Rattle.rs_outlet.specs.Places.{is_withdrawal, open_at, told_of, told_by, marked_by, marked_told}
 
@@ -43,10 +45,11 @@ abbrev pub prefixes_of : List Change → List Prefix
 prefixes_of cs = map (λ c. c.prefix) cs
 
 -- a change is carried out where this was due: nothing of its prefix waits among the places, and what is owed there now is
--- listed behind the fresh ones
-pub record IsCarriedOut (c : Change) (was_due : Option (List Attribute)) (places fresh new_places new_fresh : List Wait) : Type 0 where
+-- listed behind the fresh ones, and has its row
+pub record IsCarriedOut (c : Change) (was_due : Option (List Attribute)) (rows : List (Option Row)) (places fresh new_places new_fresh : List Wait) : Type 0 where
   pub wait : Option Wait
   pub owed : IsOwed wait (option_map arc_value c.due) (told_by (open_at c.prefix places) was_due) (marked_by (open_at c.prefix places))
   pub place : IfSome wait (IsOpenAt c.prefix)
+  pub backed : IfSome wait (λ w. IsBacked rows w.prefix w.due)
   pub added : new_fresh ≡ fresh ++ listed wait
   pub closed : (q : Prefix) → open_at q new_places ≡ (if eq_by_cmp prefix_order q c.prefix then None else open_at q places)

@@ -1,6 +1,6 @@
 //! The changes of a turn carried out: the rows have what is due, and what the client was not told so waits.
 
-ghost use Rattle.std.specs.Prelude.{◌≡◌, ◌<◌, ◌≤◌, ◌+◌, ◌++◌, ℕ, [], List, Option, None, Some, true, false, option_map, vec_len, if◌then◌else◌, IfSome, IfOk, OnOk};
+ghost use Rattle.std.specs.Prelude.{◌≡◌, ◌≢◌, ◌<◌, ◌≤◌, ◌+◌, ◌++◌, ℕ, [], List, Option, None, Some, true, nat_eq, option_map, vec_len, if◌then◌else◌, IfSome, IfOk, IsTrue, OnOk};
 ghost use Rattle.std.specs.List.{IsDistinct};
 ghost use Rattle.std.specs.Arc.{arc_value};
 ghost use Rattle.std.specs.FinMap as fin;
@@ -11,9 +11,12 @@ ghost use Rattle.rs_adjin.specs.declared.adj_ins.AdjIns.{AdjIns};
 ghost use Rattle.rs_adjin.specs.AdjIns.{number_of};
 ghost use Rattle.rs_outlet.specs.Views.{HaveNumbers};
 ghost use Rattle.std.specs.Vec.{vec_capacity};
-ghost use Rattle.rs_outlet.specs.Places.{is_withdrawal, open_at, open_count, withdrawn_count};
+ghost use Rattle.rs_outlet.specs.Places.{open_at, open_count, withdrawn_count};
 ghost use Rattle.rs_outlet.specs.Owed.{IsBeside, IsCarriedOut, IsOpenAt, IsOwed, Keeps, listed, prefixes_of};
-ghost use Rattle.rs_outlet.specs.Inside.{ArePlaced, AreDue, HaveRows, attributes_at, is_changed, row_at, loc_of, numbers_from};
+ghost use Rattle.rs_outlet.specs.declared.answers.Speech.{Speech};
+ghost use Rattle.rs_outlet.specs.declared.waiting.Due.{Due};
+ghost use Rattle.rs_outlet.specs.Hashing.{attributes_hash};
+ghost use Rattle.rs_outlet.specs.Inside.{AreBacked, AreDue, AreOwn, ArePlaced, ChangesFit, FitsAlone, HaveRows, IsOwn, RowsFit, attributes_at, is_changed, numbers_of, row_at, loc_of, numbers_from};
 
 use crate::table::Rows;
 use crate::waiting::{Due, Told, Wait, Waits, hash_of};
@@ -34,6 +37,7 @@ pub(crate) struct Change {
 /// What waits at a prefix that is due no more, where this was told.
 fn withdrawn_wait(prefix: Prefix, told: Option<Arc<Attrs>>, marked: bool) -> Option<Wait>
     ensures owed { IsOwed result None (option_map arc_value told) marked }
+    ensures due { IfSome result (λ w. w.due ≡ Due.Withdrawn) }
     ensures place { IfSome result (IsOpenAt prefix) }
 {
     let told = told?;
@@ -73,8 +77,8 @@ fn announced_wait(
     marked: bool,
 ) -> Option<Wait>
     ensures owed { IsOwed result (Some (arc_value due.now)) (option_map arc_value told) marked }
+    ensures due { IfSome result (λ w. w.due ≡ Due.Announced number (attributes_hash (arc_value due.now))) }
     ensures place { IfSome result (IsOpenAt prefix) }
-    ensures said { IfSome result (λ wait. is_withdrawal wait.due ≡ false) }
 {
     let told = told_beside(due, told, marked)?;
     let hash = hash_of(due);
@@ -101,11 +105,14 @@ fn list_wait(fresh: &mut Vec<Wait>, wait: Option<Wait>)
 /// Carries out one change: its row has what is due, and what waits there then is listed.
 fn carry_out(rows: &mut Rows, waits: &mut Waits, fresh: &mut Vec<Wait>, change: Change)
     requires number { change.number < vec_len rows.old.rows }
+    requires own { IsOwn (row_at rows.old.rows.items change.number) change.prefix }
     requires more { vec_len fresh.old < vec_capacity fresh.old }
     ensures room { vec_len rows.new.rows ≡ vec_len rows.old.rows }
     ensures loc { (ins : AdjIns) → number_of ins change.prefix ≡ Some change.number → HaveNumbers (numbers_from 0 rows.old.rows.items) ins → (q : Prefix) → fin.get (loc_of rows.new.rows.items) q ≡ (if eq_by_cmp prefix_order q change.prefix then option_map arc_value change.due else fin.get (loc_of rows.old.rows.items) q) }
     ensures numbered { (ins : AdjIns) → number_of ins change.prefix ≡ Some change.number → HaveNumbers (numbers_from 0 rows.old.rows.items) ins → HaveNumbers (numbers_from 0 rows.new.rows.items) ins }
-    ensures waits { IsCarriedOut change (attributes_at rows.old.rows.items change.number) waits.old.places.items fresh.old.items waits.new.places.items fresh.new.items }
+    ensures others { (n : ℕ) → n ≢ change.number → row_at rows.new.rows.items n ≡ row_at rows.old.rows.items n }
+    ensures fit { (speech : Speech) → IfSome change.due (λ attrs. FitsAlone speech change.prefix (arc_value attrs)) → RowsFit speech rows.old.rows.items → RowsFit speech rows.new.rows.items }
+    ensures waits { IsCarriedOut change (attributes_at rows.old.rows.items change.number) rows.new.rows.items waits.old.places.items fresh.old.items waits.new.places.items fresh.new.items }
     ensures count { open_count waits.new.places.items ≤ open_count waits.old.places.items }
     ensures most { rows.new.used + (withdrawn_count waits.new.places.items + withdrawn_count fresh.new.items) ≤ rows.old.used + (withdrawn_count waits.old.places.items + withdrawn_count fresh.old.items) + 1 }
     ensures capacity { vec_capacity waits.new.places ≡ vec_capacity waits.old.places }
@@ -125,6 +132,28 @@ fn carry_out(rows: &mut Rows, waits: &mut Waits, fresh: &mut Vec<Wait>, change: 
             rows.put(number, prefix, due);
         }
     }
+}
+
+/// Whether the row of a number is free or has this prefix.
+fn is_own(rows: &Rows, number: u32, prefix: &Prefix) -> bool
+    ensures { IsTrue result → IsOwn (row_at rows.now.rows.items number) prefix.now }
+{
+    match rows.get(number) {
+        None => true,
+        Some(row) => row.prefix == *prefix,
+    }
+}
+
+/// Whether each change stands at a row that is free or has its prefix.
+pub(crate) fn are_own(changes: &[Change], rows: &Rows) -> bool
+    ensures { IsTrue result → AreOwn changes.now rows.now.rows.items }
+{
+    for change in changes {
+        if !is_own(rows, change.number, &change.prefix) {
+            return false;
+        }
+    }
+    true
 }
 
 /// Makes room for so many changes, and for all that may wait then.
@@ -163,6 +192,8 @@ pub(crate) fn make_room(
 pub(crate) fn commit(rows: &mut Rows, waits: &mut Waits, changes: Vec<Change>, mut fresh: Vec<Wait>)
     requires rows { HaveRows changes.items (vec_len rows.old.rows) }
     requires once { IsDistinct (eq_by_cmp prefix_order) (prefixes_of changes.items) }
+    requires numbers { IsDistinct nat_eq (numbers_of changes.items) }
+    requires own { AreOwn changes.items rows.old.rows.items }
     requires none { fresh.items ≡ [] }
     requires fresh { vec_len changes ≤ vec_capacity fresh }
     requires waits { open_count waits.old.places.items + vec_len changes ≤ vec_capacity waits.old.places }
@@ -170,6 +201,8 @@ pub(crate) fn commit(rows: &mut Rows, waits: &mut Waits, changes: Vec<Change>, m
     ensures all { rows.new.used + withdrawn_count waits.new.places.items ≤ vec_capacity waits.new.places }
     ensures loc { (ins : AdjIns) (due : Prefix → Option (List Attribute)) → ArePlaced changes.items ins → AreDue due changes.items → HaveNumbers (numbers_from 0 rows.old.rows.items) ins → (q : Prefix) → fin.get (loc_of rows.new.rows.items) q ≡ (if is_changed changes.items q then due q else fin.get (loc_of rows.old.rows.items) q) }
     ensures numbered { (ins : AdjIns) → ArePlaced changes.items ins → HaveNumbers (numbers_from 0 rows.old.rows.items) ins → HaveNumbers (numbers_from 0 rows.new.rows.items) ins }
+    ensures backed { AreBacked rows.old.rows.items waits.old.places.items → AreBacked rows.new.rows.items waits.new.places.items }
+    ensures fit { (speech : Speech) → ChangesFit speech changes.items → RowsFit speech rows.old.rows.items → RowsFit speech rows.new.rows.items }
     ensures keeps { (ins : AdjIns) → ArePlaced changes.items ins → HaveNumbers (numbers_from 0 rows.old.rows.items) ins → (q : Prefix) → Keeps (open_at q waits.old.places.items) (fin.get (loc_of rows.old.rows.items) q) (open_at q waits.new.places.items) (fin.get (loc_of rows.new.rows.items) q) }
 {
     for change in changes {

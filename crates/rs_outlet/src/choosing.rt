@@ -1,6 +1,6 @@
 //! Which places the next UPDATE is about, and that they wait no more once it is begun.
 
-ghost use Rattle.std.specs.Prelude.{◌≡◌, ◌≤◌, ◌<◌, ℕ, length, true, List, Option, None, Some, false, IsTrue, vec_len, slice_get, if◌then◌else◌};
+ghost use Rattle.std.specs.Prelude.{◌≡◌, ◌≤◌, ◌<◌, ◌++◌, ◌∷◌, [], ℕ, length, true, List, Option, None, Some, false, IsTrue, vec_len, option_copied, slice_get, if◌then◌else◌};
 ghost use Rattle.std.specs.List.{AllWithin, HoldsAt, list_any};
 ghost use Rattle.std.specs.Ordering.{eq_by_cmp};
 ghost use Rattle.std.specs.Vec.{vec_capacity};
@@ -9,8 +9,11 @@ ghost use Rattle.rs_attrs.specs.Meaning.{Attribute};
 ghost use Rattle.rs_outlet.specs.declared.rows.Row.{Row};
 ghost use Rattle.rs_outlet.specs.declared.waiting.Wait.{Wait};
 ghost use Rattle.rs_outlet.specs.Places.{prefixes_at, open_at, is_withdrawal, is_withdrawn, is_announced, withdrawn_count};
-ghost use Rattle.rs_outlet.specs.Choosing.{HasRow, HaveRoom, IsFound, IsChosen, AreChosen};
+ghost use Rattle.rs_outlet.specs.Choosing.{HasRow, HaveRoom, IsFound, IsChosen, AreChosen, MayList, Rise, WaitsFor};
+ghost use Rattle.rs_outlet.specs.Hashing.{attributes_hash};
+ghost use Rattle.rs_outlet.specs.Inside.{row_by};
 
+use crate::rows::Row;
 use crate::table::Rows;
 use crate::waiting::{Due, END, Wait, Waits, hash_of};
 use rs_attrs::Attrs;
@@ -56,6 +59,8 @@ impl Waits {
         ensures chosen { vec_capacity chosen.new ≡ vec_capacity chosen.old }
         ensures front { vec_capacity front.new ≡ vec_capacity front.old }
         ensures some { first < vec_len self.now.places → HoldsAt (λ w. is_withdrawn w ≡ true) self.now.places.items first → vec_len front.old < room → HaveRoom chosen.old front.old → 0 < vec_len front.new }
+        ensures first { first < vec_len self.now.places → HoldsAt (λ w. is_withdrawn w ≡ true) self.now.places.items first → vec_len front.old < room → HaveRoom chosen.old front.old → chosen.old.items ≡ [] → slice_get chosen.new.items 0 ≡ Some first }
+        ensures rise { chosen.old.items ≡ [] → Rise chosen.new.items }
         ensures are { (rows : List (Option Row)) → AreChosen rows self.now.places.items None chosen.old.items front.old.items → AreChosen rows self.now.places.items None chosen.new.items front.new.items }
     {
         for place in first..self.places.len() {
@@ -73,6 +78,8 @@ impl Waits {
         ensures front { vec_capacity front.new ≡ vec_capacity front.old }
         ensures grows { vec_len front.old ≤ vec_len front.new }
         ensures listed { HoldsAt (λ w. is_withdrawn w ≡ true) self.now.places.items place → HaveRoom chosen.old front.old → 0 < vec_len front.new }
+        ensures places { MayList place chosen.old.items chosen.new.items }
+        ensures there { HoldsAt (λ w. is_withdrawn w ≡ true) self.now.places.items place → HaveRoom chosen.old front.old → chosen.new.items ≡ chosen.old.items ++ place ∷ [] }
         ensures are { (rows : List (Option Row)) → AreChosen rows self.now.places.items None chosen.old.items front.old.items → AreChosen rows self.now.places.items None chosen.new.items front.new.items }
     {
         let wait = &self.places[place];
@@ -82,11 +89,14 @@ impl Waits {
         }
     }
 
-    /// The row that is due at a place.
-    pub(crate) fn number_at(&self, place: usize) -> Option<u32> {
-        match self.places.get(place)?.due {
+    /// The row of what is due at a place.
+    pub(crate) fn row_for<'a>(&self, rows: &'a Rows, place: usize) -> Option<&'a Row>
+        requires { place < vec_len self.now.places }
+        ensures { HoldsAt (λ w. option_copied result ≡ row_by rows.now.rows.items w.due) self.now.places.items place }
+    {
+        match self.places[place].due {
             Due::Withdrawn => None,
-            Due::Announced { number, .. } => Some(number),
+            Due::Announced { number, .. } => rows.get(number),
         }
     }
 
@@ -103,6 +113,9 @@ impl Waits {
     )
         ensures chosen { vec_capacity chosen.new ≡ vec_capacity chosen.old }
         ensures front { vec_capacity front.new ≡ vec_capacity front.old }
+        ensures some { first < vec_len self.now.places → HoldsAt (WaitsFor rows.now.rows.items attrs.now) self.now.places.items first → vec_len front.old < room → HaveRoom chosen.old front.old → 0 < vec_len front.new }
+        ensures first { first < vec_len self.now.places → HoldsAt (WaitsFor rows.now.rows.items attrs.now) self.now.places.items first → vec_len front.old < room → HaveRoom chosen.old front.old → chosen.old.items ≡ [] → slice_get chosen.new.items 0 ≡ Some first }
+        ensures rise { chosen.old.items ≡ [] → Rise chosen.new.items }
         ensures are { AreChosen rows.now.rows.items self.now.places.items (Some attrs.now) chosen.old.items front.old.items → AreChosen rows.now.rows.items self.now.places.items (Some attrs.now) chosen.new.items front.new.items }
     {
         let hash = hash_of(attrs);
@@ -115,7 +128,8 @@ impl Waits {
                 return;
             }
             self.list_announced(rows, place, hash, attrs, chosen, front);
-            place = self.links.get(place).copied().unwrap_or(END) as usize;
+            let next = self.links.get(place).copied().unwrap_or(END) as usize;
+            place = next.max(place + 1);
         }
     }
 
@@ -132,6 +146,10 @@ impl Waits {
         requires { place < vec_len self.now.places }
         ensures chosen { vec_capacity chosen.new ≡ vec_capacity chosen.old }
         ensures front { vec_capacity front.new ≡ vec_capacity front.old }
+        ensures grows { vec_len front.old ≤ vec_len front.new }
+        ensures listed { HoldsAt (WaitsFor rows.now.rows.items attrs.now) self.now.places.items place → hash ≡ attributes_hash attrs.now → HaveRoom chosen.old front.old → 0 < vec_len front.new }
+        ensures places { MayList place chosen.old.items chosen.new.items }
+        ensures there { HoldsAt (WaitsFor rows.now.rows.items attrs.now) self.now.places.items place → hash ≡ attributes_hash attrs.now → HaveRoom chosen.old front.old → chosen.new.items ≡ chosen.old.items ++ place ∷ [] }
         ensures are { AreChosen rows.now.rows.items self.now.places.items (Some attrs.now) chosen.old.items front.old.items → AreChosen rows.now.rows.items self.now.places.items (Some attrs.now) chosen.new.items front.new.items }
     {
         let wait = &self.places[place];
@@ -197,6 +215,8 @@ fn list_place(place: usize, prefix: Prefix, chosen: &mut Vec<usize>, front: &mut
     ensures front { vec_capacity front.new ≡ vec_capacity front.old }
     ensures grows { vec_len front.old ≤ vec_len front.new }
     ensures listed { HaveRoom chosen.old front.old → 0 < vec_len front.new }
+    ensures places { MayList place chosen.old.items chosen.new.items }
+    ensures there { HaveRoom chosen.old front.old → chosen.new.items ≡ chosen.old.items ++ place ∷ [] }
     ensures are { (rows : List (Option Row)) (ws : List Wait) (said : Option (List Attribute)) → AreChosen rows ws said chosen.old.items front.old.items → IsChosen rows ws said place prefix → AreChosen rows ws said chosen.new.items front.new.items }
 {
     if chosen.capacity() <= chosen.len() {
@@ -213,6 +233,7 @@ fn list_place(place: usize, prefix: Prefix, chosen: &mut Vec<usize>, front: &mut
 fn waits_for(rows: &Rows, wait: &Wait, hash: u32, attrs: &Attrs) -> bool
     ensures said { IsTrue result → is_withdrawal wait.now.due ≡ false }
     ensures row { IsTrue result → HasRow rows.now.rows.items wait.now.prefix attrs.now }
+    ensures all { WaitsFor rows.now.rows.items attrs.now wait.now → hash ≡ attributes_hash attrs.now → result ≡ true }
 {
     let Due::Announced {
         number,

@@ -1,11 +1,9 @@
 //! What is due to a client at one prefix (RFC 4271, 9.1; RFC 7947, 2.3).
 
-ghost use Rattle.std.specs.Prelude.{◌≡◌, ◌<◌, ◌++◌, length, map, Some, None, IfOk, IfSome, OnOk, All, option_map, option_and_then, slice_get};
+ghost use Rattle.std.specs.Prelude.{◌≡◌, ◌<◌, ◌++◌, length, Some, None, IfOk, OnOk, All, option_map, option_and_then, slice_get};
 ghost use Rattle.std.specs.List.{filter_map};
 ghost use Rattle.std.specs.Arc.{arc_value};
-ghost use Rattle.rs_adjin.specs.AdjIns.{client_count, held_of, identifier_of, number_of, ListsRoutes};
-ghost use Rattle.rs_adjin.specs.Listing.{sent_by};
-ghost use Rattle.rs_adjin.specs.Routes.{value_in};
+ghost use Rattle.rs_adjin.specs.AdjIns.{client_count, held_of, identifier_of, number_of, ListsHolders};
 ghost use Rattle.rs_policy.specs.Judged.{judged};
 ghost use Rattle.rs_policy.specs.Verdicts.{verdict};
 ghost use Rattle.rs_decision.specs.Best.{HasDistinctPlaces};
@@ -13,7 +11,7 @@ ghost use Rattle.rs_outlet.specs.Due.{Held, rank_of, rank_to, ranks_among, passe
 ghost use Rattle.rs_outlet.specs.HeldBy.{held_by};
 
 use crate::answers::Speech;
-use rs_adjin::{AdjIns, Route};
+use rs_adjin::{AdjIns, Holder, Holders};
 use rs_attrs::{Attrs, stripped};
 use rs_decision::{Rank, best};
 use rs_octets::Prefix;
@@ -30,65 +28,65 @@ pub(crate) struct Sources<'a> {
     pub(crate) client: usize,
 }
 
-fn rank(sources: &Sources<'_>, route: &Route, preference: u32) -> Rank
-    requires known { route.now.client < length sources.now.config.now.clients }
+fn rank(sources: &Sources<'_>, holder: &Holder<'_>, preference: u32) -> Rank
+    requires known { holder.now.client < length sources.now.config.now.clients }
     requires count { client_count sources.now.ins.now ≡ length sources.now.config.now.clients }
-    ensures { result ≡ rank_of (held_by sources.now) route.now.client (arc_value route.now.attrs) preference }
+    ensures { result ≡ rank_of (held_by sources.now) holder.now.client (arc_value holder.now.attrs.now) preference }
 {
     let config = sources.config;
-    let attrs = &*route.attrs;
+    let attrs = &**holder.attrs;
     Rank {
         preference,
         path_len: attrs.path_len(),
         origin: attrs.origin().unwrap_or(0),
         med: attrs.med(),
-        neighbour: config.client_as(route.client),
-        identifier: sources.ins.identifier(route.client),
-        address: config.peer(route.client),
-        place: route.client,
+        neighbour: config.client_as(holder.client),
+        identifier: sources.ins.identifier(holder.client),
+        address: config.peer(holder.client),
+        place: holder.client,
     }
 }
 
-/// The rank of a route, where it is a candidate for the client.
-fn rank_to(sources: &Sources<'_>, prefix: &Prefix, route: &Route) -> Option<Rank>
+/// The rank of a holder's route, where it is a candidate for the client.
+fn rank_to(sources: &Sources<'_>, prefix: &Prefix, holder: &Holder<'_>) -> Option<Rank>
     requires client { sources.now.client < length sources.now.config.now.clients }
-    requires known { route.now.client < length sources.now.config.now.clients }
+    requires known { holder.now.client < length sources.now.config.now.clients }
     requires count { client_count sources.now.ins.now ≡ length sources.now.config.now.clients }
-    ensures { result ≡ rank_to (held_by sources.now) sources.now.client prefix.now (sent_by route.now) }
+    ensures { result ≡ rank_to (held_by sources.now) sources.now.client prefix.now (holder.now.client, arc_value holder.now.attrs.now) }
 {
-    if route.client == sources.client {
+    if holder.client == sources.client {
         return None;
     }
-    if route.attrs.path_has(sources.config.server_as()) {
+    if holder.attrs.path_has(sources.config.server_as()) {
         return None;
     }
     match judge(
         sources.config,
-        route.client,
+        holder.client,
         sources.client,
         prefix,
-        &route.attrs,
+        holder.attrs,
     ) {
         Fate::Drop => None,
-        Fate::Pass { preference, .. } => Some(rank(sources, route, preference)),
+        Fate::Pass { preference, .. } => Some(rank(sources, holder, preference)),
     }
 }
 
-/// Lists the ranks of the candidates among these routes.
+/// Lists the ranks of the candidates among the routes of these holders.
 fn rank_all(
     sources: &Sources<'_>,
     prefix: &Prefix,
-    routes: &[Route],
+    holders: Holders<'_>,
     ranks: &mut Vec<Rank>,
 ) -> Result<(), AllocError>
     requires client { sources.now.client < length sources.now.config.now.clients }
-    requires known { All (λ r. r.client < length sources.now.config.now.clients) routes.now }
+    requires known { All (λ h. h.0 < length sources.now.config.now.clients) holders }
     requires count { client_count sources.now.ins.now ≡ length sources.now.config.now.clients }
-    ensures { OnOk result (ranks.new.items ≡ ranks_among (held_by sources.now) sources.now.client prefix.now (map sent_by routes.now)) }
+    ensures { OnOk result (ranks.new.items ≡ ranks_among (held_by sources.now) sources.now.client prefix.now holders.entry) }
 {
     ranks.clear();
-    for route in routes {
-        if let Some(rank) = rank_to(sources, prefix, route) {
+    for holder in holders {
+        if let Some(rank) = rank_to(sources, prefix, &holder) {
             ranks.push(rank)?;
         }
     }
@@ -100,25 +98,25 @@ fn pass_on(
     alloc: Global,
     sources: &Sources<'_>,
     prefix: &Prefix,
-    route: &Route,
+    holder: &Holder<'_>,
 ) -> Result<Option<Arc<Attrs>>, AllocError>
     requires client { sources.now.client < length sources.now.config.now.clients }
-    requires known { route.now.client < length sources.now.config.now.clients }
-    ensures { IfOk result (λ passed. option_map arc_value passed ≡ passed_on (arc_value route.now.attrs) (verdict sources.now.config.now route.now.client sources.now.client prefix.now (arc_value route.now.attrs))) }
+    requires known { holder.now.client < length sources.now.config.now.clients }
+    ensures { IfOk result (λ passed. option_map arc_value passed ≡ passed_on (arc_value holder.now.attrs.now) (verdict sources.now.config.now holder.now.client sources.now.client prefix.now (arc_value holder.now.attrs.now))) }
 {
     match judge(
         sources.config,
-        route.client,
+        holder.client,
         sources.client,
         prefix,
-        &route.attrs,
+        holder.attrs,
     ) {
         Fate::Drop => Ok(None),
         Fate::Pass { strip, .. } => {
-            if strip.changes(&route.attrs) {
-                Ok(Some(Arc::new(alloc, stripped(alloc, &route.attrs, &strip)?)?))
+            if strip.changes(holder.attrs) {
+                Ok(Some(Arc::new(alloc, stripped(alloc, holder.attrs, &strip)?)?))
             } else {
-                Ok(Some(route.attrs.clone()?))
+                Ok(Some(holder.attrs.clone()?))
             }
         }
     }
@@ -135,19 +133,6 @@ fn if_fits(speech: Speech, prefix: &Prefix, attrs: Arc<Attrs>) -> Option<Arc<Att
     }
 }
 
-/// A client's route among these.
-fn route_of(routes: &[Route], client: usize) -> Option<&Route>
-    ensures value { option_map (λ r. arc_value r.now.attrs) result ≡ value_in client routes.now }
-    ensures client { IfSome result (λ r. r.now.client ≡ client) }
-{
-    for route in routes {
-        if route.client == client {
-            return Some(route);
-        }
-    }
-    None
-}
-
 /// What is due to the client at a prefix: the best of the candidates, as it is passed on, where it fits.
 pub(crate) fn decide(
     alloc: Global,
@@ -162,18 +147,21 @@ pub(crate) fn decide(
     requires count { client_count sources.now.ins.now ≡ length sources.now.config.now.clients }
     ensures { IfOk result (λ due. option_map arc_value due ≡ due_to (held_by sources.now) sources.now.client speech prefix.now) }
 {
-    let routes = sources.ins.at_number(number);
-    rank_all(sources, prefix, routes, ranks)?;
+    rank_all(sources, prefix, sources.ins.at_number(number), ranks)?;
     let Some(place) = best(ranks) else {
         return Ok(None);
     };
     let Some(rank) = ranks.get(place) else {
         return Ok(None);
     };
-    let Some(route) = route_of(routes, rank.place) else {
+    let Some(attrs) = sources.ins.route_at(rank.place, number) else {
         return Ok(None);
     };
-    match pass_on(alloc, sources, prefix, route)? {
+    let holder = Holder {
+        client: rank.place,
+        attrs,
+    };
+    match pass_on(alloc, sources, prefix, &holder)? {
         None => Ok(None),
         Some(attrs) => Ok(if_fits(speech, prefix, attrs)),
     }

@@ -1,5 +1,18 @@
 //! The Adj-RIB-Out of one client (RFC 4271, 3.2; RFC 7947, 2.3.2): what is due to it, what it was
 //! told, and the message in flight.
+//!
+//! In come the begin and the end of the client's session, the prefixes that others touched, and
+//! turns, which read the Adj-RIBs-In and the configuration; out go the octets of the next message,
+//! as far as the link takes them, and the routes of the client's Loc-RIB.
+//!
+//! - `outlet` has the calls: `Outlet`; `answers` what it is told of its client, and what a turn
+//!   answers.
+//! - `touched` is what the next turn decides; `turn` decides it, by `deciding`, which says what is
+//!   due at one prefix; `changes` puts that into `rows`, the Loc-RIB by number, and into
+//!   `waiting`, what is to be sent. `marking` makes all that was told wait again.
+//! - `choosing` says which places the next UPDATE is about, `sending` and `fill` begin the next
+//!   message.
+//! - `routes` shows the Loc-RIB; `laws` are contracts of functions that do nothing.
 #![tactic(auto)]
 
 mod answers;

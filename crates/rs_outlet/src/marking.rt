@@ -8,12 +8,12 @@ ghost use Rattle.std.specs.Ordering.{eq_by_cmp};
 ghost use Rattle.std.specs.Vec.{vec_capacity};
 ghost use Rattle.rs_octets.specs.Prefixes.{Prefix, prefix_order};
 ghost use Rattle.rs_outlet.specs.Places.{open_at, prefixes_at, still_open, withdrawn_count};
-ghost use Rattle.rs_outlet.specs.Inside.{loc_of};
-ghost use Rattle.rs_outlet.specs.Marking.{AreDueAt, MayAddRow, MayWaitAgain, is_told, remarked};
+ghost use Rattle.rs_outlet.specs.Inside.{AreBacked, loc_of};
+ghost use Rattle.rs_outlet.specs.Marking.{MayAddRow, MayWaitAgain, is_told, remarked};
 
 use crate::rows::Row;
 use crate::table::Rows;
-use crate::waiting::{Due, END, Told, Wait, Waits, count_open, hash_of, put_in_order};
+use crate::waiting::{Due, Told, Wait, Waits, count_open, hash_of, put_in_order};
 use rs_octets::Prefix;
 
 impl Waits {
@@ -21,9 +21,10 @@ impl Waits {
     pub(crate) fn mark_all(&mut self, rows: &Rows)
         requires { rows.now.used + withdrawn_count self.old.places.items ≤ vec_capacity self.old.places }
         ensures again { (q : Prefix) → MayWaitAgain (fin.get (loc_of rows.now.rows.items) q) (open_at q self.old.places.items) (open_at q self.new.places.items) }
-        ensures all { AreDueAt (loc_of rows.now.rows.items) self.old.places.items → (q : Prefix) → IsSome (fin.get (loc_of rows.now.rows.items) q) → IsSome (open_at q self.new.places.items) }
+        ensures all { AreBacked rows.now.rows.items self.old.places.items → (q : Prefix) → IsSome (fin.get (loc_of rows.now.rows.items) q) → IsSome (open_at q self.new.places.items) }
         ensures withdrawn { withdrawn_count self.new.places.items ≤ withdrawn_count self.old.places.items }
         ensures capacity { vec_capacity self.new.places ≡ vec_capacity self.old.places }
+        ensures backed { AreBacked rows.now.rows.items self.old.places.items → AreBacked rows.now.rows.items self.new.places.items }
     {
         add_rows(&mut self.places, rows);
         self.waiting = count_open(&self.places);
@@ -48,17 +49,17 @@ fn add_rows(places: &mut Vec<Wait>, rows: &Rows)
     requires room { rows.now.used + withdrawn_count places.old.items ≤ vec_capacity places.old }
     ensures rises { IsStrictlySortedBy prefix_order (prefixes_at places.new.items) }
     ensures again { (q : Prefix) → MayWaitAgain (fin.get (loc_of rows.now.rows.items) q) (open_at q places.old.items) (open_at q places.new.items) }
-    ensures all { AreDueAt (loc_of rows.now.rows.items) places.old.items → (q : Prefix) → IsSome (fin.get (loc_of rows.now.rows.items) q) → IsSome (open_at q places.new.items) }
+    ensures all { AreBacked rows.now.rows.items places.old.items → (q : Prefix) → IsSome (fin.get (loc_of rows.now.rows.items) q) → IsSome (open_at q places.new.items) }
     ensures withdrawn { withdrawn_count places.new.items ≤ withdrawn_count places.old.items }
     ensures capacity { vec_capacity places.new ≡ vec_capacity places.old }
+    ensures backed { AreBacked rows.now.rows.items places.old.items → AreBacked rows.now.rows.items places.new.items }
 {
     drop_shut(places);
     mark_told(places);
     let waited = places.len();
     for place in 0..rows.count() {
         if let Some(row) = rows.at(place) {
-            let number = u32::try_from(place).unwrap_or(END);
-            add_row(places, waited, number, row);
+            add_row(places, waited, place as u32, row);
         }
     }
     put_in_order(places);
@@ -86,7 +87,7 @@ fn mark_told(places: &mut Vec<Wait>)
 fn add_row(places: &mut Vec<Wait>, waited: usize, number: u32, row: &Row)
     requires waited { waited ≤ vec_len places.old }
     requires rises { IsStrictlySortedBy prefix_order (prefixes_at (take waited places.old.items)) }
-    ensures again { MayAddRow (take waited places.old.items) row.now places.old.items places.new.items }
+    ensures again { MayAddRow (take waited places.old.items) number row.now places.old.items places.new.items }
     ensures listed { vec_len places.old < vec_capacity places.old → list_any (eq_by_cmp prefix_order row.now.prefix) (prefixes_at places.new.items) ≡ true }
     ensures capacity { vec_capacity places.new ≡ vec_capacity places.old }
 {

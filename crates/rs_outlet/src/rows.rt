@@ -67,7 +67,7 @@ impl Rows {
         }
     }
 
-    /// There is a row for each of the first numbers.
+    /// There is a row for each of the first numbers. It is refused where 32 bits don't count them.
     pub(crate) fn grow(&mut self, count: usize) -> Result<(), AllocError>
         ensures rows { (n : ℕ) → row_at self.new.rows.items n ≡ row_at self.old.rows.items n }
         ensures loc { loc_of self.new.rows.items ≡ loc_of self.old.rows.items }
@@ -75,6 +75,9 @@ impl Rows {
         ensures room { OnOk result (count ≤ vec_len self.new.rows) }
         ensures used { self.new.used ≡ self.old.used }
     {
+        let Ok(_) = u32::try_from(count) else {
+            return Err(AllocError);
+        };
         let more = count.saturating_sub(self.rows.len());
         self.rows.reserve(more)?;
         for _ in 0..more {

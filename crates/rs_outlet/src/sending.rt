@@ -9,12 +9,13 @@ ghost use Rattle.rs_packer.specs.Packed.{announcement, withdrawal};
 ghost use Rattle.rs_outlet.specs.Next.{note_octets};
 ghost use Rattle.rs_outlet.specs.Begins.{BeginsUpdate};
 ghost use Rattle.rs_outlet.specs.Views.{WaitsAreExact};
-ghost use Rattle.rs_outlet.specs.Choosing.{HaveRoom, MayUpdate, NoneWithdrawn};
+ghost use Rattle.rs_outlet.specs.Choosing.{HaveRoom, MayUpdate, NoneWithdrawn, WaitsFor};
+ghost use Rattle.rs_outlet.specs.Inside.{AreBacked, RowsFit};
 ghost use Rattle.rs_outlet.specs.declared.answers.Speech.{Speech};
 ghost use Rattle.rs_outlet.specs.declared.rows.Row.{Row};
-ghost use Rattle.std.specs.List.{HoldsAt};
+ghost use Rattle.std.specs.List.{AllWithin, HoldsAt};
 ghost use Rattle.std.specs.Vec.{vec_capacity};
-ghost use Rattle.rs_outlet.specs.Places.{is_withdrawn};
+ghost use Rattle.rs_outlet.specs.Places.{is_announced, is_withdrawn};
 ghost use Rattle.rs_open.specs.Notes.{limit_octets};
 
 use crate::answers::Speech;
@@ -24,7 +25,7 @@ use crate::waiting::Waits;
 use rs_attrs::{Attrs, Mode, attributes_are_legal};
 use rs_octets::Prefix;
 use rs_open::{Limit, Short, write_keepalive, write_note};
-use rs_packer::{Packed, fits, pack_announced, pack_withdrawn};
+use rs_packer::{Packed, pack_announced, pack_withdrawn};
 
 const NOTHING: Packed = Packed {
     octets: 0,
@@ -124,6 +125,7 @@ fn put_gone(
 ) -> Packed
     requires room { limit_octets limit ≤ vec_len out.old }
     requires some { (first < vec_len waits.now.places) × HoldsAt (λ w. is_withdrawn w ≡ true) waits.now.places.items first }
+    requires before { AllWithin (λ w. is_withdrawn w ≡ false) waits.now.places.items 0 first }
     requires empty { HaveRoom chosen.old front.old }
     requires none { (chosen.old.items ≡ []) × (front.old.items ≡ []) }
     ensures most { result.octets ≤ limit_octets limit }
@@ -153,6 +155,10 @@ fn put_news(
 ) -> Packed
     requires room { limit_octets speech.limit ≤ vec_len out.old }
     requires in_turn { NoneWithdrawn waits.now.places.items }
+    requires some { (first < vec_len waits.now.places) × HoldsAt (WaitsFor rows.now.rows.items attrs.now) waits.now.places.items first }
+    requires before { AllWithin (λ w. is_announced w ≡ false) waits.now.places.items 0 first }
+    requires fit { RowsFit speech rows.now.rows.items }
+    requires empty { HaveRoom chosen.old front.old }
     requires none { (chosen.old.items ≡ []) × (front.old.items ≡ []) }
     ensures most { result.octets ≤ limit_octets speech.limit }
     ensures room { vec_len out.new ≡ vec_len out.old }
@@ -161,12 +167,6 @@ fn put_news(
     ensures update { MayUpdate speech rows.now.rows.items waits.now.places.items chosen.new.items front.new.items out.new.items result }
 {
     waits.collect_announced(rows, first, attrs, front.capacity(), chosen, front);
-    let Some(least) = front.first() else {
-        return NOTHING;
-    };
-    if !fits(attrs, speech.mode, least, speech.limit.octets()) {
-        return NOTHING;
-    }
     attributes_are_legal(attrs);
     put_announcement(attrs, speech, front, out)
 }
@@ -181,6 +181,8 @@ fn put_update(
     out: &mut Vec<u8>,
 ) -> Packed
     requires room { limit_octets speech.limit ≤ vec_len out.old }
+    requires backed { AreBacked rows.now.rows.items waits.old.places.items }
+    requires fit { RowsFit speech rows.now.rows.items }
     requires empty { HaveRoom chosen.old front.old }
     requires none { (chosen.old.items ≡ []) × (front.old.items ≡ []) }
     ensures most { result.octets ≤ limit_octets speech.limit }
@@ -197,10 +199,7 @@ fn put_update(
     let Some(first) = waits.first_announced() else {
         return NOTHING;
     };
-    let Some(number) = waits.number_at(first) else {
-        return NOTHING;
-    };
-    let Some(row) = rows.get(number) else {
+    let Some(row) = waits.row_for(rows, first) else {
         return NOTHING;
     };
     put_news(rows, waits, first, &row.attrs, speech, chosen, front, out)

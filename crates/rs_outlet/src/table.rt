@@ -1,6 +1,6 @@
 //! The table of a Loc-RIB: its rows, and how many of them have a route.
 
-ghost use Rattle.std.specs.Prelude.{◌≡◌, is_some, count_by};
+ghost use Rattle.std.specs.Prelude.{◌≡◌, ◌≤◌, is_some, count_by, vec_len};
 
 use crate::rows::Row;
 
@@ -11,4 +11,5 @@ pub(crate) struct Rows {
     /// How many rows have a route.
     pub(crate) used: usize,
     ghost counted: { count_by is_some rows.items ≡ used },
+    ghost numbered: { vec_len rows ≤ 4294967295 },
 }

@@ -15,7 +15,7 @@ ghost use Rattle.rs_outlet.specs.HeldBy.{held_by};
 ghost use Rattle.rs_outlet.specs.Inside.{AreDecided, IsDecidedAt, attributes_at, is_number_touched, is_numbered_in, shown, touched_of};
 
 use crate::answers::{Last, Speech, Turned};
-use crate::changes::{Change, commit, make_room};
+use crate::changes::{Change, are_own, commit, make_room};
 use crate::deciding::{Sources, decide};
 use crate::outlet::Outlet;
 use crate::rows::Row;
@@ -210,12 +210,14 @@ fn decide_all_touched(
 }
 
 impl Outlet {
-    /// A turn of a client that is Established. Nothing is written before all memory is there.
+    /// A turn of a client that is Established. Nothing is written before all memory is there. It is
+    /// refused where a row stands at the number of another prefix.
     pub(crate) fn turn_up(
         &mut self,
         speech: Speech,
         sources: &Sources<'_>,
     ) -> Result<Turned, AllocError>
+        requires speech { self.old.speech ≡ Some speech }
         requires client { sources.now.client < length sources.now.config.now.clients }
         requires count { client_count sources.now.ins.now ≡ length sources.now.config.now.clients }
         ensures client { self.new.client ≡ self.old.client }
@@ -243,6 +245,9 @@ impl Outlet {
             decided: count,
             whole: self.touched.is_all(),
         };
+        if !are_own(&changes, &self.rows) {
+            return Err(AllocError);
+        }
         let numbers = sources.ins.numbers();
         let fresh = make_room(
             self.alloc,

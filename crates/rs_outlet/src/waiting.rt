@@ -9,10 +9,11 @@ ghost use Rattle.std.specs.Prelude.{◌≡◌, ◌≤◌, ◌<◌, ◌+◌, ℕ,
 ghost use Rattle.std.specs.List.{AllWithin, Contains, IsDistinct, list_any};
 ghost use Rattle.std.specs.Arc.{arc_value};
 ghost use Rattle.std.specs.Ordering.{eq_by_cmp};
-ghost use Rattle.std.specs.List.Sorted.{IsPermutation, IsStrictlySortedBy, IsStrictlySortedBy-prop};
+ghost use Rattle.std.specs.List.Sorted.{IsPermutation, IsSortedByKey, IsStrictlySortedBy, IsStrictlySortedBy-prop};
 ghost use Rattle.std.specs.Vec.{vec_capacity};
 ghost use Rattle.rs_octets.specs.Prefixes.{Prefix, prefix_order};
 ghost use Rattle.rs_outlet.specs.declared.waiting.Wait.{Wait};
+ghost use Rattle.rs_outlet.specs.Hashing.{attributes_hash};
 ghost use Rattle.rs_outlet.specs.Places.{AreFresh, IsOpenPlace, still_open, prefixes_at, open_count, withdrawn_count, is_withdrawn, is_announced, open_at, told_of, told_by, marked_by};
 
 use rs_attrs::Attrs;
@@ -266,8 +267,21 @@ pub(crate) fn put_in_order(places: &mut Vec<Wait>)
     ensures withdrawn { withdrawn_count places.new.items ≤ withdrawn_count places.old.items }
     ensures capacity { vec_capacity places.new ≡ vec_capacity places.old }
 {
-    places.sort_unstable_by_key(|wait| wait.prefix);
+    sort_by_prefix(places);
     places.dedup_by_key(|wait| wait.prefix);
+}
+
+/// Sorts the places. What waited before is in order, and a stable sort goes over such a run once; it
+/// wants a buffer, and where it is refused one the sort does without.
+fn sort_by_prefix(places: &mut Vec<Wait>)
+    ensures permutation { IsPermutation places.old.items places.new.items }
+    ensures sorted { IsSortedByKey (λ w. w.prefix) prefix_order places.new.items }
+    ensures capacity { vec_capacity places.new ≡ vec_capacity places.old }
+{
+    match places.sort_by_key(|wait| wait.prefix) {
+        Ok(()) => {}
+        Err(_) => places.sort_unstable_by_key(|wait| wait.prefix),
+    }
 }
 
 /// Drops the places that wait no more, and adds others, for which there is room.
@@ -286,7 +300,9 @@ fn add_places(places: &mut Vec<Wait>, more: Vec<Wait>)
 }
 
 /// A hash of attributes.
-pub(crate) fn hash_of(attrs: &Attrs) -> u32 {
+pub(crate) fn hash_of(attrs: &Attrs) -> u32
+    ensures { result ≡ attributes_hash attrs.now }
+{
     let hash = BuildHasherDefault::<FoldHasher>::new().hash_one(attrs);
     (hash % 0x1_0000_0000) as u32
 }

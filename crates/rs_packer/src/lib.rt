@@ -1,5 +1,13 @@
-//! UPDATE messages, written into slices that are lent: the longest front of a list of prefixes that
-//! fits into one message (RFC 4271, 4.3). No call takes memory.
+//! UPDATE messages, written into slices that are lent (RFC 4271, 4.3).
+//!
+//! Attributes and prefixes come in, or prefixes alone that are withdrawn; out go the octets of the
+//! UPDATE with the longest front of the prefixes that fits into one message, and how many they
+//! are. No call takes memory.
+//!
+//! - `announced` and `withdrawn` have the calls, `packed` is their answer.
+//! - `fields` writes the fields of prefixes, and says how many fit.
+//! - `laws` are contracts of functions that do nothing: what is written is one message, and
+//!   denotes just these prefixes with these attributes.
 #![tactic(auto)]
 
 mod announced;

@@ -1,4 +1,16 @@
 //! The configuration of a route server and the rules by which it passes routes on.
+//!
+//! The text of a configuration comes in, and out go its settings, or the first fault with its
+//! place. A route and the two clients that it is between come in, and out goes the verdict of the
+//! rules: the route is dropped, or is passed with a preference and without some communities.
+//!
+//! - `config` and its folder read a text: `top` the keys at its top, `clients` and `policies` its
+//!   tables, `rule_tables` the rules, all by `arrays`, `values` and `texts`; `replacing` says
+//!   which configuration can take the place of one that is in use.
+//! - `rules` are rules as values; `rules/verdict` is what they make of a route.
+//! - `faults` says what can be wrong and where, and writes it in words; `faults/line` is such a
+//!   line.
+//! - `laws` are contracts of functions that do nothing.
 #![tactic(auto)]
 
 mod config;

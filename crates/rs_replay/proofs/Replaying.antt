@@ -146,7 +146,7 @@ module _ {R W : Type 0} (takes : R → List ℕ → R → Type 0) (at_end : R �
       → Plays takes at_end fails puts loses place first to sayings octets reader writer r n (Some (Fault fault)) → IsOver takes at_end puts place first to sayings octets reader writer (Err fault)
   over_failed (Line m f) other p = absurd (other m f refl)
   over_failed Memory other p = record { text = p.text; taken = p.taken; ends = p.stands; gives = inl p.put }
-  over_failed Reading other p = record { text = p.text; taken = p.taken; ends = p.stands; gives = inl p.put }
+  over_failed Reading other p = record { text = p.text; taken = p.taken; ends = p.stands; gives = p.put }
   over_failed Writing other p = record { text = p.text; taken = p.taken; ends = p.stands; gives = inl p.put }
 
   -- with the line of a line's fault as the last, or with a front of it
@@ -172,10 +172,10 @@ module _ {R W : Type 0} (takes : R → List ℕ → R → Type 0) (at_end : R �
     as_it_was h = record { text = p.text; taken = p.taken; ends = p.stands; gives = h }
 
     at_memory : puts_it Memory → is_over Memory
-    at_memory h = record { text = p.text; taken = p.taken; ends = first_said; gives = inr (m, fault, h) }
+    at_memory h = record { text = p.text; taken = p.taken; ends = first_said; gives = inr (m, fault, p.stands, h) }
 
     at_writing : puts_it Writing → is_over Writing
-    at_writing h = record { text = p.text; taken = p.taken; ends = first_said; gives = inr (m, fault, h) }
+    at_writing h = record { text = p.text; taken = p.taken; ends = first_said; gives = inr (m, fault, p.stands, h) }
 
     moved : (f : ReplayFault) → (puts_it f → is_over f) → answer ≡ f → is_over answer
     moved f h e = subst (λ x. puts_it x → is_over x) (sym e) h q

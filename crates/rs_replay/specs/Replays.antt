@@ -75,25 +75,34 @@ pub record Plays {R W : Type 0} (takes : R → List ℕ → R → Type 0) (at_en
   pub reads : fails reader ≡ failures_read stop (fails first)
   pub writes : loses writer ≡ failures_written stop (loses to)
 
+-- the stop that a replay with this answer came to
+abbrev pub end_of : Result (Unit {0}) ReplayFault → Option Stop
+end_of (Ok done) = Some End
+end_of (Err fault) = Some (Fault fault)
+
+-- what was done is what the text says up to its first fault: this one, of a line that was read
+abbrev pub EndsAt : (List ℕ → Option ℕ) → List ℕ → Type 0 → List Saying → ℕ → LineFault → Type 0
+EndsAt place text over sayings m fault = (outcome place 1 (lines_of text) ≡ tells sayings (Some (m, fault))) × IsRead text m fault over
+
 -- how the text ends in the answer of a replay
 abbrev pub Ends : (List ℕ → Option ℕ) → List ℕ → Type 0 → List Saying → Result (Unit {0}) ReplayFault → Type 0
 Ends place text over sayings (Ok done) = (outcome place 1 (lines_of text) ≡ tells sayings None) × over
-Ends place text over sayings (Err (Line m fault)) = (outcome place 1 (lines_of text) ≡ tells sayings (Some (m, fault))) × IsRead text m fault over
+Ends place text over sayings (Err (Line m fault)) = EndsAt place text over sayings m fault
 Ends place text over sayings (Err Memory) = SaysFirst place text sayings
 Ends place text over sayings (Err Reading) = SaysFirst place text sayings
 Ends place text over sayings (Err Writing) = SaysFirst place text sayings
 
--- a front of these octets was put, behind which the line of a fault may have begun
-abbrev pub BreaksOff : (List ℕ → Type 0) → List ℕ → Type 0
-BreaksOff put octets = PutsFront put octets ⊎ ((m : ℕ) × (fault : LineFault) × PutsFront put (octets ++ fault_line m fault))
+-- a front of these octets was put; or the text ends at a fault, and the front goes on into that fault's line
+abbrev pub BreaksOff : (ℕ → LineFault → Type 0) → (List ℕ → Type 0) → List ℕ → Type 0
+BreaksOff ends put octets = PutsFront put octets ⊎ ((m : ℕ) × (fault : LineFault) × ends m fault × PutsFront put (octets ++ fault_line m fault))
 
 -- the output: all of it, with the line of a line's fault as the last, or a front of it
-abbrev pub Gives : (List ℕ → Type 0) → List ℕ → Result (Unit {0}) ReplayFault → Type 0
-Gives put octets (Ok done) = put octets
-Gives put octets (Err (Line m fault)) = put (octets ++ fault_line m fault)
-Gives put octets (Err Memory) = BreaksOff put octets
-Gives put octets (Err Reading) = BreaksOff put octets
-Gives put octets (Err Writing) = BreaksOff put octets
+abbrev pub Gives : (ℕ → LineFault → Type 0) → (List ℕ → Type 0) → List ℕ → Result (Unit {0}) ReplayFault → Type 0
+Gives ends put octets (Ok done) = put octets
+Gives ends put octets (Err (Line m fault)) = put (octets ++ fault_line m fault)
+Gives ends put octets (Err Memory) = BreaksOff ends put octets
+Gives ends put octets (Err Reading) = PutsFront put octets
+Gives ends put octets (Err Writing) = BreaksOff ends put octets
 
 -- the names are those of the configuration, in its order
 abbrev pub AreNamesOf : Names → Configuration → Type 0
@@ -121,7 +130,7 @@ pub record IsPlayed (settings : Configuration) (takes : List ℕ → Type 0) (ov
   pub text : List ℕ
   pub taken : takes text
   pub ends : Ends (place_in names) text over (said acts) result
-  pub gives : Gives put (written (name_in names) acts) result
+  pub gives : Gives (EndsAt (place_in names) text over (said acts)) put (written (name_in names) acts) result
   pub took : AllTookAll acts
   pub run : List Move
   pub ran : HasRun settings acts run
@@ -170,7 +179,7 @@ pub record IsOver {R W : Type 0} (takes : R → List ℕ → R → Type 0) (at_e
   pub text : List ℕ
   pub taken : takes first text reader
   pub ends : Ends place text (at_end reader) sayings answer
-  pub gives : Gives (λ xs. puts to xs writer) octets answer
+  pub gives : Gives (EndsAt place text (at_end reader) sayings) (λ xs. puts to xs writer) octets answer
 
 -- Some acts were done since the first reader and writer, and then the replay ended with this answer. Each offer took all.
 pub record PlaysOut {R W : Type 0} (settings : Configuration) (takes : R → List ℕ → R → Type 0) (at_end : R → Type 0) (puts : W → List ℕ → W → Type 0)

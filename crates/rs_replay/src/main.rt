@@ -3,7 +3,7 @@
 //! A trace comes in by `text` and `lines`; `words`, `number` and `trace` say what each of its lines
 //! means; `recording` hands that to the core as a link, and `replay` lets the core run; `output`
 //! says what lines go out. `command` and `settings` read the words of the command line and the
-//! file that they name.
+//! file that they name, and `progress` tells on a terminal how far a long replay is.
 #![tactic(auto)]
 
 pub mod command;
@@ -12,6 +12,7 @@ pub mod lines;
 pub mod names;
 pub mod number;
 pub mod output;
+pub mod progress;
 pub mod recording;
 pub mod replay;
 pub mod settings;
@@ -22,12 +23,13 @@ pub mod words;
 
 use crate::command::{Asked, Options, read_command};
 use crate::fault::ReplayFault;
+use crate::progress::{Progress, Unwatched, Watch};
 use crate::replay::replay;
 use crate::settings::{read_settings, tell_settings_fault};
 use crate::text::{OverRead, OverWrite};
 use rs_policy::Config;
 use std::io;
-use std::io::BufWriter;
+use std::io::{BufWriter, ErrorKind, IsTerminal};
 use std::process::ExitCode;
 use std::rt::{Env, Files};
 use std::sync::Wait;
@@ -40,9 +42,22 @@ fn ask<R: Env + Print + Eprint + AllocGlobal>(rt: &R) -> io::Result<Asked> {
     read_command(rt, alloc, &words)
 }
 
+/// Tells on standard error why the command line was not read, or its help not told; answers the status
+/// to end with.
+fn tell_asking_fault<R: Eprint>(rt: &R, error: &io::Error) -> u8 {
+    let fault = match error.kind() {
+        ErrorKind::OutOfMemory => ReplayFault::Memory,
+        _ => ReplayFault::Writing,
+    };
+    // Where standard error is closed there is nobody to tell.
+    let _ = eprintln!(rt; "{fault}");
+    3
+}
+
 /// Plays standard input to standard output.
-fn play<R: Input + Print + AllocGlobal + Threads + Wait + Sync>(
+fn play<R: Input + Print + AllocGlobal + Threads + Wait + Sync, P: Watch>(
     rt: &R,
+    watch: &mut P,
     config: Config,
     workers: usize,
 ) -> Result<(), ReplayFault> {
@@ -53,11 +68,23 @@ fn play<R: Input + Print + AllocGlobal + Threads + Wait + Sync>(
     let mut reader = OverRead::new(rt.reader());
     let mut writer = OverWrite::new(buffered);
     let workers = workers.clamp(1, 16);
-    let played = replay(rt, alloc, &mut reader, &mut writer, config, workers);
+    let played = replay(rt, alloc, &mut reader, &mut writer, watch, config, workers);
     let flushed = writer.flush();
     match played {
         Ok(()) | Err(ReplayFault::Line(_, _)) if flushed.is_err() => Err(ReplayFault::Writing),
         played => played,
+    }
+}
+
+/// Plays standard input to standard output, and tells on standard error how far it is.
+fn play_watched<R: Input + Print + Eprint + AllocGlobal + Threads + Wait + Sync>(
+    rt: &R,
+    config: Config,
+    workers: usize,
+) -> Result<(), ReplayFault> {
+    match Progress::new(rt, rt.alloc(), config.clients()) {
+        Ok(mut progress) => play(rt, &mut progress, config, workers),
+        Err(_) => Err(ReplayFault::Memory),
     }
 }
 
@@ -73,16 +100,19 @@ fn main(rt: HostRuntime) -> ExitCode {
     let options = match ask(&rt) {
         Ok(Asked::Play(options)) => options,
         Ok(Asked::End(status)) => return ExitCode::from(status),
-        Err(_) => return ExitCode::from(3),
+        Err(error) => return ExitCode::from(tell_asking_fault(&rt, &error)),
     };
     let config = match read_settings(&rt, options.config.as_str()) {
         Ok(config) => config,
         Err(fault) => {
-            tell_settings_fault(&rt, &fault);
-            return ExitCode::from(2);
+            return ExitCode::from(tell_settings_fault(&rt, &fault));
         }
     };
-    let played = play(&rt, config, options.workers);
+    let played = if options.progress && rt.stderr().is_terminal() {
+        play_watched(&rt, config, options.workers)
+    } else {
+        play(&rt, &mut Unwatched, config, options.workers)
+    };
     if let Err(fault) = played
         && status_of(played) == 3
     {

@@ -16,6 +16,7 @@ use crate::fault::ReplayFault;
 use crate::lines::Lines;
 use crate::names::Names;
 use crate::output;
+use crate::progress::Watch;
 use crate::text::{TextIn, TextOut};
 use crate::trace::{Entry, LineFault, read_line};
 use rs_core::{Event, Link, Sink, Source};
@@ -34,11 +35,12 @@ pub enum Stop {
 }
 
 /// Reads a line, and what it asks for: nothing where it says nothing. `number` counts the lines.
-fn read_entry<R: TextIn>(
+fn read_entry<R: TextIn, P: Watch>(
     names: &Names,
     lines: &mut Lines,
     number: &mut u64,
     reader: &mut R,
+    watch: &mut P,
     piece: &mut [u8; 4096],
 ) -> Result<Option<Entry>, Stop>
     ensures on { ReadsOn R.takes R.at_end (place_in names.now) reader.old number.old lines.old reader.new number.new lines.new (sayings_in piece.new result) (stop_of result) }
@@ -56,17 +58,21 @@ fn read_entry<R: TextIn>(
     }
     *number += 1;
     match read_line(names, lines.line(), piece) {
-        Ok(entry) => Ok(entry),
+        Ok(entry) => {
+            watch.line_read(*number, entry, piece);
+            Ok(entry)
+        }
         Err(fault) => Err(Stop::Fault(ReplayFault::Line(*number, fault))),
     }
 }
 
 /// Reads up to a line that asks for something.
-fn next_entry<R: TextIn>(
+fn next_entry<R: TextIn, P: Watch>(
     names: &Names,
     lines: &mut Lines,
     number: &mut u64,
     reader: &mut R,
+    watch: &mut P,
     piece: &mut [u8; 4096],
 ) -> Result<Entry, Stop>
     ensures on { ReadsOn R.takes R.at_end (place_in names.now) reader.old number.old lines.old reader.new number.new lines.new (saying_read piece.new result) (stop_of result) }
@@ -74,7 +80,7 @@ fn next_entry<R: TextIn>(
     ensures unwritten { (n : ℕ) → n ≡ failures_written (stop_of result) n }
 {
     for _ in 0..u64::MAX {
-        match read_entry(names, lines, number, reader, piece) {
+        match read_entry(names, lines, number, reader, watch, piece) {
             Ok(None) => {}
             Ok(Some(entry)) => return Ok(entry),
             Err(stop) => return Err(stop),
@@ -172,7 +178,7 @@ impl Kept {
 
 /// Reads a trace, and writes what comes of it.
 #[derive(Drop)]
-pub struct Recording<'a, R, W> {
+pub struct Recording<'a, R, W, P> {
     alloc: Global,
     names: &'a Names,
     lines: &'a mut Lines,
@@ -183,16 +189,18 @@ pub struct Recording<'a, R, W> {
     stop: Option<Stop>,
     reader: &'a mut R,
     writer: &'a mut W,
+    watch: &'a mut P,
 }
 
-impl<'a, R: TextIn, W: TextOut> Recording<'a, R, W> {
+impl<'a, R: TextIn, W: TextOut, P: Watch> Recording<'a, R, W, P> {
     /// Before the first line.
     pub fn new(
         alloc: Global,
         kept: &'a mut Kept,
         reader: &'a mut R,
         writer: &'a mut W,
-    ) -> Recording<'a, R, W>
+        watch: &'a mut P,
+    ) -> Recording<'a, R, W, P>
         ensures names { result.names.now ≡ kept.old.names }
         ensures lines { result.lines.now ≡ kept.old.lines }
         ensures reader { result.reader.ghost_name ≡ reader.entry.ghost_name }
@@ -211,6 +219,7 @@ impl<'a, R: TextIn, W: TextOut> Recording<'a, R, W> {
             stop: None,
             reader,
             writer,
+            watch,
         }
     }
 
@@ -251,6 +260,8 @@ impl<'a, R: TextIn, W: TextOut> Recording<'a, R, W> {
         ensures reader { self.new.reader.ghost_name ≡ self.old.reader.ghost_name }
         ensures writer { self.new.writer.ghost_name ≡ self.old.writer.ghost_name }
         ensures over { (first : R) (to : W) (sayings : List Saying) (octets : List ℕ) → Plays R.takes R.at_end R.failures W.puts W.failures (place_in self.old.names.now) first to sayings octets self.old.reader.now self.old.writer.now self.old.lines.now self.old.number self.old.stop → IsOver R.takes R.at_end W.puts (place_in self.old.names.now) first to sayings octets self.new.reader.now self.new.writer.now (Err result) }
+        ensures reads { (n : ℕ) → R.failures self.old.reader.now ≡ failures_read self.old.stop n → R.failures self.new.reader.now ≡ failures_read (Some (stops.Fault result)) n }
+        ensures writes { (n : ℕ) → W.failures self.old.writer.now ≡ failures_written self.old.stop n → W.failures self.new.writer.now ≡ failures_written (Some (stops.Fault result)) n }
     {
         match fault {
             ReplayFault::Line(number, fault) => self.end_at_line(number, fault),
@@ -266,6 +277,8 @@ impl<'a, R: TextIn, W: TextOut> Recording<'a, R, W> {
         ensures reader { self.new.reader.ghost_name ≡ self.old.reader.ghost_name }
         ensures writer { self.new.writer.ghost_name ≡ self.old.writer.ghost_name }
         ensures over { (first : R) (to : W) (sayings : List Saying) (octets : List ℕ) → Plays R.takes R.at_end R.failures W.puts W.failures (place_in self.old.names.now) first to sayings octets self.old.reader.now self.old.writer.now self.old.lines.now self.old.number self.old.stop → IsOver R.takes R.at_end W.puts (place_in self.old.names.now) first to sayings octets self.new.reader.now self.new.writer.now (Err result) }
+        ensures reads { (n : ℕ) → R.failures self.old.reader.now ≡ failures_read self.old.stop n → R.failures self.new.reader.now ≡ failures_read (Some (stops.Fault result)) n }
+        ensures writes { (n : ℕ) → W.failures self.old.writer.now ≡ failures_written self.old.stop n → W.failures self.new.writer.now ≡ failures_written (Some (stops.Fault result)) n }
     {
         let made = output::faulty(self.alloc, self.line, number, fault);
         self.stop = write_line(self.writer, self.stop, made, self.line);
@@ -276,7 +289,7 @@ impl<'a, R: TextIn, W: TextOut> Recording<'a, R, W> {
     }
 }
 
-impl<'a, R: TextIn, W: TextOut> Link for Recording<'a, R, W> {
+impl<'a, R: TextIn, W: TextOut, P: Watch> Link for Recording<'a, R, W, P> {
     ghost use Rattle.rs_replay.specs.Replays.{Happens};
 
     ghost happens = { λ old step new. Happens R.takes R.at_end R.failures W.puts W.failures old.names.now old.reader.ghost_name old.writer.ghost_name old.reader.now old.writer.now old.lines.now old.number old.stop step new.names.now new.reader.ghost_name new.writer.ghost_name new.reader.now new.writer.now new.lines.now new.number new.stop };
@@ -284,13 +297,13 @@ impl<'a, R: TextIn, W: TextOut> Link for Recording<'a, R, W> {
     ghost text = { λ r. r.rules.now.items };
 }
 
-impl<'a, R: TextIn, W: TextOut> Source for Recording<'a, R, W> {
+impl<'a, R: TextIn, W: TextOut, P: Watch> Source for Recording<'a, R, W, P> {
     fn next(&mut self, piece: &mut [u8; 4096]) -> Event {
         if self.stop.is_some() {
             return Event::Stop;
         }
         let (names, lines, number) = (self.names, &mut *self.lines, &mut self.number);
-        match next_entry(names, lines, number, self.reader, piece) {
+        match next_entry(names, lines, number, self.reader, self.watch, piece) {
             Ok(entry) => {
                 let (event, stop) = event_of(self.rules, entry, piece);
                 self.stop = stop;
@@ -308,8 +321,10 @@ impl<'a, R: TextIn, W: TextOut> Source for Recording<'a, R, W> {
     }
 }
 
-impl<'a, R: TextIn, W: TextOut> Sink for Recording<'a, R, W> {
-    fn begin(&mut self, _c: usize) {}
+impl<'a, R: TextIn, W: TextOut, P: Watch> Sink for Recording<'a, R, W, P> {
+    fn begin(&mut self, c: usize) {
+        self.watch.begun(c);
+    }
 
     fn busy(&mut self, c: usize) {
         let made = output::busy(self.line, self.names.name(c));

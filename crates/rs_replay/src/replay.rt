@@ -5,9 +5,11 @@ ghost use Rattle.rs_policy.specs.Configuration.{Configuration};
 ghost use Rattle.rs_core.specs.Core.{client_count};
 ghost use Rattle.rs_core.specs.Moves.{Ruled};
 ghost use Rattle.rs_core.specs.Agreeing.{Agrees};
-ghost use Rattle.rs_replay.specs.Replays.{HasPlayed, IsAtFirst, PlaysOut};
+ghost use Rattle.rs_replay.specs.Played.{failures_read, failures_written};
+ghost use Rattle.rs_replay.specs.Replays.{HasPlayed, IsAtFirst, PlaysOut, end_of};
 
 use crate::fault::ReplayFault;
+use crate::progress::Watch;
 use crate::recording::{Kept, Recording, Stop};
 use crate::tables::route_lines;
 use crate::text::{TextIn, TextOut};
@@ -20,16 +22,19 @@ use std::thread::Threads;
 
 /// Plays a trace to its end or to its first fault, whose line is then the last that is written.
 /// Each line before it has had its effect. So many workers share the work of a turn.
-pub fn replay<T: Threads + Wait + Sync, R: TextIn, W: TextOut>(
+pub fn replay<T: Threads + Wait + Sync, R: TextIn, W: TextOut, P: Watch>(
     rt: &T,
     alloc: Global,
     reader: &mut R,
     writer: &mut W,
+    watch: &mut P,
     config: Config,
     workers: usize,
 ) -> Result<(), ReplayFault>
     requires { (0 < workers) × (workers ≤ 16) }
-    ensures { HasPlayed config (λ text. R.takes reader.old text reader.new) (R.at_end reader.new) (λ octets. W.puts writer.old octets writer.new) result }
+    ensures played { HasPlayed config (λ text. R.takes reader.old text reader.new) (R.at_end reader.new) (λ octets. W.puts writer.old octets writer.new) result }
+    ensures reads { R.failures reader.new ≡ failures_read (end_of result) (R.failures reader.old) }
+    ensures writes { W.failures writer.new ≡ failures_written (end_of result) (W.failures writer.old) }
 {
     let Ok(mut kept) = Kept::new(alloc, &config) else {
         return Err(ReplayFault::Memory);
@@ -37,23 +42,25 @@ pub fn replay<T: Threads + Wait + Sync, R: TextIn, W: TextOut>(
     let Ok(mut core) = Core::new(alloc, config) else {
         return Err(ReplayFault::Memory);
     };
-    let mut recording = Recording::new(alloc, &mut kept, reader, writer);
+    let mut recording = Recording::new(alloc, &mut kept, reader, writer, watch);
     play_on(rt, alloc, workers, &mut core, &mut recording)
 }
 
 /// Lets the core run until the recording is over, and tells routes where it stops for them.
-fn play_on<T: Threads + Wait + Sync, R: TextIn, W: TextOut>(
+fn play_on<T: Threads + Wait + Sync, R: TextIn, W: TextOut, P: Watch>(
     rt: &T,
     alloc: Global,
     workers: usize,
     core: &mut Core,
-    recording: &mut Recording<'_, R, W>,
+    recording: &mut Recording<'_, R, W, P>,
 ) -> Result<(), ReplayFault>
     requires workers { (0 < workers) × (workers ≤ 16) }
     requires first { IsAtFirst recording.old.lines.now recording.old.number recording.old.stop }
     ensures reader { recording.new.reader.ghost_name ≡ recording.old.reader.ghost_name }
     ensures writer { recording.new.writer.ghost_name ≡ recording.old.writer.ghost_name }
     ensures played { (settings : Configuration) → client_count core.old ≡ length settings.clients → Agrees core.old (Ruled settings ∷ []) → PlaysOut settings R.takes R.at_end W.puts recording.old.names.now recording.old.reader.now recording.old.writer.now recording.new.reader.now recording.new.writer.now result }
+    ensures reads { R.failures recording.new.reader.now ≡ failures_read (end_of result) (R.failures recording.old.reader.now) }
+    ensures writes { W.failures recording.new.writer.now ≡ failures_written (end_of result) (W.failures recording.old.writer.now) }
 {
     for _ in rt.forever() {
         drive_with(rt, workers, &Free, core, recording);

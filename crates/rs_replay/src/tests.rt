@@ -1,6 +1,7 @@
 //! What a replay reads and writes, octet for octet.
 
 use crate::fault::ReplayFault;
+use crate::progress::Unwatched;
 use crate::replay::replay;
 use crate::text::{OverRead, OverWrite};
 use crate::trace::LineFault;
@@ -11,6 +12,7 @@ use std::test::Fail;
 use std::thread::Threads;
 
 mod devices;
+mod watching;
 
 /// Four members.
 const MEMBERS: &str = r#"as = 64500
@@ -54,7 +56,15 @@ fn play<T: Threads + Wait + Sync>(
     };
     let mut reader = OverRead::new(trace);
     let mut writer = OverWrite::new(&mut written);
-    let played = replay(rt, alloc, &mut reader, &mut writer, config, 2);
+    let played = replay(
+        rt,
+        alloc,
+        &mut reader,
+        &mut writer,
+        &mut Unwatched,
+        config,
+        2,
+    );
     (played, written)
 }
 

@@ -10,6 +10,10 @@ use crate::link::{Link, Phase};
 use crate::ports::{Caller, Line, Ports};
 use rs_core::{Event, Link as CoreLink, Source};
 
+/// How many connections a round accepts. More wait for the next round, which comes at once: so nobody
+/// who connects over and over keeps the server from those that are connected.
+const ACCEPTED: u32 = 64;
+
 /// How many pieces of one connection a round reads.
 const PIECES: u32 = 16;
 
@@ -42,12 +46,12 @@ impl<'a, P: Ports> Link<'a, P> {
         self.strangers = Some((address, count.saturating_add(1)));
     }
 
-    /// Accepts until a client's connection comes, or none is left.
+    /// Accepts until a client's connection comes, none is left, or the round has accepted enough.
     fn accepted(&mut self) -> Option<Event>
         ensures same_ports { self.new.ports.ghost_name ≡ self.old.ports.ghost_name }
         ensures told { self.old.has_failed ≡ false → Has P.asked self.old.ports.now AreHandled → Answers P.asked result self.new.ports.now self.new.has_failed }
     {
-        for _ in 0..u32::MAX {
+        for _ in self.accepted..ACCEPTED {
             match self.ports.accept() {
                 Err(_) => {
                     self.has_failed = true;
@@ -58,6 +62,7 @@ impl<'a, P: Ports> Link<'a, P> {
                     return None;
                 }
                 Ok(Some(caller)) => {
+                    self.accepted = self.accepted.saturating_add(1);
                     if let Some(c) = self.client_of(&caller) {
                         self.fresh = Some(caller);
                         return Some(Event::Opened(c));
@@ -66,6 +71,7 @@ impl<'a, P: Ports> Link<'a, P> {
                 }
             }
         }
+        self.has_more = true;
         self.phase = Phase::Read;
         None
     }

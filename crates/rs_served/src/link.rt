@@ -35,6 +35,8 @@ pub struct Link<'a, P> {
     pub(crate) seats: &'a mut Vec<Seat>,
     pub(crate) fresh: Option<Caller>,
     pub(crate) phase: Phase,
+    /// How many connections the round has accepted.
+    pub(crate) accepted: u32,
     /// The client whose connection is read, and how many pieces of it the round has read.
     pub(crate) reading: usize,
     pub(crate) pieces: u32,
@@ -78,6 +80,7 @@ impl<'a, P: Ports> Link<'a, P> {
             seats,
             fresh: None,
             phase: Phase::Over,
+            accepted: 0,
             reading: 0,
             pieces: 0,
             pieces_heard: 0,
@@ -104,6 +107,7 @@ impl<'a, P: Ports> Link<'a, P> {
         ensures broken { IsFalse result → Has P.asked self.old.ports.now AreHandled → Has P.asked self.new.ports.now (EndBy IsFailedWait) }
     {
         self.phase = Phase::Accept;
+        self.accepted = 0;
         self.reading = 0;
         self.pieces = 0;
         let pause = !mem::replace(&mut self.has_more, false);

@@ -1,11 +1,12 @@
 //! The live route server. `command` reads the command line; `serve` is the loop, which gives the
-//! core events by a `link` over `ports`; `sockets` are the ports of the system. `seats` and `outbox`
-//! are what the link keeps of each connection, `watch` and `reports` tell an operator what happened,
-//! and `lines` is standard output, both within `rations`.
+//! core events by a `link` over `ports`; `sockets` are the ports of the system, with the listeners of
+//! `doors`. `seats` and `outbox` are what the link keeps of each connection, `watch` and `reports` tell
+//! an operator what happened, and `lines` is standard output, both within `rations`.
 #![tactic(auto)]
 
 pub mod command;
 pub mod configuration;
+mod doors;
 mod events;
 pub mod lines;
 pub mod link;
@@ -31,7 +32,7 @@ use rs_policy::Config;
 use std::alloc::Global;
 use std::net::Net;
 use std::process::ExitCode;
-use std::rt::{Clock, Files};
+use std::rt::{Clock, Env, Files};
 use std::sync::Wait;
 use std::thread::Threads;
 
@@ -74,29 +75,43 @@ fn run<R: Threads + Wait + Sync + Net + Clock + Files + Print + Eprint>(
     }
 }
 
-fn main(rt: HostRuntime) -> Result<ExitCode> {
+/// Does what the command line asks for, and answers the status to end with.
+fn start<R: Threads + Wait + Sync + Net + Clock + Env + Files + Print + Eprint + AllocGlobal>(
+    rt: &R,
+) -> Result<u8> {
     let alloc = rt.alloc();
-    let words: Vec<String> = std::env::args(&rt)?.collect(alloc)?;
-    let options = match read_command(&rt, alloc, &words)? {
+    let words: Vec<String> = std::env::args(rt)?.collect(alloc)?;
+    let options = match read_command(rt, alloc, &words)? {
         Asked::Serve(options) => options,
-        Asked::End(status) => return Ok(ExitCode::from(status)),
+        Asked::End(status) => return Ok(status),
     };
-    let config = match read_configuration(&rt, alloc, &options.config) {
+    let config = match read_configuration(rt, alloc, &options.config) {
         Ok(config) => config,
         Err(Refused::Memory) => {
             eprintln!(rt; "out of memory")?;
-            return Ok(ExitCode::from(3));
+            return Ok(3);
         }
         Err(Refused::Fault(fault)) => {
             eprintln!(rt; "configuration: {fault}")?;
-            return Ok(ExitCode::from(2));
+            return Ok(2);
         }
     };
     if options.check {
         println!(rt; "configuration: good, {} clients", config.clients())?;
-        return Ok(ExitCode::SUCCESS);
+        return Ok(0);
     }
-    Ok(ExitCode::from(run(&rt, alloc, &options, config)?))
+    run(rt, alloc, &options, config)
+}
+
+fn main(rt: HostRuntime) -> ExitCode {
+    match start(&rt) {
+        Ok(status) => ExitCode::from(status),
+        Err(error) => {
+            // Where standard error is closed there is nobody to tell.
+            let _ = eprintln!(rt; "{error}");
+            ExitCode::from(3)
+        }
+    }
 }
 
 #[cfg(test)]

@@ -2,6 +2,7 @@
 //! standard streams.
 
 use crate::configuration::read_file;
+use crate::doors::{Accepted, Doors};
 use crate::lines::Lines;
 use crate::names::Names;
 use crate::ports::{Caller, Line, PortFault, Ports};
@@ -26,17 +27,8 @@ struct Stream {
     is_ready: bool,
 }
 
-/// A fault of a connection that was to be accepted and not of the listener, as accept(2) tells them too.
-fn is_passing(kind: ErrorKind) -> bool {
-    matches!(
-        kind,
-        ErrorKind::ConnectionAborted
-            | ErrorKind::Interrupted
-            | ErrorKind::HostUnreachable
-            | ErrorKind::NetworkDown
-            | ErrorKind::NetworkUnreachable
-    )
-}
+/// How many connections that can't be kept one call of `accept` passes over.
+const UNKEPT: usize = 64;
 
 /// Listeners and connections under one poll.
 #[derive(Drop)]
@@ -50,9 +42,7 @@ pub struct Sockets<'a, R> {
     is_logging: bool,
     poll: Poll,
     events: Events,
-    listeners: Vec<TcpListener>,
-    /// The listeners before this one have no connection left to accept.
-    asked: usize,
+    doors: Doors,
     streams: Slab<Stream>,
     start: Instant,
 }
@@ -69,7 +59,7 @@ impl<'a, R: Net + Clock + Files + Print + Eprint> Sockets<'a, R> {
     ) -> io::Result<Sockets<'a, R>> {
         let poll = Poll::new(rt)?;
         let events = Events::with_capacity(alloc, 1024)?;
-        let mut listeners = Vec::new(alloc);
+        let mut doors = Doors::new(alloc);
         for (at, address) in addresses.iter().enumerate() {
             let address = SocketAddrV4::new(Ipv4Addr::from(address.0), address.1);
             let mut listener = TcpListener::bind(rt, SocketAddr::V4(address))?;
@@ -77,7 +67,7 @@ impl<'a, R: Net + Clock + Files + Print + Eprint> Sockets<'a, R> {
             poll.registry()
                 .register(&mut listener, token, Interest::READABLE)?;
             rt.println(format_args!("listening {address}"))?;
-            listeners.push(listener)?;
+            doors.add(listener)?;
         }
         let mut streams = Slab::new(alloc);
         streams.reserve(names.count().saturating_mul(2).saturating_add(1))?;
@@ -89,8 +79,7 @@ impl<'a, R: Net + Clock + Files + Print + Eprint> Sockets<'a, R> {
             is_logging,
             poll,
             events,
-            listeners,
-            asked: 0,
+            doors,
             streams,
             start: Instant::now(rt)?,
         })
@@ -102,7 +91,12 @@ impl<'a, R: Net + Clock + Files + Print + Eprint> Sockets<'a, R> {
     }
 
     /// Keeps an accepted connection, and tells its caller.
-    fn keep(&mut self, listener: usize, mut stream: TcpStream, from: SocketAddr) -> Option<Caller> {
+    fn keep(&mut self, accepted: Accepted) -> Option<Caller> {
+        let Accepted {
+            listener,
+            mut stream,
+            from,
+        } = accepted;
         let IpAddr::V4(address) = from.ip() else {
             return None;
         };
@@ -141,33 +135,26 @@ impl<'a, R: Net + Clock + Files + Print + Eprint> Ports for Sockets<'a, R> {
             return Err(PortFault);
         }
         for event in self.events.iter() {
-            if let Some(stream) = self.streams.get_mut(event.token().0) {
+            let token = event.token().0;
+            if token >= FIRST_LISTENER {
+                self.doors.knock(token - FIRST_LISTENER);
+            } else if let Some(stream) = self.streams.get_mut(token) {
                 stream.is_ready = true;
             }
         }
-        self.asked = 0;
+        self.doors.ask_all();
         let second = self.seconds();
         self.lines.say_waiting(self.rt, second);
         Ok(())
     }
 
     fn accept(&mut self) -> Result<Option<Caller>, PortFault> {
-        for _ in 0..u32::MAX {
-            let Some(listener) = self.listeners.get(self.asked) else {
+        for _ in 0..UNKEPT {
+            let Some(accepted) = self.doors.accept()? else {
                 return Ok(None);
             };
-            match listener.accept() {
-                Ok((stream, from)) => {
-                    let at = self.asked;
-                    if let Some(caller) = self.keep(at, stream, from) {
-                        return Ok(Some(caller));
-                    }
-                }
-                Err(error) if error.kind() == ErrorKind::WouldBlock => {
-                    self.asked = self.asked.saturating_add(1);
-                }
-                Err(error) if is_passing(error.kind()) => {}
-                Err(_) => return Err(PortFault),
+            if let Some(caller) = self.keep(accepted) {
+                return Ok(Some(caller));
             }
         }
         Ok(None)

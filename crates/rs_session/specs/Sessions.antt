@@ -93,11 +93,19 @@ abbrev pub limit_by : Bool → Option Open → Limit
 limit_by extended None = limits.Short
 limit_by extended (Some sent) = if extended && sent.long then limits.Long else limits.Short
 
+-- the Hold Time used with that client, in seconds: the smaller of the two (RFC 4271, 4.2)
+abbrev pub hold_by : ℕ → Option Open → Option ℕ
+hold_by hold None = None
+hold_by hold (Some sent) = Some (hold_time hold (Some sent))
+
 abbrev pub agreed_mode : Settings → List Item → Option Mode
 agreed_mode settings items = mode_by (agreed_of settings items)
 
 abbrev pub agreed_identifier : Settings → List Item → ℕ
 agreed_identifier settings items = identifier_by (agreed_of settings items)
+
+abbrev pub agreed_hold : Settings → List Item → Option ℕ
+agreed_hold settings items = hold_by settings.hold (agreed_of settings items)
 
 abbrev pub agreed_limit : Settings → List Item → Limit
 agreed_limit settings items = limit_by settings.extended (agreed_of settings items)

@@ -22,7 +22,7 @@ impl Session {
     ghost use Rattle.rs_session.specs.Steps.{message_step, moment_step};
     ghost use Rattle.rs_session.specs.Items.{Came, Message, Moment, Left};
     ghost use Rattle.rs_session.specs.Sessions.{state_of, is_live, agreed_of};
-    ghost use Rattle.rs_session.specs.Sessions.{agreed_mode, agreed_identifier, agreed_limit, SaysBriefly};
+    ghost use Rattle.rs_session.specs.Sessions.{agreed_hold, agreed_mode, agreed_identifier, agreed_limit, SaysBriefly};
     ghost use Rattle.rs_session.specs.Hearing.{configured, HasHeard, Whenever, Shows, RespondsTo, Takes, Forgets};
 
     /// A session of a client with these settings: Idle, and no moment was seen.
@@ -157,6 +157,18 @@ impl Session {
                 }
             }
             None => Limit::Short,
+        }
+    }
+
+    /// The Hold Time used, in seconds (RFC 4271, 4.2), by the OPEN that was accepted; None while none
+    /// is, and 0 where there is no hold timer.
+    #[tactic(auto, using(crate::proofs::Phases::settings_heard), unfolding(crate::specs::Hearing::configured))]
+    pub fn hold(&self) -> Option<u16>
+        ensures { Shows self.now agreed_hold result }
+    {
+        match self.agreed() {
+            Some(sent) => Some(self.settings.hold.min(sent.hold)),
+            None => None,
         }
     }
 

@@ -1,7 +1,11 @@
 //! A turn of many outlets by 1 to 16 workers: the same outlets as by one.
 //!
-//! The tables and the configuration go in, shared and read by all; each outlet is lent to one worker
-//! alone. There is no lock, atomic or cell here.
+//! The tables and the configuration go in, shared and read by all; each outlet is lent to one
+//! worker alone. There is no lock, atomic or cell here.
+//!
+//! - `turning` has the call, `turn_all`: runs of neighbouring outlets, each turned by a thread of
+//!   its own where one can be started.
+//! - `gate` is what a worker passes before it turns its share: nothing, but in a test.
 #![tactic(auto)]
 
 mod gate;

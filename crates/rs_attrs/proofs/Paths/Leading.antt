@@ -4,7 +4,7 @@ use Rattle.std.specs.Prelude.{nat_le}
 use Rattle.std.specs.Int.{w16, from_be_bytes}
 use Rattle.std.proofs.lemmas.Bool.{le-leb, leb-true, eq-eqb, ne_eqb}
 use Rattle.std.proofs.lemmas.List.{append-nil}
-use Rattle.rs_attrs.specs.declared.reading.two.RawSegment.{RawSegment}
+use Rattle.rs_attrs.specs.declared.segments.RawSegment.{RawSegment}
 use Rattle.rs_attrs.specs.Paths.{Segment, two_octets, four_octets, pairs, segment_octets, path_octets, segment_length, leading, is_set_or_sequence}
 use Rattle.rs_attrs.specs.Spellings.{AreOctets}
 use Rattle.rs_attrs.specs.Merging.{segments_in, IsWhole, IsCut, plain, segment_in}

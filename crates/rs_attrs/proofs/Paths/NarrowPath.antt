@@ -7,7 +7,7 @@ use Rattle.rs_attrs.specs.Spellings.{AreOctets}
 use Rattle.rs_attrs.specs.Paths.{Segment, two_octets, four_octets, is_set_or_sequence, number_octets, segment_octets, path_octets, IsPath, segments_of, or_none}
 use Rattle.rs_attrs.specs.Table.{is_path}
 use Rattle.rs_attrs.specs.Writing.{as_trans_or, narrowed_segment, path_in}
-use Rattle.rs_attrs.specs.Passes.{narrow_path}
+use Rattle.rs_attrs.specs.Parts.{narrow_path}
 use Rattle.rs_attrs.proofs.Paths.PathLaws.{path_found, numbers_size}
 
 pub flat_map-map : {A B : Type 0} (f : B → List ℕ) (g : A → B) (xs : List A) → flat_map f (map g xs) ≡ flat_map (λ x. f (g x)) xs

@@ -2,7 +2,7 @@
 use Rattle.std.proofs.Common.{◌≡◌, ℕ, zero, suc, ◌+◌, ◌*◌, ◌≤◌, ◌||◌, Bool, true, false, cond, List, [], ◌∷◌, length, refl, sym, ap, ◌∙◌, arith, nat_eq}
 use Rattle.std.proofs.lemmas.Bool.{ne_eqb}
 use Rattle.std.proofs.lemmas.List.Sums.{sum_by-cons}
-use Rattle.rs_attrs.specs.declared.reading.two.RawSegment.{RawSegment}
+use Rattle.rs_attrs.specs.declared.segments.RawSegment.{RawSegment}
 use Rattle.rs_attrs.specs.Paths.{Segment, AsSize, two_octets, four_octets, octets_each, numbers_in, segment_length, path_length}
 use Rattle.rs_attrs.specs.Merging.{segments_in, IsWhole, IsCut, plain, segment_in}
 

@@ -1,8 +1,8 @@
 -- A well-formed path, taken apart from the front.
-use Rattle.std.proofs.Common.{◌≡◌, ℕ, ◌*◌, ◌<◌, ◌≤◌, Bool, true, false, cond, List, [], ◌∷◌, length, take, drop, get_or, Option, Some, None, refl, sym, ap, subst, ◌∙◌, arith}
+use Rattle.std.proofs.Common.{◌≡◌, ℕ, zero, suc, slice_index, ◌*◌, ◌<◌, ◌≤◌, Bool, true, false, cond, List, [], ◌∷◌, length, take, drop, get_or, Option, Some, None, refl, sym, ap, subst, ◌∙◌, arith}
 use Rattle.std.specs.Prelude.{is_some}
 use Rattle.std.proofs.lemmas.List.{length-take-le}
-use Rattle.rs_attrs.specs.declared.reading.two.RawSegment.{RawSegment}
+use Rattle.rs_attrs.specs.declared.segments.RawSegment.{RawSegment}
 use Rattle.rs_attrs.specs.Paths.{Segment, AsSize, octets_each, numbers_in, begins_segment, with_front, segments_behind, segments_of, or_none}
 use Rattle.rs_attrs.specs.Walking.{segment_kinds}
 use Rattle.rs_attrs.specs.Merging.{segments_in, IsWhole, IsCut}
@@ -77,3 +77,17 @@ pub none_left : (size : AsSize) (confederations : Bool) (octets : List ℕ) → 
 none_left size confederations [] h whole = refl
 none_left size confederations (o ∷ []) h whole = cc
 none_left size confederations (a ∷ b ∷ octets) h whole = absurd (omega arith)
+
+-- ---- octets of octets
+
+pub octets_taken : (xs : List ℕ) (n i : ℕ) → ((k : ℕ) → slice_index xs k < 256) → slice_index (take n xs) i < 256
+octets_taken [] zero i h = omega arith
+octets_taken [] (suc n) i h = omega arith
+octets_taken (x ∷ xs) zero i h = omega arith
+octets_taken (x ∷ xs) (suc n) zero h = h 0
+octets_taken (x ∷ xs) (suc n) (suc i) h = octets_taken xs n i (λ k. h (suc k))
+
+pub octets_left : (xs : List ℕ) (n i : ℕ) → ((k : ℕ) → slice_index xs k < 256) → slice_index (drop n xs) i < 256
+octets_left xs zero i h = h i
+octets_left [] (suc n) i h = omega arith
+octets_left (x ∷ xs) (suc n) i h = octets_left xs n i (λ k. h (suc k))

@@ -1,16 +1,14 @@
 -- Numbers and segments, one at a time from their octets.
 use Rattle.std.proofs.Common.{◌≡◌, ℕ, zero, suc, ◌+◌, ◌*◌, ◌/◌, ◌<◌, ◌≤◌, ◌==◌, Bool, true, false, cond, List, [], ◌∷◌, length, take, drop, get_or, Option, Some, None, refl, map, sym, ap, ◌∙◌, arith}
-use Rattle.std.specs.Prelude.{is_some, nat_lt, nat_le, ◌&&◌}
+use Rattle.std.specs.Prelude.{nat_lt, nat_le, ◌&&◌}
 use Rattle.std.specs.List.{last_or}
 use Rattle.std.specs.Int.{w32, from_be_bytes}
 use Rattle.std.proofs.lemmas.Bool.{leb-true, ltb-true}
 use Rattle.std.proofs.lemmas.List.{length-take-le}
 use Rattle.std.proofs.lemmas.List.Sums.{sum_by-cons}
 use Rattle.std.specs.Cmp.{first_so, second_so}
-use Rattle.rs_attrs.specs.Paths.{Segment, four_octets, is_set_or_sequence, begins_segment, with_front, segments_behind, segments_of, or_none, quads, last_of, segment_length, path_length}
-use Rattle.rs_attrs.specs.Table.{is_path}
+use Rattle.rs_attrs.specs.Paths.{Segment, four_octets, is_set_or_sequence, begins_segment, with_front, segments_behind, or_none, quads, last_of, segment_length, path_length}
 use Rattle.rs_attrs.specs.Writing.{path_in}
-use Rattle.rs_attrs.proofs.Paths.PathWalk.{segments_step}
 
 pub no_number : (octets : List ℕ) → length octets < 4 → quads octets ≡ []
 no_number [] h = refl
@@ -32,56 +30,6 @@ length-quads (a ∷ []) = omega arith
 length-quads (a ∷ b ∷ []) = omega arith
 length-quads (a ∷ b ∷ c ∷ []) = omega arith
 length-quads (a ∷ b ∷ c ∷ d ∷ octets) = omega (arith, length-quads octets)
-
-pub no_segment : (octets : List ℕ) → is_path four_octets octets ≡ true → length octets < 2 → path_in octets ≡ []
-no_segment [] p h = refl
-no_segment (a ∷ []) p h = cc
-no_segment (a ∷ b ∷ octets) p h = absurd (omega arith)
-
--- the segment that a well-formed path begins with, and the path behind it
-pub record SegmentFront (octets behind : List ℕ) (kind count : ℕ) : Type 0 where
-  pub fits : 4 * count ≤ length behind
-  pub rest : is_path four_octets (drop (4 * count) behind) ≡ true
-  pub path : path_in octets ≡ record { kind = kind; numbers = quads (take (4 * count) behind) } ∷ path_in (drop (4 * count) behind)
-
-with_front_in : (s : Segment) (path : Option (List Segment)) → is_some (with_front s path) ≡ true → (is_some path ≡ true) × (or_none (with_front s path) ≡ s ∷ or_none path)
-with_front_in s None e = cc e
-with_front_in s (Some path) e = (refl, refl)
-
-begun : (kind count : ℕ) (behind : List ℕ) (b : Bool) → b ≡ begins_segment four_octets is_set_or_sequence kind count behind → is_path four_octets (kind ∷ count ∷ behind) ≡ true → SegmentFront (kind ∷ count ∷ behind) behind kind count
-begun kind count behind false e p =
-    let path : Option (List Segment) =
-    with_front (record { kind = kind; numbers = quads (take (4 * count) behind) }) (segments_behind four_octets is_set_or_sequence (4 * count) behind) in
-    let no : false ≡ true = ap (λ b. is_some (cond b path None)) e ∙ p in
-    cc
-begun kind count behind true e p =
-    let s : Segment = record { kind = kind; numbers = quads (take (4 * count) behind) } in
-    let step = segments_step four_octets is_set_or_sequence kind count behind (sym e) in
-    let both = with_front_in s (segments_of four_octets is_set_or_sequence (drop (4 * count) behind)) (ap is_some (sym step) ∙ p) in
-    record {
-      fits = leb-true (4 * count) (length behind) (second_so (is_set_or_sequence kind && nat_lt 0 count) (nat_le (4 * count) (length behind)) (sym e));
-      rest = both.0;
-      path = ap or_none step ∙ both.1;
-    }
-
-pub segment_front : (octets : List ℕ) → is_path four_octets octets ≡ true → 2 ≤ length octets → SegmentFront octets (drop 2 octets) (get_or octets 0 0) (get_or octets 1 0)
-segment_front [] p h = absurd (omega arith)
-segment_front (a ∷ []) p h = absurd (omega arith)
-segment_front (kind ∷ count ∷ behind) p h = begun kind count behind (begins_segment four_octets is_set_or_sequence kind count behind) refl p
-
--- the same, where the code names the parts
-pub record SegmentStep (octets numbers rest : List ℕ) (kind : ℕ) : Type 0 where
-  pub well_formed : is_path four_octets rest ≡ true
-  pub path : path_in octets ≡ record { kind = kind; numbers = quads numbers } ∷ path_in rest
-
-pub segment_step : (octets front behind numbers rest : List ℕ) (kind count counted : ℕ) → SegmentFront octets front kind count → behind ≡ front → counted ≡ count → numbers ≡ take (4 * counted) behind → rest ≡ drop (4 * counted) behind → SegmentStep octets numbers rest kind
-segment_step octets front behind numbers rest kind count counted f behind_is counted_is numbers_is rest_is =
-    let taken : numbers ≡ take (4 * count) front = numbers_is ∙ (λ i. take (4 * counted_is i) (behind_is i)) in
-    let left : rest ≡ drop (4 * count) front = rest_is ∙ (λ i. drop (4 * counted_is i) (behind_is i)) in
-    record {
-      well_formed = ap (is_path four_octets) left ∙ f.rest;
-      path = f.path ∙ (λ i. record { kind = kind; numbers = quads (sym taken i) } ∷ path_in (sym left i));
-    }
 
 -- ---- lengths
 

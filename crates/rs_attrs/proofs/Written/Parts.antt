@@ -1,29 +1,24 @@
--- What each pass writes of an attribute.
-use Rattle.std.proofs.Common.{◌≡◌, ◌+◌, ◌<◌, ◌≤◌, ◌&&◌, Bool, true, false, cond, List, [], ◌∷◌, ◌++◌, length, map, refl, sym, ap, ◌∙◌, subst, arith, nat_lt, nat_eq, append_assoc, length-append}
-use Rattle.std.specs.Prelude.{filter}
+-- What is to be written of attributes, taken from the front.
+use Rattle.std.proofs.Common.{◌≡◌, ℕ, suc, ◌+◌, ◌*◌, ◌<◌, ◌≤◌, Bool, true, false, cond, List, [], ◌∷◌, ◌++◌, length, map, take, drop, refl, sym, ap, ◌∙◌, subst, arith, nat_lt, nat_eq, length-append, length-drop}
+use mathlib.Core.Bool.{true≢false}
+use Rattle.std.specs.Prelude.{filter, ◌&&◌}
 use Rattle.std.specs.List.{flat_map, AllByRecursion}
-use Rattle.std.proofs.lemmas.Bool.{eq-eqb, ne_eqb, lt-ltb, le-ltb}
-use Rattle.std.proofs.lemmas.List.{append-nil}
-use Rattle.rs_attrs.specs.Meaning.{Attribute}
-use Rattle.rs_attrs.specs.Writing.{attribute_octets, with_value, narrowed, as4_of, as4_attribute, path_needs_four_octets, needs_four_octets, aggregator_in, spelt, HasSpelling}
+use Rattle.std.proofs.lemmas.Bool.{eq-eqb, ne_eqb, lt-ltb, le-ltb, ltb-true, ltb-false}
+use Rattle.std.proofs.lemmas.List.{length-map, length-take-le}
+use Rattle.rs_octets.specs.Writes.{Writes}
+use Rattle.rs_octets.proofs.Writing.{writes_then}
+use Rattle.rs_attrs.specs.declared.mode.Mode.{Mode}
 use Rattle.rs_attrs.specs.declared.mode.Mode.TheVariants.{Two, Four}
-use Rattle.rs_attrs.specs.declared.writing.Pass.{Pass}
-use Rattle.rs_attrs.specs.declared.writing.Pass.TheVariants.{Whole, Narrowed, As4, Above}
-use Rattle.rs_attrs.specs.Passes.{part, part_octets, passed, HasSpellingIn, narrow_path, narrow_aggregator, octets_of_length}
-use Rattle.rs_attrs.proofs.HeldLemmas.{attribute_length}
+use Rattle.rs_attrs.specs.declared.attrs.Head.{Head}
+use Rattle.rs_attrs.specs.Meaning.{Attribute, IsRising, AllAbove, is_as4}
+use Rattle.rs_attrs.specs.Held.{attribute_by, attributes_in, values_size, head_spelling}
+use Rattle.rs_attrs.specs.Writing.{attribute_octets, with_value, narrowed, as4_of, as4_attribute, path_needs_four_octets, needs_four_octets, aggregator_in, spelling_of, in_mode, IsLegal, IsLegalAttribute}
+use Rattle.rs_attrs.specs.Parts.{narrow_path, narrow_aggregator, octets_of_length, parts_left, begins_below}
+use Rattle.rs_attrs.proofs.Fields.Counting.{as4_discarded}
+use Rattle.rs_attrs.proofs.HeldLemmas.{attribute_length, attribute_spelling}
 use Rattle.rs_attrs.proofs.Written.Narrowing.{narrowed_is, narrowed_value}
 
--- one attribute is written
-one : (a : Attribute) → flat_map attribute_octets (a ∷ []) ≡ attribute_octets a
-one a = append-nil (attribute_octets a)
-
-pub whole_part : (a : Attribute) → part_octets Whole a ≡ attribute_octets a
-whole_part a = one a
-
--- ---- the pass below AS4_PATH
-
-narrowed_here : (a : Attribute) → a.kind < 17 → part Narrowed a ≡ with_value a (narrowed_value a) ∷ []
-narrowed_here a low = ap (λ b. cond b (narrowed a ∷ []) []) (lt-ltb a.kind 17 low) ∙ ap (λ a. a ∷ []) (narrowed_is a)
+-- ---- one attribute for a two-octet peer
 
 path_value : (a : Attribute) → a.kind ≡ 2 → narrowed_value a ≡ narrow_path a.value
 path_value a kind = ap (λ b. cond b (narrow_path a.value) (cond (nat_eq a.kind 7) (narrow_aggregator a.value) a.value)) (eq-eqb a.kind 2 kind)
@@ -34,164 +29,170 @@ aggregator_value a kind = λ i. cond (ne_eqb a.kind 2 (λ e. omega arith) i) (na
 other_value : (a : Attribute) → (a.kind ≡ 2 → ⊥) → (a.kind ≡ 7 → ⊥) → narrowed_value a ≡ a.value
 other_value a no2 no7 = λ i. cond (ne_eqb a.kind 2 no2 i) (narrow_path a.value) (cond (ne_eqb a.kind 7 no7 i) (narrow_aggregator a.value) a.value)
 
--- the pass writes the attribute with this value
-pub record WritesOne (pass : Pass) (a b : Attribute) : Type 0 where
-  pub is : part pass a ≡ b ∷ []
+pub narrowed_path : (a : Attribute) → a.kind ≡ 2 → with_value a (narrow_path a.value) ≡ narrowed a
+narrowed_path a kind = sym (narrowed_is a ∙ ap (with_value a) (path_value a kind))
 
-pub octets_of_one : (pass : Pass) (a b : Attribute) → WritesOne pass a b → part_octets pass a ≡ attribute_octets b
-octets_of_one pass a b w = ap (flat_map attribute_octets) w.is ∙ one b
+pub narrowed_aggregator : (a : Attribute) → a.kind ≡ 7 → with_value a (narrow_aggregator a.value) ≡ narrowed a
+narrowed_aggregator a kind = sym (narrowed_is a ∙ ap (with_value a) (aggregator_value a kind))
 
-pub length_of_one : (pass : Pass) (a b : Attribute) → WritesOne pass a b → length (part_octets pass a) ≡ octets_of_length (length b.value)
-length_of_one pass a b w = ap length (octets_of_one pass a b w) ∙ attribute_length b
+pub narrowed_other : (a : Attribute) → (a.kind ≡ 2 → ⊥) → (a.kind ≡ 7 → ⊥) → a ≡ narrowed a
+narrowed_other a no2 no7 = sym (narrowed_is a ∙ ap (with_value a) (other_value a no2 no7))
 
-pub short_one : (pass : Pass) (a b : Attribute) → WritesOne pass a b → HasSpellingIn pass a → length b.value < 65536
-short_one pass a b w has = (subst (λ (m : List Attribute). AllByRecursion (λ a. length a.value < 65536) m) w.is has).0
+-- ---- an attribute is taken off
 
-pub narrowed_path : (a : Attribute) → a.kind ≡ 2 → WritesOne Narrowed a (with_value a (narrow_path a.value))
-narrowed_path a kind = record { is = narrowed_here a (omega arith) ∙ ap (λ value. with_value a value ∷ []) (path_value a kind) }
+pub record FirstLeft (h : Head) (heads : List Head) (values : List ℕ) : Type 0 where
+  pub fits : h.len ≤ length values
+  pub len : h.len ≡ length (take h.len values)
+  pub size : values_size heads ≤ length (drop h.len values)
+  pub legal : IsLegal (attributes_in heads (drop h.len values))
 
-pub narrowed_aggregator : (a : Attribute) → a.kind ≡ 7 → WritesOne Narrowed a (with_value a (narrow_aggregator a.value))
-narrowed_aggregator a kind = record { is = narrowed_here a (omega arith) ∙ ap (λ value. with_value a value ∷ []) (aggregator_value a kind) }
-
-pub narrowed_other : (a : Attribute) → a.kind < 17 → (a.kind ≡ 2 → ⊥) → (a.kind ≡ 7 → ⊥) → WritesOne Narrowed a a
-narrowed_other a low no2 no7 = record { is = narrowed_here a low ∙ ap (λ value. with_value a value ∷ []) (other_value a no2 no7) }
-
-pub narrowed_none : (a : Attribute) → 17 ≤ a.kind → part_octets Narrowed a ≡ []
-narrowed_none a high = ap (λ b. flat_map attribute_octets (cond b (narrowed a ∷ []) [])) (le-ltb a.kind 17 high)
-
--- ---- the pass of AS4_PATH and AS4_AGGREGATOR
-
-pub as4_path : (a : Attribute) → a.kind ≡ 2 → path_needs_four_octets a.value ≡ true → WritesOne As4 a (as4_attribute 17 a.value)
-as4_path a kind needs = record {
-  is = λ i. cond (eq-eqb a.kind 2 kind i && needs i) (as4_attribute 17 a.value ∷ []) (cond (nat_eq a.kind 7 && needs_four_octets (aggregator_in a.value)) (as4_attribute 18 a.value ∷ []) []);
+pub first_left : (h : Head) (heads : List Head) (values : List ℕ) → values_size (h ∷ heads) ≤ length values → IsLegal (attributes_in (h ∷ heads) values) → FirstLeft h heads values
+first_left h heads values size legal = record {
+  fits = omega (arith, size);
+  len = sym (length-take-le h.len values (omega (arith, size)));
+  size = omega (arith, size, length-drop h.len values);
+  legal = record { rising = legal.rising.1; each = legal.each.1 };
 }
 
-pub as4_aggregator : (a : Attribute) → a.kind ≡ 7 → needs_four_octets (aggregator_in a.value) ≡ true → WritesOne As4 a (as4_attribute 18 a.value)
-as4_aggregator a kind needs = record {
-  is = λ i. cond (ne_eqb a.kind 2 (λ e. omega arith) i && path_needs_four_octets a.value) (as4_attribute 17 a.value ∷ []) (cond (eq-eqb a.kind 7 kind i && needs i) (as4_attribute 18 a.value ∷ []) []);
-}
+-- ---- what is left to be written
 
-no_as4_path : (a : Attribute) → a.kind ≡ 2 → path_needs_four_octets a.value ≡ false → part_octets As4 a ≡ []
-no_as4_path a kind needs = λ i. flat_map attribute_octets (cond (eq-eqb a.kind 2 kind i && needs i) (as4_attribute 17 a.value ∷ []) (cond (ne_eqb a.kind 7 (λ e. omega arith) i && needs_four_octets (aggregator_in a.value)) (as4_attribute 18 a.value ∷ []) []))
+-- an attribute of a type below AS4_PATH
+pub low_step : (left rest as4 : List Attribute) (a : Attribute) → left ≡ a ∷ rest → begins_below left ≡ true → parts_left Two left as4 ≡ narrowed a ∷ parts_left Two rest as4
+low_step left rest as4 a is below =
+    let here : nat_lt a.kind 17 ≡ true = sym (ap begins_below is) ∙ below in
+    let not_high : nat_lt 18 a.kind ≡ false = le-ltb 18 a.kind (omega (arith, ltb-true a.kind 17 here)) in
+    ap (λ m. parts_left Two m as4) is
+    ∙ (λ i. map narrowed (cond (here i) (a ∷ filter (λ a. nat_lt a.kind 17) rest) (filter (λ a. nat_lt a.kind 17) rest)) ++ flat_map as4_of as4 ++ cond (not_high i) (a ∷ filter (λ a. nat_lt 18 a.kind) rest) (filter (λ a. nat_lt 18 a.kind) rest))
 
-pub as4_path_not : (a : Attribute) → a.kind ≡ 2 → path_needs_four_octets a.value ≡ false → part_octets As4 a ≡ []
-as4_path_not a kind needs = no_as4_path a kind needs
+none_above : (m : List Attribute) (n : ℕ) → AllAbove n m → 17 ≤ n + 1 → filter (λ a. nat_lt a.kind 17) m ≡ []
+none_above [] n above up = refl
+none_above (a ∷ m) n above up = ap (λ b. cond b (a ∷ filter (λ a. nat_lt a.kind 17) m) (filter (λ a. nat_lt a.kind 17) m)) (le-ltb a.kind 17 (omega (arith, up, above.0))) ∙ none_above m n above.1 up
 
-pub as4_aggregator_not : (a : Attribute) → a.kind ≡ 7 → needs_four_octets (aggregator_in a.value) ≡ false → part_octets As4 a ≡ []
-as4_aggregator_not a kind needs =
-    λ i. flat_map attribute_octets (cond (ne_eqb a.kind 2 (λ e. omega arith) i && path_needs_four_octets a.value) (as4_attribute 17 a.value ∷ []) (cond (eq-eqb a.kind 7 kind i && needs i) (as4_attribute 18 a.value ∷ []) []))
+none_below : (m : List Attribute) → IsRising m → begins_below m ≡ false → filter (λ a. nat_lt a.kind 17) m ≡ []
+none_below [] up none = refl
+none_below (a ∷ m) up none =
+    ap (λ b. cond b (a ∷ filter (λ a. nat_lt a.kind 17) m) (filter (λ a. nat_lt a.kind 17) m)) none
+    ∙ none_above m a.kind up.0 (omega (arith, ltb-false a.kind 17 none))
 
-pub as4_none : (a : Attribute) → (a.kind ≡ 2 → ⊥) → (a.kind ≡ 7 → ⊥) → part_octets As4 a ≡ []
-as4_none a no2 no7 =
-    λ i. flat_map attribute_octets (cond (ne_eqb a.kind 2 no2 i && path_needs_four_octets a.value) (as4_attribute 17 a.value ∷ []) (cond (ne_eqb a.kind 7 no7 i && needs_four_octets (aggregator_in a.value)) (as4_attribute 18 a.value ∷ []) []))
+-- AS4_PATH or AS4_AGGREGATOR, where none of those is left
+pub beside_step : (left as4 rest : List Attribute) (p : Attribute) → IsRising left → begins_below left ≡ false → flat_map as4_of as4 ≡ p ∷ flat_map as4_of rest → parts_left Two left as4 ≡ p ∷ parts_left Two left rest
+beside_step left as4 rest p up none is =
+    (λ i. map narrowed (none_below left up none i) ++ is i ++ filter (λ a. nat_lt 18 a.kind) left)
+    ∙ (λ i. p ∷ (map narrowed (sym (none_below left up none) i) ++ flat_map as4_of rest ++ filter (λ a. nat_lt 18 a.kind) left))
 
--- ---- the pass above AS4_AGGREGATOR
+-- AS4_PATH and AS4_AGGREGATOR are not among legal attributes
+high_kind : (a : Attribute) → IsLegalAttribute a → nat_lt a.kind 17 ≡ false → 18 < a.kind
+high_kind a legal not_low =
+    let no17 : a.kind ≡ 17 → ⊥ = λ e. true≢false (sym legal.is_kept ∙ as4_discarded (spelling_of a) (ap is_as4 e)) in
+    let no18 : a.kind ≡ 18 → ⊥ = λ e. true≢false (sym legal.is_kept ∙ as4_discarded (spelling_of a) (ap is_as4 e)) in
+    let up : 17 ≤ a.kind = ltb-false a.kind 17 not_low in
+    omega (arith, no17, no18, up)
 
-pub above_one : (a : Attribute) → 18 < a.kind → WritesOne Above a a
-above_one a high = record { is = ap (λ b. cond b (a ∷ []) []) (lt-ltb 18 a.kind high) }
+-- an attribute of a type above them, where nothing else is left
+pub high_step : (left rest as4 as4_rest : List Attribute) (a : Attribute) → IsLegal left → left ≡ a ∷ rest → begins_below left ≡ false → flat_map as4_of as4 ≡ [] → as4_rest ≡ [] → parts_left Two left as4 ≡ a ∷ parts_left Two rest as4_rest
+high_step left rest as4 as4_rest a legal is none nothing ended =
+    let all : IsLegal (a ∷ rest) = subst IsLegal is legal in
+    let not_low : nat_lt a.kind 17 ≡ false = sym (ap begins_below is) ∙ none in
+    let here : nat_lt 18 a.kind ≡ true = lt-ltb 18 a.kind (high_kind a all.each.0 not_low) in
+    let low_rest : filter (λ a. nat_lt a.kind 17) rest ≡ [] = none_above rest a.kind all.rising.0 (omega (arith, ltb-false a.kind 17 not_low)) in
+    ap (λ m. parts_left Two m as4) is
+    ∙ (λ i. map narrowed (none_below (a ∷ rest) all.rising not_low i) ++ nothing i ++ cond (here i) (a ∷ filter (λ a. nat_lt 18 a.kind) rest) (filter (λ a. nat_lt 18 a.kind) rest))
+    ∙ (λ i. a ∷ (map narrowed (sym low_rest i) ++ flat_map as4_of (sym ended i) ++ filter (λ a. nat_lt 18 a.kind) rest))
 
-pub above_none : (a : Attribute) → a.kind ≤ 18 → part_octets Above a ≡ []
-above_none a low = ap (λ b. flat_map attribute_octets (cond b (a ∷ []) [])) (le-ltb 18 a.kind low)
+-- the same, and for a four-octet peer any attribute, as the code names what is left
+pub last_step : (mode mode_then : Mode) (left left_then as4 as4_then rest : List Attribute) (a : Attribute) → mode ≡ Two → mode_then ≡ mode → left_then ≡ left → as4_then ≡ [] → IsLegal left → begins_below left ≡ false → flat_map as4_of as4 ≡ [] → left_then ≡ a ∷ rest
+    → parts_left mode left as4 ≡ a ∷ parts_left mode_then rest as4_then
+last_step mode mode_then left left_then as4 as4_then rest a two same left_is ended legal none nothing is =
+    ap (λ mode. parts_left mode left as4) two ∙ high_step left rest as4 as4_then a legal (sym left_is ∙ is) none nothing ended
+    ∙ ap (λ mode. a ∷ parts_left mode rest as4_then) (sym (same ∙ two))
 
-pub whole_one : (a : Attribute) → WritesOne Whole a a
-whole_one a = record { is = refl }
+pub four_step : (mode mode_then : Mode) (left left_then as4 as4_then rest : List Attribute) (a : Attribute) → mode ≡ Four → mode_then ≡ mode → left_then ≡ left → left_then ≡ a ∷ rest → parts_left mode left as4 ≡ a ∷ parts_left mode_then rest as4_then
+four_step mode mode_then left left_then as4 as4_then rest a four same left_is is =
+    ap (λ mode. parts_left mode left as4) four ∙ sym left_is ∙ is ∙ ap (λ mode. a ∷ parts_left mode rest as4_then) (sym (same ∙ four))
 
--- ---- the passes make up what is spelt
+-- nothing is left
+pub none_step : (left as4 : List Attribute) → left ≡ [] → flat_map as4_of as4 ≡ [] → parts_left Two left as4 ≡ []
+none_step left as4 is nothing = (λ i. parts_left Two (is i) as4) ∙ ap (λ m. m ++ []) nothing
 
-flat_map-append : (xs ys : List Attribute) → flat_map attribute_octets (xs ++ ys) ≡ flat_map attribute_octets xs ++ flat_map attribute_octets ys
-flat_map-append [] ys = refl
-flat_map-append (x ∷ xs) ys = ap (λ rest. attribute_octets x ++ rest) (flat_map-append xs ys) ∙ sym (append_assoc (attribute_octets x) (flat_map attribute_octets xs) (flat_map attribute_octets ys))
+-- ---- how many there are
 
-pub whole_passed : (m : List Attribute) → passed Whole m ≡ spelt m Four
-whole_passed [] = refl
-whole_passed (a ∷ m) = λ i. one a i ++ whole_passed m i
+kinds_above : (low : ℕ) (m : List Attribute) → low < 256 → AllAbove low m → IsRising m → AllByRecursion IsLegalAttribute m → length m + low < 256
+kinds_above low [] h above rising legal = omega arith
+kinds_above low (a ∷ m) h above rising legal =
+    let more = kinds_above a.kind m legal.0.kind rising.0 rising.1 legal.1 in
+    let higher : low < a.kind = above.0 in
+    omega arith
 
-low_passed : (m : List Attribute) → passed Narrowed m ≡ flat_map attribute_octets (map narrowed (filter (λ (a : Attribute). nat_lt a.kind 17) m))
-low_passed [] = refl
-low_passed (a ∷ m) = by_test (nat_lt a.kind 17) (low_passed m)
+types_most : (m : List Attribute) → IsRising m → AllByRecursion IsLegalAttribute m → length m ≤ 256
+types_most [] rising legal = omega arith
+types_most (a ∷ m) rising legal = let more = kinds_above a.kind m legal.0.kind rising.0 rising.1 legal.1 in omega arith
+
+filter_most : (p : Attribute → Bool) (m : List Attribute) → length (filter p m) ≤ length m
+filter_most p [] = omega arith
+filter_most p (a ∷ m) = by_test (p a) (filter_most p m)
   where
-    by_test : (b : Bool) → passed Narrowed m ≡ flat_map attribute_octets (map narrowed (filter (λ (a : Attribute). nat_lt a.kind 17) m))
-        → flat_map attribute_octets (cond b (narrowed a ∷ []) []) ++ passed Narrowed m
-        ≡ flat_map attribute_octets (map narrowed (cond b (a ∷ filter (λ (a : Attribute). nat_lt a.kind 17) m) (filter (λ (a : Attribute). nat_lt a.kind 17) m)))
-    by_test true e = λ i. one (narrowed a) i ++ e i
-    by_test false e = e
+    by_test : (b : Bool) → length (filter p m) ≤ length m → length (cond b (a ∷ filter p m) (filter p m)) ≤ suc (length m)
+    by_test true h = omega (arith, h)
+    by_test false h = omega (arith, h)
 
-middle_passed : (m : List Attribute) → passed As4 m ≡ flat_map attribute_octets (flat_map as4_of m)
-middle_passed [] = refl
-middle_passed (a ∷ m) = ap (λ rest. part_octets As4 a ++ rest) (middle_passed m) ∙ sym (flat_map-append (as4_of a) (flat_map as4_of m))
+beside_one : (a : Attribute) (b c : Bool) → length (cond b (as4_attribute 17 a.value ∷ []) (cond c (as4_attribute 18 a.value ∷ []) [])) ≤ 1
+beside_one a true c = omega arith
+beside_one a false true = omega arith
+beside_one a false false = omega arith
 
-high_passed : (m : List Attribute) → passed Above m ≡ flat_map attribute_octets (filter (λ (a : Attribute). nat_lt 18 a.kind) m)
-high_passed [] = refl
-high_passed (a ∷ m) = by_test (nat_lt 18 a.kind) (high_passed m)
+beside_most : (m : List Attribute) → length (flat_map as4_of m) ≤ length m
+beside_most [] = omega arith
+beside_most (a ∷ m) =
+    omega (arith, length-append (as4_of a) (flat_map as4_of m), beside_one a (nat_eq a.kind 2 && path_needs_four_octets a.value) (nat_eq a.kind 7 && needs_four_octets (aggregator_in a.value)), beside_most m)
+
+parts_most : (mode : Mode) (m : List Attribute) → IsLegal m → length (in_mode mode m) ≤ 768
+parts_most Four m legal = omega (arith, types_most m legal.rising legal.each)
+parts_most Two m legal =
+    let below : List Attribute = filter (λ (a : Attribute). nat_lt a.kind 17) m in
+    let above : List Attribute = filter (λ (a : Attribute). nat_lt 18 a.kind) m in
+    omega (
+      arith,
+      length-append (map narrowed below ++ flat_map as4_of m) above,
+      length-append (map narrowed below) (flat_map as4_of m),
+      length-map below narrowed,
+      filter_most (λ (a : Attribute). nat_lt a.kind 17) m,
+      filter_most (λ (a : Attribute). nat_lt 18 a.kind) m,
+      beside_most m,
+      types_most m legal.rising legal.each,
+    )
+
+-- ---- their octets are counted
+
+pub record Counted (all items : List Attribute) (size : ℕ) : Type 0 where
+  pub left : size + length (flat_map attribute_octets items) ≡ length (flat_map attribute_octets all)
+  pub most : size + length items * 8589934592 ≤ 6597069766656
+
+pub count_all : (mode : Mode) (m items : List Attribute) → IsLegal m → items ≡ in_mode mode m → Counted (in_mode mode m) items 0
+count_all mode m items legal is =
+    subst (λ items. Counted (in_mode mode m) items 0) (sym is) (record { left = omega arith; most = omega (arith, parts_most mode m legal) })
+
+pub count_next : (all items rest : List Attribute) (a : Attribute) (size n part : ℕ) → Counted all items size → items ≡ a ∷ rest → n ≡ length a.value → n < 4294967296 → part ≡ octets_of_length n → Counted all rest (size + part)
+count_next all items rest a size n part counted is n_is short part_is =
+    let here : part ≡ length (attribute_octets a) = part_is ∙ ap octets_of_length n_is ∙ sym (attribute_length a) in
+    record {
+      left = omega (arith, counted.left, ap (λ items. length (flat_map attribute_octets items)) is, length-append (attribute_octets a) (flat_map attribute_octets rest), here);
+      most = omega (arith, counted.most, ap length is, part_most (nat_lt 255 n) n part part_is short);
+    }
   where
-    by_test : (b : Bool) → passed Above m ≡ flat_map attribute_octets (filter (λ (a : Attribute). nat_lt 18 a.kind) m)
-        → flat_map attribute_octets (cond b (a ∷ []) []) ++ passed Above m
-        ≡ flat_map attribute_octets (cond b (a ∷ filter (λ (a : Attribute). nat_lt 18 a.kind) m) (filter (λ (a : Attribute). nat_lt 18 a.kind) m))
-    by_test true e = λ i. one a i ++ e i
-    by_test false e = e
+    part_most : (b : Bool) (n part : ℕ) → part ≡ cond b 4 3 + n → n < 4294967296 → part ≤ 8589934592
+    part_most true n part is short = omega (arith, is, short)
+    part_most false n part is short = omega (arith, is, short)
 
-pub two_passed : (m : List Attribute) → spelt m Two ≡ passed Narrowed m ++ passed As4 m ++ passed Above m
-two_passed m =
-    flat_map-append (map narrowed (filter (λ (a : Attribute). nat_lt a.kind 17) m) ++ flat_map as4_of m) (filter (λ (a : Attribute). nat_lt 18 a.kind) m)
-    ∙ ap (λ front. front ++ flat_map attribute_octets (filter (λ (a : Attribute). nat_lt 18 a.kind) m)) (flat_map-append (map narrowed (filter (λ (a : Attribute). nat_lt a.kind 17) m)) (flat_map as4_of m))
-    ∙ (λ i. sym (low_passed m) i ++ sym (middle_passed m) i ++ sym (high_passed m) i)
+pub count_done : (all items : List Attribute) (size : ℕ) → Counted all items size → items ≡ [] → size ≡ length (flat_map attribute_octets all)
+count_done all items size counted is = omega (arith, counted.left, ap (λ items. length (flat_map attribute_octets items)) is)
 
--- ---- and what has a spelling has one in each pass
+-- ---- one of them is written
 
-abbrev Short : Attribute → Type 0
-Short a = length a.value < 65536
+pub part_written : (h : Head) (bytes : List ℕ) (a : Attribute) (at value_at : ℕ) (old mid new : List ℕ) → a ≡ attribute_by h bytes → h.len ≡ length bytes → at + length (attribute_octets a) ≤ length old → value_at ≡ at + length (head_spelling h)
+    → Writes at (head_spelling h) old mid → Writes value_at bytes mid new → Writes at (attribute_octets a) old new
+part_written h bytes a at value_at old mid new a_is len fits value_is head value =
+    writes_then at value_at (head_spelling h) bytes (attribute_octets a) old mid new (ap attribute_octets a_is ∙ attribute_spelling h bytes len) value_is fits head value
 
-all_front : (xs ys : List Attribute) → AllByRecursion Short (xs ++ ys) → AllByRecursion Short xs
-all_front [] ys all = tt
-all_front (x ∷ xs) ys all = (all.0, all_front xs ys all.1)
-
-all_behind : (xs ys : List Attribute) → AllByRecursion Short (xs ++ ys) → AllByRecursion Short ys
-all_behind [] ys all = all
-all_behind (x ∷ xs) ys all = all_behind xs ys all.1
-
-pub whole_short : (m : List Attribute) → HasSpelling m Four → AllByRecursion (HasSpellingIn Whole) m
-whole_short [] has = tt
-whole_short (a ∷ m) has = ((has.0, tt), whole_short m has.1)
-
-low_short : (m : List Attribute) → AllByRecursion Short (map narrowed (filter (λ (a : Attribute). nat_lt a.kind 17) m)) → AllByRecursion (HasSpellingIn Narrowed) m
-low_short [] has = tt
-low_short (a ∷ m) has = by_test (nat_lt a.kind 17) has (low_short m)
-  where
-    by_test : (b : Bool) → AllByRecursion Short (map narrowed (cond b (a ∷ filter (λ (a : Attribute). nat_lt a.kind 17) m) (filter (λ (a : Attribute). nat_lt a.kind 17) m)))
-        → (AllByRecursion Short (map narrowed (filter (λ (a : Attribute). nat_lt a.kind 17) m)) → AllByRecursion (HasSpellingIn Narrowed) m)
-        → AllByRecursion Short (cond b (narrowed a ∷ []) []) × AllByRecursion (HasSpellingIn Narrowed) m
-    by_test true has later = ((has.0, tt), later has.1)
-    by_test false has later = (tt, later has)
-
-middle_short : (m : List Attribute) → AllByRecursion Short (flat_map as4_of m) → AllByRecursion (HasSpellingIn As4) m
-middle_short [] has = tt
-middle_short (a ∷ m) has = (all_front (as4_of a) (flat_map as4_of m) has, middle_short m (all_behind (as4_of a) (flat_map as4_of m) has))
-
-high_short : (m : List Attribute) → AllByRecursion Short (filter (λ (a : Attribute). nat_lt 18 a.kind) m) → AllByRecursion (HasSpellingIn Above) m
-high_short [] has = tt
-high_short (a ∷ m) has = by_test (nat_lt 18 a.kind) has (high_short m)
-  where
-    by_test : (b : Bool) → AllByRecursion Short (cond b (a ∷ filter (λ (a : Attribute). nat_lt 18 a.kind) m) (filter (λ (a : Attribute). nat_lt 18 a.kind) m))
-        → (AllByRecursion Short (filter (λ (a : Attribute). nat_lt 18 a.kind) m) → AllByRecursion (HasSpellingIn Above) m)
-        → AllByRecursion Short (cond b (a ∷ []) []) × AllByRecursion (HasSpellingIn Above) m
-    by_test true has later = ((has.0, tt), later has.1)
-    by_test false has later = (tt, later has)
-
--- each pass has short values
-pub record ShortPasses (m : List Attribute) : Type 0 where
-  pub low : AllByRecursion (HasSpellingIn Narrowed) m
-  pub middle : AllByRecursion (HasSpellingIn As4) m
-  pub high : AllByRecursion (HasSpellingIn Above) m
-
-pub two_short : (m : List Attribute) → HasSpelling m Two → ShortPasses m
-two_short m has =
-    let low : List Attribute = map narrowed (filter (λ (a : Attribute). nat_lt a.kind 17) m) in
-    let high : List Attribute = filter (λ (a : Attribute). nat_lt 18 a.kind) m in
-    let front = all_front (low ++ flat_map as4_of m) high has in
-    record { low = low_short m (all_front low (flat_map as4_of m) front); middle = middle_short m (all_behind low (flat_map as4_of m) front); high = high_short m (all_behind (low ++ flat_map as4_of m) high has) }
-
--- how long what is spelt is, by the passes
-pub two_length : (m : List Attribute) → length (spelt m Two) ≡ length (passed Narrowed m) + length (passed As4 m) + length (passed Above m)
-two_length m =
-    ap length (two_passed m) ∙ length-append (passed Narrowed m ++ passed As4 m) (passed Above m)
-    ∙ ap (λ n. n + length (passed Above m)) (length-append (passed Narrowed m) (passed As4 m))
+pub part_end : (h : Head) (bytes : List ℕ) (a : Attribute) (at value_at : ℕ) → a ≡ attribute_by h bytes → h.len ≡ length bytes → value_at ≡ at + length (head_spelling h) → value_at + length bytes ≡ at + length (attribute_octets a)
+part_end h bytes a at value_at a_is len value_is =
+    omega (arith, value_is, ap length (ap attribute_octets a_is ∙ attribute_spelling h bytes len), length-append (head_spelling h) bytes)

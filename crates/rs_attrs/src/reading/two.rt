@@ -11,46 +11,14 @@ ghost use Rattle.rs_attrs.specs.Table.{size_in};
 ghost use Rattle.rs_attrs.specs.Meaning;
 ghost use Rattle.rs_attrs.specs.Meaning.{aggregator_by, merged_with, value_by_two};
 ghost use Rattle.rs_attrs.specs.Walking.{spelling_in, noted, AreKept};
-ghost use Rattle.rs_attrs.specs.Merging.{segments_in, IsWhole, IsCut, plain, as4_value};
+ghost use Rattle.rs_attrs.specs.Merging.{segments_in, IsWhole, plain, as4_value};
 
 use crate::mode::Mode;
 use crate::reading::field::Found;
-use crate::reading::values::{is_segment_kind, number_size};
+use crate::segments::{first_segment, is_segment_kind};
 use crate::types::{AGGREGATOR, AS_PATH, AS4_AGGREGATOR, AS4_PATH};
 use rs_octets::AS_TRANS;
 use std::alloc::AllocError;
-
-/// A segment as it stands at the front of a path, and what follows it.
-#[derive(Clone, Copy)]
-pub(crate) struct RawSegment<'a> {
-    pub(crate) kind: u8,
-    pub(crate) count: u8,
-    pub(crate) numbers: &'a [u8],
-    pub(crate) rest: &'a [u8],
-}
-
-/// The first segment of a well-formed path.
-fn first_segment(path: &[u8], mode: Mode, confederations: bool) -> Option<RawSegment<'_>>
-    requires { IsWhole (size_in mode) confederations path.now }
-    ensures segment { MatchOption result (segments_in (size_in mode) confederations path.now ≡ []) (λ s. IsCut (size_in mode) confederations path.now s) }
-    ensures shorter { IfSome result (λ s. length s.numbers.now + length s.rest.now + 2 ≤ length path.now) }
-    ensures octets { IfSome result (λ s. (i : ℕ) → slice_index s.numbers.now i < 256) }
-    ensures byte { IfSome result (λ s. s.count < 256) }
-{
-    if path.len() < 2 {
-        return None;
-    }
-    let kind = path[0];
-    let count = path[1];
-    let (_, behind) = path.split_at(2);
-    let (numbers, rest) = behind.split_at(number_size(mode) * usize::from(count));
-    Some(RawSegment {
-        kind,
-        count,
-        numbers,
-        rest,
-    })
-}
 
 /// The length of a well-formed path, of its sets and sequences alone.
 fn path_length(path: &[u8], mode: Mode, confederations: bool) -> usize

@@ -2,7 +2,7 @@
 
 ghost use Rattle.std.specs.Prelude.{◌≡◌, ◌<◌, is_some};
 ghost use Rattle.rs_attrs.specs.Spellings.{has_flag};
-ghost use Rattle.rs_attrs.specs.Paths.{octets_each, segments_of};
+ghost use Rattle.rs_attrs.specs.Paths.{segments_of};
 ghost use Rattle.rs_attrs.specs.Table;
 ghost use Rattle.rs_attrs.specs.Table.{size_in};
 ghost use Rattle.rs_attrs.specs.Walking.{spelling_in, segment_kinds, head_at};
@@ -11,6 +11,7 @@ ghost use Rattle.rs_attrs.specs.Meaning;
 use crate::attrs::Head;
 use crate::mode::Mode;
 use crate::reading::field::Found;
+use crate::segments::{first_segment, number_size};
 use crate::table::{Class, Outcome, Partial, Shape, partial_in, row_of};
 
 fn is_optional(flags: u8) -> bool
@@ -36,39 +37,13 @@ pub(crate) fn fits_class(class: Class, flags: u8) -> bool
     }
 }
 
-/// How many octets an AS number has.
-pub(crate) fn number_size(mode: Mode) -> usize
-    ensures value { result ≡ octets_each (size_in mode) }
-    ensures most { result < 5 }
-{
-    match mode {
-        Mode::Two => 2,
-        Mode::Four => 4,
-    }
-}
-
-pub(crate) fn is_segment_kind(kind: u8, confederations: bool) -> bool
-    ensures { result ≡ segment_kinds confederations kind }
-{
-    kind == 1 || kind == 2 || confederations && (kind == 3 || kind == 4)
-}
-
 /// A row of segments, of a confederation too where that is said.
 fn is_whole_path(value: &[u8], mode: Mode, confederations: bool) -> bool
     ensures { result ≡ is_some (segments_of (size_in mode) (segment_kinds confederations) value.now) }
 {
-    let each = number_size(mode);
     let mut rest = value;
-    while rest.len() >= 2 {
-        let kind = rest[0];
-        let count = rest[1];
-        let size = each * usize::from(count);
-        let (_, behind) = rest.split_at(2);
-        if !is_segment_kind(kind, confederations) || count == 0 || behind.len() < size {
-            return false;
-        }
-        let (_, after) = behind.split_at(size);
-        rest = after;
+    while let Some(segment) = first_segment(rest, mode, confederations) {
+        rest = segment.rest;
     }
     rest.is_empty()
 }

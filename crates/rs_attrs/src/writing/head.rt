@@ -2,9 +2,9 @@
 
 ghost use Rattle.std.specs.Prelude.{◌≡◌, ◌+◌, ◌^◌, ◌<◌, ◌≤◌, length, nat_lt};
 ghost use Rattle.rs_octets.specs.Writes.{Writes};
-ghost use Rattle.rs_attrs.specs.Writing.{bit, flags_with, attribute_octets};
-ghost use Rattle.rs_attrs.specs.Held.{attribute_by, head_spelling};
-ghost use Rattle.rs_attrs.specs.Passes.{octets_of_length};
+ghost use Rattle.rs_attrs.specs.Writing.{bit, flags_with};
+ghost use Rattle.rs_attrs.specs.Held.{head_spelling};
+ghost use Rattle.rs_attrs.specs.Parts.{octets_of_length};
 
 use crate::attrs::Head;
 use rs_octets::put;
@@ -39,18 +39,6 @@ pub(crate) fn put_head(out: &mut [u8], at: usize, head: &Head) -> usize
     } else {
         put(out, at, &[flags, head.kind, head.len as u8])
     }
-}
-
-/// Writes an attribute.
-pub(crate) fn put_attribute(out: &mut [u8], at: usize, head: &Head, value: &[u8]) -> usize
-    requires len { head.now.len ≡ length value.now }
-    requires short { head.now.len < 65536 }
-    requires fits { at + length (attribute_octets (attribute_by head.now value.now)) ≤ length out.old }
-    ensures end { result ≡ at + length (attribute_octets (attribute_by head.now value.now)) }
-    ensures octets { Writes at (attribute_octets (attribute_by head.now value.now)) out.old out.new }
-{
-    let value_at = put_head(out, at, head);
-    put(out, value_at, value)
 }
 
 /// The octets of an attribute whose value has this many.

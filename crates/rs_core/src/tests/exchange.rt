@@ -85,8 +85,7 @@ fn take(core: &mut Core, c: usize, room: usize, taken: &mut Vec<u8>) -> Result<u
     requires { c < client_count core.old }
     ensures { client_count core.new ≡ client_count core.old }
 {
-    core.begin(c);
-    let lent = core.lent(c);
+    let lent = core.writable(c);
     let count = lent.len().min(room);
     taken.extend_from_slice(&lent[..count])?;
     core.took(c, count);

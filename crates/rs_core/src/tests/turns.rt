@@ -1,4 +1,4 @@
-//! Turns by workers, and what is swept behind a turn.
+//! Turns by workers.
 
 use crate::tests::exchange::{A, B, OPEN_A, OPEN_B, come_up, hear, message, server, with_a_route};
 use rs_workers::Gate;
@@ -8,9 +8,23 @@ use std::thread;
 
 /// Holds each of shares 0 and 1 until the other has entered.
 #[derive(Drop)]
-struct Both {
+pub struct Both {
     entered: [AtomicBool; 2],
     failed: AtomicBool,
+}
+
+impl Both {
+    pub fn new() -> Both {
+        Both {
+            entered: [AtomicBool::new(false), AtomicBool::new(false)],
+            failed: AtomicBool::new(false),
+        }
+    }
+
+    /// One of them was waited for in vain.
+    pub fn has_failed(&self) -> bool {
+        self.failed.load(Ordering::SeqCst)
+    }
 }
 
 impl Gate for Both {
@@ -34,12 +48,9 @@ fn both_shares_run(rt: HostRuntime) -> Result<(), Fail> {
     let alloc = rt.alloc();
     let mut core = server(alloc, "", "")?;
     with_a_route(alloc, &mut core)?;
-    let gate = Both {
-        entered: [AtomicBool::new(false), AtomicBool::new(false)],
-        failed: AtomicBool::new(false),
-    };
+    let gate = Both::new();
     let turns = core.turn_with(&rt, 2, &gate);
-    assert!(rt; !gate.failed.load(Ordering::SeqCst));
+    assert!(rt; !gate.has_failed());
     assert_eq!(rt; turns.done, 2);
     assert_eq!(rt; turns.refused, 0);
     Ok(())

@@ -7,6 +7,7 @@ ghost use Rattle.rs_replay.specs.Texts.{IsKnown, none_left};
 
 use super::MEMBERS;
 use crate::fault::ReplayFault;
+use crate::progress::Unwatched;
 use crate::replay::replay;
 use crate::text::{Failed, OverRead, OverWrite, TextIn, TextOut};
 use rs_policy::Config;
@@ -108,7 +109,15 @@ fn each_call_failing(rt: HostRuntime) -> Result<(), Fail> {
             good_calls: 60,
             failures: 0,
         };
-        let played = replay(&rt, alloc, &mut reader, &mut writer, members(alloc)?, 1);
+        let played = replay(
+            &rt,
+            alloc,
+            &mut reader,
+            &mut writer,
+            &mut Unwatched,
+            members(alloc)?,
+            1,
+        );
         assert!(rt; WRITTEN.starts_with(writer.text.as_slice()), "{good_calls}");
         assert_eq!(rt; writer.failures, 0);
         if reader.failures > 0 {
@@ -123,7 +132,15 @@ fn each_call_failing(rt: HostRuntime) -> Result<(), Fail> {
             good_calls,
             failures: 0,
         };
-        let played = replay(&rt, alloc, &mut reader, &mut writer, members(alloc)?, 1);
+        let played = replay(
+            &rt,
+            alloc,
+            &mut reader,
+            &mut writer,
+            &mut Unwatched,
+            members(alloc)?,
+            1,
+        );
         assert!(rt; WRITTEN.starts_with(writer.text.as_slice()), "{good_calls}");
         if writer.failures > 0 {
             assert_eq!(rt; played, Err(ReplayFault::Writing), "{good_calls}");
@@ -153,6 +170,7 @@ fn counts_that_are_full(rt: HostRuntime) -> Result<(), Fail> {
         rt.alloc(),
         &mut reader,
         &mut writer,
+        &mut Unwatched,
         members(rt.alloc())?,
         1,
     );

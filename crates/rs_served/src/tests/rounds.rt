@@ -136,6 +136,16 @@ fn strangers_and_second_connections_are_closed(rt: HostRuntime) -> Result<(), Fa
     Ok(())
 }
 
+#[test]
+fn strangers_without_end_keep_nobody_waiting(rt: HostRuntime) -> Result<(), Fail> {
+    let mut ports = exchange(rt.alloc(), 0)?;
+    ports.is_flooded = true;
+    served(&rt, rt.alloc(), &mut ports, until(2))?;
+    assert_eq!(rt; ports.heard(1).get(COMING_UP..), Some(UPDATE));
+    assert!(rt; ports.said.contains(&Line::Stranger));
+    Ok(())
+}
+
 /// The client whose connection has this key in the exchange with a's second connection.
 fn client_of(key: usize) -> usize {
     if key == 1 { 1 } else { 0 }

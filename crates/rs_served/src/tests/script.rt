@@ -4,6 +4,13 @@ use crate::ports::{Caller, Line, PortFault, Ports};
 use crate::reports::Report;
 use std::alloc::{AllocError, Global};
 
+/// A connection from an address that is nobody's.
+const STRANGER: Caller = Caller {
+    listener: 0,
+    address: 0xcb00_7101,
+    key: usize::MAX,
+};
+
 /// Octets that a member says once it was sent so many.
 #[derive(Clone, Copy)]
 pub struct Said {
@@ -43,6 +50,8 @@ pub struct Script {
     alloc: Global,
     pub wires: Vec<Wire>,
     accepted: usize,
+    /// Behind them strangers come without end.
+    pub is_flooded: bool,
     calls: u64,
     failing: u64,
     pub broken: Option<Broken>,
@@ -64,6 +73,7 @@ impl Script {
             alloc,
             wires: Vec::new(alloc),
             accepted: 0,
+            is_flooded: false,
             calls: 0,
             failing,
             broken: None,
@@ -152,6 +162,7 @@ impl Ports for Script {
             return Err(PortFault);
         }
         match self.wires.get_mut(self.accepted) {
+            None if self.is_flooded => Ok(Some(STRANGER)),
             None => Ok(None),
             Some(wire) => {
                 self.accepted = self.accepted.saturating_add(1);

@@ -1,19 +1,19 @@
-use Rattle.std.proofs.Common.{◌≡◌, ◌+◌, List, length, sym, ◌∙◌}
-use Rattle.rs_attrs.specs.Meaning.{Attribute}
-use Rattle.rs_attrs.specs.Held.{attributes_in}
-use Rattle.rs_attrs.specs.Writing.{spelt}
-use Rattle.rs_attrs.specs.Passes.{passed}
-use Rattle.rs_attrs.specs.declared.mode.Mode.TheVariants.{Two}
-use Rattle.rs_attrs.specs.declared.writing.Pass.TheVariants.{Narrowed, As4, Above}
-use Rattle.rs_attrs.proofs.Written.Parts.{two_length}
+use Rattle.std.proofs.Common.{◌∙◌, arith}
+use Rattle.rs_attrs.specs.Writing.{in_mode}
+use Rattle.rs_attrs.proofs.Written.Parts.{count_all, count_next, count_done}
 use Rattle.rs_attrs.proofs.writing.size.Goals as goal
 
-pub returns-in-Two : goal.returns-in-Two
-returns-in-Two c =
-    let m : List Attribute = attributes_in c.deref-heads.result.now c.deref-values.result.now in
-    let is : m ≡ c.args.attrs.now = (λ i. attributes_in (c.deref-heads.ensures.value i) (c.deref-values.ensures.value i)) ∙ c.attrs.view_is in
-    let whole : length (spelt m Two) ≡ length (spelt c.args.attrs.now c.args.mode) = λ i. length (spelt (is i) (sym c.in-Two.is i)) in
-    let low : c.pass_size-in-Two.result ≡ length (passed Narrowed m) = c.pass_size-in-Two.ensures.value in
-    let middle : c.pass_size-in-Two-2.result ≡ length (passed As4 m) = c.pass_size-in-Two-2.ensures.value in
-    let high : c.pass_size-in-Two-3.result ≡ length (passed Above m) = c.pass_size-in-Two-3.ensures.value in
-    (λ i. low i + middle i + high i) ∙ sym (two_length m) ∙ whole
+pub loop-part-init : goal.loop-part-init
+loop-part-init c = count_all c.args.mode c.args.attrs.now _ c.of-part-items.ensures.legal (c.into_iter-part-iterator.ensures.into_iter_gives ∙ c.of-part-items.ensures.value)
+
+pub overflow_add-size : goal.overflow_add-size
+overflow_add-size c =
+    let next = count_next (in_mode c.args.mode c.args.attrs.now) _ c.next.new.self c.in-Some.part c.loop-part.size _ c.attribute_size-size.result c.loop-part.invariant c.in-Some.ensures.steps c.len.ensures.value c.len.ensures.most c.attribute_size-size.ensures in
+    omega (arith, next.most)
+
+pub loop-part-preserved : goal.loop-part-preserved
+loop-part-preserved c =
+    count_next (in_mode c.args.mode c.args.attrs.now) _ c.next.new.self c.in-Some.part c.loop-part.size _ c.attribute_size-size.result c.loop-part.invariant c.in-Some.ensures.steps c.len.ensures.value c.len.ensures.most c.attribute_size-size.ensures
+
+pub returns : goal.returns
+returns c = count_done (in_mode c.args.mode c.args.attrs.now) _ c.loop-part.size c.loop-part.invariant c.in-None.ensures.steps.0

@@ -1,8 +1,9 @@
-use Rattle.std.proofs.Common.{◌<◌, ◌∙◌, ap, cond, option_map, length, None, sym, subst, arith}
+use Rattle.std.proofs.Common.{◌≡◌, ◌<◌, ◌∙◌, ap, cond, option_map, length, None, Some, IfSome, sym, subst, arith, rules}
 use Rattle.std.specs.FinMap as fin
 use Rattle.std.specs.Arc.{arc_value}
 use Rattle.rs_outlet.specs.Views.{HaveNumbers}
-use Rattle.rs_outlet.specs.Inside.{numbers_from, loc_of}
+use Rattle.rs_outlet.specs.Inside.{FitsAlone, RowsFit, numbers_from, loc_of, prefix_and_hash, row_at}
+use Rattle.rs_outlet.proofs.Backing.{announced_backed, fit_set, other_row, this_row}
 use Rattle.rs_outlet.proofs.Numbering.{numbers_write, numbers_erase}
 use Rattle.rs_outlet.proofs.LocByNumber.{same, numbered, loc_set}
 use Rattle.rs_outlet.proofs.OneOf.{cond_twice}
@@ -55,5 +56,49 @@ returns-in-None-clause-most c =
 
 pub returns-in-Some-clause-most : goal.returns-in-Some-clause-most
 returns-in-Some-clause-most c =
-    let listed = announced_listed c.args.fresh.now.items _ _ c.announced_wait.ensures.said c.list_wait-in-Some.ensures.items in
+    let listed = announced_listed c.args.fresh.now.items _ _ _ _ c.announced_wait.ensures.due c.list_wait-in-Some.ensures.items in
     omega (arith, listed, c.take-was.ensures.used, c.take_told-told.ensures.withdrawn, c.put.ensures.used)
+
+pub returns-in-None-clause-others : goal.returns-in-None-clause-others
+returns-in-None-clause-others c = λ m ne.
+    let rows = c.args.rows.now.rows.items in
+    ap (λ xs. row_at xs m) c.take-was.ensures.rows ∙ other_row rows c.args.change.number None m ne
+
+pub returns-in-Some-clause-others : goal.returns-in-Some-clause-others
+returns-in-Some-clause-others c = λ m ne.
+    ap (λ xs. row_at xs m) c.put.ensures.rows ∙ other_row c.take-was.new.self.rows.items c.args.change.number _ m ne
+    ∙ ap (λ xs. row_at xs m) c.take-was.ensures.rows ∙ other_row c.args.rows.now.rows.items c.args.change.number None m ne
+
+pub returns-in-None-clause-fit : goal.returns-in-None-clause-fit
+returns-in-None-clause-fit c = λ speech new fit.
+    let rows = c.args.rows.now.rows.items in
+    let below : c.args.change.number < length rows = omega (arith, c.requires.number, c.args.rows.now.rows.ok) in
+    subst (RowsFit speech) (sym c.take-was.ensures.rows) (fit_set rows c.args.change.number None speech below (λ r e. cc) fit)
+
+pub returns-in-Some-clause-fit : goal.returns-in-Some-clause-fit
+returns-in-Some-clause-fit c = λ speech new fit.
+    let rows = c.args.rows.now.rows.items in
+    let n = c.args.change.number in
+    let mid = c.take-was.new.self.rows.items in
+    let p = c.args.change.prefix in
+    let below : n < length rows = omega (arith, c.requires.number, c.args.rows.now.rows.ok) in
+    let again : n < length mid = omega (arith, c.requires.number, c.take-was.ensures.room, c.take-was.new.self.rows.ok) in
+    let due : FitsAlone speech p (arc_value c.in-Some.due) = subst (λ o. IfSome o (λ attrs. FitsAlone speech p (arc_value attrs))) c.in-Some.is new in
+    subst (RowsFit speech) (sym c.put.ensures.rows)
+    (fit_set mid n _ speech again (λ r e. subst (λ (t : Row). FitsAlone speech t.prefix (arc_value t.attrs)) (some_is _ r e) due)
+    (subst (RowsFit speech) (sym c.take-was.ensures.rows) (fit_set rows n None speech below (λ r e. absurd (let f : None ≡ Some r = e in cc)) fit)))
+
+pub returns-in-Some-clause-waits : goal.returns-in-Some-clause-waits
+returns-in-Some-clause-waits c =
+    let n = c.args.change.number in
+    let mid = c.take-was.new.self.rows.items in
+    let again : n < length mid = omega (arith, c.requires.number, c.take-was.ensures.room, c.take-was.new.self.rows.ok) in
+    record {
+      wait = c.announced_wait.result;
+      owed = search rules;
+      place = c.announced_wait.ensures.place;
+      backed = announced_backed _ c.announced_wait.result c.args.change.prefix n _ c.announced_wait.ensures.place c.announced_wait.ensures.due
+          (ap (λ xs. option_map prefix_and_hash (row_at xs n)) c.put.ensures.rows ∙ ap (option_map prefix_and_hash) (this_row mid n _ again));
+      added = c.list_wait-in-Some.ensures.items;
+      closed = c.take_told-told.ensures.places;
+    }

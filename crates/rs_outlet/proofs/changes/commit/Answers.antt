@@ -1,15 +1,16 @@
-use Rattle.std.proofs.Common.{◌≡◌, false, [], ◌∷◌, length, arith, ◌∙◌, cond, sym, ap, subst, vec_len, refl, Some}
+use Rattle.std.proofs.Common.{◌≡◌, ◌++◌, false, nat_eq, [], ◌∷◌, length, arith, ◌∙◌, cond, sym, ap, subst, vec_len, refl, Some}
 use Rattle.std.specs.FinMap as fin
 use Rattle.std.specs.List.{AllByRecursion, IsDistinct, list_any}
 use Rattle.std.specs.Vec.Iter.{into_iter_items}
 use Rattle.std.proofs.lemmas.Map.Keys.{IsDistinct-head, IsDistinct-tail}
 use Rattle.rs_adjin.specs.AdjIns.{number_of}
-use Rattle.rs_outlet.specs.Inside.{ArePlaced, AreDue, HaveRows, is_changed, loc_of}
+use Rattle.rs_outlet.specs.Inside.{AreDue, AreOwn, ArePlaced, ChangesFit, HaveRows, is_changed, loc_of, numbers_of}
+use Rattle.rs_outlet.proofs.Backing.{are_backed_same, backed_step, own_rest}
 use Rattle.rs_outlet.specs.Places.{prefixes_at, withdrawn_count}
 use Rattle.rs_outlet.specs.Owed.{prefixes_of}
 use Rattle.rs_outlet.proofs.Carrying.{fresh_step, keeps_both, keeps_same, keeps_step, length_step, none_fresh, none_more, none_unlisted, unlisted_rest, unlisted_step}
 use Rattle.rs_outlet.proofs.LocByNumber.{same, same_is, by_number, numbered}
-use Rattle.rs_outlet.proofs.Numbering.{no_elements}
+use Rattle.rs_outlet.proofs.Numbering.{all_nil, no_elements}
 use Rattle.rs_outlet.proofs.TurnedLoc.{change_done}
 use Rattle.rs_outlet.proofs.changes.commit.Goals as goal
 
@@ -31,6 +32,11 @@ loop-change-init c =
       capacity = refl;
       fresh = none_fresh c.args.waits.now.places.items c.args.fresh.items none;
       once = subst (λ cs. IsDistinct same (prefixes_of cs)) (sym are) c.requires.once;
+      numbers = subst (λ cs. IsDistinct nat_eq (numbers_of cs)) (sym are) c.requires.numbers;
+      own = subst (λ cs. AreOwn cs c.args.rows.now.rows.items) (sym are) c.requires.own;
+      backed = λ backed. are_backed_same _ _ _ _ (λ n. refl) (ap (λ fs. c.args.waits.now.places.items ++ fs) none ∙ all_nil c.args.waits.now.places.items) backed;
+      fits = λ speech fits. subst (ChangesFit speech) (sym are) fits;
+      fit = λ speech fits fit. fit;
       unlisted = none_unlisted c.args.fresh.items _ none;
       keeps = λ ins p h q. keeps_same _ _ _ _ (none_more q c.args.waits.now.places.items c.args.fresh.items none) refl;
     }
@@ -47,6 +53,8 @@ loop-change-preserved c =
     let once : IsDistinct same (prefixes_of (x ∷ rest)) = subst (λ cs. IsDistinct same (prefixes_of cs)) are inv.once in
     let unlisted : AllByRecursion (λ q. list_any (same q) (prefixes_at fs) ≡ false) (prefixes_of (x ∷ rest)) = subst (λ cs. AllByRecursion (λ q. list_any (same q) (prefixes_at fs) ≡ false) (prefixes_of cs)) are inv.unlisted in
     let carried = c.carry_out.ensures.waits in
+    let numbers : IsDistinct nat_eq (numbers_of (x ∷ rest)) = subst (λ cs. IsDistinct nat_eq (numbers_of cs)) are inv.numbers in
+    let own : AreOwn (x ∷ rest) was = subst (λ cs. AreOwn cs was) are inv.own in
     record {
       room = c.carry_out.ensures.room ∙ inv.room;
       rows = rows.1;
@@ -59,18 +67,23 @@ loop-change-preserved c =
           ∙ ap (λ cs. cond (is_changed cs q) (due q) (fin.get (loc_of was) q)) (sym are)
           ∙ inv.loc ins due p d h q;
       numbered = λ ins p h. c.carry_out.ensures.numbered ins ((subst (λ cs. ArePlaced cs ins) are (inv.placed ins p)).0) (inv.numbered ins p h);
-      more = omega (arith, inv.more, ap length are, length_step x _ _ fs _ _ carried, c.loop-change.fresh.ok, c.carry_out.new.fresh.ok);
+      more = omega (arith, inv.more, ap length are, length_step x _ _ _ fs _ _ carried, c.loop-change.fresh.ok, c.carry_out.new.fresh.ok);
       spare = omega (arith, inv.spare, c.carry_out.ensures.fresh);
       count = omega (arith, inv.count, c.carry_out.ensures.count);
       all = omega (arith, inv.all, ap length are, c.carry_out.ensures.most);
       capacity = c.carry_out.ensures.capacity ∙ inv.capacity;
-      fresh = fresh_step x _ _ fs _ _ carried unlisted.0 inv.fresh;
+      fresh = fresh_step x _ _ _ fs _ _ carried unlisted.0 inv.fresh;
       once = IsDistinct-tail same x.prefix (prefixes_of rest) once;
-      unlisted = unlisted_rest x rest fs c.carry_out.new.fresh.items (unlisted_step x _ _ fs _ _ carried) (IsDistinct-head same x.prefix (prefixes_of rest) once) unlisted.1;
+      numbers = IsDistinct-tail nat_eq x.number (numbers_of rest) numbers;
+      own = own_rest x rest was _ c.carry_out.ensures.others (IsDistinct-head nat_eq x.number (numbers_of rest) numbers) own.1;
+      backed = λ backed. backed_step x _ was _ _ _ _ _ carried own.0 c.carry_out.ensures.others unlisted.0 (inv.backed backed);
+      fits = λ speech fits. (subst (ChangesFit speech) are (inv.fits speech fits)).1;
+      fit = λ speech fits fit. c.carry_out.ensures.fit speech ((subst (ChangesFit speech) are (inv.fits speech fits)).0) (inv.fit speech fits fit);
+      unlisted = unlisted_rest x rest fs c.carry_out.new.fresh.items (unlisted_step x _ _ _ fs _ _ carried) (IsDistinct-head same x.prefix (prefixes_of rest) once) unlisted.1;
       keeps = λ ins p h q.
           let placed = (subst (λ cs. ArePlaced cs ins) are (inv.placed ins p)).0 in
           keeps_both _ _ _ _ _ _ (inv.keeps ins p h q)
-          (keeps_step x _ _ fs _ _ carried unlisted.0 q (same q x.prefix) (fin.get (loc_of was) q) _ refl
+          (keeps_step x _ _ _ fs _ _ carried unlisted.0 q (same q x.prefix) (fin.get (loc_of was) q) _ refl
           (λ s. by_number ins was (numbered ins was (inv.numbered ins p h)) q (Some x.number) (ap (number_of ins) (same_is q x.prefix s) ∙ placed))
           (c.carry_out.ensures.loc ins placed (inv.numbered ins p h) q));
     }
@@ -88,3 +101,6 @@ returns-clause-keeps c = λ ins p h q.
 
 pub returns-clause-all : goal.returns-clause-all
 returns-clause-all c = omega (arith, c.loop-change.invariant.all, c.loop-change.invariant.capacity, c.add.ensures.withdrawn, c.add.ensures.capacity)
+
+pub returns-clause-backed : goal.returns-clause-backed
+returns-clause-backed c = λ backed q w is. c.loop-change.invariant.backed backed q w (sym (c.add.ensures.places q) ∙ is)

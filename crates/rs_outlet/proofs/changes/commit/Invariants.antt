@@ -1,4 +1,4 @@
-use Rattle.std.proofs.Common.{◌≡◌, ◌≤◌, ◌+◌, false, cond, Option, List, length, vec_len, ◌++◌}
+use Rattle.std.proofs.Common.{◌≡◌, ◌≤◌, ◌+◌, false, nat_eq, cond, Option, List, length, vec_len, ◌++◌}
 use Rattle.std.specs.FinMap as fin
 use Rattle.std.specs.List.{AllByRecursion, IsDistinct, list_any}
 use Rattle.std.specs.Vec.{vec_capacity}
@@ -9,7 +9,8 @@ use Rattle.rs_adjin.specs.declared.adj_ins.AdjIns.{AdjIns}
 use Rattle.rs_outlet.specs.Views.{HaveNumbers}
 use Rattle.rs_outlet.specs.Places.{AreFresh, open_at, open_count, prefixes_at, withdrawn_count}
 use Rattle.rs_outlet.specs.Owed.{Keeps, prefixes_of}
-use Rattle.rs_outlet.specs.Inside.{ArePlaced, AreDue, HaveRows, is_changed, numbers_from, loc_of}
+use Rattle.rs_outlet.specs.declared.answers.Speech.{Speech}
+use Rattle.rs_outlet.specs.Inside.{AreBacked, AreDue, AreOwn, ArePlaced, ChangesFit, HaveRows, RowsFit, is_changed, numbers_from, numbers_of, loc_of}
 use Rattle.rs_outlet.proofs.LocByNumber.{same}
 use Rattle.rs_outlet.proofs.changes.commit.Given as goal
 
@@ -29,6 +30,11 @@ invariant-loop-change l = record {
   capacity : vec_capacity l.waits.places ≡ vec_capacity l.fn.waits.places;
   fresh : AreFresh l.waits.places.items l.fresh.items;
   once : IsDistinct same (prefixes_of (into_iter_items l.change-iterator));
+  numbers : IsDistinct nat_eq (numbers_of (into_iter_items l.change-iterator));
+  own : AreOwn (into_iter_items l.change-iterator) l.rows.rows.items;
+  backed : AreBacked l.fn.rows.rows.items l.fn.waits.places.items → AreBacked l.rows.rows.items (l.waits.places.items ++ l.fresh.items);
+  fits : (speech : Speech) → ChangesFit speech l.fn.changes.items → ChangesFit speech (into_iter_items l.change-iterator);
+  fit : (speech : Speech) → ChangesFit speech l.fn.changes.items → RowsFit speech l.fn.rows.rows.items → RowsFit speech l.rows.rows.items;
   unlisted : AllByRecursion (λ q. list_any (same q) (prefixes_at l.fresh.items) ≡ false) (prefixes_of (into_iter_items l.change-iterator));
   keeps : (ins : AdjIns) → ArePlaced l.fn.changes.items ins → HaveNumbers (numbers_from 0 l.fn.rows.rows.items) ins → (q : Prefix)
       → Keeps (open_at q l.fn.waits.places.items) (fin.get (loc_of l.fn.rows.rows.items) q) (open_at q (l.waits.places.items ++ l.fresh.items)) (fin.get (loc_of l.rows.rows.items) q);

@@ -1,6 +1,10 @@
-use Rattle.std.proofs.Common.{◌∙◌, ◌≤◌, List, None, length, take, inr, ap, subst}
+use Rattle.std.proofs.Common.{◌≡◌, ◌∙◌, ◌≤◌, false, rules, sym, List, None, length, take, inr, ap, subst}
 use Rattle.rs_octets.specs.Prefixes.{Prefix}
 use Rattle.rs_packer.specs.Packed.{withdrawal}
+use Rattle.std.specs.List.{AllWithin}
+use Rattle.rs_adjin.proofs.Rows.{some_is}
+use Rattle.rs_outlet.specs.declared.waiting.Wait.{Wait}
+use Rattle.rs_outlet.specs.Places.{is_withdrawn}
 use Rattle.rs_outlet.proofs.Chosen.{none_chosen}
 use Rattle.rs_outlet.proofs.sending.put_gone.Goals as goal
 
@@ -10,5 +14,7 @@ returns-clause-update c = λ rows speech. inr (record {
   legal = tt;
   in_turn = tt;
   chosen = c.collect_withdrawn.ensures.are rows (none_chosen rows c.args.waits.now.places.items None _ _ c.requires.none.0 c.requires.none.1);
+  rise = c.collect_withdrawn.ensures.rise c.requires.none.0;
+  first = λ n at. subst (AllWithin (λ (w : Wait). is_withdrawn w ≡ false) c.args.waits.now.places.items 0) (some_is c.args.first n (sym (c.collect_withdrawn.ensures.first (search rules) (c.requires.some.1) (search rules) c.requires.empty c.requires.none.0) ∙ at)) c.requires.before;
   written = record { some = c.put_withdrawal.ensures.some; within = subst (λ (xs : List Prefix). c.put_withdrawal.result.prefixes ≤ length xs) c.deref.ensures.value c.put_withdrawal.ensures.within; says = c.put_withdrawal.ensures.octets ∙ ap (λ xs. withdrawal (take c.put_withdrawal.result.prefixes xs)) c.deref.ensures.value };
 })

@@ -1,7 +1,12 @@
-use Rattle.std.proofs.Common.{◌∙◌, ◌≤◌, List, Some, length, take, inr, ap, subst}
+use Rattle.std.proofs.Common.{◌≡◌, ◌∙◌, false, ◌<◌, ◌≤◌, List, Some, length, take, inr, ap, arith, rules, subst, sym}
 use Rattle.rs_octets.specs.Prefixes.{Prefix}
 use Rattle.rs_packer.specs.Packed.{announcement}
-use Rattle.rs_outlet.proofs.Chosen.{none_chosen}
+use Rattle.std.specs.List.{AllWithin}
+use Rattle.rs_adjin.proofs.Rows.{some_is}
+use Rattle.rs_outlet.specs.declared.waiting.Wait.{Wait}
+use Rattle.rs_outlet.specs.Places.{is_announced}
+use Rattle.rs_outlet.proofs.Chosen.{first_fits, none_chosen}
+use Rattle.rs_open.specs.Notes.{limit_octets}
 use Rattle.rs_outlet.proofs.sending.put_news.Goals as goal
 
 pub returns-clause-update : goal.returns-clause-update
@@ -10,5 +15,15 @@ returns-clause-update c = inr (record {
   legal = c.attributes_are_legal.ensures;
   in_turn = c.requires.in_turn;
   chosen = c.collect_announced.ensures.are (none_chosen c.args.rows.now.rows.items c.args.waits.now.places.items (Some c.args.attrs.now) _ _ c.requires.none.0 c.requires.none.1);
-  written = record { some = c.put_announcement.ensures.some; within = subst (λ (xs : List Prefix). c.put_announcement.result.prefixes ≤ length xs) c.deref-2.ensures.value c.put_announcement.ensures.within; says = c.put_announcement.ensures.octets ∙ ap (λ xs. announcement c.args.attrs.now c.args.speech.mode (take c.put_announcement.result.prefixes xs)) c.deref-2.ensures.value };
+  rise = c.collect_announced.ensures.rise c.requires.none.0;
+  first = λ n at. subst (AllWithin (λ (w : Wait). is_announced w ≡ false) c.args.waits.now.places.items 0) (some_is c.args.first n (sym (c.collect_announced.ensures.first c.requires.some.0 c.requires.some.1 (search rules) c.requires.empty c.requires.none.0) ∙ at)) c.requires.before;
+  written = record { some = c.put_announcement.ensures.some; within = subst (λ (xs : List Prefix). c.put_announcement.result.prefixes ≤ length xs) c.deref.ensures.value c.put_announcement.ensures.within; says = c.put_announcement.ensures.octets ∙ ap (λ xs. announcement c.args.attrs.now c.args.speech.mode (take c.put_announcement.result.prefixes xs)) c.deref.ensures.value };
 })
+
+pub put_announcement-requires-clause-fits : goal.put_announcement-requires-clause-fits
+put_announcement-requires-clause-fits c =
+    let are = c.collect_announced.ensures.are (none_chosen c.args.rows.now.rows.items c.args.waits.now.places.items (Some c.args.attrs.now) _ _ c.requires.none.0 c.requires.none.1) in
+    let ps = c.collect_announced.new.front.items in
+    let some : 0 < length ps = omega (arith, c.collect_announced.ensures.some c.requires.some.0 c.requires.some.1 (search rules) c.requires.empty, c.collect_announced.new.front.ok) in
+    subst (λ (qs : List Prefix). length (announcement c.args.attrs.now c.args.speech.mode (take 1 qs)) ≤ limit_octets c.args.speech.limit) (sym c.deref.ensures.value)
+    (first_fits c.args.speech c.args.rows.now.rows.items c.args.waits.now.places.items c.args.attrs.now c.collect_announced.new.chosen.items ps c.requires.fit are some)

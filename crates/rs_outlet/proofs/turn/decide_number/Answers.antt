@@ -4,8 +4,6 @@ use Rattle.std.specs.Prelude.{option_copied}
 use Rattle.std.specs.Borrow.{Bor}
 use Rattle.std.specs.List.{list_any}
 use Rattle.std.proofs.lemmas.Bool.Decides.{nat_tests}
-use Rattle.rs_adjin.specs.Listing.{sent_by}
-use Rattle.rs_adjin.specs.declared.routes.Route.{Route}
 use Rattle.rs_outlet.specs.Due.{any_holds}
 use Rattle.rs_outlet.specs.HeldBy.{held_by}
 use Rattle.rs_outlet.specs.Inside.{attributes_at, shown}
@@ -33,10 +31,10 @@ pub returns-then-is_none-clause-changes : goal.returns-then-is_none-clause-chang
 returns-then-is_none-clause-changes c =
     let t = held_by c.args.sources.now in
     let n = c.args.number in
-    let routes = c.at_number.result.now in
+    let holders = c.at_number.result in
     let was : attributes_at c.args.rows.now.rows.items n ≡ None = ap shown (sym c.get.ensures) ∙ shown_none c.get.result (c.is_none.ensures ∙ ap not c.if-is_none.true) in
-    let none : [] ≡ routes = no_elements routes (zero_is (length routes) (sym c.is_empty.ensures ∙ c.if-is_empty.true)) in
-    inl (refl, λ p at. was ∙ sym (due_unheld t c.args.sources.now.client c.args.speech p (ap (map sent_by) none ∙ (c.at_number.ensures p at).all)))
+    let none : [] ≡ holders = no_elements holders (zero_is (length holders) (sym c.is_empty.ensures ∙ c.if-is_empty.true)) in
+    inl (refl, λ p at. was ∙ sym (due_unheld t c.args.sources.now.client c.args.speech p (none ∙ (c.at_number.ensures p at).all)))
 
 pub returns-in_default-clause-standing : goal.returns-in_default-clause-standing
 returns-in_default-clause-standing c = λ p at.
@@ -46,9 +44,9 @@ some_copied : (r : Option (Bor Row)) → is_some r ≡ true → is_some (option_
 some_copied None h = absurd (true≢false (sym h))
 some_copied (Some row) h = refl
 
-any_sent : (routes : List Route) → (length routes == 0) ≡ false → list_any (λ h. true) (map sent_by routes) ≡ true
-any_sent [] h = absurd (true≢false h)
-any_sent (r ∷ routes) h = refl
+any_of : {A : Type 0} (xs : List A) → (length xs == 0) ≡ false → list_any (λ x. true) xs ≡ true
+any_of [] h = absurd (true≢false h)
+any_of (x ∷ xs) h = refl
 
 or_true : (b c : Bool) → c ≡ true → true ≡ (b || c)
 or_true true c h = refl
@@ -62,5 +60,5 @@ returns-clause-standing c = λ p at.
           sym (ap (λ b. b || any_holds t p) (ap is_some (sym w.get.ensures) ∙ some_copied w.get.result (w.is_none.ensures ∙ ap not w.if-is_none.false)))
       | else-is_empty-via-else-is_empty w ↦
           or_true _ (any_holds t p)
-          (ap (list_any (λ h. true)) (sym (c.at_number.ensures p at).all) ∙ any_sent c.at_number.result.now (sym c.is_empty.ensures ∙ w.if-is_empty.false))
+          (ap (list_any (λ h. true)) (sym (c.at_number.ensures p at).all) ∙ any_of c.at_number.result (sym c.is_empty.ensures ∙ w.if-is_empty.false))
     ]

@@ -3,7 +3,7 @@ use Rattle.std.specs.List.{Contains, list_any}
 use Rattle.std.specs.List.Sorted.{IsStrictlySortedBy}
 use Rattle.std.proofs.lemmas.Fn.{dedup_same}
 use Rattle.std.proofs.lemmas.List.Kept.{Contains-from_dedup, IsStrictlySortedBy-dedup}
-use Rattle.std.proofs.lemmas.List.Sorted.{answers_always, Contains-permutation, IsPermutation-map, IsPermutation-sym, list_any-IsPermutation}
+use Rattle.std.proofs.lemmas.List.Sorted.{Contains-permutation, IsPermutation-map, IsPermutation-sym, list_any-IsPermutation}
 use Rattle.rs_outlet.specs.declared.waiting.Wait.{Wait}
 use Rattle.rs_outlet.specs.Places.{prefixes_at}
 use Rattle.rs_outlet.proofs.LocByNumber.{same}
@@ -16,9 +16,9 @@ use Rattle.rs_outlet.proofs.waiting.put_in_order.Goals as goal
 
 pub returns : goal.returns
 returns c =
-    let up = c.sort_unstable_by_key.ensures.sorted (λ w. w.prefix) (answers_always _ _ _ (λ f a r g h. search rules)) in
+    let up = c.sort_by_prefix.ensures.sorted in
     let kept = dedup_same _ (λ v w. prefix_eq v.prefix w.prefix) _ (λ x y b f' x' y' k. search rules) _ _ c.dedup_by_key.ensures.filtered in
-    let moved = c.sort_unstable_by_key.ensures.permutation in
+    let moved = c.sort_by_prefix.ensures.permutation in
     record {
       rises = prefixes_rise _ (subst (IsStrictlySortedBy by_prefix) (sym kept) (IsStrictlySortedBy-dedup places_total (λ v w. sym (prefix_eq-cmp v.prefix w.prefix)) _ up));
       from = λ w here. Contains-permutation _ _ w (IsPermutation-sym _ _ moved) (Contains-from_dedup (λ v w. prefix_eq v.prefix w.prefix) _ w (subst (λ (xs : List Wait). Contains xs w) kept here));
@@ -27,6 +27,6 @@ returns c =
           ∙ deduped (λ v w. prefix_eq v.prefix w.prefix) (λ v w. sym (prefix_eq-cmp v.prefix w.prefix)) q _
           ∙ sym (list_any-IsPermutation (same q) _ _ (IsPermutation-map (λ (w : Wait). w.prefix) _ _ moved));
       withdrawn = withdrawn_ordered (λ v w. prefix_eq v.prefix w.prefix) _ _ _ moved kept;
-      capacity = c.dedup_by_key.ensures.capacity ∙ c.sort_unstable_by_key.ensures.capacity;
+      capacity = c.dedup_by_key.ensures.capacity ∙ c.sort_by_prefix.ensures.capacity;
       kept = λ d. ordered (λ v w. prefix_eq v.prefix w.prefix) (λ v w. sym (prefix_eq-cmp v.prefix w.prefix)) _ _ _ moved kept d;
     }

@@ -11,7 +11,7 @@ use Rattle.rs_replay.specs.declared.recording.Recording.{Recording}
 use Rattle.rs_replay.specs.declared.recording.Stop.{Stop}
 use Rattle.rs_replay.specs.declared.recording.Stop.TheVariants.{End, Table}
 use Rattle.rs_replay.specs.declared.fault.ReplayFault.{ReplayFault}
-use Rattle.rs_replay.specs.Played.{Act, Did, ToldRoutes, said, written}
+use Rattle.rs_replay.specs.Played.{Act, Did, ToldRoutes, said, written, failures_read, failures_written}
 use Rattle.rs_replay.specs.Replays.{Adds, Begins, Happens, IsOver, Plays, PlaysOut, Tells, place_in, name_in}
 use Rattle.rs_replay.proofs.Replaying.{HasGone, did, told, done_first, gone_on, led_to_stop, over_at_end}
 use Rattle.rs_replay.proofs.replay.play_on.Given as given
@@ -19,29 +19,29 @@ use Rattle.rs_replay.proofs.replay.play_on.Invariants.{Does}
 use Rattle.rs_replay.proofs.replay.play_on.Goals as goal
 
 -- a step of the link, as the recording says it
-abbrev Stepped : (g : given.Over) → Recording g.row.R.Denot g.row.W.Denot → links.Step → Recording g.row.R.Denot g.row.W.Denot → Type 0
+abbrev Stepped : (g : given.Over) → Recording g.row.R.Denot g.row.W.Denot g.row.P.Denot → links.Step → Recording g.row.R.Denot g.row.W.Denot g.row.P.Denot → Type 0
 Stepped g a s b = Happens g.R.TextIn.takes g.R.TextIn.at_end g.R.TextIn.failures g.W.TextOut.puts g.W.TextOut.failures
     a.names.now a.reader.ghost_name a.writer.ghost_name a.reader.now a.writer.now a.lines.now a.number a.stop s
     b.names.now b.reader.ghost_name b.writer.ghost_name b.reader.now b.writer.now b.lines.now b.number b.stop
 
-step : (g : given.Over) (first a b : Recording g.row.R.Denot g.row.W.Denot) (s : links.Step) (acts : List Act) → Stepped g a s b → Does g first acts a → Does g first (Did s ∷ acts) b
+step : (g : given.Over) (first a b : Recording g.row.R.Denot g.row.W.Denot g.row.P.Denot) (s : links.Step) (acts : List Act) → Stepped g a s b → Does g first acts a → Does g first (Did s ∷ acts) b
 step g first a b s acts happens done = did g.R.TextIn.takes g.R.TextIn.at_end g.R.TextIn.failures g.W.TextOut.puts g.W.TextOut.failures
     first.names.now first.reader.ghost_name first.writer.ghost_name first.reader.now first.writer.now acts s
     a.names.now a.reader.ghost_name a.writer.ghost_name a.reader.now a.writer.now a.lines.now a.number a.stop
     b.names.now b.reader.ghost_name b.writer.ghost_name b.reader.now b.writer.now b.lines.now b.number b.stop happens done
 
 -- a run of the link's steps was done
-led : (g : given.Over) (first old new : Recording g.row.R.Denot g.row.W.Denot) → ((acts : List Act) × Does g first acts old) → HasStopped (Stepped g) old new → (acts : List Act) × Does g first acts new
+led : (g : given.Over) (first old new : Recording g.row.R.Denot g.row.W.Denot g.row.P.Denot) → ((acts : List Act) × Does g first acts old) → HasStopped (Stepped g) old new → (acts : List Act) × Does g first acts new
 led g first old new before h = led_to_stop (Stepped g) (λ link acts. Does g first acts link) (step g first) old new before.0 h before.1
 
 -- and it is the route server's
-gone : (g : given.Over) (first old new : Recording g.row.R.Denot g.row.W.Denot) (settings : Configuration) (before after : Core)
+gone : (g : given.Over) (first old new : Recording g.row.R.Denot g.row.W.Denot g.row.P.Denot) (settings : Configuration) (before after : Core)
     → Continues (Stepped g) before old after new Drives
     → HasGone (λ link acts. Does g first acts link) settings before old → HasGone (λ link acts. Does g first acts link) settings after new
 gone g first old new settings before after c h = gone_on (Stepped g) (λ link acts. Does g first acts link) (step g first) settings before old after new c h
 
 -- routes were told
-told_one : (g : given.Over) (first old resumed new : Recording g.row.R.Denot g.row.W.Denot) (c : ℕ) (line : List ℕ) (acts : List Act)
+told_one : (g : given.Over) (first old resumed new : Recording g.row.R.Denot g.row.W.Denot g.row.P.Denot) (c : ℕ) (line : List ℕ) (acts : List Act)
     → old.stop ≡ Some (Table c) → resumed ≡ record old { stop = None }
     → Adds g.R.TextIn.takes g.R.TextIn.at_end g.R.TextIn.failures g.W.TextOut.puts g.W.TextOut.failures
     resumed.names.now resumed.reader.ghost_name resumed.writer.ghost_name resumed.reader.now resumed.writer.now resumed.lines.now resumed.number resumed.stop line
@@ -52,12 +52,12 @@ told_one g first old resumed new c line acts stop is adds done = told g.R.TextIn
     old.names.now old.reader.ghost_name old.writer.ghost_name old.reader.now old.writer.now old.lines.now old.number old.stop
     new.names.now new.reader.ghost_name new.writer.ghost_name new.reader.now new.writer.now new.lines.now new.number new.stop
     stop
-    (subst (λ (a : Recording g.row.R.Denot g.row.W.Denot). Adds g.R.TextIn.takes g.R.TextIn.at_end g.R.TextIn.failures g.W.TextOut.puts g.W.TextOut.failures
+    (subst (λ (a : Recording g.row.R.Denot g.row.W.Denot g.row.P.Denot). Adds g.R.TextIn.takes g.R.TextIn.at_end g.R.TextIn.failures g.W.TextOut.puts g.W.TextOut.failures
     a.names.now a.reader.ghost_name a.writer.ghost_name a.reader.now a.writer.now a.lines.now a.number a.stop line
     new.names.now new.reader.ghost_name new.writer.ghost_name new.reader.now new.writer.now new.lines.now new.number new.stop) is adds)
     done
 
-told_gone : (g : given.Over) (first old new : Recording g.row.R.Denot g.row.W.Denot) (c : ℕ) (line : List ℕ) (settings : Configuration) (core : Core)
+told_gone : (g : given.Over) (first old new : Recording g.row.R.Denot g.row.W.Denot g.row.P.Denot) (c : ℕ) (line : List ℕ) (settings : Configuration) (core : Core)
     → ((acts : List Act) → Does g first acts old → Does g first (ToldRoutes c line ∷ acts) new)
     → HasGone (λ link acts. Does g first acts link) settings core old → HasGone (λ link acts. Does g first acts link) settings core new
 told_gone g first old new c line settings core one h = record {
@@ -70,7 +70,7 @@ told_gone g first old new c line settings core one h = record {
 }
 
 -- the replay is over, at this stop
-played_to : (g : given.Over) (first last : Recording g.row.R.Denot g.row.W.Denot) (settings : Configuration) (core : Core) (stop : Stop) (answer : Result (Unit {0}) ReplayFault) (reader : g.row.R.Denot) (writer : g.row.W.Denot)
+played_to : (g : given.Over) (first last : Recording g.row.R.Denot g.row.W.Denot g.row.P.Denot) (settings : Configuration) (core : Core) (stop : Stop) (answer : Result (Unit {0}) ReplayFault) (reader : g.row.R.Denot) (writer : g.row.W.Denot)
     → HasGone (λ link acts. Does g first acts link) settings core last → last.stop ≡ Some stop
     → ((acts : List Act) → Plays g.R.TextIn.takes g.R.TextIn.at_end g.R.TextIn.failures g.W.TextOut.puts g.W.TextOut.failures (place_in last.names.now) first.reader.now first.writer.now (said acts) (written (name_in first.names.now) acts) last.reader.now last.writer.now last.lines.now last.number (Some stop)
     → IsOver g.R.TextIn.takes g.R.TextIn.at_end g.W.TextOut.puts (place_in last.names.now) first.reader.now first.writer.now (said acts) (written (name_in first.names.now) acts) reader writer answer)
@@ -153,3 +153,27 @@ returns-in-Some-Fault-clause-played g c = λ settings clients agrees.
     (gone g first c.loop.recording last settings c.loop.core c.drive_with.new.core c.drive_with.ensures.drives (c.loop.invariant.1 settings clients agrees)) at
     (λ acts p. c.end_at.ensures.over first.reader.now first.writer.now (said acts) (written (name_in first.names.now) acts)
     (subst (λ x. Plays g.R.TextIn.takes g.R.TextIn.at_end g.R.TextIn.failures g.W.TextOut.puts g.W.TextOut.failures (place_in last.names.now) first.reader.now first.writer.now (said acts) (written (name_in first.names.now) acts) last.reader.now last.writer.now last.lines.now last.number x) (sym at) p))
+
+pub returns-in-Some-End-clause-reads : goal.returns-in-Some-End-clause-reads
+returns-in-Some-End-clause-reads g c =
+    let first = c.args.recording.now in
+    let last = c.drive_with.new.link in
+    subst (λ x. g.R.TextIn.failures last.reader.now ≡ failures_read x (g.R.TextIn.failures first.reader.now)) (sym c.stop.ensures ∙ c.in-Some-End.is ∙ ap Some c.in-Some-End.field-0-is)
+    (led g first c.loop.recording last c.loop.invariant.0 c.drive_with.ensures.led).1.plays.reads
+
+pub returns-in-Some-End-clause-writes : goal.returns-in-Some-End-clause-writes
+returns-in-Some-End-clause-writes g c =
+    let first = c.args.recording.now in
+    let last = c.drive_with.new.link in
+    subst (λ x. g.W.TextOut.failures last.writer.now ≡ failures_written x (g.W.TextOut.failures first.writer.now)) (sym c.stop.ensures ∙ c.in-Some-End.is ∙ ap Some c.in-Some-End.field-0-is)
+    (led g first c.loop.recording last c.loop.invariant.0 c.drive_with.ensures.led).1.plays.writes
+
+pub returns-in-Some-Fault-clause-reads : goal.returns-in-Some-Fault-clause-reads
+returns-in-Some-Fault-clause-reads g c =
+    c.end_at.ensures.reads (g.R.TextIn.failures c.args.recording.now.reader.now)
+    (led g c.args.recording.now c.loop.recording c.drive_with.new.link c.loop.invariant.0 c.drive_with.ensures.led).1.plays.reads
+
+pub returns-in-Some-Fault-clause-writes : goal.returns-in-Some-Fault-clause-writes
+returns-in-Some-Fault-clause-writes g c =
+    c.end_at.ensures.writes (g.W.TextOut.failures c.args.recording.now.writer.now)
+    (led g c.args.recording.now c.loop.recording c.drive_with.new.link c.loop.invariant.0 c.drive_with.ensures.led).1.plays.writes

@@ -11,7 +11,7 @@ use Rattle.rs_replay.proofs.Replaying.{HasGone}
 use Rattle.rs_replay.proofs.replay.play_on.Given as goal
 
 -- these acts lead from one recording to the other
-abbrev pub Does : (g : goal.Over) → Recording g.row.R.Denot g.row.W.Denot → List Act → Recording g.row.R.Denot g.row.W.Denot → Type 0
+abbrev pub Does : (g : goal.Over) → Recording g.row.R.Denot g.row.W.Denot g.row.P.Denot → List Act → Recording g.row.R.Denot g.row.W.Denot g.row.P.Denot → Type 0
 Does g first acts now = HasDone g.R.TextIn.takes g.R.TextIn.at_end g.R.TextIn.failures g.W.TextOut.puts g.W.TextOut.failures
     first.names.now first.reader.ghost_name first.writer.ghost_name first.reader.now first.writer.now acts
     now.names.now now.reader.ghost_name now.writer.ghost_name now.reader.now now.writer.now now.lines.now now.number now.stop

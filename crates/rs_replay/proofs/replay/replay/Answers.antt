@@ -3,8 +3,8 @@ use Rattle.rs_replay.specs.Replays.{AreNamesOf, IsPlayed, PlaysOut}
 use Rattle.rs_replay.proofs.Replaying.{played_at, played_out}
 use Rattle.rs_replay.proofs.replay.replay.Goals as goal
 
-pub returns : goal.returns
-returns g c =
+pub returns-clause-played : goal.returns-clause-played
+returns-clause-played g c =
     let first = c.args.reader.now in
     let to = c.args.writer.now in
     let made = c.new-recording.result in

@@ -13,5 +13,5 @@ loop-segment-preserved c =
       | in-2 w ↦ w.length-is ∙ w.from.ensures ∙ added_count kind count w.in-2.is
       | in_default-kind w ↦ w.length-is ∙ added_none kind count (λ e. omega (arith, w.in_default-kind)) (λ e. omega (arith, w.in_default-kind))
     ] in
-    measured_step (size_in c.args.mode) c.args.confederations c.args.path.now c.loop-segment.length _ c.loop-segment.rest.now c.in-Some.segment c.loop-segment.invariant c.in-Some.ensures.segment c.in-Some.ensures.shorter
+    measured_step (size_in c.args.mode) c.args.confederations c.args.path.now c.loop-segment.length _ c.loop-segment.rest.now c.in-Some.segment c.loop-segment.invariant (c.in-Some.ensures.segment c.loop-segment.invariant.whole) c.in-Some.ensures.shorter
     (ap (λ n. c.loop-segment.length + n) more)

@@ -13,7 +13,7 @@ returns-then-left-length c =
       | else-segment-eq1 w ↦ w.length-is ∙ w.from-length.ensures ∙ counts_all kind count w.if-segment-eq1.false
     ] in
     on_ok c.push_segment.result _ _
-    (leading_last _ _ _ _ _ c.loop-segment.left c.if-segment-eq1.length c.loop-segment.rest.now c.split_at.result.0.now c.in-Some.segment c.loop-segment.invariant c.in-Some.ensures.segment
+    (leading_last _ _ _ _ _ c.loop-segment.left c.if-segment-eq1.length c.loop-segment.rest.now c.split_at.result.0.now c.in-Some.segment c.loop-segment.invariant (c.in-Some.ensures.segment c.loop-segment.invariant.whole)
     (omega (arith, c.if-left-eq0.false)) c.if-left-length.true length_is c.split_at.ensures.front)
     c.push_segment.ensures
 
@@ -25,5 +25,5 @@ loop-segment-preserved c =
       | then-segment-eq1 w ↦ w.length-is ∙ counts_one kind count w.if-segment-eq1.true
       | else-segment-eq1 w ↦ w.length-is ∙ w.from-length.ensures ∙ counts_all kind count w.if-segment-eq1.false
     ] in
-    leading_step _ _ _ _ _ c.loop-segment.left _ c.if-segment-eq1.length c.loop-segment.rest.now c.in-Some.segment c.loop-segment.invariant c.in-Some.ensures.segment
+    leading_step _ _ _ _ _ c.loop-segment.left _ c.if-segment-eq1.length c.loop-segment.rest.now c.in-Some.segment c.loop-segment.invariant (c.in-Some.ensures.segment c.loop-segment.invariant.whole)
     (omega (arith, c.if-left-eq0.false)) c.if-left-length.false length_is refl c.in_ok-push_segment.ensures

@@ -1,6 +1,6 @@
 use Rattle.std.proofs.Common.{◌≡◌, ◌+◌, length}
 use Rattle.std.specs.List.{flat_map}
-use Rattle.rs_attrs.specs.Passes.{narrow_path}
+use Rattle.rs_attrs.specs.Parts.{narrow_path}
 use Rattle.rs_attrs.proofs.Paths.NarrowPath.{narrow_segment}
 use Rattle.rs_attrs.proofs.writing.narrow.narrow_path_size.Given as goal
 

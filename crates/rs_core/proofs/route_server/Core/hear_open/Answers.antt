@@ -9,5 +9,5 @@ use Rattle.rs_core.proofs.route_server.Core.hear_open.Goals as goal
 pub returns-clause-heard : goal.returns-clause-heard
 unfolding client_count
 returns-clause-heard c = λ s h config live knows.
-    subst (λ o. Knows c.say.new.self s c.args.c (takes_in s c.args.c (without_change (heard.Open o)) h)) c.read_open-open.ensures
+    subst (λ o. Knows c.say.new.self s c.args.c (takes_in s c.args.c (without_change (heard.Open o)) h)) c.read_open.ensures
     (c.say.ensures.alone s h (unmoved c.args.self.now _ s c.args.c h refl refl knows))

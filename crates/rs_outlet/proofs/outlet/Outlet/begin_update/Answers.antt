@@ -1,21 +1,21 @@
-use Rattle.std.proofs.Common.{◌≡◌, ◌∙◌, ℕ, Some, None, cond, refl, sym, ap, subst}
+use Rattle.std.proofs.Common.{◌≡◌, ◌∙◌, ℕ, Some, None, cond, refl, rules, sym, ap, subst, arith}
 use Rattle.std.specs.List.{list_any}
 use Rattle.rs_octets.specs.Prefixes.{Prefix}
 use Rattle.rs_adjin.specs.AdjIns.{number_of}
-use Rattle.rs_outlet.specs.Places.{open_at}
+use Rattle.rs_outlet.specs.Places.{open_at, withdrawn_count}
 use Rattle.rs_outlet.specs.Inside.{view_of, numbers_from}
 use Rattle.rs_outlet.specs.Choosing.{AreChosen}
 use Rattle.rs_outlet.proofs.LocByNumber.{same}
 use Rattle.rs_outlet.proofs.Numbering.{all_front}
 use Rattle.rs_outlet.proofs.Ranges.{from_start}
-use Rattle.rs_outlet.proofs.Beginning.{update_seen}
+use Rattle.rs_outlet.proofs.Beginning.{backed_left, update_seen}
 use Rattle.rs_outlet.proofs.outlet.Outlet.begin_update.Goals as goal
 
 pub returns-clause-begins : goal.returns-clause-begins
 returns-clause-begins c = λ spoken e.
     let a = c.self.inside in
     let rows = a.rows.rows.items in
-    update_seen c.args.speech spoken (view_of a) c.args.self.now _ rows a.waits.places.items c.give_up.new.self.places.items c.self.view_is (sym c.requires ∙ e)
+    update_seen c.args.speech spoken (view_of a) c.args.self.now _ rows a.waits.places.items c.give_up.new.self.places.items c.self.view_is (sym c.requires ∙ e) a.waits.rises
     (record { loc = refl; told = refl; marked = refl; waits = refl; numbers = λ ins h. all_front (λ (e : ℕ × Prefix). number_of ins e.1 ≡ Some e.0) (numbers_from 0 rows) _ h })
     (record { loc = refl; told = refl; marked = refl; waits = refl; numbers = λ ins h. all_front (λ (e : ℕ × Prefix). number_of ins e.1 ≡ Some e.0) (numbers_from 0 rows) _ h })
     c.put_update-packed.new.chosen.items c.put_update-packed.new.front.items c.put_update-packed.new.out.items c.put_update-packed.result
@@ -26,3 +26,28 @@ returns-clause-begins c = λ spoken e.
     (subst (λ ws. AreChosen rows ws said c.deref.result.now qs) (sym c.put_update-packed.ensures.places)
     (subst (λ ns. AreChosen rows a.waits.places.items said ns qs) (sym (c.deref.ensures.value ∙ c.truncate.ensures.items)) are)) q
     ∙ ap (λ ws. cond (list_any (same q) qs) None (open_at q ws)) c.put_update-packed.ensures.places)
+
+pub invariant_of-self : goal.invariant_of-self
+invariant_of-self c =
+    let a = c.self.inside in
+    let rows = a.rows.rows.items in
+    let kept = c.self.invariant in
+    record {
+      octets = search rules;
+      started = search rules;
+      ended = search rules;
+      front = search rules;
+      chosen = search rules;
+      touched = kept.touched;
+      places = omega (arith, kept.places, c.give_up.ensures.withdrawn, c.give_up.ensures.capacity, ap withdrawn_count c.put_update-packed.ensures.places, c.put_update-packed.ensures.capacity);
+      extended = kept.extended;
+      backed = backed_left c.args.speech rows a.waits.places.items c.give_up.new.self.places.items c.put_update-packed.new.chosen.items c.put_update-packed.new.front.items c.put_update-packed.new.out.items c.put_update-packed.result
+          c.put_update-packed.ensures.update
+          (λ said qs are q.
+          c.give_up.ensures.places rows said qs
+          (subst (λ ws. AreChosen rows ws said c.deref.result.now qs) (sym c.put_update-packed.ensures.places)
+          (subst (λ ns. AreChosen rows a.waits.places.items said ns qs) (sym (c.deref.ensures.value ∙ c.truncate.ensures.items)) are)) q
+          ∙ ap (λ ws. cond (list_any (same q) qs) None (open_at q ws)) c.put_update-packed.ensures.places)
+          kept.backed;
+      fit = kept.fit;
+    }

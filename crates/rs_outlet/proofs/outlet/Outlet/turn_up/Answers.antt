@@ -1,4 +1,4 @@
-use Rattle.std.proofs.Common.{◌≡◌, ◌∙◌, ◌++◌, cond, ap, ℕ, List, Some, refl, sym, subst}
+use Rattle.std.proofs.Common.{◌≡◌, ◌∙◌, ◌++◌, cond, ap, ℕ, List, Some, refl, rules, sym, subst}
 use Rattle.std.specs.FinMap as fin
 use Rattle.rs_outlet.specs.Due.{any_holds, due_to}
 use Rattle.rs_outlet.specs.HeldBy.{held_by}
@@ -10,7 +10,8 @@ use Rattle.rs_outlet.specs.declared.waiting.Wait.{Wait}
 use Rattle.rs_outlet.specs.Places.{open_at}
 use Rattle.rs_outlet.specs.Owed.{Keeps}
 use Rattle.rs_outlet.specs.Views.{View, Table, AreNumbered, IsCount, HaveNumbers, WaitsAreExact, is_touched}
-use Rattle.rs_outlet.specs.Inside.{numbers_from, loc_of, is_changed, view_of}
+use Rattle.rs_outlet.proofs.Backing.{are_backed_same, changes_fit, fit_same, fit_spoken, own_same}
+use Rattle.rs_outlet.specs.Inside.{AreOwn, numbers_from, loc_of, is_changed, view_of}
 use Rattle.rs_outlet.proofs.Numbering.{all_front, all_behind, all_both, have_rows}
 use Rattle.rs_outlet.proofs.Carrying.{distinct_prefixes, keeps_both, keeps_same}
 use Rattle.rs_outlet.proofs.Unchanged.{told_kept, marked_kept, exact_kept}
@@ -116,3 +117,29 @@ returns-clause-exact c = λ are exact.
     exact_kept loc (loc_of c.commit.new.rows.rows.items) ws c.commit.new.waits.places.items
     (keeps loc (loc_of c.make_room.new.rows.rows.items) (loc_of c.commit.new.rows.rows.items) ws c.make_room.new.waits.places.items c.commit.new.waits.places.items c.make_room.ensures.loc c.make_room.ensures.waits kept)
     (subst WaitsAreExact (sym c.self.view_is) exact)
+
+pub commit-requires-clause-own : goal.commit-requires-clause-own
+commit-requires-clause-own c =
+    own_same c.in_ok-changes.field-0.changes.items c.self.inside.rows.rows.items c.make_room.new.rows.rows.items c.make_room.ensures.rows
+    (subst (λ cs. AreOwn cs c.self.inside.rows.rows.items) c.deref.ensures.value (c.if-not-are_own.ensures refl))
+
+pub invariant_of-self-2 : goal.invariant_of-self-2
+invariant_of-self-2 c =
+    let a = c.self.inside in
+    let kept = c.self.invariant in
+    let is : a.speech ≡ Some c.args.speech = ap (λ (v : View). v.speech) c.self.view_is ∙ c.requires.speech in
+    record {
+      octets = kept.octets;
+      started = kept.started;
+      ended = kept.ended;
+      front = kept.front;
+      chosen = kept.chosen;
+      touched = search rules;
+      places = c.commit.ensures.all;
+      extended = kept.extended;
+      backed = c.commit.ensures.backed (are_backed_same a.rows.rows.items c.make_room.new.rows.rows.items a.waits.places.items c.make_room.new.waits.places.items c.make_room.ensures.rows c.make_room.ensures.waits kept.backed);
+      fit = fit_spoken c.commit.new.rows.rows.items a.speech c.args.speech is
+          (c.commit.ensures.fit c.args.speech
+          (changes_fit (held_by c.args.sources.now) c.args.sources.now.client c.args.speech c.in_ok-changes.field-0.changes.items c.in_ok-changes.ensures.changes.due)
+          (fit_same c.args.speech a.rows.rows.items c.make_room.new.rows.rows.items c.make_room.ensures.rows (kept.fit c.args.speech is)));
+    }

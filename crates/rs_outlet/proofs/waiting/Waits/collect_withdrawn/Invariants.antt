@@ -1,9 +1,11 @@
-use Rattle.std.proofs.Common.{◌≡◌, ◌<◌, true, List, Option, None, vec_len}
+use Rattle.std.proofs.Common.{◌≡◌, ◌<◌, [], true, List, Option, None, Some, vec_len}
 use Rattle.std.specs.List.{HoldsAt}
 use Rattle.rs_outlet.specs.Places.{is_withdrawn}
 use Rattle.std.specs.Vec.{vec_capacity}
 use Rattle.rs_outlet.specs.declared.rows.Row.{Row}
-use Rattle.rs_outlet.specs.Choosing.{AreChosen, HaveRoom}
+use Rattle.rs_outlet.specs.Choosing.{AreChosen, HaveRoom, Rise}
+use Rattle.std.specs.Prelude.{slice_get}
+use Rattle.rs_outlet.proofs.Rising.{AreBelow}
 use Rattle.rs_outlet.proofs.waiting.Waits.collect_withdrawn.Given as goal
 
 abbrev pub invariant-loop-place : goal.invariant-loop-place
@@ -12,5 +14,8 @@ invariant-loop-place l = record {
   front : vec_capacity l.front ≡ vec_capacity l.fn.front;
   first : l.place ≡ l.first → (vec_len l.front ≡ vec_len l.fn.front) × (vec_len l.chosen ≡ vec_len l.fn.chosen);
   some : l.first < l.place → HoldsAt (λ w. is_withdrawn w ≡ true) l.self.places.items l.first → vec_len l.fn.front < l.room → HaveRoom l.fn.chosen l.fn.front → 0 < vec_len l.front;
+  same : l.place ≡ l.first → l.chosen.items ≡ l.fn.chosen.items;
+  head : l.first < l.place → HoldsAt (λ w. is_withdrawn w ≡ true) l.self.places.items l.first → vec_len l.fn.front < l.room → HaveRoom l.fn.chosen l.fn.front → l.fn.chosen.items ≡ [] → slice_get l.chosen.items 0 ≡ Some l.first;
+  rise : l.fn.chosen.items ≡ [] → Rise l.chosen.items × AreBelow l.place l.chosen.items;
   are : (rows : List (Option Row)) → AreChosen rows l.self.places.items None l.fn.chosen.items l.fn.front.items → AreChosen rows l.self.places.items None l.chosen.items l.front.items;
 }

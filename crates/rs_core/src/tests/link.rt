@@ -1,0 +1,165 @@
+//! A link in memory: it tells a script of events, and keeps what it was told. Nothing is known of it, as
+//! of one over sockets.
+
+use crate::links::{Event, Link, Sink, Source};
+use crate::tests::exchange::{KEEPALIVE, message};
+use rs_policy::RulesFault;
+use std::alloc::Global;
+use std::test::Fail;
+
+/// What a link was told.
+#[derive(Clone, Copy, Debug, PartialEq, Eq)]
+pub enum Said {
+    Begin(usize),
+    Busy(usize),
+    /// So many octets of an offer were taken.
+    Took(usize, usize),
+    /// The link failed at an offer.
+    Failed(usize),
+    Memory(usize),
+    End(usize),
+    /// The rules were replaced, or not.
+    Ruled(bool),
+}
+
+/// A link in memory, of two clients.
+#[derive(Drop)]
+pub struct Tape {
+    alloc: Global,
+    /// What it tells, each event with its octets. Behind the last it stops.
+    events: Vec<(Event, Vec<u8>)>,
+    told: usize,
+    /// How many octets of each offer it takes at most, and where it fails. Behind the last it takes all.
+    takes: Vec<Option<usize>>,
+    offers: usize,
+    said: Vec<Said>,
+    /// What each client was sent.
+    pub sent: [Vec<u8>; 2],
+    text: Vec<u8>,
+    /// Memory was refused to it.
+    pub is_full: bool,
+}
+
+impl Tape {
+    pub fn new(alloc: Global) -> Tape {
+        Tape {
+            alloc,
+            events: Vec::new(alloc),
+            told: 0,
+            takes: Vec::new(alloc),
+            offers: 0,
+            said: Vec::new(alloc),
+            sent: [Vec::new(alloc), Vec::new(alloc)],
+            text: Vec::new(alloc),
+            is_full: false,
+        }
+    }
+
+    /// It will tell this event, too.
+    pub fn add(&mut self, event: Event) -> Result<(), Fail> {
+        self.events.push((event, Vec::new(self.alloc)))?;
+        Ok(())
+    }
+
+    /// It will tell that this message of a client has come.
+    pub fn hear(&mut self, c: usize, digits: &str) -> Result<(), Fail> {
+        let octets = message(self.alloc, digits)?;
+        self.events.push((Event::Octets(c, octets.len()), octets))?;
+        Ok(())
+    }
+
+    /// A connection of a client will come, its OPEN and its KEEPALIVE, and there is room for what it is
+    /// sent.
+    pub fn come_up(&mut self, c: usize, open: &str) -> Result<(), Fail> {
+        self.add(Event::Opened(c))?;
+        self.hear(c, open)?;
+        self.hear(c, KEEPALIVE)?;
+        self.add(Event::Room(c, 1000))
+    }
+
+    /// It will take at most so many octets of the next offer that nothing was said of; or fail.
+    pub fn take(&mut self, most: Option<usize>) -> Result<(), Fail> {
+        self.takes.push(most)?;
+        Ok(())
+    }
+
+    /// This is the text of the rules.
+    pub fn put_text(&mut self, text: &str) -> Result<(), Fail> {
+        self.text.clear();
+        self.text.extend_from_slice(text.as_bytes())?;
+        Ok(())
+    }
+
+    /// What it was told, but for the first so many.
+    pub fn said_from(&self, first: usize) -> &[Said] {
+        self.said.get(first..).unwrap_or(&[])
+    }
+
+    fn say(&mut self, what: Said) {
+        if self.said.push(what).is_err() {
+            self.is_full = true;
+        }
+    }
+}
+
+impl Link for Tape {
+    ghost happens = { λ old step new. Unit {0} };
+
+    ghost text = { λ tape. tape.text.items };
+}
+
+impl Source for Tape {
+    fn next(&mut self, piece: &mut [u8; 4096]) -> Event {
+        let Some((event, octets)) = self.events.get(self.told) else {
+            return Event::Stop;
+        };
+        self.told = self.told.saturating_add(1);
+        let count = octets.len().min(piece.len());
+        piece[..count].copy_from_slice(&octets[..count]);
+        *event
+    }
+
+    fn rules(&self) -> &[u8] {
+        self.text.as_slice()
+    }
+}
+
+impl Sink for Tape {
+    fn begin(&mut self, c: usize) {
+        self.say(Said::Begin(c));
+    }
+
+    fn busy(&mut self, c: usize) {
+        self.say(Said::Busy(c));
+    }
+
+    fn offer(&mut self, c: usize, octets: &[u8]) -> Option<usize> {
+        let all = Some(octets.len());
+        let most = self.takes.get(self.offers).copied().unwrap_or(all);
+        self.offers = self.offers.saturating_add(1);
+        let Some(most) = most else {
+            self.say(Said::Failed(c));
+            return None;
+        };
+        let count = most.min(octets.len());
+        self.say(Said::Took(c, count));
+        if let Some(sent) = self.sent.get_mut(c) {
+            if sent.extend_from_slice(&octets[..count]).is_err() {
+                self.is_full = true;
+            }
+        }
+        Some(count)
+    }
+
+    fn memory(&mut self, c: usize) {
+        self.say(Said::Memory(c));
+    }
+
+    fn end(&mut self, c: usize) {
+        self.say(Said::End(c));
+    }
+
+    fn ruled(&mut self, answer: &Result<(), RulesFault>) {
+        self.say(Said::Ruled(answer.is_ok()));
+    }
+}

@@ -1,0 +1,48 @@
+use Rattle.std.proofs.Common.{◌≡◌, ◌<◌, ◌∙◌, Some, ap, arith, inl, inr, refl, rules, sym, subst, vec_len}
+use Rattle.std.specs.Prelude.{true}
+use Rattle.std.specs.List.{HoldsAt}
+use Rattle.rs_outlet.specs.Places.{is_withdrawn}
+use Rattle.rs_outlet.proofs.Rising.{head_first, head_more, none_listed, rise_more}
+use Rattle.rs_adjin.proofs.Rows.{number_is}
+use Rattle.rs_outlet.proofs.waiting.Waits.collect_withdrawn.Goals as goal
+
+pub loop-place-init : goal.loop-place-init
+loop-place-init c = record {
+  chosen = refl;
+  front = refl;
+  first = λ _. (refl, refl);
+  some = λ never. absurd (omega (arith, never));
+  same = λ _. refl;
+  head = λ never. absurd (omega (arith, never));
+  rise = none_listed c.args.first c.args.chosen.now.items;
+  are = λ rows are. are;
+}
+
+pub loop-place-preserved : goal.loop-place-preserved
+loop-place-preserved c =
+    let inv = c.loop-place.invariant in
+    record {
+      chosen = c.list_withdrawn.ensures.chosen ∙ inv.chosen;
+      front = c.list_withdrawn.ensures.front ∙ inv.front;
+      first = λ never. search rules;
+      some = λ _ at below room. elim (number_is c.loop-place.place c.args.first) [
+        | inl start ↦
+            let was = inv.first start in
+            c.list_withdrawn.ensures.listed (subst (HoldsAt (λ w. is_withdrawn w ≡ true) c.args.self.now.places.items) (sym start) at)
+            (omega (arith, room.0, was.1, inv.chosen), omega (arith, room.1, was.0, inv.front))
+        | inr ne ↦
+            let some : 0 < vec_len c.loop-place.front = inv.some (search rules) at below room in
+            omega (arith, some, c.list_withdrawn.ensures.grows)
+      ];
+      same = λ never. search rules;
+      head = λ _ at below room none. elim (number_is c.loop-place.place c.args.first) [
+        | inl start ↦
+            let was = inv.first start in
+            let there = c.list_withdrawn.ensures.there (subst (HoldsAt (λ w. is_withdrawn w ≡ true) c.args.self.now.places.items) (sym start) at)
+            (omega (arith, room.0, was.1, inv.chosen), omega (arith, room.1, was.0, inv.front)) in
+            head_first c.loop-place.place c.loop-place.chosen.items c.list_withdrawn.new.chosen.items (inv.same start ∙ none) there ∙ ap (λ n. Some n) start
+        | inr ne ↦ head_more c.args.first c.loop-place.place c.loop-place.chosen.items c.list_withdrawn.new.chosen.items c.list_withdrawn.ensures.places (inv.head (search rules) at below room none)
+      ];
+      rise = λ none. rise_more c.loop-place.place _ c.loop-place.chosen.items c.list_withdrawn.new.chosen.items c.list_withdrawn.ensures.places (search rules) (inv.rise none).0 (inv.rise none).1;
+      are = λ rows are. c.list_withdrawn.ensures.are rows (inv.are rows are);
+    }
