@@ -68,5 +68,6 @@ asked_again v w h = record {
   note = ap (λ (x : View). x.note) h.rest;
   loc = ap (λ (x : View). x.loc) h.rest;
   told = h.told;
+  marked = h.marked;
   order = λ o. record { mandatory = λ p m e. o.mandatory p m (ap (λ (x : View). fin.get x.loc p) (sym h.rest) ∙ e); exact = h.exact o.exact };
 }

@@ -46,7 +46,7 @@ use Rattle.rs_core.specs.Turns.{IsMarked, IsDone, IsTurn}
 use Rattle.rs_core.specs.Hearing.{Hearing, session_in, state_in, is_up}
 use Rattle.rs_core.specs.Runs.{speech_by, speech_in}
 use Rattle.rs_core.specs.Telling.{Speaks, each_message, no_table}
-use Rattle.rs_core.specs.Voices.{IsInOrder, SpeaksTo, SaysTheSame, IsGreeting, IsRaised, IsSilent, TellsAgain, Voices, speech_within}
+use Rattle.rs_core.specs.Voices.{IsInOrder, SpeaksTo, SaysTheSame, IsGreeting, IsRaised, IsSilent, TellsAgain, TellsTheSame, Voices, speech_within}
 use Rattle.rs_core.proofs.Telling.{silence_speaks, speaks_on, speaks_same}
 use Rattle.rs_core.proofs.Spoken.{announced_speaks, withdrawn_speaks}
 use Rattle.rs_core.proofs.Mandated.{due_has_mandatory}
@@ -68,7 +68,7 @@ in_order v w loc told marked waits o = record {
 same_order : (v w : View) → SaysTheSame v w → IsInOrder v → IsInOrder w
 same_order v w h o = in_order v w (ap (λ (x : View). x.loc) h.is) (ap (λ (x : View). x.told) h.is) (ap (λ (x : View). x.marked) h.is) (ap (λ (x : View). x.waits) h.is) o
 
-pub same_again : (v w : View) → SaysTheSame v w → TellsAgain v w
+pub same_again : (v w : View) → SaysTheSame v w → TellsTheSame v w
 same_again v w h = record {
   speech = ap (λ (x : View). x.speech) h.is;
   flight = ap (λ (x : View). x.flight) h.is;
@@ -77,6 +77,9 @@ same_again v w h = record {
   told = ap (λ (x : View). x.told) h.is;
   order = same_order v w h;
 }
+
+again_same : (v w : View) → TellsAgain v w → TellsTheSame v w
+again_same v w h = record { speech = h.speech; flight = h.flight; note = h.note; told = h.told; order = h.order }
 
 -- ---- outlets in which nothing is told
 
@@ -163,7 +166,7 @@ voiced_by s t c h next v w speech live octets spoken note told order at = record
 }
 
 pub voiced_on : (s t : Configuration) (c : ℕ) (h next : Hearing) (v w : View) → speech_in t c next ≡ speech_in s c h → (is_live (state_in t c next) ≡ true → is_live (state_in s c h) ≡ true)
-    → next.taken ≡ h.taken → TellsAgain v w → SpeaksTo s c h v → SpeaksTo t c next w
+    → next.taken ≡ h.taken → TellsTheSame v w → SpeaksTo s c h v → SpeaksTo t c next w
 voiced_on s t c h next v w speech live taken same at =
     voiced_by s t c h next v w speech live (λ i. taken i ++ same.flight i) same.speech same.note same.told (same.order at.order) at
 
@@ -186,7 +189,7 @@ voiced_over s c h v dead down silent = record {
 stays_speech : (s : Configuration) (c : ℕ) (h next : Hearing) → Stays (session_in s c) h.items next.items → speech_in s c next ≡ speech_in s c h
 stays_speech s c h next stays = λ i. if is_up (stays.state i) then speech_by s.top.extended (stays.agreed i) else None
 
-pub stayed : (s : Configuration) (c : ℕ) (h next : Hearing) (v w : View) → Stays (session_in s c) h.items next.items → next.taken ≡ h.taken → TellsAgain v w → SpeaksTo s c h v → SpeaksTo s c next w
+pub stayed : (s : Configuration) (c : ℕ) (h next : Hearing) (v w : View) → Stays (session_in s c) h.items next.items → next.taken ≡ h.taken → TellsTheSame v w → SpeaksTo s c h v → SpeaksTo s c next w
 stayed s c h next v w stays taken same at = voiced_on s s c h next v w (stays_speech s c h next stays) (λ l. ap is_live (sym stays.state) ∙ l) taken same at
 
 both_down : (s : Configuration) (c : ℕ) (h next : Hearing) → is_up (state_in s c h) ≡ false → is_up (state_in s c next) ≡ false → speech_in s c next ≡ speech_in s c h
@@ -230,7 +233,7 @@ acted_voice acts.None long s room sessions x c h next v w voices read heard tell
 acted_voice (acts.Say message) long s room sessions x c h next v w voices read heard tells not taken at = said_voice message s c h next v w (λ e. not (ap (λ (m : Short). acts.Say m) e)) tells taken voices at
 acted_voice acts.Up long s room sessions x c h next v w voices read heard tells not taken at = raised_voice s c h next v w long room tells (voices x read (session_in s c) next.items heard tells.now) taken at
 acted_voice (acts.Down _) long s room sessions x c h next v w voices read heard tells not taken at = voiced_over s c next w (ap is_live tells.now) (ap is_up tells.now) voices
-acted_voice acts.Again long s room sessions x c h next v w voices read heard tells not taken at = stayed s c h next v w tells.same taken voices at
+acted_voice acts.Again long s room sessions x c h next v w voices read heard tells not taken at = stayed s c h next v w tells.same taken (again_same v w voices) at
 
 -- no message and no moment asks for an OPEN of ours
 

@@ -1,6 +1,8 @@
 -- What touches and what begins make of an outlet.
 use Rattle.std.specs.Prelude.{◌≡◌, ◌≢◌, ◌↔◌, ℕ, true, false, List, [], ◌∷◌, Some, None, IsSome}
 use Rattle.std.specs.List.{Contains}
+use Rattle.std.specs.FinMap as map
+use Rattle.std.specs.FinSet as set
 use Rattle.rs_octets.specs.Prefixes.{Prefix}
 use Rattle.rs_open.specs.Writing.{keepalive}
 use Rattle.rs_open.specs.declared.short.Short.{Short}
@@ -30,10 +32,11 @@ pub record IsTouchedWhereHeld (ins : AdjIns) (c : ℕ) (old new : View) : Type 0
   pub held : AreHeld ins c prefixes
   pub touched : IsTouchedAt prefixes old new
 
--- the client asked for all again: what was told stays, and is to be told again
+-- the client asked for all again: what was told stays, and just that is to be told again
 pub record IsAskedAgain (old new : View) : Type 0 where
   pub rest : new ≡ record old { told = new.told; marked = new.marked; waits = new.waits }
   pub told : new.told ≡ old.told
+  pub marked : (p : Prefix) → set.contains new.marked p ≡ map.contains_key old.told p
   pub exact : WaitsAreExact old → WaitsAreExact new
 
 -- where nothing was in flight the next message was begun: a NOTIFICATION that waited, a KEEPALIVE that was due, or an UPDATE

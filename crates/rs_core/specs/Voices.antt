@@ -61,13 +61,22 @@ pub record IsSilent (v : View) : Type 0 where
   pub speech : v.speech ≡ None
   pub order : IsInOrder v
 
--- all is to be told again
+-- what was told stays
+pub record TellsTheSame (v w : View) : Type 0 where
+  pub speech : w.speech ≡ v.speech
+  pub flight : w.flight ≡ v.flight
+  pub note : w.note ≡ v.note
+  pub told : w.told ≡ v.told
+  pub order : IsInOrder v → IsInOrder w
+
+-- what was told stays, and just that is to be told again
 pub record TellsAgain (v w : View) : Type 0 where
   pub speech : w.speech ≡ v.speech
   pub flight : w.flight ≡ v.flight
   pub note : w.note ≡ v.note
   pub loc : w.loc ≡ v.loc
   pub told : w.told ≡ v.told
+  pub marked : (p : Prefix) → set.contains w.marked p ≡ fin.contains_key v.told p
   pub order : IsInOrder v → IsInOrder w
 
 -- the server's OPEN is in flight, and nothing else

@@ -62,6 +62,22 @@ exact_so due (Some w) (Some z) h exact =
     ∙ waits_so (is_withdrawal w.due) due (told_of w.told due) (marked_told (Some w) due) (is_told w.told && is_some (told_of w.told due)) exact (told_some w.told due)
     ∙ sym (λ i. views.waits_at due (told_of (h.1 i) due) (h.2 i && is_some (told_of (h.1 i) due)))
 
+-- ---- what is marked, where something is open wherever something is due
+
+none_due : (due : Option (List Attribute)) → (IsSome due → false ≡ true) → false ≡ is_some due
+none_due None all = refl
+none_due (Some m) all = all refl
+
+told_part : (t : Told) (due : Option (List Attribute)) → (is_told t && is_some (told_of t due)) ≡ is_some (told_of t due)
+told_part told.Nothing due = refl
+told_part told.Same due = refl
+told_part (told.Other m) due = refl
+
+marks : (due : Option (List Attribute)) (was now : Option Wait) → MayWaitAgain due was now → (IsSome due → IsSome now) → marked_told now due ≡ is_some (told_by was due)
+marks due was None h all = none_due due all ∙ sym (ap (λ o. is_some (told_by o due)) h)
+marks due None (Some z) h all = λ i. h.3 i && is_some (told_of (h.2 i) due)
+marks due (Some w) (Some z) h all = (λ i. h.2 i && is_some (told_of (h.1 i) due)) ∙ told_part w.told due
+
 module _ (loc : Table) (ws zs : List Wait) (again : (q : Prefix) → MayWaitAgain (fin.get loc q) (open_at q ws) (open_at q zs)) where
   pub told_again : told_over loc zs ≡ told_over loc ws
   told_again = fin.same_map prefixes_total exact_prefixes (told_over loc zs) (told_over loc ws) (λ q. told_at loc zs q ∙ told_so (fin.get loc q) (open_at q ws) (open_at q zs) (again q) ∙ sym (told_at loc ws q))
@@ -72,6 +88,9 @@ module _ (loc : Table) (ws zs : List Wait) (again : (q : Prefix) → MayWaitAgai
 
   by_place : (places : List Wait) (q : Prefix) → views.waits_at (fin.get loc q) (fin.get (told_over loc places) q) (set.contains (marked_of loc places) q) ≡ views.waits_at (fin.get loc q) (told_by (open_at q places) (fin.get loc q)) (marked_told (open_at q places) (fin.get loc q))
   by_place places q = λ i. views.waits_at (fin.get loc q) (told_at loc places q i) (marked_at loc places q i)
+
+  pub marked_all : ((q : Prefix) → IsSome (fin.get loc q) → IsSome (open_at q zs)) → (q : Prefix) → set.contains (marked_of loc zs) q ≡ is_some (fin.get (told_over loc ws) q)
+  marked_all all q = marked_at loc zs q ∙ marks (fin.get loc q) (open_at q ws) (open_at q zs) (again q) (all q) ∙ sym (ap is_some (told_at loc ws q))
 
   pub exact_again : (v : View) → loc ≡ v.loc → told_over loc ws ≡ v.told → marked_of loc ws ≡ v.marked → waits_of ws ≡ v.waits → WaitsAreExact v → (q : Prefix) → seen zs q
   exact_again v a b c d exact q =

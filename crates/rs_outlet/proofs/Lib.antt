@@ -1,4 +1,5 @@
 mod Limits
+mod Listings
 mod LocByNumber
 mod Decisions
 mod OneOf
@@ -12,9 +13,11 @@ mod Ranks
 mod Fitting
 mod OthersAlone
 mod Places
+mod Withdrawals
 mod Finding
 mod Adding
 mod MarkedAgain
+mod MarkedAll
 mod Owing
 mod Carrying
 mod Backing

@@ -1,11 +1,11 @@
 -- What waits once a client asked for everything again, from place to place.
-use Rattle.std.proofs.Common.{◌≡◌, ◌≤◌, ℕ, zero, suc, Bool, true, false, cond, ◌&&◌, ◌||◌, Option, None, Some, IsSome, Result, Ok, Err, is_ok, List, [], ◌∷◌, length, length-append, map, take, get_or, refl, sym, ap, ◌∙◌, subst, arith}
+use Rattle.std.proofs.Common.{◌≡◌, ◌<◌, ◌≤◌, ℕ, zero, suc, Bool, true, false, cond, ◌&&◌, ◌||◌, Option, None, Some, IsSome, Result, Ok, Err, is_ok, List, [], ◌∷◌, length, length-append, map, take, get_or, refl, sym, ap, ◌∙◌, subst, arith}
 use Rattle.std.specs.Prelude.{option_map}
 use mathlib.Core.Bool.{true≢false}
 use Rattle.std.proofs.Common.{inl, inr}
 use Rattle.std.specs.List.{All, AllByRecursion, Contains, dedup, dedup_from, list_any}
-use Rattle.std.specs.List.Sorted.{IsBinarySearchResult, IsStrictlySortedBy}
-use Rattle.std.specs.declared.cmp.Ordering.TheVariants.{Less}
+use Rattle.std.specs.List.Sorted.{IsBinarySearchResult, IsSearchInRange, IsStrictlySortedBy}
+use Rattle.std.specs.declared.cmp.Ordering.TheVariants.{Equal, Less}
 use Rattle.std.specs.FinMap as fin
 use Rattle.std.specs.Arc.{arc_value}
 use Rattle.std.proofs.lemmas.List.{take-append-le}
@@ -18,7 +18,7 @@ use Rattle.rs_outlet.specs.Places.{is_withdrawal, open_at, prefixes_at, still_op
 use Rattle.rs_outlet.specs.Inside.{AreBacked, IsBacked, loc_of, prefix_and_hash, row_at}
 use Rattle.rs_outlet.specs.Marking.{IsPlacedAgain, MayAddRow, MayWaitAgain, WaitsAgain, remarked}
 use Rattle.rs_adjin.proofs.Rows.{some_is}
-use Rattle.rs_outlet.proofs.Orders.{prefixes_total}
+use Rattle.rs_outlet.proofs.Orders.{exact_prefixes, prefixes_total}
 use Rattle.rs_outlet.proofs.LocByNumber.{same, same_is, same_itself}
 use Rattle.rs_outlet.proofs.Places.{first_open, later_at, shut_at, none_behind}
 use Rattle.rs_outlet.proofs.Finding.{absent_place, searchable}
@@ -29,6 +29,19 @@ use Rattle.rs_outlet.proofs.Adding.{and_right, none_listed, not_listed, or_false
 pub not_found : (q : Prefix) (ws : List Wait) → IsStrictlySortedBy prefix_order (prefixes_at ws) → (r : Result ℕ ℕ) → IsBinarySearchResult (λ w. prefix_order w.prefix q) ws r → is_ok r ≡ false → open_at q ws ≡ None
 not_found q ws up (Ok i) is h = absurd (true≢false h)
 not_found q ws up (Err i) is h = absent_place q ws i (is (searchable q ws up))
+
+or_right : (a b : Bool) → b ≡ true → (a || b) ≡ true
+or_right true b h = refl
+or_right false b h = h
+
+listed_at : (q : Prefix) (ws : List Wait) (i : ℕ) → i < length ws → ((d : Wait) → prefix_order (get_or ws i d).prefix q ≡ Equal) → list_any (same q) (prefixes_at ws) ≡ true
+listed_at q [] i below is = absurd (omega (arith, below))
+listed_at q (w ∷ ws) zero below is = ap (λ b. b || list_any (same q) (prefixes_at ws)) (ap (same q) (exact_prefixes w.prefix q (is w)) ∙ same_itself q)
+listed_at q (w ∷ ws) (suc i) below is = or_right (same q w.prefix) (list_any (same q) (prefixes_at ws)) (listed_at q ws i (omega (arith, below)) is)
+
+pub found_listed : (q : Prefix) (ws : List Wait) (r : Result ℕ ℕ) → IsBinarySearchResult (λ w. prefix_order w.prefix q) ws r → IsSearchInRange r (length ws) → is_ok r ≡ true → list_any (same q) (prefixes_at ws) ≡ true
+found_listed q ws (Ok i) is within h = listed_at q ws i within is
+found_listed q ws (Err i) is within h = absurd (true≢false (sym h))
 
 -- ---- the prefixes that a `dedup` leaves
 
@@ -104,7 +117,7 @@ still_rise (w ∷ ws) up =
 pub remarked_rise : (ws base : List Wait) → IsStrictlySortedBy prefix_order (prefixes_at ws) → base ≡ map remarked (still_open ws) → IsStrictlySortedBy prefix_order (prefixes_at base)
 remarked_rise ws base up is = subst (IsStrictlySortedBy prefix_order) (sym (ap prefixes_at is ∙ prefixes_remarked (still_open ws))) (still_rise ws up)
 
-any_front : (q : Prefix) (n : ℕ) (ws : List Wait) → list_any (same q) (prefixes_at ws) ≡ false → list_any (same q) (prefixes_at (take n ws)) ≡ false
+pub any_front : (q : Prefix) (n : ℕ) (ws : List Wait) → list_any (same q) (prefixes_at ws) ≡ false → list_any (same q) (prefixes_at (take n ws)) ≡ false
 any_front q zero ws h = refl
 any_front q (suc n) [] h = refl
 any_front q (suc n) (w ∷ ws) h =
@@ -113,14 +126,14 @@ any_front q (suc n) (w ∷ ws) h =
 
 -- ---- those that wait still
 
-abbrev Stands : List Wait → Wait → Type 0
+abbrev pub Stands : List Wait → Wait → Type 0
 Stands ws w = (w.open ≡ true) × (open_at w.prefix ws ≡ Some w)
 
-all_mapped : (f : Wait → Wait) (P Q : Wait → Type 0) → ((w : Wait) → P w → Q (f w)) → (ws : List Wait) → AllByRecursion P ws → AllByRecursion Q (map f ws)
+pub all_mapped : (f : Wait → Wait) (P Q : Wait → Type 0) → ((w : Wait) → P w → Q (f w)) → (ws : List Wait) → AllByRecursion P ws → AllByRecursion Q (map f ws)
 all_mapped f P Q g [] h = tt
 all_mapped f P Q g (w ∷ ws) h = (g w h.0, all_mapped f P Q g ws h.1)
 
-all_changed : (P Q : Wait → Type 0) → ((w : Wait) → P w → Q w) → (ws : List Wait) → AllByRecursion P ws → AllByRecursion Q ws
+pub all_changed : (P Q : Wait → Type 0) → ((w : Wait) → P w → Q w) → (ws : List Wait) → AllByRecursion P ws → AllByRecursion Q ws
 all_changed P Q g [] h = tt
 all_changed P Q g (w ∷ ws) h = (g w h.0, all_changed P Q g ws h.1)
 
@@ -133,7 +146,7 @@ stands_behind x ws up w h = (
   ] refl,
 )
 
-still_stand : (ws : List Wait) → IsStrictlySortedBy prefix_order (prefixes_at ws) → AllByRecursion (Stands ws) (still_open ws)
+pub still_stand : (ws : List Wait) → IsStrictlySortedBy prefix_order (prefixes_at ws) → AllByRecursion (Stands ws) (still_open ws)
 unfolding IsStrictlySortedBy
 still_stand [] up = tt
 still_stand (x ∷ ws) up =

@@ -1,5 +1,5 @@
 -- How the fields of an outlet make what callers see, and what the fields keep.
-use Rattle.std.specs.Prelude.{◌≡◌, ◌≢◌, ◌⊎◌, ℕ, suc, ◌+◌, ◌≤◌, ◌<◌, ◌||◌, Bool, true, false, nat_eq, Option, None, Some, List, [], ◌∷◌, ◌++◌, map, option_map, slice_range, slice_get, vec_len, length, IfSome, if◌then◌else◌}
+use Rattle.std.specs.Prelude.{◌≡◌, ◌≢◌, ◌⊎◌, ℕ, suc, ◌+◌, ◌-◌, ◌≤◌, ◌<◌, ◌||◌, Bool, true, false, nat_eq, Option, None, Some, List, [], ◌∷◌, ◌++◌, map, option_map, slice_range, slice_get, vec_len, length, IfSome, if◌then◌else◌}
 use Rattle.std.specs.List.{AllByRecursion, IsDistinct, list_any}
 use Rattle.std.specs.Map.{keys_of}
 use Rattle.std.specs.Ordering.{eq_by_cmp}
@@ -8,6 +8,7 @@ use Rattle.std.specs.Arc.{arc_value}
 use Rattle.std.specs.HashMap.{hash_map_len, spare}
 use Rattle.std.specs.FinMap as fin
 use Rattle.std.specs.FinSet as set
+use Rattle.rs_octets.specs.Numbers.{longest_message, longest_extended_message}
 use Rattle.rs_octets.specs.Prefixes.{Prefix, prefix_order}
 use Rattle.rs_attrs.specs.Meaning.{Attribute}
 use Rattle.rs_open.specs.declared.short.Limit.TheVariants as limits
@@ -24,7 +25,7 @@ use Rattle.rs_packer.specs.Packed.{announcement}
 use Rattle.rs_outlet.specs.declared.waiting.Due.{Due}
 use Rattle.rs_outlet.specs.declared.waiting.Due.TheVariants as due
 use Rattle.rs_outlet.specs.Hashing.{attributes_hash}
-use Rattle.rs_outlet.specs.Places.{open_at, told_of, marked_told, is_withdrawal}
+use Rattle.rs_outlet.specs.Places.{open_at, told_of, marked_told, is_withdrawal, withdrawn_count}
 
 -- ---- rows
 
@@ -204,13 +205,12 @@ view_of a = record {
 }
 
 abbrev pub room_of : Bool → ℕ
-room_of false = 4096
-room_of true = 65535
+room_of false = longest_message
+room_of true = longest_extended_message
 
--- the most prefixes that one message holds
+-- the most prefixes that one message holds, each of one octet, behind the header and two lengths
 abbrev pub batch_of : Bool → ℕ
-batch_of false = 4073
-batch_of true = 65512
+batch_of extended = room_of extended - 23
 
 pub record IsKept (a : Inside) : Type 0 where
   pub octets : vec_len a.octets ≡ room_of a.extended
@@ -219,6 +219,7 @@ pub record IsKept (a : Inside) : Type 0 where
   pub front : batch_of a.extended ≤ vec_capacity a.front
   pub chosen : batch_of a.extended ≤ vec_capacity a.chosen
   pub touched : 4096 ≤ hash_map_len a.touched.prefixes + spare a.touched.prefixes
+  pub places : a.rows.used + withdrawn_count a.waits.places.items ≤ vec_capacity a.waits.places
   pub extended : (speech : Speech) → a.speech ≡ Some speech → speech.limit ≡ limits.Long → a.extended ≡ true
   pub backed : AreBacked a.rows.rows.items a.waits.places.items
   pub fit : (speech : Speech) → a.speech ≡ Some speech → RowsFit speech a.rows.rows.items

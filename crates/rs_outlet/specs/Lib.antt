@@ -11,6 +11,7 @@ pub mod Owed
 pub mod Counted
 pub mod Hashing
 pub mod Inside
+pub mod Listing
 pub mod Choosing
 pub mod Begins
 pub mod Begun

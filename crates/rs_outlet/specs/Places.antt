@@ -34,6 +34,10 @@ still_open ws = filter (λ w. w.open) ws
 abbrev pub open_count : List Wait → ℕ
 open_count ws = count_by (λ w. w.open) ws
 
+-- how many are to be withdrawn
+abbrev pub withdrawn_count : List Wait → ℕ
+withdrawn_count ws = count_by is_withdrawn ws
+
 -- the open place of a prefix
 abbrev pub open_at : Prefix → List Wait → Option Wait
 open_at q [] = None

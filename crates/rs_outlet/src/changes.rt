@@ -11,14 +11,14 @@ ghost use Rattle.rs_adjin.specs.declared.adj_ins.AdjIns.{AdjIns};
 ghost use Rattle.rs_adjin.specs.AdjIns.{number_of};
 ghost use Rattle.rs_outlet.specs.Views.{HaveNumbers};
 ghost use Rattle.std.specs.Vec.{vec_capacity};
-ghost use Rattle.rs_outlet.specs.Places.{open_at, open_count};
+ghost use Rattle.rs_outlet.specs.Places.{open_at, open_count, withdrawn_count};
 ghost use Rattle.rs_outlet.specs.Owed.{IsBeside, IsCarriedOut, IsOpenAt, IsOwed, Keeps, listed, prefixes_of};
 ghost use Rattle.rs_outlet.specs.declared.answers.Speech.{Speech};
 ghost use Rattle.rs_outlet.specs.declared.waiting.Due.{Due};
 ghost use Rattle.rs_outlet.specs.Hashing.{attributes_hash};
 ghost use Rattle.rs_outlet.specs.Inside.{AreBacked, AreDue, AreOwn, ArePlaced, ChangesFit, FitsAlone, HaveRows, IsOwn, RowsFit, attributes_at, is_changed, numbers_of, row_at, loc_of, numbers_from};
 
-use crate::rows::Rows;
+use crate::table::Rows;
 use crate::waiting::{Due, Told, Wait, Waits, hash_of};
 use rs_adjin::AdjIns;
 use rs_attrs::Attrs;
@@ -114,6 +114,7 @@ fn carry_out(rows: &mut Rows, waits: &mut Waits, fresh: &mut Vec<Wait>, change: 
     ensures fit { (speech : Speech) → IfSome change.due (λ attrs. FitsAlone speech change.prefix (arc_value attrs)) → RowsFit speech rows.old.rows.items → RowsFit speech rows.new.rows.items }
     ensures waits { IsCarriedOut change (attributes_at rows.old.rows.items change.number) rows.new.rows.items waits.old.places.items fresh.old.items waits.new.places.items fresh.new.items }
     ensures count { open_count waits.new.places.items ≤ open_count waits.old.places.items }
+    ensures most { rows.new.used + (withdrawn_count waits.new.places.items + withdrawn_count fresh.new.items) ≤ rows.old.used + (withdrawn_count waits.old.places.items + withdrawn_count fresh.old.items) + 1 }
     ensures capacity { vec_capacity waits.new.places ≡ vec_capacity waits.old.places }
     ensures fresh { vec_capacity fresh.new ≡ vec_capacity fresh.old }
 {
@@ -171,6 +172,9 @@ pub(crate) fn make_room(
     ensures none { IfOk result (λ fresh. fresh.items ≡ []) }
     ensures fresh { IfOk result (λ fresh. changes ≤ vec_capacity fresh) }
     ensures more { OnOk result (open_count waits.old.places.items + changes ≤ vec_capacity waits.new.places) }
+    ensures all { OnOk result (rows.new.used + withdrawn_count waits.new.places.items + changes ≤ vec_capacity waits.new.places) }
+    ensures used { rows.new.used ≡ rows.old.used }
+    ensures capacity { vec_capacity waits.old.places ≤ vec_capacity waits.new.places }
 {
     let fresh = Vec::with_capacity(alloc, changes)?;
     rows.grow(numbers)?;
@@ -193,6 +197,8 @@ pub(crate) fn commit(rows: &mut Rows, waits: &mut Waits, changes: Vec<Change>, m
     requires none { fresh.items ≡ [] }
     requires fresh { vec_len changes ≤ vec_capacity fresh }
     requires waits { open_count waits.old.places.items + vec_len changes ≤ vec_capacity waits.old.places }
+    requires all { rows.old.used + withdrawn_count waits.old.places.items + vec_len changes ≤ vec_capacity waits.old.places }
+    ensures all { rows.new.used + withdrawn_count waits.new.places.items ≤ vec_capacity waits.new.places }
     ensures loc { (ins : AdjIns) (due : Prefix → Option (List Attribute)) → ArePlaced changes.items ins → AreDue due changes.items → HaveNumbers (numbers_from 0 rows.old.rows.items) ins → (q : Prefix) → fin.get (loc_of rows.new.rows.items) q ≡ (if is_changed changes.items q then due q else fin.get (loc_of rows.old.rows.items) q) }
     ensures numbered { (ins : AdjIns) → ArePlaced changes.items ins → HaveNumbers (numbers_from 0 rows.old.rows.items) ins → HaveNumbers (numbers_from 0 rows.new.rows.items) ins }
     ensures backed { AreBacked rows.old.rows.items waits.old.places.items → AreBacked rows.new.rows.items waits.new.places.items }

@@ -8,12 +8,13 @@ ghost use Rattle.rs_octets.specs.Prefixes.{Prefix, prefix_order};
 ghost use Rattle.rs_attrs.specs.Meaning.{Attribute};
 ghost use Rattle.rs_outlet.specs.declared.rows.Row.{Row};
 ghost use Rattle.rs_outlet.specs.declared.waiting.Wait.{Wait};
-ghost use Rattle.rs_outlet.specs.Places.{prefixes_at, open_at, is_withdrawal, is_withdrawn, is_announced};
+ghost use Rattle.rs_outlet.specs.Places.{prefixes_at, open_at, is_withdrawal, is_withdrawn, is_announced, withdrawn_count};
 ghost use Rattle.rs_outlet.specs.Choosing.{HasRow, HaveRoom, IsFound, IsChosen, AreChosen, WaitsFor};
 ghost use Rattle.rs_outlet.specs.Hashing.{attributes_hash};
 ghost use Rattle.rs_outlet.specs.Inside.{row_by};
 
-use crate::rows::{Row, Rows};
+use crate::rows::Row;
+use crate::table::Rows;
 use crate::waiting::{Due, END, Wait, Waits, hash_of};
 use rs_attrs::Attrs;
 use rs_octets::Prefix;
@@ -22,6 +23,7 @@ impl Waits {
     /// The first place that is to be withdrawn.
     pub(crate) fn first_withdrawn(&mut self) -> Option<usize>
         ensures places { self.new.places.items ≡ self.old.places.items }
+        ensures capacity { vec_capacity self.new.places ≡ vec_capacity self.old.places }
         ensures first { IsFound is_withdrawn self.old.places.items result }
     {
         self.gone = next_withdrawn(&self.places, self.gone);
@@ -35,6 +37,7 @@ impl Waits {
     /// The first place that is to be announced.
     pub(crate) fn first_announced(&mut self) -> Option<usize>
         ensures places { self.new.places.items ≡ self.old.places.items }
+        ensures capacity { vec_capacity self.new.places ≡ vec_capacity self.old.places }
         ensures first { IsFound is_announced self.old.places.items result }
     {
         self.news = next_announced(&self.places, self.news);
@@ -149,7 +152,9 @@ impl Waits {
 
     /// These places wait no more.
     pub(crate) fn give_up(&mut self, chosen: &[usize])
-        ensures { (rows : List (Option Row)) (said : Option (List Attribute)) (ps : List Prefix) → AreChosen rows self.old.places.items said chosen.now ps → (q : Prefix) → open_at q self.new.places.items ≡ (if list_any (eq_by_cmp prefix_order q) ps then None else open_at q self.old.places.items) }
+        ensures withdrawn { withdrawn_count self.new.places.items ≤ withdrawn_count self.old.places.items }
+        ensures capacity { vec_capacity self.new.places ≡ vec_capacity self.old.places }
+        ensures places { (rows : List (Option Row)) (said : Option (List Attribute)) (ps : List Prefix) → AreChosen rows self.old.places.items said chosen.now ps → (q : Prefix) → open_at q self.new.places.items ≡ (if list_any (eq_by_cmp prefix_order q) ps then None else open_at q self.old.places.items) }
     {
         for place in chosen {
             self.give_up_one(*place);
@@ -159,6 +164,8 @@ impl Waits {
     /// A place waits no more.
     fn give_up_one(&mut self, place: usize)
         ensures prefixes { prefixes_at self.new.places.items ≡ prefixes_at self.old.places.items }
+        ensures withdrawn { withdrawn_count self.new.places.items ≤ withdrawn_count self.old.places.items }
+        ensures capacity { vec_capacity self.new.places ≡ vec_capacity self.old.places }
         ensures places { (p : Prefix) → slice_get (prefixes_at self.old.places.items) place ≡ Some p → (q : Prefix) → open_at q self.new.places.items ≡ (if eq_by_cmp prefix_order q p then None else open_at q self.old.places.items) }
     {
         if place < self.places.len() {

@@ -13,6 +13,9 @@ mod outlet;
 mod routes;
 mod rows;
 mod sending;
+mod table;
+#[cfg(test)]
+mod tests;
 mod touched;
 mod turn;
 mod waiting;

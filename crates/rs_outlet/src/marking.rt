@@ -1,21 +1,29 @@
 //! A client asks for everything again: what was told waits to be told again (RFC 2918, 4).
 
-ghost use Rattle.std.specs.Prelude.{◌≡◌, ◌≤◌, None, false, map, take, vec_len};
+ghost use Rattle.std.specs.Prelude.{◌≡◌, ◌≤◌, ◌<◌, ◌+◌, None, IsSome, true, false, map, take, vec_len};
 ghost use Rattle.std.specs.FinMap as fin;
+ghost use Rattle.std.specs.List.{list_any};
 ghost use Rattle.std.specs.List.Sorted.{IsStrictlySortedBy};
+ghost use Rattle.std.specs.Ordering.{eq_by_cmp};
+ghost use Rattle.std.specs.Vec.{vec_capacity};
 ghost use Rattle.rs_octets.specs.Prefixes.{Prefix, prefix_order};
-ghost use Rattle.rs_outlet.specs.Places.{open_at, prefixes_at, still_open};
+ghost use Rattle.rs_outlet.specs.Places.{open_at, prefixes_at, still_open, withdrawn_count};
 ghost use Rattle.rs_outlet.specs.Inside.{AreBacked, loc_of};
 ghost use Rattle.rs_outlet.specs.Marking.{MayAddRow, MayWaitAgain, is_told, remarked};
 
-use crate::rows::{Row, Rows};
-use crate::waiting::{Due, END, Told, Wait, Waits, count_open, hash_of, put_in_order};
+use crate::rows::Row;
+use crate::table::Rows;
+use crate::waiting::{Due, Told, Wait, Waits, count_open, hash_of, put_in_order};
 use rs_octets::Prefix;
 
 impl Waits {
     /// Everything that was told waits to be told again: each row, and what waits already.
     pub(crate) fn mark_all(&mut self, rows: &Rows)
+        requires { rows.now.used + withdrawn_count self.old.places.items ≤ vec_capacity self.old.places }
         ensures again { (q : Prefix) → MayWaitAgain (fin.get (loc_of rows.now.rows.items) q) (open_at q self.old.places.items) (open_at q self.new.places.items) }
+        ensures all { AreBacked rows.now.rows.items self.old.places.items → (q : Prefix) → IsSome (fin.get (loc_of rows.now.rows.items) q) → IsSome (open_at q self.new.places.items) }
+        ensures withdrawn { withdrawn_count self.new.places.items ≤ withdrawn_count self.old.places.items }
+        ensures capacity { vec_capacity self.new.places ≡ vec_capacity self.old.places }
         ensures backed { AreBacked rows.now.rows.items self.old.places.items → AreBacked rows.now.rows.items self.new.places.items }
     {
         add_rows(&mut self.places, rows);
@@ -35,20 +43,23 @@ impl Told {
 }
 
 /// Drops the places that wait no more, marks those at which something was told, and adds the rows at
-/// which nothing waits, for which there is room.
+/// which nothing waits. There is room for these: each place that is left is to be withdrawn, or has a row.
 fn add_rows(places: &mut Vec<Wait>, rows: &Rows)
-    requires { IsStrictlySortedBy prefix_order (prefixes_at places.old.items) }
+    requires rises { IsStrictlySortedBy prefix_order (prefixes_at places.old.items) }
+    requires room { rows.now.used + withdrawn_count places.old.items ≤ vec_capacity places.old }
     ensures rises { IsStrictlySortedBy prefix_order (prefixes_at places.new.items) }
     ensures again { (q : Prefix) → MayWaitAgain (fin.get (loc_of rows.now.rows.items) q) (open_at q places.old.items) (open_at q places.new.items) }
+    ensures all { AreBacked rows.now.rows.items places.old.items → (q : Prefix) → IsSome (fin.get (loc_of rows.now.rows.items) q) → IsSome (open_at q places.new.items) }
+    ensures withdrawn { withdrawn_count places.new.items ≤ withdrawn_count places.old.items }
+    ensures capacity { vec_capacity places.new ≡ vec_capacity places.old }
     ensures backed { AreBacked rows.now.rows.items places.old.items → AreBacked rows.now.rows.items places.new.items }
 {
     drop_shut(places);
     mark_told(places);
     let waited = places.len();
-    for number in 0..rows.count() {
-        let number = u32::try_from(number).unwrap_or(END);
-        if let Some(row) = rows.get(number) {
-            add_row(places, waited, number, row);
+    for place in 0..rows.count() {
+        if let Some(row) = rows.at(place) {
+            add_row(places, waited, place as u32, row);
         }
     }
     put_in_order(places);
@@ -56,14 +67,16 @@ fn add_rows(places: &mut Vec<Wait>, rows: &Rows)
 
 /// Drops the places that wait no more.
 fn drop_shut(places: &mut Vec<Wait>)
-    ensures { places.new.items ≡ still_open places.old.items }
+    ensures items { places.new.items ≡ still_open places.old.items }
+    ensures capacity { vec_capacity places.new ≡ vec_capacity places.old }
 {
     places.retain(|wait| wait.open);
 }
 
 /// Marks the places at which something was told.
 fn mark_told(places: &mut Vec<Wait>)
-    ensures { places.new.items ≡ map remarked places.old.items }
+    ensures items { places.new.items ≡ map remarked places.old.items }
+    ensures capacity { vec_capacity places.new ≡ vec_capacity places.old }
 {
     for wait in places.iter_mut() {
         wait.marked = wait.told.is_told();
@@ -74,7 +87,9 @@ fn mark_told(places: &mut Vec<Wait>)
 fn add_row(places: &mut Vec<Wait>, waited: usize, number: u32, row: &Row)
     requires waited { waited ≤ vec_len places.old }
     requires rises { IsStrictlySortedBy prefix_order (prefixes_at (take waited places.old.items)) }
-    ensures { MayAddRow (take waited places.old.items) number row.now places.old.items places.new.items }
+    ensures again { MayAddRow (take waited places.old.items) number row.now places.old.items places.new.items }
+    ensures listed { vec_len places.old < vec_capacity places.old → list_any (eq_by_cmp prefix_order row.now.prefix) (prefixes_at places.new.items) ≡ true }
+    ensures capacity { vec_capacity places.new ≡ vec_capacity places.old }
 {
     if places.capacity() <= places.len() {
         return;
@@ -97,7 +112,8 @@ fn add_row(places: &mut Vec<Wait>, waited: usize, number: u32, row: &Row)
 /// Whether one of the places has a prefix.
 fn has_prefix(places: &[Wait], prefix: &Prefix) -> bool
     requires { IsStrictlySortedBy prefix_order (prefixes_at places.now) }
-    ensures { result ≡ false → open_at prefix.now places.now ≡ None }
+    ensures absent { result ≡ false → open_at prefix.now places.now ≡ None }
+    ensures listed { result ≡ true → list_any (eq_by_cmp prefix_order prefix.now) (prefixes_at places.now) ≡ true }
 {
     places
         .binary_search_by_key(prefix, |wait| wait.prefix)

@@ -23,12 +23,12 @@ ghost use Rattle.rs_outlet.specs.Inside.{room_of, batch_of, IsNoNumberOf};
 use crate::answers::{Last, Speech, Turned};
 use crate::deciding::Sources;
 use crate::routes::Routes;
-use crate::rows::Rows;
+use crate::table::Rows;
 use crate::touched::Touched;
 use crate::waiting::Waits;
 use rs_adjin::AdjIns;
 use rs_attrs::{Attrs, Mode};
-use rs_octets::Prefix;
+use rs_octets::{LONGEST_EXTENDED_MESSAGE, LONGEST_MESSAGE, Prefix};
 use rs_open::{Limit, ServerOpen, Short, short_size, write_open};
 use rs_policy::Config;
 use std::alloc::{AllocError, Global};
@@ -83,14 +83,21 @@ fn room(extended: bool) -> usize
     ensures value { result ≡ room_of extended }
     ensures most { result ≤ 65535 }
 {
-    if extended { 65535 } else { 4096 }
+    usize::from(if extended {
+        LONGEST_EXTENDED_MESSAGE
+    } else {
+        LONGEST_MESSAGE
+    })
 }
 
-/// The most prefixes that one message holds.
+/// The octets of an UPDATE without prefixes and attributes: its header and two lengths.
+const EMPTY_UPDATE: usize = 23;
+
+/// The most prefixes that one message holds, each of one octet.
 fn batch(extended: bool) -> usize
     ensures { result ≡ batch_of extended }
 {
-    if extended { 65512 } else { 4073 }
+    room(extended) - EMPTY_UPDATE
 }
 
 /// Writes the server's OPEN at the front of a message's room.
@@ -268,6 +275,7 @@ impl Outlet {
         ensures extended { self.new.extended ≡ self.old.extended }
         ensures rest { self.new ≡ record self.old { told = self.new.told; marked = self.new.marked; waits = self.new.waits } }
         ensures told { self.new.told ≡ self.old.told }
+        ensures marked { (p : Prefix) → set.contains self.new.marked p ≡ map.contains_key self.old.told p }
         ensures exact { WaitsAreExact self.old → WaitsAreExact self.new }
     {
         self.waits.mark_all(&self.rows);
@@ -352,7 +360,9 @@ impl Outlet {
     }
 
     /// The routes of the Loc-RIB, by rising prefix.
-    pub fn routes<'a>(&'a self, ins: &'a AdjIns) -> Routes<'a> {
+    pub fn routes<'a>(&'a self, ins: &'a AdjIns) -> Routes<'a>
+        ensures { AreNumbered self.now ins.now → result ≡ map.entries self.now.loc }
+    {
         Routes::new(ins.iter(), &self.rows)
     }
 }

@@ -1,9 +1,15 @@
 //! The routes of a Loc-RIB, one after the other.
 
-use crate::rows::Rows;
+ghost use Rattle.std.specs.Prelude.{◌≡◌};
+ghost use Rattle.std.specs.Arc.{arc_value};
+ghost use Rattle.std.specs.Iterator.{YieldsFirstBy, item_count};
+ghost use Rattle.rs_outlet.specs.Listing.{routes_at};
+
+use crate::table::Rows;
 use rs_adjin::NumberedPrefixes;
 use rs_attrs::Attrs;
 use rs_octets::Prefix;
+use std::marker::Model;
 use std::sync::Arc;
 
 /// The routes of a Loc-RIB that are left, by rising prefix.
@@ -13,22 +19,49 @@ pub struct Routes<'a> {
     rows: &'a Rows,
 }
 
+impl<'a> Model for Routes<'a> {
+    ghost use Rattle.std.specs.Prelude.{List};
+    ghost use Rattle.rs_octets.specs.Prefixes.{Prefix};
+    ghost use Rattle.rs_attrs.specs.Meaning.{Attribute};
+    ghost use Rattle.rs_outlet.specs.Listing.{routes_at};
+
+    ghost Value = { List (Prefix × List Attribute) };
+
+    ghost view = { λ it. routes_at it.rows.now.rows.items it.numbers };
+}
+
 impl<'a> Routes<'a> {
-    pub(crate) fn new(numbers: NumberedPrefixes<'a>, rows: &'a Rows) -> Routes<'a> {
+    pub(crate) fn new(numbers: NumberedPrefixes<'a>, rows: &'a Rows) -> Routes<'a>
+        ensures { result ≡ routes_at rows.now.rows.items numbers.entry }
+    {
         Routes { numbers, rows }
     }
+}
+
+/// The next route among the prefixes that are left.
+fn next_route<'a>(
+    numbers: &mut NumberedPrefixes<'_>,
+    rows: &'a Rows,
+) -> Option<(Prefix, &'a Arc<Attrs>)>
+    ensures { YieldsFirstBy (λ route. (route.0, arc_value route.1.now)) (routes_at rows.now.rows.items) numbers.old result numbers.new }
+{
+    for _ in 0..numbers.len() {
+        let (prefix, number) = numbers.next()?;
+        if let Some(row) = rows.get(number) {
+            return Some((prefix, &row.attrs));
+        }
+    }
+    None
 }
 
 impl<'a> Iterator for Routes<'a> {
     type Item = (Prefix, &'a Arc<Attrs>);
 
+    ghost next_gives = { YieldsFirstBy (λ route. (route.0, arc_value route.1.now)) (λ left. left) };
+
+    ghost remaining = { item_count (λ left. left) };
+
     fn next(&mut self) -> Option<(Prefix, &'a Arc<Attrs>)> {
-        for _ in 0..self.numbers.len() {
-            let (prefix, number) = self.numbers.next()?;
-            if let Some(row) = self.rows.get(number) {
-                return Some((prefix, &row.attrs));
-            }
-        }
-        None
+        next_route(&mut self.numbers, self.rows)
     }
 }

@@ -1,9 +1,10 @@
 //! The Loc-RIB of a client: a row for each number that the Adj-RIBs-In gave to a prefix.
 
-ghost use Rattle.std.specs.Prelude.{◌≡◌, ◌≤◌, ◌<◌, ℕ, [], Some, None, IfOk, OnOk, length, vec_len, slice_set, option_copied, option_map};
+ghost use Rattle.std.specs.Prelude.{◌≡◌, ◌≤◌, ◌<◌, ◌+◌, ℕ, [], Some, None, IfOk, OnOk, length, vec_len, slice_set, option_copied, option_map};
 ghost use Rattle.std.specs.Arc.{arc_value};
 ghost use Rattle.rs_outlet.specs.Inside.{row_at, shown, loc_of, numbers_from};
 
+use crate::table::Rows;
 use rs_attrs::Attrs;
 use rs_octets::Prefix;
 use std::alloc::{AllocError, Global};
@@ -16,17 +17,10 @@ pub(crate) struct Row {
     pub(crate) attrs: Arc<Attrs>,
 }
 
-/// A row for each number; a free one has no route.
-#[derive(Drop)]
-pub(crate) struct Rows {
-    rows: Vec<Option<Row>>,
-    /// How many rows have a route.
-    used: usize,
-}
-
 impl Rows {
     pub(crate) fn new(alloc: Global) -> Rows
-        ensures { result.rows.items ≡ [] }
+        ensures rows { result.rows.items ≡ [] }
+        ensures used { result.used ≡ 0 }
     {
         Rows {
             rows: Vec::new(alloc),
@@ -35,19 +29,24 @@ impl Rows {
     }
 
     pub(crate) fn clear(&mut self)
-        ensures { self.new.rows.items ≡ [] }
+        ensures rows { self.new.rows.items ≡ [] }
+        ensures used { self.new.used ≡ 0 }
     {
         self.rows.clear();
         self.used = 0;
     }
 
     /// How many rows have a route.
-    pub(crate) fn used(&self) -> usize {
+    pub(crate) fn used(&self) -> usize
+        ensures { result ≡ self.now.used }
+    {
         self.used
     }
 
     /// How many rows there are.
-    pub(crate) fn count(&self) -> usize {
+    pub(crate) fn count(&self) -> usize
+        ensures { result ≡ vec_len self.now.rows }
+    {
         self.rows.len()
     }
 
@@ -55,19 +54,30 @@ impl Rows {
     pub(crate) fn get(&self, number: u32) -> Option<&Row>
         ensures { option_copied result ≡ row_at self.now.rows.items number }
     {
-        match self.rows.get(number as usize) {
+        self.at(number as usize)
+    }
+
+    /// The row at a place, where it has a route.
+    pub(crate) fn at(&self, place: usize) -> Option<&Row>
+        ensures { option_copied result ≡ row_at self.now.rows.items place }
+    {
+        match self.rows.get(place) {
             Some(row) => row.as_ref(),
             None => None,
         }
     }
 
-    /// There is a row for each of the first numbers.
+    /// There is a row for each of the first numbers. It is refused where 32 bits don't count them.
     pub(crate) fn grow(&mut self, count: usize) -> Result<(), AllocError>
         ensures rows { (n : ℕ) → row_at self.new.rows.items n ≡ row_at self.old.rows.items n }
         ensures loc { loc_of self.new.rows.items ≡ loc_of self.old.rows.items }
         ensures numbers { numbers_from 0 self.new.rows.items ≡ numbers_from 0 self.old.rows.items }
         ensures room { OnOk result (count ≤ vec_len self.new.rows) }
+        ensures used { self.new.used ≡ self.old.used }
     {
+        let Ok(_) = u32::try_from(count) else {
+            return Err(AllocError);
+        };
         let more = count.saturating_sub(self.rows.len());
         self.rows.reserve(more)?;
         for _ in 0..more {
@@ -82,11 +92,12 @@ impl Rows {
         ensures rows { self.new.rows.items ≡ slice_set self.old.rows.items number None }
         ensures room { vec_len self.new.rows ≡ vec_len self.old.rows }
         ensures was { option_map arc_value result ≡ shown (row_at self.old.rows.items number) }
+        ensures used { self.new.used ≤ self.old.used }
     {
         match self.rows[number as usize].take() {
             None => None,
             Some(row) => {
-                self.used = self.used.saturating_sub(1);
+                self.used -= 1;
                 Some(row.attrs)
             }
         }
@@ -94,11 +105,13 @@ impl Rows {
 
     /// Puts a route into the free row of a number.
     pub(crate) fn put(&mut self, number: u32, prefix: Prefix, attrs: Arc<Attrs>)
-        requires { number < vec_len self.old.rows }
+        requires number { number < vec_len self.old.rows }
+        requires free { row_at self.old.rows.items number ≡ None }
         ensures rows { self.new.rows.items ≡ slice_set self.old.rows.items number (Some (record { prefix = prefix; attrs = attrs })) }
         ensures room { vec_len self.new.rows ≡ vec_len self.old.rows }
+        ensures used { self.new.used ≡ self.old.used + 1 }
     {
         self.rows[number as usize] = Some(Row { prefix, attrs });
-        self.used = self.used.saturating_add(1);
+        self.used += 1;
     }
 }

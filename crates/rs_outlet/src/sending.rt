@@ -20,7 +20,7 @@ ghost use Rattle.rs_open.specs.Notes.{limit_octets};
 
 use crate::answers::Speech;
 use crate::outlet::Outlet;
-use crate::rows::Rows;
+use crate::table::Rows;
 use crate::waiting::Waits;
 use rs_attrs::{Attrs, Mode, attributes_are_legal};
 use rs_octets::Prefix;
@@ -188,6 +188,7 @@ fn put_update(
     ensures chosen { vec_capacity chosen.new ≡ vec_capacity chosen.old }
     ensures front { vec_capacity front.new ≡ vec_capacity front.old }
     ensures places { waits.new.places.items ≡ waits.old.places.items }
+    ensures capacity { vec_capacity waits.new.places ≡ vec_capacity waits.old.places }
     ensures update { MayUpdate speech rows.now.rows.items waits.old.places.items chosen.new.items front.new.items out.new.items result }
 {
     if let Some(first) = waits.first_withdrawn() {

@@ -14,7 +14,7 @@ ghost use Rattle.std.specs.Vec.{vec_capacity};
 ghost use Rattle.rs_octets.specs.Prefixes.{Prefix, prefix_order};
 ghost use Rattle.rs_outlet.specs.declared.waiting.Wait.{Wait};
 ghost use Rattle.rs_outlet.specs.Hashing.{attributes_hash};
-ghost use Rattle.rs_outlet.specs.Places.{AreFresh, IsOpenPlace, still_open, prefixes_at, open_count, is_withdrawn, is_announced, open_at, told_of, told_by, marked_by};
+ghost use Rattle.rs_outlet.specs.Places.{AreFresh, IsOpenPlace, still_open, prefixes_at, open_count, withdrawn_count, is_withdrawn, is_announced, open_at, told_of, told_by, marked_by};
 
 use rs_attrs::Attrs;
 use rs_octets::Prefix;
@@ -109,6 +109,7 @@ impl Waits {
     pub(crate) fn reserve(&mut self, count: usize) -> Result<(), AllocError>
         ensures items { self.new.places.items ≡ self.old.places.items }
         ensures room { OnOk result (count ≤ vec_capacity self.new.places) }
+        ensures kept { vec_capacity self.old.places ≤ vec_capacity self.new.places }
     {
         let more = count.saturating_sub(self.places.len());
         self.places.reserve(more)?;
@@ -142,6 +143,7 @@ impl Waits {
         ensures places { (p : Prefix) → slice_get (prefixes_at self.old.places.items) place ≡ Some p → (q : Prefix) → open_at q self.new.places.items ≡ (if eq_by_cmp prefix_order q p then None else open_at q self.old.places.items) }
         ensures told { (w : Wait) → slice_get self.old.places.items place ≡ Some w → (result.0 ≡ w.told) × (result.1 ≡ w.marked) }
         ensures count { open_count self.new.places.items ≤ open_count self.old.places.items }
+        ensures withdrawn { withdrawn_count self.new.places.items ≤ withdrawn_count self.old.places.items }
         ensures capacity { vec_capacity self.new.places ≡ vec_capacity self.old.places }
     {
         let wait = &mut self.places[place];
@@ -164,6 +166,7 @@ impl Waits {
         ensures marked { result.1 ≡ marked_by (open_at prefix.now self.old.places.items) }
         ensures places { (q : Prefix) → open_at q self.new.places.items ≡ (if eq_by_cmp prefix_order q prefix.now then None else open_at q self.old.places.items) }
         ensures count { open_count self.new.places.items ≤ open_count self.old.places.items }
+        ensures withdrawn { withdrawn_count self.new.places.items ≤ withdrawn_count self.old.places.items }
         ensures capacity { vec_capacity self.new.places ≡ vec_capacity self.old.places }
     {
         match self.find(prefix) {
@@ -179,7 +182,9 @@ impl Waits {
     pub(crate) fn add(&mut self, more: Vec<Wait>)
         requires room { open_count self.old.places.items + vec_len more ≤ vec_capacity self.old.places }
         requires fresh { AreFresh self.old.places.items more.items }
-        ensures { (q : Prefix) → open_at q self.new.places.items ≡ open_at q (self.old.places.items ++ more.items) }
+        ensures places { (q : Prefix) → open_at q self.new.places.items ≡ open_at q (self.old.places.items ++ more.items) }
+        ensures withdrawn { withdrawn_count self.new.places.items ≤ withdrawn_count self.old.places.items + withdrawn_count more.items }
+        ensures capacity { vec_capacity self.new.places ≡ vec_capacity self.old.places }
     {
         add_places(&mut self.places, more);
         self.waiting = count_open(&self.places);
@@ -190,7 +195,8 @@ impl Waits {
 
     /// Links the places, which are all open.
     pub(crate) fn link(&mut self)
-        ensures { self.new.places.items ≡ self.old.places.items }
+        ensures items { self.new.places.items ≡ self.old.places.items }
+        ensures capacity { vec_capacity self.new.places ≡ vec_capacity self.old.places }
     {
         let count = self.places.len();
         self.links.clear();
@@ -258,6 +264,8 @@ pub(crate) fn put_in_order(places: &mut Vec<Wait>)
     ensures from { (w : Wait) → Contains places.new.items w → Contains places.old.items w }
     ensures all { (q : Prefix) → list_any (eq_by_cmp prefix_order q) (prefixes_at places.new.items) ≡ list_any (eq_by_cmp prefix_order q) (prefixes_at places.old.items) }
     ensures kept { IsDistinct (eq_by_cmp prefix_order) (prefixes_at places.old.items) → IsPermutation places.old.items places.new.items }
+    ensures withdrawn { withdrawn_count places.new.items ≤ withdrawn_count places.old.items }
+    ensures capacity { vec_capacity places.new ≡ vec_capacity places.old }
 {
     places.sort_unstable_by_key(|wait| wait.prefix);
     places.dedup_by_key(|wait| wait.prefix);
@@ -268,6 +276,8 @@ fn add_places(places: &mut Vec<Wait>, more: Vec<Wait>)
     requires { open_count places.old.items + vec_len more ≤ vec_capacity places.old }
     ensures rises { IsStrictlySortedBy prefix_order (prefixes_at places.new.items) }
     ensures kept { IsDistinct (eq_by_cmp prefix_order) (prefixes_at (still_open places.old.items ++ more.items)) → IsPermutation (still_open places.old.items ++ more.items) places.new.items }
+    ensures withdrawn { withdrawn_count places.new.items ≤ withdrawn_count places.old.items + withdrawn_count more.items }
+    ensures capacity { vec_capacity places.new ≡ vec_capacity places.old }
 {
     places.retain(|wait| wait.open);
     for wait in more {

@@ -10,6 +10,7 @@ use Rattle.rs_outlet.proofs.OneOf.{cond_twice}
 use Rattle.rs_adjin.specs.AdjIns.{number_of}
 use Rattle.rs_adjin.proofs.Rows.{some_is}
 use Rattle.rs_outlet.specs.declared.rows.Row.{Row}
+use Rattle.rs_outlet.proofs.Withdrawals.{announced_listed, free_row, withdrawn_listed}
 use Rattle.rs_outlet.proofs.changes.carry_out.Goals as goal
 
 pub returns-in-None-clause-loc : goal.returns-in-None-clause-loc
@@ -44,6 +45,19 @@ pub returns-in-Some-clause-numbered : goal.returns-in-Some-clause-numbered
 returns-in-Some-clause-numbered c = λ ins is h.
     subst (λ xs. HaveNumbers (numbers_from 0 xs) ins) (sym c.put.ensures.rows)
     (numbers_write ins _ c.args.change.number _ (subst (λ xs. HaveNumbers (numbers_from 0 xs) ins) (sym c.take-was.ensures.rows) (numbers_erase ins c.args.rows.now.rows.items c.args.change.number h)) is)
+
+pub put-requires-clause-free : goal.put-requires-clause-free
+put-requires-clause-free c = free_row c.args.rows.now.rows.items c.take-was.new.self.rows.items c.args.change.number c.take-was.ensures.rows
+
+pub returns-in-None-clause-most : goal.returns-in-None-clause-most
+returns-in-None-clause-most c =
+    let listed = withdrawn_listed c.args.fresh.now.items _ _ c.list_wait.ensures.items in
+    omega (arith, listed, c.take-was.ensures.used, c.take_told-told.ensures.withdrawn)
+
+pub returns-in-Some-clause-most : goal.returns-in-Some-clause-most
+returns-in-Some-clause-most c =
+    let listed = announced_listed c.args.fresh.now.items _ _ _ _ c.announced_wait.ensures.due c.list_wait-in-Some.ensures.items in
+    omega (arith, listed, c.take-was.ensures.used, c.take_told-told.ensures.withdrawn, c.put.ensures.used)
 
 pub returns-in-None-clause-others : goal.returns-in-None-clause-others
 returns-in-None-clause-others c = λ m ne.

@@ -6,7 +6,7 @@ use Rattle.std.proofs.lemmas.Map.Keys.{IsDistinct-head, IsDistinct-tail}
 use Rattle.rs_adjin.specs.AdjIns.{number_of}
 use Rattle.rs_outlet.specs.Inside.{AreDue, AreOwn, ArePlaced, ChangesFit, HaveRows, is_changed, loc_of, numbers_of}
 use Rattle.rs_outlet.proofs.Backing.{are_backed_same, backed_step, own_rest}
-use Rattle.rs_outlet.specs.Places.{prefixes_at}
+use Rattle.rs_outlet.specs.Places.{prefixes_at, withdrawn_count}
 use Rattle.rs_outlet.specs.Owed.{prefixes_of}
 use Rattle.rs_outlet.proofs.Carrying.{fresh_step, keeps_both, keeps_same, keeps_step, length_step, none_fresh, none_more, none_unlisted, unlisted_rest, unlisted_step}
 use Rattle.rs_outlet.proofs.LocByNumber.{same, same_is, by_number, numbered}
@@ -28,6 +28,7 @@ loop-change-init c =
       more = omega (arith, ap length are, ap length none, c.args.fresh.ok, c.args.changes.ok);
       spare = c.requires.fresh;
       count = omega arith;
+      all = omega (arith, c.requires.all, ap length are, ap withdrawn_count none, c.args.changes.ok);
       capacity = refl;
       fresh = none_fresh c.args.waits.now.places.items c.args.fresh.items none;
       once = subst (λ cs. IsDistinct same (prefixes_of cs)) (sym are) c.requires.once;
@@ -69,6 +70,7 @@ loop-change-preserved c =
       more = omega (arith, inv.more, ap length are, length_step x _ _ _ fs _ _ carried, c.loop-change.fresh.ok, c.carry_out.new.fresh.ok);
       spare = omega (arith, inv.spare, c.carry_out.ensures.fresh);
       count = omega (arith, inv.count, c.carry_out.ensures.count);
+      all = omega (arith, inv.all, ap length are, c.carry_out.ensures.most);
       capacity = c.carry_out.ensures.capacity ∙ inv.capacity;
       fresh = fresh_step x _ _ _ fs _ _ carried unlisted.0 inv.fresh;
       once = IsDistinct-tail same x.prefix (prefixes_of rest) once;
@@ -95,7 +97,10 @@ returns-clause-loc c = λ ins due p d h q.
 
 pub returns-clause-keeps : goal.returns-clause-keeps
 returns-clause-keeps c = λ ins p h q.
-    keeps_both _ _ _ _ _ _ (c.loop-change.invariant.keeps ins p h q) (keeps_same _ _ _ _ (c.add.ensures q) refl)
+    keeps_both _ _ _ _ _ _ (c.loop-change.invariant.keeps ins p h q) (keeps_same _ _ _ _ (c.add.ensures.places q) refl)
+
+pub returns-clause-all : goal.returns-clause-all
+returns-clause-all c = omega (arith, c.loop-change.invariant.all, c.loop-change.invariant.capacity, c.add.ensures.withdrawn, c.add.ensures.capacity)
 
 pub returns-clause-backed : goal.returns-clause-backed
-returns-clause-backed c = λ backed q w is. c.loop-change.invariant.backed backed q w (sym (c.add.ensures q) ∙ is)
+returns-clause-backed c = λ backed q w is. c.loop-change.invariant.backed backed q w (sym (c.add.ensures.places q) ∙ is)

@@ -7,7 +7,7 @@ use Rattle.rs_octets.specs.Prefixes.{Prefix}
 use Rattle.rs_attrs.specs.Meaning.{Attribute}
 use Rattle.rs_adjin.specs.declared.adj_ins.AdjIns.{AdjIns}
 use Rattle.rs_outlet.specs.Views.{HaveNumbers}
-use Rattle.rs_outlet.specs.Places.{AreFresh, open_at, open_count, prefixes_at}
+use Rattle.rs_outlet.specs.Places.{AreFresh, open_at, open_count, prefixes_at, withdrawn_count}
 use Rattle.rs_outlet.specs.Owed.{Keeps, prefixes_of}
 use Rattle.rs_outlet.specs.declared.answers.Speech.{Speech}
 use Rattle.rs_outlet.specs.Inside.{AreBacked, AreDue, AreOwn, ArePlaced, ChangesFit, HaveRows, RowsFit, is_changed, numbers_from, numbers_of, loc_of}
@@ -26,6 +26,7 @@ invariant-loop-change l = record {
   more : vec_len l.fresh + length (into_iter_items l.change-iterator) ≤ vec_len l.fn.changes;
   spare : vec_len l.fn.changes ≤ vec_capacity l.fresh;
   count : open_count l.waits.places.items ≤ open_count l.fn.waits.places.items;
+  all : l.rows.used + (withdrawn_count l.waits.places.items + withdrawn_count l.fresh.items) + length (into_iter_items l.change-iterator) ≤ vec_capacity l.fn.waits.places;
   capacity : vec_capacity l.waits.places ≡ vec_capacity l.fn.waits.places;
   fresh : AreFresh l.waits.places.items l.fresh.items;
   once : IsDistinct same (prefixes_of (into_iter_items l.change-iterator));

@@ -29,8 +29,8 @@ loop-wait-preserved c =
     (omega (arith, ap (λ (xs : List Wait). length xs) c.deref_mut-wait-items.ensures.value, c.loop-wait-test.true))
     c.loop-wait.invariant c.wait-item.is c.is_told-wait.ensures
 
-pub returns : goal.returns
-returns c =
+pub returns-clause-items : goal.returns-clause-items
+returns-clause-items c =
     let old = c.args.places.now.items in
     let now = c.loop-wait.wait-items in
     let same : length c.deref_mut-wait-items.result.now ≡ length old = ap (λ (xs : List Wait). length xs) c.deref_mut-wait-items.ensures.value in

@@ -4,6 +4,7 @@ use Rattle.std.proofs.lemmas.List.Sums.{length-filter}
 use Rattle.std.specs.Vec.Iter.{into_iter_items}
 use Rattle.rs_outlet.specs.declared.waiting.Wait.{Wait}
 use Rattle.rs_outlet.specs.Places.{still_open}
+use Rattle.rs_outlet.proofs.Withdrawals.{withdrawn_front}
 use Rattle.rs_outlet.proofs.waiting.add_places.Goals as goal
 
 pub loop-wait-init : goal.loop-wait-init
@@ -13,5 +14,11 @@ loop-wait-init c =
     let more : into_iter_items c.into_iter-wait-iterator.result ≡ c.args.more.items = c.into_iter-wait-iterator.ensures.into_iter_gives.0 in
     record {
       all = λ i. kept i ++ more i;
+      capacity = c.retain.ensures.capacity;
       room = omega (arith, length-filter (λ (w : Wait). w.open) ws, ap length kept, ap length more, c.requires, c.retain.ensures.capacity, c.retain.new.self.ok, c.args.more.ok);
     }
+
+pub returns-clause-withdrawn : goal.returns-clause-withdrawn
+returns-clause-withdrawn c =
+    let most = withdrawn_front c.args.places.now.items c.args.more.items c.loop-wait.places.items (into_iter_items c.loop-wait.wait-iterator) c.loop-wait.invariant.all in
+    omega (arith, most, c.put_in_order.ensures.withdrawn)

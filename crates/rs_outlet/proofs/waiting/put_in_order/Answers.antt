@@ -11,6 +11,7 @@ use Rattle.rs_outlet.proofs.MarkedAgain.{deduped}
 use Rattle.rs_outlet.proofs.Adding.{ordered}
 use Rattle.rs_outlet.proofs.Places.{by_prefix, places_total, prefixes_rise}
 use Rattle.rs_outlet.proofs.Touches.{prefix_eq, prefix_eq-cmp}
+use Rattle.rs_outlet.proofs.Withdrawals.{withdrawn_ordered}
 use Rattle.rs_outlet.proofs.waiting.put_in_order.Goals as goal
 
 pub returns : goal.returns
@@ -25,5 +26,7 @@ returns c =
           ap (λ xs. list_any (same q) (prefixes_at xs)) kept
           ∙ deduped (λ v w. prefix_eq v.prefix w.prefix) (λ v w. sym (prefix_eq-cmp v.prefix w.prefix)) q _
           ∙ sym (list_any-IsPermutation (same q) _ _ (IsPermutation-map (λ (w : Wait). w.prefix) _ _ moved));
+      withdrawn = withdrawn_ordered (λ v w. prefix_eq v.prefix w.prefix) _ _ _ moved kept;
+      capacity = c.dedup_by_key.ensures.capacity ∙ c.sort_unstable_by_key.ensures.capacity;
       kept = λ d. ordered (λ v w. prefix_eq v.prefix w.prefix) (λ v w. sym (prefix_eq-cmp v.prefix w.prefix)) _ _ _ moved kept d;
     }

@@ -1,13 +1,20 @@
-use Rattle.std.proofs.Common.{◌∙◌, ap}
+use Rattle.std.proofs.Common.{◌∙◌, ap, arith, is_some}
+use Rattle.std.specs.FinMap as fin
 use Rattle.rs_outlet.specs.Views.{View}
 use Rattle.rs_outlet.specs.Inside.{loc_of}
-use Rattle.rs_outlet.proofs.AskedAgain.{told_again, exact_again}
+use Rattle.rs_outlet.proofs.AskedAgain.{exact_again, marked_all, told_again}
 use Rattle.rs_outlet.proofs.outlet.Outlet.again.Goals as goal
 
 pub returns-clause-told : goal.returns-clause-told
 returns-clause-told c =
     let a = c.self.inside in
     told_again (loc_of a.rows.rows.items) a.waits.places.items c.mark_all.new.self.places.items c.mark_all.ensures.again ∙ ap (λ (v : View). v.told) c.self.view_is
+
+pub returns-clause-marked : goal.returns-clause-marked
+returns-clause-marked c = λ p.
+    let a = c.self.inside in
+    marked_all (loc_of a.rows.rows.items) a.waits.places.items c.mark_all.new.self.places.items c.mark_all.ensures.again (c.mark_all.ensures.all c.self.invariant.backed) p
+    ∙ ap (λ (v : View). is_some (fin.get v.told p)) c.self.view_is
 
 pub returns-clause-exact : goal.returns-clause-exact
 returns-clause-exact c = λ exact.
@@ -25,6 +32,7 @@ invariant_of-self c =
       front = kept.front;
       chosen = kept.chosen;
       touched = kept.touched;
+      places = omega (arith, kept.places, c.mark_all.ensures.withdrawn, c.mark_all.ensures.capacity);
       extended = kept.extended;
       backed = c.mark_all.ensures.backed kept.backed;
       fit = kept.fit;

@@ -1,8 +1,8 @@
-use Rattle.std.proofs.Common.{◌≡◌, ◌∙◌, ℕ, Some, None, cond, refl, rules, sym, ap, subst}
+use Rattle.std.proofs.Common.{◌≡◌, ◌∙◌, ℕ, Some, None, cond, refl, rules, sym, ap, subst, arith}
 use Rattle.std.specs.List.{list_any}
 use Rattle.rs_octets.specs.Prefixes.{Prefix}
 use Rattle.rs_adjin.specs.AdjIns.{number_of}
-use Rattle.rs_outlet.specs.Places.{open_at}
+use Rattle.rs_outlet.specs.Places.{open_at, withdrawn_count}
 use Rattle.rs_outlet.specs.Inside.{view_of, numbers_from}
 use Rattle.rs_outlet.specs.Choosing.{AreChosen}
 use Rattle.rs_outlet.proofs.LocByNumber.{same}
@@ -22,7 +22,7 @@ returns-clause-begins c = λ spoken e.
     c.put_update-packed.ensures.update c.put_update-packed.ensures.most
     (from_start c.put_update-packed.new.out.items c.put_update-packed.result.octets)
     (λ said qs are q.
-    c.give_up.ensures rows said qs
+    c.give_up.ensures.places rows said qs
     (subst (λ ws. AreChosen rows ws said c.deref.result.now qs) (sym c.put_update-packed.ensures.places)
     (subst (λ ns. AreChosen rows a.waits.places.items said ns qs) (sym (c.deref.ensures.value ∙ c.truncate.ensures.items)) are)) q
     ∙ ap (λ ws. cond (list_any (same q) qs) None (open_at q ws)) c.put_update-packed.ensures.places)
@@ -39,11 +39,12 @@ invariant_of-self c =
       front = search rules;
       chosen = search rules;
       touched = kept.touched;
+      places = omega (arith, kept.places, c.give_up.ensures.withdrawn, c.give_up.ensures.capacity, ap withdrawn_count c.put_update-packed.ensures.places, c.put_update-packed.ensures.capacity);
       extended = kept.extended;
       backed = backed_left c.args.speech rows a.waits.places.items c.give_up.new.self.places.items c.put_update-packed.new.chosen.items c.put_update-packed.new.front.items c.put_update-packed.new.out.items c.put_update-packed.result
           c.put_update-packed.ensures.update
           (λ said qs are q.
-          c.give_up.ensures rows said qs
+          c.give_up.ensures.places rows said qs
           (subst (λ ws. AreChosen rows ws said c.deref.result.now qs) (sym c.put_update-packed.ensures.places)
           (subst (λ ns. AreChosen rows a.waits.places.items said ns qs) (sym (c.deref.ensures.value ∙ c.truncate.ensures.items)) are)) q
           ∙ ap (λ ws. cond (list_any (same q) qs) None (open_at q ws)) c.put_update-packed.ensures.places)

@@ -135,6 +135,7 @@ invariant_of-self-2 c =
       front = kept.front;
       chosen = kept.chosen;
       touched = search rules;
+      places = c.commit.ensures.all;
       extended = kept.extended;
       backed = c.commit.ensures.backed (are_backed_same a.rows.rows.items c.make_room.new.rows.rows.items a.waits.places.items c.make_room.new.waits.places.items c.make_room.ensures.rows c.make_room.ensures.waits kept.backed);
       fit = fit_spoken c.commit.new.rows.rows.items a.speech c.args.speech is

@@ -7,6 +7,7 @@ use Rattle.rs_octets.specs.Prefixes.{prefix_order}
 use Rattle.rs_outlet.specs.declared.waiting.Wait.{Wait}
 use Rattle.rs_outlet.specs.Places.{is_withdrawn, is_announced}
 use Rattle.rs_outlet.proofs.Places.{count_shut, count_one, count_less, same_prefixes, closed_at}
+use Rattle.rs_outlet.proofs.Withdrawals.{withdrawn_less}
 use Rattle.rs_outlet.proofs.waiting.Waits.close.Goals as goal
 
 pub overflow_sub-self : goal.overflow_sub-self
@@ -37,5 +38,6 @@ returns c =
       places = λ p at q. closed_at ws c.args.place p _ c.args.self.now.rises at refl q;
       told = λ w at. (c.replace-told.ensures.value ∙ ap (λ (w : Wait). w.told) (is w at), ap (λ (w : Wait). w.marked) (is w at));
       count = count_less ws c.args.place _ was (search rules) refl;
+      withdrawn = withdrawn_less ws c.args.place _ was (search rules) refl;
       capacity = refl;
     }

@@ -9,6 +9,8 @@ use Rattle.rs_outlet.proofs.waiting.Waits.give_up.Goals as goal
 pub loop-place-preserved : goal.loop-place-preserved
 loop-place-preserved c = record {
   prefixes = c.give_up_one.ensures.prefixes ∙ c.loop-place.invariant.prefixes;
+  withdrawn = omega (arith, c.give_up_one.ensures.withdrawn, c.loop-place.invariant.withdrawn);
+  capacity = c.give_up_one.ensures.capacity ∙ c.loop-place.invariant.capacity;
   places = λ rows said ps are q.
       let i = c.loop-place.place-index in
       let r = next_chosen rows c.args.self.now.places.items said c.args.chosen.now ps i 0 are c.loop-place-test.true in
@@ -16,8 +18,8 @@ loop-place-preserved c = record {
       (c.give_up_one.ensures.places r.0 (ap (λ zs. slice_get zs (get_or c.args.chosen.now i 0)) c.loop-place.invariant.prefixes ∙ r.1) q);
 }
 
-pub returns : goal.returns
-returns c = λ rows said ps are q.
+pub returns-clause-places : goal.returns-clause-places
+returns-clause-places c = λ rows said ps are q.
     let all : length ps ≤ c.loop-place.place-index = omega (arith, as_many rows c.args.self.now.places.items said c.args.chosen.now ps are, c.loop-place-test.false) in
     c.loop-place.invariant.places rows said ps are q
     ∙ ap (λ ks. cond (list_any (same q) ks) None (open_at q c.args.self.now.places.items)) (take_past c.loop-place.place-index ps all)

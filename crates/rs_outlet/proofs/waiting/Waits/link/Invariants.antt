@@ -1,8 +1,15 @@
 use Rattle.std.proofs.Common.{◌≡◌}
+use Rattle.std.specs.Vec.{vec_capacity}
 use Rattle.rs_outlet.proofs.waiting.Waits.link.Given as goal
 
 abbrev pub invariant-loop : goal.invariant-loop
-invariant-loop l = l.self.places.items ≡ l.fn.self.places.items
+invariant-loop l = record {
+  items : l.self.places.items ≡ l.fn.self.places.items;
+  capacity : vec_capacity l.self.places ≡ vec_capacity l.fn.self.places;
+}
 
 abbrev pub invariant-loop-place : goal.invariant-loop-place
-invariant-loop-place l = l.self.places.items ≡ l.fn.self.places.items
+invariant-loop-place l = record {
+  items : l.self.places.items ≡ l.fn.self.places.items;
+  capacity : vec_capacity l.self.places ≡ vec_capacity l.fn.self.places;
+}
