@@ -79,7 +79,7 @@ same_again v w h = record {
 }
 
 again_same : (v w : View) → TellsAgain v w → TellsTheSame v w
-again_same v w h = record { speech = h.speech; flight = h.flight; note = h.note; told = h.told; order = h.order }
+again_same v w h = record { speech = h.speech; flight = h.flight; note = h.note; loc = h.loc; told = h.told; order = h.order }
 
 -- ---- outlets in which nothing is told
 

@@ -66,6 +66,7 @@ pub record TellsTheSame (v w : View) : Type 0 where
   pub speech : w.speech ≡ v.speech
   pub flight : w.flight ≡ v.flight
   pub note : w.note ≡ v.note
+  pub loc : w.loc ≡ v.loc
   pub told : w.told ≡ v.told
   pub order : IsInOrder v → IsInOrder w
 
