@@ -1,6 +1,8 @@
 //! What a route server is asked.
 
-ghost use Rattle.std.specs.Prelude.{◌≡◌, ◌==◌, ◌&&◌, ◌<◌, true, false, List, ◌∷◌, length, IfSome, IsTrue};
+ghost use Rattle.std.specs.Prelude.{◌≡◌, ◌==◌, ◌&&◌, ◌<◌, T, true, false, List, ◌∷◌, length, IfSome, IsTrue};
+ghost use Rattle.std.specs.FinMap.{find, is_sorted};
+ghost use Rattle.rs_octets.specs.Prefixes.{Prefix, prefix_order};
 
 use crate::endings::{Ending, FaultedUpdates};
 use crate::route_server::Core;
@@ -32,7 +34,7 @@ fn is_closing(state: State) -> bool
 ghost use Rattle.rs_core.specs.Hearing.{is_up, is_closing};
 
 impl Core {
-    ghost use Rattle.rs_core.specs.Core.{client_count, is_refusal, is_refused, last_of, lent_octets, owed, is_decided};
+    ghost use Rattle.rs_core.specs.Core.{client_count, loc_rib, is_refusal, is_refused, last_of, lent_octets, owed, is_decided};
     ghost use Rattle.rs_core.specs.Moves.{Move, Began, config_in};
     ghost use Rattle.rs_core.specs.Hearing.{Hearing, state_in, hold_in, mode_in, limit_in};
     ghost use Rattle.rs_core.specs.Runs.{hearing, is_established, IsServed};
@@ -134,6 +136,8 @@ impl Core {
     /// The Loc-RIB of a client, by rising prefix: what was due to it at its last turn.
     pub fn routes(&self, c: usize) -> Routes<'_>
         requires { c < client_count self.now }
+        ensures rising { T (is_sorted prefix_order result) }
+        ensures routes { (p : Prefix) → find prefix_order p result ≡ loc_rib self.now c p }
     {
         let outlet = &self.ribs.outlets[c];
         outlet.routes(&self.ribs.tables)
