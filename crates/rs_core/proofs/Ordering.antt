@@ -164,7 +164,7 @@ again_ordered s c h next v w in_order points tells taken same at = record {
     order = subst (λ ps. TellsInOrder sp.mode ps p t.values true) (sym points) (refl, t.asked, t.order);
     told = ap (λ x. fin.get x p) same.told ∙ t.told;
     marked = λ m. refl;
-    pending = λ a there. same.marked in_order p ∙ ap (λ x. fin.contains_key x p) (sym same.told) ∙ there;
+    pending = λ a there. same.marked p ∙ ap (λ x. fin.contains_key x p) (sym same.told) ∙ there;
   };
 }
 
