@@ -26,9 +26,11 @@ use Rattle.rs_core.specs.Steps.{Follows, IsSpared, ActsOn}
 use Rattle.rs_core.specs.Agreeing.{Knows, AgreesAt, Spares}
 use Rattle.rs_outlet.specs.Views.{View}
 use Rattle.rs_core.specs.Ribs.{outlet_in}
+use Rattle.rs_core.specs.Conversations.{outgoing_of, own_open}
 use Rattle.rs_core.specs.Voices.{IsGreeting, KeepsVoices, Voices}
 use Rattle.rs_core.specs.declared.route_server.Core.{Core}
 use Rattle.rs_core.proofs.Lists.{get_set_same, set_at}
+use Rattle.rs_core.proofs.Conversing.{IsHeardOrSeen, came_converses}
 use Rattle.rs_core.proofs.Voicing.{acted_voice, greeted, never_open_by_moment}
 use Rattle.rs_core.proofs.Ordering.{acted_ordered, greeted_ordered}
 use Rattle.rs_core.proofs.Agreeing.{begun_held, begun_identifier, others_held, others_identifiers}
@@ -187,14 +189,14 @@ asked_by_no_moment s c t h = record {
 }
 
 pub acted : (old new : Core) (act : Act) (item : Item) (x t : Session) (s : Configuration) (c : ℕ) (h next : Hearing)
-    → slice_get old.sessions.items c ≡ Some x → c < length old.sessions.items → new.sessions.items ≡ slice_set old.sessions.items c t
+    → IsHeardOrSeen item → slice_get old.sessions.items c ≡ Some x → c < length old.sessions.items → new.sessions.items ≡ slice_set old.sessions.items c t
     → RespondsTo x t item act → ActsOn act c (slice_set old.sessions.items c t) old.ribs.tables new.ribs.tables
     → new.ribs.config ≡ old.ribs.config → ((none : View) → Voices act old.ribs.extended c (slice_set old.sessions.items c t) (outlet_in old.ribs c none) (outlet_in new.ribs c none))
     → (act_of (session_in s c) item h.items ≡ acts.Say short.Open → ⊥) → next.items ≡ item ∷ h.items → next.taken ≡ h.taken → HasAskedIf item s c h next
     → (is_up (state_in s c h) ≡ false → act_of (session_in s c) item h.items ≡ acts.Up → next.changes ≡ [])
     → (is_up (state_in s c h) ≡ true → is_up (state_in s c next) ≡ true → next.changes ≡ h.changes)
     → Knows old s c h → Knows new s c next
-acted old new act item x t s c h next read lt sessions responds does config voices never items taken asked fresh same knows =
+acted old new act item x t s c h next is_item read lt sessions responds does config voices never items taken asked fresh same knows =
     let it = responds (session_in s c) h.items (knows.session x read) in
     let heard : HasHeard t (session_in s c) next.items = subst (λ l. HasHeard t (session_in s c) l) (sym items) it.heard in
     let tells : Tells act (session_in s c) h.items next.items = subst (λ l. Tells act (session_in s c) h.items l) (sym items) it.tells in
@@ -206,7 +208,8 @@ acted old new act item x t s c h next read lt sessions responds does config voic
       session = λ y e. subst (λ z. HasHeard z (session_in s c) next.items) (sym ((set_at old.sessions.items c t lt).own y (ap (λ l. slice_get l c) (sym sessions) ∙ e))) heard;
       table = has.table;
       identifier = has.identifier;
-      outlet = λ is none. acted_voice act old.ribs.extended s (old.ribs.long ∙ ap (λ (k : Configuration). k.top.extended) (sym config ∙ is)) (slice_set old.sessions.items c t) t c h next (outlet_in old.ribs c none) (outlet_in new.ribs c none) (voices none) got heard tells
+      outlet = λ is none. acted_voice item act old.ribs.extended s (old.ribs.long ∙ ap (λ (k : Configuration). k.top.extended) (sym config ∙ is)) (slice_set old.sessions.items c t) t c h next (outlet_in old.ribs c none) (outlet_in new.ribs c none)
+          is_item it.act_is items (voices none) got heard tells
           (λ e. never (sym it.act_is ∙ e)) taken (knows.outlet (sym config ∙ is) none);
       ordered = λ is none. acted_ordered act old.ribs.extended (slice_set old.sessions.items c t) t s c h next (outlet_in old.ribs c none) (outlet_in new.ribs c none) asked.has_asked (knows.outlet (sym config ∙ is) none).order asked.points
           (λ e. asked.again (sym it.act_is ∙ e)) (λ e. it.act_is ∙ asked.only e) (voices none) got heard tells (λ e. never (sym it.act_is ∙ e)) taken (knows.ordered (sym config ∙ is) none);
@@ -251,7 +254,7 @@ pub seen : (old new : Core) (act : Act) (x after : Session) (s : Configuration) 
     → new.ribs.config ≡ old.ribs.config → ((none : View) → Voices act old.ribs.extended c (slice_set old.sessions.items c after) (outlet_in old.ribs c none) (outlet_in new.ribs c none))
     → AgreesAt old s c h → AgreesAt new s c (sees t h)
 seen old new act x after s c t h read lt sessions buffers responds does config voices at = record {
-  knows = acted old new act (Moment t) x after s c h (sees t h) read lt sessions responds does config voices (never_open_by_moment (session_in s c) t h.items) refl refl (asked_by_no_moment s c t h)
+  knows = acted old new act (Moment t) x after s c h (sees t h) tt read lt sessions responds does config voices (never_open_by_moment (session_in s c) t h.items) refl refl (asked_by_no_moment s c t h)
       (λ down up. absurd (never_up (session_in s c) t h.items up)) (λ before now. refl) at.knows;
   waits = λ y e. let w = at.waits y (ap (λ v. slice_get v.items c) (sym buffers) ∙ e) in record {
     rest = λ live. w.rest (live_before (session_in s c) t h.items live);
@@ -266,9 +269,9 @@ opens_from settings items act e tells = subst (λ a. Tells a settings items (Cam
 
 pub came : (old new : Core) (act : Act) (x t : Session) (s : Configuration) (c : ℕ) (h : Hearing)
     → slice_get old.sessions.items c ≡ Some x → c < length old.sessions.items → new.sessions.items ≡ slice_set old.sessions.items c t
-    → ((b : Vec ℕ) → slice_get new.buffers.items c ≡ Some b → b.items ≡ []) → new.ribs.tables ≡ old.ribs.tables → ((none : View) → IsGreeting (outlet_in new.ribs c none))
+    → ((b : Vec ℕ) → slice_get new.buffers.items c ≡ Some b → b.items ≡ []) → new.ribs.tables ≡ old.ribs.tables → new.ribs.config ≡ old.ribs.config → ((none : View) → IsGreeting (own_open old.ribs.config) (outlet_in new.ribs c none))
     → RespondsTo x t Came act → AgreesAt old s c h → AgreesAt new s c (begins h)
-came old new act x t s c h read lt sessions emptied tables greets responds at =
+came old new act x t s c h read lt sessions emptied tables config greets responds at =
     let it = responds (session_in s c) h.items (at.knows.session x read) in
     let opens = opens_from (session_in s c) h.items act it.act_is it.tells in
     let alike : IsAlike s c h (begins h) = both_down s c h (begins h) (ap is_up opens.before) (ap is_up opens.now) in
@@ -277,11 +280,14 @@ came old new act x t s c h read lt sessions emptied tables greets responds at =
         session = λ y e. subst (λ z. HasHeard z (session_in s c) (Came ∷ h.items)) (sym ((set_at old.sessions.items c t lt).own y (ap (λ l. slice_get l c) (sym sessions) ∙ e))) it.heard;
         table = λ p. ap (λ ins. held_of ins c p) tables ∙ at.knows.table p ∙ alike.table p;
         identifier = ap (λ ins. identifier_of ins c) tables ∙ at.knows.identifier ∙ alike.identifier;
-        outlet = λ _ none. greeted s c (begins h) (outlet_in new.ribs c none) (greets none) refl (ap is_up opens.now);
-        ordered = λ _ none. greeted_ordered s c (begins h) (outlet_in new.ribs c none) (greets none) refl refl;
+        outlet = λ is none. let own = greets_as is none in greeted s c (begins h) (outlet_in new.ribs c none) own refl (ap is_up opens.now)
+            (came_converses (session_in s c) (own_open s) h.items (outgoing_of (outlet_in new.ribs c none)) own.flight own.note);
+        ordered = λ is none. greeted_ordered s c (begins h) (outlet_in new.ribs c none) (greets_as is none) refl refl;
       };
       waits = λ b e. record { rest = λ live. emptied b e; good = λ live. refl };
-    }
+    } where
+      greets_as : new.ribs.config ≡ s → (none : View) → IsGreeting (own_open s) (outlet_in new.ribs c none)
+      greets_as is none = subst (λ k. IsGreeting (own_open k) (outlet_in new.ribs c none)) (sym config ∙ is) (greets none)
 
 -- a message that changes nothing
 pub alone_follows : (s : Configuration) (c : ℕ) (message : Heard) (h : Hearing) → Follows s c message h (takes_in s c (without_change message) h)

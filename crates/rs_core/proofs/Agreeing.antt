@@ -12,7 +12,7 @@ use Rattle.rs_core.specs.Agreeing.{Knows, AgreesAt, IsCutShort, Agrees, Spares}
 use Rattle.rs_core.specs.Ribs.{outlet_in}
 use Rattle.rs_core.specs.declared.route_server.Core.{Core}
 use Rattle.rs_core.proofs.Lists.{equal_or, own, other}
-use Rattle.rs_core.proofs.Voicing.{voiced_same}
+use Rattle.rs_core.proofs.Voicing.{still, voiced_same}
 use Rattle.rs_core.proofs.Around.{voices_on}
 use Rattle.rs_core.proofs.Ordering.{same_ordered}
 
@@ -54,7 +54,7 @@ spared c d old new s h it ne lt at = record {
     identifier = it.identifiers d ne ∙ at.knows.identifier;
     outlet = λ config none. voiced_same s d h (outlet_in old.ribs d none) (outlet_in new.ribs d none) (it.voices d none (subst (λ n. d < n) (sym old.ribs_len) lt) ne)
         (at.knows.outlet (sym it.config ∙ config) none);
-    ordered = λ config none. same_ordered s d h (outlet_in old.ribs d none) (outlet_in new.ribs d none) (it.voices d none (subst (λ n. d < n) (sym old.ribs_len) lt) ne)
+    ordered = λ config none. same_ordered s d h (outlet_in old.ribs d none) (outlet_in new.ribs d none) (still _ _ (it.voices d none (subst (λ n. d < n) (sym old.ribs_len) lt) ne))
         (at.knows.ordered (sym it.config ∙ config) none);
   };
   waits = λ x e. at.waits x (sym (it.buffers d ne) ∙ e);

@@ -14,23 +14,23 @@ use Rattle.rs_core.specs.Touches.{IsTouchedWhereHeld, IsAskedAgain}
 use Rattle.rs_core.specs.Ribs.{outlet_in, ChangesAround, ChangesOthers, ChangesOwn, TouchesChange}
 use Rattle.rs_core.specs.Voices.{TellsAgain, KeepsVoices, TouchesOthers}
 use Rattle.rs_core.specs.declared.ribs.Ribs.{Ribs}
-use Rattle.rs_core.proofs.Voicing.{same_is, same_on, touched_same}
+use Rattle.rs_core.proofs.Voicing.{alone_is, alone_on, touched_alone}
 
 -- the outlet of one client has changed
 pub own_voices : (c : ℕ) (Is : View → View → Type 0) (old new : Ribs) → ChangesOwn c Is old new → KeepsVoices c old new
-own_voices c Is old new changes d none lt ne = same_is _ _ (changes.others d none ne)
+own_voices c Is old new changes d none lt ne = alone_is _ _ (changes.others d none ne)
 
 -- one after the other
 pub voices_on : (c : ℕ) (old mid new : Ribs) → mid.count ≡ old.count → KeepsVoices c old mid → KeepsVoices c mid new → KeepsVoices c old new
-voices_on c old mid new count a b d none lt ne = same_on (outlet_in old d none) (outlet_in mid d none) (outlet_in new d none) (a d none lt ne) (b d none (subst (λ n. d < n) (sym count) lt) ne)
+voices_on c old mid new count a b d none lt ne = alone_on (outlet_in old d none) (outlet_in mid d none) (outlet_in new d none) (a d none lt ne) (b d none (subst (λ n. d < n) (sym count) lt) ne)
 
 -- what a client held was touched for the others
 pub held_voices : (c : ℕ) (ins : AdjIns) (old new : Ribs) → ChangesOthers c (IsTouchedWhereHeld ins c) old new → KeepsVoices c old new
-held_voices c ins old new changes d none lt ne = let t = changes.others d none lt ne in touched_same t.prefixes _ _ t.touched
+held_voices c ins old new changes d none lt ne = let t = changes.others d none lt ne in touched_alone t.prefixes _ _ t.touched
 
 -- and its own has changed
 pub around_voices : (c : ℕ) (Is : View → View → Type 0) (ins : AdjIns) (old new : Ribs) → ChangesAround c Is (IsTouchedWhereHeld ins c) old new → KeepsVoices c old new
-around_voices c Is ins old new changes d none lt ne = let t = changes.others d none lt ne in touched_same t.prefixes _ _ t.touched
+around_voices c Is ins old new changes d none lt ne = let t = changes.others d none lt ne in touched_alone t.prefixes _ _ t.touched
 
 same_or : (a b : Option (List Attribute)) → (a ≡ b) ⊎ (a ≢ b)
 same_or None None = inl refl
@@ -46,16 +46,16 @@ pub change_touches : (c : ℕ) (p : Prefix) (old new : Ribs) → TouchesChange c
 change_touches c p old new touches = elim (same_or (held_of new.tables c p) (held_of old.tables c p)) [
   | inl same ↦ let e = touches.unchanged same in record {
     own = λ none. ap (λ (v : Vec View). slice_index_or v.items c none) e;
-    others = λ d none lt ne. same_is _ _ (ap (λ (v : Vec View). slice_index_or v.items d none) e);
+    others = λ d none lt ne. alone_is _ _ (ap (λ (v : Vec View). slice_index_or v.items d none) e);
   }
   | inr differs ↦ let changes = touches.changed differs in record {
     own = changes.own;
-    others = λ d none lt ne. touched_same (p ∷ []) _ _ (changes.others d none lt ne);
+    others = λ d none lt ne. touched_alone (p ∷ []) _ _ (changes.others d none lt ne);
   }
 ]
 
 pub none_touched : (c : ℕ) (old : Ribs) → TouchesOthers c old old
-none_touched c old = record { own = λ none. refl; others = λ d none lt ne. same_is _ _ refl }
+none_touched c old = record { own = λ none. refl; others = λ d none lt ne. alone_is _ _ refl }
 
 pub touches_on : (c : ℕ) (old mid new : Ribs) → mid.count ≡ old.count → TouchesOthers c old mid → TouchesOthers c mid new → TouchesOthers c old new
 touches_on c old mid new count a b = record { own = λ none. b.own none ∙ a.own none; others = voices_on c old mid new count a.others b.others }

@@ -26,7 +26,7 @@ use Rattle.rs_core.specs.Ribs.{outlet_in}
 use Rattle.rs_core.specs.declared.route_server.Core.{Core}
 use Rattle.rs_core.proofs.Listening.{Heards, hears_joined, hears_moment, deaf}
 use Rattle.rs_core.proofs.Ruling.{unmoved}
-use Rattle.rs_core.proofs.Voicing.{same_again, same_is, voiced_on}
+use Rattle.rs_core.proofs.Voicing.{alone_is, same_again, same_is, voiced_on}
 use Rattle.rs_core.proofs.Ordering.{ordered_on}
 
 -- what is known is known whatever the octets were
@@ -35,7 +35,7 @@ with_others core s c octets h knows = record {
   session = knows.session;
   table = knows.table;
   identifier = knows.identifier;
-  outlet = λ config none. let v = outlet_in core.ribs c none in voiced_on s s c h (with_octets octets h) v v refl (λ l. l) refl (same_again v v (same_is v v refl)) (knows.outlet config none);
+  outlet = λ config none. let v = outlet_in core.ribs c none in voiced_on s s c h (with_octets octets h) v v refl (λ l. l) refl (same_again v v (same_is v v refl)) (knows.outlet config none).messages (knows.outlet config none);
   ordered = λ config none. let v = outlet_in core.ribs c none in
       ordered_on s s c h (with_octets octets h) v v refl refl refl refl refl refl (λ l d. (l, d)) (knows.ordered config none);
 }
@@ -45,7 +45,7 @@ pub waiting_spares : (old new : Core) (c : ℕ) → new.count ≡ old.count → 
 waiting_spares old new c count sessions ribs others = record {
   count = count;
   config = ap (λ r. r.config) ribs;
-  voices = λ d none lt ne. same_is _ _ (ap (λ r. outlet_in r d none) ribs);
+  voices = λ d none lt ne. alone_is _ _ (ap (λ r. outlet_in r d none) ribs);
   sessions = λ d ne. ap (λ v. slice_get v.items d) sessions;
   buffers = others;
   held = λ d p ne. ap (λ r. held_of r.tables d p) ribs;

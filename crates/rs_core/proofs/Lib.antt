@@ -21,6 +21,8 @@ pub mod Changing
 pub mod Turned
 pub mod Telling
 pub mod Spoken
+pub mod Conversing
+pub mod Uttering
 pub mod Voicing
 pub mod Around
 pub mod Ordering
@@ -35,4 +37,5 @@ pub mod Answered
 pub mod Owing
 pub mod Paying
 pub mod Drained
+pub mod Conversed
 pub mod Sent

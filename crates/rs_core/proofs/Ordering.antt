@@ -45,10 +45,12 @@ use Rattle.rs_core.specs.Telling.{each_message, updates_in}
 use Rattle.rs_core.specs.Core.{is_refusal}
 use Rattle.rs_core.specs.Touches.{IsBegun}
 use Rattle.rs_core.specs.Turns.{IsDone, IsTurn}
+use Rattle.rs_core.specs.Conversations.{own_open}
 use Rattle.rs_core.specs.Voices.{IsInOrder, IsGreeting, IsRaised, SaysTheSame, SpeaksTo, TellsAgain, Voices}
 use Rattle.rs_core.proofs.Telling.{updates_more, zip_more}
 use Rattle.rs_core.proofs.Spoken.{all_at, among_has}
-use Rattle.rs_core.proofs.Voicing.{all_gone, down_speech, due_mandatory, limit_most, spoken_up, up_live}
+use Rattle.rs_core.proofs.Uttering.{all_gone, due_mandatory, limit_most}
+use Rattle.rs_core.proofs.Voicing.{down_speech, spoken_up, still, up_live}
 
 -- ---- what goes on as before
 
@@ -101,12 +103,12 @@ over_ordered s c h v dead silent = record {
 
 -- ---- a connection came
 
-pub greeted_ordered : (s : Configuration) (c : ℕ) (h : Hearing) (v : View) → IsGreeting v → h.taken ≡ [] → h.points ≡ [] → IsOrdered s c h v
+pub greeted_ordered : (s : Configuration) (c : ℕ) (h : Hearing) (v : View) → IsGreeting (own_open s) v → h.taken ≡ [] → h.points ≡ [] → IsOrdered s c h v
 greeted_ordered s c h v greets none points = record {
   before = λ l d. record {
     dues = λ p. ap (λ ps. dues_at ps p) points;
     order = λ mode p. subst (λ ps. TellsInOrder mode ps p [] false) (sym points) (refl, refl);
-    updates = (λ i. updates_in (none i ++ greets.flight i)) ∙ updates_more [] (server_open greets.said) kinds.Open refl (short_is_message each_message greets.said short.Open tt);
+    updates = (λ i. updates_in (none i ++ greets.flight i)) ∙ updates_more [] (server_open (own_open s)) kinds.Open refl (short_is_message each_message (own_open s) short.Open tt);
   };
   loc = λ sp is p. absurd (let f : ◌≡◌ {A = Option Speech} None (Some sp) = sym greets.silent.speech ∙ is in cc);
   told = λ sp is p. absurd (let f : ◌≡◌ {A = Option Speech} None (Some sp) = sym greets.silent.speech ∙ is in cc);
@@ -173,7 +175,7 @@ pub acted_ordered : (act : Act) (long : Bool) (sessions : List Session) (x : Ses
     → Voices act long c sessions v w → slice_get sessions c ≡ Some x → HasHeard x (session_in s c) next.items → Tells act (session_in s c) h.items next.items
     → (act ≡ acts.Say short.Open → ⊥) → next.taken ≡ h.taken → IsOrdered s c h v → IsOrdered s c next w
 acted_ordered acts.None long sessions x s c h next v w b in_order points again only voices read heard tells not taken at =
-    stayed_ordered s c h next v w (points ∙ not_asked b h.points (λ e. let f : ◌≡◌ {A = Act} acts.None acts.Again = only e in cc)) tells taken voices at
+    stayed_ordered s c h next v w (points ∙ not_asked b h.points (λ e. let f : ◌≡◌ {A = Act} acts.None acts.Again = only e in cc)) tells taken (still v w voices) at
 acted_ordered (acts.Say message) long sessions x s c h next v w b in_order points again only voices read heard tells not taken at =
     said_ordered message s c h next v w (points ∙ not_asked b h.points (λ e. let f : ◌≡◌ {A = Act} (acts.Say message) acts.Again = only e in cc))
     (λ e. not (ap (λ (m : Short). acts.Say m) e)) tells taken voices at

@@ -68,10 +68,10 @@ moved_at c octets Is old new s h m outlet ordered at = record {
 
 -- the client is spoken to as before
 offered_says : (s : Configuration) (c : ℕ) (h : Hearing) (own : Bool) (v : View) → SpeaksTo s c h v → SpeaksTo s c (offers own h) v
-offered_says s c h own v at = record { speech = at.speech; quiet = at.quiet; before = at.before; since = at.since; order = at.order }
+offered_says s c h own v at = record { speech = at.speech; quiet = at.quiet; before = at.before; since = at.since; order = at.order; messages = at.messages }
 
 decided_says : (s : Configuration) (c : ℕ) (h : Hearing) (turned : Bool) (due : Prefix → Option (List Attribute)) (v : View) → SpeaksTo s c h v → SpeaksTo s c (decides turned due h) v
-decided_says s c h turned due v at = record { speech = at.speech; quiet = at.quiet; before = at.before; since = at.since; order = at.order }
+decided_says s c h turned due v at = record { speech = at.speech; quiet = at.quiet; before = at.before; since = at.since; order = at.order; messages = at.messages }
 
 still_at : (c : ℕ) (Is : View → View → Type 0) (old new : Core) (s : Configuration) (h : Hearing) → MovesOutlet c Is old new
     → (new.ribs.config ≡ s → (none : View) → SpeaksTo s c h (outlet_in new.ribs c none)) → (new.ribs.config ≡ s → (none : View) → IsOrdered s c (offers true h) (outlet_in new.ribs c none))

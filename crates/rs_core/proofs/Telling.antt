@@ -29,7 +29,7 @@ among_more (x ∷ ms) m = by_test (heads_update (header_of each_message (take 19
   by_test true e = ap (λ l. body_of x ∷ l) e
   by_test false e = e
 
-messages_more : (octets m : List ℕ) (kind : Kind) → rest_of each_message octets ≡ [] → IsMessageOf each_message kind m
+pub messages_more : (octets m : List ℕ) (kind : Kind) → rest_of each_message octets ≡ [] → IsMessageOf each_message kind m
     → (messages_of each_message (octets ++ m) ≡ messages_of each_message octets ++ m ∷ []) × (rest_of each_message (octets ++ m) ≡ [])
 messages_more octets m kind none is =
     let joined = pieces_join each_message octets m in

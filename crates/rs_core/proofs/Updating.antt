@@ -27,6 +27,8 @@ use Rattle.rs_core.specs.Agreeing.{Knows, IsCutShort}
 use Rattle.rs_outlet.specs.Views.{View}
 use Rattle.rs_core.specs.Ribs.{outlet_in}
 use Rattle.rs_core.specs.declared.route_server.Core.{Core}
+use Rattle.rs_core.specs.Conversations.{outgoing_of, own_open}
+use Rattle.rs_core.proofs.Conversing.{acted_converses}
 use Rattle.rs_core.proofs.Voicing.{same_again, same_is, stayed}
 use Rattle.rs_core.proofs.Lists.{set_at}
 use Rattle.rs_core.specs.Points.{Point, asked_if}
@@ -144,7 +146,9 @@ changed old new x t s c h W A m change read lt sessions responds takes held iden
           ∙ ap (λ cs. table_since cs p) (sym grown)
           ∙ sym (up_table s c next now p);
       identifier = identifier ∙ knows.identifier ∙ up_identifier s c h up ∙ ap identifier_by (sym it.tells.agreed) ∙ sym (up_identifier s c next now);
-      outlet = λ is none. stayed s c h next (outlet_in old.ribs c none) (outlet_in new.ribs c none) it.tells refl (same_again _ _ (same_is _ _ (own none))) (knows.outlet (sym config ∙ is) none);
+      outlet = λ is none. stayed s c h next (outlet_in old.ribs c none) (outlet_in new.ribs c none) it.tells refl (same_again _ _ (same_is _ _ (own none)))
+          (acted_converses (Message (heard.Update None)) acts.None (session_in s c) (own_open s) h.items h.taken (outgoing_of (outlet_in old.ribs c none)) (outgoing_of (outlet_in new.ribs c none)) tt it.act_is it.tells
+          (ap outgoing_of (own none)) (knows.outlet (sym config ∙ is) none).messages) (knows.outlet (sym config ∙ is) none);
       ordered = λ is none. stayed_ordered s c h next (outlet_in old.ribs c none) (outlet_in new.ribs c none) (unasked (is_up (state_in s c h)) h.points) it.tells refl (same_is _ _ (own none)) (knows.ordered (sym config ∙ is) none);
     }
 

@@ -46,18 +46,32 @@ use Rattle.rs_core.specs.Turns.{IsMarked, IsDone, IsTurn}
 use Rattle.rs_core.specs.Hearing.{Hearing, session_in, state_in, is_up}
 use Rattle.rs_core.specs.Runs.{speech_by, speech_in}
 use Rattle.rs_core.specs.Telling.{Speaks, each_message, no_table}
-use Rattle.rs_core.specs.Voices.{IsInOrder, SpeaksTo, SaysTheSame, IsGreeting, IsRaised, IsSilent, TellsAgain, TellsTheSame, Voices, speech_within}
+use Rattle.rs_core.specs.Conversations.{Converses, outgoing_of, own_open}
+use Rattle.rs_core.specs.Voices.{IsInOrder, SpeaksTo, SaysTheSame, IsLeftAlone, IsFinished, IsGreeting, IsRaised, IsSilent, TellsAgain, TellsTheSame, Voices, speech_within}
+use Rattle.rs_core.proofs.Conversing.{Moves, IsHeardOrSeen, acted_converses, took_converses, keepalive_converses, note_converses, routine_converses, mode_up}
+use Rattle.rs_core.proofs.Uttering.{agreed_by_speech, all_gone, due_mandatory, limit_most, update_goes_on}
 use Rattle.rs_core.proofs.Telling.{silence_speaks, speaks_on, speaks_same}
 use Rattle.rs_core.proofs.Spoken.{announced_speaks, withdrawn_speaks}
 use Rattle.rs_core.proofs.Mandated.{due_has_mandatory}
 
 -- ---- outlets that say the same
 
-pub same_on : (u v w : View) → SaysTheSame u v → SaysTheSame v w → SaysTheSame u w
-same_on u v w a b = record { is = b.is ∙ ap (λ (x : View). record x { beat = w.beat; touched = w.touched; numbers = w.numbers; last = w.last }) a.is }
+pub alone_on : (u v w : View) → IsLeftAlone u v → IsLeftAlone v w → IsLeftAlone u w
+alone_on u v w a b = record { is = b.is ∙ ap (λ (x : View). record x { touched = w.touched; numbers = w.numbers; last = w.last }) a.is }
+
+pub alone_is : (v w : View) → w ≡ v → IsLeftAlone v w
+alone_is v w e = record { is = e ∙ (λ i. record v { touched = (sym e i).touched; numbers = (sym e i).numbers; last = (sym e i).last }) }
+
+-- who is left alone says the same
+pub still : (v w : View) → IsLeftAlone v w → SaysTheSame v w
+still v w h = record { is = h.is ∙ (λ i. record v { beat = (sym h.is i).beat; touched = w.touched; numbers = w.numbers; last = w.last }) }
 
 pub same_is : (v w : View) → w ≡ v → SaysTheSame v w
-same_is v w e = record { is = e ∙ (λ i. record v { beat = (sym e i).beat; touched = (sym e i).touched; numbers = (sym e i).numbers; last = (sym e i).last }) }
+same_is v w e = still v w (alone_is v w e)
+
+-- and the same is still to be said
+alone_out : (v w : View) → IsLeftAlone v w → outgoing_of w ≡ outgoing_of v
+alone_out v w h = ap outgoing_of h.is
 
 pub in_order : (v w : View) → w.loc ≡ v.loc → w.told ≡ v.told → w.marked ≡ v.marked → w.waits ≡ v.waits → IsInOrder v → IsInOrder w
 in_order v w loc told marked waits o = record {
@@ -92,6 +106,12 @@ nothing_in_order v loc told waits = record {
 none_in : {X : Type 0} (p : Prefix) → fin.get (fin.empty {X = X} {R = prefix_order}) p ≡ None
 none_in p = fin.get-empty prefix_order p
 
+pub bare_out : (c : ℕ) (long : Bool) (last : Last) (v : View) → v ≡ bare c long last → outgoing_of v ≡ record { flight = []; note = None; beat = false }
+bare_out c long last v e = ap outgoing_of e
+
+pub cleared_out : (v w : View) → w ≡ cleared v → outgoing_of w ≡ record { flight = []; note = None; beat = false }
+cleared_out v w e = ap outgoing_of e
+
 pub bare_silent : (c : ℕ) (long : Bool) (last : Last) (v : View) → v ≡ bare c long last → IsSilent v
 bare_silent c long last v e = record {
   speech = ap (λ (x : View). x.speech) e;
@@ -101,8 +121,9 @@ bare_silent c long last v e = record {
 pub cleared_silent : (v w : View) → w ≡ cleared v → IsSilent w
 cleared_silent v w e = bare_silent v.client v.extended v.last w e
 
-pub finished_silent : (said : Option Short) (v w : View) → w ≡ finished said v → IsSilent w
-finished_silent said v w e = record {
+pub ends_so : (said : Option Short) (v w : View) → w ≡ finished said v → IsFinished said v w
+ends_so said v w e = record {
+  out = ap outgoing_of e;
   speech = ap (λ (x : View). x.speech) e;
   order = nothing_in_order w (λ p. ap (λ (x : View). fin.get x.loc p) e ∙ none_in p) (λ p. ap (λ (x : View). fin.get x.told p) e ∙ none_in p) (λ p. ap (λ (x : View). fin.get x.waits p) e ∙ none_in p);
 }
@@ -124,13 +145,16 @@ touched_rest : (ps : List Prefix) (v : View) → touched_with ps v ≡ record v 
 touched_rest [] v = refl
 touched_rest (p ∷ ps) v = touched_rest ps (touched_at p v)
 
-pub touched_same : (ps : List Prefix) (v w : View) → IsTouchedAt ps v w → SaysTheSame v w
-touched_same ps v w h = same_on v (touched_with ps v) w
-    (record { is = touched_rest ps v ∙ (λ i. let x = sym (touched_rest ps v) i in record v { beat = x.beat; touched = (touched_with ps v).touched; numbers = x.numbers; last = x.last }) })
-    (record { is = h.is ∙ (λ i. record (touched_with ps v) { beat = (sym h.is i).beat; touched = (sym h.is i).touched; numbers = w.numbers; last = (sym h.is i).last }) })
+pub touched_alone : (ps : List Prefix) (v w : View) → IsTouchedAt ps v w → IsLeftAlone v w
+touched_alone ps v w h = alone_on v (touched_with ps v) w
+    (record { is = touched_rest ps v ∙ (λ i. let x = sym (touched_rest ps v) i in record v { touched = (touched_with ps v).touched; numbers = x.numbers; last = x.last }) })
+    (record { is = h.is ∙ (λ i. record (touched_with ps v) { touched = (sym h.is i).touched; numbers = w.numbers; last = (sym h.is i).last }) })
+
+pub marked_alone : (ins : AdjIns) (v w : View) → IsMarked ins v w → IsLeftAlone v w
+marked_alone ins v w h = record { is = h.is ∙ (λ i. record v { touched = (sym h.is i).touched; numbers = w.numbers; last = (sym h.is i).last }) }
 
 pub marked_same : (ins : AdjIns) (v w : View) → IsMarked ins v w → SaysTheSame v w
-marked_same ins v w h = record { is = h.is ∙ (λ i. record v { beat = (sym h.is i).beat; touched = (sym h.is i).touched; numbers = w.numbers; last = (sym h.is i).last }) }
+marked_same ins v w h = still v w (marked_alone ins v w h)
 
 -- ---- what was said stays said
 
@@ -154,10 +178,20 @@ spoken_up s c h speech e = up_by (is_up (state_in s c h)) (speech_by s.top.exten
 pub down_speech : (s : Configuration) (c : ℕ) (h : Hearing) → is_up (state_in s c h) ≡ false → speech_in s c h ≡ None
 down_speech s c h e = ap (λ b. if b then speech_by s.top.extended (agreed_of (session_in s c) h.items) else None) e
 
+-- these messages went to it
+abbrev pub IsConversing : Configuration → ℕ → Hearing → View → Type 0
+IsConversing s c h v = Converses (session_in s c) (own_open s) h.items h.taken (outgoing_of v)
+
+-- the same where nothing was heard or taken since, and the same is still to be said
+pub says_still : (s : Configuration) (c : ℕ) (h : Hearing) (v w : View) → outgoing_of w ≡ outgoing_of v → SpeaksTo s c h v → IsConversing s c h w
+says_still s c h v w same at = subst (λ o. Converses (session_in s c) (own_open s) h.items h.taken o) (sym same) at.messages
+
 -- the speech is that of before, and so is what was said in all
 pub voiced_by : (s t : Configuration) (c : ℕ) (h next : Hearing) (v w : View) → speech_in t c next ≡ speech_in s c h → (is_live (state_in t c next) ≡ true → is_live (state_in s c h) ≡ true)
-    → next.taken ++ w.flight ≡ h.taken ++ v.flight → w.speech ≡ v.speech → w.note ≡ v.note → w.told ≡ v.told → IsInOrder w → SpeaksTo s c h v → SpeaksTo t c next w
-voiced_by s t c h next v w speech live octets spoken note told order at = record {
+    → next.taken ++ w.flight ≡ h.taken ++ v.flight → w.speech ≡ v.speech → w.note ≡ v.note → w.told ≡ v.told → IsInOrder w
+    → IsConversing t c next w → SpeaksTo s c h v → SpeaksTo t c next w
+voiced_by s t c h next v w speech live octets spoken note told order messages at = record {
+  messages = messages;
   speech = spoken ∙ at.speech ∙ sym speech;
   quiet = λ l. note ∙ at.quiet (live l);
   before = λ l none mode. subst (λ o. Speaks mode o no_table) (sym octets) (at.before (live l) (sym spoken ∙ none) mode);
@@ -166,22 +200,23 @@ voiced_by s t c h next v w speech live octets spoken note told order at = record
 }
 
 pub voiced_on : (s t : Configuration) (c : ℕ) (h next : Hearing) (v w : View) → speech_in t c next ≡ speech_in s c h → (is_live (state_in t c next) ≡ true → is_live (state_in s c h) ≡ true)
-    → next.taken ≡ h.taken → TellsTheSame v w → SpeaksTo s c h v → SpeaksTo t c next w
-voiced_on s t c h next v w speech live taken same at =
-    voiced_by s t c h next v w speech live (λ i. taken i ++ same.flight i) same.speech same.note same.told (same.order at.order) at
+    → next.taken ≡ h.taken → TellsTheSame v w → IsConversing t c next w → SpeaksTo s c h v → SpeaksTo t c next w
+voiced_on s t c h next v w speech live taken same messages at =
+    voiced_by s t c h next v w speech live (λ i. taken i ++ same.flight i) same.speech same.note same.told (same.order at.order) messages at
 
 -- nothing was heard since
-pub voiced_same : (s : Configuration) (c : ℕ) (h : Hearing) (v w : View) → SaysTheSame v w → SpeaksTo s c h v → SpeaksTo s c h w
-voiced_same s c h v w same at = voiced_on s s c h h v w refl (λ l. l) refl (same_again v w same) at
+pub voiced_same : (s : Configuration) (c : ℕ) (h : Hearing) (v w : View) → IsLeftAlone v w → SpeaksTo s c h v → SpeaksTo s c h w
+voiced_same s c h v w alone at = voiced_on s s c h h v w refl (λ l. l) refl (same_again v w (still v w alone)) (says_still s c h v w (alone_out v w alone) at) at
 
 -- the session is over, or there is none
-pub voiced_over : (s : Configuration) (c : ℕ) (h : Hearing) (v : View) → is_live (state_in s c h) ≡ false → is_up (state_in s c h) ≡ false → IsSilent v → SpeaksTo s c h v
-voiced_over s c h v dead down silent = record {
-  speech = silent.speech ∙ sym (down_speech s c h down);
+pub voiced_over : (s : Configuration) (c : ℕ) (h : Hearing) (v : View) → is_live (state_in s c h) ≡ false → is_up (state_in s c h) ≡ false → v.speech ≡ None → IsInOrder v → IsConversing s c h v → SpeaksTo s c h v
+voiced_over s c h v dead down silent order messages = record {
+  speech = silent ∙ sym (down_speech s c h down);
+  messages = messages;
   quiet = λ l. absurd (let f : true ≡ false = sym l ∙ dead in cc);
   before = λ l none mode. absurd (let f : true ≡ false = sym l ∙ dead in cc);
-  since = λ sp is. absurd (let f : ◌≡◌ {A = Option Speech} None (Some sp) = sym silent.speech ∙ is in cc);
-  order = silent.order;
+  since = λ sp is. absurd (let f : ◌≡◌ {A = Option Speech} None (Some sp) = sym silent ∙ is in cc);
+  order = order;
 }
 
 -- ---- what a session asks for is done
@@ -189,20 +224,20 @@ voiced_over s c h v dead down silent = record {
 stays_speech : (s : Configuration) (c : ℕ) (h next : Hearing) → Stays (session_in s c) h.items next.items → speech_in s c next ≡ speech_in s c h
 stays_speech s c h next stays = λ i. if is_up (stays.state i) then speech_by s.top.extended (stays.agreed i) else None
 
-pub stayed : (s : Configuration) (c : ℕ) (h next : Hearing) (v w : View) → Stays (session_in s c) h.items next.items → next.taken ≡ h.taken → TellsTheSame v w → SpeaksTo s c h v → SpeaksTo s c next w
-stayed s c h next v w stays taken same at = voiced_on s s c h next v w (stays_speech s c h next stays) (λ l. ap is_live (sym stays.state) ∙ l) taken same at
+pub stayed : (s : Configuration) (c : ℕ) (h next : Hearing) (v w : View) → Stays (session_in s c) h.items next.items → next.taken ≡ h.taken → TellsTheSame v w → IsConversing s c next w → SpeaksTo s c h v → SpeaksTo s c next w
+stayed s c h next v w stays taken same messages at = voiced_on s s c h next v w (stays_speech s c h next stays) (λ l. ap is_live (sym stays.state) ∙ l) taken same messages at
 
 both_down : (s : Configuration) (c : ℕ) (h next : Hearing) → is_up (state_in s c h) ≡ false → is_up (state_in s c next) ≡ false → speech_in s c next ≡ speech_in s c h
 both_down s c h next before now = down_speech s c next now ∙ sym (down_speech s c h before)
 
 said_voice : (message : Short) (s : Configuration) (c : ℕ) (h next : Hearing) (v w : View) → (message ≡ short.Open → ⊥) → Says message (session_in s c) h.items next.items
-    → next.taken ≡ h.taken → SaysTheSame v w → SpeaksTo s c h v → SpeaksTo s c next w
-said_voice short.Open s c h next v w not tells taken same at = absurd (not refl)
-said_voice short.Keepalive s c h next v w not tells taken same at = elim tells [
-  | inl confirms ↦ voiced_on s s c h next v w (both_down s c h next (ap is_up confirms.before) (ap is_up confirms.now)) (λ l. ap is_live confirms.before) taken (same_again v w same) at
-  | inr beats ↦ stayed s c h next v w beats.same taken (same_again v w same) at
+    → next.taken ≡ h.taken → SaysTheSame v w → IsConversing s c next w → SpeaksTo s c h v → SpeaksTo s c next w
+said_voice short.Open s c h next v w not tells taken same messages at = absurd (not refl)
+said_voice short.Keepalive s c h next v w not tells taken same messages at = elim tells [
+  | inl confirms ↦ voiced_on s s c h next v w (both_down s c h next (ap is_up confirms.before) (ap is_up confirms.now)) (λ l. ap is_live confirms.before) taken (same_again v w same) messages at
+  | inr beats ↦ stayed s c h next v w beats.same taken (same_again v w same) messages at
 ]
-said_voice (short.Note code sub extra count) s c h next v w not tells taken same at = absurd tells
+said_voice (short.Note code sub extra count) s c h next v w not tells taken same messages at = absurd tells
 
 -- where there is no room, no long messages were agreed on
 room_said : (long extended : Bool) (sent : Open) → long ≡ extended
@@ -213,8 +248,8 @@ room_said true false sent e = absurd (let f : true ≡ false = e in cc)
 room_said false true sent e = absurd (let f : false ≡ true = e in cc)
 
 raised_voice : (s : Configuration) (c : ℕ) (h next : Hearing) (v w : View) (long : Bool) → long ≡ s.top.extended → ComesUp (session_in s c) h.items next.items
-    → IsRaised (speech_within long (session_in s c) (agreed_of (session_in s c) next.items)) v w → next.taken ≡ h.taken → SpeaksTo s c h v → SpeaksTo s c next w
-raised_voice s c h next v w long room tells raised taken at =
+    → IsRaised (speech_within long (session_in s c) (agreed_of (session_in s c) next.items)) v w → next.taken ≡ h.taken → IsConversing s c next w → SpeaksTo s c h v → SpeaksTo s c next w
+raised_voice s c h next v w long room tells raised taken messages at =
     let was_live : is_live (state_in s c h) ≡ true = ap is_live tells.before in
     let was_none : v.speech ≡ None = at.speech ∙ down_speech s c h (ap is_up tells.before) in
     let agreed : w.speech ≡ speech_by s.top.extended (Some tells.sent) = raised.speech ∙ ap (speech_within long (session_in s c)) tells.agreed ∙ room_said long s.top.extended tells.sent room in
@@ -225,15 +260,35 @@ raised_voice s c h next v w long room tells raised taken at =
       since = λ sp is. speaks_same sp.mode (next.taken ++ w.flight) no_table (fin.get w.told) raised.told
           (subst (λ o. Speaks sp.mode o no_table) (λ i. sym taken i ++ sym raised.flight i) (at.before was_live was_none sp.mode));
       order = raised.order;
+      messages = messages;
     }
 
-pub acted_voice : (act : Act) (long : Bool) (s : Configuration) → long ≡ s.top.extended → (sessions : List Session) (x : Session) (c : ℕ) (h next : Hearing) (v w : View) → Voices act long c sessions v w → slice_get sessions c ≡ Some x
-    → HasHeard x (session_in s c) next.items → Tells act (session_in s c) h.items next.items → (act ≡ acts.Say short.Open → ⊥) → next.taken ≡ h.taken → SpeaksTo s c h v → SpeaksTo s c next w
-acted_voice acts.None long s room sessions x c h next v w voices read heard tells not taken at = stayed s c h next v w tells taken (same_again v w voices) at
-acted_voice (acts.Say message) long s room sessions x c h next v w voices read heard tells not taken at = said_voice message s c h next v w (λ e. not (ap (λ (m : Short). acts.Say m) e)) tells taken voices at
-acted_voice acts.Up long s room sessions x c h next v w voices read heard tells not taken at = raised_voice s c h next v w long room tells (voices x read (session_in s c) next.items heard tells.now) taken at
-acted_voice (acts.Down _) long s room sessions x c h next v w voices read heard tells not taken at = voiced_over s c next w (ap is_live tells.now) (ap is_up tells.now) voices
-acted_voice acts.Again long s room sessions x c h next v w voices read heard tells not taken at = stayed s c h next v w tells.same taken (again_same v w voices) at
+-- what is still to be said then
+voices_move : (act : Act) (long : Bool) (sessions : List Session) (x : Session) (settings : Settings) (c : ℕ) (old new : List Item) (v w : View) → Voices act long c sessions v w → slice_get sessions c ≡ Some x
+    → HasHeard x settings new → Tells act settings old new → Moves act (outgoing_of v) (outgoing_of w)
+voices_move acts.None long sessions x settings c old new v w voices read heard tells = alone_out v w voices
+voices_move (acts.Say message) long sessions x settings c old new v w voices read heard tells = (ap (λ (x : View). x.flight) voices.is, ap (λ (x : View). x.note) voices.is)
+voices_move acts.Up long sessions x settings c old new v w voices read heard tells = let raised = voices x read settings new heard tells.now in (raised.flight, raised.note)
+voices_move (acts.Down ending) long sessions x settings c old new v w voices read heard tells = voices.out
+voices_move acts.Again long sessions x settings c old new v w voices read heard tells = (voices.flight, voices.note)
+
+acted_by : (act : Act) (long : Bool) (s : Configuration) → long ≡ s.top.extended → (sessions : List Session) (x : Session) (c : ℕ) (h next : Hearing) (v w : View) → Voices act long c sessions v w → slice_get sessions c ≡ Some x
+    → HasHeard x (session_in s c) next.items → Tells act (session_in s c) h.items next.items → (act ≡ acts.Say short.Open → ⊥) → next.taken ≡ h.taken → IsConversing s c next w → SpeaksTo s c h v → SpeaksTo s c next w
+acted_by acts.None long s room sessions x c h next v w voices read heard tells not taken messages at = stayed s c h next v w tells taken (same_again v w (still v w voices)) messages at
+acted_by (acts.Say message) long s room sessions x c h next v w voices read heard tells not taken messages at = said_voice message s c h next v w (λ e. not (ap (λ (m : Short). acts.Say m) e)) tells taken voices messages at
+acted_by acts.Up long s room sessions x c h next v w voices read heard tells not taken messages at =
+    raised_voice s c h next v w long room tells (voices x read (session_in s c) next.items heard tells.now) taken messages at
+acted_by (acts.Down ending) long s room sessions x c h next v w voices read heard tells not taken messages at = voiced_over s c next w (ap is_live tells.now) (ap is_up tells.now) voices.speech voices.order messages
+acted_by acts.Again long s room sessions x c h next v w voices read heard tells not taken messages at = stayed s c h next v w tells.same taken (again_same v w voices) messages at
+
+pub acted_voice : (item : Item) (act : Act) (long : Bool) (s : Configuration) → long ≡ s.top.extended → (sessions : List Session) (x : Session) (c : ℕ) (h next : Hearing) (v w : View) → IsHeardOrSeen item
+    → act ≡ act_of (session_in s c) item h.items → next.items ≡ item ∷ h.items → Voices act long c sessions v w → slice_get sessions c ≡ Some x → HasHeard x (session_in s c) next.items
+    → Tells act (session_in s c) h.items next.items → (act ≡ acts.Say short.Open → ⊥) → next.taken ≡ h.taken → SpeaksTo s c h v → SpeaksTo s c next w
+acted_voice item act long s room sessions x c h next v w is act_is items voices read heard tells not taken at =
+    acted_by act long s room sessions x c h next v w voices read heard tells not taken
+    (subst (λ l. Converses (session_in s c) (own_open s) l next.taken (outgoing_of w)) (sym items) (subst (λ o. Converses (session_in s c) (own_open s) (item ∷ h.items) o (outgoing_of w)) (sym taken)
+    (acted_converses item act (session_in s c) (own_open s) h.items h.taken (outgoing_of v) (outgoing_of w) is act_is (subst (λ l. Tells act (session_in s c) h.items l) items tells)
+    (voices_move act long sessions x (session_in s c) c h.items next.items v w voices read heard tells) at.messages))) at
 
 -- no message and no moment asks for an OPEN of ours
 
@@ -263,12 +318,13 @@ never_open_by_moment settings t items e = moment_open (is_live (state_of setting
 -- ---- a connection came
 
 -- the server's OPEN is all that is said
-pub greeted : (s : Configuration) (c : ℕ) (h : Hearing) (v : View) → IsGreeting v → h.taken ≡ [] → is_up (state_in s c h) ≡ false → SpeaksTo s c h v
-greeted s c h v greets none down = record {
+pub greeted : (s : Configuration) (c : ℕ) (h : Hearing) (v : View) → IsGreeting (own_open s) v → h.taken ≡ [] → is_up (state_in s c h) ≡ false → IsConversing s c h v → SpeaksTo s c h v
+greeted s c h v greets none down messages = record {
+  messages = messages;
   speech = greets.silent.speech ∙ sym (down_speech s c h down);
   quiet = λ l. greets.note;
   before = λ l silent mode. subst (λ o. Speaks mode o no_table) (λ i. sym none i ++ sym greets.flight i)
-      (speaks_on mode [] (server_open greets.said) kinds.Open no_table refl (short_is_message each_message greets.said short.Open tt) (silence_speaks mode));
+      (speaks_on mode [] (server_open (own_open s)) kinds.Open no_table refl (short_is_message each_message (own_open s) short.Open tt) (silence_speaks mode));
   since = λ sp is. absurd (let f : ◌≡◌ {A = Option Speech} None (Some sp) = sym greets.silent.speech ∙ is in cc);
   order = greets.silent.order;
 }
@@ -282,14 +338,17 @@ took_voice s c n h next v w e items taken at =
     (λ l. ap (λ k. is_live (state_of (session_in s c) k)) (sym items) ∙ l)
     ((λ i. taken i ++ (e i).flight) ∙ append_assoc h.taken (take n v.flight) (drop n v.flight) ∙ ap (λ l. h.taken ++ l) (take-append-drop n v.flight))
     (ap (λ (x : View). x.speech) e) (ap (λ (x : View). x.note) e) (ap (λ (x : View). x.told) e)
-    (in_order v w (ap (λ (x : View). x.loc) e) (ap (λ (x : View). x.told) e) (ap (λ (x : View). x.marked) e) (ap (λ (x : View). x.waits) e) at.order) at
+    (in_order v w (ap (λ (x : View). x.loc) e) (ap (λ (x : View). x.told) e) (ap (λ (x : View). x.marked) e) (ap (λ (x : View). x.waits) e) at.order)
+    (subst (λ l. Converses (session_in s c) (own_open s) l next.taken (outgoing_of w)) (sym items) (subst (λ o. Converses (session_in s c) (own_open s) h.items o (outgoing_of w)) (sym taken)
+    (took_converses n (session_in s c) (own_open s) h.items h.taken (outgoing_of v) (outgoing_of w) (ap outgoing_of e) at.messages))) at
 
 -- another message in place of none
 said_next : (s : Configuration) (c : ℕ) (h : Hearing) (v w : View) → v.flight ≡ [] → v.note ≡ None → w.note ≡ None → w.speech ≡ v.speech → IsInOrder w
     → ((mode : Mode) → v.speech ≡ None → Speaks mode h.taken no_table → Speaks mode (h.taken ++ w.flight) no_table)
     → ((speech : Speech) → v.speech ≡ Some speech → Speaks speech.mode h.taken (fin.get v.told) → Speaks speech.mode (h.taken ++ w.flight) (fin.get w.told))
-    → SpeaksTo s c h v → SpeaksTo s c h w
-said_next s c h v w empty quiet note speech order down up at = record {
+    → IsConversing s c h w → SpeaksTo s c h v → SpeaksTo s c h w
+said_next s c h v w empty quiet note speech order down up messages at = record {
+  messages = messages;
   speech = speech ∙ at.speech;
   quiet = λ l. note;
   before = λ l none mode. down mode (sym speech ∙ none) (subst (λ o. Speaks mode o no_table) bare_octets (at.before l (sym speech ∙ none) mode));
@@ -300,8 +359,9 @@ said_next s c h v w empty quiet note speech order down up at = record {
   bare_octets = ap (λ l. h.taken ++ l) empty ∙ append-nil h.taken
 
 -- a NOTIFICATION waits only behind the end of a session
-noted : (s : Configuration) (c : ℕ) (h : Hearing) (v w : View) (note : Short) → v.note ≡ Some note → w.speech ≡ v.speech → IsInOrder w → SpeaksTo s c h v → SpeaksTo s c h w
-noted s c h v w note waits speech order at = record {
+noted : (s : Configuration) (c : ℕ) (h : Hearing) (v w : View) (note : Short) → v.note ≡ Some note → w.speech ≡ v.speech → IsInOrder w → IsConversing s c h w → SpeaksTo s c h v → SpeaksTo s c h w
+noted s c h v w note waits speech order messages at = record {
+  messages = messages;
   speech = speech ∙ at.speech;
   quiet = λ l. absurd (over l);
   before = λ l none mode. absurd (over l);
@@ -310,27 +370,6 @@ noted s c h v w note waits speech order at = record {
 } where
   over : is_live (state_in s c h) ≡ true → ⊥
   over l = let f : ◌≡◌ {A = Option Short} None (Some note) = sym (at.quiet l) ∙ waits in cc
-
-pub limit_most : (limit : Limit) → limit_octets limit ≤ 65535
-limit_most limits.Short = omega arith
-limit_most limits.Long = omega arith
-
-gone_by : (loc told : Option (List Attribute)) (marked : Bool) → waits_at loc told marked ≡ Some true → loc ≡ None
-gone_by None told marked e = refl
-gone_by (Some m) None marked e = absurd (let f : ◌≡◌ {A = Option Bool} (Some false) (Some true) = e in cc)
-gone_by (Some m) (Some n) marked e = by_test (same_attributes m n && not marked) e where
-  by_test : (b : Bool) → (if b then None else Some false) ≡ Some true → ◌≡◌ {A = Option (List Attribute)} (Some m) None
-  by_test true e = absurd (let f : ◌≡◌ {A = Option Bool} None (Some true) = e in cc)
-  by_test false e = absurd (let f : ◌≡◌ {A = Option Bool} (Some false) (Some true) = e in cc)
-
--- nothing is due where a prefix waits to be withdrawn
-pub all_gone : (v : View) (ps : List Prefix) → WaitsAreExact v → AllByRecursion (λ p. fin.get v.waits p ≡ Some true) ps → AllByRecursion (λ p. fin.get v.loc p ≡ None) ps
-all_gone v [] exact h = tt
-all_gone v (p ∷ ps) exact h = (gone_by (fin.get v.loc p) (fin.get v.told p) (set.contains v.marked p) (sym (exact p) ∙ h.0), all_gone v ps exact h.1)
-
-pub due_mandatory : (v : View) (ps : List Prefix) (m : List Attribute) → IsInOrder v → 0 < length ps → AllByRecursion (λ p. fin.get v.loc p ≡ Some m) ps → lacks_mandatory m ≡ false
-due_mandatory v [] m order some h = absurd (omega (arith, some))
-due_mandatory v (p ∷ ps) m order some h = order.mandatory p m h.0
 
 update_voice : (speech : Speech) (v w : View) (ins : AdjIns) (octets : List ℕ) → AreNumbered v ins → IsInOrder v → BeginsUpdate speech v w → Speaks speech.mode octets (fin.get v.told) → Speaks speech.mode (octets ++ w.flight) (fin.get w.told)
 update_voice speech v w ins octets numbered order (inl rests) s =
@@ -364,25 +403,31 @@ begun_voice s c h ins v w numbered b at = by_flight v.flight refl where
   rest_speech = ap (λ (x : View). x.speech) b.rest
 
   by_speech : (o : Option Speech) → v.flight ≡ [] → v.note ≡ None → v.beat ≡ false → v.speech ≡ o → SpeaksTo s c h w
-  by_speech None empty quiet beat e = voiced_same s c h v w (same_is v w (b.down empty quiet beat e)) at
+  by_speech None empty quiet beat e = voiced_same s c h v w (alone_is v w (b.down empty quiet beat e)) at
   by_speech (Some speech) empty quiet beat e = said_next s c h v w empty quiet (b.update empty quiet beat).0 rest_speech rest_order
       (λ mode none before. absurd (let f : ◌≡◌ {A = Option Speech} None (Some speech) = sym none ∙ e in cc))
-      (λ sp is since. update_voice sp v w ins h.taken numbered at.order (b.begins sp empty quiet beat is) since) at
+      (λ sp is since. update_voice sp v w ins h.taken numbered at.order (b.begins sp empty quiet beat is) since)
+      (let up = spoken_up s c h speech (sym at.speech ∙ e) in
+      routine_converses speech.mode (session_in s c) (own_open s) h.items h.taken (outgoing_of v) (outgoing_of w) (up_live s c h up)
+      (mode_up (session_in s c) h.items up ∙ agreed_by_speech s c h speech up (sym at.speech ∙ e)) empty (b.update empty quiet beat).0
+      (update_goes_on (own_open s) speech v w ins h.taken numbered at.order (b.begins speech empty quiet beat e)) at.messages) at
 
   by_beat : (d : Bool) → v.flight ≡ [] → v.note ≡ None → v.beat ≡ d → SpeaksTo s c h w
   by_beat true empty quiet e = let is = b.keepalive empty quiet e in said_next s c h v w empty quiet (ap (λ (x : View). x.note) is ∙ quiet) rest_speech rest_order
       (λ mode none before. subst (λ f. Speaks mode (h.taken ++ f) no_table) (sym (ap (λ (x : View). x.flight) is)) (beats mode h.taken no_table before))
       (λ sp up since. subst (λ f. Speaks sp.mode (h.taken ++ f) (fin.get w.told)) (sym (ap (λ (x : View). x.flight) is))
-      (beats sp.mode h.taken (fin.get w.told) (subst (λ t. Speaks sp.mode h.taken (fin.get t)) (sym (ap (λ (x : View). x.told) is)) since))) at
+      (beats sp.mode h.taken (fin.get w.told) (subst (λ t. Speaks sp.mode h.taken (fin.get t)) (sym (ap (λ (x : View). x.told) is)) since)))
+      (keepalive_converses (session_in s c) (own_open s) h.items h.taken (outgoing_of v) (outgoing_of w) empty quiet e (ap outgoing_of is) at.messages) at
   by_beat false empty quiet e = by_speech v.speech empty quiet e refl
 
   by_note : (o : Option Short) → v.flight ≡ [] → v.note ≡ o → SpeaksTo s c h w
   by_note None empty e = by_beat v.beat empty e refl
-  by_note (Some note) empty e = noted s c h v w note e rest_speech rest_order at
+  by_note (Some note) empty e = noted s c h v w note e rest_speech rest_order
+      (note_converses note (session_in s c) (own_open s) h.items h.taken (outgoing_of v) (outgoing_of w) empty e (ap outgoing_of (b.note note empty e)) at.messages) at
 
   by_flight : (f : List ℕ) → v.flight ≡ f → SpeaksTo s c h w
   by_flight [] e = by_note v.note e refl
-  by_flight (x ∷ xs) e = voiced_same s c h v w (same_is v w (b.kept (λ empty. let f : ◌≡◌ {A = List ℕ} (x ∷ xs) [] = sym e ∙ empty in cc))) at
+  by_flight (x ∷ xs) e = voiced_same s c h v w (alone_is v w (b.kept (λ empty. let f : ◌≡◌ {A = List ℕ} (x ∷ xs) [] = sym e ∙ empty in cc))) at
 
 -- ---- a turn
 
@@ -390,7 +435,7 @@ done_voice : (s : Configuration) (c : ℕ) (h : Hearing) (config : Configuration
 done_voice s c h config ins v w numbered done at =
     let turned = done.decided numbered in
     voiced_by s s c h h v w refl (λ l. l) (ap (λ (x : View). h.taken ++ x.flight) done.rest) (ap (λ (x : View). x.speech) done.rest) (ap (λ (x : View). x.note) done.rest) turned.told
-    (record { mandatory = λ p m e. by_speech v.speech refl p m e; exact = done.exact numbered at.order.exact }) at where
+    (record { mandatory = λ p m e. by_speech v.speech refl p m e; exact = done.exact numbered at.order.exact }) (says_still s c h v w (ap outgoing_of done.rest) at) at where
       by_speech : (o : Option Speech) → v.speech ≡ o → (p : Prefix) (m : List Attribute) → fin.get w.loc p ≡ Some m → lacks_mandatory m ≡ false
       by_speech None none p m e = at.order.mandatory p m (ap (λ (x : View). fin.get x.loc p) (sym ((done.decided numbered).down none).1) ∙ e)
       by_speech (Some speech) up p m e = by_touch (is_touched v.touched p) refl where
@@ -404,7 +449,7 @@ done_voice s c h config ins v w numbered done at =
 pub turned_voice : (s : Configuration) (c : ℕ) (h : Hearing) (config : Configuration) (ins : AdjIns) (v w : View) → AreNumbered v ins → IsTurn config ins v w → SpeaksTo s c h v → SpeaksTo s c h w
 turned_voice s c h config ins v w numbered (inl done) at = done_voice s c h config ins v w numbered done at
 turned_voice s c h config ins v w numbered (inr refused) at =
-    voiced_same s c h v w (record { is = refused ∙ (λ i. record v { beat = (sym refused i).beat; touched = (sym refused i).touched; numbers = (sym refused i).numbers; last = (sym refused i).last }) }) at
+    voiced_same s c h v w (record { is = refused ∙ (λ i. record v { touched = (sym refused i).touched; numbers = (sym refused i).numbers; last = (sym refused i).last }) }) at
 
 -- ---- coming up
 
@@ -414,9 +459,8 @@ raised_is None long settings mode limit m l = absurd (let f : ◌≡◌ {A = Opt
 raised_is (Some sent) long settings mode limit m l = let same : mode ≡ mode_in sent.four = cc in λ i. Some (record { mode = same i; limit = if long then l i else limits.Short })
 
 -- all was emptied, and then an OPEN put in
-pub greets : (said : ServerOpen) (u v w : View) → v ≡ cleared u → w ≡ record v { flight = server_open said } → IsGreeting w
+pub greets : (said : ServerOpen) (u v w : View) → v ≡ cleared u → w ≡ record v { flight = server_open said } → IsGreeting said w
 greets said u v w e f = let was = cleared_silent u v e in record {
-  said = said;
   flight = ap (λ (x : View). x.flight) f;
   note = ap (λ (x : View). x.note) f ∙ ap (λ (x : View). x.note) e;
   silent = record {

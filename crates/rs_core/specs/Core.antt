@@ -6,6 +6,7 @@ use Rattle.rs_attrs.specs.Meaning.{Attribute}
 use Rattle.rs_outlet.specs.declared.answers.Last.{Last}
 use Rattle.rs_outlet.specs.declared.answers.Last.TheVariants as lasts
 use Rattle.rs_outlet.specs.Views.{View}
+use Rattle.rs_core.specs.Conversations.{Outgoing, outgoing_of}
 use Rattle.rs_core.specs.Owing.{owed_by, is_decided_for}
 use Rattle.rs_core.specs.Ribs.{lent_by}
 use Rattle.rs_core.specs.Turns.{refused_in}
@@ -17,6 +18,14 @@ client_count core = core.count
 -- what is left of the message in flight to a client
 unfoldable pub lent_octets : Core → ℕ → List ℕ
 lent_octets core c = lent_by core.ribs c
+
+abbrev pub outgoing_in : Option View → Outgoing
+outgoing_in None = record { flight = []; note = None; beat = false }
+outgoing_in (Some o) = outgoing_of o
+
+-- what is still to be said to a client
+unfoldable pub outgoing : Core → ℕ → Outgoing
+outgoing core c = outgoing_in (slice_get core.ribs.outlets.items c)
 
 abbrev pub loc_in : Option View → Prefix → Option (List Attribute)
 loc_in None p = None

@@ -11,6 +11,7 @@ pub mod Hearing
 pub mod Telling
 pub mod Runs
 pub mod Orders
+pub mod Conversations
 pub mod Voices
 pub mod Agreeing
 pub mod Paying
@@ -19,3 +20,4 @@ pub mod Courses
 pub mod Answers
 pub mod Serving
 pub mod InTurn
+pub mod Conversed

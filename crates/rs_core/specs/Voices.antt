@@ -19,10 +19,12 @@ use Rattle.rs_session.specs.Sessions.{state_of, is_live, agreed_of, limit_by, mo
 use Rattle.rs_session.specs.Hearing.{Whenever}
 use Rattle.rs_policy.specs.Configuration.{Configuration}
 use Rattle.rs_outlet.specs.declared.answers.Speech.{Speech}
-use Rattle.rs_outlet.specs.Views.{View, WaitsAreExact}
-use Rattle.rs_core.specs.Hearing.{Hearing, state_in}
+use Rattle.rs_open.specs.declared.short.Short.{Short}
+use Rattle.rs_outlet.specs.Views.{View, WaitsAreExact, flight_after}
+use Rattle.rs_core.specs.Hearing.{Hearing, session_in, state_in}
 use Rattle.rs_core.specs.Runs.{speech_in}
 use Rattle.rs_core.specs.Telling.{Speaks, no_table}
+use Rattle.rs_core.specs.Conversations.{Converses, outgoing_of, own_open}
 use Rattle.rs_core.specs.Ribs.{outlet_in}
 use Rattle.rs_core.specs.declared.ribs.Ribs.{Ribs}
 
@@ -39,12 +41,17 @@ pub record SpeaksTo (s : Configuration) (c : ℕ) (h : Hearing) (v : View) : Typ
   pub before : is_live (state_in s c h) ≡ true → v.speech ≡ None → (mode : Mode) → Speaks mode (h.taken ++ v.flight) no_table
   pub since : (speech : Speech) → v.speech ≡ Some speech → Speaks speech.mode (h.taken ++ v.flight) (fin.get v.told)
   pub order : IsInOrder v
+  pub messages : Converses (session_in s c) (own_open s) h.items h.taken (outgoing_of v)
 
 -- ---- how an outlet changes
 
 -- a KEEPALIVE fell due, prefixes were touched, or a turn was refused
 pub record SaysTheSame (v w : View) : Type 0 where
   pub is : w ≡ record v { beat = w.beat; touched = w.touched; numbers = w.numbers; last = w.last }
+
+-- prefixes were touched, or a turn was refused
+pub record IsLeftAlone (v w : View) : Type 0 where
+  pub is : w ≡ record v { touched = w.touched; numbers = w.numbers; last = w.last }
 
 -- what a client was told goes, and it is spoken to like this
 pub record IsRaised (agreed : Option Speech) (v w : View) : Type 0 where
@@ -60,6 +67,12 @@ pub record IsRaised (agreed : Option Speech) (v w : View) : Type 0 where
 pub record IsSilent (v : View) : Type 0 where
   pub speech : v.speech ≡ None
   pub order : IsInOrder v
+
+-- the session has ended, with this NOTIFICATION or with none
+pub record IsFinished (note : Option Short) (v w : View) : Type 0 where
+  pub speech : w.speech ≡ None
+  pub order : IsInOrder w
+  pub out : outgoing_of w ≡ record { flight = flight_after note v.flight; note = note; beat = false }
 
 -- what was told stays
 pub record TellsTheSame (v w : View) : Type 0 where
@@ -80,16 +93,15 @@ pub record TellsAgain (v w : View) : Type 0 where
   pub marked : (p : Prefix) → set.contains w.marked p ≡ fin.contains_key v.told p
   pub order : IsInOrder v → IsInOrder w
 
--- the server's OPEN is in flight, and nothing else
-pub record IsGreeting (v : View) : Type 0 where
-  pub said : ServerOpen
+-- this OPEN is in flight, and nothing else
+pub record IsGreeting (said : ServerOpen) (v : View) : Type 0 where
   pub flight : v.flight ≡ server_open said
   pub note : v.note ≡ None
   pub silent : IsSilent v
 
--- the outlets of the others say the same
+-- the outlets of the others are left alone
 abbrev pub KeepsVoices : ℕ → Ribs → Ribs → Type 0
-KeepsVoices c old new = (d : ℕ) (none : View) → d < old.count → d ≢ c → SaysTheSame (outlet_in old d none) (outlet_in new d none)
+KeepsVoices c old new = (d : ℕ) (none : View) → d < old.count → d ≢ c → IsLeftAlone (outlet_in old d none) (outlet_in new d none)
 
 -- and so does its own
 pub record TouchesOthers (c : ℕ) (old new : Ribs) : Type 0 where
@@ -103,10 +115,10 @@ speech_within long settings (Some sent) = Some (record { mode = mode_in sent.fou
 
 -- what is done to the outlet of a client as its session asks for it
 abbrev pub Voices : Act → Bool → ℕ → List Session → View → View → Type 0
-Voices acts.None long c sessions v w = SaysTheSame v w
+Voices acts.None long c sessions v w = IsLeftAlone v w
 Voices (acts.Say message) long c sessions v w = SaysTheSame v w
 Voices acts.Up long c sessions v w =
     (x : Session) → slice_get sessions c ≡ Some x
     → Whenever x (λ settings items. state_of settings items ≡ states.Established → IsRaised (speech_within long settings (agreed_of settings items)) v w)
-Voices (acts.Down _) long c sessions v w = IsSilent w
+Voices (acts.Down note) long c sessions v w = IsFinished note v w
 Voices acts.Again long c sessions v w = TellsAgain v w

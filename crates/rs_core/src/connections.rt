@@ -9,7 +9,9 @@ use rs_policy::Config;
 use rs_session::{Busy, State};
 
 /// What the server's OPEN says.
-fn server_open(config: &Config) -> ServerOpen {
+fn server_open(config: &Config) -> ServerOpen
+    ensures { result ≡ own_open config.now }
+{
     ServerOpen {
         server_as: config.server_as(),
         hold: config.hold(),
@@ -29,6 +31,7 @@ ghost use Rattle.rs_core.specs.Runs.{hearing};
 ghost use Rattle.rs_core.specs.Agreeing.{Agrees, AgreesAt, Knows, IsCutShort, Spares};
 ghost use Rattle.rs_outlet.specs.Views.{View};
 ghost use Rattle.rs_core.specs.Ribs.{outlet_in};
+ghost use Rattle.rs_core.specs.Conversations.{own_open};
 ghost use Rattle.rs_core.specs.Voices.{IsGreeting, KeepsVoices};
 ghost use Rattle.rs_policy.specs.Configuration.{Configuration};
 
@@ -43,7 +46,8 @@ fn lasts(state: State) -> bool
 }
 
 impl Core {
-    ghost use Rattle.rs_core.specs.Core.{client_count};
+    ghost use Rattle.rs_core.specs.Core.{client_count, lent_octets};
+    ghost use Rattle.rs_open.specs.Writing.{server_open};
 
     /// A connection of a client has come: the server's OPEN is in flight. Where the client has a
     /// connection already, nothing changes.
@@ -52,6 +56,7 @@ impl Core {
         ensures count { client_count self.new ≡ client_count self.old }
         ensures came { OnOk result ((run : List Move) → Agrees self.old run → Agrees self.new (Came c ∷ run)) }
         ensures idle { OnOk result ((run : List Move) → Agrees self.old run → state_in (config_in run) c (hearing c run) ≡ State.Idle) }
+        ensures greets { OnOk result ((run : List Move) → Agrees self.old run → lent_octets self.new c ≡ server_open (own_open (config_in run))) }
         ensures unchanged { OnErr result ((run : List Move) → Agrees self.old run → Agrees self.new run) }
         ensures busy { OnErr result ((run : List Move) → Agrees self.old run → state_in (config_in run) c (hearing c run) ≢ State.Idle) }
     {
@@ -74,7 +79,7 @@ impl Core {
         ensures emptied { (x : Vec ℕ) → slice_get self.new.buffers.items c ≡ Some x → x.items ≡ [] }
         ensures others { (d : ℕ) → d ≢ c → slice_get self.new.buffers.items d ≡ slice_get self.old.buffers.items d }
         ensures voices { KeepsVoices c self.old.ribs self.new.ribs }
-        ensures own { (none : View) → IsGreeting (outlet_in self.new.ribs c none) }
+        ensures own { (none : View) → IsGreeting (own_open self.old.ribs.config) (outlet_in self.new.ribs c none) }
     {
         let said = server_open(&self.ribs.config);
         self.pass_over(c);

@@ -1,6 +1,7 @@
 //! Laws of what a route server does over a run, and together with its link.
 
 ghost use Rattle.rs_core.specs.InTurn.{HasWhatWasDue, TellsInTurn};
+ghost use Rattle.rs_core.specs.Conversed.{SendsInOrder};
 ghost use Rattle.rs_core.specs.Paying.{SendsAllOwed};
 ghost use Rattle.rs_core.specs.Serving.{ServesByOffers};
 
@@ -24,6 +25,15 @@ pub fn loc_rib_is_what_was_due()
 #[tactic(auto, using(crate::proofs::InTurn::tells_in_turn))]
 pub fn clients_are_told_in_turn()
     ensures { TellsInTurn }
+{}
+
+/// At each point of each run what the link of a client took since its connection came, and what is in
+/// flight to it, is a conversation: the server's OPEN, then KEEPALIVEs and, once it is Established,
+/// UPDATEs with which nothing is wrong, then at most the NOTIFICATION that the end of its session asks
+/// for, which waits until it begins. They are whole messages, but where a NOTIFICATION was heard: then
+/// what was in flight is dropped, and nothing follows.
+pub fn messages_go_in_order()
+    ensures { SendsInOrder }
 {}
 
 /// Where a turn has decided all for a client that is Established, what is owed to it then is enough: with

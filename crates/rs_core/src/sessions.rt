@@ -18,7 +18,7 @@ impl Core {
     ghost use Rattle.rs_core.specs.Agreeing.{Knows, Spares};
     ghost use Rattle.rs_outlet.specs.Views.{View};
     ghost use Rattle.rs_core.specs.Ribs.{outlet_in};
-    ghost use Rattle.rs_core.specs.Voices.{IsSilent, KeepsVoices, Voices};
+    ghost use Rattle.rs_core.specs.Voices.{IsFinished, KeepsVoices, Voices};
     ghost use Rattle.rs_core.specs.Steps.{CutsShort, Follows, Hears, IsSpared, ActsOn};
 
     /// Hears a whole message.
@@ -142,7 +142,7 @@ impl Core {
         ensures config { self.new.ribs.config ≡ self.old.ribs.config }
         ensures held { Begins self.old.ribs.tables self.new.ribs.tables c 0 }
         ensures voices { KeepsVoices c self.old.ribs self.new.ribs }
-        ensures own { (none : View) → IsSilent (outlet_in self.new.ribs c none) }
+        ensures own { (none : View) → IsFinished note (outlet_in self.old.ribs c none) (outlet_in self.new.ribs c none) }
     {
         self.watched[c].ending = Some(ending);
         self.ribs.unlearn(c);

@@ -2,7 +2,8 @@ use Rattle.std.proofs.Common.{◌<◌, sym, ◌∙◌, subst}
 use Rattle.rs_core.specs.Core.{client_count}
 use Rattle.rs_core.specs.Ribs.{outlet_in}
 use Rattle.rs_core.proofs.Around.{held_voices, own_voices, voices_on}
-use Rattle.rs_core.proofs.Voicing.{finished_silent}
+use Rattle.rs_core.specs.Voices.{IsFinished}
+use Rattle.rs_core.proofs.Voicing.{ends_so}
 use Rattle.rs_core.proofs.route_server.Core.end.Goals as goal
 
 pub returns-clause-voices : goal.returns-clause-voices
@@ -13,5 +14,7 @@ returns-clause-voices c =
 
 pub returns-clause-own : goal.returns-clause-own
 unfolding client_count
-returns-clause-own c = λ none. finished_silent c.args.note (outlet_in c.unlearn.new.self c.args.c none) (outlet_in c.finish.new.self c.args.c none)
-    (c.finish.ensures.outlet.own none (subst (λ n. c.args.c < n) (sym (c.unlearn.ensures.settings.count ∙ c.args.self.now.ribs_len)) c.requires))
+returns-clause-own c = λ none.
+    subst (λ v. IsFinished c.args.note v (outlet_in c.finish.new.self c.args.c none)) ((c.unlearn.ensures.touched c.args.self.now.numbered).own none)
+    (ends_so c.args.note (outlet_in c.unlearn.new.self c.args.c none) (outlet_in c.finish.new.self c.args.c none)
+    (c.finish.ensures.outlet.own none (subst (λ n. c.args.c < n) (sym (c.unlearn.ensures.settings.count ∙ c.args.self.now.ribs_len)) c.requires)))

@@ -13,7 +13,9 @@ use Rattle.rs_core.specs.Voices.{KeepsVoices}
 use Rattle.rs_core.specs.declared.ribs.Ribs.{Ribs}
 use Rattle.rs_core.proofs.Lists.{set_at}
 use Rattle.rs_core.proofs.Around.{held_voices, own_voices, voices_on}
-use Rattle.rs_core.proofs.Voicing.{cleared_silent, voiced_over}
+use Rattle.rs_core.specs.Conversations.{outgoing_of, own_open}
+use Rattle.rs_core.proofs.Conversing.{nothing_converses}
+use Rattle.rs_core.proofs.Voicing.{cleared_out, cleared_silent, voiced_over}
 use Rattle.rs_core.proofs.Ordering.{over_ordered}
 use Rattle.rs_core.proofs.Agreeing.{begun_held, begun_identifier, others_held, others_identifiers}
 use Rattle.rs_core.proofs.route_server.Core.forget.Goals as goal
@@ -53,8 +55,12 @@ returns-clause-forgotten c = λ s h cut.
             (sym ((set_at before c.args.c c.lost.new.self lt).own x (ap (λ (v : Vec Session). slice_get v.items c.args.c) (sym c.pass_over.ensures.sessions) ∙ e))) heard;
         table = λ p. ap (λ t. held_of t c.args.c p) c.clear.ensures.tables ∙ begun_held c.pass_over.new.self.ribs.tables c.unlearn.new.self.tables c.args.c 0 c.unlearn.ensures.held p;
         identifier = ap (λ t. identifier_of t c.args.c) c.clear.ensures.tables ∙ begun_identifier c.pass_over.new.self.ribs.tables c.unlearn.new.self.tables c.args.c 0 c.unlearn.ensures.held;
-        outlet = λ _ none. voiced_over s c.args.c (leaves h) (outlet_in c.clear.new.self c.args.c none) refl refl
-            (cleared_silent (outlet_in c.unlearn.new.self c.args.c none) (outlet_in c.clear.new.self c.args.c none) (c.clear.ensures.outlet.own none (subst (λ n. c.args.c < n) (sym (c.unlearn.ensures.settings.count ∙ c.pass_over.new.self.ribs_len)) (subst (λ n. c.args.c < n) (sym (c.pass_over.ensures.count ∙ c.note_ending.ensures.count)) c.requires))));
+        outlet = λ _ none.
+            let is = c.clear.ensures.outlet.own none (subst (λ n. c.args.c < n) (sym (c.unlearn.ensures.settings.count ∙ c.pass_over.new.self.ribs_len)) (subst (λ n. c.args.c < n) (sym (c.pass_over.ensures.count ∙ c.note_ending.ensures.count)) c.requires)) in
+            let silent = cleared_silent (outlet_in c.unlearn.new.self c.args.c none) (outlet_in c.clear.new.self c.args.c none) is in
+            voiced_over s c.args.c (leaves h) (outlet_in c.clear.new.self c.args.c none) refl refl silent.speech silent.order
+            (nothing_converses (session_in s c.args.c) (own_open s) (Left ∷ h.items) (outgoing_of (outlet_in c.clear.new.self c.args.c none)) refl
+            (cleared_out (outlet_in c.unlearn.new.self c.args.c none) (outlet_in c.clear.new.self c.args.c none) is));
         ordered = λ _ none. over_ordered s c.args.c (leaves h) (outlet_in c.clear.new.self c.args.c none) refl
             (cleared_silent (outlet_in c.unlearn.new.self c.args.c none) (outlet_in c.clear.new.self c.args.c none) (c.clear.ensures.outlet.own none (subst (λ n. c.args.c < n) (sym (c.unlearn.ensures.settings.count ∙ c.pass_over.new.self.ribs_len)) (subst (λ n. c.args.c < n) (sym (c.pass_over.ensures.count ∙ c.note_ending.ensures.count)) c.requires)))).speech;
       };

@@ -1,7 +1,7 @@
 use Rattle.std.proofs.Common.{◌<◌, sym, ◌∙◌, ap, subst}
 use Rattle.rs_core.specs.Core.{client_count}
 use Rattle.rs_core.specs.Ribs.{outlet_in}
-use Rattle.rs_core.specs.Voices.{KeepsVoices}
+use Rattle.rs_core.specs.Voices.{IsGreeting, KeepsVoices}
 use Rattle.rs_core.specs.declared.ribs.Ribs.{Ribs}
 use Rattle.rs_core.proofs.Around.{own_voices, voices_on}
 use Rattle.rs_core.proofs.Voicing.{greets}
@@ -17,6 +17,6 @@ pub returns-clause-own : goal.returns-clause-own
 unfolding client_count
 returns-clause-own c = λ none.
     let lt : c.args.c < c.pass_over.new.self.ribs.count = subst (λ n. c.args.c < n) (sym (ap (λ (r : Ribs). r.count) c.pass_over.ensures.ribs ∙ c.args.self.now.ribs_len)) c.requires in
-    greets c.server_open-said.result (outlet_in c.pass_over.new.self.ribs c.args.c none) (outlet_in c.clear.new.self c.args.c none) (outlet_in c.say_open.new.self c.args.c none)
+    subst (λ o. IsGreeting o (outlet_in c.say_open.new.self c.args.c none)) c.server_open-said.ensures (greets c.server_open-said.result (outlet_in c.pass_over.new.self.ribs c.args.c none) (outlet_in c.clear.new.self c.args.c none) (outlet_in c.say_open.new.self c.args.c none)
     (c.clear.ensures.outlet.own none lt)
-    (c.say_open.ensures.outlet.own none (subst (λ n. c.args.c < n) (sym c.clear.ensures.settings.count) lt))
+    (c.say_open.ensures.outlet.own none (subst (λ n. c.args.c < n) (sym c.clear.ensures.settings.count) lt)))

@@ -8,9 +8,13 @@ use Rattle.rs_core.specs.Moves.{Came, config_in}
 use Rattle.rs_core.specs.Hearing.{session_in, begins}
 use Rattle.rs_core.specs.Runs.{hearing}
 use Rattle.rs_core.specs.Agreeing.{AgreesAt}
-use Rattle.rs_core.specs.Core.{client_count}
+use Rattle.rs_core.specs.Core.{client_count, lent_octets}
 use Rattle.rs_core.proofs.Lists.{own, other, set_at}
 use Rattle.rs_core.proofs.Agreeing.{grown}
+use Rattle.rs_open.specs.Writing.{server_open}
+use Rattle.rs_core.specs.Conversations.{own_open}
+use Rattle.rs_core.proofs.Outgoing.{lent_is}
+use Rattle.rs_core.proofs.Conversed.{any_view}
 use Rattle.rs_core.proofs.Acting.{came, opens_from}
 use Rattle.rs_core.proofs.route_server.Core.opened.Goals as goal
 
@@ -33,7 +37,7 @@ returns-in-Ok-clause-came c = λ run h.
       voices = c.greet.ensures.voices;
     })
     (subst (λ k. AgreesAt c.greet.new.self (config_in run) c.args.c k) (sym (own c.args.c (begins it) it))
-    (came c.args.self.now c.greet.new.self c.in-Ok.field-0 c.index_mut.result.now c.opened.new.self (config_in run) c.args.c it read lt set c.greet.ensures.emptied c.greet.ensures.tables c.greet.ensures.own
+    (came c.args.self.now c.greet.new.self c.in-Ok.field-0 c.index_mut.result.now c.opened.new.self (config_in run) c.args.c it read lt set c.greet.ensures.emptied c.greet.ensures.tables c.greet.ensures.config c.greet.ensures.own
     c.in-Ok.ensures.ok (h.clients c.args.c c.requires)))
 
 pub returns-in-Ok-clause-idle : goal.returns-in-Ok-clause-idle
@@ -52,3 +56,9 @@ returns-in-Err-clause-busy c = λ run h idle.
     let lt : c.args.c < length sessions = subst (λ k. c.args.c < k) (sym c.args.self.now.sessions_len) c.requires in
     let read = slice_get_read sessions (length sessions) c.args.c c.index_mut.result.now refl lt c.index_mut.ensures.value in
     c.in-Err.ensures.busy_unless_idle (session_in (config_in run) c.args.c) (hearing c.args.c run).items ((h.clients c.args.c c.requires).knows.session c.index_mut.result.now read) idle
+
+pub returns-in-Ok-clause-greets : goal.returns-in-Ok-clause-greets
+unfolding client_count lent_octets
+returns-in-Ok-clause-greets c = λ run h.
+    let lt : c.args.c < c.greet.new.self.count = subst (λ n. c.args.c < n) (sym c.greet.ensures.count) c.requires in
+    lent_is c.greet.new.self c.args.c any_view lt ∙ (c.greet.ensures.own any_view).flight ∙ ap (λ s. server_open (own_open s)) h.config

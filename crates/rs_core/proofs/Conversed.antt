@@ -1,0 +1,44 @@
+-- Which messages a client is sent over a run.
+use Rattle.std.proofs.Common.{◌≡◌, inl, inr, ◌<◌, ℕ, List, [], ◌++◌, length, refl, sym, ◌∙◌, ap, subst, append_assoc}
+use Rattle.std.specs.Prelude.{Option, Some, None, false}
+use Rattle.std.proofs.lemmas.Option.{slice_get_read}
+use Rattle.rs_attrs.specs.declared.mode.Mode.{Mode}
+use Rattle.rs_open.specs.declared.writing.ServerOpen.{ServerOpen}
+use Rattle.rs_session.specs.Endings.{Fate, GoesOn, Ends}
+use Rattle.rs_session.specs.Sessions.{fate}
+use Rattle.rs_outlet.specs.Views.{View, bare}
+use Rattle.rs_outlet.specs.declared.answers.Last.TheVariants as lasts
+use Rattle.rs_core.specs.Conversations.{Outgoing, Concludes, Converses, outgoing_of, own_open, update_mode}
+use Rattle.rs_core.specs.Core.{client_count, lent_octets, outgoing, outgoing_in}
+use Rattle.rs_core.specs.Hearing.{Hearing, session_in}
+use Rattle.rs_core.specs.Moves.{config_in}
+use Rattle.rs_core.specs.Ribs.{outlet_in}
+use Rattle.rs_core.specs.Runs.{hearing}
+use Rattle.rs_core.specs.Conversed.{IsFrontOfConversation, SendsInOrder}
+use Rattle.rs_core.proofs.Outgoing.{lent_is}
+use Rattle.rs_core.proofs.Walks.{default_same}
+
+front_of : (end : Fate) (said : ServerOpen) (mode : Option Mode) (taken : List ℕ) (out : Outgoing) → Concludes end said mode taken out → IsFrontOfConversation end said mode taken
+front_of GoesOn said mode taken out h = record { missing = out.flight; last = None; asked = inl refl; whole = h.1 }
+front_of (Ends (Some note)) said mode taken out (_, inl (_, whole)) = record { missing = out.flight; last = None; asked = inl refl; whole = whole }
+front_of (Ends (Some note)) said mode taken out (_, inr (_, whole)) = record { missing = out.flight; last = Some note; asked = inr refl; whole = whole }
+front_of (Ends None) said mode taken out h = record { missing = h.1.missing; last = None; asked = inl refl; whole = h.1.whole }
+
+pub any_view : View
+any_view = bare 0 false lasts.Never
+
+pub sends_in_order : SendsInOrder
+unfolding client_count lent_octets outgoing
+sends_in_order core run c lt h =
+    let s = config_in run in
+    let it : Hearing = hearing c run in
+    let v : View = outlet_in core.ribs c any_view in
+    let xs : List View = core.ribs.outlets.items in
+    let there : c < length xs = subst (λ n. c < n) (sym (core.ribs.outlets_len ∙ core.ribs_len)) lt in
+    let out = ap outgoing_in (slice_get_read xs (length xs) c v refl there (default_same xs c any_view v there)) in
+    let messages = ((h.clients c lt).knows.outlet h.config any_view).messages in
+    record {
+      lent = lent_is core c any_view lt ∙ sym (ap (λ (o : Outgoing). o.flight) out);
+      messages = subst (λ o. Converses (session_in s c) (own_open s) it.items it.taken o) (sym out) messages;
+      taken = λ connected. front_of (fate (session_in s c) it.items) (own_open s) (update_mode (session_in s c) it.items) it.taken (outgoing_of v) (messages.connected connected);
+    }

@@ -1,0 +1,402 @@
+-- Which messages go to a client, behind each thing that befalls it.
+use Rattle.std.proofs.Common.{◌≡◌, ◌≢◌, ◌⊎◌, inl, inr, ◌≤◌, ℕ, zero, suc, Bool, true, false, List, [], ◌∷◌, ◌++◌, length, refl, sym, ◌∙◌, ap, subst, take, drop, arith, append_assoc}
+use Rattle.std.specs.Prelude.{Option, Some, None, ⊤, if◌then◌else◌}
+use Rattle.std.specs.List.{AllByRecursion}
+use Rattle.std.proofs.lemmas.Bool.{false≢true}
+use Rattle.std.proofs.lemmas.List.{append-nil, take-append-drop}
+use Rattle.rs_octets.specs.declared.heads.Kind.{Kind}
+use Rattle.rs_octets.specs.declared.heads.Kind.TheVariants as kinds
+use Rattle.rs_octets.specs.Messages.{IsMessageOf}
+use Rattle.rs_octets.proofs.Cut.{alone}
+use Rattle.rs_octets.proofs.GoodHeaders.{of_type_is, written_is_message}
+use Rattle.rs_attrs.specs.declared.mode.Mode.{Mode}
+use Rattle.rs_open.specs.declared.open.Open.{Open}
+use Rattle.rs_open.specs.declared.short.Short.{Short}
+use Rattle.rs_open.specs.declared.short.Short.TheVariants as short
+use Rattle.rs_open.specs.declared.writing.ServerOpen.{ServerOpen}
+use Rattle.rs_open.specs.Writing.{keepalive, server_open}
+use Rattle.rs_open.proofs.ShortMessages.{note_fits, short_is_message}
+use Rattle.rs_session.specs.declared.act.Act.{Act}
+use Rattle.rs_session.specs.declared.act.Act.TheVariants as acts
+use Rattle.rs_session.specs.declared.heard.Heard.{Heard}
+use Rattle.rs_session.specs.declared.settings.Settings.{Settings}
+use Rattle.rs_session.specs.Items.{Item, Came, Message, Moment, Left, is_connected, message_count}
+use Rattle.rs_session.specs.Endings.{Fate, GoesOn, Ends, IsBrief}
+use Rattle.rs_session.specs.Sessions.{state_of, state_by, is_live, is_request, fate, earlier, item_fate, falls_due, message_act, moment_act, act_of, agreed_mode, mode_by}
+use Rattle.rs_session.specs.Hearing.{Tells, Stays}
+use Rattle.rs_session.proofs.Briefs.{ends_briefly}
+use Rattle.rs_session.proofs.Lasting.{live_lasts}
+use Rattle.rs_outlet.specs.Next.{note_octets}
+use Rattle.rs_outlet.specs.Views.{flight_after}
+use Rattle.rs_core.specs.Hearing.{is_up}
+use Rattle.rs_core.specs.Telling.{each_message}
+use Rattle.rs_core.specs.Conversations.{IsRoutine, IsConversation, IsCutOff, Outgoing, EndsWith, Concludes, Converses, update_mode}
+use Rattle.rs_core.proofs.Telling.{messages_more}
+
+abbrev nothing : Outgoing
+nothing = record { flight = []; note = None; beat = false }
+
+-- ---- one message more
+
+each_more : {A : Type 0} (P : A → Type 0) (xs : List A) (x : A) → AllByRecursion P xs → P x → AllByRecursion P (xs ++ x ∷ [])
+each_more P [] x all p = (p, tt)
+each_more P (y ∷ xs) x all p = (all.0, each_more P xs x all.1 p)
+
+each_so : {A : Type 0} (P Q : A → Type 0) (xs : List A) → ((x : A) → P x → Q x) → AllByRecursion P xs → AllByRecursion Q xs
+each_so P Q [] so all = tt
+each_so P Q (x ∷ xs) so all = (so x all.0, each_so P Q xs so all.1)
+
+pub goes_on_with : (said : ServerOpen) (mode : Option Mode) (octets m : List ℕ) (kind : Kind) → IsMessageOf each_message kind m → IsRoutine mode m → IsConversation said mode [] octets → IsConversation said mode [] (octets ++ m)
+goes_on_with said mode octets m kind is routine h = let more = messages_more octets m kind h.whole is in record {
+  whole = more.1;
+  routine = h.routine ++ m ∷ [];
+  messages = more.0 ∙ ap (λ l. l ++ m ∷ []) h.messages ∙ ap (λ l. server_open said ∷ l ++ m ∷ []) (append-nil h.routine) ∙ ap (λ l. server_open said ∷ l) (sym (append-nil (h.routine ++ m ∷ [])));
+  each = each_more (IsRoutine mode) h.routine m h.each routine;
+}
+
+ends_with : (said : ServerOpen) (mode : Option Mode) (octets m : List ℕ) → IsMessageOf each_message kinds.Note m → IsConversation said mode [] octets → IsConversation said mode (m ∷ []) (octets ++ m)
+ends_with said mode octets m is h = let more = messages_more octets m kinds.Note h.whole is in record {
+  whole = more.1;
+  routine = h.routine;
+  messages = more.0 ∙ ap (λ l. l ++ m ∷ []) h.messages ∙ ap (λ l. server_open said ∷ l ++ m ∷ []) (append-nil h.routine);
+  each = h.each;
+}
+
+begins_with : (said : ServerOpen) → IsConversation said None [] (server_open said)
+begins_with said = let one = alone each_message (server_open said) (of_type_is each_message kinds.Open (server_open said) (short_is_message each_message said short.Open tt)) in
+    record { whole = one.1; routine = []; messages = one.0; each = tt }
+
+-- what may go to a client before it is Established may go to it then
+in_mode : (said : ServerOpen) (before after : Option Mode) (last : List (List ℕ)) (octets : List ℕ) → (before ≡ after) ⊎ (before ≡ None) → IsConversation said before last octets → IsConversation said after last octets
+in_mode said before after last octets (inl same) h = subst (λ m. IsConversation said m last octets) same h
+in_mode said before None last octets (inr none) h = subst (λ m. IsConversation said m last octets) none h
+in_mode said before (Some mode) last octets (inr none) h = let was = subst (λ m. IsConversation said m last octets) none h in
+    record { whole = was.whole; routine = was.routine; messages = was.messages; each = each_so (IsRoutine None) (IsRoutine (Some mode)) was.routine (λ m is. inl is) was.each }
+
+keepalive_is_message : IsMessageOf each_message kinds.Keepalive keepalive
+keepalive_is_message = written_is_message each_message kinds.Keepalive [] refl (omega arith) (omega arith)
+
+keepalive_routine : (mode : Option Mode) → IsRoutine mode keepalive
+keepalive_routine None = refl
+keepalive_routine (Some mode) = inl refl
+
+note_is_message : (said : ServerOpen) (note : Short) → IsBrief note → IsMessageOf each_message kinds.Note (note_octets note)
+note_is_message said short.Open brief = absurd brief
+note_is_message said short.Keepalive brief = absurd brief
+note_is_message said (short.Note code sub extra count) brief = short_is_message each_message said (short.Note code sub extra count) (note_fits each_message code sub extra count brief)
+
+-- ---- in which mode
+
+before_by : (b : Bool) (was more : Fate) (n : ℕ) → is_live (state_by b (earlier was more) (suc n)) ≡ true → is_up (state_by b (earlier was more) (suc n)) ≡ false
+    → (is_live (state_by b was n) ≡ true) × (is_up (state_by b was n) ≡ false)
+before_by false was more n live down = absurd (false≢true live)
+before_by true (Ends ending) more n live down = absurd (false≢true live)
+before_by true GoesOn (Ends ending) n live down = absurd (false≢true live)
+before_by true GoesOn GoesOn zero live down = (refl, refl)
+before_by true GoesOn GoesOn (suc n) live down = absurd (false≢true (sym down))
+
+still_by : (b : Bool) (was more : Fate) (n : ℕ) → is_live (state_by b (earlier was more) n) ≡ true → is_up (state_by b (earlier was more) n) ≡ false
+    → (is_live (state_by b was n) ≡ true) × (is_up (state_by b was n) ≡ false)
+still_by false was more n live down = absurd (false≢true live)
+still_by true (Ends ending) more n live down = absurd (false≢true live)
+still_by true GoesOn (Ends ending) n live down = absurd (false≢true live)
+still_by true GoesOn GoesOn n live down = (live, down)
+
+-- before a client is Established there is none
+not_yet : (settings : Settings) (items : List Item) → is_live (state_of settings items) ≡ true → is_up (state_of settings items) ≡ false → update_mode settings items ≡ None
+not_yet settings [] live down = refl
+not_yet settings (Came ∷ items) live down = refl
+not_yet settings (Message message ∷ items) live down =
+    let was = before_by (is_connected items) (fate settings items) (item_fate settings (Message message) items) (message_count items) live down in
+    ap (λ b. if b then agreed_mode settings (Message message ∷ items) else update_mode settings items) down ∙ not_yet settings items was.0 was.1
+not_yet settings (Moment t ∷ items) live down =
+    let was = still_by (is_connected items) (fate settings items) (item_fate settings (Moment t) items) (message_count items) live down in
+    ap (λ b. if b then agreed_mode settings (Moment t ∷ items) else update_mode settings items) down ∙ not_yet settings items was.0 was.1
+not_yet settings (Left ∷ items) live down = refl
+
+-- while it is Established it is that of its OPEN
+pub mode_up : (settings : Settings) (items : List Item) → is_up (state_of settings items) ≡ true → update_mode settings items ≡ agreed_mode settings items
+mode_up settings [] up = absurd (false≢true up)
+mode_up settings (Came ∷ items) up = absurd (false≢true up)
+mode_up settings (Message message ∷ items) up = ap (λ b. if b then agreed_mode settings (Message message ∷ items) else update_mode settings items) up
+mode_up settings (Moment t ∷ items) up = ap (λ b. if b then agreed_mode settings (Moment t ∷ items) else update_mode settings items) up
+mode_up settings (Left ∷ items) up = absurd (false≢true up)
+
+abbrev IsKept : Option Mode → Option Mode → Type 0
+IsKept before after = (before ≡ after) ⊎ (before ≡ None)
+
+stays_mode : (settings : Settings) (old new : List Item) → Stays settings old new → is_live (state_of settings old) ≡ true → IsKept (update_mode settings old) (update_mode settings new)
+stays_mode settings old new stays live = by_state (is_up (state_of settings old)) refl where
+  by_state : (b : Bool) → is_up (state_of settings old) ≡ b → IsKept (update_mode settings old) (update_mode settings new)
+  by_state true up = inl (mode_up settings old up ∙ ap mode_by (sym stays.agreed) ∙ sym (mode_up settings new (ap is_up stays.state ∙ up)))
+  by_state false down = inr (not_yet settings old live down)
+
+-- the session doesn't end by it
+abbrev GoesOnBy : Act → Type 0
+GoesOnBy (acts.Down ending) = ⊥
+GoesOnBy acts.None = ⊤
+GoesOnBy (acts.Say message) = ⊤
+GoesOnBy acts.Up = ⊤
+GoesOnBy acts.Again = ⊤
+
+says_mode : (message : Short) (settings : Settings) (old new : List Item) → Tells (acts.Say message) settings old new → is_live (state_of settings old) ≡ true → IsKept (update_mode settings old) (update_mode settings new)
+says_mode short.Open settings old new tells live = absurd (let f : false ≡ true = sym (ap is_live tells.before) ∙ live in cc)
+says_mode short.Keepalive settings old new (inl confirms) live = inr (not_yet settings old live (ap is_up confirms.before))
+says_mode short.Keepalive settings old new (inr beats) live = stays_mode settings old new beats.same live
+says_mode (short.Note code sub extra count) settings old new tells live = absurd tells
+
+kept_mode : (act : Act) (settings : Settings) (old new : List Item) → GoesOnBy act → Tells act settings old new → is_live (state_of settings old) ≡ true → IsKept (update_mode settings old) (update_mode settings new)
+kept_mode acts.None settings old new on tells live = stays_mode settings old new tells live
+kept_mode (acts.Say message) settings old new on tells live = says_mode message settings old new tells live
+kept_mode acts.Up settings old new on tells live = inr (not_yet settings old live (ap is_up tells.before))
+kept_mode (acts.Down ending) settings old new on tells live = absurd on
+kept_mode acts.Again settings old new on tells live = stays_mode settings old new tells.same live
+
+-- ---- what a session asks for is done
+
+-- what that makes of what is still to be said
+abbrev pub Moves : Act → Outgoing → Outgoing → Type 0
+Moves acts.None old new = new ≡ old
+Moves (acts.Say message) old new = (new.flight ≡ old.flight) × (new.note ≡ old.note)
+Moves acts.Up old new = (new.flight ≡ old.flight) × (new.note ≡ old.note)
+Moves (acts.Down ending) old new = new ≡ record { flight = flight_after ending old.flight; note = ending; beat = false }
+Moves acts.Again old new = (new.flight ≡ old.flight) × (new.note ≡ old.note)
+
+moves_on : (act : Act) (old new : Outgoing) → GoesOnBy act → Moves act old new → (new.flight ≡ old.flight) × (new.note ≡ old.note)
+moves_on acts.None old new on moves = (ap (λ (o : Outgoing). o.flight) moves, ap (λ (o : Outgoing). o.note) moves)
+moves_on (acts.Say message) old new on moves = moves
+moves_on acts.Up old new on moves = moves
+moves_on (acts.Down ending) old new on moves = absurd on
+moves_on acts.Again old new on moves = moves
+
+-- by whether there is a connection, whether the session had ended, and whether it ends now
+abbrev act_by : Bool → Fate → Fate → Act → Act
+act_by false was now act = acts.None
+act_by true (Ends ending) now act = acts.None
+act_by true GoesOn (Ends ending) act = acts.Down ending
+act_by true GoesOn GoesOn act = act
+
+message_act_by : (b : Bool) (was now : Fate) (n : ℕ) (message : Heard) → (if is_live (state_by b was n) then message_act now n message else acts.None) ≡ act_by b was now (message_act GoesOn n message)
+message_act_by false was now n message = refl
+message_act_by true (Ends ending) now n message = refl
+message_act_by true GoesOn (Ends ending) zero message = refl
+message_act_by true GoesOn (Ends ending) (suc zero) message = refl
+message_act_by true GoesOn (Ends ending) (suc (suc n)) message = refl
+message_act_by true GoesOn GoesOn zero message = refl
+message_act_by true GoesOn GoesOn (suc zero) message = refl
+message_act_by true GoesOn GoesOn (suc (suc n)) message = refl
+
+moment_act_by : (b : Bool) (was now : Fate) (n : ℕ) (falls : Bool) → (if is_live (state_by b was n) then moment_act now falls else acts.None) ≡ act_by b was now (moment_act GoesOn falls)
+moment_act_by false was now n falls = refl
+moment_act_by true (Ends ending) now n falls = refl
+moment_act_by true GoesOn (Ends ending) zero falls = refl
+moment_act_by true GoesOn (Ends ending) (suc zero) falls = refl
+moment_act_by true GoesOn (Ends ending) (suc (suc n)) falls = refl
+moment_act_by true GoesOn GoesOn zero falls = refl
+moment_act_by true GoesOn GoesOn (suc zero) falls = refl
+moment_act_by true GoesOn GoesOn (suc (suc n)) falls = refl
+
+message_goes_on : (n : ℕ) (message : Heard) → GoesOnBy (message_act GoesOn n message)
+message_goes_on zero message = tt
+message_goes_on (suc zero) message = tt
+message_goes_on (suc (suc n)) message = by_test (is_request message) where
+  by_test : (b : Bool) → GoesOnBy (if b then acts.Again else acts.None)
+  by_test true = tt
+  by_test false = tt
+
+moment_goes_on : (falls : Bool) → GoesOnBy (moment_act GoesOn falls)
+moment_goes_on true = tt
+moment_goes_on false = tt
+
+-- the modes stay while the session goes on, and once it has ended
+record KeepsMode (b : Bool) (was now : Fate) (before after : Option Mode) : Type 0 where
+  on : b ≡ true → was ≡ GoesOn → now ≡ GoesOn → IsKept before after
+  ended : (note : Option Short) → earlier was now ≡ Ends note → after ≡ before
+
+concludes_on : (b : Bool) (was now : Fate) (act : Act) (said : ServerOpen) (before after : Option Mode) (taken : List ℕ) (old new : Outgoing) → GoesOnBy act → Moves (act_by b was now act) old new
+    → KeepsMode b was now before after → b ≡ true → Concludes was said before taken old → Concludes (earlier was now) said after taken new
+concludes_on false was now act said before after taken old new on moves modes there h = absurd (false≢true there)
+concludes_on true (Ends ending) now act said before after taken old new on moves modes there h =
+    subst (λ m. Concludes (Ends ending) said m taken new) (sym (modes.ended ending refl)) (subst (λ o. Concludes (Ends ending) said before taken o) (sym moves) h)
+concludes_on true GoesOn (Ends (Some note)) act said before after taken old new on moves modes there h =
+    subst (λ m. Concludes (Ends (Some note)) said m taken new) (sym (modes.ended (Some note) refl)) (subst (λ o. Concludes (Ends (Some note)) said before taken o) (sym moves) (refl, inl (refl, h.1)))
+concludes_on true GoesOn (Ends None) act said before after taken old new on moves modes there h =
+    subst (λ m. Concludes (Ends None) said m taken new) (sym (modes.ended None refl)) (moves, record { missing = old.flight; whole = h.1 })
+concludes_on true GoesOn GoesOn act said before after taken old new on moves modes there h = let same = moves_on act old new on moves in
+    (same.1 ∙ h.0, subst (λ f. IsConversation said after [] (taken ++ f)) (sym same.0) (in_mode said before after [] (taken ++ old.flight) (modes.on refl refl refl) h.1))
+
+alone_by : (b : Bool) (was now : Fate) (act : Act) (old new : Outgoing) → Moves (act_by b was now act) old new → b ≡ false → new ≡ old
+alone_by true was now act old new moves none = absurd (false≢true (sym none))
+alone_by false was now act old new moves none = moves
+
+live_by : (b : Bool) (was : Fate) (n : ℕ) → b ≡ true → was ≡ GoesOn → is_live (state_by b was n) ≡ true
+live_by false was n there goes = absurd (false≢true there)
+live_by true (Ends ending) n there goes = absurd (let f : ◌≡◌ {A = Fate} (Ends ending) GoesOn = goes in cc)
+live_by true GoesOn zero there goes = refl
+live_by true GoesOn (suc zero) there goes = refl
+live_by true GoesOn (suc (suc n)) there goes = refl
+
+ended_down : (b : Bool) (f : Fate) (n : ℕ) (ending : Option Short) → f ≡ Ends ending → is_up (state_by b f n) ≡ false
+ended_down false f n ending e = refl
+ended_down true GoesOn n ending e = absurd (let f : ◌≡◌ {A = Fate} GoesOn (Ends ending) = e in cc)
+ended_down true (Ends other) n ending e = refl
+
+-- a message was heard, or a moment seen
+abbrev pub IsHeardOrSeen : Item → Type 0
+IsHeardOrSeen Came = ⊥
+IsHeardOrSeen (Message message) = ⊤
+IsHeardOrSeen (Moment t) = ⊤
+IsHeardOrSeen Left = ⊥
+
+pub acted_converses : (item : Item) (act : Act) (settings : Settings) (said : ServerOpen) (items : List Item) (taken : List ℕ) (old new : Outgoing) → IsHeardOrSeen item → act ≡ act_of settings item items
+    → Tells act settings items (item ∷ items) → Moves act old new → Converses settings said items taken old → Converses settings said (item ∷ items) taken new
+acted_converses Came act settings said items taken old new is act_is tells moves h = absurd is
+acted_converses (Message message) act settings said items taken old new is act_is tells moves h =
+    let b : Bool = is_connected items in
+    let was : Fate = fate settings items in
+    let now : Fate = item_fate settings (Message message) items in
+    let n : ℕ = message_count items in
+    let by : act ≡ act_by b was now (message_act GoesOn n message) = act_is ∙ message_act_by b was now n message in
+    let does = subst (λ a. Moves a old new) by moves in
+    record {
+      connected = λ there. concludes_on b was now (message_act GoesOn n message) said (update_mode settings items) (update_mode settings (Message message ∷ items)) taken old new (message_goes_on n message) does
+          (record {
+            on = λ there goes more. kept_mode (message_act GoesOn n message) settings items (Message message ∷ items) (message_goes_on n message)
+                (subst (λ a. Tells a settings items (Message message ∷ items)) (by ∙ (λ i. act_by (there i) (goes i) (more i) (message_act GoesOn n message))) tells) (live_by b was n there goes);
+            ended = λ note e. ap (λ u. if u then agreed_mode settings (Message message ∷ items) else update_mode settings items) (ended_down b (earlier was now) (suc n) note e);
+          }) there (h.connected there);
+      alone = λ none. ((h.alone none).0, alone_by b was now (message_act GoesOn n message) old new does none ∙ (h.alone none).1);
+    }
+acted_converses (Moment t) act settings said items taken old new is act_is tells moves h =
+    let b : Bool = is_connected items in
+    let was : Fate = fate settings items in
+    let now : Fate = item_fate settings (Moment t) items in
+    let n : ℕ = message_count items in
+    let falls : Bool = falls_due settings t items in
+    let by : act ≡ act_by b was now (moment_act GoesOn falls) = act_is ∙ moment_act_by b was now n falls in
+    let does = subst (λ a. Moves a old new) by moves in
+    record {
+      connected = λ there. concludes_on b was now (moment_act GoesOn falls) said (update_mode settings items) (update_mode settings (Moment t ∷ items)) taken old new (moment_goes_on falls) does
+          (record {
+            on = λ there goes more. kept_mode (moment_act GoesOn falls) settings items (Moment t ∷ items) (moment_goes_on falls)
+                (subst (λ a. Tells a settings items (Moment t ∷ items)) (by ∙ (λ i. act_by (there i) (goes i) (more i) (moment_act GoesOn falls))) tells) (live_by b was n there goes);
+            ended = λ note e. ap (λ u. if u then agreed_mode settings (Moment t ∷ items) else update_mode settings items) (ended_down b (earlier was now) n note e);
+          }) there (h.connected there);
+      alone = λ none. ((h.alone none).0, alone_by b was now (moment_act GoesOn falls) old new does none ∙ (h.alone none).1);
+    }
+acted_converses Left act settings said items taken old new is act_is tells moves h = absurd is
+
+-- ---- a connection came, or was lost
+
+pub came_converses : (settings : Settings) (said : ServerOpen) (items : List Item) (out : Outgoing) → out.flight ≡ server_open said → out.note ≡ None → Converses settings said (Came ∷ items) [] out
+came_converses settings said items out flight note = record {
+  connected = λ there. (note, subst (λ f. IsConversation said None [] f) (sym flight) (begins_with said));
+  alone = λ none. absurd (false≢true (sym none));
+}
+
+pub nothing_converses : (settings : Settings) (said : ServerOpen) (items : List Item) (out : Outgoing) → is_connected items ≡ false → out ≡ nothing → Converses settings said items [] out
+nothing_converses settings said items out none is = record { connected = λ there. absurd (false≢true (sym none ∙ there)); alone = λ _. (refl, is) }
+
+-- ---- octets are taken
+
+take_none : (n : ℕ) → ◌≡◌ {A = List ℕ} (take n []) []
+take_none zero = refl
+take_none (suc n) = refl
+
+drop_none : (n : ℕ) → ◌≡◌ {A = List ℕ} (drop n []) []
+drop_none zero = refl
+drop_none (suc n) = refl
+
+took_concludes : (f : Fate) (n : ℕ) (said : ServerOpen) (mode : Option Mode) (taken : List ℕ) (old new : Outgoing) → new ≡ record old { flight = drop n old.flight } → Concludes f said mode taken old
+    → Concludes f said mode (taken ++ take n old.flight) new
+took_concludes f n said mode taken old new e h = by_fate f h where
+  flight : new.flight ≡ drop n old.flight
+  flight = ap (λ (o : Outgoing). o.flight) e
+
+  note : new.note ≡ old.note
+  note = ap (λ (o : Outgoing). o.note) e
+
+  same : (taken ++ take n old.flight) ++ new.flight ≡ taken ++ old.flight
+  same = ap (λ l. (taken ++ take n old.flight) ++ l) flight ∙ append_assoc taken (take n old.flight) (drop n old.flight) ∙ ap (λ l. taken ++ l) (take-append-drop n old.flight)
+
+  on : (last : List (List ℕ)) → IsConversation said mode last (taken ++ old.flight) → IsConversation said mode last ((taken ++ take n old.flight) ++ new.flight)
+  on last c = subst (λ o. IsConversation said mode last o) (sym same) c
+
+  by_fate : (f : Fate) → Concludes f said mode taken old → Concludes f said mode (taken ++ take n old.flight) new
+  by_fate GoesOn h = (note ∙ h.0, on [] h.1)
+  by_fate (Ends (Some said_last)) (beat, inl (waits, c)) = (ap (λ (o : Outgoing). o.beat) e ∙ beat, inl (note ∙ waits, on [] c))
+  by_fate (Ends (Some said_last)) (beat, inr (gone, c)) = (ap (λ (o : Outgoing). o.beat) e ∙ beat, inr (note ∙ gone, on (note_octets said_last ∷ []) c))
+  by_fate (Ends None) h = (
+    e ∙ ap (λ (o : Outgoing). record o { flight = drop n o.flight }) h.0 ∙ ap (λ l. record { flight = l; note = None; beat = false }) (drop_none n),
+    subst (λ o. IsCutOff said mode o) (sym (ap (λ (o : Outgoing). taken ++ take n o.flight) h.0 ∙ ap (λ l. taken ++ l) (take_none n) ∙ append-nil taken)) h.1,
+  )
+
+pub took_converses : (n : ℕ) (settings : Settings) (said : ServerOpen) (items : List Item) (taken : List ℕ) (old new : Outgoing) → new ≡ record old { flight = drop n old.flight }
+    → Converses settings said items taken old → Converses settings said items (taken ++ take n old.flight) new
+took_converses n settings said items taken old new e h = record {
+  connected = λ there. took_concludes (fate settings items) n said (update_mode settings items) taken old new e (h.connected there);
+  alone = λ none. let was = h.alone none in (
+    (λ i. was.0 i ++ take n (was.1 i).flight) ∙ take_none n,
+    e ∙ ap (λ (o : Outgoing). record o { flight = drop n o.flight }) was.1 ∙ ap (λ l. record { flight = l; note = None; beat = false }) (drop_none n),
+  );
+}
+
+-- ---- the next message begins
+
+waits_none : {A : Type 0} (note : Short) (waits : Option Short) → waits ≡ Some note → waits ≡ None → A
+waits_none note waits e f = absurd (let g : ◌≡◌ {A = Option Short} None (Some note) = sym f ∙ e in cc)
+
+bare_taken : (taken flight : List ℕ) → flight ≡ [] → taken ++ flight ≡ taken
+bare_taken taken flight empty = ap (λ l. taken ++ l) empty ∙ append-nil taken
+
+note_concludes : (note : Short) (f : Fate) (said : ServerOpen) (mode : Option Mode) (taken : List ℕ) (old new : Outgoing) → old.flight ≡ [] → old.note ≡ Some note → new ≡ record old { flight = note_octets note; note = None }
+    → ((last : Short) → f ≡ Ends (Some last) → IsBrief last) → Concludes f said mode taken old → Concludes f said mode taken new
+note_concludes note GoesOn said mode taken old new empty waits e brief h = waits_none note old.note waits h.0
+note_concludes note (Ends None) said mode taken old new empty waits e brief h = waits_none note old.note waits (ap (λ (o : Outgoing). o.note) h.0)
+note_concludes note (Ends (Some last)) said mode taken old new empty waits e brief (beat, inr (gone, c)) = waits_none note old.note waits gone
+note_concludes note (Ends (Some last)) said mode taken old new empty waits e brief (beat, inl (is, c)) =
+    let same : note ≡ last = let f : ◌≡◌ {A = Option Short} (Some note) (Some last) = sym waits ∙ is in cc in (
+      ap (λ (o : Outgoing). o.beat) e ∙ beat,
+      inr (
+        ap (λ (o : Outgoing). o.note) e,
+        subst (λ f. IsConversation said mode (note_octets last ∷ []) (taken ++ f)) (sym (ap (λ (o : Outgoing). o.flight) e ∙ ap note_octets same))
+            (ends_with said mode taken (note_octets last) (note_is_message said last (brief last refl)) (subst (λ o. IsConversation said mode [] o) (bare_taken taken old.flight empty) c)),
+      ),
+    )
+
+pub note_converses : (note : Short) (settings : Settings) (said : ServerOpen) (items : List Item) (taken : List ℕ) (old new : Outgoing) → old.flight ≡ [] → old.note ≡ Some note
+    → new ≡ record old { flight = note_octets note; note = None } → Converses settings said items taken old → Converses settings said items taken new
+note_converses note settings said items taken old new empty waits e h = record {
+  connected = λ there. note_concludes note (fate settings items) said (update_mode settings items) taken old new empty waits e (λ last f. ends_briefly settings items (Some last) f) (h.connected there);
+  alone = λ none. waits_none note old.note waits (ap (λ (o : Outgoing). o.note) (h.alone none).1);
+}
+
+beats_never : {A : Type 0} (b : Bool) → b ≡ true → b ≡ false → A
+beats_never b e f = absurd (false≢true (sym f ∙ e))
+
+keepalive_concludes : (f : Fate) (said : ServerOpen) (mode : Option Mode) (taken : List ℕ) (old new : Outgoing) → old.flight ≡ [] → old.note ≡ None → old.beat ≡ true → new ≡ record old { flight = keepalive; beat = false }
+    → Concludes f said mode taken old → Concludes f said mode taken new
+keepalive_concludes GoesOn said mode taken old new empty quiet due e h = (
+  ap (λ (o : Outgoing). o.note) e ∙ quiet,
+  subst (λ f. IsConversation said mode [] (taken ++ f)) (sym (ap (λ (o : Outgoing). o.flight) e))
+      (goes_on_with said mode taken keepalive kinds.Keepalive keepalive_is_message (keepalive_routine mode) (subst (λ o. IsConversation said mode [] o) (bare_taken taken old.flight empty) h.1)),
+)
+keepalive_concludes (Ends (Some note)) said mode taken old new empty quiet due e h = beats_never old.beat due h.0
+keepalive_concludes (Ends None) said mode taken old new empty quiet due e h = beats_never old.beat due (ap (λ (o : Outgoing). o.beat) h.0)
+
+pub keepalive_converses : (settings : Settings) (said : ServerOpen) (items : List Item) (taken : List ℕ) (old new : Outgoing) → old.flight ≡ [] → old.note ≡ None → old.beat ≡ true
+    → new ≡ record old { flight = keepalive; beat = false } → Converses settings said items taken old → Converses settings said items taken new
+keepalive_converses settings said items taken old new empty quiet due e h = record {
+  connected = λ there. keepalive_concludes (fate settings items) said (update_mode settings items) taken old new empty quiet due e (h.connected there);
+  alone = λ none. beats_never old.beat due (ap (λ (o : Outgoing). o.beat) (h.alone none).1);
+}
+
+-- octets in place of none, while the session lasts
+pub routine_converses : (mode : Mode) (settings : Settings) (said : ServerOpen) (items : List Item) (taken : List ℕ) (old new : Outgoing) → is_live (state_of settings items) ≡ true → update_mode settings items ≡ Some mode → old.flight ≡ [] → new.note ≡ None
+    → (IsConversation said (Some mode) [] taken → IsConversation said (Some mode) [] (taken ++ new.flight)) → Converses settings said items taken old → Converses settings said items taken new
+routine_converses mode settings said items taken old new live spoken empty quiet goes h = let lasts = live_lasts settings items live in record {
+  connected = λ there. let was = subst (λ f. Concludes f said (update_mode settings items) taken old) lasts.goes_on (h.connected there) in
+      subst (λ f. Concludes f said (update_mode settings items) taken new) (sym lasts.goes_on)
+      (quiet, subst (λ m. IsConversation said m [] (taken ++ new.flight)) (sym spoken) (goes (subst (λ m. IsConversation said m [] taken) spoken (subst (λ o. IsConversation said (update_mode settings items) [] o) (bare_taken taken old.flight empty) was.1))));
+  alone = λ none. absurd (false≢true (sym none ∙ lasts.connected));
+}

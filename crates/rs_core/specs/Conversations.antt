@@ -1,0 +1,105 @@
+-- Which messages go to a client, and in which order (RFC 4271, 4 and 8.2.2): an OPEN, then KEEPALIVEs and UPDATEs, then at most
+-- a NOTIFICATION.
+use Rattle.std.specs.Prelude.{◌≡◌, ◌≢◌, ◌⊎◌, ℕ, Bool, true, false, List, [], ◌∷◌, ◌++◌, Option, Some, None, if◌then◌else◌}
+use Rattle.std.specs.List.{AllByRecursion}
+use Rattle.rs_octets.specs.declared.heads.Kind.TheVariants as kinds
+use Rattle.rs_octets.specs.Messages.{IsMessageOf, body_of, messages_of, rest_of}
+use Rattle.rs_octets.specs.Prefixes.{Prefix}
+use Rattle.rs_attrs.specs.declared.mode.Mode.{Mode}
+use Rattle.rs_attrs.specs.Meaning.{Attribute}
+use Rattle.rs_attrs.specs.Effects.{HasMandatory}
+use Rattle.rs_open.specs.declared.short.Short.{Short}
+use Rattle.rs_open.specs.declared.writing.ServerOpen.{ServerOpen}
+use Rattle.rs_open.specs.Writing.{keepalive, server_open}
+use Rattle.rs_packer.specs.Denoted.{Holds}
+use Rattle.rs_session.specs.declared.settings.Settings.{Settings}
+use Rattle.rs_session.specs.Items.{Item, Came, Message, Moment, Left, is_connected}
+use Rattle.rs_session.specs.Endings.{Fate, GoesOn, Ends}
+use Rattle.rs_session.specs.Sessions.{state_of, agreed_mode, fate}
+use Rattle.rs_policy.specs.Configuration.{Configuration}
+use Rattle.rs_outlet.specs.Next.{note_octets}
+use Rattle.rs_outlet.specs.Views.{View}
+use Rattle.rs_core.specs.Hearing.{is_up}
+use Rattle.rs_core.specs.Telling.{each_message}
+
+-- ---- one message
+
+-- Nothing is wrong with the body of an UPDATE (RFC 4271, 6.3; RFC 7606): its fields hold whole prefixes and well-formed
+-- attributes, and where routes are announced, ORIGIN, AS_PATH and NEXT_HOP are among these.
+pub record IsFaultless (mode : Mode) (body : List ℕ) : Type 0 where
+  pub withdrawn : List Prefix
+  pub attributes : List Attribute
+  pub announced : List Prefix
+  pub holds : Holds body mode withdrawn attributes announced
+  pub mandatory : announced ≢ [] → HasMandatory attributes
+
+-- a KEEPALIVE; or, where UPDATEs go to the client in this mode, an UPDATE with which nothing is wrong
+abbrev pub IsRoutine : Option Mode → List ℕ → Type 0
+IsRoutine None message = message ≡ keepalive
+IsRoutine (Some mode) message = (message ≡ keepalive) ⊎ (IsMessageOf each_message kinds.Update message × IsFaultless mode (body_of message))
+
+-- ---- all of them
+
+-- what the server's OPEN says (RFC 4271, 4.2)
+abbrev pub own_open : Configuration → ServerOpen
+own_open s = record {
+  server_as = s.top.server_as;
+  hold = s.top.hold;
+  identifier = s.top.identifier;
+  multiprotocol = s.top.multiprotocol;
+  extended = s.top.extended;
+  refresh = s.top.refresh;
+}
+
+-- octets are whole messages: this OPEN, then KEEPALIVEs and UPDATEs, then these
+pub record IsConversation (said : ServerOpen) (mode : Option Mode) (last : List (List ℕ)) (octets : List ℕ) : Type 0 where
+  pub whole : rest_of each_message octets ≡ []
+  pub routine : List (List ℕ)
+  pub messages : messages_of each_message octets ≡ server_open said ∷ routine ++ last
+  pub each : AllByRecursion (IsRoutine mode) routine
+
+-- they are the beginning of such octets
+pub record IsCutOff (said : ServerOpen) (mode : Option Mode) (octets : List ℕ) : Type 0 where
+  pub missing : List ℕ
+  pub whole : IsConversation said mode [] (octets ++ missing)
+
+-- how many octets AS numbers have in the UPDATEs that go to a client since it is Established, and that went to it before its
+-- session ended; before it is Established there are none
+abbrev pub update_mode : Settings → List Item → Option Mode
+update_mode settings [] = None
+update_mode settings (Came ∷ items) = None
+update_mode settings (Message message ∷ items) =
+    if is_up (state_of settings (Message message ∷ items)) then agreed_mode settings (Message message ∷ items) else update_mode settings items
+update_mode settings (Moment t ∷ items) =
+    if is_up (state_of settings (Moment t ∷ items)) then agreed_mode settings (Moment t ∷ items) else update_mode settings items
+update_mode settings (Left ∷ items) = None
+
+-- ---- by the session
+
+-- what is still to be said to a client: the octets in flight, a NOTIFICATION that waits, and whether a KEEPALIVE is due
+pub record Outgoing : Type 0 where
+  pub flight : List ℕ
+  pub note : Option Short
+  pub beat : Bool
+
+abbrev pub outgoing_of : View → Outgoing
+outgoing_of v = record { flight = v.flight; note = v.note; beat = v.beat }
+
+-- this NOTIFICATION waits, or it is the last message
+abbrev pub EndsWith : Short → ServerOpen → Option Mode → List ℕ → Outgoing → Type 0
+EndsWith note said mode taken out =
+    ((out.note ≡ Some note) × IsConversation said mode [] (taken ++ out.flight))
+    ⊎ ((out.note ≡ None) × IsConversation said mode (note_octets note ∷ []) (taken ++ out.flight))
+
+-- The octets taken, and those in flight behind them, are what the session asks for. While it lasts, they are a conversation, and
+-- no NOTIFICATION waits. Where it ends with a NOTIFICATION, the message in flight is still finished, and then that NOTIFICATION
+-- follows and nothing else. Where it ends with none, since one was heard, what was in flight is dropped, and nothing follows.
+abbrev pub Concludes : Fate → ServerOpen → Option Mode → List ℕ → Outgoing → Type 0
+Concludes GoesOn said mode taken out = (out.note ≡ None) × IsConversation said mode [] (taken ++ out.flight)
+Concludes (Ends (Some note)) said mode taken out = (out.beat ≡ false) × EndsWith note said mode taken out
+Concludes (Ends None) said mode taken out = (out ≡ record { flight = []; note = None; beat = false }) × IsCutOff said mode taken
+
+-- so it is since the connection of a client came, by what befell its session; without a connection nothing was said, or is to be
+pub record Converses (settings : Settings) (said : ServerOpen) (items : List Item) (taken : List ℕ) (out : Outgoing) : Type 0 where
+  pub connected : is_connected items ≡ true → Concludes (fate settings items) said (update_mode settings items) taken out
+  pub alone : is_connected items ≡ false → (taken ≡ []) × (out ≡ record { flight = []; note = None; beat = false })
