@@ -1,5 +1,5 @@
 -- Which messages go to a client, behind each thing that befalls it.
-use Rattle.std.proofs.Common.{◌≡◌, ◌≢◌, ◌⊎◌, inl, inr, ◌≤◌, ℕ, zero, suc, Bool, true, false, List, [], ◌∷◌, ◌++◌, length, refl, sym, ◌∙◌, ap, subst, take, drop, arith, append_assoc}
+use Rattle.std.proofs.Common.{◌≡◌, ◌⊎◌, inl, inr, ℕ, zero, suc, Bool, true, false, List, [], ◌∷◌, ◌++◌, refl, sym, ◌∙◌, ap, subst, take, drop, arith, append_assoc}
 use Rattle.std.specs.Prelude.{Option, Some, None, ⊤, if◌then◌else◌}
 use Rattle.std.specs.List.{AllByRecursion}
 use Rattle.std.proofs.lemmas.Bool.{false≢true}
@@ -10,7 +10,6 @@ use Rattle.rs_octets.specs.Messages.{IsMessageOf}
 use Rattle.rs_octets.proofs.Cut.{alone}
 use Rattle.rs_octets.proofs.GoodHeaders.{of_type_is, written_is_message}
 use Rattle.rs_attrs.specs.declared.mode.Mode.{Mode}
-use Rattle.rs_open.specs.declared.open.Open.{Open}
 use Rattle.rs_open.specs.declared.short.Short.{Short}
 use Rattle.rs_open.specs.declared.short.Short.TheVariants as short
 use Rattle.rs_open.specs.declared.writing.ServerOpen.{ServerOpen}
@@ -30,7 +29,7 @@ use Rattle.rs_outlet.specs.Next.{note_octets}
 use Rattle.rs_outlet.specs.Views.{flight_after}
 use Rattle.rs_core.specs.Hearing.{is_up}
 use Rattle.rs_core.specs.Telling.{each_message}
-use Rattle.rs_core.specs.Conversations.{IsRoutine, IsConversation, IsCutOff, Outgoing, EndsWith, Concludes, Converses, update_mode}
+use Rattle.rs_core.specs.Conversations.{IsRoutine, IsConversation, IsCutOff, Outgoing, Concludes, Converses, update_mode}
 use Rattle.rs_core.proofs.Telling.{messages_more}
 
 abbrev nothing : Outgoing

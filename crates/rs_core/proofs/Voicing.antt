@@ -1,6 +1,5 @@
 -- What an outlet says to its client, behind each thing that befalls it.
-use Rattle.std.proofs.Common.{◌≡◌, inl, inr, ◌<◌, ℕ, zero, suc, Bool, true, false, List, [], ◌∷◌, ◌++◌, ◌≤◌, ◌&&◌, not, length, refl, sym, ◌∙◌, ap, subst, take, drop, arith, append_assoc}
-use Rattle.std.specs.List.{AllByRecursion}
+use Rattle.std.proofs.Common.{◌≡◌, inl, inr, ℕ, zero, suc, Bool, true, false, List, [], ◌∷◌, ◌++◌, ◌≤◌, not, length, refl, sym, ◌∙◌, ap, subst, take, drop, arith, append_assoc}
 use Rattle.std.proofs.lemmas.List.{append-nil, take-append-drop}
 use Rattle.std.specs.Prelude.{Option, Some, None, slice_get, if◌then◌else◌}
 use Rattle.std.specs.FinMap as fin
@@ -24,7 +23,6 @@ use Rattle.rs_open.specs.declared.short.Short.TheVariants as short
 use Rattle.rs_policy.specs.Configuration.{Configuration}
 use Rattle.rs_outlet.specs.declared.answers.Speech.{Speech}
 use Rattle.rs_octets.specs.declared.heads.Kind.TheVariants as kinds
-use Rattle.rs_attrs.specs.Comparing.{same_attributes}
 use Rattle.rs_attrs.specs.Effects.{lacks_mandatory}
 use Rattle.rs_open.specs.Notes.{limit_octets}
 use Rattle.rs_open.specs.Writing.{keepalive, server_open}
@@ -39,7 +37,7 @@ use Rattle.rs_outlet.specs.Begins.{BeginsUpdate}
 use Rattle.rs_outlet.specs.Due.{due_to}
 use Rattle.rs_outlet.specs.HeldBy.{tables_of}
 use Rattle.rs_outlet.specs.declared.answers.Last.{Last}
-use Rattle.rs_outlet.specs.Views.{View, WaitsAreExact, waits_at, AreNumbered, is_touched, bare, cleared, finished, begun, touched_at}
+use Rattle.rs_outlet.specs.Views.{View, waits_at, AreNumbered, is_touched, bare, cleared, finished, begun, touched_at}
 use Rattle.rs_adjin.specs.declared.adj_ins.AdjIns.{AdjIns}
 use Rattle.rs_core.specs.Touches.{IsBegun, IsTouchedAt, touched_with}
 use Rattle.rs_core.specs.Turns.{IsMarked, IsDone, IsTurn}

@@ -3,8 +3,7 @@ use Rattle.std.specs.Prelude.{◌≡◌, ◌⊎◌, ◌<◌, ℕ, true, false, L
 use Rattle.rs_attrs.specs.declared.mode.Mode.{Mode}
 use Rattle.rs_open.specs.declared.short.Short.{Short}
 use Rattle.rs_open.specs.declared.writing.ServerOpen.{ServerOpen}
-use Rattle.rs_session.specs.declared.settings.Settings.{Settings}
-use Rattle.rs_session.specs.Items.{Item, is_connected}
+use Rattle.rs_session.specs.Items.{is_connected}
 use Rattle.rs_session.specs.Endings.{Fate, Ends}
 use Rattle.rs_session.specs.Sessions.{fate, is_live}
 use Rattle.rs_outlet.specs.Next.{note_octets}

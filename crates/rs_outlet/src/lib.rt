@@ -27,6 +27,8 @@ mod routes;
 mod rows;
 mod sending;
 mod table;
+#[cfg(test)]
+mod tests;
 mod touched;
 mod turn;
 mod waiting;

@@ -1,4 +1,4 @@
-use Rattle.std.proofs.Common.{◌≡◌, ◌<◌, Some, None, refl, sym, ap, ◌∙◌, subst, option_map, option_and_then, slice_get}
+use Rattle.std.proofs.Common.{◌≡◌, ◌<◌, Some, None, sym, ap, ◌∙◌, subst, option_map, option_and_then, slice_get}
 use Rattle.std.specs.Arc.{arc_value}
 use Rattle.rs_adjin.specs.AdjIns.{ListsHolders}
 use Rattle.rs_policy.specs.Verdicts.{verdict}
