@@ -32,7 +32,8 @@ use Rattle.rs_core.specs.declared.route_server.Core.{Core}
 use Rattle.rs_core.proofs.Lists.{get_set_same, set_at}
 use Rattle.rs_core.specs.Beats.{asks_for_keepalive, fell_if}
 use Rattle.rs_core.proofs.Beating.{first_beats}
-use Rattle.rs_core.proofs.Conversing.{IsHeardOrSeen, came_converses}
+use Rattle.rs_core.proofs.Conversing.{IsHeardOrSeen}
+use Rattle.rs_core.proofs.Proceeding.{came_converses}
 use Rattle.rs_core.proofs.Voicing.{acted_voice, greeted, never_open_by_moment}
 use Rattle.rs_core.proofs.Ordering.{acted_ordered, greeted_ordered}
 use Rattle.rs_core.proofs.Agreeing.{begun_held, begun_identifier, others_held, others_identifiers}

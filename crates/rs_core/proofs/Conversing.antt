@@ -1,9 +1,9 @@
--- Which messages go to a client, behind each thing that befalls it.
-use Rattle.std.proofs.Common.{◌≡◌, ◌⊎◌, inl, inr, ℕ, zero, suc, Bool, true, false, List, [], ◌∷◌, ◌++◌, refl, sym, ◌∙◌, ap, subst, take, drop, arith, append_assoc}
+-- Which messages go to a client, behind what its session hears and sees.
+use Rattle.std.proofs.Common.{◌≡◌, ◌⊎◌, inl, inr, ℕ, zero, suc, Bool, true, false, List, [], ◌∷◌, ◌++◌, refl, sym, ◌∙◌, ap, subst, arith}
 use Rattle.std.specs.Prelude.{Option, Some, None, ⊤, if◌then◌else◌}
 use Rattle.std.specs.List.{AllByRecursion}
 use Rattle.std.proofs.lemmas.Bool.{false≢true}
-use Rattle.std.proofs.lemmas.List.{append-nil, take-append-drop}
+use Rattle.std.proofs.lemmas.List.{append-nil}
 use Rattle.rs_octets.specs.declared.heads.Kind.{Kind}
 use Rattle.rs_octets.specs.declared.heads.Kind.TheVariants as kinds
 use Rattle.rs_octets.specs.Messages.{IsMessageOf}
@@ -23,17 +23,12 @@ use Rattle.rs_session.specs.Items.{Item, Came, Message, Moment, Left, is_connect
 use Rattle.rs_session.specs.Endings.{Fate, GoesOn, Ends, IsBrief}
 use Rattle.rs_session.specs.Sessions.{state_of, state_by, is_live, is_request, fate, earlier, item_fate, falls_due, message_act, moment_act, act_of, agreed_mode, mode_by}
 use Rattle.rs_session.specs.Hearing.{Tells, Stays}
-use Rattle.rs_session.proofs.Briefs.{ends_briefly}
-use Rattle.rs_session.proofs.Lasting.{live_lasts}
 use Rattle.rs_outlet.specs.Next.{note_octets}
 use Rattle.rs_outlet.specs.Views.{flight_after}
 use Rattle.rs_core.specs.Hearing.{is_up}
 use Rattle.rs_core.specs.Telling.{each_message}
-use Rattle.rs_core.specs.Conversations.{IsRoutine, IsConversation, IsCutOff, Outgoing, Concludes, Converses, update_mode}
+use Rattle.rs_core.specs.Conversations.{IsRoutine, IsConversation, Outgoing, Concludes, Converses, update_mode}
 use Rattle.rs_core.proofs.Telling.{messages_more}
-
-abbrev nothing : Outgoing
-nothing = record { flight = []; note = None; beat = false }
 
 -- ---- one message more
 
@@ -53,7 +48,7 @@ goes_on_with said mode octets m kind is routine h = let more = messages_more oct
   each = each_more (IsRoutine mode) h.routine m h.each routine;
 }
 
-ends_with : (said : ServerOpen) (mode : Option Mode) (octets m : List ℕ) → IsMessageOf each_message kinds.Note m → IsConversation said mode [] octets → IsConversation said mode (m ∷ []) (octets ++ m)
+pub ends_with : (said : ServerOpen) (mode : Option Mode) (octets m : List ℕ) → IsMessageOf each_message kinds.Note m → IsConversation said mode [] octets → IsConversation said mode (m ∷ []) (octets ++ m)
 ends_with said mode octets m is h = let more = messages_more octets m kinds.Note h.whole is in record {
   whole = more.1;
   routine = h.routine;
@@ -61,7 +56,7 @@ ends_with said mode octets m is h = let more = messages_more octets m kinds.Note
   each = h.each;
 }
 
-begins_with : (said : ServerOpen) → IsConversation said None [] (server_open said)
+pub begins_with : (said : ServerOpen) → IsConversation said None [] (server_open said)
 begins_with said = let one = alone each_message (server_open said) (of_type_is each_message kinds.Open (server_open said) (short_is_message each_message said short.Open tt)) in
     record { whole = one.1; routine = []; messages = one.0; each = tt }
 
@@ -72,14 +67,14 @@ in_mode said before None last octets (inr none) h = subst (λ m. IsConversation 
 in_mode said before (Some mode) last octets (inr none) h = let was = subst (λ m. IsConversation said m last octets) none h in
     record { whole = was.whole; routine = was.routine; messages = was.messages; each = each_so (IsRoutine None) (IsRoutine (Some mode)) was.routine (λ m is. inl is) was.each }
 
-keepalive_is_message : IsMessageOf each_message kinds.Keepalive keepalive
+pub keepalive_is_message : IsMessageOf each_message kinds.Keepalive keepalive
 keepalive_is_message = written_is_message each_message kinds.Keepalive [] refl (omega arith) (omega arith)
 
-keepalive_routine : (mode : Option Mode) → IsRoutine mode keepalive
+pub keepalive_routine : (mode : Option Mode) → IsRoutine mode keepalive
 keepalive_routine None = refl
 keepalive_routine (Some mode) = inl refl
 
-note_is_message : (said : ServerOpen) (note : Short) → IsBrief note → IsMessageOf each_message kinds.Note (note_octets note)
+pub note_is_message : (said : ServerOpen) (note : Short) → IsBrief note → IsMessageOf each_message kinds.Note (note_octets note)
 note_is_message said short.Open brief = absurd brief
 note_is_message said short.Keepalive brief = absurd brief
 note_is_message said (short.Note code sub extra count) brief = short_is_message each_message said (short.Note code sub extra count) (note_fits each_message code sub extra count brief)
@@ -284,118 +279,3 @@ acted_converses (Moment t) act settings said items taken old new is act_is tells
       alone = λ none. ((h.alone none).0, alone_by b was now (moment_act GoesOn falls) old new does none ∙ (h.alone none).1);
     }
 acted_converses Left act settings said items taken old new is act_is tells moves h = absurd is
-
--- ---- a connection came, or was lost
-
-pub came_converses : (settings : Settings) (said : ServerOpen) (items : List Item) (out : Outgoing) → out.flight ≡ server_open said → out.note ≡ None → Converses settings said (Came ∷ items) [] out
-came_converses settings said items out flight note = record {
-  connected = λ there. (note, subst (λ f. IsConversation said None [] f) (sym flight) (begins_with said));
-  alone = λ none. absurd (false≢true (sym none));
-}
-
-pub nothing_converses : (settings : Settings) (said : ServerOpen) (items : List Item) (out : Outgoing) → is_connected items ≡ false → out ≡ nothing → Converses settings said items [] out
-nothing_converses settings said items out none is = record { connected = λ there. absurd (false≢true (sym none ∙ there)); alone = λ _. (refl, is) }
-
--- ---- octets are taken
-
-take_none : (n : ℕ) → ◌≡◌ {A = List ℕ} (take n []) []
-take_none zero = refl
-take_none (suc n) = refl
-
-drop_none : (n : ℕ) → ◌≡◌ {A = List ℕ} (drop n []) []
-drop_none zero = refl
-drop_none (suc n) = refl
-
-took_concludes : (f : Fate) (n : ℕ) (said : ServerOpen) (mode : Option Mode) (taken : List ℕ) (old new : Outgoing) → new ≡ record old { flight = drop n old.flight } → Concludes f said mode taken old
-    → Concludes f said mode (taken ++ take n old.flight) new
-took_concludes f n said mode taken old new e h = by_fate f h where
-  flight : new.flight ≡ drop n old.flight
-  flight = ap (λ (o : Outgoing). o.flight) e
-
-  note : new.note ≡ old.note
-  note = ap (λ (o : Outgoing). o.note) e
-
-  same : (taken ++ take n old.flight) ++ new.flight ≡ taken ++ old.flight
-  same = ap (λ l. (taken ++ take n old.flight) ++ l) flight ∙ append_assoc taken (take n old.flight) (drop n old.flight) ∙ ap (λ l. taken ++ l) (take-append-drop n old.flight)
-
-  on : (last : List (List ℕ)) → IsConversation said mode last (taken ++ old.flight) → IsConversation said mode last ((taken ++ take n old.flight) ++ new.flight)
-  on last c = subst (λ o. IsConversation said mode last o) (sym same) c
-
-  by_fate : (f : Fate) → Concludes f said mode taken old → Concludes f said mode (taken ++ take n old.flight) new
-  by_fate GoesOn h = (note ∙ h.0, on [] h.1)
-  by_fate (Ends (Some said_last)) (beat, inl (waits, c)) = (ap (λ (o : Outgoing). o.beat) e ∙ beat, inl (note ∙ waits, on [] c))
-  by_fate (Ends (Some said_last)) (beat, inr (gone, c)) = (ap (λ (o : Outgoing). o.beat) e ∙ beat, inr (note ∙ gone, on (note_octets said_last ∷ []) c))
-  by_fate (Ends None) h = (
-    e ∙ ap (λ (o : Outgoing). record o { flight = drop n o.flight }) h.0 ∙ ap (λ l. record { flight = l; note = None; beat = false }) (drop_none n),
-    subst (λ o. IsCutOff said mode o) (sym (ap (λ (o : Outgoing). taken ++ take n o.flight) h.0 ∙ ap (λ l. taken ++ l) (take_none n) ∙ append-nil taken)) h.1,
-  )
-
-pub took_converses : (n : ℕ) (settings : Settings) (said : ServerOpen) (items : List Item) (taken : List ℕ) (old new : Outgoing) → new ≡ record old { flight = drop n old.flight }
-    → Converses settings said items taken old → Converses settings said items (taken ++ take n old.flight) new
-took_converses n settings said items taken old new e h = record {
-  connected = λ there. took_concludes (fate settings items) n said (update_mode settings items) taken old new e (h.connected there);
-  alone = λ none. let was = h.alone none in (
-    (λ i. was.0 i ++ take n (was.1 i).flight) ∙ take_none n,
-    e ∙ ap (λ (o : Outgoing). record o { flight = drop n o.flight }) was.1 ∙ ap (λ l. record { flight = l; note = None; beat = false }) (drop_none n),
-  );
-}
-
--- ---- the next message begins
-
-waits_none : {A : Type 0} (note : Short) (waits : Option Short) → waits ≡ Some note → waits ≡ None → A
-waits_none note waits e f = absurd (let g : ◌≡◌ {A = Option Short} None (Some note) = sym f ∙ e in cc)
-
-bare_taken : (taken flight : List ℕ) → flight ≡ [] → taken ++ flight ≡ taken
-bare_taken taken flight empty = ap (λ l. taken ++ l) empty ∙ append-nil taken
-
-note_concludes : (note : Short) (f : Fate) (said : ServerOpen) (mode : Option Mode) (taken : List ℕ) (old new : Outgoing) → old.flight ≡ [] → old.note ≡ Some note → new ≡ record old { flight = note_octets note; note = None }
-    → ((last : Short) → f ≡ Ends (Some last) → IsBrief last) → Concludes f said mode taken old → Concludes f said mode taken new
-note_concludes note GoesOn said mode taken old new empty waits e brief h = waits_none note old.note waits h.0
-note_concludes note (Ends None) said mode taken old new empty waits e brief h = waits_none note old.note waits (ap (λ (o : Outgoing). o.note) h.0)
-note_concludes note (Ends (Some last)) said mode taken old new empty waits e brief (beat, inr (gone, c)) = waits_none note old.note waits gone
-note_concludes note (Ends (Some last)) said mode taken old new empty waits e brief (beat, inl (is, c)) =
-    let same : note ≡ last = let f : ◌≡◌ {A = Option Short} (Some note) (Some last) = sym waits ∙ is in cc in (
-      ap (λ (o : Outgoing). o.beat) e ∙ beat,
-      inr (
-        ap (λ (o : Outgoing). o.note) e,
-        subst (λ f. IsConversation said mode (note_octets last ∷ []) (taken ++ f)) (sym (ap (λ (o : Outgoing). o.flight) e ∙ ap note_octets same))
-            (ends_with said mode taken (note_octets last) (note_is_message said last (brief last refl)) (subst (λ o. IsConversation said mode [] o) (bare_taken taken old.flight empty) c)),
-      ),
-    )
-
-pub note_converses : (note : Short) (settings : Settings) (said : ServerOpen) (items : List Item) (taken : List ℕ) (old new : Outgoing) → old.flight ≡ [] → old.note ≡ Some note
-    → new ≡ record old { flight = note_octets note; note = None } → Converses settings said items taken old → Converses settings said items taken new
-note_converses note settings said items taken old new empty waits e h = record {
-  connected = λ there. note_concludes note (fate settings items) said (update_mode settings items) taken old new empty waits e (λ last f. ends_briefly settings items (Some last) f) (h.connected there);
-  alone = λ none. waits_none note old.note waits (ap (λ (o : Outgoing). o.note) (h.alone none).1);
-}
-
-beats_never : {A : Type 0} (b : Bool) → b ≡ true → b ≡ false → A
-beats_never b e f = absurd (false≢true (sym f ∙ e))
-
-keepalive_concludes : (f : Fate) (said : ServerOpen) (mode : Option Mode) (taken : List ℕ) (old new : Outgoing) → old.flight ≡ [] → old.note ≡ None → old.beat ≡ true → new ≡ record old { flight = keepalive; beat = false }
-    → Concludes f said mode taken old → Concludes f said mode taken new
-keepalive_concludes GoesOn said mode taken old new empty quiet due e h = (
-  ap (λ (o : Outgoing). o.note) e ∙ quiet,
-  subst (λ f. IsConversation said mode [] (taken ++ f)) (sym (ap (λ (o : Outgoing). o.flight) e))
-      (goes_on_with said mode taken keepalive kinds.Keepalive keepalive_is_message (keepalive_routine mode) (subst (λ o. IsConversation said mode [] o) (bare_taken taken old.flight empty) h.1)),
-)
-keepalive_concludes (Ends (Some note)) said mode taken old new empty quiet due e h = beats_never old.beat due h.0
-keepalive_concludes (Ends None) said mode taken old new empty quiet due e h = beats_never old.beat due (ap (λ (o : Outgoing). o.beat) h.0)
-
-pub keepalive_converses : (settings : Settings) (said : ServerOpen) (items : List Item) (taken : List ℕ) (old new : Outgoing) → old.flight ≡ [] → old.note ≡ None → old.beat ≡ true
-    → new ≡ record old { flight = keepalive; beat = false } → Converses settings said items taken old → Converses settings said items taken new
-keepalive_converses settings said items taken old new empty quiet due e h = record {
-  connected = λ there. keepalive_concludes (fate settings items) said (update_mode settings items) taken old new empty quiet due e (h.connected there);
-  alone = λ none. beats_never old.beat due (ap (λ (o : Outgoing). o.beat) (h.alone none).1);
-}
-
--- octets in place of none, while the session lasts
-pub routine_converses : (mode : Mode) (settings : Settings) (said : ServerOpen) (items : List Item) (taken : List ℕ) (old new : Outgoing) → is_live (state_of settings items) ≡ true → update_mode settings items ≡ Some mode → old.flight ≡ [] → new.note ≡ None
-    → (IsConversation said (Some mode) [] taken → IsConversation said (Some mode) [] (taken ++ new.flight)) → Converses settings said items taken old → Converses settings said items taken new
-routine_converses mode settings said items taken old new live spoken empty quiet goes h = let lasts = live_lasts settings items live in record {
-  connected = λ there. let was = subst (λ f. Concludes f said (update_mode settings items) taken old) lasts.goes_on (h.connected there) in
-      subst (λ f. Concludes f said (update_mode settings items) taken new) (sym lasts.goes_on)
-      (quiet, subst (λ m. IsConversation said m [] (taken ++ new.flight)) (sym spoken) (goes (subst (λ m. IsConversation said m [] taken) spoken (subst (λ o. IsConversation said (update_mode settings items) [] o) (bare_taken taken old.flight empty) was.1))));
-  alone = λ none. absurd (false≢true (sym none ∙ lasts.connected));
-}

@@ -47,7 +47,8 @@ use Rattle.rs_core.specs.Telling.{Speaks, each_message, no_table}
 use Rattle.rs_core.specs.Beats.{AreBeats, IsNext, asks_for_keepalive, fell_if}
 use Rattle.rs_core.specs.Conversations.{Converses, Outgoing, outgoing_of, own_open}
 use Rattle.rs_core.specs.Voices.{IsInOrder, SpeaksTo, SaysTheSame, Talks, IsDue, IsLeftAlone, IsFinished, IsGreeting, IsRaised, IsSilent, TellsAgain, TellsTheSame, Voices, speech_within}
-use Rattle.rs_core.proofs.Conversing.{Moves, IsHeardOrSeen, acted_converses, took_converses, keepalive_converses, note_converses, routine_converses, mode_up}
+use Rattle.rs_core.proofs.Conversing.{Moves, IsHeardOrSeen, acted_converses, mode_up}
+use Rattle.rs_core.proofs.Proceeding.{took_converses, keepalive_converses, note_converses, routine_converses}
 use Rattle.rs_core.proofs.Beating.{acted_beats, beats_same, next_beats, still_beats}
 use Rattle.rs_core.proofs.Uttering.{agreed_by_speech, all_gone, due_mandatory, limit_most, update_goes_on, update_is_next}
 use Rattle.rs_core.proofs.Telling.{silence_speaks, speaks_on, speaks_same}

@@ -92,8 +92,8 @@ EndsWith note said mode taken out =
     ⊎ ((out.note ≡ None) × IsConversation said mode (note_octets note ∷ []) (taken ++ out.flight))
 
 -- The octets taken, and those in flight behind them, are what the session asks for. While it lasts, they are a conversation, and
--- no NOTIFICATION waits. Where it ends with a NOTIFICATION, the message in flight is still finished, and then that NOTIFICATION
--- follows and nothing else. Where it ends with none, since one was heard, what was in flight is dropped, and nothing follows.
+-- no NOTIFICATION waits. Where it ends with a NOTIFICATION, they are whole messages still, and that one waits or is the last of
+-- them, and nothing else follows. Where it ends with none, since one was heard, nothing is in flight, and nothing follows.
 abbrev pub Concludes : Fate → ServerOpen → Option Mode → List ℕ → Outgoing → Type 0
 Concludes GoesOn said mode taken out = (out.note ≡ None) × IsConversation said mode [] (taken ++ out.flight)
 Concludes (Ends (Some note)) said mode taken out = (out.beat ≡ false) × EndsWith note said mode taken out
