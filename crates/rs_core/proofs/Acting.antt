@@ -30,6 +30,8 @@ use Rattle.rs_core.specs.Conversations.{outgoing_of, own_open}
 use Rattle.rs_core.specs.Voices.{IsGreeting, KeepsVoices, Voices}
 use Rattle.rs_core.specs.declared.route_server.Core.{Core}
 use Rattle.rs_core.proofs.Lists.{get_set_same, set_at}
+use Rattle.rs_core.specs.Beats.{asks_for_keepalive, fell_if}
+use Rattle.rs_core.proofs.Beating.{first_beats}
 use Rattle.rs_core.proofs.Conversing.{IsHeardOrSeen, came_converses}
 use Rattle.rs_core.proofs.Voicing.{acted_voice, greeted, never_open_by_moment}
 use Rattle.rs_core.proofs.Ordering.{acted_ordered, greeted_ordered}
@@ -180,7 +182,7 @@ never_again_by true (Ends _) falls e = cc
 never_again_by true GoesOn true e = cc
 never_again_by true GoesOn false e = cc
 
-pub asked_by_no_moment : (s : Configuration) (c t : ℕ) (h : Hearing) → HasAskedIf (Moment t) s c h (sees t h)
+pub asked_by_no_moment : (s : Configuration) (c t : ℕ) (h : Hearing) → HasAskedIf (Moment t) s c h (sees s c t h)
 asked_by_no_moment s c t h = record {
   has_asked = false;
   points = refl;
@@ -192,11 +194,11 @@ pub acted : (old new : Core) (act : Act) (item : Item) (x t : Session) (s : Conf
     → IsHeardOrSeen item → slice_get old.sessions.items c ≡ Some x → c < length old.sessions.items → new.sessions.items ≡ slice_set old.sessions.items c t
     → RespondsTo x t item act → ActsOn act c (slice_set old.sessions.items c t) old.ribs.tables new.ribs.tables
     → new.ribs.config ≡ old.ribs.config → ((none : View) → Voices act old.ribs.extended c (slice_set old.sessions.items c t) (outlet_in old.ribs c none) (outlet_in new.ribs c none))
-    → (act_of (session_in s c) item h.items ≡ acts.Say short.Open → ⊥) → next.items ≡ item ∷ h.items → next.taken ≡ h.taken → HasAskedIf item s c h next
+    → (act_of (session_in s c) item h.items ≡ acts.Say short.Open → ⊥) → next.items ≡ item ∷ h.items → next.beats ≡ fell_if (asks_for_keepalive (act_of (session_in s c) item h.items)) h.beats → next.taken ≡ h.taken → HasAskedIf item s c h next
     → (is_up (state_in s c h) ≡ false → act_of (session_in s c) item h.items ≡ acts.Up → next.changes ≡ [])
     → (is_up (state_in s c h) ≡ true → is_up (state_in s c next) ≡ true → next.changes ≡ h.changes)
     → Knows old s c h → Knows new s c next
-acted old new act item x t s c h next is_item read lt sessions responds does config voices never items taken asked fresh same knows =
+acted old new act item x t s c h next is_item read lt sessions responds does config voices never items beats taken asked fresh same knows =
     let it = responds (session_in s c) h.items (knows.session x read) in
     let heard : HasHeard t (session_in s c) next.items = subst (λ l. HasHeard t (session_in s c) l) (sym items) it.heard in
     let tells : Tells act (session_in s c) h.items next.items = subst (λ l. Tells act (session_in s c) h.items l) (sym items) it.tells in
@@ -209,7 +211,7 @@ acted old new act item x t s c h next is_item read lt sessions responds does con
       table = has.table;
       identifier = has.identifier;
       outlet = λ is none. acted_voice item act old.ribs.extended s (old.ribs.long ∙ ap (λ (k : Configuration). k.top.extended) (sym config ∙ is)) (slice_set old.sessions.items c t) t c h next (outlet_in old.ribs c none) (outlet_in new.ribs c none)
-          is_item it.act_is items (voices none) got heard tells
+          is_item it.act_is items beats (voices none) got heard tells
           (λ e. never (sym it.act_is ∙ e)) taken (knows.outlet (sym config ∙ is) none);
       ordered = λ is none. acted_ordered act old.ribs.extended (slice_set old.sessions.items c t) t s c h next (outlet_in old.ribs c none) (outlet_in new.ribs c none) asked.has_asked (knows.outlet (sym config ∙ is) none).order asked.points
           (λ e. asked.again (sym it.act_is ∙ e)) (λ e. it.act_is ∙ asked.only e) (voices none) got heard tells (λ e. never (sym it.act_is ∙ e)) taken (knows.ordered (sym config ∙ is) none);
@@ -252,9 +254,9 @@ pub seen : (old new : Core) (act : Act) (x after : Session) (s : Configuration) 
     → slice_get old.sessions.items c ≡ Some x → c < length old.sessions.items → new.sessions.items ≡ slice_set old.sessions.items c after → new.buffers ≡ old.buffers
     → RespondsTo x after (Moment t) act → ActsOn act c (slice_set old.sessions.items c after) old.ribs.tables new.ribs.tables
     → new.ribs.config ≡ old.ribs.config → ((none : View) → Voices act old.ribs.extended c (slice_set old.sessions.items c after) (outlet_in old.ribs c none) (outlet_in new.ribs c none))
-    → AgreesAt old s c h → AgreesAt new s c (sees t h)
+    → AgreesAt old s c h → AgreesAt new s c (sees s c t h)
 seen old new act x after s c t h read lt sessions buffers responds does config voices at = record {
-  knows = acted old new act (Moment t) x after s c h (sees t h) tt read lt sessions responds does config voices (never_open_by_moment (session_in s c) t h.items) refl refl (asked_by_no_moment s c t h)
+  knows = acted old new act (Moment t) x after s c h (sees s c t h) tt read lt sessions responds does config voices (never_open_by_moment (session_in s c) t h.items) refl refl refl (asked_by_no_moment s c t h)
       (λ down up. absurd (never_up (session_in s c) t h.items up)) (λ before now. refl) at.knows;
   waits = λ y e. let w = at.waits y (ap (λ v. slice_get v.items c) (sym buffers) ∙ e) in record {
     rest = λ live. w.rest (live_before (session_in s c) t h.items live);
@@ -281,7 +283,10 @@ came old new act x t s c h read lt sessions emptied tables config greets respond
         table = λ p. ap (λ ins. held_of ins c p) tables ∙ at.knows.table p ∙ alike.table p;
         identifier = ap (λ ins. identifier_of ins c) tables ∙ at.knows.identifier ∙ alike.identifier;
         outlet = λ is none. let own = greets_as is none in greeted s c (begins h) (outlet_in new.ribs c none) own refl (ap is_up opens.now)
-            (came_converses (session_in s c) (own_open s) h.items (outgoing_of (outlet_in new.ribs c none)) own.flight own.note);
+            (record {
+              messages = came_converses (session_in s c) (own_open s) h.items (outgoing_of (outlet_in new.ribs c none)) own.flight own.note;
+              beats = λ live. first_beats (own_open s) (outlet_in new.ribs c none).flight (outlet_in new.ribs c none).beat own.flight own.beat;
+            });
         ordered = λ is none. greeted_ordered s c (begins h) (outlet_in new.ribs c none) (greets_as is none) refl refl;
       };
       waits = λ b e. record { rest = λ live. emptied b e; good = λ live. refl };
@@ -295,6 +300,7 @@ alone_follows s c message h = record {
   items = refl;
   taken = refl;
   points = refl;
+  beats = refl;
   fresh = λ down. ap (λ b. if b then h.changes else []) down;
   same = λ up now. ap (λ b. if b then h.changes else []) up;
 }

@@ -90,19 +90,19 @@ cut_short core s c h knows = record { items = h.items; moment = refl; session = 
 -- the clients below n have seen the moment, and the others not yet
 pub record HaveSeen (t n : ℕ) (core : Core) (run : List Move) : Type 0 where
   pub config : core.ribs.config ≡ config_in run
-  pub seen : (d : ℕ) → d < n → d < core.count → AgreesAt core (config_in run) d (sees t (hearing d run))
+  pub seen : (d : ℕ) → d < n → d < core.count → AgreesAt core (config_in run) d (sees (config_in run) d t (hearing d run))
   pub unseen : (d : ℕ) → n ≤ d → d < core.count → AgreesAt core (config_in run) d (hearing d run)
 
 pub none_seen : (t : ℕ) (core : Core) (run : List Move) → Agrees core run → HaveSeen t 0 core run
 none_seen t core run h = record { config = h.config; seen = λ d lt. absurd (omega (arith, lt)); unseen = λ d ge. h.clients d }
 
 pub one_seen : (t c n : ℕ) (old new : Core) (run : List Move) → n ≡ c + 1 → c < old.count → Spares c old new
-    → ((s : Configuration) (h : Hearing) → AgreesAt old s c h → AgreesAt new s c (sees t h)) → HaveSeen t c old run → HaveSeen t n new run
+    → ((s : Configuration) (h : Hearing) → AgreesAt old s c h → AgreesAt new s c (sees s c t h)) → HaveSeen t c old run → HaveSeen t n new run
 one_seen t c n old new run next lt it sees_at h = record {
   config = it.config ∙ h.config;
   seen = λ d below within. elim (equal_or d c) [
-    | inl same ↦ subst (λ i. AgreesAt new (config_in run) i (sees t (hearing i run))) (sym same) (sees_at (config_in run) (hearing c run) (h.unseen c (omega arith) lt))
-    | inr ne ↦ let there = subst (λ k. d < k) it.count within in spared c d old new (config_in run) (sees t (hearing d run)) it ne there (h.seen d (omega (arith, below, next, ne)) there)
+    | inl same ↦ subst (λ i. AgreesAt new (config_in run) i (sees (config_in run) i t (hearing i run))) (sym same) (sees_at (config_in run) (hearing c run) (h.unseen c (omega arith) lt))
+    | inr ne ↦ let there = subst (λ k. d < k) it.count within in spared c d old new (config_in run) (sees (config_in run) d t (hearing d run)) it ne there (h.seen d (omega (arith, below, next, ne)) there)
   ];
   unseen = λ d above within. let there = subst (λ k. d < k) it.count within in
       spared c d old new (config_in run) (hearing d run) it (λ e. absurd (omega (arith, e, above, next))) there (h.unseen d (omega (arith, above, next)) there);

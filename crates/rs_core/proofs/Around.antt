@@ -66,6 +66,7 @@ asked_again v w h = record {
   speech = ap (λ (x : View). x.speech) h.rest;
   flight = ap (λ (x : View). x.flight) h.rest;
   note = ap (λ (x : View). x.note) h.rest;
+  beat = ap (λ (x : View). x.beat) h.rest;
   loc = ap (λ (x : View). x.loc) h.rest;
   told = h.told;
   marked = h.marked;

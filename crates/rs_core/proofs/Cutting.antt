@@ -35,7 +35,7 @@ with_others core s c octets h knows = record {
   session = knows.session;
   table = knows.table;
   identifier = knows.identifier;
-  outlet = λ config none. let v = outlet_in core.ribs c none in voiced_on s s c h (with_octets octets h) v v refl (λ l. l) refl (same_again v v (same_is v v refl)) (knows.outlet config none).messages (knows.outlet config none);
+  outlet = λ config none. let v = outlet_in core.ribs c none in voiced_on s s c h (with_octets octets h) v v refl (λ l. l) refl (same_again v v (same_is v v refl)) (record { messages = (knows.outlet config none).talk.messages; beats = (knows.outlet config none).talk.beats }) (knows.outlet config none);
   ordered = λ config none. let v = outlet_in core.ribs c none in
       ordered_on s s c h (with_octets octets h) v v refl refl refl refl refl refl (λ l d. (l, d)) (knows.ordered config none);
 }

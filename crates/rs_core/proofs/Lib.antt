@@ -22,6 +22,7 @@ pub mod Turned
 pub mod Telling
 pub mod Spoken
 pub mod Conversing
+pub mod Beating
 pub mod Uttering
 pub mod Voicing
 pub mod Around

@@ -50,7 +50,7 @@ use Rattle.rs_core.specs.Voices.{IsInOrder, IsGreeting, IsRaised, SaysTheSame, S
 use Rattle.rs_core.proofs.Telling.{updates_more, zip_more}
 use Rattle.rs_core.proofs.Spoken.{all_at, among_has}
 use Rattle.rs_core.proofs.Uttering.{all_gone, due_mandatory, limit_most}
-use Rattle.rs_core.proofs.Voicing.{down_speech, spoken_up, still, up_live}
+use Rattle.rs_core.proofs.Voicing.{down_speech, due_same, spoken_up, still, up_live}
 
 -- ---- what goes on as before
 
@@ -178,7 +178,7 @@ acted_ordered acts.None long sessions x s c h next v w b in_order points again o
     stayed_ordered s c h next v w (points ∙ not_asked b h.points (λ e. let f : ◌≡◌ {A = Act} acts.None acts.Again = only e in cc)) tells taken (still v w voices) at
 acted_ordered (acts.Say message) long sessions x s c h next v w b in_order points again only voices read heard tells not taken at =
     said_ordered message s c h next v w (points ∙ not_asked b h.points (λ e. let f : ◌≡◌ {A = Act} (acts.Say message) acts.Again = only e in cc))
-    (λ e. not (ap (λ (m : Short). acts.Say m) e)) tells taken voices at
+    (λ e. not (ap (λ (m : Short). acts.Say m) e)) tells taken (due_same v w voices) at
 acted_ordered acts.Up long sessions x s c h next v w b in_order points again only voices read heard tells not taken at =
     raised_ordered s c h next v w _ (voices x read (session_in s c) next.items heard tells.now)
     (points ∙ not_asked b h.points (λ e. let f : ◌≡◌ {A = Act} acts.Up acts.Again = only e in cc)) taken (ap is_live tells.before) (ap is_up tells.before) (ap is_up tells.now) at

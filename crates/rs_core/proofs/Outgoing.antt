@@ -67,21 +67,18 @@ moved_at c octets Is old new s h m outlet ordered at = record {
 }
 
 -- the client is spoken to as before
-offered_says : (s : Configuration) (c : ℕ) (h : Hearing) (own : Bool) (v : View) → SpeaksTo s c h v → SpeaksTo s c (offers own h) v
-offered_says s c h own v at = record { speech = at.speech; quiet = at.quiet; before = at.before; since = at.since; order = at.order; messages = at.messages }
-
 decided_says : (s : Configuration) (c : ℕ) (h : Hearing) (turned : Bool) (due : Prefix → Option (List Attribute)) (v : View) → SpeaksTo s c h v → SpeaksTo s c (decides turned due h) v
-decided_says s c h turned due v at = record { speech = at.speech; quiet = at.quiet; before = at.before; since = at.since; order = at.order; messages = at.messages }
+decided_says s c h turned due v at = record { speech = at.speech; quiet = at.quiet; before = at.before; since = at.since; order = at.order; talk = record { messages = at.talk.messages; beats = at.talk.beats } }
 
 still_at : (c : ℕ) (Is : View → View → Type 0) (old new : Core) (s : Configuration) (h : Hearing) → MovesOutlet c Is old new
-    → (new.ribs.config ≡ s → (none : View) → SpeaksTo s c h (outlet_in new.ribs c none)) → (new.ribs.config ≡ s → (none : View) → IsOrdered s c (offers true h) (outlet_in new.ribs c none))
+    → (new.ribs.config ≡ s → (none : View) → SpeaksTo s c (offers true h) (outlet_in new.ribs c none)) → (new.ribs.config ≡ s → (none : View) → IsOrdered s c (offers true h) (outlet_in new.ribs c none))
     → AgreesAt old s c h → AgreesAt new s c (offers true h)
 still_at c Is old new s h m outlet ordered at = record {
   knows = record {
     session = λ x e. at.knows.session x (ap (λ v. slice_get v.items c) (sym m.sessions) ∙ e);
     table = λ p. ap (λ t. held_of t c p) m.tables ∙ at.knows.table p;
     identifier = ap (λ t. identifier_of t c) m.tables ∙ at.knows.identifier;
-    outlet = λ config none. offered_says s c h true (outlet_in new.ribs c none) (outlet config none);
+    outlet = outlet;
     ordered = ordered;
   };
   waits = λ x e. let w = at.waits x (ap (λ v. slice_get v.items c) (sym m.buffers) ∙ e) in record { rest = w.rest; good = w.good };
@@ -120,7 +117,7 @@ took_agrees c n old new run octets lt are m h =
     (subst (λ k. AgreesAt new (config_in run) c k) (sym (own c (takes octets (hearing c run)) (hearing c run)))
     (moved_at c octets (IsTakenFrom n) old new (config_in run) (hearing c run) m
     (λ config none. took_voice (config_in run) c n (hearing c run) (takes octets (hearing c run)) (outlet_in old.ribs c none) (outlet_in new.ribs c none) (m.outlet.own none (within old c lt)) refl
-    (ap (λ o. (hearing c run).taken ++ o) (are none)) ((h.clients c lt).knows.outlet h.config none))
+    (ap (λ o. (hearing c run).taken ++ o) (are none)) refl ((h.clients c lt).knows.outlet h.config none))
     (λ config none. took_ordered (config_in run) c n (hearing c run) (takes octets (hearing c run)) (outlet_in old.ribs c none) (outlet_in new.ribs c none) (m.outlet.own none (within old c lt)) refl
     (ap (λ o. (hearing c run).taken ++ o) (are none)) refl ((h.clients c lt).knows.ordered h.config none)) (h.clients c lt)))
 

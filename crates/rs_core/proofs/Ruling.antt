@@ -18,8 +18,9 @@ use Rattle.rs_core.specs.Keeping.{AreBare}
 use Rattle.rs_core.specs.Runs.{hearing, speech_by, speech_in}
 use Rattle.rs_core.specs.Ribs.{outlet_in, ChangesAll}
 use Rattle.rs_core.specs.Turns.{IsMarked}
+use Rattle.rs_core.specs.Beats.{AreBeats}
 use Rattle.rs_core.specs.Conversations.{Converses, outgoing_of, own_open}
-use Rattle.rs_core.specs.Voices.{IsLeftAlone, SpeaksTo}
+use Rattle.rs_core.specs.Voices.{IsLeftAlone, SpeaksTo, Talks}
 use Rattle.rs_core.specs.Steps.{HaveHeardNothing}
 use Rattle.rs_core.specs.Agreeing.{Knows, Waits, Agrees}
 use Rattle.rs_core.specs.declared.ribs.Ribs.{Ribs}
@@ -68,12 +69,14 @@ speech_fixed s t c h e = sym (ap (λ (k : Settings). if is_up (state_of k h.item
 open_fixed : (s t : Configuration) → IsFixed s t → own_open s ≡ own_open t
 open_fixed s t h = sym (λ i. record { server_as = h.server_as i; hold = h.hold i; identifier = h.identifier i; multiprotocol = h.multiprotocol i; extended = h.extended i; refresh = h.refresh i })
 
-messages_fixed : (s t : Configuration) (c : ℕ) (h : Hearing) (v w : View) → session_in s c ≡ session_in t c → own_open s ≡ own_open t → IsLeftAlone v w → Converses (session_in s c) (own_open s) h.items h.taken (outgoing_of v)
-    → Converses (session_in t c) (own_open t) h.items h.taken (outgoing_of w)
-messages_fixed s t c h v w session opening alone messages =
-    subst (λ k. Converses k (own_open t) h.items h.taken (outgoing_of w)) session
-    (subst (λ o. Converses (session_in s c) o h.items h.taken (outgoing_of w)) opening
-    (subst (λ o. Converses (session_in s c) (own_open s) h.items h.taken o) (sym (ap outgoing_of alone.is)) messages))
+talks_fixed : (s t : Configuration) (c : ℕ) (h : Hearing) (v w : View) → session_in s c ≡ session_in t c → own_open s ≡ own_open t → IsLeftAlone v w → Talks s c h v → Talks t c h w
+talks_fixed s t c h v w session opening alone talk = record {
+  messages = subst (λ k. Converses k (own_open t) h.items h.taken (outgoing_of w)) session
+      (subst (λ o. Converses (session_in s c) o h.items h.taken (outgoing_of w)) opening
+      (subst (λ o. Converses (session_in s c) (own_open s) h.items h.taken o) (sym (ap outgoing_of alone.is)) talk.messages));
+  beats = λ live. subst (λ o. AreBeats o h.beats (h.taken ++ w.flight) w.beat) opening
+      (subst (λ (o : View). AreBeats (own_open s) h.beats (h.taken ++ o.flight) o.beat) (sym alone.is) (talk.beats (ap (λ k. is_live (state_of k h.items)) session ∙ live)));
+}
 
 -- another configuration that leaves as it is what has to stay
 pub ruled : (old new : Core) (run : List Move) (config : Configuration) → IsFixed (config_in run) config
@@ -90,8 +93,8 @@ ruled old new run config fixed count is sessions buffers tables marked h = recor
             (λ _ none. voiced_on (config_in run) config c (hearing c run) (hearing c run) (outlet_in old.ribs c none) (outlet_in new.ribs c none) (speech_fixed (config_in run) config c (hearing c run) session)
             (λ l. ap (λ k. is_live (state_of k (hearing c run).items)) session ∙ l) refl
             (same_again _ _ (marked_same old.ribs.tables _ _ (marked.each c none (subst (λ n. c < n) (sym old.ribs_len) there))))
-            (messages_fixed (config_in run) config c (hearing c run) (outlet_in old.ribs c none) (outlet_in new.ribs c none) session (open_fixed (config_in run) config fixed)
-            (marked_alone old.ribs.tables _ _ (marked.each c none (subst (λ n. c < n) (sym old.ribs_len) there))) (at.knows.outlet h.config none).messages) (at.knows.outlet h.config none))
+            (talks_fixed (config_in run) config c (hearing c run) (outlet_in old.ribs c none) (outlet_in new.ribs c none) session (open_fixed (config_in run) config fixed)
+            (marked_alone old.ribs.tables _ _ (marked.each c none (subst (λ n. c < n) (sym old.ribs_len) there))) (at.knows.outlet h.config none).talk) (at.knows.outlet h.config none))
             (λ _ none. let same = marked_same old.ribs.tables _ _ (marked.each c none (subst (λ n. c < n) (sym old.ribs_len) there)) in
             let v = outlet_in old.ribs c none in
             ordered_on (config_in run) config c (hearing c run) (hearing c run) v (outlet_in new.ribs c none) refl
@@ -128,7 +131,10 @@ begun core config is sessions held identifiers bare = record {
       outlet = λ _ none. let is = bare c none (subst (λ n. c < n) (sym (core.ribs.outlets_len ∙ core.ribs_len)) lt) in
           let silent = bare_silent c config.top.extended lasts.Never (outlet_in core.ribs c none) is in
           voiced_over config c silence (outlet_in core.ribs c none) refl refl silent.speech silent.order
-          (nothing_converses (session_in config c) (own_open config) [] (outgoing_of (outlet_in core.ribs c none)) refl (bare_out c config.top.extended lasts.Never (outlet_in core.ribs c none) is));
+          (record {
+            messages = nothing_converses (session_in config c) (own_open config) [] (outgoing_of (outlet_in core.ribs c none)) refl (bare_out c config.top.extended lasts.Never (outlet_in core.ribs c none) is);
+            beats = λ live. absurd (let f = live in cc);
+          });
       ordered = λ _ none. over_ordered config c silence (outlet_in core.ribs c none) refl
           (bare_silent c config.top.extended lasts.Never (outlet_in core.ribs c none) (bare c none (subst (λ n. c < n) (sym (core.ribs.outlets_len ∙ core.ribs_len)) lt))).speech;
     };

@@ -88,6 +88,7 @@ reset_follows s c h reset change = record {
   items = refl;
   taken = refl;
   points = refl;
+  beats = refl;
   fresh = λ down. ap (λ b. if b then change ∷ h.changes else []) down;
   same = λ up now. absurd (false≢true (sym (reset_ends (session_in s c) reset h.items) ∙ now));
 }

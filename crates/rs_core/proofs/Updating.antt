@@ -1,5 +1,5 @@
 -- What UPDATEs make of a client's Adj-RIB-In.
-use Rattle.std.proofs.Common.{◌≡◌, ◌≢◌, ◌<◌, ◌==◌, ◌&&◌, ◌||◌, ℕ, zero, suc, Bool, true, false, List, [], ◌∷◌, length, take, get_or, refl, sym, ◌∙◌, ap, subst, arith}
+use Rattle.std.proofs.Common.{◌≡◌, ◌≢◌, ◌<◌, ◌==◌, ◌&&◌, ◌||◌, ℕ, zero, suc, Bool, true, false, List, [], ◌∷◌, ◌++◌, length, take, get_or, refl, sym, ◌∙◌, ap, subst, arith}
 use Rattle.std.specs.Prelude.{Option, Some, None, find, slice_get, slice_set, if◌then◌else◌}
 use Rattle.std.proofs.lemmas.Bool.Decides.{nat_tests}
 use Rattle.rs_octets.specs.Prefixes.{Prefix}
@@ -27,6 +27,7 @@ use Rattle.rs_core.specs.Agreeing.{Knows, IsCutShort}
 use Rattle.rs_outlet.specs.Views.{View}
 use Rattle.rs_core.specs.Ribs.{outlet_in}
 use Rattle.rs_core.specs.declared.route_server.Core.{Core}
+use Rattle.rs_core.specs.Beats.{AreBeats, asks_for_keepalive, fell_if}
 use Rattle.rs_core.specs.Conversations.{outgoing_of, own_open}
 use Rattle.rs_core.proofs.Conversing.{acted_converses}
 use Rattle.rs_core.proofs.Voicing.{same_again, same_is, stayed}
@@ -147,8 +148,12 @@ changed old new x t s c h W A m change read lt sessions responds takes held iden
           ∙ sym (up_table s c next now p);
       identifier = identifier ∙ knows.identifier ∙ up_identifier s c h up ∙ ap identifier_by (sym it.tells.agreed) ∙ sym (up_identifier s c next now);
       outlet = λ is none. stayed s c h next (outlet_in old.ribs c none) (outlet_in new.ribs c none) it.tells refl (same_again _ _ (same_is _ _ (own none)))
-          (acted_converses (Message (heard.Update None)) acts.None (session_in s c) (own_open s) h.items h.taken (outgoing_of (outlet_in old.ribs c none)) (outgoing_of (outlet_in new.ribs c none)) tt it.act_is it.tells
-          (ap outgoing_of (own none)) (knows.outlet (sym config ∙ is) none).messages) (knows.outlet (sym config ∙ is) none);
+          (record {
+            messages = acted_converses (Message (heard.Update None)) acts.None (session_in s c) (own_open s) h.items h.taken (outgoing_of (outlet_in old.ribs c none)) (outgoing_of (outlet_in new.ribs c none)) tt it.act_is it.tells
+                (ap outgoing_of (own none)) (knows.outlet (sym config ∙ is) none).talk.messages;
+            beats = λ live. subst (λ a. AreBeats (own_open s) (fell_if (asks_for_keepalive a) h.beats) (h.taken ++ (outlet_in new.ribs c none).flight) (outlet_in new.ribs c none).beat) it.act_is
+                (subst (λ (o : View). AreBeats (own_open s) h.beats (h.taken ++ o.flight) o.beat) (sym (own none)) ((knows.outlet (sym config ∙ is) none).talk.beats (ap is_live (sym it.tells.state) ∙ live)));
+          }) (knows.outlet (sym config ∙ is) none);
       ordered = λ is none. stayed_ordered s c h next (outlet_in old.ribs c none) (outlet_in new.ribs c none) (unasked (is_up (state_in s c h)) h.points) it.tells refl (same_is _ _ (own none)) (knows.ordered (sym config ∙ is) none);
     }
 

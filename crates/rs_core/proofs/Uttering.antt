@@ -6,6 +6,7 @@ use Rattle.std.proofs.lemmas.List.{append-nil}
 use Rattle.std.specs.FinMap as fin
 use Rattle.std.specs.FinSet as set
 use Rattle.rs_octets.specs.declared.heads.Kind.TheVariants as kinds
+use Rattle.rs_octets.specs.Messages.{IsMessageOf}
 use Rattle.rs_octets.specs.Prefixes.{Prefix, IsIpv4Prefix}
 use Rattle.rs_attrs.specs.declared.mode.Mode.{Mode}
 use Rattle.rs_attrs.specs.Meaning.{Attribute}
@@ -30,6 +31,7 @@ use Rattle.rs_outlet.specs.Views.{View, WaitsAreExact, waits_at, AreNumbered}
 use Rattle.rs_core.specs.Hearing.{Hearing, session_in, state_in, is_up}
 use Rattle.rs_core.specs.Runs.{speech_by, speech_in}
 use Rattle.rs_core.specs.Telling.{each_message}
+use Rattle.rs_core.specs.Beats.{IsNext}
 use Rattle.rs_core.specs.Conversations.{IsConversation}
 use Rattle.rs_core.specs.Voices.{IsInOrder}
 use Rattle.rs_core.proofs.Conversing.{goes_on_with}
@@ -91,6 +93,17 @@ update_goes_on said speech v w ins octets numbered order (inr (inr news)) h =
     subst (λ f. IsConversation said (Some speech.mode) [] (octets ++ f)) (sym news.flight)
     (goes_on_with said (Some speech.mode) octets (announcement m speech.mode news.prefixes) kinds.Update is
     (inr (is, record { withdrawn = []; attributes = m; announced = news.prefixes; holds = announcement_holds m speech.mode news.prefixes ok; mandatory = λ some. ok.mandatory })) h)
+
+-- it is an UPDATE or none
+pub update_is_next : (speech : Speech) (v w : View) (ins : AdjIns) → AreNumbered v ins → IsInOrder v → BeginsUpdate speech v w → IsNext false w.flight
+update_is_next speech v w ins numbered order (inl rests) = inl rests.flight
+update_is_next speech v w ins numbered order (inr (inl gone)) =
+    let ok = withdrawable speech.limit w.flight gone.prefixes gone.prefixes_legal gone.flight gone.fits in
+    inr (subst (λ f. IsMessageOf each_message kinds.Update f) (sym gone.flight) (update_is_message each_message gone.prefixes [] [] ok.fits))
+update_is_next speech v w ins numbered order (inr (inr news)) =
+    let m : List Attribute = news.attributes in
+    let ok = announceable speech.limit speech.mode w.flight m news.prefixes news.legal (due_mandatory v news.prefixes m order news.some (news.due ins numbered)) news.some news.prefixes_legal news.flight news.fits in
+    inr (subst (λ f. IsMessageOf each_message kinds.Update f) (sym news.flight) (update_is_message each_message [] (spelt m speech.mode) news.prefixes ok.fits))
 
 -- ---- in the mode of its OPEN
 

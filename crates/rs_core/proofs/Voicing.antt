@@ -41,13 +41,15 @@ use Rattle.rs_outlet.specs.Views.{View, waits_at, AreNumbered, is_touched, bare,
 use Rattle.rs_adjin.specs.declared.adj_ins.AdjIns.{AdjIns}
 use Rattle.rs_core.specs.Touches.{IsBegun, IsTouchedAt, touched_with}
 use Rattle.rs_core.specs.Turns.{IsMarked, IsDone, IsTurn}
-use Rattle.rs_core.specs.Hearing.{Hearing, session_in, state_in, is_up}
+use Rattle.rs_core.specs.Hearing.{Hearing, session_in, state_in, is_up, offers}
 use Rattle.rs_core.specs.Runs.{speech_by, speech_in}
 use Rattle.rs_core.specs.Telling.{Speaks, each_message, no_table}
-use Rattle.rs_core.specs.Conversations.{Converses, outgoing_of, own_open}
-use Rattle.rs_core.specs.Voices.{IsInOrder, SpeaksTo, SaysTheSame, IsLeftAlone, IsFinished, IsGreeting, IsRaised, IsSilent, TellsAgain, TellsTheSame, Voices, speech_within}
+use Rattle.rs_core.specs.Beats.{AreBeats, IsNext, asks_for_keepalive, fell_if}
+use Rattle.rs_core.specs.Conversations.{Converses, Outgoing, outgoing_of, own_open}
+use Rattle.rs_core.specs.Voices.{IsInOrder, SpeaksTo, SaysTheSame, Talks, IsDue, IsLeftAlone, IsFinished, IsGreeting, IsRaised, IsSilent, TellsAgain, TellsTheSame, Voices, speech_within}
 use Rattle.rs_core.proofs.Conversing.{Moves, IsHeardOrSeen, acted_converses, took_converses, keepalive_converses, note_converses, routine_converses, mode_up}
-use Rattle.rs_core.proofs.Uttering.{agreed_by_speech, all_gone, due_mandatory, limit_most, update_goes_on}
+use Rattle.rs_core.proofs.Beating.{acted_beats, beats_same, next_beats, still_beats}
+use Rattle.rs_core.proofs.Uttering.{agreed_by_speech, all_gone, due_mandatory, limit_most, update_goes_on, update_is_next}
 use Rattle.rs_core.proofs.Telling.{silence_speaks, speaks_on, speaks_same}
 use Rattle.rs_core.proofs.Spoken.{announced_speaks, withdrawn_speaks}
 use Rattle.rs_core.proofs.Mandated.{due_has_mandatory}
@@ -126,11 +128,16 @@ ends_so said v w e = record {
   order = nothing_in_order w (λ p. ap (λ (x : View). fin.get x.loc p) e ∙ none_in p) (λ p. ap (λ (x : View). fin.get x.told p) e ∙ none_in p) (λ p. ap (λ (x : View). fin.get x.waits p) e ∙ none_in p);
 }
 
+-- a KEEPALIVE is due
+pub due_same : (v w : View) → IsDue v w → SaysTheSame v w
+due_same v w h = record { is = h.is ∙ (λ i. record v { beat = (sym h.is i).beat; touched = (sym h.is i).touched; numbers = (sym h.is i).numbers; last = (sym h.is i).last }) }
+
 pub begun_raised : (speech : Speech) (v w : View) → w ≡ begun speech v → IsRaised (Some speech) v w
 begun_raised speech v w e = record {
   speech = ap (λ (x : View). x.speech) e;
   flight = ap (λ (x : View). x.flight) e;
   note = ap (λ (x : View). x.note) e;
+  beat = ap (λ (x : View). x.beat) e;
   loc = λ p. ap (λ (x : View). fin.get x.loc p) e ∙ none_in p;
   told = λ p. ap (λ (x : View). fin.get x.told p) e ∙ none_in p;
   marked = λ p. ap (λ (x : View). set.contains x.marked p) e ∙ set.contains-empty prefix_order p;
@@ -176,20 +183,19 @@ spoken_up s c h speech e = up_by (is_up (state_in s c h)) (speech_by s.top.exten
 pub down_speech : (s : Configuration) (c : ℕ) (h : Hearing) → is_up (state_in s c h) ≡ false → speech_in s c h ≡ None
 down_speech s c h e = ap (λ b. if b then speech_by s.top.extended (agreed_of (session_in s c) h.items) else None) e
 
--- these messages went to it
-abbrev pub IsConversing : Configuration → ℕ → Hearing → View → Type 0
-IsConversing s c h v = Converses (session_in s c) (own_open s) h.items h.taken (outgoing_of v)
-
 -- the same where nothing was heard or taken since, and the same is still to be said
-pub says_still : (s : Configuration) (c : ℕ) (h : Hearing) (v w : View) → outgoing_of w ≡ outgoing_of v → SpeaksTo s c h v → IsConversing s c h w
-says_still s c h v w same at = subst (λ o. Converses (session_in s c) (own_open s) h.items h.taken o) (sym same) at.messages
+pub says_still : (s : Configuration) (c : ℕ) (h : Hearing) (v w : View) → outgoing_of w ≡ outgoing_of v → SpeaksTo s c h v → Talks s c h w
+says_still s c h v w same at = record {
+  messages = subst (λ o. Converses (session_in s c) (own_open s) h.items h.taken o) (sym same) at.talk.messages;
+  beats = λ l. subst (λ (o : Outgoing). AreBeats (own_open s) h.beats (h.taken ++ o.flight) o.beat) (sym same) (at.talk.beats l);
+}
 
 -- the speech is that of before, and so is what was said in all
 pub voiced_by : (s t : Configuration) (c : ℕ) (h next : Hearing) (v w : View) → speech_in t c next ≡ speech_in s c h → (is_live (state_in t c next) ≡ true → is_live (state_in s c h) ≡ true)
     → next.taken ++ w.flight ≡ h.taken ++ v.flight → w.speech ≡ v.speech → w.note ≡ v.note → w.told ≡ v.told → IsInOrder w
-    → IsConversing t c next w → SpeaksTo s c h v → SpeaksTo t c next w
-voiced_by s t c h next v w speech live octets spoken note told order messages at = record {
-  messages = messages;
+    → Talks t c next w → SpeaksTo s c h v → SpeaksTo t c next w
+voiced_by s t c h next v w speech live octets spoken note told order talk at = record {
+  talk = talk;
   speech = spoken ∙ at.speech ∙ sym speech;
   quiet = λ l. note ∙ at.quiet (live l);
   before = λ l none mode. subst (λ o. Speaks mode o no_table) (sym octets) (at.before (live l) (sym spoken ∙ none) mode);
@@ -198,19 +204,19 @@ voiced_by s t c h next v w speech live octets spoken note told order messages at
 }
 
 pub voiced_on : (s t : Configuration) (c : ℕ) (h next : Hearing) (v w : View) → speech_in t c next ≡ speech_in s c h → (is_live (state_in t c next) ≡ true → is_live (state_in s c h) ≡ true)
-    → next.taken ≡ h.taken → TellsTheSame v w → IsConversing t c next w → SpeaksTo s c h v → SpeaksTo t c next w
-voiced_on s t c h next v w speech live taken same messages at =
-    voiced_by s t c h next v w speech live (λ i. taken i ++ same.flight i) same.speech same.note same.told (same.order at.order) messages at
+    → next.taken ≡ h.taken → TellsTheSame v w → Talks t c next w → SpeaksTo s c h v → SpeaksTo t c next w
+voiced_on s t c h next v w speech live taken same talk at =
+    voiced_by s t c h next v w speech live (λ i. taken i ++ same.flight i) same.speech same.note same.told (same.order at.order) talk at
 
 -- nothing was heard since
 pub voiced_same : (s : Configuration) (c : ℕ) (h : Hearing) (v w : View) → IsLeftAlone v w → SpeaksTo s c h v → SpeaksTo s c h w
 voiced_same s c h v w alone at = voiced_on s s c h h v w refl (λ l. l) refl (same_again v w (still v w alone)) (says_still s c h v w (alone_out v w alone) at) at
 
 -- the session is over, or there is none
-pub voiced_over : (s : Configuration) (c : ℕ) (h : Hearing) (v : View) → is_live (state_in s c h) ≡ false → is_up (state_in s c h) ≡ false → v.speech ≡ None → IsInOrder v → IsConversing s c h v → SpeaksTo s c h v
-voiced_over s c h v dead down silent order messages = record {
+pub voiced_over : (s : Configuration) (c : ℕ) (h : Hearing) (v : View) → is_live (state_in s c h) ≡ false → is_up (state_in s c h) ≡ false → v.speech ≡ None → IsInOrder v → Talks s c h v → SpeaksTo s c h v
+voiced_over s c h v dead down silent order talk = record {
   speech = silent ∙ sym (down_speech s c h down);
-  messages = messages;
+  talk = talk;
   quiet = λ l. absurd (let f : true ≡ false = sym l ∙ dead in cc);
   before = λ l none mode. absurd (let f : true ≡ false = sym l ∙ dead in cc);
   since = λ sp is. absurd (let f : ◌≡◌ {A = Option Speech} None (Some sp) = sym silent ∙ is in cc);
@@ -222,20 +228,20 @@ voiced_over s c h v dead down silent order messages = record {
 stays_speech : (s : Configuration) (c : ℕ) (h next : Hearing) → Stays (session_in s c) h.items next.items → speech_in s c next ≡ speech_in s c h
 stays_speech s c h next stays = λ i. if is_up (stays.state i) then speech_by s.top.extended (stays.agreed i) else None
 
-pub stayed : (s : Configuration) (c : ℕ) (h next : Hearing) (v w : View) → Stays (session_in s c) h.items next.items → next.taken ≡ h.taken → TellsTheSame v w → IsConversing s c next w → SpeaksTo s c h v → SpeaksTo s c next w
-stayed s c h next v w stays taken same messages at = voiced_on s s c h next v w (stays_speech s c h next stays) (λ l. ap is_live (sym stays.state) ∙ l) taken same messages at
+pub stayed : (s : Configuration) (c : ℕ) (h next : Hearing) (v w : View) → Stays (session_in s c) h.items next.items → next.taken ≡ h.taken → TellsTheSame v w → Talks s c next w → SpeaksTo s c h v → SpeaksTo s c next w
+stayed s c h next v w stays taken same talk at = voiced_on s s c h next v w (stays_speech s c h next stays) (λ l. ap is_live (sym stays.state) ∙ l) taken same talk at
 
 both_down : (s : Configuration) (c : ℕ) (h next : Hearing) → is_up (state_in s c h) ≡ false → is_up (state_in s c next) ≡ false → speech_in s c next ≡ speech_in s c h
 both_down s c h next before now = down_speech s c next now ∙ sym (down_speech s c h before)
 
 said_voice : (message : Short) (s : Configuration) (c : ℕ) (h next : Hearing) (v w : View) → (message ≡ short.Open → ⊥) → Says message (session_in s c) h.items next.items
-    → next.taken ≡ h.taken → SaysTheSame v w → IsConversing s c next w → SpeaksTo s c h v → SpeaksTo s c next w
-said_voice short.Open s c h next v w not tells taken same messages at = absurd (not refl)
-said_voice short.Keepalive s c h next v w not tells taken same messages at = elim tells [
-  | inl confirms ↦ voiced_on s s c h next v w (both_down s c h next (ap is_up confirms.before) (ap is_up confirms.now)) (λ l. ap is_live confirms.before) taken (same_again v w same) messages at
-  | inr beats ↦ stayed s c h next v w beats.same taken (same_again v w same) messages at
+    → next.taken ≡ h.taken → SaysTheSame v w → Talks s c next w → SpeaksTo s c h v → SpeaksTo s c next w
+said_voice short.Open s c h next v w not tells taken same talk at = absurd (not refl)
+said_voice short.Keepalive s c h next v w not tells taken same talk at = elim tells [
+  | inl confirms ↦ voiced_on s s c h next v w (both_down s c h next (ap is_up confirms.before) (ap is_up confirms.now)) (λ l. ap is_live confirms.before) taken (same_again v w same) talk at
+  | inr beats ↦ stayed s c h next v w beats.same taken (same_again v w same) talk at
 ]
-said_voice (short.Note code sub extra count) s c h next v w not tells taken same messages at = absurd tells
+said_voice (short.Note code sub extra count) s c h next v w not tells taken same talk at = absurd tells
 
 -- where there is no room, no long messages were agreed on
 room_said : (long extended : Bool) (sent : Open) → long ≡ extended
@@ -246,8 +252,8 @@ room_said true false sent e = absurd (let f : true ≡ false = e in cc)
 room_said false true sent e = absurd (let f : false ≡ true = e in cc)
 
 raised_voice : (s : Configuration) (c : ℕ) (h next : Hearing) (v w : View) (long : Bool) → long ≡ s.top.extended → ComesUp (session_in s c) h.items next.items
-    → IsRaised (speech_within long (session_in s c) (agreed_of (session_in s c) next.items)) v w → next.taken ≡ h.taken → IsConversing s c next w → SpeaksTo s c h v → SpeaksTo s c next w
-raised_voice s c h next v w long room tells raised taken messages at =
+    → IsRaised (speech_within long (session_in s c) (agreed_of (session_in s c) next.items)) v w → next.taken ≡ h.taken → Talks s c next w → SpeaksTo s c h v → SpeaksTo s c next w
+raised_voice s c h next v w long room tells raised taken talk at =
     let was_live : is_live (state_in s c h) ≡ true = ap is_live tells.before in
     let was_none : v.speech ≡ None = at.speech ∙ down_speech s c h (ap is_up tells.before) in
     let agreed : w.speech ≡ speech_by s.top.extended (Some tells.sent) = raised.speech ∙ ap (speech_within long (session_in s c)) tells.agreed ∙ room_said long s.top.extended tells.sent room in
@@ -258,7 +264,7 @@ raised_voice s c h next v w long room tells raised taken messages at =
       since = λ sp is. speaks_same sp.mode (next.taken ++ w.flight) no_table (fin.get w.told) raised.told
           (subst (λ o. Speaks sp.mode o no_table) (λ i. sym taken i ++ sym raised.flight i) (at.before was_live was_none sp.mode));
       order = raised.order;
-      messages = messages;
+      talk = talk;
     }
 
 -- what is still to be said then
@@ -271,22 +277,26 @@ voices_move (acts.Down ending) long sessions x settings c old new v w voices rea
 voices_move acts.Again long sessions x settings c old new v w voices read heard tells = (voices.flight, voices.note)
 
 acted_by : (act : Act) (long : Bool) (s : Configuration) → long ≡ s.top.extended → (sessions : List Session) (x : Session) (c : ℕ) (h next : Hearing) (v w : View) → Voices act long c sessions v w → slice_get sessions c ≡ Some x
-    → HasHeard x (session_in s c) next.items → Tells act (session_in s c) h.items next.items → (act ≡ acts.Say short.Open → ⊥) → next.taken ≡ h.taken → IsConversing s c next w → SpeaksTo s c h v → SpeaksTo s c next w
-acted_by acts.None long s room sessions x c h next v w voices read heard tells not taken messages at = stayed s c h next v w tells taken (same_again v w (still v w voices)) messages at
-acted_by (acts.Say message) long s room sessions x c h next v w voices read heard tells not taken messages at = said_voice message s c h next v w (λ e. not (ap (λ (m : Short). acts.Say m) e)) tells taken voices messages at
-acted_by acts.Up long s room sessions x c h next v w voices read heard tells not taken messages at =
-    raised_voice s c h next v w long room tells (voices x read (session_in s c) next.items heard tells.now) taken messages at
-acted_by (acts.Down ending) long s room sessions x c h next v w voices read heard tells not taken messages at = voiced_over s c next w (ap is_live tells.now) (ap is_up tells.now) voices.speech voices.order messages
-acted_by acts.Again long s room sessions x c h next v w voices read heard tells not taken messages at = stayed s c h next v w tells.same taken (again_same v w voices) messages at
+    → HasHeard x (session_in s c) next.items → Tells act (session_in s c) h.items next.items → (act ≡ acts.Say short.Open → ⊥) → next.taken ≡ h.taken → Talks s c next w → SpeaksTo s c h v → SpeaksTo s c next w
+acted_by acts.None long s room sessions x c h next v w voices read heard tells not taken talk at = stayed s c h next v w tells taken (same_again v w (still v w voices)) talk at
+acted_by (acts.Say message) long s room sessions x c h next v w voices read heard tells not taken talk at = said_voice message s c h next v w (λ e. not (ap (λ (m : Short). acts.Say m) e)) tells taken (due_same v w voices) talk at
+acted_by acts.Up long s room sessions x c h next v w voices read heard tells not taken talk at =
+    raised_voice s c h next v w long room tells (voices x read (session_in s c) next.items heard tells.now) taken talk at
+acted_by (acts.Down ending) long s room sessions x c h next v w voices read heard tells not taken talk at = voiced_over s c next w (ap is_live tells.now) (ap is_up tells.now) voices.speech voices.order talk
+acted_by acts.Again long s room sessions x c h next v w voices read heard tells not taken talk at = stayed s c h next v w tells.same taken (again_same v w voices) talk at
 
 pub acted_voice : (item : Item) (act : Act) (long : Bool) (s : Configuration) → long ≡ s.top.extended → (sessions : List Session) (x : Session) (c : ℕ) (h next : Hearing) (v w : View) → IsHeardOrSeen item
-    → act ≡ act_of (session_in s c) item h.items → next.items ≡ item ∷ h.items → Voices act long c sessions v w → slice_get sessions c ≡ Some x → HasHeard x (session_in s c) next.items
+    → act ≡ act_of (session_in s c) item h.items → next.items ≡ item ∷ h.items → next.beats ≡ fell_if (asks_for_keepalive (act_of (session_in s c) item h.items)) h.beats → Voices act long c sessions v w → slice_get sessions c ≡ Some x → HasHeard x (session_in s c) next.items
     → Tells act (session_in s c) h.items next.items → (act ≡ acts.Say short.Open → ⊥) → next.taken ≡ h.taken → SpeaksTo s c h v → SpeaksTo s c next w
-acted_voice item act long s room sessions x c h next v w is act_is items voices read heard tells not taken at =
-    acted_by act long s room sessions x c h next v w voices read heard tells not taken
-    (subst (λ l. Converses (session_in s c) (own_open s) l next.taken (outgoing_of w)) (sym items) (subst (λ o. Converses (session_in s c) (own_open s) (item ∷ h.items) o (outgoing_of w)) (sym taken)
-    (acted_converses item act (session_in s c) (own_open s) h.items h.taken (outgoing_of v) (outgoing_of w) is act_is (subst (λ l. Tells act (session_in s c) h.items l) items tells)
-    (voices_move act long sessions x (session_in s c) c h.items next.items v w voices read heard tells) at.messages))) at
+acted_voice item act long s room sessions x c h next v w is act_is items beats voices read heard tells not taken at =
+    acted_by act long s room sessions x c h next v w voices read heard tells not taken (record {
+      messages = subst (λ l. Converses (session_in s c) (own_open s) l next.taken (outgoing_of w)) (sym items) (subst (λ o. Converses (session_in s c) (own_open s) (item ∷ h.items) o (outgoing_of w)) (sym taken)
+          (acted_converses item act (session_in s c) (own_open s) h.items h.taken (outgoing_of v) (outgoing_of w) is act_is (subst (λ l. Tells act (session_in s c) h.items l) items tells)
+          (voices_move act long sessions x (session_in s c) c h.items next.items v w voices read heard tells) at.talk.messages));
+      beats = λ live. subst (λ b. AreBeats (own_open s) b (next.taken ++ w.flight) w.beat) (sym (beats ∙ ap (λ a. fell_if (asks_for_keepalive a) h.beats) (sym act_is)))
+          (subst (λ o. AreBeats (own_open s) (fell_if (asks_for_keepalive act) h.beats) (o ++ w.flight) w.beat) (sym taken)
+          (acted_beats act long sessions x (session_in s c) c h.items next.items (own_open s) h.beats h.taken v w voices read heard tells not live at.talk.beats));
+    }) at
 
 -- no message and no moment asks for an OPEN of ours
 
@@ -316,9 +326,9 @@ never_open_by_moment settings t items e = moment_open (is_live (state_of setting
 -- ---- a connection came
 
 -- the server's OPEN is all that is said
-pub greeted : (s : Configuration) (c : ℕ) (h : Hearing) (v : View) → IsGreeting (own_open s) v → h.taken ≡ [] → is_up (state_in s c h) ≡ false → IsConversing s c h v → SpeaksTo s c h v
-greeted s c h v greets none down messages = record {
-  messages = messages;
+pub greeted : (s : Configuration) (c : ℕ) (h : Hearing) (v : View) → IsGreeting (own_open s) v → h.taken ≡ [] → is_up (state_in s c h) ≡ false → Talks s c h v → SpeaksTo s c h v
+greeted s c h v greets none down talk = record {
+  talk = talk;
   speech = greets.silent.speech ∙ sym (down_speech s c h down);
   quiet = λ l. greets.note;
   before = λ l silent mode. subst (λ o. Speaks mode o no_table) (λ i. sym none i ++ sym greets.flight i)
@@ -329,24 +339,30 @@ greeted s c h v greets none down messages = record {
 
 -- ---- octets are taken, and messages begin
 
-pub took_voice : (s : Configuration) (c n : ℕ) (h next : Hearing) (v w : View) → w ≡ record v { flight = drop n v.flight } → next.items ≡ h.items → next.taken ≡ h.taken ++ take n v.flight
+pub took_voice : (s : Configuration) (c n : ℕ) (h next : Hearing) (v w : View) → w ≡ record v { flight = drop n v.flight } → next.items ≡ h.items → next.taken ≡ h.taken ++ take n v.flight → next.beats ≡ h.beats
     → SpeaksTo s c h v → SpeaksTo s c next w
-took_voice s c n h next v w e items taken at =
+took_voice s c n h next v w e items taken beats at =
     voiced_by s s c h next v w (ap (λ l. if is_up (state_of (session_in s c) l) then speech_by s.top.extended (agreed_of (session_in s c) l) else None) items)
     (λ l. ap (λ k. is_live (state_of (session_in s c) k)) (sym items) ∙ l)
-    ((λ i. taken i ++ (e i).flight) ∙ append_assoc h.taken (take n v.flight) (drop n v.flight) ∙ ap (λ l. h.taken ++ l) (take-append-drop n v.flight))
+    same
     (ap (λ (x : View). x.speech) e) (ap (λ (x : View). x.note) e) (ap (λ (x : View). x.told) e)
     (in_order v w (ap (λ (x : View). x.loc) e) (ap (λ (x : View). x.told) e) (ap (λ (x : View). x.marked) e) (ap (λ (x : View). x.waits) e) at.order)
-    (subst (λ l. Converses (session_in s c) (own_open s) l next.taken (outgoing_of w)) (sym items) (subst (λ o. Converses (session_in s c) (own_open s) h.items o (outgoing_of w)) (sym taken)
-    (took_converses n (session_in s c) (own_open s) h.items h.taken (outgoing_of v) (outgoing_of w) (ap outgoing_of e) at.messages))) at
+    (record {
+      messages = subst (λ l. Converses (session_in s c) (own_open s) l next.taken (outgoing_of w)) (sym items) (subst (λ o. Converses (session_in s c) (own_open s) h.items o (outgoing_of w)) (sym taken)
+          (took_converses n (session_in s c) (own_open s) h.items h.taken (outgoing_of v) (outgoing_of w) (ap outgoing_of e) at.talk.messages));
+      beats = λ live. subst (λ b. AreBeats (own_open s) b (next.taken ++ w.flight) w.beat) (sym beats)
+          (beats_same (own_open s) h.beats (h.taken ++ v.flight) (next.taken ++ w.flight) v.beat w.beat same (ap (λ (x : View). x.beat) e) (at.talk.beats (ap (λ k. is_live (state_of (session_in s c) k)) (sym items) ∙ live)));
+    }) at where
+      same : next.taken ++ w.flight ≡ h.taken ++ v.flight
+      same = (λ i. taken i ++ (e i).flight) ∙ append_assoc h.taken (take n v.flight) (drop n v.flight) ∙ ap (λ l. h.taken ++ l) (take-append-drop n v.flight)
 
 -- another message in place of none
 said_next : (s : Configuration) (c : ℕ) (h : Hearing) (v w : View) → v.flight ≡ [] → v.note ≡ None → w.note ≡ None → w.speech ≡ v.speech → IsInOrder w
     → ((mode : Mode) → v.speech ≡ None → Speaks mode h.taken no_table → Speaks mode (h.taken ++ w.flight) no_table)
     → ((speech : Speech) → v.speech ≡ Some speech → Speaks speech.mode h.taken (fin.get v.told) → Speaks speech.mode (h.taken ++ w.flight) (fin.get w.told))
-    → IsConversing s c h w → SpeaksTo s c h v → SpeaksTo s c h w
-said_next s c h v w empty quiet note speech order down up messages at = record {
-  messages = messages;
+    → Talks s c (offers true h) w → SpeaksTo s c h v → SpeaksTo s c (offers true h) w
+said_next s c h v w empty quiet note speech order down up talk at = record {
+  talk = talk;
   speech = speech ∙ at.speech;
   quiet = λ l. note;
   before = λ l none mode. down mode (sym speech ∙ none) (subst (λ o. Speaks mode o no_table) bare_octets (at.before l (sym speech ∙ none) mode));
@@ -357,9 +373,9 @@ said_next s c h v w empty quiet note speech order down up messages at = record {
   bare_octets = ap (λ l. h.taken ++ l) empty ∙ append-nil h.taken
 
 -- a NOTIFICATION waits only behind the end of a session
-noted : (s : Configuration) (c : ℕ) (h : Hearing) (v w : View) (note : Short) → v.note ≡ Some note → w.speech ≡ v.speech → IsInOrder w → IsConversing s c h w → SpeaksTo s c h v → SpeaksTo s c h w
-noted s c h v w note waits speech order messages at = record {
-  messages = messages;
+noted : (s : Configuration) (c : ℕ) (h : Hearing) (v w : View) (note : Short) → v.note ≡ Some note → w.speech ≡ v.speech → IsInOrder w → Talks s c (offers true h) w → SpeaksTo s c h v → SpeaksTo s c (offers true h) w
+noted s c h v w note waits speech order talk at = record {
+  talk = talk;
   speech = speech ∙ at.speech;
   quiet = λ l. absurd (over l);
   before = λ l none mode. absurd (over l);
@@ -392,7 +408,7 @@ update_voice speech v w ins octets numbered order (inr (inr news)) s =
 beats : (mode : Mode) (octets : List ℕ) (t : Prefix → Option (List Attribute)) → Speaks mode octets t → Speaks mode (octets ++ keepalive) t
 beats mode octets t s = speaks_on mode octets keepalive kinds.Keepalive t refl (written_is_message each_message kinds.Keepalive [] refl (omega arith) (omega arith)) s
 
-pub begun_voice : (s : Configuration) (c : ℕ) (h : Hearing) (ins : AdjIns) (v w : View) → AreNumbered v ins → IsBegun v w → SpeaksTo s c h v → SpeaksTo s c h w
+pub begun_voice : (s : Configuration) (c : ℕ) (h : Hearing) (ins : AdjIns) (v w : View) → AreNumbered v ins → IsBegun v w → SpeaksTo s c h v → SpeaksTo s c (offers true h) w
 begun_voice s c h ins v w numbered b at = by_flight v.flight refl where
   rest_order : IsInOrder w
   rest_order = record { mandatory = λ p m e. at.order.mandatory p m (ap (λ (x : View). fin.get x.loc p) (sym b.rest) ∙ e); exact = b.exact at.order.exact }
@@ -400,32 +416,50 @@ begun_voice s c h ins v w numbered b at = by_flight v.flight refl where
   rest_speech : w.speech ≡ v.speech
   rest_speech = ap (λ (x : View). x.speech) b.rest
 
-  by_speech : (o : Option Speech) → v.flight ≡ [] → v.note ≡ None → v.beat ≡ false → v.speech ≡ o → SpeaksTo s c h w
-  by_speech None empty quiet beat e = voiced_same s c h v w (alone_is v w (b.down empty quiet beat e)) at
+  by_speech : (o : Option Speech) → v.flight ≡ [] → v.note ≡ None → v.beat ≡ false → v.speech ≡ o → SpeaksTo s c (offers true h) w
+  by_speech None empty quiet beat e = let is = b.down empty quiet beat e in
+      voiced_on s s c h (offers true h) v w refl (λ l. l) refl (same_again v w (same_is v w is)) (record {
+        messages = (says_still s c h v w (ap outgoing_of is) at).messages;
+        beats = λ l. next_beats (own_open s) h.beats h.taken v.flight w.flight v.beat w.beat empty (subst (λ d. IsNext d w.flight) (sym beat) (inl (ap (λ (x : View). x.flight) is ∙ empty)))
+            (ap (λ (x : View). x.beat) is ∙ beat) (at.talk.beats l);
+      }) at
   by_speech (Some speech) empty quiet beat e = said_next s c h v w empty quiet (b.update empty quiet beat).0 rest_speech rest_order
       (λ mode none before. absurd (let f : ◌≡◌ {A = Option Speech} None (Some speech) = sym none ∙ e in cc))
       (λ sp is since. update_voice sp v w ins h.taken numbered at.order (b.begins sp empty quiet beat is) since)
-      (let up = spoken_up s c h speech (sym at.speech ∙ e) in
-      routine_converses speech.mode (session_in s c) (own_open s) h.items h.taken (outgoing_of v) (outgoing_of w) (up_live s c h up)
-      (mode_up (session_in s c) h.items up ∙ agreed_by_speech s c h speech up (sym at.speech ∙ e)) empty (b.update empty quiet beat).0
-      (update_goes_on (own_open s) speech v w ins h.taken numbered at.order (b.begins speech empty quiet beat e)) at.messages) at
+      (let up = spoken_up s c h speech (sym at.speech ∙ e) in record {
+        messages = routine_converses speech.mode (session_in s c) (own_open s) h.items h.taken (outgoing_of v) (outgoing_of w) (up_live s c h up)
+            (mode_up (session_in s c) h.items up ∙ agreed_by_speech s c h speech up (sym at.speech ∙ e)) empty (b.update empty quiet beat).0
+            (update_goes_on (own_open s) speech v w ins h.taken numbered at.order (b.begins speech empty quiet beat e)) at.talk.messages;
+        beats = λ l. next_beats (own_open s) h.beats h.taken v.flight w.flight v.beat w.beat empty
+            (subst (λ d. IsNext d w.flight) (sym beat) (update_is_next speech v w ins numbered at.order (b.begins speech empty quiet beat e))) ((b.update empty quiet beat).1) (at.talk.beats l);
+      }) at
 
-  by_beat : (d : Bool) → v.flight ≡ [] → v.note ≡ None → v.beat ≡ d → SpeaksTo s c h w
+  by_beat : (d : Bool) → v.flight ≡ [] → v.note ≡ None → v.beat ≡ d → SpeaksTo s c (offers true h) w
   by_beat true empty quiet e = let is = b.keepalive empty quiet e in said_next s c h v w empty quiet (ap (λ (x : View). x.note) is ∙ quiet) rest_speech rest_order
       (λ mode none before. subst (λ f. Speaks mode (h.taken ++ f) no_table) (sym (ap (λ (x : View). x.flight) is)) (beats mode h.taken no_table before))
       (λ sp up since. subst (λ f. Speaks sp.mode (h.taken ++ f) (fin.get w.told)) (sym (ap (λ (x : View). x.flight) is))
       (beats sp.mode h.taken (fin.get w.told) (subst (λ t. Speaks sp.mode h.taken (fin.get t)) (sym (ap (λ (x : View). x.told) is)) since)))
-      (keepalive_converses (session_in s c) (own_open s) h.items h.taken (outgoing_of v) (outgoing_of w) empty quiet e (ap outgoing_of is) at.messages) at
+      (record {
+        messages = keepalive_converses (session_in s c) (own_open s) h.items h.taken (outgoing_of v) (outgoing_of w) empty quiet e (ap outgoing_of is) at.talk.messages;
+        beats = λ l. next_beats (own_open s) h.beats h.taken v.flight w.flight v.beat w.beat empty (subst (λ d. IsNext d w.flight) (sym e) (ap (λ (x : View). x.flight) is)) (ap (λ (x : View). x.beat) is) (at.talk.beats l);
+      }) at
   by_beat false empty quiet e = by_speech v.speech empty quiet e refl
 
-  by_note : (o : Option Short) → v.flight ≡ [] → v.note ≡ o → SpeaksTo s c h w
+  by_note : (o : Option Short) → v.flight ≡ [] → v.note ≡ o → SpeaksTo s c (offers true h) w
   by_note None empty e = by_beat v.beat empty e refl
   by_note (Some note) empty e = noted s c h v w note e rest_speech rest_order
-      (note_converses note (session_in s c) (own_open s) h.items h.taken (outgoing_of v) (outgoing_of w) empty e (ap outgoing_of (b.note note empty e)) at.messages) at
+      (record {
+        messages = note_converses note (session_in s c) (own_open s) h.items h.taken (outgoing_of v) (outgoing_of w) empty e (ap outgoing_of (b.note note empty e)) at.talk.messages;
+        beats = λ l. absurd (let f : ◌≡◌ {A = Option Short} None (Some note) = sym (at.quiet l) ∙ e in cc);
+      }) at
 
-  by_flight : (f : List ℕ) → v.flight ≡ f → SpeaksTo s c h w
+  by_flight : (f : List ℕ) → v.flight ≡ f → SpeaksTo s c (offers true h) w
   by_flight [] e = by_note v.note e refl
-  by_flight (x ∷ xs) e = voiced_same s c h v w (alone_is v w (b.kept (λ empty. let f : ◌≡◌ {A = List ℕ} (x ∷ xs) [] = sym e ∙ empty in cc))) at
+  by_flight (x ∷ xs) e = let is = b.kept (λ empty. let f : ◌≡◌ {A = List ℕ} (x ∷ xs) [] = sym e ∙ empty in cc) in
+      voiced_on s s c h (offers true h) v w refl (λ l. l) refl (same_again v w (same_is v w is)) (record {
+        messages = (says_still s c h v w (ap outgoing_of is) at).messages;
+        beats = λ l. still_beats (own_open s) h.beats h.taken x xs v.flight w.flight v.beat w.beat e (ap (λ (x : View). x.flight) is) (ap (λ (x : View). x.beat) is) (at.talk.beats l);
+      }) at
 
 -- ---- a turn
 
@@ -461,6 +495,7 @@ pub greets : (said : ServerOpen) (u v w : View) → v ≡ cleared u → w ≡ re
 greets said u v w e f = let was = cleared_silent u v e in record {
   flight = ap (λ (x : View). x.flight) f;
   note = ap (λ (x : View). x.note) f ∙ ap (λ (x : View). x.note) e;
+  beat = ap (λ (x : View). x.beat) f ∙ ap (λ (x : View). x.beat) e;
   silent = record {
     speech = ap (λ (x : View). x.speech) f ∙ was.speech;
     order = in_order v w (ap (λ (x : View). x.loc) f) (ap (λ (x : View). x.told) f) (ap (λ (x : View). x.marked) f) (ap (λ (x : View). x.waits) f) was.order;

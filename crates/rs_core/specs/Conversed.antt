@@ -1,16 +1,17 @@
 -- Which messages a client is sent over a run, as laws of each route server that agrees with it.
-use Rattle.std.specs.Prelude.{◌≡◌, ◌⊎◌, ◌<◌, ℕ, true, List, [], ◌∷◌, ◌++◌, Option, Some, None}
+use Rattle.std.specs.Prelude.{◌≡◌, ◌⊎◌, ◌<◌, ℕ, true, false, List, [], ◌∷◌, ◌++◌, Option, Some, None}
 use Rattle.rs_attrs.specs.declared.mode.Mode.{Mode}
 use Rattle.rs_open.specs.declared.short.Short.{Short}
 use Rattle.rs_open.specs.declared.writing.ServerOpen.{ServerOpen}
 use Rattle.rs_session.specs.Items.{is_connected}
 use Rattle.rs_session.specs.Endings.{Fate, Ends}
-use Rattle.rs_session.specs.Sessions.{fate}
+use Rattle.rs_session.specs.Sessions.{fate, is_live}
 use Rattle.rs_outlet.specs.Next.{note_octets}
+use Rattle.rs_core.specs.Beats.{AreBeats}
 use Rattle.rs_core.specs.Conversations.{IsConversation, Converses, own_open, update_mode}
 use Rattle.rs_core.specs.Moves.{Move, config_in}
-use Rattle.rs_core.specs.Hearing.{session_in}
-use Rattle.rs_core.specs.Core.{client_count, lent_octets, outgoing}
+use Rattle.rs_core.specs.Hearing.{session_in, state_in}
+use Rattle.rs_core.specs.Core.{client_count, lent_octets, outgoing, owed}
 use Rattle.rs_core.specs.Runs.{hearing}
 use Rattle.rs_core.specs.Agreeing.{Agrees}
 use Rattle.rs_core.specs.declared.route_server.Core.{Core}
@@ -32,6 +33,8 @@ pub record IsFrontOfConversation (end : Fate) (said : ServerOpen) (mode : Option
 pub record SaysAsAsked (core : Core) (run : List Move) (c : ℕ) : Type 0 where
   pub lent : lent_octets core c ≡ (outgoing core c).flight
   pub messages : Converses (session_in (config_in run) c) (own_open (config_in run)) (hearing c run).items (hearing c run).taken (outgoing core c)
+  pub beats : is_live (state_in (config_in run) c (hearing c run)) ≡ true → AreBeats (own_open (config_in run)) (hearing c run).beats ((hearing c run).taken ++ (outgoing core c).flight) (outgoing core c).beat
+  pub idle : is_connected (hearing c run).items ≡ false → owed core c ≡ 0
   pub taken : is_connected (hearing c run).items ≡ true
       → IsFrontOfConversation (fate (session_in (config_in run) c) (hearing c run).items) (own_open (config_in run)) (update_mode (session_in (config_in run) c) (hearing c run).items) (hearing c run).taken
 

@@ -23,8 +23,9 @@ use Rattle.rs_session.specs.declared.act.State.TheVariants as states
 use Rattle.rs_session.specs.declared.settings.Settings.{Settings}
 use Rattle.rs_session.specs.Items as items
 use Rattle.rs_session.specs.Items.{Item}
-use Rattle.rs_session.specs.Sessions.{state_of, is_live, is_request, agreed_hold, agreed_mode, agreed_limit, agreed_identifier}
+use Rattle.rs_session.specs.Sessions.{act_of, state_of, is_live, is_request, agreed_hold, agreed_mode, agreed_limit, agreed_identifier}
 use Rattle.rs_policy.specs.Configuration.{Configuration, client_of}
+use Rattle.rs_core.specs.Beats.{Beat, Begun, asks_for_keepalive, fell_if}
 use Rattle.rs_core.specs.Points.{Point, Value, Decided, Offered, asked_if}
 
 -- ---- what is configured of a client's session
@@ -40,16 +41,17 @@ session_in s c = record { peer_as = (client_of s c).client_as; hold = s.top.hold
 
 -- the octets since its connection came; what befell its session, the newest first; what its UPDATEs changed since it is
 -- Established, the newest first; the octets that its link took of us since its connection came; what befell it since then that
--- decides what it is told, the newest first
+-- decides what it is told, the newest first, and what decides when it is sent KEEPALIVEs
 pub record Hearing : Type 0 where
   pub octets : List ℕ
   pub items : List Item
   pub changes : List Change
   pub taken : List ℕ
   pub points : List Point
+  pub beats : List Beat
 
 abbrev pub silence : Hearing
-silence = record { octets = []; items = []; changes = []; taken = []; points = [] }
+silence = record { octets = []; items = []; changes = []; taken = []; points = []; beats = [] }
 
 abbrev pub state_in : Configuration → ℕ → Hearing → State
 state_in s c h = state_of (session_in s c) h.items
@@ -149,6 +151,7 @@ takes_in s c said h = record {
   changes = if is_up (state_in s c h) then with_change said.change h.changes else [];
   taken = h.taken;
   points = asked_if (is_up (state_in s c h) && is_request said.message) h.points;
+  beats = fell_if (asks_for_keepalive (act_of (session_in s c) (items.Message said.message) h.items)) h.beats;
 }
 
 -- a message or a fault: it is heard while the session lasts
@@ -162,29 +165,36 @@ listens_to s c (message ∷ messages) h = listens_to s c messages (listens s c m
 -- ---- what each move makes of it
 
 abbrev pub with_octets : List ℕ → Hearing → Hearing
-with_octets octets h = record { octets = octets; items = h.items; changes = h.changes; taken = h.taken; points = h.points }
+with_octets octets h = record { octets = octets; items = h.items; changes = h.changes; taken = h.taken; points = h.points; beats = h.beats }
 
 -- octets come: what they say that those before them did not is heard
 abbrev pub hears : Configuration → ℕ → List ℕ → Hearing → Hearing
 hears s c octets h = with_octets (h.octets ++ octets) (listens_to s c (newly_heard (allowed_in s) h.octets octets) h)
 
 abbrev pub begins : Hearing → Hearing
-begins h = record { octets = []; items = items.Came ∷ h.items; changes = []; taken = []; points = [] }
+begins h = record { octets = []; items = items.Came ∷ h.items; changes = []; taken = []; points = []; beats = [] }
 
-abbrev pub sees : ℕ → Hearing → Hearing
-sees t h = record { octets = h.octets; items = items.Moment t ∷ h.items; changes = h.changes; taken = h.taken; points = h.points }
+abbrev pub sees : Configuration → ℕ → ℕ → Hearing → Hearing
+sees s c t h = record {
+  octets = h.octets;
+  items = items.Moment t ∷ h.items;
+  changes = h.changes;
+  taken = h.taken;
+  points = h.points;
+  beats = fell_if (asks_for_keepalive (act_of (session_in s c) (items.Moment t) h.items)) h.beats;
+}
 
 abbrev pub leaves : Hearing → Hearing
-leaves h = record { octets = []; items = items.Left ∷ h.items; changes = []; taken = []; points = [] }
+leaves h = record { octets = []; items = items.Left ∷ h.items; changes = []; taken = []; points = []; beats = [] }
 
 -- its link takes octets
 abbrev pub takes : List ℕ → Hearing → Hearing
-takes octets h = record { octets = h.octets; items = h.items; changes = h.changes; taken = h.taken ++ octets; points = h.points }
+takes octets h = record { octets = h.octets; items = h.items; changes = h.changes; taken = h.taken ++ octets; points = h.points; beats = h.beats }
 
 -- the next message to it began, where none was in flight
 abbrev pub offers : Bool → Hearing → Hearing
-offers own h = record { octets = h.octets; items = h.items; changes = h.changes; taken = h.taken; points = if own then Offered h.taken ∷ h.points else h.points }
+offers own h = record { octets = h.octets; items = h.items; changes = h.changes; taken = h.taken; points = if own then Offered h.taken ∷ h.points else h.points; beats = if own then Begun h.taken ∷ h.beats else h.beats }
 
 -- what is due to it was decided at a turn
 abbrev pub decides : Bool → (Prefix → Value) → Hearing → Hearing
-decides turned due h = record { octets = h.octets; items = h.items; changes = h.changes; taken = h.taken; points = if turned then Decided due ∷ h.points else h.points }
+decides turned due h = record { octets = h.octets; items = h.items; changes = h.changes; taken = h.taken; points = if turned then Decided due ∷ h.points else h.points; beats = h.beats }

@@ -7,6 +7,7 @@ pub mod Owing
 pub mod Core
 pub mod Moves
 pub mod Points
+pub mod Beats
 pub mod Hearing
 pub mod Telling
 pub mod Runs

@@ -55,7 +55,7 @@ hearing c [] = silence
 hearing c (Ruled config ∷ run) = hearing c run
 hearing c (Came d ∷ run) = if d == c then begins (hearing c run) else hearing c run
 hearing c (Heard d octets ∷ run) = if d == c then hears (config_in run) c octets (hearing c run) else hearing c run
-hearing c (Saw t ∷ run) = sees t (hearing c run)
+hearing c (Saw t ∷ run) = sees (config_in run) c t (hearing c run)
 hearing c (Left d ∷ run) = if d == c then leaves (hearing c run) else hearing c run
 hearing c (Turned refused ∷ run) =
     decides (is_up (state_in (config_in run) c (hearing c run)) && not (is_listed c refused)) (due_among (config_in run) (λ d. hearing d run) c) (hearing c run)

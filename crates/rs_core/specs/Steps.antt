@@ -9,7 +9,8 @@ use Rattle.rs_attrs.specs.Meaning.{Attribute}
 use Rattle.rs_attrs.specs.Effects.{Change, has_prefix}
 use Rattle.rs_update.specs.Laws.{IsSameChange}
 use Rattle.rs_session.specs.declared.heard.Heard.TheVariants as heard
-use Rattle.rs_session.specs.Sessions.{is_live, is_request}
+use Rattle.rs_session.specs.Sessions.{act_of, is_live, is_request}
+use Rattle.rs_core.specs.Beats.{asks_for_keepalive, fell_if}
 use Rattle.rs_core.specs.Points.{asked_if}
 use Rattle.rs_core.specs.Agreeing.{Knows, IsCutShort, Waits}
 use Rattle.rs_core.specs.declared.route_server.Core.{Core}
@@ -19,7 +20,7 @@ use Rattle.rs_session.specs.declared.act.Act.TheVariants as acts
 use Rattle.rs_session.specs.declared.act.State.TheVariants as states
 use Rattle.rs_session.specs.declared.session.Session.{Session}
 use Rattle.rs_session.specs.Items as items
-use Rattle.rs_session.specs.Items.{Item}
+use Rattle.rs_session.specs.Items.{Item, Message}
 use Rattle.rs_session.specs.Sessions.{state_of, agreed_identifier}
 use Rattle.rs_session.specs.Hearing.{HasHeard, Whenever}
 use Rattle.rs_adjin.specs.AdjIns.{held_of, identifier_of, Begins}
@@ -38,6 +39,7 @@ pub record Follows (s : Configuration) (c : ℕ) (message : Heard) (h next : Hea
   pub items : next.items ≡ items.Message message ∷ h.items
   pub taken : next.taken ≡ h.taken
   pub points : next.points ≡ asked_if (is_up (state_in s c h) && is_request message) h.points
+  pub beats : next.beats ≡ fell_if (asks_for_keepalive (act_of (session_in s c) (Message message) h.items)) h.beats
   pub fresh : is_up (state_in s c h) ≡ false → next.changes ≡ []
   pub same : is_up (state_in s c h) ≡ true → is_up (state_in s c next) ≡ true → next.changes ≡ h.changes
 

@@ -24,6 +24,7 @@ use Rattle.rs_outlet.specs.Views.{View, WaitsAreExact, flight_after}
 use Rattle.rs_core.specs.Hearing.{Hearing, session_in, state_in}
 use Rattle.rs_core.specs.Runs.{speech_in}
 use Rattle.rs_core.specs.Telling.{Speaks, no_table}
+use Rattle.rs_core.specs.Beats.{AreBeats}
 use Rattle.rs_core.specs.Conversations.{Converses, outgoing_of, own_open}
 use Rattle.rs_core.specs.Ribs.{outlet_in}
 use Rattle.rs_core.specs.declared.ribs.Ribs.{Ribs}
@@ -33,6 +34,12 @@ pub record IsInOrder (v : View) : Type 0 where
   pub mandatory : (p : Prefix) (m : List Attribute) → fin.get v.loc p ≡ Some m → lacks_mandatory m ≡ false
   pub exact : WaitsAreExact v
 
+-- These messages went to a client, and go to it, as its session asks for them; and while it lasts, a KEEPALIVE is due exactly
+-- where one fell due since the last message began.
+pub record Talks (s : Configuration) (c : ℕ) (h : Hearing) (v : View) : Type 0 where
+  pub messages : Converses (session_in s c) (own_open s) h.items h.taken (outgoing_of v)
+  pub beats : is_live (state_in s c h) ≡ true → AreBeats (own_open s) h.beats (h.taken ++ v.flight) v.beat
+
 -- An Established client is spoken to as its OPEN asks, and the octets taken and in flight mean what it was told. Before, while
 -- the session lasts, no UPDATE is among them, and no NOTIFICATION waits.
 pub record SpeaksTo (s : Configuration) (c : ℕ) (h : Hearing) (v : View) : Type 0 where
@@ -41,13 +48,17 @@ pub record SpeaksTo (s : Configuration) (c : ℕ) (h : Hearing) (v : View) : Typ
   pub before : is_live (state_in s c h) ≡ true → v.speech ≡ None → (mode : Mode) → Speaks mode (h.taken ++ v.flight) no_table
   pub since : (speech : Speech) → v.speech ≡ Some speech → Speaks speech.mode (h.taken ++ v.flight) (fin.get v.told)
   pub order : IsInOrder v
-  pub messages : Converses (session_in s c) (own_open s) h.items h.taken (outgoing_of v)
+  pub talk : Talks s c h v
 
 -- ---- how an outlet changes
 
 -- a KEEPALIVE fell due, prefixes were touched, or a turn was refused
 pub record SaysTheSame (v w : View) : Type 0 where
   pub is : w ≡ record v { beat = w.beat; touched = w.touched; numbers = w.numbers; last = w.last }
+
+-- a KEEPALIVE fell due
+pub record IsDue (v w : View) : Type 0 where
+  pub is : w ≡ record v { beat = true }
 
 -- prefixes were touched, or a turn was refused
 pub record IsLeftAlone (v w : View) : Type 0 where
@@ -58,6 +69,7 @@ pub record IsRaised (agreed : Option Speech) (v w : View) : Type 0 where
   pub speech : w.speech ≡ agreed
   pub flight : w.flight ≡ v.flight
   pub note : w.note ≡ v.note
+  pub beat : w.beat ≡ v.beat
   pub loc : (p : Prefix) → fin.get w.loc p ≡ None
   pub told : (p : Prefix) → fin.get w.told p ≡ None
   pub marked : (p : Prefix) → set.contains w.marked p ≡ false
@@ -88,6 +100,7 @@ pub record TellsAgain (v w : View) : Type 0 where
   pub speech : w.speech ≡ v.speech
   pub flight : w.flight ≡ v.flight
   pub note : w.note ≡ v.note
+  pub beat : w.beat ≡ v.beat
   pub loc : w.loc ≡ v.loc
   pub told : w.told ≡ v.told
   pub marked : (p : Prefix) → set.contains w.marked p ≡ fin.contains_key v.told p
@@ -97,6 +110,7 @@ pub record TellsAgain (v w : View) : Type 0 where
 pub record IsGreeting (said : ServerOpen) (v : View) : Type 0 where
   pub flight : v.flight ≡ server_open said
   pub note : v.note ≡ None
+  pub beat : v.beat ≡ false
   pub silent : IsSilent v
 
 -- the outlets of the others are left alone
@@ -116,7 +130,7 @@ speech_within long settings (Some sent) = Some (record { mode = mode_in sent.fou
 -- what is done to the outlet of a client as its session asks for it
 abbrev pub Voices : Act → Bool → ℕ → List Session → View → View → Type 0
 Voices acts.None long c sessions v w = IsLeftAlone v w
-Voices (acts.Say message) long c sessions v w = SaysTheSame v w
+Voices (acts.Say message) long c sessions v w = IsDue v w
 Voices acts.Up long c sessions v w =
     (x : Session) → slice_get sessions c ≡ Some x
     → Whenever x (λ settings items. state_of settings items ≡ states.Established → IsRaised (speech_within long settings (agreed_of settings items)) v w)

@@ -220,7 +220,7 @@ impl Core {
     fn see(&mut self, c: usize, t: u64)
         requires { c < client_count self.old }
         ensures spares { Spares c self.old self.new }
-        ensures seen { (s : Configuration) (h : Hearing) → AgreesAt self.old s c h → AgreesAt self.new s c (sees t h) }
+        ensures seen { (s : Configuration) (h : Hearing) → AgreesAt self.old s c h → AgreesAt self.new s c (sees s c t h) }
     {
         match self.sessions[c].moment(t) {
             Act::Down(note) => self.end(c, note, Ending::HoldTimer),

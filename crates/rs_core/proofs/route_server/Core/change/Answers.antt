@@ -39,7 +39,7 @@ returns-in_default c =
       spares = acted_spares c.args.self.now c.act.new.self c.args.c c.message.new.self c.act.ensures.count c.act.ensures.config lt set c.act.ensures.buffers c.act.ensures.others c.act.ensures.voices;
       buffers = c.act.ensures.buffers;
       heard = λ s h change live knows same. acted c.args.self.now c.act.new.self c.message.result (Message (heard.Update None)) c.index_mut.result.now c.message.new.self s c.args.c h
-          (takes_in s c.args.c (record { message = heard.Update None; change = Some change }) h) tt read lt set c.message.ensures.hears c.act.ensures.tables c.act.ensures.config c.act.ensures.own (never_open_by_message (session_in s c.args.c) (heard.Update None) h.items) refl refl (asked_by_message s c.args.c (heard.Update None) h _ refl)
+          (takes_in s c.args.c (record { message = heard.Update None; change = Some change }) h) tt read lt set c.message.ensures.hears c.act.ensures.tables c.act.ensures.config c.act.ensures.own (never_open_by_message (session_in s c.args.c) (heard.Update None) h.items) refl refl refl (asked_by_message s c.args.c (heard.Update None) h _ refl)
           (λ down up. ap (λ b. if b then change ∷ h.changes else []) down)
           (λ up now. absurd (not_taken c.args.self.now c.index_mut.result.now c.message.new.self s c.args.c h c.message.result read c.message.ensures.hears live up knows c.in_default.not-None)) knows;
       refused = tt;

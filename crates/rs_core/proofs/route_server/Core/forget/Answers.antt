@@ -59,8 +59,11 @@ returns-clause-forgotten c = λ s h cut.
             let is = c.clear.ensures.outlet.own none (subst (λ n. c.args.c < n) (sym (c.unlearn.ensures.settings.count ∙ c.pass_over.new.self.ribs_len)) (subst (λ n. c.args.c < n) (sym (c.pass_over.ensures.count ∙ c.note_ending.ensures.count)) c.requires)) in
             let silent = cleared_silent (outlet_in c.unlearn.new.self c.args.c none) (outlet_in c.clear.new.self c.args.c none) is in
             voiced_over s c.args.c (leaves h) (outlet_in c.clear.new.self c.args.c none) refl refl silent.speech silent.order
-            (nothing_converses (session_in s c.args.c) (own_open s) (Left ∷ h.items) (outgoing_of (outlet_in c.clear.new.self c.args.c none)) refl
-            (cleared_out (outlet_in c.unlearn.new.self c.args.c none) (outlet_in c.clear.new.self c.args.c none) is));
+            (record {
+              messages = nothing_converses (session_in s c.args.c) (own_open s) (Left ∷ h.items) (outgoing_of (outlet_in c.clear.new.self c.args.c none)) refl
+                  (cleared_out (outlet_in c.unlearn.new.self c.args.c none) (outlet_in c.clear.new.self c.args.c none) is);
+              beats = λ live. absurd (let f = live in cc);
+            });
         ordered = λ _ none. over_ordered s c.args.c (leaves h) (outlet_in c.clear.new.self c.args.c none) refl
             (cleared_silent (outlet_in c.unlearn.new.self c.args.c none) (outlet_in c.clear.new.self c.args.c none) (c.clear.ensures.outlet.own none (subst (λ n. c.args.c < n) (sym (c.unlearn.ensures.settings.count ∙ c.pass_over.new.self.ribs_len)) (subst (λ n. c.args.c < n) (sym (c.pass_over.ensures.count ∙ c.note_ending.ensures.count)) c.requires)))).speech;
       };

@@ -1,0 +1,46 @@
+-- When a KEEPALIVE is due to a client, and when it goes out (RFC 4271, 4.4 and 8.2.2).
+use Rattle.std.specs.Prelude.{◌≡◌, ◌≢◌, ◌⊎◌, ℕ, Bool, true, false, List, [], ◌∷◌, ◌++◌, if◌then◌else◌}
+use Rattle.rs_octets.specs.declared.heads.Kind.TheVariants as kinds
+use Rattle.rs_octets.specs.Messages.{IsMessageOf}
+use Rattle.rs_open.specs.Writing.{keepalive, server_open}
+use Rattle.rs_open.specs.declared.short.Short.TheVariants as short
+use Rattle.rs_open.specs.declared.writing.ServerOpen.{ServerOpen}
+use Rattle.rs_session.specs.declared.act.Act.{Act}
+use Rattle.rs_session.specs.declared.act.Act.TheVariants as acts
+use Rattle.rs_core.specs.Telling.{each_message}
+
+pub data Beat : Type 0 where
+  FellDue : Beat  -- a KEEPALIVE fell due
+  Begun : (taken : List ℕ) → Beat  -- where none was in flight the next message began, if there was one; these octets were taken before
+
+-- a session asks for a KEEPALIVE: it has accepted the OPEN, or a third of the Hold Time has passed since one fell due
+abbrev pub asks_for_keepalive : Act → Bool
+asks_for_keepalive acts.None = false
+asks_for_keepalive (acts.Say short.Open) = false
+asks_for_keepalive (acts.Say short.Keepalive) = true
+asks_for_keepalive (acts.Say (short.Note code sub extra count)) = false
+asks_for_keepalive acts.Up = false
+asks_for_keepalive (acts.Down ending) = false
+asks_for_keepalive acts.Again = false
+
+abbrev pub fell_if : Bool → List Beat → List Beat
+fell_if falls beats = if falls then FellDue ∷ beats else beats
+
+-- the next message while a session lasts: a KEEPALIVE where one is due, and else an UPDATE or none
+abbrev pub IsNext : Bool → List ℕ → Type 0
+IsNext true octets = octets ≡ keepalive
+IsNext false octets = (octets ≡ []) ⊎ IsMessageOf each_message kinds.Update octets
+
+-- Before this beginning these octets were put on the connection, and a KEEPALIVE was due or not. Where some of them were not yet
+-- taken, nothing began. Where all were, the next message began, and no KEEPALIVE is due any more.
+pub record IsBegunAt (taken before : List ℕ) (was : Bool) (octets : List ℕ) (due : Bool) : Type 0 where
+  pub message : List ℕ
+  pub whole : octets ≡ before ++ message
+  pub is : ((before ≢ taken) × (message ≡ []) × (due ≡ was)) ⊎ ((before ≡ taken) × IsNext was message × (due ≡ false))
+
+-- While a session lasts, this was put on the connection, behind the OPEN, by what befell the client, the newest first, and a
+-- KEEPALIVE is due or not: it is, exactly where one fell due since the last message began.
+abbrev pub AreBeats : ServerOpen → List Beat → List ℕ → Bool → Type 0
+AreBeats said [] octets due = (octets ≡ server_open said) × (due ≡ false)
+AreBeats said (FellDue ∷ beats) octets due = (due ≡ true) × (was : Bool) × AreBeats said beats octets was
+AreBeats said (Begun taken ∷ beats) octets due = (before : List ℕ) × (was : Bool) × AreBeats said beats before was × IsBegunAt taken before was octets due
