@@ -1,5 +1,5 @@
 -- Which messages a client is sent over a run.
-use Rattle.std.proofs.Common.{◌≡◌, inl, inr, ◌<◌, ◌+◌, ℕ, Bool, true, List, [], ◌++◌, length, refl, sym, ◌∙◌, ap, subst, append_assoc}
+use Rattle.std.proofs.Common.{◌≡◌, inl, inr, ◌<◌, ◌+◌, ℕ, Bool, true, List, [], ◌++◌, length, refl, sym, ◌∙◌, ap, subst}
 use Rattle.std.specs.Prelude.{Option, Some, None, false}
 use Rattle.std.proofs.lemmas.Option.{slice_get_read}
 use Rattle.rs_attrs.specs.declared.mode.Mode.{Mode}
