@@ -4,7 +4,8 @@ use Rattle.rs_octets.specs.Prefixes.{Prefix}
 use Rattle.rs_attrs.specs.declared.mode.Mode.TheVariants.{Two, Four}
 use Rattle.rs_attrs.specs.Meaning.{Attribute, all_types}
 use Rattle.rs_attrs.specs.Effects.{Effect, Change, Reset, Changes, effect_of, table_of}
-use Rattle.rs_attrs.proofs.Rows.{hex, well, u1, u1_attributes}
+use Rattle.rs_octets.proofs.Rows.{hex}
+use Rattle.rs_attrs.proofs.Rows.{well, u1, u1_attributes}
 
 abbrev net : ℕ → ℕ → Prefix
 net bits len = record { bits = bits; len = len }

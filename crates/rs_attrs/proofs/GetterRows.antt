@@ -7,7 +7,8 @@ use Rattle.rs_attrs.specs.Writing.{spelt}
 use Rattle.rs_attrs.specs.Comparing.{same_attributes, attributes_cmp}
 use Rattle.rs_attrs.specs.Getters.{origin_of, next_hop_of, med_of, has_community, path_length_of, path_has_of, origin_as_of}
 use Rattle.rs_attrs.specs.Stripping.{stripped_of}
-use Rattle.rs_attrs.proofs.Rows.{hex, u1, u1_attributes}
+use Rattle.rs_octets.proofs.Rows.{hex}
+use Rattle.rs_attrs.proofs.Rows.{u1, u1_attributes}
 
 route_origin : origin_of u1_attributes ≡ Some 0
 route_origin = refl

@@ -2,7 +2,8 @@
 use Rattle.std.specs.Prelude.{◌≡◌, ℕ, ◌+◌, true, false, List, [], ◌∷◌, ◌++◌, replicate, refl, codes, Some, None}
 use Rattle.rs_octets.specs.Prefixes.{Prefix}
 use Rattle.rs_attrs.specs.Meaning.{Attribute, all_types}
-use Rattle.rs_attrs.proofs.Rows.{hex, well, u1_attributes}
+use Rattle.rs_octets.proofs.Rows.{hex}
+use Rattle.rs_attrs.proofs.Rows.{well, u1_attributes}
 use Rattle.rs_open.specs.Notes.{note, note_1}
 use Rattle.rs_session.specs.Items.{Message}
 use Rattle.rs_session.specs.declared.heard.Heard.TheVariants as heard

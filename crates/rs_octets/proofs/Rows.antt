@@ -9,10 +9,11 @@ use Rattle.rs_octets.specs.Messages.{messages_of, rest_of, heard_of, newly_heard
 use Rattle.rs_octets.specs.Fronts.{wanted_behind}
 use Rattle.rs_octets.specs.PrefixFields.{prefixes_of}
 
-abbrev digit : ℕ → ℕ
+abbrev pub digit : ℕ → ℕ
 digit c = if nat_lt c 58 then c - 48 else c - 87
 
-abbrev hex : List ℕ → List ℕ
+-- the octets of a text of hexadecimal digits in lower case; spaces are passed over
+abbrev pub hex : List ℕ → List ℕ
 hex [] = []
 hex (a ∷ []) = []
 hex (a ∷ b ∷ text) = if nat_lt a 33 then hex (b ∷ text) else (16 * digit a + digit b) ∷ hex text

@@ -1,5 +1,6 @@
 -- What the definitions answer, by computation: bodies of OPENs as read, and our messages as written.
-use Rattle.std.specs.Prelude.{◌≡◌, ℕ, ◌+◌, ◌-◌, ◌*◌, List, [], ◌∷◌, ◌++◌, refl, codes, nat_lt, replicate, Bool, true, false, Some, None, Ok, Err, if◌then◌else◌}
+use Rattle.std.specs.Prelude.{◌≡◌, ℕ, ◌+◌, List, ◌++◌, refl, codes, replicate, Bool, true, false, Some, None, Ok, Err}
+use Rattle.rs_octets.proofs.Rows.{hex}
 use Rattle.rs_open.specs.declared.open.OpenFault.TheVariants.{Version, Malformed, Parameter, Hold, Identifier}
 use Rattle.rs_open.specs.declared.short.Short.TheVariants.{Keepalive}
 use Rattle.rs_open.specs.declared.writing.ServerOpen.{ServerOpen}
@@ -7,15 +8,6 @@ use Rattle.rs_open.specs.Notes.{note, note_1, note_2}
 use Rattle.rs_open.specs.Opens.{open_of}
 use Rattle.rs_open.specs.Refreshes.{family_of}
 use Rattle.rs_open.specs.Writing.{server_open, short_octets}
-
-abbrev digit : ℕ → ℕ
-digit c = if nat_lt c 58 then c - 48 else c - 87
-
--- the octets of a text of hexadecimal digits and blanks
-abbrev hex : List ℕ → List ℕ
-hex [] = []
-hex (a ∷ []) = []
-hex (a ∷ b ∷ text) = if nat_lt a 33 then hex (b ∷ text) else (16 * digit a + digit b) ∷ hex text
 
 four_octets : open_of (hex (codes "04 fbf0 005a c000020b 08 0206 4104 0000fbf0"))
     ≡ Ok (record { my_as = 64496; four = Some 64496; hold = 90; identifier = 0xc000020b; long = false })

@@ -3,13 +3,13 @@ use Rattle.std.specs.Prelude.{◌≡◌, ◌⊎◌, ℕ, Bool, true, false, ◌&
 use Rattle.std.specs.List.{AllByRecursion}
 use Rattle.rs_adjin.specs.AdjIns.{number_of}
 use Rattle.rs_adjin.specs.declared.adj_ins.AdjIns.{AdjIns}
-use Rattle.std.specs.Coded.{Coded, code_by, coded×, coded_ℕ, coded_bool, coded_list}
+use Rattle.std.specs.Coded.{Coded, code_by, coded×, coded_ℕ, coded_bool}
 use Rattle.std.specs.FinMap as map
 use Rattle.std.specs.FinSet as set
 use Rattle.std.specs.FinMap.{FinMap}
 use Rattle.std.specs.FinSet.{FinSet}
 use Rattle.rs_octets.specs.Prefixes.{Prefix, prefix_order}
-use Rattle.rs_attrs.specs.Meaning.{Attribute}
+use Rattle.rs_attrs.specs.Meaning.{Attribute, attributes_code}
 use Rattle.rs_attrs.specs.Comparing.{same_attributes}
 use Rattle.rs_open.specs.declared.short.Short.{Short}
 use Rattle.rs_outlet.specs.declared.answers.Speech.{Speech}
@@ -157,16 +157,6 @@ pub record IsDrained (v : View) : Type 0 where
 
 abbrev pub prefix_code : Coded Prefix
 prefix_code = code_by (ℕ × ℕ) (coded× coded_ℕ coded_ℕ) (λ s. (s.bits, s.len)) (λ p. record { bits = p.0; len = p.1 }) (λ _. refl)
-
-abbrev pub attribute_code : Coded Attribute
-attribute_code =
-    code_by (ℕ × (Bool × (Bool × (Bool × List ℕ)))) (coded× coded_ℕ (coded× coded_bool (coded× coded_bool (coded× coded_bool (coded_list coded_ℕ)))))
-    (λ a. (a.kind, (a.optional, (a.transitive, (a.partial, a.value)))))
-    (λ c. record { kind = c.0; optional = c.1.0; transitive = c.1.1.0; partial = c.1.1.1.0; value = c.1.1.1.1 })
-    (λ _. refl)
-
-abbrev pub attributes_code : Coded (List Attribute)
-attributes_code = coded_list attribute_code
 
 abbrev pub table_code : Coded Table
 table_code = map.code prefix_code attributes_code

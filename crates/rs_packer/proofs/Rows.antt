@@ -4,7 +4,8 @@ use Rattle.rs_octets.specs.Prefixes.{Prefix}
 use Rattle.rs_attrs.specs.declared.mode.Mode.TheVariants.{Two, Four}
 use Rattle.rs_attrs.specs.Meaning.{Attribute, all_types, read_of}
 use Rattle.rs_attrs.specs.Effects.{Changes, effect_of}
-use Rattle.rs_attrs.proofs.Rows.{hex, well}
+use Rattle.rs_octets.proofs.Rows.{hex}
+use Rattle.rs_attrs.proofs.Rows.{well}
 use Rattle.rs_packer.specs.Packed.{announcement, withdrawal}
 use Rattle.rs_octets.specs.Messages.{body_of}
 
