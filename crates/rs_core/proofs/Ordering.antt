@@ -43,7 +43,7 @@ use Rattle.rs_core.specs.Orders.{IsOrdered, IsToldInOrder, TellsAt, TellsInOrder
 use Rattle.rs_core.specs.Hearing.{Hearing, session_in, state_in, is_up, offers, decides}
 use Rattle.rs_core.specs.Telling.{each_message, updates_in}
 use Rattle.rs_core.specs.Core.{is_refusal}
-use Rattle.rs_core.specs.Touches.{IsBegun}
+use Rattle.rs_outlet.specs.Begun.{HasBegun}
 use Rattle.rs_core.specs.Turns.{IsDone, IsTurn}
 use Rattle.rs_core.specs.Conversations.{own_open}
 use Rattle.rs_core.specs.Voices.{IsInOrder, IsGreeting, IsRaised, SaysTheSame, SpeaksTo, TellsAgain, Voices}
@@ -331,7 +331,7 @@ told_next speech points taken v w ins p numbered order whole (inr (inr news)) du
     (λ e. news_by (fin.get v.loc p) (fin.get v.told p) (set.contains v.marked p) false (sym (order.exact p) ∙ all_at (λ q. fin.get v.waits q ≡ Some false) news.prefixes p news.waited e))
     news.settles due t)
 
-pub begun_ordered : (s : Configuration) (c : ℕ) (h : Hearing) (ins : AdjIns) (v w : View) → AreNumbered v ins → IsBegun v w → SpeaksTo s c h v → IsOrdered s c h v → IsOrdered s c (offers true h) w
+pub begun_ordered : (s : Configuration) (c : ℕ) (h : Hearing) (ins : AdjIns) (v w : View) → AreNumbered v ins → HasBegun v w → SpeaksTo s c h v → IsOrdered s c h v → IsOrdered s c (offers true h) w
 begun_ordered s c h ins v w numbered b says at = by_flight v.flight refl where
   same : w ≡ v → IsOrdered s c (offers true h) w
   same e = offered_on s c h v w (λ whole. ap (λ (x : View). updates_in (h.taken ++ x.flight)) e) (ap (λ (x : View). x.speech) e) (ap (λ (x : View). x.loc) e)

@@ -18,7 +18,7 @@ use Rattle.rs_core.specs.Core.{is_refusal}
 use Rattle.rs_core.specs.Orders.{IsOrdered}
 use Rattle.rs_core.specs.Ribs.{outlet_in, flight_in, lent_by, ChangesAll, ChangesOwn, KeepsSettings}
 use Rattle.rs_core.specs.Turns.{IsDone, IsTurn}
-use Rattle.rs_core.specs.Touches.{IsBegun}
+use Rattle.rs_outlet.specs.Begun.{HasBegun}
 use Rattle.rs_core.specs.Voices.{SpeaksTo}
 use Rattle.rs_core.specs.Agreeing.{Agrees, AgreesAt, Spares}
 use Rattle.rs_core.specs.declared.ribs.Ribs.{Ribs}
@@ -88,12 +88,12 @@ pub within : (old : Core) (c : ℕ) → c < old.count → c < old.ribs.count
 within old c lt = subst (λ n. c < n) (sym old.ribs_len) lt
 
 -- the next message was begun
-pub begun_agrees : (c : ℕ) (old new : Core) (run : List Move) → c < old.count → MovesOutlet c IsBegun old new → Agrees old run → Agrees new (Began c ∷ run)
+pub begun_agrees : (c : ℕ) (old new : Core) (run : List Move) → c < old.count → MovesOutlet c HasBegun old new → Agrees old run → Agrees new (Began c ∷ run)
 begun_agrees c old new run lt m h =
     let it = hearing c run in
-    grown old new c run (Began c ∷ run) refl (λ d ne. ap (λ b. offers b (hearing d run)) (other_test c d ne)) h (moved_spares c IsBegun old new m)
+    grown old new c run (Began c ∷ run) refl (λ d ne. ap (λ b. offers b (hearing d run)) (other_test c d ne)) h (moved_spares c HasBegun old new m)
     (subst (λ k. AgreesAt new (config_in run) c k) (sym (ap (λ b. offers b it) (same_test c)))
-    (still_at c IsBegun old new (config_in run) it m
+    (still_at c HasBegun old new (config_in run) it m
     (λ config none. begun_voice (config_in run) c it old.ribs.tables (outlet_in old.ribs c none) (outlet_in new.ribs c none) (old.numbered.each c none (within old c lt)) (m.outlet.own none (within old c lt))
     ((h.clients c lt).knows.outlet h.config none))
     (λ config none. begun_ordered (config_in run) c it old.ribs.tables (outlet_in old.ribs c none) (outlet_in new.ribs c none) (old.numbered.each c none (within old c lt)) (m.outlet.own none (within old c lt))

@@ -25,7 +25,7 @@ use Rattle.rs_outlet.specs.Next.{note_octets}
 use Rattle.rs_outlet.specs.Views.{View}
 use Rattle.rs_octets.specs.PrefixOrder.{prefix_order_total, prefix_order_exact}
 use Rattle.rs_core.specs.Owing.{waiting_octets, owed_behind, owed_by}
-use Rattle.rs_core.specs.Touches.{IsBegun}
+use Rattle.rs_outlet.specs.Begun.{HasBegun}
 
 -- ---- maps without some keys
 
@@ -162,7 +162,7 @@ long_octets octets n e none = let z : length octets ≡ 0 = ap length none in om
 owed_is : (v : View) (said : Option Short) (beat : Bool) (speech : Option Speech) → v.note ≡ said → v.beat ≡ beat → v.speech ≡ speech → owed_by v ≡ length v.flight + owed_behind said beat speech (fin.len v.waits)
 owed_is v said beat speech n b s = λ i. length v.flight + owed_behind (n i) (b i) (s i) (fin.len v.waits)
 
-module _ (v w : View) (b : IsBegun v w) where
+module _ (v w : View) (b : HasBegun v w) where
   same_speech : w.speech ≡ v.speech
   same_speech = ap (λ (x : View). x.speech) b.rest
 

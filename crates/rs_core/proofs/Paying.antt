@@ -7,7 +7,7 @@ use Rattle.rs_outlet.specs.declared.answers.Last.TheVariants as lasts
 use Rattle.rs_core.specs.Moves.{Move, config_in}
 use Rattle.rs_core.specs.Runs.{hearing, is_established}
 use Rattle.rs_core.specs.Ribs.{outlet_in}
-use Rattle.rs_core.specs.Touches.{IsBegun}
+use Rattle.rs_outlet.specs.Begun.{HasBegun}
 use Rattle.rs_core.specs.Agreeing.{Agrees}
 use Rattle.rs_core.specs.Owing.{owed_by, is_decided_for, is_none}
 use Rattle.rs_core.specs.Core.{client_count, lent_octets, owed, owed_in, is_decided, decided_in}
@@ -56,9 +56,9 @@ moved_spares_owed c Is old new lt m touched = record {
   same d (inr ne) = ap (λ (v : View). v.touched) (m.outlet.others d nobody ne)
 
 -- the next message was begun
-pub begun_owes_no_more : (c : ℕ) (old new : Core) → c < old.count → MovesOutlet c IsBegun old new → OwesNoMore c old new
+pub begun_owes_no_more : (c : ℕ) (old new : Core) → c < old.count → MovesOutlet c HasBegun old new → OwesNoMore c old new
 begun_owes_no_more c old new lt m = record {
-  spares = moved_spares_owed c IsBegun old new lt m (λ v w b. ap (λ (x : View). x.touched) b.rest);
+  spares = moved_spares_owed c HasBegun old new lt m (λ v w b. ap (λ (x : View). x.touched) b.rest);
   none = λ e. lent_at new c now ∙ none_owed v w begun (sym (owed_is old c lt) ∙ e);
   all = λ none. owed_is old c lt ∙ none_begun v w begun (sym (lent_at new c now) ∙ none);
   owing = λ run h up. subst (λ n. n ≤ owed old c) (sym (owed_is new c now)) (subst (λ n. owed_by w ≤ n) (sym (owed_is old c lt)) (begun_owes v w begun (quiet run h up)));
@@ -72,7 +72,7 @@ begun_owes_no_more c old new lt m = record {
   now : c < new.count
   now = subst (λ n. c < n) (sym m.count) lt
 
-  begun : IsBegun v w
+  begun : HasBegun v w
   begun = m.outlet.own nobody (within old c lt)
 
   quiet : (run : List Move) → Agrees old run → is_established run c ≡ true → v.note ≡ None

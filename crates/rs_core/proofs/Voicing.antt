@@ -39,7 +39,8 @@ use Rattle.rs_outlet.specs.HeldBy.{tables_of}
 use Rattle.rs_outlet.specs.declared.answers.Last.{Last}
 use Rattle.rs_outlet.specs.Views.{View, waits_at, AreNumbered, is_touched, bare, cleared, finished, begun, touched_at}
 use Rattle.rs_adjin.specs.declared.adj_ins.AdjIns.{AdjIns}
-use Rattle.rs_core.specs.Touches.{IsBegun, IsTouchedAt, touched_with}
+use Rattle.rs_outlet.specs.Begun.{HasBegun}
+use Rattle.rs_core.specs.Touches.{IsTouchedAt, touched_with}
 use Rattle.rs_core.specs.Turns.{IsMarked, IsDone, IsTurn}
 use Rattle.rs_core.specs.Hearing.{Hearing, session_in, state_in, is_up, offers}
 use Rattle.rs_core.specs.Runs.{speech_by, speech_in}
@@ -409,7 +410,7 @@ update_voice speech v w ins octets numbered order (inr (inr news)) s =
 beats : (mode : Mode) (octets : List ℕ) (t : Prefix → Option (List Attribute)) → Speaks mode octets t → Speaks mode (octets ++ keepalive) t
 beats mode octets t s = speaks_on mode octets keepalive kinds.Keepalive t refl (written_is_message each_message kinds.Keepalive [] refl (omega arith) (omega arith)) s
 
-pub begun_voice : (s : Configuration) (c : ℕ) (h : Hearing) (ins : AdjIns) (v w : View) → AreNumbered v ins → IsBegun v w → SpeaksTo s c h v → SpeaksTo s c (offers true h) w
+pub begun_voice : (s : Configuration) (c : ℕ) (h : Hearing) (ins : AdjIns) (v w : View) → AreNumbered v ins → HasBegun v w → SpeaksTo s c h v → SpeaksTo s c (offers true h) w
 begun_voice s c h ins v w numbered b at = by_flight v.flight refl where
   rest_order : IsInOrder w
   rest_order = record { mandatory = λ p m e. at.order.mandatory p m (ap (λ (x : View). fin.get x.loc p) (sym b.rest) ∙ e); exact = b.exact at.order.exact }
