@@ -12,7 +12,8 @@ use Rattle.rs_core.specs.Agreeing.{Knows, AgreesAt, IsCutShort, Agrees, Spares}
 use Rattle.rs_core.specs.Ribs.{outlet_in}
 use Rattle.rs_core.specs.declared.route_server.Core.{Core}
 use Rattle.rs_core.proofs.Lists.{equal_or, own, other}
-use Rattle.rs_core.proofs.Voicing.{still, voiced_same}
+use Rattle.rs_core.proofs.Alike.{still}
+use Rattle.rs_core.proofs.Voicing.{voiced_same}
 use Rattle.rs_core.proofs.Around.{voices_on}
 use Rattle.rs_core.proofs.Ordering.{same_ordered}
 

@@ -14,7 +14,7 @@ use Rattle.rs_core.specs.Touches.{IsTouchedWhereHeld, IsAskedAgain}
 use Rattle.rs_core.specs.Ribs.{outlet_in, ChangesAround, ChangesOthers, ChangesOwn, TouchesChange}
 use Rattle.rs_core.specs.Voices.{TellsAgain, KeepsVoices, TouchesOthers}
 use Rattle.rs_core.specs.declared.ribs.Ribs.{Ribs}
-use Rattle.rs_core.proofs.Voicing.{alone_is, alone_on, touched_alone}
+use Rattle.rs_core.proofs.Alike.{alone_is, alone_on, touched_alone}
 
 -- the outlet of one client has changed
 pub own_voices : (c : ℕ) (Is : View → View → Type 0) (old new : Ribs) → ChangesOwn c Is old new → KeepsVoices c old new

@@ -26,7 +26,8 @@ use Rattle.rs_core.specs.Ribs.{outlet_in}
 use Rattle.rs_core.specs.declared.route_server.Core.{Core}
 use Rattle.rs_core.proofs.Listening.{Heards, hears_joined, hears_moment, deaf}
 use Rattle.rs_core.proofs.Ruling.{unmoved}
-use Rattle.rs_core.proofs.Voicing.{alone_is, same_again, same_is, voiced_on}
+use Rattle.rs_core.proofs.Alike.{alone_is, same_again, same_is}
+use Rattle.rs_core.proofs.Voicing.{voiced_on}
 use Rattle.rs_core.proofs.Ordering.{ordered_on}
 
 -- what is known is known whatever the octets were

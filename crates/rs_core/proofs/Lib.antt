@@ -25,7 +25,9 @@ pub mod Conversing
 pub mod Proceeding
 pub mod Beating
 pub mod Uttering
+pub mod Alike
 pub mod Voicing
+pub mod Delivering
 pub mod Around
 pub mod Ordering
 pub mod Refusing

@@ -27,7 +27,7 @@ use Rattle.rs_core.proofs.Lists.{own, other, same_test, other_test}
 use Rattle.rs_core.proofs.Agreeing.{grown}
 use Rattle.rs_core.proofs.Around.{own_voices}
 use Rattle.rs_core.proofs.Walks.{default_same}
-use Rattle.rs_core.proofs.Voicing.{begun_voice, took_voice, turned_voice}
+use Rattle.rs_core.proofs.Delivering.{begun_voice, took_voice, turned_voice}
 use Rattle.rs_core.proofs.Ordering.{begun_ordered, took_ordered, turned_ordered}
 use Rattle.rs_core.proofs.Serving.{due_is, due_spoken}
 use Rattle.rs_core.proofs.Turned.{done_decided}

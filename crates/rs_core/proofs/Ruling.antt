@@ -26,7 +26,8 @@ use Rattle.rs_core.specs.Agreeing.{Knows, Waits, Agrees}
 use Rattle.rs_core.specs.declared.ribs.Ribs.{Ribs}
 use Rattle.rs_core.specs.declared.route_server.Core.{Core}
 use Rattle.rs_core.proofs.Proceeding.{nothing_converses}
-use Rattle.rs_core.proofs.Voicing.{bare_out, bare_silent, marked_alone, marked_same, same_again, voiced_on, voiced_over}
+use Rattle.rs_core.proofs.Alike.{bare_out, bare_silent, marked_alone, marked_same, same_again}
+use Rattle.rs_core.proofs.Voicing.{voiced_on, voiced_over}
 use Rattle.rs_core.proofs.Ordering.{ordered_on, over_ordered}
 use Rattle.rs_core.specs.Orders.{IsOrdered}
 

@@ -30,7 +30,8 @@ use Rattle.rs_core.specs.declared.route_server.Core.{Core}
 use Rattle.rs_core.specs.Beats.{AreBeats, asks_for_keepalive, fell_if}
 use Rattle.rs_core.specs.Conversations.{outgoing_of, own_open}
 use Rattle.rs_core.proofs.Conversing.{acted_converses}
-use Rattle.rs_core.proofs.Voicing.{same_again, same_is, stayed}
+use Rattle.rs_core.proofs.Alike.{same_again, same_is}
+use Rattle.rs_core.proofs.Voicing.{stayed}
 use Rattle.rs_core.proofs.Lists.{set_at}
 use Rattle.rs_core.specs.Points.{Point, asked_if}
 use Rattle.rs_core.proofs.Acting.{up_table, up_identifier}

@@ -7,7 +7,8 @@ use Rattle.rs_core.specs.Ribs.{outlet_in}
 use Rattle.rs_core.specs.Voices.{IsRaised}
 use Rattle.rs_core.proofs.Around.{around_voices}
 use Rattle.rs_core.proofs.Lists.{some_is}
-use Rattle.rs_core.proofs.Voicing.{begun_raised, raised_is}
+use Rattle.rs_core.proofs.Alike.{begun_raised}
+use Rattle.rs_core.proofs.Voicing.{raised_is}
 use Rattle.rs_core.proofs.route_server.Core.come_up.Goals as goal
 
 pub returns-in-Some-clause-voices : goal.returns-in-Some-clause-voices

@@ -3,7 +3,7 @@ use Rattle.rs_core.specs.Core.{client_count}
 use Rattle.rs_core.specs.Ribs.{outlet_in}
 use Rattle.rs_core.proofs.Around.{held_voices, own_voices, voices_on}
 use Rattle.rs_core.specs.Voices.{IsFinished}
-use Rattle.rs_core.proofs.Voicing.{ends_so}
+use Rattle.rs_core.proofs.Alike.{ends_so}
 use Rattle.rs_core.proofs.route_server.Core.end.Goals as goal
 
 pub returns-clause-voices : goal.returns-clause-voices

@@ -15,7 +15,8 @@ use Rattle.rs_core.proofs.Lists.{set_at}
 use Rattle.rs_core.proofs.Around.{held_voices, own_voices, voices_on}
 use Rattle.rs_core.specs.Conversations.{outgoing_of, own_open}
 use Rattle.rs_core.proofs.Proceeding.{nothing_converses}
-use Rattle.rs_core.proofs.Voicing.{cleared_out, cleared_silent, voiced_over}
+use Rattle.rs_core.proofs.Alike.{cleared_out, cleared_silent}
+use Rattle.rs_core.proofs.Voicing.{voiced_over}
 use Rattle.rs_core.proofs.Ordering.{over_ordered}
 use Rattle.rs_core.proofs.Agreeing.{begun_held, begun_identifier, others_held, others_identifiers}
 use Rattle.rs_core.proofs.route_server.Core.forget.Goals as goal

@@ -4,7 +4,7 @@ use Rattle.rs_core.specs.Ribs.{outlet_in}
 use Rattle.rs_core.specs.Voices.{IsGreeting, KeepsVoices}
 use Rattle.rs_core.specs.declared.ribs.Ribs.{Ribs}
 use Rattle.rs_core.proofs.Around.{own_voices, voices_on}
-use Rattle.rs_core.proofs.Voicing.{greets}
+use Rattle.rs_core.proofs.Alike.{greets}
 use Rattle.rs_core.proofs.route_server.Core.greet.Goals as goal
 
 pub returns-clause-voices : goal.returns-clause-voices
