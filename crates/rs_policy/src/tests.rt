@@ -2,11 +2,21 @@
 
 mod examples;
 mod faults;
+mod matching;
 mod replacing;
 mod routes;
+mod table_faults;
 
 use crate::*;
 use std::process::Abort;
+
+const TOP: &str = "as = 64500\nidentifier = \"192.0.2.1\"\n";
+
+const CLIENT: &str =
+    "[[client]]\nname = \"a\"\nas = 64496\nlisten = \"127.0.0.1:17901\"\npeer = \"192.0.2.11\"\n";
+
+const OTHER: &str =
+    "[[client]]\nname = \"b\"\nas = 64497\nlisten = \"127.0.0.1:17902\"\npeer = \"192.0.2.12\"\n";
 
 /// The text that a fault writes, or "good" where a text is read.
 fn is_answered<R: Abort>(rt: &R, read: Result<Config, ConfigFault>, want: &str) {

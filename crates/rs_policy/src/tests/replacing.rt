@@ -1,6 +1,5 @@
 //! What may change while the server runs, and what may not.
 
-use super::faults::{CLIENT, OTHER, TOP};
 use super::*;
 use std::alloc::Global;
 use std::test::Fail;

@@ -6,8 +6,6 @@ use rs_octets::Prefix;
 use std::alloc::Global;
 use std::test::Fail;
 
-const TOP: &str = "as = 64500\nidentifier = \"192.0.2.1\"\n";
-
 const ALPHA: &str =
     "[[client]]\nname = \"a\"\nas = 64496\nlisten = \"127.0.0.1:17901\"\npeer = \"192.0.2.11\"\n";
 
@@ -15,37 +13,37 @@ const BETA: &str =
     "[[client]]\nname = \"b\"\nas = 64497\nlisten = \"127.0.0.1:17902\"\npeer = \"192.0.2.12\"\n";
 
 /// ORIGIN 0, AS_PATH 64496, NEXT_HOP 192.0.2.11.
-const PLAIN: &[u8] = &[
+pub(super) const PLAIN: &[u8] = &[
     0x40, 1, 1, 0, 0x40, 2, 6, 2, 1, 0, 0, 0xfb, 0xf0, 0x40, 3, 4, 192, 0, 2, 11,
 ];
 
 /// The same, but the path is 64499 and then the set of 64496.
-const SET: &[u8] = &[
+pub(super) const SET: &[u8] = &[
     0x40, 1, 1, 0, 0x40, 2, 12, 2, 1, 0, 0, 0xfb, 0xf3, 1, 1, 0, 0, 0xfb, 0xf0, 0x40, 3, 4, 192, 0,
     2, 11,
 ];
 
 /// PLAIN with NEXT_HOP 192.0.2.12.
-const ELSEWHERE: &[u8] = &[
+pub(super) const ELSEWHERE: &[u8] = &[
     0x40, 1, 1, 0, 0x40, 2, 6, 2, 1, 0, 0, 0xfb, 0xf0, 0x40, 3, 4, 192, 0, 2, 12,
 ];
 
 /// PLAIN with the communities 64500:1 and 64500:2.
-const COLOURED: &[u8] = &[
+pub(super) const COLOURED: &[u8] = &[
     0x40, 1, 1, 0, 0x40, 2, 6, 2, 1, 0, 0, 0xfb, 0xf0, 0x40, 3, 4, 192, 0, 2, 11, 0xc0, 8, 8, 0xfb,
     0xf4, 0, 1, 0xfb, 0xf4, 0, 2,
 ];
 
-fn attrs(alloc: Global, octets: &[u8]) -> Result<Attrs, Fail> {
+pub(super) fn attrs(alloc: Global, octets: &[u8]) -> Result<Attrs, Fail> {
     Ok(read(alloc, octets, Mode::Four)?.attrs)
 }
 
-fn prefix(rt: &impl Abort, bits: u32, len: u8) -> Prefix {
+pub(super) fn prefix(rt: &impl Abort, bits: u32, len: u8) -> Prefix {
     Prefix::new(bits, len).expect(rt, "a length of at most 32")
 }
 
 /// A configuration of a and b with these lists.
-fn config(alloc: Global, top: &str, import: &str, export: &str) -> Result<Config, Fail> {
+pub(super) fn config(alloc: Global, top: &str, import: &str, export: &str) -> Result<Config, Fail> {
     let text = format!(in alloc;
         "{TOP}{top}{ALPHA}import = [{import}]\n{BETA}export = [{export}]\n"
     )?;
@@ -53,13 +51,75 @@ fn config(alloc: Global, top: &str, import: &str, export: &str) -> Result<Config
 }
 
 /// The preference with which a's route goes to b, or None where it is dropped.
-fn preference<R: Abort>(rt: &R, config: &Config, prefix: &Prefix, attrs: &Attrs) -> Option<u32> {
+pub(super) fn preference<R: Abort>(
+    rt: &R,
+    config: &Config,
+    prefix: &Prefix,
+    attrs: &Attrs,
+) -> Option<u32> {
     assert_eq!(rt; config.clients(), 2);
     match judge(config, 0, 1, prefix, attrs) {
         Verdict::Drop => None,
         Verdict::Pass { preference, .. } => Some(preference),
     }
 }
+
+/// Import and export rules, each pair with the preference of the route.
+const LISTS: [(&str, &str, Option<u32>); 14] = [
+    (
+        "{ action = \"pass\", preference = 1 }, { action = \"drop\" }",
+        "",
+        Some(1),
+    ),
+    ("{ action = \"drop\" }, { action = \"pass\" }", "", None),
+    (
+        "{ path_has = 64999, action = \"drop\" }, { action = \"pass\", preference = 2 }",
+        "",
+        Some(2),
+    ),
+    // the preference of the export rule goes before that of the import rule
+    (
+        "{ action = \"pass\", preference = 200 }",
+        "{ action = \"pass\", preference = 50 }",
+        Some(50),
+    ),
+    (
+        "{ action = \"pass\", preference = 200 }",
+        "{ action = \"pass\" }",
+        Some(200),
+    ),
+    (
+        "{ action = \"pass\" }",
+        "{ action = \"pass\", preference = 0 }",
+        Some(0),
+    ),
+    (
+        "{ action = \"pass\", preference = 4294967295 }",
+        "",
+        Some(4294967295),
+    ),
+    // names of clients; in an import list the sender is always the client itself
+    ("{ from = \"a\", action = \"drop\" }", "", None),
+    ("{ from = \"b\", action = \"drop\" }", "", Some(100)),
+    ("", "{ from = \"a\", action = \"drop\" }", None),
+    ("", "{ from = \"b\", action = \"drop\" }", Some(100)),
+    // a rule matches where all of its tests hold
+    (
+        "{ from = \"a\", path_has = 64496, prefix = \"198.51.100.0/24\", action = \"drop\" }",
+        "",
+        None,
+    ),
+    (
+        "{ from = \"a\", path_has = 64497, prefix = \"198.51.100.0/24\", action = \"drop\" }",
+        "",
+        Some(100),
+    ),
+    (
+        "{ from = \"a\", path_has = 64496, prefix = \"198.51.101.0/24\", action = \"drop\" }",
+        "",
+        Some(100),
+    ),
+];
 
 #[test]
 fn without_rules_the_default_decides(rt: HostRuntime) -> Result<(), Fail> {
@@ -94,180 +154,12 @@ fn without_rules_the_default_decides(rt: HostRuntime) -> Result<(), Fail> {
 fn the_first_rule_that_matches_decides(rt: HostRuntime) -> Result<(), Fail> {
     let route = attrs(rt.alloc(), PLAIN)?;
     let to = prefix(&rt, 0xc633_6400, 24);
-    let rows = [
-        (
-            "{ action = \"pass\", preference = 1 }, { action = \"drop\" }",
-            "",
-            Some(1),
-        ),
-        ("{ action = \"drop\" }, { action = \"pass\" }", "", None),
-        (
-            "{ path_has = 64999, action = \"drop\" }, { action = \"pass\", preference = 2 }",
-            "",
-            Some(2),
-        ),
-        // the preference of the export rule goes before that of the import rule
-        (
-            "{ action = \"pass\", preference = 200 }",
-            "{ action = \"pass\", preference = 50 }",
-            Some(50),
-        ),
-        (
-            "{ action = \"pass\", preference = 200 }",
-            "{ action = \"pass\" }",
-            Some(200),
-        ),
-        (
-            "{ action = \"pass\" }",
-            "{ action = \"pass\", preference = 0 }",
-            Some(0),
-        ),
-        (
-            "{ action = \"pass\", preference = 4294967295 }",
-            "",
-            Some(4294967295),
-        ),
-        // names of clients; in an import list the sender is always the client itself
-        ("{ from = \"a\", action = \"drop\" }", "", None),
-        ("{ from = \"b\", action = \"drop\" }", "", Some(100)),
-        ("", "{ from = \"a\", action = \"drop\" }", None),
-        ("", "{ from = \"b\", action = \"drop\" }", Some(100)),
-        // a rule matches where all of its tests hold
-        (
-            "{ from = \"a\", path_has = 64496, prefix = \"198.51.100.0/24\", action = \"drop\" }",
-            "",
-            None,
-        ),
-        (
-            "{ from = \"a\", path_has = 64497, prefix = \"198.51.100.0/24\", action = \"drop\" }",
-            "",
-            Some(100),
-        ),
-        (
-            "{ from = \"a\", path_has = 64496, prefix = \"198.51.101.0/24\", action = \"drop\" }",
-            "",
-            Some(100),
-        ),
-    ];
-    for (import, export, want) in rows {
+    for (import, export, want) in LISTS {
         let config = config(rt.alloc(), "", import, export)?;
         assert_eq!(rt;
             preference(&rt, &config, &to, &route),
             want,
             "at {import} {export}"
-        );
-    }
-    Ok(())
-}
-
-#[test]
-fn prefixes_and_their_lengths(rt: HostRuntime) -> Result<(), Fail> {
-    let route = attrs(rt.alloc(), PLAIN)?;
-    let rows = [
-        (
-            "prefix = \"198.51.100.0/22\", min = 24, max = 24",
-            0xc633_6700,
-            24,
-            true,
-        ),
-        (
-            "prefix = \"198.51.100.0/22\", min = 24, max = 24",
-            0xc633_6800,
-            24,
-            false,
-        ),
-        (
-            "prefix = \"198.51.100.0/22\", min = 24, max = 24",
-            0xc633_6400,
-            22,
-            false,
-        ),
-        ("prefix = \"198.51.100.0/22\"", 0xc633_6400, 22, true),
-        ("prefix = \"198.51.100.0/22\"", 0xc633_6400, 24, false),
-        ("prefix = \"198.51.100.0/22\"", 0xc633_6700, 24, false),
-        ("prefix = \"198.51.100.0/22\"", 0xc633_6000, 20, false),
-        // bits behind the length are set to 0
-        ("prefix = \"198.51.103.9/22\"", 0xc633_6400, 22, true),
-        // without `max` it is `min`, without `min` the prefix's length
-        (
-            "prefix = \"198.51.100.0/22\", min = 24",
-            0xc633_6400,
-            24,
-            true,
-        ),
-        (
-            "prefix = \"198.51.100.0/22\", min = 24",
-            0xc633_6400,
-            25,
-            false,
-        ),
-        (
-            "prefix = \"198.51.100.0/22\", max = 32",
-            0xc633_6400,
-            22,
-            true,
-        ),
-        (
-            "prefix = \"198.51.100.0/22\", max = 32",
-            0xc633_67ff,
-            32,
-            true,
-        ),
-        ("prefix = \"0.0.0.0/0\"", 0, 0, true),
-        ("prefix = \"0.0.0.0/0\"", 0x0a00_0000, 8, false),
-        ("prefix = \"0.0.0.0/0\", max = 7", 0x0800_0000, 7, true),
-        ("prefix = \"0.0.0.0/0\", max = 7", 0x0a00_0000, 8, false),
-        ("prefix = \"255.255.255.255/32\"", 0xffff_ffff, 32, true),
-    ];
-    for (test, bits, len, matches) in rows {
-        let rule = format!(in rt.alloc(); "{{ {test}, action = \"drop\" }}")?;
-        let config = config(rt.alloc(), "", "", rule.as_str())?;
-        let want = if matches { None } else { Some(100) };
-        assert_eq!(rt;
-            preference(&rt, &config, &prefix(&rt, bits, len), &route),
-            want,
-            "at {test} {bits} {len}"
-        );
-    }
-    Ok(())
-}
-
-#[test]
-fn tests_of_attributes(rt: HostRuntime) -> Result<(), Fail> {
-    let to = prefix(&rt, 0xc633_6400, 24);
-    let rows = [
-        ("origin_as = 64496", PLAIN, true),
-        ("origin_as = 64499", PLAIN, false),
-        // a path whose last segment is a set has no origin
-        ("origin_as = 64496", SET, false),
-        ("origin_as = 64499", SET, false),
-        ("path_has = 64496", SET, true),
-        ("path_has = 64499", SET, true),
-        ("path_has = 64500", SET, false),
-        ("next_hop_is_peer = true", PLAIN, true),
-        ("next_hop_is_peer = false", PLAIN, false),
-        ("next_hop_is_peer = true", ELSEWHERE, false),
-        ("next_hop_is_peer = false", ELSEWHERE, true),
-        ("community = \"64500:1\"", PLAIN, false),
-        ("community = \"64500:1\"", COLOURED, true),
-        ("community = \"64500:2\"", COLOURED, true),
-        ("community = \"64500:3\"", COLOURED, false),
-    ];
-    for (test, octets, matches) in rows {
-        let route = attrs(rt.alloc(), octets)?;
-        let rule = format!(in rt.alloc(); "{{ {test}, action = \"drop\" }}")?;
-        let want = if matches { None } else { Some(100) };
-        let sender = config(rt.alloc(), "", rule.as_str(), "")?;
-        assert_eq!(rt;
-            preference(&rt, &sender, &to, &route),
-            want,
-            "at import {test}"
-        );
-        let receiver = config(rt.alloc(), "", "", rule.as_str())?;
-        assert_eq!(rt;
-            preference(&rt, &receiver, &to, &route),
-            want,
-            "at export {test}"
         );
     }
     Ok(())

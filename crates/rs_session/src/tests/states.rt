@@ -1,0 +1,198 @@
+//! What is done at a message in each state of a session.
+
+use super::*;
+
+/// Messages, each with what is done in OpenSent, in OpenConfirm and in Established.
+fn in_each_state() -> [(&'static str, Heard, Act, Act, Act); 8] {
+    [
+        (
+            "KEEPALIVE",
+            Heard::Keepalive,
+            down(5, 0),
+            Act::Up,
+            Act::None,
+        ),
+        (
+            "UPDATE",
+            Heard::Update(None),
+            down(5, 0),
+            down(5, 0),
+            Act::None,
+        ),
+        (
+            "session reset",
+            Heard::Update(Some((3, 10))),
+            down(5, 0),
+            down(5, 0),
+            down(3, 10),
+        ),
+        (
+            "too many prefixes",
+            Heard::Update(Some((6, 1))),
+            down(5, 0),
+            down(5, 0),
+            down(6, 1),
+        ),
+        (
+            "ROUTE-REFRESH",
+            Heard::Refresh { afi: 1, safi: 1 },
+            down(5, 0),
+            down(5, 0),
+            Act::Again,
+        ),
+        (
+            "IPv6",
+            Heard::Refresh { afi: 2, safi: 1 },
+            down(5, 0),
+            down(5, 0),
+            Act::None,
+        ),
+        (
+            "multicast",
+            Heard::Refresh { afi: 1, safi: 2 },
+            down(5, 0),
+            down(5, 0),
+            Act::None,
+        ),
+        (
+            "NOTIFICATION",
+            Heard::Note,
+            Act::Down(None),
+            Act::Down(None),
+            Act::Down(None),
+        ),
+    ]
+}
+
+#[test]
+fn comes_up_and_goes(rt: HostRuntime) {
+    let mut session = Session::new(SETTINGS);
+    assert_eq!(rt; session.settings(), SETTINGS);
+    assert_eq!(rt; session.state(), State::Idle);
+    assert_eq!(rt; session.mode(), None);
+    assert_eq!(rt; session.opened(), Ok(Act::Say(Short::Open)));
+    assert_eq!(rt; session.state(), State::OpenSent);
+    assert_eq!(rt; session.opened(), Err(Busy));
+    assert_eq!(rt;
+        session.message(Heard::Open(read_open(OPEN))),
+        SAY_KEEPALIVE
+    );
+    assert_eq!(rt; session.state(), State::OpenConfirm);
+    assert_eq!(rt; session.opened(), Err(Busy));
+    assert_eq!(rt; session.message(Heard::Keepalive), Act::Up);
+    assert_eq!(rt; session.state(), State::Established);
+    assert_eq!(rt; session.mode(), Some(Mode::Four));
+    assert_eq!(rt; session.identifier(), 0xc000_020b);
+    assert_eq!(rt; session.limit(), Limit::Short);
+    assert_eq!(rt; session.opened(), Err(Busy));
+    assert_eq!(rt; session.message(Heard::Note), Act::Down(None));
+    assert_eq!(rt; session.state(), State::Closing);
+    assert_eq!(rt; session.mode(), None);
+    assert_eq!(rt; session.opened(), Err(Busy));
+    session.lost();
+    assert_eq!(rt; session.state(), State::Idle);
+    assert_eq!(rt; session.settings(), SETTINGS);
+    assert_eq!(rt; session.opened(), Ok(Act::Say(Short::Open)));
+}
+
+#[test]
+fn messages_in_each_state(rt: HostRuntime) {
+    for (name, heard, first, second, later) in in_each_state() {
+        play(
+            &rt,
+            name,
+            &mut connected(&rt, SETTINGS),
+            &[(Call::Hear(heard), first)],
+        );
+        let mut confirming = connected(&rt, SETTINGS);
+        play(
+            &rt,
+            name,
+            &mut confirming,
+            &[
+                (Call::Open(OPEN), SAY_KEEPALIVE),
+                (Call::Hear(heard), second),
+            ],
+        );
+        play(
+            &rt,
+            name,
+            &mut established(&rt),
+            &[(Call::Hear(heard), later)],
+        );
+    }
+}
+
+#[test]
+fn an_open_is_the_first_message_alone(rt: HostRuntime) {
+    let mut again = connected(&rt, SETTINGS);
+    play(
+        &rt,
+        "a second OPEN",
+        &mut again,
+        &[
+            (Call::Open(OPEN), SAY_KEEPALIVE),
+            (Call::Open(OPEN), down(5, 0)),
+        ],
+    );
+    play(
+        &rt,
+        "a late OPEN",
+        &mut established(&rt),
+        &[(Call::Open(OPEN_VERSION_3), down(5, 0))],
+    );
+}
+
+#[test]
+fn headers(rt: HostRuntime) {
+    let rows = [
+        (HeaderFault::Marker, Short::note(1, 1)),
+        (HeaderFault::Length(0x1001), Short::note_2(1, 2, 0x10, 0x01)),
+        (HeaderFault::Length(20), Short::note_2(1, 2, 0x00, 0x14)),
+        (HeaderFault::Kind(5), Short::note_1(1, 3, 5)),
+    ];
+    for (fault, note) in rows {
+        let want = Act::Down(Some(note));
+        let heard = Call::Hear(Heard::Header(fault));
+        play(
+            &rt,
+            "OpenSent",
+            &mut connected(&rt, SETTINGS),
+            &[(heard, want)],
+        );
+        let mut confirming = connected(&rt, SETTINGS);
+        play(
+            &rt,
+            "OpenConfirm",
+            &mut confirming,
+            &[(Call::Open(OPEN), SAY_KEEPALIVE), (heard, want)],
+        );
+        play(&rt, "Established", &mut established(&rt), &[(heard, want)]);
+    }
+}
+
+#[test]
+fn nothing_is_heard_without_a_session(rt: HostRuntime) {
+    let deaf = [
+        (Call::Open(OPEN), Act::None),
+        (Call::Hear(Heard::Keepalive), Act::None),
+        (Call::Hear(Heard::Note), Act::None),
+        (Call::Hear(Heard::Header(HeaderFault::Marker)), Act::None),
+        (Call::At(1000), Act::None),
+    ];
+    let mut idle = Session::new(SETTINGS);
+    play(&rt, "Idle", &mut idle, &deaf);
+    assert_eq!(rt; idle.state(), State::Idle);
+    let mut closing = established(&rt);
+    play(
+        &rt,
+        "closes",
+        &mut closing,
+        &[(Call::Hear(Heard::Note), Act::Down(None))],
+    );
+    play(&rt, "Closing", &mut closing, &deaf);
+    assert_eq!(rt; closing.state(), State::Closing);
+    closing.lost();
+    closing.lost();
+    assert_eq!(rt; closing.state(), State::Idle);
+}
