@@ -1,5 +1,6 @@
 //! What is told of fields that are not well formed.
 
+use super::octets;
 use crate::faults::{AttributeFault, Cause, Faulted};
 use crate::mode::Mode;
 use crate::reading::read;
@@ -99,26 +100,6 @@ const OF_TWO_OCTET_PEERS: [(&str, &str, &str); 4] = [
         "none; 7 length",
     ),
 ];
-
-fn octets(alloc: Global, text: &str) -> Result<Vec<u8>, AllocError> {
-    let mut octets = Vec::new(alloc);
-    let mut high = None;
-    for digit in text.bytes() {
-        let value = match digit {
-            b'0'..=b'9' => digit - b'0',
-            b'a'..=b'f' => digit - b'a' + 10,
-            _ => continue,
-        };
-        high = match high {
-            None => Some(value << 4),
-            Some(before) => {
-                octets.push(before | value)?;
-                None
-            }
-        };
-    }
-    Ok(octets)
-}
 
 fn told(alloc: Global, fault: Option<AttributeFault>) -> Result<String, AllocError> {
     let Some(AttributeFault { kind, cause }) = fault else {

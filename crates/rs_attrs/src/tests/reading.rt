@@ -1,5 +1,6 @@
 //! What fields mean: each type with good and bad values, and the rules that join them.
 
+use super::octets;
 use crate::faults::Faults;
 use crate::mode::Mode;
 use crate::reading::{Parsed, read};
@@ -146,32 +147,6 @@ const AGGREGATORS_OF_TWO: [&str; 9] = [
     "AGGREGATOR of another AS, and AS4_PATH | 40020402015ba0 c00706fbf0c000020b c011060201fa56ea00 c01208fa56ea00c000020c | 400206020100005ba0 c007080000fbf0c000020b | ",
     "AS4_PATH of a malformed AGGREGATOR | 40020402015ba0 c00705fbf0c00002 c01208fa56ea00c000020c c011060201fa56ea00 | 4002060201fa56ea00 | discard",
 ];
-
-fn digit(letter: u8) -> u8 {
-    match letter {
-        b'0'..=b'9' => letter - b'0',
-        b'a'..=b'f' => letter - b'a' + 10,
-        _ => 0,
-    }
-}
-
-/// The octets of hexadecimal digits; spaces are passed over.
-fn octets(alloc: Global, text: &str) -> Result<Vec<u8>, AllocError> {
-    let mut octets = Vec::new(alloc);
-    let mut high = None;
-    for &letter in text.as_bytes() {
-        if letter != b' ' {
-            match high {
-                None => high = Some(digit(letter) << 4),
-                Some(first) => {
-                    octets.push(first | digit(letter))?;
-                    high = None;
-                }
-            }
-        }
-    }
-    Ok(octets)
-}
 
 fn flag(is_set: bool, worth: u8) -> u8 {
     if is_set { worth } else { 0 }
