@@ -5,8 +5,8 @@
 //! turns, which read the Adj-RIBs-In and the configuration; out go the octets of the next message,
 //! as far as the link takes them, and the routes of the client's Loc-RIB.
 //!
-//! - `outlet` has the calls: `Outlet`; `answers` what it is told of its client, and what a turn
-//!   answers.
+//! - `outlet` has the calls that change an `Outlet`, `asking` those that ask it; `answers` is what it
+//!   is told of its client, and what a turn answers; `sizes` says how much room a message has.
 //! - `touched` is what the next turn decides; `turn` decides it, by `deciding`, which says what is
 //!   due at one prefix; `changes` puts that into `rows`, the Loc-RIB by number, and into
 //!   `waiting`, what is to be sent. `marking` makes all that was told wait again.
@@ -16,6 +16,7 @@
 #![tactic(auto)]
 
 mod answers;
+mod asking;
 mod changes;
 mod choosing;
 mod deciding;
@@ -26,6 +27,7 @@ mod outlet;
 mod routes;
 mod rows;
 mod sending;
+mod sizes;
 mod table;
 #[cfg(test)]
 mod tests;

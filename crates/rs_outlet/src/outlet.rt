@@ -1,7 +1,6 @@
 //! The outlet of a client.
 
-ghost use Rattle.std.specs.Prelude.{◌≡◌, ◌≢◌, ◌↔◌, ◌≤◌, ◌<◌, true, Some, None, [], false, length, take, drop, vec_len, option_map, IsSome, IfOk, OnOk, OnErr, IsTrue};
-ghost use Rattle.std.specs.Arc.{arc_value};
+ghost use Rattle.std.specs.Prelude.{◌≡◌, ◌≢◌, ◌≤◌, ◌<◌, true, Some, None, [], false, length, take, drop, vec_len, IsSome, IfOk, OnOk, OnErr, IsTrue};
 ghost use Rattle.std.specs.FinMap as map;
 ghost use Rattle.std.specs.FinSet as set;
 ghost use Rattle.rs_octets.specs.Prefixes.{Prefix};
@@ -14,26 +13,24 @@ ghost use Rattle.rs_open.specs.Writing.{server_open, keepalive};
 ghost use Rattle.rs_open.specs.declared.short.Short.{Short};
 ghost use Rattle.rs_outlet.specs.Next.{note_octets};
 ghost use Rattle.rs_open.specs.declared.short.Limit.TheVariants as limits;
-ghost use Rattle.rs_outlet.specs.Views.{AreNumbered, IsDrained, IsOneOf, WaitsAreExact, bare, begun, cleared, finished, if_up, touched_at};
-ghost use Rattle.rs_outlet.specs.Left.{HasNothingLeft};
+ghost use Rattle.rs_outlet.specs.Views.{AreNumbered, IsOneOf, WaitsAreExact, bare, begun, cleared, finished, if_up, touched_at};
 ghost use Rattle.rs_outlet.specs.Turns.{HasTurned};
 ghost use Rattle.rs_outlet.specs.Begins.{BeginsUpdate};
-ghost use Rattle.rs_outlet.specs.Inside.{room_of, batch_of, IsNoNumberOf};
+ghost use Rattle.rs_outlet.specs.Inside.{IsNoNumberOf};
 
 use crate::answers::{Last, Speech, Turned};
 use crate::deciding::Sources;
-use crate::routes::Routes;
+use crate::sizes::{batch, room};
 use crate::table::Rows;
 use crate::touched::Touched;
 use crate::waiting::Waits;
 use rs_adjin::AdjIns;
-use rs_attrs::{Attrs, Mode};
-use rs_octets::{LONGEST_EXTENDED_MESSAGE, LONGEST_MESSAGE, Prefix};
+use rs_attrs::Mode;
+use rs_octets::Prefix;
 use rs_open::{Limit, ServerOpen, Short, short_size, write_open};
 use rs_policy::Config;
 use std::alloc::{AllocError, Global};
 use std::marker::Model;
-use std::sync::Arc;
 
 /// One client's Adj-RIB-Out: what is due to it, what it was told, and the message in flight.
 ///
@@ -76,28 +73,6 @@ impl Model for Outlet {
     ghost view = { view_of };
 
     ghost invariant = { IsKept };
-}
-
-/// The octets of the longest message.
-fn room(extended: bool) -> usize
-    ensures value { result ≡ room_of extended }
-    ensures most { result ≤ 65535 }
-{
-    usize::from(if extended {
-        LONGEST_EXTENDED_MESSAGE
-    } else {
-        LONGEST_MESSAGE
-    })
-}
-
-/// The octets of an UPDATE without prefixes and attributes: its header and two lengths.
-const EMPTY_UPDATE: usize = 23;
-
-/// The most prefixes that one message holds, each of one octet.
-fn batch(extended: bool) -> usize
-    ensures { result ≡ batch_of extended }
-{
-    room(extended) - EMPTY_UPDATE
 }
 
 /// Writes the server's OPEN at the front of a message's room.
@@ -262,13 +237,6 @@ impl Outlet {
         }
     }
 
-    /// The answer of the last turn.
-    pub fn last(&self) -> Last
-        ensures { result ≡ self.now.last }
-    {
-        self.last
-    }
-
     /// The client asks for everything again (RFC 2918, 4).
     pub fn again(&mut self)
         ensures client { self.new.client ≡ self.old.client }
@@ -300,40 +268,12 @@ impl Outlet {
         self.begin_next();
     }
 
-    /// What is left of the message in flight.
-    pub fn lent(&self) -> &[u8]
-        ensures { result.now ≡ self.now.flight }
-    {
-        &self.octets[self.start..self.end]
-    }
-
     /// The first octets in flight were taken.
     pub fn took(&mut self, count: usize)
         requires { count ≤ length self.old.flight }
         ensures { self.new ≡ record self.old { flight = drop count self.old.flight } }
     {
         self.start += count;
-    }
-
-    /// Whether nothing is left to do.
-    pub fn is_drained(&self) -> bool
-        ensures drained { IsTrue result → IsDrained self.now }
-        ensures exact { WaitsAreExact self.now → (IsTrue result ↔ IsDrained self.now) }
-        ensures left { IsTrue result ↔ HasNothingLeft self.now }
-    {
-        if self.speech.is_none() {
-            return false;
-        }
-        if !self.touched.is_empty() {
-            return false;
-        }
-        if self.start < self.end {
-            return false;
-        }
-        if self.beat {
-            return false;
-        }
-        self.waits.len() == 0
     }
 
     /// Whether the row of a number has no route, and the number is not touched by itself.
@@ -344,25 +284,5 @@ impl Outlet {
             Some(_) => false,
             None => !self.touched.has(number),
         }
-    }
-
-    /// The route of the Loc-RIB for a prefix.
-    pub fn route(&self, prefix: &Prefix, ins: &AdjIns) -> Option<&Arc<Attrs>>
-        ensures { AreNumbered self.now ins.now → option_map (λ attrs. arc_value attrs.now) result ≡ map.get self.now.loc prefix.now }
-    {
-        match ins.number(*prefix) {
-            None => None,
-            Some(number) => match self.rows.get(number) {
-                None => None,
-                Some(row) => Some(&row.attrs),
-            },
-        }
-    }
-
-    /// The routes of the Loc-RIB, by rising prefix.
-    pub fn routes<'a>(&'a self, ins: &'a AdjIns) -> Routes<'a>
-        ensures { AreNumbered self.now ins.now → result ≡ map.entries self.now.loc }
-    {
-        Routes::new(ins.iter(), &self.rows)
     }
 }

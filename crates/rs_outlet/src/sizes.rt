@@ -1,0 +1,28 @@
+//! How much room a message has.
+
+ghost use Rattle.std.specs.Prelude.{◌≡◌, ◌≤◌};
+ghost use Rattle.rs_outlet.specs.Inside.{room_of, batch_of};
+
+use rs_octets::{LONGEST_EXTENDED_MESSAGE, LONGEST_MESSAGE};
+
+/// The octets of the longest message.
+pub(crate) fn room(extended: bool) -> usize
+    ensures value { result ≡ room_of extended }
+    ensures most { result ≤ 65535 }
+{
+    usize::from(if extended {
+        LONGEST_EXTENDED_MESSAGE
+    } else {
+        LONGEST_MESSAGE
+    })
+}
+
+/// The octets of an UPDATE without prefixes and attributes: its header and two lengths.
+const EMPTY_UPDATE: usize = 23;
+
+/// The most prefixes that one message holds, each of one octet.
+pub(crate) fn batch(extended: bool) -> usize
+    ensures { result ≡ batch_of extended }
+{
+    room(extended) - EMPTY_UPDATE
+}
