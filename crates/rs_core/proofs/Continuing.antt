@@ -8,13 +8,13 @@ use Rattle.rs_policy.specs.declared.faults.RulesFault.{RulesFault}
 use Rattle.rs_core.specs.Core.{client_count, lent_octets, is_refused, refused_below}
 use Rattle.rs_core.specs.Moves.{Move, Ruled, Left, Turned, Began, config_in}
 use Rattle.rs_core.specs.Agreeing.{Agrees, IsRuled}
-use Rattle.rs_core.specs.Links.{Step, Told, Memory, End, Replaced, Leads, octets_of, stops}
+use Rattle.rs_core.specs.Links.{Step, Told, Memory, End, Replaced, HasLed, Leads, octets_of, stops}
 use Rattle.rs_core.specs.Courses.{Course, called, moved, memories, Stands, Continues}
-use Rattle.rs_core.specs.Answers.{is_passed_over, closes, AreFalling, Answers, Passes, Turns, Rules, Keeps, Ends, Ended, Lasts, Owes, Closes, Gives, Goes_on, Offers, Rounds, Round, Drives}
+use Rattle.rs_core.specs.Answers.{is_passed_over, closes, AreFalling, Answers, Passes, Turns, Rules, Keeps, Ends, Ended, Lasts, Owes, Closes, Gives, Goes_on, Offers, Rounds, Start, Round, Drives}
 use Rattle.rs_core.specs.declared.links.Event.{Event}
 use Rattle.rs_core.specs.declared.links.Event.TheVariants as events
 use Rattle.rs_core.specs.declared.route_server.Core.{Core}
-use Rattle.rs_core.proofs.Leading.{stop_is}
+use Rattle.rs_core.proofs.Leading.{led_by, led_on, led_same, stop_is}
 
 -- to what follows
 pub goes : {L : Type 0} (happens : L → Step → L → Type 0) (old : Core) (before : L) (new : Core) (after : L) (By : ℕ → Course → Course → Type 0) (next : Course → Course)
@@ -74,6 +74,37 @@ stopped happens a x b before after event octets is step rounds = record {
       let r = rounds.on first n u at in
       let stop : happens before (Told events.Stop octets) after = subst (λ (e : Event). happens before (Told e octets) after) (stop_is event is) step in
       (called (Told events.Stop octets) r.0, record { clients = r.1.clients; leads = (before, r.1.leads, stop); agrees = r.1.agrees }, record { before = r.0; octets = octets; rounds = r.2; stop = refl });
+}
+
+-- driven so far: by rounds, none of which stopped
+pub record IsDriven {L : Type 0} (happens : L → Step → L → Type 0) (old : Core) (before : L) (new : Core) (after : L) : Type 0 where
+  pub count : client_count new ≡ client_count old
+  pub led : HasLed happens before after
+  pub rounds : Continues happens old before new after Rounds
+
+-- not at all yet
+pub not_driven : {L : Type 0} (happens : L → Step → L → Type 0) (core : Core) (link : L) → IsDriven happens core link core link
+not_driven happens core link = record {
+  count = refl;
+  led = led_same happens link;
+  rounds = goes happens core link core link Rounds (λ x. x) refl (λ first x l. l) (λ x h. h) (λ n x count h. Start);
+}
+
+-- a part of a round: an answer to an event, or the ends behind it
+pub record HasContinued {L : Type 0} (happens : L → Step → L → Type 0) (old : Core) (before : L) (new : Core) (after : L) (By : ℕ → Course → Course → Type 0) : Type 0 where
+  pub count : client_count new ≡ client_count old
+  pub led : HasLed happens before after
+  pub continues : Continues happens old before new after By
+
+-- and a round more
+pub driven_on : {L : Type 0} (happens : L → Step → L → Type 0) (a : Core) (x : L) (b : Core) (before told : L) (c : Core) (mid : L) (d : Core) (after : L) (event : Event) (octets : List ℕ)
+    → stops event ≡ false → happens before (Told event octets) told
+    → IsDriven happens a x b before → HasContinued happens b told c mid (λ n. Answers n octets event) → HasContinued happens c mid d after (λ n. Ends n n)
+    → IsDriven happens a x d after
+driven_on happens a x b before told c mid d after event octets goes_on step driven answered ended = record {
+  count = ended.count ∙ (answered.count ∙ driven.count);
+  led = led_on happens x mid after (led_on happens x told mid (led_by happens x before told (Told event octets) driven.led step goes_on) answered.led) ended.led;
+  rounds = round happens a x b before told c mid d after event octets goes_on step driven.rounds answered.continues ended.continues;
 }
 
 -- ---- an event that is passed over
@@ -203,13 +234,13 @@ GivesOn c room left n x y = (z : Course) → Gives n c left y z → Gives n c ro
 pub gives_more : (c room left taken n : ℕ) (x y z : Course) → taken ≢ 0 → taken ≤ left → GivesOn c room left n x y → Offers n c left taken y z → GivesOn c room (left - taken) n x z
 gives_more c room left taken n x y z some within so offers = λ w rest. so w (Goes_on left taken y z w (omega (arith, some)) within offers rest)
 
--- ---- what is cut to the room
+-- ---- what there is room for
 
 either : (m n : ℕ) → (m ≤ n) ⊎ (n ≤ m)
 either m n = grind arith
 
-pub cut_take : (octets : List ℕ) (room most : ℕ) → (room ≤ length octets → most ≡ room) → (length octets ≤ room → most ≡ length octets) → take most octets ≡ take room octets
-cut_take octets room most cut all = elim (either room (length octets)) [
-  | inl le ↦ ap (λ n. take n octets) (cut le)
+pub within_take : (octets : List ℕ) (room most : ℕ) → (room ≤ length octets → most ≡ room) → (length octets ≤ room → most ≡ length octets) → take most octets ≡ take room octets
+within_take octets room most full all = elim (either room (length octets)) [
+  | inl le ↦ ap (λ n. take n octets) (full le)
   | inr le ↦ ap (λ n. take n octets) (all le) ∙ (take_all (length octets) octets (omega arith) ∙ sym (take_all room octets le))
 ]

@@ -1,11 +1,11 @@
 -- Outlets stay those of their clients.
-use Rattle.std.proofs.Common.{◌≡◌, ◌<◌, ◌+◌, ℕ, zero, suc, Bool, List, [], ◌∷◌, ◌++◌, length, refl, sym, ◌∙◌, ap, subst, arith}
-use Rattle.std.specs.Prelude.{slice_index_or}
+use Rattle.std.proofs.Common.{◌≡◌, ◌<◌, ◌+◌, ℕ, Bool, List, [], ◌∷◌, ◌++◌, length, refl, sym, ◌∙◌, ap, subst, arith}
 use Rattle.rs_adjin.specs.declared.adj_ins.AdjIns.{AdjIns}
 use Rattle.rs_policy.specs.Configuration.{Configuration}
 use Rattle.rs_outlet.specs.Views.{View, bare}
 use Rattle.rs_outlet.specs.declared.answers.Last.TheVariants as lasts
 use Rattle.rs_workers.specs.Turned.{ArePlaced, AllTurnedAlone}
+use Rattle.rs_workers.proofs.Placing.{each_push}
 use Rattle.rs_core.specs.Keeping.{AreBare, AreKept}
 
 -- what a turn of all asks
@@ -17,14 +17,6 @@ pub turned_kept : (long : Bool) (config : Configuration) (tables : AdjIns) (xs y
 turned_kept long config tables xs ys count turned each c d lt =
     let within : c < length xs = subst (λ n. c < n) count lt in
     record { client = (turned c d within).client ∙ (each c d within).client; extended = (turned c d within).extended ∙ (each c d within).extended }
-
--- one more at the end
-each_push : {X : Type 0} (P : ℕ → X → Type 0) (xs : List X) (v : X) → ((i : ℕ) (d : X) → i < length xs → P i (slice_index_or xs i d)) → P (length xs) v
-    → (i : ℕ) (d : X) → i < length (xs ++ v ∷ []) → P i (slice_index_or (xs ++ v ∷ []) i d)
-each_push P [] v each own zero d lt = own
-each_push P [] v each own (suc i) d lt = absurd (omega arith)
-each_push P (x ∷ xs) v each own zero d lt = each zero d (omega arith)
-each_push P (x ∷ xs) v each own (suc i) d lt = each_push (λ n. P (suc n)) xs v (λ j e h. each (suc j) e (omega arith)) own i d (omega arith)
 
 pub push_length : {X : Type 0} (xs : List X) (v : X) → length (xs ++ v ∷ []) ≡ length xs + 1
 push_length [] v = refl

@@ -34,7 +34,7 @@ pub record Lends (n c : ℕ) (run : List Move) (octets : List ℕ) : Type 0 wher
 
 -- ---- room of a link
 
--- the next message begins where none is in flight; what is lent is offered, cut to the room, and so many octets of it are taken
+-- the next message begins where none is in flight; as much of what is lent as there is room for is offered, and so many octets of it are taken
 pub data Offers (n c room : ℕ) : ℕ → Course → Course → Type 0 where
   Nothing : (x : Course) → Lends n c (Began c ∷ x.run) [] → Offers n c room 0 x (moved (Began c) x)
   Fails : (octets : List ℕ) (x : Course) → octets ≢ [] → Lends n c (Began c ∷ x.run) octets

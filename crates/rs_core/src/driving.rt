@@ -4,9 +4,10 @@ ghost use Rattle.std.specs.Prelude.{◌≡◌, ◌≢◌, ◌<◌, ◌≤◌, tr
 ghost use Rattle.rs_core.specs.Core.{client_count, is_refused, refused_below};
 ghost use Rattle.rs_core.specs.Links.{HasLed, HasStopped, Leads, Memory, Step, octets_of, stops};
 ghost use Rattle.rs_core.specs.Courses.{Continues, memories};
-ghost use Rattle.rs_core.specs.Answers.{Answers, Drives, Ended, Ends, Gives, Offers};
+ghost use Rattle.rs_core.specs.Answers.{Answers, Drives, Ended, Ends};
 
 use crate::links::{Event, Sink, Source};
+use crate::offering::fill;
 use crate::route_server::Core;
 use rs_outlet::Last;
 use rs_session::Busy;
@@ -211,74 +212,6 @@ fn rule<L: Source + Sink>(core: &mut Core, link: &mut L)
 {
     let answer = core.rules(link.rules());
     link.ruled(&answer);
-}
-
-/// The link of a client has room for so many octets.
-fn fill<L: Sink>(core: &mut Core, link: &mut L, c: usize, room: u64)
-    ensures count { client_count core.new ≡ client_count core.old }
-    ensures led { HasLed L.happens link.old link.new }
-    ensures answers { Continues L.happens core.old link.old core.new link.new (λ n. Answers n [] (Event.Room c room)) }
-{
-    if c < core.clients() {
-        give(core, link, c, room);
-    }
-}
-
-/// Offers a client what is lent to it, until the room is used or nothing is taken.
-fn give<L: Sink>(core: &mut Core, link: &mut L, c: usize, room: u64)
-    requires { c < client_count core.old }
-    ensures count { client_count core.new ≡ client_count core.old }
-    ensures led { HasLed L.happens link.old link.new }
-    ensures gives { Continues L.happens core.old link.old core.new link.new (λ n. Gives n c room) }
-{
-    let mut left = room;
-    while left > 0 {
-        let taken = offer(core, link, c, left);
-        if taken == 0 {
-            return;
-        }
-        left -= taken;
-    }
-}
-
-/// So many octets, cut to the room.
-fn cut(room: u64, len: usize) -> usize
-    ensures len { result ≤ len }
-    ensures room { result ≤ room }
-    ensures cut { room ≤ len → result ≡ room }
-    ensures all { len ≤ room → result ≡ len }
-{
-    if room < len as u64 {
-        room as usize
-    } else {
-        len
-    }
-}
-
-/// Offers a client what is lent to it, cut to the room. Answers how many octets were taken.
-fn offer<L: Sink>(core: &mut Core, link: &mut L, c: usize, room: u64) -> u64
-    requires { c < client_count core.old }
-    ensures within { result ≤ room }
-    ensures count { client_count core.new ≡ client_count core.old }
-    ensures led { HasLed L.happens link.old link.new }
-    ensures offers { Continues L.happens core.old link.old core.new link.new (λ n. Offers n c room result) }
-{
-    core.begin(c);
-    let lent = core.lent(c);
-    if lent.is_empty() {
-        return 0;
-    }
-    let most = cut(room, lent.len());
-    match link.offer(c, &lent[..most]) {
-        None => {
-            core.lost(c);
-            0
-        }
-        Some(n) => {
-            core.took(c, n);
-            n as u64
-        }
-    }
 }
 
 /// Tells of each client for which memory was refused at its turn.

@@ -15,8 +15,8 @@
 //! - Out: `sayings` begins messages, `sending` lends octets and hears how many were taken;
 //!   `endings` say why a session ended.
 //! - `rules` puts another configuration in; `asking` is what a caller can ask.
-//! - `driving` drives all this by a link of `links`; `laws` are contracts of functions that do
-//!   nothing.
+//! - `driving` drives all this by a link of `links`, and `offering` offers it what is lent; `laws`
+//!   are contracts of functions that do nothing.
 #![tactic(auto, unfolding(crate::specs::Core::client_count, crate::specs::Core::lent_octets))]
 
 mod asking;
@@ -28,6 +28,7 @@ pub mod laws;
 mod learning;
 mod links;
 mod making;
+mod offering;
 mod ribs;
 mod route_server;
 mod rules;

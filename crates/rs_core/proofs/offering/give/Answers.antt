@@ -2,7 +2,7 @@ use Rattle.std.proofs.Common.{◌≡◌, ◌≢◌, ◌<◌, ◌-◌, refl, sym,
 use Rattle.rs_core.specs.Answers.{Gives, Used, Stopped, Offers}
 use Rattle.rs_core.proofs.Leading.{led_same, led_on}
 use Rattle.rs_core.proofs.Continuing.{goes, joined, also, GivesOn, gives_more}
-use Rattle.rs_core.proofs.driving.give.Goals as goal
+use Rattle.rs_core.proofs.offering.give.Goals as goal
 
 pub loop-left-init : goal.loop-left-init
 loop-left-init g c = record {

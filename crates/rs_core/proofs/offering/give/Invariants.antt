@@ -3,7 +3,7 @@ use Rattle.rs_core.specs.Core.{client_count}
 use Rattle.rs_core.specs.Links.{HasLed}
 use Rattle.rs_core.specs.Courses.{Continues}
 use Rattle.rs_core.proofs.Continuing.{GivesOn}
-use Rattle.rs_core.proofs.driving.give.Given as goal
+use Rattle.rs_core.proofs.offering.give.Given as goal
 
 abbrev pub invariant-loop-left : goal.invariant-loop-left
 invariant-loop-left g l = record {

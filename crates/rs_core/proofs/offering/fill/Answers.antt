@@ -4,7 +4,7 @@ use Rattle.rs_core.specs.Answers.{Answers, Gives, Fills}
 use Rattle.rs_core.specs.declared.links.Event.TheVariants as events
 use Rattle.rs_core.proofs.Leading.{led_same}
 use Rattle.rs_core.proofs.Continuing.{also, passes, over_client}
-use Rattle.rs_core.proofs.driving.fill.Goals as goal
+use Rattle.rs_core.proofs.offering.fill.Goals as goal
 
 pub returns-else-c-clients-clause-led : goal.returns-else-c-clients-clause-led
 returns-else-c-clients-clause-led g c = led_same g.L.Link.happens _
