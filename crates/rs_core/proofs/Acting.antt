@@ -1,6 +1,7 @@
 -- What a session asks for is done: what is known of its client then.
-use Rattle.std.proofs.Common.{◌≡◌, ◌<◌, ◌⊎◌, inl, inr, ℕ, zero, suc, Bool, true, false, ◌&&◌, List, [], ◌∷◌, length, refl, sym, ◌∙◌, ap, subst}
-use Rattle.std.specs.Prelude.{Some, None, slice_get, slice_set, if◌then◌else◌}
+use Rattle.std.proofs.Common.{◌≡◌, ◌≢◌, ◌<◌, ◌⊎◌, inl, inr, ℕ, zero, suc, Bool, true, false, ◌&&◌, List, [], ◌∷◌, length, refl, sym, ◌∙◌, ap, subst}
+use Rattle.std.specs.Prelude.{Option, Some, None, slice_get, slice_set, if◌then◌else◌}
+use Rattle.std.specs.List.{cons_option}
 use Rattle.std.proofs.lemmas.Bool.{false≢true}
 use Rattle.std.specs.Global.{Vec}
 use Rattle.rs_octets.specs.Prefixes.{Prefix}
@@ -20,8 +21,10 @@ use Rattle.rs_adjin.specs.declared.adj_ins.AdjIns.{AdjIns}
 use Rattle.rs_policy.specs.Configuration.{Configuration}
 use Rattle.rs_session.specs.declared.heard.Heard.{Heard}
 use Rattle.rs_session.specs.declared.heard.Heard.TheVariants as heard
-use Rattle.rs_core.specs.Hearing.{Hearing, takes_in, without_change, session_in, state_in, is_up, identifier_in, table_in, begins, sees}
+use Rattle.rs_core.specs.Hearing.{Hearing, takes_in, session_in, state_in, is_up, identifier_in, table_in, begins, sees}
 use Rattle.rs_core.specs.Points.{asked_if}
+use Rattle.rs_core.specs.Watching.{expiry_by, no_faults, IsWatched, NotesEnding}
+use Rattle.rs_core.specs.declared.endings.Ending.{Ending}
 use Rattle.rs_core.specs.Steps.{Follows, IsSpared, ActsOn}
 use Rattle.rs_core.specs.Agreeing.{Knows, AgreesAt, Spares}
 use Rattle.rs_outlet.specs.Views.{View}
@@ -32,6 +35,7 @@ use Rattle.rs_core.specs.declared.route_server.Core.{Core}
 use Rattle.rs_core.proofs.Lists.{get_set_same, set_at}
 use Rattle.rs_core.specs.Beats.{asks_for_keepalive, fell_if}
 use Rattle.rs_core.proofs.Beating.{first_beats}
+use Rattle.rs_core.proofs.Watching.{watched_still}
 use Rattle.rs_core.proofs.Conversing.{IsHeardOrSeen}
 use Rattle.rs_core.proofs.Proceeding.{came_converses}
 use Rattle.rs_core.proofs.Voicing.{acted_voice, greeted, never_open_by_moment}
@@ -198,8 +202,9 @@ pub acted : (old new : Core) (act : Act) (item : Item) (x t : Session) (s : Conf
     → (act_of (session_in s c) item h.items ≡ acts.Say short.Open → ⊥) → next.items ≡ item ∷ h.items → next.beats ≡ fell_if (asks_for_keepalive (act_of (session_in s c) item h.items)) h.beats → next.taken ≡ h.taken → HasAskedIf item s c h next
     → (is_up (state_in s c h) ≡ false → act_of (session_in s c) item h.items ≡ acts.Up → next.changes ≡ [])
     → (is_up (state_in s c h) ≡ true → is_up (state_in s c next) ≡ true → next.changes ≡ h.changes)
+    → (ending : Act → Option Ending) → NotesEnding c (ending act) old.watched.items new.watched.items → next.endings ≡ cons_option (ending (act_of (session_in s c) item h.items)) h.endings → next.faults ≡ h.faults
     → Knows old s c h → Knows new s c next
-acted old new act item x t s c h next is_item read lt sessions responds does config voices never items beats taken asked fresh same knows =
+acted old new act item x t s c h next is_item read lt sessions responds does config voices never items beats taken asked fresh same ending notes endings faults knows =
     let it = responds (session_in s c) h.items (knows.session x read) in
     let heard : HasHeard t (session_in s c) next.items = subst (λ l. HasHeard t (session_in s c) l) (sym items) it.heard in
     let tells : Tells act (session_in s c) h.items next.items = subst (λ l. Tells act (session_in s c) h.items l) (sym items) it.tells in
@@ -216,11 +221,14 @@ acted old new act item x t s c h next is_item read lt sessions responds does con
           (λ e. never (sym it.act_is ∙ e)) taken (knows.outlet (sym config ∙ is) none);
       ordered = λ is none. acted_ordered act old.ribs.extended (slice_set old.sessions.items c t) t s c h next (outlet_in old.ribs c none) (outlet_in new.ribs c none) asked.has_asked (knows.outlet (sym config ∙ is) none).order asked.points
           (λ e. asked.again (sym it.act_is ∙ e)) (λ e. it.act_is ∙ asked.only e) (voices none) got heard tells (λ e. never (sym it.act_is ∙ e)) taken (knows.ordered (sym config ∙ is) none);
+      watched = subst (λ fs. IsWatched new.watched.items c next.endings fs) (sym faults) (subst (λ es. IsWatched new.watched.items c es h.faults) (ap (λ a. cons_option (ending a) h.endings) it.act_is ∙ sym endings)
+          (notes.own h.endings h.faults knows.watched));
     }
 
 pub acted_spares : (old new : Core) (c : ℕ) (t : Session) → new.count ≡ old.count → new.ribs.config ≡ old.ribs.config → c < length old.sessions.items
-    → new.sessions.items ≡ slice_set old.sessions.items c t → new.buffers ≡ old.buffers → IsSpared c old.ribs.tables new.ribs.tables → KeepsVoices c old.ribs new.ribs → Spares c old new
-acted_spares old new c t count config lt sessions buffers spared voices = record {
+    → new.sessions.items ≡ slice_set old.sessions.items c t → new.buffers ≡ old.buffers → IsSpared c old.ribs.tables new.ribs.tables → KeepsVoices c old.ribs new.ribs
+    → ((d : ℕ) → d ≢ c → slice_get new.watched.items d ≡ slice_get old.watched.items d) → Spares c old new
+acted_spares old new c t count config lt sessions buffers spared voices watched = record {
   count = count;
   config = config;
   sessions = λ d ne. ap (λ l. slice_get l d) sessions ∙ (set_at old.sessions.items c t lt).others d ne;
@@ -228,6 +236,7 @@ acted_spares old new c t count config lt sessions buffers spared voices = record
   held = spared.held;
   identifiers = spared.identifiers;
   voices = voices;
+  watched = watched;
 }
 
 -- ---- a moment
@@ -255,10 +264,10 @@ pub seen : (old new : Core) (act : Act) (x after : Session) (s : Configuration) 
     → slice_get old.sessions.items c ≡ Some x → c < length old.sessions.items → new.sessions.items ≡ slice_set old.sessions.items c after → new.buffers ≡ old.buffers
     → RespondsTo x after (Moment t) act → ActsOn act c (slice_set old.sessions.items c after) old.ribs.tables new.ribs.tables
     → new.ribs.config ≡ old.ribs.config → ((none : View) → Voices act old.ribs.extended c (slice_set old.sessions.items c after) (outlet_in old.ribs c none) (outlet_in new.ribs c none))
-    → AgreesAt old s c h → AgreesAt new s c (sees s c t h)
-seen old new act x after s c t h read lt sessions buffers responds does config voices at = record {
+    → NotesEnding c (expiry_by act) old.watched.items new.watched.items → AgreesAt old s c h → AgreesAt new s c (sees s c t h)
+seen old new act x after s c t h read lt sessions buffers responds does config voices notes at = record {
   knows = acted old new act (Moment t) x after s c h (sees s c t h) tt read lt sessions responds does config voices (never_open_by_moment (session_in s c) t h.items) refl refl refl (asked_by_no_moment s c t h)
-      (λ down up. absurd (never_up (session_in s c) t h.items up)) (λ before now. refl) at.knows;
+      (λ down up. absurd (never_up (session_in s c) t h.items up)) (λ before now. refl) expiry_by notes refl refl at.knows;
   waits = λ y e. let w = at.waits y (ap (λ v. slice_get v.items c) (sym buffers) ∙ e) in record {
     rest = λ live. w.rest (live_before (session_in s c) t h.items live);
     good = λ live. w.good (live_before (session_in s c) t h.items live);
@@ -273,8 +282,8 @@ opens_from settings items act e tells = subst (λ a. Tells a settings items (Cam
 pub came : (old new : Core) (act : Act) (x t : Session) (s : Configuration) (c : ℕ) (h : Hearing)
     → slice_get old.sessions.items c ≡ Some x → c < length old.sessions.items → new.sessions.items ≡ slice_set old.sessions.items c t
     → ((b : Vec ℕ) → slice_get new.buffers.items c ≡ Some b → b.items ≡ []) → new.ribs.tables ≡ old.ribs.tables → new.ribs.config ≡ old.ribs.config → ((none : View) → IsGreeting (own_open old.ribs.config) (outlet_in new.ribs c none))
-    → RespondsTo x t Came act → AgreesAt old s c h → AgreesAt new s c (begins h)
-came old new act x t s c h read lt sessions emptied tables config greets responds at =
+    → RespondsTo x t Came act → new.watched ≡ old.watched → AgreesAt old s c h → AgreesAt new s c (begins h)
+came old new act x t s c h read lt sessions emptied tables config greets responds watched at =
     let it = responds (session_in s c) h.items (at.knows.session x read) in
     let opens = opens_from (session_in s c) h.items act it.act_is it.tells in
     let alike : IsAlike s c h (begins h) = both_down s c h (begins h) (ap is_up opens.before) (ap is_up opens.now) in
@@ -289,6 +298,7 @@ came old new act x t s c h read lt sessions emptied tables config greets respond
               beats = λ live. first_beats (own_open s) (outlet_in new.ribs c none).flight (outlet_in new.ribs c none).beat own.flight own.beat;
             });
         ordered = λ is none. greeted_ordered s c (begins h) (outlet_in new.ribs c none) (greets_as is none) refl refl;
+        watched = watched_still old.watched.items new.watched.items c h.endings h.faults (ap (λ v. v.items) watched) at.knows.watched;
       };
       waits = λ b e. record { rest = λ live. emptied b e; good = λ live. refl };
     } where
@@ -296,12 +306,14 @@ came old new act x t s c h read lt sessions emptied tables config greets respond
       greets_as is none = subst (λ k. IsGreeting (own_open k) (outlet_in new.ribs c none)) (sym config ∙ is) (greets none)
 
 -- a message that changes nothing
-pub alone_follows : (s : Configuration) (c : ℕ) (message : Heard) (h : Hearing) → Follows s c message h (takes_in s c (without_change message) h)
-alone_follows s c message h = record {
+pub alone_follows : (s : Configuration) (c : ℕ) (message : Heard) (notice : List ℕ) (h : Hearing) → Follows s c message notice h (takes_in s c (record { message = message; change = None; notice = notice; faulted = no_faults }) h)
+alone_follows s c message notice h = record {
   items = refl;
   taken = refl;
   points = refl;
   beats = refl;
+  endings = refl;
+  faults = refl;
   fresh = λ down. ap (λ b. if b then h.changes else []) down;
   same = λ up now. ap (λ b. if b then h.changes else []) up;
 }

@@ -57,6 +57,7 @@ spared c d old new s h it ne lt at = record {
         (at.knows.outlet (sym it.config ∙ config) none);
     ordered = λ config none. same_ordered s d h (outlet_in old.ribs d none) (outlet_in new.ribs d none) (still _ _ (it.voices d none (subst (λ n. d < n) (sym old.ribs_len) lt) ne))
         (at.knows.ordered (sym it.config ∙ config) none);
+    watched = λ x e. at.knows.watched x (sym (it.watched d ne) ∙ e);
   };
   waits = λ x e. at.waits x (sym (it.buffers d ne) ∙ e);
 }
@@ -70,6 +71,7 @@ spares_both c old mid new a b = record {
   held = λ d p ne. b.held d p ne ∙ a.held d p ne;
   identifiers = λ d ne. b.identifiers d ne ∙ a.identifiers d ne;
   voices = voices_on c old.ribs mid.ribs new.ribs (mid.ribs_len ∙ a.count ∙ sym old.ribs_len) a.voices b.voices;
+  watched = λ d ne. b.watched d ne ∙ a.watched d ne;
 }
 
 -- what is common to all, told of one client

@@ -39,11 +39,12 @@ with_others core s c octets h knows = record {
   outlet = λ config none. let v = outlet_in core.ribs c none in voiced_on s s c h (with_octets octets h) v v refl (λ l. l) refl (same_again v v (same_is v v refl)) (record { messages = (knows.outlet config none).talk.messages; beats = (knows.outlet config none).talk.beats }) (knows.outlet config none);
   ordered = λ config none. let v = outlet_in core.ribs c none in
       ordered_on s s c h (with_octets octets h) v v refl refl refl refl refl refl (λ l d. (l, d)) (knows.ordered config none);
+  watched = knows.watched;
 }
 
-pub waiting_spares : (old new : Core) (c : ℕ) → new.count ≡ old.count → new.sessions ≡ old.sessions → new.ribs ≡ old.ribs
+pub waiting_spares : (old new : Core) (c : ℕ) → new.count ≡ old.count → new.sessions ≡ old.sessions → new.ribs ≡ old.ribs → new.watched ≡ old.watched
     → ((d : ℕ) → d ≢ c → slice_get new.buffers.items d ≡ slice_get old.buffers.items d) → Spares c old new
-waiting_spares old new c count sessions ribs others = record {
+waiting_spares old new c count sessions ribs watched others = record {
   count = count;
   config = ap (λ r. r.config) ribs;
   voices = λ d none lt ne. alone_is _ _ (ap (λ r. outlet_in r d none) ribs);
@@ -51,10 +52,11 @@ waiting_spares old new c count sessions ribs others = record {
   buffers = others;
   held = λ d p ne. ap (λ r. held_of r.tables d p) ribs;
   identifiers = λ d ne. ap (λ r. identifier_of r.tables d) ribs;
+  watched = λ d ne. ap (λ v. slice_get v.items d) watched;
 }
 
 pub same_spares : (core : Core) (c : ℕ) → Spares c core core
-same_spares core c = waiting_spares core core c refl refl refl (λ d ne. refl)
+same_spares core c = waiting_spares core core c refl refl refl refl (λ d ne. refl)
 
 -- ---- octets behind whole messages
 
@@ -141,16 +143,16 @@ fault_between s c core h octets fault live between faulty =
 -- ---- the beginning of a message
 
 pub after_beginning : (old new : Core) (s : Configuration) (c : ℕ) (h : Hearing) (octets : List ℕ) (n : ℕ) → is_live (state_in s c h) ≡ true → IsBetween old s c h
-    → Wants (allowed_in s) octets n → new.sessions ≡ old.sessions → new.ribs ≡ old.ribs
+    → Wants (allowed_in s) octets n → new.sessions ≡ old.sessions → new.ribs ≡ old.ribs → new.watched ≡ old.watched
     → ((x : Vec ℕ) → slice_get new.buffers.items c ≡ Some x → x.items ≡ octets) → AgreesAt new s c (hears s c octets h)
-after_beginning old new s c h octets n live between wants sessions ribs buffer =
+after_beginning old new s c h octets n live between wants sessions ribs watched buffer =
     let a = allowed_in s in
     let none = between.rest live in
     let it = waits a octets n wants in
     let rest = rest_between a h.octets octets none ∙ it.1 in
     let e = hears_as s c octets [] h (newly_between a h.octets octets none ∙ it.0) in
     subst (λ k. AgreesAt new s c k) (sym e) (record {
-      knows = with_others new s c (h.octets ++ octets) h (unmoved old new s c h sessions ribs between.knows);
+      knows = with_others new s c (h.octets ++ octets) h (unmoved old new s c h sessions ribs watched between.knows);
       waits = λ x f. record {
         rest = λ _. buffer x f ∙ sym rest;
         good = λ _. ap (header_fault_of a) rest ∙ it.2;

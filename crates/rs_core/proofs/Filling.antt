@@ -173,12 +173,12 @@ waiting_message core s c h buffer new piece rest kind body behind live w fills a
 -- ---- the buffer is put back
 
 -- what waits of a piece of which nothing is left
-pub front_agrees : (mid new : Core) (s : Configuration) (c : ℕ) (h : Hearing) (piece buffer rest : List ℕ) → new.sessions ≡ mid.sessions → new.ribs ≡ mid.ribs
+pub front_agrees : (mid new : Core) (s : Configuration) (c : ℕ) (h : Hearing) (piece buffer rest : List ℕ) → new.sessions ≡ mid.sessions → new.ribs ≡ mid.ribs → new.watched ≡ mid.watched
     → ((x : Vec ℕ) → slice_get new.buffers.items c ≡ Some x → x.items ≡ buffer) → rest ≡ [] → HasHeardFront mid s c h piece buffer rest → AgreesAt new s c (hears s c piece h)
-front_agrees mid new s c h piece buffer rest sessions ribs put none was =
+front_agrees mid new s c h piece buffer rest sessions ribs watched put none was =
     let whole : was.front ≡ piece = sym (was.whole ∙ ap (λ r. was.front ++ r) none ∙ append-nil was.front) in
     subst (λ p. AgreesAt new s c (hears s c p h)) whole (record {
-      knows = unmoved mid new s c (hears s c was.front h) sessions ribs was.knows;
+      knows = unmoved mid new s c (hears s c was.front h) sessions ribs watched was.knows;
       waits = λ x e. subst (λ b. Waits s c b (hears s c was.front h)) (sym (put x e)) was.waits;
     })
 
@@ -187,12 +187,12 @@ some_left rest buffer e (inl none) = absurd (let f : true ≡ false = sym (ap (�
 some_left rest buffer e (inr empty) = empty
 
 -- nothing waits where the piece has more
-pub front_between : (mid new : Core) (s : Configuration) (c : ℕ) (h : Hearing) (piece buffer rest : List ℕ) → new.sessions ≡ mid.sessions → new.ribs ≡ mid.ribs
+pub front_between : (mid new : Core) (s : Configuration) (c : ℕ) (h : Hearing) (piece buffer rest : List ℕ) → new.sessions ≡ mid.sessions → new.ribs ≡ mid.ribs → new.watched ≡ mid.watched
     → ((x : Vec ℕ) → slice_get new.buffers.items c ≡ Some x → x.items ≡ buffer) → (length rest == 0) ≡ false → (was : HasHeardFront mid s c h piece buffer rest)
     → IsBetween new s c (hears s c was.front h)
-front_between mid new s c h piece buffer rest sessions ribs put some was =
+front_between mid new s c h piece buffer rest sessions ribs watched put some was =
     let none = some_left rest buffer some was.all in record {
-      knows = unmoved mid new s c (hears s c was.front h) sessions ribs was.knows;
+      knows = unmoved mid new s c (hears s c was.front h) sessions ribs watched was.knows;
       rest = λ live. sym (was.waits.rest live) ∙ none;
       empty = λ live x e. put x e ∙ none;
     }

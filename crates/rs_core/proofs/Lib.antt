@@ -1,5 +1,6 @@
 pub mod Keeping
 pub mod Lists
+pub mod Watching
 pub mod Agreeing
 pub mod Acting
 pub mod Ruling
@@ -36,6 +37,9 @@ pub mod Outgoing
 pub mod Mandated
 pub mod Taking
 pub mod Continuing
+pub mod Spared
+pub mod Faulting
+pub mod Noticing
 pub mod InTurn
 pub mod Answered
 pub mod Owing

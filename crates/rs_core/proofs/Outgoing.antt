@@ -28,6 +28,7 @@ use Rattle.rs_core.proofs.Agreeing.{grown}
 use Rattle.rs_core.proofs.Around.{own_voices}
 use Rattle.rs_core.proofs.Walks.{default_same}
 use Rattle.rs_core.proofs.Delivering.{begun_voice, took_voice, turned_voice}
+use Rattle.rs_core.proofs.Watching.{watched_still}
 use Rattle.rs_core.proofs.Ordering.{begun_ordered, took_ordered, turned_ordered}
 use Rattle.rs_core.proofs.Serving.{due_is, due_spoken}
 use Rattle.rs_core.proofs.Turned.{done_decided}
@@ -37,6 +38,7 @@ pub record MovesOutlet (c : ℕ) (Is : View → View → Type 0) (old new : Core
   pub count : new.count ≡ old.count
   pub sessions : new.sessions ≡ old.sessions
   pub buffers : new.buffers ≡ old.buffers
+  pub watched : new.watched ≡ old.watched
   pub settings : KeepsSettings old.ribs new.ribs
   pub tables : new.ribs.tables ≡ old.ribs.tables
   pub outlet : ChangesOwn c Is old.ribs new.ribs
@@ -50,6 +52,7 @@ moved_spares c Is old new m = record {
   held = λ d p ne. ap (λ t. held_of t d p) m.tables;
   identifiers = λ d ne. ap (λ t. identifier_of t d) m.tables;
   voices = own_voices c Is old.ribs new.ribs m.outlet;
+  watched = λ d ne. ap (λ v. slice_get v.items d) m.watched;
 }
 
 moved_at : (c : ℕ) (octets : List ℕ) (Is : View → View → Type 0) (old new : Core) (s : Configuration) (h : Hearing) → MovesOutlet c Is old new
@@ -62,6 +65,7 @@ moved_at c octets Is old new s h m outlet ordered at = record {
     identifier = ap (λ t. identifier_of t c) m.tables ∙ at.knows.identifier;
     outlet = outlet;
     ordered = ordered;
+    watched = watched_still old.watched.items new.watched.items c h.endings h.faults (ap (λ v. v.items) m.watched) at.knows.watched;
   };
   waits = λ x e. let w = at.waits x (ap (λ v. slice_get v.items c) (sym m.buffers) ∙ e) in record { rest = w.rest; good = w.good };
 }
@@ -80,6 +84,7 @@ still_at c Is old new s h m outlet ordered at = record {
     identifier = ap (λ t. identifier_of t c) m.tables ∙ at.knows.identifier;
     outlet = outlet;
     ordered = ordered;
+    watched = watched_still old.watched.items new.watched.items c h.endings h.faults (ap (λ v. v.items) m.watched) at.knows.watched;
   };
   waits = λ x e. let w = at.waits x (ap (λ v. slice_get v.items c) (sym m.buffers) ∙ e) in record { rest = w.rest; good = w.good };
 }
@@ -138,11 +143,11 @@ turned_loc old run d none w lt h done speech is p =
     ∙ sym (due_spoken run d speech p (sym (((h.clients d lt).knows.outlet h.config none).speech) ∙ up))
 
 -- a turn of all, and then some numbers were given up
-pub turned_agrees : (old new : Core) (mid : Ribs) (run : List Move) (refused : List ℕ) → new.count ≡ old.count → new.sessions ≡ old.sessions → new.buffers ≡ old.buffers
+pub turned_agrees : (old new : Core) (mid : Ribs) (run : List Move) (refused : List ℕ) → new.count ≡ old.count → new.sessions ≡ old.sessions → new.buffers ≡ old.buffers → new.watched ≡ old.watched
     → KeepsSettings old.ribs mid → mid.tables ≡ old.ribs.tables → ChangesAll (λ c. IsTurn old.ribs.config old.ribs.tables) old.ribs mid
     → KeepsSettings mid new.ribs → Same mid.tables new.ribs.tables → new.ribs.outlets ≡ mid.outlets
     → ((d : ℕ) (none : View) → d < new.count → is_listed d refused ≡ is_refusal (outlet_in new.ribs d none).last) → Agrees old run → Agrees new (Turned refused ∷ run)
-turned_agrees old new mid run refused count sessions buffers settings tables turned after same outlets listed h = record {
+turned_agrees old new mid run refused count sessions buffers watched settings tables turned after same outlets listed h = record {
   config = after.config ∙ settings.config ∙ h.config;
   clients = λ d lt.
       let there = subst (λ n. d < n) count lt in
@@ -162,6 +167,7 @@ turned_agrees old new mid run refused count sessions buffers settings tables tur
               (turned_ordered (config_in run) d it (due run d) old.ribs.config old.ribs.tables (outlet_in old.ribs d none) (outlet_in mid d none) (is_listed d refused) (old.numbered.each d none (within old d there))
               (at.knows.outlet h.config none) (listed d none lt ∙ ap (λ (v : View). is_refusal v.last) (outlet none)) (λ done. turned_loc old run d none (outlet_in mid d none) there h done)
               (turned.each d none (within old d there)) (at.knows.ordered h.config none));
+          watched = watched_still old.watched.items new.watched.items d it.endings it.faults (ap (λ v. v.items) watched) at.knows.watched;
         };
         waits = λ x e. let w = at.waits x (ap (λ v. slice_get v.items d) (sym buffers) ∙ e) in record { rest = w.rest; good = w.good };
       };

@@ -4,6 +4,7 @@ use Rattle.rs_octets.specs.Prefixes.{Prefix}
 use Rattle.rs_attrs.specs.Meaning.{Attribute, all_types}
 use Rattle.rs_octets.proofs.Rows.{hex}
 use Rattle.rs_attrs.proofs.Rows.{well, u1_attributes}
+use Rattle.rs_attrs.specs.declared.faults.Cause.TheVariants as causes
 use Rattle.rs_open.specs.Notes.{note, note_1}
 use Rattle.rs_session.specs.Items.{Message}
 use Rattle.rs_session.specs.declared.heard.Heard.TheVariants as heard
@@ -17,9 +18,11 @@ use Rattle.rs_policy.specs.declared.rules.Rule.{Rule}
 use Rattle.rs_policy.specs.declared.rules.Action.TheVariants as actions
 use Rattle.rs_policy.specs.declared.rules.Choice.TheVariants as choices
 use Rattle.rs_decision.specs.Choice.{unbeaten}
-use Rattle.rs_core.specs.Moves.{Move, Ruled, Came, Heard, Left, Turned}
-use Rattle.rs_core.specs.Hearing.{session_in, state_in}
+use Rattle.rs_core.specs.Moves.{Move, Ruled, Came, Heard, Saw, Left, Dropped, Turned}
+use Rattle.rs_core.specs.Hearing.{session_in, state_in, ending_in, faulted_in}
 use Rattle.rs_core.specs.Runs.{hearing, is_established, due, dues}
+use Rattle.rs_core.specs.Watching.{notice_with, faulted_by}
+use Rattle.rs_core.specs.declared.endings.Ending.TheVariants as reasons
 
 -- ---- the configuration and the octets
 
@@ -255,3 +258,34 @@ within_the_limit = refl
 beyond_the_limit : fate (session_in limited 0) (hearing 0 (Heard 0 u1 ∷ replaced)).items ≡ Ends (Some (note 6 1))
 unfolding all_types
 beyond_the_limit = refl
+
+-- ---- why sessions end: not yet; with the connection; for want of memory; by the hold timer; by a NOTIFICATION of the client's, and
+-- then the connection goes; by one of ours
+
+none_ended : ending_in (hearing 1 (Left 0 ∷ two_up)) ≡ None
+none_ended = refl
+
+ended_with_it : ending_in (hearing 0 (Left 0 ∷ two_up)) ≡ Some reasons.Lost
+ended_with_it = refl
+
+ended_for_memory : ending_in (hearing 0 (Came 0 ∷ Dropped 0 ∷ two_up)) ≡ Some reasons.Memory
+ended_for_memory = refl
+
+ended_by_timer : ending_in (hearing 0 (Saw 90 ∷ Saw 89 ∷ two_up)) ≡ Some reasons.HoldTimer
+ended_by_timer = refl
+
+ended_by_client : ending_in (hearing 0 (Left 0 ∷ Heard 0 (m (codes "0018 03 0602 026f6b")) ∷ two_up)) ≡ Some (reasons.Heard (notice_with 6 2 (2 ∷ 0x6f ∷ 0x6b ∷ [])))
+ended_by_client = refl
+
+ended_by_server : ending_in (hearing 0 (Heard 0 u1 ∷ replaced)) ≡ Some (reasons.Said (note 6 1))
+unfolding all_types
+ended_by_server = refl
+
+-- ---- an UPDATE at fault counts, and no other does
+
+one_at_fault : faulted_in (hearing 0 (Heard 0 u1 ∷ at_fault)) ≡ record { count = 1; last = record { withdraw = Some (record { kind = 1; cause = causes.Value }); discard = None } }
+unfolding all_types
+one_at_fault = refl
+
+none_at_fault : faulted_in (hearing 1 at_fault) ≡ faulted_by []
+none_at_fault = refl

@@ -30,6 +30,8 @@ use Rattle.rs_core.proofs.Alike.{bare_out, bare_silent, marked_alone, marked_sam
 use Rattle.rs_core.proofs.Voicing.{voiced_on, voiced_over}
 use Rattle.rs_core.proofs.Ordering.{ordered_on, over_ordered}
 use Rattle.rs_core.specs.Orders.{IsOrdered}
+use Rattle.rs_core.specs.Watching.{IsWatched}
+use Rattle.rs_core.proofs.Watching.{watched_still}
 
 session_fixed : (s t : Configuration) (c : ℕ) → IsFixed s t → session_in s c ≡ session_in t c
 session_fixed s t c h = sym (λ i. record { peer_as = (h.clients c).client_as i; hold = h.hold i; extended = h.extended i })
@@ -49,20 +51,21 @@ waits_by s t c buffer h session allowed w = record {
 
 pub knows_by : (old new : Core) (s t : Configuration) (c : ℕ) (h : Hearing) → session_in s c ≡ session_in t c
     → new.sessions ≡ old.sessions → new.ribs.tables ≡ old.ribs.tables → (new.ribs.config ≡ t → (none : View) → SpeaksTo t c h (outlet_in new.ribs c none))
-    → (new.ribs.config ≡ t → (none : View) → IsOrdered t c h (outlet_in new.ribs c none)) → Knows old s c h → Knows new t c h
-knows_by old new s t c h session sessions tables outlet ordered w = record {
+    → (new.ribs.config ≡ t → (none : View) → IsOrdered t c h (outlet_in new.ribs c none)) → new.watched ≡ old.watched → Knows old s c h → Knows new t c h
+knows_by old new s t c h session sessions tables outlet ordered watched w = record {
   session = λ x e. subst (λ k. HasHeard x k h.items) session (w.session x (ap (λ v. slice_get v.items c) (sym sessions) ∙ e));
   table = λ p. ap (λ ins. held_of ins c p) tables ∙ w.table p ∙ ap (λ k. if is_up (state_of k h.items) then table_since h.changes p else None) session;
   identifier = ap (λ ins. identifier_of ins c) tables ∙ w.identifier ∙ ap (λ k. if is_up (state_of k h.items) then agreed_identifier k h.items else 0) session;
   outlet = outlet;
   ordered = ordered;
+  watched = watched_still old.watched.items new.watched.items c h.endings h.faults (ap (λ v. v.items) watched) w.watched;
 }
 
 -- where nothing but what waits has changed, what is known is known
-pub unmoved : (old new : Core) (s : Configuration) (c : ℕ) (h : Hearing) → new.sessions ≡ old.sessions → new.ribs ≡ old.ribs → Knows old s c h → Knows new s c h
-unmoved old new s c h sessions ribs w = knows_by old new s s c h refl sessions (ap (λ (r : Ribs). r.tables) ribs)
+pub unmoved : (old new : Core) (s : Configuration) (c : ℕ) (h : Hearing) → new.sessions ≡ old.sessions → new.ribs ≡ old.ribs → new.watched ≡ old.watched → Knows old s c h → Knows new s c h
+unmoved old new s c h sessions ribs watched w = knows_by old new s s c h refl sessions (ap (λ (r : Ribs). r.tables) ribs)
     (λ config none. subst (λ r. SpeaksTo s c h (outlet_in r c none)) (sym ribs) (w.outlet (sym (ap (λ (r : Ribs). r.config) ribs) ∙ config) none))
-    (λ config none. subst (λ r. IsOrdered s c h (outlet_in r c none)) (sym ribs) (w.ordered (sym (ap (λ (r : Ribs). r.config) ribs) ∙ config) none)) w
+    (λ config none. subst (λ r. IsOrdered s c h (outlet_in r c none)) (sym ribs) (w.ordered (sym (ap (λ (r : Ribs). r.config) ribs) ∙ config) none)) watched w
 
 speech_fixed : (s t : Configuration) (c : ℕ) (h : Hearing) → session_in s c ≡ session_in t c → speech_in t c h ≡ speech_in s c h
 speech_fixed s t c h e = sym (ap (λ (k : Settings). if is_up (state_of k h.items) then speech_by k.extended (agreed_of k h.items) else None) e)
@@ -81,9 +84,9 @@ talks_fixed s t c h v w session opening alone talk = record {
 
 -- another configuration that leaves as it is what has to stay
 pub ruled : (old new : Core) (run : List Move) (config : Configuration) → IsFixed (config_in run) config
-    → new.count ≡ old.count → new.ribs.config ≡ config → new.sessions ≡ old.sessions → new.buffers ≡ old.buffers → new.ribs.tables ≡ old.ribs.tables
+    → new.count ≡ old.count → new.ribs.config ≡ config → new.sessions ≡ old.sessions → new.buffers ≡ old.buffers → new.watched ≡ old.watched → new.ribs.tables ≡ old.ribs.tables
     → ChangesAll (λ c. IsMarked old.ribs.tables) old.ribs new.ribs → Agrees old run → Agrees new (Ruled config ∷ run)
-ruled old new run config fixed count is sessions buffers tables marked h = record {
+ruled old new run config fixed count is sessions buffers watched tables marked h = record {
   config = is;
   clients = λ c lt.
       let there = subst (λ n. c < n) count lt in
@@ -100,29 +103,30 @@ ruled old new run config fixed count is sessions buffers tables marked h = recor
             let v = outlet_in old.ribs c none in
             ordered_on (config_in run) config c (hearing c run) (hearing c run) v (outlet_in new.ribs c none) refl
             (ap (λ (x : View). (hearing c run).taken ++ x.flight) same.is) (ap (λ (x : View). x.speech) same.is) (ap (λ (x : View). x.loc) same.is) (ap (λ (x : View). x.told) same.is) (ap (λ (x : View). x.marked) same.is)
-            (λ l d. (ap (λ k. is_live (state_of k (hearing c run).items)) session ∙ l, ap (λ k. is_up (state_of k (hearing c run).items)) session ∙ d)) (at.knows.ordered h.config none)) at.knows;
+            (λ l d. (ap (λ k. is_live (state_of k (hearing c run).items)) session ∙ l, ap (λ k. is_up (state_of k (hearing c run).items)) session ∙ d)) (at.knows.ordered h.config none)) watched at.knows;
         waits = λ x e. waits_by (config_in run) config c x.items (hearing c run) session (allowed_fixed (config_in run) config fixed) (at.waits x (ap (λ v. slice_get v.items c) (sym buffers) ∙ e));
       };
 }
 
 -- the same, where nothing has changed
 pub unchanged : (old new : Core) (run : List Move)
-    → new.count ≡ old.count → new.ribs ≡ old.ribs → new.sessions ≡ old.sessions → new.buffers ≡ old.buffers
+    → new.count ≡ old.count → new.ribs ≡ old.ribs → new.sessions ≡ old.sessions → new.buffers ≡ old.buffers → new.watched ≡ old.watched
     → Agrees old run → Agrees new run
-unchanged old new run count ribs sessions buffers h = record {
+unchanged old new run count ribs sessions buffers watched h = record {
   config = ap (λ (r : Ribs). r.config) ribs ∙ h.config;
   clients = λ c lt.
       let at = h.clients c (subst (λ n. c < n) count lt) in
       record {
-        knows = unmoved old new (config_in run) c (hearing c run) sessions ribs at.knows;
+        knows = unmoved old new (config_in run) c (hearing c run) sessions ribs watched at.knows;
         waits = λ x e. at.waits x (ap (λ v. slice_get v.items c) (sym buffers) ∙ e);
       };
 }
 
 -- at the start
 pub begun : (core : Core) (config : Configuration) → core.ribs.config ≡ config → HaveHeardNothing config core.sessions.items
-    → ((c : ℕ) (p : Prefix) → held_of core.ribs.tables c p ≡ None) → ((c : ℕ) → identifier_of core.ribs.tables c ≡ 0) → AreBare config.top.extended core.ribs.outlets.items → Agrees core (Ruled config ∷ [])
-begun core config is sessions held identifiers bare = record {
+    → ((c : ℕ) (p : Prefix) → held_of core.ribs.tables c p ≡ None) → ((c : ℕ) → identifier_of core.ribs.tables c ≡ 0) → AreBare config.top.extended core.ribs.outlets.items
+    → ((c : ℕ) → IsWatched core.watched.items c [] []) → Agrees core (Ruled config ∷ [])
+begun core config is sessions held identifiers bare watched = record {
   config = is;
   clients = λ c lt. record {
     knows = record {
@@ -138,6 +142,7 @@ begun core config is sessions held identifiers bare = record {
           });
       ordered = λ _ none. over_ordered config c silence (outlet_in core.ribs c none) refl
           (bare_silent c config.top.extended lasts.Never (outlet_in core.ribs c none) (bare c none (subst (λ n. c < n) (sym (core.ribs.outlets_len ∙ core.ribs_len)) lt))).speech;
+      watched = watched c;
     };
     waits = λ x e. record { rest = λ live. absurd (let f = live in cc); good = λ live. absurd (let f = live in cc) };
   };

@@ -1,12 +1,15 @@
 -- What an UPDATE says to a session, as the code finds it.
-use Rattle.std.proofs.Common.{◌≡◌, ℕ, zero, suc, Bool, true, false, List, [], ◌∷◌, length, refl, sym, ◌∙◌, ap, subst}
+use Rattle.std.proofs.Common.{◌≡◌, inl, inr, ℕ, zero, suc, Bool, true, false, List, [], ◌∷◌, length, refl, sym, ◌∙◌, ap, subst}
 use Rattle.std.specs.Prelude.{Option, Some, None, IsSome, is_none, is_some, nat_lt, option_map, if◌then◌else◌}
 use Rattle.std.proofs.lemmas.Bool.{false≢true}
 use Rattle.rs_octets.specs.declared.heads.Kind.TheVariants as kinds
 use Rattle.rs_octets.specs.Prefixes.{Prefix}
 use Rattle.rs_attrs.specs.declared.mode.Mode.{Mode}
 use Rattle.rs_attrs.specs.Meaning.{Attribute}
-use Rattle.rs_attrs.specs.Effects.{Effect, Reset, Changes, Change, has_prefix, is_empty, effect_of}
+use Rattle.rs_attrs.specs.declared.faults.Faulted.{Faulted}
+use Rattle.rs_attrs.specs.Flaws.{faulted_of}
+use Rattle.rs_attrs.specs.Effects.{Fields, IsBody, Effect, Reset, Changes, Change, HasEffect, has_prefix, is_empty, fields_of, effect_of}
+use Rattle.rs_update.proofs.BodyFields.{fields_of_body}
 use Rattle.rs_update.specs.Laws.{IsSameChange, IsSameEffect}
 use Rattle.rs_session.specs.declared.heard.Heard.TheVariants as heard
 use Rattle.rs_session.specs.declared.settings.Settings.{Settings}
@@ -14,8 +17,9 @@ use Rattle.rs_session.specs.Items.{Item, Message, is_connected, message_count}
 use Rattle.rs_session.specs.Endings.{Fate, GoesOn, Ends, message_fate}
 use Rattle.rs_session.specs.Sessions.{state_of, state_by, fate, earlier, agreed_mode}
 use Rattle.rs_policy.specs.Configuration.{Configuration, client_of}
-use Rattle.rs_core.specs.Hearing.{Hearing, session_in, state_in, is_up, mode_in, without_change, update_said, effect_said, held_by, reset_beyond, body_said, takes_in}
+use Rattle.rs_core.specs.Hearing.{Hearing, session_in, state_in, is_up, mode_in, without_change, changing, update_said, effect_said, faulted_by_fields, held_by, reset_beyond, body_said, takes_in}
 use Rattle.rs_core.specs.Steps.{Follows, IsAnnouncing}
+use Rattle.rs_core.specs.Watching.{no_faults}
 use Rattle.rs_core.specs.Agreeing.{Knows}
 use Rattle.rs_core.specs.declared.route_server.Core.{Core}
 use Rattle.rs_core.proofs.Updating.{is_reset}
@@ -28,23 +32,32 @@ pub update_unmoded : (new : Core) (s : Configuration) (c : ℕ) (h : Hearing) (b
 update_unmoded new s c h body e knows = subst (λ m. Knows new s c (takes_in s c (update_said m (client_of s c).limit h.changes body) h)) (sym e) knows
 
 by_effect : (new : Core) (s : Configuration) (c : ℕ) (h : Hearing) (body : List ℕ) (mode : Mode) (e : Effect) → mode_in s c h ≡ Some mode → effect_of body mode ≡ e
-    → Knows new s c (takes_in s c (effect_said (client_of s c).limit h.changes e) h) → Knows new s c (takes_in s c (body_said s c h kinds.Update body) h)
+    → Knows new s c (takes_in s c (effect_said (client_of s c).limit h.changes (faulted_by_fields mode (fields_of body)) e) h) → Knows new s c (takes_in s c (body_said s c h kinds.Update body) h)
 by_effect new s c h body mode e m is knows =
     subst (λ o. Knows new s c (takes_in s c (update_said o (client_of s c).limit h.changes body) h)) (sym m)
-    (subst (λ x. Knows new s c (takes_in s c (effect_said (client_of s c).limit h.changes x) h)) (sym is) knows)
+    (subst (λ x. Knows new s c (takes_in s c (effect_said (client_of s c).limit h.changes (faulted_by_fields mode (fields_of body)) x) h)) (sym is) knows)
 
 pub update_reset : (new : Core) (s : Configuration) (c : ℕ) (h : Hearing) (body : List ℕ) (mode : Mode) (code sub : ℕ) → mode_in s c h ≡ Some mode
     → IsSameEffect (Reset code sub) (effect_of body mode) → Knows new s c (takes_in s c (without_change (heard.Update (Some (code, sub)))) h)
     → Knows new s c (takes_in s c (body_said s c h kinds.Update body) h)
 update_reset new s c h body mode code sub m same knows = by_effect new s c h body mode (Reset code sub) m (is_reset (effect_of body mode) code sub same) knows
 
-pub update_changes : (new : Core) (s : Configuration) (c : ℕ) (h : Hearing) (body : List ℕ) (mode : Mode) (change : Change) (reset : Option (ℕ × ℕ)) → mode_in s c h ≡ Some mode
-    → effect_of body mode ≡ Changes change → reset_beyond (client_of s c).limit (change ∷ h.changes) ≡ reset
-    → Knows new s c (takes_in s c (record { message = heard.Update reset; change = Some change }) h)
+pub update_changes : (new : Core) (s : Configuration) (c : ℕ) (h : Hearing) (body : List ℕ) (mode : Mode) (change : Change) (reset : Option (ℕ × ℕ)) (faulted : Faulted) → mode_in s c h ≡ Some mode
+    → effect_of body mode ≡ Changes change → reset_beyond (client_of s c).limit (change ∷ h.changes) ≡ reset → faulted ≡ faulted_by_fields mode (fields_of body)
+    → Knows new s c (takes_in s c (changing reset change faulted) h)
     → Knows new s c (takes_in s c (body_said s c h kinds.Update body) h)
-update_changes new s c h body mode change reset m is beyond knows =
+update_changes new s c h body mode change reset faulted m is beyond at_fault knows =
     by_effect new s c h body mode (Changes change) m is
-    (subst (λ r. Knows new s c (takes_in s c (record { message = heard.Update r; change = Some change }) h)) (sym beyond) knows)
+    (subst (λ f. Knows new s c (takes_in s c (changing (reset_beyond (client_of s c).limit (change ∷ h.changes)) change f) h)) at_fault
+    (subst (λ r. Knows new s c (takes_in s c (changing r change faulted) h)) (sym beyond) knows))
+
+-- what is wrong with its attributes is read off its fields
+pub at_fault : (body : List ℕ) (mode : Mode) (x : Change) (faulted : Faulted) → HasEffect body mode (Changes x)
+    → ((fields : Fields) → IsBody body fields → faulted ≡ faulted_of fields.attributes mode) → faulted ≡ faulted_by_fields mode (fields_of body)
+at_fault body mode x faulted has told = elim has [
+  | inl none ↦ absurd (let e : ◌≡◌ {A = Effect} (Changes x) (Reset 3 1) = none.1 in cc)
+  | inr it ↦ told it.0 it.1 ∙ sym (ap (faulted_by_fields mode) (fields_of_body body it.0 it.1))
+]
 
 up_by : (b : Bool) (m : Option Mode) (mode : Mode) → (if b then m else None) ≡ Some mode → b ≡ true
 up_by true m mode e = refl
@@ -83,12 +96,14 @@ reset_ends settings reset items = reset_ends_by (is_connected items) (fate setti
 
 -- a change that resets the session changes nothing any more
 pub reset_follows : (s : Configuration) (c : ℕ) (h : Hearing) (reset : ℕ × ℕ) (change : Change)
-    → Follows s c (heard.Update (Some reset)) h (takes_in s c (record { message = heard.Update (Some reset); change = Some change }) h)
+    → Follows s c (heard.Update (Some reset)) [] h (takes_in s c (changing (Some reset) change no_faults) h)
 reset_follows s c h reset change = record {
   items = refl;
   taken = refl;
   points = refl;
   beats = refl;
+  endings = refl;
+  faults = refl;
   fresh = λ down. ap (λ b. if b then change ∷ h.changes else []) down;
   same = λ up now. absurd (false≢true (sym (reset_ends (session_in s c) reset h.items) ∙ now));
 }

@@ -16,6 +16,8 @@ use Rattle.rs_core.specs.Links.{Step, Told}
 use Rattle.rs_core.specs.Courses.{Course, called, memories}
 use Rattle.rs_core.specs.Answers.{Offers, Nothing, Fails, Takes, Gives, Used, Stopped, Goes_on, Answers, Passes, Begins, Declines, Hears, Drops, Sees, Turns, Fills, Loses, Rules, Keeps, Ended, Lasts, Owes, Closes, Ends, Rounds, Start, Round, Drives, Drove, Never, Again}
 use Rattle.rs_core.specs.Serving.{taken_by, start, IsTakenBy, ServesByOffers}
+use Rattle.rs_core.specs.declared.endings.Ending.{Ending}
+use Rattle.rs_core.specs.declared.endings.Ending.TheVariants as reasons
 use Rattle.rs_core.specs.declared.links.Event.{Event}
 use Rattle.rs_octets.specs.Messages.{newly_heard}
 
@@ -46,10 +48,10 @@ came : (own : Bool) (h : Hearing) (octets : List ℕ) → (is_connected h.items 
 came true h octets so on = refl
 came false h octets so on = so on
 
-left : (own : Bool) (h : Hearing) (octets : List ℕ) → (is_connected h.items ≡ true → h.taken ≡ octets)
-    → is_connected (if own then leaves h else h).items ≡ true → (if own then leaves h else h).taken ≡ octets
-left true h octets so on = absurd (let f : false ≡ true = on in cc)
-left false h octets so on = so on
+left : (own : Bool) (s : Configuration) (c : ℕ) (why : Ending) (h : Hearing) (octets : List ℕ) → (is_connected h.items ≡ true → h.taken ≡ octets)
+    → is_connected (if own then leaves s c why h else h).items ≡ true → (if own then leaves s c why h else h).taken ≡ octets
+left true s c why h octets so on = absurd (let f : false ≡ true = on in cc)
+left false s c why h octets so on = so on
 
 took : (own : Bool) (h : Hearing) (octets more : List ℕ) → (is_connected h.items ≡ true → h.taken ≡ octets)
     → is_connected (if own then takes more h else h).items ≡ true → (if own then takes more h else h).taken ≡ (if own then octets ++ more else octets)
@@ -74,7 +76,7 @@ cut k room octets within = take-take k room octets (omega (arith, within, length
 
 offers_keep : (n d room k c : ℕ) (x y : Course) → Offers n d room k x y → IsTakenBy c x → IsTakenBy c y
 offers_keep n d room k c x y (Nothing u lends) so = so
-offers_keep n d room k c x y (Fails octets u some lends) so = left (d == c) (offers (d == c) (hearing c u.run)) (taken_by c u.steps) so
+offers_keep n d room k c x y (Fails octets u some lends) so = left (d == c) (config_in u.run) c reasons.Lost (offers (d == c) (hearing c u.run)) (taken_by c u.steps) so
 offers_keep n d room k c x y (Takes octets j u some lends within) so = λ on.
     took (d == c) (offers (d == c) (hearing c u.run)) (taken_by c u.steps) (take j octets) so on
     ∙ ap (λ l. if d == c then taken_by c u.steps ++ l else taken_by c u.steps) (sym (cut j room octets within))
@@ -89,18 +91,18 @@ answers_keep n octets event c x y (Passes e u over) so = so
 answers_keep n octets event c x y (Begins d u lt idle) so = came (d == c) (hearing c u.run) (taken_by c u.steps) so
 answers_keep n octets event c x y (Declines d u lt busy) so = so
 answers_keep n octets event c x y (Hears d len u lt le) so = heard (d == c) (config_in u.run) c octets (hearing c u.run) (taken_by c u.steps) so
-answers_keep n octets event c x y (Drops d len u lt le) so = left (d == c) (hearing c u.run) (taken_by c u.steps) so
+answers_keep n octets event c x y (Drops d len u lt le) so = left (d == c) (config_in u.run) c reasons.Memory (hearing c u.run) (taken_by c u.steps) so
 answers_keep n octets event c x y (Sees t u) so = so
 answers_keep n octets event c x y (Turns refused u falling) so = λ on. so on ∙ sym (remembered c refused u.steps)
 answers_keep n octets event c x y (Fills d room u v lt gives) so = gives_keep n d room c u v gives so
-answers_keep n octets event c x y (Loses d u lt) so = left (d == c) (hearing c u.run) (taken_by c u.steps) so
+answers_keep n octets event c x y (Loses d u lt) so = left (d == c) (config_in u.run) c reasons.Lost (hearing c u.run) (taken_by c u.steps) so
 answers_keep n octets event c x y (Rules config u replaces) so = so
 answers_keep n octets event c x y (Keeps fault u refuses) so = so
 
 ended_keep : (n d c : ℕ) (x y : Course) → Ended n d x y → IsTakenBy c x → IsTakenBy c y
 ended_keep n d c x y (Lasts u not) so = so
 ended_keep n d c x y (Owes octets u closing some lends) so = so
-ended_keep n d c x y (Closes u closing lends) so = left (d == c) (offers (d == c) (hearing c u.run)) (taken_by c u.steps) so
+ended_keep n d c x y (Closes u closing lends) so = left (d == c) (config_in u.run) c reasons.Lost (offers (d == c) (hearing c u.run)) (taken_by c u.steps) so
 
 ends_keep : (n k c : ℕ) (x y : Course) → Ends n k x y → IsTakenBy c x → IsTakenBy c y
 ends_keep n zero c x y ends so = subst (IsTakenBy c) ends so

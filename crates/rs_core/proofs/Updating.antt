@@ -1,6 +1,7 @@
 -- What UPDATEs make of a client's Adj-RIB-In.
 use Rattle.std.proofs.Common.{◌≡◌, ◌≢◌, ◌<◌, ◌==◌, ◌&&◌, ◌||◌, ℕ, zero, suc, Bool, true, false, List, [], ◌∷◌, ◌++◌, length, take, get_or, refl, sym, ◌∙◌, ap, subst, arith}
 use Rattle.std.specs.Prelude.{Option, Some, None, find, slice_get, slice_set, if◌then◌else◌}
+use Rattle.std.specs.List.{cons_option}
 use Rattle.std.proofs.lemmas.Bool.Decides.{nat_tests}
 use Rattle.rs_octets.specs.Prefixes.{Prefix}
 use Rattle.rs_attrs.specs.Meaning.{Attribute}
@@ -21,7 +22,7 @@ use Rattle.rs_session.specs.Hearing.{HasHeard, RespondsTo, Takes}
 use Rattle.rs_adjin.specs.AdjIns.{held_of, identifier_of, Sets, Same}
 use Rattle.rs_adjin.specs.declared.adj_ins.AdjIns.{AdjIns}
 use Rattle.rs_policy.specs.Configuration.{Configuration}
-use Rattle.rs_core.specs.Hearing.{Hearing, session_in, state_in, is_up, takes_in}
+use Rattle.rs_core.specs.Hearing.{Hearing, session_in, state_in, is_up, changing, takes_in}
 use Rattle.rs_core.specs.Steps.{IsSpared, HasOverlaid}
 use Rattle.rs_core.specs.Agreeing.{Knows, IsCutShort}
 use Rattle.rs_outlet.specs.Views.{View}
@@ -32,7 +33,9 @@ use Rattle.rs_core.specs.Conversations.{outgoing_of, own_open}
 use Rattle.rs_core.proofs.Conversing.{acted_converses}
 use Rattle.rs_core.proofs.Alike.{same_again, same_is}
 use Rattle.rs_core.proofs.Voicing.{stayed}
+use Rattle.rs_core.specs.Watching.{ending_by, no_faults, IsWatched}
 use Rattle.rs_core.proofs.Lists.{set_at}
+use Rattle.rs_core.proofs.Watching.{watched_still}
 use Rattle.rs_core.specs.Points.{Point, asked_if}
 use Rattle.rs_core.proofs.Acting.{up_table, up_identifier}
 use Rattle.rs_core.proofs.Ordering.{stayed_ordered}
@@ -128,10 +131,10 @@ pub changed : (old new : Core) (x t : Session) (s : Configuration) (c : ℕ) (h 
     → identifier_of new.ribs.tables c ≡ identifier_of old.ribs.tables c
     → new.ribs.config ≡ old.ribs.config → ((none : View) → outlet_in new.ribs c none ≡ outlet_in old.ribs c none)
     → is_live (state_in s c h) ≡ true → IsSameChange (record { withdrawn = W; announced = A; attributes = m }) change
-    → Knows old s c h → Knows new s c (takes_in s c (record { message = heard.Update None; change = Some change }) h)
-changed old new x t s c h W A m change read lt sessions responds takes held identifier config own live same knows =
+    → new.watched ≡ old.watched → Knows old s c h → Knows new s c (takes_in s c (changing None change no_faults) h)
+changed old new x t s c h W A m change read lt sessions responds takes held identifier config own live same watched knows =
     let y : Change = record { withdrawn = W; announced = A; attributes = m } in
-    let next : Hearing = takes_in s c (record { message = heard.Update None; change = Some change }) h in
+    let next : Hearing = takes_in s c (changing None change no_faults) h in
     let was = knows.session x read in
     let it = responds (session_in s c) h.items was in
     let up : is_up (state_in s c h) ≡ true = ap is_up (takes (session_in s c) h.items was refl live) in
@@ -156,6 +159,8 @@ changed old new x t s c h W A m change read lt sessions responds takes held iden
                 (subst (λ (o : View). AreBeats (own_open s) h.beats (h.taken ++ o.flight) o.beat) (sym (own none)) ((knows.outlet (sym config ∙ is) none).talk.beats (ap is_live (sym it.tells.state) ∙ live)));
           }) (knows.outlet (sym config ∙ is) none);
       ordered = λ is none. stayed_ordered s c h next (outlet_in old.ribs c none) (outlet_in new.ribs c none) (unasked (is_up (state_in s c h)) h.points) it.tells refl (same_is _ _ (own none)) (knows.ordered (sym config ∙ is) none);
+      watched = subst (λ es. IsWatched new.watched.items c es h.faults) (ap (λ a. cons_option (ending_by [] a) h.endings) it.act_is)
+          (watched_still old.watched.items new.watched.items c h.endings h.faults (ap (λ v. v.items) watched) knows.watched);
     }
 
 -- ---- what the code found an UPDATE to do is what is computed of it

@@ -17,17 +17,20 @@ use Rattle.rs_core.specs.Runs.{hearing}
 use Rattle.rs_core.specs.Ribs.{outlet_in}
 use Rattle.rs_core.specs.Voices.{SpeaksTo, KeepsVoices}
 use Rattle.rs_core.specs.Orders.{IsOrdered}
+use Rattle.rs_core.specs.Watching.{IsWatched}
 use Rattle.rs_core.specs.declared.route_server.Core.{Core}
 
 -- ---- one client
 
--- its session has heard this, its Adj-RIB-In has what that means, and its outlet says what agrees with it, in order
+-- its session has heard this, its Adj-RIB-In has what that means, its outlet says what agrees with it, in order, and this is kept
+-- for those who watch
 pub record Knows (core : Core) (s : Configuration) (c : ℕ) (h : Hearing) : Type 0 where
   pub session : (x : Session) → slice_get core.sessions.items c ≡ Some x → HasHeard x (session_in s c) h.items
   pub table : (p : Prefix) → held_of core.ribs.tables c p ≡ table_in s c h p
   pub identifier : identifier_of core.ribs.tables c ≡ identifier_in s c h
   pub outlet : core.ribs.config ≡ s → (none : View) → SpeaksTo s c h (outlet_in core.ribs c none)
   pub ordered : core.ribs.config ≡ s → (none : View) → IsOrdered s c h (outlet_in core.ribs c none)
+  pub watched : IsWatched core.watched.items c h.endings h.faults
 
 -- while the session lasts, what waits is what the cut leaves of the octets, and its header, as far as it is there, is good
 pub record Waits (s : Configuration) (c : ℕ) (buffer : List ℕ) (h : Hearing) : Type 0 where
@@ -65,3 +68,4 @@ pub record Spares (c : ℕ) (old new : Core) : Type 0 where
   pub held : (d : ℕ) (p : Prefix) → d ≢ c → held_of new.ribs.tables d p ≡ held_of old.ribs.tables d p
   pub identifiers : (d : ℕ) → d ≢ c → identifier_of new.ribs.tables d ≡ identifier_of old.ribs.tables d
   pub voices : KeepsVoices c old.ribs new.ribs
+  pub watched : (d : ℕ) → d ≢ c → slice_get new.watched.items d ≡ slice_get old.watched.items d

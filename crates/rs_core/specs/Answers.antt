@@ -4,7 +4,7 @@ use Rattle.rs_session.specs.declared.act.State.TheVariants as states
 use Rattle.rs_policy.specs.Configuration.{Configuration}
 use Rattle.rs_policy.specs.Replacing.{Replaces, Refuses}
 use Rattle.rs_policy.specs.declared.faults.RulesFault.{RulesFault}
-use Rattle.rs_core.specs.Moves.{Move, Ruled, Came, Heard, Saw, Left, Turned, Began, Took, config_in}
+use Rattle.rs_core.specs.Moves.{Move, Ruled, Came, Heard, Saw, Left, Dropped, Turned, Began, Took, config_in}
 use Rattle.rs_core.specs.Hearing.{state_in, is_closing}
 use Rattle.rs_core.specs.Runs.{hearing}
 use Rattle.rs_core.specs.Core.{client_count, lent_octets}
@@ -72,7 +72,7 @@ pub data Answers (n : ℕ) (octets : List ℕ) : Event → Course → Course →
   Declines : (c : ℕ) (x : Course) → c < n → (IsIdle x.run c → ⊥) → Answers n octets (events.Opened c) x (called (Busy c) x)
   Hears : (c len : ℕ) (x : Course) → c < n → len ≤ 4096 → Answers n octets (events.Octets c len) x (moved (Heard c octets) x)
   -- memory was refused for them
-  Drops : (c len : ℕ) (x : Course) → c < n → len ≤ 4096 → Answers n octets (events.Octets c len) x (moved (Left c) (called (End c) (called (Memory c) x)))
+  Drops : (c len : ℕ) (x : Course) → c < n → len ≤ 4096 → Answers n octets (events.Octets c len) x (moved (Dropped c) (called (End c) (called (Memory c) x)))
   Sees : (t : ℕ) (x : Course) → Answers n octets (events.Moment t) x (moved (Saw t) x)
   -- memory was refused for some
   Turns : (refused : List ℕ) (x : Course) → AreFalling n refused → Answers n octets events.Turn x (record { steps = memories refused x.steps; run = Turned refused ∷ x.run })

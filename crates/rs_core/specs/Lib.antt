@@ -1,4 +1,5 @@
 pub mod Links
+pub mod Watching
 pub mod Keeping
 pub mod Touches
 pub mod Turns

@@ -1,5 +1,6 @@
 -- What the parts of a call do for one client.
 use Rattle.std.specs.Prelude.{◌≡◌, ◌≢◌, ◌≤◌, ◌⊎◌, ◌&&◌, ℕ, true, false, List, [], ◌∷◌, ◌++◌, length, Option, Some, None, IsSome, slice_get, if◌then◌else◌}
+use Rattle.std.specs.List.{cons_option}
 use Rattle.std.specs.Global.{Vec}
 use Rattle.rs_octets.specs.declared.heads.Allowed.{Allowed}
 use Rattle.rs_octets.specs.declared.heads.Kind.{Kind}
@@ -8,10 +9,10 @@ use Rattle.rs_octets.specs.Messages.{rest_of}
 use Rattle.rs_attrs.specs.Meaning.{Attribute}
 use Rattle.rs_attrs.specs.Effects.{Change, has_prefix}
 use Rattle.rs_update.specs.Laws.{IsSameChange}
-use Rattle.rs_session.specs.declared.heard.Heard.TheVariants as heard
 use Rattle.rs_session.specs.Sessions.{act_of, is_live, is_request}
 use Rattle.rs_core.specs.Beats.{asks_for_keepalive, fell_if}
 use Rattle.rs_core.specs.Points.{asked_if}
+use Rattle.rs_core.specs.Watching.{ending_by, no_faults}
 use Rattle.rs_core.specs.Agreeing.{Knows, IsCutShort, Waits}
 use Rattle.rs_core.specs.declared.route_server.Core.{Core}
 use Rattle.rs_session.specs.declared.heard.Heard.{Heard}
@@ -27,19 +28,21 @@ use Rattle.rs_adjin.specs.AdjIns.{held_of, identifier_of, Begins}
 use Rattle.rs_octets.specs.Prefixes.{Prefix}
 use Rattle.rs_adjin.specs.declared.adj_ins.AdjIns.{AdjIns}
 use Rattle.rs_policy.specs.Configuration.{Configuration}
-use Rattle.rs_core.specs.Hearing.{Hearing, allowed_in, session_in, state_in, is_up, body_said, takes_in, hears}
+use Rattle.rs_core.specs.Hearing.{Hearing, allowed_in, session_in, state_in, is_up, changing, body_said, takes_in, hears}
 
 -- the value of client c is v, and those of the others are what they were
 pub record SetsAt {X : Type 0} (c : ℕ) (v : X) (old new : List X) : Type 0 where
   pub own : (x : X) → slice_get new c ≡ Some x → x ≡ v
   pub others : (d : ℕ) → d ≢ c → slice_get new d ≡ slice_get old d
 
--- one message more was heard, which changed nothing, or ends the session
-pub record Follows (s : Configuration) (c : ℕ) (message : Heard) (h next : Hearing) : Type 0 where
+-- one message more was heard, with this body where it is a NOTIFICATION, which changed nothing, or ends the session
+pub record Follows (s : Configuration) (c : ℕ) (message : Heard) (notice : List ℕ) (h next : Hearing) : Type 0 where
   pub items : next.items ≡ items.Message message ∷ h.items
   pub taken : next.taken ≡ h.taken
   pub points : next.points ≡ asked_if (is_up (state_in s c h) && is_request message) h.points
   pub beats : next.beats ≡ fell_if (asks_for_keepalive (act_of (session_in s c) (Message message) h.items)) h.beats
+  pub endings : next.endings ≡ cons_option (ending_by notice (act_of (session_in s c) (Message message) h.items)) h.endings
+  pub faults : next.faults ≡ h.faults
   pub fresh : is_up (state_in s c h) ≡ false → next.changes ≡ []
   pub same : is_up (state_in s c h) ≡ true → is_up (state_in s c next) ≡ true → next.changes ≡ h.changes
 
@@ -91,7 +94,7 @@ abbrev pub Changes : ℕ → List Prefix → List Prefix → Option (List Attrib
 Changes c withdrawn announced attributes old new =
     (s : Configuration) (h : Hearing) (change : Change) → is_live (state_in s c h) ≡ true → Knows old s c h
     → IsSameChange (record { withdrawn = withdrawn; announced = announced; attributes = attributes }) change
-    → Knows new s c (takes_in s c (record { message = heard.Update None; change = Some change }) h)
+    → Knows new s c (takes_in s c (changing None change no_faults) h)
 
 -- ---- pieces
 

@@ -36,7 +36,7 @@ ghost use Rattle.rs_core.specs.Hearing.{is_up, is_closing};
 impl Core {
     ghost use Rattle.rs_core.specs.Core.{client_count, loc_rib, is_refusal, is_refused, last_of, lent_octets, owed, is_decided};
     ghost use Rattle.rs_core.specs.Moves.{Move, Began, config_in};
-    ghost use Rattle.rs_core.specs.Hearing.{Hearing, state_in, hold_in, mode_in, limit_in};
+    ghost use Rattle.rs_core.specs.Hearing.{Hearing, state_in, hold_in, mode_in, limit_in, ending_in, faulted_in};
     ghost use Rattle.rs_core.specs.Runs.{hearing, is_established, IsServed};
     ghost use Rattle.rs_core.specs.Agreeing.{Agrees, Knows};
     ghost use Rattle.rs_core.specs.InTurn.{IsAnswered};
@@ -122,6 +122,7 @@ impl Core {
     /// Why the last session of a client that ended did so.
     pub fn ending(&self, c: usize) -> Option<Ending>
         requires { c < client_count self.now }
+        ensures { (run : List Move) → Agrees self.now run → result ≡ ending_in (hearing c run) }
     {
         self.watched[c].ending
     }
@@ -129,6 +130,7 @@ impl Core {
     /// The UPDATEs of a client that were not taken as they came.
     pub fn faulted(&self, c: usize) -> FaultedUpdates
         requires { c < client_count self.now }
+        ensures { (run : List Move) → Agrees self.now run → result ≡ faulted_in (hearing c run) }
     {
         self.watched[c].faulted
     }

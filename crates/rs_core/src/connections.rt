@@ -2,7 +2,7 @@
 
 ghost use Rattle.std.specs.Prelude.{◌≡◌, ◌<◌};
 
-use crate::endings::Ending;
+use crate::endings::{Ending, ended_if};
 use crate::route_server::Core;
 use rs_open::ServerOpen;
 use rs_policy::Config;
@@ -33,6 +33,7 @@ ghost use Rattle.rs_outlet.specs.Views.{View};
 ghost use Rattle.rs_core.specs.Ribs.{outlet_in};
 ghost use Rattle.rs_core.specs.Conversations.{own_open};
 ghost use Rattle.rs_core.specs.Voices.{IsGreeting, KeepsVoices};
+ghost use Rattle.rs_core.specs.Watching.{IsWatched};
 ghost use Rattle.rs_policy.specs.Configuration.{Configuration};
 
 /// Whether a session in this state lasts.
@@ -78,6 +79,7 @@ impl Core {
         ensures tables { self.new.ribs.tables ≡ self.old.ribs.tables }
         ensures emptied { (x : Vec ℕ) → slice_get self.new.buffers.items c ≡ Some x → x.items ≡ [] }
         ensures others { (d : ℕ) → d ≢ c → slice_get self.new.buffers.items d ≡ slice_get self.old.buffers.items d }
+        ensures watched { self.new.watched ≡ self.old.watched }
         ensures voices { KeepsVoices c self.old.ribs self.new.ribs }
         ensures own { (none : View) → IsGreeting (own_open self.old.ribs.config) (outlet_in self.new.ribs c none) }
     {
@@ -93,6 +95,7 @@ impl Core {
         ensures count { client_count self.new ≡ client_count self.old }
         ensures sessions { self.new.sessions ≡ self.old.sessions }
         ensures ribs { self.new.ribs ≡ self.old.ribs }
+        ensures watched { self.new.watched ≡ self.old.watched }
         ensures emptied { (x : Vec ℕ) → slice_get self.new.buffers.items c ≡ Some x → x.items ≡ [] }
         ensures others { (d : ℕ) → d ≢ c → slice_get self.new.buffers.items d ≡ slice_get self.old.buffers.items d }
     {
@@ -106,34 +109,23 @@ impl Core {
         ensures count { client_count self.new ≡ client_count self.old }
         ensures left { (run : List Move) → Agrees self.old run → Agrees self.new (Left c ∷ run) }
     {
-        self.forget(c, Ending::Lost);
+        let lasts = self.is_live(c);
+        self.watched[c].end(ended_if(lasts, Ending::Lost));
+        self.forget(c);
     }
 
-    /// Forgets a client's session, of which all may be in disorder. One that has ended keeps its
-    /// ending.
-    pub(crate) fn forget(&mut self, c: usize, ending: Ending)
+    /// Forgets a client's session, of which all may be in disorder but what is kept for those who
+    /// watch.
+    pub(crate) fn forget(&mut self, c: usize)
         requires { c < client_count self.old }
         ensures spares { Spares c self.old self.new }
-        ensures forgotten { (s : Configuration) (h : Hearing) → IsCutShort self.old s c h → AgreesAt self.new s c (leaves h) }
+        ensures forgotten { (s : Configuration) (h : Hearing) (why : Ending) → IsCutShort self.old s c h
+            → IsWatched self.old.watched.items c (leaves s c why h).endings (leaves s c why h).faults → AgreesAt self.new s c (leaves s c why h) }
     {
-        self.note_ending(c, ending);
         self.sessions[c].lost();
         self.pass_over(c);
         self.ribs.unlearn(c);
         self.ribs.clear(c);
-    }
-
-    /// Notes for those who watch why a session that lasts now ends.
-    fn note_ending(&mut self, c: usize, ending: Ending)
-        requires { c < client_count self.old }
-        ensures count { client_count self.new ≡ client_count self.old }
-        ensures sessions { self.new.sessions ≡ self.old.sessions }
-        ensures buffers { self.new.buffers ≡ self.old.buffers }
-        ensures ribs { self.new.ribs ≡ self.old.ribs }
-    {
-        if self.is_live(c) {
-            self.watched[c].ending = Some(ending);
-        }
     }
 
     /// Whether the session of a client lasts.

@@ -1,7 +1,13 @@
 //! Why a session ended, and what else is kept of a client for those who watch.
 
+ghost use Rattle.std.specs.Prelude.{◌≡◌, List};
+ghost use Rattle.std.specs.List.{cons_option};
+ghost use Rattle.rs_core.specs.Watching as watching;
+ghost use Rattle.rs_core.specs.Watching.{watched_by, with_faults};
+
 use rs_attrs::Faulted;
 use rs_open::Short;
+use rs_session::Act;
 
 /// The octets of a NOTIFICATION's data that are kept.
 pub const NOTICE_MAX: usize = 64;
@@ -18,12 +24,19 @@ pub struct Notice {
 
 impl Notice {
     /// The NOTIFICATION with this body.
-    pub(crate) fn of(body: &[u8]) -> Notice {
-        let (code, sub) = match body {
-            [code, sub, ..] => (*code, *sub),
-            _ => (0, 0),
-        };
-        let said = body.get(2..).unwrap_or(&[]);
+    pub(crate) fn of(body: &[u8]) -> Notice
+        ensures { result ≡ watching.notice_of body.now }
+    {
+        match body {
+            [code, sub, data @ ..] => Notice::with(*code, *sub, data),
+            _ => Notice::with(0, 0, &[]),
+        }
+    }
+
+    /// A NOTIFICATION with these codes and this data.
+    fn with(code: u8, sub: u8, said: &[u8]) -> Notice
+        ensures { result ≡ watching.notice_with code sub said.now }
+    {
         let count = said.len().min(NOTICE_MAX);
         let mut data = [0; NOTICE_MAX];
         data[..count].copy_from_slice(&said[..count]);
@@ -51,11 +64,40 @@ pub enum Ending {
     Memory,
 }
 
+/// Why a session ends that asks for this at a message with this body: by a NOTIFICATION of ours, or
+/// by the client's, which the message is then.
+pub(crate) fn ending_by(body: &[u8], act: Act) -> Option<Ending>
+    ensures { result ≡ watching.ending_by body.now act }
+{
+    match act {
+        Act::Down(Some(note)) => Some(Ending::Said(note)),
+        Act::Down(None) => Some(Ending::Heard(Notice::of(body))),
+        Act::None | Act::Say(_) | Act::Up | Act::Again => None,
+    }
+}
+
+/// Why a session ends that asks for this at a moment.
+pub(crate) fn expiry_by(act: Act) -> Option<Ending>
+    ensures { result ≡ watching.expiry_by act }
+{
+    match act {
+        Act::Down(_) => Some(Ending::HoldTimer),
+        Act::None | Act::Say(_) | Act::Up | Act::Again => None,
+    }
+}
+
+/// Why a session ends whose connection is cut off, if it lasts.
+pub(crate) fn ended_if(lasts: bool, why: Ending) -> Option<Ending>
+    ensures { result ≡ watching.ended_if lasts why }
+{
+    if lasts { Some(why) } else { None }
+}
+
 /// The UPDATEs of a client that were taken, but not as they came (RFC 7606, 2): some of their
 /// attributes were passed over, or their routes were withdrawn.
 #[derive(Clone, Copy, Debug, PartialEq, Eq)]
 pub struct FaultedUpdates {
-    /// How many there were.
+    /// How many there were, as far as a u64 counts.
     pub count: u64,
     /// What was wrong with the last one.
     pub last: Faulted,
@@ -81,8 +123,19 @@ impl Watched {
         },
     };
 
+    /// The session has ended so, or goes on.
+    pub(crate) fn end(&mut self, ending: Option<Ending>)
+        ensures { (endings : List Ending) (faults : List Faulted) → self.old ≡ watched_by endings faults → self.new ≡ watched_by (cons_option ending endings) faults }
+    {
+        if ending.is_some() {
+            self.ending = ending;
+        }
+    }
+
     /// An UPDATE was taken, with these faults.
-    pub(crate) fn note(&mut self, faulted: Faulted) {
+    pub(crate) fn note(&mut self, faulted: Faulted)
+        ensures { (endings : List Ending) (faults : List Faulted) → self.old ≡ watched_by endings faults → self.new ≡ watched_by endings (with_faults faulted faults) }
+    {
         if faulted.withdraw.is_some() || faulted.discard.is_some() {
             self.faulted = FaultedUpdates {
                 count: self.faulted.count.saturating_add(1),

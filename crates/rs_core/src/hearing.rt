@@ -3,11 +3,11 @@
 ghost use Rattle.std.specs.Prelude.{◌≡◌, ◌≢◌, ◌<◌, ◌≤◌, ℕ, true, false, List, ◌∷◌, ◌++◌, Some, length, slice_get, IfOk, OnOk, OnErr};
 ghost use Rattle.std.specs.Global.{Vec};
 
-use crate::endings::Ending;
+use crate::endings::{Ending, expiry_by};
 use crate::route_server::Core;
 use rs_octets::{Allowed, Front, read_front};
 use rs_policy::Config;
-use rs_session::{Act, Heard};
+use rs_session::Heard;
 use std::alloc::AllocError;
 use std::mem;
 
@@ -48,7 +48,7 @@ ghost use Rattle.rs_core.specs.Steps.{FillsUp};
 impl Core {
     ghost use Rattle.rs_core.specs.Core.{client_count};
     ghost use Rattle.rs_core.specs.Moves as moves;
-    ghost use Rattle.rs_core.specs.Moves.{Move, Saw, Left, config_in};
+    ghost use Rattle.rs_core.specs.Moves.{Move, Saw, Dropped, config_in};
     ghost use Rattle.rs_core.specs.Hearing.{Hearing, hears, sees, state_in};
     ghost use Rattle.rs_core.specs.Runs.{hearing};
     ghost use Rattle.rs_core.specs.Agreeing.{Agrees, AgreesAt, IsCutShort, Knows, Spares, Waits};
@@ -56,8 +56,8 @@ impl Core {
     ghost use Rattle.rs_session.specs.Sessions.{is_live};
     ghost use Rattle.rs_policy.specs.Configuration.{Configuration};
 
-    /// Hears octets of a client. Where memory is refused, all is as if the client were lost. Those of
-    /// a client that is Idle or Closing change nothing.
+    /// Hears octets of a client. Where memory is refused, its connection counts as lost without them.
+    /// Those of a client that is Idle or Closing change nothing.
     ///
     /// # Errors
     ///
@@ -66,13 +66,17 @@ impl Core {
         requires { c < client_count self.old }
         ensures count { client_count self.new ≡ client_count self.old }
         ensures heard { OnOk result ((run : List Move) → Agrees self.old run → Agrees self.new (moves.Heard c piece.now ∷ run)) }
-        ensures refused { OnErr result ((run : List Move) → Agrees self.old run → Agrees self.new (Left c ∷ run)) }
+        ensures refused { OnErr result ((run : List Move) → Agrees self.old run → Agrees self.new (Dropped c ∷ run)) }
         ensures unheard { (run : List Move) → Agrees self.old run → is_live (state_in (config_in run) c (hearing c run)) ≡ false → (result ≡ Ok tt) × (self.new ≡ self.old) }
     {
+        let mut watched = self.watched[c];
         match self.hear(c, piece) {
             Ok(()) => Ok(()),
             Err(refused) => {
-                self.forget(c, Ending::Memory);
+                // What was found in these octets does not count.
+                watched.end(Some(Ending::Memory));
+                self.watched[c] = watched;
+                self.forget(c);
                 Err(refused)
             }
         }
@@ -171,6 +175,7 @@ impl Core {
         ensures count { client_count self.new ≡ client_count self.old }
         ensures sessions { self.new.sessions ≡ self.old.sessions }
         ensures ribs { self.new.ribs ≡ self.old.ribs }
+        ensures watched { self.new.watched ≡ self.old.watched }
         ensures behind { OnOk result ((x y : Vec ℕ) → slice_get self.old.buffers.items c ≡ Some x → slice_get self.new.buffers.items c ≡ Some y → y.items ≡ x.items ++ octets.now) }
         ensures others { (d : ℕ) → d ≢ c → slice_get self.new.buffers.items d ≡ slice_get self.old.buffers.items d }
     {
@@ -184,6 +189,7 @@ impl Core {
         ensures count { client_count self.new ≡ client_count self.old }
         ensures sessions { self.new.sessions ≡ self.old.sessions }
         ensures ribs { self.new.ribs ≡ self.old.ribs }
+        ensures watched { self.new.watched ≡ self.old.watched }
         ensures taken { slice_get self.old.buffers.items c ≡ Some result }
         ensures others { (d : ℕ) → d ≢ c → slice_get self.new.buffers.items d ≡ slice_get self.old.buffers.items d }
     {
@@ -198,6 +204,7 @@ impl Core {
         ensures count { client_count self.new ≡ client_count self.old }
         ensures sessions { self.new.sessions ≡ self.old.sessions }
         ensures ribs { self.new.ribs ≡ self.old.ribs }
+        ensures watched { self.new.watched ≡ self.old.watched }
         ensures put { (x : Vec ℕ) → slice_get self.new.buffers.items c ≡ Some x → x.items ≡ octets.items }
         ensures others { (d : ℕ) → d ≢ c → slice_get self.new.buffers.items d ≡ slice_get self.old.buffers.items d }
     {
@@ -222,9 +229,8 @@ impl Core {
         ensures spares { Spares c self.old self.new }
         ensures seen { (s : Configuration) (h : Hearing) → AgreesAt self.old s c h → AgreesAt self.new s c (sees s c t h) }
     {
-        match self.sessions[c].moment(t) {
-            Act::Down(note) => self.end(c, note, Ending::HoldTimer),
-            act => self.act(c, act),
-        }
+        let act = self.sessions[c].moment(t);
+        self.watched[c].end(expiry_by(act));
+        self.act(c, act);
     }
 }

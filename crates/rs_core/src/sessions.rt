@@ -1,9 +1,9 @@
 //! What a message says to a client's session, and what the session asks for.
 
-ghost use Rattle.std.specs.Prelude.{◌≡◌, ◌<◌, ◌≤◌, ◌+◌, length, OnOk, OnErr};
+ghost use Rattle.std.specs.Prelude.{◌≡◌, ◌<◌, ◌≤◌, ◌+◌, [], length, OnOk, OnErr};
 ghost use Rattle.rs_octets.specs.Headers.{least_length};
 
-use crate::endings::{Ending, Notice};
+use crate::endings::ending_by;
 use crate::route_server::Core;
 use rs_octets::Kind;
 use rs_open::{AddressFamily, Short, read_open, read_refresh};
@@ -63,8 +63,7 @@ impl Core {
         ensures buffers { self.new.buffers ≡ self.old.buffers }
         ensures heard { Hears Kind.Note body.now c self.old self.new }
     {
-        self.say(c, Heard::Note);
-        self.watched[c].ending = Some(Ending::Heard(Notice::of(body)));
+        self.hear_said(c, Heard::Note, body);
     }
 
     /// A ROUTE-REFRESH (RFC 2918, 3).
@@ -85,9 +84,21 @@ impl Core {
         ensures spares { Spares c self.old self.new }
         ensures buffers { self.new.buffers ≡ self.old.buffers }
         ensures alone { (s : Configuration) (h : Hearing) → Knows self.old s c h → Knows self.new s c (takes_in s c (without_change heard) h) }
-        ensures heard { (s : Configuration) (h next : Hearing) → Follows s c heard h next → Knows self.old s c h → Knows self.new s c next }
+        ensures heard { (s : Configuration) (h next : Hearing) → Follows s c heard [] h next → Knows self.old s c h → Knows self.new s c next }
+    {
+        self.hear_said(c, heard, &[]);
+    }
+
+    /// The session hears this, which has this body where it is a NOTIFICATION, and what it asks for is
+    /// done.
+    fn hear_said(&mut self, c: usize, heard: Heard, body: &[u8])
+        requires { c < client_count self.old }
+        ensures spares { Spares c self.old self.new }
+        ensures buffers { self.new.buffers ≡ self.old.buffers }
+        ensures heard { (s : Configuration) (h next : Hearing) → Follows s c heard body.now h next → Knows self.old s c h → Knows self.new s c next }
     {
         let act = self.sessions[c].message(heard);
+        self.watched[c].end(ending_by(body, act));
         self.act(c, act);
     }
 
@@ -97,6 +108,7 @@ impl Core {
         ensures count { client_count self.new ≡ client_count self.old }
         ensures sessions { self.new.sessions ≡ self.old.sessions }
         ensures buffers { self.new.buffers ≡ self.old.buffers }
+        ensures watched { self.new.watched ≡ self.old.watched }
         ensures config { self.new.ribs.config ≡ self.old.ribs.config }
         ensures others { IsSpared c self.old.ribs.tables self.new.ribs.tables }
         ensures tables { ActsOn act c self.old.sessions.items self.old.ribs.tables self.new.ribs.tables }
@@ -107,8 +119,7 @@ impl Core {
             Act::None => {}
             Act::Say(_) => self.ribs.say_keepalive(c),
             Act::Up => self.come_up(c),
-            Act::Down(Some(note)) => self.end(c, Some(note), Ending::Said(note)),
-            Act::Down(None) => self.end(c, None, Ending::Lost),
+            Act::Down(note) => self.end(c, note),
             Act::Again => self.ribs.again(c),
         }
     }
@@ -119,6 +130,7 @@ impl Core {
         ensures count { client_count self.new ≡ client_count self.old }
         ensures sessions { self.new.sessions ≡ self.old.sessions }
         ensures buffers { self.new.buffers ≡ self.old.buffers }
+        ensures watched { self.new.watched ≡ self.old.watched }
         ensures config { self.new.ribs.config ≡ self.old.ribs.config }
         ensures others { IsSpared c self.old.ribs.tables self.new.ribs.tables }
         ensures tables { ActsOn Act.Up c self.old.sessions.items self.old.ribs.tables self.new.ribs.tables }
@@ -134,17 +146,17 @@ impl Core {
     }
 
     /// The session of a client has ended: all that was learnt by it goes at once.
-    pub(crate) fn end(&mut self, c: usize, note: Option<Short>, ending: Ending)
+    fn end(&mut self, c: usize, note: Option<Short>)
         requires { c < client_count self.old }
         ensures count { client_count self.new ≡ client_count self.old }
         ensures sessions { self.new.sessions ≡ self.old.sessions }
         ensures buffers { self.new.buffers ≡ self.old.buffers }
+        ensures watched { self.new.watched ≡ self.old.watched }
         ensures config { self.new.ribs.config ≡ self.old.ribs.config }
         ensures held { Begins self.old.ribs.tables self.new.ribs.tables c 0 }
         ensures voices { KeepsVoices c self.old.ribs self.new.ribs }
         ensures own { (none : View) → IsFinished note (outlet_in self.old.ribs c none) (outlet_in self.new.ribs c none) }
     {
-        self.watched[c].ending = Some(ending);
         self.ribs.unlearn(c);
         self.ribs.finish(c, note);
     }

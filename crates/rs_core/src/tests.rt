@@ -2,6 +2,7 @@
 
 mod cycling;
 mod driving;
+mod endings;
 mod exchange;
 mod link;
 mod routes;

@@ -6,6 +6,7 @@ ghost use Rattle.std.specs.Arc.{arc_value};
 ghost use Rattle.rs_octets.specs.Prefixes.{Prefix};
 ghost use Rattle.rs_attrs.specs.Effects.{Change, is_empty, same_prefix, has_prefix, HasMandatory};
 
+use crate::endings::ending_by;
 use crate::route_server::Core;
 use rs_attrs::Attrs;
 use rs_octets::{Kind, Notification, Prefix};
@@ -97,6 +98,7 @@ impl Core {
                 }
             }
             act => {
+                self.watched[c].end(ending_by(&[], act));
                 self.act(c, act);
                 Ok(())
             }
@@ -108,6 +110,7 @@ impl Core {
         ensures count { client_count self.new ≡ client_count self.old }
         ensures sessions { self.new.sessions ≡ self.old.sessions }
         ensures buffers { self.new.buffers ≡ self.old.buffers }
+        ensures watched { self.new.watched ≡ self.old.watched }
         ensures config { self.new.ribs.config ≡ self.old.ribs.config }
         ensures others { IsSpared c self.old.ribs.tables self.new.ribs.tables }
         ensures held { HasOverlaid c prefixes.now None self.old.ribs.tables self.new.ribs.tables }
@@ -129,6 +132,7 @@ impl Core {
         ensures count { client_count self.new ≡ client_count self.old }
         ensures sessions { self.new.sessions ≡ self.old.sessions }
         ensures buffers { self.new.buffers ≡ self.old.buffers }
+        ensures watched { self.new.watched ≡ self.old.watched }
         ensures config { self.new.ribs.config ≡ self.old.ribs.config }
         ensures others { IsSpared c self.old.ribs.tables self.new.ribs.tables }
         ensures held { OnOk result (HasOverlaid c prefixes.now (Some (arc_value attrs.now)) self.old.ribs.tables self.new.ribs.tables) }

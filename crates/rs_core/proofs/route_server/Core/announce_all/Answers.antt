@@ -14,6 +14,7 @@ loop-prefix-init c = record {
   count = refl;
   sessions = refl;
   buffers = refl;
+  watched = refl;
   config = refl;
   others = none_spared c.args.c c.args.self.now.ribs.tables;
   held = none_overlaid c.args.c (Some (arc_value c.args.attrs.now)) c.args.self.now.ribs.tables;
@@ -26,6 +27,7 @@ loop-prefix-preserved c = record {
   count = c.loop-prefix.invariant.count;
   sessions = c.loop-prefix.invariant.sessions;
   buffers = c.loop-prefix.invariant.buffers;
+  watched = c.loop-prefix.invariant.watched;
   config = c.announce.ensures.settings.config ∙ c.loop-prefix.invariant.config;
   others = one_spared c.args.c c.prefix-item.result (Some (arc_value c.args.attrs.now)) c.args.self.now.ribs.tables c.loop-prefix.self.ribs.tables c.announce.new.self.tables c.in_ok-announce.ensures.held c.loop-prefix.invariant.others;
   held = one_overlaid c.args.c c.loop-prefix.prefix-index _ c.args.prefixes.now c.prefix-item.result (Some (arc_value c.args.attrs.now)) c.args.self.now.ribs.tables c.loop-prefix.self.ribs.tables c.announce.new.self.tables (omega arith) c.loop-prefix-test.true c.prefix-item.is c.in_ok-announce.ensures.held c.loop-prefix.invariant.held;
@@ -38,6 +40,9 @@ returns-clause-sessions c = c.loop-prefix.invariant.sessions
 
 pub returns-clause-buffers : goal.returns-clause-buffers
 returns-clause-buffers c = c.loop-prefix.invariant.buffers
+
+pub returns-clause-watched : goal.returns-clause-watched
+returns-clause-watched c = c.loop-prefix.invariant.watched
 
 pub returns-clause-config : goal.returns-clause-config
 returns-clause-config c = c.loop-prefix.invariant.config
@@ -53,6 +58,9 @@ returns-in_err-announce-clause-sessions c = c.loop-prefix.invariant.sessions
 
 pub returns-in_err-announce-clause-buffers : goal.returns-in_err-announce-clause-buffers
 returns-in_err-announce-clause-buffers c = c.loop-prefix.invariant.buffers
+
+pub returns-in_err-announce-clause-watched : goal.returns-in_err-announce-clause-watched
+returns-in_err-announce-clause-watched c = c.loop-prefix.invariant.watched
 
 pub returns-in_err-announce-clause-config : goal.returns-in_err-announce-clause-config
 returns-in_err-announce-clause-config c = c.announce.ensures.settings.config ∙ c.loop-prefix.invariant.config

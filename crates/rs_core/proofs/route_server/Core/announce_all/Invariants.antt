@@ -11,6 +11,7 @@ invariant-loop-prefix l = record {
   count : client_count l.self ≡ client_count l.fn.self;
   sessions : l.self.sessions ≡ l.fn.self.sessions;
   buffers : l.self.buffers ≡ l.fn.self.buffers;
+  watched : l.self.watched ≡ l.fn.self.watched;
   config : l.self.ribs.config ≡ l.fn.self.ribs.config;
   others : IsSpared l.c l.fn.self.ribs.tables l.self.ribs.tables;
   held : HasOverlaid l.c (take l.prefix-index l.prefixes) (Some (arc_value l.attrs)) l.fn.self.ribs.tables l.self.ribs.tables;

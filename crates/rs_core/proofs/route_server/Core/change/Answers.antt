@@ -1,5 +1,5 @@
 use Rattle.std.proofs.Common.{◌<◌, [], ◌∷◌, length, refl, sym, ◌∙◌, ap, subst}
-use Rattle.std.specs.Prelude.{Some, None, is_none, option_map, if◌then◌else◌}
+use Rattle.std.specs.Prelude.{Some, None, is_none, option_map, slice_get, if◌then◌else◌}
 use Rattle.std.specs.Arc.{arc_value}
 use Rattle.rs_attrs.specs.Effects.{has_prefix}
 use Rattle.rs_update.specs.Laws.{IsSameChange}
@@ -11,8 +11,11 @@ use Rattle.rs_session.specs.declared.heard.Heard.TheVariants as heard
 use Rattle.rs_session.specs.declared.act.Act.TheVariants as acts
 use Rattle.rs_session.specs.Items.{Message}
 use Rattle.rs_core.specs.Core.{client_count}
-use Rattle.rs_core.specs.Hearing.{session_in, takes_in}
+use Rattle.rs_core.specs.Hearing.{session_in, changing, takes_in}
+use Rattle.rs_core.specs.Watching.{ending_by, no_faults}
+use Rattle.rs_core.specs.declared.endings.Watched.{Watched}
 use Rattle.rs_core.proofs.Lists.{on_err, map_ok}
+use Rattle.rs_core.proofs.Watching.{noted_by, others_kept}
 use Rattle.rs_core.proofs.Acting.{acted, acted_spares, asked_by_message}
 use Rattle.rs_core.proofs.Voicing.{never_open_by_message}
 use Rattle.rs_core.proofs.Around.{voices_on}
@@ -35,13 +38,19 @@ returns-in_default c =
     let lt : c.args.c < length sessions = subst (λ k. c.args.c < k) (sym c.args.self.now.sessions_len) c.requires.client in
     let read = slice_get_read sessions (length sessions) c.args.c c.index_mut.result.now refl lt c.index_mut.ensures.value in
     let set = ap (λ (v : Vec Session). v.items) c.act.ensures.sessions in
+    let kept = c.args.self.now.watched.items in
+    let there : c.args.c < length kept = subst (λ k. c.args.c < k) (sym c.args.self.now.watched_len) c.requires.client in
+    let was = slice_get_read kept (length kept) c.args.c c.index_mut-in_default.result.now refl there c.index_mut-in_default.ensures.value in
+    let noting = ap (λ (v : Vec Watched). v.items) c.act.ensures.watched in
     record {
-      spares = acted_spares c.args.self.now c.act.new.self c.args.c c.message.new.self c.act.ensures.count c.act.ensures.config lt set c.act.ensures.buffers c.act.ensures.others c.act.ensures.voices;
+      spares = acted_spares c.args.self.now c.act.new.self c.args.c c.message.new.self c.act.ensures.count c.act.ensures.config lt set c.act.ensures.buffers c.act.ensures.others c.act.ensures.voices
+          (others_kept kept c.act.new.self.watched.items c.args.c c.end.new.self there noting);
       buffers = c.act.ensures.buffers;
       heard = λ s h change live knows same. acted c.args.self.now c.act.new.self c.message.result (Message (heard.Update None)) c.index_mut.result.now c.message.new.self s c.args.c h
-          (takes_in s c.args.c (record { message = heard.Update None; change = Some change }) h) tt read lt set c.message.ensures.hears c.act.ensures.tables c.act.ensures.config c.act.ensures.own (never_open_by_message (session_in s c.args.c) (heard.Update None) h.items) refl refl refl (asked_by_message s c.args.c (heard.Update None) h _ refl)
+          (takes_in s c.args.c (changing None change no_faults) h) tt read lt set c.message.ensures.hears c.act.ensures.tables c.act.ensures.config c.act.ensures.own (never_open_by_message (session_in s c.args.c) (heard.Update None) h.items) refl refl refl (asked_by_message s c.args.c (heard.Update None) h _ refl)
           (λ down up. ap (λ b. if b then change ∷ h.changes else []) down)
-          (λ up now. absurd (not_taken c.args.self.now c.index_mut.result.now c.message.new.self s c.args.c h c.message.result read c.message.ensures.hears live up knows c.in_default.not-None)) knows;
+          (λ up now. absurd (not_taken c.args.self.now c.index_mut.result.now c.message.new.self s c.args.c h c.message.result read c.message.ensures.hears live up knows c.in_default.not-None))
+          (ending_by []) (noted_by kept c.act.new.self.watched.items c.args.c c.index_mut-in_default.result.now c.end.new.self c.ending_by.result (ending_by [] c.message.result) was there noting c.ending_by.ensures c.end.ensures) refl refl knows;
       refused = tt;
     }
 
@@ -56,7 +65,7 @@ returns-in-None-attrs-clause-heard c = λ s h change live knows same.
     (ap (λ (v : Vec Session). v.items) c.withdraw_all.ensures.sessions) c.in-None.ensures.hears c.in-None.ensures.takes
     (λ p. c.withdraw_all.ensures.held.held p
     ∙ sym (ap (λ b. if b then option_map arc_value c.args.attrs else (if has_prefix p c.args.withdrawn.now then None else held_of c.args.self.now.ribs.tables c.args.c p)) (none_there p c.args.announced.now none)))
-    c.withdraw_all.ensures.held.identifier c.withdraw_all.ensures.config c.withdraw_all.ensures.touched.own live same knows
+    c.withdraw_all.ensures.held.identifier c.withdraw_all.ensures.config c.withdraw_all.ensures.touched.own live same c.withdraw_all.ensures.watched knows
 
 pub returns-in-Some-clause-spares : goal.returns-in-Some-clause-spares
 unfolding client_count
@@ -71,6 +80,7 @@ returns-in-Some-clause-spares c =
     })
     (voices_on c.args.c c.args.self.now.ribs c.withdraw_all.new.self.ribs c.announce_all.new.self.ribs (c.withdraw_all.new.self.ribs_len ∙ c.withdraw_all.ensures.count ∙ sym c.args.self.now.ribs_len)
     c.withdraw_all.ensures.touched.others c.announce_all.ensures.touched.others)
+    (λ d ne. ap (λ (v : Vec Watched). slice_get v.items d) (c.announce_all.ensures.watched ∙ c.withdraw_all.ensures.watched))
 
 pub returns-in-Some-clause-heard : goal.returns-in-Some-clause-heard
 unfolding client_count
@@ -83,4 +93,4 @@ returns-in-Some-clause-heard c = map_ok c.announce_all.result c.announce_all.ens
     (λ p. held.held p ∙ ap (λ o. if has_prefix p c.args.announced.now then Some (arc_value c.in-Some.attrs) else o) (c.withdraw_all.ensures.held.held p))
     (held.identifier ∙ c.withdraw_all.ensures.held.identifier) (c.announce_all.ensures.config ∙ c.withdraw_all.ensures.config)
     (λ none. c.announce_all.ensures.touched.own none ∙ c.withdraw_all.ensures.touched.own none) live
-    (subst (λ o. IsSameChange (record { withdrawn = c.args.withdrawn.now; announced = c.args.announced.now; attributes = option_map arc_value o }) change) c.in-Some.is same) knows)
+    (subst (λ o. IsSameChange (record { withdrawn = c.args.withdrawn.now; announced = c.args.announced.now; attributes = option_map arc_value o }) change) c.in-Some.is same) (c.announce_all.ensures.watched ∙ c.withdraw_all.ensures.watched) knows)

@@ -1,4 +1,4 @@
-use Rattle.std.proofs.Common.{◌<◌, ℕ, ◌∷◌, length, refl, sym, ◌∙◌, ap, subst}
+use Rattle.std.proofs.Common.{◌<◌, ◌∷◌, length, refl, sym, ◌∙◌, ap, subst}
 use Rattle.std.specs.Prelude.{slice_get}
 use Rattle.std.specs.Global.{Vec}
 use Rattle.std.proofs.lemmas.Option.{slice_get_read}
@@ -10,6 +10,7 @@ use Rattle.rs_core.specs.Core.{client_count}
 use Rattle.rs_core.specs.Hearing.{session_in, leaves}
 use Rattle.rs_core.specs.Ribs.{outlet_in}
 use Rattle.rs_core.specs.Voices.{KeepsVoices}
+use Rattle.rs_core.specs.declared.endings.Watched.{Watched}
 use Rattle.rs_core.specs.declared.ribs.Ribs.{Ribs}
 use Rattle.rs_core.proofs.Lists.{set_at}
 use Rattle.rs_core.proofs.Around.{held_voices, own_voices, voices_on}
@@ -18,37 +19,37 @@ use Rattle.rs_core.proofs.Proceeding.{nothing_converses}
 use Rattle.rs_core.proofs.Alike.{cleared_out, cleared_silent}
 use Rattle.rs_core.proofs.Voicing.{voiced_over}
 use Rattle.rs_core.proofs.Ordering.{over_ordered}
+use Rattle.rs_core.proofs.Watching.{watched_still}
 use Rattle.rs_core.proofs.Agreeing.{begun_held, begun_identifier, others_held, others_identifiers}
 use Rattle.rs_core.proofs.route_server.Core.forget.Goals as goal
 
 pub returns-clause-spares : goal.returns-clause-spares
 unfolding client_count
 returns-clause-spares c =
-    let before = c.note_ending.new.self.sessions.items in
-    let within : c.args.c < c.note_ending.new.self.count = subst (λ k. c.args.c < k) (sym c.note_ending.ensures.count) c.requires in
-    let lt : c.args.c < length before = subst (λ k. c.args.c < k) (sym c.note_ending.new.self.sessions_len) within in
-    let ribs = c.pass_over.ensures.ribs ∙ c.note_ending.ensures.ribs in
+    let before = c.args.self.now.sessions.items in
+    let lt : c.args.c < length before = subst (λ k. c.args.c < k) (sym c.args.self.now.sessions_len) c.requires in
+    let ribs = c.pass_over.ensures.ribs in
     record {
-      count = c.pass_over.ensures.count ∙ c.note_ending.ensures.count;
+      count = c.pass_over.ensures.count;
       config = c.clear.ensures.settings.config ∙ c.unlearn.ensures.settings.config ∙ ap (λ (r : Ribs). r.config) ribs;
-      sessions = λ d ne. ap (λ (v : Vec Session). slice_get v.items d) c.pass_over.ensures.sessions ∙ (set_at before c.args.c c.lost.new.self lt).others d ne ∙ ap (λ (v : Vec Session). slice_get v.items d) c.note_ending.ensures.sessions;
-      buffers = λ d ne. c.pass_over.ensures.others d ne ∙ ap (λ (v : Vec (Vec ℕ)). slice_get v.items d) c.note_ending.ensures.buffers;
+      sessions = λ d ne. ap (λ (v : Vec Session). slice_get v.items d) c.pass_over.ensures.sessions ∙ (set_at before c.args.c c.lost.new.self lt).others d ne;
+      buffers = c.pass_over.ensures.others;
       held = λ d p ne. ap (λ t. held_of t d p) c.clear.ensures.tables ∙ others_held c.pass_over.new.self.ribs.tables c.unlearn.new.self.tables c.args.c 0 c.unlearn.ensures.held d p ne ∙ ap (λ (r : Ribs). held_of r.tables d p) ribs;
       identifiers = λ d ne. ap (λ t. identifier_of t d) c.clear.ensures.tables ∙ others_identifiers c.pass_over.new.self.ribs.tables c.unlearn.new.self.tables c.args.c 0 c.unlearn.ensures.held d ne ∙ ap (λ (r : Ribs). identifier_of r.tables d) ribs;
       voices = subst (λ r. KeepsVoices c.args.c r c.clear.new.self) ribs
           (voices_on c.args.c c.pass_over.new.self.ribs c.unlearn.new.self c.clear.new.self c.unlearn.ensures.settings.count
           (held_voices c.args.c c.pass_over.new.self.ribs.tables c.pass_over.new.self.ribs c.unlearn.new.self (c.unlearn.ensures.touched c.pass_over.new.self.numbered))
           (own_voices c.args.c _ c.unlearn.new.self c.clear.new.self c.clear.ensures.outlet));
+      watched = λ d ne. ap (λ (v : Vec Watched). slice_get v.items d) c.pass_over.ensures.watched;
     }
 
 pub returns-clause-forgotten : goal.returns-clause-forgotten
 unfolding client_count
-returns-clause-forgotten c = λ s h cut.
-    let before = c.note_ending.new.self.sessions.items in
-    let within : c.args.c < c.note_ending.new.self.count = subst (λ k. c.args.c < k) (sym c.note_ending.ensures.count) c.requires in
-    let lt : c.args.c < length before = subst (λ k. c.args.c < k) (sym c.note_ending.new.self.sessions_len) within in
+returns-clause-forgotten c = λ s h why cut watched.
+    let before = c.args.self.now.sessions.items in
+    let lt : c.args.c < length before = subst (λ k. c.args.c < k) (sym c.args.self.now.sessions_len) c.requires in
     let read = slice_get_read before (length before) c.args.c c.index_mut.result.now refl lt c.index_mut.ensures.value in
-    let was = cut.session c.index_mut.result.now (ap (λ (v : Vec Session). slice_get v.items c.args.c) (sym c.note_ending.ensures.sessions) ∙ read) in
+    let was = cut.session c.index_mut.result.now read in
     let heard = c.lost.ensures.forgotten (session_in s c.args.c) cut.items was h.items (sym cut.moment) in
     record {
       knows = record {
@@ -57,16 +58,17 @@ returns-clause-forgotten c = λ s h cut.
         table = λ p. ap (λ t. held_of t c.args.c p) c.clear.ensures.tables ∙ begun_held c.pass_over.new.self.ribs.tables c.unlearn.new.self.tables c.args.c 0 c.unlearn.ensures.held p;
         identifier = ap (λ t. identifier_of t c.args.c) c.clear.ensures.tables ∙ begun_identifier c.pass_over.new.self.ribs.tables c.unlearn.new.self.tables c.args.c 0 c.unlearn.ensures.held;
         outlet = λ _ none.
-            let is = c.clear.ensures.outlet.own none (subst (λ n. c.args.c < n) (sym (c.unlearn.ensures.settings.count ∙ c.pass_over.new.self.ribs_len)) (subst (λ n. c.args.c < n) (sym (c.pass_over.ensures.count ∙ c.note_ending.ensures.count)) c.requires)) in
+            let is = c.clear.ensures.outlet.own none (subst (λ n. c.args.c < n) (sym (c.unlearn.ensures.settings.count ∙ c.pass_over.new.self.ribs_len)) (subst (λ n. c.args.c < n) (sym c.pass_over.ensures.count) c.requires)) in
             let silent = cleared_silent (outlet_in c.unlearn.new.self c.args.c none) (outlet_in c.clear.new.self c.args.c none) is in
-            voiced_over s c.args.c (leaves h) (outlet_in c.clear.new.self c.args.c none) refl refl silent.speech silent.order
+            voiced_over s c.args.c (leaves s c.args.c why h) (outlet_in c.clear.new.self c.args.c none) refl refl silent.speech silent.order
             (record {
               messages = nothing_converses (session_in s c.args.c) (own_open s) (Left ∷ h.items) (outgoing_of (outlet_in c.clear.new.self c.args.c none)) refl
                   (cleared_out (outlet_in c.unlearn.new.self c.args.c none) (outlet_in c.clear.new.self c.args.c none) is);
               beats = λ live. absurd (let f = live in cc);
             });
-        ordered = λ _ none. over_ordered s c.args.c (leaves h) (outlet_in c.clear.new.self c.args.c none) refl
-            (cleared_silent (outlet_in c.unlearn.new.self c.args.c none) (outlet_in c.clear.new.self c.args.c none) (c.clear.ensures.outlet.own none (subst (λ n. c.args.c < n) (sym (c.unlearn.ensures.settings.count ∙ c.pass_over.new.self.ribs_len)) (subst (λ n. c.args.c < n) (sym (c.pass_over.ensures.count ∙ c.note_ending.ensures.count)) c.requires)))).speech;
+        ordered = λ _ none. over_ordered s c.args.c (leaves s c.args.c why h) (outlet_in c.clear.new.self c.args.c none) refl
+            (cleared_silent (outlet_in c.unlearn.new.self c.args.c none) (outlet_in c.clear.new.self c.args.c none) (c.clear.ensures.outlet.own none (subst (λ n. c.args.c < n) (sym (c.unlearn.ensures.settings.count ∙ c.pass_over.new.self.ribs_len)) (subst (λ n. c.args.c < n) (sym c.pass_over.ensures.count) c.requires)))).speech;
+        watched = watched_still c.args.self.now.watched.items c.pass_over.new.self.watched.items c.args.c (leaves s c.args.c why h).endings (leaves s c.args.c why h).faults (ap (λ (v : Vec Watched). v.items) c.pass_over.ensures.watched) watched;
       };
       waits = λ x e. record { rest = λ live. absurd (let f = live in cc); good = λ live. absurd (let f = live in cc) };
     }

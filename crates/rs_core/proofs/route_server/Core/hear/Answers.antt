@@ -41,8 +41,8 @@ returns-then-is_empty-2-clause-heard c = λ s h config at.
     let heard = c.hear_waiting-heard in
     let live = sym (c.is_live.ensures s h at.knows) ∙ c.if-not-is_live.false in
     let front = c.in_ok-rest.ensures.heard s h (ap (λ (r : Ribs). r.config) taken.ensures.ribs ∙ config) live
-    (unmoved c.args.self.now taken.new.self s i h taken.ensures.sessions taken.ensures.ribs at.knows) (at.waits taken.result taken.ensures.taken) in
-    front_agrees heard.new.self c.put_buffer.new.self s i h c.args.piece.now heard.new.buffer.items c.in_ok-rest.rest.now c.put_buffer.ensures.sessions c.put_buffer.ensures.ribs c.put_buffer.ensures.put
+    (unmoved c.args.self.now taken.new.self s i h taken.ensures.sessions taken.ensures.ribs taken.ensures.watched at.knows) (at.waits taken.result taken.ensures.taken) in
+    front_agrees heard.new.self c.put_buffer.new.self s i h c.args.piece.now heard.new.buffer.items c.in_ok-rest.rest.now c.put_buffer.ensures.sessions c.put_buffer.ensures.ribs c.put_buffer.ensures.watched c.put_buffer.ensures.put
     (is_none c.in_ok-rest.rest.now (sym c.is_empty-2.ensures ∙ c.if-is_empty-2.true)) front
 
 pub returns-clause-heard : goal.returns-clause-heard
@@ -54,10 +54,10 @@ returns-clause-heard c = map_ok c.hear_piece-2.result c.hear_piece-2.ensures.hea
     let live = sym (c.is_live.ensures s h at.knows) ∙ c.if-not-is_live.false in
     let first = ap (λ (r : Ribs). r.config) taken.ensures.ribs ∙ config in
     let front = c.in_ok-rest.ensures.heard s h first live
-    (unmoved c.args.self.now taken.new.self s i h taken.ensures.sessions taken.ensures.ribs at.knows) (at.waits taken.result taken.ensures.taken) in
+    (unmoved c.args.self.now taken.new.self s i h taken.ensures.sessions taken.ensures.ribs taken.ensures.watched at.knows) (at.waits taken.result taken.ensures.taken) in
     agrees_joined c.hear_piece-2.new.self s i c.args.piece.now front.front c.in_ok-rest.rest.now h front.whole
     (on s (hears s i front.front h) (ap (λ (r : Ribs). r.config) c.put_buffer.ensures.ribs ∙ heard.ensures.spares.config ∙ first)
-    (front_between heard.new.self c.put_buffer.new.self s i h c.args.piece.now heard.new.buffer.items c.in_ok-rest.rest.now c.put_buffer.ensures.sessions c.put_buffer.ensures.ribs c.put_buffer.ensures.put
+    (front_between heard.new.self c.put_buffer.new.self s i h c.args.piece.now heard.new.buffer.items c.in_ok-rest.rest.now c.put_buffer.ensures.sessions c.put_buffer.ensures.ribs c.put_buffer.ensures.watched c.put_buffer.ensures.put
     (sym c.is_empty-2.ensures ∙ c.if-is_empty-2.false) front)))
 
 pub returns-clause-refused : goal.returns-clause-refused
@@ -69,10 +69,10 @@ returns-clause-refused c = map_err c.hear_piece-2.result c.hear_piece-2.ensures.
     let live = sym (c.is_live.ensures s h at.knows) ∙ c.if-not-is_live.false in
     let first = ap (λ (r : Ribs). r.config) taken.ensures.ribs ∙ config in
     let front = c.in_ok-rest.ensures.heard s h first live
-    (unmoved c.args.self.now taken.new.self s i h taken.ensures.sessions taken.ensures.ribs at.knows) (at.waits taken.result taken.ensures.taken) in
+    (unmoved c.args.self.now taken.new.self s i h taken.ensures.sessions taken.ensures.ribs taken.ensures.watched at.knows) (at.waits taken.result taken.ensures.taken) in
     cut_before c.hear_piece-2.new.self s i front.front h
     (on s (hears s i front.front h) (ap (λ (r : Ribs). r.config) c.put_buffer.ensures.ribs ∙ heard.ensures.spares.config ∙ first)
-    (front_between heard.new.self c.put_buffer.new.self s i h c.args.piece.now heard.new.buffer.items c.in_ok-rest.rest.now c.put_buffer.ensures.sessions c.put_buffer.ensures.ribs c.put_buffer.ensures.put
+    (front_between heard.new.self c.put_buffer.new.self s i h c.args.piece.now heard.new.buffer.items c.in_ok-rest.rest.now c.put_buffer.ensures.sessions c.put_buffer.ensures.ribs c.put_buffer.ensures.watched c.put_buffer.ensures.put
     (sym c.is_empty-2.ensures ∙ c.if-is_empty-2.false) front)))
 
 pub returns-then-is_empty-clause-unheard : goal.returns-then-is_empty-clause-unheard

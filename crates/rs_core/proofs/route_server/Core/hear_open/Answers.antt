@@ -10,4 +10,4 @@ pub returns-clause-heard : goal.returns-clause-heard
 unfolding client_count
 returns-clause-heard c = λ s h config live knows.
     subst (λ o. Knows c.say.new.self s c.args.c (takes_in s c.args.c (without_change (heard.Open o)) h)) c.read_open.ensures
-    (c.say.ensures.alone s h (unmoved c.args.self.now _ s c.args.c h refl refl knows))
+    (c.say.ensures.alone s h (unmoved c.args.self.now _ s c.args.c h refl refl refl knows))

@@ -32,7 +32,7 @@ returns-then-not-is_live-clause-heard c = λ s h config between.
 pub returns-in-Wants-clause-spares : goal.returns-in-Wants-clause-spares
 unfolding client_count
 returns-in-Wants-clause-spares c = spares_both c.args.c c.args.self.now c.loop-octets.self c.wait.new.self c.loop-octets.invariant.spares
-    (waiting_spares c.loop-octets.self c.wait.new.self c.args.c c.wait.ensures.count c.wait.ensures.sessions c.wait.ensures.ribs c.wait.ensures.others)
+    (waiting_spares c.loop-octets.self c.wait.new.self c.args.c c.wait.ensures.count c.wait.ensures.sessions c.wait.ensures.ribs c.wait.ensures.watched c.wait.ensures.others)
 
 pub returns-in-Wants-clause-heard : goal.returns-in-Wants-clause-heard
 unfolding client_count
@@ -45,7 +45,7 @@ returns-in-Wants-clause-heard c = map_ok c.wait.result c.wait.ensures.behind (λ
     let within : c.args.c < c.loop-octets.self.count = subst (λ n. c.args.c < n) (sym c.loop-octets.invariant.spares.count) c.requires in
     let lt : c.args.c < length c.loop-octets.self.buffers.items = subst (λ n. c.args.c < n) (sym c.loop-octets.self.buffers_len) within in
     agrees_joined c.wait.new.self s c.args.c c.args.piece.now it.0 c.loop-octets.octets.now h it.1
-    (after_beginning c.loop-octets.self c.wait.new.self s c.args.c before c.loop-octets.octets.now c.in-Wants.field-0 live at wants c.wait.ensures.sessions c.wait.ensures.ribs
+    (after_beginning c.loop-octets.self c.wait.new.self s c.args.c before c.loop-octets.octets.now c.in-Wants.field-0 live at wants c.wait.ensures.sessions c.wait.ensures.ribs c.wait.ensures.watched
     (alone_waits c.loop-octets.self c.wait.new.self s c.args.c before c.loop-octets.octets.now lt live at behind)))
 
 pub returns-in-Wants-clause-refused : goal.returns-in-Wants-clause-refused
@@ -55,7 +55,7 @@ returns-in-Wants-clause-refused c = on_err c.wait.result (λ s h config between.
     let at = it.2 s h config between in
     let before : Hearing = hears s c.args.c it.0 h in
     cut_before c.wait.new.self s c.args.c it.0 h
-    (cut_short c.wait.new.self s c.args.c before (unmoved c.loop-octets.self c.wait.new.self s c.args.c before c.wait.ensures.sessions c.wait.ensures.ribs at.knows)))
+    (cut_short c.wait.new.self s c.args.c before (unmoved c.loop-octets.self c.wait.new.self s c.args.c before c.wait.ensures.sessions c.wait.ensures.ribs c.wait.ensures.watched at.knows)))
 
 pub returns-in-Fault-clause-heard : goal.returns-in-Fault-clause-heard
 unfolding client_count

@@ -1,19 +1,20 @@
-use Rattle.std.proofs.Common.{ℕ, ◌∷◌, refl, sym, ◌∙◌, subst}
+use Rattle.std.proofs.Common.{◌<◌, ℕ, ◌∷◌, length, refl, sym, ◌∙◌, subst}
 use Rattle.std.specs.Prelude.{Some, None, option_map}
 use Rattle.std.specs.Arc.{arc_value}
-use Rattle.rs_attrs.specs.Effects.{effect_of}
+use Rattle.std.proofs.lemmas.Option.{slice_get_read}
+use Rattle.rs_attrs.specs.Effects.{HasEffect, effect_of}
 use Rattle.rs_update.specs.Laws.{IsSameChange, IsSameEffect}
-use Rattle.rs_update.specs.Outcomes.{effect_seen, HasItsAttributes}
+use Rattle.rs_update.specs.Outcomes.{effect_seen, HasItsAttributes, TellsFaults}
 use Rattle.rs_policy.specs.Configuration.{client_of}
-use Rattle.rs_session.specs.declared.heard.Heard.TheVariants as heard
 use Rattle.rs_core.specs.Core.{client_count}
-use Rattle.rs_core.specs.Hearing.{takes_in}
+use Rattle.rs_core.specs.Hearing.{changing, takes_in}
 use Rattle.rs_core.specs.Steps.{IsAnnouncing}
-use Rattle.rs_core.proofs.Lists.{on_err, map_ok}
+use Rattle.rs_core.specs.Watching.{no_faults}
+use Rattle.rs_core.proofs.Lists.{on_err, map_ok, map_err}
 use Rattle.rs_core.proofs.Agreeing.{cut_short}
-use Rattle.rs_core.proofs.Ruling.{unmoved}
+use Rattle.rs_core.proofs.Faulting.{found, found_knows, cut_found}
 use Rattle.rs_core.proofs.Updating.{is_change}
-use Rattle.rs_core.proofs.Saying.{update_reset, update_changes, moded_up, is_reset_beyond, is_none_beyond, reset_follows, announcing}
+use Rattle.rs_core.proofs.Saying.{update_reset, update_changes, at_fault, moded_up, is_reset_beyond, is_none_beyond, reset_follows, announcing}
 use Rattle.rs_core.proofs.route_server.Core.hear_update.Goals as goal
 
 pub returns-in_err-code-clause-refused : goal.returns-in_err-code-clause-refused
@@ -30,24 +31,45 @@ unfolding client_count
 returns-then-is_beyond-clause-heard c = λ s h config live knows.
     let mode = sym (c.in-Some.ensures s h knows) in
     let it = is_change _ (effect_of c.args.body.now c.in-Some.mode) (subst (λ o. IsSameEffect (effect_seen o) (effect_of c.args.body.now c.in-Some.mode)) c.in-Change.is c.in_ok-code.ensures.computed) in
-    let as_noted = unmoved c.args.self.now _ s c.args.c h refl refl knows in
-    let says = c.is_beyond.ensures s h it.change config (moded_up s c.args.c h c.in-Some.mode mode) as_noted
+    let kept = c.args.self.now.watched.items in
+    let there : c.args.c < length kept = subst (λ k. c.args.c < k) (sym c.args.self.now.watched_len) c.requires in
+    let was = slice_get_read kept (length kept) c.args.c c.index_mut.result.now refl there c.index_mut.ensures.value in
+    let as_noted = found_knows c.args.self.now _ s c.args.c h c.index_mut.result.now c.note.new.self c.in-Change.faulted refl refl was there refl c.note.ensures knows in
+    let next = found c.in-Change.faulted h in
+    let has = subst (λ o. HasEffect c.args.body.now c.in-Some.mode (effect_seen o)) c.in-Change.is c.in_ok-code.ensures.effect in
+    let told = at_fault c.args.body.now c.in-Some.mode _ c.in-Change.faulted has (subst (λ o. TellsFaults c.args.body.now c.in-Some.mode o) c.in-Change.is c.in_ok-code.ensures.told) in
+    let says = c.is_beyond.ensures s next it.change config (moded_up s c.args.c h c.in-Some.mode mode) as_noted
     (subst (λ a. IsAnnouncing c.deref.result.now a it.change) (sym c.deref-in-Change.ensures.value) (subst (λ w. IsAnnouncing w c.in-Change.announced.items it.change) (sym c.deref.ensures.value) (announcing arc_value c.in-Change.attrs c.in-Change.withdrawn.items c.in-Change.announced.items it.change (subst HasItsAttributes c.in-Change.is c.in_ok-code.ensures.attributes) it.same))) in
     let reset : ℕ × ℕ = (c.code.result, c.sub.result) in
     let beyond = is_reset_beyond (client_of s c.args.c).limit (it.change ∷ h.changes) (sym says ∙ c.if-is_beyond.true) in
-    update_changes c.say-then-is_beyond.new.self s c.args.c h c.args.body.now c.in-Some.mode it.change (Some reset) mode it.is (beyond ∙ (λ i. Some (sym c.code.ensures i, sym c.sub.ensures i)))
-    (c.say-then-is_beyond.ensures.heard s h (takes_in s c.args.c (record { message = heard.Update (Some reset); change = Some it.change }) h) (reset_follows s c.args.c h reset it.change) as_noted)
+    update_changes c.say-then-is_beyond.new.self s c.args.c h c.args.body.now c.in-Some.mode it.change (Some reset) c.in-Change.faulted mode it.is (beyond ∙ (λ i. Some (sym c.code.ensures i, sym c.sub.ensures i))) told
+    (c.say-then-is_beyond.ensures.heard s next (takes_in s c.args.c (changing (Some reset) it.change no_faults) next) (reset_follows s c.args.c next reset it.change) as_noted)
 
 pub returns-else-is_beyond-clause-heard : goal.returns-else-is_beyond-clause-heard
 unfolding client_count
 returns-else-is_beyond-clause-heard c = map_ok c.change.result c.change.ensures.heard (λ changes s h config live knows.
     let mode = sym (c.in-Some.ensures s h knows) in
     let it = is_change _ (effect_of c.args.body.now c.in-Some.mode) (subst (λ o. IsSameEffect (effect_seen o) (effect_of c.args.body.now c.in-Some.mode)) c.in-Change.is c.in_ok-code.ensures.computed) in
-    let as_noted = unmoved c.args.self.now _ s c.args.c h refl refl knows in
-    let says = c.is_beyond.ensures s h it.change config (moded_up s c.args.c h c.in-Some.mode mode) as_noted
+    let kept = c.args.self.now.watched.items in
+    let there : c.args.c < length kept = subst (λ k. c.args.c < k) (sym c.args.self.now.watched_len) c.requires in
+    let was = slice_get_read kept (length kept) c.args.c c.index_mut.result.now refl there c.index_mut.ensures.value in
+    let as_noted = found_knows c.args.self.now _ s c.args.c h c.index_mut.result.now c.note.new.self c.in-Change.faulted refl refl was there refl c.note.ensures knows in
+    let next = found c.in-Change.faulted h in
+    let has = subst (λ o. HasEffect c.args.body.now c.in-Some.mode (effect_seen o)) c.in-Change.is c.in_ok-code.ensures.effect in
+    let told = at_fault c.args.body.now c.in-Some.mode _ c.in-Change.faulted has (subst (λ o. TellsFaults c.args.body.now c.in-Some.mode o) c.in-Change.is c.in_ok-code.ensures.told) in
+    let says = c.is_beyond.ensures s next it.change config (moded_up s c.args.c h c.in-Some.mode mode) as_noted
     (subst (λ a. IsAnnouncing c.deref.result.now a it.change) (sym c.deref-in-Change.ensures.value) (subst (λ w. IsAnnouncing w c.in-Change.announced.items it.change) (sym c.deref.ensures.value) (announcing arc_value c.in-Change.attrs c.in-Change.withdrawn.items c.in-Change.announced.items it.change (subst HasItsAttributes c.in-Change.is c.in_ok-code.ensures.attributes) it.same))) in
-    update_changes c.change.new.self s c.args.c h c.args.body.now c.in-Some.mode it.change None mode it.is
-    (is_none_beyond (client_of s c.args.c).limit (it.change ∷ h.changes) (sym says ∙ c.if-is_beyond.false))
-    (changes s h it.change live as_noted
+    update_changes c.change.new.self s c.args.c h c.args.body.now c.in-Some.mode it.change None c.in-Change.faulted mode it.is
+    (is_none_beyond (client_of s c.args.c).limit (it.change ∷ h.changes) (sym says ∙ c.if-is_beyond.false)) told
+    (changes s next it.change live as_noted
     (subst (λ a. IsSameChange (record { withdrawn = c.deref-in-Change-2.result.now; announced = a; attributes = option_map arc_value c.in-Change.attrs }) it.change) (sym c.deref-in-Change-3.ensures.value)
     (subst (λ w. IsSameChange (record { withdrawn = w; announced = c.in-Change.announced.items; attributes = option_map arc_value c.in-Change.attrs }) it.change) (sym c.deref-in-Change-2.ensures.value) it.same))))
+
+pub returns-else-is_beyond-clause-refused : goal.returns-else-is_beyond-clause-refused
+unfolding client_count
+returns-else-is_beyond-clause-refused c = map_err c.change.result c.change.ensures.refused (λ refused s h knows.
+    let kept = c.args.self.now.watched.items in
+    let there : c.args.c < length kept = subst (λ k. c.args.c < k) (sym c.args.self.now.watched_len) c.requires in
+    let was = slice_get_read kept (length kept) c.args.c c.index_mut.result.now refl there c.index_mut.ensures.value in
+    cut_found c.change.new.self s c.args.c h c.in-Change.faulted
+    (refused s (found c.in-Change.faulted h) (found_knows c.args.self.now _ s c.args.c h c.index_mut.result.now c.note.new.self c.in-Change.faulted refl refl was there refl c.note.ensures knows)))

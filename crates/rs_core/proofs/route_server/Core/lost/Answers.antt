@@ -1,17 +1,29 @@
-use Rattle.std.proofs.Common.{◌∷◌, refl, sym, subst}
+use Rattle.std.proofs.Common.{◌<◌, ◌∷◌, length, refl, sym, ◌∙◌, ap, subst}
+use Rattle.std.proofs.lemmas.Option.{slice_get_read}
 use Rattle.rs_core.specs.Moves.{Left, config_in}
 use Rattle.rs_core.specs.Hearing.{leaves}
 use Rattle.rs_core.specs.Runs.{hearing}
+use Rattle.rs_core.specs.Watching.{ended_if}
 use Rattle.rs_core.specs.Agreeing.{AgreesAt}
 use Rattle.rs_core.specs.Core.{client_count}
+use Rattle.rs_core.specs.declared.endings.Ending.TheVariants as reasons
 use Rattle.rs_core.proofs.Lists.{own, other}
-use Rattle.rs_core.proofs.Agreeing.{grown, cut_short}
+use Rattle.rs_core.proofs.Agreeing.{grown}
+use Rattle.rs_core.proofs.Spared.{noted_spares}
+use Rattle.rs_core.proofs.Watching.{noted_by}
 use Rattle.rs_core.proofs.route_server.Core.lost.Goals as goal
 
 pub returns-clause-left : goal.returns-clause-left
 unfolding client_count
 returns-clause-left c = λ run h.
     let it = hearing c.args.c run in
-    grown c.args.self.now c.forget.new.self c.args.c run (Left c.args.c ∷ run) refl (λ d ne. other c.args.c d (leaves (hearing d run)) (hearing d run) ne) h c.forget.ensures.spares
-    (subst (λ k. AgreesAt c.forget.new.self (config_in run) c.args.c k) (sym (own c.args.c (leaves it) it))
-    (c.forget.ensures.forgotten (config_in run) it (cut_short c.args.self.now (config_in run) c.args.c it (h.clients c.args.c c.requires).knows)))
+    let at = h.clients c.args.c c.requires in
+    let kept = c.args.self.now.watched.items in
+    let there : c.args.c < length kept = subst (λ k. c.args.c < k) (sym c.args.self.now.watched_len) c.requires in
+    let was = slice_get_read kept (length kept) c.args.c c.index_mut.result.now refl there c.index_mut.ensures.value in
+    let why = c.ended_if.ensures ∙ ap (λ b. ended_if b reasons.Lost) (c.is_live-lasts.ensures (config_in run) it at.knows) in
+    let notes = noted_by kept _ c.args.c c.index_mut.result.now c.end.new.self c.ended_if.result _ was there refl why c.end.ensures in
+    grown c.args.self.now c.forget.new.self c.args.c run (Left c.args.c ∷ run) refl (λ d ne. other c.args.c d (leaves (config_in run) d reasons.Lost (hearing d run)) (hearing d run) ne) h
+    (noted_spares c.args.c _ c.args.self.now _ c.forget.new.self refl refl refl refl notes c.forget.ensures.spares)
+    (subst (λ k. AgreesAt c.forget.new.self (config_in run) c.args.c k) (sym (own c.args.c (leaves (config_in run) c.args.c reasons.Lost it) it))
+    (c.forget.ensures.forgotten (config_in run) it reasons.Lost (record { items = it.items; moment = refl; session = at.knows.session }) (notes.own it.endings it.faults at.knows.watched)))

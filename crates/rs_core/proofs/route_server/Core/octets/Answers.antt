@@ -1,12 +1,23 @@
-use Rattle.std.proofs.Common.{◌∷◌, refl, sym, subst}
-use Rattle.rs_core.specs.Moves.{Heard, Left, config_in}
-use Rattle.rs_core.specs.Hearing.{hears, leaves}
+use Rattle.std.proofs.Common.{◌≡◌, ◌<◌, Bool, true, false, ◌∷◌, length, refl, sym, ◌∙◌, ap, subst}
+use Rattle.std.specs.List.{cons_option}
+use Rattle.std.proofs.lemmas.Option.{slice_get_read}
+use Rattle.rs_session.specs.Sessions.{is_live}
+use Rattle.rs_core.specs.Moves.{Heard, Dropped, config_in}
+use Rattle.rs_core.specs.Hearing.{state_in, hears, leaves}
 use Rattle.rs_core.specs.Runs.{hearing}
 use Rattle.rs_core.specs.Agreeing.{AgreesAt}
 use Rattle.rs_core.specs.Core.{client_count}
-use Rattle.rs_core.proofs.Lists.{own, other}
+use Rattle.rs_core.specs.Watching.{ended_if, watched_by}
+use Rattle.rs_core.specs.declared.endings.Ending.TheVariants as reasons
+use Rattle.rs_core.proofs.Lists.{own, other, set_at}
+use Rattle.rs_core.proofs.Cutting.{cut_unmoved}
+use Rattle.rs_core.proofs.Spared.{put_spares}
 use Rattle.rs_core.proofs.Agreeing.{grown, spares_both}
 use Rattle.rs_core.proofs.route_server.Core.octets.Goals as goal
+
+live_by : (b : Bool) → (b ≡ false → b ≡ true) → b ≡ true
+live_by true not = refl
+live_by false not = not refl
 
 pub returns-in-Ok-clause-heard : goal.returns-in-Ok-clause-heard
 unfolding client_count
@@ -22,10 +33,20 @@ pub returns-in-Err-clause-refused : goal.returns-in-Err-clause-refused
 unfolding client_count
 returns-in-Err-clause-refused c = λ run h.
     let it = hearing c.args.c run in
-    grown c.args.self.now c.forget.new.self c.args.c run (Left c.args.c ∷ run) refl (λ d ne. other c.args.c d (leaves (hearing d run)) (hearing d run) ne) h
-    (spares_both c.args.c c.args.self.now c.hear.new.self c.forget.new.self c.hear.ensures.spares c.forget.ensures.spares)
-    (subst (λ k. AgreesAt c.forget.new.self (config_in run) c.args.c k) (sym (own c.args.c (leaves it) it))
-    (c.forget.ensures.forgotten (config_in run) it (c.in-Err.ensures.refused (config_in run) it h.config (h.clients c.args.c c.requires))))
+    let at = h.clients c.args.c c.requires in
+    let old = c.args.self.now.watched.items in
+    let kept = c.hear.new.self.watched.items in
+    let here : c.args.c < length old = subst (λ k. c.args.c < k) (sym c.args.self.now.watched_len) c.requires in
+    let within : c.args.c < c.hear.new.self.count = subst (λ k. c.args.c < k) (sym c.hear.ensures.spares.count) c.requires in
+    let there : c.args.c < length kept = subst (λ k. c.args.c < k) (sym c.hear.new.self.watched_len) within in
+    let was = slice_get_read old (length old) c.args.c c.index.result.now refl here c.index.ensures in
+    let lasted = live_by (is_live (state_in (config_in run) c.args.c it)) (λ dead. absurd (let e = c.in-Err.ensures.unheard (config_in run) it at.knows dead in cc)) in
+    let ended = c.end.ensures it.endings it.faults (at.knows.watched c.index.result.now was) in
+    grown c.args.self.now c.forget.new.self c.args.c run (Dropped c.args.c ∷ run) refl (λ d ne. other c.args.c d (leaves (config_in run) d reasons.Memory (hearing d run)) (hearing d run) ne) h
+    (spares_both c.args.c c.args.self.now _ c.forget.new.self (put_spares c.args.c c.args.self.now c.hear.new.self _ c.end.new.self there refl refl refl refl refl c.hear.ensures.spares) c.forget.ensures.spares)
+    (subst (λ k. AgreesAt c.forget.new.self (config_in run) c.args.c k) (sym (own c.args.c (leaves (config_in run) c.args.c reasons.Memory it) it))
+    (c.forget.ensures.forgotten (config_in run) it reasons.Memory (cut_unmoved c.hear.new.self _ (config_in run) c.args.c it refl (c.in-Err.ensures.refused (config_in run) it h.config at))
+    (λ x e. (set_at kept c.args.c c.end.new.self there).own x e ∙ ended ∙ ap (λ b. watched_by (cons_option (ended_if b reasons.Memory) it.endings) it.faults) (sym lasted))))
 
 pub returns-in-Ok-clause-unheard : goal.returns-in-Ok-clause-unheard
 unfolding client_count

@@ -9,6 +9,7 @@ use Rattle.rs_core.specs.Hearing.{session_in, begins}
 use Rattle.rs_core.specs.Runs.{hearing}
 use Rattle.rs_core.specs.Agreeing.{AgreesAt}
 use Rattle.rs_core.specs.Core.{client_count, lent_octets}
+use Rattle.rs_core.specs.declared.endings.Watched.{Watched}
 use Rattle.rs_core.proofs.Lists.{own, other, set_at}
 use Rattle.rs_core.proofs.Agreeing.{grown}
 use Rattle.rs_open.specs.Writing.{server_open}
@@ -35,10 +36,11 @@ returns-in-Ok-clause-came c = λ run h.
       held = λ d p ne. ap (λ ins. held_of ins d p) c.greet.ensures.tables;
       identifiers = λ d ne. ap (λ ins. identifier_of ins d) c.greet.ensures.tables;
       voices = c.greet.ensures.voices;
+      watched = λ d ne. ap (λ (v : Vec Watched). slice_get v.items d) c.greet.ensures.watched;
     })
     (subst (λ k. AgreesAt c.greet.new.self (config_in run) c.args.c k) (sym (own c.args.c (begins it) it))
     (came c.args.self.now c.greet.new.self c.in-Ok.field-0 c.index_mut.result.now c.opened.new.self (config_in run) c.args.c it read lt set c.greet.ensures.emptied c.greet.ensures.tables c.greet.ensures.config c.greet.ensures.own
-    c.in-Ok.ensures.ok (h.clients c.args.c c.requires)))
+    c.in-Ok.ensures.ok c.greet.ensures.watched (h.clients c.args.c c.requires)))
 
 pub returns-in-Ok-clause-idle : goal.returns-in-Ok-clause-idle
 unfolding client_count

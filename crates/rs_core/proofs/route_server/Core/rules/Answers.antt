@@ -11,5 +11,5 @@ returns-clause-accepted c = λ run h.
     record {
       config = c.in_ok-config.config;
       replaces = replaces;
-      agrees = ruled c.args.self.now _ run c.in_ok-config.config replaces.same refl c.replace.ensures.config refl refl c.replace.ensures.tables c.replace.ensures.touched h;
+      agrees = ruled c.args.self.now _ run c.in_ok-config.config replaces.same refl c.replace.ensures.config refl refl refl c.replace.ensures.tables c.replace.ensures.touched h;
     }

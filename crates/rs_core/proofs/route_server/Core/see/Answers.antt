@@ -2,29 +2,36 @@ use Rattle.std.proofs.Common.{◌<◌, length, refl, sym, ap, subst}
 use Rattle.std.specs.Global.{Vec}
 use Rattle.std.proofs.lemmas.Option.{slice_get_read}
 use Rattle.rs_session.specs.declared.session.Session.{Session}
-use Rattle.rs_session.specs.declared.act.Act.TheVariants as acts
 use Rattle.rs_core.specs.Core.{client_count}
+use Rattle.rs_core.specs.Watching.{expiry_by}
+use Rattle.rs_core.specs.declared.endings.Watched.{Watched}
 use Rattle.rs_core.proofs.Acting.{seen, acted_spares}
+use Rattle.rs_core.proofs.Watching.{noted_by, others_kept}
 use Rattle.rs_core.proofs.route_server.Core.see.Goals as goal
 
-pub returns-in-Down-clause-seen : goal.returns-in-Down-clause-seen
+pub returns-clause-spares : goal.returns-clause-spares
 unfolding client_count
-returns-in-Down-clause-seen c = λ s h at.
+returns-clause-spares c =
     let sessions = c.args.self.now.sessions.items in
     let lt : c.args.c < length sessions = subst (λ k. c.args.c < k) (sym c.args.self.now.sessions_len) c.requires in
     let read = slice_get_read sessions (length sessions) c.args.c c.index_mut.result.now refl lt c.index_mut.ensures.value in
-    seen c.args.self.now c.end.new.self (acts.Down c.in-Down.note) c.index_mut.result.now c.moment.new.self s c.args.c c.args.t h read lt
-    (ap (λ (v : Vec Session). v.items) c.end.ensures.sessions) c.end.ensures.buffers c.in-Down.ensures.hears c.end.ensures.held c.end.ensures.config c.end.ensures.own at
+    let kept = c.args.self.now.watched.items in
+    let there : c.args.c < length kept = subst (λ k. c.args.c < k) (sym c.args.self.now.watched_len) c.requires in
+    let was = slice_get_read kept (length kept) c.args.c c.index_mut-2.result.now refl there c.index_mut-2.ensures.value in
+    let set = ap (λ (v : Vec Watched). v.items) c.act.ensures.watched in
+    acted_spares c.args.self.now c.act.new.self c.args.c c.moment-act.new.self c.act.ensures.count c.act.ensures.config lt (ap (λ (v : Vec Session). v.items) c.act.ensures.sessions) c.act.ensures.buffers c.act.ensures.others c.act.ensures.voices
+    (others_kept kept c.act.new.self.watched.items c.args.c c.end.new.self there set)
 
-pub returns-in_default : goal.returns-in_default
+pub returns-clause-seen : goal.returns-clause-seen
 unfolding client_count
-returns-in_default c =
+returns-clause-seen c = λ s h at.
     let sessions = c.args.self.now.sessions.items in
     let lt : c.args.c < length sessions = subst (λ k. c.args.c < k) (sym c.args.self.now.sessions_len) c.requires in
     let read = slice_get_read sessions (length sessions) c.args.c c.index_mut.result.now refl lt c.index_mut.ensures.value in
-    let set = ap (λ (v : Vec Session). v.items) c.act.ensures.sessions in
-    record {
-      spares = acted_spares c.args.self.now c.act.new.self c.args.c c.moment.new.self c.act.ensures.count c.act.ensures.config lt set c.act.ensures.buffers c.act.ensures.others c.act.ensures.voices;
-      seen = λ s h at. seen c.args.self.now c.act.new.self c.moment.result c.index_mut.result.now c.moment.new.self s c.args.c c.args.t h read lt set c.act.ensures.buffers c.moment.ensures.hears
-          c.act.ensures.tables c.act.ensures.config c.act.ensures.own at;
-    }
+    let kept = c.args.self.now.watched.items in
+    let there : c.args.c < length kept = subst (λ k. c.args.c < k) (sym c.args.self.now.watched_len) c.requires in
+    let was = slice_get_read kept (length kept) c.args.c c.index_mut-2.result.now refl there c.index_mut-2.ensures.value in
+    let set = ap (λ (v : Vec Watched). v.items) c.act.ensures.watched in
+    seen c.args.self.now c.act.new.self c.moment-act.result c.index_mut.result.now c.moment-act.new.self s c.args.c c.args.t h read lt
+    (ap (λ (v : Vec Session). v.items) c.act.ensures.sessions) c.act.ensures.buffers c.moment-act.ensures.hears c.act.ensures.tables c.act.ensures.config c.act.ensures.own
+    (noted_by kept c.act.new.self.watched.items c.args.c c.index_mut-2.result.now c.end.new.self c.expiry_by.result (expiry_by c.moment-act.result) was there set c.expiry_by.ensures c.end.ensures) at

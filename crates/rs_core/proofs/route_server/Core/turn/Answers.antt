@@ -6,7 +6,7 @@ use Rattle.rs_core.proofs.Refusing.{listed_is}
 use Rattle.rs_core.proofs.route_server.Core.turn.Goals as goal
 
 pub returns-clause-turned : goal.returns-clause-turned
-returns-clause-turned c = λ run h. turned_agrees c.args.self.now _ c.turn.new.self run _ refl refl refl
+returns-clause-turned c = λ run h. turned_agrees c.args.self.now _ c.turn.new.self run _ refl refl refl refl
     c.turn.ensures.settings c.turn.ensures.tables c.turn.ensures.turned c.sweep.ensures.settings c.sweep.ensures.tables c.sweep.ensures.outlets (λ d none lt. listed_is _ d none lt) h
 
 pub returns-clause-decided : goal.returns-clause-decided

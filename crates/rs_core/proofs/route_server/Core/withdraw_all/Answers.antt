@@ -13,6 +13,7 @@ loop-prefix-init c = record {
   count = refl;
   sessions = refl;
   buffers = refl;
+  watched = refl;
   config = refl;
   others = none_spared c.args.c c.args.self.now.ribs.tables;
   held = none_overlaid c.args.c None c.args.self.now.ribs.tables;
@@ -25,6 +26,7 @@ loop-prefix-preserved c = record {
   count = c.loop-prefix.invariant.count;
   sessions = c.loop-prefix.invariant.sessions;
   buffers = c.loop-prefix.invariant.buffers;
+  watched = c.loop-prefix.invariant.watched;
   config = c.withdraw.ensures.settings.config ∙ c.loop-prefix.invariant.config;
   others = one_spared c.args.c c.prefix-item.result None c.args.self.now.ribs.tables c.loop-prefix.self.ribs.tables c.withdraw.new.self.tables c.withdraw.ensures.held c.loop-prefix.invariant.others;
   held = one_overlaid c.args.c c.loop-prefix.prefix-index _ c.args.prefixes.now c.prefix-item.result None c.args.self.now.ribs.tables c.loop-prefix.self.ribs.tables c.withdraw.new.self.tables (omega arith) c.loop-prefix-test.true c.prefix-item.is c.withdraw.ensures.held c.loop-prefix.invariant.held;
@@ -37,6 +39,9 @@ returns-clause-sessions c = c.loop-prefix.invariant.sessions
 
 pub returns-clause-buffers : goal.returns-clause-buffers
 returns-clause-buffers c = c.loop-prefix.invariant.buffers
+
+pub returns-clause-watched : goal.returns-clause-watched
+returns-clause-watched c = c.loop-prefix.invariant.watched
 
 pub returns-clause-config : goal.returns-clause-config
 returns-clause-config c = c.loop-prefix.invariant.config
