@@ -27,6 +27,8 @@ pub mod Beating
 pub mod Uttering
 pub mod Voicing
 pub mod Around
+pub mod Stirring
+pub mod Altering
 pub mod Ordering
 pub mod Refusing
 pub mod Serving
@@ -41,3 +43,4 @@ pub mod Paying
 pub mod Drained
 pub mod Conversed
 pub mod Sent
+pub mod Touched

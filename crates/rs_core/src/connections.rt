@@ -30,7 +30,8 @@ ghost use Rattle.rs_core.specs.Hearing.{Hearing, state_in, leaves};
 ghost use Rattle.rs_core.specs.Runs.{hearing};
 ghost use Rattle.rs_core.specs.Agreeing.{Agrees, AgreesAt, Knows, IsCutShort, Spares};
 ghost use Rattle.rs_outlet.specs.Views.{View};
-ghost use Rattle.rs_core.specs.Ribs.{outlet_in};
+ghost use Rattle.rs_core.specs.Ribs.{Stirs, outlet_in};
+ghost use Rattle.rs_core.specs.Stirring.{IsChangedBy, TouchesOthersWhere};
 ghost use Rattle.rs_core.specs.Conversations.{own_open};
 ghost use Rattle.rs_core.specs.Voices.{IsGreeting, KeepsVoices};
 ghost use Rattle.rs_policy.specs.Configuration.{Configuration};
@@ -105,6 +106,7 @@ impl Core {
         requires { c < client_count self.old }
         ensures count { client_count self.new ≡ client_count self.old }
         ensures left { (run : List Move) → Agrees self.old run → Agrees self.new (Left c ∷ run) }
+        ensures touched { (run : List Move) → Agrees self.old run → TouchesOthersWhere (IsChangedBy (Left c) run c) c run self.old self.new }
     {
         self.forget(c, Ending::Lost);
     }
@@ -115,6 +117,7 @@ impl Core {
         requires { c < client_count self.old }
         ensures spares { Spares c self.old self.new }
         ensures forgotten { (s : Configuration) (h : Hearing) → IsCutShort self.old s c h → AgreesAt self.new s c (leaves h) }
+        ensures stirs { Stirs c self.old.ribs self.new.ribs }
     {
         self.note_ending(c, ending);
         self.sessions[c].lost();

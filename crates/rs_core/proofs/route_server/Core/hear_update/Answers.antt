@@ -1,9 +1,9 @@
-use Rattle.std.proofs.Common.{ℕ, ◌∷◌, refl, sym, ◌∙◌, subst}
+use Rattle.std.proofs.Common.{ℕ, ◌∷◌, refl, sym, ◌∙◌, ap, subst}
 use Rattle.std.specs.Prelude.{Some, None, option_map}
 use Rattle.std.specs.Arc.{arc_value}
-use Rattle.rs_attrs.specs.Effects.{effect_of}
+use Rattle.rs_attrs.specs.Effects.{effect_of, has_prefix}
 use Rattle.rs_update.specs.Laws.{IsSameChange, IsSameEffect}
-use Rattle.rs_update.specs.Outcomes.{effect_seen, HasItsAttributes}
+use Rattle.rs_update.specs.Outcomes.{effect_seen, AreApart, HasItsAttributes}
 use Rattle.rs_policy.specs.Configuration.{client_of}
 use Rattle.rs_session.specs.declared.heard.Heard.TheVariants as heard
 use Rattle.rs_core.specs.Core.{client_count}
@@ -13,6 +13,7 @@ use Rattle.rs_core.proofs.Lists.{on_err, map_ok}
 use Rattle.rs_core.proofs.Agreeing.{cut_short}
 use Rattle.rs_core.proofs.Ruling.{unmoved}
 use Rattle.rs_core.proofs.Updating.{is_change}
+use Rattle.rs_core.proofs.Stirring.{stirs_same}
 use Rattle.rs_core.proofs.Saying.{update_reset, update_changes, moded_up, is_reset_beyond, is_none_beyond, reset_follows, announcing}
 use Rattle.rs_core.proofs.route_server.Core.hear_update.Goals as goal
 
@@ -51,3 +52,11 @@ returns-else-is_beyond-clause-heard c = map_ok c.change.result c.change.ensures.
     (changes s h it.change live as_noted
     (subst (λ a. IsSameChange (record { withdrawn = c.deref-in-Change-2.result.now; announced = a; attributes = option_map arc_value c.in-Change.attrs }) it.change) (sym c.deref-in-Change-3.ensures.value)
     (subst (λ w. IsSameChange (record { withdrawn = w; announced = c.in-Change.announced.items; attributes = option_map arc_value c.in-Change.attrs }) it.change) (sym c.deref-in-Change-2.ensures.value) it.same))))
+
+pub returns-in_err-code-clause-stirs : goal.returns-in_err-code-clause-stirs
+returns-in_err-code-clause-stirs c = stirs_same c.args.c c.args.self.now.ribs c.args.self.now.ribs refl
+
+pub returns-else-is_beyond-clause-stirs : goal.returns-else-is_beyond-clause-stirs
+returns-else-is_beyond-clause-stirs c = c.change.ensures.stirs (λ p has.
+    ap (has_prefix p) c.deref-in-Change-3.ensures.value
+    ∙ subst AreApart c.in-Change.is c.in_ok-code.ensures.apart p (ap (has_prefix p) (sym c.deref-in-Change-2.ensures.value) ∙ has))

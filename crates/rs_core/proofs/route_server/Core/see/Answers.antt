@@ -27,4 +27,5 @@ returns-in_default c =
       spares = acted_spares c.args.self.now c.act.new.self c.args.c c.moment.new.self c.act.ensures.count c.act.ensures.config lt set c.act.ensures.buffers c.act.ensures.others c.act.ensures.voices;
       seen = λ s h at. seen c.args.self.now c.act.new.self c.moment.result c.index_mut.result.now c.moment.new.self s c.args.c c.args.t h read lt set c.act.ensures.buffers c.moment.ensures.hears
           c.act.ensures.tables c.act.ensures.config c.act.ensures.own at;
+      stirs = c.act.ensures.stirs;
     }
