@@ -30,6 +30,8 @@ pub mod Alike
 pub mod Voicing
 pub mod Delivering
 pub mod Around
+pub mod Stirring
+pub mod Altering
 pub mod Ordering
 pub mod Refusing
 pub mod Serving
@@ -47,3 +49,4 @@ pub mod Paying
 pub mod Drained
 pub mod Conversed
 pub mod Sent
+pub mod Touched
