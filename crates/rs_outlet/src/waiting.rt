@@ -69,7 +69,7 @@ pub(crate) struct Waits {
     ghost counted: { open_count places.items ≡ waiting },
     ghost withdrawn: { AllWithin (λ w. is_withdrawn w ≡ false) places.items 0 gone },
     ghost announced: { AllWithin (λ w. is_announced w ≡ false) places.items 0 news },
-    ghost linked: { AreLinked (dues_at places.items) links.items },
+    ghost chains: { AreLinked (dues_at places.items) links.items },
     ghost rises: { IsStrictlySortedBy prefix_order (prefixes_at places.items) } by { IsStrictlySortedBy-prop prefix_order (prefixes_at places.items) },
 }
 
@@ -106,6 +106,7 @@ impl Waits {
     }
 
     /// Makes room for so many places.
+    #[tactic(auto, using(crate::proofs::Links::same_linked))]
     pub(crate) fn reserve(&mut self, count: usize) -> Result<(), AllocError>
         ensures items { self.new.places.items ≡ self.old.places.items }
         ensures room { OnOk result (count ≤ vec_capacity self.new.places) }

@@ -30,11 +30,11 @@ invariant_of-self-clause-withdrawn c = AllWithin-set (λ w. is_withdrawn w ≡ f
 pub invariant_of-self-clause-announced : goal.invariant_of-self-clause-announced
 invariant_of-self-clause-announced c = AllWithin-set (λ w. is_announced w ≡ false) c.args.self.now.places.items 0 c.args.self.now.news c.args.place _ (search rules) refl c.args.self.now.announced
 
-pub invariant_of-self-clause-linked : goal.invariant_of-self-clause-linked
-invariant_of-self-clause-linked c =
+pub invariant_of-self-clause-chains : goal.invariant_of-self-clause-chains
+invariant_of-self-clause-chains c =
     subst (λ ds. AreLinked ds c.args.self.now.links.items)
     (sym (same_dues c.args.self.now.places.items c.args.place _ c.index_mut-wait.result.now (ap (λ (w : Wait). w.due) c.index_mut-wait.ensures.value)))
-    c.args.self.now.linked
+    c.args.self.now.chains
 
 pub returns : goal.returns
 returns c =

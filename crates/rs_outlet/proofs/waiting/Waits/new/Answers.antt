@@ -6,5 +6,5 @@ use Rattle.rs_outlet.proofs.waiting.Waits.new.Goals as goal
 pub invariant_of-result-clause-rises : goal.invariant_of-result-clause-rises
 invariant_of-result-clause-rises c = search (rules, none_rise)
 
-pub invariant_of-result-clause-linked : goal.invariant_of-result-clause-linked
-invariant_of-result-clause-linked c = none_linked _ _ (search rules)
+pub invariant_of-result-clause-chains : goal.invariant_of-result-clause-chains
+invariant_of-result-clause-chains c = none_linked _ _ (search rules)
