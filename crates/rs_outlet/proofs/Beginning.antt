@@ -22,11 +22,14 @@ use Rattle.rs_outlet.specs.Places.{open_at, prefixes_at, told_by, marked_told, i
 use Rattle.rs_outlet.specs.Inside.{AreBacked, told_over, marked_of, waits_of, loc_of, numbers_from, shown}
 use Rattle.std.specs.List.Sorted.{IsStrictlySortedBy}
 use Rattle.rs_outlet.proofs.Rising.{least_chosen, prefixes_rise, rise_take}
-use Rattle.rs_outlet.specs.Choosing.{AreChosen, IsFirst, IsInTurn, Rise, IsLegalSaid, NoneWithdrawn, message_of, MayUpdate}
+use Rattle.rs_packer.specs.Packed.{announcement, withdrawal}
+use Rattle.rs_outlet.specs.Next.{AreAsManyAsFit}
+use Rattle.rs_outlet.specs.Choosing.{AreChosen, IsFirst, IsInTurn, Rise, IsLegalSaid, NoneWithdrawn, is_said_there, message_of, MayUpdate, passing}
 use Rattle.rs_outlet.specs.Begins.{AreLeastFirst, NoneGone, Settles, Withdraws, Announces, BeginsUpdate}
 use Rattle.rs_adjin.proofs.Rows.{some_is}
 use Rattle.rs_outlet.proofs.LocByNumber.{same, numbered, by_number}
 use Rattle.rs_outlet.proofs.Chosen.{first_chosen}
+use Rattle.rs_outlet.proofs.AllWaiting.{all_sharing, all_withdrawn}
 use Rattle.rs_outlet.proofs.Standing.{told_at, marked_at, waits_at}
 
 told_cond : (b : Bool) (o : Option Wait) (due : Option (List Attribute)) → told_by (cond b None o) due ≡ cond b due (told_by o due)
@@ -122,8 +125,9 @@ module _ (speech : Speech) (v w : View) (rows : List (Option Row)) (ws ws' : Lis
 
   begun : (ns : List ℕ) (ps : List Prefix) (packed : Packed) (said : Option (List Attribute))
       → ((said : Option (List Attribute)) (qs : List Prefix) → AreChosen rows ws said (take packed.prefixes ns) qs → (q : Prefix) → open_at q ws' ≡ cond (list_any (same q) qs) None (open_at q ws))
+      → AreBacked rows ws → AreAsManyAsFit (message_of speech said) (limit_octets speech.limit) (passing (is_said_there rows said) ws) (take packed.prefixes ps)
       → Rise ns → IsFirst said ws ns → AreChosen rows ws said ns ps → IsLegalSaid said → IsInTurn said ws → length w.flight ≤ limit_octets speech.limit → 0 < packed.prefixes → packed.prefixes ≤ length ps → w.flight ≡ message_of speech said (take packed.prefixes ps) → Withdraws speech v w ⊎ Announces speech v w
-  begun ns ps packed None gave rise first are legal in_turn fits some within flight =
+  begun ns ps packed None gave backed all rise first are legal in_turn fits some within flight =
       let some_chosen = first_chosen rows ws None packed.prefixes ns ps are in
       inl (record {
         prefixes = take packed.prefixes ps;
@@ -131,11 +135,12 @@ module _ (speech : Speech) (v w : View) (rows : List (Option Row)) (ws ws' : Lis
         prefixes_legal = chosen_legal rows ws None (take packed.prefixes ns) (take packed.prefixes ps) some_chosen;
         waited = subst (λ t. AllByRecursion (λ p. fin.get t p ≡ Some true) (take packed.prefixes ps)) (sym old.waits) (waited_withdrawn rows ws (take packed.prefixes ns) (take packed.prefixes ps) some_chosen);
         order = in_order None packed.prefixes ns ps rise first some_chosen;
+        all = subst (λ qs. AreAsManyAsFit withdrawal (limit_octets speech.limit) qs (take packed.prefixes ps)) (sym (all_withdrawn v ws old.waits up)) all;
         settles = settled (take packed.prefixes ps) (gave None (take packed.prefixes ps) some_chosen);
         flight = flight;
         fits = fits;
       })
-  begun ns ps packed (Some m) gave rise first are legal in_turn fits some within flight =
+  begun ns ps packed (Some m) gave backed all rise first are legal in_turn fits some within flight =
       let some_chosen = first_chosen rows ws (Some m) packed.prefixes ns ps are in
       inr (record {
         gone = none_gone v ws old.waits in_turn;
@@ -147,6 +152,9 @@ module _ (speech : Speech) (v w : View) (rows : List (Option Row)) (ws ws' : Lis
         waited = subst (λ t. AllByRecursion (λ p. fin.get t p ≡ Some false) (take packed.prefixes ps)) (sym old.waits) (waited_announced rows ws m (take packed.prefixes ns) (take packed.prefixes ps) some_chosen);
         order = in_order (Some m) packed.prefixes ns ps rise first some_chosen;
         due = λ ins are_numbered. subst (λ t. AllByRecursion (λ p. fin.get t p ≡ Some m) (take packed.prefixes ps)) (sym old.loc) (rows_due rows ws m ins (old.numbers ins are_numbered) (take packed.prefixes ns) (take packed.prefixes ps) some_chosen);
+        all = λ ins are_numbered.
+            subst (λ qs. AreAsManyAsFit (announcement m speech.mode) (limit_octets speech.limit) qs (take packed.prefixes ps))
+            (sym (all_sharing rows ws m ins (old.numbers ins are_numbered) up backed v old.waits old.loc)) all;
         settles = settled (take packed.prefixes ps) (gave (Some m) (take packed.prefixes ps) some_chosen);
         flight = flight;
         fits = fits;
@@ -154,15 +162,15 @@ module _ (speech : Speech) (v w : View) (rows : List (Option Row)) (ws ws' : Lis
 
   pub update_begun : (ns : List ℕ) (ps : List Prefix) (octets : List ℕ) (packed : Packed) → MayUpdate speech rows ws ns ps octets packed → packed.octets ≤ limit_octets speech.limit → w.flight ≡ take packed.octets octets
       → ((said : Option (List Attribute)) (qs : List Prefix) → AreChosen rows ws said (take packed.prefixes ns) qs → (q : Prefix) → open_at q ws' ≡ cond (list_any (same q) qs) None (open_at q ws))
-      → BeginsUpdate speech v w
-  update_begun ns ps octets packed (inl none) most flight gave = inl (record {
+      → AreBacked rows ws → BeginsUpdate speech v w
+  update_begun ns ps octets packed (inl none) most flight gave backed = inl (record {
     none = λ p. ap (λ t. fin.get t p) old.waits ∙ waits_at ws p ∙ ap (option_map (λ (w : Wait). is_withdrawal w.due)) (none.1 p);
     settles = settled [] (gave None [] (subst (λ (k : Packed). AreChosen rows ws None (take k.prefixes ns) []) (sym none.0) tt));
     flight = flight ∙ ap (λ (k : Packed). take k.octets octets) none.0;
   })
-  update_begun ns ps octets packed (inr is) most flight gave =
+  update_begun ns ps octets packed (inr is) most flight gave backed =
       let taken : length w.flight ≤ limit_octets speech.limit = omega (arith, ap length flight, length-take packed.octets octets, most) in
-      inr (begun ns ps packed is.said gave is.rise is.first is.chosen is.legal is.in_turn taken is.written.some is.written.within (flight ∙ is.written.says))
+      inr (begun ns ps packed is.said gave backed is.all is.rise is.first is.chosen is.legal is.in_turn taken is.written.some is.written.within (flight ∙ is.written.says))
 
 -- what waits still has its row
 left_open : (b : Bool) (o : Option Wait) (w : Wait) → cond b None o ≡ Some w → o ≡ Some w
@@ -182,7 +190,7 @@ backed_left speech rows ws ws' ns ps octets packed (inr update) gave backed q w 
 pub update_seen : (speech spoken : Speech) (v v' w : View) (rows : List (Option Row)) (ws ws' : List Wait) → v ≡ v' → Some speech ≡ Some spoken → IsStrictlySortedBy prefix_order (prefixes_at ws) → Shows v rows ws → Shows w rows ws'
     → (ns : List ℕ) (ps : List Prefix) (octets : List ℕ) (packed : Packed) → MayUpdate speech rows ws ns ps octets packed → packed.octets ≤ limit_octets speech.limit → w.flight ≡ take packed.octets octets
     → ((said : Option (List Attribute)) (qs : List Prefix) → AreChosen rows ws said (take packed.prefixes ns) qs → (q : Prefix) → open_at q ws' ≡ cond (list_any (same q) qs) None (open_at q ws))
-    → BeginsUpdate spoken v' w
-update_seen speech spoken v v' w rows ws ws' is same_speech up old new ns ps octets packed may most flight gave =
+    → AreBacked rows ws → BeginsUpdate spoken v' w
+update_seen speech spoken v v' w rows ws ws' is same_speech up old new ns ps octets packed may most flight gave backed =
     subst (λ (x : View). BeginsUpdate spoken x w) is
-    (subst (λ s. BeginsUpdate s v w) (some_is speech spoken same_speech) (update_begun speech v w rows ws ws' old new up ns ps octets packed may most flight gave))
+    (subst (λ s. BeginsUpdate s v w) (some_is speech spoken same_speech) (update_begun speech v w rows ws ws' old new up ns ps octets packed may most flight gave backed))

@@ -140,12 +140,12 @@ nothing_waits ws h k =
 
 -- ---- the first place to be announced
 
-same_element : (ws : List Wait) (n : ℕ) (d e : Wait) → n < length ws → get_or ws n d ≡ get_or ws n e
+pub same_element : (ws : List Wait) (n : ℕ) (d e : Wait) → n < length ws → get_or ws n d ≡ get_or ws n e
 same_element [] n d e below = absurd (omega (arith, below))
 same_element (w ∷ ws) zero d e below = refl
 same_element (w ∷ ws) (suc n) d e below = same_element ws n d e (omega (arith, below))
 
-element : (ws : List Wait) (n : ℕ) → n < length ws → Wait
+pub element : (ws : List Wait) (n : ℕ) → n < length ws → Wait
 element [] n below = absurd (omega (arith, below))
 element (w ∷ ws) zero below = w
 element (w ∷ ws) (suc n) below = element ws n (omega (arith, below))
@@ -153,7 +153,7 @@ element (w ∷ ws) (suc n) below = element ws n (omega (arith, below))
 news_of : (w : Wait) → is_announced w ≡ true → (w.open ≡ true) × (not (is_withdrawal w.due) ≡ true)
 news_of w h = both w.open (not (is_withdrawal w.due)) h
 
-there_backed : (rows : List (Option Row)) (ws : List Wait) (n : ℕ) (d : Wait) → IsStrictlySortedBy prefix_order (prefixes_at ws) → AreBacked rows ws → n < length ws → (get_or ws n d).open ≡ true → IsBacked rows (get_or ws n d).prefix (get_or ws n d).due
+pub there_backed : (rows : List (Option Row)) (ws : List Wait) (n : ℕ) (d : Wait) → IsStrictlySortedBy prefix_order (prefixes_at ws) → AreBacked rows ws → n < length ws → (get_or ws n d).open ≡ true → IsBacked rows (get_or ws n d).prefix (get_or ws n d).due
 there_backed rows ws n d up backed below opened =
     let w = get_or ws n d in
     backed w.prefix w (found_at ws n w below (same_element ws n d w below) opened up)

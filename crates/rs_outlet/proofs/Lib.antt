@@ -10,7 +10,9 @@ mod Touches
 mod TouchedNumbers
 mod Ranges
 mod Ranks
-mod Fitting
+mod Links
+mod Fullest
+mod AllWaiting
 mod OthersAlone
 mod Places
 mod Withdrawals

@@ -13,6 +13,7 @@ use Rattle.rs_open.specs.Notes.{limit_octets}
 use Rattle.rs_adjin.specs.declared.adj_ins.AdjIns.{AdjIns}
 use Rattle.rs_packer.specs.Packed.{announcement, withdrawal}
 use Rattle.rs_outlet.specs.declared.answers.Speech.{Speech}
+use Rattle.rs_outlet.specs.Next.{AreAsManyAsFit, to_announce, to_withdraw}
 use Rattle.rs_outlet.specs.Views.{View, AreNumbered}
 
 abbrev pub is_among : Prefix → List Prefix → Bool
@@ -39,19 +40,20 @@ pub record Rests (v w : View) : Type 0 where
   pub settles : Settles v w []
   pub flight : w.flight ≡ []
 
--- some prefixes that wait to be withdrawn are withdrawn, in a message that the client takes
+-- prefixes that wait to be withdrawn are withdrawn, from the least on as many as fit into a message that the client takes
 pub record Withdraws (speech : Speech) (v w : View) : Type 0 where
   pub prefixes : List Prefix
   pub some : 0 < length prefixes
   pub prefixes_legal : AllByRecursion IsIpv4Prefix prefixes
   pub waited : AllByRecursion (λ p. fin.get v.waits p ≡ Some true) prefixes
   pub order : AreLeastFirst (λ p. fin.get v.waits p ≡ Some true) prefixes
+  pub all : AreAsManyAsFit withdrawal (limit_octets speech.limit) (to_withdraw v) prefixes
   pub settles : Settles v w prefixes
   pub flight : w.flight ≡ withdrawal prefixes
   pub fits : length w.flight ≤ limit_octets speech.limit
 
--- some prefixes that wait to be announced are announced, with the attributes that are due at each of them, in a message that
--- the client takes, once no prefix waits to be withdrawn
+-- prefixes that wait to be announced are announced, with the attributes that are due at each of them, once no prefix waits to
+-- be withdrawn: the least that waits, and of those with its attributes as many as fit into a message that the client takes
 pub record Announces (speech : Speech) (v w : View) : Type 0 where
   pub gone : NoneGone v
   pub prefixes : List Prefix
@@ -62,6 +64,7 @@ pub record Announces (speech : Speech) (v w : View) : Type 0 where
   pub waited : AllByRecursion (λ p. fin.get v.waits p ≡ Some false) prefixes
   pub order : AreLeastFirst (λ p. fin.get v.waits p ≡ Some false) prefixes
   pub due : (ins : AdjIns) → AreNumbered v ins → AllByRecursion (λ p. fin.get v.loc p ≡ Some attributes) prefixes
+  pub all : (ins : AdjIns) → AreNumbered v ins → AreAsManyAsFit (announcement attributes speech.mode) (limit_octets speech.limit) (to_announce v attributes) prefixes
   pub settles : Settles v w prefixes
   pub flight : w.flight ≡ announcement attributes speech.mode prefixes
   pub fits : length w.flight ≤ limit_octets speech.limit

@@ -1,19 +1,21 @@
 -- The places that the next UPDATE is about.
-use Rattle.std.specs.Prelude.{◌≡◌, ◌⊎◌, ℕ, ◌≤◌, ◌<◌, Bool, true, false, Option, None, Some, List, [], ◌∷◌, ◌++◌, length, option_map, take, slice_get, vec_len, Vec}
-use Rattle.std.specs.List.{AllByRecursion, AllWithin, HoldsAt}
+use Rattle.std.specs.Prelude.{◌≡◌, ◌⊎◌, ℕ, ◌≤◌, ◌<◌, Bool, ◌&&◌, true, false, Option, None, Some, List, [], ◌∷◌, ◌++◌, length, option_map, take, slice_get, vec_len, Vec}
+use Rattle.std.specs.List.{AllByRecursion, AllWithin, HoldsAt, filter}
 use Rattle.std.specs.Global.{Global}
 use Rattle.std.specs.Vec.{vec_capacity}
 use Rattle.std.specs.Arc.{arc_value}
 use Rattle.rs_octets.specs.Prefixes.{Prefix, IsIpv4Prefix}
 use Rattle.rs_attrs.specs.Meaning.{Attribute}
 use Rattle.rs_attrs.specs.Writing.{IsLegal}
+use Rattle.rs_open.specs.Notes.{limit_octets}
 use Rattle.rs_packer.specs.Packed.{announcement, withdrawal}
 use Rattle.rs_packer.specs.declared.packed.Packed.{Packed}
 use Rattle.rs_outlet.specs.declared.answers.Speech.{Speech}
 use Rattle.rs_outlet.specs.declared.rows.Row.{Row}
 use Rattle.rs_outlet.specs.declared.waiting.Wait.{Wait}
 use Rattle.rs_outlet.specs.Places.{prefixes_at, open_at, is_announced, is_withdrawal, is_withdrawn}
-use Rattle.rs_outlet.specs.Inside.{IsBacked, row_at, row_by}
+use Rattle.rs_outlet.specs.Inside.{IsBacked, row_at, row_by, shown}
+use Rattle.rs_outlet.specs.Next.{AreAsManyAsFit, has_attributes}
 
 -- the first place that passes the test; none where there is none
 abbrev pub IsFound : (Wait → Bool) → List Wait → Option ℕ → Type 0
@@ -95,6 +97,19 @@ is_said (Some m) w = is_announced w
 abbrev pub IsFirst : Option (List Attribute) → List Wait → List ℕ → Type 0
 IsFirst said ws ns = (n : ℕ) → slice_get ns 0 ≡ Some n → AllWithin (λ w. is_said said w ≡ false) ws 0 n
 
+-- whether a place waits to be announced, with these attributes
+abbrev pub shares : List (Option Row) → List Attribute → Wait → Bool
+shares rows m w = w.open && has_attributes (shown (row_by rows w.due)) m
+
+-- whether just this is to be said at a place
+abbrev pub is_said_there : List (Option Row) → Option (List Attribute) → Wait → Bool
+is_said_there rows None w = is_withdrawn w
+is_said_there rows (Some m) w = shares rows m w
+
+-- the prefixes of the places that pass the test
+abbrev pub passing : (Wait → Bool) → List Wait → List Prefix
+passing test ws = prefixes_at (filter test ws)
+
 -- an UPDATE about places chosen
 pub record IsUpdate (speech : Speech) (rows : List (Option Row)) (ws : List Wait) (ns : List ℕ) (ps : List Prefix) (octets : List ℕ) (packed : Packed) : Type 0 where
   pub said : Option (List Attribute)
@@ -104,6 +119,7 @@ pub record IsUpdate (speech : Speech) (rows : List (Option Row)) (ws : List Wait
   pub rise : Rise ns
   pub first : IsFirst said ws ns
   pub written : IsWritten (message_of speech said) ps octets packed
+  pub all : AreAsManyAsFit (message_of speech said) (limit_octets speech.limit) (passing (is_said_there rows said) ws) (take packed.prefixes ps)
 
 -- none of the places waits
 abbrev pub NoneOpen : List Wait → Type 0

@@ -1,6 +1,6 @@
 //! Which places the next UPDATE is about, and that they wait no more once it is begun.
 
-ghost use Rattle.std.specs.Prelude.{◌≡◌, ◌≤◌, ◌<◌, ◌++◌, ◌∷◌, [], ℕ, length, true, List, Option, None, Some, false, IsTrue, vec_len, option_copied, slice_get, if◌then◌else◌};
+ghost use Rattle.std.specs.Prelude.{◌≡◌, ◌≤◌, ◌<◌, ◌++◌, ◌∷◌, [], ℕ, length, drop, take, true, List, Option, None, Some, false, IsTrue, vec_len, option_copied, slice_get, if◌then◌else◌};
 ghost use Rattle.std.specs.List.{AllWithin, HoldsAt, list_any};
 ghost use Rattle.std.specs.Ordering.{eq_by_cmp};
 ghost use Rattle.std.specs.Vec.{vec_capacity};
@@ -9,13 +9,14 @@ ghost use Rattle.rs_attrs.specs.Meaning.{Attribute};
 ghost use Rattle.rs_outlet.specs.declared.rows.Row.{Row};
 ghost use Rattle.rs_outlet.specs.declared.waiting.Wait.{Wait};
 ghost use Rattle.rs_outlet.specs.Places.{prefixes_at, open_at, is_withdrawal, is_withdrawn, is_announced, withdrawn_count};
-ghost use Rattle.rs_outlet.specs.Choosing.{HasRow, HaveRoom, IsFound, IsChosen, AreChosen, MayList, Rise, WaitsFor};
+ghost use Rattle.rs_outlet.specs.Choosing.{HasRow, HaveRoom, IsFound, IsChosen, AreChosen, MayList, Rise, WaitsFor, passing, shares};
 ghost use Rattle.rs_outlet.specs.Hashing.{attributes_hash};
-ghost use Rattle.rs_outlet.specs.Inside.{row_by};
+ghost use Rattle.rs_outlet.specs.Inside.{AreBacked, IsBacked, row_by, shown};
+ghost use Rattle.rs_outlet.specs.Next.{has_attributes};
 
 use crate::rows::Row;
 use crate::table::Rows;
-use crate::waiting::{Due, END, Wait, Waits, hash_of};
+use crate::waiting::{Due, Wait, Waits, hash_of};
 use rs_attrs::Attrs;
 use rs_octets::Prefix;
 
@@ -62,6 +63,7 @@ impl Waits {
         ensures first { first < vec_len self.now.places → HoldsAt (λ w. is_withdrawn w ≡ true) self.now.places.items first → vec_len front.old < room → HaveRoom chosen.old front.old → chosen.old.items ≡ [] → slice_get chosen.new.items 0 ≡ Some first }
         ensures rise { chosen.old.items ≡ [] → Rise chosen.new.items }
         ensures are { (rows : List (Option Row)) → AreChosen rows self.now.places.items None chosen.old.items front.old.items → AreChosen rows self.now.places.items None chosen.new.items front.new.items }
+        ensures all { room ≤ vec_capacity chosen.old → room ≤ vec_capacity front.old → chosen.old.items ≡ [] → front.old.items ≡ [] → front.new.items ≡ take room (passing is_withdrawn (drop first self.now.places.items)) }
     {
         for place in first..self.places.len() {
             if room <= front.len() {
@@ -81,6 +83,7 @@ impl Waits {
         ensures places { MayList place chosen.old.items chosen.new.items }
         ensures there { HoldsAt (λ w. is_withdrawn w ≡ true) self.now.places.items place → HaveRoom chosen.old front.old → chosen.new.items ≡ chosen.old.items ++ place ∷ [] }
         ensures are { (rows : List (Option Row)) → AreChosen rows self.now.places.items None chosen.old.items front.old.items → AreChosen rows self.now.places.items None chosen.new.items front.new.items }
+        ensures all { HaveRoom chosen.old front.old → HoldsAt (λ w. front.new.items ≡ front.old.items ++ passing is_withdrawn (w ∷ [])) self.now.places.items place }
     {
         let wait = &self.places[place];
         if wait.is_withdrawn() {
@@ -117,6 +120,7 @@ impl Waits {
         ensures first { first < vec_len self.now.places → HoldsAt (WaitsFor rows.now.rows.items attrs.now) self.now.places.items first → vec_len front.old < room → HaveRoom chosen.old front.old → chosen.old.items ≡ [] → slice_get chosen.new.items 0 ≡ Some first }
         ensures rise { chosen.old.items ≡ [] → Rise chosen.new.items }
         ensures are { AreChosen rows.now.rows.items self.now.places.items (Some attrs.now) chosen.old.items front.old.items → AreChosen rows.now.rows.items self.now.places.items (Some attrs.now) chosen.new.items front.new.items }
+        ensures all { AreBacked rows.now.rows.items self.now.places.items → room ≤ vec_capacity chosen.old → room ≤ vec_capacity front.old → chosen.old.items ≡ [] → front.old.items ≡ [] → front.new.items ≡ take room (passing (shares rows.now.rows.items attrs.now) (drop first self.now.places.items)) }
     {
         let hash = hash_of(attrs);
         let mut place = first;
@@ -128,8 +132,7 @@ impl Waits {
                 return;
             }
             self.list_announced(rows, place, hash, attrs, chosen, front);
-            let next = self.links.get(place).copied().unwrap_or(END) as usize;
-            place = next.max(place + 1);
+            place = self.next_place(place, hash);
         }
     }
 
@@ -151,6 +154,7 @@ impl Waits {
         ensures places { MayList place chosen.old.items chosen.new.items }
         ensures there { HoldsAt (WaitsFor rows.now.rows.items attrs.now) self.now.places.items place → hash ≡ attributes_hash attrs.now → HaveRoom chosen.old front.old → chosen.new.items ≡ chosen.old.items ++ place ∷ [] }
         ensures are { AreChosen rows.now.rows.items self.now.places.items (Some attrs.now) chosen.old.items front.old.items → AreChosen rows.now.rows.items self.now.places.items (Some attrs.now) chosen.new.items front.new.items }
+        ensures all { HaveRoom chosen.old front.old → hash ≡ attributes_hash attrs.now → HoldsAt (λ w. (w.open ≡ true → IsBacked rows.now.rows.items w.prefix w.due) → front.new.items ≡ front.old.items ++ passing (shares rows.now.rows.items attrs.now) (w ∷ [])) self.now.places.items place }
     {
         let wait = &self.places[place];
         if wait.open && waits_for(rows, wait, hash, attrs) {
@@ -217,6 +221,7 @@ fn list_place(place: usize, prefix: Prefix, chosen: &mut Vec<usize>, front: &mut
     ensures listed { HaveRoom chosen.old front.old → 0 < vec_len front.new }
     ensures places { MayList place chosen.old.items chosen.new.items }
     ensures there { HaveRoom chosen.old front.old → chosen.new.items ≡ chosen.old.items ++ place ∷ [] }
+    ensures prefix { HaveRoom chosen.old front.old → front.new.items ≡ front.old.items ++ prefix ∷ [] }
     ensures are { (rows : List (Option Row)) (ws : List Wait) (said : Option (List Attribute)) → AreChosen rows ws said chosen.old.items front.old.items → IsChosen rows ws said place prefix → AreChosen rows ws said chosen.new.items front.new.items }
 {
     if chosen.capacity() <= chosen.len() {
@@ -234,6 +239,7 @@ fn waits_for(rows: &Rows, wait: &Wait, hash: u32, attrs: &Attrs) -> bool
     ensures said { IsTrue result → is_withdrawal wait.now.due ≡ false }
     ensures row { IsTrue result → HasRow rows.now.rows.items wait.now.prefix attrs.now }
     ensures all { WaitsFor rows.now.rows.items attrs.now wait.now → hash ≡ attributes_hash attrs.now → result ≡ true }
+    ensures just { IsBacked rows.now.rows.items wait.now.prefix wait.now.due → hash ≡ attributes_hash attrs.now → result ≡ has_attributes (shown (row_by rows.now.rows.items wait.now.due)) attrs.now }
 {
     let Due::Announced {
         number,

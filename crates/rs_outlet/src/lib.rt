@@ -10,8 +10,8 @@
 //! - `touched` is what the next turn decides; `turn` decides it, by `deciding`, which says what is
 //!   due at one prefix; `changes` puts that into `rows`, the Loc-RIB by number, and into
 //!   `waiting`, what is to be sent. `marking` makes all that was told wait again.
-//! - `choosing` says which places the next UPDATE is about, `sending` and `fill` begin the next
-//!   message.
+//! - `choosing` says which places the next UPDATE is about, by the links that `linking` makes between
+//!   them; `sending` and `fill` begin the next message.
 //! - `routes` shows the Loc-RIB; `laws` are contracts of functions that do nothing.
 #![tactic(auto)]
 
@@ -22,6 +22,7 @@ mod choosing;
 mod deciding;
 mod fill;
 pub mod laws;
+mod linking;
 mod marking;
 mod outlet;
 mod routes;

@@ -30,6 +30,7 @@ impl Waits {
         self.waiting = count_open(&self.places);
         self.gone = 0;
         self.news = 0;
+        self.links.clear();
         self.link();
     }
 }

@@ -2,10 +2,10 @@
 //! due, what is to be withdrawn, or the least prefix that is to be announced with all that share its
 //! attributes.
 
-ghost use Rattle.std.specs.Prelude.{◌≡◌, ◌≤◌, ◌<◌, List, Option, [], true, false, None, Some, length, take, vec_len};
+ghost use Rattle.std.specs.Prelude.{◌≡◌, ◌+◌, ◌≤◌, ◌<◌, List, Option, [], true, false, None, Some, length, take, vec_len};
 ghost use Rattle.rs_open.specs.Writing.{keepalive};
 ghost use Rattle.rs_open.specs.declared.short.Short.{Short};
-ghost use Rattle.rs_packer.specs.Packed.{announcement, withdrawal};
+ghost use Rattle.rs_packer.specs.Packed.{IsLongestFront, announcement, withdrawal};
 ghost use Rattle.rs_outlet.specs.Next.{note_octets};
 ghost use Rattle.rs_outlet.specs.Begins.{BeginsUpdate};
 ghost use Rattle.rs_outlet.specs.Views.{WaitsAreExact};
@@ -67,6 +67,7 @@ fn pack_gone(prefixes: &[Prefix], limit: usize, out: &mut [u8]) -> Packed
     requires room { limit ≤ length out.old }
     ensures some { 0 < result.prefixes }
     ensures within { result.prefixes ≤ length prefixes.now }
+    ensures longest { IsLongestFront withdrawal limit prefixes.now result.prefixes }
     ensures octets { take result.octets out.new ≡ withdrawal (take result.prefixes prefixes.now) }
     ensures most { result.octets ≤ limit }
 {
@@ -81,6 +82,7 @@ fn pack_news(attrs: &Attrs, mode: Mode, prefixes: &[Prefix], limit: usize, out: 
     requires fits { length (announcement attrs.now mode (take 1 prefixes.now)) ≤ limit }
     ensures some { 0 < result.prefixes }
     ensures within { result.prefixes ≤ length prefixes.now }
+    ensures longest { IsLongestFront (announcement attrs.now mode) limit prefixes.now result.prefixes }
     ensures octets { take result.octets out.new ≡ announcement attrs.now mode (take result.prefixes prefixes.now) }
     ensures most { result.octets ≤ limit }
 {
@@ -93,6 +95,7 @@ fn put_withdrawal(prefixes: &[Prefix], limit: Limit, out: &mut Vec<u8>) -> Packe
     requires room { limit_octets limit ≤ vec_len out.old }
     ensures some { 0 < result.prefixes }
     ensures within { result.prefixes ≤ length prefixes.now }
+    ensures longest { IsLongestFront withdrawal (limit_octets limit) prefixes.now result.prefixes }
     ensures octets { take result.octets out.new.items ≡ withdrawal (take result.prefixes prefixes.now) }
     ensures most { result.octets ≤ limit_octets limit }
     ensures room { vec_len out.new ≡ vec_len out.old }
@@ -107,6 +110,7 @@ fn put_announcement(attrs: &Attrs, speech: Speech, prefixes: &[Prefix], out: &mu
     requires fits { length (announcement attrs.now speech.mode (take 1 prefixes.now)) ≤ limit_octets speech.limit }
     ensures some { 0 < result.prefixes }
     ensures within { result.prefixes ≤ length prefixes.now }
+    ensures longest { IsLongestFront (announcement attrs.now speech.mode) (limit_octets speech.limit) prefixes.now result.prefixes }
     ensures octets { take result.octets out.new.items ≡ announcement attrs.now speech.mode (take result.prefixes prefixes.now) }
     ensures most { result.octets ≤ limit_octets speech.limit }
     ensures room { vec_len out.new ≡ vec_len out.old }
@@ -118,27 +122,29 @@ fn put_announcement(attrs: &Attrs, speech: Speech, prefixes: &[Prefix], out: &mu
 fn put_gone(
     waits: &Waits,
     first: usize,
-    limit: Limit,
+    speech: Speech,
     chosen: &mut Vec<usize>,
     front: &mut Vec<Prefix>,
     out: &mut Vec<u8>,
 ) -> Packed
-    requires room { limit_octets limit ≤ vec_len out.old }
+    requires room { limit_octets speech.limit ≤ vec_len out.old }
     requires some { (first < vec_len waits.now.places) × HoldsAt (λ w. is_withdrawn w ≡ true) waits.now.places.items first }
     requires before { AllWithin (λ w. is_withdrawn w ≡ false) waits.now.places.items 0 first }
     requires empty { HaveRoom chosen.old front.old }
+    requires batch { (limit_octets speech.limit ≤ 23 + vec_capacity chosen.old) × (limit_octets speech.limit ≤ 23 + vec_capacity front.old) }
     requires none { (chosen.old.items ≡ []) × (front.old.items ≡ []) }
-    ensures most { result.octets ≤ limit_octets limit }
+    ensures most { result.octets ≤ limit_octets speech.limit }
     ensures room { vec_len out.new ≡ vec_len out.old }
     ensures chosen { vec_capacity chosen.new ≡ vec_capacity chosen.old }
     ensures front { vec_capacity front.new ≡ vec_capacity front.old }
-    ensures update { (rows : List (Option Row)) (speech : Speech) → MayUpdate speech rows waits.now.places.items chosen.new.items front.new.items out.new.items result }
+    ensures update { (rows : List (Option Row)) → MayUpdate speech rows waits.now.places.items chosen.new.items front.new.items out.new.items result }
 {
-    waits.collect_withdrawn(first, front.capacity(), chosen, front);
+    let room = chosen.capacity().min(front.capacity());
+    waits.collect_withdrawn(first, room, chosen, front);
     if front.is_empty() {
         return NOTHING;
     }
-    put_withdrawal(front, limit, out)
+    put_withdrawal(front, speech.limit, out)
 }
 
 /// Writes the announcement of what waits for the attributes of a row from a place on, and lists the
@@ -157,8 +163,10 @@ fn put_news(
     requires in_turn { NoneWithdrawn waits.now.places.items }
     requires some { (first < vec_len waits.now.places) × HoldsAt (WaitsFor rows.now.rows.items attrs.now) waits.now.places.items first }
     requires before { AllWithin (λ w. is_announced w ≡ false) waits.now.places.items 0 first }
+    requires backed { AreBacked rows.now.rows.items waits.now.places.items }
     requires fit { RowsFit speech rows.now.rows.items }
     requires empty { HaveRoom chosen.old front.old }
+    requires batch { (limit_octets speech.limit ≤ 23 + vec_capacity chosen.old) × (limit_octets speech.limit ≤ 23 + vec_capacity front.old) }
     requires none { (chosen.old.items ≡ []) × (front.old.items ≡ []) }
     ensures most { result.octets ≤ limit_octets speech.limit }
     ensures room { vec_len out.new ≡ vec_len out.old }
@@ -166,7 +174,8 @@ fn put_news(
     ensures front { vec_capacity front.new ≡ vec_capacity front.old }
     ensures update { MayUpdate speech rows.now.rows.items waits.now.places.items chosen.new.items front.new.items out.new.items result }
 {
-    waits.collect_announced(rows, first, attrs, front.capacity(), chosen, front);
+    let room = chosen.capacity().min(front.capacity());
+    waits.collect_announced(rows, first, attrs, room, chosen, front);
     attributes_are_legal(attrs);
     put_announcement(attrs, speech, front, out)
 }
@@ -184,6 +193,7 @@ fn put_update(
     requires backed { AreBacked rows.now.rows.items waits.old.places.items }
     requires fit { RowsFit speech rows.now.rows.items }
     requires empty { HaveRoom chosen.old front.old }
+    requires batch { (limit_octets speech.limit ≤ 23 + vec_capacity chosen.old) × (limit_octets speech.limit ≤ 23 + vec_capacity front.old) }
     requires none { (chosen.old.items ≡ []) × (front.old.items ≡ []) }
     ensures most { result.octets ≤ limit_octets speech.limit }
     ensures room { vec_len out.new ≡ vec_len out.old }
@@ -194,7 +204,7 @@ fn put_update(
     ensures update { MayUpdate speech rows.now.rows.items waits.old.places.items chosen.new.items front.new.items out.new.items result }
 {
     if let Some(first) = waits.first_withdrawn() {
-        return put_gone(waits, first, speech.limit, chosen, front, out);
+        return put_gone(waits, first, speech, chosen, front, out);
     }
     let Some(first) = waits.first_announced() else {
         return NOTHING;

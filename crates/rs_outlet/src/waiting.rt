@@ -1,9 +1,9 @@
 //! What waits to be sent to a client: the prefixes at which it was not told what is due, or that it
 //! asked for again, in rising order.
 //!
-//! Each place has a link to the next one that may share a message with it: of a withdrawal to the
-//! next withdrawal, of an announcement to the next place whose attributes have the same hash. A
-//! message is read off along the links, and nothing is looked for in the Loc-RIB.
+//! A place that is to be announced has a link to the next one that may share a message with it: to
+//! the next one whose hash falls into the same bucket. A message is read off along the links, which
+//! leave none out that has the same attributes, and nothing is looked for in the Loc-RIB.
 
 ghost use Rattle.std.specs.Prelude.{◌≡◌, ◌≤◌, ◌<◌, ◌+◌, ℕ, Option, None, Some, [], true, false, length, vec_len, slice_get, slice_set, option_map, if◌then◌else◌, IfSome, OnOk, ◌++◌};
 ghost use Rattle.std.specs.List.{AllWithin, Contains, IsDistinct, list_any};
@@ -14,6 +14,7 @@ ghost use Rattle.std.specs.Vec.{vec_capacity};
 ghost use Rattle.rs_octets.specs.Prefixes.{Prefix, prefix_order};
 ghost use Rattle.rs_outlet.specs.declared.waiting.Wait.{Wait};
 ghost use Rattle.rs_outlet.specs.Hashing.{attributes_hash};
+ghost use Rattle.rs_outlet.specs.Linking.{AreLinked, dues_at};
 ghost use Rattle.rs_outlet.specs.Places.{AreFresh, IsOpenPlace, still_open, prefixes_at, open_count, withdrawn_count, is_withdrawn, is_announced, open_at, told_of, told_by, marked_by};
 
 use rs_attrs::Attrs;
@@ -51,16 +52,14 @@ pub(crate) struct Wait {
     pub(crate) open: bool,
 }
 
-/// No place.
-pub(crate) const END: u32 = 0xffff_ffff;
-
 /// What waits, by rising prefix.
 #[derive(Drop)]
 pub(crate) struct Waits {
     pub(crate) places: Vec<Wait>,
+    /// No place between a place and the one that its link leads to falls into its bucket.
     pub(crate) links: Vec<u32>,
-    /// While links are made: the first place of each hash behind the one at hand.
-    heads: Vec<u32>,
+    /// While links are made: the first place of each bucket behind the one at hand.
+    pub(crate) heads: Vec<u32>,
     /// No place before it is to be withdrawn.
     pub(crate) gone: usize,
     /// No place before it is to be announced.
@@ -70,6 +69,7 @@ pub(crate) struct Waits {
     ghost counted: { open_count places.items ≡ waiting },
     ghost withdrawn: { AllWithin (λ w. is_withdrawn w ≡ false) places.items 0 gone },
     ghost announced: { AllWithin (λ w. is_announced w ≡ false) places.items 0 news },
+    ghost chains: { AreLinked (dues_at places.items) links.items },
     ghost rises: { IsStrictlySortedBy prefix_order (prefixes_at places.items) } by { IsStrictlySortedBy-prop prefix_order (prefixes_at places.items) },
 }
 
@@ -106,6 +106,7 @@ impl Waits {
     }
 
     /// Makes room for so many places.
+    #[tactic(auto, using(crate::proofs::Links::same_linked))]
     pub(crate) fn reserve(&mut self, count: usize) -> Result<(), AllocError>
         ensures items { self.new.places.items ≡ self.old.places.items }
         ensures room { OnOk result (count ≤ vec_capacity self.new.places) }
@@ -190,35 +191,8 @@ impl Waits {
         self.waiting = count_open(&self.places);
         self.gone = 0;
         self.news = 0;
-        self.link();
-    }
-
-    /// Links the places, which are all open.
-    pub(crate) fn link(&mut self)
-        ensures items { self.new.places.items ≡ self.old.places.items }
-        ensures capacity { vec_capacity self.new.places ≡ vec_capacity self.old.places }
-    {
-        let count = self.places.len();
         self.links.clear();
-        self.heads.clear();
-        for _ in 0..count {
-            let _ = self.links.push(END);
-            let _ = self.heads.push(END);
-        }
-        for place in (0..count).rev() {
-            let Some(wait) = self.places.get(place) else {
-                return;
-            };
-            let here = u32::try_from(place).unwrap_or(END);
-            if let Due::Announced { hash, .. } = wait.due
-                && let Some(head) = self.heads.get_mut(hash as usize % count)
-            {
-                let next = std::mem::replace(head, here);
-                if let Some(link) = self.links.get_mut(place) {
-                    *link = next;
-                }
-            }
-        }
+        self.link();
     }
 }
 

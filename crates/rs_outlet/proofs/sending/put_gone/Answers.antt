@@ -1,15 +1,18 @@
-use Rattle.std.proofs.Common.{◌≡◌, ◌∙◌, ◌≤◌, false, rules, sym, List, None, length, take, inr, ap, subst}
+use Rattle.std.proofs.Common.{◌≡◌, ◌∙◌, ◌≤◌, false, rules, sym, List, None, arith, length, take, inr, ap, subst}
 use Rattle.rs_octets.specs.Prefixes.{Prefix}
-use Rattle.rs_packer.specs.Packed.{withdrawal}
+use Rattle.rs_open.specs.Notes.{limit_octets}
+use Rattle.rs_packer.specs.Packed.{IsLongestFront, withdrawal}
 use Rattle.std.specs.List.{AllWithin}
 use Rattle.rs_adjin.proofs.Rows.{some_is}
 use Rattle.rs_outlet.specs.declared.waiting.Wait.{Wait}
 use Rattle.rs_outlet.specs.Places.{is_withdrawn}
+use Rattle.rs_outlet.specs.Choosing.{passing}
 use Rattle.rs_outlet.proofs.Chosen.{none_chosen}
+use Rattle.rs_outlet.proofs.Fullest.{longest_of_all, passing_behind, withdrawals_take}
 use Rattle.rs_outlet.proofs.sending.put_gone.Goals as goal
 
 pub returns-clause-update : goal.returns-clause-update
-returns-clause-update c = λ rows speech. inr (record {
+returns-clause-update c = λ rows. inr (record {
   said = None;
   legal = tt;
   in_turn = tt;
@@ -17,4 +20,8 @@ returns-clause-update c = λ rows speech. inr (record {
   rise = c.collect_withdrawn.ensures.rise c.requires.none.0;
   first = λ n at. subst (AllWithin (λ (w : Wait). is_withdrawn w ≡ false) c.args.waits.now.places.items 0) (some_is c.args.first n (sym (c.collect_withdrawn.ensures.first (search rules) (c.requires.some.1) (search rules) c.requires.empty c.requires.none.0) ∙ at)) c.requires.before;
   written = record { some = c.put_withdrawal.ensures.some; within = subst (λ (xs : List Prefix). c.put_withdrawal.result.prefixes ≤ length xs) c.deref.ensures.value c.put_withdrawal.ensures.within; says = c.put_withdrawal.ensures.octets ∙ ap (λ xs. withdrawal (take c.put_withdrawal.result.prefixes xs)) c.deref.ensures.value };
+  all = longest_of_all withdrawal (limit_octets c.args.speech.limit) _ (passing is_withdrawn c.args.waits.now.places.items) c.collect_withdrawn.new.front.items c.put_withdrawal.result.prefixes withdrawals_take
+      (omega (arith, c.min-room.ensures, c.capacity.ensures, c.requires.batch.0, c.requires.batch.1))
+      (c.collect_withdrawn.ensures.all (search rules) (search rules) c.requires.none.0 c.requires.none.1 ∙ ap (take c.min-room.result) (passing_behind is_withdrawn c.args.waits.now.places.items c.args.first c.requires.before))
+      (subst (λ xs. IsLongestFront withdrawal (limit_octets c.args.speech.limit) xs c.put_withdrawal.result.prefixes) c.deref.ensures.value c.put_withdrawal.ensures.longest);
 })

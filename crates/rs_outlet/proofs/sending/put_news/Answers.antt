@@ -1,11 +1,14 @@
-use Rattle.std.proofs.Common.{◌≡◌, ◌∙◌, false, ◌<◌, ◌≤◌, List, Some, length, take, inr, ap, arith, rules, subst, sym}
+use Rattle.std.proofs.Common.{◌≡◌, ◌∙◌, false, ◌<◌, ◌≤◌, List, Some, get_or, length, take, inr, ap, arith, rules, subst, sym}
 use Rattle.rs_octets.specs.Prefixes.{Prefix}
-use Rattle.rs_packer.specs.Packed.{announcement}
+use Rattle.rs_packer.specs.Packed.{IsLongestFront, announcement}
 use Rattle.std.specs.List.{AllWithin}
 use Rattle.rs_adjin.proofs.Rows.{some_is}
 use Rattle.rs_outlet.specs.declared.waiting.Wait.{Wait}
 use Rattle.rs_outlet.specs.Places.{is_announced}
+use Rattle.rs_outlet.specs.Choosing.{passing, shares}
+use Rattle.rs_outlet.proofs.AllWaiting.{not_shared}
 use Rattle.rs_outlet.proofs.Chosen.{first_fits, none_chosen}
+use Rattle.rs_outlet.proofs.Fullest.{announcements_take, longest_of_all, passing_behind}
 use Rattle.rs_open.specs.Notes.{limit_octets}
 use Rattle.rs_outlet.proofs.sending.put_news.Goals as goal
 
@@ -18,6 +21,15 @@ returns-clause-update c = inr (record {
   rise = c.collect_announced.ensures.rise c.requires.none.0;
   first = λ n at. subst (AllWithin (λ (w : Wait). is_announced w ≡ false) c.args.waits.now.places.items 0) (some_is c.args.first n (sym (c.collect_announced.ensures.first c.requires.some.0 c.requires.some.1 (search rules) c.requires.empty c.requires.none.0) ∙ at)) c.requires.before;
   written = record { some = c.put_announcement.ensures.some; within = subst (λ (xs : List Prefix). c.put_announcement.result.prefixes ≤ length xs) c.deref.ensures.value c.put_announcement.ensures.within; says = c.put_announcement.ensures.octets ∙ ap (λ xs. announcement c.args.attrs.now c.args.speech.mode (take c.put_announcement.result.prefixes xs)) c.deref.ensures.value };
+  all =
+      let rows = c.args.rows.now.rows.items in
+      let ws = c.args.waits.now.places.items in
+      let m = c.args.attrs.now in
+      longest_of_all (announcement m c.args.speech.mode) (limit_octets c.args.speech.limit) _ (passing (shares rows m) ws) c.collect_announced.new.front.items c.put_announcement.result.prefixes (announcements_take m c.args.speech.mode)
+      (omega (arith, c.min-room.ensures, c.capacity.ensures, c.requires.batch.0, c.requires.batch.1))
+      (c.collect_announced.ensures.all c.requires.backed (search rules) (search rules) c.requires.none.0 c.requires.none.1
+      ∙ ap (take c.min-room.result) (passing_behind (shares rows m) ws c.args.first (λ k d low high. not_shared rows m (get_or ws k d) (c.requires.before k d low high))))
+      (subst (λ xs. IsLongestFront (announcement m c.args.speech.mode) (limit_octets c.args.speech.limit) xs c.put_announcement.result.prefixes) c.deref.ensures.value c.put_announcement.ensures.longest);
 })
 
 pub put_announcement-requires-clause-fits : goal.put_announcement-requires-clause-fits

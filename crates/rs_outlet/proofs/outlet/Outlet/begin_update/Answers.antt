@@ -26,6 +26,7 @@ returns-clause-begins c = λ spoken e.
     (subst (λ ws. AreChosen rows ws said c.deref.result.now qs) (sym c.put_update-packed.ensures.places)
     (subst (λ ns. AreChosen rows a.waits.places.items said ns qs) (sym (c.deref.ensures.value ∙ c.truncate.ensures.items)) are)) q
     ∙ ap (λ ws. cond (list_any (same q) qs) None (open_at q ws)) c.put_update-packed.ensures.places)
+    c.self.invariant.backed
 
 pub invariant_of-self : goal.invariant_of-self
 invariant_of-self c =

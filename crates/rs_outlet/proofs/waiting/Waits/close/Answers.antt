@@ -6,6 +6,8 @@ use Rattle.std.specs.List.Sorted.{IsStrictlySortedBy}
 use Rattle.rs_octets.specs.Prefixes.{prefix_order}
 use Rattle.rs_outlet.specs.declared.waiting.Wait.{Wait}
 use Rattle.rs_outlet.specs.Places.{is_withdrawn, is_announced}
+use Rattle.rs_outlet.specs.Linking.{AreLinked}
+use Rattle.rs_outlet.proofs.Links.{same_dues}
 use Rattle.rs_outlet.proofs.Places.{count_shut, count_one, count_less, same_prefixes, closed_at}
 use Rattle.rs_outlet.proofs.Withdrawals.{withdrawn_less}
 use Rattle.rs_outlet.proofs.waiting.Waits.close.Goals as goal
@@ -27,6 +29,12 @@ invariant_of-self-clause-withdrawn c = AllWithin-set (λ w. is_withdrawn w ≡ f
 
 pub invariant_of-self-clause-announced : goal.invariant_of-self-clause-announced
 invariant_of-self-clause-announced c = AllWithin-set (λ w. is_announced w ≡ false) c.args.self.now.places.items 0 c.args.self.now.news c.args.place _ (search rules) refl c.args.self.now.announced
+
+pub invariant_of-self-clause-chains : goal.invariant_of-self-clause-chains
+invariant_of-self-clause-chains c =
+    subst (λ ds. AreLinked ds c.args.self.now.links.items)
+    (sym (same_dues c.args.self.now.places.items c.args.place _ c.index_mut-wait.result.now (ap (λ (w : Wait). w.due) c.index_mut-wait.ensures.value)))
+    c.args.self.now.chains
 
 pub returns : goal.returns
 returns c =

@@ -1,7 +1,10 @@
-use Rattle.std.proofs.Common.{◌≡◌, ◌<◌, ◌∙◌, ℕ, zero, suc, Some, ap, arith, inl, inr, refl, rules, sym, subst, vec_len}
+use Rattle.std.proofs.Common.{◌≡◌, ◌+◌, ◌<◌, ◌∙◌, ℕ, zero, suc, Some, length, ap, arith, inl, inr, refl, rules, sym, subst, vec_len}
 use Rattle.std.specs.Prelude.{◌⊎◌}
 use Rattle.std.specs.List.{HoldsAt}
-use Rattle.rs_outlet.specs.Choosing.{WaitsFor}
+use Rattle.rs_outlet.specs.Choosing.{WaitsFor, shares}
+use Rattle.rs_outlet.proofs.AllWaiting.{none_share}
+use Rattle.rs_outlet.proofs.Chosen.{as_many, none_chosen, there_backed}
+use Rattle.rs_outlet.proofs.Fullest.{listed_all, listed_later, listed_none, listed_one}
 use Rattle.rs_outlet.proofs.Rising.{head_first, head_more, none_listed, rise_more}
 use Rattle.rs_outlet.proofs.waiting.Waits.collect_announced.Goals as goal
 
@@ -36,6 +39,23 @@ loop-preserved c =
         | inr more ↦ head_more c.args.first c.loop.place c.loop.chosen.items c.list_announced.new.chosen.items c.list_announced.ensures.places (inv.head more at below room none)
       ];
       rise = λ none. rise_more c.loop.place _ c.loop.chosen.items c.list_announced.new.chosen.items c.list_announced.ensures.places (search rules) (inv.rise none).0 (inv.rise none).1;
+      far = omega (arith, inv.far, c.next_place-place.ensures.later);
+      all = λ backed wide long none none_front.
+          let rows = c.args.rows.now.rows.items in
+          let ws = c.args.self.now.places.items in
+          let m = c.args.attrs.now in
+          let even = as_many rows ws (Some m) c.loop.chosen.items c.loop.front.items (inv.are (none_chosen rows ws (Some m) _ _ none none_front)) in
+          let more : vec_len c.loop.front < c.args.room = search rules in
+          let below : c.loop.place < length ws = search rules in
+          listed_later (shares rows m) ws c.args.room c.args.first (c.loop.place + 1) c.next_place-place.result c.list_announced.new.front.items (omega (arith, c.next_place-place.ensures.later))
+          (none_share rows ws m c.hash_of-hash.result c.loop.place c.next_place-place.result inv.hash c.args.self.now.rises backed c.next_place-place.ensures.between)
+          (listed_one (shares rows m) ws c.args.room c.args.first c.loop.place c.loop.front.items c.list_announced.new.front.items below
+          (omega (arith, more, c.loop.front.ok))
+          (λ d.
+          c.list_announced.ensures.all
+          (omega (arith, more, even, wide, inv.chosen, c.loop.front.ok, c.loop.chosen.ok), omega (arith, more, long, inv.front)) inv.hash d
+          (there_backed rows ws c.loop.place d c.args.self.now.rises backed below))
+          (inv.all backed wide long none none_front));
       are = λ are. c.list_announced.ensures.are (inv.are are);
     }
 
@@ -49,5 +69,12 @@ loop-init c = record {
   same = λ _. refl;
   head = λ never. absurd (omega (arith, never));
   rise = none_listed c.args.first c.args.chosen.now.items;
+  far = omega arith;
+  all = λ _ _ _ _ none. listed_none (shares c.args.rows.now.rows.items c.args.attrs.now) c.args.self.now.places.items c.args.room c.args.first c.args.front.now.items none;
   are = λ are. are;
 }
+
+pub returns-clause-all : goal.returns-clause-all
+returns-clause-all c = λ backed wide long none none_front.
+    listed_all (shares c.args.rows.now.rows.items c.args.attrs.now) c.args.self.now.places.items c.args.room c.args.first c.loop.place c.loop.front.items
+    (search rules) (c.loop.invariant.all backed wide long none none_front)

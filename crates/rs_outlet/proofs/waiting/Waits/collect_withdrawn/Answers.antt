@@ -1,7 +1,9 @@
-use Rattle.std.proofs.Common.{◌≡◌, ◌<◌, ◌∙◌, Some, ap, arith, inl, inr, refl, rules, sym, subst, vec_len}
+use Rattle.std.proofs.Common.{◌≡◌, ◌<◌, ◌∙◌, [], None, Some, ap, arith, inl, inr, refl, rules, sym, subst, vec_len}
 use Rattle.std.specs.Prelude.{true}
 use Rattle.std.specs.List.{HoldsAt}
 use Rattle.rs_outlet.specs.Places.{is_withdrawn}
+use Rattle.rs_outlet.proofs.Chosen.{as_many, none_chosen}
+use Rattle.rs_outlet.proofs.Fullest.{listed_all, listed_none, listed_one}
 use Rattle.rs_outlet.proofs.Rising.{head_first, head_more, none_listed, rise_more}
 use Rattle.rs_adjin.proofs.Rows.{number_is}
 use Rattle.rs_outlet.proofs.waiting.Waits.collect_withdrawn.Goals as goal
@@ -15,6 +17,7 @@ loop-place-init c = record {
   same = λ _. refl;
   head = λ never. absurd (omega (arith, never));
   rise = none_listed c.args.first c.args.chosen.now.items;
+  all = λ _ _ _ none. listed_none is_withdrawn c.args.self.now.places.items c.args.room c.args.first c.args.front.now.items none;
   are = λ rows are. are;
 }
 
@@ -44,5 +47,18 @@ loop-place-preserved c =
         | inr ne ↦ head_more c.args.first c.loop-place.place c.loop-place.chosen.items c.list_withdrawn.new.chosen.items c.list_withdrawn.ensures.places (inv.head (search rules) at below room none)
       ];
       rise = λ none. rise_more c.loop-place.place _ c.loop-place.chosen.items c.list_withdrawn.new.chosen.items c.list_withdrawn.ensures.places (search rules) (inv.rise none).0 (inv.rise none).1;
+      all = λ wide long none none_front.
+          let even = as_many [] c.args.self.now.places.items None c.loop-place.chosen.items c.loop-place.front.items (inv.are [] (none_chosen [] c.args.self.now.places.items None _ _ none none_front)) in
+          let more : vec_len c.loop-place.front < c.args.room = search rules in
+          listed_one is_withdrawn c.args.self.now.places.items c.args.room c.args.first c.loop-place.place c.loop-place.front.items c.list_withdrawn.new.front.items (search rules)
+          (omega (arith, more, c.loop-place.front.ok))
+          (c.list_withdrawn.ensures.all
+          (omega (arith, more, even, wide, inv.chosen, c.loop-place.front.ok, c.loop-place.chosen.ok), omega (arith, more, long, inv.front)))
+          (inv.all wide long none none_front);
       are = λ rows are. c.list_withdrawn.ensures.are rows (inv.are rows are);
     }
+
+pub returns-clause-all : goal.returns-clause-all
+returns-clause-all c = λ wide long none none_front.
+    listed_all is_withdrawn c.args.self.now.places.items c.args.room c.args.first c.loop-place.place c.loop-place.front.items (search rules)
+    (c.loop-place.invariant.all wide long none none_front)

@@ -1,10 +1,11 @@
-use Rattle.std.proofs.Common.{◌≡◌, ◌<◌, [], true, List, Option, None, Some, vec_len}
+use Rattle.std.proofs.Common.{◌≡◌, ◌<◌, ◌≤◌, [], true, List, Option, None, Some, vec_len}
 use Rattle.std.specs.List.{HoldsAt}
 use Rattle.rs_outlet.specs.Places.{is_withdrawn}
 use Rattle.std.specs.Vec.{vec_capacity}
 use Rattle.rs_outlet.specs.declared.rows.Row.{Row}
 use Rattle.rs_outlet.specs.Choosing.{AreChosen, HaveRoom, Rise}
 use Rattle.std.specs.Prelude.{slice_get}
+use Rattle.rs_outlet.proofs.Fullest.{AreListedTo}
 use Rattle.rs_outlet.proofs.Rising.{AreBelow}
 use Rattle.rs_outlet.proofs.waiting.Waits.collect_withdrawn.Given as goal
 
@@ -17,5 +18,6 @@ invariant-loop-place l = record {
   same : l.place ≡ l.first → l.chosen.items ≡ l.fn.chosen.items;
   head : l.first < l.place → HoldsAt (λ w. is_withdrawn w ≡ true) l.self.places.items l.first → vec_len l.fn.front < l.room → HaveRoom l.fn.chosen l.fn.front → l.fn.chosen.items ≡ [] → slice_get l.chosen.items 0 ≡ Some l.first;
   rise : l.fn.chosen.items ≡ [] → Rise l.chosen.items × AreBelow l.place l.chosen.items;
+  all : l.room ≤ vec_capacity l.fn.chosen → l.room ≤ vec_capacity l.fn.front → l.fn.chosen.items ≡ [] → l.fn.front.items ≡ [] → AreListedTo is_withdrawn l.self.places.items l.room l.first l.place l.front.items;
   are : (rows : List (Option Row)) → AreChosen rows l.self.places.items None l.fn.chosen.items l.fn.front.items → AreChosen rows l.self.places.items None l.chosen.items l.front.items;
 }
