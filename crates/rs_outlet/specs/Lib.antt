@@ -10,6 +10,7 @@ pub mod Marking
 pub mod Owed
 pub mod Counted
 pub mod Hashing
+pub mod Touching
 pub mod Inside
 pub mod Listing
 pub mod Choosing
