@@ -10,8 +10,8 @@ use Rattle.rs_adjin.specs.declared.adj_ins.AdjIns.{AdjIns}
 use Rattle.rs_adjin.specs.AdjIns.{number_of, prefix_of}
 use Rattle.rs_adjin.proofs.Rows.{number_is}
 use Rattle.rs_outlet.specs.declared.rows.Row.{Row}
-use Rattle.rs_outlet.specs.Views.{IsCount, IsNumberOf, Prefixes, Table}
-use Rattle.rs_outlet.specs.Inside.{row_at, shown, loc_of, touched_of}
+use Rattle.rs_outlet.specs.Views.{IsCount, IsNumberOf, Prefixes, Table, is_whole}
+use Rattle.rs_outlet.specs.Inside.{row_at, shown, loc_of}
 use Rattle.rs_outlet.specs.Counted.{if_numbered, is_standing, is_counted, is_counted_below}
 use Rattle.rs_outlet.proofs.LocByNumber.{Numbered, same, same_is, same_itself, by_number}
 use Rattle.rs_outlet.proofs.Numbering.{number_back, number_once, number_there}
@@ -108,7 +108,6 @@ module _ (ins : AdjIns) (rows : List (Option Row)) (held : Prefix → Bool) wher
   counted_by_prefix count are none h = counted_as _ _ count (λ p. standing_at are p (number_of ins p) refl (none p)) h
 
 -- of what is touched by itself, or of all
-pub count_touched : (held : Prefix → Bool) (loc : Table) (all : Bool) (es : List (ℕ × Prefix)) (n : ℕ) → (all ≡ true → IsNumberOf (λ p. fin.contains_key loc p || held p) n) → ((prefixes : Prefixes) → touched_of all es ≡ Some prefixes → n ≡ set.len prefixes)
-    → IsCount held loc (touched_of all es) n
-count_touched held loc true es n whole each = whole refl
-count_touched held loc false es n whole each = each _ refl
+pub count_touched : (held : Prefix → Bool) (loc : Table) (touched : Option Prefixes) (n : ℕ) → (is_whole touched ≡ true → IsNumberOf (λ p. fin.contains_key loc p || held p) n) → ((prefixes : Prefixes) → touched ≡ Some prefixes → n ≡ set.len prefixes) → IsCount held loc touched n
+count_touched held loc None n whole each = whole refl
+count_touched held loc (Some s) n whole each = each s refl

@@ -12,7 +12,8 @@ use Rattle.rs_adjin.specs.declared.adj_ins.AdjIns.{AdjIns}
 use Rattle.rs_adjin.specs.AdjIns.{number_of}
 use Rattle.rs_outlet.specs.declared.rows.Row.{Row}
 use Rattle.rs_outlet.specs.declared.changes.Change.{Change}
-use Rattle.rs_outlet.specs.Inside.{AreDecided, IsChangeAt, IsDecidedAt, attributes_at, is_numbered_in, numbers_of}
+use Rattle.rs_outlet.specs.Inside.{AreDecided, IsChangeAt, IsDecidedAt, attributes_at, numbers_of}
+use Rattle.rs_outlet.specs.Touching.{is_numbered_in}
 use Rattle.rs_outlet.proofs.Numbering.{all_both}
 
 or_swap : (a b c : Bool) → (a || (b || c)) ≡ (b || (a || c))

@@ -8,6 +8,7 @@ mod Numbering
 mod Orders
 mod Touches
 mod TouchedNumbers
+mod TouchedList
 mod Ranges
 mod Ranks
 mod Links

@@ -1,23 +1,22 @@
 -- The touched prefixes, found by their numbers.
-use Rattle.std.proofs.Common.{◌≡◌, ℕ, Bool, true, false, cond, ◌||◌, is_some, Option, None, Some, Result, Ok, Err, IfOk, is_ok, IsSome, List, [], ◌∷◌, length, suc, refl, sym, ap, ◌∙◌, arith, nat_eq}
+use Rattle.std.proofs.Common.{◌≡◌, ℕ, Bool, true, false, ◌||◌, Option, None, Some, IsSome, List, [], ◌∷◌, length, suc, refl, sym, ap, ◌∙◌, arith, nat_eq}
 use mathlib.Core.Bool.{true≢false}
 use Rattle.std.specs.List.{list_any, IsDistinct, AllByRecursion}
 use Rattle.std.specs.List.Sorted.{IsPermutation}
-use Rattle.std.specs.Map.{lookup, keys_of}
+use Rattle.std.specs.Map.{keys_of}
 use Rattle.std.specs.FinSet as set
 use Rattle.std.specs.Ordering.{is_eq}
 use Rattle.std.proofs.lemmas.Cmp.{tied_itself}
 use Rattle.std.proofs.lemmas.Bool.Decides.{nat_tests}
 use Rattle.std.proofs.lemmas.List.Elements.{All-from_recursion, recursion_from_All}
 use Rattle.std.proofs.lemmas.List.Sorted.{All-permutation}
-use Rattle.rs_octets.specs.Prefixes.{Prefix}
+use Rattle.rs_octets.specs.Prefixes.{Prefix, prefix_order}
 use Rattle.rs_adjin.specs.declared.adj_ins.AdjIns.{AdjIns}
 use Rattle.rs_adjin.specs.AdjIns.{number_of}
 use Rattle.rs_adjin.proofs.Rows.{some_is}
-use Rattle.std.specs.Option.{MatchOption}
 use Rattle.rs_outlet.specs.declared.answers.Speech.{Speech}
 use Rattle.rs_outlet.specs.Views.{View, Prefixes, HaveNumbers, if_up, with_touch, touched_at}
-use Rattle.rs_outlet.specs.Inside.{prefixes_in, IsNoNumberOf}
+use Rattle.rs_outlet.specs.Touching.{is_numbered_in, prefixes_in}
 use Rattle.rs_outlet.proofs.Orders.{prefixes_total}
 use Rattle.rs_outlet.proofs.Numbering.{number_once}
 use Rattle.rs_outlet.proofs.Touches.{len-from_list, prefix_eq, prefix_eq-cmp, prefix_eq-is}
@@ -39,10 +38,6 @@ number_itself n m h = grind (arith, nat_tests, h)
 prefix_itself : (p q : Prefix) → p ≡ q → prefix_eq p q ≡ true
 prefix_itself p q h = ap (prefix_eq p) (sym h) ∙ sym (prefix_eq-cmp p p) ∙ ap is_eq (tied_itself prefixes_total p)
 
-some_or : {A : Type 0} (b : Bool) (v : A) (o : Option A) → is_some (cond b (Some v) o) ≡ (b || is_some o)
-some_or true v o = refl
-some_or false v o = refl
-
 pub length-prefixes_in : (es : List Entry) → length (prefixes_in es) ≡ length es
 length-prefixes_in [] = refl
 length-prefixes_in (e ∷ es) = ap suc (length-prefixes_in es)
@@ -56,11 +51,9 @@ module _ (ins : AdjIns) where
       (λ h. prefix_itself p q (number_once ins p q m (a ∙ ap (λ k. Some k) (same_number n m h)) b))
 
   -- a prefix is among the entries just where its number is
-  pub any_number : (es : List Entry) (p : Prefix) (n : ℕ) → HaveNumbers es ins → number_of ins p ≡ Some n → list_any (prefix_eq p) (prefixes_in es) ≡ is_some (lookup (nat_eq n) es)
+  pub any_number : (es : List Entry) (p : Prefix) (n : ℕ) → HaveNumbers es ins → number_of ins p ≡ Some n → list_any (prefix_eq p) (prefixes_in es) ≡ is_numbered_in es n
   any_number [] p n h is = refl
-  any_number (e ∷ es) p n h is =
-      (λ i. eq_numbers p e.1 n e.0 is h.0 i || any_number es p n h.1 is i)
-      ∙ sym (some_or (nat_eq n e.0) e.1 (lookup (nat_eq n) es))
+  any_number (e ∷ es) p n h is = λ i. eq_numbers p e.1 n e.0 is h.0 i || any_number es p n h.1 is i
 
   pub any_none : (es : List Entry) (p : Prefix) → HaveNumbers es ins → number_of ins p ≡ None → list_any (prefix_eq p) (prefixes_in es) ≡ false
   any_none [] p h is = refl
@@ -81,47 +74,13 @@ module _ (ins : AdjIns) where
   distinct_prefixes (e ∷ es) h d = (apart e es h.0 h.1 d.0, distinct_prefixes es h.1 d.1)
 
   -- as many prefixes as entries
-  pub touched_count : (es : List Entry) (prefixes : Prefixes) → HaveNumbers es ins → IsDistinct nat_eq (keys_of es) → Some (set.from_list (prefixes_in es)) ≡ Some prefixes → length es ≡ set.len prefixes
-  touched_count es prefixes h d is =
-      sym (length-prefixes_in es) ∙ sym (len-from_list (prefixes_in es) (distinct_prefixes es h d)) ∙ ap set.len (some_is (set.from_list (prefixes_in es)) prefixes is)
-
-  -- an entry more, at its number
-  module _ (es fs : List Entry) (n : ℕ) (p : Prefix) (h : HaveNumbers es ins) (k : HaveNumbers fs ins) (is : number_of ins p ≡ Some n)
-      (more : (m : ℕ) → lookup (nat_eq m) fs ≡ cond (nat_eq n m) (Some p) (lookup (nat_eq m) es)) where
-    cond_or : (b : Bool) (o : Option Prefix) → is_some (cond b (Some p) o) ≡ cond b true (is_some o)
-    cond_or true o = refl
-    cond_or false o = refl
-
-    more_by : (q : Prefix) (o : Option ℕ) → number_of ins q ≡ o → list_any (prefix_eq q) (prefixes_in fs) ≡ cond (prefix_eq p q) true (list_any (prefix_eq q) (prefixes_in es))
-    more_by q None at =
-        let not : prefix_eq p q ≡ false = bool_same (prefix_eq p q) false (λ t. absurd (let e : p ≡ q = prefix_eq-is p q t in let f : Some n ≡ None = sym is ∙ ap (number_of ins) e ∙ at in (cc))) (λ f. absurd (true≢false (sym f))) in
-        any_none fs q k at ∙ sym (any_none es q h at) ∙ ap (λ b. cond b true (list_any (prefix_eq q) (prefixes_in es))) (sym not)
-    more_by q (Some m) at =
-        any_number fs q m k at ∙ ap is_some (more m) ∙ cond_or (nat_eq n m) (lookup (nat_eq m) es)
-        ∙ sym (λ i. cond (eq_numbers p q n m is at i) true (any_number es q m h at i))
-
-    pub any_more : (q : Prefix) → list_any (prefix_eq q) (prefixes_in fs) ≡ cond (prefix_eq p q) true (list_any (prefix_eq q) (prefixes_in es))
-    any_more q = more_by q (number_of ins q) refl
+  pub touched_count : (es : List Entry) → HaveNumbers es ins → IsDistinct nat_eq (keys_of es) → length es ≡ set.len (set.from_list {R = prefix_order} (prefixes_in es))
+  touched_count es h d = sym (length-prefixes_in es) ∙ sym (len-from_list (prefixes_in es) (distinct_prefixes es h d))
 
 -- the same entries in another order
 pub moved_numbers : (ins : AdjIns) (es fs : List Entry) → IsPermutation es fs → HaveNumbers es ins → HaveNumbers fs ins
 moved_numbers ins es fs m h =
     recursion_from_All (λ e. number_of ins e.1 ≡ Some e.0) fs (All-permutation (λ e. number_of ins e.1 ≡ Some e.0) es fs m (All-from_recursion (λ e. number_of ins e.1 ≡ Some e.0) es h))
-
-none_cons : (n : ℕ) (e : Entry) (es : List Entry) (b : Bool) → nat_eq n e.0 ≡ b → is_some (cond b (Some e.1) (lookup (nat_eq n) es)) ≡ false → (is_some (lookup (nat_eq n) es) ≡ false → IsNoNumberOf n es) → IsNoNumberOf n (e ∷ es)
-none_cons n e es true is h rest = absurd (true≢false h)
-none_cons n e es false is h rest = (λ q. absurd (true≢false (sym (number_itself n e.0 (sym q)) ∙ is)), rest h)
-
--- a number that is found nowhere
-pub none_found : (n : ℕ) (es : List Entry) → is_some (lookup (nat_eq n) es) ≡ false → IsNoNumberOf n es
-none_found n [] h = tt
-none_found n (e ∷ es) h = none_cons n e es (nat_eq n e.0) refl h (none_found n es)
-
--- what an insert of a new key answers
-pub inserted : {V E : Type 0} {A : Type 0} (B : V → Type 0) (r : Result (Option V) E) (g : Option V) → IfOk r (λ old. old ≡ g) → IfOk r (λ old. MatchOption old A B) → is_ok r ≡ true → is_some g ≡ false → A
-inserted B (Ok None) g is m ok none = m
-inserted B (Ok (Some v)) g is m ok none = absurd (true≢false (ap is_some is ∙ none))
-inserted B (Err e) g is m ok none = absurd (true≢false (sym ok))
 
 -- whether a call of an outlet that is up touches
 is_up : {A : Type 0} (o : Option Speech) (x y : A) → IsSome o → if_up o x y ≡ x

@@ -1,13 +1,10 @@
--- The touched prefixes as a hash set and as a finite set.
-use Rattle.std.proofs.Common.{◌<◌, ◌≤◌, None, Some, Result, Ok, Err, OnOk, is_ok, nat_lt, ◌≡◌, ℕ, Bool, true, false, cond, ◌&&◌, ◌||◌, List, [], ◌∷◌, length, ◌+◌, refl, sym, ap, ◌∙◌, arith, nat_eq}
+-- Lists of prefixes as finite sets.
+use Rattle.std.proofs.Common.{Result, Ok, Err, OnOk, is_ok, ◌≡◌, ℕ, Bool, true, false, cond, ◌&&◌, ◌||◌, List, [], ◌∷◌, length, ◌+◌, refl, sym, ap, ◌∙◌, arith, nat_eq}
 use mathlib.Core.Bool.{true≢false}
-use Rattle.rs_outlet.specs.Views.{with_touch, Prefixes}
+use Rattle.rs_outlet.specs.Views.{Prefixes}
 use Rattle.std.specs.List.{list_any, IsDistinct, AllByRecursion}
 use Rattle.std.specs.FinSet as set
-use Rattle.std.specs.Option.{unwrap_or}
-use Rattle.std.proofs.lemmas.Cmp.{tied_itself}
 use Rattle.std.specs.Ordering.{eq_by_cmp, is_eq, nat_cmp, ordering_then}
-use Rattle.std.specs.Cmp.{eq_by_cmp_equiv}
 use Rattle.std.specs.declared.cmp.Ordering.{Ordering}
 use Rattle.std.specs.declared.cmp.Ordering.TheVariants.{Less, Equal, Greater}
 use Rattle.std.proofs.lemmas.Bool.Decides.{nat_tests}
@@ -24,7 +21,7 @@ is_eq-then Less s = refl
 is_eq-then Equal s = refl
 is_eq-then Greater s = refl
 
-unsigned : (x y : ℕ) → is_eq (nat_cmp x y) ≡ nat_eq x y
+pub unsigned : (x y : ℕ) → is_eq (nat_cmp x y) ≡ nat_eq x y
 unsigned x y = grind (arith, nat_tests)
 
 pub prefix_eq-cmp : (a b : Prefix) → eq_by_cmp prefix_order a b ≡ prefix_eq a b
@@ -58,58 +55,6 @@ len-from_list (p ∷ ps) h =
     let rest : set.len s ≡ length ps = len-from_list ps (IsDistinct-tail prefix_eq p ps h) in
     set.len-insert prefixes_total s p ∙ ap (λ b. cond b (set.len s) (set.len s + 1)) out ∙ omega (arith, rest)
 
-or_of_cond : (b c : Bool) → cond b true c ≡ (b || c)
-or_of_cond true c = refl
-or_of_cond false c = refl
-
-swapped : (p q : Prefix) → prefix_eq p q ≡ eq_by_cmp prefix_order q p
-swapped p q = sym (prefix_eq-cmp p q) ∙ (eq_by_cmp_equiv prefixes_total).symm p q
-
--- the list with one more
-pub from_list_more : (ps qs : List Prefix) (p : Prefix) → ((q : Prefix) → list_any (prefix_eq q) qs ≡ cond (prefix_eq p q) true (list_any (prefix_eq q) ps)) → set.from_list {R = prefix_order} qs ≡ set.insert (set.from_list ps) p
-from_list_more ps qs p h = set.same_set prefixes_total exact_prefixes _ _ (λ q.
-    contains-from_list q qs ∙ h q
-    ∙ or_of_cond (prefix_eq p q) _
-    ∙ (ap (λ b. b || list_any (prefix_eq q) ps) (swapped p q))
-    ∙ (ap (λ b. eq_by_cmp prefix_order q p || b) (sym (contains-from_list q ps)))
-    ∙ sym (set.contains-insert prefixes_total (set.from_list ps) p q))
-
 pub from_on_ok : {A E : Type 0} (r : Result A E) (P : Type 0) → OnOk r P → is_ok r ≡ true → P
 from_on_ok (Ok x) P h ok = h
 from_on_ok (Err e) P h ok = absurd (true≢false (sym ok))
-
-pub touch_here : (ps : List Prefix) (p : Prefix) → list_any (prefix_eq p) ps ≡ true → with_touch (Some (set.from_list ps)) p ≡ Some (set.from_list ps)
-touch_here ps p h =
-    ap (λ b. cond b (Some (set.from_list ps)) (cond (nat_lt (set.len (set.from_list {R = prefix_order} ps)) 4096) (Some (set.insert (set.from_list ps) p)) None)) (contains-from_list p ps ∙ h)
-
-touch_absent : (ps : List Prefix) (p : Prefix) (b : Bool) → list_any (prefix_eq p) ps ≡ false → nat_lt (length ps) 4096 ≡ b → IsDistinct prefix_eq ps → with_touch (Some (set.from_list ps)) p ≡ cond b (Some (set.insert (set.from_list ps) p)) None
-touch_absent ps p b h l d =
-    let s : Prefixes = set.from_list ps in
-    ap (λ b. cond b (Some s) (cond (nat_lt (set.len s) 4096) (Some (set.insert s p)) None)) (contains-from_list p ps ∙ h)
-    ∙ ap (λ n. cond (nat_lt n 4096) (Some (set.insert s p)) None) (len-from_list ps d)
-    ∙ ap (λ b. cond b (Some (set.insert s p)) None) l
-
-below : (n : ℕ) → n < 4096 → nat_lt n 4096 ≡ true
-below n h = grind (arith, nat_tests)
-
-not_below : (n : ℕ) → 4096 ≤ n → nat_lt n 4096 ≡ false
-not_below n h = grind (arith, nat_tests)
-
-pub touch_new : (ps qs : List Prefix) (p : Prefix) → list_any (prefix_eq p) ps ≡ false → length ps < 4096 → IsDistinct prefix_eq ps
-    → ((q : Prefix) → list_any (prefix_eq q) qs ≡ cond (prefix_eq p q) true (list_any (prefix_eq q) ps)) → Some (set.from_list {R = prefix_order} qs) ≡ with_touch (Some (set.from_list ps)) p
-touch_new ps qs p h l d more = ap Some (from_list_more ps qs p more) ∙ sym (touch_absent ps p true h (below (length ps) l) d)
-
-pub touch_full : (ps : List Prefix) (p : Prefix) → list_any (prefix_eq p) ps ≡ false → 4096 ≤ length ps → IsDistinct prefix_eq ps → None ≡ with_touch (Some (set.from_list ps)) p
-touch_full ps p h l d = sym (touch_absent ps p false h (not_below (length ps) l) d)
-
-pub none_touched : (ps : List Prefix) → Some (set.from_list {R = prefix_order} ps) ≡ Some set.empty → length ps ≡ 0
-none_touched [] h = refl
-none_touched (p ∷ ps) h =
-    let s : Prefixes = set.from_list (p ∷ ps) in
-    let e : s ≡ set.empty = ap (λ o. unwrap_or o s) h in
-    let here : set.contains s p ≡ true = contains-from_list p (p ∷ ps) ∙ ap (λ b. b || list_any (prefix_eq p) ps) (sym (prefix_eq-cmp p p) ∙ ap is_eq (tied_itself prefixes_total p)) in
-    absurd (true≢false (sym here ∙ ap (λ t. set.contains t p) e ∙ set.contains-empty prefix_order p))
-
-pub empty_touched : (ps : List Prefix) → length ps ≡ 0 → Some (set.from_list {R = prefix_order} ps) ≡ Some set.empty
-empty_touched [] h = refl
-empty_touched (p ∷ ps) h = absurd (omega arith)

@@ -1,21 +1,24 @@
 -- The Loc-RIB behind a turn: at each touched prefix what is due, at each other what it had.
-use Rattle.std.proofs.Common.{◌≡◌, ◌∙◌, ℕ, Bool, true, false, cond, ◌||◌, nat_eq, List, [], ◌∷◌, Option, None, Some, inl, inr, refl, sym, ap}
+use Rattle.std.proofs.Common.{◌≡◌, ◌∙◌, ℕ, Bool, true, false, cond, ◌||◌, nat_eq, nat_lt, List, [], ◌∷◌, Option, None, Some, inl, inr, refl, sym, ap}
 use Rattle.std.specs.Prelude.{option_map}
 use mathlib.Core.Bool.{true≢false}
 use Rattle.std.specs.List.{list_any}
 use Rattle.std.specs.FinMap as fin
+use Rattle.std.specs.FinSet as set
 use Rattle.std.specs.Arc.{arc_value}
-use Rattle.rs_octets.specs.Prefixes.{Prefix}
+use Rattle.rs_octets.specs.Prefixes.{Prefix, prefix_order}
 use Rattle.rs_attrs.specs.Meaning.{Attribute}
 use Rattle.rs_adjin.specs.declared.adj_ins.AdjIns.{AdjIns}
 use Rattle.rs_adjin.specs.AdjIns.{number_of}
 use Rattle.rs_outlet.specs.declared.rows.Row.{Row}
 use Rattle.rs_outlet.specs.declared.changes.Change.{Change}
-use Rattle.rs_outlet.specs.Views.{HaveNumbers, IsOneOf, is_touched}
-use Rattle.rs_outlet.specs.Inside.{AreDecided, ArePlaced, attributes_at, is_changed, is_number_touched, is_numbered_in, loc_of, numbers_from, numbers_of, prefixes_in, touched_of}
+use Rattle.rs_outlet.specs.Views.{HaveNumbers, IsOneOf, is_touched, is_whole}
+use Rattle.rs_outlet.specs.Inside.{AreDecided, ArePlaced, attributes_at, is_changed, loc_of, numbers_from, numbers_of}
+use Rattle.rs_outlet.specs.Touching.{is_number_touched, prefixes_in, touched_of}
 use Rattle.rs_outlet.proofs.LocByNumber.{same, same_is, by_number, numbered}
-use Rattle.rs_outlet.proofs.Touches.{prefix_eq, prefix_eq-cmp, contains-from_list}
-use Rattle.rs_outlet.proofs.TouchedNumbers.{eq_numbers}
+use Rattle.rs_outlet.proofs.Touches.{prefix_eq-cmp, contains-from_list}
+use Rattle.rs_outlet.proofs.TouchedList.{listed}
+use Rattle.rs_outlet.proofs.TouchedNumbers.{any_number, eq_numbers}
 
 -- ---- one change carried out
 
@@ -46,13 +49,16 @@ module _ (ins : AdjIns) where
         | false ↦ λ _. changed_unnumbered cs p h.1 none
       ] refl
 
-  any_keys : (es : List (ℕ × Prefix)) (p : Prefix) (n : ℕ) → HaveNumbers es ins → number_of ins p ≡ Some n → list_any (prefix_eq p) (prefixes_in es) ≡ is_numbered_in es n
-  any_keys [] p n h at = refl
-  any_keys (e ∷ es) p n h at = λ i. eq_numbers ins p e.1 n e.0 at h.0 i || any_keys es p n h.1 at i
+  listed_numbered : (es : List (ℕ × Prefix)) (p : Prefix) (n : ℕ) (many : Bool) → HaveNumbers es ins → number_of ins p ≡ Some n → is_touched (cond many None (Some (set.from_list (prefixes_in es)))) p ≡ is_number_touched (is_whole (cond many None (Some (set.from_list {R = prefix_order} (prefixes_in es))))) es n
+  listed_numbered es p n true h at = refl
+  listed_numbered es p n false h at = contains-from_list p (prefixes_in es) ∙ any_number ins es p n h at
 
-  touched_numbered : (all : Bool) (es : List (ℕ × Prefix)) (p : Prefix) (n : ℕ) → HaveNumbers es ins → number_of ins p ≡ Some n → is_touched (touched_of all es) p ≡ is_number_touched all es n
+  touched_numbered : (all : Bool) (es : List (ℕ × Prefix)) (p : Prefix) (n : ℕ) → HaveNumbers es ins → number_of ins p ≡ Some n → is_touched (touched_of all es) p ≡ is_number_touched (is_whole (touched_of all es)) es n
   touched_numbered true es p n h at = refl
-  touched_numbered false es p n h at = contains-from_list p (prefixes_in es) ∙ any_keys es p n h at
+  touched_numbered false es p n h at =
+      ap (λ o. is_touched o p) (listed es)
+      ∙ listed_numbered es p n (nat_lt 4096 (set.len (set.from_list (prefixes_in es)))) h at
+      ∙ ap (λ o. is_number_touched (is_whole o) es n) (sym (listed es))
 
   -- a prefix without a number has nothing, and nothing is due there
   unnumbered_at : (t : Bool) (due was new : Option (List Attribute)) → due ≡ None → was ≡ None → new ≡ was → new ≡ cond t due was
@@ -65,8 +71,8 @@ module _ (ins : AdjIns) where
   numbered_at false true due was new is within all = is ∙ all refl refl
   numbered_at false false due was new is within all = is
 
-  module _ (rows : List (Option Row)) (es : List (ℕ × Prefix)) (every : Bool) (due_at : Prefix → Option (List Attribute)) (cs : List Change)
-      (h : HaveNumbers (numbers_from 0 rows) ins) (k : HaveNumbers es ins) (are : AreDecided ins due_at rows (is_number_touched every es) cs)
+  module _ (rows : List (Option Row)) (es : List (ℕ × Prefix)) (every : Bool) (whole : Bool) (is_all : whole ≡ is_whole (touched_of every es)) (due_at : Prefix → Option (List Attribute)) (cs : List Change)
+      (h : HaveNumbers (numbers_from 0 rows) ins) (k : HaveNumbers es ins) (are : AreDecided ins due_at rows (is_number_touched whole es) cs)
       (nothing : (p : Prefix) → number_of ins p ≡ None → due_at p ≡ None) where
     turned_by : (p : Prefix) (new : Option (List Attribute)) (o : Option ℕ) → number_of ins p ≡ o → new ≡ cond (is_changed cs p) (due_at p) (fin.get (loc_of rows) p)
         → new ≡ cond (is_touched (touched_of every es) p) (due_at p) (fin.get (loc_of rows) p)
@@ -76,7 +82,7 @@ module _ (ins : AdjIns) where
     turned_by p new (Some n) at is =
         let was : fin.get (loc_of rows) p ≡ attributes_at rows n = by_number ins rows (numbered ins rows h) p (Some n) at in
         let changed : is_changed cs p ≡ list_any (nat_eq n) (numbers_of cs) = changed_numbered cs p n are.placed at in
-        let touched : is_touched (touched_of every es) p ≡ is_number_touched every es n = touched_numbered every es p n k at in
+        let touched : is_touched (touched_of every es) p ≡ is_number_touched whole es n = touched_numbered every es p n k at ∙ ap (λ b. is_number_touched b es n) (sym is_all) in
         numbered_at (is_changed cs p) (is_touched (touched_of every es) p) (due_at p) _ new is
         (λ t. touched ∙ are.within n (sym changed ∙ t))
         (λ t f. was ∙ are.all n (sym touched ∙ t) (sym changed ∙ f) p at)

@@ -1,11 +1,9 @@
 -- How the fields of an outlet make what callers see, and what the fields keep.
 use Rattle.std.specs.Prelude.{◌≡◌, ◌≢◌, ◌⊎◌, ℕ, suc, ◌+◌, ◌-◌, ◌≤◌, ◌<◌, ◌||◌, Bool, true, false, nat_eq, Option, None, Some, List, [], ◌∷◌, ◌++◌, map, option_map, slice_range, slice_get, vec_len, length, IfSome, if◌then◌else◌}
 use Rattle.std.specs.List.{AllByRecursion, IsDistinct, list_any}
-use Rattle.std.specs.Map.{keys_of}
 use Rattle.std.specs.Ordering.{eq_by_cmp}
 use Rattle.std.specs.Vec.{vec_capacity}
 use Rattle.std.specs.Arc.{arc_value}
-use Rattle.std.specs.HashMap.{hash_map_len, spare}
 use Rattle.std.specs.FinMap as fin
 use Rattle.std.specs.FinSet as set
 use Rattle.rs_octets.specs.Numbers.{longest_message, longest_extended_message}
@@ -19,6 +17,7 @@ use Rattle.rs_outlet.specs.declared.changes.Change.{Change}
 use Rattle.rs_adjin.specs.declared.adj_ins.AdjIns.{AdjIns}
 use Rattle.rs_adjin.specs.AdjIns.{number_of}
 use Rattle.rs_outlet.specs.declared.outlet.Outlet.TheInside.{Inside}
+use Rattle.rs_outlet.specs.Touching.{touched_of}
 use Rattle.rs_outlet.specs.Views.{View, Table, Prefixes, Waiting}
 use Rattle.rs_open.specs.Notes.{limit_octets}
 use Rattle.rs_packer.specs.Packed.{announcement}
@@ -166,24 +165,6 @@ IsOwn o p = (r : Row) → o ≡ Some r → r.prefix ≡ p
 abbrev pub AreOwn : List Change → List (Option Row) → Type 0
 AreOwn cs rows = AllByRecursion (λ c. IsOwn (row_at rows c.number) c.prefix) cs
 
--- ---- what is touched
-
-abbrev pub prefixes_in : List (ℕ × Prefix) → List Prefix
-prefixes_in [] = []
-prefixes_in (e ∷ es) = e.1 ∷ prefixes_in es
-
--- whether a number is among these
-abbrev pub is_numbered_in : List (ℕ × Prefix) → ℕ → Bool
-is_numbered_in es n = list_any (nat_eq n) (keys_of es)
-
-abbrev pub is_number_touched : Bool → List (ℕ × Prefix) → ℕ → Bool
-is_number_touched true es n = true
-is_number_touched false es n = is_numbered_in es n
-
-abbrev pub touched_of : Bool → List (ℕ × Prefix) → Option Prefixes
-touched_of true es = None
-touched_of false es = Some (set.from_list (prefixes_in es))
-
 -- ---- all of it
 
 -- the places of what waits, and behind them those of the turn at hand
@@ -197,10 +178,10 @@ view_of a = record {
   flight = slice_range a.octets.items a.start a.end;
   beat = a.beat;
   note = a.note;
-  touched = touched_of a.touched.all a.touched.prefixes.entries;
+  touched = touched_of a.touched.all a.touched.prefixes.items;
   marked = marked_of (loc_of a.rows.rows.items) a.waits.places.items;
   waits = waits_of a.waits.places.items;
-  numbers = numbers_from 0 a.rows.rows.items ++ a.touched.prefixes.entries;
+  numbers = numbers_from 0 a.rows.rows.items ++ a.touched.prefixes.items;
   last = a.last;
 }
 
@@ -218,7 +199,6 @@ pub record IsKept (a : Inside) : Type 0 where
   pub ended : a.end ≤ room_of a.extended
   pub front : batch_of a.extended ≤ vec_capacity a.front
   pub chosen : batch_of a.extended ≤ vec_capacity a.chosen
-  pub touched : 4096 ≤ hash_map_len a.touched.prefixes + spare a.touched.prefixes
   pub places : a.rows.used + withdrawn_count a.waits.places.items ≤ vec_capacity a.waits.places
   pub extended : (speech : Speech) → a.speech ≡ Some speech → speech.limit ≡ limits.Long → a.extended ≡ true
   pub backed : AreBacked a.rows.rows.items a.waits.places.items

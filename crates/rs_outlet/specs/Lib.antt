@@ -11,6 +11,7 @@ pub mod Owed
 pub mod Counted
 pub mod Hashing
 pub mod Linking
+pub mod Touching
 pub mod Inside
 pub mod Listing
 pub mod Choosing

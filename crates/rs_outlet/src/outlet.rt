@@ -276,13 +276,14 @@ impl Outlet {
         self.start += count;
     }
 
-    /// Whether the row of a number has no route, and the number is not touched by itself.
+    /// Whether the row of a number has no route, and no prefix is touched by itself. What is touched
+    /// is not looked through for the number: behind a turn that was not refused nothing is.
     pub fn is_free(&self, number: u32) -> bool
         ensures { IsTrue result → IsNoNumberOf number self.now.numbers }
     {
         match self.rows.get(number) {
             Some(_) => false,
-            None => !self.touched.has(number),
+            None => self.touched.lists_none(),
         }
     }
 }

@@ -1,7 +1,12 @@
 //! An outlet of a small exchange: touches up to their bound, what is told again, and routes in order.
+//! `told` is what clients are told by the rules and by what they take, `refused` turns that memory
+//! was refused to.
 
 ghost use Rattle.std.specs.Prelude.{◌≡◌, ◌<◌, length};
 ghost use Rattle.rs_adjin.specs.AdjIns.{client_count};
+
+mod refused;
+mod told;
 
 use crate::{Last, Outlet, Turned};
 use rs_adjin::{AdjIns, has_mandatory};
@@ -36,9 +41,9 @@ fn attrs(alloc: Global, host: u8) -> Result<Arc<Attrs>, AllocError> {
     Ok(Arc::new(alloc, attrs)?)
 }
 
-/// The prefix 10.0.0.0/24, or one of the so many behind it, in scattered order.
+/// One of 131,072 prefixes of 24 bits from 10.0.0.0 on, in scattered order.
 fn prefix(n: u32) -> Option<Prefix> {
-    Prefix::new(0x0a00_0000 | (n % 8192 * 5003 % 8192) << 8, 24)
+    Prefix::new(0x0a00_0000 | (n % 131_072 * 32_003 % 131_072) << 8, 24)
 }
 
 /// So many routes of the sender, by two sets of attributes.
@@ -56,11 +61,11 @@ fn tables(alloc: Global, config: &Config, count: u32) -> Result<AdjIns, AllocErr
     Ok(made)
 }
 
-/// Touches the first so many prefixes.
-fn touch(outlet: &mut Outlet, tables: &AdjIns, count: u32)
+/// Touches so many prefixes from this one on.
+fn touch(outlet: &mut Outlet, tables: &AdjIns, first: u32, count: u32)
     ensures { outlet.new.client ≡ outlet.old.client }
 {
-    for n in 0..count {
+    for n in first..first.saturating_add(count) {
         if let Some(prefix) = prefix(n)
             && let Some(number) = tables.number(prefix)
         {
@@ -97,8 +102,8 @@ fn turn_behind(
     requires clients { client_count tables.now ≡ length config.now.clients }
     ensures { outlet.new.client ≡ outlet.old.client }
 {
-    touch(outlet, tables, touched);
-    touch(outlet, tables, touched);
+    touch(outlet, tables, 0, touched);
+    touch(outlet, tables, 0, touched);
     outlet.turn(tables, config)
 }
 
@@ -176,7 +181,7 @@ fn all_is_told_again(rt: HostRuntime) -> Result<(), Fail> {
 fn routes_rise(rt: HostRuntime) -> Result<(), Fail> {
     let alloc = rt.alloc();
     let config = exchange(alloc)?;
-    let tables = tables(alloc, &config, 4)?;
+    let tables = tables(alloc, &config, 6)?;
     assert!(rt; CLIENT < config.clients());
     assert!(rt; tables.clients() == config.clients());
     let mut outlet = Outlet::new(alloc, CLIENT, false)?;
@@ -186,10 +191,15 @@ fn routes_rise(rt: HostRuntime) -> Result<(), Fail> {
     for (prefix, _) in outlet.routes(&tables).take(10) {
         bits.push(prefix.bits())?;
     }
-    // 10.0.0.0, 10.7.22.0, 10.19.139.0 and 10.26.161.0
-    assert_eq!(rt;
-        bits.as_slice(),
-        [0x0a00_0000, 0x0a07_1600, 0x0a13_8b00, 0x0a1a_a100].as_slice()
-    );
+    // 10.0.0.0, 10.113.15.0, 10.125.3.0, 10.250.6.0, 11.119.9.0 and 11.244.12.0
+    let rising = [
+        0x0a00_0000,
+        0x0a71_0f00,
+        0x0a7d_0300,
+        0x0afa_0600,
+        0x0b77_0900,
+        0x0bf4_0c00,
+    ];
+    assert_eq!(rt; bits.as_slice(), rising.as_slice());
     Ok(())
 }

@@ -1,92 +1,91 @@
-//! The touched prefixes: a set with room for 4,096, and a mark for all.
+//! The touched prefixes: a list with room for more than 4,096, and a mark for all.
 //!
-//! The set goes by the numbers of the prefixes. Those are given out by the Adj-RIBs-In, so that no
-//! member can choose prefixes that make it slow.
+//! A touch is put behind the others, even where its prefix is there already. A full list is put in
+//! the order of the numbers and has each prefix once from then on; where these are more than 4,096,
+//! all are touched. So a touch costs a push and a few steps of a sort, whichever prefixes a member
+//! chooses.
 
-ghost use Rattle.std.specs.Prelude.{◌≡◌, ◌↔◌, ◌≤◌, ◌+◌, [], Some, true, false, nat_eq, IsTrue, IfOk};
+ghost use Rattle.std.specs.Prelude.{◌≡◌, ◌↔◌, ◌≤◌, ◌<◌, [], None, Some, true, false, length, vec_len, is_none, IsTrue, IfOk, IfSome};
 ghost use Rattle.std.specs.FinSet as set;
-ghost use Rattle.std.specs.List.{IsDistinct};
-ghost use Rattle.std.specs.Map.{keys_of};
-ghost use Rattle.std.specs.HashMap.{hash_map_len, spare};
+ghost use Rattle.std.specs.Vec.{vec_capacity};
 ghost use Rattle.rs_adjin.specs.declared.adj_ins.AdjIns.{AdjIns};
 ghost use Rattle.rs_adjin.specs.AdjIns.{number_of};
-ghost use Rattle.rs_outlet.specs.Views.{HaveNumbers, with_touch};
-ghost use Rattle.rs_outlet.specs.Inside.{touched_of, IsNoNumberOf};
+ghost use Rattle.rs_outlet.specs.Views.{HaveNumbers, Prefixes, is_whole, with_touch};
+ghost use Rattle.rs_outlet.specs.Touching.{AreOnce, touched_of};
 
 use rs_octets::Prefix;
 use std::alloc::{AllocError, Global};
-use std::collections::HashMap;
 
-/// How many prefixes the touched set has room for.
+/// How many prefixes are touched one by one.
 pub(crate) const TOUCHED_MAX: usize = 4096;
 
-/// The prefixes that the next turn decides.
+/// How many touches are listed. Once it is in order, the list has room for 1,024 more.
+const LISTED_MAX: usize = 5120;
+
+/// The prefixes that the next turn decides: all, or those listed where they are at most 4,096.
 #[derive(Drop)]
 pub(crate) struct Touched {
-    prefixes: HashMap<u32, Prefix>,
+    prefixes: Vec<(u32, Prefix)>,
     all: bool,
+    ghost room: { 5120 ≤ vec_capacity prefixes },
 }
 
 impl Touched {
     pub(crate) fn new(alloc: Global) -> Result<Touched, AllocError>
-        ensures entries { IfOk result (λ t. t.prefixes.entries ≡ []) }
-        ensures all { IfOk result (λ t. t.all ≡ false) }
-        ensures room { IfOk result (λ t. 4096 ≤ hash_map_len t.prefixes + spare t.prefixes) }
+        ensures prefixes { IfOk result (λ touched. touched.prefixes.items ≡ []) }
+        ensures all { IfOk result (λ touched. touched.all ≡ false) }
     {
         Ok(Touched {
-            prefixes: HashMap::with_capacity(alloc, TOUCHED_MAX)?,
+            prefixes: Vec::with_capacity(alloc, LISTED_MAX)?,
             all: false,
         })
     }
 
     pub(crate) fn clear(&mut self)
-        requires { 4096 ≤ hash_map_len self.old.prefixes + spare self.old.prefixes }
-        ensures entries { self.new.prefixes.entries ≡ [] }
+        ensures prefixes { self.new.prefixes.items ≡ [] }
         ensures all { self.new.all ≡ false }
-        ensures room { 4096 ≤ hash_map_len self.new.prefixes + spare self.new.prefixes }
     {
         self.prefixes.clear();
         self.all = false;
     }
 
     pub(crate) fn add_all(&mut self)
-        requires { 4096 ≤ hash_map_len self.old.prefixes + spare self.old.prefixes }
-        ensures entries { self.new.prefixes.entries ≡ [] }
+        ensures prefixes { self.new.prefixes.items ≡ [] }
         ensures all { self.new.all ≡ true }
-        ensures room { 4096 ≤ hash_map_len self.new.prefixes + spare self.new.prefixes }
     {
         self.prefixes.clear();
         self.all = true;
     }
 
-    /// Adds a prefix, or all where there is no room for it.
+    /// Adds a prefix, which has this number.
     pub(crate) fn add(&mut self, number: u32, prefix: Prefix)
-        requires { 4096 ≤ hash_map_len self.old.prefixes + spare self.old.prefixes }
-        ensures room { 4096 ≤ hash_map_len self.new.prefixes + spare self.new.prefixes }
-        ensures touched { (ins : AdjIns) → HaveNumbers self.old.prefixes.entries ins → number_of ins prefix ≡ Some number → touched_of self.new.all self.new.prefixes.entries ≡ with_touch (touched_of self.old.all self.old.prefixes.entries) prefix }
-        ensures numbered { (ins : AdjIns) → HaveNumbers self.old.prefixes.entries ins → number_of ins prefix ≡ Some number → HaveNumbers self.new.prefixes.entries ins }
+        ensures touched { (ins : AdjIns) → HaveNumbers self.old.prefixes.items ins → touched_of self.new.all self.new.prefixes.items ≡ with_touch (touched_of self.old.all self.old.prefixes.items) prefix }
+        ensures numbered { (ins : AdjIns) → HaveNumbers self.old.prefixes.items ins → number_of ins prefix ≡ Some number → HaveNumbers self.new.prefixes.items ins }
     {
+        self.make_room();
         if self.all {
             return;
         }
-        if self.prefixes.contains_key(&number) {
+        self.prefixes.push_reserved((number, prefix));
+    }
+
+    /// Puts a full list in order. Where it has too many prefixes, all are touched.
+    fn make_room(&mut self)
+        ensures room { vec_len self.new.prefixes < 5120 }
+        ensures touched { (ins : AdjIns) → HaveNumbers self.old.prefixes.items ins → touched_of self.new.all self.new.prefixes.items ≡ touched_of self.old.all self.old.prefixes.items }
+        ensures numbered { (ins : AdjIns) → HaveNumbers self.old.prefixes.items ins → HaveNumbers self.new.prefixes.items ins }
+    {
+        if self.prefixes.len() < LISTED_MAX {
             return;
         }
-        if self.prefixes.len() < TOUCHED_MAX {
-            let _ = self.prefixes.insert(number, prefix);
-        } else {
+        put_in_order(&mut self.prefixes);
+        if self.prefixes.len() > TOUCHED_MAX {
             self.add_all();
         }
     }
 
-    pub(crate) fn is_all(&self) -> bool
-        ensures { result ≡ self.now.all }
-    {
-        self.all
-    }
-
     pub(crate) fn is_empty(&self) -> bool
-        ensures { IsTrue result ↔ touched_of self.now.all self.now.prefixes.entries ≡ Some set.empty }
+        ensures { IsTrue result ↔ touched_of self.now.all self.now.prefixes.items ≡ Some set.empty }
     {
         if self.all {
             return false;
@@ -94,26 +93,36 @@ impl Touched {
         self.prefixes.is_empty()
     }
 
-    /// Whether the prefix of a number was touched by itself.
-    pub(crate) fn has(&self, number: u32) -> bool
-        ensures { result ≡ false → IsNoNumberOf number self.now.prefixes.entries }
+    /// Whether no prefix is touched by itself.
+    pub(crate) fn lists_none(&self) -> bool
+        ensures { IsTrue result → self.now.prefixes.items ≡ [] }
     {
-        self.prefixes.contains_key(&number)
+        self.prefixes.is_empty()
     }
 
-    pub(crate) fn len(&self) -> usize {
-        self.prefixes.len()
-    }
-
-    /// Lists what was touched by itself.
-    pub(crate) fn list(&self, alloc: Global) -> Result<Vec<(u32, Prefix)>, AllocError>
-        ensures all { IfOk result (λ list. list.items ≡ self.now.prefixes.entries) }
-        ensures once { IfOk result (λ list. IsDistinct nat_eq (keys_of list.items)) }
+    /// What is touched by itself, in the order of the numbers; `None` where all is.
+    pub(crate) fn list(&self, alloc: Global) -> Result<Option<Vec<(u32, Prefix)>>, AllocError>
+        ensures once { IfOk result (λ listed. IfSome listed (λ list. AreOnce self.now.prefixes.items list.items)) }
+        ensures whole { (ins : AdjIns) → HaveNumbers self.now.prefixes.items ins → IfOk result (λ listed. is_whole (touched_of self.now.all self.now.prefixes.items) ≡ is_none listed) }
+        ensures count { (ins : AdjIns) → HaveNumbers self.now.prefixes.items ins → IfOk result (λ listed. IfSome listed (λ list. (prefixes : Prefixes) → touched_of self.now.all self.now.prefixes.items ≡ Some prefixes → length list.items ≡ set.len prefixes)) }
     {
-        let mut list = Vec::with_capacity(alloc, self.prefixes.len())?;
-        for (number, prefix) in &self.prefixes {
-            list.push((*number, *prefix))?;
+        if self.all {
+            return Ok(None);
         }
-        Ok(list)
+        let mut list = Vec::from_slice(alloc, &self.prefixes)?;
+        put_in_order(&mut list);
+        if list.len() > TOUCHED_MAX {
+            return Ok(None);
+        }
+        Ok(Some(list))
     }
+}
+
+/// Puts touches in the order of their numbers. A number that was touched several times is left once.
+fn put_in_order(touches: &mut Vec<(u32, Prefix)>)
+    ensures once { AreOnce touches.old.items touches.new.items }
+    ensures capacity { vec_capacity touches.new ≡ vec_capacity touches.old }
+{
+    touches.sort_unstable_by_key(|touch| touch.0);
+    touches.dedup_by_key(|touch| touch.0);
 }

@@ -12,7 +12,8 @@ ghost use Rattle.rs_outlet.specs.Views.{AreNumbered, HaveNumbers, IsCount, IsNum
 ghost use Rattle.rs_outlet.specs.Due.{any_holds, due_to};
 ghost use Rattle.rs_outlet.specs.Counted.{is_counted, is_standing};
 ghost use Rattle.rs_outlet.specs.HeldBy.{held_by};
-ghost use Rattle.rs_outlet.specs.Inside.{AreDecided, IsDecidedAt, attributes_at, is_number_touched, is_numbered_in, shown, touched_of};
+ghost use Rattle.rs_outlet.specs.Inside.{AreDecided, IsDecidedAt, attributes_at, shown};
+ghost use Rattle.rs_outlet.specs.Touching.{is_number_touched, is_numbered_in, touched_of};
 
 use crate::answers::{Last, Speech, Turned};
 use crate::changes::{Change, are_own, commit, make_room};
@@ -27,11 +28,12 @@ use rs_octets::Prefix;
 use std::alloc::{AllocError, Global};
 use std::sync::Arc;
 
-/// The changes of a turn, and how many prefixes were decided.
+/// The changes of a turn, how many prefixes were decided, and whether all were.
 #[derive(Drop)]
 pub(crate) struct Decided {
     changes: Vec<Change>,
     count: usize,
+    whole: bool,
 }
 
 /// Whether a row has just what is due.
@@ -106,6 +108,7 @@ fn decide_touched(
     requires once { IsDistinct nat_eq (keys_of touched.now) }
     ensures changes { IfOk result (λ decided. AreDecided sources.now.ins.now (due_to (held_by sources.now) sources.now.client speech) rows.now.rows.items (is_numbered_in touched.now) decided.changes.items) }
     ensures count { IfOk result (λ decided. decided.count ≡ length touched.now) }
+    ensures whole { IfOk result (λ decided. decided.whole ≡ false) }
 {
     let mut ranks = Vec::new(alloc);
     let mut changes = Vec::new(alloc);
@@ -123,6 +126,7 @@ fn decide_touched(
     Ok(Decided {
         changes,
         count: touched.len(),
+        whole: false,
     })
 }
 
@@ -165,6 +169,7 @@ fn decide_all(
     requires count { client_count sources.now.ins.now ≡ length sources.now.config.now.clients }
     ensures changes { IfOk result (λ decided. AreDecided sources.now.ins.now (due_to (held_by sources.now) sources.now.client speech) rows.now.rows.items (λ number. true) decided.changes.items) }
     ensures count { IfOk result (λ decided. IsNumberOf (is_counted sources.now.ins.now rows.now.rows.items (any_holds (held_by sources.now))) decided.count) }
+    ensures whole { IfOk result (λ decided. decided.whole ≡ true) }
 {
     let mut ranks = Vec::new(alloc);
     let mut changes = Vec::new(alloc);
@@ -184,7 +189,11 @@ fn decide_all(
         )?;
         count += usize::from(decided);
     }
-    Ok(Decided { changes, count })
+    Ok(Decided {
+        changes,
+        count,
+        whole: true,
+    })
 }
 
 /// Decides what is touched, from the tables and the rules.
@@ -197,15 +206,14 @@ fn decide_all_touched(
 ) -> Result<Decided, AllocError>
     requires client { sources.now.client < length sources.now.config.now.clients }
     requires count { client_count sources.now.ins.now ≡ length sources.now.config.now.clients }
-    ensures changes { IfOk result (λ decided. AreDecided sources.now.ins.now (due_to (held_by sources.now) sources.now.client speech) rows.now.rows.items (is_number_touched touched.now.all touched.now.prefixes.entries) decided.changes.items) }
-    ensures count { HaveNumbers touched.now.prefixes.entries sources.now.ins.now → IfOk result (λ decided. (prefixes : Prefixes) → touched_of touched.now.all touched.now.prefixes.entries ≡ Some prefixes → decided.count ≡ set.len prefixes) }
-    ensures whole { touched.now.all ≡ true → IfOk result (λ decided. IsNumberOf (is_counted sources.now.ins.now rows.now.rows.items (any_holds (held_by sources.now))) decided.count) }
+    ensures changes { IfOk result (λ decided. AreDecided sources.now.ins.now (due_to (held_by sources.now) sources.now.client speech) rows.now.rows.items (is_number_touched decided.whole touched.now.prefixes.items) decided.changes.items) }
+    ensures whole { HaveNumbers touched.now.prefixes.items sources.now.ins.now → IfOk result (λ decided. decided.whole ≡ is_whole (touched_of touched.now.all touched.now.prefixes.items)) }
+    ensures count { HaveNumbers touched.now.prefixes.items sources.now.ins.now → IfOk result (λ decided. (prefixes : Prefixes) → touched_of touched.now.all touched.now.prefixes.items ≡ Some prefixes → decided.count ≡ set.len prefixes) }
+    ensures all { IfOk result (λ decided. decided.whole ≡ true → IsNumberOf (is_counted sources.now.ins.now rows.now.rows.items (any_holds (held_by sources.now))) decided.count) }
 {
-    if touched.is_all() {
-        decide_all(alloc, sources, speech, rows)
-    } else {
-        let numbers = touched.list(alloc)?;
-        decide_touched(alloc, sources, speech, rows, &numbers)
+    match touched.list(alloc)? {
+        None => decide_all(alloc, sources, speech, rows),
+        Some(numbers) => decide_touched(alloc, sources, speech, rows, &numbers),
     }
 }
 
@@ -226,7 +234,7 @@ impl Outlet {
         ensures done { IfOk result (λ turned. self.new.last ≡ Last.Done turned) }
         ensures touched { OnOk result (self.new.touched ≡ Some set.empty) }
         ensures loc { OnOk result (AreNumbered self.old sources.now.ins.now → (p : Prefix) → fin.get self.new.loc p ≡ (if is_touched self.old.touched p then due_to (held_by sources.now) sources.now.client speech p else fin.get self.old.loc p)) }
-        ensures whole { IfOk result (λ turned. turned.whole ≡ is_whole self.old.touched) }
+        ensures whole { AreNumbered self.old sources.now.ins.now → IfOk result (λ turned. turned.whole ≡ is_whole self.old.touched) }
         ensures count { AreNumbered self.old sources.now.ins.now → IfOk result (λ turned. IsCount (any_holds (held_by sources.now)) self.old.loc self.old.touched turned.decided) }
         ensures told { AreNumbered self.old sources.now.ins.now → OnOk result (self.new.told ≡ self.old.told) }
         ensures marked { AreNumbered self.old sources.now.ins.now → OnOk result (self.new.marked ≡ self.old.marked) }
@@ -234,16 +242,14 @@ impl Outlet {
         ensures refused { OnErr result (self.new ≡ self.old) }
         ensures numbered { AreNumbered self.old sources.now.ins.now → AreNumbered self.new sources.now.ins.now }
     {
-        let Decided { changes, count } = decide_all_touched(
-            self.alloc,
-            sources,
-            speech,
-            &self.rows,
-            &self.touched,
-        )?;
+        let Decided {
+            changes,
+            count,
+            whole,
+        } = decide_all_touched(self.alloc, sources, speech, &self.rows, &self.touched)?;
         let turned = Turned {
             decided: count,
-            whole: self.touched.is_all(),
+            whole,
         };
         if !are_own(&changes, &self.rows) {
             return Err(AllocError);

@@ -1,4 +1,4 @@
-use Rattle.std.proofs.Common.{◌≡◌, ◌<◌, ◌≤◌, ℕ, Bool, true, false, cond, nat_lt, Some, arith, rules}
+use Rattle.std.proofs.Common.{◌≡◌, ◌<◌, ◌≤◌, ℕ, Bool, true, false, cond, nat_lt, Some, arith, refl, rules}
 use Rattle.rs_octets.specs.Prefixes.{Prefix}
 use Rattle.rs_adjin.specs.AdjIns.{number_of}
 use Rattle.std.proofs.lemmas.Bool.Decides.{nat_tests}
@@ -45,4 +45,5 @@ returns c =
     record {
       changes = all_decided ins (due_to (held_by c.args.sources.now) c.args.sources.now.client c.args.speech) rows c.loop-number.number c.loop-number.changes.items c.loop-number.invariant.changes below;
       count = all_counted ins rows (any_holds (held_by c.args.sources.now)) c.loop-number.number c.loop-number.count below c.loop-number.invariant.count;
+      whole = refl;
     }

@@ -1,8 +1,7 @@
-use Rattle.std.proofs.Common.{◌≡◌, ◌∙◌, nat_eq, length, subst, false, None, Some, Result, Ok, Err, IfOk, sym, ap}
-use Rattle.std.specs.List.{IsDistinct}
-use Rattle.std.specs.Map.{keys_of}
-use Rattle.rs_outlet.specs.Inside.{touched_of}
-use Rattle.rs_outlet.proofs.TouchedNumbers.{touched_count}
+use Rattle.std.proofs.Common.{◌≡◌, ◌∙◌, ap, length, subst, sym, Option, Some, Result, Ok, Err, IfOk}
+use Rattle.std.specs.Prelude.{IfSome, is_none}
+use mathlib.Core.Bool.{true≢false}
+use Rattle.rs_outlet.specs.Views.{is_whole}
 use Rattle.rs_outlet.proofs.turn.decide_all_touched.Goals as goal
 
 if_ok_all : {A E : Type 0} (Q : A → Type 0) (r : Result A E) → ((x : A) → Q x) → IfOk r Q
@@ -13,16 +12,23 @@ if_ok_map : {A E : Type 0} (P Q : A → Type 0) (r : Result A E) → IfOk r P �
 if_ok_map P Q (Ok x) h q = q x h
 if_ok_map P Q (Err e) h q = tt
 
-pub returns-then-is_all-clause-count : goal.returns-then-is_all-clause-count
-returns-then-is_all-clause-count c = λ are.
-    if_ok_all _ c.decide_all.result (λ x prefixes is.
-    absurd (let f : None ≡ Some prefixes = ap (λ b. touched_of b c.args.touched.now.prefixes.entries) (sym (sym c.is_all.ensures ∙ c.if-is_all.true)) ∙ is in (cc)))
+if_some_at : {A : Type 0} (Q : A → Type 0) (o : Option A) (x : A) → o ≡ Some x → IfSome o Q → Q x
+if_some_at Q o x is h = subst (λ o. IfSome o Q) is h
 
-pub returns-in_ok-numbers-clause-count : goal.returns-in_ok-numbers-clause-count
-returns-in_ok-numbers-clause-count c = λ are.
-    let es = c.args.touched.now.prefixes.entries in
-    let none : c.args.touched.now.all ≡ false = sym c.is_all.ensures ∙ c.if-is_all.false in
-    let once : IsDistinct nat_eq (keys_of es) = subst (λ es. IsDistinct nat_eq (keys_of es)) c.in_ok-numbers.ensures.all c.in_ok-numbers.ensures.once in
+pub returns-in-None-clause-whole : goal.returns-in-None-clause-whole
+returns-in-None-clause-whole c = λ are.
+    if_ok_map _ _ c.decide_all.result c.decide_all.ensures.whole (λ x whole. whole ∙ sym (c.in_ok-list.ensures.whole c.args.sources.now.ins.now are ∙ ap is_none c.in-None.is))
+
+pub returns-in-None-clause-count : goal.returns-in-None-clause-count
+returns-in-None-clause-count c = λ are.
+    if_ok_all _ c.decide_all.result (λ x prefixes is.
+    absurd (true≢false (sym (c.in_ok-list.ensures.whole c.args.sources.now.ins.now are ∙ ap is_none c.in-None.is) ∙ ap is_whole is)))
+
+pub returns-in-Some-clause-whole : goal.returns-in-Some-clause-whole
+returns-in-Some-clause-whole c = λ are.
+    if_ok_map _ _ c.decide_touched.result c.decide_touched.ensures.whole (λ x whole. whole ∙ sym (c.in_ok-list.ensures.whole c.args.sources.now.ins.now are ∙ ap is_none c.in-Some.is))
+
+pub returns-in-Some-clause-count : goal.returns-in-Some-clause-count
+returns-in-Some-clause-count c = λ are.
     if_ok_map _ _ c.decide_touched.result c.decide_touched.ensures.count (λ x counted prefixes is.
-    counted ∙ ap length (c.deref.ensures.value ∙ c.in_ok-numbers.ensures.all)
-    ∙ touched_count c.args.sources.now.ins.now es prefixes are once (ap (λ b. touched_of b es) (sym none) ∙ is))
+    counted ∙ ap length c.deref.ensures.value ∙ if_some_at _ c.in_ok-list.field-0 c.in-Some.numbers c.in-Some.is (c.in_ok-list.ensures.count c.args.sources.now.ins.now are) prefixes is)

@@ -31,7 +31,6 @@ invariant_of-self c =
       ended = kept.ended;
       front = kept.front;
       chosen = kept.chosen;
-      touched = kept.touched;
       places = omega (arith, kept.places, c.mark_all.ensures.withdrawn, c.mark_all.ensures.capacity);
       extended = kept.extended;
       backed = c.mark_all.ensures.backed kept.backed;

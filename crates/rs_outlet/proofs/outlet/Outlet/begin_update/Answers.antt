@@ -39,7 +39,6 @@ invariant_of-self c =
       ended = search rules;
       front = search rules;
       chosen = search rules;
-      touched = kept.touched;
       places = omega (arith, kept.places, c.give_up.ensures.withdrawn, c.give_up.ensures.capacity, ap withdrawn_count c.put_update-packed.ensures.places, c.put_update-packed.ensures.capacity);
       extended = kept.extended;
       backed = backed_left c.args.speech rows a.waits.places.items c.give_up.new.self.places.items c.put_update-packed.new.chosen.items c.put_update-packed.new.front.items c.put_update-packed.new.out.items c.put_update-packed.result

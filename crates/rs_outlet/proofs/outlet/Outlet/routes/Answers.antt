@@ -17,5 +17,5 @@ returns c = λ are.
     let P = λ (e : ℕ × Prefix). number_of ins e.1 ≡ Some e.0 in
     let was = subst (λ (v : View). AreNumbered v ins) (sym c.self.view_is) are in
     c.new.ensures
-    ∙ routes_listed rows ins c.iter.result (numbered ins rows (all_front P (numbers_from 0 rows) a.touched.prefixes.entries was)) c.iter.ensures.rising c.iter.ensures.numbers c.iter.ensures.each
+    ∙ routes_listed rows ins c.iter.result (numbered ins rows (all_front P (numbers_from 0 rows) a.touched.prefixes.items was)) c.iter.ensures.rising c.iter.ensures.numbers c.iter.ensures.each
     ∙ ap (λ (v : View). fin.entries v.loc) c.self.view_is

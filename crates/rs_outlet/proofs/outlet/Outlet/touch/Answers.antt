@@ -12,7 +12,7 @@ returns-then-is_some-clause-touched c = λ ins h is.
     let P = λ (e : ℕ × Prefix). number_of ins e.1 ≡ Some e.0 in
     let rows = numbers_from 0 c.self.inside.rows.rows.items in
     let was = subst (λ (v : View). AreNumbered v ins) (sym c.self.view_is) h in
-    touch_up (view_of c.self.inside) c.args.self.now c.args.prefix _ c.self.view_is (sym c.if-is_some.ensures) (c.add.ensures.touched ins (all_behind P rows _ was) is)
+    touch_up (view_of c.self.inside) c.args.self.now c.args.prefix _ c.self.view_is (sym c.if-is_some.ensures) (c.add.ensures.touched ins (all_behind P rows _ was))
 
 pub returns-then-is_some-clause-numbered : goal.returns-then-is_some-clause-numbered
 returns-then-is_some-clause-numbered c = λ ins h is.

@@ -12,4 +12,4 @@ returns-then-is_some-clause-numbered c = λ ins h.
     let P = λ (e : ℕ × Prefix). number_of ins e.1 ≡ Some e.0 in
     let rows = numbers_from 0 c.self.inside.rows.rows.items in
     let was = subst (λ (v : View). AreNumbered v ins) (sym c.self.view_is) h in
-    all_both P rows _ (all_front P rows _ was) (subst (AllByRecursion P) (sym c.add_all.ensures.entries) tt)
+    all_both P rows _ (all_front P rows _ was) (subst (AllByRecursion P) (sym c.add_all.ensures.prefixes) tt)

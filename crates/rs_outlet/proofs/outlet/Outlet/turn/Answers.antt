@@ -53,7 +53,7 @@ returns-in-Ok-clause-turned c = λ are.
       told = c.in-Ok.ensures.told are;
       marked = c.in-Ok.ensures.marked are;
       touched = λ up. c.in-Ok.ensures.touched;
-      whole = λ up. c.in-Ok.ensures.whole;
+      whole = λ up. c.in-Ok.ensures.whole are;
       count = λ up. c.in-Ok.ensures.count are;
       down = λ none. absurd (let f : None ≡ Some c.in-Some.speech = sym none ∙ sym (ap (λ (v : View). v.speech) c.self.view_is) ∙ c.in-Some.is in (cc));
       last = c.in-Ok.ensures.done;

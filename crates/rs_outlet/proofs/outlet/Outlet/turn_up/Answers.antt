@@ -1,4 +1,4 @@
-use Rattle.std.proofs.Common.{◌≡◌, ◌∙◌, ◌++◌, cond, ap, ℕ, List, Some, refl, rules, sym, subst}
+use Rattle.std.proofs.Common.{◌≡◌, ◌∙◌, ◌++◌, cond, ap, ℕ, List, Some, refl, sym, subst}
 use Rattle.std.specs.FinMap as fin
 use Rattle.rs_outlet.specs.Due.{any_holds, due_to}
 use Rattle.rs_outlet.specs.HeldBy.{held_by}
@@ -9,9 +9,10 @@ use Rattle.rs_adjin.specs.declared.adj_ins.AdjIns.{AdjIns}
 use Rattle.rs_outlet.specs.declared.waiting.Wait.{Wait}
 use Rattle.rs_outlet.specs.Places.{open_at}
 use Rattle.rs_outlet.specs.Owed.{Keeps}
-use Rattle.rs_outlet.specs.Views.{View, Table, AreNumbered, IsCount, HaveNumbers, WaitsAreExact, is_touched}
+use Rattle.rs_outlet.specs.Views.{View, Table, AreNumbered, IsCount, HaveNumbers, WaitsAreExact, is_touched, is_whole}
 use Rattle.rs_outlet.proofs.Backing.{are_backed_same, changes_fit, fit_same, fit_spoken, own_same}
 use Rattle.rs_outlet.specs.Inside.{AreOwn, numbers_from, loc_of, is_changed, view_of}
+use Rattle.rs_outlet.specs.Touching.{touched_of}
 use Rattle.rs_outlet.proofs.Numbering.{all_front, all_behind, all_both, have_rows}
 use Rattle.rs_outlet.proofs.Carrying.{distinct_prefixes, keeps_both, keeps_same}
 use Rattle.rs_outlet.proofs.Unchanged.{told_kept, marked_kept, exact_kept}
@@ -37,14 +38,14 @@ returns-clause-numbered c = λ numbered.
     let was = subst (λ (v : View). AreNumbered v ins) (sym c.self.view_is) numbered in
     all_both P (numbers_from 0 c.commit.new.rows.rows.items) _
     (c.commit.ensures.numbered ins c.in_ok-changes.ensures.changes.placed (subst (λ es. HaveNumbers es ins) (sym c.make_room.ensures.numbers) (all_front P (numbers_from 0 c.self.inside.rows.rows.items) _ was)))
-    (subst (AllByRecursion P) (sym c.clear.ensures.entries) tt)
+    (subst (AllByRecursion P) (sym c.clear.ensures.prefixes) tt)
 
 pub returns-clause-loc : goal.returns-clause-loc
 returns-clause-loc c = λ are p.
     let ins = c.args.sources.now.ins.now in
     let a = c.self.inside in
     let rows = a.rows.rows.items in
-    let es = a.touched.prefixes.entries in
+    let es = a.touched.prefixes.items in
     let due_at = due_to (held_by c.args.sources.now) c.args.sources.now.client c.args.speech in
     let P = λ (e : ℕ × Prefix). number_of ins e.1 ≡ Some e.0 in
     let was = subst (λ (v : View). AreNumbered v ins) (sym c.self.view_is) are in
@@ -52,7 +53,7 @@ returns-clause-loc c = λ are p.
     let k : HaveNumbers es ins = all_behind P (numbers_from 0 rows) es was in
     let there = subst (λ es. HaveNumbers es ins) (sym c.make_room.ensures.numbers) h in
     let decided = c.in_ok-changes.ensures.changes in
-    turned_at ins rows es a.touched.all due_at c.in_ok-changes.field-0.changes.items h k decided
+    turned_at ins rows es a.touched.all c.in_ok-changes.field-0.whole (c.in_ok-changes.ensures.whole k) due_at c.in_ok-changes.field-0.changes.items h k decided
     (λ q none. due_unnumbered c.args.sources.now.config.now ins c.args.sources.now.client c.args.speech q none)
     p _ (c.commit.ensures.loc ins due_at decided.placed decided.due there p ∙ ap (λ t. cond (is_changed c.in_ok-changes.field-0.changes.items p) (due_at p) (fin.get t p)) c.make_room.ensures.loc)
     ∙ ap (λ (v : View). cond (is_touched v.touched p) (due_at p) (fin.get v.loc p)) c.self.view_is
@@ -63,15 +64,24 @@ returns-clause-count c = λ are.
     let ins = c.args.sources.now.ins.now in
     let a = c.self.inside in
     let rows = a.rows.rows.items in
-    let es = a.touched.prefixes.entries in
+    let es = a.touched.prefixes.items in
     let held = any_holds (held_by c.args.sources.now) in
     let count = c.in_ok-changes.field-0.count in
     let P = λ (e : ℕ × Prefix). number_of ins e.1 ≡ Some e.0 in
     let was = subst (λ (v : View). AreNumbered v ins) (sym c.self.view_is) are in
+    let there = all_behind P (numbers_from 0 rows) es was in
     subst (λ (v : View). IsCount held v.loc v.touched count) c.self.view_is
-    (count_touched held (loc_of rows) a.touched.all es count
-    (λ all. counted_by_prefix ins rows held count (numbered ins rows (all_front P (numbers_from 0 rows) es was)) (none_holds config ins) (c.in_ok-changes.ensures.whole all))
-    (c.in_ok-changes.ensures.count (all_behind P (numbers_from 0 rows) es was)))
+    (count_touched held (loc_of rows) (touched_of a.touched.all es) count
+    (λ all. counted_by_prefix ins rows held count (numbered ins rows (all_front P (numbers_from 0 rows) es was)) (none_holds config ins) (c.in_ok-changes.ensures.all (c.in_ok-changes.ensures.whole there ∙ all)))
+    (c.in_ok-changes.ensures.count there))
+
+pub returns-clause-whole : goal.returns-clause-whole
+returns-clause-whole c = λ are.
+    let ins = c.args.sources.now.ins.now in
+    let a = c.self.inside in
+    let P = λ (e : ℕ × Prefix). number_of ins e.1 ≡ Some e.0 in
+    let was = subst (λ (v : View). AreNumbered v ins) (sym c.self.view_is) are in
+    c.in_ok-changes.ensures.whole (all_behind P (numbers_from 0 a.rows.rows.items) a.touched.prefixes.items was) ∙ ap (λ (v : View). is_whole v.touched) c.self.view_is
 
 -- the rows have their numbers when the changes are carried out
 there : (ins : AdjIns) (v w : View) (rows es ns : List (ℕ × Prefix)) → v ≡ w → v.numbers ≡ rows ++ es → ns ≡ rows → AreNumbered w ins → HaveNumbers ns ins
@@ -88,7 +98,7 @@ returns-clause-told c = λ are.
     let a = c.self.inside in
     let loc = loc_of a.rows.rows.items in
     let ws = a.waits.places.items in
-    let with_numbers = there ins (view_of a) c.args.self.now (numbers_from 0 a.rows.rows.items) a.touched.prefixes.entries _ c.self.view_is refl c.make_room.ensures.numbers are in
+    let with_numbers = there ins (view_of a) c.args.self.now (numbers_from 0 a.rows.rows.items) a.touched.prefixes.items _ c.self.view_is refl c.make_room.ensures.numbers are in
     let kept = c.commit.ensures.keeps ins c.in_ok-changes.ensures.changes.placed with_numbers in
     told_kept loc (loc_of c.commit.new.rows.rows.items) ws c.commit.new.waits.places.items
     (keeps loc (loc_of c.make_room.new.rows.rows.items) (loc_of c.commit.new.rows.rows.items) ws c.make_room.new.waits.places.items c.commit.new.waits.places.items c.make_room.ensures.loc c.make_room.ensures.waits kept)
@@ -100,7 +110,7 @@ returns-clause-marked c = λ are.
     let a = c.self.inside in
     let loc = loc_of a.rows.rows.items in
     let ws = a.waits.places.items in
-    let with_numbers = there ins (view_of a) c.args.self.now (numbers_from 0 a.rows.rows.items) a.touched.prefixes.entries _ c.self.view_is refl c.make_room.ensures.numbers are in
+    let with_numbers = there ins (view_of a) c.args.self.now (numbers_from 0 a.rows.rows.items) a.touched.prefixes.items _ c.self.view_is refl c.make_room.ensures.numbers are in
     let kept = c.commit.ensures.keeps ins c.in_ok-changes.ensures.changes.placed with_numbers in
     marked_kept loc (loc_of c.commit.new.rows.rows.items) ws c.commit.new.waits.places.items
     (keeps loc (loc_of c.make_room.new.rows.rows.items) (loc_of c.commit.new.rows.rows.items) ws c.make_room.new.waits.places.items c.commit.new.waits.places.items c.make_room.ensures.loc c.make_room.ensures.waits kept)
@@ -112,7 +122,7 @@ returns-clause-exact c = λ are exact.
     let a = c.self.inside in
     let loc = loc_of a.rows.rows.items in
     let ws = a.waits.places.items in
-    let with_numbers = there ins (view_of a) c.args.self.now (numbers_from 0 a.rows.rows.items) a.touched.prefixes.entries _ c.self.view_is refl c.make_room.ensures.numbers are in
+    let with_numbers = there ins (view_of a) c.args.self.now (numbers_from 0 a.rows.rows.items) a.touched.prefixes.items _ c.self.view_is refl c.make_room.ensures.numbers are in
     let kept = c.commit.ensures.keeps ins c.in_ok-changes.ensures.changes.placed with_numbers in
     exact_kept loc (loc_of c.commit.new.rows.rows.items) ws c.commit.new.waits.places.items
     (keeps loc (loc_of c.make_room.new.rows.rows.items) (loc_of c.commit.new.rows.rows.items) ws c.make_room.new.waits.places.items c.commit.new.waits.places.items c.make_room.ensures.loc c.make_room.ensures.waits kept)
@@ -134,7 +144,6 @@ invariant_of-self-2 c =
       ended = kept.ended;
       front = kept.front;
       chosen = kept.chosen;
-      touched = search rules;
       places = c.commit.ensures.all;
       extended = kept.extended;
       backed = c.commit.ensures.backed (are_backed_same a.rows.rows.items c.make_room.new.rows.rows.items a.waits.places.items c.make_room.new.waits.places.items c.make_room.ensures.rows c.make_room.ensures.waits kept.backed);
