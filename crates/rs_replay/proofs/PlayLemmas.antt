@@ -1,11 +1,10 @@
 -- What was written, and where a replay stands, behind a line of output or a line of the trace.
-use Rattle.std.proofs.Common.{◌≡◌, ℕ, ◌+◌, ◌⊎◌, List, [], ◌∷◌, ◌++◌, length, take, drop, refl, sym, ◌∙◌, ap, arith, Bool, true, false, inl, inr, Option, Some, None, append_assoc, subst}
+use Rattle.std.proofs.Common.{◌≡◌, ℕ, List, [], ◌∷◌, ◌++◌, take, drop, refl, sym, ◌∙◌, ap, true, false, inl, inr, Option, Some, None, append_assoc, subst}
 use Rattle.std.specs.Prelude.{Result, Ok, Err, OnOk, is_ok}
 use Rattle.std.proofs.lemmas.List.{append-nil, take-append-drop}
-use Rattle.rs_replay.specs.declared.trace.LineFault.{LineFault}
 use Rattle.rs_replay.specs.declared.fault.ReplayFault.TheVariants.{Line, Memory, Reading, Writing}
-use Rattle.rs_replay.specs.declared.recording.Stop.{Stop}
-use Rattle.rs_replay.specs.declared.recording.Stop.TheVariants.{End, Table, Fault}
+use Rattle.rs_replay.specs.declared.fault.Stop.{Stop}
+use Rattle.rs_replay.specs.declared.fault.Stop.TheVariants.{End, Table, Fault}
 use Rattle.rs_replay.specs.Lines as lines
 use Rattle.rs_replay.specs.Trace.{Saying, Listed}
 use Rattle.rs_replay.specs.Played.{SaysFirst, Stands, PutsFront, Puts, failed, failures_read, failures_written, GoesOn}

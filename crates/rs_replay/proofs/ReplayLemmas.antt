@@ -1,6 +1,6 @@
 -- The lines of a text as a reader of lines comes to them, and the first fault among them.
 use Rattle.std.proofs.Common.{◌≡◌, ℕ, ◌+◌, ◌<◌, ◌⊎◌, List, [], ◌∷◌, ◌++◌, length, refl, sym, ◌∙◌, ap, arith, Bool, true, false, inl, inr, Option, Some, None, append_assoc, length-append, rules, subst}
-use Rattle.std.specs.Prelude.{nat_lt, Result, Ok, Err, ◌==◌, ◌≤◌, if◌then◌else◌}
+use Rattle.std.specs.Prelude.{nat_lt, Result, Ok, Err, ◌==◌, if◌then◌else◌}
 use Rattle.std.specs.List.{list_any}
 use Rattle.std.proofs.lemmas.List.{append-nil}
 use Rattle.rs_replay.specs.declared.trace.LineFault.{LineFault}
@@ -10,7 +10,6 @@ use Rattle.rs_replay.specs.Lines.{Reading, IsEnded, IsLast, IsTooLong, IsFirstLi
 use Rattle.rs_replay.specs.Trace.{Saying, line_of}
 use Rattle.rs_replay.specs.declared.trace.Entry.{Entry}
 use Rattle.rs_replay.specs.Entries.{saying_in, line_as_saying}
-use Rattle.rs_replay.specs.declared.recording.Stop.{Stop}
 use Rattle.rs_replay.specs.Replays.{sayings_in}
 use Rattle.rs_replay.specs.Text.{lines_of, whole_lines, outcome, Outcome, tells, behind, on_line, IsRead}
 use Rattle.rs_replay.specs.Played.{FollowsOn, AreWhole, GoesOn, SaysFirst}

@@ -1,6 +1,6 @@
 -- A replay as the steps of the core's link and the routes that were told between them.
-use Rattle.std.proofs.Common.{◌≡◌, ℕ, ◌+◌, ◌⊎◌, length, List, [], ◌∷◌, ◌++◌, refl, sym, ◌∙◌, ap, inl, inr, Option, Some, None, subst, true, false}
-use Rattle.std.specs.Prelude.{⊤, Result, Ok, Err}
+use Rattle.std.proofs.Common.{◌≡◌, ℕ, ◌+◌, length, List, [], ◌∷◌, ◌++◌, refl, sym, ◌∙◌, ap, inl, inr, Option, Some, None, subst}
+use Rattle.std.specs.Prelude.{Result, Ok, Err}
 use Rattle.std.proofs.lemmas.List.{append-nil}
 use Rattle.rs_core.specs.Links as links
 use Rattle.rs_core.specs.Links.{HasStopped, Leads}
@@ -16,12 +16,12 @@ use Rattle.rs_replay.specs.declared.trace.LineFault.{LineFault}
 use Rattle.rs_replay.specs.declared.names.Names.{Names}
 use Rattle.rs_replay.specs.declared.fault.ReplayFault.{ReplayFault}
 use Rattle.rs_replay.specs.declared.fault.ReplayFault.TheVariants.{Line, Memory, Reading, Writing}
-use Rattle.rs_replay.specs.declared.recording.Stop.{Stop}
-use Rattle.rs_replay.specs.declared.recording.Stop.TheVariants.{End, Table, Fault}
+use Rattle.rs_replay.specs.declared.fault.Stop.{Stop}
+use Rattle.rs_replay.specs.declared.fault.Stop.TheVariants.{End, Table, Fault}
 use Rattle.rs_replay.specs.Lines as lines
 use Rattle.rs_replay.specs.Output.{fault_line}
 use Rattle.rs_replay.specs.Trace.{Saying, Listed}
-use Rattle.rs_replay.specs.Played.{Act, Did, ToldRoutes, said, written, AllTookAll, Puts, SaysFirst, Stands, line_at}
+use Rattle.rs_replay.specs.Played.{Act, Did, ToldRoutes, said, written, Puts, SaysFirst, TookAll, line_at, saying_at}
 use Rattle.rs_replay.specs.Replays.{Plays, Happens, HasRun, Drove, steps_done, Adds, HasDone, IsAtFirst, IsOver, FailsOn, IsPlayed, PlaysOut, AreNamesOf, place_in, name_in}
 use Rattle.rs_replay.specs.Text.{whole_lines}
 use Rattle.rs_replay.proofs.PlayLemmas.{stands_first}
@@ -78,6 +78,22 @@ module _ {R W G : Type 0} (takes : R → List ℕ → R → Type 0) (at_end : R 
             d.same_names (h.goes first to (said acts ++ (Listed c ∷ [])) (written (name_in names) acts))) resumed;
       }
 
+-- the line that a step is told by was written, and the step says nothing
+pub added_by : {R W G : Type 0} {takes : R → List ℕ → R → Type 0} {at_end : R → Type 0} {fails : R → ℕ} {puts : W → List ℕ → W → Type 0} {loses : W → ℕ}
+    {names : Names} {reads writes : G} {reader : R} {writer : W} {r : lines.Reading} {n : ℕ} {stop : Option Stop}
+    {names2 : Names} {reads2 writes2 : G} {reader2 : R} {writer2 : W} {r2 : lines.Reading} {n2 : ℕ} {stop2 : Option Stop}
+    (step : links.Step) → TookAll step → saying_at step ≡ []
+    → Adds takes at_end fails puts loses names reads writes reader writer r n stop (line_at (name_in names) step) names2 reads2 writes2 reader2 writer2 r2 n2 stop2
+    → Happens takes at_end fails puts loses names reads writes reader writer r n stop step names2 reads2 writes2 reader2 writer2 r2 n2 stop2
+added_by {takes = takes} {at_end} {fails} {puts} {loses} {names = names} {reader2 = reader2} {writer2} {r2} {n2} {stop2} step took silent h = record {
+  same_names = h.same_names;
+  same_reader = h.same_reader;
+  same_writer = h.same_writer;
+  took = took;
+  goes = λ first to s o p. subst (λ xs. Plays takes at_end fails puts loses (place_in names) first to xs (o ++ line_at (name_in names) step) reader2 writer2 r2 n2 stop2)
+      (sym (append-nil s) ∙ ap (λ xs. s ++ xs) (sym silent)) (h.goes first to s o p);
+}
+
 -- a run of steps to the first stop
 pub led_to_stop : {L : Type 0} (happens : L → links.Step → L → Type 0) (P : L → List Act → Type 0)
     → ((old new : L) (s : links.Step) (acts : List Act) → happens old s new → P old acts → P new (Did s ∷ acts))
@@ -88,19 +104,19 @@ led_to_stop happens P step old new acts h p = (
 )
 
 -- Where a route server and its link go on by a drive, what was done before and what the drive does is a run of the route server.
-pub record HasGone {L : Type 0} (P : L → List Act → Type 0) (settings : Configuration) (core : Core) (link : L) : Type 0 where
+pub record HasGone {L : Type 0} (P : L → List Act → Type 0) (settings : Configuration) (name : ℕ → List ℕ) (core : Core) (link : L) : Type 0 where
   pub acts : List Act
   pub run : List Move
   pub done : P link acts
-  pub ran : HasRun settings acts run
+  pub ran : HasRun settings name acts run
   pub clients : client_count core ≡ length settings.clients
   pub agrees : Agrees core run
 
 pub gone_on : {L : Type 0} (happens : L → links.Step → L → Type 0) (P : L → List Act → Type 0)
     → ((old new : L) (s : links.Step) (acts : List Act) → happens old s new → P old acts → P new (Did s ∷ acts))
-    → (settings : Configuration) (old : Core) (before : L) (new : Core) (after : L) → Continues happens old before new after Drives
-    → HasGone P settings old before → HasGone P settings new after
-gone_on happens P step settings old before new after c g =
+    → (settings : Configuration) (name : ℕ → List ℕ) (old : Core) (before : L) (new : Core) (after : L) → Continues happens old before new after Drives
+    → HasGone P settings name old before → HasGone P settings name new after
+gone_on happens P step settings name old before new after c g =
     let on = c.on before (length settings.clients) (record { steps = []; run = g.run }) (record { clients = g.clients; leads = refl; agrees = g.agrees }) in
     record {
       acts = steps_done on.0.steps g.acts;

@@ -4,6 +4,7 @@ pub mod Trace
 pub mod Entries
 pub mod Lines
 pub mod Output
+pub mod Tables
 pub mod Texts
 pub mod Text
 pub mod Played

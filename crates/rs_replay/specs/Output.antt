@@ -2,6 +2,7 @@
 use Rattle.std.specs.Prelude.{ℕ, ◌/◌, ◌%◌, List, [], ◌∷◌, ◌++◌, codes, decimal}
 use Rattle.rs_replay.specs.declared.trace.LineFault.{LineFault}
 use Rattle.rs_replay.specs.declared.trace.LineFault.TheVariants.{TooLong, UnknownWord, WordCount, UnknownClient, BadNumber, BadHex}
+use Rattle.rs_octets.specs.Prefixes.{Prefix}
 use Rattle.hex.specs.Hex.{encode_lower}
 
 -- a word, a space, a name
@@ -13,13 +14,13 @@ abbrev pub sent_line : List ℕ → List ℕ → List ℕ
 sent_line name octets = codes "sent " ++ name ++ codes " " ++ encode_lower octets ++ (10 ∷ [])
 
 -- a prefix as four numbers and its length
-abbrev pub prefix_text : ℕ → ℕ → List ℕ
-prefix_text bits len =
-    decimal (bits / 16777216) ++ codes "." ++ decimal (bits / 65536 % 256) ++ codes "." ++ decimal (bits / 256 % 256) ++ codes "." ++ decimal (bits % 256) ++ codes "/" ++ decimal len
+abbrev pub prefix_text : Prefix → List ℕ
+prefix_text p =
+    decimal (p.bits / 16777216) ++ codes "." ++ decimal (p.bits / 65536 % 256) ++ codes "." ++ decimal (p.bits / 256 % 256) ++ codes "." ++ decimal (p.bits % 256) ++ codes "/" ++ decimal p.len
 
 -- a route of a client's Loc-RIB: its prefix, and its attributes as they are spelt, in lower case hex
-abbrev pub route_line : List ℕ → List ℕ → List ℕ → List ℕ
-route_line name prefix attributes = codes "route " ++ name ++ codes " " ++ prefix ++ codes " " ++ encode_lower attributes ++ (10 ∷ [])
+abbrev pub route_line : List ℕ → Prefix → List ℕ → List ℕ
+route_line name p attributes = codes "route " ++ name ++ codes " " ++ prefix_text p ++ codes " " ++ encode_lower attributes ++ (10 ∷ [])
 
 abbrev pub accepted_line : List ℕ
 accepted_line = codes "rules accepted" ++ (10 ∷ [])

@@ -5,20 +5,18 @@ use Rattle.rs_policy.specs.FaultTexts.{rules_fault_text}
 use Rattle.rs_core.specs.declared.links.Event.{Event}
 use Rattle.rs_core.specs.declared.links.Event.TheVariants as events
 use Rattle.rs_core.specs.Links as links
-use Rattle.rs_replay.specs.declared.trace.LineFault.{LineFault}
-use Rattle.rs_replay.specs.declared.fault.ReplayFault.{ReplayFault}
 use Rattle.rs_replay.specs.declared.fault.ReplayFault.TheVariants.{Line, Memory, Reading, Writing}
-use Rattle.rs_replay.specs.declared.recording.Stop.{Stop}
-use Rattle.rs_replay.specs.declared.recording.Stop.TheVariants.{End, Table, Fault}
+use Rattle.rs_replay.specs.declared.fault.Stop.{Stop}
+use Rattle.rs_replay.specs.declared.fault.Stop.TheVariants.{End, Table, Fault}
 use Rattle.rs_replay.specs.Lines as lines
-use Rattle.rs_replay.specs.Output.{client_line, sent_line, accepted_line, refused_line, fault_line}
+use Rattle.rs_replay.specs.Output.{client_line, sent_line, accepted_line, refused_line}
 use Rattle.rs_replay.specs.Trace.{Saying, Opened, Heard, Offered, Passed, Turned, Left, Replaced, Listed}
 use Rattle.rs_replay.specs.Text.{lines_of, whole_lines, outcome, tells, behind, IsRead}
 
 pub data Act : Type 0 where
   -- the core's link did a step
   Did : (step : links.Step) → Act
-  -- a client's routes were told, in these lines
+  -- the routes of a client were told, in these lines
   ToldRoutes : (c : ℕ) (told : List ℕ) → Act
 
 -- the line of the trace that an event comes from; a stop comes from none

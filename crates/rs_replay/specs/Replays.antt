@@ -1,7 +1,6 @@
 -- From what a reader gives to what a writer is given.
-use Rattle.std.specs.Prelude.{◌≡◌, ◌⊎◌, ◌<◌, ℕ, ◌+◌, List, [], ◌∷◌, ◌++◌, length, take, map, true, false, Option, Some, None, Result, Ok, Err, position, bytes_eq, slice_get, ⊤}
+use Rattle.std.specs.Prelude.{◌≡◌, ◌⊎◌, ℕ, List, [], ◌∷◌, ◌++◌, length, map, false, Option, Some, None, Result, Ok, Err, position, bytes_eq, slice_get}
 use Rattle.rs_policy.specs.Configuration.{Configuration}
-use Rattle.rs_core.specs.declared.links.Event.{Event}
 use Rattle.rs_core.specs.Links as links
 use Rattle.rs_core.specs.Moves.{Move, Ruled}
 use Rattle.rs_core.specs.Courses.{Course}
@@ -11,14 +10,15 @@ use Rattle.rs_replay.specs.declared.trace.Entry.{Entry}
 use Rattle.rs_replay.specs.declared.names.Names.{Names}
 use Rattle.rs_replay.specs.declared.fault.ReplayFault.{ReplayFault}
 use Rattle.rs_replay.specs.declared.fault.ReplayFault.TheVariants.{Line, Memory, Reading, Writing}
-use Rattle.rs_replay.specs.declared.recording.Stop.{Stop}
-use Rattle.rs_replay.specs.declared.recording.Stop.TheVariants.{End, Table, Fault}
+use Rattle.rs_replay.specs.declared.fault.Stop.{Stop}
+use Rattle.rs_replay.specs.declared.fault.Stop.TheVariants.{End, Table, Fault}
 use Rattle.rs_replay.specs.Lines as lines
 use Rattle.rs_replay.specs.Output.{fault_line}
 use Rattle.rs_replay.specs.Trace.{Saying, Listed}
 use Rattle.rs_replay.specs.Entries.{saying_in}
+use Rattle.rs_replay.specs.Tables.{ListsOf}
 use Rattle.rs_replay.specs.Text.{lines_of, outcome, tells, IsRead}
-use Rattle.rs_replay.specs.Played.{Act, Did, ToldRoutes, said, written, saying_told, saying_at, line_at, TookAll, AllTookAll, SaysFirst, Stands, PutsFront, Puts, failed, failures_read, failures_written}
+use Rattle.rs_replay.specs.Played.{Act, Did, ToldRoutes, said, written, saying_at, line_at, TookAll, AllTookAll, SaysFirst, Stands, PutsFront, Puts, failed, failures_read, failures_written}
 
 -- the client of a name, and the name of a client
 abbrev pub place_in : Names → List ℕ → Option ℕ
@@ -113,13 +113,14 @@ abbrev pub steps_done : List links.Step → List Act → List Act
 steps_done [] acts = acts
 steps_done (s ∷ run) acts = Did s ∷ steps_done run acts
 
--- What was done is what a link and a route server of so many clients do together in drives (one behind the other), and routes that were told
--- between them; this run was made by it.
-pub data HasRun (settings : Configuration) : List Act → List Move → Type 0 where
-  Begins : HasRun settings [] (Ruled settings ∷ [])
-  Drove : (acts : List Act) (run : List Move) (y : Course) → HasRun settings acts run
-      → Drives (length settings.clients) (record { steps = []; run = run }) y → HasRun settings (steps_done y.steps acts) y.run
-  Tells : (c : ℕ) (told : List ℕ) (acts : List Act) (run : List Move) → HasRun settings acts run → HasRun settings (ToldRoutes c told ∷ acts) run
+-- What was done is what a link and a route server of so many clients do together in drives (one behind the other), and between them the lines of
+-- a client's Loc-RIB, as it is then, were told; this run was made by it.
+pub data HasRun (settings : Configuration) (name : ℕ → List ℕ) : List Act → List Move → Type 0 where
+  Begins : HasRun settings name [] (Ruled settings ∷ [])
+  Drove : (acts : List Act) (run : List Move) (y : Course) → HasRun settings name acts run
+      → Drives (length settings.clients) (record { steps = []; run = run }) y → HasRun settings name (steps_done y.steps acts) y.run
+  Tells : (c : ℕ) (told : List ℕ) (acts : List Act) (run : List Move) → HasRun settings name acts run
+      → ListsOf (length settings.clients) run c (name c) told → HasRun settings name (ToldRoutes c told ∷ acts) run
 
 -- The octets that were taken say what was done, in that order, and the octets that were put are its output. What was done is a run of
 -- the route server, and each offer took all.
@@ -133,7 +134,7 @@ pub record IsPlayed (settings : Configuration) (takes : List ℕ → Type 0) (ov
   pub gives : Gives (EndsAt (place_in names) text over (said acts)) put (written (name_in names) acts) result
   pub took : AllTookAll acts
   pub run : List Move
-  pub ran : HasRun settings acts run
+  pub ran : HasRun settings (name_in names) acts run
 
 -- nothing was read yet, and the core was not stopped
 pub record IsAtFirst (r : lines.Reading) (n : ℕ) (stop : Option Stop) : Type 0 where
@@ -168,11 +169,6 @@ pub record Adds {R W G : Type 0} (takes : R → List ℕ → R → Type 0) (at_e
   pub goes : (first : R) (to : W) (sayings : List Saying) (octets : List ℕ) → Plays takes at_end fails puts loses (place_in names) first to sayings octets reader writer r n stop →
       Plays takes at_end fails puts loses (place_in names) first to sayings (octets ++ line) reader2 writer2 r2 n2 stop2
 
--- the lines of routes, where there was memory for them
-abbrev pub routes_told : {V E : Type 0} → (V → List ℕ) → Result V E → List ℕ
-routes_told octets (Ok made) = octets made
-routes_told octets (Err refused) = []
-
 -- What was read up to here says what was done, and the replay ends with this answer.
 pub record IsOver {R W : Type 0} (takes : R → List ℕ → R → Type 0) (at_end : R → Type 0) (puts : W → List ℕ → W → Type 0)
     (place : List ℕ → Option ℕ) (first : R) (to : W) (sayings : List Saying) (octets : List ℕ) (reader : R) (writer : W) (answer : Result (Unit {0}) ReplayFault) : Type 0 where
@@ -186,7 +182,7 @@ pub record PlaysOut {R W : Type 0} (settings : Configuration) (takes : R → Lis
     (names : Names) (first : R) (to : W) (reader : R) (writer : W) (answer : Result (Unit {0}) ReplayFault) : Type 0 where
   pub acts : List Act
   pub run : List Move
-  pub ran : HasRun settings acts run
+  pub ran : HasRun settings (name_in names) acts run
   pub took : AllTookAll acts
   pub over : IsOver takes at_end puts (place_in names) first to (said acts) (written (name_in names) acts) reader writer answer
 

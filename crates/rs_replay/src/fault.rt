@@ -1,4 +1,4 @@
-//! Why a replay ended early.
+//! Why a replay stops for a while, and why it ended early.
 
 use crate::trace::LineFault;
 use thiserror::Error;
@@ -15,4 +15,15 @@ pub enum ReplayFault {
     Reading,
     #[error("writing failed")]
     Writing,
+}
+
+/// Why the core was stopped.
+#[derive(Clone, Copy, Debug, PartialEq, Eq)]
+pub enum Stop {
+    /// The text is over.
+    End,
+    /// The routes of this client are asked for.
+    Table(usize),
+    /// The replay is over.
+    Fault(ReplayFault),
 }

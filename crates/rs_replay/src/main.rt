@@ -1,12 +1,14 @@
 //! Plays recorded sessions to a route server and writes what its clients are sent.
 //!
 //! A trace comes in by `text` and `lines`; `words`, `number` and `trace` say what each of its lines
-//! means; `recording` hands that to the core as a link, and `replay` lets the core run; `output`
-//! says what lines go out. `command` and `settings` read the words of the command line and the
+//! means; `entries` reads one after the other, `recording` hands that to the core as a link, and
+//! `replay` lets the core run; `tables` lists a client's Loc-RIB, and `output` says what lines go out.
+//! `command` and `settings` read the words of the command line and the
 //! file that they name, and `progress` tells on a terminal how far a long replay is.
 #![tactic(auto)]
 
 pub mod command;
+pub mod entries;
 pub mod fault;
 pub mod lines;
 pub mod names;

@@ -1,9 +1,9 @@
 //! The lines that a replay writes: each is made in a `Vec` that is lent, and written whole. It
 //! writes by `TextOut` alone.
 
-ghost use Rattle.std.specs.Prelude.{◌≡◌, ◌≤◌, ◌+◌, ◌++◌, ◌∷◌, [], ℕ, min, length, take, codes, IfOk, IsOk, IsErr, OnOk, OnErr};
+ghost use Rattle.std.specs.Prelude.{◌≡◌, ◌≤◌, ◌+◌, ◌++◌, ◌∷◌, [], ℕ, min, length, take, codes, IfOk, IsOk, IsErr, OnOk, OnErr, decimal};
 ghost use Rattle.rs_policy.specs.FaultTexts.{rules_fault_text};
-ghost use Rattle.rs_replay.specs.Output.{sent_line, client_line, fault_line, refused_line};
+ghost use Rattle.rs_replay.specs.Output.{client_line, fault_line, prefix_text, refused_line, route_line, sent_line};
 ghost use Rattle.rs_replay.specs.Played.{rules_line};
 
 use crate::text::{Failed, TextOut};
@@ -96,11 +96,27 @@ pub fn ruled(line: &mut Vec<u8>, answer: &Result<(), RulesFault>) -> Result<(), 
     }
 }
 
-/// A prefix as `198.51.100.0/24`.
-fn prefix_words(alloc: Global, prefix: &Prefix) -> Result<String, AllocError> {
+/// Puts a number behind a line, in decimal digits.
+fn put_number(alloc: Global, line: &mut Vec<u8>, number: u32) -> Result<(), AllocError>
+    ensures { OnOk result (line.new.items ≡ line.old.items ++ decimal number) }
+{
+    line.extend_from_slice(format!(in alloc; "{number}")?.as_bytes())
+}
+
+/// Puts a prefix behind a line, as `198.51.100.0/24`.
+fn put_prefix(alloc: Global, line: &mut Vec<u8>, prefix: &Prefix) -> Result<(), AllocError>
+    ensures { OnOk result (line.new.items ≡ line.old.items ++ prefix_text prefix.now) }
+{
     let bits = prefix.bits();
-    let [first, second, third, fourth] = bits.to_be_bytes();
-    format!(in alloc; "{first}.{second}.{third}.{fourth}/{}", prefix.len())
+    put_number(alloc, line, bits / 16777216)?;
+    line.extend_from_slice(b".")?;
+    put_number(alloc, line, bits / 65536 % 256)?;
+    line.extend_from_slice(b".")?;
+    put_number(alloc, line, bits / 256 % 256)?;
+    line.extend_from_slice(b".")?;
+    put_number(alloc, line, bits % 256)?;
+    line.extend_from_slice(b"/")?;
+    put_number(alloc, line, u32::from(prefix.len()))
 }
 
 /// The line of a route, `route NAME PREFIX HEX`.
@@ -109,11 +125,13 @@ pub fn route(
     name: &[u8],
     prefix: &Prefix,
     attributes: &[u8],
-) -> Result<Vec<u8>, AllocError> {
+) -> Result<Vec<u8>, AllocError>
+    ensures { IfOk result (λ line. line.items ≡ route_line name.now prefix.now attributes.now) }
+{
     let mut line = Vec::from_slice(alloc, b"route ")?;
     line.extend_from_slice(name)?;
     line.extend_from_slice(b" ")?;
-    line.extend_from_slice(prefix_words(alloc, prefix)?.as_bytes())?;
+    put_prefix(alloc, &mut line, prefix)?;
     line.extend_from_slice(b" ")?;
     line.extend_from_slice(hex::encode(alloc, attributes)?.as_bytes())?;
     line.extend_from_slice(b"\n")?;

@@ -3,115 +3,24 @@
 //! over, and where something failed.
 
 ghost use Rattle.std.specs.Prelude.{◌≡◌, ◌≤◌, ◌++◌, ◌∷◌, ℕ, List, [], Some, None, false, length, take, codes, Err, IfOk, IfSome, OnOk, Option};
-ghost use Rattle.rs_core.specs.Links as links;
 ghost use Rattle.rs_replay.specs.Output.{fault_line};
 ghost use Rattle.rs_replay.specs.Trace.{Saying};
-ghost use Rattle.rs_replay.specs.Entries.{saying_in};
-ghost use Rattle.rs_replay.specs.Played.{Puts, failures_read, failures_written, failed, saying_told};
-ghost use Rattle.rs_replay.specs.Replays.{Adds, AreNamesOf, FailsOn, IsOver, Plays, ReadsOn, TellsAs, name_in, place_in, routes_told, saying_read, sayings_in, stop_of};
-ghost use Rattle.rs_replay.specs.declared.recording.Stop.TheVariants as stops;
+ghost use Rattle.rs_replay.specs.Played.{Puts, failed, failures_read, failures_written};
+ghost use Rattle.rs_replay.specs.Replays.{Adds, AreNamesOf, FailsOn, IsOver, Plays, name_in, place_in};
+ghost use Rattle.rs_replay.specs.declared.fault.Stop.TheVariants as stops;
 ghost use Rattle.rs_replay.specs.declared.fault.ReplayFault.TheVariants as faults;
 
-use crate::fault::ReplayFault;
+use crate::entries::{event_of, next_entry};
+use crate::fault::{ReplayFault, Stop};
 use crate::lines::Lines;
 use crate::names::Names;
 use crate::output;
 use crate::progress::Watch;
 use crate::text::{TextIn, TextOut};
-use crate::trace::{Entry, LineFault, read_line};
+use crate::trace::LineFault;
 use rs_core::{Event, Link, Sink, Source};
 use rs_policy::{Config, RulesFault};
 use std::alloc::{AllocError, Global};
-
-/// Why the core was stopped.
-#[derive(Clone, Copy, Debug, PartialEq, Eq)]
-pub enum Stop {
-    /// The text is over.
-    End,
-    /// The routes of this client are asked for.
-    Table(usize),
-    /// The replay is over.
-    Fault(ReplayFault),
-}
-
-/// Reads a line, and what it asks for: nothing where it says nothing. `number` counts the lines.
-fn read_entry<R: TextIn, P: Watch>(
-    names: &Names,
-    lines: &mut Lines,
-    number: &mut u64,
-    reader: &mut R,
-    watch: &mut P,
-    piece: &mut [u8; 4096],
-) -> Result<Option<Entry>, Stop>
-    ensures on { ReadsOn R.takes R.at_end (place_in names.now) reader.old number.old lines.old reader.new number.new lines.new (sayings_in piece.new result) (stop_of result) }
-    ensures reads { R.failures reader.new ≡ failures_read (stop_of result) (R.failures reader.old) }
-    ensures unwritten { (n : ℕ) → n ≡ failures_written (stop_of result) n }
-{
-    if *number >= u64::MAX - 1 {
-        // The number of a further line has no room.
-        return Err(Stop::Fault(ReplayFault::Memory));
-    }
-    match lines.advance(reader) {
-        Ok(true) => {}
-        Ok(false) => return Err(Stop::End),
-        Err(_) => return Err(Stop::Fault(ReplayFault::Reading)),
-    }
-    *number += 1;
-    match read_line(names, lines.line(), piece) {
-        Ok(entry) => {
-            watch.line_read(*number, entry, piece);
-            Ok(entry)
-        }
-        Err(fault) => Err(Stop::Fault(ReplayFault::Line(*number, fault))),
-    }
-}
-
-/// Reads up to a line that asks for something.
-fn next_entry<R: TextIn, P: Watch>(
-    names: &Names,
-    lines: &mut Lines,
-    number: &mut u64,
-    reader: &mut R,
-    watch: &mut P,
-    piece: &mut [u8; 4096],
-) -> Result<Entry, Stop>
-    ensures on { ReadsOn R.takes R.at_end (place_in names.now) reader.old number.old lines.old reader.new number.new lines.new (saying_read piece.new result) (stop_of result) }
-    ensures reads { R.failures reader.new ≡ failures_read (stop_of result) (R.failures reader.old) }
-    ensures unwritten { (n : ℕ) → n ≡ failures_written (stop_of result) n }
-{
-    for _ in 0..u64::MAX {
-        match read_entry(names, lines, number, reader, watch, piece) {
-            Ok(None) => {}
-            Ok(Some(entry)) => return Ok(entry),
-            Err(stop) => return Err(stop),
-        }
-    }
-    Err(Stop::Fault(ReplayFault::Memory))
-}
-
-/// The event that an entry asks for, and why the core is stopped in its place. The text of the rules
-/// is kept.
-fn event_of(rules: &mut Vec<u8>, entry: Entry, piece: &[u8; 4096]) -> (Event, Option<Stop>)
-    ensures { TellsAs (saying_in piece.now entry ∷ []) (saying_told result.0 (links.octets_of result.0 piece.now rules.new.items)) result.1 }
-{
-    match entry {
-        Entry::Open(c) => (Event::Opened(c), None),
-        Entry::Octets(c, size) => (Event::Octets(c, size), None),
-        Entry::Room(c, room) => (Event::Room(c, room), None),
-        Entry::Moment(second) => (Event::Moment(second), None),
-        Entry::Turn => (Event::Turn, None),
-        Entry::Lost(c) => (Event::Lost(c), None),
-        Entry::Rules(size) => {
-            let text: &[u8] = piece;
-            rules.clear();
-            match rules.extend_from_slice(&text[..size.min(4096)]) {
-                Ok(()) => (Event::Rules, None),
-                Err(_) => (Event::Stop, Some(Stop::Fault(ReplayFault::Memory))),
-            }
-        }
-        Entry::Table(c) => (Event::Stop, Some(Stop::Table(c))),
-    }
-}
 
 /// Whether nothing is to be written any more.
 fn has_failed(stop: Option<Stop>) -> bool
@@ -244,9 +153,16 @@ impl<'a, R: TextIn, W: TextOut, P: Watch> Recording<'a, R, W, P> {
         self.names.name(c)
     }
 
+    /// Writes the line, where there was memory to make it and nothing has failed.
+    fn write(&mut self, made: Result<(), AllocError>)
+        ensures { (wanted : List ℕ) → OnOk made (self.old.line.now.items ≡ wanted) → Adds R.takes R.at_end R.failures W.puts W.failures self.old.names.now self.old.reader.ghost_name self.old.writer.ghost_name self.old.reader.now self.old.writer.now self.old.lines.now self.old.number self.old.stop wanted self.new.names.now self.new.reader.ghost_name self.new.writer.ghost_name self.new.reader.now self.new.writer.now self.new.lines.now self.new.number self.new.stop }
+    {
+        self.stop = write_line(self.writer, self.stop, made, self.line);
+    }
+
     /// Tells a client's routes, in these lines, where there was memory for them.
     pub fn tell_routes(&mut self, lines: &Result<Vec<u8>, AllocError>)
-        ensures { Adds R.takes R.at_end R.failures W.puts W.failures self.old.names.now self.old.reader.ghost_name self.old.writer.ghost_name self.old.reader.now self.old.writer.now self.old.lines.now self.old.number self.old.stop (routes_told (λ made. made.items) lines.now) self.new.names.now self.new.reader.ghost_name self.new.writer.ghost_name self.new.reader.now self.new.writer.now self.new.lines.now self.new.number self.new.stop }
+        ensures { (told : List ℕ) → IfOk lines.now (λ made. made.items ≡ told) → Adds R.takes R.at_end R.failures W.puts W.failures self.old.names.now self.old.reader.ghost_name self.old.writer.ghost_name self.old.reader.now self.old.writer.now self.old.lines.now self.old.number self.old.stop told self.new.names.now self.new.reader.ghost_name self.new.writer.ghost_name self.new.reader.now self.new.writer.now self.new.lines.now self.new.number self.new.stop }
     {
         match lines {
             Ok(lines) => self.stop = write_line(self.writer, self.stop, Ok(()), lines),
@@ -328,27 +244,27 @@ impl<'a, R: TextIn, W: TextOut, P: Watch> Sink for Recording<'a, R, W, P> {
 
     fn busy(&mut self, c: usize) {
         let made = output::busy(self.line, self.names.name(c));
-        self.stop = write_line(self.writer, self.stop, made, self.line);
+        self.write(made);
     }
 
     fn offer(&mut self, c: usize, octets: &[u8]) -> Option<usize> {
         let made = output::sent(self.alloc, self.line, self.names.name(c), octets);
-        self.stop = write_line(self.writer, self.stop, made, self.line);
+        self.write(made);
         Some(octets.len())
     }
 
     fn memory(&mut self, c: usize) {
         let made = output::memory(self.line, self.names.name(c));
-        self.stop = write_line(self.writer, self.stop, made, self.line);
+        self.write(made);
     }
 
     fn end(&mut self, c: usize) {
         let made = output::closed(self.line, self.names.name(c));
-        self.stop = write_line(self.writer, self.stop, made, self.line);
+        self.write(made);
     }
 
     fn ruled(&mut self, answer: &Result<(), RulesFault>) {
         let made = output::ruled(self.line, answer);
-        self.stop = write_line(self.writer, self.stop, made, self.line);
+        self.write(made);
     }
 }

@@ -8,9 +8,9 @@ ghost use Rattle.rs_core.specs.Agreeing.{Agrees};
 ghost use Rattle.rs_replay.specs.Played.{failures_read, failures_written};
 ghost use Rattle.rs_replay.specs.Replays.{HasPlayed, IsAtFirst, PlaysOut, end_of};
 
-use crate::fault::ReplayFault;
+use crate::fault::{ReplayFault, Stop};
 use crate::progress::Watch;
-use crate::recording::{Kept, Recording, Stop};
+use crate::recording::{Kept, Recording};
 use crate::tables::route_lines;
 use crate::text::{TextIn, TextOut};
 use rs_core::{Core, drive_with};

@@ -1,4 +1,4 @@
-use Rattle.std.proofs.Common.{◌≡◌, ℕ, List, ◌++◌, take, rules, sym, ◌∙◌, subst}
+use Rattle.std.proofs.Common.{ℕ, List, ◌++◌, take, rules, sym, ◌∙◌, subst}
 use Rattle.rs_replay.proofs.PlayLemmas.{puts_no_more, puts_all, front_of_part, made_so}
 use Rattle.rs_replay.proofs.recording.write_line.Goals as goal
 

@@ -1,18 +1,23 @@
-use Rattle.std.proofs.Common.{◌≡◌, ◌∙◌, ℕ, List, [], ◌∷◌, Option, Some, None, subst, sym, ap, length}
-use Rattle.std.specs.Prelude.{Result, Ok, Err}
+use Rattle.std.proofs.Common.{◌≡◌, ◌∙◌, ℕ, List, [], ◌∷◌, Some, None, subst, sym, ap, refl}
+use Rattle.std.specs.Prelude.{Result, Ok, Err, IfOk}
+use Rattle.std.specs.Global.{Vec}
+use Rattle.std.specs.declared.alloc.AllocError.{AllocError}
 use Rattle.rs_policy.specs.Configuration.{Configuration}
 use Rattle.rs_core.specs.Links as links
 use Rattle.rs_core.specs.Links.{HasStopped}
-use Rattle.rs_core.specs.Moves.{Ruled}
+use Rattle.rs_core.specs.Agreeing.{Agrees}
+use Rattle.rs_core.specs.Core.{client_count}
+use Rattle.rs_core.specs.Moves.{Move, Ruled}
 use Rattle.rs_core.specs.Courses.{Continues}
 use Rattle.rs_core.specs.Answers.{Drives}
 use Rattle.rs_core.specs.declared.route_server.Core.{Core}
 use Rattle.rs_replay.specs.declared.recording.Recording.{Recording}
-use Rattle.rs_replay.specs.declared.recording.Stop.{Stop}
-use Rattle.rs_replay.specs.declared.recording.Stop.TheVariants.{End, Table}
+use Rattle.rs_replay.specs.declared.fault.Stop.{Stop}
+use Rattle.rs_replay.specs.declared.fault.Stop.TheVariants.{End, Table}
 use Rattle.rs_replay.specs.declared.fault.ReplayFault.{ReplayFault}
 use Rattle.rs_replay.specs.Played.{Act, Did, ToldRoutes, said, written, failures_read, failures_written}
 use Rattle.rs_replay.specs.Replays.{Adds, Begins, Happens, IsOver, Plays, PlaysOut, Tells, place_in, name_in}
+use Rattle.rs_replay.specs.Tables.{ListsOf}
 use Rattle.rs_replay.proofs.Replaying.{HasGone, did, told, done_first, gone_on, led_to_stop, over_at_end}
 use Rattle.rs_replay.proofs.replay.play_on.Given as given
 use Rattle.rs_replay.proofs.replay.play_on.Invariants.{Does}
@@ -37,8 +42,8 @@ led g first old new before h = led_to_stop (Stepped g) (λ link acts. Does g fir
 -- and it is the route server's
 gone : (g : given.Over) (first old new : Recording g.row.R.Denot g.row.W.Denot g.row.P.Denot) (settings : Configuration) (before after : Core)
     → Continues (Stepped g) before old after new Drives
-    → HasGone (λ link acts. Does g first acts link) settings before old → HasGone (λ link acts. Does g first acts link) settings after new
-gone g first old new settings before after c h = gone_on (Stepped g) (λ link acts. Does g first acts link) (step g first) settings before old after new c h
+    → HasGone (λ link acts. Does g first acts link) settings (name_in first.names.now) before old → HasGone (λ link acts. Does g first acts link) settings (name_in first.names.now) after new
+gone g first old new settings before after c h = gone_on (Stepped g) (λ link acts. Does g first acts link) (step g first) settings (name_in first.names.now) before old after new c h
 
 -- routes were told
 told_one : (g : given.Over) (first old resumed new : Recording g.row.R.Denot g.row.W.Denot g.row.P.Denot) (c : ℕ) (line : List ℕ) (acts : List Act)
@@ -57,21 +62,29 @@ told_one g first old resumed new c line acts stop is adds done = told g.R.TextIn
     new.names.now new.reader.ghost_name new.writer.ghost_name new.reader.now new.writer.now new.lines.now new.number new.stop) is adds)
     done
 
-told_gone : (g : given.Over) (first old new : Recording g.row.R.Denot g.row.W.Denot g.row.P.Denot) (c : ℕ) (line : List ℕ) (settings : Configuration) (core : Core)
-    → ((acts : List Act) → Does g first acts old → Does g first (ToldRoutes c line ∷ acts) new)
-    → HasGone (λ link acts. Does g first acts link) settings core old → HasGone (λ link acts. Does g first acts link) settings core new
-told_gone g first old new c line settings core one h = record {
-  acts = ToldRoutes c line ∷ h.acts;
-  run = h.run;
-  done = one h.acts h.done;
-  ran = Tells c line h.acts h.run h.ran;
-  clients = h.clients;
-  agrees = h.agrees;
-}
+-- what lines are told: none where memory was refused
+some_told : (lines : Result (Vec ℕ) AllocError) → (told : List ℕ) × IfOk lines (λ made. made.items ≡ told)
+some_told (Ok made) = (made.items, refl)
+some_told (Err refused) = ([], tt)
+
+told_gone : (g : given.Over) (first old new : Recording g.row.R.Denot g.row.W.Denot g.row.P.Denot) (c : ℕ) (lines : Result (Vec ℕ) AllocError) (settings : Configuration) (core : Core)
+    → ((told : List ℕ) → IfOk lines (λ made. made.items ≡ told) → (acts : List Act) → Does g first acts old → Does g first (ToldRoutes c told ∷ acts) new)
+    → ((run : List Move) → Agrees core run → (told : List ℕ) × ListsOf (client_count core) run c (name_in first.names.now c) told × IfOk lines (λ made. made.items ≡ told))
+    → HasGone (λ link acts. Does g first acts link) settings (name_in first.names.now) core old → HasGone (λ link acts. Does g first acts link) settings (name_in first.names.now) core new
+told_gone g first old new c lines settings core one lists h =
+    let found = lists h.run h.agrees in
+    record {
+      acts = ToldRoutes c found.0 ∷ h.acts;
+      run = h.run;
+      done = one found.0 found.2 h.acts h.done;
+      ran = Tells c found.0 h.acts h.run h.ran (subst (λ n. ListsOf n h.run c (name_in first.names.now c) found.0) h.clients found.1);
+      clients = h.clients;
+      agrees = h.agrees;
+    }
 
 -- the replay is over, at this stop
 played_to : (g : given.Over) (first last : Recording g.row.R.Denot g.row.W.Denot g.row.P.Denot) (settings : Configuration) (core : Core) (stop : Stop) (answer : Result (Unit {0}) ReplayFault) (reader : g.row.R.Denot) (writer : g.row.W.Denot)
-    → HasGone (λ link acts. Does g first acts link) settings core last → last.stop ≡ Some stop
+    → HasGone (λ link acts. Does g first acts link) settings (name_in first.names.now) core last → last.stop ≡ Some stop
     → ((acts : List Act) → Plays g.R.TextIn.takes g.R.TextIn.at_end g.R.TextIn.failures g.W.TextOut.puts g.W.TextOut.failures (place_in last.names.now) first.reader.now first.writer.now (said acts) (written (name_in first.names.now) acts) last.reader.now last.writer.now last.lines.now last.number (Some stop)
     → IsOver g.R.TextIn.takes g.R.TextIn.at_end g.W.TextOut.puts (place_in last.names.now) first.reader.now first.writer.now (said acts) (written (name_in first.names.now) acts) reader writer answer)
     → PlaysOut settings g.R.TextIn.takes g.R.TextIn.at_end g.W.TextOut.puts first.names.now first.reader.now first.writer.now reader writer answer
@@ -103,11 +116,18 @@ pub loop-preserved-in-Some-Table : goal.loop-preserved-in-Some-Table
 loop-preserved-in-Some-Table g c =
     let first = c.args.recording.now in
     let last = c.drive_with.new.link in
-    let stop : last.stop ≡ Some (Table c.in-Some-Table.c) = sym c.stop.ensures ∙ c.in-Some-Table.is ∙ ap Some c.in-Some-Table.field-0-is in
-    let before = led g first c.loop.recording last c.loop.invariant.0 c.drive_with.ensures.led in (
-      (_, told_one g first last c.resume.new.self c.tell_routes.new.self c.in-Some-Table.c _ before.0 stop c.resume.ensures c.tell_routes.ensures before.1),
-      λ settings clients agrees. told_gone g first last c.tell_routes.new.self c.in-Some-Table.c _ settings c.drive_with.new.core
-          (λ acts done. told_one g first last c.resume.new.self c.tell_routes.new.self c.in-Some-Table.c _ acts stop c.resume.ensures c.tell_routes.ensures done)
+    let at = c.in-Some-Table.c in
+    let lines = c.route_lines-lines.result in
+    let stop : last.stop ≡ Some (Table at) = sym c.stop.ensures ∙ c.in-Some-Table.is ∙ ap Some c.in-Some-Table.field-0-is in
+    let before = led g first c.loop.recording last c.loop.invariant.0 c.drive_with.ensures.led in
+    let name : c.name.result.now ≡ name_in first.names.now at =
+    c.name.ensures ∙ ap (λ (r : Recording g.row.R.Denot g.row.W.Denot g.row.P.Denot). name_in r.names.now at) c.resume.ensures ∙ ap (λ ns. name_in ns at) before.1.same_names in
+    let one : (told : List ℕ) → IfOk lines (λ made. made.items ≡ told) → (acts : List Act) → Does g first acts last → Does g first (ToldRoutes at told ∷ acts) c.tell_routes.new.self =
+    λ told is acts done. told_one g first last c.resume.new.self c.tell_routes.new.self at told acts stop c.resume.ensures (c.tell_routes.ensures told is) done in
+    let some = some_told lines in (
+      (_, one some.0 some.1 before.0 before.1),
+      λ settings clients agrees. told_gone g first last c.tell_routes.new.self at lines settings c.drive_with.new.core one
+          (subst (λ n. (run : List Move) → Agrees c.drive_with.new.core run → (told : List ℕ) × ListsOf (client_count c.drive_with.new.core) run at n told × IfOk lines (λ made. made.items ≡ told)) name c.route_lines-lines.ensures)
           (gone g first c.loop.recording last settings c.loop.core c.drive_with.new.core c.drive_with.ensures.drives (c.loop.invariant.1 settings clients agrees)),
     )
 
@@ -115,11 +135,18 @@ pub loop-preserved : goal.loop-preserved
 loop-preserved g c =
     let first = c.args.recording.now in
     let last = c.drive_with.new.link in
-    let stop : last.stop ≡ Some (Table c.in-Some-Table.c) = sym c.stop.ensures ∙ c.in-Some-Table.is ∙ ap Some c.in-Some-Table.field-0-is in
-    let before = led g first c.loop.recording last c.loop.invariant.0 c.drive_with.ensures.led in (
-      (_, told_one g first last c.resume.new.self c.tell_routes.new.self c.in-Some-Table.c _ before.0 stop c.resume.ensures c.tell_routes.ensures before.1),
-      λ settings clients agrees. told_gone g first last c.tell_routes.new.self c.in-Some-Table.c _ settings c.drive_with.new.core
-          (λ acts done. told_one g first last c.resume.new.self c.tell_routes.new.self c.in-Some-Table.c _ acts stop c.resume.ensures c.tell_routes.ensures done)
+    let at = c.in-Some-Table.c in
+    let lines = c.route_lines-lines.result in
+    let stop : last.stop ≡ Some (Table at) = sym c.stop.ensures ∙ c.in-Some-Table.is ∙ ap Some c.in-Some-Table.field-0-is in
+    let before = led g first c.loop.recording last c.loop.invariant.0 c.drive_with.ensures.led in
+    let name : c.name.result.now ≡ name_in first.names.now at =
+    c.name.ensures ∙ ap (λ (r : Recording g.row.R.Denot g.row.W.Denot g.row.P.Denot). name_in r.names.now at) c.resume.ensures ∙ ap (λ ns. name_in ns at) before.1.same_names in
+    let one : (told : List ℕ) → IfOk lines (λ made. made.items ≡ told) → (acts : List Act) → Does g first acts last → Does g first (ToldRoutes at told ∷ acts) c.tell_routes.new.self =
+    λ told is acts done. told_one g first last c.resume.new.self c.tell_routes.new.self at told acts stop c.resume.ensures (c.tell_routes.ensures told is) done in
+    let some = some_told lines in (
+      (_, one some.0 some.1 before.0 before.1),
+      λ settings clients agrees. told_gone g first last c.tell_routes.new.self at lines settings c.drive_with.new.core one
+          (subst (λ n. (run : List Move) → Agrees c.drive_with.new.core run → (told : List ℕ) × ListsOf (client_count c.drive_with.new.core) run at n told × IfOk lines (λ made. made.items ≡ told)) name c.route_lines-lines.ensures)
           (gone g first c.loop.recording last settings c.loop.core c.drive_with.new.core c.drive_with.ensures.drives (c.loop.invariant.1 settings clients agrees)),
     )
 

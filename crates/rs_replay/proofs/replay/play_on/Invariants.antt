@@ -6,7 +6,7 @@ use Rattle.rs_core.specs.Moves.{Ruled}
 use Rattle.rs_core.specs.Agreeing.{Agrees}
 use Rattle.rs_replay.specs.declared.recording.Recording.{Recording}
 use Rattle.rs_replay.specs.Played.{Act}
-use Rattle.rs_replay.specs.Replays.{HasDone}
+use Rattle.rs_replay.specs.Replays.{HasDone, name_in}
 use Rattle.rs_replay.proofs.Replaying.{HasGone}
 use Rattle.rs_replay.proofs.replay.play_on.Given as goal
 
@@ -20,4 +20,4 @@ abbrev pub invariant-loop : goal.invariant-loop
 invariant-loop g l =
     ((acts : List Act) × Does g l.initial.recording acts l.recording)
     × ((settings : Configuration) → client_count l.initial.core ≡ length settings.clients → Agrees l.initial.core (Ruled settings ∷ [])
-    → HasGone (λ link acts. Does g l.initial.recording acts link) settings l.core l.recording)
+    → HasGone (λ link acts. Does g l.initial.recording acts link) settings (name_in l.initial.recording.names.now) l.core l.recording)

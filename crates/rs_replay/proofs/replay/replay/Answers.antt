@@ -1,4 +1,4 @@
-use Rattle.std.proofs.Common.{◌≡◌, ◌∙◌, sym, subst, inl, rules}
+use Rattle.std.proofs.Common.{◌∙◌, sym, subst, inl, rules}
 use Rattle.rs_replay.specs.Replays.{AreNamesOf, IsPlayed, PlaysOut}
 use Rattle.rs_replay.proofs.Replaying.{played_at, played_out}
 use Rattle.rs_replay.proofs.replay.replay.Goals as goal

@@ -1,7 +1,7 @@
-use Rattle.std.proofs.Common.{◌≡◌, sym, ◌∙◌, ap, subst, Some}
-use Rattle.rs_replay.specs.declared.recording.Stop.TheVariants.{Fault}
+use Rattle.std.proofs.Common.{◌∙◌, ap, subst, Some}
+use Rattle.rs_replay.specs.declared.fault.Stop.TheVariants.{Fault}
 use Rattle.rs_replay.specs.declared.fault.ReplayFault.{ReplayFault}
-use Rattle.rs_replay.specs.declared.fault.ReplayFault.TheVariants.{Line, Memory, Reading, Writing}
+use Rattle.rs_replay.specs.declared.fault.ReplayFault.TheVariants.{Memory, Reading, Writing}
 use Rattle.rs_replay.specs.Replays.{Plays, place_in}
 use Rattle.rs_replay.proofs.Replaying.{over_failed}
 use Rattle.rs_replay.proofs.recording.Recording.end_at.Goals as goal

@@ -1,5 +1,4 @@
-use Rattle.std.proofs.Common.{◌++◌, List, ℕ, sym, ◌∙◌, subst, Option, Some, rules}
-use Rattle.rs_replay.specs.declared.recording.Stop.{Stop}
+use Rattle.std.proofs.Common.{◌++◌, ◌∙◌, subst, rules}
 use Rattle.rs_replay.specs.Output.{fault_line}
 use Rattle.rs_replay.specs.Played.{Puts}
 use Rattle.rs_replay.specs.Replays.{FailsOn, Plays, place_in}

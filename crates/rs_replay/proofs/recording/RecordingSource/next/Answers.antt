@@ -1,8 +1,8 @@
-use Rattle.std.proofs.Common.{◌≡◌, refl, ◌∙◌, [], ◌∷◌, Option, Some, None, subst, sym, rules}
+use Rattle.std.proofs.Common.{◌≡◌, refl, [], ◌∷◌, Some, None, subst, rules}
 use Rattle.std.specs.Prelude.{Result}
 use Rattle.rs_core.specs.Links as links
 use Rattle.rs_replay.specs.declared.trace.Entry.{Entry}
-use Rattle.rs_replay.specs.declared.recording.Stop.{Stop}
+use Rattle.rs_replay.specs.declared.fault.Stop.{Stop}
 use Rattle.rs_replay.specs.Entries.{saying_in}
 use Rattle.rs_replay.specs.Played.{saying_told, failures_read, failures_written}
 use Rattle.rs_replay.specs.Replays.{place_in, stop_of, saying_read, ReadsOn}

@@ -1,12 +1,12 @@
 use Rattle.std.proofs.Common.{◌≡◌, [], ◌∷◌, ◌++◌, ◌∙◌, Option, Some, None, subst}
 use Rattle.std.specs.Prelude.{Result, Ok}
 use Rattle.rs_replay.specs.declared.trace.Entry.{Entry}
-use Rattle.rs_replay.specs.declared.recording.Stop.{Stop}
+use Rattle.rs_replay.specs.declared.fault.Stop.{Stop}
 use Rattle.rs_replay.specs.Entries.{saying_in}
 use Rattle.rs_replay.specs.Played.{failures_read}
 use Rattle.rs_replay.specs.Replays.{place_in, stop_of, sayings_in, ReadsOn}
-use Rattle.rs_replay.proofs.PlayLemmas.{reads_twice, stands_first, still_first}
-use Rattle.rs_replay.proofs.recording.next_entry.Goals as goal
+use Rattle.rs_replay.proofs.PlayLemmas.{reads_twice, stands_first}
+use Rattle.rs_replay.proofs.entries.next_entry.Goals as goal
 
 pub returns-in-Ok-Some-clause-on : goal.returns-in-Ok-Some-clause-on
 returns-in-Ok-Some-clause-on g c =

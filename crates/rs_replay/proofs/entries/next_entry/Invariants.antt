@@ -1,6 +1,6 @@
 use Rattle.std.proofs.Common.{◌≡◌, [], None}
 use Rattle.rs_replay.specs.Replays.{place_in, ReadsOn}
-use Rattle.rs_replay.proofs.recording.next_entry.Given as goal
+use Rattle.rs_replay.proofs.entries.next_entry.Given as goal
 
 -- so far lines were read that say nothing
 abbrev pub invariant-loop : goal.invariant-loop

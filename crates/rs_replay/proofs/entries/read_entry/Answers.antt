@@ -1,4 +1,4 @@
-use Rattle.std.proofs.Common.{◌≡◌, ℕ, ◌+◌, List, [], ◌++◌, ◌∙◌, ap, sym, refl, subst, Some}
+use Rattle.std.proofs.Common.{◌+◌, [], ◌++◌, ◌∙◌, ap, sym, refl, subst, Some}
 use Rattle.std.proofs.lemmas.List.{append-nil}
 use Rattle.rs_replay.specs.Trace.{line_of}
 use Rattle.rs_replay.specs.Text.{tells}
@@ -6,7 +6,7 @@ use Rattle.rs_replay.specs.Played.{GoesOn}
 use Rattle.rs_replay.specs.Replays.{place_in}
 use Rattle.rs_replay.proofs.ReplayLemmas.{says_first, follows_fault, goes_on_line, reads_fault, line_said, line_faulty}
 use Rattle.rs_replay.proofs.PlayLemmas.{still_first}
-use Rattle.rs_replay.proofs.recording.read_entry.Goals as goal
+use Rattle.rs_replay.proofs.entries.read_entry.Goals as goal
 
 pub returns-then-number-clause-on : goal.returns-then-number-clause-on
 returns-then-number-clause-on g c text s goes = (
