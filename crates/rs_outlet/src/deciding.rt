@@ -9,6 +9,7 @@ ghost use Rattle.rs_policy.specs.Verdicts.{verdict};
 ghost use Rattle.rs_decision.specs.Best.{HasDistinctPlaces};
 ghost use Rattle.rs_outlet.specs.Due.{Held, rank_of, rank_to, ranks_among, passed_on, if_fits, route_from, due_to};
 ghost use Rattle.rs_outlet.specs.HeldBy.{held_by};
+ghost use Rattle.rs_outlet.specs.Passing.{attributes_passed};
 
 use crate::answers::Speech;
 use rs_adjin::{AdjIns, Holder, Holders};
@@ -26,6 +27,35 @@ pub(crate) struct Sources<'a> {
     pub(crate) ins: &'a AdjIns,
     pub(crate) config: &'a Config,
     pub(crate) client: usize,
+}
+
+/// A route as it is passed on: as its sender announced it, or without what the rules take out of it.
+#[derive(Drop)]
+pub(crate) enum Passed<'a> {
+    Whole(&'a Arc<Attrs>),
+    Stripped(Arc<Attrs>),
+}
+
+impl Passed<'_> {
+    /// What is passed on.
+    pub(crate) fn attrs(&self) -> &Arc<Attrs>
+        ensures { arc_value result.now ≡ attributes_passed self.now }
+    {
+        match self {
+            Passed::Whole(attrs) => attrs,
+            Passed::Stripped(attrs) => attrs,
+        }
+    }
+
+    /// What is passed on, as an owner more of it.
+    pub(crate) fn own(self) -> Result<Arc<Attrs>, AllocError>
+        ensures { IfOk result (λ attrs. arc_value attrs ≡ attributes_passed self) }
+    {
+        match self {
+            Passed::Whole(attrs) => attrs.clone(),
+            Passed::Stripped(attrs) => Ok(attrs),
+        }
+    }
 }
 
 fn rank(sources: &Sources<'_>, holder: &Holder<'_>, preference: u32) -> Rank
@@ -93,16 +123,16 @@ fn rank_all(
     Ok(())
 }
 
-/// The route as it is passed on. Where nothing is taken out of it, it is shared.
-fn pass_on(
+/// The route as it is passed on.
+fn pass_on<'a>(
     alloc: Global,
     sources: &Sources<'_>,
     prefix: &Prefix,
-    holder: &Holder<'_>,
-) -> Result<Option<Arc<Attrs>>, AllocError>
+    holder: &Holder<'a>,
+) -> Result<Option<Passed<'a>>, AllocError>
     requires client { sources.now.client < length sources.now.config.now.clients }
     requires known { holder.now.client < length sources.now.config.now.clients }
-    ensures { IfOk result (λ passed. option_map arc_value passed ≡ passed_on (arc_value holder.now.attrs.now) (verdict sources.now.config.now holder.now.client sources.now.client prefix.now (arc_value holder.now.attrs.now))) }
+    ensures { IfOk result (λ passed. option_map attributes_passed passed ≡ passed_on (arc_value holder.now.attrs.now) (verdict sources.now.config.now holder.now.client sources.now.client prefix.now (arc_value holder.now.attrs.now))) }
 {
     match judge(
         sources.config,
@@ -114,38 +144,39 @@ fn pass_on(
         Fate::Drop => Ok(None),
         Fate::Pass { strip, .. } => {
             if strip.changes(holder.attrs) {
-                Ok(Some(Arc::new(alloc, stripped(alloc, holder.attrs, &strip)?)?))
+                let rest = stripped(alloc, holder.attrs, &strip)?;
+                Ok(Some(Passed::Stripped(Arc::new(alloc, rest)?)))
             } else {
-                Ok(Some(holder.attrs.clone()?))
+                Ok(Some(Passed::Whole(holder.attrs)))
             }
         }
     }
 }
 
-/// The attributes, where they fit into a message to the client that announces this prefix alone.
-fn if_fits(speech: Speech, prefix: &Prefix, attrs: Arc<Attrs>) -> Option<Arc<Attrs>>
-    ensures { option_map arc_value result ≡ if_fits speech prefix.now (arc_value attrs) }
+/// The route, where it fits into a message to the client that announces this prefix alone.
+fn if_fits<'a>(speech: Speech, prefix: &Prefix, passed: Passed<'a>) -> Option<Passed<'a>>
+    ensures { option_map attributes_passed result ≡ if_fits speech prefix.now (attributes_passed passed) }
 {
-    if fits(&attrs, speech.mode, prefix, speech.limit.octets()) {
-        Some(attrs)
+    if fits(passed.attrs(), speech.mode, prefix, speech.limit.octets()) {
+        Some(passed)
     } else {
         None
     }
 }
 
 /// What is due to the client at a prefix: the best of the candidates, as it is passed on, where it fits.
-pub(crate) fn decide(
+pub(crate) fn decide<'a>(
     alloc: Global,
-    sources: &Sources<'_>,
+    sources: &Sources<'a>,
     speech: Speech,
     number: u32,
     prefix: &Prefix,
     ranks: &mut Vec<Rank>,
-) -> Result<Option<Arc<Attrs>>, AllocError>
+) -> Result<Option<Passed<'a>>, AllocError>
     requires number { number_of sources.now.ins.now prefix.now ≡ Some number }
     requires client { sources.now.client < length sources.now.config.now.clients }
     requires count { client_count sources.now.ins.now ≡ length sources.now.config.now.clients }
-    ensures { IfOk result (λ due. option_map arc_value due ≡ due_to (held_by sources.now) sources.now.client speech prefix.now) }
+    ensures { IfOk result (λ due. option_map attributes_passed due ≡ due_to (held_by sources.now) sources.now.client speech prefix.now) }
 {
     rank_all(sources, prefix, sources.ins.at_number(number), ranks)?;
     let Some(place) = best(ranks) else {
@@ -163,6 +194,6 @@ pub(crate) fn decide(
     };
     match pass_on(alloc, sources, prefix, &holder)? {
         None => Ok(None),
-        Some(attrs) => Ok(if_fits(speech, prefix, attrs)),
+        Some(passed) => Ok(if_fits(speech, prefix, passed)),
     }
 }
