@@ -5,6 +5,6 @@ use Rattle.rs_attrs.specs.Meaning.{Attribute}
 use Rattle.rs_outlet.specs.declared.deciding.Passed.{Passed}
 use Rattle.rs_outlet.specs.declared.deciding.Passed.TheVariants.{Whole, Stripped}
 
-pub attributes_passed : Passed → List Attribute
+abbrev pub attributes_passed : Passed → List Attribute
 attributes_passed (Whole attrs) = arc_value attrs.now
 attributes_passed (Stripped attrs) = arc_value attrs

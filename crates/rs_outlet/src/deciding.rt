@@ -49,7 +49,7 @@ impl Passed<'_> {
 
     /// What is passed on, as an owner more of it.
     pub(crate) fn own(self) -> Result<Arc<Attrs>, AllocError>
-        ensures { IfOk result (λ attrs. arc_value attrs ≡ attributes_passed self) }
+        ensures { IfOk result (λ attrs. arc_value attrs ≡ attributes_passed self.entry) }
     {
         match self {
             Passed::Whole(attrs) => attrs.clone(),
@@ -155,7 +155,7 @@ fn pass_on<'a>(
 
 /// The route, where it fits into a message to the client that announces this prefix alone.
 fn if_fits<'a>(speech: Speech, prefix: &Prefix, passed: Passed<'a>) -> Option<Passed<'a>>
-    ensures { option_map attributes_passed result ≡ if_fits speech prefix.now (attributes_passed passed) }
+    ensures { option_map attributes_passed result ≡ if_fits speech prefix.now (attributes_passed passed.entry) }
 {
     if fits(passed.attrs(), speech.mode, prefix, speech.limit.octets()) {
         Some(passed)

@@ -6,6 +6,7 @@ use Rattle.rs_decision.specs.Best.{HasDistinctPlaces}
 use Rattle.rs_decision.specs.Choice.{best_of}
 use Rattle.rs_outlet.specs.Due.{ranks_among, passed_on, if_fits}
 use Rattle.rs_outlet.specs.HeldBy.{held_by}
+use Rattle.rs_outlet.specs.Passing.{attributes_passed}
 use Rattle.rs_outlet.proofs.Ranks.{distinct_places, known_place, ranked_at, due_none, due_some, past}
 use Rattle.rs_outlet.proofs.deciding.decide.Goals as goal
 
@@ -44,7 +45,7 @@ returns-in-None c =
     let stands = ranked_at c.deref.result.now c.deref-2.result.now c.in-Some.place c.in-Some-get.rank.now (c.deref.ensures.value ∙ sym c.deref-2.ensures.value) c.in-Some-get.ensures.lookup.3.0 c.in-Some-get.ensures.lookup.1 in
     let best : best_of c.deref.result.now ≡ Some c.in-Some-get.rank.now = sym c.in-Some.ensures.value ∙ stands in
     let m = arc_value c.in-Some-route_at.attrs.now in
-    let passed : None ≡ passed_on m (verdict (held_by c.args.sources.now).settings c.in-Some-get.rank.now.place c.args.sources.now.client c.args.prefix.now m) = ap (option_map arc_value) (sym c.in-None.is) ∙ c.in_ok-pass_on.ensures in
+    let passed : None ≡ passed_on m (verdict (held_by c.args.sources.now).settings c.in-Some-get.rank.now.place c.args.sources.now.client c.args.prefix.now m) = ap (option_map attributes_passed) (sym c.in-None.is) ∙ c.in_ok-pass_on.ensures in
     ap (option_and_then (if_fits c.args.speech c.args.prefix.now)) passed
     ∙ due_some (held_by c.args.sources.now) _ _ _ c.at_number.result _ c.in-Some-get.rank.now (Some m) listed.all ranked best (sym (c.in-Some-route_at.ensures c.args.prefix.now c.requires.number))
 
@@ -55,7 +56,7 @@ returns-in-Some-2 c =
     let stands = ranked_at c.deref.result.now c.deref-2.result.now c.in-Some.place c.in-Some-get.rank.now (c.deref.ensures.value ∙ sym c.deref-2.ensures.value) c.in-Some-get.ensures.lookup.3.0 c.in-Some-get.ensures.lookup.1 in
     let best : best_of c.deref.result.now ≡ Some c.in-Some-get.rank.now = sym c.in-Some.ensures.value ∙ stands in
     let m = arc_value c.in-Some-route_at.attrs.now in
-    let passed : Some (arc_value c.in-Some-2.attrs) ≡ passed_on m (verdict (held_by c.args.sources.now).settings c.in-Some-get.rank.now.place c.args.sources.now.client c.args.prefix.now m) = ap (option_map arc_value) (sym c.in-Some-2.is) ∙ c.in_ok-pass_on.ensures in
+    let passed : Some (attributes_passed c.in-Some-2.passed) ≡ passed_on m (verdict (held_by c.args.sources.now).settings c.in-Some-get.rank.now.place c.args.sources.now.client c.args.prefix.now m) = ap (option_map attributes_passed) (sym c.in-Some-2.is) ∙ c.in_ok-pass_on.ensures in
     c.if_fits.ensures
     ∙ ap (option_and_then (if_fits c.args.speech c.args.prefix.now)) passed
     ∙ due_some (held_by c.args.sources.now) _ _ _ c.at_number.result _ c.in-Some-get.rank.now (Some m) listed.all ranked best (sym (c.in-Some-route_at.ensures c.args.prefix.now c.requires.number))
