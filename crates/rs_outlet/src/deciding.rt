@@ -9,7 +9,7 @@ ghost use Rattle.rs_policy.specs.Verdicts.{verdict};
 ghost use Rattle.rs_decision.specs.Best.{HasDistinctPlaces};
 ghost use Rattle.rs_outlet.specs.Due.{Held, rank_of, rank_to, ranks_among, passed_on, if_fits, route_from, due_to};
 ghost use Rattle.rs_outlet.specs.HeldBy.{held_by};
-ghost use Rattle.rs_outlet.specs.Passing.{attributes_passed};
+ghost use Rattle.rs_outlet.specs.Passing.{attributes_passed, due_alone, is_kept_back};
 
 use crate::answers::Speech;
 use rs_adjin::{AdjIns, Holder, Holders};
@@ -77,6 +77,14 @@ fn rank(sources: &Sources<'_>, holder: &Holder<'_>, preference: u32) -> Rank
     }
 }
 
+/// Whether a route is kept from the client before any rule: it is its own, or has the server's AS in
+/// its path.
+fn is_kept_back(sources: &Sources<'_>, holder: &Holder<'_>) -> bool
+    ensures { result ≡ is_kept_back (held_by sources.now) sources.now.client (holder.now.client, arc_value holder.now.attrs.now) }
+{
+    holder.client == sources.client || holder.attrs.path_has(sources.config.server_as())
+}
+
 /// The rank of a holder's route, where it is a candidate for the client.
 fn rank_to(sources: &Sources<'_>, prefix: &Prefix, holder: &Holder<'_>) -> Option<Rank>
     requires client { sources.now.client < length sources.now.config.now.clients }
@@ -84,10 +92,7 @@ fn rank_to(sources: &Sources<'_>, prefix: &Prefix, holder: &Holder<'_>) -> Optio
     requires count { client_count sources.now.ins.now ≡ length sources.now.config.now.clients }
     ensures { result ≡ rank_to (held_by sources.now) sources.now.client prefix.now (holder.now.client, arc_value holder.now.attrs.now) }
 {
-    if holder.client == sources.client {
-        return None;
-    }
-    if holder.attrs.path_has(sources.config.server_as()) {
+    if is_kept_back(sources, holder) {
         return None;
     }
     match judge(
@@ -164,21 +169,44 @@ fn if_fits<'a>(speech: Speech, prefix: &Prefix, passed: Passed<'a>) -> Option<Pa
     }
 }
 
-/// What is due to the client at a prefix: the best of the candidates, as it is passed on, where it fits.
-pub(crate) fn decide<'a>(
+/// What is due where one client alone holds the prefix: nothing is compared.
+fn decide_alone<'a>(
+    alloc: Global,
+    sources: &Sources<'_>,
+    speech: Speech,
+    prefix: &Prefix,
+    holder: &Holder<'a>,
+) -> Result<Option<Passed<'a>>, AllocError>
+    requires client { sources.now.client < length sources.now.config.now.clients }
+    requires known { holder.now.client < length sources.now.config.now.clients }
+    ensures { IfOk result (λ due. option_map attributes_passed due ≡ due_alone (held_by sources.now) sources.now.client speech prefix.now (holder.now.client, arc_value holder.now.attrs.now)) }
+{
+    if is_kept_back(sources, holder) {
+        return Ok(None);
+    }
+    match pass_on(alloc, sources, prefix, holder)? {
+        None => Ok(None),
+        Some(passed) => Ok(if_fits(speech, prefix, passed)),
+    }
+}
+
+/// What is due where these clients hold the prefix: the best of the candidates.
+fn decide_among<'a>(
     alloc: Global,
     sources: &Sources<'a>,
     speech: Speech,
     number: u32,
     prefix: &Prefix,
+    holders: Holders<'a>,
     ranks: &mut Vec<Rank>,
 ) -> Result<Option<Passed<'a>>, AllocError>
     requires number { number_of sources.now.ins.now prefix.now ≡ Some number }
+    requires holders { ListsHolders sources.now.ins.now prefix.now holders }
     requires client { sources.now.client < length sources.now.config.now.clients }
     requires count { client_count sources.now.ins.now ≡ length sources.now.config.now.clients }
     ensures { IfOk result (λ due. option_map attributes_passed due ≡ due_to (held_by sources.now) sources.now.client speech prefix.now) }
 {
-    rank_all(sources, prefix, sources.ins.at_number(number), ranks)?;
+    rank_all(sources, prefix, holders, ranks)?;
     let Some(place) = best(ranks) else {
         return Ok(None);
     };
@@ -195,5 +223,29 @@ pub(crate) fn decide<'a>(
     match pass_on(alloc, sources, prefix, &holder)? {
         None => Ok(None),
         Some(passed) => Ok(if_fits(speech, prefix, passed)),
+    }
+}
+
+/// What is due to the client at a prefix: the best of the candidates, as it is passed on, where it fits.
+pub(crate) fn decide<'a>(
+    alloc: Global,
+    sources: &Sources<'a>,
+    speech: Speech,
+    number: u32,
+    prefix: &Prefix,
+    ranks: &mut Vec<Rank>,
+) -> Result<Option<Passed<'a>>, AllocError>
+    requires number { number_of sources.now.ins.now prefix.now ≡ Some number }
+    requires client { sources.now.client < length sources.now.config.now.clients }
+    requires count { client_count sources.now.ins.now ≡ length sources.now.config.now.clients }
+    ensures { IfOk result (λ due. option_map attributes_passed due ≡ due_to (held_by sources.now) sources.now.client speech prefix.now) }
+{
+    let mut holders = sources.ins.at_number(number);
+    if holders.len() != 1 {
+        return decide_among(alloc, sources, speech, number, prefix, holders, ranks);
+    }
+    match holders.next() {
+        None => Ok(None),
+        Some(holder) => decide_alone(alloc, sources, speech, prefix, &holder),
     }
 }
