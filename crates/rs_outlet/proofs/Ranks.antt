@@ -1,5 +1,6 @@
 -- The ranks of candidates have distinct places, and the route of a place is what its sender holds.
-use Rattle.std.proofs.Common.{◌≡◌, ◌<◌, ◌≤◌, ℕ, zero, suc, Bool, true, false, Option, None, Some, List, [], ◌∷◌, ◌++◌, append_assoc, length, refl, sym, ap, ◌∙◌, subst, arith}
+use Rattle.std.proofs.Common.{◌≡◌, ◌<◌, ◌≤◌, ℕ, zero, suc, nat_lt, Bool, true, false, not, cond, ◌==◌, ◌&&◌, ◌||◌, Option, None, Some, List, [], ◌∷◌, ◌++◌, append_assoc, length, refl, sym, ap, ◌∙◌, subst, arith}
+use Rattle.std.proofs.lemmas.Bool.Decides.{nat_tests}
 use Rattle.std.proofs.lemmas.Option.{slice_get_read}
 use Rattle.std.specs.Prelude.{unwrap_or, option_and_then, slice_get, slice_index_or, if◌then◌else◌}
 use Rattle.std.specs.List.{All, AllByRecursion, AllPairs, cons_option, list_any}
@@ -9,7 +10,7 @@ use Rattle.rs_attrs.specs.Meaning.{Attribute}
 use Rattle.rs_adjin.specs.Listing.{holders_from, with_holder}
 use Rattle.rs_adjin.specs.Routes.{value_in}
 use Rattle.rs_policy.specs.Verdicts.{Judgement, dropped, passed, verdict}
-use Rattle.rs_decision.specs.Choice.{best_of, unbeaten}
+use Rattle.rs_decision.specs.Choice.{best_of, by_address, by_identifier, by_med, by_origin, by_path, by_place, by_preference, med_of, unbeaten}
 use Rattle.rs_adjin.specs.declared.adj_ins.AdjIns.{AdjIns}
 use Rattle.rs_adjin.specs.AdjIns.{client_count, held_of, number_of}
 use Rattle.rs_adjin.specs.Numbering.{routes_by}
@@ -18,7 +19,8 @@ use Rattle.rs_outlet.specs.HeldBy.{tables_of}
 use Rattle.rs_decision.specs.Best.{HasDistinctPlaces}
 use Rattle.rs_decision.specs.declared.rank.Rank.{Rank}
 use Rattle.rs_outlet.specs.declared.answers.Speech.{Speech}
-use Rattle.rs_outlet.specs.Due.{Held, any_holds, rank_by, rank_to, ranks_among, holders_at, passed_on, if_fits, route_from, due_to}
+use Rattle.rs_outlet.specs.Passing.{due_alone, is_kept_back}
+use Rattle.rs_outlet.specs.Due.{Held, any_holds, rank_by, rank_of, rank_to, ranks_among, holders_at, passed_on, if_fits, route_from, due_to}
 
 place_by : (t : Held) (from : ℕ) (m : List Attribute) (j : Judgement) (r : Rank) → rank_by t from m j ≡ Some r → r.place ≡ from
 place_by t from m dropped r e = cc e
@@ -147,3 +149,53 @@ due_unnumbered config ins c speech p none = due_unheld (tables_of config ins) c 
 
 pub none_holds : (config : Configuration) (ins : AdjIns) (p : Prefix) → number_of ins p ≡ None → any_holds (tables_of config ins) p ≡ false
 none_holds config ins p none = ap (list_any (λ h. true)) (sym (no_holders (λ d. held_of ins d p) 0 (client_count ins) (unnumbered_held ins p none)))
+
+-- ---- what is due where one client alone holds the prefix
+
+not_less : (n : ℕ) → nat_lt n n ≡ false
+not_less n = grind (arith, nat_tests)
+
+and_false : (b : Bool) → (b && false) ≡ false
+and_false true = refl
+and_false false = refl
+
+unbeaten_alone : (is_better : Rank → Rank → Bool) (r : Rank) → is_better r r ≡ false → unbeaten is_better (r ∷ []) ≡ r ∷ []
+unfolding unbeaten
+unbeaten_alone is_better r h = ap (λ b. cond (not (b || false)) (r ∷ []) []) h
+
+best_of_one : (r : Rank) → best_of (r ∷ []) ≡ Some r
+best_of_one r =
+    let one = unbeaten_alone in
+    let f1 : by_preference (r ∷ []) ≡ r ∷ [] = one _ r (not_less r.preference) in
+    let f2 : by_path (r ∷ []) ≡ r ∷ [] = ap (unbeaten (λ a b. nat_lt a.path_len b.path_len)) f1 ∙ one _ r (not_less r.path_len) in
+    let f3 : by_origin (r ∷ []) ≡ r ∷ [] = ap (unbeaten (λ a b. nat_lt a.origin b.origin)) f2 ∙ one _ r (not_less r.origin) in
+    let f4 : by_med (r ∷ []) ≡ r ∷ [] = ap (unbeaten (λ a b. (a.neighbour == b.neighbour) && nat_lt (med_of a) (med_of b))) f3 ∙ one _ r (ap (λ b. (r.neighbour == r.neighbour) && b) (not_less (med_of r)) ∙ and_false _) in
+    let f5 : by_identifier (r ∷ []) ≡ r ∷ [] = ap (unbeaten (λ a b. nat_lt a.identifier b.identifier)) f4 ∙ one _ r (not_less r.identifier) in
+    let f6 : by_address (r ∷ []) ≡ r ∷ [] = ap (unbeaten (λ a b. nat_lt a.address b.address)) f5 ∙ one _ r (not_less r.address) in
+    let f7 : by_place (r ∷ []) ≡ r ∷ [] = ap (unbeaten (λ a b. nat_lt a.place b.place)) f6 ∙ one _ r (not_less r.place) in
+    ap (λ rs. slice_get rs 0) f7
+
+alone_by : (t : Held) (c : ℕ) (speech : Speech) (p : Prefix) (h : ℕ × List Attribute) (j : Judgement) → verdict t.settings h.0 c p h.1 ≡ j → t.held h.0 p ≡ Some h.1
+    → from_best t c speech p (best_of (cons_option (rank_by t h.0 h.1 j) [])) ≡ option_and_then (if_fits speech p) (passed_on h.1 j)
+alone_by t c speech p h dropped is held = ap (from_best t c speech p) none_best
+alone_by t c speech p h (passed preference lists all) is held =
+    ap (from_best t c speech p) (best_of_one (rank_of t h.0 h.1 preference)) ∙ ap (passed_from t c speech p h.0) held
+    ∙ ap (λ j. option_and_then (if_fits speech p) (passed_on h.1 j)) is
+
+pub alone_is_due : (t : Held) (c : ℕ) (speech : Speech) (p : Prefix) (h : ℕ × List Attribute) → h ∷ [] ≡ holders_at t p → t.held h.0 p ≡ Some h.1 → due_alone t c speech p h ≡ due_to t c speech p
+alone_is_due t c speech p h all held =
+    sym (by_kept (is_kept_back t c h)) ∙ ap (λ hs. from_best t c speech p (best_of (ranks_among t c p hs))) all
+  where
+    by_kept : (b : Bool) → from_best t c speech p (best_of (cons_option (if b then None else rank_by t h.0 h.1 (verdict t.settings h.0 c p h.1)) [])) ≡ (if b then None else option_and_then (if_fits speech p) (passed_on h.1 (verdict t.settings h.0 c p h.1)))
+    by_kept true = ap (from_best t c speech p) none_best
+    by_kept false = alone_by t c speech p h _ refl held
+
+-- one holder alone
+pub one_alone : {X : Type 0} (xs : List X) (x : X) (rest : List X) (n : ℕ) → xs ≡ x ∷ rest → n ≡ length xs → n ≡ 1 → xs ≡ x ∷ []
+one_alone xs x [] n is counted one = is
+one_alone xs x (y ∷ rest) n is counted one =
+    let long : n ≡ suc (suc (length rest)) = counted ∙ ap length is in
+    absurd (grind (arith, nat_tests, long, one))
+
+pub held_alone : (ins : AdjIns) (p : Prefix) (h : ℕ × List Attribute) → All (λ h. held_of ins h.0 p ≡ Some h.1) (h ∷ []) → held_of ins h.0 p ≡ Some h.1
+held_alone ins p h each = (recursion_from_All (λ h. held_of ins h.0 p ≡ Some h.1) (h ∷ []) each).0

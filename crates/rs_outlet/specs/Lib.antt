@@ -4,6 +4,7 @@ pub mod Due
 pub mod Next
 pub mod Alike
 pub mod HeldBy
+pub mod Passing
 pub mod Turns
 pub mod Places
 pub mod Marking

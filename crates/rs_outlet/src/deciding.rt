@@ -9,6 +9,7 @@ ghost use Rattle.rs_policy.specs.Verdicts.{verdict};
 ghost use Rattle.rs_decision.specs.Best.{HasDistinctPlaces};
 ghost use Rattle.rs_outlet.specs.Due.{Held, rank_of, rank_to, ranks_among, passed_on, if_fits, route_from, due_to};
 ghost use Rattle.rs_outlet.specs.HeldBy.{held_by};
+ghost use Rattle.rs_outlet.specs.Passing.{attributes_passed, due_alone, is_kept_back};
 
 use crate::answers::Speech;
 use rs_adjin::{AdjIns, Holder, Holders};
@@ -26,6 +27,35 @@ pub(crate) struct Sources<'a> {
     pub(crate) ins: &'a AdjIns,
     pub(crate) config: &'a Config,
     pub(crate) client: usize,
+}
+
+/// A route as it is passed on: as its sender announced it, or without what the rules take out of it.
+#[derive(Drop)]
+pub(crate) enum Passed<'a> {
+    Whole(&'a Arc<Attrs>),
+    Stripped(Arc<Attrs>),
+}
+
+impl Passed<'_> {
+    /// What is passed on.
+    pub(crate) fn attrs(&self) -> &Arc<Attrs>
+        ensures { arc_value result.now ≡ attributes_passed self.now }
+    {
+        match self {
+            Passed::Whole(attrs) => attrs,
+            Passed::Stripped(attrs) => attrs,
+        }
+    }
+
+    /// What is passed on, as an owner more of it.
+    pub(crate) fn own(self) -> Result<Arc<Attrs>, AllocError>
+        ensures { IfOk result (λ attrs. arc_value attrs ≡ attributes_passed self.entry) }
+    {
+        match self {
+            Passed::Whole(attrs) => attrs.clone(),
+            Passed::Stripped(attrs) => Ok(attrs),
+        }
+    }
 }
 
 fn rank(sources: &Sources<'_>, holder: &Holder<'_>, preference: u32) -> Rank
@@ -47,6 +77,14 @@ fn rank(sources: &Sources<'_>, holder: &Holder<'_>, preference: u32) -> Rank
     }
 }
 
+/// Whether a route is kept from the client before any rule: it is its own, or has the server's AS in
+/// its path.
+fn is_kept_back(sources: &Sources<'_>, holder: &Holder<'_>) -> bool
+    ensures { result ≡ is_kept_back (held_by sources.now) sources.now.client (holder.now.client, arc_value holder.now.attrs.now) }
+{
+    holder.client == sources.client || holder.attrs.path_has(sources.config.server_as())
+}
+
 /// The rank of a holder's route, where it is a candidate for the client.
 fn rank_to(sources: &Sources<'_>, prefix: &Prefix, holder: &Holder<'_>) -> Option<Rank>
     requires client { sources.now.client < length sources.now.config.now.clients }
@@ -54,10 +92,7 @@ fn rank_to(sources: &Sources<'_>, prefix: &Prefix, holder: &Holder<'_>) -> Optio
     requires count { client_count sources.now.ins.now ≡ length sources.now.config.now.clients }
     ensures { result ≡ rank_to (held_by sources.now) sources.now.client prefix.now (holder.now.client, arc_value holder.now.attrs.now) }
 {
-    if holder.client == sources.client {
-        return None;
-    }
-    if holder.attrs.path_has(sources.config.server_as()) {
+    if is_kept_back(sources, holder) {
         return None;
     }
     match judge(
@@ -93,16 +128,16 @@ fn rank_all(
     Ok(())
 }
 
-/// The route as it is passed on. Where nothing is taken out of it, it is shared.
-fn pass_on(
+/// The route as it is passed on.
+fn pass_on<'a>(
     alloc: Global,
     sources: &Sources<'_>,
     prefix: &Prefix,
-    holder: &Holder<'_>,
-) -> Result<Option<Arc<Attrs>>, AllocError>
+    holder: &Holder<'a>,
+) -> Result<Option<Passed<'a>>, AllocError>
     requires client { sources.now.client < length sources.now.config.now.clients }
     requires known { holder.now.client < length sources.now.config.now.clients }
-    ensures { IfOk result (λ passed. option_map arc_value passed ≡ passed_on (arc_value holder.now.attrs.now) (verdict sources.now.config.now holder.now.client sources.now.client prefix.now (arc_value holder.now.attrs.now))) }
+    ensures { IfOk result (λ passed. option_map attributes_passed passed ≡ passed_on (arc_value holder.now.attrs.now) (verdict sources.now.config.now holder.now.client sources.now.client prefix.now (arc_value holder.now.attrs.now))) }
 {
     match judge(
         sources.config,
@@ -114,40 +149,64 @@ fn pass_on(
         Fate::Drop => Ok(None),
         Fate::Pass { strip, .. } => {
             if strip.changes(holder.attrs) {
-                Ok(Some(Arc::new(alloc, stripped(alloc, holder.attrs, &strip)?)?))
+                let rest = stripped(alloc, holder.attrs, &strip)?;
+                Ok(Some(Passed::Stripped(Arc::new(alloc, rest)?)))
             } else {
-                Ok(Some(holder.attrs.clone()?))
+                Ok(Some(Passed::Whole(holder.attrs)))
             }
         }
     }
 }
 
-/// The attributes, where they fit into a message to the client that announces this prefix alone.
-fn if_fits(speech: Speech, prefix: &Prefix, attrs: Arc<Attrs>) -> Option<Arc<Attrs>>
-    ensures { option_map arc_value result ≡ if_fits speech prefix.now (arc_value attrs) }
+/// The route, where it fits into a message to the client that announces this prefix alone.
+fn if_fits<'a>(speech: Speech, prefix: &Prefix, passed: Passed<'a>) -> Option<Passed<'a>>
+    ensures { option_map attributes_passed result ≡ if_fits speech prefix.now (attributes_passed passed.entry) }
 {
-    if fits(&attrs, speech.mode, prefix, speech.limit.octets()) {
-        Some(attrs)
+    if fits(passed.attrs(), speech.mode, prefix, speech.limit.octets()) {
+        Some(passed)
     } else {
         None
     }
 }
 
-/// What is due to the client at a prefix: the best of the candidates, as it is passed on, where it fits.
-pub(crate) fn decide(
+/// What is due where one client alone holds the prefix: nothing is compared.
+fn decide_alone<'a>(
     alloc: Global,
     sources: &Sources<'_>,
     speech: Speech,
+    prefix: &Prefix,
+    holder: &Holder<'a>,
+) -> Result<Option<Passed<'a>>, AllocError>
+    requires client { sources.now.client < length sources.now.config.now.clients }
+    requires known { holder.now.client < length sources.now.config.now.clients }
+    ensures { IfOk result (λ due. option_map attributes_passed due ≡ due_alone (held_by sources.now) sources.now.client speech prefix.now (holder.now.client, arc_value holder.now.attrs.now)) }
+{
+    if is_kept_back(sources, holder) {
+        return Ok(None);
+    }
+    match pass_on(alloc, sources, prefix, holder)? {
+        None => Ok(None),
+        Some(passed) => Ok(if_fits(speech, prefix, passed)),
+    }
+}
+
+/// What is due where these clients hold the prefix: the best of the candidates.
+fn decide_among<'a>(
+    alloc: Global,
+    sources: &Sources<'a>,
+    speech: Speech,
     number: u32,
     prefix: &Prefix,
+    holders: Holders<'a>,
     ranks: &mut Vec<Rank>,
-) -> Result<Option<Arc<Attrs>>, AllocError>
+) -> Result<Option<Passed<'a>>, AllocError>
     requires number { number_of sources.now.ins.now prefix.now ≡ Some number }
+    requires holders { ListsHolders sources.now.ins.now prefix.now holders }
     requires client { sources.now.client < length sources.now.config.now.clients }
     requires count { client_count sources.now.ins.now ≡ length sources.now.config.now.clients }
-    ensures { IfOk result (λ due. option_map arc_value due ≡ due_to (held_by sources.now) sources.now.client speech prefix.now) }
+    ensures { IfOk result (λ due. option_map attributes_passed due ≡ due_to (held_by sources.now) sources.now.client speech prefix.now) }
 {
-    rank_all(sources, prefix, sources.ins.at_number(number), ranks)?;
+    rank_all(sources, prefix, holders, ranks)?;
     let Some(place) = best(ranks) else {
         return Ok(None);
     };
@@ -163,6 +222,30 @@ pub(crate) fn decide(
     };
     match pass_on(alloc, sources, prefix, &holder)? {
         None => Ok(None),
-        Some(attrs) => Ok(if_fits(speech, prefix, attrs)),
+        Some(passed) => Ok(if_fits(speech, prefix, passed)),
+    }
+}
+
+/// What is due to the client at a prefix: the best of the candidates, as it is passed on, where it fits.
+pub(crate) fn decide<'a>(
+    alloc: Global,
+    sources: &Sources<'a>,
+    speech: Speech,
+    number: u32,
+    prefix: &Prefix,
+    ranks: &mut Vec<Rank>,
+) -> Result<Option<Passed<'a>>, AllocError>
+    requires number { number_of sources.now.ins.now prefix.now ≡ Some number }
+    requires client { sources.now.client < length sources.now.config.now.clients }
+    requires count { client_count sources.now.ins.now ≡ length sources.now.config.now.clients }
+    ensures { IfOk result (λ due. option_map attributes_passed due ≡ due_to (held_by sources.now) sources.now.client speech prefix.now) }
+{
+    let mut holders = sources.ins.at_number(number);
+    if holders.len() != 1 {
+        return decide_among(alloc, sources, speech, number, prefix, holders, ranks);
+    }
+    match holders.next() {
+        None => Ok(None),
+        Some(holder) => decide_alone(alloc, sources, speech, prefix, &holder),
     }
 }

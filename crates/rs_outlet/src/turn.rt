@@ -3,7 +3,6 @@
 ghost use Rattle.std.specs.Prelude.{◌≡◌, ◌<◌, ◌+◌, Option, None, Some, true, false, nat_eq, option_copied, option_map, length, if◌then◌else◌, IsTrue, IfOk, OnOk, OnErr};
 ghost use Rattle.std.specs.List.{IsDistinct};
 ghost use Rattle.std.specs.Map.{keys_of};
-ghost use Rattle.std.specs.Arc.{arc_value};
 ghost use Rattle.std.specs.FinMap as fin;
 ghost use Rattle.std.specs.FinSet as set;
 ghost use Rattle.rs_octets.specs.Prefixes.{Prefix};
@@ -14,19 +13,18 @@ ghost use Rattle.rs_outlet.specs.Counted.{is_counted, is_standing};
 ghost use Rattle.rs_outlet.specs.HeldBy.{held_by};
 ghost use Rattle.rs_outlet.specs.Inside.{AreDecided, IsDecidedAt, attributes_at, shown};
 ghost use Rattle.rs_outlet.specs.Touching.{is_number_touched, is_numbered_in, touched_of};
+ghost use Rattle.rs_outlet.specs.Passing.{attributes_passed};
 
 use crate::answers::{Last, Speech, Turned};
 use crate::changes::{Change, are_own, commit, make_room};
-use crate::deciding::{Sources, decide};
+use crate::deciding::{Passed, Sources, decide};
 use crate::outlet::Outlet;
 use crate::rows::Row;
 use crate::table::Rows;
 use crate::touched::Touched;
-use rs_attrs::Attrs;
 use rs_decision::Rank;
 use rs_octets::Prefix;
 use std::alloc::{AllocError, Global};
-use std::sync::Arc;
 
 /// The changes of a turn, how many prefixes were decided, and whether all were.
 #[derive(Drop)]
@@ -37,12 +35,12 @@ pub(crate) struct Decided {
 }
 
 /// Whether a row has just what is due.
-fn is_due(row: Option<&Row>, due: Option<&Arc<Attrs>>) -> bool
-    ensures { IsTrue result → shown (option_copied row.entry) ≡ option_map (λ attrs. arc_value attrs.now) due.entry }
+fn is_due(row: Option<&Row>, due: Option<&Passed<'_>>) -> bool
+    ensures { IsTrue result → shown (option_copied row.entry) ≡ option_map (λ passed. attributes_passed passed.now) due.entry }
 {
     match (row, due) {
         (None, None) => true,
-        (Some(row), Some(due)) => row.attrs == *due,
+        (Some(row), Some(due)) => row.attrs == *due.attrs(),
         _ => false,
     }
 }
@@ -67,6 +65,10 @@ fn decide_one(
     if is_due(rows.get(number), due.as_ref()) {
         return Ok(());
     }
+    let due = match due {
+        None => None,
+        Some(passed) => Some(passed.own()?),
+    };
     changes.push(Change {
         number,
         prefix,

@@ -1,61 +1,18 @@
-use Rattle.std.proofs.Common.{◌≡◌, ◌<◌, Some, None, sym, ap, ◌∙◌, subst, option_map, option_and_then, slice_get}
+use Rattle.std.proofs.Common.{ℕ, ◌≡◌, ◌∙◌, List, ◌∷◌, [], length, IfOk, option_map, sym, subst}
 use Rattle.std.specs.Arc.{arc_value}
+use Rattle.rs_attrs.specs.Meaning.{Attribute}
 use Rattle.rs_adjin.specs.AdjIns.{ListsHolders}
-use Rattle.rs_policy.specs.Verdicts.{verdict}
-use Rattle.rs_decision.specs.Best.{HasDistinctPlaces}
-use Rattle.rs_decision.specs.Choice.{best_of}
-use Rattle.rs_outlet.specs.Due.{ranks_among, passed_on, if_fits}
 use Rattle.rs_outlet.specs.HeldBy.{held_by}
-use Rattle.rs_outlet.proofs.Ranks.{distinct_places, known_place, ranked_at, due_none, due_some, past}
+use Rattle.rs_outlet.specs.Passing.{attributes_passed}
+use Rattle.rs_outlet.proofs.Ranks.{alone_is_due, held_alone, one_alone}
 use Rattle.rs_outlet.proofs.deciding.decide.Goals as goal
 
-pub best-requires : goal.best-requires
-best-requires c =
-    let listed : ListsHolders c.args.sources.now.ins.now c.args.prefix.now c.at_number.result = c.at_number.ensures c.args.prefix.now c.requires.number in
-    let ranked : c.deref.result.now ≡ ranks_among (held_by c.args.sources.now) c.args.sources.now.client c.args.prefix.now c.at_number.result = c.deref.ensures.value ∙ c.in_ok-rank_all.ensures in
-    subst HasDistinctPlaces (sym ranked) (distinct_places (held_by c.args.sources.now) _ _ _ listed.rising)
-
-pub returns-in_default-get : goal.returns-in_default-get
-returns-in_default-get c =
-    let listed : ListsHolders c.args.sources.now.ins.now c.args.prefix.now c.at_number.result = c.at_number.ensures c.args.prefix.now c.requires.number in
-    let ranked : c.deref.result.now ≡ ranks_among (held_by c.args.sources.now) c.args.sources.now.client c.args.prefix.now c.at_number.result = c.deref.ensures.value ∙ c.in_ok-rank_all.ensures in
-    due_none (held_by c.args.sources.now) _ _ _ c.at_number.result _ listed.all ranked
-    (sym c.in-Some.ensures.value ∙ ap (λ xs. slice_get xs c.in-Some.place) (c.deref.ensures.value ∙ sym c.deref-2.ensures.value) ∙ past c.deref-2.result.now c.in-Some.place c.in_default-get.ensures.lookup.3)
-
-pub returns-in_default-route_at : goal.returns-in_default-route_at
-returns-in_default-route_at c =
-    let listed : ListsHolders c.args.sources.now.ins.now c.args.prefix.now c.at_number.result = c.at_number.ensures c.args.prefix.now c.requires.number in
-    let ranked : c.deref.result.now ≡ ranks_among (held_by c.args.sources.now) c.args.sources.now.client c.args.prefix.now c.at_number.result = c.deref.ensures.value ∙ c.in_ok-rank_all.ensures in
-    let stands = ranked_at c.deref.result.now c.deref-2.result.now c.in-Some.place c.in-Some-get.rank.now (c.deref.ensures.value ∙ sym c.deref-2.ensures.value) c.in-Some-get.ensures.lookup.3.0 c.in-Some-get.ensures.lookup.1 in
-    let best : best_of c.deref.result.now ≡ Some c.in-Some-get.rank.now = sym c.in-Some.ensures.value ∙ stands in
-    due_some (held_by c.args.sources.now) _ _ _ c.at_number.result _ c.in-Some-get.rank.now None listed.all ranked best (sym (c.in_default-route_at.ensures c.args.prefix.now c.requires.number))
-
-pub pass_on-requires-clause-known : goal.pass_on-requires-clause-known
-pass_on-requires-clause-known c =
-    let listed : ListsHolders c.args.sources.now.ins.now c.args.prefix.now c.at_number.result = c.at_number.ensures c.args.prefix.now c.requires.number in
-    let ranked : c.deref.result.now ≡ ranks_among (held_by c.args.sources.now) c.args.sources.now.client c.args.prefix.now c.at_number.result = c.deref.ensures.value ∙ c.in_ok-rank_all.ensures in
-    let stands = ranked_at c.deref.result.now c.deref-2.result.now c.in-Some.place c.in-Some-get.rank.now (c.deref.ensures.value ∙ sym c.deref-2.ensures.value) c.in-Some-get.ensures.lookup.3.0 c.in-Some-get.ensures.lookup.1 in
-    subst (λ n. c.in-Some-get.rank.now.place < n) c.requires.count (known_place _ (held_by c.args.sources.now) _ _ c.at_number.result _ c.in-Some.place c.in-Some-get.rank.now listed.known ranked stands)
-
-pub returns-in-None : goal.returns-in-None
-returns-in-None c =
-    let listed : ListsHolders c.args.sources.now.ins.now c.args.prefix.now c.at_number.result = c.at_number.ensures c.args.prefix.now c.requires.number in
-    let ranked : c.deref.result.now ≡ ranks_among (held_by c.args.sources.now) c.args.sources.now.client c.args.prefix.now c.at_number.result = c.deref.ensures.value ∙ c.in_ok-rank_all.ensures in
-    let stands = ranked_at c.deref.result.now c.deref-2.result.now c.in-Some.place c.in-Some-get.rank.now (c.deref.ensures.value ∙ sym c.deref-2.ensures.value) c.in-Some-get.ensures.lookup.3.0 c.in-Some-get.ensures.lookup.1 in
-    let best : best_of c.deref.result.now ≡ Some c.in-Some-get.rank.now = sym c.in-Some.ensures.value ∙ stands in
-    let m = arc_value c.in-Some-route_at.attrs.now in
-    let passed : None ≡ passed_on m (verdict (held_by c.args.sources.now).settings c.in-Some-get.rank.now.place c.args.sources.now.client c.args.prefix.now m) = ap (option_map arc_value) (sym c.in-None.is) ∙ c.in_ok-pass_on.ensures in
-    ap (option_and_then (if_fits c.args.speech c.args.prefix.now)) passed
-    ∙ due_some (held_by c.args.sources.now) _ _ _ c.at_number.result _ c.in-Some-get.rank.now (Some m) listed.all ranked best (sym (c.in-Some-route_at.ensures c.args.prefix.now c.requires.number))
-
-pub returns-in-Some-2 : goal.returns-in-Some-2
-returns-in-Some-2 c =
-    let listed : ListsHolders c.args.sources.now.ins.now c.args.prefix.now c.at_number.result = c.at_number.ensures c.args.prefix.now c.requires.number in
-    let ranked : c.deref.result.now ≡ ranks_among (held_by c.args.sources.now) c.args.sources.now.client c.args.prefix.now c.at_number.result = c.deref.ensures.value ∙ c.in_ok-rank_all.ensures in
-    let stands = ranked_at c.deref.result.now c.deref-2.result.now c.in-Some.place c.in-Some-get.rank.now (c.deref.ensures.value ∙ sym c.deref-2.ensures.value) c.in-Some-get.ensures.lookup.3.0 c.in-Some-get.ensures.lookup.1 in
-    let best : best_of c.deref.result.now ≡ Some c.in-Some-get.rank.now = sym c.in-Some.ensures.value ∙ stands in
-    let m = arc_value c.in-Some-route_at.attrs.now in
-    let passed : Some (arc_value c.in-Some-2.attrs) ≡ passed_on m (verdict (held_by c.args.sources.now).settings c.in-Some-get.rank.now.place c.args.sources.now.client c.args.prefix.now m) = ap (option_map arc_value) (sym c.in-Some-2.is) ∙ c.in_ok-pass_on.ensures in
-    c.if_fits.ensures
-    ∙ ap (option_and_then (if_fits c.args.speech c.args.prefix.now)) passed
-    ∙ due_some (held_by c.args.sources.now) _ _ _ c.at_number.result _ c.in-Some-get.rank.now (Some m) listed.all ranked best (sym (c.in-Some-route_at.ensures c.args.prefix.now c.requires.number))
+pub returns-in-Some : goal.returns-in-Some
+returns-in-Some c =
+    let ins = c.args.sources.now.ins.now in
+    let p = c.args.prefix.now in
+    let h : ℕ × List Attribute = (c.in-Some.holder.client, arc_value c.in-Some.holder.attrs.now) in
+    let one : c.at_number-holders.result ≡ h ∷ [] = one_alone c.at_number-holders.result h c.next.new.self c.len.result c.in-Some.ensures.steps c.len.ensures c.if-len-ne1.false in
+    let listed : ListsHolders ins p (h ∷ []) = subst (ListsHolders ins p) one (c.at_number-holders.ensures p c.requires.number) in
+    subst (λ m. IfOk c.decide_alone.result (λ due. option_map attributes_passed due ≡ m))
+    (alone_is_due (held_by c.args.sources.now) c.args.sources.now.client c.args.speech p h listed.all (held_alone ins p h listed.each)) c.decide_alone.ensures

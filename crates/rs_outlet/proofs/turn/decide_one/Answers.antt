@@ -1,9 +1,9 @@
 use Rattle.std.proofs.Common.{◌≡◌, ◌∙◌, Option, None, Some, refl, sym, ap}
 use Rattle.std.specs.Prelude.{option_map, option_copied}
 use Rattle.std.specs.Borrow.{Bor}
-use Rattle.std.specs.Arc.{arc_value}
 use Rattle.rs_outlet.specs.Due.{due_to}
 use Rattle.rs_outlet.specs.HeldBy.{held_by}
+use Rattle.rs_outlet.specs.Passing.{attributes_passed}
 use Rattle.rs_outlet.specs.Inside.{attributes_at, shown}
 use Rattle.rs_outlet.proofs.Decisions.{decided_there}
 use Rattle.rs_outlet.proofs.Numbering.{number_once}
@@ -21,6 +21,6 @@ returns-then-is_due c =
     let n = c.args.number in
     let p = c.args.prefix in
     let at : attributes_at rows n ≡ due_at p =
-    ap shown (sym c.get.ensures) ∙ c.is_due.ensures c.if-is_due.true ∙ map_copied arc_value c.as_ref.result
-    ∙ ap (option_map arc_value) c.as_ref.ensures.value ∙ c.in_ok-due.ensures in
+    ap shown (sym c.get.ensures) ∙ c.is_due.ensures c.if-is_due.true ∙ map_copied attributes_passed c.as_ref.result
+    ∙ ap (option_map attributes_passed) c.as_ref.ensures.value ∙ c.in_ok-due.ensures in
     decided_there ins due_at rows n p _ c.requires.number (λ q there. number_once ins q p n there c.requires.number) at
