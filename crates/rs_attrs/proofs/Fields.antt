@@ -1,6 +1,6 @@
 -- What is read of a field: what counts, what is kept, and what it means.
-pub mod Counting
-pub mod CountingWalk
+pub mod FirstOfType
+pub mod FirstOfTypeWalk
 pub mod Placing
 pub mod GatherWalk
 pub mod FlawWalk

@@ -1,13 +1,11 @@
 -- A body has one set of fields, and a field of attributes one meaning.
 use Rattle.std.proofs.Common.{◌≡◌, ℕ, zero, suc, ◌<◌, ◌≤◌, ◌⊎◌, inl, inr, nat_eq, Bool, true, false, cond, List, [], ◌∷◌, ◌++◌, length, take, drop, get_or, Some, None, refl, sym, ap, ◌∙◌, subst, arith, lit<, append_assoc}
-use Rattle.std.specs.List.{flat_map, AllByRecursion}
 use Rattle.std.specs.Int.{w16, from_be_bytes, to_be_bytes}
-use Rattle.std.proofs.Math.Seq.{take-append_seam, drop-append_seam}
 use Rattle.std.proofs.lemmas.Bool.{cases_lt, eq-eqb, eqb-true, ne_eqb}
 use Rattle.std.proofs.lemmas.Nat.{from_be_bytes-to_be_bytes_2}
 use Rattle.rs_attrs.specs.declared.mode.Mode.{Mode}
 use Rattle.rs_attrs.specs.declared.faults.Faults.{Faults}
-use Rattle.rs_attrs.specs.Spellings.{AreOctets, Spelling, spelling_octets, is_long, IsSpelling, BeginsNoAttribute, spellings_of, rest_of}
+use Rattle.rs_attrs.specs.Spellings.{AreOctets, Spelling, spelling_octets, is_long, IsSpelling, spellings_of, rest_of}
 use Rattle.rs_attrs.specs.Paths.{segments_of}
 use Rattle.rs_attrs.specs.Meaning.{Attribute, get, AllAbove, IsRising, Reads, faults_of, kept}
 use Rattle.rs_attrs.specs.Effects.{Fields, IsBody, behind_its_length}
@@ -15,19 +13,13 @@ use Rattle.rs_attrs.specs.ReadingLaws.{FieldsAreRead, FieldsMeanOne, PathsAreRea
 use Rattle.rs_attrs.proofs.Fields.Walk.{FitOctets, splits_of}
 use Rattle.rs_attrs.proofs.Fields.Meant.{is_meant}
 use Rattle.rs_attrs.proofs.Paths.PathLaws.{path_found, path_back}
-
--- two fronts as long as each other
-same_front : (xs ys vs ws : List ℕ) → length xs ≡ length ys → xs ++ vs ≡ ys ++ ws → (xs ≡ ys) × (vs ≡ ws)
-same_front xs ys vs ws n e = (
-  sym (take-append_seam xs vs) ∙ ap (take (length xs)) e ∙ ap (λ n. take n (ys ++ ws)) n ∙ take-append_seam ys ws,
-  sym (drop-append_seam xs vs) ∙ ap (drop (length xs)) e ∙ ap (λ n. drop n (ys ++ ws)) n ∙ drop-append_seam ys ws,
-)
+use Rattle.rs_octets.proofs.OneWay.{one_way, same_fronts}
 
 -- two fields behind their lengths
 same_field : (xs ys vs ws : List ℕ) → length xs < 65536 → length ys < 65536 → behind_its_length xs ++ vs ≡ behind_its_length ys ++ ws → (xs ≡ ys) × (vs ≡ ws)
 same_field xs ys vs ws h k e =
     let size = sym (from_be_bytes-to_be_bytes_2 (length xs) h) ∙ ap (λ octets. from_be_bytes w16 (take 2 octets)) e ∙ from_be_bytes-to_be_bytes_2 (length ys) k in
-    same_front xs ys vs ws size (ap (drop 2) e)
+    same_fronts xs ys vs ws size (ap (drop 2) e)
 
 pub same_fields : (body : List ℕ) (f g : Fields) → IsBody body f → IsBody body g → f ≡ g
 same_fields body f g is other =
@@ -47,8 +39,9 @@ same_value : (long : Bool) (xs ys vs ws : List ℕ) → length xs < cond long 65
 same_value true xs ys vs ws h k e = same_field xs ys vs ws h k e
 same_value false xs ys vs ws h k e =
     let size : length xs ≡ length ys = cc in
-    same_front xs ys vs ws size (ap (drop 1) e)
+    same_fronts xs ys vs ws size (ap (drop 1) e)
 
+-- no spelling is a front of another
 same_spelling : (s t : Spelling) (vs ws : List ℕ) → IsSpelling s → IsSpelling t → spelling_octets s ++ vs ≡ spelling_octets t ++ ws → (s ≡ t) × (vs ≡ ws)
 same_spelling s t vs ws is other e =
     let flags : s.flags ≡ t.flags = cc in
@@ -59,19 +52,6 @@ same_spelling s t vs ws is other e =
     (subst (λ long. length t.value < cond long 65536 256) long other.length_fits)
     (rest ∙ ap (λ long. behind long t.value ++ ws) long) in
     (λ i. record { flags = flags i; kind = kind i; value = both.0 i }, both.1)
-
-same_spellings : (ss ts : List Spelling) (rest other : List ℕ) → AllByRecursion IsSpelling ss → AllByRecursion IsSpelling ts → BeginsNoAttribute rest → BeginsNoAttribute other
-    → flat_map spelling_octets ss ++ rest ≡ flat_map spelling_octets ts ++ other → (ss ≡ ts) × (rest ≡ other)
-same_spellings [] [] rest other each every stops ends e = (refl, e)
-same_spellings [] (t ∷ ts) rest other each every stops ends e =
-    absurd (stops t (flat_map spelling_octets ts ++ other) every.0 (e ∙ append_assoc (spelling_octets t) (flat_map spelling_octets ts) other))
-same_spellings (s ∷ ss) [] rest other each every stops ends e =
-    absurd (ends s (flat_map spelling_octets ss ++ rest) each.0 (sym e ∙ append_assoc (spelling_octets s) (flat_map spelling_octets ss) rest))
-same_spellings (s ∷ ss) (t ∷ ts) rest other each every stops ends e =
-    let whole = sym (append_assoc (spelling_octets s) (flat_map spelling_octets ss) rest) ∙ e ∙ append_assoc (spelling_octets t) (flat_map spelling_octets ts) other in
-    let first = same_spelling s t (flat_map spelling_octets ss ++ rest) (flat_map spelling_octets ts ++ other) each.0 every.0 whole in
-    let others = same_spellings ss ts rest other each.1 every.1 stops ends first.1 in
-    (λ i. first.0 i ∷ others.0 i, others.1)
 
 get_above : (kind low : ℕ) (m : List Attribute) → kind ≤ low → AllAbove low m → get kind m ≡ None
 get_above kind low [] h above = refl
@@ -113,7 +93,7 @@ same_map (a ∷ m) (b ∷ n) rising other same =
 
 pub same_meaning : (octets : List ℕ) (mode : Mode) (m n : List Attribute) (faults others : Faults) → Reads octets mode m faults → Reads octets mode n others → (m ≡ n) × (faults ≡ others)
 same_meaning octets mode m n faults others (ss, rest, split, meant, is) (ts, other, splits, means, are) =
-    let both = same_spellings ss ts rest other split.each splits.each split.ends splits.ends (sym split.whole ∙ splits.whole) in (
+    let both = one_way spelling_octets IsSpelling same_spelling octets ss ts rest other split splits in (
       same_map m n meant.rising means.rising (λ kind. meant.same kind ∙ ap (λ ss. kept mode ss kind) both.0 ∙ sym (means.same kind)),
       is ∙ (λ i. faults_of mode (both.0 i) (both.1 i)) ∙ sym are,
     )

@@ -2,5 +2,7 @@
 pub mod ReadBack
 pub mod LeftToWrite
 pub mod Narrowing
+pub mod TwoMap
+pub mod TwoKept
 pub mod ReadBackTwo
 pub mod Parts

@@ -1,9 +1,9 @@
 -- How fields of messages spell prefixes, and what such a field holds (RFC 4271, 4.3 and 6.3).
 use Rattle.std.specs.Prelude.{◌≡◌, ℕ, zero, suc, ◌≤◌, List, [], ◌∷◌, ◌++◌, length, map, take, drop, Result, Ok, Err, nat_lt, if◌then◌else◌}
-use Rattle.std.specs.List.{flat_map, AllByRecursion}
 use Rattle.std.specs.Int.{w32, to_be_bytes, from_be_bytes}
 use Rattle.rs_octets.specs.declared.prefix.FieldFault.{FieldFault}
 use Rattle.rs_octets.specs.declared.prefix.FieldFault.TheVariants.{TooLong, Cut}
+use Rattle.rs_octets.specs.Parts.{Splits}
 use Rattle.rs_octets.specs.Prefixes.{Prefix, masked, octet_count}
 
 -- the octets of a prefix: its length, and as many octets as hold its bits
@@ -25,10 +25,6 @@ IsSpeltPrefix s = (s.len ≤ 32) × (length s.address ≡ octet_count s.len)
 abbrev pub spelt_octets : SpeltPrefix → List ℕ
 spelt_octets s = s.len ∷ s.address
 
--- octets of which no prefix is a front
-abbrev pub BeginsNoPrefix : List ℕ → Type 0
-BeginsNoPrefix octets = (s : SpeltPrefix) (after : List ℕ) → IsSpeltPrefix s → octets ≡ spelt_octets s ++ after → ⊥
-
 -- the fault of octets that begin with no prefix: there is one where there are octets
 abbrev pub field_fault_of : List ℕ → List (Result Prefix FieldFault)
 field_fault_of [] = []
@@ -39,9 +35,7 @@ field_fault_of (len ∷ octets) = Err (if nat_lt 32 len then TooLong else Cut) �
 pub record ReadsPrefixes (field : List ℕ) (read : List (Result Prefix FieldFault)) : Type 0 where
   pub spelt : List SpeltPrefix
   pub rest : List ℕ
-  pub whole : field ≡ flat_map spelt_octets spelt ++ rest
-  pub each : AllByRecursion IsSpeltPrefix spelt
-  pub stops : BeginsNoPrefix rest
+  pub split : Splits spelt_octets IsSpeltPrefix field spelt rest
   pub are : read ≡ map (λ s. Ok (prefix_at s.len s.address)) spelt ++ field_fault_of rest
 
 -- ---- the same, computed

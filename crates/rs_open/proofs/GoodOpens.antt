@@ -115,15 +115,30 @@ hold_faultless hold (inr more) =
 
 -- ---- the whole
 
+-- the faults of each part, in their order
+abbrev version_faults : List ℕ → List OpenFault
+version_faults body = when (not (version_field body == 4)) Version
+
+abbrev length_faults : List ℕ → List OpenFault
+length_faults body = when (not (parameters_length body == length (parameters_of body))) Malformed
+
+-- a fault of the Hold Time or of the identifier brings these AS numbers
+abbrev four_said : List ℕ → Option ℕ
+four_said body = four_of (capabilities_of (parameters_of body))
+
+abbrev hold_faults : List ℕ → List OpenFault
+hold_faults body = when (is_refused_hold (hold_field body)) (Hold (my_as_field body) (four_said body))
+
+abbrev identifier_faults : List ℕ → List OpenFault
+identifier_faults body = when (identifier_field body == 0) (Identifier (my_as_field body) (four_said body))
+
 open_good : (body : List ℕ) → faults_of body ≡ [] → IsGoodOpen body
 open_good body e =
-    let my_as : ℕ = my_as_field body in
-    let four : Option ℕ = four_of (capabilities_of (parameters_of body)) in
-    let a : List OpenFault = when (not (version_field body == 4)) Version in
-    let b : List OpenFault = when (not (parameters_length body == length (parameters_of body))) Malformed in
-    let c : List OpenFault = row_faults parameter_faults (row_of (parameters_of body)) in
-    let d : List OpenFault = when (is_refused_hold (hold_field body)) (Hold my_as four) in
-    let f : List OpenFault = when (identifier_field body == 0) (Identifier my_as four) in
+    let a = version_faults body in
+    let b = length_faults body in
+    let c = row_faults parameter_faults (row_of (parameters_of body)) in
+    let d = hold_faults body in
+    let f = identifier_faults body in
     let abcd = left_none (a ++ b ++ c ++ d) f e in
     let abc = left_none (a ++ b ++ c) d abcd in
     let ab = left_none (a ++ b) c abc in
@@ -132,8 +147,8 @@ open_good body e =
       reaches = eqb-true (parameters_length body) (length (parameters_of body))
           (true_not _ (not_when (not (parameters_length body == length (parameters_of body))) Malformed (right_none a b ab)));
       parameters = row_good parameter_faults IsGoodParameter parameter_good (parameters_of body) (right_none (a ++ b) c abc);
-      hold = hold_good (hold_field body) (not_when (is_refused_hold (hold_field body)) (Hold my_as four) (right_none (a ++ b ++ c) d abcd));
-      identifier = λ is. not_both (identifier_field body == 0) (eq-eqb (identifier_field body) 0 is) (not_when (identifier_field body == 0) (Identifier my_as four) (right_none (a ++ b ++ c ++ d) f e));
+      hold = hold_good (hold_field body) (not_when (is_refused_hold (hold_field body)) (Hold (my_as_field body) (four_said body)) (right_none (a ++ b ++ c) d abcd));
+      identifier = λ is. not_both (identifier_field body == 0) (eq-eqb (identifier_field body) 0 is) (not_when (identifier_field body == 0) (Identifier (my_as_field body) (four_said body)) (right_none (a ++ b ++ c ++ d) f e));
     }
   where
     not_both : (b : Bool) → b ≡ true → b ≡ false → ⊥
@@ -141,13 +156,11 @@ open_good body e =
 
 open_faultless : (body : List ℕ) → IsGoodOpen body → faults_of body ≡ []
 open_faultless body good =
-    let my_as : ℕ = my_as_field body in
-    let four : Option ℕ = four_of (capabilities_of (parameters_of body)) in
-    let a : List OpenFault = when (not (version_field body == 4)) Version in
-    let b : List OpenFault = when (not (parameters_length body == length (parameters_of body))) Malformed in
-    let c : List OpenFault = row_faults parameter_faults (row_of (parameters_of body)) in
-    let d : List OpenFault = when (is_refused_hold (hold_field body)) (Hold my_as four) in
-    let f : List OpenFault = when (identifier_field body == 0) (Identifier my_as four) in
+    let a = version_faults body in
+    let b = length_faults body in
+    let c = row_faults parameter_faults (row_of (parameters_of body)) in
+    let d = hold_faults body in
+    let f = identifier_faults body in
     both_none (a ++ b ++ c ++ d) f
     (both_none (a ++ b ++ c) d
     (both_none (a ++ b) c
@@ -155,8 +168,8 @@ open_faultless body good =
     (ap (λ b. when (not b) Version) (eq-eqb (version_field body) 4 good.version))
     (ap (λ b. when (not b) Malformed) (eq-eqb (parameters_length body) (length (parameters_of body)) good.reaches)))
     (row_faultless parameter_faults IsGoodParameter parameter_faultless (parameters_of body) good.parameters))
-    (when_not (is_refused_hold (hold_field body)) (Hold my_as four) (hold_faultless (hold_field body) good.hold)))
-    (when_not (identifier_field body == 0) (Identifier my_as four) (ne_eqb (identifier_field body) 0 good.identifier))
+    (when_not (is_refused_hold (hold_field body)) (Hold (my_as_field body) (four_said body)) (hold_faultless (hold_field body) good.hold)))
+    (when_not (identifier_field body == 0) (Identifier (my_as_field body) (four_said body)) (ne_eqb (identifier_field body) 0 good.identifier))
 
 ok_none : (faults : List OpenFault) (value : Open) → IsOk (unless faults value) → faults ≡ []
 ok_none [] value ok = refl

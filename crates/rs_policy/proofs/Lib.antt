@@ -6,5 +6,6 @@ pub mod Fixed
 mod Others
 pub mod Passing
 mod Rows
+pub mod SoundKeys
 pub mod Soundness
 mod Wholes

@@ -13,7 +13,7 @@ use Rattle.rs_attrs.specs.Table.{is_withdraw, is_discard}
 use Rattle.rs_attrs.specs.Meaning.{that_counts}
 use Rattle.rs_attrs.specs.Flaws.{flaw_by, comes_among, flaws_behind, cut_off, first_by, firsts_of, faulted_of, or_fault, with_flaw}
 use Rattle.rs_attrs.specs.Walking.{Stops, Steps}
-use Rattle.rs_attrs.proofs.Fields.CountingWalk.{or_else, if_kind, counts_more}
+use Rattle.rs_attrs.proofs.Fields.FirstOfTypeWalk.{or_else, if_kind, counts_more}
 
 -- ---- one more
 

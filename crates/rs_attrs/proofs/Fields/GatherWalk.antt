@@ -12,8 +12,8 @@ use Rattle.rs_attrs.specs.Table.{outcome_of, is_kept, is_withdraw, is_unknown, i
 use Rattle.rs_attrs.specs.Meaning.{that_counts, if_kept, kept_spelling, stands_twice, comes_to, some_comes_to, faults_of, all_types}
 use Rattle.rs_attrs.specs.Flaws.{fault, cause_in, cut_off, faulted_of, flaw_by, with_flaw, comes_among}
 use Rattle.rs_attrs.specs.Walking.{Stops, Steps, noted, noted_with, AreRising, Keeps, faults_with, told_with}
-use Rattle.rs_attrs.proofs.Fields.Counting.{any_of, not_withdraw, not_unknown, not_discard}
-use Rattle.rs_attrs.proofs.Fields.CountingWalk.{counts_same, counts_new, twice_more, comes_more}
+use Rattle.rs_attrs.proofs.Fields.FirstOfType.{any_of, not_withdraw, not_unknown, not_discard}
+use Rattle.rs_attrs.proofs.Fields.FirstOfTypeWalk.{counts_same, counts_new, twice_more, comes_more}
 use Rattle.rs_attrs.proofs.Fields.FlawWalk.{Telling, telling_start, telling_more, telling_all, telling_end}
 
 -- the faults of the attributes alone, with no rest

@@ -12,7 +12,7 @@ use Rattle.rs_attrs.specs.Table.{fits_class, is_well_formed, outcome_by, outcome
 use Rattle.rs_attrs.specs.Meaning.{Attribute, attribute_with, is_never_partial, is_known_optional, kept, meaning_of, all_types}
 use Rattle.rs_attrs.specs.Writing.{flags_of, is_legal_partial, IsLegal, IsLegalAttribute}
 use Rattle.rs_attrs.proofs.Fields.Walk.{FitOctets, fit_behind}
-use Rattle.rs_attrs.proofs.Fields.Counting.{counts_has}
+use Rattle.rs_attrs.proofs.Fields.FirstOfType.{counts_has}
 use Rattle.rs_attrs.proofs.Written.ReadBack.{flags_of_back}
 use Rattle.rs_attrs.proofs.Fields.Meant.{behind, is_meant}
 

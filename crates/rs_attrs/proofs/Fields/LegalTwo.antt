@@ -16,7 +16,7 @@ use Rattle.rs_attrs.specs.Meaning.{merged_with, Attribute, attribute_with, ignor
 use Rattle.rs_attrs.specs.Writing.{IsLegal, IsLegalAttribute}
 use Rattle.rs_attrs.specs.Merging.{segments_in, plain, as4_value}
 use Rattle.rs_attrs.proofs.Paths.PathLaws.{path_back}
-use Rattle.rs_attrs.proofs.Fields.Counting.{counts_has, counts_kind}
+use Rattle.rs_attrs.proofs.Fields.FirstOfType.{counts_has, counts_kind}
 use Rattle.rs_attrs.proofs.Fields.Meant.{behind, kept_is}
 use Rattle.rs_attrs.proofs.Fields.Legal.{legal_with, legal_meaning, HasOctets}
 use Rattle.rs_attrs.proofs.Paths.MergedPaths.{whole_segments}

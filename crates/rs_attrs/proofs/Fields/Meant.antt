@@ -7,8 +7,8 @@ use Rattle.rs_attrs.specs.declared.mode.Mode.{Mode}
 use Rattle.rs_attrs.specs.Spellings.{Spelling, IsSpelling}
 use Rattle.rs_attrs.specs.Table.{outcome_of, is_kept}
 use Rattle.rs_attrs.specs.Meaning.{Attribute, attribute_with, that_counts, if_kept, kept_spelling, is_as4, value_meant, kept, get, AllAbove, IsRising, IsMeant, meaning_of}
-use Rattle.rs_attrs.proofs.Fields.Counting.{counts_kind}
-use Rattle.rs_attrs.proofs.Fields.CountingWalk.{types_all}
+use Rattle.rs_attrs.proofs.Fields.FirstOfType.{counts_kind}
+use Rattle.rs_attrs.proofs.Fields.FirstOfTypeWalk.{types_all}
 
 -- each type is given an attribute of its own
 abbrev pub GivesOwn : (ℕ → Option Attribute) → Type 0

@@ -6,12 +6,12 @@ use Rattle.rs_attrs.specs.declared.mode.Mode.{Mode}
 use Rattle.rs_attrs.specs.declared.mode.Mode.TheVariants.{Two, Four}
 use Rattle.rs_attrs.specs.declared.faults.Faults.{Faults}
 use Rattle.rs_attrs.specs.declared.reading.field.Found.{Found}
-use Rattle.rs_attrs.specs.Spellings.{Spelling, IsSpelling, Splits, spellings_of, rest_of}
+use Rattle.rs_attrs.specs.Spellings.{Spelling, IsSpelling, SplitsField, spellings_of, rest_of}
 use Rattle.rs_attrs.specs.Meaning.{Attribute, attribute_with, that_counts, is_as4, value_meant, meant, meaning_of, kept as kept_of, get, IsMeant, Reads, faults_of}
 use Rattle.rs_attrs.specs.Writing.{IsLegal}
 use Rattle.rs_attrs.specs.Walking.{noted, Keeps, meant_by, AreKept, AreShort}
 use Rattle.rs_attrs.proofs.Fields.Walk.{FitOctets, splits_of}
-use Rattle.rs_attrs.proofs.Fields.Counting.{counts_has, counts_kind}
+use Rattle.rs_attrs.proofs.Fields.FirstOfType.{counts_has, counts_kind}
 use Rattle.rs_attrs.proofs.Fields.Meant.{GivesOwn, gives_own, is_meant, kept_is}
 use Rattle.rs_attrs.proofs.Fields.Building.{rising_meant, get_meant}
 use Rattle.rs_attrs.proofs.OneMeaning.{same_map}
@@ -20,7 +20,7 @@ use Rattle.rs_attrs.proofs.Fields.LegalTwo.{legal_two}
 use Rattle.rs_attrs.proofs.Fields.ShortTwo.{short_by_two}
 
 -- the spellings of a field, and their values, as they have to be
-field_splits : (field : List ℕ) → FitOctets field → Splits field (spellings_of field) (rest_of field)
+field_splits : (field : List ℕ) → FitOctets field → SplitsField field (spellings_of field) (rest_of field)
 field_splits field fits = splits_of field fits
 
 field_octets : (field : List ℕ) → FitOctets field → AllByRecursion HasOctets (spellings_of field)

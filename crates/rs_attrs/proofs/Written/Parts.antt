@@ -14,7 +14,7 @@ use Rattle.rs_attrs.specs.Meaning.{Attribute, IsRising, AllAbove, is_as4}
 use Rattle.rs_attrs.specs.Held.{attribute_by, attributes_in, values_size, head_spelling}
 use Rattle.rs_attrs.specs.Writing.{attribute_octets, with_value, narrowed, as4_of, as4_attribute, path_needs_four_octets, needs_four_octets, aggregator_in, spelling_of, in_mode, IsLegal, IsLegalAttribute}
 use Rattle.rs_attrs.specs.Parts.{narrow_path, narrow_aggregator, octets_of_length, parts_left, begins_below}
-use Rattle.rs_attrs.proofs.Fields.Counting.{as4_discarded}
+use Rattle.rs_attrs.proofs.Fields.FirstOfType.{as4_discarded}
 use Rattle.rs_attrs.proofs.HeldLemmas.{attribute_length, attribute_spelling}
 use Rattle.rs_attrs.proofs.Written.Narrowing.{narrowed_is, narrowed_value}
 

@@ -7,7 +7,7 @@ use Rattle.std.proofs.lemmas.Bool.{ltb-false, le-ltb, eqb-true, ne_eqb}
 use Rattle.rs_attrs.specs.declared.mode.Mode.TheVariants.{Four}
 use Rattle.rs_attrs.specs.Spellings.{Spelling, spelling_octets, has_flag, is_long, IsSpelling}
 use Rattle.rs_attrs.specs.Table.{is_withdraw, is_discard, is_unknown}
-use Rattle.rs_attrs.proofs.Fields.Counting.{four_by, kept_four, IsGood, none_comes_to, not_withdraw, not_discard, not_unknown}
+use Rattle.rs_attrs.proofs.Fields.FirstOfType.{four_by, kept_four, IsGood, none_comes_to, not_withdraw, not_discard, not_unknown}
 use Rattle.rs_attrs.specs.Meaning.{Attribute, attribute_of, partial_of, is_never_partial, is_known_optional, that_counts, kept, get, some_comes_to, stands_twice, IsRising, AllAbove, faults_of}
 use Rattle.rs_attrs.specs.Writing.{flags_with, spelling_of, attribute_octets, IsLegal, IsLegalAttribute, is_legal_partial, no_faults, ReadsBack}
 
@@ -165,7 +165,7 @@ pub reads_back : ReadsBack Four
 reads_back m legal short = (
   map spelling_of m,
   [],
-  record { whole = spellings_back m; each = each_back m legal.each short; ends = λ s after h e. cc },
+  record { whole = spellings_back m; each = each_back m legal.each short; stops = λ s after h e. cc },
   record { rising = legal.rising; same = same_back m legal.each },
   faults_back m legal,
 )

@@ -1,4 +1,4 @@
--- The spelling of a type that counts.
+-- The first spelling of a type, which is the one that counts (RFC 7606, 3, g).
 use Rattle.std.proofs.Common.{◌≡◌, ℕ, ◌||◌, Bool, true, false, cond, List, [], ◌∷◌, Option, Some, None, refl, sym, ap, ◌∙◌, subst, nat_eq}
 use Rattle.std.specs.Prelude.{option_map}
 use Rattle.std.specs.List.{list_any, AllByRecursion}

@@ -1,4 +1,4 @@
--- The spelling that counts of each type, with a spelling more.
+-- The first spelling of each type, with a spelling more.
 use Rattle.std.proofs.Common.{◌≡◌, ℕ, zero, suc, ◌+◌, ◌<◌, ◌≤◌, ◌&&◌, ◌||◌, Bool, true, false, cond, List, [], ◌∷◌, ◌++◌, Option, Some, None, refl, sym, ap, ◌∙◌, arith, nat_lt, nat_eq, ◌⊎◌, inl, inr}
 use Rattle.std.specs.Prelude.{is_some, not, count_by, ◌==◌}
 use Rattle.std.specs.List.{list_any, range_with_len}
