@@ -75,6 +75,54 @@ impl fmt::Display for Data<'_> {
     }
 }
 
+/// A NOTIFICATION with its data, and whether it was sent or heard.
+#[derive(Drop)]
+struct Noted<'a> {
+    way: &'static str,
+    code: u8,
+    sub: u8,
+    data: &'a [u8],
+}
+
+impl fmt::Display for Noted<'_> {
+    fn fmt<W: fmt::Write>(&self, f: &mut fmt::Formatter<W>) -> fmt::Result {
+        let Noted {
+            way,
+            code,
+            sub,
+            data,
+        } = *self;
+        write!(f, "NOTIFICATION {way}: {}{}", Called(code, sub), Data(data))
+    }
+}
+
+/// What a session ended with.
+fn sent(note: &Short) -> Option<Noted<'_>> {
+    match note {
+        Short::Note {
+            code,
+            sub,
+            extra,
+            count,
+        } => Some(Noted {
+            way: "sent",
+            code: *code,
+            sub: *sub,
+            data: extra.get(..usize::from(*count)).unwrap_or(extra),
+        }),
+        _ => None,
+    }
+}
+
+fn heard(notice: &Notice) -> Noted<'_> {
+    Noted {
+        way: "heard",
+        code: notice.code,
+        sub: notice.sub,
+        data: notice.data.get(..notice.count).unwrap_or(&notice.data),
+    }
+}
+
 /// Why a session ended.
 #[derive(Drop)]
 struct Why<'a>(&'a Option<Ending>);
@@ -82,47 +130,17 @@ struct Why<'a>(&'a Option<Ending>);
 impl fmt::Display for Why<'_> {
     fn fmt<W: fmt::Write>(&self, f: &mut fmt::Formatter<W>) -> fmt::Result {
         match self.0 {
-            None => write!(f, "the connection was lost"),
-            Some(
-                Ending::Said(
-                    Short::Note {
-                        code,
-                        sub,
-                        extra,
-                        count,
-                    },
-                ),
-            ) => {
-                let data = extra.get(..usize::from(*count)).unwrap_or(extra);
-                write!(
-                    f,
-                    "NOTIFICATION sent: {}{}",
-                    Called(*code, *sub),
-                    Data(data)
-                )
-            }
-            Some(Ending::Said(_)) => write!(f, "a message was sent"),
+            Some(Ending::Said(note)) => match sent(note) {
+                Some(noted) => write!(f, "{noted}"),
+                None => write!(f, "a message was sent"),
+            },
             Some(Ending::HoldTimer) => write!(
                 f,
                 "NOTIFICATION sent: {}",
                 Notification::HoldTimerExpired
             ),
-            Some(Ending::Heard(notice)) => {
-                let Notice {
-                    code,
-                    sub,
-                    data,
-                    count,
-                } = notice;
-                let data = data.get(..*count).unwrap_or(data);
-                write!(
-                    f,
-                    "NOTIFICATION heard: {}{}",
-                    Called(*code, *sub),
-                    Data(data)
-                )
-            }
-            Some(Ending::Lost) => write!(f, "the connection was lost"),
+            Some(Ending::Heard(notice)) => write!(f, "{}", heard(notice)),
+            None | Some(Ending::Lost) => write!(f, "the connection was lost"),
             Some(Ending::Memory) => write!(f, "memory was refused"),
         }
     }
@@ -185,49 +203,86 @@ fn mode_text(mode: Mode) -> &'static str {
     }
 }
 
-impl Report {
-    /// Prints a report as a line, behind the seconds since the start.
-    pub fn print<R: Eprint>(&self, rt: &R, seconds: u64, names: &Names) -> io::Result<()> {
-        match self {
-            Report::Strangers { address, count } => rt.eprintln(format_args!(
-                "{seconds} {count} connections of strangers, the first from {}",
-                Ipv4Addr::from(*address)
-            )),
+/// How a client is spoken to.
+#[derive(Drop)]
+struct Agreed(Mode, Limit, u16);
+
+impl fmt::Display for Agreed {
+    fn fmt<W: fmt::Write>(&self, f: &mut fmt::Formatter<W>) -> fmt::Result {
+        write!(
+            f,
+            "{} AS numbers, messages of up to {} octets, Hold Time {}",
+            mode_text(self.0),
+            self.1.octets(),
+            self.2
+        )
+    }
+}
+
+/// UPDATEs at fault: how many, and what was wrong with the last.
+#[derive(Drop)]
+struct Faults<'a>(u64, &'a Faulted);
+
+impl fmt::Display for Faults<'_> {
+    fn fmt<W: fmt::Write>(&self, f: &mut fmt::Formatter<W>) -> fmt::Result {
+        write!(
+            f,
+            "{} UPDATEs at fault, the last{}{}",
+            self.0,
+            AtFault("treated as withdraw", self.1.withdraw),
+            AtFault("with less", self.1.discard)
+        )
+    }
+}
+
+/// A report, with the names of the clients.
+#[derive(Drop)]
+struct Worded<'a>(&'a Report, &'a Names);
+
+impl fmt::Display for Worded<'_> {
+    fn fmt<W: fmt::Write>(&self, f: &mut fmt::Formatter<W>) -> fmt::Result {
+        let Worded(report, names) = *self;
+        match report {
+            Report::Strangers { address, count } => {
+                let first = Ipv4Addr::from(*address);
+                write!(
+                    f,
+                    "{count} connections of strangers, the first from {first}"
+                )
+            }
             Report::Up {
                 client,
                 mode,
                 limit,
                 hold,
-            } => rt.eprintln(format_args!(
-                "{seconds} {} up: AS {}, {} AS numbers, messages of up to {} octets, Hold Time {hold}",
-                names.name(*client),
-                names.number(*client),
-                mode_text(*mode),
-                limit.octets()
-            )),
-            Report::Down { client, ending } => rt.eprintln(format_args!(
-                "{seconds} {} down: {}",
-                names.name(*client),
-                Why(ending)
-            )),
+            } => {
+                let (name, number) = (names.name(*client), names.number(*client));
+                write!(
+                    f,
+                    "{name} up: AS {number}, {}",
+                    Agreed(*mode, *limit, *hold)
+                )
+            }
+            Report::Down { client, ending } => {
+                write!(f, "{} down: {}", names.name(*client), Why(ending))
+            }
             Report::Faulted {
                 client,
                 count,
                 last,
-            } => rt.eprintln(format_args!(
-                "{seconds} {}: {count} UPDATEs at fault, the last{}{}",
-                names.name(*client),
-                AtFault("treated as withdraw", last.withdraw),
-                AtFault("with less", last.discard)
-            )),
-            Report::Rules(Ok(())) => rt.eprintln(format_args!("{seconds} rules accepted")),
-            Report::Rules(Err(fault)) => rt.eprintln(format_args!(
-                "{seconds} rules refused: {fault}"
-            )),
-            Report::LeftOut { client, count } => rt.eprintln(format_args!(
-                "{seconds} {}: {count} reports left out",
-                names.name(*client)
-            )),
+            } => write!(f, "{}: {}", names.name(*client), Faults(*count, last)),
+            Report::Rules(Ok(())) => write!(f, "rules accepted"),
+            Report::Rules(Err(fault)) => write!(f, "rules refused: {fault}"),
+            Report::LeftOut { client, count } => {
+                write!(f, "{}: {count} reports left out", names.name(*client))
+            }
         }
+    }
+}
+
+impl Report {
+    /// Prints a report as a line, behind the seconds since the start.
+    pub fn print<R: Eprint>(&self, rt: &R, seconds: u64, names: &Names) -> io::Result<()> {
+        rt.eprintln(format_args!("{seconds} {}", Worded(self, names)))
     }
 }

@@ -143,6 +143,7 @@ fn strangers_without_end_keep_nobody_waiting(rt: HostRuntime) -> Result<(), Fail
     served(&rt, rt.alloc(), &mut ports, until(2))?;
     assert_eq!(rt; ports.heard(1).get(COMING_UP..), Some(UPDATE));
     assert!(rt; ports.said.contains(&Line::Stranger));
+    assert_eq!(rt; ports.most_accepts, 64);
     Ok(())
 }
 

@@ -52,6 +52,9 @@ pub struct Script {
     accepted: usize,
     /// Behind them strangers come without end.
     pub is_flooded: bool,
+    /// How many connections this round has accepted, and the most that any has.
+    accepts: u64,
+    pub most_accepts: u64,
     calls: u64,
     failing: u64,
     pub broken: Option<Broken>,
@@ -74,6 +77,8 @@ impl Script {
             wires: Vec::new(alloc),
             accepted: 0,
             is_flooded: false,
+            accepts: 0,
+            most_accepts: 0,
             calls: 0,
             failing,
             broken: None,
@@ -135,6 +140,12 @@ impl Script {
         }
     }
 
+    /// A connection is accepted.
+    fn count_accept(&mut self) {
+        self.accepts = self.accepts.saturating_add(1);
+        self.most_accepts = self.most_accepts.max(self.accepts);
+    }
+
     /// Counts a call, and answers whether it fails.
     fn fails(&mut self, call: Broken) -> bool {
         self.calls = self.calls.saturating_add(1);
@@ -151,6 +162,7 @@ impl Ports for Script {
 
     fn wait(&mut self, _pause: bool) -> Result<(), PortFault> {
         self.rounds = self.rounds.saturating_add(1);
+        self.accepts = 0;
         if self.fails(Broken::Wait) {
             return Err(PortFault);
         }
@@ -161,15 +173,17 @@ impl Ports for Script {
         if self.fails(Broken::Accept) {
             return Err(PortFault);
         }
-        match self.wires.get_mut(self.accepted) {
-            None if self.is_flooded => Ok(Some(STRANGER)),
-            None => Ok(None),
+        let caller = match self.wires.get_mut(self.accepted) {
+            None if self.is_flooded => STRANGER,
+            None => return Ok(None),
             Some(wire) => {
                 self.accepted = self.accepted.saturating_add(1);
                 wire.is_open = true;
-                Ok(Some(wire.caller))
+                wire.caller
             }
-        }
+        };
+        self.count_accept();
+        Ok(Some(caller))
     }
 
     fn read(&mut self, key: usize, piece: &mut [u8; 4096]) -> Result<Option<usize>, PortFault> {
