@@ -1,4 +1,5 @@
 pub mod Views
+pub mod Touching
 pub mod Left
 pub mod Due
 pub mod Next
@@ -12,7 +13,6 @@ pub mod Owed
 pub mod Counted
 pub mod Hashing
 pub mod Linking
-pub mod Touching
 pub mod Inside
 pub mod Listing
 pub mod Choosing
