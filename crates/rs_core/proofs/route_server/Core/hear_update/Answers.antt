@@ -15,6 +15,7 @@ use Rattle.rs_core.proofs.Ruling.{unmoved}
 use Rattle.rs_core.proofs.Updating.{is_change}
 use Rattle.rs_core.proofs.Stirring.{stirs_same}
 use Rattle.rs_core.proofs.Saying.{update_reset, update_changes, moded_up, is_reset_beyond, is_none_beyond, reset_follows, announcing}
+use Rattle.rs_core.proofs.Raising.{keeps_same}
 use Rattle.rs_core.proofs.route_server.Core.hear_update.Goals as goal
 
 pub returns-in_err-code-clause-refused : goal.returns-in_err-code-clause-refused
@@ -60,3 +61,12 @@ pub returns-else-is_beyond-clause-stirs : goal.returns-else-is_beyond-clause-sti
 returns-else-is_beyond-clause-stirs c = c.change.ensures.stirs (λ p has.
     ap (has_prefix p) c.deref-in-Change-3.ensures.value
     ∙ subst AreApart c.in-Change.is c.in_ok-code.ensures.apart p (ap (has_prefix p) (sym c.deref-in-Change-2.ensures.value) ∙ has))
+
+pub returns-in_err-code-clause-keeps : goal.returns-in_err-code-clause-keeps
+returns-in_err-code-clause-keeps c = λ s h config knows none. keeps_same _ _ refl refl
+
+pub returns-then-is_beyond-clause-keeps : goal.returns-then-is_beyond-clause-keeps
+returns-then-is_beyond-clause-keeps c = λ s h config knows none. c.say-then-is_beyond.ensures.keeps s h config (unmoved c.args.self.now _ s c.args.c h refl refl knows) none
+
+pub returns-else-is_beyond-clause-keeps : goal.returns-else-is_beyond-clause-keeps
+returns-else-is_beyond-clause-keeps c = λ s h config knows none. c.change.ensures.keeps s h config (unmoved c.args.self.now _ s c.args.c h refl refl knows) none
