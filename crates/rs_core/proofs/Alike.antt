@@ -109,6 +109,7 @@ begun_raised speech v w e = record {
   loc = λ p. ap (λ (x : View). fin.get x.loc p) e ∙ none_in p;
   told = λ p. ap (λ (x : View). fin.get x.told p) e ∙ none_in p;
   marked = λ p. ap (λ (x : View). set.contains x.marked p) e ∙ set.contains-empty prefix_order p;
+  touched = ap (λ (x : View). x.touched) e;
   order = nothing_in_order w (λ p. ap (λ (x : View). fin.get x.loc p) e ∙ none_in p) (λ p. ap (λ (x : View). fin.get x.told p) e ∙ none_in p) (λ p. ap (λ (x : View). fin.get x.waits p) e ∙ none_in p);
 }
 

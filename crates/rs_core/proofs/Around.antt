@@ -70,5 +70,6 @@ asked_again v w h = record {
   loc = ap (λ (x : View). x.loc) h.rest;
   told = h.told;
   marked = h.marked;
+  touched = ap (λ (x : View). x.touched) h.rest;
   order = λ o. record { mandatory = λ p m e. o.mandatory p m (ap (λ (x : View). fin.get x.loc p) (sym h.rest) ∙ e); exact = h.exact o.exact };
 }

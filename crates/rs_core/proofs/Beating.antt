@@ -38,7 +38,7 @@ pub acted_beats : (act : Act) (long : Bool) (sessions : List Session) (x : Sessi
     → Voices act long c sessions v w → slice_get sessions c ≡ Some x → HasHeard x settings new → Tells act settings old new → (act ≡ acts.Say short.Open → ⊥) → is_live (state_of settings new) ≡ true
     → (is_live (state_of settings old) ≡ true → AreBeats said beats (taken ++ v.flight) v.beat) → AreBeats said (fell_if (asks_for_keepalive act) beats) (taken ++ w.flight) w.beat
 acted_beats acts.None long sessions x settings c old new said beats taken v w voices read heard tells not live h =
-    beats_same said beats (taken ++ v.flight) (taken ++ w.flight) v.beat w.beat (ap (λ (o : View). taken ++ o.flight) voices.is) (ap (λ (o : View). o.beat) voices.is) (h (ap is_live (sym tells.state) ∙ live))
+    beats_same said beats (taken ++ v.flight) (taken ++ w.flight) v.beat w.beat (ap (λ (o : View). taken ++ o.flight) voices) (ap (λ (o : View). o.beat) voices) (h (ap is_live (sym tells.state) ∙ live))
 acted_beats (acts.Say message) long sessions x settings c old new said beats taken v w voices read heard tells not live h =
     subst (λ o. AreBeats said (fell_if (asks_for_keepalive (acts.Say message)) beats) o w.beat) (sym (ap (λ (o : View). taken ++ o.flight) voices.is))
     (keepalive_beats message said settings old new beats (taken ++ v.flight) v.beat w.beat (λ e. not (ap (λ (m : Short). acts.Say m) e)) tells (ap (λ (o : View). o.beat) voices.is) h)

@@ -15,7 +15,8 @@ use Rattle.rs_outlet.specs.declared.answers.Speech.{Speech}
 use Rattle.rs_outlet.specs.Left.{HasNothingLeft}
 use Rattle.rs_outlet.specs.Views.{View, Prefixes}
 use Rattle.rs_core.specs.Moves.{Move, config_in}
-use Rattle.rs_core.specs.Hearing.{state_in, session_in, is_up}
+use Rattle.rs_policy.specs.Configuration.{Configuration}
+use Rattle.rs_core.specs.Hearing.{Hearing, state_in, session_in, is_up}
 use Rattle.rs_core.specs.Runs.{hearing, speech_in, speech_by, is_established}
 use Rattle.rs_core.specs.Ribs.{outlet_in, ChangesAll}
 use Rattle.rs_core.specs.Turns.{IsTurn}
@@ -39,12 +40,11 @@ up_is states.OpenConfirm e = absurd (let f : false ≡ true = e in cc)
 up_is states.Established e = refl
 up_is states.Closing e = absurd (let f : false ≡ true = e in cc)
 
+pub up_spoken : (s : Configuration) (c : ℕ) (h : Hearing) → is_up (state_in s c h) ≡ true → (speech : Speech) × (speech_in s c h ≡ Some speech)
+up_spoken s c h up = let brought = brings_up (session_in s c) h.items (up_is (state_in s c h) up) in (_, (λ i. if up i then speech_by s.top.extended (brought.agreed i) else None))
+
 pub established_spoken : (run : List Move) (c : ℕ) → is_established run c ≡ true → (speech : Speech) × (speech_in (config_in run) c (hearing c run) ≡ Some speech)
-established_spoken run c up =
-    let s = config_in run in
-    let h = hearing c run in
-    let brought = brings_up (session_in s c) h.items (up_is (state_in s c h) up) in
-    (_, (λ i. if up i then speech_by s.top.extended (brought.agreed i) else None))
+established_spoken run c up = up_spoken (config_in run) c (hearing c run) up
 
 -- ---- nothing is left
 

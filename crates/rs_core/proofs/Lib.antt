@@ -49,4 +49,6 @@ pub mod Paying
 pub mod Drained
 pub mod Conversed
 pub mod Sent
+pub mod Raising
 pub mod Touched
+pub mod Moments

@@ -50,7 +50,7 @@ use Rattle.rs_core.specs.Voices.{IsInOrder, IsGreeting, IsRaised, SaysTheSame, S
 use Rattle.rs_core.proofs.Telling.{updates_more, zip_more}
 use Rattle.rs_core.proofs.Spoken.{all_at, among_has}
 use Rattle.rs_core.proofs.Uttering.{all_gone, due_mandatory, limit_most}
-use Rattle.rs_core.proofs.Alike.{due_same, still}
+use Rattle.rs_core.proofs.Alike.{due_same, still, same_is}
 use Rattle.rs_core.proofs.Voicing.{down_speech, spoken_up, up_live}
 
 -- ---- what goes on as before
@@ -176,7 +176,7 @@ pub acted_ordered : (act : Act) (long : Bool) (sessions : List Session) (x : Ses
     → Voices act long c sessions v w → slice_get sessions c ≡ Some x → HasHeard x (session_in s c) next.items → Tells act (session_in s c) h.items next.items
     → (act ≡ acts.Say short.Open → ⊥) → next.taken ≡ h.taken → IsOrdered s c h v → IsOrdered s c next w
 acted_ordered acts.None long sessions x s c h next v w b in_order points again only voices read heard tells not taken at =
-    stayed_ordered s c h next v w (points ∙ not_asked b h.points (λ e. let f : ◌≡◌ {A = Act} acts.None acts.Again = only e in cc)) tells taken (still v w voices) at
+    stayed_ordered s c h next v w (points ∙ not_asked b h.points (λ e. let f : ◌≡◌ {A = Act} acts.None acts.Again = only e in cc)) tells taken (same_is v w voices) at
 acted_ordered (acts.Say message) long sessions x s c h next v w b in_order points again only voices read heard tells not taken at =
     said_ordered message s c h next v w (points ∙ not_asked b h.points (λ e. let f : ◌≡◌ {A = Act} (acts.Say message) acts.Again = only e in cc))
     (λ e. not (ap (λ (m : Short). acts.Say m) e)) tells taken (due_same v w voices) at

@@ -10,7 +10,7 @@ use Rattle.rs_core.specs.Ribs.{outlet_in}
 use Rattle.rs_outlet.specs.Begun.{HasBegun}
 use Rattle.rs_core.specs.Agreeing.{Agrees}
 use Rattle.rs_core.specs.Owing.{owed_by, is_decided_for, is_none}
-use Rattle.rs_core.specs.Core.{client_count, lent_octets, owed, owed_in, is_decided, decided_in}
+use Rattle.rs_core.specs.Core.{client_count, lent_octets, owed, owed_in, is_decided, decided_in, touched_for, touched_in}
 use Rattle.rs_core.specs.Paying.{SparesOwed, OwesNoMore, OwesLess}
 use Rattle.rs_core.specs.declared.route_server.Core.{Core}
 use Rattle.rs_core.proofs.Lists.{equal_or}
@@ -37,6 +37,10 @@ pub decided_is : (core : Core) (c : ℕ) → c < core.count → is_decided core 
 unfolding is_decided
 decided_is core c lt = ap decided_in (outlet_is core c lt)
 
+pub touched_is : (core : Core) (c : ℕ) → c < core.count → touched_for core c ≡ (outlet_in core.ribs c nobody).touched
+unfolding touched_for
+touched_is core c lt = ap touched_in (outlet_is core c lt)
+
 lent_at : (core : Core) (c : ℕ) → c < core.count → lent_octets core c ≡ (outlet_in core.ribs c nobody).flight
 unfolding lent_octets
 lent_at core c lt = lent_is core c nobody lt
@@ -44,6 +48,7 @@ lent_at core c lt = lent_is core c nobody lt
 moved_spares_owed : (c : ℕ) (Is : View → View → Type 0) (old new : Core) → c < old.count → MovesOutlet c Is old new → ((v w : View) → Is v w → w.touched ≡ v.touched) → SparesOwed c old new
 unfolding client_count
 moved_spares_owed c Is old new lt m touched = record {
+  touched = λ d there. touched_is new d (now d there) ∙ same d (equal_or d c) ∙ sym (touched_is old d there);
   others = λ d there ne. owed_is new d (now d there) ∙ ap owed_by (m.outlet.others d nobody ne) ∙ sym (owed_is old d there);
   decided = λ d there. decided_is new d (now d there) ∙ ap is_none (same d (equal_or d c)) ∙ sym (decided_is old d there);
 } where

@@ -20,9 +20,12 @@ use Rattle.rs_policy.specs.declared.rules.Choice.TheVariants as choices
 use Rattle.rs_decision.specs.Choice.{unbeaten}
 use Rattle.rs_core.specs.Moves.{Move, Ruled, Came, Heard, Saw, Left, Dropped, Turned}
 use Rattle.rs_core.specs.Hearing.{session_in, state_in, ending_in, faulted_in}
-use Rattle.rs_core.specs.Runs.{hearing, is_established, due, dues}
+use Rattle.rs_core.specs.Runs.{hearing, is_established, due, dues, table}
 use Rattle.rs_core.specs.Watching.{notice_with, faulted_by}
 use Rattle.rs_core.specs.declared.endings.Ending.TheVariants as reasons
+use Rattle.std.proofs.Common.{inl, inr}
+use Rattle.rs_core.specs.Altering.{IsAlteredBy}
+use Rattle.rs_core.specs.Stirring.{stands}
 
 -- ---- the configuration and the octets
 
@@ -118,6 +121,31 @@ none_due_to_a = refl
 none_due_to_c : due announced 2 n24 ≡ None
 unfolding all_types matches outcome verdict unbeaten
 none_due_to_c = refl
+
+-- ---- each message counts by itself
+
+-- a route that comes and goes in one piece was there
+comes_and_goes : IsAlteredBy base 0 (u1 ++ w1) (hearing 0 two_up) n24
+unfolding all_types
+comes_and_goes = inl (λ same. let e : ◌≡◌ {A = Option (List Attribute)} (Some u1_attributes) None = same in cc)
+
+none_left : table (Heard 0 (u1 ++ w1) ∷ two_up) 0 n24 ≡ None
+unfolding all_types
+none_left = refl
+
+-- the same route again alters nothing
+same_again : IsAlteredBy base 0 u1 (hearing 0 announced) n24 → ⊥
+unfolding all_types
+same_again altered = elim altered [ inl differs ↦ differs refl | inr none ↦ absurd none ]
+
+-- nor do octets that are no whole message yet
+not_whole : IsAlteredBy base 0 (replicate 16 255) (hearing 0 two_up) n24 → ⊥
+not_whole altered = altered
+
+-- what stands of a client: what another one holds
+holds : stands announced 1 n24 ≡ true
+unfolding all_types matches outcome verdict unbeaten
+holds = refl
 
 -- ---- an UPDATE at fault is a withdrawal (RFC 7606, 2), and without NLRI a session reset
 

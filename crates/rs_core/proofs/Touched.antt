@@ -1,5 +1,5 @@
 -- What calls make of what is touched for the clients, by the run, and what a turn decides of it.
-use Rattle.std.proofs.Common.{◌≡◌, inl, inr, ◌<◌, ◌+◌, ◌||◌, ℕ, zero, suc, Bool, true, false, List, [], ◌∷◌, length, refl, sym, ◌∙◌, ap, subst, arith}
+use Rattle.std.proofs.Common.{◌≡◌, ◌≢◌, inl, inr, ◌<◌, ◌+◌, ◌||◌, ℕ, zero, suc, Bool, true, false, List, [], ◌∷◌, length, refl, sym, ◌∙◌, ap, subst, arith}
 use Rattle.std.specs.Prelude.{Option, Some, None, IsSome, is_some, slice_index_or, if◌then◌else◌}
 use Rattle.std.specs.List.{list_any}
 use Rattle.std.specs.Global.{Vec}
@@ -17,28 +17,25 @@ use Rattle.rs_outlet.specs.HeldBy.{tables_of}
 use Rattle.rs_outlet.specs.Turns.{HasTurned}
 use Rattle.rs_outlet.specs.Views.{View, IsCount, Prefixes, Table, if_up, is_touched, is_whole, touched_at, with_touch}
 use Rattle.rs_core.specs.Points.{latest}
-use Rattle.rs_core.specs.Moves.{Move}
-use Rattle.rs_core.specs.Runs.{is_established, due, dues, held_in, table}
+use Rattle.rs_core.specs.Moves.{Move, config_in}
+use Rattle.rs_core.specs.Runs.{hearing, is_established, due, dues, held_in, table}
 use Rattle.rs_core.specs.Ribs.{outlet_in, ChangesAll, Stirs, StirsWhere}
-use Rattle.rs_core.specs.Touches.{touched_with, IsTouchedWhere}
+use Rattle.rs_core.specs.Touches.{IsTouchedWhere, KeepsTouches, touched_with}
 use Rattle.rs_core.specs.Turns.{IsDone, IsTurn, IsMarked}
 use Rattle.rs_core.specs.Agreeing.{Agrees}
-use Rattle.rs_core.specs.Core.{client_count, is_refusal, is_refused, last_in, last_of, loc_in, loc_rib, refusal_in, touched_for, touched_in}
-use Rattle.rs_core.specs.Stirring.{DecidesTouched, IsChangedBy, IsCountOf, TouchesAll, TouchesOthersWhere, TouchesWhere, stands, with_touches}
+use Rattle.rs_core.specs.Core.{client_count, is_refusal, is_refused, last_in, last_of, loc_in, loc_rib, refusal_in, touched_for}
+use Rattle.rs_core.specs.Stirring.{DecidesTouched, IsChangedBy, IsCountOf, KeepsTouched, TouchesAll, TouchesItself, TouchesOthersWhere, TouchesWhere, stands, with_touches}
 use Rattle.rs_core.specs.declared.ribs.Ribs.{Ribs}
 use Rattle.rs_core.specs.declared.route_server.Core.{Core}
 use Rattle.rs_core.proofs.Drained.{established_spoken}
 use Rattle.rs_core.proofs.InTurn.{has_what_was_due}
 use Rattle.rs_core.proofs.Outgoing.{within}
-use Rattle.rs_core.proofs.Paying.{nobody, outlet_is}
+use Rattle.rs_core.proofs.Paying.{nobody, outlet_is, touched_is}
 use Rattle.rs_core.proofs.Serving.{due_is, due_spoken}
 use Rattle.rs_core.proofs.Stirring.{stirs_as}
+use Rattle.rs_core.proofs.Voicing.{down_speech}
 
 -- ---- what is seen of an outlet
-
-pub touched_is : (core : Core) (c : ℕ) → c < core.count → touched_for core c ≡ (outlet_in core.ribs c nobody).touched
-unfolding touched_for
-touched_is core c lt = ap touched_in (outlet_is core c lt)
 
 loc_is : (core : Core) (c : ℕ) (p : Prefix) → c < core.count → loc_rib core c p ≡ map.get (outlet_in core.ribs c nobody).loc p
 unfolding loc_rib
@@ -60,7 +57,7 @@ touches_by_speech : (ps : List Prefix) (v : View) (speech : Speech) → v.speech
 touches_by_speech [] v speech up = refl
 touches_by_speech (p ∷ ps) v speech up = touches_by_speech ps (touched_at p v) speech up ∙ ap (with_touches ps) (ap (λ o. if_up o (with_touch v.touched p) v.touched) up)
 
-outlet_touched : (Holds : Prefix → Type 0) (v w : View) (speech : Speech) → v.speech ≡ Some speech → IsTouchedWhere Holds v w → TouchesWhere Holds v.touched w.touched
+pub outlet_touched : (Holds : Prefix → Type 0) (v w : View) (speech : Speech) → v.speech ≡ Some speech → IsTouchedWhere Holds v w → TouchesWhere Holds v.touched w.touched
 outlet_touched Holds v w speech up h = record {
   prefixes = h.prefixes;
   just = h.just;
@@ -86,6 +83,29 @@ touches_changes c move old new run lt h after count stirs =
     let now : (p : Prefix) → held_of new.ribs.tables c p ≡ table (move ∷ run) c p = (after.clients c (subst (λ n. c < n) (sym count) lt)).knows.table in
     touches_others (IsChangedBy move run c) c old new run h count
     (stirs_as _ (IsChangedBy move run c) c old.ribs new.ribs (λ p. (λ differs e. differs (now p ∙ e ∙ sym (before p)), λ differs e. differs (sym (now p) ∙ e ∙ before p))) stirs)
+
+-- and for itself
+pub touches_itself : (move : Move) (c : ℕ) (old new : Core) (run : List Move) → c < old.count → Agrees old run → Agrees new (move ∷ run) → new.count ≡ old.count → ((none : View) → KeepsTouches (outlet_in old.ribs c none) (outlet_in new.ribs c none))
+    → TouchesItself move c run old new
+touches_itself move c old new run lt h after count keeps = record {
+  raised = λ down up.
+      let heard = spoken_outlet new (move ∷ run) c now after up in
+      let was : (outlet_in old.ribs c nobody).speech ≡ None = ((h.clients c lt).knows.outlet h.config nobody).speech ∙ down_speech (config_in run) c (hearing c run) down in
+      touched_is new c now ∙ (keeps nobody).raised was (subst IsSome (sym heard.1) refl);
+  kept = λ was up.
+      let before = spoken_outlet old run c lt h was in
+      let heard = spoken_outlet new (move ∷ run) c now after up in
+      touched_is new c now ∙ (keeps nobody).kept (subst IsSome (sym before.1) refl) (subst IsSome (sym heard.1) refl) ∙ sym (touched_is old c lt);
+} where
+  now : c < new.count
+  now = subst (λ n. c < n) (sym count) lt
+
+-- what goes on with one client alone, which is not Established
+pub keeps_touched : (c : ℕ) (old new : Core) (run : List Move) → Agrees old run → new.count ≡ old.count → is_established run c ≡ false → ((d : ℕ) (none : View) → d ≢ c → outlet_in new.ribs d none ≡ outlet_in old.ribs d none) → KeepsTouched run old new
+unfolding client_count
+keeps_touched c old new run h count down same = record { each = λ d lt up. touched_is new d (subst (λ n. d < n) (sym count) lt) ∙ ap (λ (v : View). v.touched) (same d nobody (other d up)) ∙ sym (touched_is old d lt) } where
+  other : (d : ℕ) → is_established run d ≡ true → d ≢ c
+  other d up e = absurd (let f : false ≡ true = sym down ∙ ap (λ k. is_established run k) (sym e) ∙ up in cc)
 
 -- another configuration
 pub touches_all : (old new : Core) (run : List Move) → new.count ≡ old.count → ChangesAll (λ c. IsMarked old.ribs.tables) old.ribs new.ribs → Agrees old run → TouchesAll run new
@@ -176,3 +196,20 @@ decides_touched c old new mid run lt count turned same h up done = by_turn (turn
   by_turn (inr refused) = absurd (
       let last : (outlet_in new.ribs c nobody).last ≡ lasts.Refused = ap (λ (x : View). x.last) is ∙ ap (λ (x : View). x.last) refused in
       let f : true ≡ false = sym (ap refusal_in (outlet_is new c now) ∙ ap is_refusal last) ∙ done in cc)
+
+-- where memory was refused for a client, nothing was decided for it
+pub refusal_keeps : (c : ℕ) (old new : Core) (mid : Ribs) → c < old.count → new.count ≡ old.count → ChangesAll (λ d. IsTurn old.ribs.config old.ribs.tables) old.ribs mid → new.ribs.outlets ≡ mid.outlets
+    → is_refused new c ≡ true → touched_for new c ≡ touched_for old c
+unfolding is_refused
+refusal_keeps c old new mid lt count turned same refused = by_turn (turned.each c nobody (within old c lt)) where
+  now : c < new.count
+  now = subst (λ n. c < n) (sym count) lt
+
+  is : outlet_in new.ribs c nobody ≡ outlet_in mid c nobody
+  is = ap (λ (x : Vec View). slice_index_or x.items c nobody) same
+
+  by_turn : IsTurn old.ribs.config old.ribs.tables (outlet_in old.ribs c nobody) (outlet_in mid c nobody) → touched_for new c ≡ touched_for old c
+  by_turn (inl d) = absurd (
+      let last : (outlet_in new.ribs c nobody).last ≡ lasts.Done d.turned = ap (λ (x : View). x.last) is ∙ d.last in
+      let f : false ≡ true = sym (ap refusal_in (outlet_is new c now) ∙ ap is_refusal last) ∙ refused in cc)
+  by_turn (inr e) = touched_is new c now ∙ ap (λ (x : View). x.touched) (is ∙ e) ∙ sym (touched_is old c lt)

@@ -35,7 +35,7 @@ use Rattle.rs_core.specs.Voices.{IsInOrder, SpeaksTo, SaysTheSame, Talks, IsLeft
 use Rattle.rs_core.proofs.Conversing.{Moves, IsHeardOrSeen, acted_converses}
 use Rattle.rs_core.proofs.Beating.{acted_beats}
 use Rattle.rs_core.proofs.Telling.{silence_speaks, speaks_on, speaks_same}
-use Rattle.rs_core.proofs.Alike.{again_same, alone_out, due_same, same_again, still}
+use Rattle.rs_core.proofs.Alike.{again_same, alone_is, alone_out, due_same, same_again, same_is, still}
 
 -- ---- what was said stays said
 
@@ -146,7 +146,7 @@ raised_voice s c h next v w long room tells raised taken talk at =
 -- what is still to be said then
 voices_move : (act : Act) (long : Bool) (sessions : List Session) (x : Session) (settings : Settings) (c : ℕ) (old new : List Item) (v w : View) → Voices act long c sessions v w → slice_get sessions c ≡ Some x
     → HasHeard x settings new → Tells act settings old new → Moves act (outgoing_of v) (outgoing_of w)
-voices_move acts.None long sessions x settings c old new v w voices read heard tells = alone_out v w voices
+voices_move acts.None long sessions x settings c old new v w voices read heard tells = alone_out v w (alone_is v w voices)
 voices_move (acts.Say message) long sessions x settings c old new v w voices read heard tells = (ap (λ (x : View). x.flight) voices.is, ap (λ (x : View). x.note) voices.is)
 voices_move acts.Up long sessions x settings c old new v w voices read heard tells = let raised = voices x read settings new heard tells.now in (raised.flight, raised.note)
 voices_move (acts.Down ending) long sessions x settings c old new v w voices read heard tells = voices.out
@@ -154,7 +154,7 @@ voices_move acts.Again long sessions x settings c old new v w voices read heard 
 
 acted_by : (act : Act) (long : Bool) (s : Configuration) → long ≡ s.top.extended → (sessions : List Session) (x : Session) (c : ℕ) (h next : Hearing) (v w : View) → Voices act long c sessions v w → slice_get sessions c ≡ Some x
     → HasHeard x (session_in s c) next.items → Tells act (session_in s c) h.items next.items → (act ≡ acts.Say short.Open → ⊥) → next.taken ≡ h.taken → Talks s c next w → SpeaksTo s c h v → SpeaksTo s c next w
-acted_by acts.None long s room sessions x c h next v w voices read heard tells not taken talk at = stayed s c h next v w tells taken (same_again v w (still v w voices)) talk at
+acted_by acts.None long s room sessions x c h next v w voices read heard tells not taken talk at = stayed s c h next v w tells taken (same_again v w (same_is v w voices)) talk at
 acted_by (acts.Say message) long s room sessions x c h next v w voices read heard tells not taken talk at = said_voice message s c h next v w (λ e. not (ap (λ (m : Short). acts.Say m) e)) tells taken (due_same v w voices) talk at
 acted_by acts.Up long s room sessions x c h next v w voices read heard tells not taken talk at =
     raised_voice s c h next v w long room tells (voices x read (session_in s c) next.items heard tells.now) taken talk at

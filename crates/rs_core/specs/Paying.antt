@@ -3,11 +3,12 @@ use Rattle.std.specs.Prelude.{◌≡◌, ◌≢◌, ◌<◌, ◌≤◌, ◌+◌,
 use Rattle.rs_core.specs.Moves.{Move, Began, Took}
 use Rattle.rs_core.specs.Runs.{is_established}
 use Rattle.rs_core.specs.Agreeing.{Agrees}
-use Rattle.rs_core.specs.Core.{client_count, lent_octets, owed, is_decided}
+use Rattle.rs_core.specs.Core.{client_count, lent_octets, owed, is_decided, touched_for}
 use Rattle.rs_core.specs.declared.route_server.Core.{Core}
 
 -- what is owed to the others is what it was, and for nobody was anything touched or decided
 pub record SparesOwed (c : ℕ) (old new : Core) : Type 0 where
+  pub touched : (d : ℕ) → d < client_count old → touched_for new d ≡ touched_for old d
   pub others : (d : ℕ) → d < client_count old → d ≢ c → owed new d ≡ owed old d
   pub decided : (d : ℕ) → d < client_count old → is_decided new d ≡ is_decided old d
 

@@ -13,6 +13,9 @@ use Rattle.rs_session.specs.Sessions.{act_of, is_live, is_request}
 use Rattle.rs_core.specs.Beats.{asks_for_keepalive, fell_if}
 use Rattle.rs_core.specs.Points.{asked_if}
 use Rattle.rs_core.specs.Watching.{ending_by, no_faults}
+use Rattle.rs_outlet.specs.Views.{View}
+use Rattle.rs_core.specs.Ribs.{outlet_in}
+use Rattle.rs_core.specs.Touches.{KeepsTouches}
 use Rattle.rs_core.specs.Agreeing.{Knows, IsCutShort, Waits}
 use Rattle.rs_core.specs.declared.route_server.Core.{Core}
 use Rattle.rs_session.specs.declared.heard.Heard.{Heard}
@@ -77,6 +80,10 @@ Hears kind body c old new =
 -- memory was refused in the midst
 abbrev pub CutsShort : ℕ → Core → Core → Type 0
 CutsShort c old new = (s : Configuration) (h : Hearing) → Knows old s c h → IsCutShort new s c h
+
+-- what is touched for the client itself is kept, where its session heard this before
+abbrev pub KeepsOwnTouches : ℕ → Core → Core → Type 0
+KeepsOwnTouches c old new = (s : Configuration) (h : Hearing) → old.ribs.config ≡ s → Knows old s c h → (none : View) → KeepsTouches (outlet_in old.ribs c none) (outlet_in new.ribs c none)
 
 -- the change withdraws and announces these, and announces with attributes
 pub record IsAnnouncing (withdrawn announced : List Prefix) (change : Change) : Type 0 where

@@ -34,6 +34,24 @@ IsChangedBy move run c p = table (move ∷ run) c p ≢ table run c p
 pub record TouchesOthersWhere (Holds : Prefix → Type 0) (c : ℕ) (run : List Move) (old new : Core) : Type 0 where
   pub others : (d : ℕ) → d < client_count old → d ≢ c → is_established run d ≡ true → TouchesWhere Holds (touched_for old d) (touched_for new d)
 
+-- one of the first n clients, and not c, has another value at p behind a move than before it
+abbrev pub IsChangedElsewhere : ℕ → Move → List Move → ℕ → Prefix → Type 0
+IsChangedElsewhere n move run c p = (d : ℕ) × (d < n) × (d ≢ c) × IsChangedBy move run d p
+
+-- by a move of all clients just the prefixes where another client has another value than before were touched for each that was
+-- Established and still is
+pub record TouchesChanges (move : Move) (run : List Move) (old new : Core) : Type 0 where
+  pub each : (c : ℕ) → c < client_count old → is_established run c ≡ true → is_established (move ∷ run) c ≡ true → TouchesWhere (IsChangedElsewhere (client_count old) move run c) (touched_for old c) (touched_for new c)
+
+-- what is touched for each client that is Established is what was
+pub record KeepsTouched (run : List Move) (old new : Core) : Type 0 where
+  pub each : (c : ℕ) → c < client_count old → is_established run c ≡ true → touched_for new c ≡ touched_for old c
+
+-- by a move of client c: where it has come up, all is to be decided for it; where it was Established and still is, what was
+pub record TouchesItself (move : Move) (c : ℕ) (run : List Move) (old new : Core) : Type 0 where
+  pub raised : is_established run c ≡ false → is_established (move ∷ run) c ≡ true → touched_for new c ≡ None
+  pub kept : is_established run c ≡ true → is_established (move ∷ run) c ≡ true → touched_for new c ≡ touched_for old c
+
 -- all is to be decided for each client that is Established
 pub record TouchesAll (run : List Move) (core : Core) : Type 0 where
   pub each : (c : ℕ) → c < client_count core → is_established run c ≡ true → touched_for core c ≡ None

@@ -33,6 +33,12 @@ pub record IsTouchedWhereHeld (ins : AdjIns) (c : ℕ) (old new : View) : Type 0
   pub held : AreHeld ins c prefixes
   pub touched : IsTouchedAt prefixes old new
 
+-- Of what is touched for a client, by its own session: where it has come up, all is to be decided; where it was up and still
+-- is, what was.
+pub record KeepsTouches (old new : View) : Type 0 where
+  pub raised : old.speech ≡ None → IsSome new.speech → new.touched ≡ None
+  pub kept : IsSome old.speech → IsSome new.speech → new.touched ≡ old.touched
+
 -- the client asked for all again: what was told stays, and just that is to be told again
 pub record IsAskedAgain (old new : View) : Type 0 where
   pub rest : new ≡ record old { told = new.told; marked = new.marked; waits = new.waits }

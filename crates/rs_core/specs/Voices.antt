@@ -73,6 +73,7 @@ pub record IsRaised (agreed : Option Speech) (v w : View) : Type 0 where
   pub loc : (p : Prefix) → fin.get w.loc p ≡ None
   pub told : (p : Prefix) → fin.get w.told p ≡ None
   pub marked : (p : Prefix) → set.contains w.marked p ≡ false
+  pub touched : w.touched ≡ None
   pub order : IsInOrder w
 
 -- nothing is told any more
@@ -104,6 +105,7 @@ pub record TellsAgain (v w : View) : Type 0 where
   pub loc : w.loc ≡ v.loc
   pub told : w.told ≡ v.told
   pub marked : (p : Prefix) → set.contains w.marked p ≡ fin.contains_key v.told p
+  pub touched : w.touched ≡ v.touched
   pub order : IsInOrder v → IsInOrder w
 
 -- this OPEN is in flight, and nothing else
@@ -129,7 +131,7 @@ speech_within long settings (Some sent) = Some (record { mode = mode_in sent.fou
 
 -- what is done to the outlet of a client as its session asks for it
 abbrev pub Voices : Act → Bool → ℕ → List Session → View → View → Type 0
-Voices acts.None long c sessions v w = IsLeftAlone v w
+Voices acts.None long c sessions v w = w ≡ v
 Voices (acts.Say message) long c sessions v w = IsDue v w
 Voices acts.Up long c sessions v w =
     (x : Session) → slice_get sessions c ≡ Some x

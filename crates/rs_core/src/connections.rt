@@ -31,7 +31,7 @@ ghost use Rattle.rs_core.specs.Runs.{hearing};
 ghost use Rattle.rs_core.specs.Agreeing.{Agrees, AgreesAt, Knows, IsCutShort, Spares};
 ghost use Rattle.rs_outlet.specs.Views.{View};
 ghost use Rattle.rs_core.specs.Ribs.{Stirs, outlet_in};
-ghost use Rattle.rs_core.specs.Stirring.{IsChangedBy, TouchesOthersWhere};
+ghost use Rattle.rs_core.specs.Stirring.{IsChangedBy, KeepsTouched, TouchesOthersWhere};
 ghost use Rattle.rs_core.specs.Conversations.{own_open};
 ghost use Rattle.rs_core.specs.Voices.{IsGreeting, KeepsVoices};
 ghost use Rattle.rs_core.specs.Watching.{IsWatched};
@@ -59,6 +59,7 @@ impl Core {
         ensures came { OnOk result ((run : List Move) → Agrees self.old run → Agrees self.new (Came c ∷ run)) }
         ensures idle { OnOk result ((run : List Move) → Agrees self.old run → state_in (config_in run) c (hearing c run) ≡ State.Idle) }
         ensures greets { OnOk result ((run : List Move) → Agrees self.old run → lent_octets self.new c ≡ server_open (own_open (config_in run))) }
+        ensures touched { OnOk result ((run : List Move) → Agrees self.old run → KeepsTouched run self.old self.new) }
         ensures unchanged { OnErr result ((run : List Move) → Agrees self.old run → Agrees self.new run) }
         ensures busy { OnErr result ((run : List Move) → Agrees self.old run → state_in (config_in run) c (hearing c run) ≢ State.Idle) }
     {
@@ -83,6 +84,7 @@ impl Core {
         ensures watched { self.new.watched ≡ self.old.watched }
         ensures voices { KeepsVoices c self.old.ribs self.new.ribs }
         ensures own { (none : View) → IsGreeting (own_open self.old.ribs.config) (outlet_in self.new.ribs c none) }
+        ensures apart { (d : ℕ) (none : View) → d ≢ c → outlet_in self.new.ribs d none ≡ outlet_in self.old.ribs d none }
     {
         let said = server_open(&self.ribs.config);
         self.pass_over(c);

@@ -53,9 +53,11 @@ impl Core {
     ghost use Rattle.rs_core.specs.Runs.{hearing};
     ghost use Rattle.rs_core.specs.Agreeing.{Agrees, AgreesAt, IsCutShort, Knows, Spares, Waits};
     ghost use Rattle.rs_core.specs.Altering.{IsAlteredBy};
-    ghost use Rattle.rs_core.specs.Ribs.{Stirs, StirsWhere};
-    ghost use Rattle.rs_core.specs.Stirring.{TouchesOthersWhere};
-    ghost use Rattle.rs_core.specs.Steps.{HasHeardFront, IsBetween};
+    ghost use Rattle.rs_core.specs.Ribs.{Stirs, StirsWhere, outlet_in};
+    ghost use Rattle.rs_core.specs.Stirring.{TouchesChanges, TouchesItself, TouchesOthersWhere};
+    ghost use Rattle.rs_core.specs.Touches.{KeepsTouches};
+    ghost use Rattle.rs_core.specs.Steps.{HasHeardFront, IsBetween, KeepsOwnTouches};
+    ghost use Rattle.rs_outlet.specs.Views.{View};
     ghost use Rattle.rs_session.specs.Sessions.{is_live};
     ghost use Rattle.rs_policy.specs.Configuration.{Configuration};
 
@@ -71,6 +73,7 @@ impl Core {
         ensures heard { OnOk result ((run : List Move) → Agrees self.old run → Agrees self.new (moves.Heard c piece.now ∷ run)) }
         ensures refused { OnErr result ((run : List Move) → Agrees self.old run → Agrees self.new (Dropped c ∷ run)) }
         ensures touched { OnOk result ((run : List Move) → Agrees self.old run → TouchesOthersWhere (IsAlteredBy (config_in run) c piece.now (hearing c run)) c run self.old self.new) }
+        ensures itself { OnOk result ((run : List Move) → Agrees self.old run → TouchesItself (moves.Heard c piece.now) c run self.old self.new) }
         ensures unheard { (run : List Move) → Agrees self.old run → is_live (state_in (config_in run) c (hearing c run)) ≡ false → (result ≡ Ok tt) × (self.new ≡ self.old) }
     {
         let mut watched = self.watched[c];
@@ -93,6 +96,7 @@ impl Core {
         ensures heard { OnOk result ((s : Configuration) (h : Hearing) → self.old.ribs.config ≡ s → AgreesAt self.old s c h → AgreesAt self.new s c (hears s c piece.now h)) }
         ensures refused { OnErr result ((s : Configuration) (h : Hearing) → self.old.ribs.config ≡ s → AgreesAt self.old s c h → IsCutShort self.new s c h) }
         ensures stirs { OnOk result ((s : Configuration) (h : Hearing) → self.old.ribs.config ≡ s → AgreesAt self.old s c h → StirsWhere (IsAlteredBy s c piece.now h) c self.old.ribs self.new.ribs) }
+        ensures keeps { OnOk result ((s : Configuration) (h : Hearing) → self.old.ribs.config ≡ s → AgreesAt self.old s c h → (none : View) → KeepsTouches (outlet_in self.old.ribs c none) (outlet_in self.new.ribs c none)) }
         ensures unheard { (s : Configuration) (h : Hearing) → Knows self.old s c h → is_live (state_in s c h) ≡ false → (result ≡ Ok tt) × (self.new ≡ self.old) }
     {
         if !self.is_live(c) {
@@ -127,6 +131,7 @@ impl Core {
         ensures refused { OnErr result ((s : Configuration) (h : Hearing) → self.old.ribs.config ≡ s → is_live (state_in s c h) ≡ true → Knows self.old s c h
             → Waits s c buffer.old.items h → IsCutShort self.new s c h) }
         ensures stirs { Stirs c self.old.ribs self.new.ribs }
+        ensures keeps { KeepsOwnTouches c self.old self.new }
     {
         let allowed = allowed(&self.ribs.config);
         let rest = fill_up(buffer, piece, allowed)?;
@@ -152,6 +157,7 @@ impl Core {
         ensures heard { OnOk result ((s : Configuration) (h : Hearing) → self.old.ribs.config ≡ s → IsBetween self.old s c h → AgreesAt self.new s c (hears s c piece.now h)) }
         ensures refused { OnErr result ((s : Configuration) (h : Hearing) → self.old.ribs.config ≡ s → IsBetween self.old s c h → IsCutShort self.new s c h) }
         ensures stirs { OnOk result ((s : Configuration) (h : Hearing) → self.old.ribs.config ≡ s → IsBetween self.old s c h → StirsWhere (IsAlteredBy s c piece.now h) c self.old.ribs self.new.ribs) }
+        ensures keeps { OnOk result ((s : Configuration) (h : Hearing) → self.old.ribs.config ≡ s → IsBetween self.old s c h → (none : View) → KeepsTouches (outlet_in self.old.ribs c none) (outlet_in self.new.ribs c none)) }
     {
         let allowed = allowed(&self.ribs.config);
         let mut octets = piece;
@@ -224,6 +230,7 @@ impl Core {
     pub fn moment(&mut self, t: u64)
         ensures count { client_count self.new ≡ client_count self.old }
         ensures saw { (run : List Move) → Agrees self.old run → Agrees self.new (Saw t ∷ run) }
+        ensures touched { (run : List Move) → Agrees self.old run → TouchesChanges (Saw t) run self.old self.new }
     {
         for c in 0..self.count {
             self.see(c, t);
@@ -236,6 +243,7 @@ impl Core {
         ensures spares { Spares c self.old self.new }
         ensures seen { (s : Configuration) (h : Hearing) → AgreesAt self.old s c h → AgreesAt self.new s c (sees s c t h) }
         ensures stirs { Stirs c self.old.ribs self.new.ribs }
+        ensures keeps { KeepsOwnTouches c self.old self.new }
     {
         let act = self.sessions[c].moment(t);
         self.watched[c].end(expiry_by(act));

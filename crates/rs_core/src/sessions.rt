@@ -19,7 +19,7 @@ impl Core {
     ghost use Rattle.rs_outlet.specs.Views.{View};
     ghost use Rattle.rs_core.specs.Ribs.{Stirs, outlet_in};
     ghost use Rattle.rs_core.specs.Voices.{IsFinished, KeepsVoices, Voices};
-    ghost use Rattle.rs_core.specs.Steps.{CutsShort, Follows, Hears, IsSpared, ActsOn};
+    ghost use Rattle.rs_core.specs.Steps.{CutsShort, Follows, Hears, IsSpared, ActsOn, KeepsOwnTouches};
 
     /// Hears a whole message.
     pub(crate) fn hear_message(
@@ -35,6 +35,7 @@ impl Core {
         ensures heard { OnOk result (Hears kind body.now c self.old self.new) }
         ensures refused { OnErr result (CutsShort c self.old self.new) }
         ensures stirs { Stirs c self.old.ribs self.new.ribs }
+        ensures keeps { KeepsOwnTouches c self.old self.new }
     {
         match kind {
             Kind::Open => self.hear_open(c, body),
@@ -54,6 +55,7 @@ impl Core {
         ensures buffers { self.new.buffers ≡ self.old.buffers }
         ensures heard { Hears Kind.Open body.now c self.old self.new }
         ensures stirs { Stirs c self.old.ribs self.new.ribs }
+        ensures keeps { KeepsOwnTouches c self.old self.new }
     {
         self.say(c, Heard::Open(read_open(body)));
     }
@@ -65,6 +67,7 @@ impl Core {
         ensures buffers { self.new.buffers ≡ self.old.buffers }
         ensures heard { Hears Kind.Note body.now c self.old self.new }
         ensures stirs { Stirs c self.old.ribs self.new.ribs }
+        ensures keeps { KeepsOwnTouches c self.old self.new }
     {
         self.hear_said(c, Heard::Note, body);
     }
@@ -77,6 +80,7 @@ impl Core {
         ensures buffers { self.new.buffers ≡ self.old.buffers }
         ensures heard { Hears Kind.Refresh body.now c self.old self.new }
         ensures stirs { Stirs c self.old.ribs self.new.ribs }
+        ensures keeps { KeepsOwnTouches c self.old self.new }
     {
         let AddressFamily { afi, safi } = read_refresh(body);
         self.say(c, Heard::Refresh { afi, safi });
@@ -90,6 +94,7 @@ impl Core {
         ensures alone { (s : Configuration) (h : Hearing) → Knows self.old s c h → Knows self.new s c (takes_in s c (without_change heard) h) }
         ensures heard { (s : Configuration) (h next : Hearing) → Follows s c heard [] h next → Knows self.old s c h → Knows self.new s c next }
         ensures stirs { Stirs c self.old.ribs self.new.ribs }
+        ensures keeps { KeepsOwnTouches c self.old self.new }
     {
         self.hear_said(c, heard, &[]);
     }
@@ -102,6 +107,7 @@ impl Core {
         ensures buffers { self.new.buffers ≡ self.old.buffers }
         ensures heard { (s : Configuration) (h next : Hearing) → Follows s c heard body.now h next → Knows self.old s c h → Knows self.new s c next }
         ensures stirs { Stirs c self.old.ribs self.new.ribs }
+        ensures keeps { KeepsOwnTouches c self.old self.new }
     {
         let act = self.sessions[c].message(heard);
         self.watched[c].end(ending_by(body, act));

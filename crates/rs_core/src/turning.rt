@@ -20,7 +20,7 @@ pub struct Turns {
 }
 
 impl Core {
-    ghost use Rattle.rs_core.specs.Core.{client_count, is_decided, is_refused, refused_below, refused_clients};
+    ghost use Rattle.rs_core.specs.Core.{client_count, is_decided, is_refused, refused_below, refused_clients, touched_for};
     ghost use Rattle.rs_core.specs.Moves.{Move, Turned};
     ghost use Rattle.rs_core.specs.Agreeing.{Agrees};
     ghost use Rattle.rs_core.specs.Runs.{is_established};
@@ -35,6 +35,7 @@ impl Core {
         ensures turned { (run : List Move) → Agrees self.old run → Agrees self.new (Turned (refused_below self.new (client_count self.new)) ∷ run) }
         ensures decided { (c : ℕ) (run : List Move) → c < client_count self.old → Agrees self.old run → is_established run c ≡ true → is_refused self.new c ≡ false → is_decided self.new c ≡ true }
         ensures touched { (c : ℕ) (run : List Move) → c < client_count self.old → Agrees self.old run → is_established run c ≡ true → is_refused self.new c ≡ false → DecidesTouched run c self.old self.new }
+        ensures refusal { (c : ℕ) → c < client_count self.old → is_refused self.new c ≡ true → touched_for self.new c ≡ touched_for self.old c }
     {
         self.ribs.turn();
         self.ribs.sweep();
@@ -56,6 +57,7 @@ impl Core {
         ensures turned { (run : List Move) → Agrees self.old run → Agrees self.new (Turned (refused_below self.new (client_count self.new)) ∷ run) }
         ensures decided { (c : ℕ) (run : List Move) → c < client_count self.old → Agrees self.old run → is_established run c ≡ true → is_refused self.new c ≡ false → is_decided self.new c ≡ true }
         ensures touched { (c : ℕ) (run : List Move) → c < client_count self.old → Agrees self.old run → is_established run c ≡ true → is_refused self.new c ≡ false → DecidesTouched run c self.old self.new }
+        ensures refusal { (c : ℕ) → c < client_count self.old → is_refused self.new c ≡ true → touched_for self.new c ≡ touched_for self.old c }
     {
         self.ribs.turn_with(rt, workers, gate);
         self.ribs.sweep();

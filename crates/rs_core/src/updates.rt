@@ -23,7 +23,7 @@ impl Core {
     ghost use Rattle.rs_core.specs.Agreeing.{Knows, Spares};
     ghost use Rattle.rs_core.specs.Ribs.{Stirs};
     ghost use Rattle.rs_core.specs.Voices.{TouchesOthers};
-    ghost use Rattle.rs_core.specs.Steps.{Changes, CutsShort, HasOverlaid, Hears, IsAnnouncing, IsSpared};
+    ghost use Rattle.rs_core.specs.Steps.{Changes, CutsShort, HasOverlaid, Hears, IsAnnouncing, IsSpared, KeepsOwnTouches};
 
     /// Hears the UPDATE with this body.
     pub(crate) fn hear_update(&mut self, c: usize, body: &[u8]) -> Result<(), AllocError>
@@ -33,6 +33,7 @@ impl Core {
         ensures heard { OnOk result (Hears Kind.Update body.now c self.old self.new) }
         ensures refused { OnErr result (CutsShort c self.old self.new) }
         ensures stirs { Stirs c self.old.ribs self.new.ribs }
+        ensures keeps { KeepsOwnTouches c self.old self.new }
     {
         let Some(mode) = self.mode_heard(c) else {
             self.say(c, Heard::Update(None));
@@ -92,6 +93,7 @@ impl Core {
         ensures heard { OnOk result (Changes c withdrawn.now announced.now (option_map arc_value attrs) self.old self.new) }
         ensures refused { OnErr result (CutsShort c self.old self.new) }
         ensures stirs { ((p : Prefix) → has_prefix p withdrawn.now ≡ true → has_prefix p announced.now ≡ false) → Stirs c self.old.ribs self.new.ribs }
+        ensures keeps { KeepsOwnTouches c self.old self.new }
     {
         match self.sessions[c].message(Heard::Update(None)) {
             Act::None => {

@@ -21,6 +21,8 @@ use Rattle.rs_core.proofs.Voicing.{never_open_by_message}
 use Rattle.rs_core.proofs.Around.{voices_on}
 use Rattle.rs_core.proofs.Stirring.{stirs_withdrawn}
 use Rattle.rs_core.proofs.Updating.{changed, cut_after, none_there, not_taken}
+use Rattle.rs_outlet.specs.Views.{View}
+use Rattle.rs_core.proofs.Raising.{item_keeps, keeps_same}
 use Rattle.rs_core.proofs.route_server.Core.change.Goals as goal
 
 pub returns-in-Some-clause-refused : goal.returns-in-Some-clause-refused
@@ -54,6 +56,7 @@ returns-in_default c =
           (ending_by []) (noted_by kept c.act.new.self.watched.items c.args.c c.index_mut-in_default.result.now c.end.new.self c.ending_by.result (ending_by [] c.message.result) was there noting c.ending_by.ensures c.end.ensures) refl refl knows;
       refused = tt;
       stirs = λ apart. c.act.ensures.stirs;
+      keeps = λ s h config knows none. item_keeps c.args.self.now c.act.new.self c.message.result (Message (heard.Update None)) c.index_mut.result.now c.message.new.self s c.args.c h read lt c.message.ensures.hears c.act.ensures.own config knows none;
     }
 
 pub returns-in-None-attrs-clause-heard : goal.returns-in-None-attrs-clause-heard
@@ -105,3 +108,13 @@ unfolding client_count
 returns-in-Some-clause-stirs c = λ apart.
     stirs_withdrawn c.args.c c.args.withdrawn.now c.args.announced.now c.args.self.now.ribs c.withdraw_all.new.self.ribs c.announce_all.new.self.ribs (c.withdraw_all.new.self.ribs_len ∙ c.withdraw_all.ensures.count ∙ sym c.args.self.now.ribs_len)
     c.withdraw_all.ensures.held c.announce_all.ensures.kept apart c.withdraw_all.ensures.stirs c.announce_all.ensures.stirs
+
+pub returns-in-None-attrs-clause-keeps : goal.returns-in-None-attrs-clause-keeps
+returns-in-None-attrs-clause-keeps c = λ s h config knows none.
+    let own = c.withdraw_all.ensures.touched.own none in
+    keeps_same _ _ (ap (λ (v : View). v.speech) own) (ap (λ (v : View). v.touched) own)
+
+pub returns-in-Some-clause-keeps : goal.returns-in-Some-clause-keeps
+returns-in-Some-clause-keeps c = λ s h config knows none.
+    let own = c.announce_all.ensures.touched.own none ∙ c.withdraw_all.ensures.touched.own none in
+    keeps_same _ _ (ap (λ (v : View). v.speech) own) (ap (λ (v : View). v.touched) own)

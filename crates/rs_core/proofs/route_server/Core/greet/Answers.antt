@@ -20,3 +20,6 @@ returns-clause-own c = λ none.
     subst (λ o. IsGreeting o (outlet_in c.say_open.new.self c.args.c none)) c.server_open-said.ensures (greets c.server_open-said.result (outlet_in c.pass_over.new.self.ribs c.args.c none) (outlet_in c.clear.new.self c.args.c none) (outlet_in c.say_open.new.self c.args.c none)
     (c.clear.ensures.outlet.own none lt)
     (c.say_open.ensures.outlet.own none (subst (λ n. c.args.c < n) (sym c.clear.ensures.settings.count) lt)))
+
+pub returns-clause-apart : goal.returns-clause-apart
+returns-clause-apart c = λ d none ne. c.say_open.ensures.outlet.others d none ne ∙ c.clear.ensures.outlet.others d none ne ∙ ap (λ (r : Ribs). outlet_in r d none) c.pass_over.ensures.ribs

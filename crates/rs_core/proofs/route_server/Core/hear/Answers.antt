@@ -12,6 +12,10 @@ use Rattle.rs_core.specs.Altering.{IsAlteredBy}
 use Rattle.rs_core.specs.Ribs.{StirsWhere}
 use Rattle.rs_core.proofs.Altering.{front_stirs, piece_deaf, stirs_behind, stirs_once}
 use Rattle.rs_core.proofs.Stirring.{stirs_nowhere}
+use Rattle.rs_core.specs.Touches.{KeepsTouches}
+use Rattle.rs_core.specs.Ribs.{outlet_in}
+use Rattle.rs_core.proofs.Altering.{both_ok}
+use Rattle.rs_core.proofs.Raising.{keeps_behind, keeps_same}
 use Rattle.rs_core.proofs.route_server.Core.hear.Goals as goal
 
 pub returns-then-not-is_live-clause-heard : goal.returns-then-not-is_live-clause-heard
@@ -138,3 +142,44 @@ returns-clause-stirs c = map_ok c.hear_piece-2.result c.hear_piece-2.ensures.sti
     (on s (hears s i front.front h) (ap (λ (r : Ribs). r.config) c.put_buffer.ensures.ribs ∙ heard.ensures.spares.config ∙ first)
     (front_between heard.new.self c.put_buffer.new.self s i h c.args.piece.now heard.new.buffer.items c.in_ok-rest.rest.now c.put_buffer.ensures.sessions c.put_buffer.ensures.ribs c.put_buffer.ensures.put
     (sym c.is_empty-2.ensures ∙ c.if-is_empty-2.false) front))))
+
+pub returns-then-not-is_live-clause-keeps : goal.returns-then-not-is_live-clause-keeps
+returns-then-not-is_live-clause-keeps c = λ s h config at none. keeps_same _ _ refl refl
+
+pub returns-then-is_empty-clause-keeps : goal.returns-then-is_empty-clause-keeps
+unfolding client_count
+returns-then-is_empty-clause-keeps c = map_ok c.hear_piece.result c.hear_piece.ensures.keeps (λ keeps s h config at none.
+    let buffers = c.args.self.now.buffers.items in
+    let lt : c.args.c < length buffers = subst (λ k. c.args.c < k) (sym c.args.self.now.buffers_len) c.requires in
+    let read = slice_get_read buffers (length buffers) c.args.c c.index.result.now refl lt c.index.ensures in
+    let size : length c.index.result.now.items ≡ c.index.result.now.len = omega (arith, c.index.result.now.ok.0) in
+    keeps s h config (is_between c.args.self.now s c.args.c h c.index.result.now read (is_none c.index.result.now.items (ap (λ n. n == 0) size ∙ sym c.is_empty.ensures ∙ c.if-is_empty.true)) at) none)
+
+pub returns-then-is_empty-2-clause-keeps : goal.returns-then-is_empty-2-clause-keeps
+unfolding client_count
+returns-then-is_empty-2-clause-keeps c = λ s h config at none.
+    let taken = c.take_buffer-buffer in
+    let heard = c.hear_waiting-heard in
+    let was = unmoved c.args.self.now taken.new.self s c.args.c h taken.ensures.sessions taken.ensures.ribs at.knows in
+    subst (λ r. KeepsTouches (outlet_in c.args.self.now.ribs c.args.c none) (outlet_in r c.args.c none)) (sym c.put_buffer.ensures.ribs)
+    (subst (λ r. KeepsTouches (outlet_in r c.args.c none) (outlet_in heard.new.self.ribs c.args.c none)) taken.ensures.ribs
+    (heard.ensures.keeps s h (ap (λ (r : Ribs). r.config) taken.ensures.ribs ∙ config) was none))
+
+pub returns-clause-keeps : goal.returns-clause-keeps
+unfolding client_count
+returns-clause-keeps c = both_ok c.hear_piece-2.result c.hear_piece-2.ensures.keeps c.hear_piece-2.ensures.heard (λ on on_heard s h config at none.
+    let i = c.args.c in
+    let taken = c.take_buffer-buffer in
+    let heard = c.hear_waiting-heard in
+    let live = sym (c.is_live.ensures s h at.knows) ∙ c.if-not-is_live.false in
+    let first = ap (λ (r : Ribs). r.config) taken.ensures.ribs ∙ config in
+    let was = unmoved c.args.self.now taken.new.self s i h taken.ensures.sessions taken.ensures.ribs at.knows in
+    let front = c.in_ok-rest.ensures.heard s h first live was (at.waits taken.result taken.ensures.taken) in
+    let mid = ap (λ (r : Ribs). r.config) c.put_buffer.ensures.ribs ∙ heard.ensures.spares.config ∙ first in
+    let between = front_between heard.new.self c.put_buffer.new.self s i h c.args.piece.now heard.new.buffer.items c.in_ok-rest.rest.now c.put_buffer.ensures.sessions c.put_buffer.ensures.ribs c.put_buffer.ensures.put
+    (sym c.is_empty-2.ensures ∙ c.if-is_empty-2.false) front in
+    keeps_behind c.args.self.now c.put_buffer.new.self c.hear_piece-2.new.self s i front.front c.in_ok-rest.rest.now h config mid (c.hear_piece-2.ensures.spares.config ∙ mid)
+    at.knows between.knows (on_heard s (hears s i front.front h) mid between).knows none
+    (subst (λ r. KeepsTouches (outlet_in c.args.self.now.ribs i none) (outlet_in r i none)) (sym c.put_buffer.ensures.ribs)
+    (subst (λ r. KeepsTouches (outlet_in r i none) (outlet_in heard.new.self.ribs i none)) taken.ensures.ribs (heard.ensures.keeps s h first was none)))
+    (on s (hears s i front.front h) mid between none))

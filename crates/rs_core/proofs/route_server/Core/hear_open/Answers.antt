@@ -11,3 +11,6 @@ unfolding client_count
 returns-clause-heard c = λ s h config live knows.
     subst (λ o. Knows c.say.new.self s c.args.c (takes_in s c.args.c (without_change (heard.Open o)) h)) c.read_open.ensures
     (c.say.ensures.alone s h (unmoved c.args.self.now _ s c.args.c h refl refl refl knows))
+
+pub returns-clause-keeps : goal.returns-clause-keeps
+returns-clause-keeps c = λ s h config knows none. c.say.ensures.keeps s h config (unmoved c.args.self.now _ s c.args.c h refl refl refl knows) none

@@ -15,13 +15,16 @@ use Rattle.rs_core.proofs.Filling.{is_none}
 use Rattle.rs_core.specs.Altering.{IsAlteredBy}
 use Rattle.rs_core.specs.Ribs.{StirsWhere}
 use Rattle.rs_core.proofs.Altering.{beginning_silent, message_once, on_ok, one_fault, piece_deaf, piece_silent, stirs_at_first, stirs_behind, stirs_no_more, stirs_once}
+use Rattle.rs_core.specs.Touches.{KeepsTouches}
+use Rattle.rs_core.specs.Ribs.{outlet_in}
+use Rattle.rs_core.proofs.Raising.{keeps_behind, keeps_same}
 use Rattle.rs_core.proofs.route_server.Core.hear_piece.Goals as goal
 
 pub loop-octets-init : goal.loop-octets-init
 loop-octets-init c = record {
   spares = same_spares c.args.self.now c.args.c;
   buffers = refl;
-  heard = ([], refl, λ s h config between. subst (λ k. IsBetween c.args.self.now s c.args.c k) (sym (hears_nothing s c.args.c h)) between, λ s h config between. stirs_at_first s c.args.c h c.args.self.now.ribs);
+  heard = ([], refl, λ s h config between. subst (λ k. IsBetween c.args.self.now s c.args.c k) (sym (hears_nothing s c.args.c h)) between, λ s h config between. stirs_at_first s c.args.c h c.args.self.now.ribs, λ s h config between none. keeps_same _ _ refl refl);
 }
 
 pub returns-then-not-is_live-clause-heard : goal.returns-then-not-is_live-clause-heard
@@ -118,6 +121,21 @@ loop-octets-preserved c =
             stirs_behind s c.args.c it.0 at.message h c.args.self.now.ribs c.loop-octets.self.ribs c.hear_message.new.self.ribs (c.loop-octets.self.ribs_len ∙ c.loop-octets.invariant.spares.count ∙ sym c.args.self.now.ribs_len) (it.3 s h config between)
             (stirs_once s c.args.c at.message before c.loop-octets.self c.hear_message.new.self
             (message_once c.loop-octets.self s c.args.c before c.loop-octets.octets.now c.in-Message.kind c.in-Message.body.now c.in-Message.rest.now begins live was) c.hear_message.ensures.stirs was.knows now.knows),
+        λ s h config between none.
+            let was = it.2 s h config between in
+            let before : Hearing = hears s c.args.c it.0 h in
+            let live = sym (c.is_live.ensures s before was.knows) ∙ c.if-not-is_live.false in
+            let begins : BeginsWith (allowed_in s) c.loop-octets.octets.now c.in-Message.kind c.in-Message.body.now c.in-Message.rest.now = record {
+              message = at.message;
+              is = subst (λ a. IsMessageOf a c.in-Message.kind at.message) (c.allowed-allowed.ensures ∙ ap allowed_in config) at.is;
+              body_is = at.body_is;
+              whole = at.whole;
+            } in
+            let mid = c.loop-octets.invariant.spares.config ∙ config in
+            let now = after_message c.loop-octets.self c.hear_message.new.self s c.args.c before c.loop-octets.octets.now c.in-Message.kind c.in-Message.body.now c.in-Message.rest.now begins live c.hear_message.ensures.buffers was
+            (c.in_ok-hear_message-in-Message.ensures.heard s before mid live was.knows) in
+            keeps_behind c.args.self.now c.loop-octets.self c.hear_message.new.self s c.args.c it.0 at.message h config mid (c.hear_message.ensures.spares.config ∙ mid) between.knows was.knows now.knows none
+            (it.4 s h config between none) (c.hear_message.ensures.keeps s before mid was.knows none),
       );
     }
 
@@ -173,3 +191,26 @@ returns-clause-stirs c = λ s h config between.
     let none = is_none c.loop-octets.octets.now (sym c.is_empty.ensures ∙ c.loop-octets-test.false) in
     let whole : c.args.piece.now ≡ it.0 = it.1 ∙ ap (λ o. it.0 ++ o) none ∙ append-nil it.0 in
     subst (λ o. StirsWhere (IsAlteredBy s c.args.c o h) c.args.c c.args.self.now.ribs c.loop-octets.self.ribs) (sym whole) (it.3 s h config between)
+
+pub returns-then-not-is_live-clause-keeps : goal.returns-then-not-is_live-clause-keeps
+returns-then-not-is_live-clause-keeps c = λ s h config between none. c.loop-octets.invariant.heard.4 s h config between none
+
+pub returns-in-Wants-clause-keeps : goal.returns-in-Wants-clause-keeps
+returns-in-Wants-clause-keeps c = on_ok c.wait.result (λ s h config between none.
+    subst (λ r. KeepsTouches (outlet_in c.args.self.now.ribs c.args.c none) (outlet_in r c.args.c none)) (sym c.wait.ensures.ribs) (c.loop-octets.invariant.heard.4 s h config between none))
+
+pub returns-in-Fault-clause-keeps : goal.returns-in-Fault-clause-keeps
+unfolding client_count
+returns-in-Fault-clause-keeps c = λ s h config between none.
+    let it = c.loop-octets.invariant.heard in
+    let at = it.2 s h config between in
+    let before : Hearing = hears s c.args.c it.0 h in
+    let live = sym (c.is_live.ensures s before at.knows) ∙ c.if-not-is_live.false in
+    let faulty : BeginsFaulty (allowed_in s) c.loop-octets.octets.now c.in-Fault.fault = subst (λ a. BeginsFaulty a c.loop-octets.octets.now c.in-Fault.fault) (c.allowed-allowed.ensures ∙ ap allowed_in config) c.in-Fault.ensures.front in
+    let now = after_fault c.say.new.self s c.args.c before c.loop-octets.octets.now c.in-Fault.fault live (fault_between s c.args.c c.loop-octets.self before c.loop-octets.octets.now c.in-Fault.fault live at faulty) (c.say.ensures.alone s before at.knows) in
+    let mid = c.loop-octets.invariant.spares.config ∙ config in
+    keeps_behind c.args.self.now c.loop-octets.self c.say.new.self s c.args.c it.0 c.loop-octets.octets.now h config mid (c.say.ensures.spares.config ∙ mid) between.knows at.knows now.knows none
+    (it.4 s h config between none) (c.say.ensures.keeps s before mid at.knows none)
+
+pub returns-clause-keeps : goal.returns-clause-keeps
+returns-clause-keeps c = λ s h config between none. c.loop-octets.invariant.heard.4 s h config between none

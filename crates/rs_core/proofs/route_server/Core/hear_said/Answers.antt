@@ -10,6 +10,7 @@ use Rattle.rs_core.specs.declared.endings.Watched.{Watched}
 use Rattle.rs_core.proofs.Acting.{acted, acted_spares, asked_by_message}
 use Rattle.rs_core.proofs.Voicing.{never_open_by_message}
 use Rattle.rs_core.proofs.Watching.{noted_by, others_kept}
+use Rattle.rs_core.proofs.Raising.{item_keeps}
 use Rattle.rs_core.proofs.route_server.Core.hear_said.Goals as goal
 
 pub returns-clause-spares : goal.returns-clause-spares
@@ -39,3 +40,11 @@ returns-clause-heard c = λ s h next follows knows.
     (ap (λ (v : Vec Session). v.items) c.act.ensures.sessions) c.message-act.ensures.hears c.act.ensures.tables c.act.ensures.config c.act.ensures.own (never_open_by_message (session_in s c.args.c) c.args.heard h.items) follows.items follows.beats follows.taken (asked_by_message s c.args.c c.args.heard h next follows.points) (λ down up. follows.fresh down) follows.same
     (ending_by c.args.body.now) (noted_by kept c.act.new.self.watched.items c.args.c c.index_mut-2.result.now c.end.new.self c.ending_by.result (ending_by c.args.body.now c.message-act.result) was there set c.ending_by.ensures c.end.ensures)
     follows.endings follows.faults knows
+
+pub returns-clause-keeps : goal.returns-clause-keeps
+unfolding client_count
+returns-clause-keeps c = λ s h config knows none.
+    let sessions = c.args.self.now.sessions.items in
+    let lt : c.args.c < length sessions = subst (λ k. c.args.c < k) (sym c.args.self.now.sessions_len) c.requires in
+    let read = slice_get_read sessions (length sessions) c.args.c c.index_mut.result.now refl lt c.index_mut.ensures.value in
+    item_keeps c.args.self.now c.act.new.self c.message-act.result (Message c.args.heard) c.index_mut.result.now c.message-act.new.self s c.args.c h read lt c.message-act.ensures.hears c.act.ensures.own config knows none

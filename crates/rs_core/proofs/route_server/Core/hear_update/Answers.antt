@@ -16,6 +16,7 @@ use Rattle.rs_core.proofs.Faulting.{found, found_knows, cut_found}
 use Rattle.rs_core.proofs.Updating.{is_change}
 use Rattle.rs_core.proofs.Saying.{update_reset, update_changes, at_fault, moded_up, is_reset_beyond, is_none_beyond, reset_follows, announcing}
 use Rattle.rs_core.proofs.Stirring.{stirs_same}
+use Rattle.rs_core.proofs.Raising.{keeps_same}
 use Rattle.rs_core.proofs.route_server.Core.hear_update.Goals as goal
 
 pub returns-in_err-code-clause-refused : goal.returns-in_err-code-clause-refused
@@ -82,3 +83,22 @@ pub returns-else-is_beyond-clause-stirs : goal.returns-else-is_beyond-clause-sti
 returns-else-is_beyond-clause-stirs c = c.change.ensures.stirs (λ p has.
     ap (has_prefix p) c.deref-in-Change-3.ensures.value
     ∙ subst AreApart c.in-Change.is c.in_ok-code.ensures.apart p (ap (has_prefix p) (sym c.deref-in-Change-2.ensures.value) ∙ has))
+
+pub returns-in_err-code-clause-keeps : goal.returns-in_err-code-clause-keeps
+returns-in_err-code-clause-keeps c = λ s h config knows none. keeps_same _ _ refl refl
+
+pub returns-then-is_beyond-clause-keeps : goal.returns-then-is_beyond-clause-keeps
+unfolding client_count
+returns-then-is_beyond-clause-keeps c = λ s h config knows none.
+    let kept = c.args.self.now.watched.items in
+    let there : c.args.c < length kept = subst (λ k. c.args.c < k) (sym c.args.self.now.watched_len) c.requires in
+    let was = slice_get_read kept (length kept) c.args.c c.index_mut.result.now refl there c.index_mut.ensures.value in
+    c.say-then-is_beyond.ensures.keeps s (found c.in-Change.faulted h) config (found_knows c.args.self.now _ s c.args.c h c.index_mut.result.now c.note.new.self c.in-Change.faulted refl refl was there refl c.note.ensures knows) none
+
+pub returns-else-is_beyond-clause-keeps : goal.returns-else-is_beyond-clause-keeps
+unfolding client_count
+returns-else-is_beyond-clause-keeps c = λ s h config knows none.
+    let kept = c.args.self.now.watched.items in
+    let there : c.args.c < length kept = subst (λ k. c.args.c < k) (sym c.args.self.now.watched_len) c.requires in
+    let was = slice_get_read kept (length kept) c.args.c c.index_mut.result.now refl there c.index_mut.ensures.value in
+    c.change.ensures.keeps s (found c.in-Change.faulted h) config (found_knows c.args.self.now _ s c.args.c h c.index_mut.result.now c.note.new.self c.in-Change.faulted refl refl was there refl c.note.ensures knows) none

@@ -3,7 +3,7 @@ use Rattle.std.specs.Global.{Vec}
 use Rattle.rs_octets.specs.Fronts.{BeginsWith, BeginsFaulty, Wants}
 use Rattle.rs_core.specs.Core.{client_count}
 use Rattle.rs_core.specs.Hearing.{allowed_in}
-use Rattle.rs_core.specs.Ribs.{Stirs}
+use Rattle.rs_core.specs.Ribs.{Stirs, outlet_in}
 use Rattle.rs_core.specs.declared.route_server.Core.{Core}
 use Rattle.rs_core.specs.Steps.{FillsUp, HasHeardFront}
 use Rattle.rs_core.specs.Agreeing.{Spares}
@@ -12,6 +12,8 @@ use Rattle.rs_core.proofs.Agreeing.{cut_short}
 use Rattle.rs_core.proofs.Cutting.{same_spares}
 use Rattle.rs_core.proofs.Stirring.{stirs_same}
 use Rattle.rs_core.proofs.Filling.{waiting_on, waiting_fault, waiting_message}
+use Rattle.rs_core.specs.Touches.{KeepsTouches}
+use Rattle.rs_core.proofs.Raising.{keeps_same}
 use Rattle.rs_core.proofs.route_server.Core.hear_waiting.Goals as goal
 use Rattle.rs_core.proofs.route_server.Core.hear_waiting.Goals.{in-Wants, in-Fault, in-Message+in_ok-hear_message-in-Message}
 
@@ -69,3 +71,13 @@ returns-clause-stirs c = elim c.match-read_front.branch [
 
 pub returns-in_err-rest-clause-stirs : goal.returns-in_err-rest-clause-stirs
 returns-in_err-rest-clause-stirs c = stirs_same c.args.c c.args.self.now.ribs c.args.self.now.ribs refl
+
+pub returns-clause-keeps : goal.returns-clause-keeps
+returns-clause-keeps c = λ s h config knows none. elim c.match-read_front.branch [
+  | in-Wants w ↦ subst (λ (k : Core). KeepsTouches (outlet_in c.args.self.now.ribs c.args.c none) (outlet_in k.ribs c.args.c none)) (sym w.self-is) (keeps_same _ _ refl refl)
+  | in-Fault w ↦ subst (λ (k : Core). KeepsTouches (outlet_in c.args.self.now.ribs c.args.c none) (outlet_in k.ribs c.args.c none)) (sym w.self-is) (w.say.ensures.keeps s h config knows none)
+  | in-Message+in_ok-hear_message-in-Message w ↦ subst (λ (k : Core). KeepsTouches (outlet_in c.args.self.now.ribs c.args.c none) (outlet_in k.ribs c.args.c none)) (sym w.self-is) (w.hear_message.ensures.keeps s h config knows none)
+]
+
+pub returns-in_err-rest-clause-keeps : goal.returns-in_err-rest-clause-keeps
+returns-in_err-rest-clause-keeps c = λ s h config knows none. keeps_same _ _ refl refl

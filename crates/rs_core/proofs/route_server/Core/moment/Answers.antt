@@ -1,19 +1,26 @@
 use Rattle.std.proofs.Common.{refl, ◌∙◌, arith}
 use Rattle.rs_core.specs.Core.{client_count}
 use Rattle.rs_core.proofs.Agreeing.{none_seen, one_seen, all_seen}
+use Rattle.rs_core.proofs.Moments.{all_touched_then, none_touched_yet, one_touched_more}
 use Rattle.rs_core.proofs.route_server.Core.moment.Goals as goal
 
 pub loop-c-init : goal.loop-c-init
 unfolding client_count
-loop-c-init c = record { count = refl; seen = λ run h. none_seen c.args.t c.args.self.now run h }
+loop-c-init c = record { count = refl; seen = λ run h. none_seen c.args.t c.args.self.now run h; touched = λ run h. none_touched_yet c.args.t c.args.self.now run }
 
 pub loop-c-preserved : goal.loop-c-preserved
 unfolding client_count
 loop-c-preserved c = record {
   count = c.see.ensures.spares.count ∙ c.loop-c.invariant.count;
   seen = λ run h. one_seen c.args.t c.loop-c.c _ c.loop-c.self c.see.new.self run (omega arith) (omega arith) c.see.ensures.spares c.see.ensures.seen (c.loop-c.invariant.seen run h);
+  touched = λ run h. one_touched_more c.args.t c.loop-c.c _ c.args.self.now c.loop-c.self c.see.new.self run (omega arith) (omega arith) c.loop-c.invariant.count (c.loop-c.invariant.seen run h) c.see.ensures.spares.config c.see.ensures.seen c.see.ensures.stirs c.see.ensures.keeps
+      (c.loop-c.invariant.touched run h);
 }
 
 pub returns-clause-saw : goal.returns-clause-saw
 unfolding client_count
 returns-clause-saw c = λ run h. all_seen c.args.t c.loop-c.c c.loop-c.self run (omega arith) (c.loop-c.invariant.seen run h)
+
+pub returns-clause-touched : goal.returns-clause-touched
+unfolding client_count
+returns-clause-touched c = λ run h. all_touched_then c.args.t c.loop-c.c c.args.self.now c.loop-c.self run (omega arith) (omega arith) c.loop-c.invariant.count (c.loop-c.invariant.touched run h)

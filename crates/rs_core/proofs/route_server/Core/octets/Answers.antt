@@ -14,6 +14,7 @@ use Rattle.rs_core.proofs.Cutting.{cut_unmoved}
 use Rattle.rs_core.proofs.Spared.{put_spares}
 use Rattle.rs_core.proofs.Agreeing.{grown, spares_both}
 use Rattle.rs_core.proofs.Touched.{touches_others}
+use Rattle.rs_core.proofs.Touched.{touches_itself}
 use Rattle.rs_core.proofs.route_server.Core.octets.Goals as goal
 
 live_by : (b : Bool) → (b ≡ false → b ≡ true) → b ≡ true
@@ -61,3 +62,8 @@ pub returns-in-Ok-clause-touched : goal.returns-in-Ok-clause-touched
 unfolding client_count
 returns-in-Ok-clause-touched c = λ run h. touches_others _ c.args.c c.args.self.now c.hear.new.self run h c.hear.ensures.spares.count
     (c.in-Ok.ensures.stirs (config_in run) (hearing c.args.c run) h.config (h.clients c.args.c c.requires))
+
+pub returns-in-Ok-clause-itself : goal.returns-in-Ok-clause-itself
+unfolding client_count
+returns-in-Ok-clause-itself c = λ run h. touches_itself (Heard c.args.c c.args.piece.now) c.args.c c.args.self.now c.hear.new.self run c.requires h (returns-in-Ok-clause-heard c run h) c.hear.ensures.spares.count
+    (c.in-Ok.ensures.keeps (config_in run) (hearing c.args.c run) h.config (h.clients c.args.c c.requires))

@@ -5,7 +5,7 @@ use Rattle.std.proofs.lemmas.Option.{slice_get_read}
 use Rattle.rs_session.specs.declared.session.Session.{Session}
 use Rattle.rs_adjin.specs.AdjIns.{held_of, identifier_of}
 use Rattle.rs_core.specs.Moves.{Came, config_in}
-use Rattle.rs_core.specs.Hearing.{session_in, begins}
+use Rattle.rs_core.specs.Hearing.{session_in, is_up, begins}
 use Rattle.rs_core.specs.Runs.{hearing}
 use Rattle.rs_core.specs.Agreeing.{AgreesAt}
 use Rattle.rs_core.specs.Core.{client_count, lent_octets}
@@ -17,6 +17,7 @@ use Rattle.rs_core.specs.Conversations.{own_open}
 use Rattle.rs_core.proofs.Outgoing.{lent_is}
 use Rattle.rs_core.proofs.Conversed.{any_view}
 use Rattle.rs_core.proofs.Acting.{came, opens_from}
+use Rattle.rs_core.proofs.Touched.{keeps_touched}
 use Rattle.rs_core.proofs.route_server.Core.opened.Goals as goal
 
 pub returns-in-Ok-clause-came : goal.returns-in-Ok-clause-came
@@ -64,3 +65,7 @@ unfolding client_count lent_octets
 returns-in-Ok-clause-greets c = λ run h.
     let lt : c.args.c < c.greet.new.self.count = subst (λ n. c.args.c < n) (sym c.greet.ensures.count) c.requires in
     lent_is c.greet.new.self c.args.c any_view lt ∙ (c.greet.ensures.own any_view).flight ∙ ap (λ s. server_open (own_open s)) h.config
+
+pub returns-in-Ok-clause-touched : goal.returns-in-Ok-clause-touched
+unfolding client_count
+returns-in-Ok-clause-touched c = λ run h. keeps_touched c.args.c c.args.self.now c.greet.new.self run h c.greet.ensures.count (ap is_up (returns-in-Ok-clause-idle c run h)) c.greet.ensures.apart

@@ -7,6 +7,8 @@ use Rattle.rs_core.specs.Watching.{expiry_by}
 use Rattle.rs_core.specs.declared.endings.Watched.{Watched}
 use Rattle.rs_core.proofs.Acting.{seen, acted_spares}
 use Rattle.rs_core.proofs.Watching.{noted_by, others_kept}
+use Rattle.rs_session.specs.Items.{Moment}
+use Rattle.rs_core.proofs.Raising.{item_keeps}
 use Rattle.rs_core.proofs.route_server.Core.see.Goals as goal
 
 pub returns-clause-spares : goal.returns-clause-spares
@@ -35,3 +37,11 @@ returns-clause-seen c = λ s h at.
     seen c.args.self.now c.act.new.self c.moment-act.result c.index_mut.result.now c.moment-act.new.self s c.args.c c.args.t h read lt
     (ap (λ (v : Vec Session). v.items) c.act.ensures.sessions) c.act.ensures.buffers c.moment-act.ensures.hears c.act.ensures.tables c.act.ensures.config c.act.ensures.own
     (noted_by kept c.act.new.self.watched.items c.args.c c.index_mut-2.result.now c.end.new.self c.expiry_by.result (expiry_by c.moment-act.result) was there set c.expiry_by.ensures c.end.ensures) at
+
+pub returns-clause-keeps : goal.returns-clause-keeps
+unfolding client_count
+returns-clause-keeps c = λ s h config knows none.
+    let sessions = c.args.self.now.sessions.items in
+    let lt : c.args.c < length sessions = subst (λ k. c.args.c < k) (sym c.args.self.now.sessions_len) c.requires in
+    let read = slice_get_read sessions (length sessions) c.args.c c.index_mut.result.now refl lt c.index_mut.ensures.value in
+    item_keeps c.args.self.now c.act.new.self c.moment-act.result (Moment c.args.t) c.index_mut.result.now c.moment-act.new.self s c.args.c h read lt c.moment-act.ensures.hears c.act.ensures.own config knows none

@@ -1,7 +1,7 @@
 use Rattle.std.proofs.Common.{refl}
 use Rattle.rs_core.specs.Core.{client_count}
 use Rattle.rs_core.proofs.Drained.{turned_decided}
-use Rattle.rs_core.proofs.Touched.{decides_touched}
+use Rattle.rs_core.proofs.Touched.{decides_touched, refusal_keeps}
 use Rattle.rs_core.proofs.Outgoing.{turned_agrees}
 use Rattle.rs_core.proofs.Refusing.{listed_is}
 use Rattle.rs_core.proofs.route_server.Core.turn.Goals as goal
@@ -17,3 +17,7 @@ returns-clause-decided c = λ d run lt h up done. turned_decided d c.args.self.n
 pub returns-clause-touched : goal.returns-clause-touched
 unfolding client_count
 returns-clause-touched c = λ d run lt h up done. decides_touched d c.args.self.now _ c.turn.new.self run lt refl c.turn.ensures.turned c.sweep.ensures.outlets h up done
+
+pub returns-clause-refusal : goal.returns-clause-refusal
+unfolding client_count
+returns-clause-refusal c = λ d lt refused. refusal_keeps d c.args.self.now _ c.turn.new.self lt refl c.turn.ensures.turned c.sweep.ensures.outlets refused
