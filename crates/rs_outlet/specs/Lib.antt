@@ -6,6 +6,7 @@ pub mod Alike
 pub mod HeldBy
 pub mod Turns
 pub mod Places
+pub mod Runs
 pub mod Marking
 pub mod Owed
 pub mod Counted

@@ -9,7 +9,8 @@
 //!   answers.
 //! - `touched` is what the next turn decides; `turn` decides it, by `deciding`, which says what is
 //!   due at one prefix; `changes` puts that into `rows`, the Loc-RIB by number, and into
-//!   `waiting`, what is to be sent. `marking` makes all that was told wait again.
+//!   `waiting`, what is to be sent: places in two runs (`runs`), of which `merging` makes one.
+//!   `marking` makes all that was told wait again.
 //! - `choosing` says which places the next UPDATE is about, `sending` and `fill` begin the next
 //!   message.
 //! - `routes` shows the Loc-RIB; `laws` are contracts of functions that do nothing.
@@ -22,9 +23,11 @@ mod deciding;
 mod fill;
 pub mod laws;
 mod marking;
+mod merging;
 mod outlet;
 mod routes;
 mod rows;
+mod runs;
 mod sending;
 mod table;
 #[cfg(test)]
