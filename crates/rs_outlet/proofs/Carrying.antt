@@ -16,7 +16,8 @@ use Rattle.rs_outlet.specs.Places.{AreFresh, open_at, prefixes_at, told_by, mark
 use Rattle.rs_outlet.specs.Owed.{IsCarriedOut, IsExactAt, IsOpenAt, IsOwed, Keeps, listed, prefixes_of}
 use Rattle.rs_outlet.proofs.LocByNumber.{same, same_is}
 use Rattle.rs_outlet.proofs.Numbering.{all_both, all_nil}
-use Rattle.rs_outlet.proofs.Adding.{flips, not_listed, or_false}
+use Rattle.rs_outlet.proofs.Adding.{first_of_two, not_listed, open_both, or_false}
+use Rattle.rs_outlet.proofs.Places.{flips}
 use Rattle.rs_outlet.proofs.Touches.{prefix_eq-cmp}
 use Rattle.rs_outlet.proofs.TouchedNumbers.{eq_numbers}
 
@@ -49,23 +50,9 @@ keeps_owed o d o' d' is = record {
 
 -- ---- what stands at a prefix of two lists
 
-first_of_two : Option Wait → Option Wait → Option Wait
-first_of_two None o = o
-first_of_two (Some w) o = Some w
-
 two_none : (o : Option Wait) → first_of_two o None ≡ o
-unfolding first_of_two
 two_none None = refl
 two_none (Some w) = refl
-
-open_both : (q : Prefix) (ws more : List Wait) → open_at q (ws ++ more) ≡ first_of_two (open_at q ws) (open_at q more)
-unfolding first_of_two
-open_both q [] more = refl
-open_both q (w ∷ ws) more = go (w.open && same q w.prefix) (open_both q ws more)
-  where
-    go : (b : Bool) → open_at q (ws ++ more) ≡ first_of_two (open_at q ws) (open_at q more) → cond b (Some w) (open_at q (ws ++ more)) ≡ first_of_two (cond b (Some w) (open_at q ws)) (open_at q more)
-    go true h = refl
-    go false h = h
 
 same_twice : {A : Type 0} (b : Bool) (x : A) → cond b x x ≡ x
 same_twice true x = refl
@@ -113,7 +100,6 @@ none_more q ws fs none = ap (λ xs. open_at q (ws ++ xs)) none ∙ ap (open_at q
 module _ (c : Change) (was_due : Option (List Attribute)) (rows : List (Option Row)) (ws fs ws' fs' : List Wait) (h : IsCarriedOut c was_due rows ws fs ws' fs') where
   -- what stands behind it, at its prefix and elsewhere
   pub here : (q : Prefix) → same q c.prefix ≡ true → open_at q fs ≡ None → open_at q (ws' ++ fs') ≡ h.wait
-  unfolding first_of_two
   here q is none =
       open_both q ws' fs'
       ∙ ap (λ o. first_of_two o (open_at q fs')) (h.closed q ∙ ap (λ b. cond b None (open_at q ws)) is)

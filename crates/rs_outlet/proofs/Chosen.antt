@@ -3,9 +3,8 @@ use Rattle.std.proofs.Common.{◌≡◌, ◌+◌, ◌<◌, ◌≤◌, ℕ, zero,
 use Rattle.std.specs.Prelude.{option_map, slice_get}
 use Rattle.std.proofs.lemmas.List.Elements.{All-from_all_within, recursion_from_All}
 use mathlib.Core.Bool.{true≢false}
-use Rattle.std.specs.List.{AllByRecursion, HoldsAt, list_any}
-use Rattle.std.specs.List.Sorted.{IsStrictlySortedBy}
-use Rattle.rs_octets.specs.Prefixes.{Prefix, IsIpv4Prefix, prefix_order}
+use Rattle.std.specs.List.{AllByRecursion, HoldsAt, IsDistinct, list_any}
+use Rattle.rs_octets.specs.Prefixes.{Prefix, IsIpv4Prefix}
 use Rattle.rs_attrs.specs.Meaning.{Attribute}
 use Rattle.std.specs.Arc.{arc_value}
 use Rattle.rs_open.specs.Notes.{limit_octets}
@@ -87,14 +86,14 @@ both false b h = absurd (true≢false (sym h))
 said_withdrawn : (w : Wait) → is_withdrawn w ≡ true → (w.open ≡ true) × (is_withdrawal w.due ≡ true)
 said_withdrawn w h = both w.open (is_withdrawal w.due) h
 
-pub chosen_withdrawn : (rows : List (Option Row)) (ws : List Wait) (n : ℕ) (w : Wait) → IsStrictlySortedBy prefix_order (prefixes_at ws) → n < length ws → w ≡ get_or ws n w → IsIpv4Prefix w.prefix → is_withdrawn w ≡ true → IsChosen rows ws None n w.prefix
-chosen_withdrawn rows ws n w up below at legal h =
+pub chosen_withdrawn : (rows : List (Option Row)) (ws : List Wait) (n : ℕ) (w : Wait) → IsDistinct same (prefixes_at ws) → n < length ws → w ≡ get_or ws n w → IsIpv4Prefix w.prefix → is_withdrawn w ≡ true → IsChosen rows ws None n w.prefix
+chosen_withdrawn rows ws n w apart below at legal h =
     let s = said_withdrawn w h in
-    record { wait = w; at = prefix_at ws n w below at; waits = found_at ws n w below at s.0 up; legal = legal; is = s.1 }
+    record { wait = w; at = prefix_at ws n w below at; waits = found_at ws n w below at s.0 apart; legal = legal; is = s.1 }
 
-pub chosen_announced : (rows : List (Option Row)) (ws : List Wait) (n : ℕ) (w : Wait) (m : List Attribute) → IsStrictlySortedBy prefix_order (prefixes_at ws) → n < length ws → w ≡ get_or ws n w → IsIpv4Prefix w.prefix → w.open ≡ true → is_withdrawal w.due ≡ false → HasRow rows w.prefix m → IsChosen rows ws (Some m) n w.prefix
-chosen_announced rows ws n w m up below at legal opened said row =
-    record { wait = w; at = prefix_at ws n w below at; waits = found_at ws n w below at opened up; legal = legal; is = (said, row) }
+pub chosen_announced : (rows : List (Option Row)) (ws : List Wait) (n : ℕ) (w : Wait) (m : List Attribute) → IsDistinct same (prefixes_at ws) → n < length ws → w ≡ get_or ws n w → IsIpv4Prefix w.prefix → w.open ≡ true → is_withdrawal w.due ≡ false → HasRow rows w.prefix m → IsChosen rows ws (Some m) n w.prefix
+chosen_announced rows ws n w m apart below at legal opened said row =
+    record { wait = w; at = prefix_at ws n w below at; waits = found_at ws n w below at opened apart; legal = legal; is = (said, row) }
 
 pub none_chosen : (rows : List (Option Row)) (ws : List Wait) (said : Option (List Attribute)) (ns : List ℕ) (ps : List Prefix) → ns ≡ [] → ps ≡ [] → AreChosen rows ws said ns ps
 none_chosen rows ws said [] [] a b = tt
@@ -153,28 +152,28 @@ element (w ∷ ws) (suc n) below = element ws n (omega (arith, below))
 news_of : (w : Wait) → is_announced w ≡ true → (w.open ≡ true) × (not (is_withdrawal w.due) ≡ true)
 news_of w h = both w.open (not (is_withdrawal w.due)) h
 
-pub there_backed : (rows : List (Option Row)) (ws : List Wait) (n : ℕ) (d : Wait) → IsStrictlySortedBy prefix_order (prefixes_at ws) → AreBacked rows ws → n < length ws → (get_or ws n d).open ≡ true → IsBacked rows (get_or ws n d).prefix (get_or ws n d).due
-there_backed rows ws n d up backed below opened =
+pub there_backed : (rows : List (Option Row)) (ws : List Wait) (n : ℕ) (d : Wait) → IsDistinct same (prefixes_at ws) → AreBacked rows ws → n < length ws → (get_or ws n d).open ≡ true → IsBacked rows (get_or ws n d).prefix (get_or ws n d).due
+there_backed rows ws n d apart backed below opened =
     let w = get_or ws n d in
-    backed w.prefix w (found_at ws n w below (same_element ws n d w below) opened up)
+    backed w.prefix w (found_at ws n w below (same_element ws n d w below) opened apart)
 
 has_row : (rows : List (Option Row)) (p : Prefix) (d : Due) → IsBacked rows p d → not (is_withdrawal d) ≡ true → row_by rows d ≡ None → ⊥
 has_row rows p due.Withdrawn backed news none = true≢false (sym news)
 has_row rows p (due.Announced number hash) backed news none = absurd (let f : ◌≡◌ {A = Option (Prefix × ℕ)} None (Some (p, hash)) = sym (ap (option_map prefix_and_hash) none) ∙ backed in (cc))
 
-module _ (rows : List (Option Row)) (ws : List Wait) (n : ℕ) (up : IsStrictlySortedBy prefix_order (prefixes_at ws)) (backed : AreBacked rows ws) (found : IsFound is_announced ws (Some n)) where
+module _ (rows : List (Option Row)) (ws : List Wait) (n : ℕ) (apart : IsDistinct same (prefixes_at ws)) (backed : AreBacked rows ws) (found : IsFound is_announced ws (Some n)) where
   -- it has a row
   pub first_row : HoldsAt (λ w. None ≡ row_by rows w.due) ws n → ⊥
   first_row none =
       let d = element ws n found.0 in
       let news = news_of (get_or ws n d) (found.1 d) in
-      has_row rows (get_or ws n d).prefix (get_or ws n d).due (there_backed rows ws n d up backed found.0 news.0) news.1 (sym (none d))
+      has_row rows (get_or ws n d).prefix (get_or ws n d).due (there_backed rows ws n d apart backed found.0 news.0) news.1 (sym (none d))
 
   pub first_waits : (m : List Attribute) (o : Option Row) → option_map (λ (r : Row). arc_value r.attrs) o ≡ Some m → HoldsAt (λ w. o ≡ row_by rows w.due) ws n → HoldsAt (WaitsFor rows m) ws n
   first_waits m o value at d =
       let news = news_of (get_or ws n d) (found.1 d) in
       record {
         opened = news.0;
-        backed = there_backed rows ws n d up backed found.0 news.0;
+        backed = there_backed rows ws n d apart backed found.0 news.0;
         said = sym (ap (option_map (λ (r : Row). arc_value r.attrs)) (at d)) ∙ value;
       }

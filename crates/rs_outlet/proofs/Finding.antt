@@ -1,19 +1,23 @@
 -- A search for a prefix among places that rise by prefix.
 use Rattle.std.proofs.Common.{◌≡◌, ◌≢◌, ◌<◌, ◌≤◌, ℕ, zero, suc, Bool, true, false, None, Some, List, [], ◌∷◌, length, get_or, nat_lt, refl, sym, ap, ◌∙◌, subst, arith}
-use Rattle.std.specs.List.{AllByRecursion}
+use Rattle.std.specs.Prelude.{slice_get, ◌||◌}
+use Rattle.std.specs.List.{AllByRecursion, IsDistinct, list_any}
 use Rattle.std.specs.List.Sorted.{IsNonDecreasingBy, IsPartitionPoint, IsStrictlySortedBy}
 use Rattle.std.specs.Ordering.{ordering_index}
 use Rattle.std.specs.Cmp.{alike_right, tied_itself}
 use Rattle.std.specs.declared.cmp.Ordering.{Ordering}
 use Rattle.std.specs.declared.cmp.Ordering.TheVariants.{Less, Equal, Greater}
 use Rattle.std.proofs.lemmas.Bool.{ltb-true, ltb-false}
-use Rattle.std.proofs.lemmas.Option.{slice_get_read}
+use Rattle.std.proofs.lemmas.List.{length-map}
+use Rattle.std.proofs.lemmas.Option.{slice_get_read, slice_get_within}
 use Rattle.rs_octets.specs.Prefixes.{Prefix, prefix_order}
 use Rattle.rs_outlet.specs.declared.waiting.Wait.{Wait}
 use Rattle.rs_outlet.specs.Places.{IsOpenPlace, open_at, prefixes_at}
 use Rattle.rs_outlet.proofs.Orders.{prefixes_total, exact_prefixes}
 use Rattle.rs_outlet.proofs.LocByNumber.{same, same_is}
-use Rattle.rs_outlet.proofs.Places.{found_at, later_at, shut_here}
+use Rattle.rs_outlet.proofs.Adding.{not_listed}
+use Rattle.rs_adjin.proofs.Rows.{some_is}
+use Rattle.rs_outlet.proofs.Places.{found_at, prefix_at, shut_here}
 
 -- a prefix before another stands no later against a third
 rises : (a b q : Prefix) → prefix_order a b ≡ Less → ordering_index (prefix_order a q) ≤ ordering_index (prefix_order b q)
@@ -50,30 +54,41 @@ apart q w h =
       | false ↦ λ _. refl
     ] refl
 
-none_equal : (q : Prefix) (ws : List Wait) → ((k : ℕ) (d : Wait) → k < length ws → prefix_order (get_or ws k d).prefix q ≢ Equal) → open_at q ws ≡ None
+none_equal : (q : Prefix) (ws : List Wait) → ((k : ℕ) (d : Wait) → k < length ws → prefix_order (get_or ws k d).prefix q ≢ Equal) → list_any (same q) (prefixes_at ws) ≡ false
 none_equal q [] h = refl
-none_equal q (w ∷ ws) h = later_at q w ws (apart q w (h 0 w (omega arith))) ∙ none_equal q ws (λ k d below. h (suc k) d (omega arith))
+none_equal q (w ∷ ws) h = (λ i. apart q w (h 0 w (omega arith)) i || none_equal q ws (λ k d below. h (suc k) d (omega arith)) i)
 
 -- between the places before a prefix and those behind it there is none of it
-pub absent_place : (q : Prefix) (ws : List Wait) (i : ℕ) → IsPartitionPoint (λ w. prefix_order w.prefix q ≡ Less) (λ w. prefix_order w.prefix q ≡ Greater) ws i → open_at q ws ≡ None
-absent_place q ws i parts = none_equal q ws (λ k d below is. by_side k d below is (nat_lt k i) refl)
+pub absent_prefix : (q : Prefix) (ws : List Wait) (i : ℕ) → IsPartitionPoint (λ w. prefix_order w.prefix q ≡ Less) (λ w. prefix_order w.prefix q ≡ Greater) ws i → list_any (same q) (prefixes_at ws) ≡ false
+absent_prefix q ws i parts = none_equal q ws (λ k d below is. by_side k d below is (nat_lt k i) refl)
   where
     by_side : (k : ℕ) (d : Wait) → k < length ws → prefix_order (get_or ws k d).prefix q ≡ Equal → (b : Bool) → nat_lt k i ≡ b → ⊥
     by_side k d below is true h = let no : Less ≡ Equal = sym (parts.0 k d (omega arith) (ltb-true k i h)) ∙ is in cc
     by_side k d below is false h = let no : Greater ≡ Equal = sym (parts.1 k d (ltb-false k i h) below) ∙ is in cc
 
-module _ (q : Prefix) (ws : List Wait) (n : ℕ) (w : Wait) (up : IsStrictlySortedBy prefix_order (prefixes_at ws)) (below : n < length ws) (is : w ≡ get_or ws n w) (equal : prefix_order (get_or ws n w).prefix q ≡ Equal) where
+pub absent_place : (q : Prefix) (ws : List Wait) (i : ℕ) → IsPartitionPoint (λ w. prefix_order w.prefix q ≡ Less) (λ w. prefix_order w.prefix q ≡ Greater) ws i → open_at q ws ≡ None
+absent_place q ws i parts = not_listed q ws (absent_prefix q ws i parts)
+
+pub there_prefix : (q : Prefix) (ws : List Wait) (i : ℕ) → i < length ws → ((d : Wait) → prefix_order (get_or ws i d).prefix q ≡ Equal) → slice_get (prefixes_at ws) i ≡ Some q
+there_prefix q [] i below is = absurd (omega (arith, below))
+there_prefix q (w ∷ ws) zero below is = ap (λ p. Some p) (exact_prefixes w.prefix q (is w))
+there_prefix q (w ∷ ws) (suc i) below is = there_prefix q ws i (omega (arith, below)) is
+
+module _ (q : Prefix) (ws : List Wait) (n : ℕ) (w : Wait) (distinct : IsDistinct same (prefixes_at ws)) (there : slice_get (prefixes_at ws) n ≡ Some q) (is : w ≡ get_or ws n w) where
+  below : n < length ws
+  below = omega (arith, slice_get_within (prefixes_at ws) n q there, length-map ws (λ (v : Wait). v.prefix))
+
   here : w.prefix ≡ q
-  here = ap (λ (v : Wait). v.prefix) is ∙ exact_prefixes (get_or ws n w).prefix q equal
+  here = some_is w.prefix q (sym (prefix_at ws n w below is) ∙ there)
 
   pub open_place : w.open ≡ true → IsOpenPlace q ws n
   open_place opened = record {
     wait = w;
     at = slice_get_read ws (length ws) n w refl below is;
     prefix = here;
-    stands = subst (λ p. open_at p ws ≡ Some w) here (found_at ws n w below is opened up);
+    stands = subst (λ p. open_at p ws ≡ Some w) here (found_at ws n w below is opened distinct);
     within = below;
   }
 
   pub shut_place : w.open ≡ false → open_at q ws ≡ None
-  shut_place shut = subst (λ p. open_at p ws ≡ None) here (shut_here ws n w below is shut up)
+  shut_place shut = subst (λ p. open_at p ws ≡ None) here (shut_here ws n w below is shut distinct)

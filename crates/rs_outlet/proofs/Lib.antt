@@ -19,6 +19,7 @@ mod Places
 mod Withdrawals
 mod Finding
 mod Adding
+mod TwoRuns
 mod MarkedAgain
 mod MarkedAll
 mod Owing

@@ -20,9 +20,9 @@ use Rattle.rs_outlet.specs.Marking.{IsPlacedAgain, MayAddRow, MayWaitAgain, Wait
 use Rattle.rs_adjin.proofs.Rows.{some_is}
 use Rattle.rs_outlet.proofs.Orders.{exact_prefixes, prefixes_total}
 use Rattle.rs_outlet.proofs.LocByNumber.{same, same_is, same_itself}
-use Rattle.rs_outlet.proofs.Places.{first_open, later_at, shut_at, none_behind}
+use Rattle.rs_outlet.proofs.Places.{first_open, later_at, none_behind}
 use Rattle.rs_outlet.proofs.Finding.{absent_place, searchable}
-use Rattle.rs_outlet.proofs.Adding.{and_right, none_listed, not_listed, or_false}
+use Rattle.rs_outlet.proofs.Adding.{and_right, none_listed, not_listed, open_still, or_false}
 
 -- ---- a search
 
@@ -72,14 +72,6 @@ at_place P q z (w ∷ zs) h is =
       | true ↦ λ t e. let s : w ≡ z = some_is w z e in (subst P s h.0, same_is q w.prefix (and_right w.open (same q w.prefix) t) ∙ ap (λ (x : Wait). x.prefix) s)
       | false ↦ λ _ e. at_place P q z zs h.1 e
     ] refl is
-
-open_still : (q : Prefix) (ws : List Wait) → open_at q (still_open ws) ≡ open_at q ws
-open_still q [] = refl
-open_still q (w ∷ ws) =
-    elim w.open as (λ b. w.open ≡ b → open_at q (cond b (w ∷ still_open ws) (still_open ws)) ≡ open_at q (w ∷ ws)) [
-      | true ↦ λ t. ap (λ o. cond (w.open && same q w.prefix) (Some w) o) (open_still q ws)
-      | false ↦ λ f. open_still q ws ∙ sym (shut_at q w ws f)
-    ] refl
 
 open_remarked : (q : Prefix) (ws : List Wait) → open_at q (map remarked ws) ≡ option_map remarked (open_at q ws)
 open_remarked q [] = refl

@@ -1,10 +1,10 @@
--- Places that rise by prefix: one of them closed, and what is left where none is open.
+-- Places of different prefixes: one of them written, and what stands then of a prefix.
 use Rattle.std.proofs.Common.{◌≡◌, ◌-◌, ◌<◌, ◌≤◌, ℕ, zero, suc, Bool, true, false, cond, ◌&&◌, Option, None, Some, List, [], ◌∷◌, length, get_or, slice_set, refl, sym, ap, ◌∙◌, subst, arith}
 use Rattle.std.specs.Prelude.{slice_get}
 use mathlib.Core.Bool.{true≢false}
-use Rattle.std.specs.Cmp.{IsTotalOrder}
+use Rattle.std.specs.Cmp.{IsTotalOrder, eq_by_cmp_equiv}
 use Rattle.std.proofs.lemmas.Cmp.{on_total}
-use Rattle.std.specs.List.{AllByRecursion}
+use Rattle.std.specs.List.{AllByRecursion, IsDistinct}
 use Rattle.std.specs.List.Sorted.{IsStrictlySortedBy}
 use Rattle.std.specs.Ordering.{eq_by_cmp, is_eq}
 use Rattle.std.specs.declared.cmp.Ordering.{Ordering}
@@ -37,6 +37,14 @@ prefixes_rise (w ∷ ws) h = (all_prefixes w.prefix ws h.0, prefixes_rise ws h.1
 pub none_rise : (ws : List Wait) → ws ≡ [] → IsStrictlySortedBy prefix_order (prefixes_at ws)
 unfolding IsStrictlySortedBy
 none_rise ws h = subst (λ ws. IsStrictlySortedBy prefix_order (prefixes_at ws)) (sym h) tt
+
+pub no_run : IsStrictlySortedBy prefix_order []
+unfolding IsStrictlySortedBy
+no_run = tt
+
+pub none_distinct : (ws : List Wait) → ws ≡ [] → IsDistinct same (prefixes_at ws)
+unfolding IsDistinct
+none_distinct ws h = subst (λ ws. IsDistinct same (prefixes_at ws)) (sym h) tt
 
 -- ---- one place written
 
@@ -95,41 +103,63 @@ none_behind p q (w ∷ ws) h is =
     ∙ ap (λ b. cond b (Some w) (open_at q ws)) (none_and w.open)
     ∙ none_behind p q ws h.1 is
 
-behind : (p q : Prefix) (ps : List Prefix) (n : ℕ) → AllByRecursion (λ x. prefix_order p x ≡ Less) ps → slice_get ps n ≡ Some q → prefix_order p q ≡ Less
-behind p q [] zero h is = absurd (cc)
-behind p q [] (suc n) h is = absurd (cc)
-behind p q (x ∷ ps) zero h is = ap (prefix_order p) (sym (some_is x q is)) ∙ h.0
-behind p q (x ∷ ps) (suc n) h is = behind p q ps n h.1 is
+-- ---- places of different prefixes
+
+pub flips : (p q : Prefix) → same p q ≡ same q p
+flips p q = (eq_by_cmp_equiv prefixes_total).symm p q
+
+another : (p q x : Prefix) → same p x ≡ false → same q p ≡ true → same q x ≡ false
+another p q x h is = ap (λ r. same r x) (same_is q p is) ∙ h
+
+apart_at : (p q : Prefix) (ps : List Prefix) (n : ℕ) → AllByRecursion (λ x. same p x ≡ false) ps → slice_get ps n ≡ Some q → same p q ≡ false
+apart_at p q [] zero h is = absurd (cc)
+apart_at p q [] (suc n) h is = absurd (cc)
+apart_at p q (x ∷ ps) zero h is = ap (same p) (sym (some_is x q is)) ∙ h.0
+apart_at p q (x ∷ ps) (suc n) h is = apart_at p q ps n h.1 is
+
+none_apart : (p q : Prefix) (ws : List Wait) → AllByRecursion (λ x. same p x ≡ false) (prefixes_at ws) → same q p ≡ true → open_at q ws ≡ None
+none_apart p q [] h is = refl
+none_apart p q (w ∷ ws) h is = later_at q w ws (another p q w.prefix h.0 is) ∙ none_apart p q ws h.1 is
+
+shut_apart : (x : Wait) (p q : Prefix) → same x.prefix p ≡ false → same q p ≡ true → (x.open && same q x.prefix) ≡ false
+shut_apart x p q h is = ap (λ b. x.open && b) (another p q x.prefix (flips p x.prefix ∙ h) is) ∙ none_and x.open
 
 -- the first place shut
 first_shut : (q : Prefix) (x : Wait) (ws : List Wait) (b : Bool) → same q x.prefix ≡ b → (b ≡ true → open_at q ws ≡ None) → open_at q ws ≡ cond b None (cond (x.open && b) (Some x) (open_at q ws))
 first_shut q x ws true is none = none refl
 first_shut q x ws false is none = sym (ap (λ b. cond b (Some x) (open_at q ws)) (none_and x.open))
 
--- another place shut
-later_shut : {A : Type 0} (a b : Bool) (x : A) (o : Option A) → (b ≡ true → a ≡ false) → cond a (Some x) (cond b None o) ≡ cond b None (cond a (Some x) o)
-later_shut true true x o apart = absurd (true≢false (apart refl))
-later_shut false true x o apart = refl
-later_shut a false x o apart = refl
+-- another place written
+later_set : {A : Type 0} (a b : Bool) (x r o : Option A) → (b ≡ true → a ≡ false) → cond a x (cond b r o) ≡ cond b r (cond a x o)
+later_set true true x r o apart = absurd (true≢false (apart refl))
+later_set false true x r o apart = refl
+later_set a false x r o apart = refl
 
-shut_apart : (x : Wait) (p q : Prefix) → prefix_order x.prefix p ≡ Less → same q p ≡ true → (x.open && same q x.prefix) ≡ false
-shut_apart x p q h is = go (same q x.prefix) refl
-  where
-    go : (b : Bool) → same q x.prefix ≡ b → (x.open && b) ≡ false
-    go true s = absurd (true≢false (sym is ∙ not_same x.prefix q p h s))
-    go false s = none_and x.open
-
-pub closed_at : (ws : List Wait) (n : ℕ) (p : Prefix) (y : Wait) → IsStrictlySortedBy prefix_order (prefixes_at ws) → slice_get (prefixes_at ws) n ≡ Some p → y.open ≡ false → (q : Prefix) → open_at q (slice_set ws n y) ≡ cond (same q p) None (open_at q ws)
-unfolding IsStrictlySortedBy
-closed_at [] zero p y up is shut q = absurd (cc)
-closed_at [] (suc n) p y up is shut q = absurd (cc)
-closed_at (x ∷ ws) zero p y up is shut q =
+pub closed_at : (ws : List Wait) (n : ℕ) (p : Prefix) (y : Wait) → IsDistinct same (prefixes_at ws) → slice_get (prefixes_at ws) n ≡ Some p → y.open ≡ false → (q : Prefix) → open_at q (slice_set ws n y) ≡ cond (same q p) None (open_at q ws)
+unfolding IsDistinct
+closed_at [] zero p y apart is shut q = absurd (cc)
+closed_at [] (suc n) p y apart is shut q = absurd (cc)
+closed_at (x ∷ ws) zero p y apart is shut q =
     ap (λ b. cond (b && same q y.prefix) (Some y) (open_at q ws)) shut
-    ∙ first_shut q x ws (same q x.prefix) refl (none_behind x.prefix q ws up.0)
+    ∙ first_shut q x ws (same q x.prefix) refl (none_apart x.prefix q ws apart.0)
     ∙ ap (λ r. cond (same q r) None (open_at q (x ∷ ws))) (some_is x.prefix p is)
-closed_at (x ∷ ws) (suc n) p y up is shut q =
-    ap (cond (x.open && same q x.prefix) (Some x)) (closed_at ws n p y up.1 is shut q)
-    ∙ later_shut (x.open && same q x.prefix) (same q p) x (open_at q ws) (shut_apart x p q (behind x.prefix p (prefixes_at ws) n up.0 is))
+closed_at (x ∷ ws) (suc n) p y apart is shut q =
+    ap (cond (x.open && same q x.prefix) (Some x)) (closed_at ws n p y apart.1 is shut q)
+    ∙ later_set (x.open && same q x.prefix) (same q p) (Some x) None (open_at q ws) (shut_apart x p q (apart_at x.prefix p (prefixes_at ws) n apart.0 is))
+
+pub opened_at : (ws : List Wait) (n : ℕ) (y : Wait) → IsDistinct same (prefixes_at ws) → slice_get (prefixes_at ws) n ≡ Some y.prefix → y.open ≡ true → (q : Prefix) → open_at q (slice_set ws n y) ≡ cond (same q y.prefix) (Some y) (open_at q ws)
+unfolding IsDistinct
+opened_at [] zero y apart is opened q = absurd (cc)
+opened_at [] (suc n) y apart is opened q = absurd (cc)
+opened_at (x ∷ ws) zero y apart is opened q =
+    ap (λ b. cond (b && same q y.prefix) (Some y) (open_at q ws)) opened
+    ∙ elim (same q y.prefix) as (λ b. same q y.prefix ≡ b → cond b (Some y) (open_at q ws) ≡ cond b (Some y) (open_at q (x ∷ ws))) [
+      | true ↦ λ _. refl
+      | false ↦ λ f. sym (later_at q x ws (ap (same q) (some_is x.prefix y.prefix is) ∙ f))
+    ] refl
+opened_at (x ∷ ws) (suc n) y apart is opened q =
+    ap (cond (x.open && same q x.prefix) (Some x)) (opened_at ws n y apart.1 is opened q)
+    ∙ later_set (x.open && same q x.prefix) (same q y.prefix) (Some x) (Some y) (open_at q ws) (shut_apart x y.prefix q (apart_at x.prefix y.prefix (prefixes_at ws) n apart.0 is))
 
 -- ---- a place read
 
@@ -148,22 +178,22 @@ pub first_open : (q : Prefix) (x : Wait) (ws : List Wait) → x.open ≡ true �
 first_open q x ws is at = λ i. cond (is i && at i) (Some x) (open_at q ws)
 
 -- an open place is what stands of its prefix
-pub found_at : (ws : List Wait) (n : ℕ) (w : Wait) → n < length ws → w ≡ get_or ws n w → w.open ≡ true → IsStrictlySortedBy prefix_order (prefixes_at ws) → open_at w.prefix ws ≡ Some w
-unfolding IsStrictlySortedBy
-found_at [] n w below is opened up = absurd (omega (arith, below))
-found_at (x ∷ ws) zero w below is opened up =
+pub found_at : (ws : List Wait) (n : ℕ) (w : Wait) → n < length ws → w ≡ get_or ws n w → w.open ≡ true → IsDistinct same (prefixes_at ws) → open_at w.prefix ws ≡ Some w
+unfolding IsDistinct
+found_at [] n w below is opened apart = absurd (omega (arith, below))
+found_at (x ∷ ws) zero w below is opened apart =
     first_open w.prefix x ws (ap (λ (t : Wait). t.open) (sym is) ∙ opened) (ap (λ (t : Wait). same w.prefix t.prefix) (sym is) ∙ same_itself w.prefix) ∙ ap (λ t. Some t) (sym is)
-found_at (x ∷ ws) (suc n) w below is opened up =
-    ap (λ b. cond b (Some x) (open_at w.prefix ws)) (shut_apart x w.prefix w.prefix (behind x.prefix w.prefix (prefixes_at ws) n up.0 (prefix_at ws n w (omega (arith, below)) is)) (same_itself w.prefix))
-    ∙ found_at ws n w (omega (arith, below)) is opened up.1
+found_at (x ∷ ws) (suc n) w below is opened apart =
+    ap (λ b. cond b (Some x) (open_at w.prefix ws)) (shut_apart x w.prefix w.prefix (apart_at x.prefix w.prefix (prefixes_at ws) n apart.0 (prefix_at ws n w (omega (arith, below)) is)) (same_itself w.prefix))
+    ∙ found_at ws n w (omega (arith, below)) is opened apart.1
 
 -- where it waits no more, nothing stands of its prefix
-pub shut_here : (ws : List Wait) (n : ℕ) (w : Wait) → n < length ws → w ≡ get_or ws n w → w.open ≡ false → IsStrictlySortedBy prefix_order (prefixes_at ws) → open_at w.prefix ws ≡ None
-unfolding IsStrictlySortedBy
-shut_here [] n w below is shut up = absurd (omega (arith, below))
-shut_here (x ∷ ws) zero w below is shut up =
+pub shut_here : (ws : List Wait) (n : ℕ) (w : Wait) → n < length ws → w ≡ get_or ws n w → w.open ≡ false → IsDistinct same (prefixes_at ws) → open_at w.prefix ws ≡ None
+unfolding IsDistinct
+shut_here [] n w below is shut apart = absurd (omega (arith, below))
+shut_here (x ∷ ws) zero w below is shut apart =
     shut_at w.prefix x ws (ap (λ (t : Wait). t.open) (sym is) ∙ shut)
-    ∙ none_behind x.prefix w.prefix ws up.0 (ap (λ (t : Wait). same w.prefix t.prefix) (sym is) ∙ same_itself w.prefix)
-shut_here (x ∷ ws) (suc n) w below is shut up =
-    ap (λ b. cond b (Some x) (open_at w.prefix ws)) (shut_apart x w.prefix w.prefix (behind x.prefix w.prefix (prefixes_at ws) n up.0 (prefix_at ws n w (omega (arith, below)) is)) (same_itself w.prefix))
-    ∙ shut_here ws n w (omega (arith, below)) is shut up.1
+    ∙ none_apart x.prefix w.prefix ws apart.0 (ap (λ (t : Wait). same w.prefix t.prefix) (sym is) ∙ same_itself w.prefix)
+shut_here (x ∷ ws) (suc n) w below is shut apart =
+    ap (λ b. cond b (Some x) (open_at w.prefix ws)) (shut_apart x w.prefix w.prefix (apart_at x.prefix w.prefix (prefixes_at ws) n apart.0 (prefix_at ws n w (omega (arith, below)) is)) (same_itself w.prefix))
+    ∙ shut_here ws n w (omega (arith, below)) is shut apart.1

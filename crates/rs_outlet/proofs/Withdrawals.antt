@@ -87,9 +87,6 @@ withdrawn_dropped (w ∷ ws) =
           omega (arith, rest, none, sum_by-cons (λ v. one_if (is_withdrawn v)) w ws)
     ] refl
 
-pub withdrawn_both : (ws more : List Wait) → withdrawn_count (still_open ws ++ more) ≡ withdrawn_count ws + withdrawn_count more
-withdrawn_both ws more = omega (arith, withdrawn_dropped ws, sum_by-append (λ v. one_if (is_withdrawn v)) (still_open ws) more)
-
 -- one place listed
 pub withdrawn_listed : (fs new : List Wait) (o : Option Wait) → new ≡ fs ++ listed o → withdrawn_count new ≤ withdrawn_count fs + 1
 withdrawn_listed fs new None is = omega (arith, ap withdrawn_count is, sum_by-append (λ v. one_if (is_withdrawn v)) fs [])
@@ -106,6 +103,3 @@ announced_listed fs new None number hash said is = omega (arith, ap withdrawn_co
 announced_listed fs new (Some w) number hash said is =
     let none : ◌≡◌ {A = ℕ} (one_if (is_withdrawn w)) 0 = ap one_if (ap (λ d. w.open && is_withdrawal d) said ∙ and_false w.open) in
     omega (arith, ap withdrawn_count is, none, sum_by-append (λ v. one_if (is_withdrawn v)) fs (w ∷ []), sum_by-cons (λ v. one_if (is_withdrawn v)) w [])
-
-pub withdrawn_front : (ws more front rest : List Wait) → front ++ rest ≡ still_open ws ++ more → withdrawn_count front ≤ withdrawn_count ws + withdrawn_count more
-withdrawn_front ws more front rest is = omega (arith, ap withdrawn_count is, sum_by-append (λ v. one_if (is_withdrawn v)) front rest, withdrawn_both ws more)

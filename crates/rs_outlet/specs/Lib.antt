@@ -8,6 +8,7 @@ pub mod HeldBy
 pub mod Passing
 pub mod Turns
 pub mod Places
+pub mod Runs
 pub mod Marking
 pub mod Owed
 pub mod Counted

@@ -18,6 +18,7 @@ impl Waits {
     /// one behind it.
     pub(crate) fn link(&mut self)
         ensures items { self.new.places.items ≡ self.old.places.items }
+        ensures sorted { self.new.sorted ≡ self.old.sorted }
         ensures capacity { vec_capacity self.new.places ≡ vec_capacity self.old.places }
     {
         self.links.clear();
@@ -37,6 +38,7 @@ impl Waits {
         requires place { place < vec_len self.old.places }
         requires heads { AreHeads (dues_at self.old.places.items) (place + 1) self.old.heads.items }
         ensures items { self.new.places.items ≡ self.old.places.items }
+        ensures sorted { self.new.sorted ≡ self.old.sorted }
         ensures capacity { vec_capacity self.new.places ≡ vec_capacity self.old.places }
         ensures heads { AreHeads (dues_at self.new.places.items) place self.new.heads.items }
     {

@@ -7,14 +7,16 @@ ghost use Rattle.std.specs.List.Sorted.{IsStrictlySortedBy};
 ghost use Rattle.std.specs.Ordering.{eq_by_cmp};
 ghost use Rattle.std.specs.Vec.{vec_capacity};
 ghost use Rattle.rs_octets.specs.Prefixes.{Prefix, prefix_order};
-ghost use Rattle.rs_outlet.specs.Places.{open_at, prefixes_at, still_open, withdrawn_count};
+ghost use Rattle.rs_outlet.specs.Places.{open_at, prefixes_at, withdrawn_count};
 ghost use Rattle.rs_outlet.specs.Inside.{AreBacked, loc_of};
 ghost use Rattle.rs_outlet.specs.Marking.{MayAddRow, MayWaitAgain, is_told, remarked};
 
 use crate::rows::Row;
+use crate::runs::drop_shut;
 use crate::table::Rows;
 use crate::waiting::{Due, Told, Wait, Waits, count_open, hash_of, put_in_order};
 use rs_octets::Prefix;
+use std::alloc::Global;
 
 impl Waits {
     /// Everything that was told waits to be told again: each row, and what waits already.
@@ -26,12 +28,14 @@ impl Waits {
         ensures capacity { vec_capacity self.new.places ≡ vec_capacity self.old.places }
         ensures backed { AreBacked rows.now.rows.items self.old.places.items → AreBacked rows.now.rows.items self.new.places.items }
     {
-        add_rows(&mut self.places, rows);
+        self.make_one_run();
+        add_rows(self.alloc, &mut self.places, rows);
         self.waiting = count_open(&self.places);
+        self.sorted = self.places.len();
+        self.ready = false;
+        self.links.clear();
         self.gone = 0;
         self.news = 0;
-        self.links.clear();
-        self.link();
     }
 }
 
@@ -45,7 +49,7 @@ impl Told {
 
 /// Drops the places that wait no more, marks those at which something was told, and adds the rows at
 /// which nothing waits. There is room for these: each place that is left is to be withdrawn, or has a row.
-fn add_rows(places: &mut Vec<Wait>, rows: &Rows)
+fn add_rows(alloc: Global, places: &mut Vec<Wait>, rows: &Rows)
     requires rises { IsStrictlySortedBy prefix_order (prefixes_at places.old.items) }
     requires room { rows.now.used + withdrawn_count places.old.items ≤ vec_capacity places.old }
     ensures rises { IsStrictlySortedBy prefix_order (prefixes_at places.new.items) }
@@ -63,15 +67,7 @@ fn add_rows(places: &mut Vec<Wait>, rows: &Rows)
             add_row(places, waited, place as u32, row);
         }
     }
-    put_in_order(places);
-}
-
-/// Drops the places that wait no more.
-fn drop_shut(places: &mut Vec<Wait>)
-    ensures items { places.new.items ≡ still_open places.old.items }
-    ensures capacity { vec_capacity places.new ≡ vec_capacity places.old }
-{
-    places.retain(|wait| wait.open);
+    put_in_order(alloc, places);
 }
 
 /// Marks the places at which something was told.

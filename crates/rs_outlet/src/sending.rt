@@ -259,6 +259,7 @@ impl Outlet {
     {
         self.front.clear();
         self.chosen.clear();
+        self.waits.prepare();
         let packed = put_update(
             &self.rows,
             &mut self.waits,

@@ -1,22 +1,25 @@
 //! What waits to be sent to a client: the prefixes at which it was not told what is due, or that it
-//! asked for again, in rising order.
+//! asked for again. They stand in two runs in rising order (`runs`), so that a turn does not go over
+//! all that waits for a client that takes nothing.
 //!
-//! A place that is to be announced has a link to the next one that may share a message with it: to
-//! the next one whose hash falls into the same bucket. A message is read off along the links, which
-//! leave none out that has the same attributes, and nothing is looked for in the Loc-RIB.
+//! Before a message begins, one run is made of both, and each place that is to be announced gets a link
+//! to the next one whose hash falls into the same bucket (`linking`). A message is read off along the
+//! links, which leave none out that has the same attributes, and nothing is looked for in the Loc-RIB.
 
-ghost use Rattle.std.specs.Prelude.{◌≡◌, ◌≤◌, ◌<◌, ◌+◌, ℕ, Option, None, Some, [], true, false, length, vec_len, slice_get, slice_set, option_map, if◌then◌else◌, IfSome, OnOk, ◌++◌};
+ghost use Rattle.std.specs.Prelude.{◌≡◌, ◌≤◌, ◌<◌, ◌+◌, ℕ, Option, None, Some, [], true, false, drop, length, take, vec_len, slice_get, slice_set, option_map, if◌then◌else◌, IfSome, OnOk, ◌++◌};
 ghost use Rattle.std.specs.List.{AllWithin, Contains, IsDistinct, list_any};
 ghost use Rattle.std.specs.Arc.{arc_value};
 ghost use Rattle.std.specs.Ordering.{eq_by_cmp};
-ghost use Rattle.std.specs.List.Sorted.{IsPermutation, IsSortedByKey, IsStrictlySortedBy, IsStrictlySortedBy-prop};
+ghost use Rattle.std.specs.List.Sorted.{IsStrictlySortedBy};
+ghost use Rattle.std.proofs.Props.{props};
 ghost use Rattle.std.specs.Vec.{vec_capacity};
 ghost use Rattle.rs_octets.specs.Prefixes.{Prefix, prefix_order};
 ghost use Rattle.rs_outlet.specs.declared.waiting.Wait.{Wait};
 ghost use Rattle.rs_outlet.specs.Hashing.{attributes_hash};
 ghost use Rattle.rs_outlet.specs.Linking.{AreLinked, dues_at};
-ghost use Rattle.rs_outlet.specs.Places.{AreFresh, IsOpenPlace, still_open, prefixes_at, open_count, withdrawn_count, is_withdrawn, is_announced, open_at, told_of, told_by, marked_by};
+ghost use Rattle.rs_outlet.specs.Places.{AreFresh, IsOpenPlace, prefixes_at, open_count, withdrawn_count, is_withdrawn, is_announced, open_at, told_of, told_by, marked_by};
 
+use crate::runs::{place_of, sort_from};
 use rs_attrs::Attrs;
 use rs_octets::Prefix;
 use std::alloc::{AllocError, Global};
@@ -52,10 +55,15 @@ pub(crate) struct Wait {
     pub(crate) open: bool,
 }
 
-/// What waits, by rising prefix.
+/// What waits, in two runs by rising prefix. A prefix has one place.
 #[derive(Drop)]
 pub(crate) struct Waits {
+    pub(crate) alloc: Global,
     pub(crate) places: Vec<Wait>,
+    /// How many places are in the first run.
+    pub(crate) sorted: usize,
+    /// There is one run, and its links are made.
+    pub(crate) ready: bool,
     /// No place between a place and the one that its link leads to falls into its bucket.
     pub(crate) links: Vec<u32>,
     /// While links are made: the first place of each bucket behind the one at hand.
@@ -70,7 +78,11 @@ pub(crate) struct Waits {
     ghost withdrawn: { AllWithin (λ w. is_withdrawn w ≡ false) places.items 0 gone },
     ghost announced: { AllWithin (λ w. is_announced w ≡ false) places.items 0 news },
     ghost chains: { AreLinked (dues_at places.items) links.items },
-    ghost rises: { IsStrictlySortedBy prefix_order (prefixes_at places.items) } by { IsStrictlySortedBy-prop prefix_order (prefixes_at places.items) },
+    ghost within: { sorted ≤ vec_len places },
+    ghost first: { IsStrictlySortedBy prefix_order (take sorted (prefixes_at places.items)) } by { Prim.hlevel props },
+    ghost late: { IsStrictlySortedBy prefix_order (drop sorted (prefixes_at places.items)) } by { Prim.hlevel props },
+    ghost apart: { IsDistinct (eq_by_cmp prefix_order) (prefixes_at places.items) } by { Prim.hlevel props },
+    ghost one_run: { ready ≡ true → sorted ≡ vec_len places },
 }
 
 impl Waits {
@@ -78,7 +90,10 @@ impl Waits {
         ensures { result.places.items ≡ [] }
     {
         Waits {
+            alloc,
             places: Vec::new(alloc),
+            sorted: 0,
+            ready: false,
             links: Vec::new(alloc),
             heads: Vec::new(alloc),
             gone: 0,
@@ -91,6 +106,8 @@ impl Waits {
         ensures { self.new.places.items ≡ [] }
     {
         self.places.clear();
+        self.sorted = 0;
+        self.ready = false;
         self.links.clear();
         self.heads.clear();
         self.gone = 0;
@@ -125,9 +142,9 @@ impl Waits {
         ensures found { IfSome result (λ place. IsOpenPlace prefix.now self.now.places.items place) }
         ensures absent { result ≡ None → open_at prefix.now self.now.places.items ≡ None }
     {
-        match self.places.binary_search_by_key(prefix, |wait| wait.prefix) {
-            Err(_) => None,
-            Ok(place) => {
+        match place_of(&self.places, self.sorted, prefix) {
+            None => None,
+            Some(place) => {
                 if self.places[place].open {
                     Some(place)
                 } else {
@@ -178,22 +195,6 @@ impl Waits {
             }
         }
     }
-
-    /// Drops the places that wait no more, and adds others, for which there is room.
-    pub(crate) fn add(&mut self, more: Vec<Wait>)
-        requires room { open_count self.old.places.items + vec_len more ≤ vec_capacity self.old.places }
-        requires fresh { AreFresh self.old.places.items more.items }
-        ensures places { (q : Prefix) → open_at q self.new.places.items ≡ open_at q (self.old.places.items ++ more.items) }
-        ensures withdrawn { withdrawn_count self.new.places.items ≤ withdrawn_count self.old.places.items + withdrawn_count more.items }
-        ensures capacity { vec_capacity self.new.places ≡ vec_capacity self.old.places }
-    {
-        add_places(&mut self.places, more);
-        self.waiting = count_open(&self.places);
-        self.gone = 0;
-        self.news = 0;
-        self.links.clear();
-        self.link();
-    }
 }
 
 impl Wait {
@@ -233,44 +234,15 @@ pub(crate) fn count_open(places: &[Wait]) -> usize
 }
 
 /// Puts the places in order. A prefix has one place.
-pub(crate) fn put_in_order(places: &mut Vec<Wait>)
+pub(crate) fn put_in_order(alloc: Global, places: &mut Vec<Wait>)
     ensures rises { IsStrictlySortedBy prefix_order (prefixes_at places.new.items) }
     ensures from { (w : Wait) → Contains places.new.items w → Contains places.old.items w }
     ensures all { (q : Prefix) → list_any (eq_by_cmp prefix_order q) (prefixes_at places.new.items) ≡ list_any (eq_by_cmp prefix_order q) (prefixes_at places.old.items) }
-    ensures kept { IsDistinct (eq_by_cmp prefix_order) (prefixes_at places.old.items) → IsPermutation places.old.items places.new.items }
     ensures withdrawn { withdrawn_count places.new.items ≤ withdrawn_count places.old.items }
     ensures capacity { vec_capacity places.new ≡ vec_capacity places.old }
 {
-    sort_by_prefix(places);
+    sort_from(alloc, places, 0);
     places.dedup_by_key(|wait| wait.prefix);
-}
-
-/// Sorts the places. What waited before is in order, and a stable sort goes over such a run once; it
-/// wants a buffer, and where it is refused one the sort does without.
-fn sort_by_prefix(places: &mut Vec<Wait>)
-    ensures permutation { IsPermutation places.old.items places.new.items }
-    ensures sorted { IsSortedByKey (λ w. w.prefix) prefix_order places.new.items }
-    ensures capacity { vec_capacity places.new ≡ vec_capacity places.old }
-{
-    match places.sort_by_key(|wait| wait.prefix) {
-        Ok(()) => {}
-        Err(_) => places.sort_unstable_by_key(|wait| wait.prefix),
-    }
-}
-
-/// Drops the places that wait no more, and adds others, for which there is room.
-fn add_places(places: &mut Vec<Wait>, more: Vec<Wait>)
-    requires { open_count places.old.items + vec_len more ≤ vec_capacity places.old }
-    ensures rises { IsStrictlySortedBy prefix_order (prefixes_at places.new.items) }
-    ensures kept { IsDistinct (eq_by_cmp prefix_order) (prefixes_at (still_open places.old.items ++ more.items)) → IsPermutation (still_open places.old.items ++ more.items) places.new.items }
-    ensures withdrawn { withdrawn_count places.new.items ≤ withdrawn_count places.old.items + withdrawn_count more.items }
-    ensures capacity { vec_capacity places.new ≡ vec_capacity places.old }
-{
-    places.retain(|wait| wait.open);
-    for wait in more {
-        places.push_reserved(wait);
-    }
-    put_in_order(places);
 }
 
 /// A hash of attributes.

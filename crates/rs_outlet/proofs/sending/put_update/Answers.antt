@@ -26,7 +26,7 @@ returns-in_default-row_for-clause-update c =
     let found : IsFound is_announced ws (Some n) = subst (λ (xs : List Wait). IsFound is_announced xs (Some n)) c.first_withdrawn.ensures.places c.in-Some-first_announced.ensures.first in
     let at : HoldsAt (λ (w : Wait). None ≡ row_by c.args.rows.now.rows.items w.due) ws n =
     subst (λ (xs : List Wait). HoldsAt (λ (w : Wait). None ≡ row_by c.args.rows.now.rows.items w.due) xs n) (c.first_announced.ensures.places ∙ c.first_withdrawn.ensures.places) c.in_default-row_for.ensures in
-    absurd (first_row c.args.rows.now.rows.items ws n c.args.waits.now.rises c.requires.backed found at)
+    absurd (first_row c.args.rows.now.rows.items ws n c.args.waits.now.apart c.requires.backed found at)
 
 pub put_news-requires-clause-some : goal.put_news-requires-clause-some
 put_news-requires-clause-some c =
@@ -39,5 +39,5 @@ put_news-requires-clause-some c =
     let value : option_map (λ (r : Row). arc_value r.attrs) (option_copied c.row_for.result) ≡ Some c.deref.result.now = ap (λ o. option_map (λ (r : Row). arc_value r.attrs) (option_copied o)) c.in-Some-row_for.is ∙ ap (λ m. Some m) (sym c.deref.ensures) in (
       omega (arith, found.0, ap length same, c.first_announced.new.self.places.ok),
       subst (λ (xs : List Wait). HoldsAt (WaitsFor rows c.deref.result.now) xs n) (sym same)
-          (first_waits rows ws n c.args.waits.now.rises c.requires.backed found c.deref.result.now (option_copied c.row_for.result) value at),
+          (first_waits rows ws n c.args.waits.now.apart c.requires.backed found c.deref.result.now (option_copied c.row_for.result) value at),
     )

@@ -8,7 +8,6 @@ use Rattle.rs_outlet.specs.declared.waiting.Wait.{Wait}
 use Rattle.rs_outlet.specs.Places.{prefixes_at}
 use Rattle.rs_outlet.proofs.LocByNumber.{same}
 use Rattle.rs_outlet.proofs.MarkedAgain.{deduped}
-use Rattle.rs_outlet.proofs.Adding.{ordered}
 use Rattle.rs_outlet.proofs.Places.{by_prefix, places_total, prefixes_rise}
 use Rattle.rs_outlet.proofs.Touches.{prefix_eq, prefix_eq-cmp}
 use Rattle.rs_outlet.proofs.Withdrawals.{withdrawn_ordered}
@@ -16,9 +15,9 @@ use Rattle.rs_outlet.proofs.waiting.put_in_order.Goals as goal
 
 pub returns : goal.returns
 returns c =
-    let up = c.sort_by_prefix.ensures.sorted in
+    let up = c.sort_from.ensures.sorted in
     let kept = dedup_same _ (λ v w. prefix_eq v.prefix w.prefix) _ (λ x y b f' x' y' k. search rules) _ _ c.dedup_by_key.ensures.filtered in
-    let moved = c.sort_by_prefix.ensures.permutation in
+    let moved = c.sort_from.ensures.permutation in
     record {
       rises = prefixes_rise _ (subst (IsStrictlySortedBy by_prefix) (sym kept) (IsStrictlySortedBy-dedup places_total (λ v w. sym (prefix_eq-cmp v.prefix w.prefix)) _ up));
       from = λ w here. Contains-permutation _ _ w (IsPermutation-sym _ _ moved) (Contains-from_dedup (λ v w. prefix_eq v.prefix w.prefix) _ w (subst (λ (xs : List Wait). Contains xs w) kept here));
@@ -27,6 +26,5 @@ returns c =
           ∙ deduped (λ v w. prefix_eq v.prefix w.prefix) (λ v w. sym (prefix_eq-cmp v.prefix w.prefix)) q _
           ∙ sym (list_any-IsPermutation (same q) _ _ (IsPermutation-map (λ (w : Wait). w.prefix) _ _ moved));
       withdrawn = withdrawn_ordered (λ v w. prefix_eq v.prefix w.prefix) _ _ _ moved kept;
-      capacity = c.dedup_by_key.ensures.capacity ∙ c.sort_by_prefix.ensures.capacity;
-      kept = λ d. ordered (λ v w. prefix_eq v.prefix w.prefix) (λ v w. sym (prefix_eq-cmp v.prefix w.prefix)) _ _ _ moved kept d;
+      capacity = c.dedup_by_key.ensures.capacity ∙ c.sort_from.ensures.capacity;
     }

@@ -1,10 +1,16 @@
 use Rattle.std.proofs.Common.{rules}
 use Rattle.rs_outlet.proofs.Links.{none_linked}
-use Rattle.rs_outlet.proofs.Places.{none_rise}
+use Rattle.rs_outlet.proofs.Places.{no_run, none_distinct, none_rise}
 use Rattle.rs_outlet.proofs.waiting.Waits.clear.Goals as goal
 
-pub invariant_of-self-clause-rises : goal.invariant_of-self-clause-rises
-invariant_of-self-clause-rises c = search (rules, none_rise)
+pub invariant_of-self-clause-first : goal.invariant_of-self-clause-first
+invariant_of-self-clause-first c = no_run
+
+pub invariant_of-self-clause-late : goal.invariant_of-self-clause-late
+invariant_of-self-clause-late c = search (rules, none_rise)
+
+pub invariant_of-self-clause-apart : goal.invariant_of-self-clause-apart
+invariant_of-self-clause-apart c = search (rules, none_distinct)
 
 pub invariant_of-self-clause-chains : goal.invariant_of-self-clause-chains
 invariant_of-self-clause-chains c = none_linked _ _ (search rules)

@@ -1,8 +1,10 @@
-use Rattle.std.proofs.Common.{◌≡◌, ◌∙◌, false, Some, refl, sym, subst, ap, rules}
+use Rattle.std.proofs.Common.{◌≡◌, ◌∙◌, drop, false, Some, refl, sym, subst, take, ap, rules}
 use Rattle.std.specs.Prelude.{slice_get}
 use Rattle.std.proofs.lemmas.List.Elements.{AllWithin-set}
 use Rattle.std.proofs.lemmas.Option.{get_or_from_slice_get}
+use Rattle.std.specs.List.{IsDistinct}
 use Rattle.std.specs.List.Sorted.{IsStrictlySortedBy}
+use Rattle.std.specs.Ordering.{eq_by_cmp}
 use Rattle.rs_octets.specs.Prefixes.{prefix_order}
 use Rattle.rs_outlet.specs.declared.waiting.Wait.{Wait}
 use Rattle.rs_outlet.specs.Places.{is_withdrawn, is_announced}
@@ -18,11 +20,23 @@ overflow_sub-self c = count_one c.args.self.now.places.items c.args.place c.inde
 pub invariant_of-self-clause-counted : goal.invariant_of-self-clause-counted
 invariant_of-self-clause-counted c = count_shut c.args.self.now.places.items c.args.place _ c.index_mut-wait.result.now c.index_mut-wait.result.now.open _ _ (search rules) (ap (λ (w : Wait). w.open) (sym c.index_mut-wait.ensures.value)) refl c.args.self.now.counted (search rules)
 
-pub invariant_of-self-clause-rises : goal.invariant_of-self-clause-rises
-invariant_of-self-clause-rises c =
-    subst (IsStrictlySortedBy prefix_order)
+pub invariant_of-self-clause-first : goal.invariant_of-self-clause-first
+invariant_of-self-clause-first c =
+    subst (λ ps. IsStrictlySortedBy prefix_order (take c.args.self.now.sorted ps))
     (sym (same_prefixes c.args.self.now.places.items c.args.place _ c.index_mut-wait.result.now (ap (λ (w : Wait). w.prefix) c.index_mut-wait.ensures.value)))
-    c.args.self.now.rises
+    c.args.self.now.first
+
+pub invariant_of-self-clause-late : goal.invariant_of-self-clause-late
+invariant_of-self-clause-late c =
+    subst (λ ps. IsStrictlySortedBy prefix_order (drop c.args.self.now.sorted ps))
+    (sym (same_prefixes c.args.self.now.places.items c.args.place _ c.index_mut-wait.result.now (ap (λ (w : Wait). w.prefix) c.index_mut-wait.ensures.value)))
+    c.args.self.now.late
+
+pub invariant_of-self-clause-apart : goal.invariant_of-self-clause-apart
+invariant_of-self-clause-apart c =
+    subst (IsDistinct (eq_by_cmp prefix_order))
+    (sym (same_prefixes c.args.self.now.places.items c.args.place _ c.index_mut-wait.result.now (ap (λ (w : Wait). w.prefix) c.index_mut-wait.ensures.value)))
+    c.args.self.now.apart
 
 pub invariant_of-self-clause-withdrawn : goal.invariant_of-self-clause-withdrawn
 invariant_of-self-clause-withdrawn c = AllWithin-set (λ w. is_withdrawn w ≡ false) c.args.self.now.places.items 0 c.args.self.now.gone c.args.place _ (search rules) refl c.args.self.now.withdrawn
@@ -43,7 +57,7 @@ returns c =
     let is : (w : Wait) → slice_get ws c.args.place ≡ Some w → was ≡ w = λ w at. c.index_mut-wait.ensures.value ∙ get_or_from_slice_get ws c.args.place w was at in
     record {
       prefixes = same_prefixes ws c.args.place _ was (ap (λ (w : Wait). w.prefix) c.index_mut-wait.ensures.value);
-      places = λ p at q. closed_at ws c.args.place p _ c.args.self.now.rises at refl q;
+      places = λ p at q. closed_at ws c.args.place p _ c.args.self.now.apart at refl q;
       told = λ w at. (c.replace-told.ensures.value ∙ ap (λ (w : Wait). w.told) (is w at), ap (λ (w : Wait). w.marked) (is w at));
       count = count_less ws c.args.place _ was (search rules) refl;
       withdrawn = withdrawn_less ws c.args.place _ was (search rules) refl;

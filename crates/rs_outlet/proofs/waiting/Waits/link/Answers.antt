@@ -9,6 +9,7 @@ invariant_of-self-in-loop-clause-chains c = linked_any (dues_at c.loop.self.plac
 pub loop-passed-init : goal.loop-passed-init
 loop-passed-init c = record {
   items = c.loop.invariant.items;
+  sorted = c.loop.invariant.sorted;
   capacity = c.loop.invariant.capacity;
   heads = heads_past (dues_at c.loop.self.places.items) _ c.loop.self.heads.items (omega (arith, as_many_dues c.loop.self.places.items, c.loop.self.places.ok, c.len-count.ensures));
 }
@@ -23,6 +24,7 @@ loop-passed-preserved c =
     let e : c.len-count.result - 1 - c.loop-passed.passed ≡ c.len-count.result - (c.loop-passed.passed + 1) = omega arith in
     record {
       items = c.link_place.ensures.items ∙ c.loop-passed.invariant.items;
+      sorted = c.link_place.ensures.sorted ∙ c.loop-passed.invariant.sorted;
       capacity = c.link_place.ensures.capacity ∙ c.loop-passed.invariant.capacity;
       heads = subst (λ n. AreHeads (dues_at c.link_place.new.self.places.items) n c.link_place.new.self.heads.items) e c.link_place.ensures.heads;
     }
