@@ -11,24 +11,24 @@ abbrev pub space : ℕ → Bool
 space octet = octet == 32
 
 -- the words where there is a space: what stands before it, and the words behind it
-abbrev pub cut_words : List ℕ → ℕ → List (List ℕ)
-cut_words text at = take at text ∷ words_of (drop (at + 1) text)
+abbrev pub split_words_at : List ℕ → ℕ → List (List ℕ)
+split_words_at text at = take at text ∷ words_of (drop (at + 1) text)
 
 one_on : (n : ℕ) → 1 + n ≡ suc n
 one_on n = omega arith
 
-cut_at : (x : ℕ) (xs : List ℕ) (b : Bool) → space x ≡ b → (position_or_len space xs < length xs → words_of xs ≡ cut_words xs (position_or_len space xs)) → position_or_len space (x ∷ xs) < length (x ∷ xs) → words_of (x ∷ xs) ≡ cut_words (x ∷ xs) (position_or_len space (x ∷ xs))
-cut_at x xs true e ih h = rw e refl
-cut_at x xs false e ih h =
+split_at : (x : ℕ) (xs : List ℕ) (b : Bool) → space x ≡ b → (position_or_len space xs < length xs → words_of xs ≡ split_words_at xs (position_or_len space xs)) → position_or_len space (x ∷ xs) < length (x ∷ xs) → words_of (x ∷ xs) ≡ split_words_at (x ∷ xs) (position_or_len space (x ∷ xs))
+split_at x xs true e ih h = rw e refl
+split_at x xs false e ih h =
     let shorter : 1 + position_or_len space xs < suc (length xs) = rw e at h in
-    let behind : words_of xs ≡ cut_words xs (position_or_len space xs) = ih (omega (arith, shorter)) in
+    let behind : words_of xs ≡ split_words_at xs (position_or_len space xs) = ih (omega (arith, shorter)) in
     let place : 1 + position_or_len space xs ≡ suc (position_or_len space xs) = one_on (position_or_len space xs) in
     let next : suc (position_or_len space xs) + 1 ≡ suc (position_or_len space xs + 1) = omega arith in
     rw e (rw behind (rw place (rw next refl)))
 
-pub words_of-cut : (text : List ℕ) → position_or_len space text < length text → words_of text ≡ cut_words text (position_or_len space text)
-words_of-cut [] h = absurd (omega (arith, h))
-words_of-cut (x ∷ xs) h = cut_at x xs (space x) refl (λ k. words_of-cut xs k) h
+pub words_of-split : (text : List ℕ) → position_or_len space text < length text → words_of text ≡ split_words_at text (position_or_len space text)
+words_of-split [] h = absurd (omega (arith, h))
+words_of-split (x ∷ xs) h = split_at x xs (space x) refl (λ k. words_of-split xs k) h
 
 whole_at : (x : ℕ) (xs : List ℕ) (b : Bool) → space x ≡ b → (position_or_len space xs ≡ length xs → words_of xs ≡ xs ∷ []) → position_or_len space (x ∷ xs) ≡ length (x ∷ xs) → words_of (x ∷ xs) ≡ (x ∷ xs) ∷ []
 whole_at x xs true e ih h =

@@ -1,5 +1,5 @@
-//! A text cut into lines, in bounded memory. It reads by `TextIn` alone and knows nothing of what
-//! a line says.
+//! A text as lines, one after the other, in bounded memory. It reads by `TextIn` alone and knows
+//! nothing of what a line says.
 
 ghost use Rattle.std.specs.Prelude.{◌≡◌, ◌≤◌, ◌<◌, ◌+◌, ◌-◌, ◌++◌, ℕ, List, [], true, false, min, length, take, drop, IfOk, IsOk, IsErr, OnOk, OnErr};
 ghost use Rattle.std.specs.Bool.{OnTrue, OnFalse};
@@ -97,7 +97,7 @@ impl Lines {
     }
 
     /// Whether what waits begins with a line, which is then taken.
-    fn cut(&mut self) -> bool
+    fn take_first_line(&mut self) -> bool
         ensures some { OnTrue result (IsFirstLine self.old.rest self.new) }
         ensures over { self.new.is_over ≡ self.old.is_over }
         ensures none { OnFalse result (self.new ≡ self.old) }
@@ -153,7 +153,7 @@ impl Lines {
         ensures counted { IsOk result → R.failures reader.new ≡ R.failures reader.old }
         ensures failed { IsErr result → R.failures reader.new ≡ min (R.failures reader.old + 1) 18446744073709551615 }
     {
-        while !self.cut() {
+        while !self.take_first_line() {
             if self.is_over {
                 return Ok(false);
             }

@@ -20,7 +20,7 @@ pub fn first_place(octet: u8, text: &[u8]) -> Option<usize>
 }
 
 /// What stands before the first space, and what stands behind it where there is one.
-fn cut(text: &[u8]) -> (&[u8], Option<&[u8]>)
+fn split_word(text: &[u8]) -> (&[u8], Option<&[u8]>)
     ensures { MatchOption result.1 (words_of text.now ≡ result.0.now ∷ []) (λ rest. words_of text.now ≡ result.0.now ∷ words_of rest.now) }
 {
     match first_place(b' ', text) {
@@ -33,15 +33,15 @@ fn cut(text: &[u8]) -> (&[u8], Option<&[u8]>)
 pub fn split_words(line: &[u8]) -> (&[u8], Operands<'_>)
     ensures { (operands : List (List ℕ)) × (words_of line.now ≡ result.0.now ∷ operands) × AreOperands result.1 operands }
 {
-    let (word, rest) = cut(line);
+    let (word, rest) = split_word(line);
     let Some(rest) = rest else {
         return (word, Operands::Nothing);
     };
-    let (first, rest) = cut(rest);
+    let (first, rest) = split_word(rest);
     let Some(rest) = rest else {
         return (word, Operands::One(first));
     };
-    let (second, rest) = cut(rest);
+    let (second, rest) = split_word(rest);
     let operands = match rest {
         None => Operands::Two(first, second),
         Some(_) => Operands::More,

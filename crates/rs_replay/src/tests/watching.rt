@@ -1,4 +1,4 @@
-//! What is counted for who watches a replay.
+//! What `--progress` counts.
 
 use crate::progress::Message;
 use std::test::Fail;

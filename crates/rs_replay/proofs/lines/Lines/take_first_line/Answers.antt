@@ -1,6 +1,6 @@
 use Rattle.std.proofs.Common.{arith, ap, sym, ◌∙◌}
 use Rattle.rs_replay.proofs.LineLemmas.{front_of_rest, length_of_rest, first_ended, first_too_long, first_last}
-use Rattle.rs_replay.proofs.lines.Lines.cut.Goals as goal
+use Rattle.rs_replay.proofs.lines.Lines.take_first_line.Goals as goal
 
 pub returns-in-Some-clause-some : goal.returns-in-Some-clause-some
 returns-in-Some-clause-some c =
