@@ -1,16 +1,15 @@
 -- What a moment touches for the clients, as one session after the other sees it.
-use Rattle.std.proofs.Common.{◌≡◌, ◌≢◌, ◌⊎◌, inl, inr, ◌<◌, ◌≤◌, ◌+◌, ℕ, true, List, [], ◌∷◌, ◌++◌, length, refl, sym, ◌∙◌, ap, subst, arith}
-use Rattle.std.specs.Prelude.{Option, Some, IsSome, ◌↔◌}
-use Rattle.std.specs.List.{Contains}
+use Rattle.std.proofs.Common.{◌≡◌, ◌≢◌, ◌⊎◌, inl, inr, ◌<◌, ◌≤◌, ◌+◌, ℕ, true, List, [], ◌∷◌, ◌++◌, refl, sym, ◌∙◌, ap, subst, arith}
+use Rattle.std.specs.Prelude.{Option, Some, IsSome}
 use Rattle.std.proofs.lemmas.List.Elements.{Contains-append_left, Contains-append_right, Contains-append_cases}
 use Rattle.rs_octets.specs.Prefixes.{Prefix}
 use Rattle.rs_adjin.specs.AdjIns.{held_of}
 use Rattle.rs_policy.specs.Configuration.{Configuration}
 use Rattle.rs_outlet.specs.declared.answers.Speech.{Speech}
-use Rattle.rs_outlet.specs.Views.{View, Prefixes, with_touch}
+use Rattle.rs_outlet.specs.Views.{Prefixes, with_touch}
 use Rattle.rs_core.specs.Moves.{Move, Saw, config_in}
 use Rattle.rs_core.specs.Hearing.{Hearing, sees}
-use Rattle.rs_core.specs.Runs.{hearing, is_established, table}
+use Rattle.rs_core.specs.Runs.{hearing, is_established}
 use Rattle.rs_core.specs.Ribs.{outlet_in, Stirs}
 use Rattle.rs_core.specs.Agreeing.{AgreesAt}
 use Rattle.rs_core.specs.Core.{client_count, touched_for}

@@ -50,7 +50,7 @@ use Rattle.rs_core.specs.Voices.{IsInOrder, IsGreeting, IsRaised, SaysTheSame, S
 use Rattle.rs_core.proofs.Telling.{updates_more, zip_more}
 use Rattle.rs_core.proofs.Spoken.{all_at, among_has}
 use Rattle.rs_core.proofs.Uttering.{all_gone, due_mandatory, limit_most}
-use Rattle.rs_core.proofs.Alike.{due_same, still, same_is}
+use Rattle.rs_core.proofs.Alike.{due_same, same_is}
 use Rattle.rs_core.proofs.Voicing.{down_speech, spoken_up, up_live}
 
 -- ---- what goes on as before

@@ -3,7 +3,8 @@ use Rattle.std.proofs.Common.{◌≡◌, ◌≢◌, ◌<◌, ℕ, Bool, true, fa
 use Rattle.std.specs.Prelude.{◌||◌, is_some, option_map, slice_get}
 use mathlib.Core.Bool.{true≢false}
 use Rattle.std.specs.Arc.{arc_value}
-use Rattle.std.specs.List.{AllByRecursion, AllWithin, filter, list_any}
+use Rattle.std.specs.List.{AllByRecursion, AllWithin, IsDistinct, filter, list_any}
+use Rattle.std.proofs.lemmas.Map.Keys.{IsDistinct-from_sorted}
 use Rattle.std.specs.List.Sorted.{IsStrictlySortedBy}
 use Rattle.std.specs.declared.cmp.Ordering.TheVariants.{Less}
 use Rattle.std.proofs.lemmas.Bool.Decides.{nat_tests}
@@ -125,7 +126,7 @@ module _ (rows : List (Option Row)) (ws : List Wait) (m : List Attribute) (ins :
   asks_shares n d from to = go (get_or ws n d).open refl
     where
       go : (b : Bool) → (get_or ws n d).open ≡ b → (b && has_attributes (shown (row_by rows (get_or ws n d).due)) m) ≡ (b && asked (entry_of (get_or ws n d)))
-      go true opened = asks_due (get_or ws n d).prefix (get_or ws n d).due (there_backed rows ws n d up backed to opened)
+      go true opened = asks_due (get_or ws n d).prefix (get_or ws n d).due (there_backed rows ws n d (IsDistinct-from_sorted prefix_order (prefixes_at ws) up) backed to opened)
       go false opened = refl
 
   pub all_sharing : (v : View) → v.waits ≡ waits_of ws → v.loc ≡ loc_of rows → to_announce v m ≡ passing (shares rows m) ws
@@ -160,13 +161,13 @@ shares_apart rows m hash w is backed apart = go w.open refl
     go false opened = refl
 
 -- the same of the places between two
-pub none_share : (rows : List (Option Row)) (ws : List Wait) (m : List Attribute) (hash from to : ℕ) → hash ≡ attributes_hash m → IsStrictlySortedBy prefix_order (prefixes_at ws) → AreBacked rows ws
+pub none_share : (rows : List (Option Row)) (ws : List Wait) (m : List Attribute) (hash from to : ℕ) → hash ≡ attributes_hash m → IsDistinct same (prefixes_at ws) → AreBacked rows ws
     → ((n : ℕ) (d : Due) → slice_get (dues_at ws) n ≡ Some d → from < n → n < to → has_hash hash d ≡ false) → NonePass (shares rows m) ws (from + 1) to
-none_share rows ws m hash from to is up backed between n w at low high =
+none_share rows ws m hash from to is apart backed between n w at low high =
     let below = slice_get_within ws n w at in
     let read : w ≡ get_or ws n w = sym (get_or_from_slice_get ws n w w at) in
     shares_apart rows m hash w is
-    (λ opened. backed w.prefix w (found_at ws n w below read opened up))
+    (λ opened. backed w.prefix w (found_at ws n w below read opened apart))
     (between n w.due (due_read ws n w w.due below read refl) (omega (arith, low)) high)
 
 -- ---- what a test of a place answers

@@ -48,13 +48,13 @@ loop-preserved c =
           let more : vec_len c.loop.front < c.args.room = search rules in
           let below : c.loop.place < length ws = search rules in
           listed_later (shares rows m) ws c.args.room c.args.first (c.loop.place + 1) c.next_place-place.result c.list_announced.new.front.items (omega (arith, c.next_place-place.ensures.later))
-          (none_share rows ws m c.hash_of-hash.result c.loop.place c.next_place-place.result inv.hash c.args.self.now.rises backed c.next_place-place.ensures.between)
+          (none_share rows ws m c.hash_of-hash.result c.loop.place c.next_place-place.result inv.hash c.args.self.now.apart backed c.next_place-place.ensures.between)
           (listed_one (shares rows m) ws c.args.room c.args.first c.loop.place c.loop.front.items c.list_announced.new.front.items below
           (omega (arith, more, c.loop.front.ok))
           (λ d.
           c.list_announced.ensures.all
           (omega (arith, more, even, wide, inv.chosen, c.loop.front.ok, c.loop.chosen.ok), omega (arith, more, long, inv.front)) inv.hash d
-          (there_backed rows ws c.loop.place d c.args.self.now.rises backed below))
+          (there_backed rows ws c.loop.place d c.args.self.now.apart backed below))
           (inv.all backed wide long none none_front));
       are = λ are. c.list_announced.ensures.are (inv.are are);
     }
