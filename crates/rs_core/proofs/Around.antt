@@ -32,7 +32,7 @@ held_voices c ins old new changes d none lt ne = let t = changes.others d none l
 pub around_voices : (c : ℕ) (Is : View → View → Type 0) (ins : AdjIns) (old new : Ribs) → ChangesAround c Is (IsTouchedWhereHeld ins c) old new → KeepsVoices c old new
 around_voices c Is ins old new changes d none lt ne = let t = changes.others d none lt ne in touched_alone t.prefixes _ _ t.touched
 
-same_or : (a b : Option (List Attribute)) → (a ≡ b) ⊎ (a ≢ b)
+pub same_or : (a b : Option (List Attribute)) → (a ≡ b) ⊎ (a ≢ b)
 same_or None None = inl refl
 same_or None (Some n) = inr (λ e. absurd (let f : ◌≡◌ {A = Option (List Attribute)} None (Some n) = e in cc))
 same_or (Some m) None = inr (λ e. absurd (let f : ◌≡◌ {A = Option (List Attribute)} (Some m) None = e in cc))

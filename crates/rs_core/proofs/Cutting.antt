@@ -59,7 +59,7 @@ same_spares core c = waiting_spares core core c refl refl refl refl (λ d ne. re
 
 -- ---- octets behind whole messages
 
-newly_between : (a : Allowed) (octets more : List ℕ) → rest_of a octets ≡ [] → newly_heard a octets more ≡ heard_of a more
+pub newly_between : (a : Allowed) (octets more : List ℕ) → rest_of a octets ≡ [] → newly_heard a octets more ≡ heard_of a more
 newly_between a octets more none = newly_is a octets more (ap (header_fault_of a) none) ∙ ap (λ r. heard_of a (r ++ more)) none
 
 rest_between : (a : Allowed) (octets more : List ℕ) → rest_of a octets ≡ [] → rest_of a (octets ++ more) ≡ rest_of a more

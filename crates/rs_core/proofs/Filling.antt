@@ -93,7 +93,7 @@ just_it a octets kind body rest w at = elim (nat_cases (length w.last) w.n w.wit
 
 -- ---- what waits says nothing
 
-nothing_new : (a : Allowed) (octets : List ℕ) → newly_heard a octets [] ≡ []
+pub nothing_new : (a : Allowed) (octets : List ℕ) → newly_heard a octets [] ≡ []
 nothing_new a octets =
     ap (λ l. drop (length (heard_of a octets)) (heard_of a l)) (append-nil octets)
     ∙ ap (drop (length (heard_of a octets))) (sym (append-nil (heard_of a octets))) ∙ drop-append_seam (heard_of a octets) []
@@ -125,10 +125,12 @@ waiting_on core s c h buffer new piece rest n live w fills wants knows =
     let a = allowed_in s in
     let it = waits a new n wants in
     let left : rest_of a (h.octets ++ fills.front) ≡ new = rest_waiting s c buffer fills.front h live w ∙ ap (rest_of a) (sym fills.behind) ∙ it.1 in
-    let e = hears_as s c fills.front [] h (newly_waiting s c buffer fills.front h live w ∙ ap (heard_of a) (sym fills.behind) ∙ it.0) in
+    let new_is = newly_waiting s c buffer fills.front h live w ∙ ap (heard_of a) (sym fills.behind) ∙ it.0 in
+    let e = hears_as s c fills.front [] h new_is in
     record {
       front = fills.front;
       whole = fills.whole;
+      once = subst (λ (ms : List (Result (List ℕ) HeaderFault)). length ms ≤ 1) (sym new_is) (omega arith);
       knows = subst (λ k. Knows core s c k) (sym e) (with_others core s c (h.octets ++ fills.front) h knows);
       waits = subst (λ k. Waits s c new k) (sym e) (record { rest = λ _. sym left; good = λ _. ap (header_fault_of a) left ∙ it.2 });
       all = elim fills.enough [ inl none ↦ inl none | inr not ↦ absurd (not n wants) ];
@@ -139,11 +141,13 @@ pub waiting_fault : (core : Core) (s : Configuration) (c : ℕ) (h : Hearing) (b
     → HasHeardFront core s c h piece [] rest
 waiting_fault core s c h buffer new piece rest fault live w fills faulty knows =
     let a = allowed_in s in
-    let e = hears_fault s c h fills.front fault live (newly_waiting s c buffer fills.front h live w ∙ ap (heard_of a) (sym fills.behind) ∙ (fault_in_front a new fault faulty).0) in
+    let new_is = newly_waiting s c buffer fills.front h live w ∙ ap (heard_of a) (sym fills.behind) ∙ (fault_in_front a new fault faulty).0 in
+    let e = hears_fault s c h fills.front fault live new_is in
     let next : Hearing = takes_in s c (without_change (heard.Header fault)) h in
     record {
       front = fills.front;
       whole = fills.whole;
+      once = subst (λ (ms : List (Result (List ℕ) HeaderFault)). length ms ≤ 1) (sym new_is) (omega arith);
       knows = subst (λ k. Knows core s c k) (sym e) (with_others core s c (h.octets ++ fills.front) next knows);
       waits = subst (λ k. Waits s c [] k) (sym e) (over s c [] (with_octets (h.octets ++ fills.front) next) (fault_ends (session_in s c) fault h.items));
       all = inr refl;
@@ -159,12 +163,13 @@ waiting_message core s c h buffer new piece rest kind body behind live w fills a
     let is_message = of_type_is a kind at.message at.is in
     let left : rest_of a (h.octets ++ fills.front) ≡ [] =
     rest_waiting s c buffer fills.front h live w ∙ ap (rest_of a) (sym fills.behind ∙ whole) ∙ (alone a at.message is_message).1 in
-    let e = hears_message s c h kind body fills.front at.message at.is at.body_is live
-    (newly_waiting s c buffer fills.front h live w ∙ ap (heard_of a) (sym fills.behind ∙ whole) ∙ heard_alone a at.message is_message) in
+    let new_is = newly_waiting s c buffer fills.front h live w ∙ ap (heard_of a) (sym fills.behind ∙ whole) ∙ heard_alone a at.message is_message in
+    let e = hears_message s c h kind body fills.front at.message at.is at.body_is live new_is in
     let next : Hearing = takes_in s c (body_said s c h kind body) h in
     record {
       front = fills.front;
       whole = fills.whole;
+      once = subst (λ (ms : List (Result (List ℕ) HeaderFault)). length ms ≤ 1) (sym new_is) (omega arith);
       knows = subst (λ k. Knows core s c k) (sym e) (with_others core s c (h.octets ++ fills.front) next knows);
       waits = subst (λ k. Waits s c [] k) (sym e) (record { rest = λ _. sym left; good = λ _. ap (header_fault_of a) left });
       all = inr refl;

@@ -28,6 +28,8 @@ pub mod Beating
 pub mod Uttering
 pub mod Voicing
 pub mod Around
+pub mod Stirring
+pub mod Altering
 pub mod Ordering
 pub mod Refusing
 pub mod Serving
@@ -45,3 +47,4 @@ pub mod Paying
 pub mod Drained
 pub mod Conversed
 pub mod Sent
+pub mod Touched

@@ -15,7 +15,7 @@ abbrev pub Heards : Type 0
 Heards = List (Result (List ℕ) HeaderFault)
 
 -- the octets are carried along
-listens_octets : (s : Configuration) (c : ℕ) (octets : List ℕ) (m : Result (List ℕ) HeaderFault) (h : Hearing) → listens s c m (with_octets octets h) ≡ with_octets octets (listens s c m h)
+pub listens_octets : (s : Configuration) (c : ℕ) (octets : List ℕ) (m : Result (List ℕ) HeaderFault) (h : Hearing) → listens s c m (with_octets octets h) ≡ with_octets octets (listens s c m h)
 listens_octets s c octets m h = by_it (is_live (state_in s c h)) where
   by_it : (b : Bool) → (if b then takes_in s c (said_in s c h m) (with_octets octets h) else with_octets octets h) ≡ with_octets octets (if b then takes_in s c (said_in s c h m) h else h)
   by_it true = refl

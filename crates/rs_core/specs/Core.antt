@@ -1,11 +1,12 @@
 -- What contracts see of a route server.
 use Rattle.std.specs.Prelude.{ℕ, zero, suc, Bool, true, false, List, [], ◌∷◌, Option, Some, None, slice_get, if◌then◌else◌}
 use Rattle.std.specs.FinMap as fin
+use Rattle.std.specs.FinSet as set
 use Rattle.rs_octets.specs.Prefixes.{Prefix}
 use Rattle.rs_attrs.specs.Meaning.{Attribute}
 use Rattle.rs_outlet.specs.declared.answers.Last.{Last}
 use Rattle.rs_outlet.specs.declared.answers.Last.TheVariants as lasts
-use Rattle.rs_outlet.specs.Views.{View}
+use Rattle.rs_outlet.specs.Views.{View, Prefixes}
 use Rattle.rs_core.specs.Conversations.{Outgoing, outgoing_of}
 use Rattle.rs_core.specs.Owing.{owed_by, is_decided_for}
 use Rattle.rs_core.specs.Ribs.{lent_by}
@@ -54,6 +55,14 @@ is_decided core c = decided_in (slice_get core.ribs.outlets.items c)
 -- at how many clients memory was refused at the last turn
 unfoldable pub refused_clients : Core → ℕ
 refused_clients core = refused_in core.ribs.outlets.items
+
+abbrev pub touched_in : Option View → Option Prefixes
+touched_in None = Some set.empty
+touched_in (Some o) = o.touched
+
+-- the prefixes that the next turn of a client decides; with None all
+unfoldable pub touched_for : Core → ℕ → Option Prefixes
+touched_for core c = touched_in (slice_get core.ribs.outlets.items c)
 
 abbrev pub is_refusal : Last → Bool
 is_refusal lasts.Refused = true

@@ -18,6 +18,8 @@ pub mod Voices
 pub mod Agreeing
 pub mod Paying
 pub mod Steps
+pub mod Altering
+pub mod Stirring
 pub mod Courses
 pub mod Answers
 pub mod Serving

@@ -8,7 +8,7 @@ use Rattle.rs_outlet.specs.declared.answers.Speech.{Speech}
 use Rattle.rs_outlet.specs.Due.{due_to}
 use Rattle.rs_outlet.specs.HeldBy.{tables_of}
 use Rattle.rs_outlet.specs.Views.{View, AreNumbered, is_touched}
-use Rattle.rs_core.specs.Touches.{IsTouchedAt}
+use Rattle.rs_core.specs.Touches.{IsTouchedAt, IsTouchedWhere}
 use Rattle.rs_core.specs.declared.ribs.Ribs.{Ribs}
 
 abbrev pub outlet_count : Ribs → ℕ
@@ -79,3 +79,11 @@ pub record ChangesAll (Is : ℕ → View → View → Type 0) (old new : Ribs) :
 pub record TouchesChange (c : ℕ) (p : Prefix) (old new : Ribs) : Type 0 where
   pub changed : held_of new.tables c p ≢ held_of old.tables c p → ChangesOthers c (IsTouchedAt (p ∷ [])) old new
   pub unchanged : held_of new.tables c p ≡ held_of old.tables c p → new.outlets ≡ old.outlets
+
+-- the outlets of all clients but c were touched at just the prefixes where this holds
+pub record StirsWhere (Holds : Prefix → Type 0) (c : ℕ) (old new : Ribs) : Type 0 where
+  pub others : (d : ℕ) (none : View) → d < old.count → d ≢ c → IsTouchedWhere Holds (outlet_in old d none) (outlet_in new d none)
+
+-- at just those where client c holds another value than before
+abbrev pub Stirs : ℕ → Ribs → Ribs → Type 0
+Stirs c old new = StirsWhere (λ p. held_of new.tables c p ≢ held_of old.tables c p) c old new

@@ -5,7 +5,7 @@ use Rattle.std.specs.Global.{Vec}
 use Rattle.rs_octets.specs.declared.heads.Allowed.{Allowed}
 use Rattle.rs_octets.specs.declared.heads.Kind.{Kind}
 use Rattle.rs_octets.specs.Fronts.{Wants}
-use Rattle.rs_octets.specs.Messages.{rest_of}
+use Rattle.rs_octets.specs.Messages.{newly_heard, rest_of}
 use Rattle.rs_attrs.specs.Meaning.{Attribute}
 use Rattle.rs_attrs.specs.Effects.{Change, has_prefix}
 use Rattle.rs_update.specs.Laws.{IsSameChange}
@@ -121,10 +121,12 @@ pub record IsBetween (core : Core) (s : Configuration) (c : ℕ) (h : Hearing) :
   pub rest : is_live (state_in s c h) ≡ true → rest_of (allowed_in s) h.octets ≡ []
   pub empty : is_live (state_in s c h) ≡ true → (x : Vec ℕ) → slice_get core.buffers.items c ≡ Some x → x.items ≡ []
 
--- the front of a piece was heard, and this waits now, which is nothing where the piece has more
+-- the front of a piece was heard, of which one message is whole at most, and this waits now, which is nothing where the piece
+-- has more
 pub record HasHeardFront (core : Core) (s : Configuration) (c : ℕ) (h : Hearing) (piece buffer rest : List ℕ) : Type 0 where
   pub front : List ℕ
   pub whole : piece ≡ front ++ rest
+  pub once : length (newly_heard (allowed_in s) h.octets front) ≤ 1
   pub knows : Knows core s c (hears s c front h)
   pub waits : Waits s c buffer (hears s c front h)
   pub all : (rest ≡ []) ⊎ (buffer ≡ [])

@@ -22,6 +22,12 @@ touched_with (p ∷ ps) v = touched_with ps (touched_at p v)
 pub record IsTouchedAt (ps : List Prefix) (old new : View) : Type 0 where
   pub is : new ≡ record (touched_with ps old) { numbers = new.numbers }
 
+-- just the prefixes where this holds were touched, and nothing else has changed but numbers
+pub record IsTouchedWhere (Holds : Prefix → Type 0) (old new : View) : Type 0 where
+  pub prefixes : List Prefix
+  pub just : (p : Prefix) → Contains prefixes p ↔ Holds p
+  pub touched : IsTouchedAt prefixes old new
+
 -- these are the prefixes that a client holds
 pub record AreHeld (ins : AdjIns) (c : ℕ) (ps : List Prefix) : Type 0 where
   pub all : (p : Prefix) → Contains ps p ↔ IsSome (held_of ins c p)

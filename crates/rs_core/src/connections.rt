@@ -30,7 +30,8 @@ ghost use Rattle.rs_core.specs.Hearing.{Hearing, state_in, leaves};
 ghost use Rattle.rs_core.specs.Runs.{hearing};
 ghost use Rattle.rs_core.specs.Agreeing.{Agrees, AgreesAt, Knows, IsCutShort, Spares};
 ghost use Rattle.rs_outlet.specs.Views.{View};
-ghost use Rattle.rs_core.specs.Ribs.{outlet_in};
+ghost use Rattle.rs_core.specs.Ribs.{Stirs, outlet_in};
+ghost use Rattle.rs_core.specs.Stirring.{IsChangedBy, TouchesOthersWhere};
 ghost use Rattle.rs_core.specs.Conversations.{own_open};
 ghost use Rattle.rs_core.specs.Voices.{IsGreeting, KeepsVoices};
 ghost use Rattle.rs_core.specs.Watching.{IsWatched};
@@ -108,6 +109,7 @@ impl Core {
         requires { c < client_count self.old }
         ensures count { client_count self.new ≡ client_count self.old }
         ensures left { (run : List Move) → Agrees self.old run → Agrees self.new (Left c ∷ run) }
+        ensures touched { (run : List Move) → Agrees self.old run → TouchesOthersWhere (IsChangedBy (Left c) run c) c run self.old self.new }
     {
         let lasts = self.is_live(c);
         self.watched[c].end(ended_if(lasts, Ending::Lost));
@@ -121,6 +123,7 @@ impl Core {
         ensures spares { Spares c self.old self.new }
         ensures forgotten { (s : Configuration) (h : Hearing) (why : Ending) → IsCutShort self.old s c h
             → IsWatched self.old.watched.items c (leaves s c why h).endings (leaves s c why h).faults → AgreesAt self.new s c (leaves s c why h) }
+        ensures stirs { Stirs c self.old.ribs self.new.ribs }
     {
         self.sessions[c].lost();
         self.pass_over(c);

@@ -52,6 +52,9 @@ impl Core {
     ghost use Rattle.rs_core.specs.Hearing.{Hearing, hears, sees, state_in};
     ghost use Rattle.rs_core.specs.Runs.{hearing};
     ghost use Rattle.rs_core.specs.Agreeing.{Agrees, AgreesAt, IsCutShort, Knows, Spares, Waits};
+    ghost use Rattle.rs_core.specs.Altering.{IsAlteredBy};
+    ghost use Rattle.rs_core.specs.Ribs.{Stirs, StirsWhere};
+    ghost use Rattle.rs_core.specs.Stirring.{TouchesOthersWhere};
     ghost use Rattle.rs_core.specs.Steps.{HasHeardFront, IsBetween};
     ghost use Rattle.rs_session.specs.Sessions.{is_live};
     ghost use Rattle.rs_policy.specs.Configuration.{Configuration};
@@ -67,6 +70,7 @@ impl Core {
         ensures count { client_count self.new ≡ client_count self.old }
         ensures heard { OnOk result ((run : List Move) → Agrees self.old run → Agrees self.new (moves.Heard c piece.now ∷ run)) }
         ensures refused { OnErr result ((run : List Move) → Agrees self.old run → Agrees self.new (Dropped c ∷ run)) }
+        ensures touched { OnOk result ((run : List Move) → Agrees self.old run → TouchesOthersWhere (IsAlteredBy (config_in run) c piece.now (hearing c run)) c run self.old self.new) }
         ensures unheard { (run : List Move) → Agrees self.old run → is_live (state_in (config_in run) c (hearing c run)) ≡ false → (result ≡ Ok tt) × (self.new ≡ self.old) }
     {
         let mut watched = self.watched[c];
@@ -88,6 +92,7 @@ impl Core {
         ensures spares { Spares c self.old self.new }
         ensures heard { OnOk result ((s : Configuration) (h : Hearing) → self.old.ribs.config ≡ s → AgreesAt self.old s c h → AgreesAt self.new s c (hears s c piece.now h)) }
         ensures refused { OnErr result ((s : Configuration) (h : Hearing) → self.old.ribs.config ≡ s → AgreesAt self.old s c h → IsCutShort self.new s c h) }
+        ensures stirs { OnOk result ((s : Configuration) (h : Hearing) → self.old.ribs.config ≡ s → AgreesAt self.old s c h → StirsWhere (IsAlteredBy s c piece.now h) c self.old.ribs self.new.ribs) }
         ensures unheard { (s : Configuration) (h : Hearing) → Knows self.old s c h → is_live (state_in s c h) ≡ false → (result ≡ Ok tt) × (self.new ≡ self.old) }
     {
         if !self.is_live(c) {
@@ -121,6 +126,7 @@ impl Core {
             → Waits s c buffer.old.items h → HasHeardFront self.new s c h piece.now buffer.new.items rest.now) }
         ensures refused { OnErr result ((s : Configuration) (h : Hearing) → self.old.ribs.config ≡ s → is_live (state_in s c h) ≡ true → Knows self.old s c h
             → Waits s c buffer.old.items h → IsCutShort self.new s c h) }
+        ensures stirs { Stirs c self.old.ribs self.new.ribs }
     {
         let allowed = allowed(&self.ribs.config);
         let rest = fill_up(buffer, piece, allowed)?;
@@ -145,6 +151,7 @@ impl Core {
         ensures spares { Spares c self.old self.new }
         ensures heard { OnOk result ((s : Configuration) (h : Hearing) → self.old.ribs.config ≡ s → IsBetween self.old s c h → AgreesAt self.new s c (hears s c piece.now h)) }
         ensures refused { OnErr result ((s : Configuration) (h : Hearing) → self.old.ribs.config ≡ s → IsBetween self.old s c h → IsCutShort self.new s c h) }
+        ensures stirs { OnOk result ((s : Configuration) (h : Hearing) → self.old.ribs.config ≡ s → IsBetween self.old s c h → StirsWhere (IsAlteredBy s c piece.now h) c self.old.ribs self.new.ribs) }
     {
         let allowed = allowed(&self.ribs.config);
         let mut octets = piece;
@@ -228,6 +235,7 @@ impl Core {
         requires { c < client_count self.old }
         ensures spares { Spares c self.old self.new }
         ensures seen { (s : Configuration) (h : Hearing) → AgreesAt self.old s c h → AgreesAt self.new s c (sees s c t h) }
+        ensures stirs { Stirs c self.old.ribs self.new.ribs }
     {
         let act = self.sessions[c].moment(t);
         self.watched[c].end(expiry_by(act));

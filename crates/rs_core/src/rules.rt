@@ -10,12 +10,14 @@ impl Core {
     ghost use Rattle.rs_policy.specs.Replacing.{Refuses};
     ghost use Rattle.rs_core.specs.Moves.{Move, config_in};
     ghost use Rattle.rs_core.specs.Agreeing.{Agrees, IsRuled};
+    ghost use Rattle.rs_core.specs.Stirring.{TouchesAll};
 
     /// Replaces the configuration by this text, or answers why it can't, and then nothing changes. All
     /// is decided anew at the next turn; no session ends.
     pub fn rules(&mut self, octets: &[u8]) -> Result<(), RulesFault>
         ensures count { client_count self.new ≡ client_count self.old }
         ensures accepted { OnOk result ((run : List Move) → Agrees self.old run → IsRuled octets.now self.new run) }
+        ensures touched { OnOk result ((run : List Move) → Agrees self.old run → TouchesAll run self.new) }
         ensures refused { IfErr result (λ fault. (run : List Move) → Agrees self.old run → Refuses (config_in run) octets.now fault) }
         ensures unchanged { OnErr result ((run : List Move) → Agrees self.old run → Agrees self.new run) }
     {

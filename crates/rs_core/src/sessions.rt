@@ -17,7 +17,7 @@ impl Core {
     ghost use Rattle.rs_core.specs.Hearing.{Hearing, takes_in, without_change};
     ghost use Rattle.rs_core.specs.Agreeing.{Knows, Spares};
     ghost use Rattle.rs_outlet.specs.Views.{View};
-    ghost use Rattle.rs_core.specs.Ribs.{outlet_in};
+    ghost use Rattle.rs_core.specs.Ribs.{Stirs, outlet_in};
     ghost use Rattle.rs_core.specs.Voices.{IsFinished, KeepsVoices, Voices};
     ghost use Rattle.rs_core.specs.Steps.{CutsShort, Follows, Hears, IsSpared, ActsOn};
 
@@ -34,6 +34,7 @@ impl Core {
         ensures buffers { self.new.buffers ≡ self.old.buffers }
         ensures heard { OnOk result (Hears kind body.now c self.old self.new) }
         ensures refused { OnErr result (CutsShort c self.old self.new) }
+        ensures stirs { Stirs c self.old.ribs self.new.ribs }
     {
         match kind {
             Kind::Open => self.hear_open(c, body),
@@ -52,6 +53,7 @@ impl Core {
         ensures spares { Spares c self.old self.new }
         ensures buffers { self.new.buffers ≡ self.old.buffers }
         ensures heard { Hears Kind.Open body.now c self.old self.new }
+        ensures stirs { Stirs c self.old.ribs self.new.ribs }
     {
         self.say(c, Heard::Open(read_open(body)));
     }
@@ -62,6 +64,7 @@ impl Core {
         ensures spares { Spares c self.old self.new }
         ensures buffers { self.new.buffers ≡ self.old.buffers }
         ensures heard { Hears Kind.Note body.now c self.old self.new }
+        ensures stirs { Stirs c self.old.ribs self.new.ribs }
     {
         self.hear_said(c, Heard::Note, body);
     }
@@ -73,6 +76,7 @@ impl Core {
         ensures spares { Spares c self.old self.new }
         ensures buffers { self.new.buffers ≡ self.old.buffers }
         ensures heard { Hears Kind.Refresh body.now c self.old self.new }
+        ensures stirs { Stirs c self.old.ribs self.new.ribs }
     {
         let AddressFamily { afi, safi } = read_refresh(body);
         self.say(c, Heard::Refresh { afi, safi });
@@ -85,6 +89,7 @@ impl Core {
         ensures buffers { self.new.buffers ≡ self.old.buffers }
         ensures alone { (s : Configuration) (h : Hearing) → Knows self.old s c h → Knows self.new s c (takes_in s c (without_change heard) h) }
         ensures heard { (s : Configuration) (h next : Hearing) → Follows s c heard [] h next → Knows self.old s c h → Knows self.new s c next }
+        ensures stirs { Stirs c self.old.ribs self.new.ribs }
     {
         self.hear_said(c, heard, &[]);
     }
@@ -96,6 +101,7 @@ impl Core {
         ensures spares { Spares c self.old self.new }
         ensures buffers { self.new.buffers ≡ self.old.buffers }
         ensures heard { (s : Configuration) (h next : Hearing) → Follows s c heard body.now h next → Knows self.old s c h → Knows self.new s c next }
+        ensures stirs { Stirs c self.old.ribs self.new.ribs }
     {
         let act = self.sessions[c].message(heard);
         self.watched[c].end(ending_by(body, act));
@@ -114,6 +120,7 @@ impl Core {
         ensures tables { ActsOn act c self.old.sessions.items self.old.ribs.tables self.new.ribs.tables }
         ensures voices { KeepsVoices c self.old.ribs self.new.ribs }
         ensures own { (none : View) → Voices act self.old.ribs.extended c self.old.sessions.items (outlet_in self.old.ribs c none) (outlet_in self.new.ribs c none) }
+        ensures stirs { Stirs c self.old.ribs self.new.ribs }
     {
         match act {
             Act::None => {}
@@ -136,6 +143,7 @@ impl Core {
         ensures tables { ActsOn Act.Up c self.old.sessions.items self.old.ribs.tables self.new.ribs.tables }
         ensures voices { KeepsVoices c self.old.ribs self.new.ribs }
         ensures own { (none : View) → Voices Act.Up self.old.ribs.extended c self.old.sessions.items (outlet_in self.old.ribs c none) (outlet_in self.new.ribs c none) }
+        ensures stirs { Stirs c self.old.ribs self.new.ribs }
     {
         let session = &self.sessions[c];
         let identifier = session.identifier();
@@ -156,6 +164,7 @@ impl Core {
         ensures held { Begins self.old.ribs.tables self.new.ribs.tables c 0 }
         ensures voices { KeepsVoices c self.old.ribs self.new.ribs }
         ensures own { (none : View) → IsFinished note (outlet_in self.old.ribs c none) (outlet_in self.new.ribs c none) }
+        ensures stirs { Stirs c self.old.ribs self.new.ribs }
     {
         self.ribs.unlearn(c);
         self.ribs.finish(c, note);

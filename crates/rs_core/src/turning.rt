@@ -24,6 +24,7 @@ impl Core {
     ghost use Rattle.rs_core.specs.Moves.{Move, Turned};
     ghost use Rattle.rs_core.specs.Agreeing.{Agrees};
     ghost use Rattle.rs_core.specs.Runs.{is_established};
+    ghost use Rattle.rs_core.specs.Stirring.{DecidesTouched};
 
     /// A turn of all clients, one after the other.
     #[tactic(auto, unfolding(crate::specs::Core::client_count, crate::specs::Core::refused_clients))]
@@ -33,6 +34,7 @@ impl Core {
         ensures all { result.done + result.refused ≡ client_count self.new }
         ensures turned { (run : List Move) → Agrees self.old run → Agrees self.new (Turned (refused_below self.new (client_count self.new)) ∷ run) }
         ensures decided { (c : ℕ) (run : List Move) → c < client_count self.old → Agrees self.old run → is_established run c ≡ true → is_refused self.new c ≡ false → is_decided self.new c ≡ true }
+        ensures touched { (c : ℕ) (run : List Move) → c < client_count self.old → Agrees self.old run → is_established run c ≡ true → is_refused self.new c ≡ false → DecidesTouched run c self.old self.new }
     {
         self.ribs.turn();
         self.ribs.sweep();
@@ -53,6 +55,7 @@ impl Core {
         ensures all { result.done + result.refused ≡ client_count self.new }
         ensures turned { (run : List Move) → Agrees self.old run → Agrees self.new (Turned (refused_below self.new (client_count self.new)) ∷ run) }
         ensures decided { (c : ℕ) (run : List Move) → c < client_count self.old → Agrees self.old run → is_established run c ≡ true → is_refused self.new c ≡ false → is_decided self.new c ≡ true }
+        ensures touched { (c : ℕ) (run : List Move) → c < client_count self.old → Agrees self.old run → is_established run c ≡ true → is_refused self.new c ≡ false → DecidesTouched run c self.old self.new }
     {
         self.ribs.turn_with(rt, workers, gate);
         self.ribs.sweep();

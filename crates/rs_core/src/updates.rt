@@ -17,9 +17,11 @@ use std::sync::Arc;
 
 impl Core {
     ghost use Rattle.rs_core.specs.Core.{client_count};
+    ghost use Rattle.rs_adjin.specs.AdjIns.{held_of};
     ghost use Rattle.rs_policy.specs.Configuration.{Configuration, client_of};
     ghost use Rattle.rs_core.specs.Hearing.{Hearing, state_in, is_up, reset_beyond};
     ghost use Rattle.rs_core.specs.Agreeing.{Knows, Spares};
+    ghost use Rattle.rs_core.specs.Ribs.{Stirs};
     ghost use Rattle.rs_core.specs.Voices.{TouchesOthers};
     ghost use Rattle.rs_core.specs.Steps.{Changes, CutsShort, HasOverlaid, Hears, IsAnnouncing, IsSpared};
 
@@ -30,6 +32,7 @@ impl Core {
         ensures buffers { self.new.buffers ≡ self.old.buffers }
         ensures heard { OnOk result (Hears Kind.Update body.now c self.old self.new) }
         ensures refused { OnErr result (CutsShort c self.old self.new) }
+        ensures stirs { Stirs c self.old.ribs self.new.ribs }
     {
         let Some(mode) = self.mode_heard(c) else {
             self.say(c, Heard::Update(None));
@@ -88,6 +91,7 @@ impl Core {
         ensures buffers { self.new.buffers ≡ self.old.buffers }
         ensures heard { OnOk result (Changes c withdrawn.now announced.now (option_map arc_value attrs) self.old self.new) }
         ensures refused { OnErr result (CutsShort c self.old self.new) }
+        ensures stirs { ((p : Prefix) → has_prefix p withdrawn.now ≡ true → has_prefix p announced.now ≡ false) → Stirs c self.old.ribs self.new.ribs }
     {
         match self.sessions[c].message(Heard::Update(None)) {
             Act::None => {
@@ -115,6 +119,7 @@ impl Core {
         ensures others { IsSpared c self.old.ribs.tables self.new.ribs.tables }
         ensures held { HasOverlaid c prefixes.now None self.old.ribs.tables self.new.ribs.tables }
         ensures touched { TouchesOthers c self.old.ribs self.new.ribs }
+        ensures stirs { Stirs c self.old.ribs self.new.ribs }
     {
         for prefix in prefixes {
             self.ribs.withdraw(c, *prefix);
@@ -136,7 +141,9 @@ impl Core {
         ensures config { self.new.ribs.config ≡ self.old.ribs.config }
         ensures others { IsSpared c self.old.ribs.tables self.new.ribs.tables }
         ensures held { OnOk result (HasOverlaid c prefixes.now (Some (arc_value attrs.now)) self.old.ribs.tables self.new.ribs.tables) }
+        ensures kept { (p : Prefix) → has_prefix p prefixes.now ≡ false → held_of self.new.ribs.tables c p ≡ held_of self.old.ribs.tables c p }
         ensures touched { TouchesOthers c self.old.ribs self.new.ribs }
+        ensures stirs { Stirs c self.old.ribs self.new.ribs }
     {
         for prefix in prefixes {
             self.ribs.announce(c, *prefix, attrs)?;

@@ -1,10 +1,11 @@
-use Rattle.std.proofs.Common.{refl, ◌∙◌, subst, arith, sym}
+use Rattle.std.proofs.Common.{refl, ◌∙◌, subst, arith, sym, take}
 use Rattle.std.specs.Prelude.{Some}
 use Rattle.std.specs.Arc.{arc_value}
 use Rattle.std.proofs.lemmas.List.{take_all}
 use Rattle.rs_core.specs.Core.{client_count}
 use Rattle.rs_core.specs.Steps.{HasOverlaid}
 use Rattle.rs_core.proofs.Around.{change_touches, none_touched, touches_on}
+use Rattle.rs_core.proofs.Stirring.{none_of_first, overlaid_kept, stirs_same, stirs_more, stirs_same_held}
 use Rattle.rs_core.proofs.Updating.{none_overlaid, one_overlaid, none_spared, one_spared, same_spared_behind}
 use Rattle.rs_core.proofs.route_server.Core.announce_all.Goals as goal
 
@@ -19,6 +20,7 @@ loop-prefix-init c = record {
   others = none_spared c.args.c c.args.self.now.ribs.tables;
   held = none_overlaid c.args.c (Some (arc_value c.args.attrs.now)) c.args.self.now.ribs.tables;
   touched = none_touched c.args.c c.args.self.now.ribs;
+  stirs = stirs_same c.args.c c.args.self.now.ribs c.args.self.now.ribs refl;
 }
 
 pub loop-prefix-preserved : goal.loop-prefix-preserved
@@ -33,6 +35,7 @@ loop-prefix-preserved c = record {
   held = one_overlaid c.args.c c.loop-prefix.prefix-index _ c.args.prefixes.now c.prefix-item.result (Some (arc_value c.args.attrs.now)) c.args.self.now.ribs.tables c.loop-prefix.self.ribs.tables c.announce.new.self.tables (omega arith) c.loop-prefix-test.true c.prefix-item.is c.in_ok-announce.ensures.held c.loop-prefix.invariant.held;
   touched = touches_on c.args.c c.args.self.now.ribs c.loop-prefix.self.ribs c.announce.new.self (c.loop-prefix.self.ribs_len ∙ c.loop-prefix.invariant.count ∙ sym c.args.self.now.ribs_len) c.loop-prefix.invariant.touched
       (change_touches c.args.c c.prefix-item.result c.loop-prefix.self.ribs c.announce.new.self (c.announce.ensures.touched c.loop-prefix.self.numbered));
+  stirs = stirs_more c.args.c c.prefix-item.result (take c.loop-prefix.prefix-index c.args.prefixes.now) (Some (arc_value c.args.attrs.now)) c.args.self.now.ribs c.loop-prefix.self.ribs c.announce.new.self (c.loop-prefix.self.ribs_len ∙ c.loop-prefix.invariant.count ∙ sym c.args.self.now.ribs_len) c.loop-prefix.invariant.held c.in_ok-announce.ensures.held (c.announce.ensures.touched c.loop-prefix.self.numbered) c.loop-prefix.invariant.stirs;
 }
 
 pub returns-clause-sessions : goal.returns-clause-sessions
@@ -75,3 +78,17 @@ pub returns-in_err-announce-clause-touched : goal.returns-in_err-announce-clause
 unfolding client_count
 returns-in_err-announce-clause-touched c = touches_on c.args.c c.args.self.now.ribs c.loop-prefix.self.ribs c.announce.new.self (c.loop-prefix.self.ribs_len ∙ c.loop-prefix.invariant.count ∙ sym c.args.self.now.ribs_len) c.loop-prefix.invariant.touched
     (change_touches c.args.c c.prefix-item.result c.loop-prefix.self.ribs c.announce.new.self (c.announce.ensures.touched c.loop-prefix.self.numbered))
+
+pub returns-clause-stirs : goal.returns-clause-stirs
+returns-clause-stirs c = c.loop-prefix.invariant.stirs
+
+pub returns-in_err-announce-clause-stirs : goal.returns-in_err-announce-clause-stirs
+unfolding client_count
+returns-in_err-announce-clause-stirs c = stirs_same_held c.args.c c.prefix-item.result c.args.self.now.ribs c.loop-prefix.self.ribs c.announce.new.self (c.loop-prefix.self.ribs_len ∙ c.loop-prefix.invariant.count ∙ sym c.args.self.now.ribs_len) c.in_err-announce.ensures.refused (c.announce.ensures.touched c.loop-prefix.self.numbered) c.loop-prefix.invariant.stirs
+
+pub returns-clause-kept : goal.returns-clause-kept
+returns-clause-kept c = λ p none. overlaid_kept c.args.c (take c.loop-prefix.prefix-index c.args.prefixes.now) _ c.args.self.now.ribs.tables c.loop-prefix.self.ribs.tables c.loop-prefix.invariant.held p (none_of_first p c.args.prefixes.now c.loop-prefix.prefix-index none)
+
+pub returns-in_err-announce-clause-kept : goal.returns-in_err-announce-clause-kept
+returns-in_err-announce-clause-kept c = λ p none. c.in_err-announce.ensures.refused.held c.args.c p
+    ∙ overlaid_kept c.args.c (take c.loop-prefix.prefix-index c.args.prefixes.now) _ c.args.self.now.ribs.tables c.loop-prefix.self.ribs.tables c.loop-prefix.invariant.held p (none_of_first p c.args.prefixes.now c.loop-prefix.prefix-index none)

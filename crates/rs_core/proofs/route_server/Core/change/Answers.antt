@@ -19,6 +19,7 @@ use Rattle.rs_core.proofs.Watching.{noted_by, others_kept}
 use Rattle.rs_core.proofs.Acting.{acted, acted_spares, asked_by_message}
 use Rattle.rs_core.proofs.Voicing.{never_open_by_message}
 use Rattle.rs_core.proofs.Around.{voices_on}
+use Rattle.rs_core.proofs.Stirring.{stirs_withdrawn}
 use Rattle.rs_core.proofs.Updating.{changed, cut_after, none_there, not_taken}
 use Rattle.rs_core.proofs.route_server.Core.change.Goals as goal
 
@@ -52,6 +53,7 @@ returns-in_default c =
           (λ up now. absurd (not_taken c.args.self.now c.index_mut.result.now c.message.new.self s c.args.c h c.message.result read c.message.ensures.hears live up knows c.in_default.not-None))
           (ending_by []) (noted_by kept c.act.new.self.watched.items c.args.c c.index_mut-in_default.result.now c.end.new.self c.ending_by.result (ending_by [] c.message.result) was there noting c.ending_by.ensures c.end.ensures) refl refl knows;
       refused = tt;
+      stirs = λ apart. c.act.ensures.stirs;
     }
 
 pub returns-in-None-attrs-clause-heard : goal.returns-in-None-attrs-clause-heard
@@ -94,3 +96,12 @@ returns-in-Some-clause-heard c = map_ok c.announce_all.result c.announce_all.ens
     (held.identifier ∙ c.withdraw_all.ensures.held.identifier) (c.announce_all.ensures.config ∙ c.withdraw_all.ensures.config)
     (λ none. c.announce_all.ensures.touched.own none ∙ c.withdraw_all.ensures.touched.own none) live
     (subst (λ o. IsSameChange (record { withdrawn = c.args.withdrawn.now; announced = c.args.announced.now; attributes = option_map arc_value o }) change) c.in-Some.is same) (c.announce_all.ensures.watched ∙ c.withdraw_all.ensures.watched) knows)
+
+pub returns-in-None-attrs-clause-stirs : goal.returns-in-None-attrs-clause-stirs
+returns-in-None-attrs-clause-stirs c = λ apart. c.withdraw_all.ensures.stirs
+
+pub returns-in-Some-clause-stirs : goal.returns-in-Some-clause-stirs
+unfolding client_count
+returns-in-Some-clause-stirs c = λ apart.
+    stirs_withdrawn c.args.c c.args.withdrawn.now c.args.announced.now c.args.self.now.ribs c.withdraw_all.new.self.ribs c.announce_all.new.self.ribs (c.withdraw_all.new.self.ribs_len ∙ c.withdraw_all.ensures.count ∙ sym c.args.self.now.ribs_len)
+    c.withdraw_all.ensures.held c.announce_all.ensures.kept apart c.withdraw_all.ensures.stirs c.announce_all.ensures.stirs

@@ -6,6 +6,7 @@ use Rattle.rs_core.specs.Core.{client_count}
 use Rattle.rs_core.specs.Ribs.{outlet_in}
 use Rattle.rs_core.specs.Voices.{IsRaised}
 use Rattle.rs_core.proofs.Around.{around_voices}
+use Rattle.rs_core.proofs.Stirring.{around_stirs, stirs_same}
 use Rattle.rs_core.proofs.Lists.{some_is}
 use Rattle.rs_core.proofs.Voicing.{begun_raised, raised_is}
 use Rattle.rs_core.proofs.route_server.Core.come_up.Goals as goal
@@ -25,3 +26,9 @@ returns-in-Some-clause-own c = λ none x read settings items has _.
     (raised_is (agreed_of settings items) ribs.extended settings c.in-Some.mode c.limit-limit.result (sym c.in-Some.is ∙ c.mode.ensures.mode settings items heard) (c.limit-limit.ensures.limit settings items heard))
     (begun_raised _ (outlet_in ribs c.args.c none) (outlet_in c.come_up.new.self c.args.c none)
     ((c.come_up.ensures.outlet c.args.self.now.numbered).own none (subst (λ n. c.args.c < n) (sym c.args.self.now.ribs_len) c.requires)))
+
+pub returns-in-Some-clause-stirs : goal.returns-in-Some-clause-stirs
+returns-in-Some-clause-stirs c = around_stirs c.args.c _ _ c.args.self.now.ribs c.come_up.new.self c.come_up.ensures.held (c.come_up.ensures.outlet c.args.self.now.numbered)
+
+pub returns-in_default-clause-stirs : goal.returns-in_default-clause-stirs
+returns-in_default-clause-stirs c = stirs_same c.args.c c.args.self.now.ribs c.args.self.now.ribs refl

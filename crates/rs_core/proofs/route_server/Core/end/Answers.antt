@@ -2,6 +2,7 @@ use Rattle.std.proofs.Common.{◌<◌, sym, ◌∙◌, subst}
 use Rattle.rs_core.specs.Core.{client_count}
 use Rattle.rs_core.specs.Ribs.{outlet_in}
 use Rattle.rs_core.proofs.Around.{held_voices, own_voices, voices_on}
+use Rattle.rs_core.proofs.Stirring.{held_stirs, stirs_then_own}
 use Rattle.rs_core.specs.Voices.{IsFinished}
 use Rattle.rs_core.proofs.Voicing.{ends_so}
 use Rattle.rs_core.proofs.route_server.Core.end.Goals as goal
@@ -18,3 +19,7 @@ returns-clause-own c = λ none.
     subst (λ v. IsFinished c.args.note v (outlet_in c.finish.new.self c.args.c none)) ((c.unlearn.ensures.touched c.args.self.now.numbered).own none)
     (ends_so c.args.note (outlet_in c.unlearn.new.self c.args.c none) (outlet_in c.finish.new.self c.args.c none)
     (c.finish.ensures.outlet.own none (subst (λ n. c.args.c < n) (sym (c.unlearn.ensures.settings.count ∙ c.args.self.now.ribs_len)) c.requires)))
+
+pub returns-clause-stirs : goal.returns-clause-stirs
+returns-clause-stirs c = stirs_then_own c.args.c _ c.args.self.now.ribs c.unlearn.new.self c.finish.new.self c.unlearn.ensures.settings.count
+    (held_stirs c.args.c 0 c.args.self.now.ribs c.unlearn.new.self c.unlearn.ensures.held (c.unlearn.ensures.touched c.args.self.now.numbered)) c.finish.ensures.tables c.finish.ensures.outlet

@@ -8,11 +8,12 @@ use Rattle.rs_session.specs.Hearing.{HasHeard}
 use Rattle.rs_adjin.specs.AdjIns.{held_of, identifier_of}
 use Rattle.rs_core.specs.Core.{client_count}
 use Rattle.rs_core.specs.Hearing.{session_in, leaves}
-use Rattle.rs_core.specs.Ribs.{outlet_in}
+use Rattle.rs_core.specs.Ribs.{Stirs, outlet_in}
 use Rattle.rs_core.specs.Voices.{KeepsVoices}
 use Rattle.rs_core.specs.declared.endings.Watched.{Watched}
 use Rattle.rs_core.specs.declared.ribs.Ribs.{Ribs}
 use Rattle.rs_core.proofs.Lists.{set_at}
+use Rattle.rs_core.proofs.Stirring.{held_stirs, stirs_then_own}
 use Rattle.rs_core.proofs.Around.{held_voices, own_voices, voices_on}
 use Rattle.rs_core.specs.Conversations.{outgoing_of, own_open}
 use Rattle.rs_core.proofs.Proceeding.{nothing_converses}
@@ -71,3 +72,8 @@ returns-clause-forgotten c = λ s h why cut watched.
       };
       waits = λ x e. record { rest = λ live. absurd (let f = live in cc); good = λ live. absurd (let f = live in cc) };
     }
+
+pub returns-clause-stirs : goal.returns-clause-stirs
+returns-clause-stirs c = subst (λ r. Stirs c.args.c r c.clear.new.self) c.pass_over.ensures.ribs
+    (stirs_then_own c.args.c _ c.pass_over.new.self.ribs c.unlearn.new.self c.clear.new.self c.unlearn.ensures.settings.count
+    (held_stirs c.args.c 0 c.pass_over.new.self.ribs c.unlearn.new.self c.unlearn.ensures.held (c.unlearn.ensures.touched c.pass_over.new.self.numbered)) c.clear.ensures.tables c.clear.ensures.outlet)

@@ -1,4 +1,4 @@
-use Rattle.std.proofs.Common.{◌≡◌, ◌<◌, ◌==◌, length, refl, sym, ◌∙◌, ap, subst, arith}
+use Rattle.std.proofs.Common.{◌≡◌, ◌<◌, ◌==◌, ◌++◌, append-nil, length, refl, sym, ◌∙◌, ap, subst, arith}
 use Rattle.std.proofs.lemmas.Bool.{false≢true}
 use Rattle.std.proofs.lemmas.Option.{slice_get_read}
 use Rattle.rs_core.specs.Core.{client_count}
@@ -8,6 +8,10 @@ use Rattle.rs_core.proofs.Lists.{map_ok, map_err}
 use Rattle.rs_core.proofs.Ruling.{unmoved}
 use Rattle.rs_core.proofs.Cutting.{deaf_agrees, is_between, cut_before, agrees_joined}
 use Rattle.rs_core.proofs.Filling.{is_none, front_agrees, front_between}
+use Rattle.rs_core.specs.Altering.{IsAlteredBy}
+use Rattle.rs_core.specs.Ribs.{StirsWhere}
+use Rattle.rs_core.proofs.Altering.{front_stirs, piece_deaf, stirs_behind, stirs_once}
+use Rattle.rs_core.proofs.Stirring.{stirs_nowhere}
 use Rattle.rs_core.proofs.route_server.Core.hear.Goals as goal
 
 pub returns-then-not-is_live-clause-heard : goal.returns-then-not-is_live-clause-heard
@@ -90,3 +94,47 @@ returns-then-is_empty-2-clause-unheard c = λ s h knows dead. absurd (false≢tr
 pub returns-clause-unheard : goal.returns-clause-unheard
 unfolding client_count
 returns-clause-unheard c = λ s h knows dead. absurd (false≢true (sym dead ∙ sym (c.is_live.ensures s h knows) ∙ c.if-not-is_live.false))
+
+pub returns-then-not-is_live-clause-stirs : goal.returns-then-not-is_live-clause-stirs
+unfolding client_count
+returns-then-not-is_live-clause-stirs c = λ s h config at.
+    stirs_nowhere _ c.args.c c.args.self.now.ribs c.args.self.now.ribs (λ d none ne. refl) (λ p x. piece_deaf s c.args.c c.args.piece.now h p (sym (c.is_live.ensures s h at.knows) ∙ c.if-not-is_live.true) x)
+
+pub returns-then-is_empty-clause-stirs : goal.returns-then-is_empty-clause-stirs
+unfolding client_count
+returns-then-is_empty-clause-stirs c = map_ok c.hear_piece.result c.hear_piece.ensures.stirs (λ stirs s h config at.
+    let buffers = c.args.self.now.buffers.items in
+    let lt : c.args.c < length buffers = subst (λ k. c.args.c < k) (sym c.args.self.now.buffers_len) c.requires in
+    let read = slice_get_read buffers (length buffers) c.args.c c.index.result.now refl lt c.index.ensures in
+    let size : length c.index.result.now.items ≡ c.index.result.now.len = omega (arith, c.index.result.now.ok.0) in
+    stirs s h config (is_between c.args.self.now s c.args.c h c.index.result.now read (is_none c.index.result.now.items (ap (λ n. n == 0) size ∙ sym c.is_empty.ensures ∙ c.if-is_empty.true)) at))
+
+pub returns-then-is_empty-2-clause-stirs : goal.returns-then-is_empty-2-clause-stirs
+unfolding client_count
+returns-then-is_empty-2-clause-stirs c = λ s h config at.
+    let i = c.args.c in
+    let taken = c.take_buffer-buffer in
+    let heard = c.hear_waiting-heard in
+    let live = sym (c.is_live.ensures s h at.knows) ∙ c.if-not-is_live.false in
+    let was = unmoved c.args.self.now taken.new.self s i h taken.ensures.sessions taken.ensures.ribs taken.ensures.watched at.knows in
+    let front = c.in_ok-rest.ensures.heard s h (ap (λ (r : Ribs). r.config) taken.ensures.ribs ∙ config) live was (at.waits taken.result taken.ensures.taken) in
+    let whole : front.front ≡ c.args.piece.now = sym (front.whole ∙ ap (λ r. front.front ++ r) (is_none c.in_ok-rest.rest.now (sym c.is_empty-2.ensures ∙ c.if-is_empty-2.true)) ∙ append-nil front.front) in
+    front_stirs s i h front.front c.args.piece.now c.args.self.now taken.new.self heard.new.self c.put_buffer.new.self taken.ensures.ribs c.put_buffer.ensures.ribs whole (stirs_once s i front.front h taken.new.self heard.new.self front.once heard.ensures.stirs was front.knows)
+
+pub returns-clause-stirs : goal.returns-clause-stirs
+unfolding client_count
+returns-clause-stirs c = map_ok c.hear_piece-2.result c.hear_piece-2.ensures.stirs (λ on s h config at.
+    let i = c.args.c in
+    let taken = c.take_buffer-buffer in
+    let heard = c.hear_waiting-heard in
+    let live = sym (c.is_live.ensures s h at.knows) ∙ c.if-not-is_live.false in
+    let first = ap (λ (r : Ribs). r.config) taken.ensures.ribs ∙ config in
+    let was = unmoved c.args.self.now taken.new.self s i h taken.ensures.sessions taken.ensures.ribs taken.ensures.watched at.knows in
+    let front = c.in_ok-rest.ensures.heard s h first live was (at.waits taken.result taken.ensures.taken) in
+    subst (λ o. StirsWhere (IsAlteredBy s i o h) i c.args.self.now.ribs c.hear_piece-2.new.self.ribs) (sym front.whole)
+    (stirs_behind s i front.front c.in_ok-rest.rest.now h c.args.self.now.ribs c.put_buffer.new.self.ribs c.hear_piece-2.new.self.ribs
+    (ap (λ (r : Ribs). r.count) c.put_buffer.ensures.ribs ∙ heard.new.self.ribs_len ∙ heard.ensures.spares.count ∙ taken.ensures.count ∙ sym c.args.self.now.ribs_len)
+    (front_stirs s i h front.front front.front c.args.self.now taken.new.self heard.new.self c.put_buffer.new.self taken.ensures.ribs c.put_buffer.ensures.ribs refl (stirs_once s i front.front h taken.new.self heard.new.self front.once heard.ensures.stirs was front.knows))
+    (on s (hears s i front.front h) (ap (λ (r : Ribs). r.config) c.put_buffer.ensures.ribs ∙ heard.ensures.spares.config ∙ first)
+    (front_between heard.new.self c.put_buffer.new.self s i h c.args.piece.now heard.new.buffer.items c.in_ok-rest.rest.now c.put_buffer.ensures.sessions c.put_buffer.ensures.ribs c.put_buffer.ensures.watched c.put_buffer.ensures.put
+    (sym c.is_empty-2.ensures ∙ c.if-is_empty-2.false) front))))

@@ -12,13 +12,16 @@ use Rattle.rs_core.proofs.Ruling.{unmoved}
 use Rattle.rs_core.proofs.Cutting.{alone_waits, after_message, after_fault, fault_between, after_beginning, after_all, deaf_agrees, cut_before, agrees_joined, between_joined, same_spares, waiting_spares}
 use Rattle.rs_core.proofs.Listening.{hears_nothing}
 use Rattle.rs_core.proofs.Filling.{is_none}
+use Rattle.rs_core.specs.Altering.{IsAlteredBy}
+use Rattle.rs_core.specs.Ribs.{StirsWhere}
+use Rattle.rs_core.proofs.Altering.{beginning_silent, message_once, on_ok, one_fault, piece_deaf, piece_silent, stirs_at_first, stirs_behind, stirs_no_more, stirs_once}
 use Rattle.rs_core.proofs.route_server.Core.hear_piece.Goals as goal
 
 pub loop-octets-init : goal.loop-octets-init
 loop-octets-init c = record {
   spares = same_spares c.args.self.now c.args.c;
   buffers = refl;
-  heard = ([], refl, λ s h config between. subst (λ k. IsBetween c.args.self.now s c.args.c k) (sym (hears_nothing s c.args.c h)) between);
+  heard = ([], refl, λ s h config between. subst (λ k. IsBetween c.args.self.now s c.args.c k) (sym (hears_nothing s c.args.c h)) between, λ s h config between. stirs_at_first s c.args.c h c.args.self.now.ribs);
 }
 
 pub returns-then-not-is_live-clause-heard : goal.returns-then-not-is_live-clause-heard
@@ -100,6 +103,21 @@ loop-octets-preserved c =
             between_joined c.hear_message.new.self s c.args.c it.0 at.message h
             (after_message c.loop-octets.self c.hear_message.new.self s c.args.c before c.loop-octets.octets.now c.in-Message.kind c.in-Message.body.now c.in-Message.rest.now begins live c.hear_message.ensures.buffers was
             (c.in_ok-hear_message-in-Message.ensures.heard s before (c.loop-octets.invariant.spares.config ∙ config) live was.knows)),
+        λ s h config between.
+            let was = it.2 s h config between in
+            let before : Hearing = hears s c.args.c it.0 h in
+            let live = sym (c.is_live.ensures s before was.knows) ∙ c.if-not-is_live.false in
+            let begins : BeginsWith (allowed_in s) c.loop-octets.octets.now c.in-Message.kind c.in-Message.body.now c.in-Message.rest.now = record {
+              message = at.message;
+              is = subst (λ a. IsMessageOf a c.in-Message.kind at.message) (c.allowed-allowed.ensures ∙ ap allowed_in config) at.is;
+              body_is = at.body_is;
+              whole = at.whole;
+            } in
+            let now = after_message c.loop-octets.self c.hear_message.new.self s c.args.c before c.loop-octets.octets.now c.in-Message.kind c.in-Message.body.now c.in-Message.rest.now begins live c.hear_message.ensures.buffers was
+            (c.in_ok-hear_message-in-Message.ensures.heard s before (c.loop-octets.invariant.spares.config ∙ config) live was.knows) in
+            stirs_behind s c.args.c it.0 at.message h c.args.self.now.ribs c.loop-octets.self.ribs c.hear_message.new.self.ribs (c.loop-octets.self.ribs_len ∙ c.loop-octets.invariant.spares.count ∙ sym c.args.self.now.ribs_len) (it.3 s h config between)
+            (stirs_once s c.args.c at.message before c.loop-octets.self c.hear_message.new.self
+            (message_once c.loop-octets.self s c.args.c before c.loop-octets.octets.now c.in-Message.kind c.in-Message.body.now c.in-Message.rest.now begins live was) c.hear_message.ensures.stirs was.knows now.knows),
       );
     }
 
@@ -111,3 +129,47 @@ returns-clause-heard c = λ s h config between.
     let none = is_none c.loop-octets.octets.now (sym c.is_empty.ensures ∙ c.loop-octets-test.false) in
     let whole : c.args.piece.now ≡ it.0 = it.1 ∙ ap (λ o. it.0 ++ o) none ∙ append-nil it.0 in
     subst (λ p. AgreesAt c.loop-octets.self s c.args.c (hears s c.args.c p h)) (sym whole) (after_all c.loop-octets.self s c.args.c (hears s c.args.c it.0 h) at)
+
+pub returns-then-not-is_live-clause-stirs : goal.returns-then-not-is_live-clause-stirs
+unfolding client_count
+returns-then-not-is_live-clause-stirs c = λ s h config between.
+    let it = c.loop-octets.invariant.heard in
+    let at = it.2 s h config between in
+    let dead = sym (c.is_live.ensures s (hears s c.args.c it.0 h) at.knows) ∙ c.if-not-is_live.true in
+    subst (λ o. StirsWhere (IsAlteredBy s c.args.c o h) c.args.c c.args.self.now.ribs c.loop-octets.self.ribs) (sym it.1)
+    (stirs_no_more s c.args.c it.0 c.loop-octets.octets.now h c.args.self.now.ribs c.loop-octets.self.ribs (λ p x. piece_deaf s c.args.c c.loop-octets.octets.now (hears s c.args.c it.0 h) p dead x) (it.3 s h config between))
+
+pub returns-in-Wants-clause-stirs : goal.returns-in-Wants-clause-stirs
+unfolding client_count
+returns-in-Wants-clause-stirs c = on_ok c.wait.result (λ s h config between.
+    let it = c.loop-octets.invariant.heard in
+    let at = it.2 s h config between in
+    let before : Hearing = hears s c.args.c it.0 h in
+    let live = sym (c.is_live.ensures s before at.knows) ∙ c.if-not-is_live.false in
+    let wants : Wants (allowed_in s) c.loop-octets.octets.now c.in-Wants.field-0 = subst (λ a. Wants a c.loop-octets.octets.now c.in-Wants.field-0) (c.allowed-allowed.ensures ∙ ap allowed_in config) c.in-Wants.ensures.front in
+    let silent = beginning_silent c.loop-octets.self s c.args.c before c.loop-octets.octets.now c.in-Wants.field-0 live at wants in
+    subst (λ r. StirsWhere (IsAlteredBy s c.args.c c.args.piece.now h) c.args.c c.args.self.now.ribs r) (sym c.wait.ensures.ribs)
+    (subst (λ o. StirsWhere (IsAlteredBy s c.args.c o h) c.args.c c.args.self.now.ribs c.loop-octets.self.ribs) (sym it.1)
+    (stirs_no_more s c.args.c it.0 c.loop-octets.octets.now h c.args.self.now.ribs c.loop-octets.self.ribs (λ p x. piece_silent s c.args.c c.loop-octets.octets.now before p silent x) (it.3 s h config between))))
+
+pub returns-in-Fault-clause-stirs : goal.returns-in-Fault-clause-stirs
+unfolding client_count
+returns-in-Fault-clause-stirs c = λ s h config between.
+    let it = c.loop-octets.invariant.heard in
+    let at = it.2 s h config between in
+    let before : Hearing = hears s c.args.c it.0 h in
+    let live = sym (c.is_live.ensures s before at.knows) ∙ c.if-not-is_live.false in
+    let faulty : BeginsFaulty (allowed_in s) c.loop-octets.octets.now c.in-Fault.fault = subst (λ a. BeginsFaulty a c.loop-octets.octets.now c.in-Fault.fault) (c.allowed-allowed.ensures ∙ ap allowed_in config) c.in-Fault.ensures.front in
+    let new_is = fault_between s c.args.c c.loop-octets.self before c.loop-octets.octets.now c.in-Fault.fault live at faulty in
+    let now = after_fault c.say.new.self s c.args.c before c.loop-octets.octets.now c.in-Fault.fault live new_is (c.say.ensures.alone s before at.knows) in
+    subst (λ o. StirsWhere (IsAlteredBy s c.args.c o h) c.args.c c.args.self.now.ribs c.say.new.self.ribs) (sym it.1)
+    (stirs_behind s c.args.c it.0 c.loop-octets.octets.now h c.args.self.now.ribs c.loop-octets.self.ribs c.say.new.self.ribs (c.loop-octets.self.ribs_len ∙ c.loop-octets.invariant.spares.count ∙ sym c.args.self.now.ribs_len) (it.3 s h config between)
+    (stirs_once s c.args.c c.loop-octets.octets.now before c.loop-octets.self c.say.new.self (one_fault _ c.in-Fault.fault new_is) c.say.ensures.stirs at.knows now.knows))
+
+pub returns-clause-stirs : goal.returns-clause-stirs
+unfolding client_count
+returns-clause-stirs c = λ s h config between.
+    let it = c.loop-octets.invariant.heard in
+    let none = is_none c.loop-octets.octets.now (sym c.is_empty.ensures ∙ c.loop-octets-test.false) in
+    let whole : c.args.piece.now ≡ it.0 = it.1 ∙ ap (λ o. it.0 ++ o) none ∙ append-nil it.0 in
+    subst (λ o. StirsWhere (IsAlteredBy s c.args.c o h) c.args.c c.args.self.now.ribs c.loop-octets.self.ribs) (sym whole) (it.3 s h config between)

@@ -1,6 +1,8 @@
 use Rattle.std.proofs.Common.{◌≡◌, ℕ, List, ◌++◌, length}
 use Rattle.rs_policy.specs.Configuration.{Configuration}
 use Rattle.rs_core.specs.Hearing.{Hearing, hears}
+use Rattle.rs_core.specs.Altering.{IsAlteredBy}
+use Rattle.rs_core.specs.Ribs.{StirsWhere}
 use Rattle.rs_core.specs.Steps.{IsBetween}
 use Rattle.rs_core.specs.Agreeing.{Spares}
 use Rattle.rs_core.proofs.route_server.Core.hear_piece.Given as goal
@@ -10,7 +12,8 @@ invariant-loop-octets l = record {
   spares : Spares l.c l.fn.self l.self;
   buffers : l.self.buffers ≡ l.fn.self.buffers;
   heard : (before : List ℕ) × (l.piece ≡ before ++ l.octets)
-      × ((s : Configuration) (h : Hearing) → l.fn.self.ribs.config ≡ s → IsBetween l.fn.self s l.c h → IsBetween l.self s l.c (hears s l.c before h));
+      × ((s : Configuration) (h : Hearing) → l.fn.self.ribs.config ≡ s → IsBetween l.fn.self s l.c h → IsBetween l.self s l.c (hears s l.c before h))
+      × ((s : Configuration) (h : Hearing) → l.fn.self.ribs.config ≡ s → IsBetween l.fn.self s l.c h → StirsWhere (IsAlteredBy s l.c before h) l.c l.fn.self.ribs l.self.ribs);
 }
 
 abbrev pub decreases-loop-octets : goal.decreases-loop-octets

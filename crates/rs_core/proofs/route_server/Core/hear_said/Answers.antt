@@ -39,3 +39,6 @@ returns-clause-heard c = λ s h next follows knows.
     (ap (λ (v : Vec Session). v.items) c.act.ensures.sessions) c.message-act.ensures.hears c.act.ensures.tables c.act.ensures.config c.act.ensures.own (never_open_by_message (session_in s c.args.c) c.args.heard h.items) follows.items follows.beats follows.taken (asked_by_message s c.args.c c.args.heard h next follows.points) (λ down up. follows.fresh down) follows.same
     (ending_by c.args.body.now) (noted_by kept c.act.new.self.watched.items c.args.c c.index_mut-2.result.now c.end.new.self c.ending_by.result (ending_by c.args.body.now c.message-act.result) was there set c.ending_by.ensures c.end.ensures)
     follows.endings follows.faults knows
+
+pub returns-clause-stirs : goal.returns-clause-stirs
+returns-clause-stirs c = c.act.ensures.stirs

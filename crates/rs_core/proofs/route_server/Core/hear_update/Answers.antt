@@ -1,10 +1,10 @@
-use Rattle.std.proofs.Common.{◌<◌, ℕ, ◌∷◌, length, refl, sym, ◌∙◌, subst}
+use Rattle.std.proofs.Common.{◌<◌, ℕ, ◌∷◌, length, refl, sym, ◌∙◌, ap, subst}
 use Rattle.std.specs.Prelude.{Some, None, option_map}
 use Rattle.std.specs.Arc.{arc_value}
 use Rattle.std.proofs.lemmas.Option.{slice_get_read}
-use Rattle.rs_attrs.specs.Effects.{HasEffect, effect_of}
+use Rattle.rs_attrs.specs.Effects.{HasEffect, effect_of, has_prefix}
 use Rattle.rs_update.specs.Laws.{IsSameChange, IsSameEffect}
-use Rattle.rs_update.specs.Outcomes.{effect_seen, HasItsAttributes, TellsFaults}
+use Rattle.rs_update.specs.Outcomes.{effect_seen, AreApart, HasItsAttributes, TellsFaults}
 use Rattle.rs_policy.specs.Configuration.{client_of}
 use Rattle.rs_core.specs.Core.{client_count}
 use Rattle.rs_core.specs.Hearing.{changing, takes_in}
@@ -14,6 +14,8 @@ use Rattle.rs_core.proofs.Lists.{on_err, map_ok, map_err}
 use Rattle.rs_core.proofs.Agreeing.{cut_short}
 use Rattle.rs_core.proofs.Faulting.{found, found_knows, cut_found}
 use Rattle.rs_core.proofs.Updating.{is_change}
+use Rattle.rs_core.proofs.Spared.{kept_spares}
+use Rattle.rs_core.proofs.Stirring.{stirs_same}
 use Rattle.rs_core.proofs.Saying.{update_reset, update_changes, at_fault, moded_up, is_reset_beyond, is_none_beyond, reset_follows, announcing}
 use Rattle.rs_core.proofs.route_server.Core.hear_update.Goals as goal
 
@@ -73,3 +75,18 @@ returns-else-is_beyond-clause-refused c = map_err c.change.result c.change.ensur
     let was = slice_get_read kept (length kept) c.args.c c.index_mut.result.now refl there c.index_mut.ensures.value in
     cut_found c.change.new.self s c.args.c h c.in-Change.faulted
     (refused s (found c.in-Change.faulted h) (found_knows c.args.self.now _ s c.args.c h c.index_mut.result.now c.note.new.self c.in-Change.faulted refl refl was there refl c.note.ensures knows)))
+
+pub returns-in_err-code-clause-stirs : goal.returns-in_err-code-clause-stirs
+returns-in_err-code-clause-stirs c = stirs_same c.args.c c.args.self.now.ribs c.args.self.now.ribs refl
+
+pub returns-else-is_beyond-clause-stirs : goal.returns-else-is_beyond-clause-stirs
+returns-else-is_beyond-clause-stirs c = c.change.ensures.stirs (λ p has.
+    ap (has_prefix p) c.deref-in-Change-3.ensures.value
+    ∙ subst AreApart c.in-Change.is c.in_ok-code.ensures.apart p (ap (has_prefix p) (sym c.deref-in-Change-2.ensures.value) ∙ has))
+
+pub returns-else-is_beyond-clause-spares : goal.returns-else-is_beyond-clause-spares
+unfolding client_count
+returns-else-is_beyond-clause-spares c =
+    let kept = c.args.self.now.watched.items in
+    let there : c.args.c < length kept = subst (λ k. c.args.c < k) (sym c.args.self.now.watched_len) c.requires in
+    kept_spares c.args.c c.args.self.now _ c.change.new.self c.note.new.self there refl refl refl refl refl c.change.ensures.spares

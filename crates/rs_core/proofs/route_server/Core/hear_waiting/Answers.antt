@@ -1,13 +1,16 @@
-use Rattle.std.proofs.Common.{ℕ, sym, ◌∙◌, ap, subst}
+use Rattle.std.proofs.Common.{ℕ, refl, sym, ◌∙◌, ap, subst}
 use Rattle.std.specs.Global.{Vec}
 use Rattle.rs_octets.specs.Fronts.{BeginsWith, BeginsFaulty, Wants}
 use Rattle.rs_core.specs.Core.{client_count}
 use Rattle.rs_core.specs.Hearing.{allowed_in}
+use Rattle.rs_core.specs.Ribs.{Stirs}
+use Rattle.rs_core.specs.declared.route_server.Core.{Core}
 use Rattle.rs_core.specs.Steps.{FillsUp, HasHeardFront}
 use Rattle.rs_core.specs.Agreeing.{Spares}
 use Rattle.rs_core.proofs.Lists.{on_err}
 use Rattle.rs_core.proofs.Agreeing.{cut_short}
 use Rattle.rs_core.proofs.Cutting.{same_spares}
+use Rattle.rs_core.proofs.Stirring.{stirs_same}
 use Rattle.rs_core.proofs.Filling.{waiting_on, waiting_fault, waiting_message}
 use Rattle.rs_core.proofs.route_server.Core.hear_waiting.Goals as goal
 use Rattle.rs_core.proofs.route_server.Core.hear_waiting.Goals.{in-Wants, in-Fault, in-Message+in_ok-hear_message-in-Message}
@@ -56,3 +59,13 @@ returns-clause-heard c = λ s h config live knows waits.
           (subst (λ l. HasHeardFront w.hear_message.new.self s i h piece l rest) (sym (ap (λ (b : Vec ℕ). b.items) w.buffer-is ∙ w.clear-in-Message.ensures.items))
           (waiting_message w.hear_message.new.self s i h was new piece rest kind body behind live waits fills begins (w.in_ok-hear_message-in-Message.ensures.heard s h config live knows)))
     ]
+
+pub returns-clause-stirs : goal.returns-clause-stirs
+returns-clause-stirs c = elim c.match-read_front.branch [
+  | in-Wants w ↦ stirs_same c.args.c c.args.self.now.ribs _ (ap (λ (k : Core). k.ribs) w.self-is)
+  | in-Fault w ↦ subst (λ (k : Core). Stirs c.args.c c.args.self.now.ribs k.ribs) (sym w.self-is) w.say.ensures.stirs
+  | in-Message+in_ok-hear_message-in-Message w ↦ subst (λ (k : Core). Stirs c.args.c c.args.self.now.ribs k.ribs) (sym w.self-is) w.hear_message.ensures.stirs
+]
+
+pub returns-in_err-rest-clause-stirs : goal.returns-in_err-rest-clause-stirs
+returns-in_err-rest-clause-stirs c = stirs_same c.args.c c.args.self.now.ribs c.args.self.now.ribs refl

@@ -11,6 +11,7 @@ use Rattle.rs_core.proofs.Lists.{own, other}
 use Rattle.rs_core.proofs.Agreeing.{grown}
 use Rattle.rs_core.proofs.Spared.{noted_spares}
 use Rattle.rs_core.proofs.Watching.{noted_by}
+use Rattle.rs_core.proofs.Touched.{touches_changes}
 use Rattle.rs_core.proofs.route_server.Core.lost.Goals as goal
 
 pub returns-clause-left : goal.returns-clause-left
@@ -27,3 +28,7 @@ returns-clause-left c = λ run h.
     (noted_spares c.args.c _ c.args.self.now _ c.forget.new.self refl refl refl refl notes c.forget.ensures.spares)
     (subst (λ k. AgreesAt c.forget.new.self (config_in run) c.args.c k) (sym (own c.args.c (leaves (config_in run) c.args.c reasons.Lost it) it))
     (c.forget.ensures.forgotten (config_in run) it reasons.Lost (record { items = it.items; moment = refl; session = at.knows.session }) (notes.own it.endings it.faults at.knows.watched)))
+
+pub returns-clause-touched : goal.returns-clause-touched
+unfolding client_count
+returns-clause-touched c = λ run h. touches_changes c.args.c (Left c.args.c) c.args.self.now c.forget.new.self run c.requires h (returns-clause-left c run h) c.forget.ensures.spares.count c.forget.ensures.stirs

@@ -13,6 +13,7 @@ use Rattle.rs_core.proofs.Lists.{own, other, set_at}
 use Rattle.rs_core.proofs.Cutting.{cut_unmoved}
 use Rattle.rs_core.proofs.Spared.{put_spares}
 use Rattle.rs_core.proofs.Agreeing.{grown, spares_both}
+use Rattle.rs_core.proofs.Touched.{touches_others}
 use Rattle.rs_core.proofs.route_server.Core.octets.Goals as goal
 
 live_by : (b : Bool) → (b ≡ false → b ≡ true) → b ≡ true
@@ -55,3 +56,8 @@ returns-in-Ok-clause-unheard c = λ run h dead. (refl, (c.in-Ok.ensures.unheard 
 pub returns-in-Err-clause-unheard : goal.returns-in-Err-clause-unheard
 unfolding client_count
 returns-in-Err-clause-unheard c = λ run h dead. let it = c.in-Err.ensures.unheard (config_in run) (hearing c.args.c run) (h.clients c.args.c c.requires).knows dead in absurd (cc)
+
+pub returns-in-Ok-clause-touched : goal.returns-in-Ok-clause-touched
+unfolding client_count
+returns-in-Ok-clause-touched c = λ run h. touches_others _ c.args.c c.args.self.now c.hear.new.self run h c.hear.ensures.spares.count
+    (c.in-Ok.ensures.stirs (config_in run) (hearing c.args.c run) h.config (h.clients c.args.c c.requires))

@@ -2,6 +2,7 @@ use Rattle.std.proofs.Common.{refl, subst}
 use Rattle.rs_policy.specs.Replacing.{Replaces}
 use Rattle.rs_core.specs.Core.{client_count}
 use Rattle.rs_core.proofs.Ruling.{ruled}
+use Rattle.rs_core.proofs.Touched.{touches_all}
 use Rattle.rs_core.proofs.route_server.Core.rules.Goals as goal
 
 pub returns-clause-accepted : goal.returns-clause-accepted
@@ -13,3 +14,7 @@ returns-clause-accepted c = λ run h.
       replaces = replaces;
       agrees = ruled c.args.self.now _ run c.in_ok-config.config replaces.same refl c.replace.ensures.config refl refl refl c.replace.ensures.tables c.replace.ensures.touched h;
     }
+
+pub returns-clause-touched : goal.returns-clause-touched
+unfolding client_count
+returns-clause-touched c = λ run h. touches_all c.args.self.now _ run refl c.replace.ensures.touched h

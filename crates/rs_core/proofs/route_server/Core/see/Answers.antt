@@ -35,3 +35,6 @@ returns-clause-seen c = λ s h at.
     seen c.args.self.now c.act.new.self c.moment-act.result c.index_mut.result.now c.moment-act.new.self s c.args.c c.args.t h read lt
     (ap (λ (v : Vec Session). v.items) c.act.ensures.sessions) c.act.ensures.buffers c.moment-act.ensures.hears c.act.ensures.tables c.act.ensures.config c.act.ensures.own
     (noted_by kept c.act.new.self.watched.items c.args.c c.index_mut-2.result.now c.end.new.self c.expiry_by.result (expiry_by c.moment-act.result) was there set c.expiry_by.ensures c.end.ensures) at
+
+pub returns-clause-stirs : goal.returns-clause-stirs
+returns-clause-stirs c = c.act.ensures.stirs

@@ -1,6 +1,7 @@
 use Rattle.std.proofs.Common.{refl}
 use Rattle.rs_core.specs.Core.{client_count}
 use Rattle.rs_core.proofs.Drained.{turned_decided}
+use Rattle.rs_core.proofs.Touched.{decides_touched}
 use Rattle.rs_core.proofs.Outgoing.{turned_agrees}
 use Rattle.rs_core.proofs.Refusing.{listed_is}
 use Rattle.rs_core.proofs.route_server.Core.turn_with.Goals as goal
@@ -12,3 +13,7 @@ returns-clause-turned g c = λ run h. turned_agrees c.args.self.now _ c.turn_wit
 pub returns-clause-decided : goal.returns-clause-decided
 unfolding client_count
 returns-clause-decided g c = λ d run lt h up done. turned_decided d c.args.self.now _ c.turn_with.new.self run lt refl (c.turn_with.ensures.turned c.args.self.now.numbered) c.sweep.ensures.outlets h up done
+
+pub returns-clause-touched : goal.returns-clause-touched
+unfolding client_count
+returns-clause-touched g c = λ d run lt h up done. decides_touched d c.args.self.now _ c.turn_with.new.self run lt refl (c.turn_with.ensures.turned c.args.self.now.numbered) c.sweep.ensures.outlets h up done

@@ -1,9 +1,10 @@
-use Rattle.std.proofs.Common.{refl, ◌∙◌, subst, arith, sym}
+use Rattle.std.proofs.Common.{refl, ◌∙◌, subst, arith, sym, take}
 use Rattle.std.specs.Prelude.{None}
 use Rattle.std.proofs.lemmas.List.{take_all}
 use Rattle.rs_core.specs.Core.{client_count}
 use Rattle.rs_core.specs.Steps.{HasOverlaid}
 use Rattle.rs_core.proofs.Around.{change_touches, none_touched, touches_on}
+use Rattle.rs_core.proofs.Stirring.{stirs_same, stirs_more}
 use Rattle.rs_core.proofs.Updating.{none_overlaid, one_overlaid, none_spared, one_spared}
 use Rattle.rs_core.proofs.route_server.Core.withdraw_all.Goals as goal
 
@@ -18,6 +19,7 @@ loop-prefix-init c = record {
   others = none_spared c.args.c c.args.self.now.ribs.tables;
   held = none_overlaid c.args.c None c.args.self.now.ribs.tables;
   touched = none_touched c.args.c c.args.self.now.ribs;
+  stirs = stirs_same c.args.c c.args.self.now.ribs c.args.self.now.ribs refl;
 }
 
 pub loop-prefix-preserved : goal.loop-prefix-preserved
@@ -32,6 +34,7 @@ loop-prefix-preserved c = record {
   held = one_overlaid c.args.c c.loop-prefix.prefix-index _ c.args.prefixes.now c.prefix-item.result None c.args.self.now.ribs.tables c.loop-prefix.self.ribs.tables c.withdraw.new.self.tables (omega arith) c.loop-prefix-test.true c.prefix-item.is c.withdraw.ensures.held c.loop-prefix.invariant.held;
   touched = touches_on c.args.c c.args.self.now.ribs c.loop-prefix.self.ribs c.withdraw.new.self (c.loop-prefix.self.ribs_len ∙ c.loop-prefix.invariant.count ∙ sym c.args.self.now.ribs_len) c.loop-prefix.invariant.touched
       (change_touches c.args.c c.prefix-item.result c.loop-prefix.self.ribs c.withdraw.new.self (c.withdraw.ensures.touched c.loop-prefix.self.numbered));
+  stirs = stirs_more c.args.c c.prefix-item.result (take c.loop-prefix.prefix-index c.args.prefixes.now) None c.args.self.now.ribs c.loop-prefix.self.ribs c.withdraw.new.self (c.loop-prefix.self.ribs_len ∙ c.loop-prefix.invariant.count ∙ sym c.args.self.now.ribs_len) c.loop-prefix.invariant.held c.withdraw.ensures.held (c.withdraw.ensures.touched c.loop-prefix.self.numbered) c.loop-prefix.invariant.stirs;
 }
 
 pub returns-clause-sessions : goal.returns-clause-sessions
@@ -54,3 +57,6 @@ returns-clause-held c = subst (λ ps. HasOverlaid c.args.c ps None c.args.self.n
 
 pub returns-clause-touched : goal.returns-clause-touched
 returns-clause-touched c = c.loop-prefix.invariant.touched
+
+pub returns-clause-stirs : goal.returns-clause-stirs
+returns-clause-stirs c = c.loop-prefix.invariant.stirs

@@ -1,6 +1,7 @@
 use Rattle.std.proofs.Common.{◌≡◌, take}
 use Rattle.std.specs.Prelude.{None}
 use Rattle.rs_core.specs.Core.{client_count}
+use Rattle.rs_core.specs.Ribs.{Stirs}
 use Rattle.rs_core.specs.Steps.{IsSpared, HasOverlaid}
 use Rattle.rs_core.specs.Voices.{TouchesOthers}
 use Rattle.rs_core.proofs.route_server.Core.withdraw_all.Given as goal
@@ -15,4 +16,5 @@ invariant-loop-prefix l = record {
   others : IsSpared l.c l.fn.self.ribs.tables l.self.ribs.tables;
   held : HasOverlaid l.c (take l.prefix-index l.prefixes) None l.fn.self.ribs.tables l.self.ribs.tables;
   touched : TouchesOthers l.c l.fn.self.ribs l.self.ribs;
+  stirs : Stirs l.c l.fn.self.ribs l.self.ribs;
 }

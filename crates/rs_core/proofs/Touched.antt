@@ -1,0 +1,178 @@
+-- What calls make of what is touched for the clients, by the run, and what a turn decides of it.
+use Rattle.std.proofs.Common.{◌≡◌, inl, inr, ◌<◌, ◌+◌, ◌||◌, ℕ, zero, suc, Bool, true, false, List, [], ◌∷◌, length, refl, sym, ◌∙◌, ap, subst, arith}
+use Rattle.std.specs.Prelude.{Option, Some, None, IsSome, is_some, slice_index_or, if◌then◌else◌}
+use Rattle.std.specs.List.{list_any}
+use Rattle.std.specs.Global.{Vec}
+use Rattle.std.specs.FinMap as map
+use Rattle.rs_octets.specs.Prefixes.{Prefix}
+use Rattle.rs_attrs.specs.Meaning.{Attribute}
+use Rattle.rs_adjin.specs.AdjIns.{held_of}
+use Rattle.rs_adjin.specs.AdjIns as adj_ins
+use Rattle.rs_adjin.specs.Listing.{holders_from, with_holder}
+use Rattle.rs_policy.specs.Configuration.{Configuration}
+use Rattle.rs_outlet.specs.declared.answers.Last.TheVariants as lasts
+use Rattle.rs_outlet.specs.declared.answers.Speech.{Speech}
+use Rattle.rs_outlet.specs.Due.{any_holds, due_to}
+use Rattle.rs_outlet.specs.HeldBy.{tables_of}
+use Rattle.rs_outlet.specs.Turns.{HasTurned}
+use Rattle.rs_outlet.specs.Views.{View, IsCount, Prefixes, Table, if_up, is_touched, is_whole, touched_at, with_touch}
+use Rattle.rs_core.specs.Points.{latest}
+use Rattle.rs_core.specs.Moves.{Move}
+use Rattle.rs_core.specs.Runs.{is_established, due, dues, held_in, table}
+use Rattle.rs_core.specs.Ribs.{outlet_in, ChangesAll, Stirs, StirsWhere}
+use Rattle.rs_core.specs.Touches.{touched_with, IsTouchedWhere}
+use Rattle.rs_core.specs.Turns.{IsDone, IsTurn, IsMarked}
+use Rattle.rs_core.specs.Agreeing.{Agrees}
+use Rattle.rs_core.specs.Core.{client_count, is_refusal, is_refused, last_in, last_of, loc_in, loc_rib, refusal_in, touched_for, touched_in}
+use Rattle.rs_core.specs.Stirring.{DecidesTouched, IsChangedBy, IsCountOf, TouchesAll, TouchesOthersWhere, TouchesWhere, stands, with_touches}
+use Rattle.rs_core.specs.declared.ribs.Ribs.{Ribs}
+use Rattle.rs_core.specs.declared.route_server.Core.{Core}
+use Rattle.rs_core.proofs.Drained.{established_spoken}
+use Rattle.rs_core.proofs.InTurn.{has_what_was_due}
+use Rattle.rs_core.proofs.Outgoing.{within}
+use Rattle.rs_core.proofs.Paying.{nobody, outlet_is}
+use Rattle.rs_core.proofs.Serving.{due_is, due_spoken}
+use Rattle.rs_core.proofs.Stirring.{stirs_as}
+
+-- ---- what is seen of an outlet
+
+pub touched_is : (core : Core) (c : ℕ) → c < core.count → touched_for core c ≡ (outlet_in core.ribs c nobody).touched
+unfolding touched_for
+touched_is core c lt = ap touched_in (outlet_is core c lt)
+
+loc_is : (core : Core) (c : ℕ) (p : Prefix) → c < core.count → loc_rib core c p ≡ map.get (outlet_in core.ribs c nobody).loc p
+unfolding loc_rib
+loc_is core c p lt = ap (λ o. loc_in o p) (outlet_is core c lt)
+
+last_is : (core : Core) (c : ℕ) → c < core.count → last_of core c ≡ (outlet_in core.ribs c nobody).last
+unfolding last_of
+last_is core c lt = ap last_in (outlet_is core c lt)
+
+-- the outlet of a client that is Established is spoken to
+spoken_outlet : (core : Core) (run : List Move) (c : ℕ) → c < core.count → Agrees core run → is_established run c ≡ true → (speech : Speech) × ((outlet_in core.ribs c nobody).speech ≡ Some speech)
+spoken_outlet core run c lt h up =
+    let heard = established_spoken run c up in
+    (heard.0, ((h.clients c lt).knows.outlet h.config nobody).speech ∙ heard.1)
+
+-- ---- touches
+
+touches_by_speech : (ps : List Prefix) (v : View) (speech : Speech) → v.speech ≡ Some speech → (touched_with ps v).touched ≡ with_touches ps v.touched
+touches_by_speech [] v speech up = refl
+touches_by_speech (p ∷ ps) v speech up = touches_by_speech ps (touched_at p v) speech up ∙ ap (with_touches ps) (ap (λ o. if_up o (with_touch v.touched p) v.touched) up)
+
+outlet_touched : (Holds : Prefix → Type 0) (v w : View) (speech : Speech) → v.speech ≡ Some speech → IsTouchedWhere Holds v w → TouchesWhere Holds v.touched w.touched
+outlet_touched Holds v w speech up h = record {
+  prefixes = h.prefixes;
+  just = h.just;
+  are = ap (λ (x : View). x.touched) h.touched.is ∙ touches_by_speech h.prefixes v speech up;
+}
+
+-- what a client's call touched for the others, by two runs that the core agreed with
+pub touches_others : (Holds : Prefix → Type 0) (c : ℕ) (old new : Core) (run : List Move) → Agrees old run → new.count ≡ old.count → StirsWhere Holds c old.ribs new.ribs → TouchesOthersWhere Holds c run old new
+unfolding client_count
+touches_others Holds c old new run h count stirs = record {
+  others = λ d there ne up.
+      let heard = spoken_outlet old run d there h up in
+      subst (λ t. TouchesWhere Holds t (touched_for new d)) (sym (touched_is old d there))
+      (subst (λ t. TouchesWhere Holds (outlet_in old.ribs d nobody).touched t) (sym (touched_is new d (subst (λ n. d < n) (sym count) there)))
+      (outlet_touched Holds (outlet_in old.ribs d nobody) (outlet_in new.ribs d nobody) heard.0 heard.1 (stirs.others d nobody (within old d there) ne)));
+}
+
+-- where its value is another one behind a move
+pub touches_changes : (c : ℕ) (move : Move) (old new : Core) (run : List Move) → c < old.count → Agrees old run → Agrees new (move ∷ run) → new.count ≡ old.count → Stirs c old.ribs new.ribs
+    → TouchesOthersWhere (IsChangedBy move run c) c run old new
+touches_changes c move old new run lt h after count stirs =
+    let before : (p : Prefix) → held_of old.ribs.tables c p ≡ table run c p = (h.clients c lt).knows.table in
+    let now : (p : Prefix) → held_of new.ribs.tables c p ≡ table (move ∷ run) c p = (after.clients c (subst (λ n. c < n) (sym count) lt)).knows.table in
+    touches_others (IsChangedBy move run c) c old new run h count
+    (stirs_as _ (IsChangedBy move run c) c old.ribs new.ribs (λ p. (λ differs e. differs (now p ∙ e ∙ sym (before p)), λ differs e. differs (sym (now p) ∙ e ∙ before p))) stirs)
+
+-- another configuration
+pub touches_all : (old new : Core) (run : List Move) → new.count ≡ old.count → ChangesAll (λ c. IsMarked old.ribs.tables) old.ribs new.ribs → Agrees old run → TouchesAll run new
+unfolding client_count
+touches_all old new run count marked h = record {
+  each = λ c lt up.
+      let there = subst (λ n. c < n) count lt in
+      let heard = spoken_outlet old run c there h up in
+      let v : View = outlet_in old.ribs c nobody in
+      touched_is new c lt ∙ ap (λ (x : View). x.touched) (marked.each c nobody (within old c there)).is ∙ ap (λ o. if_up o None v.touched) heard.1;
+}
+
+-- ---- a turn
+
+holders_alike : (x y : ℕ → Option (List Attribute)) (n k left : ℕ) → k + left ≡ n → ((d : ℕ) → d < n → x d ≡ y d) → holders_from x k left ≡ holders_from y k left
+holders_alike x y n k zero sum same = refl
+holders_alike x y n k (suc left) sum same =
+    let rest : holders_from x (suc k) left ≡ holders_from y (suc k) left = holders_alike x y n (suc k) left (omega (arith, sum)) same in
+    let here : x k ≡ y k = same k (omega (arith, sum)) in
+    (λ i. with_holder k (here i) (rest i))
+
+-- any client holds it by the tables just where one does by the run
+holds_alike : (core : Core) (run : List Move) (p : Prefix) → Agrees core run → any_holds (tables_of core.ribs.config core.ribs.tables) p ≡ any_holds (held_in run) p
+holds_alike core run p h =
+    ap (list_any (λ x. true)) (holders_alike (λ d. held_of core.ribs.tables d p) (λ d. table run d p) (adj_ins.client_count core.ribs.tables) 0 (adj_ins.client_count core.ribs.tables) (omega arith)
+    (λ d lt. (h.clients d (subst (λ n. d < n) (core.ribs.tables_len ∙ core.ribs_len) lt)).knows.table p))
+    ∙ ap (λ n. list_any (λ x. true) (holders_from (λ d. table run d p) 0 n)) (core.ribs.tables_len ∙ sym core.ribs.clients_len ∙ ap (λ (s : Configuration). length s.clients) h.config)
+
+count_by : (loc : Table) (held is_in : Prefix → Bool) (touched : Option Prefixes) (n : ℕ) → ((p : Prefix) → (map.contains_key loc p || held p) ≡ is_in p) → IsCount held loc touched n → IsCountOf is_in touched n
+count_by loc held is_in None n same h = record { all = h.all; holds = λ p. h.holds p ∙ same p; size = h.size }
+count_by loc held is_in (Some s) n same h = h
+
+pub decides_touched : (c : ℕ) (old new : Core) (mid : Ribs) (run : List Move) → c < old.count → new.count ≡ old.count → ChangesAll (λ d. IsTurn old.ribs.config old.ribs.tables) old.ribs mid → new.ribs.outlets ≡ mid.outlets
+    → Agrees old run → is_established run c ≡ true → is_refused new c ≡ false → DecidesTouched run c old new
+unfolding client_count is_refused
+decides_touched c old new mid run lt count turned same h up done = by_turn (turned.each c nobody (within old c lt)) where
+  now : c < new.count
+  now = subst (λ n. c < n) (sym count) lt
+
+  v : View
+  v = outlet_in old.ribs c nobody
+
+  w : View
+  w = outlet_in mid c nobody
+
+  is : outlet_in new.ribs c nobody ≡ w
+  is = ap (λ (x : Vec View). slice_index_or x.items c nobody) same
+
+  speech : Speech
+  speech = (spoken_outlet old run c lt h up).0
+
+  spoken : v.speech ≡ Some speech
+  spoken = (spoken_outlet old run c lt h up).1
+
+  was : touched_for old c ≡ v.touched
+  was = touched_is old c lt
+
+  some : IsSome v.speech
+  some = subst IsSome (sym spoken) refl
+
+  stood : (p : Prefix) → map.get v.loc p ≡ latest (dues run c p)
+  stood p = sym (loc_is old c p lt) ∙ has_what_was_due old run c p lt h up
+
+  due_here : (p : Prefix) → due_to (tables_of old.ribs.config old.ribs.tables) v.client speech p ≡ due run c p
+  due_here p =
+      ap (λ k. due_to (tables_of old.ribs.config old.ribs.tables) k speech p) (old.ribs.kept c nobody (subst (λ n. c < n) (sym (old.ribs.outlets_len ∙ old.ribs_len)) lt)).client
+      ∙ due_is old run c speech p h
+      ∙ sym (due_spoken run c speech p (sym ((h.clients c lt).knows.outlet h.config nobody).speech ∙ spoken))
+
+  by_done : (d : IsDone old.ribs.config old.ribs.tables v w) → HasTurned old.ribs.config old.ribs.tables v w d.turned → DecidesTouched run c old new
+  by_done d t = record {
+    turned = d.turned;
+    last = last_is new c now ∙ ap (λ (x : View). x.last) is ∙ d.last;
+    whole = t.whole some ∙ ap is_whole (sym was);
+    count = subst (λ o. IsCountOf (stands run c) o d.turned.decided) (sym was)
+        (count_by v.loc (any_holds (tables_of old.ribs.config old.ribs.tables)) (stands run c) v.touched d.turned.decided (λ p. (λ i. is_some (stood p i) || holds_alike old run p h i)) (t.count some));
+    decided = λ p touched.
+        loc_is new c p now ∙ ap (λ (x : View). map.get x.loc p) is ∙ t.loc speech spoken p
+        ∙ ap (λ b. if b then due_to (tables_of old.ribs.config old.ribs.tables) v.client speech p else map.get v.loc p) (ap (λ o. is_touched o p) (sym was) ∙ touched) ∙ due_here p;
+    kept = λ p untouched.
+        loc_is new c p now ∙ ap (λ (x : View). map.get x.loc p) is ∙ t.loc speech spoken p
+        ∙ ap (λ b. if b then due_to (tables_of old.ribs.config old.ribs.tables) v.client speech p else map.get v.loc p) (ap (λ o. is_touched o p) (sym was) ∙ untouched) ∙ sym (loc_is old c p lt);
+    none_left = touched_is new c now ∙ ap (λ (x : View). x.touched) is ∙ t.touched some;
+  }
+
+  by_turn : IsTurn old.ribs.config old.ribs.tables v w → DecidesTouched run c old new
+  by_turn (inl d) = by_done d (d.decided (old.numbered.each c nobody (within old c lt)))
+  by_turn (inr refused) = absurd (
+      let last : (outlet_in new.ribs c nobody).last ≡ lasts.Refused = ap (λ (x : View). x.last) is ∙ ap (λ (x : View). x.last) refused in
+      let f : true ≡ false = sym (ap refusal_in (outlet_is new c now) ∙ ap is_refusal last) ∙ done in cc)
