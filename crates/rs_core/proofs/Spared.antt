@@ -37,3 +37,9 @@ pub put_spares : (c : ℕ) (old mid new : Core) (w : Watched) → c < length mid
     → new.watched.items ≡ slice_set mid.watched.items c w → Spares c old mid → Spares c old new
 put_spares c old mid new w lt count sessions buffers ribs set spared =
     spares_both c old mid new spared (written c mid new count sessions buffers ribs (others_kept mid.watched.items new.watched.items c w lt set))
+
+-- a value was put in first
+pub kept_spares : (c : ℕ) (old mid new : Core) (w : Watched) → c < length old.watched.items → mid.count ≡ old.count → mid.sessions ≡ old.sessions → mid.buffers ≡ old.buffers → mid.ribs ≡ old.ribs
+    → mid.watched.items ≡ slice_set old.watched.items c w → Spares c mid new → Spares c old new
+kept_spares c old mid new w lt count sessions buffers ribs set spared =
+    spares_both c old mid new (written c old mid count sessions buffers ribs (others_kept old.watched.items mid.watched.items c w lt set)) spared

@@ -75,6 +75,6 @@ returns-clause-forgotten c = λ s h why cut watched.
     }
 
 pub returns-clause-stirs : goal.returns-clause-stirs
-returns-clause-stirs c = subst (λ r. Stirs c.args.c r c.clear.new.self) (c.pass_over.ensures.ribs ∙ c.note_ending.ensures.ribs)
+returns-clause-stirs c = subst (λ r. Stirs c.args.c r c.clear.new.self) c.pass_over.ensures.ribs
     (stirs_then_own c.args.c _ c.pass_over.new.self.ribs c.unlearn.new.self c.clear.new.self c.unlearn.ensures.settings.count
     (held_stirs c.args.c 0 c.pass_over.new.self.ribs c.unlearn.new.self c.unlearn.ensures.held (c.unlearn.ensures.touched c.pass_over.new.self.numbered)) c.clear.ensures.tables c.clear.ensures.outlet)

@@ -120,7 +120,7 @@ returns-then-is_empty-2-clause-stirs c = λ s h config at.
     let taken = c.take_buffer-buffer in
     let heard = c.hear_waiting-heard in
     let live = sym (c.is_live.ensures s h at.knows) ∙ c.if-not-is_live.false in
-    let was = unmoved c.args.self.now taken.new.self s i h taken.ensures.sessions taken.ensures.ribs at.knows in
+    let was = unmoved c.args.self.now taken.new.self s i h taken.ensures.sessions taken.ensures.ribs taken.ensures.watched at.knows in
     let front = c.in_ok-rest.ensures.heard s h (ap (λ (r : Ribs). r.config) taken.ensures.ribs ∙ config) live was (at.waits taken.result taken.ensures.taken) in
     let whole : front.front ≡ c.args.piece.now = sym (front.whole ∙ ap (λ r. front.front ++ r) (is_none c.in_ok-rest.rest.now (sym c.is_empty-2.ensures ∙ c.if-is_empty-2.true)) ∙ append-nil front.front) in
     front_stirs s i h front.front c.args.piece.now c.args.self.now taken.new.self heard.new.self c.put_buffer.new.self taken.ensures.ribs c.put_buffer.ensures.ribs whole (stirs_once s i front.front h taken.new.self heard.new.self front.once heard.ensures.stirs was front.knows)
@@ -133,14 +133,14 @@ returns-clause-stirs c = map_ok c.hear_piece-2.result c.hear_piece-2.ensures.sti
     let heard = c.hear_waiting-heard in
     let live = sym (c.is_live.ensures s h at.knows) ∙ c.if-not-is_live.false in
     let first = ap (λ (r : Ribs). r.config) taken.ensures.ribs ∙ config in
-    let was = unmoved c.args.self.now taken.new.self s i h taken.ensures.sessions taken.ensures.ribs at.knows in
+    let was = unmoved c.args.self.now taken.new.self s i h taken.ensures.sessions taken.ensures.ribs taken.ensures.watched at.knows in
     let front = c.in_ok-rest.ensures.heard s h first live was (at.waits taken.result taken.ensures.taken) in
     subst (λ o. StirsWhere (IsAlteredBy s i o h) i c.args.self.now.ribs c.hear_piece-2.new.self.ribs) (sym front.whole)
     (stirs_behind s i front.front c.in_ok-rest.rest.now h c.args.self.now.ribs c.put_buffer.new.self.ribs c.hear_piece-2.new.self.ribs
     (ap (λ (r : Ribs). r.count) c.put_buffer.ensures.ribs ∙ heard.new.self.ribs_len ∙ heard.ensures.spares.count ∙ taken.ensures.count ∙ sym c.args.self.now.ribs_len)
     (front_stirs s i h front.front front.front c.args.self.now taken.new.self heard.new.self c.put_buffer.new.self taken.ensures.ribs c.put_buffer.ensures.ribs refl (stirs_once s i front.front h taken.new.self heard.new.self front.once heard.ensures.stirs was front.knows))
     (on s (hears s i front.front h) (ap (λ (r : Ribs). r.config) c.put_buffer.ensures.ribs ∙ heard.ensures.spares.config ∙ first)
-    (front_between heard.new.self c.put_buffer.new.self s i h c.args.piece.now heard.new.buffer.items c.in_ok-rest.rest.now c.put_buffer.ensures.sessions c.put_buffer.ensures.ribs c.put_buffer.ensures.put
+    (front_between heard.new.self c.put_buffer.new.self s i h c.args.piece.now heard.new.buffer.items c.in_ok-rest.rest.now c.put_buffer.ensures.sessions c.put_buffer.ensures.ribs c.put_buffer.ensures.watched c.put_buffer.ensures.put
     (sym c.is_empty-2.ensures ∙ c.if-is_empty-2.false) front))))
 
 pub returns-then-not-is_live-clause-keeps : goal.returns-then-not-is_live-clause-keeps

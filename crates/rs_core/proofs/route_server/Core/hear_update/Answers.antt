@@ -17,6 +17,7 @@ use Rattle.rs_core.proofs.Updating.{is_change}
 use Rattle.rs_core.proofs.Saying.{update_reset, update_changes, at_fault, moded_up, is_reset_beyond, is_none_beyond, reset_follows, announcing}
 use Rattle.rs_core.proofs.Stirring.{stirs_same}
 use Rattle.rs_core.proofs.Raising.{keeps_same}
+use Rattle.rs_core.proofs.Spared.{kept_spares}
 use Rattle.rs_core.proofs.route_server.Core.hear_update.Goals as goal
 
 pub returns-in_err-code-clause-refused : goal.returns-in_err-code-clause-refused
@@ -102,3 +103,10 @@ returns-else-is_beyond-clause-keeps c = λ s h config knows none.
     let there : c.args.c < length kept = subst (λ k. c.args.c < k) (sym c.args.self.now.watched_len) c.requires in
     let was = slice_get_read kept (length kept) c.args.c c.index_mut.result.now refl there c.index_mut.ensures.value in
     c.change.ensures.keeps s (found c.in-Change.faulted h) config (found_knows c.args.self.now _ s c.args.c h c.index_mut.result.now c.note.new.self c.in-Change.faulted refl refl was there refl c.note.ensures knows) none
+
+pub returns-else-is_beyond-clause-spares : goal.returns-else-is_beyond-clause-spares
+unfolding client_count
+returns-else-is_beyond-clause-spares c =
+    let kept = c.args.self.now.watched.items in
+    let there : c.args.c < length kept = subst (λ k. c.args.c < k) (sym c.args.self.now.watched_len) c.requires in
+    kept_spares c.args.c c.args.self.now _ c.change.new.self c.note.new.self there refl refl refl refl refl c.change.ensures.spares

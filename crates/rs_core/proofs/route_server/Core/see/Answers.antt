@@ -45,3 +45,6 @@ returns-clause-keeps c = λ s h config knows none.
     let lt : c.args.c < length sessions = subst (λ k. c.args.c < k) (sym c.args.self.now.sessions_len) c.requires in
     let read = slice_get_read sessions (length sessions) c.args.c c.index_mut.result.now refl lt c.index_mut.ensures.value in
     item_keeps c.args.self.now c.act.new.self c.moment-act.result (Moment c.args.t) c.index_mut.result.now c.moment-act.new.self s c.args.c h read lt c.moment-act.ensures.hears c.act.ensures.own config knows none
+
+pub returns-clause-stirs : goal.returns-clause-stirs
+returns-clause-stirs c = c.act.ensures.stirs
