@@ -123,7 +123,6 @@ impl Waits {
     }
 
     /// Makes room for so many places.
-    #[tactic(auto, using(crate::proofs::Links::same_linked))]
     pub(crate) fn reserve(&mut self, count: usize) -> Result<(), AllocError>
         ensures items { self.new.places.items ≡ self.old.places.items }
         ensures room { OnOk result (count ≤ vec_capacity self.new.places) }

@@ -1,14 +1,58 @@
-use Rattle.std.proofs.Common.{refl}
+use Rattle.std.proofs.Common.{◌≡◌, ◌∙◌, false, List, length, ap, refl, subst, sym, arith}
+use Rattle.std.specs.Prelude.{drop, take}
+use Rattle.std.specs.List.{AllWithin, IsDistinct}
+use Rattle.std.specs.List.Sorted.{IsStrictlySortedBy}
+use Rattle.std.specs.Ordering.{eq_by_cmp}
+use Rattle.rs_octets.specs.Prefixes.{prefix_order}
+use Rattle.rs_outlet.specs.declared.waiting.Wait.{Wait}
+use Rattle.rs_outlet.specs.Places.{is_announced, is_withdrawn, open_count, prefixes_at}
 use Rattle.rs_outlet.proofs.Links.{same_linked}
 use Rattle.rs_outlet.proofs.waiting.Waits.reserve.Goals as goal
 
-pub invariant_of-self-clause-chains : goal.invariant_of-self-clause-chains
-invariant_of-self-clause-chains c = same_linked c.args.self.now.places.items c.reserve.new.self.items c.args.self.now.links.items c.args.self.now.links.items c.reserve.ensures.items refl c.args.self.now.chains
+pub invariant_of-self : goal.invariant_of-self
+invariant_of-self c =
+    let old = c.args.self.now in
+    let same : c.reserve.new.self.items ≡ old.places.items = c.reserve.ensures.items in
+    record {
+      counted = ap open_count same ∙ old.counted;
+      withdrawn = subst (λ (ws : List Wait). AllWithin (λ (w : Wait). is_withdrawn w ≡ false) ws 0 old.gone) (sym same) old.withdrawn;
+      announced = subst (λ (ws : List Wait). AllWithin (λ (w : Wait). is_announced w ≡ false) ws 0 old.news) (sym same) old.announced;
+      chains = same_linked old.places.items c.reserve.new.self.items old.links.items old.links.items same refl old.chains;
+      within = omega (arith, old.within, ap length same, old.places.ok, c.reserve.new.self.ok);
+      first = subst (λ (ws : List Wait). IsStrictlySortedBy prefix_order (take old.sorted (prefixes_at ws))) (sym same) old.first;
+      late = subst (λ (ws : List Wait). IsStrictlySortedBy prefix_order (drop old.sorted (prefixes_at ws))) (sym same) old.late;
+      apart = subst (λ (ws : List Wait). IsDistinct (eq_by_cmp prefix_order) (prefixes_at ws)) (sym same) old.apart;
+      one_run = λ ready. omega (arith, old.one_run ready, ap length same, old.places.ok, c.reserve.new.self.ok);
+    }
 
-pub invariant_of-self-in-Break-branch-2-clause-chains : goal.invariant_of-self-in-Break-branch-2-clause-chains
-invariant_of-self-in-Break-branch-2-clause-chains c =
-    same_linked c.args.self.now.places.items c.reserve.new.self.items c.args.self.now.links.items c.reserve-2.new.self.items c.reserve.ensures.items c.reserve-2.ensures.items c.args.self.now.chains
+pub invariant_of-self-in-Break-branch-2 : goal.invariant_of-self-in-Break-branch-2
+invariant_of-self-in-Break-branch-2 c =
+    let old = c.args.self.now in
+    let same : c.reserve.new.self.items ≡ old.places.items = c.reserve.ensures.items in
+    record {
+      counted = ap open_count same ∙ old.counted;
+      withdrawn = subst (λ (ws : List Wait). AllWithin (λ (w : Wait). is_withdrawn w ≡ false) ws 0 old.gone) (sym same) old.withdrawn;
+      announced = subst (λ (ws : List Wait). AllWithin (λ (w : Wait). is_announced w ≡ false) ws 0 old.news) (sym same) old.announced;
+      chains = same_linked old.places.items c.reserve.new.self.items old.links.items c.reserve-2.new.self.items same c.reserve-2.ensures.items old.chains;
+      within = omega (arith, old.within, ap length same, old.places.ok, c.reserve.new.self.ok);
+      first = subst (λ (ws : List Wait). IsStrictlySortedBy prefix_order (take old.sorted (prefixes_at ws))) (sym same) old.first;
+      late = subst (λ (ws : List Wait). IsStrictlySortedBy prefix_order (drop old.sorted (prefixes_at ws))) (sym same) old.late;
+      apart = subst (λ (ws : List Wait). IsDistinct (eq_by_cmp prefix_order) (prefixes_at ws)) (sym same) old.apart;
+      one_run = λ ready. omega (arith, old.one_run ready, ap length same, old.places.ok, c.reserve.new.self.ok);
+    }
 
-pub invariant_of-self-2-clause-chains : goal.invariant_of-self-2-clause-chains
-invariant_of-self-2-clause-chains c =
-    same_linked c.args.self.now.places.items c.reserve.new.self.items c.args.self.now.links.items c.reserve-2.new.self.items c.reserve.ensures.items c.reserve-2.ensures.items c.args.self.now.chains
+pub invariant_of-self-2 : goal.invariant_of-self-2
+invariant_of-self-2 c =
+    let old = c.args.self.now in
+    let same : c.reserve.new.self.items ≡ old.places.items = c.reserve.ensures.items in
+    record {
+      counted = ap open_count same ∙ old.counted;
+      withdrawn = subst (λ (ws : List Wait). AllWithin (λ (w : Wait). is_withdrawn w ≡ false) ws 0 old.gone) (sym same) old.withdrawn;
+      announced = subst (λ (ws : List Wait). AllWithin (λ (w : Wait). is_announced w ≡ false) ws 0 old.news) (sym same) old.announced;
+      chains = same_linked old.places.items c.reserve.new.self.items old.links.items c.reserve-2.new.self.items same c.reserve-2.ensures.items old.chains;
+      within = omega (arith, old.within, ap length same, old.places.ok, c.reserve.new.self.ok);
+      first = subst (λ (ws : List Wait). IsStrictlySortedBy prefix_order (take old.sorted (prefixes_at ws))) (sym same) old.first;
+      late = subst (λ (ws : List Wait). IsStrictlySortedBy prefix_order (drop old.sorted (prefixes_at ws))) (sym same) old.late;
+      apart = subst (λ (ws : List Wait). IsDistinct (eq_by_cmp prefix_order) (prefixes_at ws)) (sym same) old.apart;
+      one_run = λ ready. omega (arith, old.one_run ready, ap length same, old.places.ok, c.reserve.new.self.ok);
+    }
