@@ -13,7 +13,8 @@ use Rattle.rs_core.specs.Watching.{with_faults, watched_by}
 use Rattle.rs_core.specs.declared.endings.Ending.{Ending}
 use Rattle.rs_core.specs.declared.endings.Watched.{Watched}
 use Rattle.rs_core.specs.declared.route_server.Core.{Core}
-use Rattle.rs_core.proofs.Voicing.{same_again, same_is, voiced_on}
+use Rattle.rs_core.proofs.Alike.{same_again, same_is}
+use Rattle.rs_core.proofs.Voicing.{voiced_on}
 use Rattle.rs_core.proofs.Ordering.{ordered_on}
 use Rattle.rs_core.proofs.Watching.{watched_set}
 

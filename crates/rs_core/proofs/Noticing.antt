@@ -5,13 +5,13 @@ use Rattle.std.proofs.lemmas.List.{drop-replicate}
 use Rattle.std.proofs.Math.Nat.{min-eq_left, min-eq_right}
 use Rattle.rs_core.specs.Watching.{notice_with}
 use Rattle.rs_core.specs.declared.endings.Notice.{Notice}
-use Rattle.rs_core.proofs.Continuing.{cut_take}
+use Rattle.rs_core.proofs.Continuing.{within_take}
 
 -- the first octets of the data, and zeros behind them
 data_is : (said : List ℕ) (n : ℕ) → n ≡ min (length said) 64 → take n said ++ drop n (replicate 64 0) ≡ take 64 said ++ replicate (64 - length said) 0
 data_is said n is = ap (λ l. l ++ drop n (replicate 64 0)) first ∙ ap (λ l. take 64 said ++ l) (drop-replicate n 64 0 ∙ ap (λ k. replicate k 0) rest) where
   first : take n said ≡ take 64 said
-  first = cut_take said 64 n (λ le. is ∙ min-eq_right le) (λ le. is ∙ min-eq_left le)
+  first = within_take said 64 n (λ le. is ∙ min-eq_right le) (λ le. is ∙ min-eq_left le)
 
   rest : 64 - n ≡ 64 - length said
   rest = omega (arith, is)

@@ -1,5 +1,5 @@
 -- Worked rows as runs, by computation: four clients, and what is due after each move that counts.
-use Rattle.std.specs.Prelude.{◌≡◌, ℕ, ◌+◌, true, false, List, [], ◌∷◌, ◌++◌, replicate, refl, codes, Some, None}
+use Rattle.std.specs.Prelude.{◌≡◌, ℕ, ◌+◌, true, false, List, [], ◌∷◌, ◌++◌, replicate, refl, codes, Some, None, Option}
 use Rattle.rs_octets.specs.Prefixes.{Prefix}
 use Rattle.rs_attrs.specs.Meaning.{Attribute, all_types}
 use Rattle.rs_octets.proofs.Rows.{hex}

@@ -9,7 +9,7 @@ use Rattle.rs_core.specs.declared.endings.Ending.{Ending}
 use Rattle.rs_core.specs.declared.endings.Watched.{Watched}
 use Rattle.rs_core.specs.declared.route_server.Core.{Core}
 use Rattle.rs_core.proofs.Agreeing.{spares_both}
-use Rattle.rs_core.proofs.Voicing.{alone_is}
+use Rattle.rs_core.proofs.Alike.{alone_is}
 use Rattle.rs_core.proofs.Watching.{others_kept}
 
 -- it alone is another

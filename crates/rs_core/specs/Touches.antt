@@ -1,5 +1,5 @@
 -- What touches, and asking for all again, make of an outlet.
-use Rattle.std.specs.Prelude.{◌≡◌, ◌↔◌, ℕ, List, [], ◌∷◌, IsSome}
+use Rattle.std.specs.Prelude.{None, ◌≡◌, ◌↔◌, ℕ, List, [], ◌∷◌, IsSome}
 use Rattle.std.specs.List.{Contains}
 use Rattle.std.specs.FinMap as map
 use Rattle.std.specs.FinSet as set

@@ -160,7 +160,7 @@ unfolding client_count
 returns-then-is_empty-2-clause-keeps c = λ s h config at none.
     let taken = c.take_buffer-buffer in
     let heard = c.hear_waiting-heard in
-    let was = unmoved c.args.self.now taken.new.self s c.args.c h taken.ensures.sessions taken.ensures.ribs at.knows in
+    let was = unmoved c.args.self.now taken.new.self s c.args.c h taken.ensures.sessions taken.ensures.ribs taken.ensures.watched at.knows in
     subst (λ r. KeepsTouches (outlet_in c.args.self.now.ribs c.args.c none) (outlet_in r c.args.c none)) (sym c.put_buffer.ensures.ribs)
     (subst (λ r. KeepsTouches (outlet_in r c.args.c none) (outlet_in heard.new.self.ribs c.args.c none)) taken.ensures.ribs
     (heard.ensures.keeps s h (ap (λ (r : Ribs). r.config) taken.ensures.ribs ∙ config) was none))
@@ -173,10 +173,10 @@ returns-clause-keeps c = both_ok c.hear_piece-2.result c.hear_piece-2.ensures.ke
     let heard = c.hear_waiting-heard in
     let live = sym (c.is_live.ensures s h at.knows) ∙ c.if-not-is_live.false in
     let first = ap (λ (r : Ribs). r.config) taken.ensures.ribs ∙ config in
-    let was = unmoved c.args.self.now taken.new.self s i h taken.ensures.sessions taken.ensures.ribs at.knows in
+    let was = unmoved c.args.self.now taken.new.self s i h taken.ensures.sessions taken.ensures.ribs taken.ensures.watched at.knows in
     let front = c.in_ok-rest.ensures.heard s h first live was (at.waits taken.result taken.ensures.taken) in
     let mid = ap (λ (r : Ribs). r.config) c.put_buffer.ensures.ribs ∙ heard.ensures.spares.config ∙ first in
-    let between = front_between heard.new.self c.put_buffer.new.self s i h c.args.piece.now heard.new.buffer.items c.in_ok-rest.rest.now c.put_buffer.ensures.sessions c.put_buffer.ensures.ribs c.put_buffer.ensures.put
+    let between = front_between heard.new.self c.put_buffer.new.self s i h c.args.piece.now heard.new.buffer.items c.in_ok-rest.rest.now c.put_buffer.ensures.sessions c.put_buffer.ensures.ribs c.put_buffer.ensures.watched c.put_buffer.ensures.put
     (sym c.is_empty-2.ensures ∙ c.if-is_empty-2.false) front in
     keeps_behind c.args.self.now c.put_buffer.new.self c.hear_piece-2.new.self s i front.front c.in_ok-rest.rest.now h config mid (c.hear_piece-2.ensures.spares.config ∙ mid)
     at.knows between.knows (on_heard s (hears s i front.front h) mid between).knows none
