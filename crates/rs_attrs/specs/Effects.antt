@@ -1,12 +1,16 @@
 -- What an UPDATE does, and what a list of UPDATEs means (RFC 4271, 4.3 and 6.3; RFC 7606, 2 to 5).
-use Rattle.std.specs.Prelude.{◌≡◌, ℕ, ◌<◌, ◌==◌, ◌⊎◌, Bool, true, false, ◌&&◌, ◌||◌, not, List, [], ◌∷◌, ◌++◌, length, take, drop, filter, reverse, find, Option, Some, None, is_none, is_err, Result, Ok, Err, nat_lt, if◌then◌else◌}
+use Rattle.std.specs.Prelude.{◌≡◌, ℕ, ◌<◌, ◌==◌, ◌⊎◌, Bool, true, false, ◌&&◌, ◌||◌, not, List, [], ◌∷◌, ◌++◌, length, take, drop, filter, reverse, find, Option, Some, None, option_map, is_none, is_err, Result, Ok, Err, nat_lt, if◌then◌else◌}
 use Rattle.std.specs.List.{list_any, filter_map, IsDistinct, AllZip}
+use Rattle.std.specs.Option.{option_or}
 use Rattle.std.specs.Int.{w16, from_be_bytes, to_be_bytes}
 use Rattle.rs_octets.specs.Prefixes.{Prefix}
 use Rattle.rs_octets.specs.PrefixFields.{prefixes_of}
 use Rattle.rs_attrs.specs.declared.mode.Mode.{Mode}
+use Rattle.rs_attrs.specs.declared.faults.Cause.TheVariants as cause
+use Rattle.rs_attrs.specs.declared.faults.Faulted.{Faulted}
 use Rattle.rs_attrs.specs.declared.faults.Faults.{Faults}
 use Rattle.rs_attrs.specs.Meaning.{Attribute, get, Reads, Reading, read_of}
+use Rattle.rs_attrs.specs.Flaws.{fault, faulted_of}
 use Rattle.rs_attrs.specs.Types as types
 
 -- ---- the fields of an UPDATE's body (RFC 4271, 4.3)
@@ -74,6 +78,10 @@ reset_of fields faults =
 abbrev pub lacks_mandatory : List Attribute → Bool
 lacks_mandatory m = is_none (get types.origin m) || is_none (get types.as_path m) || is_none (get types.next_hop m)
 
+-- the first of them that isn't there
+abbrev pub missing_of : List Attribute → Option ℕ
+missing_of m = find (λ kind. is_none (get kind m)) (types.origin ∷ types.as_path ∷ types.next_hop ∷ [])
+
 abbrev pub HasMandatory : List Attribute → Type 0
 HasMandatory m = lacks_mandatory m ≡ false
 
@@ -103,6 +111,23 @@ abbrev pub HasEffect : List ℕ → Mode → Effect → Type 0
 HasEffect body mode effect =
     (((fields : Fields) → IsBody body fields → ⊥) × (effect ≡ Reset 3 1))
     ⊎ ((fields : Fields) × IsBody body fields × (m : List Attribute) × (faults : Faults) × Reads fields.attributes mode m faults × IsEffect fields m faults effect)
+
+-- ---- what is told of an UPDATE that is taken, but not as it came (RFC 7606, 2 and 3, d)
+
+-- where there is NLRI, the first of ORIGIN, AS_PATH and NEXT_HOP that isn't
+abbrev pub missing_for : Fields → List Attribute → Option ℕ
+missing_for fields m = if is_empty fields.nlri then None else missing_of m
+
+-- an attribute that is missing, where none that came is treated as withdraw
+abbrev pub with_missing : Faulted → Option ℕ → Faulted
+with_missing faulted missing = record {
+  withdraw = option_or faulted.withdraw (option_map (λ kind. fault kind cause.Missing) missing);
+  discard = faulted.discard;
+}
+
+-- what is wrong with the attributes that came, and which one is missing
+abbrev pub told_of : Fields → Mode → Faulted
+told_of fields mode = with_missing (faulted_of fields.attributes mode) (missing_for fields (read_of fields.attributes mode).attributes)
 
 -- ---- the meaning of a list of UPDATEs
 

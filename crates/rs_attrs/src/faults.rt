@@ -1,6 +1,6 @@
 //! What is wrong with a field of path attributes: what comes of it (RFC 7606, 2), and what a server
 //! tells its operator of it, the first attribute for which the UPDATE is treated as withdraw and the
-//! first that is discarded.
+//! first that is discarded. Whether one is missing is asked of `Attrs`.
 
 ghost use Rattle.std.specs.Prelude.{◌≡◌, option_map};
 ghost use Rattle.rs_attrs.specs.Flaws.{value_cause, cause_in, flaw_by, cut_off, with_flaw};
@@ -35,17 +35,22 @@ pub enum Cause {
     Position,
     /// One of its type came before: it is passed over (RFC 7606, 3, g).
     Twice,
+    /// It is well-known and mandatory, and is not there (RFC 7606, 3, d).
+    Missing,
 }
 
-/// An attribute at fault: its type and why. The type is 0 where the field ends before the type.
+/// An attribute at fault, or missing: its type and why. The type is 0 where the field ends before
+/// the type.
 #[derive(Clone, Copy, Debug, PartialEq, Eq)]
 pub struct AttributeFault {
     pub kind: u8,
     pub cause: Cause,
 }
 
-/// The first attribute of a field that is treated as withdraw, and the first that is discarded. A
-/// type that is discarded whatever it says, as LOCAL_PREF, is none of them.
+/// The first attribute that is treated as withdraw, and the first that is discarded. A type that is
+/// discarded whatever it says, as LOCAL_PREF, is none of them. Of an UPDATE that announces routes,
+/// where no attribute of its own is treated as withdraw, the first is the mandatory one that is
+/// missing; a field of attributes alone misses none.
 #[derive(Clone, Copy, Debug, PartialEq, Eq)]
 pub struct Faulted {
     pub withdraw: Option<AttributeFault>,

@@ -1,9 +1,9 @@
 //! What the attributes of a route say. No call takes memory.
 
-ghost use Rattle.std.specs.Prelude.{◌≡◌, ◌≤◌, ◌<◌, ◌^◌, IfSome, length, option_map, sum_by, true, not};
+ghost use Rattle.std.specs.Prelude.{◌≡◌, ◌≤◌, ◌<◌, ◌^◌, IfSome, length, is_some, option_map, sum_by, true, not};
 ghost use Rattle.std.specs.Int.{w32, from_be_bytes};
 ghost use Rattle.rs_attrs.specs.Held.{attributes_in, values_size};
-ghost use Rattle.rs_attrs.specs.Effects.{lacks_mandatory};
+ghost use Rattle.rs_attrs.specs.Effects.{lacks_mandatory, missing_of};
 ghost use Rattle.rs_attrs.specs.Meaning.{get};
 ghost use Rattle.rs_attrs.specs.Paths.{segment_length};
 ghost use Rattle.rs_attrs.specs.Getters.{attribute_at, IsWellFormedAs, value_of, origin_of, path_of, next_hop_of, med_of, communities_of, has_community, path_length_of, path_has_of, origin_as_of};
@@ -133,11 +133,28 @@ impl Attrs {
         self.path().last()?.origin()
     }
 
+    /// The first of ORIGIN, AS_PATH and NEXT_HOP, which each route has (RFC 4271, 5), that is not
+    /// there.
+    pub fn missing(&self) -> Option<u8>
+        ensures first { result ≡ missing_of self.now }
+        ensures lacks { is_some result ≡ lacks_mandatory self.now }
+    {
+        if self.get(ORIGIN).is_none() {
+            Some(ORIGIN)
+        } else if self.get(AS_PATH).is_none() {
+            Some(AS_PATH)
+        } else if self.get(NEXT_HOP).is_none() {
+            Some(NEXT_HOP)
+        } else {
+            None
+        }
+    }
+
     /// Whether ORIGIN, AS_PATH and NEXT_HOP are there, as in each route (RFC 4271, 5).
     pub fn has_mandatory(&self) -> bool
         ensures { result ≡ not (lacks_mandatory self.now) }
     {
-        self.get(ORIGIN).is_some() && self.get(AS_PATH).is_some() && self.get(NEXT_HOP).is_some()
+        self.missing().is_none()
     }
 
     /// The communities, none where there is no COMMUNITIES (RFC 1997).

@@ -7,8 +7,7 @@ use Rattle.rs_octets.specs.Prefixes.{Prefix}
 use Rattle.rs_attrs.specs.declared.mode.Mode.{Mode}
 use Rattle.rs_attrs.specs.Meaning.{Attribute}
 use Rattle.rs_attrs.specs.declared.faults.Faulted.{Faulted}
-use Rattle.rs_attrs.specs.Flaws.{faulted_of}
-use Rattle.rs_attrs.specs.Effects.{Fields, IsBody, Effect, Reset, Changes, Change, HasEffect, has_prefix, is_empty, fields_of, effect_of}
+use Rattle.rs_attrs.specs.Effects.{Fields, IsBody, Effect, Reset, Changes, Change, HasEffect, has_prefix, is_empty, fields_of, effect_of, told_of}
 use Rattle.rs_update.proofs.BodyFields.{fields_of_body}
 use Rattle.rs_update.specs.Laws.{IsSameChange, IsSameEffect}
 use Rattle.rs_session.specs.declared.heard.Heard.TheVariants as heard
@@ -51,9 +50,9 @@ update_changes new s c h body mode change reset faulted m is beyond at_fault kno
     (subst (λ f. Knows new s c (takes_in s c (changing (reset_beyond (client_of s c).limit (change ∷ h.changes)) change f) h)) at_fault
     (subst (λ r. Knows new s c (takes_in s c (changing r change faulted) h)) (sym beyond) knows))
 
--- what is wrong with its attributes is read off its fields
+-- what is told of it is read off its fields
 pub at_fault : (body : List ℕ) (mode : Mode) (x : Change) (faulted : Faulted) → HasEffect body mode (Changes x)
-    → ((fields : Fields) → IsBody body fields → faulted ≡ faulted_of fields.attributes mode) → faulted ≡ faulted_by_fields mode (fields_of body)
+    → ((fields : Fields) → IsBody body fields → faulted ≡ told_of fields mode) → faulted ≡ faulted_by_fields mode (fields_of body)
 at_fault body mode x faulted has told = elim has [
   | inl none ↦ absurd (let e : ◌≡◌ {A = Effect} (Changes x) (Reset 3 1) = none.1 in cc)
   | inr it ↦ told it.0 it.1 ∙ sym (ap (faulted_by_fields mode) (fields_of_body body it.0 it.1))

@@ -11,8 +11,7 @@ use Rattle.rs_octets.specs.Messages.{body_of, newly_heard}
 use Rattle.rs_octets.specs.Prefixes.{Prefix}
 use Rattle.rs_attrs.specs.declared.mode.Mode.{Mode}
 use Rattle.rs_attrs.specs.Meaning.{Attribute}
-use Rattle.rs_attrs.specs.Effects.{Effect, Reset, Changes, Change, Fields, effect_of, fields_of, table_since, once}
-use Rattle.rs_attrs.specs.Flaws.{faulted_of}
+use Rattle.rs_attrs.specs.Effects.{Effect, Reset, Changes, Change, Fields, effect_of, fields_of, told_of, table_since, once}
 use Rattle.rs_attrs.specs.declared.faults.Faulted.{Faulted}
 use Rattle.rs_open.specs.Opens.{open_of}
 use Rattle.rs_open.specs.Refreshes.{family_of}
@@ -109,7 +108,7 @@ faulted_in h = faulted_by h.faults
 -- ---- what a message says
 
 -- what a session hears of a message; the body, if it is a NOTIFICATION; and what the message changes, and which of its attributes
--- are at fault, if it is an UPDATE without a session reset
+-- are at fault or missing, if it is an UPDATE without a session reset
 pub record Said : Type 0 where
   pub message : Heard
   pub change : Option Change
@@ -138,10 +137,10 @@ abbrev pub effect_said : Option ℕ → List Change → Faulted → Effect → S
 effect_said limit changes faulted (Reset code sub) = without_change (heard.Update (Some (code, sub)))
 effect_said limit changes faulted (Changes change) = changing (reset_beyond limit (change ∷ changes)) change faulted
 
--- what is wrong with the attributes of an UPDATE with these fields (RFC 7606, 2 to 4 and 7)
+-- what is wrong with an UPDATE with these fields (RFC 7606, 2 to 4 and 7)
 abbrev pub faulted_by_fields : Mode → Option Fields → Faulted
 faulted_by_fields mode None = no_faults
-faulted_by_fields mode (Some fields) = faulted_of fields.attributes mode
+faulted_by_fields mode (Some fields) = told_of fields mode
 
 -- an UPDATE of a client that isn't Established ends its session, whatever it says (RFC 4271, 6.6)
 abbrev pub update_said : Option Mode → Option ℕ → List Change → List ℕ → Said

@@ -49,7 +49,7 @@ ended_if lasts why = if lasts then Some why else None
 abbrev pub no_faults : Faulted
 no_faults = record { withdraw = None; discard = None }
 
--- an attribute was at fault
+-- an attribute was at fault, or one was missing
 abbrev pub is_faulted : Faulted → Bool
 is_faulted faulted = is_some faulted.withdraw || is_some faulted.discard
 

@@ -94,7 +94,8 @@ pub(crate) fn ended_if(lasts: bool, why: Ending) -> Option<Ending>
 }
 
 /// The UPDATEs of a client that were taken, but not as they came (RFC 7606, 2): some of their
-/// attributes were passed over, or their routes were withdrawn.
+/// attributes were passed over, or their routes were withdrawn, for an attribute that came or for
+/// want of one that each route has.
 #[derive(Clone, Copy, Debug, PartialEq, Eq)]
 pub struct FaultedUpdates {
     /// How many there were, as far as a u64 counts.

@@ -174,6 +174,7 @@ fn cause_text(cause: Cause) -> &'static str {
         Cause::Value => "malformed value",
         Cause::Position => "cut off",
         Cause::Twice => "there twice",
+        Cause::Missing => "missing",
     }
 }
 

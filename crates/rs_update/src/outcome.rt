@@ -1,8 +1,8 @@
 //! The effect of an UPDATE (RFC 7606, 2 to 5).
 
-ghost use Rattle.std.specs.Prelude.{◌≡◌, IfOk, false, option_map};
+ghost use Rattle.std.specs.Prelude.{◌≡◌, ◌&&◌, ◌||◌, IfOk, false, is_some, not, option_map};
 ghost use Rattle.rs_octets.specs.Names.{code_of, sub_of};
-ghost use Rattle.rs_attrs.specs.Effects.{HasEffect, effect_of, is_faulty, reset_of, treat_as_withdraw};
+ghost use Rattle.rs_attrs.specs.Effects.{HasEffect, effect_of, is_empty, is_faulty, lacks_mandatory, missing_for, reset_of, with_missing};
 ghost use Rattle.rs_update.specs.Changes.{fields_in, codes_named};
 ghost use Rattle.rs_update.specs.Laws.{IsSameEffect};
 ghost use Rattle.rs_update.specs.Outcomes.{effect_seen, change_seen, IsRising, AreDistinct, AreApart, HasItsAttributes, HasItsMandatory, TellsFaults, IsWithdrawn, IsAnnounced};
@@ -10,7 +10,7 @@ ghost use Rattle.rs_update.specs.declared.outcome.Outcome.TheVariants.{Reset};
 
 use crate::fields::{Fields, cut_body};
 use crate::prefixes::{make_rising, prefixes, take_away};
-use rs_attrs::{Attrs, Faulted, Faults, Mode, Parsed, read};
+use rs_attrs::{AttributeFault, Attrs, Cause, Faulted, Faults, Mode, read};
 use rs_octets::Notification::{
     self, InvalidNetworkField, MalformedAttributeList, UnrecognizedWellKnownAttribute,
 };
@@ -29,7 +29,7 @@ pub enum Outcome {
         withdrawn: Vec<Prefix>,
         announced: Vec<Prefix>,
         attrs: Option<Arc<Attrs>>,
-        /// The first attributes at fault, to be told.
+        /// What is told: the first attributes at fault, or the one that is missing.
         faulted: Faulted,
     },
 }
@@ -67,11 +67,38 @@ fn reset(name: Notification) -> Outcome
     Outcome::Reset(name.code(), name.sub())
 }
 
-/// Whether the NLRI counts as withdrawn (RFC 7606, 2 and 3, d).
-fn treats_as_withdraw(parsed: &Parsed, fields: &Fields<'_>) -> bool
-    ensures { result ≡ treat_as_withdraw (fields_in fields.now) parsed.now.attrs parsed.now.faults }
+/// The mandatory attribute for want of which the NLRI counts as withdrawn (RFC 7606, 3, d).
+fn missing(attrs: &Attrs, fields: &Fields<'_>) -> Option<u8>
+    ensures first { result ≡ missing_for (fields_in fields.now) attrs.now }
+    ensures lacks { is_some result ≡ (not (is_empty (fields_in fields.now).nlri) && lacks_mandatory attrs.now) }
 {
-    parsed.faults.withdraw || !fields.nlri.is_empty() && !parsed.attrs.has_mandatory()
+    if fields.nlri.is_empty() {
+        None
+    } else {
+        attrs.missing()
+    }
+}
+
+/// Whether the NLRI counts as withdrawn, for an attribute that came or for one that is missing
+/// (RFC 7606, 2 and 3, d).
+fn treats_as_withdraw(faults: &Faults, missing: Option<u8>) -> bool
+    ensures { result ≡ (faults.now.withdraw || is_some missing) }
+{
+    faults.withdraw || missing.is_some()
+}
+
+/// What is told of attributes at fault, and of one that is missing.
+fn told(faulted: Faulted, missing: Option<u8>) -> Faulted
+    ensures { result ≡ with_missing faulted missing }
+{
+    let missing = missing.map(|kind| AttributeFault {
+        kind,
+        cause: Cause::Missing,
+    });
+    Faulted {
+        withdraw: faulted.withdraw.or(missing),
+        discard: faulted.discard,
+    }
 }
 
 /// Withdraws all that an UPDATE names.
@@ -148,12 +175,13 @@ pub fn effect(alloc: Global, body: &[u8], mode: Mode) -> Result<Outcome, AllocEr
     if let Some(name) = reset_by(&parsed.faults, &fields) {
         return Ok(reset(name));
     }
-    let faulted = parsed.faulted;
+    let missing = missing(&parsed.attrs, &fields);
+    let faulted = told(parsed.faulted, missing);
     let Routes {
         withdrawn,
         announced,
         attrs,
-    } = if treats_as_withdraw(&parsed, &fields) {
+    } = if treats_as_withdraw(&parsed.faults, missing) {
         withdraw_all(alloc, withdrawn, &nlri)?
     } else {
         announce(alloc, withdrawn, nlri, parsed.attrs)?

@@ -1,5 +1,6 @@
 //! What UPDATEs do, by tables whose answers are worked out by hand from RFC 4271 and RFC 7606.
 
+mod faults;
 mod resets;
 mod routes;
 

@@ -111,6 +111,7 @@ fn told(alloc: Global, fault: Option<AttributeFault>) -> Result<String, AllocErr
         Cause::Value => "value",
         Cause::Position => "position",
         Cause::Twice => "twice",
+        Cause::Missing => "missing",
     };
     format!(in alloc; "{kind} {cause}")
 }

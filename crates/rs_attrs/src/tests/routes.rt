@@ -62,6 +62,24 @@ fn a_route_of_three_attributes(rt: HostRuntime) -> Result<(), Fail> {
 }
 
 #[test]
+fn the_first_mandatory_attribute_that_is_missing(rt: HostRuntime) -> Result<(), Fail> {
+    let alloc = rt.alloc();
+    for (field, missing) in [
+        (ROUTE.as_slice(), None),
+        (&ROUTE[..13], Some(3)),
+        (&ROUTE[4..], Some(1)),
+        (&ROUTE[13..], Some(1)),
+        (&ROUTE[..4], Some(2)),
+        (&[], Some(1)),
+    ] {
+        let attrs = attrs_of(alloc, field)?;
+        assert_eq!(rt; attrs.missing(), missing);
+        assert_eq!(rt; attrs.has_mandatory(), missing.is_none());
+    }
+    Ok(())
+}
+
+#[test]
 fn the_first_med_counts(rt: HostRuntime) -> Result<(), Fail> {
     let attrs = route_with(
         rt.alloc(),

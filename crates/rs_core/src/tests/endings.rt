@@ -3,7 +3,7 @@
 use crate::endings::{Ending, Notice};
 use crate::route_server::Core;
 use crate::tests::exchange::{
-    A, B, BAD_ROUTE, OPEN_A, OPEN_B, ROUTE, come_up, hear, server, with_a_route,
+    A, B, BAD_ROUTE, NO_NEXT_HOP, NO_ROUTE, OPEN_A, OPEN_B, ROUTE, come_up, hear, server, with_a_route,
 };
 use rs_attrs::{AttributeFault, Cause, Faulted};
 use rs_open::Short;
@@ -139,5 +139,25 @@ fn updates_at_fault_are_counted(rt: HostRuntime) -> Result<(), Fail> {
     hear(alloc, &mut core, A, BAD_ROUTE)?;
     assert_eq!(rt; faulted(&core, A), Some((2, origin)));
     assert_eq!(rt; faulted(&core, B), Some((0, none)));
+    Ok(())
+}
+
+#[test]
+fn routes_without_next_hop_are_counted(rt: HostRuntime) -> Result<(), Fail> {
+    let alloc = rt.alloc();
+    let mut core = server(alloc, "", "")?;
+    let next_hop = Faulted {
+        withdraw: Some(AttributeFault {
+            kind: 3,
+            cause: Cause::Missing,
+        }),
+        discard: None,
+    };
+    with_a_route(alloc, &mut core)?;
+    hear(alloc, &mut core, A, NO_NEXT_HOP)?;
+    assert_eq!(rt; faulted(&core, A), Some((1, next_hop)));
+    // What only withdraws misses nothing.
+    hear(alloc, &mut core, A, NO_ROUTE)?;
+    assert_eq!(rt; faulted(&core, A), Some((1, next_hop)));
     Ok(())
 }

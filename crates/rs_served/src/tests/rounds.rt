@@ -4,7 +4,7 @@ use crate::ports::Line;
 use crate::reports::Report;
 use crate::serve::{Limits, ServeFault, serve};
 use crate::tests::script::{Broken, Said, Script};
-use rs_attrs::{AttributeFault, Cause};
+use rs_attrs::{AttributeFault, Cause, Faulted};
 use rs_policy::Config;
 use std::alloc::{AllocError, Global};
 use std::sync::Wait;
@@ -219,6 +219,37 @@ fn faulty_updates_are_reported_once_a_second(rt: HostRuntime) -> Result<(), Fail
     }
     // All three were heard in one round, so in one second.
     assert_eq!(rt; (lines, updates), (1, 3));
+    Ok(())
+}
+
+/// The same route with ORIGIN IGP, and without NEXT_HOP.
+const NO_NEXT_HOP: &[u8] =
+    b"\xff\xff\xff\xff\xff\xff\xff\xff\xff\xff\xff\xff\xff\xff\xff\xff\x00\x28\x02\x00\x00\x00\x0d\x40\x01\x01\x00\x40\x02\x06\x02\x01\x00\x00\xfb\xf0\x18\xc6\x33\x64";
+
+#[test]
+fn a_route_without_next_hop_is_reported(rt: HostRuntime) -> Result<(), Fail> {
+    let mut ports = Script::new(rt.alloc(), 0);
+    let [open, keepalive] = comes_up(OPEN_A);
+    let bad = Said {
+        octets: NO_NEXT_HOP,
+        behind: COMING_UP,
+    };
+    ports.wire(0, A, &[open, keepalive, bad], COMING_UP)?;
+    ports.stay(0, 30);
+    ports.pace = 1;
+    served(&rt, rt.alloc(), &mut ports, until(1))?;
+    let told = Report::Faulted {
+        client: 0,
+        count: 1,
+        last: Faulted {
+            withdraw: Some(AttributeFault {
+                kind: 3,
+                cause: Cause::Missing,
+            }),
+            discard: None,
+        },
+    };
+    assert!(rt; ports.reports.contains(&told));
     Ok(())
 }
 

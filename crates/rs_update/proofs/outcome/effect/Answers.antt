@@ -1,18 +1,16 @@
-use Rattle.std.proofs.Common.{◌≡◌, ℕ, true, false, List, Vec, Global, Option, Some, None, sym, ap, ◌∙◌, subst, arith}
+use Rattle.std.proofs.Common.{◌≡◌, ◌||◌, ℕ, true, false, List, Vec, Global, Option, Some, None, sym, ap, ◌∙◌, subst, arith}
 use Rattle.std.specs.Prelude.{MatchOption, option_map}
 use Rattle.rs_octets.specs.declared.notification.Notification.TheVariants.{MalformedAttributeList, InvalidNetworkField}
 use Rattle.rs_octets.specs.Names.{code_of, sub_of}
 use Rattle.rs_octets.specs.declared.prefix.Prefix.{Prefix as DeclaredPrefix}
-use Rattle.rs_attrs.specs.Effects.{Fields, Reset, Changes, is_faulty, prefixes_in}
-use Rattle.rs_attrs.specs.Flaws.{faulted_of}
+use Rattle.rs_attrs.specs.Effects.{Reset, Changes, is_faulty, prefixes_in}
 use Rattle.rs_attrs.proofs.Fields.Legal.{are_octets}
-use Rattle.rs_attrs.proofs.OneMeaning.{same_fields}
 use Rattle.rs_update.proofs.BodyFields.{body_of_fields}
 use Rattle.rs_update.specs.Changes.{fields_in, codes_named}
 use Rattle.rs_update.specs.Outcomes.{change_seen}
 use Rattle.rs_update.proofs.Effecting.{no_fields, by_reading, withdrawn_faulty, nlri_faulty, by_reset, is_withdrawn, is_announced, same_withdrawn, same_announced, rising_distinct, BothRise, withdrawn_rise, announced_rise}
 use Rattle.rs_update.proofs.Mandatory.{has_mandatory, seen_complete}
-use Rattle.rs_update.proofs.OneEffect.{effect_is}
+use Rattle.rs_update.proofs.OneEffect.{effect_is, tells}
 use Rattle.rs_update.proofs.outcome.effect.Goals as goal
 use Rattle.rs_update.proofs.outcome.effect.Goals.{then-treats_as_withdraw+in_ok-withdraw_all, else-treats_as_withdraw+in_ok-withdrawn-2}
 
@@ -60,15 +58,16 @@ returns-clause-effect c =
     let withdrawn = found_at fields.withdrawn _ (Some c.in-Some-2.withdrawn) c.in-Some-2.is c.in_ok-withdrawn.ensures in
     let nlri = found_at fields.nlri _ (Some c.in-Some-3.nlri) c.in-Some-3.is c.in_ok-nlri.ensures in
     let no_reset = sym c.reset_by.ensures ∙ ap (option_map codes_named) c.in_default-reset_by.is in
+    let withdraws = ap (λ b. c.in_ok-parsed.parsed.faults.withdraw || b) (sym c.missing-missing.ensures.lacks) ∙ sym c.treats_as_withdraw.ensures in
     by_reading c.args.body.now c.args.mode (Changes (change_seen c.if-treats_as_withdraw.withdrawn)) fields c.in_ok-parsed.parsed.attrs c.in_ok-parsed.parsed.faults (λ i. omega (arith, c.type_inv.body i))
     (sym c.cut_body.ensures ∙ ap (option_map fields_in) c.in-Some.is) c.in_ok-parsed.ensures.reads (
       no_reset,
       elim c.if-treats_as_withdraw.branch [
         | then-treats_as_withdraw+in_ok-withdraw_all w ↦ is_withdrawn fields c.in_ok-parsed.parsed.attrs c.in_ok-parsed.parsed.faults (change_seen c.if-treats_as_withdraw.withdrawn)
-            (sym c.treats_as_withdraw.ensures ∙ w.if-treats_as_withdraw.true)
+            (withdraws ∙ w.if-treats_as_withdraw.true)
             (same_withdrawn _ _ _ _ _ _ withdrawn.1 (w.deref.ensures.value ∙ nlri.1) (ap change_seen w.withdrawn-is) w.in_ok-withdraw_all.ensures)
         | else-treats_as_withdraw+in_ok-withdrawn-2 w ↦ is_announced fields c.in_ok-parsed.parsed.attrs c.in_ok-parsed.parsed.faults (change_seen c.if-treats_as_withdraw.withdrawn)
-            (sym c.treats_as_withdraw.ensures ∙ w.if-treats_as_withdraw.false)
+            (withdraws ∙ w.if-treats_as_withdraw.false)
             (same_announced _ _ _ _ _ _ _ withdrawn.1 nlri.1 (ap change_seen w.withdrawn-is) w.in_ok-withdrawn-2.ensures)
       ],
     )
@@ -111,4 +110,5 @@ pub returns-clause-told : goal.returns-clause-told
 returns-clause-told c = λ fields is. (
     let found = fields_in c.in-Some.fields in
     let are = body_of_fields c.args.body.now found (λ i. omega (arith, c.type_inv.body i)) (sym c.cut_body.ensures ∙ ap (option_map fields_in) c.in-Some.is) in
-    c.in_ok-parsed.ensures.told ∙ ap (λ (fields : Fields). faulted_of fields.attributes c.args.mode) (same_fields c.args.body.now found fields are is))
+    c.told-faulted.ensures ∙ tells c.args.body.now c.args.mode found fields c.in_ok-parsed.parsed.attrs c.in_ok-parsed.parsed.faults c.in_ok-parsed.parsed.faulted _
+    (are_octets c.args.body.now (λ i. omega (arith, c.type_inv.body i))) are is c.in_ok-parsed.ensures.reads c.in_ok-parsed.ensures.told c.missing-missing.ensures.first)
