@@ -25,11 +25,11 @@ use Rattle.rs_core.proofs.Moments.{touches_as, touches_nothing}
 use Rattle.rs_core.proofs.Ruling.{session_fixed}
 
 -- what a move touches for each client that is Established behind it
-pub record TouchesEach (move : Move) (run : List Move) (old new : Core) : Type 0 where
+record TouchesEach (move : Move) (run : List Move) (old new : Core) : Type 0 where
   pub raised : (c : ℕ) → c < old.count → is_established run c ≡ false → is_established (move ∷ run) c ≡ true → touched_for new c ≡ None
   pub kept : (c : ℕ) → c < old.count → is_established run c ≡ true → is_established (move ∷ run) c ≡ true → TouchesBehind move run c (touched_for old c) (touched_for new c)
 
-pub grown_by : (move : Move) (old new : Core) (run : List Move) → new.count ≡ old.count → Agrees old run → AgreesOnClients new (move ∷ run) → TouchesEach move run old new → Agrees new (move ∷ run)
+grown_by : (move : Move) (old new : Core) (run : List Move) → new.count ≡ old.count → Agrees old run → AgreesOnClients new (move ∷ run) → TouchesEach move run old new → Agrees new (move ∷ run)
 grown_by move old new run count h on by = record {
   config = on.config;
   clients = on.clients;
@@ -41,8 +41,8 @@ grown_by move old new run count h on by = record {
 -- ---- a move of one client
 
 -- the others are Established behind it where they were before
-still_up : (move : Move) (c d : ℕ) (run : List Move) → config_in (move ∷ run) ≡ config_in run → hearing d (move ∷ run) ≡ hearing d run → is_established (move ∷ run) d ≡ is_established run d
-still_up move c d run config same = (λ i. is_up (state_in (config i) d (same i)))
+still_up : (move : Move) (d : ℕ) (run : List Move) → config_in (move ∷ run) ≡ config_in run → hearing d (move ∷ run) ≡ hearing d run → is_established (move ∷ run) d ≡ is_established run d
+still_up move d run config same = (λ i. is_up (state_in (config i) d (same i)))
 
 -- what it touches for the others, and for the client itself
 of_one : (move : Move) (c : ℕ) (old new : Core) (run : List Move) → config_in (move ∷ run) ≡ config_in run → ((d : ℕ) → d ≢ c → hearing d (move ∷ run) ≡ hearing d run)
@@ -51,7 +51,7 @@ of_one : (move : Move) (c : ℕ) (old new : Core) (run : List Move) → config_i
 of_one move c old new run config same others nothing itself = record {
   raised = λ d lt down up. elim (equal_or d c) [
     | inl e ↦ subst (λ k. touched_for new k ≡ None) (sym e) (itself.raised (subst (λ k. is_established run k ≡ false) e down) (subst (λ k. is_established (move ∷ run) k ≡ true) e up))
-    | inr ne ↦ absurd (false≢true (sym down ∙ sym (still_up move c d run config (same d ne)) ∙ up))
+    | inr ne ↦ absurd (false≢true (sym down ∙ sym (still_up move d run config (same d ne)) ∙ up))
   ];
   kept = λ d lt was up. elim (equal_or d c) [
     | inl e ↦ subst (λ k. TouchesBehind move run k (touched_for old k) (touched_for new k)) (sym e)
@@ -64,10 +64,11 @@ of_one move c old new run config same others nothing itself = record {
 down_itself : (move : Move) (c : ℕ) (run : List Move) (old new : Core) → is_established (move ∷ run) c ≡ false → TouchesItself move c run old new
 down_itself move c run old new down = record { raised = λ _ up. absurd (false≢true (sym down ∙ up)); kept = λ _ up. absurd (false≢true (sym down ∙ up)) }
 
--- octets touch nothing for the client that they come of
+-- what a client's move touches for another
 by_others : (Holds : Prefix → Type 0) (c d : ℕ) (old new : Option Prefixes) → d ≢ c → TouchesWhere Holds old new → TouchesWhere (λ p. (c ≢ d) × Holds p) old new
 by_others Holds c d old new ne h = touches_as Holds (λ p. (c ≢ d) × Holds p) old new (λ p x. ((λ e. ne (sym e)), x)) (λ p x. x.1) h
 
+-- and for itself, nothing
 by_itself : (Holds : Prefix → Type 0) (c : ℕ) (old new : Option Prefixes) → new ≡ old → TouchesWhere (λ p. (c ≢ c) × Holds p) old new
 by_itself Holds c old new same = touches_nothing (λ p. (c ≢ c) × Holds p) old new same (λ p x. x.0 refl)
 
