@@ -74,9 +74,19 @@ spares_both c old mid new a b = record {
   watched = λ d ne. b.watched d ne ∙ a.watched d ne;
 }
 
+-- ---- all of them
+
+-- what is held of each client is what the run means, whatever is touched for it
+pub record AgreesOnClients (core : Core) (run : List Move) : Type 0 where
+  pub config : core.ribs.config ≡ config_in run
+  pub clients : (c : ℕ) → c < core.count → AgreesAt core (config_in run) c (hearing c run)
+
+pub on_clients : (core : Core) (run : List Move) → Agrees core run → AgreesOnClients core run
+on_clients core run h = record { config = h.config; clients = h.clients }
+
 -- what is common to all, told of one client
 pub grown : (old new : Core) (c : ℕ) (run more : List Move) → config_in more ≡ config_in run → ((d : ℕ) → d ≢ c → hearing d more ≡ hearing d run)
-    → Agrees old run → Spares c old new → AgreesAt new (config_in run) c (hearing c more) → Agrees new more
+    → Agrees old run → Spares c old new → AgreesAt new (config_in run) c (hearing c more) → AgreesOnClients new more
 grown old new c run more config others h it at = record {
   config = it.config ∙ h.config ∙ sym config;
   clients = λ d lt. subst (λ s. AgreesAt new s d (hearing d more)) (sym config) (elim (equal_or d c) [
@@ -111,5 +121,5 @@ one_seen t c n old new run next lt it sees_at h = record {
       spared c d old new (config_in run) (hearing d run) it (λ e. absurd (omega (arith, e, above, next))) there (h.unseen d (omega (arith, above, next)) there);
 }
 
-pub all_seen : (t n : ℕ) (core : Core) (run : List Move) → core.count ≤ n → HaveSeen t n core run → Agrees core (Saw t ∷ run)
+pub all_seen : (t n : ℕ) (core : Core) (run : List Move) → core.count ≤ n → HaveSeen t n core run → AgreesOnClients core (Saw t ∷ run)
 all_seen t n core run le h = record { config = h.config; clients = λ d lt. h.seen d (omega (arith, lt, le)) lt }

@@ -52,3 +52,6 @@ pub mod Sent
 pub mod Raising
 pub mod Touched
 pub mod Moments
+pub mod Growing
+pub mod Room
+pub mod Since

@@ -24,7 +24,7 @@ use Rattle.rs_core.specs.Agreeing.{Agrees, AgreesAt, Spares}
 use Rattle.rs_core.specs.declared.ribs.Ribs.{Ribs}
 use Rattle.rs_core.specs.declared.route_server.Core.{Core}
 use Rattle.rs_core.proofs.Lists.{own, other, same_test, other_test}
-use Rattle.rs_core.proofs.Agreeing.{grown}
+use Rattle.rs_core.proofs.Agreeing.{AgreesOnClients, grown}
 use Rattle.rs_core.proofs.Around.{own_voices}
 use Rattle.rs_core.proofs.Walks.{default_same}
 use Rattle.rs_core.proofs.Delivering.{begun_voice, took_voice, turned_voice}
@@ -93,7 +93,7 @@ pub within : (old : Core) (c : ℕ) → c < old.count → c < old.ribs.count
 within old c lt = subst (λ n. c < n) (sym old.ribs_len) lt
 
 -- the next message was begun
-pub begun_agrees : (c : ℕ) (old new : Core) (run : List Move) → c < old.count → MovesOutlet c HasBegun old new → Agrees old run → Agrees new (Began c ∷ run)
+pub begun_agrees : (c : ℕ) (old new : Core) (run : List Move) → c < old.count → MovesOutlet c HasBegun old new → Agrees old run → AgreesOnClients new (Began c ∷ run)
 begun_agrees c old new run lt m h =
     let it = hearing c run in
     grown old new c run (Began c ∷ run) refl (λ d ne. ap (λ b. offers b (hearing d run)) (other_test c d ne)) h (moved_spares c HasBegun old new m)
@@ -116,7 +116,7 @@ lent_is core c none lt =
 
 -- octets of it were taken
 pub took_agrees : (c n : ℕ) (old new : Core) (run : List Move) (octets : List ℕ) → c < old.count → ((none : View) → octets ≡ take n (outlet_in old.ribs c none).flight) → MovesOutlet c (IsTakenFrom n) old new → Agrees old run
-    → Agrees new (Took c octets ∷ run)
+    → AgreesOnClients new (Took c octets ∷ run)
 took_agrees c n old new run octets lt are m h =
     grown old new c run (Took c octets ∷ run) refl (λ d ne. other c d (takes octets (hearing d run)) (hearing d run) ne) h (moved_spares c (IsTakenFrom n) old new m)
     (subst (λ k. AgreesAt new (config_in run) c k) (sym (own c (takes octets (hearing c run)) (hearing c run)))
@@ -146,7 +146,7 @@ turned_loc old run d none w lt h done speech is p =
 pub turned_agrees : (old new : Core) (mid : Ribs) (run : List Move) (refused : List ℕ) → new.count ≡ old.count → new.sessions ≡ old.sessions → new.buffers ≡ old.buffers → new.watched ≡ old.watched
     → KeepsSettings old.ribs mid → mid.tables ≡ old.ribs.tables → ChangesAll (λ c. IsTurn old.ribs.config old.ribs.tables) old.ribs mid
     → KeepsSettings mid new.ribs → Same mid.tables new.ribs.tables → new.ribs.outlets ≡ mid.outlets
-    → ((d : ℕ) (none : View) → d < new.count → is_listed d refused ≡ is_refusal (outlet_in new.ribs d none).last) → Agrees old run → Agrees new (Turned refused ∷ run)
+    → ((d : ℕ) (none : View) → d < new.count → is_listed d refused ≡ is_refusal (outlet_in new.ribs d none).last) → Agrees old run → AgreesOnClients new (Turned refused ∷ run)
 turned_agrees old new mid run refused count sessions buffers watched settings tables turned after same outlets listed h = record {
   config = after.config ∙ settings.config ∙ h.config;
   clients = λ d lt.

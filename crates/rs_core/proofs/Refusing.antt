@@ -41,6 +41,11 @@ listed_below core c (suc n) lt = elim (equal_or n c) [
   | inr ne ↦ other_listed core c n (is_refused core c) ne (listed_below core c n (omega (arith, lt, ne)))
 ]
 
+-- a client is listed where memory was refused for it
+pub refused_listed : (core : Core) (c : ℕ) → c < core.count → is_listed c (refused_below core (client_count core)) ≡ is_refused core c
+unfolding client_count
+refused_listed core c lt = listed_below core c core.count lt
+
 last_is : (core : Core) (c : ℕ) (none : View) → c < core.count → is_refused core c ≡ is_refusal (outlet_in core.ribs c none).last
 unfolding is_refused
 last_is core c none lt =
@@ -48,7 +53,6 @@ last_is core c none lt =
     let there : c < length xs = subst (λ n. c < n) (sym (core.ribs.outlets_len ∙ core.ribs_len)) lt in
     ap refusal_in (slice_get_read xs (length xs) c (outlet_in core.ribs c none) refl there (default_same xs c none (outlet_in core.ribs c none) there))
 
--- a client is listed where its outlet says so
+-- and where its outlet says so
 pub listed_is : (core : Core) (c : ℕ) (none : View) → c < core.count → is_listed c (refused_below core (client_count core)) ≡ is_refusal (outlet_in core.ribs c none).last
-unfolding client_count
-listed_is core c none lt = listed_below core c core.count lt ∙ last_is core c none lt
+listed_is core c none lt = refused_listed core c lt ∙ last_is core c none lt

@@ -23,8 +23,9 @@ use Rattle.rs_core.specs.Hearing.{session_in, state_in, ending_in, faulted_in}
 use Rattle.rs_core.specs.Runs.{hearing, is_established, due, dues, table}
 use Rattle.rs_core.specs.Watching.{notice_with, faulted_by}
 use Rattle.rs_core.specs.declared.endings.Ending.TheVariants as reasons
-use Rattle.std.proofs.Common.{inl, inr}
+use Rattle.std.proofs.Common.{inl, inr, arith}
 use Rattle.rs_core.specs.Altering.{IsAlteredBy}
+use Rattle.rs_core.specs.Touched.{Alters}
 use Rattle.rs_core.specs.Stirring.{stands}
 
 -- ---- the configuration and the octets
@@ -132,6 +133,13 @@ comes_and_goes = inl (λ same. let e : ◌≡◌ {A = Option (List Attribute)} (
 none_left : table (Heard 0 (u1 ++ w1) ∷ two_up) 0 n24 ≡ None
 unfolding all_types
 none_left = refl
+
+-- so it is touched for b, and not for a, which sent it
+touched_for_b : Alters (Heard 0 (u1 ++ w1)) two_up 1 n24
+touched_for_b = (λ e. absurd (omega (arith, e)), comes_and_goes)
+
+not_touched_for_a : Alters (Heard 0 (u1 ++ w1)) two_up 0 n24 → ⊥
+not_touched_for_a altered = altered.0 refl
 
 -- the same route again alters nothing
 same_again : IsAlteredBy base 0 u1 (hearing 0 announced) n24 → ⊥

@@ -22,9 +22,10 @@ use Rattle.rs_core.specs.Beats.{AreBeats}
 use Rattle.rs_core.specs.Conversations.{Converses, outgoing_of, own_open}
 use Rattle.rs_core.specs.Voices.{IsLeftAlone, SpeaksTo, Talks}
 use Rattle.rs_core.specs.Steps.{HaveHeardNothing}
-use Rattle.rs_core.specs.Agreeing.{Knows, Waits, Agrees}
+use Rattle.rs_core.specs.Agreeing.{Knows, Waits}
 use Rattle.rs_core.specs.declared.ribs.Ribs.{Ribs}
 use Rattle.rs_core.specs.declared.route_server.Core.{Core}
+use Rattle.rs_core.proofs.Agreeing.{AgreesOnClients}
 use Rattle.rs_core.proofs.Proceeding.{nothing_converses}
 use Rattle.rs_core.proofs.Alike.{bare_out, bare_silent, marked_alone, marked_same, same_again}
 use Rattle.rs_core.proofs.Voicing.{voiced_on, voiced_over}
@@ -33,7 +34,7 @@ use Rattle.rs_core.specs.Orders.{IsOrdered}
 use Rattle.rs_core.specs.Watching.{IsWatched}
 use Rattle.rs_core.proofs.Watching.{watched_still}
 
-session_fixed : (s t : Configuration) (c : ℕ) → IsFixed s t → session_in s c ≡ session_in t c
+pub session_fixed : (s t : Configuration) (c : ℕ) → IsFixed s t → session_in s c ≡ session_in t c
 session_fixed s t c h = sym (λ i. record { peer_as = (h.clients c).client_as i; hold = h.hold i; extended = h.extended i })
 
 allowed_fixed : (s t : Configuration) → IsFixed s t → allowed_in s ≡ allowed_in t
@@ -85,7 +86,7 @@ talks_fixed s t c h v w session opening alone talk = record {
 -- another configuration that leaves as it is what has to stay
 pub ruled : (old new : Core) (run : List Move) (config : Configuration) → IsFixed (config_in run) config
     → new.count ≡ old.count → new.ribs.config ≡ config → new.sessions ≡ old.sessions → new.buffers ≡ old.buffers → new.watched ≡ old.watched → new.ribs.tables ≡ old.ribs.tables
-    → ChangesAll (λ c. IsMarked old.ribs.tables) old.ribs new.ribs → Agrees old run → Agrees new (Ruled config ∷ run)
+    → ChangesAll (λ c. IsMarked old.ribs.tables) old.ribs new.ribs → AgreesOnClients old run → AgreesOnClients new (Ruled config ∷ run)
 ruled old new run config fixed count is sessions buffers watched tables marked h = record {
   config = is;
   clients = λ c lt.
@@ -108,24 +109,10 @@ ruled old new run config fixed count is sessions buffers watched tables marked h
       };
 }
 
--- the same, where nothing has changed
-pub unchanged : (old new : Core) (run : List Move)
-    → new.count ≡ old.count → new.ribs ≡ old.ribs → new.sessions ≡ old.sessions → new.buffers ≡ old.buffers → new.watched ≡ old.watched
-    → Agrees old run → Agrees new run
-unchanged old new run count ribs sessions buffers watched h = record {
-  config = ap (λ (r : Ribs). r.config) ribs ∙ h.config;
-  clients = λ c lt.
-      let at = h.clients c (subst (λ n. c < n) count lt) in
-      record {
-        knows = unmoved old new (config_in run) c (hearing c run) sessions ribs watched at.knows;
-        waits = λ x e. at.waits x (ap (λ v. slice_get v.items c) (sym buffers) ∙ e);
-      };
-}
-
 -- at the start
 pub begun : (core : Core) (config : Configuration) → core.ribs.config ≡ config → HaveHeardNothing config core.sessions.items
     → ((c : ℕ) (p : Prefix) → held_of core.ribs.tables c p ≡ None) → ((c : ℕ) → identifier_of core.ribs.tables c ≡ 0) → AreBare config.top.extended core.ribs.outlets.items
-    → ((c : ℕ) → IsWatched core.watched.items c [] []) → Agrees core (Ruled config ∷ [])
+    → ((c : ℕ) → IsWatched core.watched.items c [] []) → AgreesOnClients core (Ruled config ∷ [])
 begun core config is sessions held identifiers bare watched = record {
   config = is;
   clients = λ c lt. record {

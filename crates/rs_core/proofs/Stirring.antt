@@ -12,7 +12,7 @@ use Rattle.rs_adjin.specs.AdjIns.{held_of, Sets, Same, Begins}
 use Rattle.rs_adjin.specs.declared.adj_ins.AdjIns.{AdjIns}
 use Rattle.rs_outlet.specs.Views.{View, touched_at}
 use Rattle.rs_core.specs.Touches.{touched_with, IsTouchedAt, IsTouchedWhere, IsTouchedWhereHeld}
-use Rattle.rs_core.specs.Ribs.{outlet_in, ChangesOwn, ChangesOthers, ChangesAround, Stirs, StirsWhere, TouchesChange}
+use Rattle.rs_core.specs.Ribs.{outlet_in, ChangesOwn, ChangesOthers, ChangesAround, Stirs, StirsAtLeast, StirsWhere, TouchesChange}
 use Rattle.rs_core.specs.Steps.{HasOverlaid}
 use Rattle.rs_core.specs.declared.ribs.Ribs.{Ribs}
 use Rattle.rs_core.proofs.Around.{same_or}
@@ -189,3 +189,27 @@ held_stirs c i old new begins changes = record { others = λ d none lt ne. where
 
 pub around_stirs : (c i : ℕ) (Is : View → View → Type 0) (old new : Ribs) → Begins old.tables new.tables c i → ChangesAround c Is (IsTouchedWhereHeld old.tables c) old new → Stirs c old new
 around_stirs c i Is old new begins changes = record { others = λ d none lt ne. where_held c old new _ _ (begun_held old.tables new.tables c i begins) (changes.others d none lt ne) }
+
+-- ---- at least where a value has changed
+
+pub stirs_least : (c : ℕ) (old new : Ribs) → Stirs c old new → StirsAtLeast c old new
+stirs_least c old new h = record { others = λ d none lt ne. let at = h.others d none lt ne in record { prefixes = at.prefixes; all = λ p differs. (at.just p).1 differs; touched = at.touched } }
+
+pub least_on : (c : ℕ) (old mid new : Ribs) → mid.count ≡ old.count → StirsAtLeast c old mid → StirsAtLeast c mid new → StirsAtLeast c old new
+least_on c old mid new count a b = record {
+  others = λ d none lt ne.
+      let first = a.others d none lt ne in
+      let then_at = b.others d none (subst (λ n. d < n) (sym count) lt) ne in
+      record {
+        prefixes = first.prefixes ++ then_at.prefixes;
+        all = λ p differs. elim (same_or (held_of mid.tables c p) (held_of old.tables c p)) [
+          | inl same ↦ Contains-append_right first.prefixes then_at.prefixes p (then_at.all p (λ e. differs (e ∙ same)))
+          | inr other ↦ Contains-append_left first.prefixes then_at.prefixes p (first.all p other)
+        ];
+        touched = touched_both first.prefixes then_at.prefixes (outlet_in old d none) (outlet_in mid d none) (outlet_in new d none) first.touched then_at.touched;
+      };
+}
+
+-- a step before and one behind that leave the RIBs as they are
+pub least_between : (c : ℕ) (old mid heard new : Ribs) → mid ≡ old → new ≡ heard → StirsAtLeast c mid heard → StirsAtLeast c old new
+least_between c old mid heard new before behind h = subst (λ r. StirsAtLeast c old r) (sym behind) (subst (λ r. StirsAtLeast c r heard) before h)

@@ -19,14 +19,15 @@ use Rattle.rs_outlet.specs.Views.{View, IsCount, Prefixes, Table, if_up, is_touc
 use Rattle.rs_core.specs.Points.{latest}
 use Rattle.rs_core.specs.Moves.{Move, config_in}
 use Rattle.rs_core.specs.Runs.{hearing, is_established, due, dues, held_in, table}
-use Rattle.rs_core.specs.Ribs.{outlet_in, ChangesAll, Stirs, StirsWhere}
-use Rattle.rs_core.specs.Touches.{IsTouchedWhere, KeepsTouches, touched_with}
+use Rattle.rs_core.specs.Ribs.{outlet_in, ChangesAll, Stirs, StirsAtLeast, StirsWhere}
+use Rattle.rs_core.specs.Touches.{IsTouchedAtLeast, IsTouchedWhere, KeepsTouches, touched_with}
 use Rattle.rs_core.specs.Turns.{IsDone, IsTurn, IsMarked}
 use Rattle.rs_core.specs.Agreeing.{Agrees}
 use Rattle.rs_core.specs.Core.{client_count, is_refusal, is_refused, last_in, last_of, loc_in, loc_rib, refusal_in, touched_for}
-use Rattle.rs_core.specs.Stirring.{DecidesTouched, IsChangedBy, IsCountOf, KeepsTouched, TouchesAll, TouchesItself, TouchesOthersWhere, TouchesWhere, stands, with_touches}
+use Rattle.rs_core.specs.Stirring.{DecidesTouched, IsChangedBy, IsCountOf, KeepsTouched, TouchesAll, TouchesAtLeast, TouchesItself, TouchesOthersAtLeast, TouchesOthersWhere, TouchesWhere, stands, with_touches}
 use Rattle.rs_core.specs.declared.ribs.Ribs.{Ribs}
 use Rattle.rs_core.specs.declared.route_server.Core.{Core}
+use Rattle.rs_core.proofs.Agreeing.{AgreesOnClients, on_clients}
 use Rattle.rs_core.proofs.Drained.{established_spoken}
 use Rattle.rs_core.proofs.InTurn.{has_what_was_due}
 use Rattle.rs_core.proofs.Outgoing.{within}
@@ -46,7 +47,7 @@ unfolding last_of
 last_is core c lt = ap last_in (outlet_is core c lt)
 
 -- the outlet of a client that is Established is spoken to
-spoken_outlet : (core : Core) (run : List Move) (c : ℕ) → c < core.count → Agrees core run → is_established run c ≡ true → (speech : Speech) × ((outlet_in core.ribs c nobody).speech ≡ Some speech)
+spoken_outlet : (core : Core) (run : List Move) (c : ℕ) → c < core.count → AgreesOnClients core run → is_established run c ≡ true → (speech : Speech) × ((outlet_in core.ribs c nobody).speech ≡ Some speech)
 spoken_outlet core run c lt h up =
     let heard = established_spoken run c up in
     (heard.0, ((h.clients c lt).knows.outlet h.config nobody).speech ∙ heard.1)
@@ -65,7 +66,7 @@ outlet_touched Holds v w speech up h = record {
 }
 
 -- what a client's call touched for the others, by two runs that the core agreed with
-pub touches_others : (Holds : Prefix → Type 0) (c : ℕ) (old new : Core) (run : List Move) → Agrees old run → new.count ≡ old.count → StirsWhere Holds c old.ribs new.ribs → TouchesOthersWhere Holds c run old new
+pub touches_others : (Holds : Prefix → Type 0) (c : ℕ) (old new : Core) (run : List Move) → AgreesOnClients old run → new.count ≡ old.count → StirsWhere Holds c old.ribs new.ribs → TouchesOthersWhere Holds c run old new
 unfolding client_count
 touches_others Holds c old new run h count stirs = record {
   others = λ d there ne up.
@@ -76,7 +77,7 @@ touches_others Holds c old new run h count stirs = record {
 }
 
 -- where its value is another one behind a move
-pub touches_changes : (c : ℕ) (move : Move) (old new : Core) (run : List Move) → c < old.count → Agrees old run → Agrees new (move ∷ run) → new.count ≡ old.count → Stirs c old.ribs new.ribs
+pub touches_changes : (c : ℕ) (move : Move) (old new : Core) (run : List Move) → c < old.count → AgreesOnClients old run → AgreesOnClients new (move ∷ run) → new.count ≡ old.count → Stirs c old.ribs new.ribs
     → TouchesOthersWhere (IsChangedBy move run c) c run old new
 touches_changes c move old new run lt h after count stirs =
     let before : (p : Prefix) → held_of old.ribs.tables c p ≡ table run c p = (h.clients c lt).knows.table in
@@ -85,7 +86,7 @@ touches_changes c move old new run lt h after count stirs =
     (stirs_as _ (IsChangedBy move run c) c old.ribs new.ribs (λ p. (λ differs e. differs (now p ∙ e ∙ sym (before p)), λ differs e. differs (sym (now p) ∙ e ∙ before p))) stirs)
 
 -- and for itself
-pub touches_itself : (move : Move) (c : ℕ) (old new : Core) (run : List Move) → c < old.count → Agrees old run → Agrees new (move ∷ run) → new.count ≡ old.count → ((none : View) → KeepsTouches (outlet_in old.ribs c none) (outlet_in new.ribs c none))
+pub touches_itself : (move : Move) (c : ℕ) (old new : Core) (run : List Move) → c < old.count → AgreesOnClients old run → AgreesOnClients new (move ∷ run) → new.count ≡ old.count → ((none : View) → KeepsTouches (outlet_in old.ribs c none) (outlet_in new.ribs c none))
     → TouchesItself move c run old new
 touches_itself move c old new run lt h after count keeps = record {
   raised = λ down up.
@@ -100,15 +101,34 @@ touches_itself move c old new run lt h after count keeps = record {
   now : c < new.count
   now = subst (λ n. c < n) (sym count) lt
 
--- what goes on with one client alone, which is not Established
-pub keeps_touched : (c : ℕ) (old new : Core) (run : List Move) → Agrees old run → new.count ≡ old.count → is_established run c ≡ false → ((d : ℕ) (none : View) → d ≢ c → outlet_in new.ribs d none ≡ outlet_in old.ribs d none) → KeepsTouched run old new
+-- at least there
+touches_least : (Holds : Prefix → Type 0) (v w : View) (speech : Speech) → v.speech ≡ Some speech → IsTouchedAtLeast Holds v w → TouchesAtLeast Holds v.touched w.touched
+touches_least Holds v w speech up h = record { prefixes = h.prefixes; all = h.all; are = ap (λ (x : View). x.touched) h.touched.is ∙ touches_by_speech h.prefixes v speech up }
+
+pub touches_changes_least : (c : ℕ) (move : Move) (old new : Core) (run : List Move) → c < old.count → AgreesOnClients old run → AgreesOnClients new (move ∷ run) → new.count ≡ old.count → StirsAtLeast c old.ribs new.ribs
+    → TouchesOthersAtLeast (IsChangedBy move run c) c run old new
 unfolding client_count
-keeps_touched c old new run h count down same = record { each = λ d lt up. touched_is new d (subst (λ n. d < n) (sym count) lt) ∙ ap (λ (v : View). v.touched) (same d nobody (other d up)) ∙ sym (touched_is old d lt) } where
+touches_changes_least c move old new run lt h after count stirs = record {
+  others = λ d there ne up.
+      let heard = spoken_outlet old run d there h up in
+      let at = stirs.others d nobody (within old d there) ne in
+      let before : (p : Prefix) → held_of old.ribs.tables c p ≡ table run c p = (h.clients c lt).knows.table in
+      let now : (p : Prefix) → held_of new.ribs.tables c p ≡ table (move ∷ run) c p = (after.clients c (subst (λ n. c < n) (sym count) lt)).knows.table in
+      subst (λ t. TouchesAtLeast (IsChangedBy move run c) t (touched_for new d)) (sym (touched_is old d there))
+      (subst (λ t. TouchesAtLeast (IsChangedBy move run c) (outlet_in old.ribs d nobody).touched t) (sym (touched_is new d (subst (λ n. d < n) (sym count) there)))
+      (touches_least (IsChangedBy move run c) (outlet_in old.ribs d nobody) (outlet_in new.ribs d nobody) heard.0 heard.1
+      (record { prefixes = at.prefixes; all = λ p differs. at.all p (λ e. differs (sym (now p) ∙ e ∙ before p)); touched = at.touched })));
+}
+
+-- what goes on with one client alone, which is not Established
+pub keeps_touched : (c : ℕ) (old new : Core) (run : List Move) → new.count ≡ old.count → is_established run c ≡ false → ((d : ℕ) (none : View) → d ≢ c → outlet_in new.ribs d none ≡ outlet_in old.ribs d none) → KeepsTouched run old new
+unfolding client_count
+keeps_touched c old new run count down same = record { each = λ d lt up. touched_is new d (subst (λ n. d < n) (sym count) lt) ∙ ap (λ (v : View). v.touched) (same d nobody (other d up)) ∙ sym (touched_is old d lt) } where
   other : (d : ℕ) → is_established run d ≡ true → d ≢ c
   other d up e = absurd (let f : false ≡ true = sym down ∙ ap (λ k. is_established run k) (sym e) ∙ up in cc)
 
 -- another configuration
-pub touches_all : (old new : Core) (run : List Move) → new.count ≡ old.count → ChangesAll (λ c. IsMarked old.ribs.tables) old.ribs new.ribs → Agrees old run → TouchesAll run new
+pub touches_all : (old new : Core) (run : List Move) → new.count ≡ old.count → ChangesAll (λ c. IsMarked old.ribs.tables) old.ribs new.ribs → AgreesOnClients old run → TouchesAll run new
 unfolding client_count
 touches_all old new run count marked h = record {
   each = λ c lt up.
@@ -155,10 +175,10 @@ decides_touched c old new mid run lt count turned same h up done = by_turn (turn
   is = ap (λ (x : Vec View). slice_index_or x.items c nobody) same
 
   speech : Speech
-  speech = (spoken_outlet old run c lt h up).0
+  speech = (spoken_outlet old run c lt (on_clients old run h) up).0
 
   spoken : v.speech ≡ Some speech
-  spoken = (spoken_outlet old run c lt h up).1
+  spoken = (spoken_outlet old run c lt (on_clients old run h) up).1
 
   was : touched_for old c ≡ v.touched
   was = touched_is old c lt

@@ -44,7 +44,7 @@ more_by s p q true d h = h
 more_by s p q false true h = inserted_more s p q h
 more_by s p q false false h = refl
 
-touched_more : (o : Option Prefixes) (p q : Prefix) → is_touched o q ≡ true → is_touched (with_touch o p) q ≡ true
+pub touched_more : (o : Option Prefixes) (p q : Prefix) → is_touched o q ≡ true → is_touched (with_touch o p) q ≡ true
 touched_more None p q h = refl
 touched_more (Some s) p q h = more_by s p q (set.contains s p) (nat_lt (set.len s) 4096) h
 

@@ -13,7 +13,9 @@ use Rattle.rs_policy.specs.Configuration.{Configuration}
 use Rattle.rs_policy.specs.Replacing.{Replaces}
 use Rattle.rs_core.specs.Moves.{Move, Ruled, config_in}
 use Rattle.rs_core.specs.Hearing.{Hearing, allowed_in, session_in, state_in, identifier_in, table_in}
-use Rattle.rs_core.specs.Runs.{hearing}
+use Rattle.rs_core.specs.Core.{touched_for}
+use Rattle.rs_core.specs.Runs.{hearing, is_established}
+use Rattle.rs_core.specs.Touched.{IsTouchedBehind}
 use Rattle.rs_core.specs.Ribs.{outlet_in}
 use Rattle.rs_core.specs.Voices.{SpeaksTo, KeepsVoices}
 use Rattle.rs_core.specs.Orders.{IsOrdered}
@@ -52,6 +54,7 @@ pub record IsCutShort (core : Core) (s : Configuration) (c : ℕ) (h : Hearing) 
 pub record Agrees (core : Core) (run : List Move) : Type 0 where
   pub config : core.ribs.config ≡ config_in run
   pub clients : (c : ℕ) → c < core.count → AgreesAt core (config_in run) c (hearing c run)
+  pub touched : (c : ℕ) → c < core.count → is_established run c ≡ true → IsTouchedBehind run c (touched_for core c)
 
 -- it agrees with the run grown by the configuration that octets are, which may replace the one before
 pub record IsRuled (octets : List ℕ) (core : Core) (run : List Move) : Type 0 where

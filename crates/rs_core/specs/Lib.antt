@@ -15,11 +15,13 @@ pub mod Runs
 pub mod Orders
 pub mod Conversations
 pub mod Voices
-pub mod Agreeing
-pub mod Paying
-pub mod Steps
 pub mod Altering
 pub mod Stirring
+pub mod Touched
+pub mod Agreeing
+pub mod Decided
+pub mod Paying
+pub mod Steps
 pub mod Courses
 pub mod Answers
 pub mod Serving

@@ -26,6 +26,12 @@ pub record TouchesWhere (Holds : Prefix → Type 0) (old new : Option Prefixes) 
   pub just : (p : Prefix) → Contains prefixes p ↔ Holds p
   pub are : new ≡ with_touches prefixes old
 
+-- prefixes were touched, besides those that were, and among them each where this holds
+pub record TouchesAtLeast (Holds : Prefix → Type 0) (old new : Option Prefixes) : Type 0 where
+  pub prefixes : List Prefix
+  pub all : (p : Prefix) → Holds p → Contains prefixes p
+  pub are : new ≡ with_touches prefixes old
+
 -- client c has another value at p behind a move than before it
 abbrev pub IsChangedBy : Move → List Move → ℕ → Prefix → Type 0
 IsChangedBy move run c p = table (move ∷ run) c p ≢ table run c p
@@ -33,6 +39,10 @@ IsChangedBy move run c p = table (move ∷ run) c p ≢ table run c p
 -- just the prefixes where this holds were touched for each client but c that is Established
 pub record TouchesOthersWhere (Holds : Prefix → Type 0) (c : ℕ) (run : List Move) (old new : Core) : Type 0 where
   pub others : (d : ℕ) → d < client_count old → d ≢ c → is_established run d ≡ true → TouchesWhere Holds (touched_for old d) (touched_for new d)
+
+-- at least the prefixes where this holds
+pub record TouchesOthersAtLeast (Holds : Prefix → Type 0) (c : ℕ) (run : List Move) (old new : Core) : Type 0 where
+  pub others : (d : ℕ) → d < client_count old → d ≢ c → is_established run d ≡ true → TouchesAtLeast Holds (touched_for old d) (touched_for new d)
 
 -- one of the first n clients, and not c, has another value at p behind a move than before it
 abbrev pub IsChangedElsewhere : ℕ → Move → List Move → ℕ → Prefix → Type 0

@@ -23,6 +23,12 @@ pub record IsTouchedWhere (Holds : Prefix → Type 0) (old new : View) : Type 0 
   pub just : (p : Prefix) → Contains prefixes p ↔ Holds p
   pub touched : IsTouchedAt prefixes old new
 
+-- prefixes were touched, among them each where this holds, and nothing else has changed but numbers
+pub record IsTouchedAtLeast (Holds : Prefix → Type 0) (old new : View) : Type 0 where
+  pub prefixes : List Prefix
+  pub all : (p : Prefix) → Holds p → Contains prefixes p
+  pub touched : IsTouchedAt prefixes old new
+
 -- these are the prefixes that a client holds
 pub record AreHeld (ins : AdjIns) (c : ℕ) (ps : List Prefix) : Type 0 where
   pub all : (p : Prefix) → Contains ps p ↔ IsSome (held_of ins c p)

@@ -53,8 +53,8 @@ impl Core {
     ghost use Rattle.rs_core.specs.Runs.{hearing};
     ghost use Rattle.rs_core.specs.Agreeing.{Agrees, AgreesAt, IsCutShort, Knows, Spares, Waits};
     ghost use Rattle.rs_core.specs.Altering.{IsAlteredBy};
-    ghost use Rattle.rs_core.specs.Ribs.{Stirs, StirsWhere, outlet_in};
-    ghost use Rattle.rs_core.specs.Stirring.{TouchesChanges, TouchesItself, TouchesOthersWhere};
+    ghost use Rattle.rs_core.specs.Ribs.{Stirs, StirsAtLeast, StirsWhere, outlet_in};
+    ghost use Rattle.rs_core.specs.Stirring.{IsChangedBy, TouchesChanges, TouchesItself, TouchesOthersAtLeast, TouchesOthersWhere};
     ghost use Rattle.rs_core.specs.Touches.{KeepsTouches};
     ghost use Rattle.rs_core.specs.Steps.{HasHeardFront, IsBetween, KeepsOwnTouches};
     ghost use Rattle.rs_outlet.specs.Views.{View};
@@ -73,6 +73,7 @@ impl Core {
         ensures heard { OnOk result ((run : List Move) → Agrees self.old run → Agrees self.new (moves.Heard c piece.now ∷ run)) }
         ensures refused { OnErr result ((run : List Move) → Agrees self.old run → Agrees self.new (Dropped c ∷ run)) }
         ensures touched { OnOk result ((run : List Move) → Agrees self.old run → TouchesOthersWhere (IsAlteredBy (config_in run) c piece.now (hearing c run)) c run self.old self.new) }
+        ensures dropped { OnErr result ((run : List Move) → Agrees self.old run → TouchesOthersAtLeast (IsChangedBy (Dropped c) run c) c run self.old self.new) }
         ensures itself { OnOk result ((run : List Move) → Agrees self.old run → TouchesItself (moves.Heard c piece.now) c run self.old self.new) }
         ensures unheard { (run : List Move) → Agrees self.old run → is_live (state_in (config_in run) c (hearing c run)) ≡ false → (result ≡ Ok tt) × (self.new ≡ self.old) }
     {
@@ -96,6 +97,7 @@ impl Core {
         ensures heard { OnOk result ((s : Configuration) (h : Hearing) → self.old.ribs.config ≡ s → AgreesAt self.old s c h → AgreesAt self.new s c (hears s c piece.now h)) }
         ensures refused { OnErr result ((s : Configuration) (h : Hearing) → self.old.ribs.config ≡ s → AgreesAt self.old s c h → IsCutShort self.new s c h) }
         ensures stirs { OnOk result ((s : Configuration) (h : Hearing) → self.old.ribs.config ≡ s → AgreesAt self.old s c h → StirsWhere (IsAlteredBy s c piece.now h) c self.old.ribs self.new.ribs) }
+        ensures least { StirsAtLeast c self.old.ribs self.new.ribs }
         ensures keeps { OnOk result ((s : Configuration) (h : Hearing) → self.old.ribs.config ≡ s → AgreesAt self.old s c h → (none : View) → KeepsTouches (outlet_in self.old.ribs c none) (outlet_in self.new.ribs c none)) }
         ensures unheard { (s : Configuration) (h : Hearing) → Knows self.old s c h → is_live (state_in s c h) ≡ false → (result ≡ Ok tt) × (self.new ≡ self.old) }
     {
@@ -157,6 +159,7 @@ impl Core {
         ensures heard { OnOk result ((s : Configuration) (h : Hearing) → self.old.ribs.config ≡ s → IsBetween self.old s c h → AgreesAt self.new s c (hears s c piece.now h)) }
         ensures refused { OnErr result ((s : Configuration) (h : Hearing) → self.old.ribs.config ≡ s → IsBetween self.old s c h → IsCutShort self.new s c h) }
         ensures stirs { OnOk result ((s : Configuration) (h : Hearing) → self.old.ribs.config ≡ s → IsBetween self.old s c h → StirsWhere (IsAlteredBy s c piece.now h) c self.old.ribs self.new.ribs) }
+        ensures least { StirsAtLeast c self.old.ribs self.new.ribs }
         ensures keeps { OnOk result ((s : Configuration) (h : Hearing) → self.old.ribs.config ≡ s → IsBetween self.old s c h → (none : View) → KeepsTouches (outlet_in self.old.ribs c none) (outlet_in self.new.ribs c none)) }
     {
         let allowed = allowed(&self.ribs.config);

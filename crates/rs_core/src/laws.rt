@@ -4,6 +4,7 @@ ghost use Rattle.rs_core.specs.InTurn.{HasWhatWasDue, TellsInTurn};
 ghost use Rattle.rs_core.specs.Conversed.{SendsInOrder};
 ghost use Rattle.rs_core.specs.Paying.{SendsAllOwed};
 ghost use Rattle.rs_core.specs.Serving.{ServesByOffers};
+ghost use Rattle.rs_core.specs.Decided.{AnswersByWhatWasAltered, TouchesWhatWasAltered};
 
 /// From the start on, behind any number of drives: where a client is served by the run, the UPDATEs
 /// that its link took of the offers since it last began mean just the table that is due to the client.
@@ -42,4 +43,19 @@ pub fn messages_go_in_order()
 #[tactic(auto, using(crate::proofs::Sent::sends_all_owed))]
 pub fn sends_all_owed()
     ensures { SendsAllOwed }
+{}
+
+/// At each point of each run: for a client that is Established all is touched where, since the last turn
+/// that was done for it, it came up or other rules were accepted. Else just those prefixes are touched at
+/// which another client was given another value since, and all where they are more than 4,096; only where
+/// memory was refused for octets since may more be touched.
+#[tactic(auto, using(crate::proofs::Since::touches_what_was_altered))]
+pub fn touches_what_was_altered()
+    ensures { TouchesWhatWasAltered }
+{}
+
+/// What a turn answers for a client, by the run: it was whole just where all was touched, and counts the
+/// prefixes that were altered, or where it was whole those that a client holds or that were due before.
+pub fn answers_by_what_was_altered()
+    ensures { AnswersByWhatWasAltered }
 {}

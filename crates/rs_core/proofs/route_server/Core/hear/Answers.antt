@@ -16,6 +16,7 @@ use Rattle.rs_core.specs.Touches.{KeepsTouches}
 use Rattle.rs_core.specs.Ribs.{outlet_in}
 use Rattle.rs_core.proofs.Altering.{both_ok}
 use Rattle.rs_core.proofs.Raising.{keeps_behind, keeps_same}
+use Rattle.rs_core.proofs.Stirring.{least_between, least_on, stirs_least, stirs_same}
 use Rattle.rs_core.proofs.route_server.Core.hear.Goals as goal
 
 pub returns-then-not-is_live-clause-heard : goal.returns-then-not-is_live-clause-heard
@@ -183,3 +184,23 @@ returns-clause-keeps c = both_ok c.hear_piece-2.result c.hear_piece-2.ensures.ke
     (subst (λ r. KeepsTouches (outlet_in c.args.self.now.ribs i none) (outlet_in r i none)) (sym c.put_buffer.ensures.ribs)
     (subst (λ r. KeepsTouches (outlet_in r i none) (outlet_in heard.new.self.ribs i none)) taken.ensures.ribs (heard.ensures.keeps s h first was none)))
     (on s (hears s i front.front h) mid between none))
+
+pub returns-then-not-is_live-clause-least : goal.returns-then-not-is_live-clause-least
+returns-then-not-is_live-clause-least c = stirs_least c.args.c c.args.self.now.ribs c.args.self.now.ribs (stirs_same c.args.c c.args.self.now.ribs c.args.self.now.ribs refl)
+
+pub returns-in_err-rest-clause-least : goal.returns-in_err-rest-clause-least
+returns-in_err-rest-clause-least c =
+    least_between c.args.c c.args.self.now.ribs c.take_buffer-buffer.new.self.ribs c.hear_waiting-heard.new.self.ribs c.put_buffer.new.self.ribs c.take_buffer-buffer.ensures.ribs c.put_buffer.ensures.ribs
+    (stirs_least c.args.c c.take_buffer-buffer.new.self.ribs c.hear_waiting-heard.new.self.ribs c.hear_waiting-heard.ensures.stirs)
+
+pub returns-then-is_empty-2-clause-least : goal.returns-then-is_empty-2-clause-least
+returns-then-is_empty-2-clause-least c =
+    least_between c.args.c c.args.self.now.ribs c.take_buffer-buffer.new.self.ribs c.hear_waiting-heard.new.self.ribs c.put_buffer.new.self.ribs c.take_buffer-buffer.ensures.ribs c.put_buffer.ensures.ribs
+    (stirs_least c.args.c c.take_buffer-buffer.new.self.ribs c.hear_waiting-heard.new.self.ribs c.hear_waiting-heard.ensures.stirs)
+
+pub returns-clause-least : goal.returns-clause-least
+unfolding client_count
+returns-clause-least c = least_on c.args.c c.args.self.now.ribs c.put_buffer.new.self.ribs c.hear_piece-2.new.self.ribs
+    (ap (λ (r : Ribs). r.count) c.put_buffer.ensures.ribs ∙ c.hear_waiting-heard.new.self.ribs_len ∙ c.hear_waiting-heard.ensures.spares.count ∙ c.take_buffer-buffer.ensures.count ∙ sym c.args.self.now.ribs_len)
+    (least_between c.args.c c.args.self.now.ribs c.take_buffer-buffer.new.self.ribs c.hear_waiting-heard.new.self.ribs c.put_buffer.new.self.ribs c.take_buffer-buffer.ensures.ribs c.put_buffer.ensures.ribs
+    (stirs_least c.args.c c.take_buffer-buffer.new.self.ribs c.hear_waiting-heard.new.self.ribs c.hear_waiting-heard.ensures.stirs)) c.hear_piece-2.ensures.least

@@ -18,12 +18,15 @@ use Rattle.rs_core.proofs.Altering.{beginning_silent, message_once, on_ok, one_f
 use Rattle.rs_core.specs.Touches.{KeepsTouches}
 use Rattle.rs_core.specs.Ribs.{outlet_in}
 use Rattle.rs_core.proofs.Raising.{keeps_behind, keeps_same}
+use Rattle.rs_core.specs.Ribs.{StirsAtLeast}
+use Rattle.rs_core.proofs.Stirring.{least_on, stirs_least, stirs_same}
 use Rattle.rs_core.proofs.route_server.Core.hear_piece.Goals as goal
 
 pub loop-octets-init : goal.loop-octets-init
 loop-octets-init c = record {
   spares = same_spares c.args.self.now c.args.c;
   buffers = refl;
+  least = stirs_least c.args.c c.args.self.now.ribs c.args.self.now.ribs (stirs_same c.args.c c.args.self.now.ribs c.args.self.now.ribs refl);
   heard = ([], refl, λ s h config between. subst (λ k. IsBetween c.args.self.now s c.args.c k) (sym (hears_nothing s c.args.c h)) between, λ s h config between. stirs_at_first s c.args.c h c.args.self.now.ribs, λ s h config between none. keeps_same _ _ refl refl);
 }
 
@@ -90,6 +93,7 @@ loop-octets-preserved c =
     record {
       spares = spares_both c.args.c c.args.self.now c.loop-octets.self c.hear_message.new.self c.loop-octets.invariant.spares c.hear_message.ensures.spares;
       buffers = c.hear_message.ensures.buffers ∙ c.loop-octets.invariant.buffers;
+      least = least_on c.args.c c.args.self.now.ribs c.loop-octets.self.ribs c.hear_message.new.self.ribs (c.loop-octets.self.ribs_len ∙ c.loop-octets.invariant.spares.count ∙ sym c.args.self.now.ribs_len) c.loop-octets.invariant.least (stirs_least c.args.c c.loop-octets.self.ribs c.hear_message.new.self.ribs c.hear_message.ensures.stirs);
       heard = (
         it.0 ++ at.message,
         it.1 ∙ ap (λ o. it.0 ++ o) at.whole ∙ sym (append_assoc it.0 at.message c.in-Message.rest.now),
@@ -214,3 +218,22 @@ returns-in-Fault-clause-keeps c = λ s h config between none.
 
 pub returns-clause-keeps : goal.returns-clause-keeps
 returns-clause-keeps c = λ s h config between none. c.loop-octets.invariant.heard.4 s h config between none
+
+pub returns-then-not-is_live-clause-least : goal.returns-then-not-is_live-clause-least
+returns-then-not-is_live-clause-least c = c.loop-octets.invariant.least
+
+pub returns-in-Wants-clause-least : goal.returns-in-Wants-clause-least
+returns-in-Wants-clause-least c = subst (λ r. StirsAtLeast c.args.c c.args.self.now.ribs r) (sym c.wait.ensures.ribs) c.loop-octets.invariant.least
+
+pub returns-in-Fault-clause-least : goal.returns-in-Fault-clause-least
+unfolding client_count
+returns-in-Fault-clause-least c =
+    least_on c.args.c c.args.self.now.ribs c.loop-octets.self.ribs c.say.new.self.ribs (c.loop-octets.self.ribs_len ∙ c.loop-octets.invariant.spares.count ∙ sym c.args.self.now.ribs_len) c.loop-octets.invariant.least (stirs_least c.args.c c.loop-octets.self.ribs c.say.new.self.ribs c.say.ensures.stirs)
+
+pub returns-in_err-hear_message-in-Message-clause-least : goal.returns-in_err-hear_message-in-Message-clause-least
+unfolding client_count
+returns-in_err-hear_message-in-Message-clause-least c =
+    least_on c.args.c c.args.self.now.ribs c.loop-octets.self.ribs c.hear_message.new.self.ribs (c.loop-octets.self.ribs_len ∙ c.loop-octets.invariant.spares.count ∙ sym c.args.self.now.ribs_len) c.loop-octets.invariant.least (stirs_least c.args.c c.loop-octets.self.ribs c.hear_message.new.self.ribs c.hear_message.ensures.stirs)
+
+pub returns-clause-least : goal.returns-clause-least
+returns-clause-least c = c.loop-octets.invariant.least

@@ -1,14 +1,15 @@
-use Rattle.std.proofs.Common.{◌<◌, ◌∷◌, length, refl, sym, ◌∙◌, ap, subst}
+use Rattle.std.proofs.Common.{◌≢◌, ◌<◌, ℕ, ◌∷◌, length, refl, sym, ◌∙◌, ap, subst}
 use Rattle.std.proofs.lemmas.Option.{slice_get_read}
 use Rattle.rs_core.specs.Moves.{Left, config_in}
-use Rattle.rs_core.specs.Hearing.{leaves}
+use Rattle.rs_core.specs.Hearing.{is_up, state_in, leaves}
 use Rattle.rs_core.specs.Runs.{hearing}
 use Rattle.rs_core.specs.Watching.{ended_if}
 use Rattle.rs_core.specs.Agreeing.{AgreesAt}
 use Rattle.rs_core.specs.Core.{client_count}
 use Rattle.rs_core.specs.declared.endings.Ending.TheVariants as reasons
 use Rattle.rs_core.proofs.Lists.{own, other}
-use Rattle.rs_core.proofs.Agreeing.{grown}
+use Rattle.rs_core.proofs.Agreeing.{grown, on_clients}
+use Rattle.rs_core.proofs.Growing.{left_agrees}
 use Rattle.rs_core.proofs.Spared.{noted_spares}
 use Rattle.rs_core.proofs.Watching.{noted_by}
 use Rattle.rs_core.proofs.Touched.{touches_changes}
@@ -24,11 +25,14 @@ returns-clause-left c = λ run h.
     let was = slice_get_read kept (length kept) c.args.c c.index_mut.result.now refl there c.index_mut.ensures.value in
     let why = c.ended_if.ensures ∙ ap (λ b. ended_if b reasons.Lost) (c.is_live-lasts.ensures (config_in run) it at.knows) in
     let notes = noted_by kept _ c.args.c c.index_mut.result.now c.end.new.self c.ended_if.result _ was there refl why c.end.ensures in
-    grown c.args.self.now c.forget.new.self c.args.c run (Left c.args.c ∷ run) refl (λ d ne. other c.args.c d (leaves (config_in run) d reasons.Lost (hearing d run)) (hearing d run) ne) h
+    let others = λ (d : ℕ) (ne : d ≢ c.args.c). other c.args.c d (leaves (config_in run) d reasons.Lost (hearing d run)) (hearing d run) ne in
+    let on = grown c.args.self.now c.forget.new.self c.args.c run (Left c.args.c ∷ run) refl others h
     (noted_spares c.args.c _ c.args.self.now _ c.forget.new.self refl refl refl refl notes c.forget.ensures.spares)
     (subst (λ k. AgreesAt c.forget.new.self (config_in run) c.args.c k) (sym (own c.args.c (leaves (config_in run) c.args.c reasons.Lost it) it))
-    (c.forget.ensures.forgotten (config_in run) it reasons.Lost (record { items = it.items; moment = refl; session = at.knows.session }) (notes.own it.endings it.faults at.knows.watched)))
+    (c.forget.ensures.forgotten (config_in run) it reasons.Lost (record { items = it.items; moment = refl; session = at.knows.session }) (notes.own it.endings it.faults at.knows.watched))) in
+    left_agrees c.args.c c.args.self.now c.forget.new.self run c.forget.ensures.spares.count others (ap (λ k. is_up (state_in (config_in run) c.args.c k)) (own c.args.c (leaves (config_in run) c.args.c reasons.Lost it) it))
+    (touches_changes c.args.c (Left c.args.c) c.args.self.now c.forget.new.self run c.requires (on_clients c.args.self.now run h) on c.forget.ensures.spares.count c.forget.ensures.stirs) h on
 
 pub returns-clause-touched : goal.returns-clause-touched
 unfolding client_count
-returns-clause-touched c = λ run h. touches_changes c.args.c (Left c.args.c) c.args.self.now c.forget.new.self run c.requires h (returns-clause-left c run h) c.forget.ensures.spares.count c.forget.ensures.stirs
+returns-clause-touched c = λ run h. touches_changes c.args.c (Left c.args.c) c.args.self.now c.forget.new.self run c.requires (on_clients c.args.self.now run h) (on_clients c.forget.new.self (Left c.args.c ∷ run) (returns-clause-left c run h)) c.forget.ensures.spares.count c.forget.ensures.stirs

@@ -1,6 +1,7 @@
 use Rattle.std.proofs.Common.{refl, ◌∙◌, arith}
 use Rattle.rs_core.specs.Core.{client_count}
 use Rattle.rs_core.proofs.Agreeing.{none_seen, one_seen, all_seen}
+use Rattle.rs_core.proofs.Growing.{saw_agrees}
 use Rattle.rs_core.proofs.Moments.{all_touched_then, none_touched_yet, one_touched_more}
 use Rattle.rs_core.proofs.route_server.Core.moment.Goals as goal
 
@@ -19,7 +20,9 @@ loop-c-preserved c = record {
 
 pub returns-clause-saw : goal.returns-clause-saw
 unfolding client_count
-returns-clause-saw c = λ run h. all_seen c.args.t c.loop-c.c c.loop-c.self run (omega arith) (c.loop-c.invariant.seen run h)
+returns-clause-saw c = λ run h. saw_agrees c.args.t c.args.self.now c.loop-c.self run c.loop-c.invariant.count
+    (all_touched_then c.args.t c.loop-c.c c.args.self.now c.loop-c.self run (omega arith) (omega arith) c.loop-c.invariant.count (c.loop-c.invariant.touched run h)) h
+    (all_seen c.args.t c.loop-c.c c.loop-c.self run (omega arith) (c.loop-c.invariant.seen run h))
 
 pub returns-clause-touched : goal.returns-clause-touched
 unfolding client_count

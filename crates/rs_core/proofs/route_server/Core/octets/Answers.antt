@@ -1,9 +1,9 @@
-use Rattle.std.proofs.Common.{◌≡◌, ◌<◌, Bool, true, false, ◌∷◌, length, refl, sym, ◌∙◌, ap, subst}
+use Rattle.std.proofs.Common.{◌≡◌, ◌≢◌, ◌<◌, ℕ, Bool, true, false, ◌∷◌, length, refl, sym, ◌∙◌, ap, subst}
 use Rattle.std.specs.List.{cons_option}
 use Rattle.std.proofs.lemmas.Option.{slice_get_read}
 use Rattle.rs_session.specs.Sessions.{is_live}
 use Rattle.rs_core.specs.Moves.{Heard, Dropped, config_in}
-use Rattle.rs_core.specs.Hearing.{state_in, hears, leaves}
+use Rattle.rs_core.specs.Hearing.{is_up, state_in, hears, leaves}
 use Rattle.rs_core.specs.Runs.{hearing}
 use Rattle.rs_core.specs.Agreeing.{AgreesAt}
 use Rattle.rs_core.specs.Core.{client_count}
@@ -12,9 +12,10 @@ use Rattle.rs_core.specs.declared.endings.Ending.TheVariants as reasons
 use Rattle.rs_core.proofs.Lists.{own, other, set_at}
 use Rattle.rs_core.proofs.Cutting.{cut_unmoved}
 use Rattle.rs_core.proofs.Spared.{put_spares}
-use Rattle.rs_core.proofs.Agreeing.{grown, spares_both}
-use Rattle.rs_core.proofs.Touched.{touches_others}
-use Rattle.rs_core.proofs.Touched.{touches_itself}
+use Rattle.rs_core.proofs.Agreeing.{grown, on_clients, spares_both}
+use Rattle.rs_core.proofs.Growing.{dropped_agrees, heard_agrees}
+use Rattle.rs_core.proofs.Stirring.{least_on, stirs_least}
+use Rattle.rs_core.proofs.Touched.{touches_changes_least, touches_itself, touches_others}
 use Rattle.rs_core.proofs.route_server.Core.octets.Goals as goal
 
 live_by : (b : Bool) → (b ≡ false → b ≡ true) → b ≡ true
@@ -26,10 +27,14 @@ unfolding client_count
 returns-in-Ok-clause-heard c = λ run h.
     let it = hearing c.args.c run in
     let piece = c.args.piece.now in
-    grown c.args.self.now c.hear.new.self c.args.c run (Heard c.args.c piece ∷ run) refl
-    (λ d ne. other c.args.c d (hears (config_in run) d piece (hearing d run)) (hearing d run) ne) h c.hear.ensures.spares
-    (subst (λ k. AgreesAt c.hear.new.self (config_in run) c.args.c k) (sym (own c.args.c (hears (config_in run) c.args.c piece it) it))
-    (c.in-Ok.ensures.heard (config_in run) it h.config (h.clients c.args.c c.requires)))
+    let old = c.args.self.now in
+    let at = h.clients c.args.c c.requires in
+    let others = λ (d : ℕ) (ne : d ≢ c.args.c). other c.args.c d (hears (config_in run) d piece (hearing d run)) (hearing d run) ne in
+    let on = grown old c.hear.new.self c.args.c run (Heard c.args.c piece ∷ run) refl others h c.hear.ensures.spares
+    (subst (λ k. AgreesAt c.hear.new.self (config_in run) c.args.c k) (sym (own c.args.c (hears (config_in run) c.args.c piece it) it)) (c.in-Ok.ensures.heard (config_in run) it h.config at)) in
+    heard_agrees c.args.c piece old c.hear.new.self run c.hear.ensures.spares.count others
+    (touches_others _ c.args.c old c.hear.new.self run (on_clients old run h) c.hear.ensures.spares.count (c.in-Ok.ensures.stirs (config_in run) it h.config at))
+    (touches_itself (Heard c.args.c piece) c.args.c old c.hear.new.self run c.requires (on_clients old run h) on c.hear.ensures.spares.count (c.in-Ok.ensures.keeps (config_in run) it h.config at)) h on
 
 pub returns-in-Err-clause-refused : goal.returns-in-Err-clause-refused
 unfolding client_count
@@ -44,11 +49,17 @@ returns-in-Err-clause-refused c = λ run h.
     let was = slice_get_read old (length old) c.args.c c.index.result.now refl here c.index.ensures in
     let lasted = live_by (is_live (state_in (config_in run) c.args.c it)) (λ dead. absurd (let e = c.in-Err.ensures.unheard (config_in run) it at.knows dead in cc)) in
     let ended = c.end.ensures it.endings it.faults (at.knows.watched c.index.result.now was) in
-    grown c.args.self.now c.forget.new.self c.args.c run (Dropped c.args.c ∷ run) refl (λ d ne. other c.args.c d (leaves (config_in run) d reasons.Memory (hearing d run)) (hearing d run) ne) h
+    let others = λ (d : ℕ) (ne : d ≢ c.args.c). other c.args.c d (leaves (config_in run) d reasons.Memory (hearing d run)) (hearing d run) ne in
+    let on = grown c.args.self.now c.forget.new.self c.args.c run (Dropped c.args.c ∷ run) refl others h
     (spares_both c.args.c c.args.self.now _ c.forget.new.self (put_spares c.args.c c.args.self.now c.hear.new.self _ c.end.new.self there refl refl refl refl refl c.hear.ensures.spares) c.forget.ensures.spares)
     (subst (λ k. AgreesAt c.forget.new.self (config_in run) c.args.c k) (sym (own c.args.c (leaves (config_in run) c.args.c reasons.Memory it) it))
     (c.forget.ensures.forgotten (config_in run) it reasons.Memory (cut_unmoved c.hear.new.self _ (config_in run) c.args.c it refl (c.in-Err.ensures.refused (config_in run) it h.config at))
-    (λ x e. (set_at kept c.args.c c.end.new.self there).own x e ∙ ended ∙ ap (λ b. watched_by (cons_option (ended_if b reasons.Memory) it.endings) it.faults) (sym lasted))))
+    (λ x e. (set_at kept c.args.c c.end.new.self there).own x e ∙ ended ∙ ap (λ b. watched_by (cons_option (ended_if b reasons.Memory) it.endings) it.faults) (sym lasted)))) in
+    dropped_agrees c.args.c c.args.self.now c.forget.new.self run (c.forget.ensures.spares.count ∙ c.hear.ensures.spares.count) others
+    (ap (λ k. is_up (state_in (config_in run) c.args.c k)) (own c.args.c (leaves (config_in run) c.args.c reasons.Memory it) it))
+    (touches_changes_least c.args.c (Dropped c.args.c) c.args.self.now c.forget.new.self run c.requires (on_clients c.args.self.now run h) on (c.forget.ensures.spares.count ∙ c.hear.ensures.spares.count)
+    (least_on c.args.c c.args.self.now.ribs c.hear.new.self.ribs c.forget.new.self.ribs (c.hear.new.self.ribs_len ∙ c.hear.ensures.spares.count ∙ sym c.args.self.now.ribs_len) c.hear.ensures.least
+    (stirs_least c.args.c c.hear.new.self.ribs c.forget.new.self.ribs c.forget.ensures.stirs))) h on
 
 pub returns-in-Ok-clause-unheard : goal.returns-in-Ok-clause-unheard
 unfolding client_count
@@ -60,10 +71,18 @@ returns-in-Err-clause-unheard c = λ run h dead. let it = c.in-Err.ensures.unhea
 
 pub returns-in-Ok-clause-touched : goal.returns-in-Ok-clause-touched
 unfolding client_count
-returns-in-Ok-clause-touched c = λ run h. touches_others _ c.args.c c.args.self.now c.hear.new.self run h c.hear.ensures.spares.count
+returns-in-Ok-clause-touched c = λ run h. touches_others _ c.args.c c.args.self.now c.hear.new.self run (on_clients c.args.self.now run h) c.hear.ensures.spares.count
     (c.in-Ok.ensures.stirs (config_in run) (hearing c.args.c run) h.config (h.clients c.args.c c.requires))
 
 pub returns-in-Ok-clause-itself : goal.returns-in-Ok-clause-itself
 unfolding client_count
-returns-in-Ok-clause-itself c = λ run h. touches_itself (Heard c.args.c c.args.piece.now) c.args.c c.args.self.now c.hear.new.self run c.requires h (returns-in-Ok-clause-heard c run h) c.hear.ensures.spares.count
+returns-in-Ok-clause-itself c = λ run h. touches_itself (Heard c.args.c c.args.piece.now) c.args.c c.args.self.now c.hear.new.self run c.requires (on_clients c.args.self.now run h)
+    (on_clients c.hear.new.self (Heard c.args.c c.args.piece.now ∷ run) (returns-in-Ok-clause-heard c run h)) c.hear.ensures.spares.count
     (c.in-Ok.ensures.keeps (config_in run) (hearing c.args.c run) h.config (h.clients c.args.c c.requires))
+
+pub returns-in-Err-clause-dropped : goal.returns-in-Err-clause-dropped
+unfolding client_count
+returns-in-Err-clause-dropped c = λ run h. touches_changes_least c.args.c (Dropped c.args.c) c.args.self.now c.forget.new.self run c.requires (on_clients c.args.self.now run h)
+    (on_clients c.forget.new.self (Dropped c.args.c ∷ run) (returns-in-Err-clause-refused c run h)) (c.forget.ensures.spares.count ∙ c.hear.ensures.spares.count)
+    (least_on c.args.c c.args.self.now.ribs c.hear.new.self.ribs c.forget.new.self.ribs (c.hear.new.self.ribs_len ∙ c.hear.ensures.spares.count ∙ sym c.args.self.now.ribs_len) c.hear.ensures.least
+    (stirs_least c.args.c c.hear.new.self.ribs c.forget.new.self.ribs c.forget.ensures.stirs))
