@@ -28,22 +28,20 @@ use Rattle.rs_core.proofs.route_server.Core.change.Goals as goal
 pub returns-in-Some-clause-refused : goal.returns-in-Some-clause-refused
 unfolding client_count
 returns-in-Some-clause-refused c =
-    let sessions = c.args.self.now.sessions.items in
-    let lt : c.args.c < length sessions = subst (λ k. c.args.c < k) (sym c.args.self.now.sessions_len) c.requires.client in
-    let read = slice_get_read sessions (length sessions) c.args.c c.index_mut.result.now refl lt c.index_mut.ensures.value in
+    let lt : c.args.c < length c.args.self.now.sessions.items = subst (λ k. c.args.c < k) (sym c.args.self.now.sessions_len) c.requires.client in
+    let read = slice_get_read _ _ _ _ (sym c.args.self.now.sessions_len) c.requires.client c.index_mut.ensures.value in
     on_err c.announce_all.result (λ s h knows. cut_after c.args.self.now c.announce_all.new.self c.index_mut.result.now c.message.new.self s c.args.c h (heard.Update None) acts.None read lt
     (ap (λ (v : Vec Session). v.items) (c.announce_all.ensures.sessions ∙ c.withdraw_all.ensures.sessions)) c.in-None.ensures.hears knows)
 
 pub returns-in_default : goal.returns-in_default
 unfolding client_count
 returns-in_default c =
-    let sessions = c.args.self.now.sessions.items in
-    let lt : c.args.c < length sessions = subst (λ k. c.args.c < k) (sym c.args.self.now.sessions_len) c.requires.client in
-    let read = slice_get_read sessions (length sessions) c.args.c c.index_mut.result.now refl lt c.index_mut.ensures.value in
+    let lt : c.args.c < length c.args.self.now.sessions.items = subst (λ k. c.args.c < k) (sym c.args.self.now.sessions_len) c.requires.client in
+    let read = slice_get_read _ _ _ _ (sym c.args.self.now.sessions_len) c.requires.client c.index_mut.ensures.value in
     let set = ap (λ (v : Vec Session). v.items) c.act.ensures.sessions in
     let kept = c.args.self.now.watched.items in
     let there : c.args.c < length kept = subst (λ k. c.args.c < k) (sym c.args.self.now.watched_len) c.requires.client in
-    let was = slice_get_read kept (length kept) c.args.c c.index_mut-in_default.result.now refl there c.index_mut-in_default.ensures.value in
+    let was = slice_get_read _ _ _ _ (sym c.args.self.now.watched_len) c.requires.client c.index_mut-in_default.ensures.value in
     let noting = ap (λ (v : Vec Watched). v.items) c.act.ensures.watched in
     record {
       spares = acted_spares c.args.self.now c.act.new.self c.args.c c.message.new.self c.act.ensures.count c.act.ensures.config lt set c.act.ensures.buffers c.act.ensures.others c.act.ensures.voices
@@ -62,9 +60,8 @@ returns-in_default c =
 pub returns-in-None-attrs-clause-heard : goal.returns-in-None-attrs-clause-heard
 unfolding client_count
 returns-in-None-attrs-clause-heard c = λ s h change live knows same.
-    let sessions = c.args.self.now.sessions.items in
-    let lt : c.args.c < length sessions = subst (λ k. c.args.c < k) (sym c.args.self.now.sessions_len) c.requires.client in
-    let read = slice_get_read sessions (length sessions) c.args.c c.index_mut.result.now refl lt c.index_mut.ensures.value in
+    let lt : c.args.c < length c.args.self.now.sessions.items = subst (λ k. c.args.c < k) (sym c.args.self.now.sessions_len) c.requires.client in
+    let read = slice_get_read _ _ _ _ (sym c.args.self.now.sessions_len) c.requires.client c.index_mut.ensures.value in
     let none = sym c.requires.attributes ∙ ap is_none c.in-None-attrs.is in
     changed c.args.self.now c.withdraw_all.new.self c.index_mut.result.now c.message.new.self s c.args.c h c.args.withdrawn.now c.args.announced.now (option_map arc_value c.args.attrs) change read lt
     (ap (λ (v : Vec Session). v.items) c.withdraw_all.ensures.sessions) c.in-None.ensures.hears c.in-None.ensures.takes
@@ -75,8 +72,7 @@ returns-in-None-attrs-clause-heard c = λ s h change live knows same.
 pub returns-in-Some-clause-spares : goal.returns-in-Some-clause-spares
 unfolding client_count
 returns-in-Some-clause-spares c =
-    let sessions = c.args.self.now.sessions.items in
-    let lt : c.args.c < length sessions = subst (λ k. c.args.c < k) (sym c.args.self.now.sessions_len) c.requires.client in
+    let lt : c.args.c < length c.args.self.now.sessions.items = subst (λ k. c.args.c < k) (sym c.args.self.now.sessions_len) c.requires.client in
     acted_spares c.args.self.now c.announce_all.new.self c.args.c c.message.new.self (c.announce_all.ensures.count ∙ c.withdraw_all.ensures.count) (c.announce_all.ensures.config ∙ c.withdraw_all.ensures.config) lt
     (ap (λ (v : Vec Session). v.items) (c.announce_all.ensures.sessions ∙ c.withdraw_all.ensures.sessions)) (c.announce_all.ensures.buffers ∙ c.withdraw_all.ensures.buffers)
     (record {
@@ -90,9 +86,8 @@ returns-in-Some-clause-spares c =
 pub returns-in-Some-clause-heard : goal.returns-in-Some-clause-heard
 unfolding client_count
 returns-in-Some-clause-heard c = map_ok c.announce_all.result c.announce_all.ensures.held (λ held s h change live knows same.
-    let sessions = c.args.self.now.sessions.items in
-    let lt : c.args.c < length sessions = subst (λ k. c.args.c < k) (sym c.args.self.now.sessions_len) c.requires.client in
-    let read = slice_get_read sessions (length sessions) c.args.c c.index_mut.result.now refl lt c.index_mut.ensures.value in
+    let lt : c.args.c < length c.args.self.now.sessions.items = subst (λ k. c.args.c < k) (sym c.args.self.now.sessions_len) c.requires.client in
+    let read = slice_get_read _ _ _ _ (sym c.args.self.now.sessions_len) c.requires.client c.index_mut.ensures.value in
     changed c.args.self.now c.announce_all.new.self c.index_mut.result.now c.message.new.self s c.args.c h c.args.withdrawn.now c.args.announced.now (Some (arc_value c.in-Some.attrs)) change read lt
     (ap (λ (v : Vec Session). v.items) (c.announce_all.ensures.sessions ∙ c.withdraw_all.ensures.sessions)) c.in-None.ensures.hears c.in-None.ensures.takes
     (λ p. held.held p ∙ ap (λ o. if has_prefix p c.args.announced.now then Some (arc_value c.in-Some.attrs) else o) (c.withdraw_all.ensures.held.held p))

@@ -6,12 +6,11 @@ use Rattle.rs_core.specs.Core.{client_count}
 use Rattle.rs_core.specs.Hearing.{Hearing, allowed_in, hears}
 use Rattle.rs_core.specs.Agreeing.{AgreesAt}
 use Rattle.rs_core.specs.Steps.{IsBetween}
-use Rattle.rs_core.proofs.Lists.{on_err, map_ok}
+use Rattle.rs_core.proofs.Lists.{on_err, map_ok, none_are}
 use Rattle.rs_core.proofs.Agreeing.{spares_both, cut_short}
 use Rattle.rs_core.proofs.Ruling.{unmoved}
 use Rattle.rs_core.proofs.Cutting.{alone_waits, after_message, after_fault, fault_between, after_beginning, after_all, deaf_agrees, cut_before, agrees_joined, between_joined, same_spares, waiting_spares}
 use Rattle.rs_core.proofs.Listening.{hears_nothing}
-use Rattle.rs_core.proofs.Filling.{is_none}
 use Rattle.rs_core.specs.Altering.{IsAlteredBy}
 use Rattle.rs_core.specs.Ribs.{StirsWhere}
 use Rattle.rs_core.proofs.Altering.{beginning_silent, message_once, on_ok, one_fault, piece_deaf, piece_silent, stirs_at_first, stirs_behind, stirs_no_more, stirs_once}
@@ -144,7 +143,7 @@ unfolding client_count
 returns-clause-heard c = λ s h config between.
     let it = c.loop-octets.invariant.heard in
     let at = it.2 s h config between in
-    let none = is_none c.loop-octets.octets.now (sym c.is_empty.ensures ∙ c.loop-octets-test.false) in
+    let none = none_are c.loop-octets.octets.now (sym c.is_empty.ensures ∙ c.loop-octets-test.false) in
     let whole : c.args.piece.now ≡ it.0 = it.1 ∙ ap (λ o. it.0 ++ o) none ∙ append-nil it.0 in
     subst (λ p. AgreesAt c.loop-octets.self s c.args.c (hears s c.args.c p h)) (sym whole) (after_all c.loop-octets.self s c.args.c (hears s c.args.c it.0 h) at)
 
@@ -188,7 +187,7 @@ pub returns-clause-stirs : goal.returns-clause-stirs
 unfolding client_count
 returns-clause-stirs c = λ s h config between.
     let it = c.loop-octets.invariant.heard in
-    let none = is_none c.loop-octets.octets.now (sym c.is_empty.ensures ∙ c.loop-octets-test.false) in
+    let none = none_are c.loop-octets.octets.now (sym c.is_empty.ensures ∙ c.loop-octets-test.false) in
     let whole : c.args.piece.now ≡ it.0 = it.1 ∙ ap (λ o. it.0 ++ o) none ∙ append-nil it.0 in
     subst (λ o. StirsWhere (IsAlteredBy s c.args.c o h) c.args.c c.args.self.now.ribs c.loop-octets.self.ribs) (sym whole) (it.3 s h config between)
 

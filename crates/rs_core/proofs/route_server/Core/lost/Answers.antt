@@ -21,7 +21,7 @@ returns-clause-left c = λ run h.
     let at = h.clients c.args.c c.requires in
     let kept = c.args.self.now.watched.items in
     let there : c.args.c < length kept = subst (λ k. c.args.c < k) (sym c.args.self.now.watched_len) c.requires in
-    let was = slice_get_read kept (length kept) c.args.c c.index_mut.result.now refl there c.index_mut.ensures.value in
+    let was = slice_get_read _ _ _ _ (sym c.args.self.now.watched_len) c.requires c.index_mut.ensures.value in
     let why = c.ended_if.ensures ∙ ap (λ b. ended_if b reasons.Lost) (c.is_live-lasts.ensures (config_in run) it at.knows) in
     let notes = noted_by kept _ c.args.c c.index_mut.result.now c.end.new.self c.ended_if.result _ was there refl why c.end.ensures in
     grown c.args.self.now c.forget.new.self c.args.c run (Left c.args.c ∷ run) refl (λ d ne. other c.args.c d (leaves (config_in run) d reasons.Lost (hearing d run)) (hearing d run) ne) h
