@@ -23,10 +23,10 @@ use Rattle.rs_adjin.specs.AdjIns.{held_of, identifier_of, Sets, Same}
 use Rattle.rs_adjin.specs.declared.adj_ins.AdjIns.{AdjIns}
 use Rattle.rs_policy.specs.Configuration.{Configuration}
 use Rattle.rs_core.specs.Hearing.{Hearing, session_in, state_in, is_up, changing, takes_in}
-use Rattle.rs_core.specs.Steps.{IsSpared, HasOverlaid}
+use Rattle.rs_core.specs.Steps.{IsSpared, HasOverlaid, ChangesRoutes}
 use Rattle.rs_core.specs.Agreeing.{Knows, IsCutShort}
 use Rattle.rs_outlet.specs.Views.{View}
-use Rattle.rs_core.specs.Ribs.{outlet_in}
+use Rattle.rs_core.specs.Ribs.{outlet_in, Stirs, TouchesChange}
 use Rattle.rs_core.specs.declared.route_server.Core.{Core}
 use Rattle.rs_core.specs.Beats.{AreBeats, asks_for_keepalive, fell_if}
 use Rattle.rs_core.specs.Conversations.{outgoing_of, own_open}
@@ -39,6 +39,8 @@ use Rattle.rs_core.proofs.Watching.{watched_still}
 use Rattle.rs_core.specs.Points.{Point, asked_if}
 use Rattle.rs_core.proofs.Holding.{up_table, up_identifier, up_is}
 use Rattle.rs_core.proofs.Ordering.{stayed_ordered}
+use Rattle.rs_core.proofs.Around.{change_touches, none_touched, touches_on}
+use Rattle.rs_core.proofs.Stirring.{stirs_same}
 
 -- ---- prefixes one by one
 
@@ -81,13 +83,40 @@ one_spared c q w old mid new sets spared = record {
   identifiers = λ d ne. sets.identifiers d ∙ spared.identifiers d ne;
 }
 
-pub none_spared : (c : ℕ) (ins : AdjIns) → IsSpared c ins ins
+none_spared : (c : ℕ) (ins : AdjIns) → IsSpared c ins ins
 none_spared c ins = record { held = λ d p ne. refl; identifiers = λ d ne. refl }
 
 pub same_spared_behind : (c : ℕ) (old mid new : AdjIns) → Same mid new → IsSpared c old mid → IsSpared c old new
 same_spared_behind c old mid new same spared = record {
   held = λ d p ne. same.held d p ∙ spared.held d p ne;
   identifiers = λ d ne. same.identifiers d ∙ spared.identifiers d ne;
+}
+
+-- nothing has changed yet
+pub routes_none : (c : ℕ) (core : Core) → ChangesRoutes c core core
+routes_none c core = record {
+  count = refl;
+  sessions = refl;
+  buffers = refl;
+  watched = refl;
+  config = refl;
+  others = none_spared c core.ribs.tables;
+  touched = none_touched c core.ribs;
+  stirs = stirs_same c core.ribs core.ribs refl;
+}
+
+-- the value at one prefix more has changed, or none
+pub routes_on : (c : ℕ) (q : Prefix) (old mid new : Core) → new.count ≡ mid.count → new.sessions ≡ mid.sessions → new.buffers ≡ mid.buffers → new.watched ≡ mid.watched → new.ribs.config ≡ mid.ribs.config
+    → IsSpared c old.ribs.tables new.ribs.tables → TouchesChange c q mid.ribs new.ribs → Stirs c old.ribs new.ribs → ChangesRoutes c old mid → ChangesRoutes c old new
+routes_on c q old mid new count sessions buffers watched config others touches stirs was = record {
+  count = count ∙ was.count;
+  sessions = sessions ∙ was.sessions;
+  buffers = buffers ∙ was.buffers;
+  watched = watched ∙ was.watched;
+  config = config ∙ was.config;
+  others = others;
+  touched = touches_on c old.ribs mid.ribs new.ribs (mid.ribs_len ∙ was.count ∙ sym old.ribs_len) was.touched (change_touches c q mid.ribs new.ribs touches);
+  stirs = stirs;
 }
 
 -- ---- a change
