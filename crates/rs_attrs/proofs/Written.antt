@@ -2,6 +2,7 @@
 pub mod ReadBack
 pub mod LeftToWrite
 pub mod Narrowing
+pub mod NarrowedNumbers
 pub mod TwoMap
 pub mod TwoKept
 pub mod ReadBackTwo

@@ -5,7 +5,7 @@
 //! ordered, hashed and stripped; `size` and `write_into` spell it for a peer of either kind.
 //!
 //! - `types` names the types, `table` says of each which flags and values it has and what comes of
-//!   one that isn't well formed.
+//!   one that isn't well formed; `mode` says how a peer spells AS numbers.
 //! - `reading` and its folder: `field` takes a field apart, `values` judges each attribute by the
 //!   table, `gathering` keeps what counts, `two` puts AS4_PATH and AS4_AGGREGATOR in their places.
 //! - `faults` says what is wrong with a field, for the UPDATE and for the operator.

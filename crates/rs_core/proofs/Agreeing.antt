@@ -11,11 +11,12 @@ use Rattle.rs_core.specs.Runs.{hearing}
 use Rattle.rs_core.specs.Agreeing.{Knows, AgreesAt, IsCutShort, Agrees, Spares}
 use Rattle.rs_core.specs.Ribs.{outlet_in}
 use Rattle.rs_core.specs.declared.route_server.Core.{Core}
-use Rattle.rs_core.proofs.Lists.{equal_or, own, other}
+use Rattle.rs_core.proofs.Lists.{own, other}
 use Rattle.rs_core.proofs.Alike.{still}
 use Rattle.rs_core.proofs.Voicing.{voiced_same}
 use Rattle.rs_core.proofs.Around.{voices_on}
 use Rattle.rs_core.proofs.Ordering.{same_ordered}
+use Rattle.rs_core.proofs.Clients.{equal_or}
 
 -- ---- one client has begun, or begun again
 

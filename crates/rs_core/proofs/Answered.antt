@@ -1,9 +1,9 @@
 -- Where an outlet is drained, what its client asked for again was told again.
-use Rattle.std.proofs.Common.{◌≡◌, ◌<◌, ℕ, Bool, true, false, List, ◌++◌, refl, sym, ◌∙◌, ap, subst}
+use Rattle.std.proofs.Common.{◌≡◌, ◌<◌, ℕ, true, false, List, ◌++◌, sym, ◌∙◌, ap, subst}
 use Rattle.std.specs.Prelude.{is_some}
 use Rattle.std.specs.FinMap as fin
 use Rattle.std.specs.FinSet as set
-use Rattle.std.proofs.lemmas.Bool.{false≢true}
+use Rattle.std.proofs.lemmas.Bool.{false≢true, false_from_ne_true}
 use Rattle.std.proofs.lemmas.List.{append-nil}
 use Rattle.rs_octets.specs.Prefixes.{prefix_order}
 use Rattle.rs_outlet.specs.Views.{View, IsDrained}
@@ -16,10 +16,6 @@ use Rattle.rs_core.specs.Runs.{hearing, due}
 use Rattle.rs_core.specs.Agreeing.{Agrees}
 use Rattle.rs_core.specs.declared.route_server.Core.{Core}
 use Rattle.rs_core.proofs.Serving.{told_is_due}
-
-not_asked : (asked : Bool) → (asked ≡ true → ⊥) → asked ≡ false
-not_asked true never = absurd (never refl)
-not_asked false never = refl
 
 pub drained_is_answered : (core : Core) (run : List Move) (c : ℕ) (none : View) → c < core.count → IsDrained (outlet_in core.ribs c none) → Agrees core run → IsAnswered run c
 drained_is_answered core run c none lt drained h = record {
@@ -36,6 +32,6 @@ drained_is_answered core run c none lt drained h = record {
         values = t.values;
         tells = subst (λ o. TellsAt speech.mode o p t.values) (ap (λ f. it.taken ++ f) drained.flight ∙ append-nil it.taken) t.tells;
         last = sym t.told ∙ sym same;
-        order = subst (λ a. TellsInOrder speech.mode it.points p t.values a) (not_asked t.asked (λ a. false≢true (sym unmarked ∙ t.pending a there))) t.order;
+        order = subst (λ a. TellsInOrder speech.mode it.points p t.values a) (false_from_ne_true t.asked (λ a. false≢true (sym unmarked ∙ t.pending a there))) t.order;
       };
 }

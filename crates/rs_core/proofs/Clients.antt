@@ -1,5 +1,5 @@
 -- Clients by their number.
-use Rattle.std.proofs.Common.{◌≡◌, ◌≢◌, ◌⊎◌, ◌<◌, ◌≤◌, inl, inr, ◌==◌, ℕ, Bool, true, false, nat_lt, refl, arith}
+use Rattle.std.proofs.Common.{◌≡◌, ◌≢◌, ◌⊎◌, inl, inr, ◌==◌, ℕ, Bool, true, false, refl, arith}
 use Rattle.std.proofs.lemmas.Bool.Decides.{nat_tests}
 
 pub equal_or : (a b : ℕ) → (a ≡ b) ⊎ (a ≢ b)
@@ -7,12 +7,6 @@ equal_or a b = by_test (a == b) refl where
   by_test : (t : Bool) → (a == b) ≡ t → (a ≡ b) ⊎ (a ≢ b)
   by_test true e = inl (grind (arith, nat_tests, e))
   by_test false e = inr (λ is. grind (arith, nat_tests, e, is))
-
-pub below_or : (c n : ℕ) → (c < n) ⊎ (n ≤ c)
-below_or c n = by_test (nat_lt c n) refl where
-  by_test : (t : Bool) → nat_lt c n ≡ t → (c < n) ⊎ (n ≤ c)
-  by_test true e = inl (grind (arith, nat_tests, e))
-  by_test false e = inr (grind (arith, nat_tests, e))
 
 pub is_own : (c : ℕ) → (c == c) ≡ true
 is_own c = grind (arith, nat_tests)

@@ -15,6 +15,7 @@ use Rattle.rs_core.specs.declared.links.Event.{Event}
 use Rattle.rs_core.specs.declared.links.Event.TheVariants as events
 use Rattle.rs_core.specs.declared.route_server.Core.{Core}
 use Rattle.rs_core.proofs.Leading.{led_by, led_on, led_same, stop_is}
+use Rattle.rs_core.proofs.Lists.{none_are}
 
 -- to what follows
 pub goes : {L : Type 0} (happens : L → Step → L → Type 0) (old : Core) (before : L) (new : Core) (after : L) (By : ℕ → Course → Course → Type 0) (next : Course → Course)
@@ -180,10 +181,6 @@ turned happens old before new after count agrees told =
     (λ first x l. told first x.steps l) (λ x h. agrees x.run h) (λ n x k h. Turns refused x (subst (λ m. AreFalling m refused) (count ∙ k) (falling new (client_count new))))
 
 -- ---- octets that are lent
-
-pub none_are : (octets : List ℕ) → (length octets == 0) ≡ true → octets ≡ []
-none_are [] e = refl
-none_are (x ∷ xs) e = absurd (grind (arith, nat_tests, e))
 
 pub some_are : (octets : List ℕ) → (length octets == 0) ≡ false → octets ≢ []
 some_are octets e none = absurd (let h : (length octets == 0) ≡ true = ap (λ l. length l == 0) none in grind (arith, nat_tests, e, h))

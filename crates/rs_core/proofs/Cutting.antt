@@ -1,8 +1,9 @@
 -- Pieces of octets that are heard message by message, and what then waits.
-use Rattle.std.proofs.Common.{◌≡◌, ◌≢◌, ◌<◌, ℕ, zero, suc, Bool, true, false, List, [], ◌∷◌, ◌++◌, length, refl, sym, ◌∙◌, ap, subst, arith}
+use Rattle.std.proofs.Common.{◌≡◌, ◌≢◌, ◌<◌, ℕ, zero, suc, Bool, true, false, List, [], ◌∷◌, ◌++◌, length, refl, sym, ◌∙◌, ap, subst, arith, get_or, ◌==◌}
 use Rattle.std.specs.Prelude.{Some, Result, Ok, Err, slice_get, if◌then◌else◌}
 use Rattle.std.specs.Global.{Vec}
 use Rattle.std.proofs.lemmas.Bool.{false≢true}
+use Rattle.std.proofs.lemmas.Option.{slice_get_read}
 use Rattle.rs_octets.specs.declared.heads.Allowed.{Allowed}
 use Rattle.rs_octets.specs.declared.heads.HeaderFault.{HeaderFault}
 use Rattle.rs_octets.specs.declared.heads.Kind.{Kind}
@@ -29,6 +30,8 @@ use Rattle.rs_core.proofs.Ruling.{unmoved}
 use Rattle.rs_core.proofs.Alike.{alone_is, same_again, same_is}
 use Rattle.rs_core.proofs.Voicing.{voiced_on}
 use Rattle.rs_core.proofs.Ordering.{ordered_on}
+use Rattle.rs_core.specs.Core.{client_count}
+use Rattle.rs_core.proofs.Lists.{none_are}
 
 -- what is known is known whatever the octets were
 pub with_others : (core : Core) (s : Configuration) (c : ℕ) (octets : List ℕ) (h : Hearing) → Knows core s c h → Knows core s c (with_octets octets h)
@@ -190,13 +193,22 @@ deaf_agrees core s c octets h dead knows =
       waits = λ x f. over s c x.items (with_octets (h.octets ++ octets) h) dead;
     })
 
--- what waits is empty
-pub is_between : (core : Core) (s : Configuration) (c : ℕ) (h : Hearing) (x : Vec ℕ) → slice_get core.buffers.items c ≡ Some x → x.items ≡ [] → AgreesAt core s c h → IsBetween core s c h
-is_between core s c h x read none at = record {
+-- no octet waits in the client's buffer
+pub none_waits : (core : Core) (s : Configuration) (c : ℕ) (h : Hearing) (x : Vec ℕ) → c < client_count core → x ≡ get_or core.buffers.items c x → (x.len == 0) ≡ true → AgreesAt core s c h → IsBetween core s c h
+unfolding client_count
+none_waits core s c h x lt here empty at = record {
   knows = at.knows;
   rest = λ live. sym ((at.waits x read).rest live) ∙ none;
   empty = λ live y f. (at.waits y f).rest live ∙ sym ((at.waits x read).rest live) ∙ none;
-}
+} where
+  read : slice_get core.buffers.items c ≡ Some x
+  read = slice_get_read core.buffers.items core.count c x (sym core.buffers_len) lt here
+
+  size : length x.items ≡ x.len
+  size = omega (arith, x.ok.0)
+
+  none : x.items ≡ []
+  none = none_are x.items (ap (λ n. n == 0) size ∙ empty)
 
 -- what was heard before memory was refused counts no more
 pub cut_before : (core : Core) (s : Configuration) (c : ℕ) (before : List ℕ) (h : Hearing) → IsCutShort core s c (hears s c before h) → IsCutShort core s c h

@@ -7,7 +7,6 @@ use Rattle.std.specs.FinSet as set
 use Rattle.std.proofs.lemmas.Bool.Decides.{nat_tests}
 use Rattle.rs_octets.specs.Prefixes.{prefix_order}
 use Rattle.rs_open.specs.Notes.{limit_octets}
-use Rattle.rs_session.specs.declared.act.State.{State}
 use Rattle.rs_session.specs.declared.act.State.TheVariants as states
 use Rattle.rs_session.proofs.Lasting.{brings_up}
 use Rattle.rs_outlet.specs.declared.answers.Last.TheVariants as lasts
@@ -30,15 +29,10 @@ use Rattle.rs_core.proofs.Owing.{limit_least, none_times, no_length, some_owed}
 use Rattle.rs_core.proofs.Paying.{nobody, outlet_is, owed_is, decided_is}
 use Rattle.rs_core.proofs.Outgoing.{within}
 use Rattle.rs_core.proofs.Serving.{spoken}
+use Rattle.rs_adjin.proofs.Counting.{iff}
+use Rattle.rs_core.proofs.Holding.{up_is}
 
 -- ---- who is Established is spoken to
-
-up_is : (x : State) → is_up x ≡ true → x ≡ states.Established
-up_is states.Idle e = absurd (let f : false ≡ true = e in cc)
-up_is states.OpenSent e = absurd (let f : false ≡ true = e in cc)
-up_is states.OpenConfirm e = absurd (let f : false ≡ true = e in cc)
-up_is states.Established e = refl
-up_is states.Closing e = absurd (let f : false ≡ true = e in cc)
 
 pub up_spoken : (s : Configuration) (c : ℕ) (h : Hearing) → is_up (state_in s c h) ≡ true → (speech : Speech) × (speech_in s c h ≡ Some speech)
 up_spoken s c h up = let brought = brings_up (session_in s c) h.items (up_is (state_in s c h) up) in (_, (λ i. if up i then speech_by s.top.extended (brought.agreed i) else None))
@@ -47,11 +41,6 @@ pub established_spoken : (run : List Move) (c : ℕ) → is_established run c �
 established_spoken run c up = up_spoken (config_in run) c (hearing c run) up
 
 -- ---- nothing is left
-
-bool_is : (b d : Bool) → (b ≡ true → d ≡ true) → (d ≡ true → b ≡ true) → b ≡ d
-bool_is true d f g = sym (f refl)
-bool_is false true f g = g refl
-bool_is false false f g = refl
 
 all_true : (a b d : Bool) → a ≡ true → b ≡ true → d ≡ true → (a && (b && d)) ≡ true
 all_true a b d x y z = λ i. x i && (y i && z i)
@@ -110,7 +99,7 @@ owed_left v speech quiet up untouched none = record {
 -- by the run
 pub drained_exactly : (core : Core) (run : List Move) (c : ℕ) (b : Bool) → c < core.count → (IsTrue b ↔ HasNothingLeft (outlet_in core.ribs c nobody)) → Agrees core run
     → b ≡ (is_established run c && (is_decided core c && (owed core c == 0)))
-drained_exactly core run c b lt exact h = bool_is b _ whole part where
+drained_exactly core run c b lt exact h = iff b _ whole part where
   v : View
   v = outlet_in core.ribs c nobody
 

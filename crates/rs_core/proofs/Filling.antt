@@ -50,9 +50,6 @@ none_long : (octets : List ℕ) → length octets ≤ 0 → octets ≡ []
 none_long [] le = refl
 none_long (x ∷ xs) le = absurd (omega (arith, le))
 
-pub is_none : (octets : List ℕ) → (length octets == 0) ≡ true → octets ≡ []
-is_none octets e = none_long octets (let n : length octets ≡ 0 = grind (arith, nat_tests, e) in omega (arith, n))
-
 short_or_not : (n : ℕ) → (nat_lt n 19 ≡ true) ⊎ (nat_lt n 19 ≡ false)
 short_or_not n = go (nat_lt n 19) refl where
   go : (b : Bool) → nat_lt n 19 ≡ b → (nat_lt n 19 ≡ true) ⊎ (nat_lt n 19 ≡ false)

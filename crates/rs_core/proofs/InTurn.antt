@@ -11,7 +11,6 @@ use Rattle.rs_octets.specs.Headers.{header_of}
 use Rattle.rs_octets.proofs.Cut.{pieces_join}
 use Rattle.rs_attrs.specs.declared.mode.Mode.{Mode}
 use Rattle.rs_attrs.specs.Effects.{Change, Changes, HasEffect, attributes_after, mentions}
-use Rattle.rs_session.specs.declared.act.State.{State}
 use Rattle.rs_session.specs.declared.act.State.TheVariants as states
 use Rattle.rs_session.specs.Sessions.{agreed_of}
 use Rattle.rs_session.proofs.Lasting.{brings_up}
@@ -19,7 +18,7 @@ use Rattle.rs_policy.specs.Configuration.{Configuration}
 use Rattle.rs_outlet.specs.Views.{View, bare}
 use Rattle.rs_outlet.specs.declared.answers.Last.TheVariants as lasts
 use Rattle.rs_core.specs.Core.{client_count, loc_in, loc_rib}
-use Rattle.rs_core.specs.Hearing.{Hearing, session_in, state_in, is_up}
+use Rattle.rs_core.specs.Hearing.{Hearing, session_in, state_in}
 use Rattle.rs_core.specs.InTurn.{IsHadFrom, Alternate, has_asked, IsToldInTurn, TellsInTurn, HasWhatWasDue}
 use Rattle.rs_core.specs.Moves.{config_in}
 use Rattle.rs_core.specs.Orders.{TellsAt, TellsInOrder, told_by}
@@ -28,6 +27,7 @@ use Rattle.rs_core.specs.Ribs.{outlet_in}
 use Rattle.rs_core.specs.Runs.{hearing, speech_by, speech_in}
 use Rattle.rs_core.specs.Telling.{body_if, each_message, heads_update, updates_among, updates_in}
 use Rattle.rs_core.proofs.Walks.{default_same}
+use Rattle.rs_core.proofs.Holding.{up_is}
 
 -- ---- had from what was due
 
@@ -149,13 +149,6 @@ tells_in_turn core run c speech p lt h spoken =
     let told = (at.ordered h.config any_view).told speech ((at.outlet h.config any_view).speech ∙ spoken) p in
     told_by_taken speech.mode (hearing c run).points (hearing c run).taken v.flight p told.values told.asked told.tells told.order
 
-established : (state : State) → is_up state ≡ true → state ≡ states.Established
-established states.Idle e = absurd (false≢true e)
-established states.OpenSent e = absurd (false≢true e)
-established states.OpenConfirm e = absurd (false≢true e)
-established states.Established e = refl
-established states.Closing e = absurd (false≢true e)
-
 pub has_what_was_due : HasWhatWasDue
 unfolding client_count loc_rib
 has_what_was_due core run c p lt h up =
@@ -163,7 +156,7 @@ has_what_was_due core run c p lt h up =
     let s : Configuration = config_in run in
     let it : Hearing = hearing c run in
     let v : View = outlet_in core.ribs c any_view in
-    let brought = brings_up (session_in s c) it.items (established (state_in s c it) up) in
+    let brought = brings_up (session_in s c) it.items (up_is (state_in s c it) up) in
     let spoken : speech_in s c it ≡ speech_by s.top.extended (Some brought.sent) =
     ap (λ b. if b then speech_by s.top.extended (agreed_of (session_in s c) it.items) else None) up ∙ ap (speech_by s.top.extended) brought.agreed in
     let xs : List View = core.ribs.outlets.items in

@@ -2,6 +2,7 @@ pub mod Keeping
 pub mod Lists
 pub mod Watching
 pub mod Agreeing
+pub mod Holding
 pub mod Acting
 pub mod Ruling
 pub mod Listening
@@ -33,6 +34,7 @@ pub mod Around
 pub mod Stirring
 pub mod Altering
 pub mod Ordering
+pub mod ToldNext
 pub mod Refusing
 pub mod Serving
 pub mod Outgoing

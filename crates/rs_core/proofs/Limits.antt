@@ -2,6 +2,7 @@
 use Rattle.std.proofs.Common.{◌≡◌, ◌&&◌, ◌||◌, not, ℕ, Bool, true, false, cond, List, [], ◌∷◌, ◌++◌, length, refl, sym, ◌∙◌, ap}
 use Rattle.std.specs.Prelude.{Option, Some, None, IsSome, is_some, filter, nat_lt, if◌then◌else◌}
 use Rattle.std.specs.List.{flat_map}
+use Rattle.std.proofs.Math.Bool.{and-false, and-true, or_assoc}
 use Rattle.rs_octets.specs.Prefixes.{Prefix}
 use Rattle.rs_attrs.specs.Meaning.{Attribute}
 use Rattle.rs_attrs.specs.Effects.{Change, same_prefix, has_prefix, table_since, once}
@@ -15,18 +16,6 @@ use Rattle.rs_core.proofs.Updating.{found}
 
 -- ---- lists of prefixes
 
-and_false : (b : Bool) → (b && false) ≡ false
-and_false true = refl
-and_false false = refl
-
-and_true : (b : Bool) → (b && true) ≡ b
-and_true true = refl
-and_true false = refl
-
-or_assoc : (a b d : Bool) → ((a || b) || d) ≡ (a || (b || d))
-or_assoc true b d = refl
-or_assoc false b d = refl
-
 kept_has : (keep : Prefix → Bool) (p : Prefix) (ps : List Prefix) → has_prefix p (filter keep ps) ≡ (has_prefix p ps && keep p)
 kept_has keep p [] = refl
 kept_has keep p (q ∷ ps) = by_tests (same_prefix p q) (keep q) refl refl (kept_has keep p ps)
@@ -36,7 +25,7 @@ kept_has keep p (q ∷ ps) = by_tests (same_prefix p q) (keep q) refl refl (kept
     by_tests true true e f later = ap (λ b. b || has_prefix p (filter keep ps)) e ∙ sym (ap keep (same_is p q e) ∙ f)
     by_tests true false e f later =
         let here : keep p ≡ false = ap keep (same_is p q e) ∙ f in
-        later ∙ ap (λ b. has_prefix p ps && b) here ∙ and_false (has_prefix p ps) ∙ sym here
+        later ∙ ap (λ b. has_prefix p ps && b) here ∙ and-false (has_prefix p ps) ∙ sym here
     by_tests false true e f later = ap (λ b. b || has_prefix p (filter keep ps)) e ∙ later
     by_tests false false e f later = later
 
@@ -63,7 +52,7 @@ was_announced (x ∷ xs) p e =
 
 both_or_neither : (has keep : Bool) → (keep ≡ true → has ≡ true) → (has && keep) ≡ keep
 both_or_neither has true h = ap (λ b. b && true) (h refl)
-both_or_neither has false h = and_false has
+both_or_neither has false h = and-false has
 
 -- each stands once in the list
 listed : (changes : List Change) → Lists (λ p. is_some (table_since changes p)) (held_by changes)
@@ -84,8 +73,8 @@ some_true (Some a) h = refl
 held_after : (w a : Bool) (m o : Option (List Attribute)) → (a ≡ true → IsSome m) → is_some (if w || a then (if a then m else None) else o) ≡ (a || (is_some o && not w))
 held_after true true m o some = some_true m (some refl)
 held_after false true m o some = some_true m (some refl)
-held_after true false m o some = sym (and_false (is_some o))
-held_after false false m o some = sym (and_true (is_some o))
+held_after true false m o some = sym (and-false (is_some o))
+held_after false false m o some = sym (and-true (is_some o))
 
 pub count_is : (ins : AdjIns) (c count : ℕ) (W A : List Prefix) (change : Change) (changes : List Change) → Counts (would_hold ins c W A) count
     → ((p : Prefix) → held_of ins c p ≡ table_since changes p) → IsAnnouncing W A change → length (held_by (change ∷ changes)) ≡ count

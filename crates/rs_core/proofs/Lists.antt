@@ -1,14 +1,9 @@
 -- A value that was written, and tests of a client's number.
-use Rattle.std.proofs.Common.{◌≡◌, ◌≢◌, ◌<◌, ◌⊎◌, inl, inr, ℕ, zero, suc, [], ◌∷◌, ◌++◌, Bool, true, false, ◌==◌, List, length, refl, sym, ◌∙◌, ap, subst, arith}
+use Rattle.std.proofs.Common.{◌≡◌, ◌≢◌, ◌<◌, ℕ, zero, suc, [], ◌∷◌, ◌++◌, true, ◌==◌, List, length, refl, sym, ◌∙◌, ap, subst, arith}
 use Rattle.std.specs.Prelude.{Option, Some, Result, Ok, Err, OnOk, OnErr, slice_get, slice_set, if◌then◌else◌}
 use Rattle.std.proofs.lemmas.Bool.Decides.{nat_tests}
 use Rattle.rs_core.specs.Steps.{SetsAt}
-
-pub equal_or : (d c : ℕ) → (d ≡ c) ⊎ (d ≢ c)
-equal_or d c = go (d == c) refl where
-  go : (b : Bool) → (d == c) ≡ b → (d ≡ c) ⊎ (d ≢ c)
-  go true e = inl (grind (arith, nat_tests, e))
-  go false e = inr (λ same. absurd (grind (arith, nat_tests, e, same)))
+use Rattle.rs_core.proofs.Clients.{is_own, is_other}
 
 pub some_is : {X : Type 0} (x y : X) → ◌≡◌ {A = Option X} (Some x) (Some y) → x ≡ y
 some_is x y e = cc
@@ -32,17 +27,11 @@ set_at xs c v lt = record {
   others = λ d ne. get_set_other xs c d v (λ e. ne (sym e));
 }
 
-pub same_test : (c : ℕ) → (c == c) ≡ true
-same_test c = grind (arith, nat_tests)
-
-pub other_test : (c d : ℕ) → d ≢ c → (c == d) ≡ false
-other_test c d ne = grind (arith, nat_tests)
-
 pub own : {A : Type 0} (c : ℕ) (x y : A) → (if c == c then x else y) ≡ x
-own c x y = ap (λ b. if b then x else y) (same_test c)
+own c x y = ap (λ b. if b then x else y) (is_own c)
 
 pub other : {A : Type 0} (c d : ℕ) (x y : A) → d ≢ c → (if c == d then x else y) ≡ y
-other c d x y ne = ap (λ b. if b then x else y) (other_test c d ne)
+other c d x y ne = ap (λ b. if b then x else y) (is_other c d (λ e. ne (sym e)))
 
 -- one was put behind the others
 pub got_push : {X : Type 0} (P : ℕ → X → Type 0) (xs : List X) (v : X) → ((i : ℕ) (x : X) → slice_get xs i ≡ Some x → P i x) → P (length xs) v
@@ -63,3 +52,8 @@ map_ok (Err e) p f = tt
 pub map_err : {A E P Q : Type 0} (r : Result A E) → OnErr r P → (P → Q) → OnErr r Q
 map_err (Ok x) p f = tt
 map_err (Err e) p f = f p
+
+-- no octets, by how many there are
+pub none_are : (octets : List ℕ) → (length octets == 0) ≡ true → octets ≡ []
+none_are [] e = refl
+none_are (x ∷ xs) e = absurd (grind (arith, nat_tests, e))

@@ -2,6 +2,7 @@
 use Rattle.std.proofs.Common.{◌≡◌, ◌≢◌, ◌⊎◌, inl, inr, ◌<◌, ◌≤◌, ◌+◌, ℕ, true, List, [], ◌∷◌, ◌++◌, refl, sym, ◌∙◌, ap, subst, arith}
 use Rattle.std.specs.Prelude.{Option, Some, IsSome}
 use Rattle.std.proofs.lemmas.List.Elements.{Contains-append_left, Contains-append_right, Contains-append_cases}
+use Rattle.std.proofs.lemmas.Bool.{cases_lt}
 use Rattle.rs_octets.specs.Prefixes.{Prefix}
 use Rattle.rs_adjin.specs.AdjIns.{held_of}
 use Rattle.rs_policy.specs.Configuration.{Configuration}
@@ -17,7 +18,7 @@ use Rattle.rs_core.specs.Steps.{KeepsOwnTouches}
 use Rattle.rs_core.specs.Stirring.{IsChangedBy, IsChangedElsewhere, TouchesChanges, TouchesWhere, with_touches}
 use Rattle.rs_core.specs.declared.route_server.Core.{Core}
 use Rattle.rs_core.proofs.Agreeing.{HaveSeen}
-use Rattle.rs_core.proofs.Clients.{below_or, equal_or}
+use Rattle.rs_core.proofs.Clients.{equal_or}
 use Rattle.rs_core.proofs.Drained.{up_spoken}
 use Rattle.rs_core.proofs.Outgoing.{within}
 use Rattle.rs_core.proofs.Paying.{nobody, touched_is}
@@ -100,7 +101,7 @@ one_touched_more t c n old mid new run next there count seen config sees_at stir
       (λ p x. let below = x.1 in let other : x.0 ≢ c = λ f. x.2 (f ∙ sym e) in (x.0, omega (arith, below, next, other), x.2, x.3)) (h.each d lt up still))
   by_client d lt up still (inr ne) =
       let within_mid : d < mid.count = subst (λ k. d < k) (sym count) lt in
-      let heard = speaks d within_mid up still (below_or d c) in
+      let heard = speaks d within_mid up still (cases_lt d c) in
       touches_join (IsChangedElsewhere c (Saw t) run d) (IsChangedBy (Saw t) run c) (IsChangedElsewhere n (Saw t) run d) _ (outlet_in mid.ribs d nobody).touched _
       (λ p x. let below = x.1 in (x.0, omega (arith, below, next), x.2, x.3))
       (λ p x. (c, omega (arith, next), (λ f. ne (sym f)), x))

@@ -23,15 +23,17 @@ use Rattle.rs_core.specs.Voices.{SpeaksTo}
 use Rattle.rs_core.specs.Agreeing.{Agrees, AgreesAt, Spares}
 use Rattle.rs_core.specs.declared.ribs.Ribs.{Ribs}
 use Rattle.rs_core.specs.declared.route_server.Core.{Core}
-use Rattle.rs_core.proofs.Lists.{own, other, same_test, other_test}
+use Rattle.rs_core.proofs.Lists.{own, other}
 use Rattle.rs_core.proofs.Agreeing.{AgreesOnClients, grown}
 use Rattle.rs_core.proofs.Around.{own_voices}
 use Rattle.rs_core.proofs.Walks.{default_same}
 use Rattle.rs_core.proofs.Delivering.{begun_voice, took_voice, turned_voice}
 use Rattle.rs_core.proofs.Watching.{watched_still}
-use Rattle.rs_core.proofs.Ordering.{begun_ordered, took_ordered, turned_ordered}
+use Rattle.rs_core.proofs.Ordering.{took_ordered, turned_ordered}
+use Rattle.rs_core.proofs.ToldNext.{begun_ordered}
 use Rattle.rs_core.proofs.Serving.{due_is, due_spoken}
 use Rattle.rs_core.proofs.Turned.{done_decided}
+use Rattle.rs_core.proofs.Clients.{is_own, is_other}
 
 -- nothing but the outlet of one client has changed
 pub record MovesOutlet (c : ℕ) (Is : View → View → Type 0) (old new : Core) : Type 0 where
@@ -96,8 +98,8 @@ within old c lt = subst (λ n. c < n) (sym old.ribs_len) lt
 pub begun_agrees : (c : ℕ) (old new : Core) (run : List Move) → c < old.count → MovesOutlet c HasBegun old new → Agrees old run → AgreesOnClients new (Began c ∷ run)
 begun_agrees c old new run lt m h =
     let it = hearing c run in
-    grown old new c run (Began c ∷ run) refl (λ d ne. ap (λ b. offers b (hearing d run)) (other_test c d ne)) h (moved_spares c HasBegun old new m)
-    (subst (λ k. AgreesAt new (config_in run) c k) (sym (ap (λ b. offers b it) (same_test c)))
+    grown old new c run (Began c ∷ run) refl (λ d ne. ap (λ b. offers b (hearing d run)) (is_other c d (λ e. ne (sym e)))) h (moved_spares c HasBegun old new m)
+    (subst (λ k. AgreesAt new (config_in run) c k) (sym (ap (λ b. offers b it) (is_own c)))
     (still_at c HasBegun old new (config_in run) it m
     (λ config none. begun_voice (config_in run) c it old.ribs.tables (outlet_in old.ribs c none) (outlet_in new.ribs c none) (old.numbered.each c none (within old c lt)) (m.outlet.own none (within old c lt))
     ((h.clients c lt).knows.outlet h.config none))

@@ -13,7 +13,7 @@ use Rattle.rs_core.specs.Owing.{owed_by, is_decided_for, is_none}
 use Rattle.rs_core.specs.Core.{client_count, lent_octets, owed, owed_in, is_decided, decided_in, touched_for, touched_in}
 use Rattle.rs_core.specs.Paying.{SparesOwed, OwesNoMore, OwesLess}
 use Rattle.rs_core.specs.declared.route_server.Core.{Core}
-use Rattle.rs_core.proofs.Lists.{equal_or}
+use Rattle.rs_core.proofs.Clients.{equal_or}
 use Rattle.rs_core.proofs.Walks.{default_same}
 use Rattle.rs_core.proofs.Outgoing.{MovesOutlet, IsTakenFrom, lent_is, within}
 use Rattle.rs_core.proofs.Voicing.{up_live}

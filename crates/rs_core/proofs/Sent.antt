@@ -7,7 +7,8 @@ use Rattle.rs_core.specs.Runs.{hearing, is_established}
 use Rattle.rs_core.specs.Core.{client_count, lent_octets, owed}
 use Rattle.rs_core.specs.Paying.{HasLent, HasTaken, Sends, Start, Lends, Takes, IsSentOf, SendsAllOwed}
 use Rattle.rs_core.specs.declared.route_server.Core.{Core}
-use Rattle.rs_core.proofs.Lists.{equal_or, own, other}
+use Rattle.rs_core.proofs.Lists.{own, other}
+use Rattle.rs_core.proofs.Clients.{equal_or}
 
 -- who is Established stays so
 took_up : (run : List Move) (c d : ℕ) (octets : List ℕ) → is_established (Took d octets ∷ run) c ≡ is_established run c

@@ -6,6 +6,7 @@ use Rattle.std.specs.Map.{keys_of}
 use Rattle.std.specs.FinSet as set
 use Rattle.std.specs.Ordering.{eq_by_cmp, is_eq}
 use Rattle.std.proofs.lemmas.Cmp.{tied_itself}
+use Rattle.std.proofs.Math.Bool.{or-true}
 use Rattle.rs_octets.specs.Prefixes.{Prefix, prefix_order}
 use Rattle.rs_octets.specs.PrefixOrder.{prefix_order_total}
 use Rattle.rs_adjin.specs.AdjIns.{number_of}
@@ -17,17 +18,13 @@ use Rattle.rs_core.specs.Touches.{touched_with, AreHeld, IsTouchedAt, IsTouchedW
 tied : (p : Prefix) → eq_by_cmp prefix_order p p ≡ true
 tied p = ap is_eq (tied_itself prefix_order_total p)
 
-or_true : (b : Bool) → b || true ≡ true
-or_true true = refl
-or_true false = refl
-
 -- ---- one touch
 
 inserted_here : (s : Prefixes) (p : Prefix) → set.contains (set.insert s p) p ≡ true
 inserted_here s p = set.contains-insert prefix_order_total s p p ∙ ap (λ b. b || set.contains s p) (tied p)
 
 inserted_more : (s : Prefixes) (p q : Prefix) → set.contains s q ≡ true → set.contains (set.insert s p) q ≡ true
-inserted_more s p q h = set.contains-insert prefix_order_total s p q ∙ ap (λ b. eq_by_cmp prefix_order q p || b) h ∙ or_true (eq_by_cmp prefix_order q p)
+inserted_more s p q h = set.contains-insert prefix_order_total s p q ∙ ap (λ b. eq_by_cmp prefix_order q p || b) h ∙ or-true (eq_by_cmp prefix_order q p)
 
 -- the touched prefix, by whether it was touched and whether there is room
 here_by : (s : Prefixes) (p : Prefix) (b d : Bool) → set.contains s p ≡ b → is_touched (if b then Some s else if d then Some (set.insert s p) else None) p ≡ true

@@ -3,6 +3,7 @@ use Rattle.std.proofs.Common.{◌≡◌, ◌≢◌, ◌<◌, ◌==◌, ◌&&◌,
 use Rattle.std.specs.Prelude.{Option, Some, None, find, slice_get, slice_set, if◌then◌else◌}
 use Rattle.std.specs.List.{cons_option}
 use Rattle.std.proofs.lemmas.Bool.Decides.{nat_tests}
+use Rattle.std.proofs.Math.Bool.{or-false, or_assoc}
 use Rattle.rs_octets.specs.Prefixes.{Prefix}
 use Rattle.rs_attrs.specs.Meaning.{Attribute}
 use Rattle.rs_attrs.specs.Effects.{Effect, Reset, Changes, Change, is_empty, same_prefix, has_prefix, mentions, attributes_after, table_since}
@@ -12,7 +13,6 @@ use Rattle.rs_session.specs.declared.heard.Heard.TheVariants as heard
 use Rattle.rs_session.specs.declared.heard.Heard.{Heard}
 use Rattle.rs_session.specs.declared.act.Act.{Act}
 use Rattle.rs_session.specs.declared.act.Act.TheVariants as acts
-use Rattle.rs_session.specs.declared.act.State.{State}
 use Rattle.rs_session.specs.declared.act.State.TheVariants as states
 use Rattle.rs_session.proofs.Updates.{updates_are_taken}
 use Rattle.rs_session.specs.declared.session.Session.{Session}
@@ -23,10 +23,10 @@ use Rattle.rs_adjin.specs.AdjIns.{held_of, identifier_of, Sets, Same}
 use Rattle.rs_adjin.specs.declared.adj_ins.AdjIns.{AdjIns}
 use Rattle.rs_policy.specs.Configuration.{Configuration}
 use Rattle.rs_core.specs.Hearing.{Hearing, session_in, state_in, is_up, changing, takes_in}
-use Rattle.rs_core.specs.Steps.{IsSpared, HasOverlaid}
+use Rattle.rs_core.specs.Steps.{IsSpared, HasOverlaid, ChangesRoutes}
 use Rattle.rs_core.specs.Agreeing.{Knows, IsCutShort}
 use Rattle.rs_outlet.specs.Views.{View}
-use Rattle.rs_core.specs.Ribs.{outlet_in}
+use Rattle.rs_core.specs.Ribs.{outlet_in, Stirs, TouchesChange}
 use Rattle.rs_core.specs.declared.route_server.Core.{Core}
 use Rattle.rs_core.specs.Beats.{AreBeats, asks_for_keepalive, fell_if}
 use Rattle.rs_core.specs.Conversations.{outgoing_of, own_open}
@@ -37,23 +37,17 @@ use Rattle.rs_core.specs.Watching.{ending_by, no_faults, IsWatched}
 use Rattle.rs_core.proofs.Lists.{set_at}
 use Rattle.rs_core.proofs.Watching.{watched_still}
 use Rattle.rs_core.specs.Points.{Point, asked_if}
-use Rattle.rs_core.proofs.Acting.{up_table, up_identifier}
+use Rattle.rs_core.proofs.Holding.{up_table, up_identifier, up_is}
 use Rattle.rs_core.proofs.Ordering.{stayed_ordered}
+use Rattle.rs_core.proofs.Around.{change_touches, none_touched, touches_on}
+use Rattle.rs_core.proofs.Stirring.{stirs_same}
 
 -- ---- prefixes one by one
 
-or_false : (b : Bool) → (b || false) ≡ b
-or_false true = refl
-or_false false = refl
-
-or_assoc : (a b d : Bool) → (a || (b || d)) ≡ ((a || b) || d)
-or_assoc true b d = refl
-or_assoc false b d = refl
-
 has_one_more : (p : Prefix) (ps : List Prefix) (k : ℕ) (q : Prefix) → k < length ps → q ≡ get_or ps k q → has_prefix p (take (suc k) ps) ≡ (has_prefix p (take k ps) || same_prefix p q)
 has_one_more p [] k q lt e = absurd (omega (arith, lt))
-has_one_more p (x ∷ xs) zero q lt e = or_false (same_prefix p x) ∙ ap (λ y. same_prefix p y) (sym e)
-has_one_more p (x ∷ xs) (suc k) q lt e = ap (λ b. same_prefix p x || b) (has_one_more p xs k q (omega (arith, lt)) e) ∙ or_assoc (same_prefix p x) (has_prefix p (take k xs)) (same_prefix p q)
+has_one_more p (x ∷ xs) zero q lt e = or-false (same_prefix p x) ∙ ap (λ y. same_prefix p y) (sym e)
+has_one_more p (x ∷ xs) (suc k) q lt e = ap (λ b. same_prefix p x || b) (has_one_more p xs k q (omega (arith, lt)) e) ∙ sym (or_assoc (same_prefix p x) (has_prefix p (take k xs)) (same_prefix p q))
 
 -- another one is written
 over_one : {A : Type 0} (has same : Bool) (w o : A) → (if same then w else (if has then w else o)) ≡ (if has || same then w else o)
@@ -89,13 +83,40 @@ one_spared c q w old mid new sets spared = record {
   identifiers = λ d ne. sets.identifiers d ∙ spared.identifiers d ne;
 }
 
-pub none_spared : (c : ℕ) (ins : AdjIns) → IsSpared c ins ins
+none_spared : (c : ℕ) (ins : AdjIns) → IsSpared c ins ins
 none_spared c ins = record { held = λ d p ne. refl; identifiers = λ d ne. refl }
 
 pub same_spared_behind : (c : ℕ) (old mid new : AdjIns) → Same mid new → IsSpared c old mid → IsSpared c old new
 same_spared_behind c old mid new same spared = record {
   held = λ d p ne. same.held d p ∙ spared.held d p ne;
   identifiers = λ d ne. same.identifiers d ∙ spared.identifiers d ne;
+}
+
+-- nothing has changed yet
+pub routes_none : (c : ℕ) (core : Core) → ChangesRoutes c core core
+routes_none c core = record {
+  count = refl;
+  sessions = refl;
+  buffers = refl;
+  watched = refl;
+  config = refl;
+  others = none_spared c core.ribs.tables;
+  touched = none_touched c core.ribs;
+  stirs = stirs_same c core.ribs core.ribs refl;
+}
+
+-- the value at one prefix more has changed, or none
+pub routes_on : (c : ℕ) (q : Prefix) (old mid new : Core) → new.count ≡ mid.count → new.sessions ≡ mid.sessions → new.buffers ≡ mid.buffers → new.watched ≡ mid.watched → new.ribs.config ≡ mid.ribs.config
+    → IsSpared c old.ribs.tables new.ribs.tables → TouchesChange c q mid.ribs new.ribs → Stirs c old.ribs new.ribs → ChangesRoutes c old mid → ChangesRoutes c old new
+routes_on c q old mid new count sessions buffers watched config others touches stirs was = record {
+  count = count ∙ was.count;
+  sessions = sessions ∙ was.sessions;
+  buffers = buffers ∙ was.buffers;
+  watched = watched ∙ was.watched;
+  config = config ∙ was.config;
+  others = others;
+  touched = touches_on c old.ribs mid.ribs new.ribs (mid.ribs_len ∙ was.count ∙ sym old.ribs_len) was.touched (change_touches c q mid.ribs new.ribs touches);
+  stirs = stirs;
 }
 
 -- ---- a change
@@ -190,13 +211,6 @@ cut_after old new x t s c h message act read lt sessions responds knows =
       moment = refl;
       session = λ z e. subst (λ v. HasHeard v (session_in s c) (Message message ∷ h.items)) (sym ((set_at old.sessions.items c t lt).own z (ap (λ l. slice_get l c) (sym sessions) ∙ e))) it.heard;
     }
-
-up_is : (state : State) → is_up state ≡ true → state ≡ states.Established
-up_is states.Idle e = absurd (cc)
-up_is states.OpenSent e = absurd (cc)
-up_is states.OpenConfirm e = absurd (cc)
-up_is states.Established e = refl
-up_is states.Closing e = absurd (cc)
 
 -- an Established session takes an UPDATE that is no reset
 pub not_taken : (core : Core) (x t : Session) (s : Configuration) (c : ℕ) (h : Hearing) (act : Act) → slice_get core.sessions.items c ≡ Some x → RespondsTo x t (Message (heard.Update None)) act

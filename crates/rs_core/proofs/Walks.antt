@@ -1,10 +1,11 @@
 -- Loops that change one outlet after the other.
 use Rattle.std.proofs.Common.{◌≡◌, ◌≢◌, ◌⊎◌, inl, inr, ◌<◌, ◌≤◌, ◌+◌, ℕ, zero, suc, List, [], ◌∷◌, length, slice_index_or, slice_set, get_or-set_same, get_or-set_other, refl, sym, ◌∙◌, ap, subst, arith}
+use Rattle.std.proofs.lemmas.Bool.{cases_lt}
 use Rattle.rs_adjin.specs.declared.adj_ins.AdjIns.{AdjIns}
 use Rattle.rs_outlet.specs.Views.{View, AreNumbered}
 use Rattle.rs_core.specs.Ribs.{outlet_in, IsNumbered, KeepsSettings, ChangesOwn, ChangesOthers, ChangesAll}
 use Rattle.rs_core.specs.declared.ribs.Ribs.{Ribs}
-use Rattle.rs_core.proofs.Clients.{equal_or, below_or}
+use Rattle.rs_core.proofs.Clients.{equal_or}
 
 -- the outlets of the first k clients have changed so, and no other yet
 pub record IsWalked (Is : ℕ → View → View → Type 0) (k : ℕ) (old new : Ribs) : Type 0 where
@@ -101,7 +102,7 @@ other_stirred c ins Is d v w ne so = record { own = λ e. absurd (ne e); other =
 
 pub others_changed : (c : ℕ) (Is : View → View → Type 0) (old new : Ribs) → IsWalked (IsOtherThan c old.tables Is) old.count old new → IsNumbered old → ChangesOthers c Is old new
 others_changed c Is old new h numbered = record {
-  own = λ none. by_place none (below_or c old.count);
+  own = λ none. by_place none (cases_lt c old.count);
   others = λ d none lt ne. ((h.done d none lt).other ne (numbered.each d none lt)).0;
 } where
   by_place : (none : View) → (c < old.count) ⊎ (old.count ≤ c) → outlet_in new c none ≡ outlet_in old c none

@@ -1,4 +1,4 @@
--- What is kept of clients for those who watch.
+-- What is kept of clients for the operator.
 use Rattle.std.proofs.Common.{◌≡◌, ◌≢◌, ◌<◌, ℕ, zero, suc, List, [], length, sym, ◌∙◌, ap, subst}
 use Rattle.std.specs.Prelude.{Option, Some, replicate, slice_get, slice_set}
 use Rattle.std.specs.List.{cons_option}

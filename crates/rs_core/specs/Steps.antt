@@ -14,7 +14,8 @@ use Rattle.rs_core.specs.Beats.{asks_for_keepalive, fell_if}
 use Rattle.rs_core.specs.Points.{asked_if}
 use Rattle.rs_core.specs.Watching.{ending_by, no_faults}
 use Rattle.rs_outlet.specs.Views.{View}
-use Rattle.rs_core.specs.Ribs.{outlet_in}
+use Rattle.rs_core.specs.Ribs.{outlet_in, Stirs}
+use Rattle.rs_core.specs.Voices.{TouchesOthers}
 use Rattle.rs_core.specs.Touches.{KeepsTouches}
 use Rattle.rs_core.specs.Agreeing.{Knows, IsCutShort, Waits}
 use Rattle.rs_core.specs.declared.route_server.Core.{Core}
@@ -95,6 +96,17 @@ pub record IsAnnouncing (withdrawn announced : List Prefix) (change : Change) : 
 pub record HasOverlaid (c : ℕ) (prefixes : List Prefix) (w : Option (List Attribute)) (old new : AdjIns) : Type 0 where
   pub held : (p : Prefix) → held_of new c p ≡ (if has_prefix p prefixes then w else held_of old c p)
   pub identifier : identifier_of new c ≡ identifier_of old c
+
+-- only the routes of client c change, and what is touched for the others by that
+pub record ChangesRoutes (c : ℕ) (old new : Core) : Type 0 where
+  pub count : new.count ≡ old.count
+  pub sessions : new.sessions ≡ old.sessions
+  pub buffers : new.buffers ≡ old.buffers
+  pub watched : new.watched ≡ old.watched
+  pub config : new.ribs.config ≡ old.ribs.config
+  pub others : IsSpared c old.ribs.tables new.ribs.tables
+  pub touched : TouchesOthers c old.ribs new.ribs
+  pub stirs : Stirs c old.ribs new.ribs
 
 -- an Established session takes an UPDATE that is the same change
 abbrev pub Changes : ℕ → List Prefix → List Prefix → Option (List Attribute) → Core → Core → Type 0

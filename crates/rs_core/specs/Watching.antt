@@ -1,4 +1,4 @@
--- What is kept of a client for those who watch: why its sessions ended, and which of its UPDATEs were not taken as they came.
+-- What is kept of a client for the operator: why its sessions ended, and which of its UPDATEs were not taken as they came.
 use Rattle.std.specs.Prelude.{◌≡◌, ◌≢◌, ℕ, ◌-◌, min, Bool, ◌||◌, List, [], ◌∷◌, ◌++◌, length, take, replicate, Option, Some, None, is_some, slice_get, if◌then◌else◌}
 use Rattle.std.specs.List.{cons_option}
 use Rattle.rs_attrs.specs.declared.faults.Faulted.{Faulted}

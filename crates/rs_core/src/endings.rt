@@ -1,4 +1,4 @@
-//! Why a session ended, and what else is kept of a client for those who watch.
+//! Why a session ended, and what else is kept of a client for the operator.
 
 ghost use Rattle.std.specs.Prelude.{◌≡◌, List};
 ghost use Rattle.std.specs.List.{cons_option};
@@ -104,7 +104,7 @@ pub struct FaultedUpdates {
     pub last: Faulted,
 }
 
-/// What is kept of a client for those who watch.
+/// What is kept of a client for the operator.
 #[derive(Clone, Copy, Debug)]
 pub(crate) struct Watched {
     pub(crate) ending: Option<Ending>,

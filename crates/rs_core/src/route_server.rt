@@ -19,7 +19,7 @@ pub struct Core {
     /// Of each client the octets that are no whole message yet.
     pub(crate) buffers: Vec<Vec<u8>>,
     pub(crate) ribs: Ribs,
-    /// Of each client what only those who watch ask for.
+    /// Of each client what is kept for the operator alone.
     pub(crate) watched: Vec<Watched>,
     ghost sessions_len: { length sessions.items ≡ count },
     ghost buffers_len: { length buffers.items ≡ count },

@@ -22,8 +22,7 @@ impl Core {
     ghost use Rattle.rs_core.specs.Hearing.{Hearing, state_in, is_up, reset_beyond};
     ghost use Rattle.rs_core.specs.Agreeing.{Knows, Spares};
     ghost use Rattle.rs_core.specs.Ribs.{Stirs};
-    ghost use Rattle.rs_core.specs.Voices.{TouchesOthers};
-    ghost use Rattle.rs_core.specs.Steps.{Changes, CutsShort, HasOverlaid, Hears, IsAnnouncing, IsSpared, KeepsOwnTouches};
+    ghost use Rattle.rs_core.specs.Steps.{Changes, ChangesRoutes, CutsShort, HasOverlaid, Hears, IsAnnouncing, KeepsOwnTouches};
 
     /// Hears the UPDATE with this body.
     pub(crate) fn hear_update(&mut self, c: usize, body: &[u8]) -> Result<(), AllocError>
@@ -113,15 +112,8 @@ impl Core {
 
     fn withdraw_all(&mut self, c: usize, prefixes: &[Prefix])
         requires { c < client_count self.old }
-        ensures count { client_count self.new ≡ client_count self.old }
-        ensures sessions { self.new.sessions ≡ self.old.sessions }
-        ensures buffers { self.new.buffers ≡ self.old.buffers }
-        ensures watched { self.new.watched ≡ self.old.watched }
-        ensures config { self.new.ribs.config ≡ self.old.ribs.config }
-        ensures others { IsSpared c self.old.ribs.tables self.new.ribs.tables }
+        ensures alone { ChangesRoutes c self.old self.new }
         ensures held { HasOverlaid c prefixes.now None self.old.ribs.tables self.new.ribs.tables }
-        ensures touched { TouchesOthers c self.old.ribs self.new.ribs }
-        ensures stirs { Stirs c self.old.ribs self.new.ribs }
     {
         for prefix in prefixes {
             self.ribs.withdraw(c, *prefix);
@@ -136,16 +128,9 @@ impl Core {
     ) -> Result<(), AllocError>
         requires client { c < client_count self.old }
         requires mandatory { HasMandatory (arc_value attrs.now) }
-        ensures count { client_count self.new ≡ client_count self.old }
-        ensures sessions { self.new.sessions ≡ self.old.sessions }
-        ensures buffers { self.new.buffers ≡ self.old.buffers }
-        ensures watched { self.new.watched ≡ self.old.watched }
-        ensures config { self.new.ribs.config ≡ self.old.ribs.config }
-        ensures others { IsSpared c self.old.ribs.tables self.new.ribs.tables }
+        ensures alone { ChangesRoutes c self.old self.new }
         ensures held { OnOk result (HasOverlaid c prefixes.now (Some (arc_value attrs.now)) self.old.ribs.tables self.new.ribs.tables) }
         ensures kept { (p : Prefix) → has_prefix p prefixes.now ≡ false → held_of self.new.ribs.tables c p ≡ held_of self.old.ribs.tables c p }
-        ensures touched { TouchesOthers c self.old.ribs self.new.ribs }
-        ensures stirs { Stirs c self.old.ribs self.new.ribs }
     {
         for prefix in prefixes {
             self.ribs.announce(c, *prefix, attrs)?;

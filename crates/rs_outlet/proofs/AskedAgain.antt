@@ -4,6 +4,7 @@ use Rattle.std.specs.Prelude.{option_map}
 use mathlib.Core.Bool.{true≢false}
 use Rattle.std.specs.FinMap as fin
 use Rattle.std.specs.FinSet as set
+use Rattle.std.proofs.Math.Bool.{and-false}
 use Rattle.rs_octets.specs.Prefixes.{Prefix}
 use Rattle.rs_attrs.specs.Meaning.{Attribute}
 use Rattle.rs_attrs.specs.Comparing.{same_attributes}
@@ -28,10 +29,6 @@ told_some told.Nothing due h = absurd (cc)
 told_some told.Same due h = h
 told_some (told.Other m) due h = refl
 
-and_false : (b : Bool) → (b && false) ≡ false
-and_false true = refl
-and_false false = refl
-
 first_of : (a b : Bool) → Some b ≡ cond a None (Some false) → b ≡ false
 first_of true b h = absurd (cc)
 first_of false b h = cc
@@ -43,7 +40,7 @@ waits_so b None (Some m) k l h f = h
 waits_so b (Some d) None k l h f = h
 waits_so b (Some d) (Some m) k l h f =
     ap (λ x. Some x) (first_of (same_attributes d m && not k) b h)
-    ∙ sym (ap (λ x. cond x None (Some false)) (ap (λ x. same_attributes d m && not x) (f refl) ∙ and_false (same_attributes d m)))
+    ∙ sym (ap (λ x. cond x None (Some false)) (ap (λ x. same_attributes d m && not x) (f refl) ∙ and-false (same_attributes d m)))
 
 abbrev IsExact : Option (List Attribute) → Option Wait → Type 0
 IsExact due o = option_map (λ (w : Wait). is_withdrawal w.due) o ≡ views.waits_at due (told_by o due) (marked_told o due)
@@ -52,7 +49,7 @@ fresh_exact : (due : Option (List Attribute)) (z : Wait) → MayWaitAgain due No
 fresh_exact None z h = absurd (true≢false (sym h.0))
 fresh_exact (Some m) z h =
     ap (λ b. Some b) h.1
-    ∙ sym ((λ i. views.waits_at (Some m) (told_of (h.2 i) (Some m)) (h.3 i && is_some (told_of (h.2 i) (Some m)))) ∙ ap (λ x. cond x None (Some false)) (and_false (same_attributes m m)))
+    ∙ sym ((λ i. views.waits_at (Some m) (told_of (h.2 i) (Some m)) (h.3 i && is_some (told_of (h.2 i) (Some m)))) ∙ ap (λ x. cond x None (Some false)) (and-false (same_attributes m m)))
 
 exact_so : (due : Option (List Attribute)) (was now : Option Wait) → MayWaitAgain due was now → IsExact due was → IsExact due now
 exact_so due was None h exact = subst (IsExact due) h exact

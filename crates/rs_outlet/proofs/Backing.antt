@@ -5,6 +5,7 @@ use mathlib.Core.Bool.{true≢false}
 use Rattle.std.specs.Arc.{arc_value}
 use Rattle.std.specs.List.{AllByRecursion, list_any}
 use Rattle.std.proofs.lemmas.Bool.Decides.{nat_tests}
+use Rattle.std.proofs.lemmas.Bool.{and_parts}
 use Rattle.rs_octets.specs.Prefixes.{Prefix}
 use Rattle.rs_attrs.specs.Meaning.{Attribute}
 use Rattle.rs_adjin.proofs.Rows.{number_is, set_apart, set_here, some_is, some_row}
@@ -59,13 +60,9 @@ pub open_is : (q : Prefix) (w : Wait) (ws : List Wait) → open_at q ws ≡ Some
 open_is q w [] is = absurd (cc)
 open_is q w (x ∷ ws) is =
     elim (x.open && same q x.prefix) as (λ b. (x.open && same q x.prefix) ≡ b → cond b (Some x) (open_at q ws) ≡ Some w → same q w.prefix ≡ true) [
-      | true ↦ λ t e. ap (λ (v : Wait). same q v.prefix) (sym (some_is x w e)) ∙ right x.open (same q x.prefix) t
+      | true ↦ λ t e. ap (λ (v : Wait). same q v.prefix) (sym (some_is x w e)) ∙ (and_parts x.open (same q x.prefix) t).1
       | false ↦ λ _ e. open_is q w ws e
     ] refl is
-  where
-    right : (a b : Bool) → (a && b) ≡ true → b ≡ true
-    right true b t = t
-    right false b t = absurd (true≢false (sym t))
 
 has_prefix : (o : Option Row) (p : Prefix) (hash : ℕ) → option_map prefix_and_hash o ≡ Some (p, hash) → (r : Row) × (o ≡ Some r) × (r.prefix ≡ p)
 has_prefix None p hash is = absurd (cc)

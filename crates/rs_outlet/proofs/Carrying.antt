@@ -4,6 +4,8 @@ use Rattle.std.specs.Prelude.{IfSome, is_some, option_map, nat_eq}
 use mathlib.Core.Bool.{true≢false}
 use Rattle.std.specs.List.{AllByRecursion, IsDistinct, list_any}
 use Rattle.std.specs.Arc.{arc_value}
+use Rattle.std.proofs.lemmas.Bool.{or_parts}
+use Rattle.std.proofs.Math.Bool.{or-false}
 use Rattle.rs_octets.specs.Prefixes.{Prefix}
 use Rattle.rs_attrs.specs.Meaning.{Attribute}
 use Rattle.rs_adjin.specs.declared.adj_ins.AdjIns.{AdjIns}
@@ -16,7 +18,7 @@ use Rattle.rs_outlet.specs.Places.{AreFresh, open_at, prefixes_at, told_by, mark
 use Rattle.rs_outlet.specs.Owed.{IsCarriedOut, IsExactAt, IsOpenAt, IsOwed, Keeps, listed, prefixes_of}
 use Rattle.rs_outlet.proofs.LocByNumber.{same, same_is}
 use Rattle.rs_outlet.proofs.Numbering.{all_both, all_nil}
-use Rattle.rs_outlet.proofs.Adding.{first_of_two, not_listed, open_both, or_false}
+use Rattle.rs_outlet.proofs.Adding.{first_alone, first_of_two, not_listed, open_both}
 use Rattle.rs_outlet.proofs.Places.{flips}
 use Rattle.rs_outlet.proofs.Touches.{prefix_eq-cmp}
 use Rattle.rs_outlet.proofs.TouchedNumbers.{eq_numbers}
@@ -49,10 +51,6 @@ keeps_owed o d o' d' is = record {
 }
 
 -- ---- what stands at a prefix of two lists
-
-two_none : (o : Option Wait) → first_of_two o None ≡ o
-two_none None = refl
-two_none (Some w) = refl
 
 same_twice : {A : Type 0} (b : Bool) (x : A) → cond b x x ≡ x
 same_twice true x = refl
@@ -111,7 +109,7 @@ module _ (c : Change) (was_due : Option (List Attribute)) (rows : List (Option R
   apart q is =
       let kept : open_at q fs' ≡ open_at q fs =
       ap (open_at q) h.added ∙ open_both q fs (listed h.wait)
-      ∙ ap (first_of_two (open_at q fs)) (open_listed c.prefix q h.wait h.place ∙ ap (λ b. cond b h.wait None) is) ∙ two_none (open_at q fs) in
+      ∙ ap (first_of_two (open_at q fs)) (open_listed c.prefix q h.wait h.place ∙ ap (λ b. cond b h.wait None) is) ∙ first_alone (open_at q fs) in
       open_both q ws' fs'
       ∙ ap (λ o. first_of_two o (open_at q fs')) (h.closed q ∙ ap (λ b. cond b None (open_at q ws)) is)
       ∙ ap (first_of_two (open_at q ws)) kept
@@ -122,7 +120,7 @@ module _ (c : Change) (was_due : Option (List Attribute)) (rows : List (Option R
   keeps_step none q true old new is was now =
       let at = same_is q c.prefix is in
       let empty : open_at q fs ≡ None = not_listed q fs (ap (λ r. list_any (same r) (prefixes_at fs)) at ∙ none) in
-      let before : open_at q (ws ++ fs) ≡ open_at c.prefix ws = open_both q ws fs ∙ ap (first_of_two (open_at q ws)) empty ∙ two_none (open_at q ws) ∙ ap (λ r. open_at r ws) at in
+      let before : open_at q (ws ++ fs) ≡ open_at c.prefix ws = open_both q ws fs ∙ ap (first_of_two (open_at q ws)) empty ∙ first_alone (open_at q ws) ∙ ap (λ r. open_at r ws) at in
       keeps_both _ _ _ _ _ _ (keeps_same _ _ (open_at c.prefix ws) was_due (sym before) (sym (was refl)))
       (keeps_both _ _ _ _ _ _ (keeps_owed (open_at c.prefix ws) was_due h.wait (option_map arc_value c.due) h.owed)
       (keeps_same h.wait (option_map arc_value c.due) _ _ (here q is empty) now))
@@ -139,7 +137,7 @@ module _ (c : Change) (was_due : Option (List Attribute)) (rows : List (Option R
   distinct [] None is none d = tt
   distinct [] (Some w) is none d = (tt, tt)
   distinct (f ∷ fs) o is none d =
-      let both = or_false (same c.prefix f.prefix) (list_any (same c.prefix) (prefixes_at fs)) none in
+      let both = or_parts (same c.prefix f.prefix) (list_any (same c.prefix) (prefixes_at fs)) none in
       (all_added fs o (λ q. same f.prefix q ≡ false) is (flips f.prefix c.prefix ∙ both.0) d.0, distinct fs o is both.1 d.1)
 
   listed_open : (o : Option Wait) → IfSome o (IsOpenAt c.prefix) → AllByRecursion (λ w. w.open ≡ true) (listed o)
@@ -150,11 +148,7 @@ module _ (c : Change) (was_due : Option (List Attribute)) (rows : List (Option R
   alone_step are q true is there = h.closed q ∙ ap (λ b. cond b None (open_at q ws)) is
   alone_step are q false is there =
       h.closed q ∙ ap (λ b. cond b None (open_at q ws)) is
-      ∙ are.alone q (sym (or_none (list_any (same q) (prefixes_at fs))) ∙ sym (any_both q fs (listed h.wait) (list_any (same q) (prefixes_at fs)) false refl (any_listed c.prefix q h.wait h.place is)) ∙ there)
-    where
-      or_none : (b : Bool) → (b || false) ≡ b
-      or_none true = refl
-      or_none false = refl
+      ∙ are.alone q (sym (or-false (list_any (same q) (prefixes_at fs))) ∙ sym (any_both q fs (listed h.wait) (list_any (same q) (prefixes_at fs)) false refl (any_listed c.prefix q h.wait h.place is)) ∙ there)
 
   pub fresh_step : list_any (same c.prefix) (prefixes_at fs) ≡ false → AreFresh ws fs → AreFresh ws' fs'
   fresh_step none are = subst (AreFresh ws') (sym h.added) (record {

@@ -7,6 +7,8 @@ use Rattle.std.specs.List.{AllByRecursion, HoldsAt, IsDistinct, list_any}
 use Rattle.rs_octets.specs.Prefixes.{Prefix, IsIpv4Prefix}
 use Rattle.rs_attrs.specs.Meaning.{Attribute}
 use Rattle.std.specs.Arc.{arc_value}
+use Rattle.std.proofs.Math.Bool.{or-false}
+use Rattle.std.proofs.lemmas.Bool.{and_parts}
 use Rattle.rs_open.specs.Notes.{limit_octets}
 use Rattle.rs_packer.specs.Packed.{announcement}
 use Rattle.rs_outlet.specs.declared.answers.Speech.{Speech}
@@ -19,10 +21,6 @@ use Rattle.rs_outlet.specs.Places.{prefixes_at, open_at, is_announced, is_withdr
 use Rattle.rs_outlet.specs.Choosing.{HasRow, IsChosen, IsFound, AreChosen, NoneOpen, WaitsFor}
 use Rattle.rs_outlet.proofs.LocByNumber.{same}
 use Rattle.rs_outlet.proofs.Places.{prefix_at, found_at}
-
-or_false : (b : Bool) → (b || false) ≡ b
-or_false true = refl
-or_false false = refl
 
 none_both : {A : Type 0} (b : Bool) → ◌≡◌ {A = Option A} (cond b None None) None
 none_both true = refl
@@ -62,7 +60,7 @@ module _ (rows : List (Option Row)) (ws : List Wait) (said : Option (List Attrib
       → (p : Prefix) × (slice_get (prefixes_at ws) (get_or ns i d) ≡ Some p) × ((q : Prefix) → list_any (same q) (take (i + 1) ps) ≡ (list_any (same q) (take i ps) || same q p))
   next_chosen [] ps i d are below = absurd (omega (arith, below))
   next_chosen (n ∷ ns) [] i d are below = absurd are
-  next_chosen (n ∷ ns) (p ∷ ps) zero d are below = (p, are.0.at, λ q. or_false (same q p))
+  next_chosen (n ∷ ns) (p ∷ ps) zero d are below = (p, are.0.at, λ q. or-false (same q p))
   next_chosen (n ∷ ns) (p ∷ ps) (suc i) d are below =
       let r = next_chosen ns ps i d are.1 (omega (arith, below)) in
       let e : suc i + 1 ≡ suc (i + 1) = omega arith in
@@ -79,12 +77,8 @@ given_up_more q p ps i old mid new any was is =
 
 -- ---- a place that may be chosen
 
-both : (a b : Bool) → (a && b) ≡ true → (a ≡ true) × (b ≡ true)
-both true b h = (refl, h)
-both false b h = absurd (true≢false (sym h))
-
 said_withdrawn : (w : Wait) → is_withdrawn w ≡ true → (w.open ≡ true) × (is_withdrawal w.due ≡ true)
-said_withdrawn w h = both w.open (is_withdrawal w.due) h
+said_withdrawn w h = and_parts w.open (is_withdrawal w.due) h
 
 pub chosen_withdrawn : (rows : List (Option Row)) (ws : List Wait) (n : ℕ) (w : Wait) → IsDistinct same (prefixes_at ws) → n < length ws → w ≡ get_or ws n w → IsIpv4Prefix w.prefix → is_withdrawn w ≡ true → IsChosen rows ws None n w.prefix
 chosen_withdrawn rows ws n w apart below at legal h =
@@ -150,7 +144,7 @@ element (w ∷ ws) zero below = w
 element (w ∷ ws) (suc n) below = element ws n (omega (arith, below))
 
 news_of : (w : Wait) → is_announced w ≡ true → (w.open ≡ true) × (not (is_withdrawal w.due) ≡ true)
-news_of w h = both w.open (not (is_withdrawal w.due)) h
+news_of w h = and_parts w.open (not (is_withdrawal w.due)) h
 
 pub there_backed : (rows : List (Option Row)) (ws : List Wait) (n : ℕ) (d : Wait) → IsDistinct same (prefixes_at ws) → AreBacked rows ws → n < length ws → (get_or ws n d).open ≡ true → IsBacked rows (get_or ws n d).prefix (get_or ws n d).due
 there_backed rows ws n d apart backed below opened =

@@ -5,6 +5,7 @@ use mathlib.Core.Bool.{true≢false}
 use Rattle.std.specs.FinMap as fin
 use Rattle.std.specs.FinSet as set
 use Rattle.std.proofs.lemmas.Bool.Decides.{nat_tests}
+use Rattle.std.proofs.Math.Bool.{and-false}
 use Rattle.rs_octets.specs.Prefixes.{Prefix, prefix_order}
 use Rattle.rs_adjin.specs.declared.adj_ins.AdjIns.{AdjIns}
 use Rattle.rs_adjin.specs.AdjIns.{number_of, prefix_of}
@@ -15,7 +16,6 @@ use Rattle.rs_outlet.specs.Inside.{row_at, shown, loc_of}
 use Rattle.rs_outlet.specs.Counted.{if_numbered, is_standing, is_counted, is_counted_below}
 use Rattle.rs_outlet.proofs.LocByNumber.{Numbered, same, same_is, same_itself, by_number}
 use Rattle.rs_outlet.proofs.Numbering.{number_back, number_once, number_there}
-use Rattle.rs_outlet.proofs.Owing.{and_false}
 use Rattle.rs_outlet.proofs.Orders.{prefixes_total}
 
 pub counted_as : (f g : Prefix → Bool) (n : ℕ) → ((p : Prefix) → f p ≡ g p) → IsNumberOf f n → IsNumberOf g n
@@ -45,7 +45,7 @@ module _ (ins : AdjIns) (rows : List (Option Row)) (held : Prefix → Bool) wher
   other_number k p (Some n) not = elim (number_is n k) [
     | inl e ↦
         let gone : is_standing rows held p n ≡ false = ap (is_standing rows held p) e ∙ not (ap (λ m. Some m) e) in
-        (ap (λ b. nat_lt n k && b) gone ∙ and_false (nat_lt n k)) ∙ sym (ap (λ b. nat_lt n (k + 1) && b) gone ∙ and_false (nat_lt n (k + 1)))
+        (ap (λ b. nat_lt n k && b) gone ∙ and-false (nat_lt n k)) ∙ sym (ap (λ b. nat_lt n (k + 1) && b) gone ∙ and-false (nat_lt n (k + 1)))
     | inr ne ↦ ap (λ b. b && is_standing rows held p n) (not_below n k ne)
   ]
 

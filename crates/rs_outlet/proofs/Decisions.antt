@@ -6,6 +6,7 @@ use Rattle.std.specs.Map.{keys_of}
 use Rattle.std.specs.Arc.{arc_value}
 use Rattle.std.specs.Prelude.{option_map}
 use Rattle.std.proofs.lemmas.Bool.Decides.{nat_tests}
+use Rattle.std.proofs.lemmas.Bool.{or_parts, or_right, eqb-true}
 use Rattle.rs_octets.specs.Prefixes.{Prefix}
 use Rattle.rs_attrs.specs.Meaning.{Attribute}
 use Rattle.rs_adjin.specs.declared.adj_ins.AdjIns.{AdjIns}
@@ -21,20 +22,9 @@ or_swap true true c = refl
 or_swap true false c = refl
 or_swap false b c = refl
 
-or_right : (a b : Bool) → b ≡ true → (a || b) ≡ true
-or_right true b h = refl
-or_right false b h = h
-
-or_false : (a b : Bool) → (a || b) ≡ false → (a ≡ false) × (b ≡ false)
-or_false true b h = absurd (true≢false h)
-or_false false b h = (refl, h)
-
 or_true : (a b : Bool) → (a || b) ≡ true → a ≡ false → b ≡ true
 or_true true b h f = absurd (true≢false f)
 or_true false b h f = h
-
-same_number : (n m : ℕ) → nat_eq n m ≡ true → n ≡ m
-same_number n m h = grind (arith, nat_tests, h)
 
 swap_false : (n m : ℕ) → nat_eq n m ≡ false → nat_eq m n ≡ false
 swap_false n m h = grind (arith, nat_tests, h)
@@ -51,7 +41,7 @@ distinct_push : (cs : List Change) (c : Change) → IsDistinct nat_eq (numbers_o
 unfolding IsDistinct
 distinct_push [] c h new = (tt, tt)
 distinct_push (x ∷ cs) c h new =
-    let apart = or_false (nat_eq c.number x.number) (list_any (nat_eq c.number) (numbers_of cs)) new in
+    let apart = or_parts (nat_eq c.number x.number) (list_any (nat_eq c.number) (numbers_of cs)) new in
     (all_push x.number cs c h.0 (swap_false c.number x.number apart.0), distinct_push cs c h.1 apart.1)
 
 not_in : (b : Bool) (P : Type 0) → b ≡ false → b ≡ true → P
@@ -93,7 +83,7 @@ module _ (ins : AdjIns) (due_at : Prefix → Option (List Attribute)) (rows : Li
     within = λ m found. more m ∙ or_right (nat_eq m n) (d m) (h.within m found);
     all = λ m there none p at.
         elim (nat_eq m n) as (λ b. nat_eq m n ≡ b → attributes_at rows m ≡ due_at p) [
-          | true ↦ λ t. let k : m ≡ n = same_number m n t in ap (attributes_at rows) k ∙ is p (at ∙ ap (λ k. Some k) k)
+          | true ↦ λ t. let k : m ≡ n = eqb-true m n t in ap (attributes_at rows) k ∙ is p (at ∙ ap (λ k. Some k) k)
           | false ↦ λ f. h.all m (or_true (nat_eq m n) (d m) (sym (more m) ∙ there) f) none p at
         ] refl;
   }
@@ -117,7 +107,7 @@ module _ (ins : AdjIns) (due_at : Prefix → Option (List Attribute)) (rows : Li
               | false ↦ λ f. h.within m (or_true (nat_eq m c.number) _ (sym (any_push cs c m) ∙ found) (ap (nat_eq m) is.number ∙ f))
             ] refl;
         all = λ m there none p at.
-            let both = or_false (nat_eq m c.number) (list_any (nat_eq m) (numbers_of cs)) (sym (any_push cs c m) ∙ none) in
+            let both = or_parts (nat_eq m c.number) (list_any (nat_eq m) (numbers_of cs)) (sym (any_push cs c m) ∙ none) in
             h.all m (or_true (nat_eq m n) (d m) (sym (more m) ∙ there) (sym (ap (nat_eq m) is.number) ∙ both.0)) both.1 p at;
       }
 

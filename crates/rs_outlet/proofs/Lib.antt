@@ -20,6 +20,7 @@ mod Withdrawals
 mod Finding
 mod Adding
 mod TwoRuns
+mod PutAmong
 mod MarkedAgain
 mod MarkedAll
 mod Owing

@@ -11,6 +11,7 @@ use Rattle.std.specs.Cmp.{eq_by_cmp_equiv}
 use Rattle.std.specs.declared.cmp.Ordering.TheVariants.{Less}
 use Rattle.std.proofs.lemmas.List.Elements.{recursion_from_All}
 use Rattle.std.proofs.lemmas.Map.Views.{list_any-from_Contains}
+use Rattle.std.proofs.lemmas.Bool.{or_parts}
 use Rattle.rs_octets.specs.Prefixes.{Prefix, prefix_order}
 use Rattle.rs_attrs.specs.Meaning.{Attribute}
 use Rattle.rs_adjin.specs.declared.adj_ins.AdjIns.{AdjIns}
@@ -21,7 +22,6 @@ use Rattle.rs_outlet.specs.Listing.{routes_at, with_route}
 use Rattle.rs_outlet.proofs.Orders.{exact_prefixes, prefixes_total}
 use Rattle.rs_outlet.proofs.LocByNumber.{Numbered, by_number, same, same_is, value_at}
 use Rattle.rs_outlet.proofs.Places.{less_apart}
-use Rattle.rs_outlet.proofs.Adding.{or_false}
 
 both : (a b : Bool) → T a → T b → T (a && b)
 both true b h k = k
@@ -54,7 +54,7 @@ module _ (rows : List (Option Row)) where
   unlisted : (q : Prefix) (es : List (Prefix × ℕ)) → list_any (same q) (keys_of es) ≡ false → find prefix_order q (routes_at rows es) ≡ None
   unlisted q [] h = refl
   unlisted q (e ∷ es) h =
-      let apart = or_false (same q e.0) (list_any (same q) (keys_of es)) h in
+      let apart = or_parts (same q e.0) (list_any (same q) (keys_of es)) h in
       find_with q e.0 (attributes_at rows e.1) (routes_at rows es) false apart.0 refl ∙ unlisted q es apart.1
 
   none_below : (p : Prefix) (qs : List Prefix) → AllByRecursion (λ q. prefix_order p q ≡ Less) qs → list_any (same p) qs ≡ false

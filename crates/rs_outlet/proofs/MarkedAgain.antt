@@ -10,6 +10,7 @@ use Rattle.std.specs.FinMap as fin
 use Rattle.std.specs.Arc.{arc_value}
 use Rattle.std.proofs.lemmas.List.{take-append-le}
 use Rattle.std.proofs.lemmas.List.Elements.{All-contains, All-contains_itself, All-from_recursion, All-push, recursion_from_All}
+use Rattle.std.proofs.lemmas.Bool.{and_parts, or_parts, or_right}
 use Rattle.rs_octets.specs.Prefixes.{Prefix, prefix_order}
 use Rattle.rs_outlet.specs.declared.rows.Row.{Row}
 use Rattle.rs_outlet.specs.declared.waiting.Wait.{Wait}
@@ -22,17 +23,13 @@ use Rattle.rs_outlet.proofs.Orders.{exact_prefixes, prefixes_total}
 use Rattle.rs_outlet.proofs.LocByNumber.{same, same_is, same_itself}
 use Rattle.rs_outlet.proofs.Places.{first_open, later_at, none_behind}
 use Rattle.rs_outlet.proofs.Finding.{absent_place, searchable}
-use Rattle.rs_outlet.proofs.Adding.{and_right, none_listed, not_listed, open_still, or_false}
+use Rattle.rs_outlet.proofs.Adding.{none_listed, not_listed, open_still}
 
 -- ---- a search
 
 pub not_found : (q : Prefix) (ws : List Wait) → IsStrictlySortedBy prefix_order (prefixes_at ws) → (r : Result ℕ ℕ) → IsBinarySearchResult (λ w. prefix_order w.prefix q) ws r → is_ok r ≡ false → open_at q ws ≡ None
 not_found q ws up (Ok i) is h = absurd (true≢false h)
 not_found q ws up (Err i) is h = absent_place q ws i (is (searchable q ws up))
-
-or_right : (a b : Bool) → b ≡ true → (a || b) ≡ true
-or_right true b h = refl
-or_right false b h = h
 
 listed_at : (q : Prefix) (ws : List Wait) (i : ℕ) → i < length ws → ((d : Wait) → prefix_order (get_or ws i d).prefix q ≡ Equal) → list_any (same q) (prefixes_at ws) ≡ true
 listed_at q [] i below is = absurd (omega (arith, below))
@@ -69,7 +66,7 @@ at_place : (P : Wait → Type 0) (q : Prefix) (z : Wait) (zs : List Wait) → Al
 at_place P q z [] h is = absurd (cc)
 at_place P q z (w ∷ zs) h is =
     elim (w.open && same q w.prefix) as (λ b. (w.open && same q w.prefix) ≡ b → cond b (Some w) (open_at q zs) ≡ Some z → P z × (q ≡ z.prefix)) [
-      | true ↦ λ t e. let s : w ≡ z = some_is w z e in (subst P s h.0, same_is q w.prefix (and_right w.open (same q w.prefix) t) ∙ ap (λ (x : Wait). x.prefix) s)
+      | true ↦ λ t e. let s : w ≡ z = some_is w z e in (subst P s h.0, same_is q w.prefix (and_parts w.open (same q w.prefix) t).1 ∙ ap (λ (x : Wait). x.prefix) s)
       | false ↦ λ _ e. at_place P q z zs h.1 e
     ] refl is
 
@@ -113,7 +110,7 @@ pub any_front : (q : Prefix) (n : ℕ) (ws : List Wait) → list_any (same q) (p
 any_front q zero ws h = refl
 any_front q (suc n) [] h = refl
 any_front q (suc n) (w ∷ ws) h =
-    let both = or_false (same q w.prefix) (list_any (same q) (prefixes_at ws)) h in
+    let both = or_parts (same q w.prefix) (list_any (same q) (prefixes_at ws)) h in
     ap (λ b. b || list_any (same q) (prefixes_at (take n ws))) both.0 ∙ any_front q n ws both.1
 
 -- ---- those that wait still

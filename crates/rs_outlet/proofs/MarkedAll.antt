@@ -9,6 +9,7 @@ use Rattle.std.specs.FinMap as fin
 use Rattle.std.specs.Arc.{arc_value}
 use Rattle.std.proofs.lemmas.List.Elements.{All-contains, All-contains_itself, recursion_from_All}
 use Rattle.std.proofs.lemmas.List.Sums.{sum_by-cons, sum_by-append, sum_by-drop_more, sum_by-le-sum_by}
+use Rattle.std.proofs.Math.Bool.{and-false}
 use Rattle.rs_octets.specs.Prefixes.{Prefix, prefix_order}
 use Rattle.rs_outlet.specs.declared.rows.Row.{Row}
 use Rattle.rs_outlet.specs.declared.waiting.Due.{Due}
@@ -256,9 +257,5 @@ all_listed rows base xs zs k capacity past are same_prefixes opened q due =
 pub withdrawn_added : (base old new : List Wait) (n : ℕ) (row : Row) → MayAddRow base n row old new → withdrawn_count new ≤ withdrawn_count old
 withdrawn_added base old new n row (inl stays) = omega (arith, ap withdrawn_count stays)
 withdrawn_added base old new n row (inr adds) =
-    let none : ◌≡◌ {A = ℕ} (one_if (is_withdrawn adds.wait)) 0 = ap one_if (ap (λ d. adds.wait.open && is_withdrawal d) adds.due ∙ and_none adds.wait.open) in
+    let none : ◌≡◌ {A = ℕ} (one_if (is_withdrawn adds.wait)) 0 = ap one_if (ap (λ d. adds.wait.open && is_withdrawal d) adds.due ∙ and-false adds.wait.open) in
     omega (arith, ap withdrawn_count adds.added, sum_by-append (λ v. one_if (is_withdrawn v)) old (adds.wait ∷ []), sum_by-cons (λ v. one_if (is_withdrawn v)) adds.wait [], none)
-  where
-    and_none : (b : Bool) → (b && false) ≡ false
-    and_none true = refl
-    and_none false = refl

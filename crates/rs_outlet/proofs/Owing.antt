@@ -2,6 +2,7 @@
 use Rattle.std.proofs.Common.{◌≡◌, Bool, true, false, cond, not, ◌&&◌, Option, None, Some, List, refl, sym, ap, ◌∙◌}
 use Rattle.std.specs.Prelude.{is_some}
 use mathlib.Core.Bool.{true≢false}
+use Rattle.std.proofs.Math.Bool.{and-false}
 use Rattle.rs_attrs.specs.Meaning.{Attribute}
 use Rattle.rs_attrs.specs.Comparing.{same_attributes}
 use Rattle.rs_attrs.specs.ComparisonLaws.{attributes_decides, same_attributes_equiv}
@@ -9,10 +10,6 @@ use Rattle.rs_outlet.specs.declared.waiting.Wait.{Wait}
 use Rattle.rs_outlet.specs.Views.{waits_at}
 use Rattle.rs_outlet.specs.Places.{is_withdrawal}
 use Rattle.rs_outlet.specs.Owed.{IsBeside, IsOwed}
-
-pub and_false : (b : Bool) → (b && false) ≡ false
-and_false true = refl
-and_false false = refl
 
 -- ---- what was told beside what is due
 
@@ -37,7 +34,7 @@ module _ (o : Option (List Attribute)) (told due : List Attribute) (marked diffe
   beside_marked f t = (
     sym (is ∙ ap (λ m. Some m) (equal f)),
     (λ i. waits_at (Some due) (is i) (t i && is_some (is i)))
-        ∙ ap (λ b. cond b None (Some false)) (and_false (same_attributes due told)),
+        ∙ ap (λ b. cond b None (Some false)) (and-false (same_attributes due told)),
   )
 
   pub beside_same : differ ≡ false → marked ≡ false → (o ≡ Some due) × (marked ≡ false)

@@ -10,6 +10,7 @@ use Rattle.std.specs.Ordering.{eq_by_cmp, is_eq}
 use Rattle.std.specs.declared.cmp.Ordering.{Ordering}
 use Rattle.std.specs.declared.cmp.Ordering.TheVariants.{Less, Equal, Greater}
 use Rattle.std.proofs.lemmas.List.Sums.{sum_by-set, get_or-le-sum_by}
+use Rattle.std.proofs.Math.Bool.{and-false}
 use Rattle.rs_octets.specs.Prefixes.{Prefix, prefix_order}
 use Rattle.rs_outlet.specs.declared.waiting.Wait.{Wait}
 use Rattle.rs_outlet.specs.Places.{prefixes_at, open_count, open_at}
@@ -81,13 +82,9 @@ less_apart Less h = refl
 less_apart Equal h = absurd (cc)
 less_apart Greater h = absurd (cc)
 
-none_and : (b : Bool) → (b && false) ≡ false
-none_and true = refl
-none_and false = refl
-
 -- a place of another prefix, or one that waits no more
 pub later_at : (q : Prefix) (w : Wait) (ws : List Wait) → same q w.prefix ≡ false → open_at q (w ∷ ws) ≡ open_at q ws
-later_at q w ws is = ap (λ b. cond (w.open && b) (Some w) (open_at q ws)) is ∙ ap (λ b. cond b (Some w) (open_at q ws)) (none_and w.open)
+later_at q w ws is = ap (λ b. cond (w.open && b) (Some w) (open_at q ws)) is ∙ ap (λ b. cond b (Some w) (open_at q ws)) (and-false w.open)
 
 pub shut_at : (q : Prefix) (w : Wait) (ws : List Wait) → w.open ≡ false → open_at q (w ∷ ws) ≡ open_at q ws
 shut_at q w ws is = ap (λ b. cond (b && same q w.prefix) (Some w) (open_at q ws)) is
@@ -100,7 +97,7 @@ pub none_behind : (p q : Prefix) (ws : List Wait) → AllByRecursion (λ x. pref
 none_behind p q [] h is = refl
 none_behind p q (w ∷ ws) h is =
     ap (λ b. cond (w.open && b) (Some w) (open_at q ws)) (not_same p q w.prefix h.0 is)
-    ∙ ap (λ b. cond b (Some w) (open_at q ws)) (none_and w.open)
+    ∙ ap (λ b. cond b (Some w) (open_at q ws)) (and-false w.open)
     ∙ none_behind p q ws h.1 is
 
 -- ---- places of different prefixes
@@ -122,12 +119,12 @@ none_apart p q [] h is = refl
 none_apart p q (w ∷ ws) h is = later_at q w ws (another p q w.prefix h.0 is) ∙ none_apart p q ws h.1 is
 
 shut_apart : (x : Wait) (p q : Prefix) → same x.prefix p ≡ false → same q p ≡ true → (x.open && same q x.prefix) ≡ false
-shut_apart x p q h is = ap (λ b. x.open && b) (another p q x.prefix (flips p x.prefix ∙ h) is) ∙ none_and x.open
+shut_apart x p q h is = ap (λ b. x.open && b) (another p q x.prefix (flips p x.prefix ∙ h) is) ∙ and-false x.open
 
 -- the first place shut
 first_shut : (q : Prefix) (x : Wait) (ws : List Wait) (b : Bool) → same q x.prefix ≡ b → (b ≡ true → open_at q ws ≡ None) → open_at q ws ≡ cond b None (cond (x.open && b) (Some x) (open_at q ws))
 first_shut q x ws true is none = none refl
-first_shut q x ws false is none = sym (ap (λ b. cond b (Some x) (open_at q ws)) (none_and x.open))
+first_shut q x ws false is none = sym (ap (λ b. cond b (Some x) (open_at q ws)) (and-false x.open))
 
 -- another place written
 later_set : {A : Type 0} (a b : Bool) (x r o : Option A) → (b ≡ true → a ≡ false) → cond a x (cond b r o) ≡ cond b r (cond a x o)

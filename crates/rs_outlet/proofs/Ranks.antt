@@ -5,6 +5,7 @@ use Rattle.std.proofs.lemmas.Option.{slice_get_read}
 use Rattle.std.specs.Prelude.{unwrap_or, option_and_then, slice_get, slice_index_or, if◌then◌else◌}
 use Rattle.std.specs.List.{All, AllByRecursion, AllPairs, cons_option, list_any}
 use Rattle.std.proofs.lemmas.List.Elements.{All-from_recursion, recursion_from_All}
+use Rattle.std.proofs.Math.Bool.{and-false}
 use Rattle.rs_octets.specs.Prefixes.{Prefix}
 use Rattle.rs_attrs.specs.Meaning.{Attribute}
 use Rattle.rs_adjin.specs.Listing.{holders_from, with_holder}
@@ -155,10 +156,6 @@ none_holds config ins p none = ap (list_any (λ h. true)) (sym (no_holders (λ d
 not_less : (n : ℕ) → nat_lt n n ≡ false
 not_less n = grind (arith, nat_tests)
 
-and_false : (b : Bool) → (b && false) ≡ false
-and_false true = refl
-and_false false = refl
-
 unbeaten_alone : (is_better : Rank → Rank → Bool) (r : Rank) → is_better r r ≡ false → unbeaten is_better (r ∷ []) ≡ r ∷ []
 unfolding unbeaten
 unbeaten_alone is_better r h = ap (λ b. cond (not (b || false)) (r ∷ []) []) h
@@ -169,7 +166,7 @@ best_of_one r =
     let f1 : by_preference (r ∷ []) ≡ r ∷ [] = one _ r (not_less r.preference) in
     let f2 : by_path (r ∷ []) ≡ r ∷ [] = ap (unbeaten (λ a b. nat_lt a.path_len b.path_len)) f1 ∙ one _ r (not_less r.path_len) in
     let f3 : by_origin (r ∷ []) ≡ r ∷ [] = ap (unbeaten (λ a b. nat_lt a.origin b.origin)) f2 ∙ one _ r (not_less r.origin) in
-    let f4 : by_med (r ∷ []) ≡ r ∷ [] = ap (unbeaten (λ a b. (a.neighbour == b.neighbour) && nat_lt (med_of a) (med_of b))) f3 ∙ one _ r (ap (λ b. (r.neighbour == r.neighbour) && b) (not_less (med_of r)) ∙ and_false _) in
+    let f4 : by_med (r ∷ []) ≡ r ∷ [] = ap (unbeaten (λ a b. (a.neighbour == b.neighbour) && nat_lt (med_of a) (med_of b))) f3 ∙ one _ r (ap (λ b. (r.neighbour == r.neighbour) && b) (not_less (med_of r)) ∙ and-false _) in
     let f5 : by_identifier (r ∷ []) ≡ r ∷ [] = ap (unbeaten (λ a b. nat_lt a.identifier b.identifier)) f4 ∙ one _ r (not_less r.identifier) in
     let f6 : by_address (r ∷ []) ≡ r ∷ [] = ap (unbeaten (λ a b. nat_lt a.address b.address)) f5 ∙ one _ r (not_less r.address) in
     let f7 : by_place (r ∷ []) ≡ r ∷ [] = ap (unbeaten (λ a b. nat_lt a.place b.place)) f6 ∙ one _ r (not_less r.place) in

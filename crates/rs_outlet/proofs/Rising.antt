@@ -6,6 +6,7 @@ use Rattle.std.specs.List.{AllByRecursion, AllWithin}
 use Rattle.std.specs.List.Sorted.{IsStrictlySortedBy}
 use Rattle.std.specs.declared.cmp.Ordering.TheVariants.{Less, Equal}
 use Rattle.std.proofs.lemmas.Cmp.{tied_itself}
+use Rattle.std.proofs.lemmas.Bool.{and_parts}
 use Rattle.rs_octets.specs.Prefixes.{Prefix, prefix_order}
 use Rattle.rs_attrs.specs.Meaning.{Attribute}
 use Rattle.rs_adjin.proofs.Rows.{some_is}
@@ -112,13 +113,9 @@ open_after : (x : Prefix) (q : Prefix) (w : Wait) (ws : List Wait) → AllByRecu
 open_after x q w [] above is = absurd (cc)
 open_after x q w (v ∷ ws) above is =
     elim (v.open && same q v.prefix) as (λ b. (v.open && same q v.prefix) ≡ b → cond b (Some v) (open_at q ws) ≡ Some w → prefix_order x q ≡ Less) [
-      | true ↦ λ t _. ap (prefix_order x) (same_is q v.prefix (right v.open (same q v.prefix) t)) ∙ above.0
+      | true ↦ λ t _. ap (prefix_order x) (same_is q v.prefix (and_parts v.open (same q v.prefix) t).1) ∙ above.0
       | false ↦ λ _ e. open_after x q w ws above.1 e
     ] refl is
-  where
-    right : (a b : Bool) → (a && b) ≡ true → b ≡ true
-    right true b t = t
-    right false b t = absurd (true≢false (sym t))
 
 pub least_open : (test : Wait → Bool) (ws : List Wait) (n : ℕ) (p : Prefix) → IsStrictlySortedBy prefix_order (prefixes_at ws) → slice_get (prefixes_at ws) n ≡ Some p → AllWithin (λ w. test w ≡ false) ws 0 n
     → (q : Prefix) (w : Wait) → open_at q ws ≡ Some w → test w ≡ true → prefix_order q p ≢ Less
@@ -147,13 +144,9 @@ open_itself : (q : Prefix) (w : Wait) (ws : List Wait) → open_at q ws ≡ Some
 open_itself q w [] is = absurd (cc)
 open_itself q w (v ∷ ws) is =
     elim (v.open && same q v.prefix) as (λ b. (v.open && same q v.prefix) ≡ b → cond b (Some v) (open_at q ws) ≡ Some w → w.open ≡ true) [
-      | true ↦ λ t e. ap (λ (x : Wait). x.open) (sym (some_is v w e)) ∙ left v.open (same q v.prefix) t
+      | true ↦ λ t e. ap (λ (x : Wait). x.open) (sym (some_is v w e)) ∙ (and_parts v.open (same q v.prefix) t).0
       | false ↦ λ _ e. open_itself q w ws e
     ] refl is
-  where
-    left : (a b : Bool) → (a && b) ≡ true → a ≡ true
-    left true b t = refl
-    left false b t = t
 
 seen_so : (q : Prefix) (ws : List Wait) (o : Option Wait) (b : Bool) → open_at q ws ≡ o → option_map (λ w. is_withdrawal w.due) o ≡ Some b → (w : Wait) × (open_at q ws ≡ Some w) × (is_withdrawal w.due ≡ b)
 seen_so q ws None b at h = absurd (cc)

@@ -13,6 +13,7 @@ use Rattle.std.proofs.lemmas.Bool.Decides.{nat_tests}
 use Rattle.std.proofs.lemmas.Cmp.{on_total, tied_itself}
 use Rattle.std.proofs.lemmas.List.Kept.{IsStrictlySortedBy-dedup}
 use Rattle.std.proofs.lemmas.List.Sorted.{IsPermutation-map, list_any-IsPermutation}
+use Rattle.std.proofs.lemmas.Bool.{eqb-true}
 use Rattle.rs_octets.specs.Prefixes.{Prefix, prefix_order}
 use Rattle.rs_adjin.specs.declared.adj_ins.AdjIns.{AdjIns}
 use Rattle.rs_adjin.specs.AdjIns.{number_of}
@@ -141,16 +142,13 @@ or_twice : (a b : Bool) → (a || b) ≡ (a || (a || b))
 or_twice true b = refl
 or_twice false b = refl
 
-number_is : (n m : ℕ) → nat_eq n m ≡ true → n ≡ m
-number_is n m h = grind (arith, nat_tests, h)
-
 numbered_from : (n : ℕ) (k : Entry) (es : List Entry) → is_numbered_in (dedup_from same_number k es) n ≡ (nat_eq n k.0 || is_numbered_in es n)
 numbered_from n k [] = refl
 numbered_from n k (e ∷ es) =
     elim (nat_eq e.0 k.0) as (λ b. nat_eq e.0 k.0 ≡ b → is_numbered_in (cond b (dedup_from same_number k es) (k ∷ dedup_from same_number e es)) n ≡ (nat_eq n k.0 || (nat_eq n e.0 || is_numbered_in es n))) [
       | true ↦ λ t.
           numbered_from n k es ∙ or_twice (nat_eq n k.0) (is_numbered_in es n)
-          ∙ ap (λ m. nat_eq n k.0 || (nat_eq n m || is_numbered_in es n)) (sym (number_is e.0 k.0 t))
+          ∙ ap (λ m. nat_eq n k.0 || (nat_eq n m || is_numbered_in es n)) (sym (eqb-true e.0 k.0 t))
       | false ↦ λ f. ap (λ b. nat_eq n k.0 || b) (numbered_from n e es)
     ] refl
 

@@ -1,5 +1,5 @@
 -- The touched prefixes, found by their numbers.
-use Rattle.std.proofs.Common.{◌≡◌, ℕ, Bool, true, false, ◌||◌, Option, None, Some, IsSome, List, [], ◌∷◌, length, suc, refl, sym, ap, ◌∙◌, arith, nat_eq}
+use Rattle.std.proofs.Common.{◌≡◌, ℕ, true, false, ◌||◌, Option, None, Some, IsSome, List, [], ◌∷◌, length, suc, refl, sym, ap, ◌∙◌, nat_eq}
 use mathlib.Core.Bool.{true≢false}
 use Rattle.std.specs.List.{list_any, IsDistinct, AllByRecursion}
 use Rattle.std.specs.List.Sorted.{IsPermutation}
@@ -7,13 +7,14 @@ use Rattle.std.specs.Map.{keys_of}
 use Rattle.std.specs.FinSet as set
 use Rattle.std.specs.Ordering.{is_eq}
 use Rattle.std.proofs.lemmas.Cmp.{tied_itself}
-use Rattle.std.proofs.lemmas.Bool.Decides.{nat_tests}
 use Rattle.std.proofs.lemmas.List.Elements.{All-from_recursion, recursion_from_All}
 use Rattle.std.proofs.lemmas.List.Sorted.{All-permutation}
+use Rattle.std.proofs.lemmas.Bool.{eq-eqb, eqb-true}
 use Rattle.rs_octets.specs.Prefixes.{Prefix, prefix_order}
 use Rattle.rs_adjin.specs.declared.adj_ins.AdjIns.{AdjIns}
 use Rattle.rs_adjin.specs.AdjIns.{number_of}
 use Rattle.rs_adjin.proofs.Rows.{some_is}
+use Rattle.rs_adjin.proofs.Counting.{iff}
 use Rattle.rs_outlet.specs.declared.answers.Speech.{Speech}
 use Rattle.rs_outlet.specs.Views.{View, Prefixes, HaveNumbers, if_up, with_touch, touched_at}
 use Rattle.rs_outlet.specs.Touching.{is_numbered_in, prefixes_in}
@@ -23,17 +24,6 @@ use Rattle.rs_outlet.proofs.Touches.{len-from_list, prefix_eq, prefix_eq-cmp, pr
 
 abbrev Entry : Type 0
 Entry = ℕ × Prefix
-
-bool_same : (a b : Bool) → (a ≡ true → b ≡ true) → (b ≡ true → a ≡ true) → a ≡ b
-bool_same true b f g = sym (f refl)
-bool_same false true f g = g refl
-bool_same false false f g = refl
-
-same_number : (n m : ℕ) → nat_eq n m ≡ true → n ≡ m
-same_number n m h = grind (arith, nat_tests, h)
-
-number_itself : (n m : ℕ) → n ≡ m → nat_eq n m ≡ true
-number_itself n m h = grind (arith, nat_tests, h)
 
 prefix_itself : (p q : Prefix) → p ≡ q → prefix_eq p q ≡ true
 prefix_itself p q h = ap (prefix_eq p) (sym h) ∙ sym (prefix_eq-cmp p p) ∙ ap is_eq (tied_itself prefixes_total p)
@@ -46,9 +36,9 @@ module _ (ins : AdjIns) where
   -- two prefixes are equal just where their numbers are
   pub eq_numbers : (p q : Prefix) (n m : ℕ) → number_of ins p ≡ Some n → number_of ins q ≡ Some m → prefix_eq p q ≡ nat_eq n m
   eq_numbers p q n m a b =
-      bool_same (prefix_eq p q) (nat_eq n m)
-      (λ h. number_itself n m (some_is n m (sym a ∙ ap (number_of ins) (prefix_eq-is p q h) ∙ b)))
-      (λ h. prefix_itself p q (number_once ins p q m (a ∙ ap (λ k. Some k) (same_number n m h)) b))
+      iff (prefix_eq p q) (nat_eq n m)
+      (λ h. eq-eqb n m (some_is n m (sym a ∙ ap (number_of ins) (prefix_eq-is p q h) ∙ b)))
+      (λ h. prefix_itself p q (number_once ins p q m (a ∙ ap (λ k. Some k) (eqb-true n m h)) b))
 
   -- a prefix is among the entries just where its number is
   pub any_number : (es : List Entry) (p : Prefix) (n : ℕ) → HaveNumbers es ins → number_of ins p ≡ Some n → list_any (prefix_eq p) (prefixes_in es) ≡ is_numbered_in es n

@@ -5,6 +5,7 @@ use Rattle.std.specs.List.{dedup, dedup_from, sum_by}
 use Rattle.std.specs.List.Sorted.{IsPermutation}
 use Rattle.std.proofs.lemmas.List.Sorted.{sum_by-IsPermutation}
 use Rattle.std.proofs.lemmas.List.Sums.{sum_by-append, sum_by-cons, sum_by-le-sum_by, sum_by-set}
+use Rattle.std.proofs.Math.Bool.{and-false}
 use Rattle.rs_outlet.specs.declared.rows.Row.{Row}
 use Rattle.rs_outlet.specs.declared.waiting.Due.TheVariants as due
 use Rattle.rs_outlet.specs.declared.waiting.Wait.{Wait}
@@ -14,6 +15,10 @@ use Rattle.rs_outlet.specs.Inside.{row_at}
 
 abbrev pub one_if : Bool → ℕ
 one_if b = cond b 1 0
+
+pub one_at_most : (b : Bool) → one_if b ≤ 1
+one_at_most true = omega arith
+one_at_most false = omega arith
 
 -- ---- rows
 
@@ -38,10 +43,6 @@ pub free_row : (rows erased : List (Option Row)) (n : ℕ) → erased ≡ slice_
 free_row rows erased n is = ap (λ xs. row_at xs n) is ∙ row_erased rows n
 
 -- ---- places
-
-and_false : (b : Bool) → (b && false) ≡ false
-and_false true = refl
-and_false false = refl
 
 one_of : (a b : Bool) → one_if (a && b) ≤ one_if a
 one_of true true = omega arith
@@ -93,13 +94,9 @@ withdrawn_listed fs new None is = omega (arith, ap withdrawn_count is, sum_by-ap
 withdrawn_listed fs new (Some w) is =
     let one : one_if (is_withdrawn w) ≤ 1 = one_at_most (is_withdrawn w) in
     omega (arith, ap withdrawn_count is, one, sum_by-append (λ v. one_if (is_withdrawn v)) fs (w ∷ []), sum_by-cons (λ v. one_if (is_withdrawn v)) w [])
-  where
-    one_at_most : (b : Bool) → one_if b ≤ 1
-    one_at_most true = omega arith
-    one_at_most false = omega arith
 
 pub announced_listed : (fs new : List Wait) (o : Option Wait) (number hash : ℕ) → IfSome o (λ w. w.due ≡ due.Announced number hash) → new ≡ fs ++ listed o → withdrawn_count new ≤ withdrawn_count fs
 announced_listed fs new None number hash said is = omega (arith, ap withdrawn_count is, sum_by-append (λ v. one_if (is_withdrawn v)) fs [])
 announced_listed fs new (Some w) number hash said is =
-    let none : ◌≡◌ {A = ℕ} (one_if (is_withdrawn w)) 0 = ap one_if (ap (λ d. w.open && is_withdrawal d) said ∙ and_false w.open) in
+    let none : ◌≡◌ {A = ℕ} (one_if (is_withdrawn w)) 0 = ap one_if (ap (λ d. w.open && is_withdrawal d) said ∙ and-false w.open) in
     omega (arith, ap withdrawn_count is, none, sum_by-append (λ v. one_if (is_withdrawn v)) fs (w ∷ []), sum_by-cons (λ v. one_if (is_withdrawn v)) w [])

@@ -8,9 +8,9 @@
 //! - `outlet` has the calls that change an `Outlet`, `asking` those that ask it; `answers` is what it
 //!   is told of its client, and what a turn answers; `sizes` says how much room a message has.
 //! - `touched` is what the next turn decides; `turn` decides it, by `deciding`, which says what is
-//!   due at one prefix; `changes` puts that into `rows`, the Loc-RIB by number, and into
-//!   `waiting`, what is to be sent: places in two runs (`runs`), of which `merging` makes one.
-//!   `marking` makes all that was told wait again.
+//!   due at one prefix; `changes` puts that into `rows`, the Loc-RIB by number, which keeps them in a
+//!   `table`, and into `waiting`, what is to be sent: places in two runs (`runs`), of which `merging`
+//!   makes one. `marking` makes all that was told wait again.
 //! - `choosing` says which places the next UPDATE is about, by the links that `linking` makes between
 //!   them; `sending` and `fill` begin the next message.
 //! - `routes` shows the Loc-RIB; `laws` are contracts of functions that do nothing.

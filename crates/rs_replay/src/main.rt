@@ -2,9 +2,10 @@
 //!
 //! A trace comes in by `text` and `lines`; `words`, `number` and `trace` say what each of its lines
 //! means; `entries` reads one after the other, `recording` hands that to the core as a link, and
-//! `replay` lets the core run; `tables` lists a client's Loc-RIB, and `output` says what lines go out.
-//! `command` and `settings` read the words of the command line and the
-//! file that they name, and `progress` tells on a terminal how far a long replay is.
+//! `replay` lets the core run, to the end or to a `fault`; `tables` lists a client's Loc-RIB, and
+//! `output` says what lines go out, with clients by their `names`. `command` and `settings` read the
+//! words of the command line and the file that they name, and `progress` tells on a terminal how far a
+//! long replay is.
 #![tactic(auto)]
 
 pub mod command;

@@ -1,7 +1,9 @@
-//! The live route server. `command` reads the command line; `serve` is the loop, which gives the
-//! core events by a `link` over `ports`; `sockets` are the ports of the system, with the listeners of
-//! `doors`. `seats` and `outbox` are what the link keeps of each connection, `watch` and `reports` tell
-//! an operator what happened, and `lines` is standard output, both within `rations`.
+//! The live route server. `command` reads the command line and `configuration` the file that it names;
+//! `serve` is the loop, which gives the core events by a `link` over `ports`: `events` says which comes
+//! next, `orders` what the core's calls are on the ports. `sockets` are the ports of the system, with
+//! the listeners of `doors`. `seats` and `outbox` are what the link keeps of each connection, `watch`
+//! and `reports` tell an operator what happened, of clients by their `names`, and `lines` is standard
+//! output, both within `rations`.
 #![tactic(auto)]
 
 pub mod command;

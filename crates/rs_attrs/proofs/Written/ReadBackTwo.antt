@@ -13,7 +13,8 @@ use Rattle.rs_attrs.specs.Writing.{spelling_of, IsLegal, IsLegalAttribute, with_
 use Rattle.rs_attrs.proofs.Fields.FirstOfType.{none_comes_to, not_withdraw, not_discard, not_unknown}
 use Rattle.rs_attrs.proofs.Written.ReadBack.{FlagsBack, flags_of_back, partial_of_back, spellings_back, fits_by, count, count_cons}
 use Rattle.rs_attrs.proofs.Paths.PathLaws.{path_back}
-use Rattle.rs_attrs.proofs.Written.Narrowing.{narrowed_value, narrowed_is, path_facts, narrowed_each, narrowed_length, same_path, as4_segments, all_stay, AggregatorFacts, aggregator_facts, aggregator_value, aggregator_as_back, aggregator_back}
+use Rattle.rs_attrs.proofs.Written.Narrowing.{narrowed_value, narrowed_is}
+use Rattle.rs_attrs.proofs.Written.NarrowedNumbers.{path_facts, narrowed_each, narrowed_length, same_path, as4_segments, all_stay, AggregatorFacts, aggregator_facts, aggregator_value, aggregator_as_back, aggregator_back}
 use Rattle.rs_attrs.proofs.Written.TwoKept.{IsGoodAttribute, all_append, no_as4, spelt_good, two_good}
 use Rattle.rs_attrs.proofs.Written.TwoMap.{as4_aggregator_found, as4_aggregator_of, as4_path_found, as4_path_of, counts_spelt, get_has, get_kind, other_found, same_kind}
 

@@ -12,7 +12,8 @@ use Rattle.rs_attrs.specs.Meaning.{Attribute, kept, is_as4}
 use Rattle.rs_attrs.specs.Writing.{flags_of, spelling_of, IsLegalAttribute, with_value, narrowed, narrowed_segment, path_in, aggregator_in, needs_four_octets, path_needs_four_octets, as4_attribute, as4_of, for_two}
 use Rattle.rs_attrs.proofs.Fields.FirstOfType.{as4_discarded, IsGood}
 use Rattle.rs_attrs.proofs.Paths.PathLaws.{path_back}
-use Rattle.rs_attrs.proofs.Written.Narrowing.{narrowed_value, narrowed_is, same_class, IsPlain, same_outcome, path_facts, narrowed_each, as4_path_kept, aggregator_facts, as4_aggregator_kept, aggregator_value, aggregator_size}
+use Rattle.rs_attrs.proofs.Written.Narrowing.{narrowed_value, narrowed_is, same_class, IsPlain, same_outcome}
+use Rattle.rs_attrs.proofs.Written.NarrowedNumbers.{path_facts, narrowed_each, as4_path_kept, aggregator_facts, as4_aggregator_kept, aggregator_value, aggregator_size}
 use Rattle.rs_attrs.proofs.Written.TwoMap.{narrowed_same, same_written}
 
 -- ---- each is kept

@@ -6,7 +6,8 @@ use Rattle.std.proofs.lemmas.Bool.{eqb-true, ne_eqb, ltb-true, ltb-false, lt-ltb
 use Rattle.rs_attrs.specs.Paths.{two_octets, path_octets}
 use Rattle.rs_attrs.specs.Meaning.{Attribute, that_counts, get, IsRising, AllAbove}
 use Rattle.rs_attrs.specs.Writing.{spelling_of, with_value, narrowed, narrowed_segment, path_in, aggregator_in, needs_four_octets, path_needs_four_octets, as4_attribute, as4_of, for_two}
-use Rattle.rs_attrs.proofs.Written.Narrowing.{narrowed_value, narrowed_is, aggregator_value}
+use Rattle.rs_attrs.proofs.Written.Narrowing.{narrowed_value, narrowed_is}
+use Rattle.rs_attrs.proofs.Written.NarrowedNumbers.{aggregator_value}
 
 -- ---- what stands in a map
 

@@ -1,6 +1,7 @@
 use Rattle.std.proofs.Common.{inl, inr, sym, ◌∙◌, subst}
 use Rattle.rs_octets.specs.Fronts.{IsFront}
-use Rattle.rs_core.proofs.Filling.{not_wanted, is_none}
+use Rattle.rs_core.proofs.Filling.{not_wanted}
+use Rattle.rs_core.proofs.Lists.{none_are}
 use Rattle.rs_core.proofs.hearing.fill_up.Goals as goal
 
 pub returns-in_default : goal.returns-in_default
@@ -18,5 +19,5 @@ returns c = record {
   whole = c.loop-allowed.invariant.1;
   behind = c.loop-allowed.invariant.2;
   wanted = c.loop-allowed.invariant.3;
-  enough = inl (is_none c.loop-allowed.rest.now (sym c.is_empty.ensures ∙ c.loop-allowed-test.false));
+  enough = inl (none_are c.loop-allowed.rest.now (sym c.is_empty.ensures ∙ c.loop-allowed-test.false));
 }

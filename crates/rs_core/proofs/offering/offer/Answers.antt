@@ -8,8 +8,9 @@ use Rattle.rs_core.specs.Links.{Offer}
 use Rattle.rs_core.specs.Courses.{called, moved}
 use Rattle.rs_core.specs.Answers.{Offers, Nothing, Fails, Takes}
 use Rattle.rs_core.proofs.Leading.{led_same, led_once}
-use Rattle.rs_core.proofs.Continuing.{goes, none_are, some_are, within_take}
+use Rattle.rs_core.proofs.Continuing.{goes, some_are, within_take}
 use Rattle.rs_core.proofs.offering.offer.Goals as goal
+use Rattle.rs_core.proofs.Lists.{none_are}
 
 pub returns-then-is_empty-clause-led : goal.returns-then-is_empty-clause-led
 returns-then-is_empty-clause-led g c = led_same g.L.Link.happens _

@@ -2,89 +2,45 @@ use Rattle.std.proofs.Common.{refl, ◌∙◌, subst, arith, sym, take}
 use Rattle.std.specs.Prelude.{Some}
 use Rattle.std.specs.Arc.{arc_value}
 use Rattle.std.proofs.lemmas.List.{take_all}
-use Rattle.rs_core.specs.Core.{client_count}
 use Rattle.rs_core.specs.Steps.{HasOverlaid}
-use Rattle.rs_core.proofs.Around.{change_touches, none_touched, touches_on}
-use Rattle.rs_core.proofs.Stirring.{none_of_first, overlaid_kept, stirs_same, stirs_more, stirs_same_held}
-use Rattle.rs_core.proofs.Updating.{none_overlaid, one_overlaid, none_spared, one_spared, same_spared_behind}
+use Rattle.rs_core.proofs.Stirring.{none_of_first, overlaid_kept, stirs_more, stirs_same_held}
+use Rattle.rs_core.proofs.Updating.{none_overlaid, one_overlaid, one_spared, routes_none, routes_on, same_spared_behind}
 use Rattle.rs_core.proofs.route_server.Core.announce_all.Goals as goal
 
 pub loop-prefix-init : goal.loop-prefix-init
-unfolding client_count
-loop-prefix-init c = record {
-  count = refl;
-  sessions = refl;
-  buffers = refl;
-  watched = refl;
-  config = refl;
-  others = none_spared c.args.c c.args.self.now.ribs.tables;
-  held = none_overlaid c.args.c (Some (arc_value c.args.attrs.now)) c.args.self.now.ribs.tables;
-  touched = none_touched c.args.c c.args.self.now.ribs;
-  stirs = stirs_same c.args.c c.args.self.now.ribs c.args.self.now.ribs refl;
-}
+loop-prefix-init c = record { alone = routes_none c.args.c c.args.self.now; held = none_overlaid c.args.c (Some (arc_value c.args.attrs.now)) c.args.self.now.ribs.tables }
 
 pub loop-prefix-preserved : goal.loop-prefix-preserved
-unfolding client_count
-loop-prefix-preserved c = record {
-  count = c.loop-prefix.invariant.count;
-  sessions = c.loop-prefix.invariant.sessions;
-  buffers = c.loop-prefix.invariant.buffers;
-  watched = c.loop-prefix.invariant.watched;
-  config = c.announce.ensures.settings.config ∙ c.loop-prefix.invariant.config;
-  others = one_spared c.args.c c.prefix-item.result (Some (arc_value c.args.attrs.now)) c.args.self.now.ribs.tables c.loop-prefix.self.ribs.tables c.announce.new.self.tables c.in_ok-announce.ensures.held c.loop-prefix.invariant.others;
-  held = one_overlaid c.args.c c.loop-prefix.prefix-index _ c.args.prefixes.now c.prefix-item.result (Some (arc_value c.args.attrs.now)) c.args.self.now.ribs.tables c.loop-prefix.self.ribs.tables c.announce.new.self.tables (omega arith) c.loop-prefix-test.true c.prefix-item.is c.in_ok-announce.ensures.held c.loop-prefix.invariant.held;
-  touched = touches_on c.args.c c.args.self.now.ribs c.loop-prefix.self.ribs c.announce.new.self (c.loop-prefix.self.ribs_len ∙ c.loop-prefix.invariant.count ∙ sym c.args.self.now.ribs_len) c.loop-prefix.invariant.touched
-      (change_touches c.args.c c.prefix-item.result c.loop-prefix.self.ribs c.announce.new.self (c.announce.ensures.touched c.loop-prefix.self.numbered));
-  stirs = stirs_more c.args.c c.prefix-item.result (take c.loop-prefix.prefix-index c.args.prefixes.now) (Some (arc_value c.args.attrs.now)) c.args.self.now.ribs c.loop-prefix.self.ribs c.announce.new.self (c.loop-prefix.self.ribs_len ∙ c.loop-prefix.invariant.count ∙ sym c.args.self.now.ribs_len) c.loop-prefix.invariant.held c.in_ok-announce.ensures.held (c.announce.ensures.touched c.loop-prefix.self.numbered) c.loop-prefix.invariant.stirs;
-}
+loop-prefix-preserved c =
+    let was = c.loop-prefix.invariant in
+    let old = c.args.self.now.ribs in
+    let mid = c.loop-prefix.self.ribs in
+    let new = c.announce.new.self in
+    let value = Some (arc_value c.args.attrs.now) in
+    let touches = c.announce.ensures.touched c.loop-prefix.self.numbered in
+    record {
+      alone = routes_on c.args.c c.prefix-item.result c.args.self.now c.loop-prefix.self _ refl refl refl refl c.announce.ensures.settings.config
+          (one_spared c.args.c c.prefix-item.result value old.tables mid.tables new.tables c.in_ok-announce.ensures.held was.alone.others) touches
+          (stirs_more c.args.c c.prefix-item.result (take c.loop-prefix.prefix-index c.args.prefixes.now) value old mid new (c.loop-prefix.self.ribs_len ∙ was.alone.count ∙ sym c.args.self.now.ribs_len) was.held c.in_ok-announce.ensures.held touches was.alone.stirs) was.alone;
+      held = one_overlaid c.args.c c.loop-prefix.prefix-index _ c.args.prefixes.now c.prefix-item.result value old.tables mid.tables new.tables (omega arith) c.loop-prefix-test.true c.prefix-item.is c.in_ok-announce.ensures.held was.held;
+    }
 
-pub returns-clause-sessions : goal.returns-clause-sessions
-returns-clause-sessions c = c.loop-prefix.invariant.sessions
-
-pub returns-clause-buffers : goal.returns-clause-buffers
-returns-clause-buffers c = c.loop-prefix.invariant.buffers
-
-pub returns-clause-watched : goal.returns-clause-watched
-returns-clause-watched c = c.loop-prefix.invariant.watched
-
-pub returns-clause-config : goal.returns-clause-config
-returns-clause-config c = c.loop-prefix.invariant.config
-
-pub returns-clause-others : goal.returns-clause-others
-returns-clause-others c = c.loop-prefix.invariant.others
+pub returns-clause-alone : goal.returns-clause-alone
+returns-clause-alone c = c.loop-prefix.invariant.alone
 
 pub returns-clause-held : goal.returns-clause-held
 returns-clause-held c = subst (λ ps. HasOverlaid c.args.c ps (Some (arc_value c.args.attrs.now)) c.args.self.now.ribs.tables c.loop-prefix.self.ribs.tables) (take_all c.loop-prefix.prefix-index c.args.prefixes.now (omega arith)) c.loop-prefix.invariant.held
 
-pub returns-in_err-announce-clause-sessions : goal.returns-in_err-announce-clause-sessions
-returns-in_err-announce-clause-sessions c = c.loop-prefix.invariant.sessions
-
-pub returns-in_err-announce-clause-buffers : goal.returns-in_err-announce-clause-buffers
-returns-in_err-announce-clause-buffers c = c.loop-prefix.invariant.buffers
-
-pub returns-in_err-announce-clause-watched : goal.returns-in_err-announce-clause-watched
-returns-in_err-announce-clause-watched c = c.loop-prefix.invariant.watched
-
-pub returns-in_err-announce-clause-config : goal.returns-in_err-announce-clause-config
-returns-in_err-announce-clause-config c = c.announce.ensures.settings.config ∙ c.loop-prefix.invariant.config
-
-pub returns-in_err-announce-clause-others : goal.returns-in_err-announce-clause-others
-returns-in_err-announce-clause-others c = same_spared_behind c.args.c c.args.self.now.ribs.tables c.loop-prefix.self.ribs.tables c.announce.new.self.tables c.in_err-announce.ensures.refused c.loop-prefix.invariant.others
-
-pub returns-clause-touched : goal.returns-clause-touched
-returns-clause-touched c = c.loop-prefix.invariant.touched
-
-pub returns-in_err-announce-clause-touched : goal.returns-in_err-announce-clause-touched
-unfolding client_count
-returns-in_err-announce-clause-touched c = touches_on c.args.c c.args.self.now.ribs c.loop-prefix.self.ribs c.announce.new.self (c.loop-prefix.self.ribs_len ∙ c.loop-prefix.invariant.count ∙ sym c.args.self.now.ribs_len) c.loop-prefix.invariant.touched
-    (change_touches c.args.c c.prefix-item.result c.loop-prefix.self.ribs c.announce.new.self (c.announce.ensures.touched c.loop-prefix.self.numbered))
-
-pub returns-clause-stirs : goal.returns-clause-stirs
-returns-clause-stirs c = c.loop-prefix.invariant.stirs
-
-pub returns-in_err-announce-clause-stirs : goal.returns-in_err-announce-clause-stirs
-unfolding client_count
-returns-in_err-announce-clause-stirs c = stirs_same_held c.args.c c.prefix-item.result c.args.self.now.ribs c.loop-prefix.self.ribs c.announce.new.self (c.loop-prefix.self.ribs_len ∙ c.loop-prefix.invariant.count ∙ sym c.args.self.now.ribs_len) c.in_err-announce.ensures.refused (c.announce.ensures.touched c.loop-prefix.self.numbered) c.loop-prefix.invariant.stirs
+pub returns-in_err-announce-clause-alone : goal.returns-in_err-announce-clause-alone
+returns-in_err-announce-clause-alone c =
+    let was = c.loop-prefix.invariant.alone in
+    let old = c.args.self.now.ribs in
+    let mid = c.loop-prefix.self.ribs in
+    let new = c.announce.new.self in
+    let touches = c.announce.ensures.touched c.loop-prefix.self.numbered in
+    routes_on c.args.c c.prefix-item.result c.args.self.now c.loop-prefix.self _ refl refl refl refl c.announce.ensures.settings.config
+    (same_spared_behind c.args.c old.tables mid.tables new.tables c.in_err-announce.ensures.refused was.others) touches
+    (stirs_same_held c.args.c c.prefix-item.result old mid new (c.loop-prefix.self.ribs_len ∙ was.count ∙ sym c.args.self.now.ribs_len) c.in_err-announce.ensures.refused touches was.stirs) was
 
 pub returns-clause-kept : goal.returns-clause-kept
 returns-clause-kept c = λ p none. overlaid_kept c.args.c (take c.loop-prefix.prefix-index c.args.prefixes.now) _ c.args.self.now.ribs.tables c.loop-prefix.self.ribs.tables c.loop-prefix.invariant.held p (none_of_first p c.args.prefixes.now c.loop-prefix.prefix-index none)

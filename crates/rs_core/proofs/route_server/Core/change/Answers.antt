@@ -28,22 +28,20 @@ use Rattle.rs_core.proofs.route_server.Core.change.Goals as goal
 pub returns-in-Some-clause-refused : goal.returns-in-Some-clause-refused
 unfolding client_count
 returns-in-Some-clause-refused c =
-    let sessions = c.args.self.now.sessions.items in
-    let lt : c.args.c < length sessions = subst (λ k. c.args.c < k) (sym c.args.self.now.sessions_len) c.requires.client in
-    let read = slice_get_read sessions (length sessions) c.args.c c.index_mut.result.now refl lt c.index_mut.ensures.value in
+    let lt : c.args.c < length c.args.self.now.sessions.items = subst (λ k. c.args.c < k) (sym c.args.self.now.sessions_len) c.requires.client in
+    let read = slice_get_read _ _ _ _ (sym c.args.self.now.sessions_len) c.requires.client c.index_mut.ensures.value in
     on_err c.announce_all.result (λ s h knows. cut_after c.args.self.now c.announce_all.new.self c.index_mut.result.now c.message.new.self s c.args.c h (heard.Update None) acts.None read lt
-    (ap (λ (v : Vec Session). v.items) (c.announce_all.ensures.sessions ∙ c.withdraw_all.ensures.sessions)) c.in-None.ensures.hears knows)
+    (ap (λ (v : Vec Session). v.items) (c.announce_all.ensures.alone.sessions ∙ c.withdraw_all.ensures.alone.sessions)) c.in-None.ensures.hears knows)
 
 pub returns-in_default : goal.returns-in_default
 unfolding client_count
 returns-in_default c =
-    let sessions = c.args.self.now.sessions.items in
-    let lt : c.args.c < length sessions = subst (λ k. c.args.c < k) (sym c.args.self.now.sessions_len) c.requires.client in
-    let read = slice_get_read sessions (length sessions) c.args.c c.index_mut.result.now refl lt c.index_mut.ensures.value in
+    let lt : c.args.c < length c.args.self.now.sessions.items = subst (λ k. c.args.c < k) (sym c.args.self.now.sessions_len) c.requires.client in
+    let read = slice_get_read _ _ _ _ (sym c.args.self.now.sessions_len) c.requires.client c.index_mut.ensures.value in
     let set = ap (λ (v : Vec Session). v.items) c.act.ensures.sessions in
     let kept = c.args.self.now.watched.items in
     let there : c.args.c < length kept = subst (λ k. c.args.c < k) (sym c.args.self.now.watched_len) c.requires.client in
-    let was = slice_get_read kept (length kept) c.args.c c.index_mut-in_default.result.now refl there c.index_mut-in_default.ensures.value in
+    let was = slice_get_read _ _ _ _ (sym c.args.self.now.watched_len) c.requires.client c.index_mut-in_default.ensures.value in
     let noting = ap (λ (v : Vec Watched). v.items) c.act.ensures.watched in
     record {
       spares = acted_spares c.args.self.now c.act.new.self c.args.c c.message.new.self c.act.ensures.count c.act.ensures.config lt set c.act.ensures.buffers c.act.ensures.others c.act.ensures.voices
@@ -62,59 +60,56 @@ returns-in_default c =
 pub returns-in-None-attrs-clause-heard : goal.returns-in-None-attrs-clause-heard
 unfolding client_count
 returns-in-None-attrs-clause-heard c = λ s h change live knows same.
-    let sessions = c.args.self.now.sessions.items in
-    let lt : c.args.c < length sessions = subst (λ k. c.args.c < k) (sym c.args.self.now.sessions_len) c.requires.client in
-    let read = slice_get_read sessions (length sessions) c.args.c c.index_mut.result.now refl lt c.index_mut.ensures.value in
+    let lt : c.args.c < length c.args.self.now.sessions.items = subst (λ k. c.args.c < k) (sym c.args.self.now.sessions_len) c.requires.client in
+    let read = slice_get_read _ _ _ _ (sym c.args.self.now.sessions_len) c.requires.client c.index_mut.ensures.value in
     let none = sym c.requires.attributes ∙ ap is_none c.in-None-attrs.is in
     changed c.args.self.now c.withdraw_all.new.self c.index_mut.result.now c.message.new.self s c.args.c h c.args.withdrawn.now c.args.announced.now (option_map arc_value c.args.attrs) change read lt
-    (ap (λ (v : Vec Session). v.items) c.withdraw_all.ensures.sessions) c.in-None.ensures.hears c.in-None.ensures.takes
+    (ap (λ (v : Vec Session). v.items) c.withdraw_all.ensures.alone.sessions) c.in-None.ensures.hears c.in-None.ensures.takes
     (λ p. c.withdraw_all.ensures.held.held p
     ∙ sym (ap (λ b. if b then option_map arc_value c.args.attrs else (if has_prefix p c.args.withdrawn.now then None else held_of c.args.self.now.ribs.tables c.args.c p)) (none_there p c.args.announced.now none)))
-    c.withdraw_all.ensures.held.identifier c.withdraw_all.ensures.config c.withdraw_all.ensures.touched.own live same c.withdraw_all.ensures.watched knows
+    c.withdraw_all.ensures.held.identifier c.withdraw_all.ensures.alone.config c.withdraw_all.ensures.alone.touched.own live same c.withdraw_all.ensures.alone.watched knows
 
 pub returns-in-Some-clause-spares : goal.returns-in-Some-clause-spares
 unfolding client_count
 returns-in-Some-clause-spares c =
-    let sessions = c.args.self.now.sessions.items in
-    let lt : c.args.c < length sessions = subst (λ k. c.args.c < k) (sym c.args.self.now.sessions_len) c.requires.client in
-    acted_spares c.args.self.now c.announce_all.new.self c.args.c c.message.new.self (c.announce_all.ensures.count ∙ c.withdraw_all.ensures.count) (c.announce_all.ensures.config ∙ c.withdraw_all.ensures.config) lt
-    (ap (λ (v : Vec Session). v.items) (c.announce_all.ensures.sessions ∙ c.withdraw_all.ensures.sessions)) (c.announce_all.ensures.buffers ∙ c.withdraw_all.ensures.buffers)
+    let lt : c.args.c < length c.args.self.now.sessions.items = subst (λ k. c.args.c < k) (sym c.args.self.now.sessions_len) c.requires.client in
+    acted_spares c.args.self.now c.announce_all.new.self c.args.c c.message.new.self (c.announce_all.ensures.alone.count ∙ c.withdraw_all.ensures.alone.count) (c.announce_all.ensures.alone.config ∙ c.withdraw_all.ensures.alone.config) lt
+    (ap (λ (v : Vec Session). v.items) (c.announce_all.ensures.alone.sessions ∙ c.withdraw_all.ensures.alone.sessions)) (c.announce_all.ensures.alone.buffers ∙ c.withdraw_all.ensures.alone.buffers)
     (record {
-      held = λ d p ne. c.announce_all.ensures.others.held d p ne ∙ c.withdraw_all.ensures.others.held d p ne;
-      identifiers = λ d ne. c.announce_all.ensures.others.identifiers d ne ∙ c.withdraw_all.ensures.others.identifiers d ne;
+      held = λ d p ne. c.announce_all.ensures.alone.others.held d p ne ∙ c.withdraw_all.ensures.alone.others.held d p ne;
+      identifiers = λ d ne. c.announce_all.ensures.alone.others.identifiers d ne ∙ c.withdraw_all.ensures.alone.others.identifiers d ne;
     })
-    (voices_on c.args.c c.args.self.now.ribs c.withdraw_all.new.self.ribs c.announce_all.new.self.ribs (c.withdraw_all.new.self.ribs_len ∙ c.withdraw_all.ensures.count ∙ sym c.args.self.now.ribs_len)
-    c.withdraw_all.ensures.touched.others c.announce_all.ensures.touched.others)
-    (λ d ne. ap (λ (v : Vec Watched). slice_get v.items d) (c.announce_all.ensures.watched ∙ c.withdraw_all.ensures.watched))
+    (voices_on c.args.c c.args.self.now.ribs c.withdraw_all.new.self.ribs c.announce_all.new.self.ribs (c.withdraw_all.new.self.ribs_len ∙ c.withdraw_all.ensures.alone.count ∙ sym c.args.self.now.ribs_len)
+    c.withdraw_all.ensures.alone.touched.others c.announce_all.ensures.alone.touched.others)
+    (λ d ne. ap (λ (v : Vec Watched). slice_get v.items d) (c.announce_all.ensures.alone.watched ∙ c.withdraw_all.ensures.alone.watched))
 
 pub returns-in-Some-clause-heard : goal.returns-in-Some-clause-heard
 unfolding client_count
 returns-in-Some-clause-heard c = map_ok c.announce_all.result c.announce_all.ensures.held (λ held s h change live knows same.
-    let sessions = c.args.self.now.sessions.items in
-    let lt : c.args.c < length sessions = subst (λ k. c.args.c < k) (sym c.args.self.now.sessions_len) c.requires.client in
-    let read = slice_get_read sessions (length sessions) c.args.c c.index_mut.result.now refl lt c.index_mut.ensures.value in
+    let lt : c.args.c < length c.args.self.now.sessions.items = subst (λ k. c.args.c < k) (sym c.args.self.now.sessions_len) c.requires.client in
+    let read = slice_get_read _ _ _ _ (sym c.args.self.now.sessions_len) c.requires.client c.index_mut.ensures.value in
     changed c.args.self.now c.announce_all.new.self c.index_mut.result.now c.message.new.self s c.args.c h c.args.withdrawn.now c.args.announced.now (Some (arc_value c.in-Some.attrs)) change read lt
-    (ap (λ (v : Vec Session). v.items) (c.announce_all.ensures.sessions ∙ c.withdraw_all.ensures.sessions)) c.in-None.ensures.hears c.in-None.ensures.takes
+    (ap (λ (v : Vec Session). v.items) (c.announce_all.ensures.alone.sessions ∙ c.withdraw_all.ensures.alone.sessions)) c.in-None.ensures.hears c.in-None.ensures.takes
     (λ p. held.held p ∙ ap (λ o. if has_prefix p c.args.announced.now then Some (arc_value c.in-Some.attrs) else o) (c.withdraw_all.ensures.held.held p))
-    (held.identifier ∙ c.withdraw_all.ensures.held.identifier) (c.announce_all.ensures.config ∙ c.withdraw_all.ensures.config)
-    (λ none. c.announce_all.ensures.touched.own none ∙ c.withdraw_all.ensures.touched.own none) live
-    (subst (λ o. IsSameChange (record { withdrawn = c.args.withdrawn.now; announced = c.args.announced.now; attributes = option_map arc_value o }) change) c.in-Some.is same) (c.announce_all.ensures.watched ∙ c.withdraw_all.ensures.watched) knows)
+    (held.identifier ∙ c.withdraw_all.ensures.held.identifier) (c.announce_all.ensures.alone.config ∙ c.withdraw_all.ensures.alone.config)
+    (λ none. c.announce_all.ensures.alone.touched.own none ∙ c.withdraw_all.ensures.alone.touched.own none) live
+    (subst (λ o. IsSameChange (record { withdrawn = c.args.withdrawn.now; announced = c.args.announced.now; attributes = option_map arc_value o }) change) c.in-Some.is same) (c.announce_all.ensures.alone.watched ∙ c.withdraw_all.ensures.alone.watched) knows)
 
 pub returns-in-None-attrs-clause-stirs : goal.returns-in-None-attrs-clause-stirs
-returns-in-None-attrs-clause-stirs c = λ apart. c.withdraw_all.ensures.stirs
+returns-in-None-attrs-clause-stirs c = λ apart. c.withdraw_all.ensures.alone.stirs
 
 pub returns-in-Some-clause-stirs : goal.returns-in-Some-clause-stirs
 unfolding client_count
 returns-in-Some-clause-stirs c = λ apart.
-    stirs_withdrawn c.args.c c.args.withdrawn.now c.args.announced.now c.args.self.now.ribs c.withdraw_all.new.self.ribs c.announce_all.new.self.ribs (c.withdraw_all.new.self.ribs_len ∙ c.withdraw_all.ensures.count ∙ sym c.args.self.now.ribs_len)
-    c.withdraw_all.ensures.held c.announce_all.ensures.kept apart c.withdraw_all.ensures.stirs c.announce_all.ensures.stirs
+    stirs_withdrawn c.args.c c.args.withdrawn.now c.args.announced.now c.args.self.now.ribs c.withdraw_all.new.self.ribs c.announce_all.new.self.ribs (c.withdraw_all.new.self.ribs_len ∙ c.withdraw_all.ensures.alone.count ∙ sym c.args.self.now.ribs_len)
+    c.withdraw_all.ensures.held c.announce_all.ensures.kept apart c.withdraw_all.ensures.alone.stirs c.announce_all.ensures.alone.stirs
 
 pub returns-in-None-attrs-clause-keeps : goal.returns-in-None-attrs-clause-keeps
 returns-in-None-attrs-clause-keeps c = λ s h config knows none.
-    let own = c.withdraw_all.ensures.touched.own none in
+    let own = c.withdraw_all.ensures.alone.touched.own none in
     keeps_same _ _ (ap (λ (v : View). v.speech) own) (ap (λ (v : View). v.touched) own)
 
 pub returns-in-Some-clause-keeps : goal.returns-in-Some-clause-keeps
 returns-in-Some-clause-keeps c = λ s h config knows none.
-    let own = c.announce_all.ensures.touched.own none ∙ c.withdraw_all.ensures.touched.own none in
+    let own = c.announce_all.ensures.alone.touched.own none ∙ c.withdraw_all.ensures.alone.touched.own none in
     keeps_same _ _ (ap (λ (v : View). v.speech) own) (ap (λ (v : View). v.touched) own)

@@ -1,4 +1,4 @@
-use Rattle.std.proofs.Common.{◌<◌, length, refl, sym, ◌∙◌, subst}
+use Rattle.std.proofs.Common.{◌<◌, refl, sym, ◌∙◌, subst}
 use Rattle.std.proofs.lemmas.Option.{slice_get_read}
 use Rattle.rs_session.specs.Sessions.{agreed_of}
 use Rattle.rs_session.specs.Hearing.{HasHeard}
@@ -18,10 +18,8 @@ returns-in-Some-clause-voices c = around_voices c.args.c _ c.args.self.now.ribs.
 pub returns-in-Some-clause-own : goal.returns-in-Some-clause-own
 unfolding client_count
 returns-in-Some-clause-own c = λ none x read settings items has _.
-    let sessions = c.args.self.now.sessions.items in
     let ribs = c.args.self.now.ribs in
-    let lt : c.args.c < length sessions = subst (λ k. c.args.c < k) (sym c.args.self.now.sessions_len) c.requires in
-    let here = slice_get_read sessions (length sessions) c.args.c c.index-session.result.now refl lt c.index-session.ensures in
+    let here = slice_get_read _ _ _ _ (sym c.args.self.now.sessions_len) c.requires c.index-session.ensures in
     let heard = subst (λ y. HasHeard y settings items) (some_is x c.index-session.result.now (sym read ∙ here)) has in
     subst (λ o. IsRaised o (outlet_in ribs c.args.c none) (outlet_in c.come_up.new.self c.args.c none))
     (raised_is (agreed_of settings items) ribs.extended settings c.in-Some.mode c.limit-limit.result (sym c.in-Some.is ∙ c.mode.ensures.mode settings items heard) (c.limit-limit.ensures.limit settings items heard))

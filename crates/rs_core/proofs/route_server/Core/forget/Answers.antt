@@ -49,7 +49,7 @@ unfolding client_count
 returns-clause-forgotten c = λ s h why cut watched.
     let before = c.args.self.now.sessions.items in
     let lt : c.args.c < length before = subst (λ k. c.args.c < k) (sym c.args.self.now.sessions_len) c.requires in
-    let read = slice_get_read before (length before) c.args.c c.index_mut.result.now refl lt c.index_mut.ensures.value in
+    let read = slice_get_read _ _ _ _ (sym c.args.self.now.sessions_len) c.requires c.index_mut.ensures.value in
     let was = cut.session c.index_mut.result.now read in
     let heard = c.lost.ensures.forgotten (session_in s c.args.c) cut.items was h.items (sym cut.moment) in
     record {

@@ -1,13 +1,12 @@
-use Rattle.std.proofs.Common.{◌≡◌, ◌<◌, ◌==◌, ◌++◌, append-nil, length, refl, sym, ◌∙◌, ap, subst, arith}
+use Rattle.std.proofs.Common.{◌≡◌, ◌++◌, append-nil, refl, sym, ◌∙◌, ap, subst}
 use Rattle.std.proofs.lemmas.Bool.{false≢true}
-use Rattle.std.proofs.lemmas.Option.{slice_get_read}
 use Rattle.rs_core.specs.Core.{client_count}
 use Rattle.rs_core.specs.Hearing.{hears}
 use Rattle.rs_core.specs.declared.ribs.Ribs.{Ribs}
-use Rattle.rs_core.proofs.Lists.{map_ok, map_err}
+use Rattle.rs_core.proofs.Lists.{map_ok, map_err, none_are}
 use Rattle.rs_core.proofs.Ruling.{unmoved}
-use Rattle.rs_core.proofs.Cutting.{deaf_agrees, is_between, cut_before, agrees_joined}
-use Rattle.rs_core.proofs.Filling.{is_none, front_agrees, front_between}
+use Rattle.rs_core.proofs.Cutting.{deaf_agrees, none_waits, cut_before, agrees_joined}
+use Rattle.rs_core.proofs.Filling.{front_agrees, front_between}
 use Rattle.rs_core.specs.Altering.{IsAlteredBy}
 use Rattle.rs_core.specs.Ribs.{StirsWhere}
 use Rattle.rs_core.proofs.Altering.{front_stirs, piece_deaf, stirs_behind, stirs_once}
@@ -27,20 +26,12 @@ returns-then-not-is_live-clause-heard c = λ s h config at.
 pub returns-then-is_empty-clause-heard : goal.returns-then-is_empty-clause-heard
 unfolding client_count
 returns-then-is_empty-clause-heard c = map_ok c.hear_piece.result c.hear_piece.ensures.heard (λ heard s h config at.
-    let buffers = c.args.self.now.buffers.items in
-    let lt : c.args.c < length buffers = subst (λ k. c.args.c < k) (sym c.args.self.now.buffers_len) c.requires in
-    let read = slice_get_read buffers (length buffers) c.args.c c.index.result.now refl lt c.index.ensures in
-    let size : length c.index.result.now.items ≡ c.index.result.now.len = omega (arith, c.index.result.now.ok.0) in
-    heard s h config (is_between c.args.self.now s c.args.c h c.index.result.now read (is_none c.index.result.now.items (ap (λ n. n == 0) size ∙ sym c.is_empty.ensures ∙ c.if-is_empty.true)) at))
+    heard s h config (none_waits c.args.self.now s c.args.c h c.index.result.now c.requires c.index.ensures (sym c.is_empty.ensures ∙ c.if-is_empty.true) at))
 
 pub returns-then-is_empty-clause-refused : goal.returns-then-is_empty-clause-refused
 unfolding client_count
 returns-then-is_empty-clause-refused c = map_err c.hear_piece.result c.hear_piece.ensures.refused (λ refused s h config at.
-    let buffers = c.args.self.now.buffers.items in
-    let lt : c.args.c < length buffers = subst (λ k. c.args.c < k) (sym c.args.self.now.buffers_len) c.requires in
-    let read = slice_get_read buffers (length buffers) c.args.c c.index.result.now refl lt c.index.ensures in
-    let size : length c.index.result.now.items ≡ c.index.result.now.len = omega (arith, c.index.result.now.ok.0) in
-    refused s h config (is_between c.args.self.now s c.args.c h c.index.result.now read (is_none c.index.result.now.items (ap (λ n. n == 0) size ∙ sym c.is_empty.ensures ∙ c.if-is_empty.true)) at))
+    refused s h config (none_waits c.args.self.now s c.args.c h c.index.result.now c.requires c.index.ensures (sym c.is_empty.ensures ∙ c.if-is_empty.true) at))
 
 pub returns-then-is_empty-2-clause-heard : goal.returns-then-is_empty-2-clause-heard
 unfolding client_count
@@ -52,7 +43,7 @@ returns-then-is_empty-2-clause-heard c = λ s h config at.
     let front = c.in_ok-rest.ensures.heard s h (ap (λ (r : Ribs). r.config) taken.ensures.ribs ∙ config) live
     (unmoved c.args.self.now taken.new.self s i h taken.ensures.sessions taken.ensures.ribs taken.ensures.watched at.knows) (at.waits taken.result taken.ensures.taken) in
     front_agrees heard.new.self c.put_buffer.new.self s i h c.args.piece.now heard.new.buffer.items c.in_ok-rest.rest.now c.put_buffer.ensures.sessions c.put_buffer.ensures.ribs c.put_buffer.ensures.watched c.put_buffer.ensures.put
-    (is_none c.in_ok-rest.rest.now (sym c.is_empty-2.ensures ∙ c.if-is_empty-2.true)) front
+    (none_are c.in_ok-rest.rest.now (sym c.is_empty-2.ensures ∙ c.if-is_empty-2.true)) front
 
 pub returns-clause-heard : goal.returns-clause-heard
 unfolding client_count
@@ -108,11 +99,7 @@ returns-then-not-is_live-clause-stirs c = λ s h config at.
 pub returns-then-is_empty-clause-stirs : goal.returns-then-is_empty-clause-stirs
 unfolding client_count
 returns-then-is_empty-clause-stirs c = map_ok c.hear_piece.result c.hear_piece.ensures.stirs (λ stirs s h config at.
-    let buffers = c.args.self.now.buffers.items in
-    let lt : c.args.c < length buffers = subst (λ k. c.args.c < k) (sym c.args.self.now.buffers_len) c.requires in
-    let read = slice_get_read buffers (length buffers) c.args.c c.index.result.now refl lt c.index.ensures in
-    let size : length c.index.result.now.items ≡ c.index.result.now.len = omega (arith, c.index.result.now.ok.0) in
-    stirs s h config (is_between c.args.self.now s c.args.c h c.index.result.now read (is_none c.index.result.now.items (ap (λ n. n == 0) size ∙ sym c.is_empty.ensures ∙ c.if-is_empty.true)) at))
+    stirs s h config (none_waits c.args.self.now s c.args.c h c.index.result.now c.requires c.index.ensures (sym c.is_empty.ensures ∙ c.if-is_empty.true) at))
 
 pub returns-then-is_empty-2-clause-stirs : goal.returns-then-is_empty-2-clause-stirs
 unfolding client_count
@@ -123,7 +110,7 @@ returns-then-is_empty-2-clause-stirs c = λ s h config at.
     let live = sym (c.is_live.ensures s h at.knows) ∙ c.if-not-is_live.false in
     let was = unmoved c.args.self.now taken.new.self s i h taken.ensures.sessions taken.ensures.ribs taken.ensures.watched at.knows in
     let front = c.in_ok-rest.ensures.heard s h (ap (λ (r : Ribs). r.config) taken.ensures.ribs ∙ config) live was (at.waits taken.result taken.ensures.taken) in
-    let whole : front.front ≡ c.args.piece.now = sym (front.whole ∙ ap (λ r. front.front ++ r) (is_none c.in_ok-rest.rest.now (sym c.is_empty-2.ensures ∙ c.if-is_empty-2.true)) ∙ append-nil front.front) in
+    let whole : front.front ≡ c.args.piece.now = sym (front.whole ∙ ap (λ r. front.front ++ r) (none_are c.in_ok-rest.rest.now (sym c.is_empty-2.ensures ∙ c.if-is_empty-2.true)) ∙ append-nil front.front) in
     front_stirs s i h front.front c.args.piece.now c.args.self.now taken.new.self heard.new.self c.put_buffer.new.self taken.ensures.ribs c.put_buffer.ensures.ribs whole (stirs_once s i front.front h taken.new.self heard.new.self front.once heard.ensures.stirs was front.knows)
 
 pub returns-clause-stirs : goal.returns-clause-stirs
@@ -150,11 +137,7 @@ returns-then-not-is_live-clause-keeps c = λ s h config at none. keeps_same _ _ 
 pub returns-then-is_empty-clause-keeps : goal.returns-then-is_empty-clause-keeps
 unfolding client_count
 returns-then-is_empty-clause-keeps c = map_ok c.hear_piece.result c.hear_piece.ensures.keeps (λ keeps s h config at none.
-    let buffers = c.args.self.now.buffers.items in
-    let lt : c.args.c < length buffers = subst (λ k. c.args.c < k) (sym c.args.self.now.buffers_len) c.requires in
-    let read = slice_get_read buffers (length buffers) c.args.c c.index.result.now refl lt c.index.ensures in
-    let size : length c.index.result.now.items ≡ c.index.result.now.len = omega (arith, c.index.result.now.ok.0) in
-    keeps s h config (is_between c.args.self.now s c.args.c h c.index.result.now read (is_none c.index.result.now.items (ap (λ n. n == 0) size ∙ sym c.is_empty.ensures ∙ c.if-is_empty.true)) at) none)
+    keeps s h config (none_waits c.args.self.now s c.args.c h c.index.result.now c.requires c.index.ensures (sym c.is_empty.ensures ∙ c.if-is_empty.true) at) none)
 
 pub returns-then-is_empty-2-clause-keeps : goal.returns-then-is_empty-2-clause-keeps
 unfolding client_count

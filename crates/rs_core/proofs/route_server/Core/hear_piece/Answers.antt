@@ -2,16 +2,16 @@ use Rattle.std.proofs.Common.{◌≡◌, ◌<◌, [], ◌++◌, length, refl, sy
 use Rattle.std.proofs.lemmas.List.{append-nil}
 use Rattle.rs_octets.specs.Fronts.{BeginsWith, BeginsFaulty, Wants}
 use Rattle.rs_octets.specs.Messages.{IsMessageOf}
+use Rattle.rs_policy.specs.Configuration.{Configuration}
 use Rattle.rs_core.specs.Core.{client_count}
 use Rattle.rs_core.specs.Hearing.{Hearing, allowed_in, hears}
 use Rattle.rs_core.specs.Agreeing.{AgreesAt}
 use Rattle.rs_core.specs.Steps.{IsBetween}
-use Rattle.rs_core.proofs.Lists.{on_err, map_ok}
+use Rattle.rs_core.proofs.Lists.{on_err, map_ok, none_are}
 use Rattle.rs_core.proofs.Agreeing.{spares_both, cut_short}
 use Rattle.rs_core.proofs.Ruling.{unmoved}
 use Rattle.rs_core.proofs.Cutting.{alone_waits, after_message, after_fault, fault_between, after_beginning, after_all, deaf_agrees, cut_before, agrees_joined, between_joined, same_spares, waiting_spares}
 use Rattle.rs_core.proofs.Listening.{hears_nothing}
-use Rattle.rs_core.proofs.Filling.{is_none}
 use Rattle.rs_core.specs.Altering.{IsAlteredBy}
 use Rattle.rs_core.specs.Ribs.{StirsWhere}
 use Rattle.rs_core.proofs.Altering.{beginning_silent, message_once, on_ok, one_fault, piece_deaf, piece_silent, stirs_at_first, stirs_behind, stirs_no_more, stirs_once}
@@ -90,6 +90,12 @@ unfolding client_count
 loop-octets-preserved c =
     let it = c.loop-octets.invariant.heard in
     let at = c.in-Message.ensures.front in
+    let begins : (s : Configuration) → c.args.self.now.ribs.config ≡ s → BeginsWith (allowed_in s) c.loop-octets.octets.now c.in-Message.kind c.in-Message.body.now c.in-Message.rest.now = λ s config. record {
+      message = at.message;
+      is = subst (λ a. IsMessageOf a c.in-Message.kind at.message) (c.allowed-allowed.ensures ∙ ap allowed_in config) at.is;
+      body_is = at.body_is;
+      whole = at.whole;
+    } in
     record {
       spares = spares_both c.args.c c.args.self.now c.loop-octets.self c.hear_message.new.self c.loop-octets.invariant.spares c.hear_message.ensures.spares;
       buffers = c.hear_message.ensures.buffers ∙ c.loop-octets.invariant.buffers;
@@ -101,42 +107,24 @@ loop-octets-preserved c =
             let was = it.2 s h config between in
             let before : Hearing = hears s c.args.c it.0 h in
             let live = sym (c.is_live.ensures s before was.knows) ∙ c.if-not-is_live.false in
-            let begins : BeginsWith (allowed_in s) c.loop-octets.octets.now c.in-Message.kind c.in-Message.body.now c.in-Message.rest.now = record {
-              message = at.message;
-              is = subst (λ a. IsMessageOf a c.in-Message.kind at.message) (c.allowed-allowed.ensures ∙ ap allowed_in config) at.is;
-              body_is = at.body_is;
-              whole = at.whole;
-            } in
             between_joined c.hear_message.new.self s c.args.c it.0 at.message h
-            (after_message c.loop-octets.self c.hear_message.new.self s c.args.c before c.loop-octets.octets.now c.in-Message.kind c.in-Message.body.now c.in-Message.rest.now begins live c.hear_message.ensures.buffers was
+            (after_message c.loop-octets.self c.hear_message.new.self s c.args.c before c.loop-octets.octets.now c.in-Message.kind c.in-Message.body.now c.in-Message.rest.now (begins s config) live c.hear_message.ensures.buffers was
             (c.in_ok-hear_message-in-Message.ensures.heard s before (c.loop-octets.invariant.spares.config ∙ config) live was.knows)),
         λ s h config between.
             let was = it.2 s h config between in
             let before : Hearing = hears s c.args.c it.0 h in
             let live = sym (c.is_live.ensures s before was.knows) ∙ c.if-not-is_live.false in
-            let begins : BeginsWith (allowed_in s) c.loop-octets.octets.now c.in-Message.kind c.in-Message.body.now c.in-Message.rest.now = record {
-              message = at.message;
-              is = subst (λ a. IsMessageOf a c.in-Message.kind at.message) (c.allowed-allowed.ensures ∙ ap allowed_in config) at.is;
-              body_is = at.body_is;
-              whole = at.whole;
-            } in
-            let now = after_message c.loop-octets.self c.hear_message.new.self s c.args.c before c.loop-octets.octets.now c.in-Message.kind c.in-Message.body.now c.in-Message.rest.now begins live c.hear_message.ensures.buffers was
+            let now = after_message c.loop-octets.self c.hear_message.new.self s c.args.c before c.loop-octets.octets.now c.in-Message.kind c.in-Message.body.now c.in-Message.rest.now (begins s config) live c.hear_message.ensures.buffers was
             (c.in_ok-hear_message-in-Message.ensures.heard s before (c.loop-octets.invariant.spares.config ∙ config) live was.knows) in
             stirs_behind s c.args.c it.0 at.message h c.args.self.now.ribs c.loop-octets.self.ribs c.hear_message.new.self.ribs (c.loop-octets.self.ribs_len ∙ c.loop-octets.invariant.spares.count ∙ sym c.args.self.now.ribs_len) (it.3 s h config between)
             (stirs_once s c.args.c at.message before c.loop-octets.self c.hear_message.new.self
-            (message_once c.loop-octets.self s c.args.c before c.loop-octets.octets.now c.in-Message.kind c.in-Message.body.now c.in-Message.rest.now begins live was) c.hear_message.ensures.stirs was.knows now.knows),
+            (message_once c.loop-octets.self s c.args.c before c.loop-octets.octets.now c.in-Message.kind c.in-Message.body.now c.in-Message.rest.now (begins s config) live was) c.hear_message.ensures.stirs was.knows now.knows),
         λ s h config between none.
             let was = it.2 s h config between in
             let before : Hearing = hears s c.args.c it.0 h in
             let live = sym (c.is_live.ensures s before was.knows) ∙ c.if-not-is_live.false in
-            let begins : BeginsWith (allowed_in s) c.loop-octets.octets.now c.in-Message.kind c.in-Message.body.now c.in-Message.rest.now = record {
-              message = at.message;
-              is = subst (λ a. IsMessageOf a c.in-Message.kind at.message) (c.allowed-allowed.ensures ∙ ap allowed_in config) at.is;
-              body_is = at.body_is;
-              whole = at.whole;
-            } in
             let mid = c.loop-octets.invariant.spares.config ∙ config in
-            let now = after_message c.loop-octets.self c.hear_message.new.self s c.args.c before c.loop-octets.octets.now c.in-Message.kind c.in-Message.body.now c.in-Message.rest.now begins live c.hear_message.ensures.buffers was
+            let now = after_message c.loop-octets.self c.hear_message.new.self s c.args.c before c.loop-octets.octets.now c.in-Message.kind c.in-Message.body.now c.in-Message.rest.now (begins s config) live c.hear_message.ensures.buffers was
             (c.in_ok-hear_message-in-Message.ensures.heard s before mid live was.knows) in
             keeps_behind c.args.self.now c.loop-octets.self c.hear_message.new.self s c.args.c it.0 at.message h config mid (c.hear_message.ensures.spares.config ∙ mid) between.knows was.knows now.knows none
             (it.4 s h config between none) (c.hear_message.ensures.keeps s before mid was.knows none),
@@ -148,7 +136,7 @@ unfolding client_count
 returns-clause-heard c = λ s h config between.
     let it = c.loop-octets.invariant.heard in
     let at = it.2 s h config between in
-    let none = is_none c.loop-octets.octets.now (sym c.is_empty.ensures ∙ c.loop-octets-test.false) in
+    let none = none_are c.loop-octets.octets.now (sym c.is_empty.ensures ∙ c.loop-octets-test.false) in
     let whole : c.args.piece.now ≡ it.0 = it.1 ∙ ap (λ o. it.0 ++ o) none ∙ append-nil it.0 in
     subst (λ p. AgreesAt c.loop-octets.self s c.args.c (hears s c.args.c p h)) (sym whole) (after_all c.loop-octets.self s c.args.c (hears s c.args.c it.0 h) at)
 
@@ -192,7 +180,7 @@ pub returns-clause-stirs : goal.returns-clause-stirs
 unfolding client_count
 returns-clause-stirs c = λ s h config between.
     let it = c.loop-octets.invariant.heard in
-    let none = is_none c.loop-octets.octets.now (sym c.is_empty.ensures ∙ c.loop-octets-test.false) in
+    let none = none_are c.loop-octets.octets.now (sym c.is_empty.ensures ∙ c.loop-octets-test.false) in
     let whole : c.args.piece.now ≡ it.0 = it.1 ∙ ap (λ o. it.0 ++ o) none ∙ append-nil it.0 in
     subst (λ o. StirsWhere (IsAlteredBy s c.args.c o h) c.args.c c.args.self.now.ribs c.loop-octets.self.ribs) (sym whole) (it.3 s h config between)
 

@@ -34,9 +34,8 @@ unfolding client_count
 returns-then-is_beyond-clause-heard c = λ s h config live knows.
     let mode = sym (c.in-Some.ensures s h knows) in
     let it = is_change _ (effect_of c.args.body.now c.in-Some.mode) (subst (λ o. IsSameEffect (effect_seen o) (effect_of c.args.body.now c.in-Some.mode)) c.in-Change.is c.in_ok-code.ensures.computed) in
-    let kept = c.args.self.now.watched.items in
-    let there : c.args.c < length kept = subst (λ k. c.args.c < k) (sym c.args.self.now.watched_len) c.requires in
-    let was = slice_get_read kept (length kept) c.args.c c.index_mut.result.now refl there c.index_mut.ensures.value in
+    let there : c.args.c < length c.args.self.now.watched.items = subst (λ k. c.args.c < k) (sym c.args.self.now.watched_len) c.requires in
+    let was = slice_get_read _ _ _ _ (sym c.args.self.now.watched_len) c.requires c.index_mut.ensures.value in
     let as_noted = found_knows c.args.self.now _ s c.args.c h c.index_mut.result.now c.note.new.self c.in-Change.faulted refl refl was there refl c.note.ensures knows in
     let next = found c.in-Change.faulted h in
     let has = subst (λ o. HasEffect c.args.body.now c.in-Some.mode (effect_seen o)) c.in-Change.is c.in_ok-code.ensures.effect in
@@ -53,9 +52,8 @@ unfolding client_count
 returns-else-is_beyond-clause-heard c = map_ok c.change.result c.change.ensures.heard (λ changes s h config live knows.
     let mode = sym (c.in-Some.ensures s h knows) in
     let it = is_change _ (effect_of c.args.body.now c.in-Some.mode) (subst (λ o. IsSameEffect (effect_seen o) (effect_of c.args.body.now c.in-Some.mode)) c.in-Change.is c.in_ok-code.ensures.computed) in
-    let kept = c.args.self.now.watched.items in
-    let there : c.args.c < length kept = subst (λ k. c.args.c < k) (sym c.args.self.now.watched_len) c.requires in
-    let was = slice_get_read kept (length kept) c.args.c c.index_mut.result.now refl there c.index_mut.ensures.value in
+    let there : c.args.c < length c.args.self.now.watched.items = subst (λ k. c.args.c < k) (sym c.args.self.now.watched_len) c.requires in
+    let was = slice_get_read _ _ _ _ (sym c.args.self.now.watched_len) c.requires c.index_mut.ensures.value in
     let as_noted = found_knows c.args.self.now _ s c.args.c h c.index_mut.result.now c.note.new.self c.in-Change.faulted refl refl was there refl c.note.ensures knows in
     let next = found c.in-Change.faulted h in
     let has = subst (λ o. HasEffect c.args.body.now c.in-Some.mode (effect_seen o)) c.in-Change.is c.in_ok-code.ensures.effect in
@@ -71,9 +69,8 @@ returns-else-is_beyond-clause-heard c = map_ok c.change.result c.change.ensures.
 pub returns-else-is_beyond-clause-refused : goal.returns-else-is_beyond-clause-refused
 unfolding client_count
 returns-else-is_beyond-clause-refused c = map_err c.change.result c.change.ensures.refused (λ refused s h knows.
-    let kept = c.args.self.now.watched.items in
-    let there : c.args.c < length kept = subst (λ k. c.args.c < k) (sym c.args.self.now.watched_len) c.requires in
-    let was = slice_get_read kept (length kept) c.args.c c.index_mut.result.now refl there c.index_mut.ensures.value in
+    let there : c.args.c < length c.args.self.now.watched.items = subst (λ k. c.args.c < k) (sym c.args.self.now.watched_len) c.requires in
+    let was = slice_get_read _ _ _ _ (sym c.args.self.now.watched_len) c.requires c.index_mut.ensures.value in
     cut_found c.change.new.self s c.args.c h c.in-Change.faulted
     (refused s (found c.in-Change.faulted h) (found_knows c.args.self.now _ s c.args.c h c.index_mut.result.now c.note.new.self c.in-Change.faulted refl refl was there refl c.note.ensures knows)))
 
@@ -91,22 +88,19 @@ returns-in_err-code-clause-keeps c = λ s h config knows none. keeps_same _ _ re
 pub returns-then-is_beyond-clause-keeps : goal.returns-then-is_beyond-clause-keeps
 unfolding client_count
 returns-then-is_beyond-clause-keeps c = λ s h config knows none.
-    let kept = c.args.self.now.watched.items in
-    let there : c.args.c < length kept = subst (λ k. c.args.c < k) (sym c.args.self.now.watched_len) c.requires in
-    let was = slice_get_read kept (length kept) c.args.c c.index_mut.result.now refl there c.index_mut.ensures.value in
+    let there : c.args.c < length c.args.self.now.watched.items = subst (λ k. c.args.c < k) (sym c.args.self.now.watched_len) c.requires in
+    let was = slice_get_read _ _ _ _ (sym c.args.self.now.watched_len) c.requires c.index_mut.ensures.value in
     c.say-then-is_beyond.ensures.keeps s (found c.in-Change.faulted h) config (found_knows c.args.self.now _ s c.args.c h c.index_mut.result.now c.note.new.self c.in-Change.faulted refl refl was there refl c.note.ensures knows) none
 
 pub returns-else-is_beyond-clause-keeps : goal.returns-else-is_beyond-clause-keeps
 unfolding client_count
 returns-else-is_beyond-clause-keeps c = λ s h config knows none.
-    let kept = c.args.self.now.watched.items in
-    let there : c.args.c < length kept = subst (λ k. c.args.c < k) (sym c.args.self.now.watched_len) c.requires in
-    let was = slice_get_read kept (length kept) c.args.c c.index_mut.result.now refl there c.index_mut.ensures.value in
+    let there : c.args.c < length c.args.self.now.watched.items = subst (λ k. c.args.c < k) (sym c.args.self.now.watched_len) c.requires in
+    let was = slice_get_read _ _ _ _ (sym c.args.self.now.watched_len) c.requires c.index_mut.ensures.value in
     c.change.ensures.keeps s (found c.in-Change.faulted h) config (found_knows c.args.self.now _ s c.args.c h c.index_mut.result.now c.note.new.self c.in-Change.faulted refl refl was there refl c.note.ensures knows) none
 
 pub returns-else-is_beyond-clause-spares : goal.returns-else-is_beyond-clause-spares
 unfolding client_count
 returns-else-is_beyond-clause-spares c =
-    let kept = c.args.self.now.watched.items in
-    let there : c.args.c < length kept = subst (λ k. c.args.c < k) (sym c.args.self.now.watched_len) c.requires in
+    let there : c.args.c < length c.args.self.now.watched.items = subst (λ k. c.args.c < k) (sym c.args.self.now.watched_len) c.requires in
     kept_spares c.args.c c.args.self.now _ c.change.new.self c.note.new.self there refl refl refl refl refl c.change.ensures.spares

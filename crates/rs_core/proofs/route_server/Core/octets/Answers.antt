@@ -41,12 +41,10 @@ unfolding client_count
 returns-in-Err-clause-refused c = λ run h.
     let it = hearing c.args.c run in
     let at = h.clients c.args.c c.requires in
-    let old = c.args.self.now.watched.items in
     let kept = c.hear.new.self.watched.items in
-    let here : c.args.c < length old = subst (λ k. c.args.c < k) (sym c.args.self.now.watched_len) c.requires in
     let within : c.args.c < c.hear.new.self.count = subst (λ k. c.args.c < k) (sym c.hear.ensures.spares.count) c.requires in
     let there : c.args.c < length kept = subst (λ k. c.args.c < k) (sym c.hear.new.self.watched_len) within in
-    let was = slice_get_read old (length old) c.args.c c.index.result.now refl here c.index.ensures in
+    let was = slice_get_read _ _ _ _ (sym c.args.self.now.watched_len) c.requires c.index.ensures in
     let lasted = live_by (is_live (state_in (config_in run) c.args.c it)) (λ dead. absurd (let e = c.in-Err.ensures.unheard (config_in run) it at.knows dead in cc)) in
     let ended = c.end.ensures it.endings it.faults (at.knows.watched c.index.result.now was) in
     let others = λ (d : ℕ) (ne : d ≢ c.args.c). other c.args.c d (leaves (config_in run) d reasons.Memory (hearing d run)) (hearing d run) ne in

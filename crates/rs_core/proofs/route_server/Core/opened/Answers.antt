@@ -35,7 +35,7 @@ unfolding client_count
 returns-in-Ok-clause-came c = λ run h.
     let sessions = c.args.self.now.sessions.items in
     let lt : c.args.c < length sessions = subst (λ k. c.args.c < k) (sym c.args.self.now.sessions_len) c.requires in
-    let read = slice_get_read sessions (length sessions) c.args.c c.index_mut.result.now refl lt c.index_mut.ensures.value in
+    let read = slice_get_read _ _ _ _ (sym c.args.self.now.sessions_len) c.requires c.index_mut.ensures.value in
     let it = hearing c.args.c run in
     let set = ap (λ (v : Vec Session). v.items) c.greet.ensures.sessions in
     let others = λ (d : ℕ) (ne : d ≢ c.args.c). other c.args.c d (begins (hearing d run)) (hearing d run) ne in
@@ -59,9 +59,7 @@ returns-in-Ok-clause-came c = λ run h.
 pub returns-in-Err-clause-busy : goal.returns-in-Err-clause-busy
 unfolding client_count
 returns-in-Err-clause-busy c = λ run h idle.
-    let sessions = c.args.self.now.sessions.items in
-    let lt : c.args.c < length sessions = subst (λ k. c.args.c < k) (sym c.args.self.now.sessions_len) c.requires in
-    let read = slice_get_read sessions (length sessions) c.args.c c.index_mut.result.now refl lt c.index_mut.ensures.value in
+    let read = slice_get_read _ _ _ _ (sym c.args.self.now.sessions_len) c.requires c.index_mut.ensures.value in
     c.in-Err.ensures.busy_unless_idle (session_in (config_in run) c.args.c) (hearing c.args.c run).items ((h.clients c.args.c c.requires).knows.session c.index_mut.result.now read) idle
 
 pub returns-in-Ok-clause-greets : goal.returns-in-Ok-clause-greets
