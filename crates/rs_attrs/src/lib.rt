@@ -41,4 +41,4 @@ pub use laws::{
 pub use mode::Mode;
 pub use reading::{Parsed, read};
 pub use stripping::{Strip, stripped};
-pub use writing::{size, write_into};
+pub use writing::{size, size_at_most, write_into};

@@ -1,6 +1,6 @@
 //! Communities that are taken out of a route before it is passed on.
 
-ghost use Rattle.std.specs.Prelude.{◌≡◌, ℕ, false, ◌<◌, ◌≤◌, ◌*◌, ◌^◌, ◌++◌, length, IfOk};
+ghost use Rattle.std.specs.Prelude.{◌≡◌, ℕ, false, ◌<◌, ◌≤◌, ◌*◌, ◌^◌, ◌++◌, length, IsTrue, IfOk};
 ghost use Rattle.std.specs.List.{flat_map, list_any};
 ghost use Rattle.std.specs.Int.{w32, to_be_bytes};
 ghost use Rattle.rs_attrs.specs.Held.{attribute_by, attributes_in, values_size};
@@ -23,6 +23,13 @@ pub struct Strip<'a> {
 }
 
 impl Strip<'_> {
+    /// Whether no community is taken out, whatever it is.
+    fn is_empty(&self) -> bool
+        ensures { IsTrue result → (community : ℕ) → is_stripped (lists_in self.now) self.now.all community ≡ false }
+    {
+        !self.all && self.lists.iter().all(|list| list.is_empty())
+    }
+
     /// Whether this community is taken out.
     fn takes(&self, community: u32) -> bool
         ensures { result ≡ is_stripped (lists_in self.now) self.now.all community }
@@ -36,6 +43,9 @@ impl Strip<'_> {
         ensures same { result ≡ false → stripped_of (lists_in self.now) self.now.all attrs.now ≡ attrs.now }
     {
         let _legal = &attrs.heads;
+        if self.is_empty() {
+            return false;
+        }
         attrs.communities().any(|community| self.takes(community))
     }
 }

@@ -5,13 +5,13 @@ mod head;
 mod narrow;
 mod parts;
 
-ghost use Rattle.std.specs.Prelude.{◌≡◌, ◌≤◌, length};
+ghost use Rattle.std.specs.Prelude.{◌≡◌, ◌+◌, ◌≤◌, length};
 ghost use Rattle.rs_octets.specs.Writes.{Writes};
 ghost use Rattle.rs_attrs.specs.Writing.{spelt, HasSpelling};
 
-use crate::attrs::Attrs;
+use crate::attrs::{Attrs, Head};
 use crate::mode::Mode;
-use crate::writing::head::attribute_size;
+use crate::writing::head::{LONGEST_HEAD, attribute_size};
 use crate::writing::parts::Parts;
 
 /// The octets that the attributes are spelt in. A value of more than 65,535 octets, which has no
@@ -24,6 +24,21 @@ pub fn size(attrs: &Attrs, mode: Mode) -> usize
         size += attribute_size(part.len());
     }
     size
+}
+
+/// At least the octets that the attributes are spelt in, and at most one more for each of them. For
+/// a four-octet peer it is known without going over them.
+pub fn size_at_most(attrs: &Attrs, mode: Mode) -> usize
+    ensures most { length (spelt attrs.now mode) ≤ result }
+    ensures near { result ≤ length (spelt attrs.now mode) + length attrs.now }
+{
+    match mode {
+        Mode::Four => {
+            let (heads, values): (&[Head], &[u8]) = (&attrs.heads, &attrs.values);
+            LONGEST_HEAD * heads.len() + values.len()
+        }
+        Mode::Two => size(attrs, mode),
+    }
 }
 
 /// Writes the attributes, and answers how many octets that took. What lies behind them stays.

@@ -18,6 +18,10 @@ attributes_passed (Stripped attrs) = arc_value attrs
 abbrev pub is_kept_back : Held → ℕ → ℕ × List Attribute → Bool
 is_kept_back t c h = (h.0 == c) || path_has_of t.settings.top.server_as h.1
 
+-- a holder's route as it is passed on, where it fits
+abbrev pub passed_fitting : Held → ℕ → Speech → Prefix → ℕ × List Attribute → Option (List Attribute)
+passed_fitting t c speech p h = option_and_then (if_fits speech p) (passed_on h.1 (verdict t.settings h.0 c p h.1))
+
 -- the route of the one that holds the prefix, if it is a candidate
 abbrev pub due_alone : Held → ℕ → Speech → Prefix → ℕ × List Attribute → Option (List Attribute)
-due_alone t c speech p h = if is_kept_back t c h then None else option_and_then (if_fits speech p) (passed_on h.1 (verdict t.settings h.0 c p h.1))
+due_alone t c speech p h = if is_kept_back t c h then None else passed_fitting t c speech p h

@@ -9,7 +9,7 @@ ghost use Rattle.rs_policy.specs.Verdicts.{verdict};
 ghost use Rattle.rs_decision.specs.Best.{HasDistinctPlaces};
 ghost use Rattle.rs_outlet.specs.Due.{Held, rank_of, rank_to, ranks_among, passed_on, if_fits, route_from, due_to};
 ghost use Rattle.rs_outlet.specs.HeldBy.{held_by};
-ghost use Rattle.rs_outlet.specs.Passing.{attributes_passed, due_alone, is_kept_back};
+ghost use Rattle.rs_outlet.specs.Passing.{attributes_passed, due_alone, is_kept_back, passed_fitting};
 
 use crate::answers::Speech;
 use rs_adjin::{AdjIns, Holder, Holders};
@@ -169,6 +169,24 @@ fn if_fits<'a>(speech: Speech, prefix: &Prefix, passed: Passed<'a>) -> Option<Pa
     }
 }
 
+/// The route as it is passed on, where it fits.
+fn pass_fitting<'a>(
+    alloc: Global,
+    sources: &Sources<'_>,
+    speech: Speech,
+    prefix: &Prefix,
+    holder: &Holder<'a>,
+) -> Result<Option<Passed<'a>>, AllocError>
+    requires client { sources.now.client < length sources.now.config.now.clients }
+    requires known { holder.now.client < length sources.now.config.now.clients }
+    ensures { IfOk result (λ due. option_map attributes_passed due ≡ passed_fitting (held_by sources.now) sources.now.client speech prefix.now (holder.now.client, arc_value holder.now.attrs.now)) }
+{
+    match pass_on(alloc, sources, prefix, holder)? {
+        None => Ok(None),
+        Some(passed) => Ok(if_fits(speech, prefix, passed)),
+    }
+}
+
 /// What is due where one client alone holds the prefix: nothing is compared.
 fn decide_alone<'a>(
     alloc: Global,
@@ -184,10 +202,7 @@ fn decide_alone<'a>(
     if is_kept_back(sources, holder) {
         return Ok(None);
     }
-    match pass_on(alloc, sources, prefix, holder)? {
-        None => Ok(None),
-        Some(passed) => Ok(if_fits(speech, prefix, passed)),
-    }
+    pass_fitting(alloc, sources, speech, prefix, holder)
 }
 
 /// What is due where these clients hold the prefix: the best of the candidates.
@@ -220,10 +235,7 @@ fn decide_among<'a>(
         client: rank.place,
         attrs,
     };
-    match pass_on(alloc, sources, prefix, &holder)? {
-        None => Ok(None),
-        Some(passed) => Ok(if_fits(speech, prefix, passed)),
-    }
+    pass_fitting(alloc, sources, speech, prefix, &holder)
 }
 
 /// What is due to the client at a prefix: the best of the candidates, as it is passed on, where it fits.

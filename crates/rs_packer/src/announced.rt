@@ -9,7 +9,7 @@ ghost use Rattle.rs_packer.specs.Parts.{announced_front};
 
 use crate::fields::{longest_front, put_prefixes};
 use crate::packed::Packed;
-use rs_attrs::{Attrs, Mode, size, write_into};
+use rs_attrs::{Attrs, Mode, size, size_at_most, write_into};
 use rs_octets::{Kind, Prefix, put, put_header};
 
 /// Whether a prefix beside attributes of this size has room in a message of at most `limit` octets.
@@ -25,6 +25,9 @@ fn has_room(size: usize, prefix: &Prefix, limit: usize) -> bool
 pub fn fits(attrs: &Attrs, mode: Mode, prefix: &Prefix, limit: usize) -> bool
     ensures { result ≡ nat_le (length (announcement attrs.now mode (prefix.now ∷ []))) limit }
 {
+    if has_room(size_at_most(attrs, mode), prefix, limit) {
+        return true;
+    }
     has_room(size(attrs, mode), prefix, limit)
 }
 

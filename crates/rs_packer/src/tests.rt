@@ -137,6 +137,7 @@ fn fills_long_messages(rt: HostRuntime) -> Result<(), Fail> {
 fn fits_up_to_the_limit(rt: HostRuntime) -> Result<(), Fail> {
     let attrs = attributes(rt.alloc())?;
     if let Some(prefix) = Prefix::new(0xc633_6400, 24) {
+        assert!(rt; fits(&attrs, Mode::Four, &prefix, 50));
         assert!(rt; fits(&attrs, Mode::Four, &prefix, 47));
         assert!(rt; !fits(&attrs, Mode::Four, &prefix, 46));
         assert!(rt; !fits(&attrs, Mode::Four, &prefix, 0));

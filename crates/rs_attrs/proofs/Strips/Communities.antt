@@ -1,6 +1,7 @@
 -- Communities that are stripped.
-use Rattle.std.proofs.Common.{◌≡◌, ℕ, suc, ◌*◌, ◌<◌, ◌≤◌, ◌||◌, Bool, true, false, cond, not, List, [], ◌∷◌, ◌++◌, length, map, take, drop, refl, sym, ap, ◌∙◌, arith, length-append, length-drop, eq-eqb}
-use Rattle.std.specs.List.{list_any, flat_map}
+use Rattle.std.proofs.Common.{◌≡◌, ◌==◌, ℕ, suc, ◌*◌, ◌<◌, ◌≤◌, ◌||◌, Bool, true, false, cond, not, List, [], ◌∷◌, ◌++◌, length, map, take, drop, refl, sym, ap, ◌∙◌, arith, length-append, length-drop, eq-eqb, eqb-true}
+use Rattle.std.specs.List.{list_all, list_any, flat_map}
+use Rattle.std.specs.Cmp.{first_so, second_so}
 use Rattle.std.specs.Int.{w32, to_be_bytes}
 use Rattle.std.proofs.lemmas.List.{append-nil, drop_all, take_all, take-append-le, drop-append-le}
 use Rattle.std.proofs.lemmas.Bool.{ne_eqb}
@@ -14,6 +15,17 @@ use Rattle.rs_attrs.specs.Stripping.{is_stripped, unstripped, with_communities, 
 pub list_any-map : {A B : Type 0} (f : A → B) (test : B → Bool) → (xs : List A) → list_any (λ x. test (f x)) xs ≡ list_any test (map f xs)
 list_any-map f test [] = refl
 list_any-map f test (x ∷ xs) = ap (λ b. test (f x) || b) (list_any-map f test xs)
+
+empty_lacks : (list : List ℕ) (community : ℕ) → (length list == 0) ≡ true → list_any (λ c. c == community) list ≡ false
+empty_lacks [] community e = refl
+empty_lacks (c ∷ list) community e = let none = eqb-true (length (c ∷ list)) 0 e in absurd (omega (arith, none))
+
+-- empty lists name no community
+pub none_named : (lists : List (List ℕ)) (community : ℕ) → list_all (λ list. length list == 0) lists ≡ true → list_any (λ list. list_any (λ c. c == community) list) lists ≡ false
+none_named [] community e = refl
+none_named (list ∷ lists) community e =
+    let others : Bool = list_all (λ list. length list == 0) lists in
+    λ i. empty_lacks list community (first_so (length list == 0) others e) i || none_named lists community (second_so (length list == 0) others e) i
 
 pub unstripped-bound : (lists : List (List ℕ)) (all : Bool) (communities : List ℕ) → length (unstripped lists all communities) ≤ length communities
 unstripped-bound lists all [] = omega arith

@@ -4,6 +4,7 @@ use crate::attrs::Attrs;
 use crate::mode::Mode;
 use crate::reading::read;
 use crate::stripping::{Strip, stripped};
+use crate::writing::{size, size_at_most};
 use std::alloc::{AllocError, Global};
 use std::cmp::Ordering;
 use std::hash::{DefaultHasher, Hash, Hasher};
@@ -99,6 +100,17 @@ fn unknown_types_with_their_flags(rt: HostRuntime) -> Result<(), Fail> {
     let other = attrs.get(100).ok_or("type 100")?;
     assert!(rt; other.optional && !other.transitive && !other.partial);
     assert!(rt; other.value.is_empty());
+    Ok(())
+}
+
+#[test]
+fn sizes(rt: HostRuntime) -> Result<(), Fail> {
+    let attrs = attrs_of(rt.alloc(), &ROUTE)?;
+    assert_eq!(rt; size(&attrs, Mode::Four), 20);
+    assert_eq!(rt; size(&attrs, Mode::Two), 18);
+    // an octet more for each of the three
+    assert_eq!(rt; size_at_most(&attrs, Mode::Four), 23);
+    assert_eq!(rt; size_at_most(&attrs, Mode::Two), 18);
     Ok(())
 }
 

@@ -9,6 +9,9 @@ ghost use Rattle.rs_attrs.specs.Parts.{octets_of_length};
 use crate::attrs::Head;
 use rs_octets::put;
 
+/// The most octets before a value: flags, type, and two for the length.
+pub(crate) const LONGEST_HEAD: usize = 4;
+
 fn flag(worth: u8, is_set: bool) -> u8
     ensures value { result ≡ bit worth is_set }
     ensures most { result ≤ worth }

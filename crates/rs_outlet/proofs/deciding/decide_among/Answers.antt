@@ -1,10 +1,9 @@
-use Rattle.std.proofs.Common.{◌≡◌, ◌<◌, Some, None, sym, ap, ◌∙◌, subst, option_map, option_and_then, slice_get}
+use Rattle.std.proofs.Common.{◌≡◌, ◌<◌, IfOk, Some, None, sym, ap, ◌∙◌, subst, option_map, slice_get}
 use Rattle.std.specs.Arc.{arc_value}
 use Rattle.rs_adjin.specs.AdjIns.{ListsHolders}
-use Rattle.rs_policy.specs.Verdicts.{verdict}
 use Rattle.rs_decision.specs.Best.{HasDistinctPlaces}
 use Rattle.rs_decision.specs.Choice.{best_of}
-use Rattle.rs_outlet.specs.Due.{ranks_among, passed_on, if_fits}
+use Rattle.rs_outlet.specs.Due.{ranks_among}
 use Rattle.rs_outlet.specs.HeldBy.{held_by}
 use Rattle.rs_outlet.specs.Passing.{attributes_passed}
 use Rattle.rs_outlet.proofs.Ranks.{distinct_places, known_place, ranked_at, due_none, due_some, past}
@@ -31,32 +30,20 @@ returns-in_default-route_at c =
     let best : best_of c.deref.result.now ≡ Some c.in-Some-get.rank.now = sym c.in-Some.ensures.value ∙ stands in
     due_some (held_by c.args.sources.now) _ _ _ c.args.holders _ c.in-Some-get.rank.now None listed.all ranked best (sym (c.in_default-route_at.ensures c.args.prefix.now c.requires.number))
 
-pub pass_on-requires-clause-known : goal.pass_on-requires-clause-known
-pass_on-requires-clause-known c =
+pub pass_fitting-requires-clause-known : goal.pass_fitting-requires-clause-known
+pass_fitting-requires-clause-known c =
     let listed : ListsHolders c.args.sources.now.ins.now c.args.prefix.now c.args.holders = c.requires.holders in
     let ranked : c.deref.result.now ≡ ranks_among (held_by c.args.sources.now) c.args.sources.now.client c.args.prefix.now c.args.holders = c.deref.ensures.value ∙ c.in_ok-rank_all.ensures in
     let stands = ranked_at c.deref.result.now c.deref-2.result.now c.in-Some.place c.in-Some-get.rank.now (c.deref.ensures.value ∙ sym c.deref-2.ensures.value) c.in-Some-get.ensures.lookup.3.0 c.in-Some-get.ensures.lookup.1 in
     subst (λ n. c.in-Some-get.rank.now.place < n) c.requires.count (known_place _ (held_by c.args.sources.now) _ _ c.args.holders _ c.in-Some.place c.in-Some-get.rank.now listed.known ranked stands)
 
-pub returns-in-None : goal.returns-in-None
-returns-in-None c =
+pub returns : goal.returns
+returns c =
     let listed : ListsHolders c.args.sources.now.ins.now c.args.prefix.now c.args.holders = c.requires.holders in
     let ranked : c.deref.result.now ≡ ranks_among (held_by c.args.sources.now) c.args.sources.now.client c.args.prefix.now c.args.holders = c.deref.ensures.value ∙ c.in_ok-rank_all.ensures in
     let stands = ranked_at c.deref.result.now c.deref-2.result.now c.in-Some.place c.in-Some-get.rank.now (c.deref.ensures.value ∙ sym c.deref-2.ensures.value) c.in-Some-get.ensures.lookup.3.0 c.in-Some-get.ensures.lookup.1 in
     let best : best_of c.deref.result.now ≡ Some c.in-Some-get.rank.now = sym c.in-Some.ensures.value ∙ stands in
     let m = arc_value c.in-Some-route_at.attrs.now in
-    let passed : None ≡ passed_on m (verdict (held_by c.args.sources.now).settings c.in-Some-get.rank.now.place c.args.sources.now.client c.args.prefix.now m) = ap (option_map attributes_passed) (sym c.in-None.is) ∙ c.in_ok-pass_on.ensures in
-    ap (option_and_then (if_fits c.args.speech c.args.prefix.now)) passed
-    ∙ due_some (held_by c.args.sources.now) _ _ _ c.args.holders _ c.in-Some-get.rank.now (Some m) listed.all ranked best (sym (c.in-Some-route_at.ensures c.args.prefix.now c.requires.number))
-
-pub returns-in-Some-2 : goal.returns-in-Some-2
-returns-in-Some-2 c =
-    let listed : ListsHolders c.args.sources.now.ins.now c.args.prefix.now c.args.holders = c.requires.holders in
-    let ranked : c.deref.result.now ≡ ranks_among (held_by c.args.sources.now) c.args.sources.now.client c.args.prefix.now c.args.holders = c.deref.ensures.value ∙ c.in_ok-rank_all.ensures in
-    let stands = ranked_at c.deref.result.now c.deref-2.result.now c.in-Some.place c.in-Some-get.rank.now (c.deref.ensures.value ∙ sym c.deref-2.ensures.value) c.in-Some-get.ensures.lookup.3.0 c.in-Some-get.ensures.lookup.1 in
-    let best : best_of c.deref.result.now ≡ Some c.in-Some-get.rank.now = sym c.in-Some.ensures.value ∙ stands in
-    let m = arc_value c.in-Some-route_at.attrs.now in
-    let passed : Some (attributes_passed c.in-Some-2.passed) ≡ passed_on m (verdict (held_by c.args.sources.now).settings c.in-Some-get.rank.now.place c.args.sources.now.client c.args.prefix.now m) = ap (option_map attributes_passed) (sym c.in-Some-2.is) ∙ c.in_ok-pass_on.ensures in
-    c.if_fits.ensures
-    ∙ ap (option_and_then (if_fits c.args.speech c.args.prefix.now)) passed
-    ∙ due_some (held_by c.args.sources.now) _ _ _ c.args.holders _ c.in-Some-get.rank.now (Some m) listed.all ranked best (sym (c.in-Some-route_at.ensures c.args.prefix.now c.requires.number))
+    subst (λ due. IfOk c.pass_fitting.result (λ passed. option_map attributes_passed passed ≡ due))
+    (due_some (held_by c.args.sources.now) _ _ _ c.args.holders _ c.in-Some-get.rank.now (Some m) listed.all ranked best (sym (c.in-Some-route_at.ensures c.args.prefix.now c.requires.number)))
+    c.pass_fitting.ensures
