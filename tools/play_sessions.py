@@ -54,10 +54,12 @@ def progress_differs(program, folder):
     try:
         watched = subprocess.run(words, input=trace, stdout=subprocess.PIPE, stderr=theirs, timeout=60)
         seen = os.read(ours, 65_536)
+        alone = subprocess.run(words, input=trace, capture_output=True, timeout=60)
+    except (OSError, subprocess.TimeoutExpired) as fault:
+        return str(fault)
     finally:
         os.close(ours)
         os.close(theirs)
-    alone = subprocess.run(words, input=trace, capture_output=True, timeout=60)
     if (watched.returncode, alone.returncode, alone.stderr) != (0, 0, b""):
         return f"status {watched.returncode} and {alone.returncode}, and without a terminal: {alone.stderr}"
     if seen != wanted:
