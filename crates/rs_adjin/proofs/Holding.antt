@@ -7,6 +7,7 @@ use Rattle.std.proofs.lemmas.List.Elements.{All-from_recursion}
 use Rattle.std.proofs.lemmas.List.Sums.{length-filter}
 use Rattle.std.proofs.lemmas.Bool.{cases_eq}
 use Rattle.std.proofs.lemmas.Bool.Decides.{nat_tests}
+use Rattle.std.proofs.lemmas.Option.{same_Some}
 use Rattle.rs_octets.specs.Prefixes.{Prefix}
 use Rattle.rs_attrs.specs.Meaning.{Attribute}
 use Rattle.rs_attrs.specs.Effects.{same_prefix, has_prefix}
@@ -22,7 +23,7 @@ use Rattle.rs_adjin.specs.Listing.{Lists, Counts, numbered_from}
 use Rattle.rs_adjin.specs.Table.{IsTable, Writes, KeepsOthers, Clears, IsHeldBy, has_prefix_of, held_prefix}
 use Rattle.rs_octets.proofs.Members.{Has, Apart, keeps}
 use Rattle.rs_adjin.proofs.RouteLists.{is_rising}
-use Rattle.rs_adjin.proofs.Rows.{some_is, row_within}
+use Rattle.rs_adjin.proofs.TableRows.{row_within}
 use Rattle.rs_adjin.proofs.NumberLists.{member_has, has_member, all_are, numbered_apart, numbered_len}
 use Rattle.rs_adjin.proofs.Counting.{is_in, is_in_from, has_from, has_is_in, iff, distinct_apart, apart_distinct}
 use Rattle.rs_adjin.proofs.PrefixCounts.{counts_from, counts_marked, counts_same, listed_in}
@@ -47,12 +48,12 @@ row_rises table whole n = elim (number_cases table n) [
 ]
 
 pub same_number : (table : Numbered) (p q : Prefix) (n : ℕ) → number_in table p ≡ Some n → number_in table q ≡ Some n → q ≡ p
-same_number table p q n at there = some_is q p (sym (table.inverse.there q n there) ∙ table.inverse.there p n at)
+same_number table p q n at there = same_Some q p (sym (table.inverse.there q n there) ∙ table.inverse.there p n at)
 
 module _ {A : Type 0} (f : List Route → A) (old new : Numbered) (keeps : KeepsNumbers old new) (n : ℕ) (same : (q : Prefix) → number_in new q ≡ Some n → f (routes_at new q) ≡ f (routes_at old q)) where
   old_none : (p : Prefix) → number_in new p ≡ Some n → routes_of old n ≡ [] → (o : Option ℕ) → number_in old p ≡ o → routes_at old p ≡ routes_of old n
   old_none p at none None is = ap (routes_by old.rows.items) is ∙ sym none
-  old_none p at none (Some m) is = at_number old p m is ∙ ap (routes_of old) (some_is m n (sym (keeps p m is) ∙ at))
+  old_none p at none (Some m) is = at_number old p m is ∙ ap (routes_of old) (same_Some m n (sym (keeps p m is) ∙ at))
 
   pub by_number : f (routes_of new n) ≡ f (routes_of old n)
   by_number = elim (number_cases old n) [
@@ -86,7 +87,7 @@ module _ (c : ℕ) (held : Held) (table : Numbered) (tied : IsHeldBy c held tabl
   entries = numbered_from (held_prefix table held) 0 (length table.rows.items)
 
   pub held_once : (a b : ℕ) (p : Prefix) → held_prefix table held a ≡ Some p → held_prefix table held b ≡ Some p → a ≡ b
-  held_once a b p here there = some_is a b (sym (table.inverse.back p a (held_both table held a p here).1) ∙ table.inverse.back p b (held_both table held b p there).1)
+  held_once a b p here there = same_Some a b (sym (table.inverse.back p a (held_both table held a p here).1) ∙ table.inverse.back p b (held_both table held b p there).1)
 
   pub entry_held : (p : Prefix) → Has (keys_of entries) p → is_some (value_in c (routes_at table p)) ≡ true
   entry_held p h =
@@ -185,7 +186,7 @@ module _ (c : ℕ) (old new : Numbered) (p : Prefix) (n : ℕ) (w : Option (List
       ∙ (writes c p ∙ (write_at c w (value_in c (routes_at old p)) (same_prefix p p) ∙ ap (λ b. if b then w else value_in c (routes_at old p)) (same_itself p)))
 
   unlike : (m : ℕ) → m ≢ n → (q : Prefix) → number_in new q ≡ Some m → (b : Bool) → same_prefix q p ≡ b → same_prefix q p ≡ false
-  unlike m ne q there true is = absurd (ne (some_is m n (sym there ∙ (ap (number_in new) (same_is q p is) ∙ (numbers p ∙ at)))))
+  unlike m ne q there true is = absurd (ne (same_Some m n (sym there ∙ (ap (number_in new) (same_is q p is) ∙ (numbers p ∙ at)))))
   unlike m ne q there false is = is
 
   pub row_apart : (m : ℕ) → m ≢ n → value_in c (routes_of new m) ≡ value_in c (routes_of old m)

@@ -2,14 +2,16 @@
 use Rattle.std.proofs.Common.{Bool, true, false, not, ◌≡◌, ◌≢◌, ◌+◌, ◌||◌, ℕ, suc, List, [], ◌∷◌, length, refl, sym, ◌∙◌, ap, subst, arith}
 use Rattle.std.specs.Prelude.{if◌then◌else◌}
 use Rattle.std.specs.List.{filter}
+use Rattle.std.proofs.lemmas.Bool.{not_from_false, not-true}
+use Rattle.std.proofs.Math.Bool.{or-false}
 use Rattle.rs_octets.specs.Prefixes.{Prefix}
 use Rattle.rs_attrs.specs.Effects.{same_prefix, has_prefix}
 use Rattle.rs_attrs.proofs.EachOnce.{same_is}
 use Rattle.rs_adjin.specs.Held.{one_if}
 use Rattle.rs_adjin.specs.Listing.{Lists, Counts}
 use Rattle.rs_octets.proofs.Members.{Has, kept, keeps, apart_kept}
-use Rattle.rs_adjin.proofs.Rows.{at_prefix}
-use Rattle.rs_adjin.proofs.Counting.{is_in, is_in_from, has_from, has_is_in, at_flip, not_true, not_false, iff, left_of, left_kept, distinct_apart, apart_distinct, counts_alike}
+use Rattle.rs_adjin.proofs.TableRows.{at_prefix}
+use Rattle.rs_adjin.proofs.Counting.{is_in, is_in_from, has_from, has_is_in, at_flip, iff, left_of, left_kept, distinct_apart, apart_distinct, counts_alike}
 
 pub counts_from : (has : Prefix → Bool) (ps : List Prefix) (n : ℕ) → Lists has ps → length ps ≡ n → Counts has n
 counts_from has ps n listed is = record { prefixes = ps; listed = listed; each = λ qs others. counts_alike has qs ps others listed ∙ is }
@@ -19,12 +21,8 @@ counts_same f g k l same is counted =
     counts_from g counted.prefixes l record { once = counted.listed.once; all = λ p. counted.listed.all p ∙ sym (same p) }
     (counted.each counted.prefixes counted.listed ∙ sym is)
 
-or_false : (b : Bool) → (b || false) ≡ b
-or_false true = refl
-or_false false = refl
-
 in_one : (p q : Prefix) → is_in (p ∷ []) q ≡ same_prefix q p
-in_one p q = ap (λ b. b || false) (at_flip q p ∙ at_prefix p q) ∙ or_false (same_prefix q p)
+in_one p q = ap (λ b. b || false) (at_flip q p ∙ at_prefix p q) ∙ or-false (same_prefix q p)
 
 pub listed_in : (has : Prefix → Bool) (ks : List Prefix) → Lists has ks → (q : Prefix) → is_in ks q ≡ has q
 listed_in has ks listed q = sym (has_is_in q ks) ∙ listed.all q
@@ -80,7 +78,7 @@ module _ (f g : Prefix → Bool) (p : Prefix) (k l : ℕ) (counted : Counts f k)
       stays : (q : Prefix) → Has less q → g q ≡ true
       stays q h =
           let in_ks = kept (λ x. not (is_in (p ∷ []) x)) counted.prefixes q h in
-          let other : same_prefix q p ≡ false = sym (in_one p q) ∙ not_false (is_in (p ∷ []) q) in_ks.1 in
+          let other : same_prefix q p ≡ false = sym (in_one p q) ∙ not-true (is_in (p ∷ []) q) in_ks.1 in
           step q ∙ (ap (λ t. if t then false else f q) other ∙ (sym (listed_in f counted.prefixes counted.listed q) ∙ is_in_from counted.prefixes q in_ks.0))
 
       at : (q : Prefix) → g q ≡ true → (t : Bool) → same_prefix q p ≡ t → (same_prefix q p ≡ false) × (f q ≡ true)
@@ -90,7 +88,7 @@ module _ (f g : Prefix → Bool) (p : Prefix) (k l : ℕ) (counted : Counts f k)
       comes : (q : Prefix) → g q ≡ true → Has less q
       comes q h =
           let was = at q h (same_prefix q p) refl in
-          keeps (λ x. not (is_in (p ∷ []) x)) counted.prefixes q (has_from counted.prefixes q (listed_in f counted.prefixes counted.listed q ∙ was.1)) (not_true (is_in (p ∷ []) q) (in_one p q ∙ was.0))
+          keeps (λ x. not (is_in (p ∷ []) x)) counted.prefixes q (has_from counted.prefixes q (listed_in f counted.prefixes counted.listed q ∙ was.1)) (not_from_false (is_in (p ∷ []) q) (in_one p q ∙ was.0))
 
   pub counts_marked : (b : Bool) → ((q : Prefix) → g q ≡ (if same_prefix q p then b else f q)) → l + one_if (f p) ≡ k + one_if b → Counts g l
   counts_marked b step is = go b (f p) refl step is

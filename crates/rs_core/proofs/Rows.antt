@@ -16,7 +16,7 @@ use Rattle.rs_policy.specs.Configuration.{Client, Configuration, no_policy}
 use Rattle.rs_policy.specs.Verdicts.{matches, outcome, verdict}
 use Rattle.rs_policy.specs.declared.rules.Rule.{Rule}
 use Rattle.rs_policy.specs.declared.rules.Action.TheVariants as actions
-use Rattle.rs_policy.specs.declared.rules.Choice.TheVariants as choices
+use Rattle.rs_policy.specs.declared.rules.Disposition.TheVariants as dispositions
 use Rattle.rs_decision.specs.Choice.{unbeaten}
 use Rattle.rs_core.specs.Moves.{Move, Ruled, Came, Heard, Saw, Left, Dropped, Turned}
 use Rattle.rs_core.specs.Hearing.{session_in, state_in, ending_in, faulted_in}
@@ -35,7 +35,7 @@ client place limit_as = record { name = (place + 97) ∷ []; client_as = limit_a
 
 abbrev base : Configuration
 base = record {
-  top = record { server_as = 64500; identifier = 0xc0000201; hold = 90; default = choices.Pass; extended = false; refresh = false; multiprotocol = false };
+  top = record { server_as = 64500; identifier = 0xc0000201; hold = 90; default = dispositions.Pass; extended = false; refresh = false; multiprotocol = false };
   clients = client 0 64496 ∷ client 1 64497 ∷ client 2 64498 ∷ client 3 64499 ∷ [];
   policies = replicate 4 no_policy;
 }

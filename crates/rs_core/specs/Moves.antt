@@ -2,7 +2,7 @@
 use Rattle.std.specs.Prelude.{ℕ, false, List, [], ◌∷◌}
 use Rattle.rs_policy.specs.Configuration.{Configuration}
 use Rattle.rs_policy.specs.declared.config.top.Top.{Top}
-use Rattle.rs_policy.specs.declared.rules.Choice.TheVariants as choices
+use Rattle.rs_policy.specs.declared.rules.Disposition.TheVariants as dispositions
 
 pub data Move : Type 0 where
   Ruled : (config : Configuration) → Move  -- a configuration was accepted: each run begins with one
@@ -16,7 +16,7 @@ pub data Move : Type 0 where
   Took : (c : ℕ) (octets : List ℕ) → Move  -- octets of the message in flight to a client were taken
 
 abbrev pub no_top : Top
-no_top = record { server_as = 0; identifier = 0; hold = 0; default = choices.Pass; extended = false; refresh = false; multiprotocol = false }
+no_top = record { server_as = 0; identifier = 0; hold = 0; default = dispositions.Pass; extended = false; refresh = false; multiprotocol = false }
 
 abbrev pub no_config : Configuration
 no_config = record { top = no_top; clients = []; policies = [] }

@@ -8,7 +8,7 @@ use Rattle.std.proofs.lemmas.Map.Keys.{IsDistinct-from_sorted}
 use Rattle.std.specs.List.Sorted.{IsStrictlySortedBy}
 use Rattle.std.specs.declared.cmp.Ordering.TheVariants.{Less}
 use Rattle.std.proofs.lemmas.Bool.Decides.{nat_tests}
-use Rattle.std.proofs.lemmas.Option.{get_or_from_slice_get, slice_get_within}
+use Rattle.std.proofs.lemmas.Option.{get_or_from_slice_get, slice_get_within, same_Some}
 use Rattle.std.proofs.lemmas.List.Elements.{All-from_all_within, recursion_from_All}
 use Rattle.std.specs.FinMap as fin
 use Rattle.std.specs.FinMap.Entries.{put, by_order}
@@ -18,7 +18,6 @@ use Rattle.rs_attrs.specs.Comparing.{same_attributes}
 use Rattle.rs_attrs.specs.ComparisonLaws.{attributes_decides}
 use Rattle.rs_adjin.specs.declared.adj_ins.AdjIns.{AdjIns}
 use Rattle.rs_adjin.specs.AdjIns.{number_of}
-use Rattle.rs_adjin.proofs.Rows.{some_is}
 use Rattle.rs_outlet.specs.declared.rows.Row.{Row}
 use Rattle.rs_outlet.specs.declared.waiting.Due.{Due}
 use Rattle.rs_outlet.specs.declared.waiting.Due.TheVariants as due
@@ -114,7 +113,7 @@ module _ (rows : List (Option Row)) (ws : List Wait) (m : List Attribute) (ins :
   due_of : (p : Prefix) (number hash : ℕ) (o : Option Row) → row_at rows number ≡ o → option_map prefix_and_hash o ≡ Some (p, hash) → fin.get (loc_of rows) p ≡ shown o
   due_of p number hash None at is = absurd (let f : ◌≡◌ {A = Option (Prefix × ℕ)} None (Some (p, hash)) = is in (cc))
   due_of p number hash (Some r) at is =
-      let same : r.prefix ≡ p = ap (λ (e : Prefix × ℕ). e.0) (some_is (prefix_and_hash r) (p, hash) is) in
+      let same : r.prefix ≡ p = ap (λ (e : Prefix × ℕ). e.0) (same_Some (prefix_and_hash r) (p, hash) is) in
       let there : number_of ins p ≡ Some number = ap (number_of ins) (sym same) ∙ numbered ins rows numbers number r at in
       by_number ins rows (numbered ins rows numbers) p (Some number) there ∙ ap shown at
 
@@ -144,7 +143,7 @@ shares_not rows m p hash other (Some r) is backed apart = go (same_attributes (a
   where
     go : (b : Bool) → same_attributes (arc_value r.attrs) m ≡ b → b ≡ false
     go true same =
-        let e : other ≡ hash = sym (ap (λ (e : Prefix × ℕ). e.1) (some_is (prefix_and_hash r) (p, other) backed)) ∙ ap attributes_hash ((attributes_decides (arc_value r.attrs) m).0 same) ∙ sym is in
+        let e : other ≡ hash = sym (ap (λ (e : Prefix × ℕ). e.1) (same_Some (prefix_and_hash r) (p, other) backed)) ∙ ap attributes_hash ((attributes_decides (arc_value r.attrs) m).0 same) ∙ sym is in
         let t : nat_eq other hash ≡ true = grind (arith, nat_tests, e) in
         absurd (true≢false (sym t ∙ apart))
     go false same = refl

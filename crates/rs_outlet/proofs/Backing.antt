@@ -5,10 +5,11 @@ use mathlib.Core.Bool.{true≢false}
 use Rattle.std.specs.Arc.{arc_value}
 use Rattle.std.specs.List.{AllByRecursion, list_any}
 use Rattle.std.proofs.lemmas.Bool.Decides.{nat_tests}
-use Rattle.std.proofs.lemmas.Bool.{and_parts}
+use Rattle.std.proofs.lemmas.Bool.{and_parts, cases_eq}
+use Rattle.std.proofs.lemmas.Option.{same_Some}
 use Rattle.rs_octets.specs.Prefixes.{Prefix}
 use Rattle.rs_attrs.specs.Meaning.{Attribute}
-use Rattle.rs_adjin.proofs.Rows.{number_is, set_apart, set_here, some_is, some_row}
+use Rattle.rs_adjin.proofs.TableRows.{set_apart, set_here, some_row}
 use Rattle.rs_open.specs.Notes.{limit_octets}
 use Rattle.rs_decision.specs.Choice.{best_of}
 use Rattle.rs_decision.specs.declared.rank.Rank.{Rank}
@@ -37,7 +38,7 @@ module _ (rows : List (Option Row)) (n : ℕ) (x : Option Row) where
   this_row below = let y = some_row rows n x below in ap joined (set_here rows n x y.0 y.1)
 
   pub fit_set : (speech : Speech) → n < length rows → ((r : Row) → x ≡ Some r → FitsAlone speech r.prefix (arc_value r.attrs)) → RowsFit speech rows → RowsFit speech (slice_set rows n x)
-  fit_set speech below new fit m r is = elim (number_is m n) [
+  fit_set speech below new fit m r is = elim (cases_eq m n) [
     | inl e ↦ new r (sym (this_row below) ∙ subst (λ k. row_at (slice_set rows n x) k ≡ Some r) e is)
     | inr ne ↦ fit m r (sym (other_row m ne) ∙ is)
   ]
@@ -60,24 +61,24 @@ pub open_is : (q : Prefix) (w : Wait) (ws : List Wait) → open_at q ws ≡ Some
 open_is q w [] is = absurd (cc)
 open_is q w (x ∷ ws) is =
     elim (x.open && same q x.prefix) as (λ b. (x.open && same q x.prefix) ≡ b → cond b (Some x) (open_at q ws) ≡ Some w → same q w.prefix ≡ true) [
-      | true ↦ λ t e. ap (λ (v : Wait). same q v.prefix) (sym (some_is x w e)) ∙ (and_parts x.open (same q x.prefix) t).1
+      | true ↦ λ t e. ap (λ (v : Wait). same q v.prefix) (sym (same_Some x w e)) ∙ (and_parts x.open (same q x.prefix) t).1
       | false ↦ λ _ e. open_is q w ws e
     ] refl is
 
 has_prefix : (o : Option Row) (p : Prefix) (hash : ℕ) → option_map prefix_and_hash o ≡ Some (p, hash) → (r : Row) × (o ≡ Some r) × (r.prefix ≡ p)
 has_prefix None p hash is = absurd (cc)
-has_prefix (Some r) p hash is = (r, refl, ap (λ (e : Prefix × ℕ). e.0) (some_is (prefix_and_hash r) (p, hash) is))
+has_prefix (Some r) p hash is = (r, refl, ap (λ (e : Prefix × ℕ). e.0) (same_Some (prefix_and_hash r) (p, hash) is))
 
 elsewhere : (rows rows' : List (Option Row)) (c p : Prefix) (n : ℕ) (d : Due) → IsOwn (row_at rows n) c → ((m : ℕ) → m ≢ n → row_at rows' m ≡ row_at rows m) → (p ≡ c → ⊥) → IsBacked rows p d → IsBacked rows' p d
 elsewhere rows rows' c p n due.Withdrawn own others ne is = tt
-elsewhere rows rows' c p n (due.Announced number hash) own others ne is = elim (number_is number n) [
+elsewhere rows rows' c p n (due.Announced number hash) own others ne is = elim (cases_eq number n) [
   | inl e ↦ let r = has_prefix (row_at rows number) p hash is in absurd (ne (sym r.2 ∙ own r.0 (ap (row_at rows) (sym e) ∙ r.1)))
   | inr apart_from ↦ ap (option_map prefix_and_hash) (others number apart_from) ∙ is
 ]
 
 waited_backed : (rows : List (Option Row)) (o : Option Wait) (w : Wait) → o ≡ Some w → IfSome o (λ v. IsBacked rows v.prefix v.due) → IsBacked rows w.prefix w.due
 waited_backed rows None w e is = absurd (cc)
-waited_backed rows (Some v) w e is = subst (λ (x : Wait). IsBacked rows x.prefix x.due) (some_is v w e) is
+waited_backed rows (Some v) w e is = subst (λ (x : Wait). IsBacked rows x.prefix x.due) (same_Some v w e) is
 
 pub backed_step : (c : Change) (was_due : Option (List Attribute)) (rows rows' : List (Option Row)) (ws fs ws' fs' : List Wait) → IsCarriedOut c was_due rows' ws fs ws' fs' → IsOwn (row_at rows c.number) c.prefix → ((m : ℕ) → m ≢ c.number → row_at rows' m ≡ row_at rows m)
     → list_any (same c.prefix) (prefixes_at fs) ≡ false → AreBacked rows (ws ++ fs) → AreBacked rows' (ws' ++ fs')
@@ -122,7 +123,7 @@ where_it_fits : (speech : Speech) (p : Prefix) (m : List Attribute) (o : Option 
 where_it_fits speech p m None is = absurd (cc)
 where_it_fits speech p m (Some n) is =
     elim (nat_le (length (announcement n speech.mode (p ∷ []))) (limit_octets speech.limit)) as (λ b. nat_le (length (announcement n speech.mode (p ∷ []))) (limit_octets speech.limit) ≡ b → cond b (Some n) None ≡ Some m → FitsAlone speech p m) [
-      | true ↦ λ t e. subst (FitsAlone speech p) (some_is n m e) (tested (length (announcement n speech.mode (p ∷ []))) (limit_octets speech.limit) t)
+      | true ↦ λ t e. subst (FitsAlone speech p) (same_Some n m e) (tested (length (announcement n speech.mode (p ∷ []))) (limit_octets speech.limit) t)
       | false ↦ λ _ e. absurd (let f : ◌≡◌ {A = Option (List Attribute)} None (Some m) = e in cc)
     ] refl is
 
@@ -143,4 +144,4 @@ changes_fit t c speech (d ∷ cs) due = (change_fits arc_value t c speech d.pref
 
 -- by the speech of the outlet
 pub fit_spoken : (rows : List (Option Row)) (o : Option Speech) (speech : Speech) → o ≡ Some speech → RowsFit speech rows → (spoken : Speech) → o ≡ Some spoken → RowsFit spoken rows
-fit_spoken rows o speech is fit spoken e = subst (λ s. RowsFit s rows) (some_is speech spoken (sym is ∙ e)) fit
+fit_spoken rows o speech is fit spoken e = subst (λ s. RowsFit s rows) (same_Some speech spoken (sym is ∙ e)) fit

@@ -21,12 +21,12 @@ use Rattle.rs_outlet.specs.Views.{View, AreNumbered, HaveNumbers}
 use Rattle.rs_outlet.specs.Places.{open_at, prefixes_at, told_by, marked_told, is_withdrawal, is_withdrawn}
 use Rattle.rs_outlet.specs.Inside.{AreBacked, told_over, marked_of, waits_of, loc_of, numbers_from, shown}
 use Rattle.std.specs.List.Sorted.{IsStrictlySortedBy}
+use Rattle.std.proofs.lemmas.Option.{same_Some}
 use Rattle.rs_outlet.proofs.Rising.{least_chosen, prefixes_rise, rise_take}
 use Rattle.rs_packer.specs.Packed.{announcement, withdrawal}
 use Rattle.rs_outlet.specs.Next.{AreAsManyAsFit}
 use Rattle.rs_outlet.specs.Choosing.{AreChosen, IsFirst, IsInTurn, Rise, IsLegalSaid, NoneWithdrawn, is_said_there, message_of, MayUpdate, passing}
 use Rattle.rs_outlet.specs.Begins.{AreLeastFirst, NoneGone, Settles, Withdraws, Announces, BeginsUpdate}
-use Rattle.rs_adjin.proofs.Rows.{some_is}
 use Rattle.rs_outlet.proofs.LocByNumber.{same, numbered, by_number}
 use Rattle.rs_outlet.proofs.Chosen.{first_chosen}
 use Rattle.rs_outlet.proofs.AllWaiting.{all_sharing, all_withdrawn}
@@ -79,7 +79,7 @@ none_open : (ws : List Wait) → AllByRecursion (λ w. is_withdrawn w ≡ false)
 none_open [] h q e = cc
 none_open (w ∷ ws) h q e =
     elim (w.open && same q w.prefix) as (λ b. (w.open && same q w.prefix) ≡ b → option_map (λ (w : Wait). is_withdrawal w.due) (cond b (Some w) (open_at q ws)) ≡ Some true → ⊥) [
-      | true ↦ λ t e. true≢false (sym (λ i. first_so w.open (same q w.prefix) t i && some_is (is_withdrawal w.due) true e i) ∙ h.0)
+      | true ↦ λ t e. true≢false (sym (λ i. first_so w.open (same q w.prefix) t i && same_Some (is_withdrawal w.due) true e i) ∙ h.0)
       | false ↦ λ _ e. none_open ws h.1 q e
     ] refl e
 
@@ -193,4 +193,4 @@ pub update_seen : (speech spoken : Speech) (v v' w : View) (rows : List (Option 
     → AreBacked rows ws → BeginsUpdate spoken v' w
 update_seen speech spoken v v' w rows ws ws' is same_speech up old new ns ps octets packed may most flight gave backed =
     subst (λ (x : View). BeginsUpdate spoken x w) is
-    (subst (λ s. BeginsUpdate s v w) (some_is speech spoken same_speech) (update_begun speech v w rows ws ws' old new up ns ps octets packed may most flight gave backed))
+    (subst (λ s. BeginsUpdate s v w) (same_Some speech spoken same_speech) (update_begun speech v w rows ws ws' old new up ns ps octets packed may most flight gave backed))

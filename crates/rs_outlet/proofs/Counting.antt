@@ -6,10 +6,10 @@ use Rattle.std.specs.FinMap as fin
 use Rattle.std.specs.FinSet as set
 use Rattle.std.proofs.lemmas.Bool.Decides.{nat_tests}
 use Rattle.std.proofs.Math.Bool.{and-false}
+use Rattle.std.proofs.lemmas.Bool.{cases_eq}
 use Rattle.rs_octets.specs.Prefixes.{Prefix, prefix_order}
 use Rattle.rs_adjin.specs.declared.adj_ins.AdjIns.{AdjIns}
 use Rattle.rs_adjin.specs.AdjIns.{number_of, prefix_of}
-use Rattle.rs_adjin.proofs.Rows.{number_is}
 use Rattle.rs_outlet.specs.declared.rows.Row.{Row}
 use Rattle.rs_outlet.specs.Views.{IsCount, IsNumberOf, Prefixes, Table, is_whole}
 use Rattle.rs_outlet.specs.Inside.{row_at, shown, loc_of}
@@ -42,7 +42,7 @@ module _ (ins : AdjIns) (rows : List (Option Row)) (held : Prefix → Bool) wher
   -- a prefix of another number is counted as it was
   other_number : (k : ℕ) (p : Prefix) (o : Option ℕ) → (o ≡ Some k → is_standing rows held p k ≡ false) → if_numbered o (λ n. nat_lt n k && is_standing rows held p n) ≡ if_numbered o (λ n. nat_lt n (k + 1) && is_standing rows held p n)
   other_number k p None not = refl
-  other_number k p (Some n) not = elim (number_is n k) [
+  other_number k p (Some n) not = elim (cases_eq n k) [
     | inl e ↦
         let gone : is_standing rows held p n ≡ false = ap (is_standing rows held p) e ∙ not (ap (λ m. Some m) e) in
         (ap (λ b. nat_lt n k && b) gone ∙ and-false (nat_lt n k)) ∙ sym (ap (λ b. nat_lt n (k + 1) && b) gone ∙ and-false (nat_lt n (k + 1)))

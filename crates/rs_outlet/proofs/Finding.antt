@@ -9,14 +9,13 @@ use Rattle.std.specs.declared.cmp.Ordering.{Ordering}
 use Rattle.std.specs.declared.cmp.Ordering.TheVariants.{Less, Equal, Greater}
 use Rattle.std.proofs.lemmas.Bool.{ltb-true, ltb-false}
 use Rattle.std.proofs.lemmas.List.{length-map}
-use Rattle.std.proofs.lemmas.Option.{slice_get_read, slice_get_within}
+use Rattle.std.proofs.lemmas.Option.{slice_get_read, slice_get_within, same_Some}
 use Rattle.rs_octets.specs.Prefixes.{Prefix, prefix_order}
 use Rattle.rs_outlet.specs.declared.waiting.Wait.{Wait}
 use Rattle.rs_outlet.specs.Places.{IsOpenPlace, open_at, prefixes_at}
 use Rattle.rs_outlet.proofs.Orders.{prefixes_total, exact_prefixes}
 use Rattle.rs_outlet.proofs.LocByNumber.{same, same_is}
 use Rattle.rs_outlet.proofs.Adding.{not_listed}
-use Rattle.rs_adjin.proofs.Rows.{some_is}
 use Rattle.rs_outlet.proofs.Places.{found_at, prefix_at, shut_here}
 
 -- a prefix before another stands no later against a third
@@ -79,7 +78,7 @@ module _ (q : Prefix) (ws : List Wait) (n : ℕ) (w : Wait) (distinct : IsDistin
   below = omega (arith, slice_get_within (prefixes_at ws) n q there, length-map ws (λ (v : Wait). v.prefix))
 
   here : w.prefix ≡ q
-  here = some_is w.prefix q (sym (prefix_at ws n w below is) ∙ there)
+  here = same_Some w.prefix q (sym (prefix_at ws n w below is) ∙ there)
 
   pub open_place : w.open ≡ true → IsOpenPlace q ws n
   open_place opened = record {

@@ -2,9 +2,10 @@
 use Rattle.std.proofs.Common.{◌≡◌, ◌≢◌, ◌+◌, ◌<◌, ◌≤◌, ◌%◌, ℕ, zero, suc, Bool, true, false, cond, Some, List, [], ◌∷◌, ◌++◌, length, get_or, slice_set, nat_eq, refl, sym, ap, ◌∙◌, subst, arith, inl, inr}
 use Rattle.std.specs.Prelude.{◌⊎◌, slice_get}
 use Rattle.std.proofs.lemmas.Bool.Decides.{nat_tests}
-use Rattle.std.proofs.lemmas.Option.{slice_get_within}
+use Rattle.std.proofs.lemmas.Option.{slice_get_within, same_Some}
 use mathlib.Core.Bool.{true≢false}
-use Rattle.rs_adjin.proofs.Rows.{number_is, set_apart, set_here, some_is}
+use Rattle.std.proofs.lemmas.Bool.{cases_eq}
+use Rattle.rs_adjin.proofs.TableRows.{set_apart, set_here}
 use Rattle.rs_outlet.specs.declared.waiting.Due.{Due}
 use Rattle.rs_outlet.specs.declared.waiting.Due.TheVariants as due
 use Rattle.rs_outlet.specs.declared.waiting.Wait.{Wait}
@@ -69,7 +70,7 @@ pub same_linked : (ws ws' : List Wait) (links links' : List ℕ) → ws' ≡ ws 
 same_linked ws ws' links links' places same linked = subst (λ vs. AreLinked (dues_at vs) links') (sym places) (subst (AreLinked (dues_at ws)) (sym same) linked)
 
 push_cases : (ls : List ℕ) (x n link : ℕ) → slice_get (ls ++ x ∷ []) n ≡ Some link → (slice_get ls n ≡ Some link) ⊎ (link ≡ x)
-push_cases [] x zero link h = inr (sym (some_is x link h))
+push_cases [] x zero link h = inr (sym (same_Some x link h))
 push_cases [] x (suc zero) link h = absurd (cc)
 push_cases [] x (suc (suc n)) link h = absurd (cc)
 push_cases (l ∷ ls) x zero link h = inl h
@@ -94,8 +95,8 @@ heads_past ds from heads past bucket head m e at here behind below = absurd (ome
 -- one place more that falls into no bucket that has a head
 pub heads_kept : (ds : List Due) (n : ℕ) (heads : List ℕ) (d : Due) → slice_get ds n ≡ Some d
     → ((bucket : ℕ) → bucket < length heads → is_in_bucket (length ds) bucket d ≡ false) → AreHeads ds (n + 1) heads → AreHeads ds n heads
-heads_kept ds n heads d at none are bucket head m e there here behind below = elim (number_is m n) [
-  | inl same ↦ ap (is_in_bucket (length ds) bucket) (some_is e d (sym here ∙ ap (slice_get ds) same ∙ at)) ∙ none bucket (slice_get_within heads bucket head there)
+heads_kept ds n heads d at none are bucket head m e there here behind below = elim (cases_eq m n) [
+  | inl same ↦ ap (is_in_bucket (length ds) bucket) (same_Some e d (sym here ∙ ap (slice_get ds) same ∙ at)) ∙ none bucket (slice_get_within heads bucket head there)
   | inr other ↦ are bucket head m e there here (let ne : m ≢ n = other in omega (arith, behind, ne)) below
 ]
 
@@ -109,14 +110,14 @@ heads_none ds n slot heads number hash is at past are =
 -- one place more that is the head of its bucket
 pub heads_more : (ds : List Due) (n slot new : ℕ) (heads : List ℕ) (number hash was : ℕ) → slot ≡ hash % length ds → slice_get ds n ≡ Some (due.Announced number hash) → slice_get heads slot ≡ Some was → new ≤ n
     → AreHeads ds (n + 1) heads → AreHeads ds n (slice_set heads slot new)
-heads_more ds n slot new heads number hash was is at old most are bucket head m e there here behind below = elim (number_is bucket slot) [
+heads_more ds n slot new heads number hash was is at old most are bucket head m e there here behind below = elim (cases_eq bucket slot) [
   | inl same ↦
-      let h : new ≡ head = some_is new head (sym (set_here heads slot new was old) ∙ sym (ap (slice_get (slice_set heads slot new)) same) ∙ there) in
+      let h : new ≡ head = same_Some new head (sym (set_here heads slot new was old) ∙ sym (ap (slice_get (slice_set heads slot new)) same) ∙ there) in
       absurd (omega (arith, h, most, behind, below))
   | inr other ↦
       let kept : slice_get heads bucket ≡ Some head = sym (set_apart heads slot new bucket other) ∙ there in
-      elim (number_is m n) [
-        | inl same ↦ ap (is_in_bucket (length ds) bucket) (some_is e (due.Announced number hash) (sym here ∙ ap (slice_get ds) same ∙ at)) ∙ other_bucket (length ds) bucket number hash (λ b. other (b ∙ sym is))
+      elim (cases_eq m n) [
+        | inl same ↦ ap (is_in_bucket (length ds) bucket) (same_Some e (due.Announced number hash) (sym here ∙ ap (slice_get ds) same ∙ at)) ∙ other_bucket (length ds) bucket number hash (λ b. other (b ∙ sym is))
         | inr ne ↦ are bucket head m e kept here (let apart : m ≢ n = ne in omega (arith, behind, apart)) below
       ]
 ]
@@ -124,10 +125,10 @@ heads_more ds n slot new heads number hash was is at old most are bucket head m 
 -- a link to the head of the bucket
 pub linked_more : (ds : List Due) (n slot : ℕ) (links heads : List ℕ) (number hash next was : ℕ) → slot ≡ hash % length ds → slice_get ds n ≡ Some (due.Announced number hash) → slice_get heads slot ≡ Some next → slice_get links n ≡ Some was
     → AreHeads ds (n + 1) heads → AreLinked ds links → AreLinked ds (slice_set links n next)
-linked_more ds n slot links heads number hash next was slot_is at head old are linked bucket k m link d e there from here later below bucketed = elim (number_is k n) [
+linked_more ds n slot links heads number hash next was slot_is at head old are linked bucket k m link d e there from here later below bucketed = elim (cases_eq k n) [
   | inl same ↦
-      let l : next ≡ link = some_is next link (sym (set_here links n next was old) ∙ sym (ap (slice_get (slice_set links n next)) same) ∙ there) in
-      let is : d ≡ due.Announced number hash = some_is d (due.Announced number hash) (sym from ∙ ap (slice_get ds) same ∙ at) in
+      let l : next ≡ link = same_Some next link (sym (set_here links n next was old) ∙ sym (ap (slice_get (slice_set links n next)) same) ∙ there) in
+      let is : d ≡ due.Announced number hash = same_Some d (due.Announced number hash) (sym from ∙ ap (slice_get ds) same ∙ at) in
       let b : hash % length ds ≡ bucket = bucket_is (length ds) bucket number hash (sym (ap (is_in_bucket (length ds) bucket) is) ∙ bucketed) in
       are bucket next m e (ap (slice_get heads) (sym b ∙ sym slot_is) ∙ head) here (omega (arith, later, same)) (omega (arith, below, l))
   | inr other ↦ linked bucket k m link d e (sym (set_apart links n next k other) ∙ there) from here later below bucketed

@@ -5,11 +5,13 @@ use Rattle.std.specs.FinMap as fin
 use Rattle.std.specs.Arc.{arc_value}
 use Rattle.std.specs.Ordering.{eq_by_cmp, is_eq}
 use Rattle.std.proofs.lemmas.Cmp.{tied_itself}
+use Rattle.std.proofs.lemmas.Option.{same_Some}
+use Rattle.std.proofs.lemmas.Bool.{cases_eq}
 use Rattle.rs_octets.specs.Prefixes.{Prefix, prefix_order}
 use Rattle.rs_attrs.specs.Meaning.{Attribute}
 use Rattle.rs_adjin.specs.declared.adj_ins.AdjIns.{AdjIns}
 use Rattle.rs_adjin.specs.AdjIns.{number_of}
-use Rattle.rs_adjin.proofs.Rows.{some_is, none_some, number_is, set_here, set_apart, some_row}
+use Rattle.rs_adjin.proofs.TableRows.{none_some, set_here, set_apart, some_row}
 use Rattle.rs_outlet.specs.declared.rows.Row.{Row}
 use Rattle.rs_outlet.specs.Views.{HaveNumbers}
 use Rattle.rs_outlet.specs.Inside.{joined, row_at, shown, loc_of, numbers_from}
@@ -33,7 +35,7 @@ numbered_from : (ins : AdjIns) (k : ℕ) (rows : List (Option Row)) → HaveNumb
 numbered_from ins k [] h n r is = absurd (cc)
 numbered_from ins k (None ∷ rows) h zero r is = absurd (cc)
 numbered_from ins k (None ∷ rows) h (suc n) r is = subst (λ m. number_of ins r.prefix ≡ Some m) (let e : suc k + n ≡ k + suc n = omega arith in e) (numbered_from ins (suc k) rows h n r is)
-numbered_from ins k (Some s ∷ rows) h zero r is = ap (λ (t : Row). number_of ins t.prefix) (sym (some_is s r is)) ∙ h.0 ∙ ap (λ m. Some m) (let e : k ≡ k + 0 = omega arith in e)
+numbered_from ins k (Some s ∷ rows) h zero r is = ap (λ (t : Row). number_of ins t.prefix) (sym (same_Some s r is)) ∙ h.0 ∙ ap (λ m. Some m) (let e : k ≡ k + 0 = omega arith in e)
 numbered_from ins k (Some s ∷ rows) h (suc n) r is = subst (λ m. number_of ins r.prefix ≡ Some m) (let e : suc k + n ≡ k + suc n = omega arith in e) (numbered_from ins (suc k) rows h.1 n r is)
 
 pub numbered : (ins : AdjIns) (rows : List (Option Row)) → HaveNumbers (numbers_from 0 rows) ins → Numbered rows ins
@@ -76,7 +78,7 @@ find_one [] p n r once is at = absurd (cc)
 find_one (None ∷ rows) p zero r once is at = absurd (cc)
 find_one (None ∷ rows) p (suc n) r once is at = find_one rows p n r (λ m s there same. let e : suc m ≡ suc n = once (suc m) s there same in omega (arith, e)) is at
 find_one (Some x ∷ rows) p zero r once is at =
-    let e : x ≡ r = some_is x r is in
+    let e : x ≡ r = same_Some x r is in
     let s : same p x.prefix ≡ true = ap (same p) (ap (λ (t : Row). t.prefix) e ∙ at) ∙ same_itself p in
     at_first x rows p true s ∙ ap (λ (t : Row). Some (arc_value t.attrs)) e
 find_one (Some x ∷ rows) p (suc n) r once is at =
@@ -87,9 +89,9 @@ find_one (Some x ∷ rows) p (suc n) r once is at =
 module _ (ins : AdjIns) (rows : List (Option Row)) (are : Numbered rows ins) where
   by_row : (p : Prefix) (n : ℕ) → number_of ins p ≡ Some n → (o : Option Row) → row_at rows n ≡ o → table_of rows p ≡ shown o
   by_row p n at None is = find_none rows p (λ m r there same.
-      let e : n ≡ m = some_is n m (sym at ∙ (ap (number_of ins) (sym same) ∙ are m r there)) in
+      let e : n ≡ m = same_Some n m (sym at ∙ (ap (number_of ins) (sym same) ∙ are m r there)) in
       none_some (row_at rows m) r (subst (λ k. row_at rows k ≡ None) e is) there)
-  by_row p n at (Some r) is = find_one rows p n r (λ m s there same. some_is m n (sym (are m s there) ∙ (ap (number_of ins) same ∙ at))) is (number_once ins r.prefix p n (are n r is) at)
+  by_row p n at (Some r) is = find_one rows p n r (λ m s there same. same_Some m n (sym (are m s there) ∙ (ap (number_of ins) same ∙ at))) is (number_once ins r.prefix p n (are n r is) at)
 
   by_option : (p : Prefix) (o : Option ℕ) → number_of ins p ≡ o → table_of rows p ≡ value_at rows o
   by_option p None at = find_none rows p (λ m r there same. none_some (number_of ins p) m at (ap (number_of ins) (sym same) ∙ are m r there))
@@ -106,14 +108,14 @@ module _ (ins : AdjIns) (rows : List (Option Row)) (n : ℕ) (x : Option Row) (b
   here = let y = some_row rows n x below in set_here rows n x y.0 y.1
 
   pub set_numbered : Numbered rows ins → ((r : Row) → x ≡ Some r → number_of ins r.prefix ≡ Some n) → Numbered (slice_set rows n x) ins
-  set_numbered are new m r is = elim (number_is m n) [
+  set_numbered are new m r is = elim (cases_eq m n) [
     | inl e ↦ new r (sym (ap joined here) ∙ subst (λ k. row_at (slice_set rows n x) k ≡ Some r) e is) ∙ ap (λ k. Some k) (sym e)
     | inr ne ↦ are m r (sym (ap joined (set_apart rows n x m ne)) ∙ is)
   ]
 
   value_apart : (p q : Prefix) → number_of ins p ≡ Some n → same q p ≡ false → (o : Option ℕ) → number_of ins q ≡ o → value_at (slice_set rows n x) o ≡ value_at rows o
   value_apart p q at other None is = refl
-  value_apart p q at other (Some m) is = elim (number_is m n) [
+  value_apart p q at other (Some m) is = elim (cases_eq m n) [
     | inl e ↦ absurd (
         let s : q ≡ p = number_once ins q p n (is ∙ ap (λ k. Some k) e) at in
         let f : true ≡ false = sym (same_itself p) ∙ subst (λ t. same t p ≡ false) s other in (cc))

@@ -11,6 +11,7 @@ use Rattle.std.specs.Arc.{arc_value}
 use Rattle.std.proofs.lemmas.List.{take-append-le}
 use Rattle.std.proofs.lemmas.List.Elements.{All-contains, All-contains_itself, All-from_recursion, All-push, recursion_from_All}
 use Rattle.std.proofs.lemmas.Bool.{and_parts, or_parts, or_right}
+use Rattle.std.proofs.lemmas.Option.{same_Some}
 use Rattle.rs_octets.specs.Prefixes.{Prefix, prefix_order}
 use Rattle.rs_outlet.specs.declared.rows.Row.{Row}
 use Rattle.rs_outlet.specs.declared.waiting.Wait.{Wait}
@@ -18,7 +19,6 @@ use Rattle.rs_outlet.specs.Views.{Table}
 use Rattle.rs_outlet.specs.Places.{is_withdrawal, open_at, prefixes_at, still_open}
 use Rattle.rs_outlet.specs.Inside.{AreBacked, IsBacked, loc_of, prefix_and_hash, row_at}
 use Rattle.rs_outlet.specs.Marking.{IsPlacedAgain, MayAddRow, MayWaitAgain, WaitsAgain, remarked}
-use Rattle.rs_adjin.proofs.Rows.{some_is}
 use Rattle.rs_outlet.proofs.Orders.{exact_prefixes, prefixes_total}
 use Rattle.rs_outlet.proofs.LocByNumber.{same, same_is, same_itself}
 use Rattle.rs_outlet.proofs.Places.{first_open, later_at, none_behind}
@@ -66,7 +66,7 @@ at_place : (P : Wait → Type 0) (q : Prefix) (z : Wait) (zs : List Wait) → Al
 at_place P q z [] h is = absurd (cc)
 at_place P q z (w ∷ zs) h is =
     elim (w.open && same q w.prefix) as (λ b. (w.open && same q w.prefix) ≡ b → cond b (Some w) (open_at q zs) ≡ Some z → P z × (q ≡ z.prefix)) [
-      | true ↦ λ t e. let s : w ≡ z = some_is w z e in (subst P s h.0, same_is q w.prefix (and_parts w.open (same q w.prefix) t).1 ∙ ap (λ (x : Wait). x.prefix) s)
+      | true ↦ λ t e. let s : w ≡ z = same_Some w z e in (subst P s h.0, same_is q w.prefix (and_parts w.open (same q w.prefix) t).1 ∙ ap (λ (x : Wait). x.prefix) s)
       | false ↦ λ _ e. at_place P q z zs h.1 e
     ] refl is
 
@@ -163,7 +163,7 @@ row_due [] n r is = absurd (cc)
 row_due (None ∷ rows) zero r is = absurd (cc)
 row_due (None ∷ rows) (suc n) r is = row_due rows n r is
 row_due (Some x ∷ rows) zero r is =
-    subst IsSome (sym (fin.get-insert prefixes_total (loc_of rows) x.prefix (arc_value x.attrs) r.prefix)) (here (same r.prefix x.prefix) (ap (λ (t : Row). same r.prefix t.prefix) (some_is x r is) ∙ same_itself r.prefix))
+    subst IsSome (sym (fin.get-insert prefixes_total (loc_of rows) x.prefix (arc_value x.attrs) r.prefix)) (here (same r.prefix x.prefix) (ap (λ (t : Row). same r.prefix t.prefix) (same_Some x r is) ∙ same_itself r.prefix))
   where
     here : (b : Bool) → b ≡ true → IsSome (cond b (Some (arc_value x.attrs)) (fin.get (loc_of rows) r.prefix))
     here true h = refl

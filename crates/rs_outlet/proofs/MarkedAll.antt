@@ -10,6 +10,8 @@ use Rattle.std.specs.Arc.{arc_value}
 use Rattle.std.proofs.lemmas.List.Elements.{All-contains, All-contains_itself, recursion_from_All}
 use Rattle.std.proofs.lemmas.List.Sums.{sum_by-cons, sum_by-append, sum_by-drop_more, sum_by-le-sum_by}
 use Rattle.std.proofs.Math.Bool.{and-false}
+use Rattle.std.proofs.lemmas.Option.{same_Some}
+use Rattle.std.proofs.lemmas.Bool.{cases_eq}
 use Rattle.rs_octets.specs.Prefixes.{Prefix, prefix_order}
 use Rattle.rs_outlet.specs.declared.rows.Row.{Row}
 use Rattle.rs_outlet.specs.declared.waiting.Due.{Due}
@@ -19,7 +21,6 @@ use Rattle.rs_outlet.specs.Views.{Table}
 use Rattle.rs_outlet.specs.Places.{is_withdrawal, is_withdrawn, open_at, prefixes_at, still_open, withdrawn_count}
 use Rattle.rs_outlet.specs.Inside.{AreBacked, IsBacked, loc_of, prefix_and_hash, row_at}
 use Rattle.rs_outlet.specs.Marking.{IsPlacedAgain, MayAddRow, remarked}
-use Rattle.rs_adjin.proofs.Rows.{number_is, some_is}
 use Rattle.rs_outlet.proofs.Orders.{prefixes_total}
 use Rattle.rs_outlet.proofs.LocByNumber.{same, same_is, same_itself}
 use Rattle.rs_outlet.proofs.Places.{less_apart}
@@ -79,7 +80,7 @@ one_fewer w bs alone (None ∷ rows) zero r at is = absurd (cc)
 one_fewer w bs alone (None ∷ rows) (suc n) r at is =
     omega (arith, one_fewer w bs alone rows n r at is, sum_by-cons (λ r. one_if (is_fresh (w ∷ bs) r)) None rows, sum_by-cons (λ r. one_if (is_fresh bs r)) None rows)
 one_fewer w bs alone (Some x ∷ rows) zero r at is =
-    let e : x.prefix ≡ w.prefix = ap (λ (t : Row). t.prefix) (some_is x r at) ∙ is in
+    let e : x.prefix ≡ w.prefix = ap (λ (t : Row). t.prefix) (same_Some x r at) ∙ is in
     let here : ◌≡◌ {A = ℕ} (one_if (is_fresh (w ∷ bs) (Some x))) 0 = ap (λ b. one_if (not (b || is_in bs x.prefix))) (ap (λ p. same p w.prefix) e ∙ same_itself w.prefix) in
     let there : ◌≡◌ {A = ℕ} (one_if (is_fresh bs (Some x))) 1 = ap (λ b. one_if (not b)) (ap (is_in bs) e ∙ alone) in
     omega (arith, here, there, fewer w bs rows, sum_by-cons (λ r. one_if (is_fresh (w ∷ bs) r)) (Some x) rows, sum_by-cons (λ r. one_if (is_fresh bs r)) (Some x) rows)
@@ -142,7 +143,7 @@ row_backed rows p (due.Announced n hash) h said = go (row_at rows n) refl h
   where
     go : (o : Option Row) → row_at rows n ≡ o → option_map prefix_and_hash o ≡ Some (p, hash) → RowOf rows p
     go None at is = absurd (cc)
-    go (Some r) at is = record { number = n; row = r; at = at; prefix = ap (λ (e : Prefix × ℕ). e.0) (some_is (prefix_and_hash r) (p, hash) is); within = row_within rows n r at }
+    go (Some r) at is = record { number = n; row = r; at = at; prefix = ap (λ (e : Prefix × ℕ). e.0) (same_Some (prefix_and_hash r) (p, hash) is); within = row_within rows n r at }
 
 rows_still : (rows : List (Option Row)) (ws : List Wait) → IsStrictlySortedBy prefix_order (prefixes_at ws) → AreBacked rows ws → AllByRecursion (λ w. is_withdrawn w ≡ false → RowOf rows w.prefix) (map remarked (still_open ws))
 rows_still rows ws up backed =
@@ -176,7 +177,7 @@ at_last n k below ne = grind (arith)
 pub none_more_listed : (rows : List (Option Row)) (base : List Wait) (k capacity : ℕ) (xs : List Wait) → k < length rows → row_at rows k ≡ None → AreListed rows base k capacity xs → AreListed rows base (k + 1) capacity xs
 none_more_listed rows base k capacity xs below at are = record {
   spare = omega (arith, are.spare, fresh_more base rows k None false below at refl);
-  listed = λ n r more is. elim (number_is n k) [
+  listed = λ n r more is. elim (cases_eq n k) [
     | inl e ↦ absurd (let f : None ≡ Some r = sym at ∙ ap (row_at rows) (sym e) ∙ is in (cc))
     | inr ne ↦ are.listed n r (at_last n k more ne) is
   ];
@@ -215,8 +216,8 @@ pub one_more_listed : (rows : List (Option Row)) (base : List Wait) (k waited ca
 one_more_listed rows base k waited capacity r old new below at opened front may lists are = go (is_in base r.prefix) refl
   where
     before : is_in new r.prefix ≡ true → (n : ℕ) (s : Row) → n < k + 1 → row_at rows n ≡ Some s → is_in new s.prefix ≡ true
-    before here n s more is = elim (number_is n k) [
-      | inl e ↦ ap (λ (t : Row). is_in new t.prefix) (some_is s r (sym is ∙ ap (row_at rows) e ∙ at)) ∙ here
+    before here n s more is = elim (cases_eq n k) [
+      | inl e ↦ ap (λ (t : Row). is_in new t.prefix) (same_Some s r (sym is ∙ ap (row_at rows) e ∙ at)) ∙ here
       | inr ne ↦ still_in s.prefix base old new k r may (are.listed n s (at_last n k more ne) is)
     ]
 

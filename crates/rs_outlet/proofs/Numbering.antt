@@ -3,12 +3,12 @@ use Rattle.std.proofs.Common.{◌≡◌, ℕ, zero, suc, ◌+◌, List, [], ◌�
 use Rattle.std.specs.Prelude.{◌<◌, ◌≤◌}
 use Rattle.std.specs.FinMap as fin
 use Rattle.std.specs.Arc.{arc_value}
-use Rattle.rs_adjin.proofs.Rows.{some_is}
 use Rattle.rs_outlet.specs.declared.rows.Row.{Row}
 use Rattle.rs_outlet.specs.declared.changes.Change.{Change}
 use Rattle.rs_outlet.specs.Views.{Table, HaveNumbers}
 use Rattle.rs_outlet.specs.Inside.{row_at, loc_of, numbers_from, ArePlaced, HaveRows, IsNoNumberOf}
 use Rattle.std.specs.List.{AllByRecursion}
+use Rattle.std.proofs.lemmas.Option.{same_Some}
 use Rattle.rs_octets.specs.Prefixes.{Prefix}
 use Rattle.rs_adjin.specs.declared.adj_ins.AdjIns.{AdjIns}
 use Rattle.rs_adjin.specs.AdjIns.{number_of, prefix_of}
@@ -46,7 +46,7 @@ no_elements (x ∷ xs) h = absurd (omega (arith, h))
 -- two prefixes don't have one number
 pub number_once : (ins : AdjIns) (p q : Prefix) (n : ℕ) → number_of ins p ≡ Some n → number_of ins q ≡ Some n → p ≡ q
 unfolding number_of
-number_once ins p q n a b = some_is p q (sym (ins.table.inverse.there p n a) ∙ ins.table.inverse.there q n b)
+number_once ins p q n a b = same_Some p q (sym (ins.table.inverse.there p n a) ∙ ins.table.inverse.there q n b)
 
 -- ---- a free row more
 
@@ -99,7 +99,7 @@ zero_plus n = omega arith
 
 pub numbers_write : (ins : AdjIns) (rows : List (Option Row)) (n : ℕ) (r : Row) → HaveNumbers (numbers_from 0 rows) ins → number_of ins r.prefix ≡ Some n → HaveNumbers (numbers_from 0 (slice_set rows n (Some r))) ins
 numbers_write ins rows n r h is =
-    numbers_set (λ e. number_of ins e.1 ≡ Some e.0) 0 rows n (Some r) h (λ s e. ap (λ (t : Row). number_of ins t.prefix) (sym (some_is r s e)) ∙ is ∙ ap (λ k. Some k) (sym (zero_plus n)))
+    numbers_set (λ e. number_of ins e.1 ≡ Some e.0) 0 rows n (Some r) h (λ s e. ap (λ (t : Row). number_of ins t.prefix) (sym (same_Some r s e)) ∙ is ∙ ap (λ k. Some k) (sym (zero_plus n)))
 
 pub numbers_erase : (ins : AdjIns) (rows : List (Option Row)) (n : ℕ) → HaveNumbers (numbers_from 0 rows) ins → HaveNumbers (numbers_from 0 (slice_set rows n None)) ins
 numbers_erase ins rows n h = numbers_set (λ e. number_of ins e.1 ≡ Some e.0) 0 rows n None h (λ s e. cc e)

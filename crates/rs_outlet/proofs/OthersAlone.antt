@@ -4,11 +4,11 @@ use Rattle.std.specs.Prelude.{unwrap_or, option_and_then, Contains}
 use Rattle.std.specs.List.{AllByRecursion, cons_option}
 use Rattle.std.proofs.lemmas.List.Elements.{All-from_recursion}
 use Rattle.std.proofs.lemmas.Bool.Decides.{nat_tests}
+use Rattle.std.proofs.lemmas.Bool.{cases_eq}
 use Rattle.rs_octets.specs.Prefixes.{Prefix}
 use Rattle.rs_attrs.specs.Meaning.{Attribute}
 use Rattle.rs_attrs.specs.Getters.{origin_of, med_of, path_length_of, path_has_of}
 use Rattle.rs_adjin.specs.Listing.{holders_from, with_holder}
-use Rattle.rs_adjin.proofs.Rows.{number_is}
 use Rattle.rs_policy.specs.Configuration.{Configuration, client_of}
 use Rattle.rs_policy.specs.Verdicts.{Judgement, dropped, passed, verdict}
 use Rattle.rs_decision.specs.Choice.{best_of}
@@ -90,7 +90,7 @@ module _ (settings : Configuration) (count c : ℕ) (p : Prefix) (held has : ℕ
 
   ranks_alike : (k n : ℕ) → ranks_among one c p (holders_from (λ d. held d p) k n) ≡ ranks_among two c p (holders_from (λ d. has d p) k n)
   ranks_alike k zero = refl
-  ranks_alike k (suc n) = next_alike k (holders_from (λ d. held d p) (suc k) n) (holders_from (λ d. has d p) (suc k) n) (number_is k c) (ranks_alike (suc k) n)
+  ranks_alike k (suc n) = next_alike k (holders_from (λ d. held d p) (suc k) n) (holders_from (λ d. has d p) (suc k) n) (cases_eq k c) (ranks_alike (suc k) n)
 
   from_alike : (speech : Speech) (best : Option Rank) → ((r : Rank) → best ≡ Some r → r.place ≢ c)
       → option_and_then (λ best. route_from one c speech p best.place) best ≡ option_and_then (λ best. route_from two c speech p best.place) best

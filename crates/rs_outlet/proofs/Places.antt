@@ -11,11 +11,11 @@ use Rattle.std.specs.declared.cmp.Ordering.{Ordering}
 use Rattle.std.specs.declared.cmp.Ordering.TheVariants.{Less, Equal, Greater}
 use Rattle.std.proofs.lemmas.List.Sums.{sum_by-set, get_or-le-sum_by}
 use Rattle.std.proofs.Math.Bool.{and-false}
+use Rattle.std.proofs.lemmas.Option.{same_Some}
 use Rattle.rs_octets.specs.Prefixes.{Prefix, prefix_order}
 use Rattle.rs_outlet.specs.declared.waiting.Wait.{Wait}
 use Rattle.rs_outlet.specs.Places.{prefixes_at, open_count, open_at}
 use Rattle.rs_outlet.proofs.Orders.{prefixes_total}
-use Rattle.rs_adjin.proofs.Rows.{some_is}
 use Rattle.rs_outlet.proofs.LocByNumber.{same, same_is, same_itself}
 
 -- ---- rising
@@ -111,7 +111,7 @@ another p q x h is = ap (λ r. same r x) (same_is q p is) ∙ h
 apart_at : (p q : Prefix) (ps : List Prefix) (n : ℕ) → AllByRecursion (λ x. same p x ≡ false) ps → slice_get ps n ≡ Some q → same p q ≡ false
 apart_at p q [] zero h is = absurd (cc)
 apart_at p q [] (suc n) h is = absurd (cc)
-apart_at p q (x ∷ ps) zero h is = ap (same p) (sym (some_is x q is)) ∙ h.0
+apart_at p q (x ∷ ps) zero h is = ap (same p) (sym (same_Some x q is)) ∙ h.0
 apart_at p q (x ∷ ps) (suc n) h is = apart_at p q ps n h.1 is
 
 none_apart : (p q : Prefix) (ws : List Wait) → AllByRecursion (λ x. same p x ≡ false) (prefixes_at ws) → same q p ≡ true → open_at q ws ≡ None
@@ -139,7 +139,7 @@ closed_at [] (suc n) p y apart is shut q = absurd (cc)
 closed_at (x ∷ ws) zero p y apart is shut q =
     ap (λ b. cond (b && same q y.prefix) (Some y) (open_at q ws)) shut
     ∙ first_shut q x ws (same q x.prefix) refl (none_apart x.prefix q ws apart.0)
-    ∙ ap (λ r. cond (same q r) None (open_at q (x ∷ ws))) (some_is x.prefix p is)
+    ∙ ap (λ r. cond (same q r) None (open_at q (x ∷ ws))) (same_Some x.prefix p is)
 closed_at (x ∷ ws) (suc n) p y apart is shut q =
     ap (cond (x.open && same q x.prefix) (Some x)) (closed_at ws n p y apart.1 is shut q)
     ∙ later_set (x.open && same q x.prefix) (same q p) (Some x) None (open_at q ws) (shut_apart x p q (apart_at x.prefix p (prefixes_at ws) n apart.0 is))
@@ -152,7 +152,7 @@ opened_at (x ∷ ws) zero y apart is opened q =
     ap (λ b. cond (b && same q y.prefix) (Some y) (open_at q ws)) opened
     ∙ elim (same q y.prefix) as (λ b. same q y.prefix ≡ b → cond b (Some y) (open_at q ws) ≡ cond b (Some y) (open_at q (x ∷ ws))) [
       | true ↦ λ _. refl
-      | false ↦ λ f. sym (later_at q x ws (ap (same q) (some_is x.prefix y.prefix is) ∙ f))
+      | false ↦ λ f. sym (later_at q x ws (ap (same q) (same_Some x.prefix y.prefix is) ∙ f))
     ] refl
 opened_at (x ∷ ws) (suc n) y apart is opened q =
     ap (cond (x.open && same q x.prefix) (Some x)) (opened_at ws n y apart.1 is opened q)

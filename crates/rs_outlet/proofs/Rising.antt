@@ -7,9 +7,9 @@ use Rattle.std.specs.List.Sorted.{IsStrictlySortedBy}
 use Rattle.std.specs.declared.cmp.Ordering.TheVariants.{Less, Equal}
 use Rattle.std.proofs.lemmas.Cmp.{tied_itself}
 use Rattle.std.proofs.lemmas.Bool.{and_parts}
+use Rattle.std.proofs.lemmas.Option.{same_Some}
 use Rattle.rs_octets.specs.Prefixes.{Prefix, prefix_order}
 use Rattle.rs_attrs.specs.Meaning.{Attribute}
-use Rattle.rs_adjin.proofs.Rows.{some_is}
 use Rattle.rs_outlet.specs.declared.rows.Row.{Row}
 use Rattle.rs_outlet.specs.declared.waiting.Wait.{Wait}
 use Rattle.rs_outlet.specs.Choosing.{AreChosen, IsFirst, MayList, Rise, is_said}
@@ -78,7 +78,7 @@ head_take (suc k) (n ∷ ns) f h = h
 above_at : (x q : Prefix) (ps : List Prefix) (n : ℕ) → AllByRecursion (λ p. prefix_order x p ≡ Less) ps → slice_get ps n ≡ Some q → prefix_order x q ≡ Less
 above_at x q [] zero h is = absurd (cc)
 above_at x q [] (suc n) h is = absurd (cc)
-above_at x q (p ∷ ps) zero h is = ap (prefix_order x) (sym (some_is p q is)) ∙ h.0
+above_at x q (p ∷ ps) zero h is = ap (prefix_order x) (sym (same_Some p q is)) ∙ h.0
 above_at x q (p ∷ ps) (suc n) h is = above_at x q ps n h.1 is
 
 later_greater : (ps : List Prefix) (n m : ℕ) (p q : Prefix) → IsStrictlySortedBy prefix_order ps → n < m → slice_get ps n ≡ Some p → slice_get ps m ≡ Some q → prefix_order p q ≡ Less
@@ -86,7 +86,7 @@ unfolding IsStrictlySortedBy
 later_greater [] zero m p q up h a b = absurd (cc)
 later_greater [] (suc n) m p q up h a b = absurd (cc)
 later_greater (x ∷ ps) zero zero p q up h a b = absurd (omega (arith, h))
-later_greater (x ∷ ps) zero (suc m) p q up h a b = ap (λ r. prefix_order r q) (sym (some_is x p a)) ∙ above_at x q ps m up.0 b
+later_greater (x ∷ ps) zero (suc m) p q up h a b = ap (λ r. prefix_order r q) (sym (same_Some x p a)) ∙ above_at x q ps m up.0 b
 later_greater (x ∷ ps) (suc n) zero p q up h a b = absurd (omega (arith, h))
 later_greater (x ∷ ps) (suc n) (suc m) p q up h a b = later_greater ps n m p q up.1 (omega (arith, h)) a b
 
@@ -124,12 +124,12 @@ least_open test [] zero p up at before q w is t less = absurd (cc)
 least_open test [] (suc n) p up at before q w is t less = absurd (cc)
 least_open test (x ∷ ws) zero p up at before q w is t less =
     elim (x.open && same q x.prefix) as (λ b. (x.open && same q x.prefix) ≡ b → cond b (Some x) (open_at q ws) ≡ Some w → ⊥) [
-      | true ↦ λ _ e. not_less_itself p (sym (ap (λ r. prefix_order r p) (same_is q w.prefix (open_is q w (x ∷ ws) is) ∙ ap (λ (v : Wait). v.prefix) (sym (some_is x w e)) ∙ some_is x.prefix p at)) ∙ less)
-      | false ↦ λ _ e. not_less_itself p (prefixes_total.trans p q p (ap (λ r. prefix_order r q) (sym (some_is x.prefix p at)) ∙ open_after x.prefix q w ws up.0 e) less)
+      | true ↦ λ _ e. not_less_itself p (sym (ap (λ r. prefix_order r p) (same_is q w.prefix (open_is q w (x ∷ ws) is) ∙ ap (λ (v : Wait). v.prefix) (sym (same_Some x w e)) ∙ same_Some x.prefix p at)) ∙ less)
+      | false ↦ λ _ e. not_less_itself p (prefixes_total.trans p q p (ap (λ r. prefix_order r q) (sym (same_Some x.prefix p at)) ∙ open_after x.prefix q w ws up.0 e) less)
     ] refl is
 least_open test (x ∷ ws) (suc n) p up at before q w is t less =
     elim (x.open && same q x.prefix) as (λ b. (x.open && same q x.prefix) ≡ b → cond b (Some x) (open_at q ws) ≡ Some w → ⊥) [
-      | true ↦ λ _ e. true≢false (sym t ∙ ap test (sym (some_is x w e)) ∙ before 0 x (omega arith) (omega arith))
+      | true ↦ λ _ e. true≢false (sym t ∙ ap test (sym (same_Some x w e)) ∙ before 0 x (omega arith) (omega arith))
       | false ↦ λ _ e. least_open test ws n p up.1 at (λ k d low high. before (suc k) d (omega arith) (omega (arith, high))) q w e t less
     ] refl is
 
@@ -144,13 +144,13 @@ open_itself : (q : Prefix) (w : Wait) (ws : List Wait) → open_at q ws ≡ Some
 open_itself q w [] is = absurd (cc)
 open_itself q w (v ∷ ws) is =
     elim (v.open && same q v.prefix) as (λ b. (v.open && same q v.prefix) ≡ b → cond b (Some v) (open_at q ws) ≡ Some w → w.open ≡ true) [
-      | true ↦ λ t e. ap (λ (x : Wait). x.open) (sym (some_is v w e)) ∙ (and_parts v.open (same q v.prefix) t).0
+      | true ↦ λ t e. ap (λ (x : Wait). x.open) (sym (same_Some v w e)) ∙ (and_parts v.open (same q v.prefix) t).0
       | false ↦ λ _ e. open_itself q w ws e
     ] refl is
 
 seen_so : (q : Prefix) (ws : List Wait) (o : Option Wait) (b : Bool) → open_at q ws ≡ o → option_map (λ w. is_withdrawal w.due) o ≡ Some b → (w : Wait) × (open_at q ws ≡ Some w) × (is_withdrawal w.due ≡ b)
 seen_so q ws None b at h = absurd (cc)
-seen_so q ws (Some w) b at h = (w, at, some_is (is_withdrawal w.due) b h)
+seen_so q ws (Some w) b at h = (w, at, same_Some (is_withdrawal w.due) b h)
 
 kind_of : (said : Option (List Attribute)) (w : Wait) → w.open ≡ true → is_withdrawal w.due ≡ is_none said → is_said said w ≡ true
 kind_of None w opened is = (λ i. opened i && is i)

@@ -14,10 +14,10 @@ use Rattle.std.proofs.lemmas.Cmp.{on_total, tied_itself}
 use Rattle.std.proofs.lemmas.List.Kept.{IsStrictlySortedBy-dedup}
 use Rattle.std.proofs.lemmas.List.Sorted.{IsPermutation-map, list_any-IsPermutation}
 use Rattle.std.proofs.lemmas.Bool.{eqb-true}
+use Rattle.std.proofs.lemmas.Option.{same_Some}
 use Rattle.rs_octets.specs.Prefixes.{Prefix, prefix_order}
 use Rattle.rs_adjin.specs.declared.adj_ins.AdjIns.{AdjIns}
 use Rattle.rs_adjin.specs.AdjIns.{number_of}
-use Rattle.rs_adjin.proofs.Rows.{some_is}
 use Rattle.rs_outlet.specs.Views.{HaveNumbers, Prefixes, with_touch}
 use Rattle.rs_outlet.specs.Touching.{AreOnce, is_numbered_in, prefixes_in, touched_by, touched_of}
 use Rattle.rs_outlet.proofs.Orders.{exact_prefixes, prefixes_total}
@@ -94,9 +94,9 @@ not_empty : (o : Option Prefixes) (p : Prefix) → with_touch o p ≡ Some set.e
 not_empty None p h = absurd (let f : ◌≡◌ {A = Option Prefixes} None (Some set.empty) = h in (cc))
 not_empty (Some s) p h =
     elim (set.contains s p) as (λ b. set.contains s p ≡ b → cond b (Some s) (cond (nat_lt (set.len s) 4096) (Some (set.insert s p)) None) ≡ Some set.empty → ⊥) [
-      | true ↦ λ here e. in_empty s p here (some_is s set.empty e)
+      | true ↦ λ here e. in_empty s p here (same_Some s set.empty e)
       | false ↦ λ _. elim (nat_lt (set.len s) 4096) as (λ c. cond c (Some (set.insert s p)) None ≡ Some set.empty → ⊥) [
-        | true ↦ λ e. in_empty (set.insert s p) p (put_in s p) (some_is (set.insert s p) set.empty e)
+        | true ↦ λ e. in_empty (set.insert s p) p (put_in s p) (same_Some (set.insert s p) set.empty e)
         | false ↦ λ e. absurd (cc)
       ]
     ] refl h
@@ -201,7 +201,7 @@ module _ (ins : AdjIns) (es fs : List Entry) (o : AreOnce es fs) (h : HaveNumber
 
   -- as many as are touched
   pub as_many : (prefixes : Prefixes) → length fs ≤ 4096 → touched_by es ≡ Some prefixes → length fs ≡ set.len prefixes
-  as_many prefixes few_are is = count ∙ ap set.len (some_is (set.from_list (prefixes_in es)) prefixes (sym (not_many few_are) ∙ is))
+  as_many prefixes few_are is = count ∙ ap set.len (same_Some (set.from_list (prefixes_in es)) prefixes (sym (not_many few_are) ∙ is))
 
   pub same_touched : (all : Bool) → touched_of all fs ≡ touched_of all es
   same_touched true = refl

@@ -10,10 +10,10 @@ use Rattle.std.proofs.lemmas.Cmp.{tied_itself}
 use Rattle.std.proofs.lemmas.List.Elements.{All-from_recursion, recursion_from_All}
 use Rattle.std.proofs.lemmas.List.Sorted.{All-permutation}
 use Rattle.std.proofs.lemmas.Bool.{eq-eqb, eqb-true}
+use Rattle.std.proofs.lemmas.Option.{same_Some}
 use Rattle.rs_octets.specs.Prefixes.{Prefix, prefix_order}
 use Rattle.rs_adjin.specs.declared.adj_ins.AdjIns.{AdjIns}
 use Rattle.rs_adjin.specs.AdjIns.{number_of}
-use Rattle.rs_adjin.proofs.Rows.{some_is}
 use Rattle.rs_adjin.proofs.Counting.{iff}
 use Rattle.rs_outlet.specs.declared.answers.Speech.{Speech}
 use Rattle.rs_outlet.specs.Views.{View, Prefixes, HaveNumbers, if_up, with_touch, touched_at}
@@ -37,7 +37,7 @@ module _ (ins : AdjIns) where
   pub eq_numbers : (p q : Prefix) (n m : ℕ) → number_of ins p ≡ Some n → number_of ins q ≡ Some m → prefix_eq p q ≡ nat_eq n m
   eq_numbers p q n m a b =
       iff (prefix_eq p q) (nat_eq n m)
-      (λ h. eq-eqb n m (some_is n m (sym a ∙ ap (number_of ins) (prefix_eq-is p q h) ∙ b)))
+      (λ h. eq-eqb n m (same_Some n m (sym a ∙ ap (number_of ins) (prefix_eq-is p q h) ∙ b)))
       (λ h. prefix_itself p q (number_once ins p q m (a ∙ ap (λ k. Some k) (eqb-true n m h)) b))
 
   -- a prefix is among the entries just where its number is

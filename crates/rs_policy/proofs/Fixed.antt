@@ -1,7 +1,8 @@
 -- What stays where nothing that is fixed differs.
-use Rattle.std.proofs.Common.{◌≡◌, ℕ, zero, suc, ◌+◌, ◌==◌, ◌&&◌, Bool, true, false, List, [], ◌∷◌, length, get_or, Option, Some, None, refl, sym, ap, ◌∙◌, eqb-true, eq-eqb, arith, if◌then◌else◌}
+use Rattle.std.proofs.Common.{◌≡◌, ℕ, zero, suc, ◌+◌, ◌==◌, Bool, true, false, List, [], ◌∷◌, length, get_or, Option, Some, None, refl, sym, ap, ◌∙◌, eqb-true, eq-eqb, arith, if◌then◌else◌}
 use Rattle.std.specs.Prelude.{◌↔◌, ⊤}
 use Rattle.std.proofs.lemmas.Slice.Eq.{bytes_eq-Decides}
+use Rattle.std.proofs.lemmas.Bool.{and_parts, and_from}
 use Rattle.rs_policy.specs.declared.faults.Key.{Key}
 use Rattle.rs_policy.specs.declared.faults.Key.TheVariants as K
 use Rattle.rs_policy.specs.declared.faults.Place.{Place}
@@ -42,13 +43,6 @@ true_alike false false e = refl
 true_alike false true e = cc
 true_alike true false e = cc
 true_alike true true e = refl
-
-both_true : (a b : Bool) → (a && b) ≡ true → (a ≡ true) × (b ≡ true)
-both_true false b e = cc
-both_true true b e = (refl, e)
-
-true_both : (a b : Bool) → a ≡ true → b ≡ true → (a && b) ≡ true
-true_both a b e f = ap (λ x. x && b) e ∙ f
 
 pair_is : (a b : ℕ × ℕ) → a.0 ≡ b.0 → a.1 ≡ b.1 → b ≡ a
 pair_is a b e f = let g : ◌≡◌ {A = ℕ × ℕ} (b.0, b.1) (a.0, a.1) = cc in g
@@ -101,7 +95,7 @@ same_client : (a b : Client) → other_in_client a b ≡ None → IsSameClient a
 unfolding other_in_client
 same_client a b e =
     let h : AllAlike (alike_clients a b) = all_alike (alike_clients a b) e in
-    let l : (a.listen.0 == b.listen.0 ≡ true) × (a.listen.1 == b.listen.1 ≡ true) = both_true (a.listen.0 == b.listen.0) (a.listen.1 == b.listen.1) h.1.1.0 in
+    let l : (a.listen.0 == b.listen.0 ≡ true) × (a.listen.1 == b.listen.1 ≡ true) = and_parts (a.listen.0 == b.listen.0) (a.listen.1 == b.listen.1) h.1.1.0 in
     record {
       name = sym ((bytes_eq-Decides a.name b.name).0 h.0);
       client_as = sym (eqb-true a.client_as b.client_as h.1.0);
@@ -116,7 +110,7 @@ client_same a b h = alike_all (alike_clients a b) (
   (
     eq-eqb a.client_as b.client_as (sym h.client_as),
     (
-      true_both (a.listen.0 == b.listen.0) (a.listen.1 == b.listen.1)
+      and_from (a.listen.0 == b.listen.0) (a.listen.1 == b.listen.1)
           (eq-eqb a.listen.0 b.listen.0 (sym (ap (λ (x : ℕ × ℕ). x.0) h.listen)))
           (eq-eqb a.listen.1 b.listen.1 (sym (ap (λ (x : ℕ × ℕ). x.1) h.listen))),
       (eq-eqb a.peer b.peer (sym h.peer), tt),

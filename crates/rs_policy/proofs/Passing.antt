@@ -8,7 +8,7 @@ use Rattle.toml.specs.Parse.{parse_document}
 use Rattle.rs_policy.specs.Keys.{top_keys, client_keys, rule_keys}
 use Rattle.rs_policy.specs.Values.{keyed, has_only, fault_in, value_or, stranger, first_failing, or_fault, answer, each_from, checks_from}
 use Rattle.rs_policy.specs.Configuration.{Client, Configuration}
-use Rattle.rs_policy.specs.Rules.{prefix_at, prefix_in, min_at, min_in, max_at, max_in, range_checks, range_of, from_at, path_has_at, origin_as_at, community_at, next_hop_is_peer_at, test_checks, tests_of, choice_at, choice_in, preference_at, strip_at, action_checks, action_of, rule_checks, rule_of}
+use Rattle.rs_policy.specs.Rules.{prefix_at, prefix_in, min_at, min_in, max_at, max_in, range_checks, range_of, from_at, path_has_at, origin_as_at, community_at, next_hop_is_peer_at, test_checks, tests_of, disposition_at, disposition_in, preference_at, strip_at, action_checks, action_of, rule_checks, rule_of}
 use Rattle.rs_policy.specs.Documents.{the_top, server_as_at, identifier_at, hold_at, default_at, flag_at, clients_at, top_of, top_checks, client_place, name_at, client_as_at, listen_at, peer_at, limit_at, client_from, clients_from, is_same, client_checks, clients_checks, rule_place, rules_at, rules_checks, list_checks, list_of_rules, policy_from, policy_checks, policies_checks, client_tables, document_checks, configuration_of, config_from, config_of}
 use Rattle.rs_policy.specs.Accepted.{SaysTop, SaysClient, SaysRange, SaysTests, SaysAction, SaysRule, SaysEach, SaysRules, SaysPolicy, Says, AcceptedSays}
 use Rattle.rs_policy.specs.declared.faults.Key.TheVariants as K
@@ -17,7 +17,7 @@ use Rattle.rs_policy.specs.declared.faults.List.TheVariants.{Import, Export}
 use Rattle.rs_policy.specs.declared.faults.Place.{Place}
 use Rattle.rs_policy.specs.declared.faults.ConfigFault.{ConfigFault}
 use Rattle.rs_policy.specs.declared.faults.ConfigFault.TheVariants.{BadValue, Twice}
-use Rattle.rs_policy.specs.declared.rules.Choice.TheVariants as C
+use Rattle.rs_policy.specs.declared.rules.Disposition.TheVariants as D
 use Rattle.rs_policy.specs.declared.rules.Stripping.TheVariants.{Named}
 
 -- ---- checks that pass
@@ -67,7 +67,7 @@ top_says d e =
       server_as = was_read 0 (server_as_at d) h.0;
       identifier = was_read 0 (identifier_at d) h.1.0;
       hold = was_read 0 (hold_at d) h.1.1.0;
-      default = was_read C.Pass (default_at d) h.1.1.1.0;
+      default = was_read D.Pass (default_at d) h.1.1.1.0;
       extended = was_read false (flag_at K.Extended d) h.1.1.1.1.0;
       refresh = was_read false (flag_at K.Refresh d) h.1.1.1.1.1.0;
       multiprotocol = was_read false (flag_at K.Multiprotocol d) h.1.1.1.1.1.1.0;
@@ -127,12 +127,12 @@ unfolding action_checks action_of
 action_says place d e =
     let h : AllPass (action_checks place d) = all_pass (action_checks place d) e in
     record {
-      choice = choice_in place d;
-      preference = value_or None (preference_at (choice_in place d) place d);
-      strip = value_or (Named []) (strip_at (choice_in place d) place d);
-      choice_is = was_read C.Drop (choice_at place d) h.0;
-      preference_is = was_read None (preference_at (choice_in place d) place d) h.1.0;
-      strip_is = was_read (Named []) (strip_at (choice_in place d) place d) h.1.1.0;
+      disposition = disposition_in place d;
+      preference = value_or None (preference_at (disposition_in place d) place d);
+      strip = value_or (Named []) (strip_at (disposition_in place d) place d);
+      disposition_is = was_read D.Drop (disposition_at place d) h.0;
+      preference_is = was_read None (preference_at (disposition_in place d) place d) h.1.0;
+      strip_is = was_read (Named []) (strip_at (disposition_in place d) place d) h.1.1.0;
       action_is = refl;
     }
 

@@ -16,7 +16,7 @@ use Rattle.rs_policy.specs.declared.faults.List.TheVariants.{Import}
 use Rattle.rs_policy.specs.declared.faults.Place.{Place}
 use Rattle.rs_policy.specs.declared.faults.ConfigFault.{ConfigFault}
 use Rattle.rs_policy.specs.declared.faults.ConfigFault.TheVariants.{Missing, BadValue, Twice, TooMany}
-use Rattle.rs_policy.specs.declared.rules.Choice.TheVariants as C
+use Rattle.rs_policy.specs.declared.rules.Disposition.TheVariants as D
 
 -- ---- documents: what TOML makes of a text
 
@@ -150,7 +150,7 @@ rules_are_refused = (refl, (refl, (refl, (refl, (refl, (refl, (refl, (refl, (ref
 
 read_whole : answered (exchange [] [] ((codes "limit", number 5) ∷ []))
     ≡ Ok (record {
-      top = record { server_as = 64500; identifier = 0xc0000201; hold = 90; default = C.Pass; extended = false; refresh = false; multiprotocol = false };
+      top = record { server_as = 64500; identifier = 0xc0000201; hold = 90; default = D.Pass; extended = false; refresh = false; multiprotocol = false };
       clients = record { name = codes "a"; client_as = 64496; listen = (0x7f000001, 17901); peer = 0xc000020b; limit = None }
           ∷ record { name = codes "b"; client_as = 64497; listen = (0x7f000001, 17902); peer = 0xc000020c; limit = Some 5 }
           ∷ [];

@@ -2,7 +2,7 @@
 use Rattle.std.proofs.Common.{◌≡◌, ◌≢◌, ℕ, zero, suc, ◌<◌, ◌≤◌, ◌^◌, ◌==◌, ◌&&◌, ◌||◌, Bool, true, false, List, [], ◌∷◌, length, Option, Some, None, Result, Ok, Err, ok_or, option_map, option_and_then, refl, subst, nat_lt, nat_le, arith, if◌then◌else◌}
 use Rattle.std.specs.Prelude.{ℤ, pos, negsuc, IfSome}
 use Rattle.std.specs.List.{list_all}
-use Rattle.std.proofs.lemmas.Bool.{leb-true, ltb-false, eqb-false}
+use Rattle.std.proofs.lemmas.Bool.{leb-true, ltb-false, eqb-false, and_parts, or_parts}
 use Rattle.toml.specs.Data.{Data, get, as_integer, as_array, as_str}
 use Rattle.std.specs.Int.{w32, from_be_bytes}
 use Rattle.rs_octets.specs.Prefixes.{Prefix, masked}
@@ -14,7 +14,7 @@ use Rattle.rs_policy.specs.declared.faults.Key.TheVariants as K
 use Rattle.rs_policy.specs.declared.faults.Place.{Place}
 use Rattle.rs_policy.specs.declared.faults.ConfigFault.{ConfigFault}
 use Rattle.rs_policy.specs.declared.faults.ConfigFault.TheVariants.{BadValue, TooMany}
-use Rattle.rs_policy.specs.declared.rules.Choice.TheVariants as C
+use Rattle.rs_policy.specs.declared.rules.Disposition.TheVariants as D
 use Rattle.rs_policy.specs.declared.rules.Action.TheVariants as A
 
 -- ---- what is at a key
@@ -56,14 +56,6 @@ at_maybe P reads place k d a every e =
 
 -- ---- numbers
 
-both_true : (a b : Bool) → (a && b) ≡ true → (a ≡ true) × (b ≡ true)
-both_true false b e = cc
-both_true true b e = (refl, e)
-
-pub either_false : (a b : Bool) → (a || b) ≡ false → (a ≡ false) × (b ≡ false)
-either_false false b e = (refl, e)
-either_false true b e = cc
-
 between_by : (b : Bool) (n v : ℕ) → (if b then Some n else None) ≡ Some v → (b ≡ true) × (n ≡ v)
 between_by false n v e = cc
 between_by true n v e = (refl, let f : n ≡ v = cc in f)
@@ -71,7 +63,7 @@ between_by true n v e = (refl, let f : n ≡ v = cc in f)
 in_between : (low high : ℕ) (z : ℤ) (v : ℕ) → between low high z ≡ Some v → (low ≤ v) × (v ≤ high)
 in_between low high (pos n) v e =
     let h : ((nat_le low n && nat_le n high) ≡ true) × (n ≡ v) = between_by (nat_le low n && nat_le n high) n v e in
-    let t : (nat_le low n ≡ true) × (nat_le n high ≡ true) = both_true (nat_le low n) (nat_le n high) h.0 in
+    let t : (nat_le low n ≡ true) × (nat_le n high ≡ true) = and_parts (nat_le low n) (nat_le n high) h.0 in
     (subst (λ k. low ≤ k) h.1 (leb-true low n t.0), subst (λ k. k ≤ high) h.1 (leb-true n high t.1))
 in_between low high (negsuc n) v e = cc
 
@@ -93,7 +85,7 @@ unless_by true n v e = cc
 
 not_either : (n : ℕ) → ((n == 1) || (n == 2)) ≡ false → (n ≢ 1) × (n ≢ 2)
 not_either n e =
-    let h : ((n == 1) ≡ false) × ((n == 2) ≡ false) = either_false (n == 1) (n == 2) e in
+    let h : ((n == 1) ≡ false) × ((n == 2) ≡ false) = or_parts (n == 1) (n == 2) e in
     (eqb-false n 1 h.0, eqb-false n 2 h.1)
 
 hold_by : (o : Option ℕ) (v : ℕ) → ((n : ℕ) → o ≡ Some n → n ≤ 65535)
@@ -124,7 +116,7 @@ unfolding number_to
 number_most high text v e =
     let h : ((is_decimal text && nat_le (number_after 0 text) high) ≡ true) × (number_after 0 text ≡ v) =
     between_by (is_decimal text && nat_le (number_after 0 text) high) (number_after 0 text) v e in
-    let t : (is_decimal text ≡ true) × (nat_le (number_after 0 text) high ≡ true) = both_true (is_decimal text) (nat_le (number_after 0 text) high) h.0 in
+    let t : (is_decimal text ≡ true) × (nat_le (number_after 0 text) high ≡ true) = and_parts (is_decimal text) (nat_le (number_after 0 text) high) h.0 in
     subst (λ k. k ≤ high) h.1 (leb-true (number_after 0 text) high t.1)
 
 pub map_by : {A B : Type 0} (P : B → Type 0) (f : A → B) (o : Option A) (v : B) → ((a : A) → o ≡ Some a → P (f a))

@@ -2,7 +2,7 @@
 use Rattle.std.proofs.Common.{◌≡◌, ◌≢◌, ℕ, suc, ◌+◌, ◌<◌, ◌≤◌, ◌^◌, ◌==◌, ◌&&◌, Bool, true, false, List, [], ◌∷◌, length, get_or, Option, Some, None, Result, Ok, Err, option_map, refl, sym, ap, subst, ◌∙◌, eq-eqb, bytes_eq, arith, if◌then◌else◌}
 use Rattle.std.specs.Prelude.{IfSome, codes}
 use Rattle.std.specs.List.{All}
-use Rattle.std.proofs.lemmas.Bool.{ltb-false}
+use Rattle.std.proofs.lemmas.Bool.{ltb-false, or_parts}
 use Rattle.std.proofs.lemmas.List.Elements.{All-nil, All-cons}
 use Rattle.std.proofs.lemmas.List.Quantifiers.{position-Some}
 use Rattle.std.proofs.lemmas.Slice.Eq.{bytes_eq-Decides}
@@ -22,14 +22,14 @@ use Rattle.rs_policy.specs.declared.faults.List.TheVariants.{Import, Export}
 use Rattle.rs_policy.specs.declared.faults.Place.{Place}
 use Rattle.rs_policy.specs.declared.faults.ConfigFault.{ConfigFault}
 use Rattle.rs_policy.specs.declared.faults.ConfigFault.TheVariants.{BadValue, TooMany}
-use Rattle.rs_policy.specs.declared.rules.Choice.{Choice}
-use Rattle.rs_policy.specs.declared.rules.Choice.TheVariants as C
+use Rattle.rs_policy.specs.declared.rules.Disposition.{Disposition}
+use Rattle.rs_policy.specs.declared.rules.Disposition.TheVariants as D
 use Rattle.rs_policy.specs.declared.rules.Stripping.{Stripping}
 use Rattle.rs_policy.specs.declared.rules.Stripping.TheVariants.{Named, All as Every}
 use Rattle.rs_policy.specs.declared.rules.Action.TheVariants as A
 use Rattle.rs_policy.specs.declared.rules.Rule.{Rule}
 use Rattle.rs_policy.proofs.Passing.{answer_says, accepted_says}
-use Rattle.rs_policy.proofs.SoundKeys.{IsHold, at_maybe, at_optional, at_required, either_false, few_at, hold_is, identifier_is, integer_is, map_by, name_is, port_is, prefix_is, some_at, text_is, then_by, was_some}
+use Rattle.rs_policy.proofs.SoundKeys.{IsHold, at_maybe, at_optional, at_required, few_at, hold_is, identifier_is, integer_is, map_by, name_is, port_is, prefix_is, some_at, text_is, then_by, was_some}
 
 -- ---- a rule
 
@@ -70,34 +70,34 @@ strip_by None (Some text) v long e =
     subst StripsFewOf (every_by (bytes_eq text (codes "all")) v e) tt
 strip_by None None v long e = cc
 
-strip_chosen : (choice : Choice) (d : Data) (v : Stripping) → is_longer 64 (option_map list_of (as_array d)) ≡ false
-    → strippings choice d ≡ Some v → StripsFewOf v
-strip_chosen C.Pass d v long e = strip_by (option_map list_of (as_array d)) (as_str d) v long e
-strip_chosen C.Drop d v long e = cc
+strip_read : (disposition : Disposition) (d : Data) (v : Stripping) → is_longer 64 (option_map list_of (as_array d)) ≡ false
+    → strippings disposition d ≡ Some v → StripsFewOf v
+strip_read D.Pass d v long e = strip_by (option_map list_of (as_array d)) (as_str d) v long e
+strip_read D.Drop d v long e = cc
 
 longer_by : (b : Bool) (f : ConfigFault) (r : Result Stripping ConfigFault) (v : Stripping) → (if b then Err f else r) ≡ Ok v
     → (b ≡ false) × (r ≡ Ok v)
 longer_by true f r v e = cc
 longer_by false f r v e = (refl, e)
 
-strip_in : (choice : Choice) (place : Place) (o : Option Data) (v : Stripping) → strip_found choice place o ≡ Ok v → StripsFewOf v
-strip_in choice place None v e = subst StripsFewOf (let f : Named [] ≡ v = cc in f) (omega arith)
-strip_in choice place (Some d) v e =
-    let h : (is_longer 64 (option_map list_of (as_array d)) ≡ false) × (read_or_bad place (strippings choice d) ≡ Ok v) =
-    longer_by (is_longer 64 (option_map list_of (as_array d))) (TooMany place) (read_or_bad place (strippings choice d)) v e in
-    strip_chosen choice d v h.0 (was_some (strippings choice d) (BadValue place) v h.1)
+strip_in : (disposition : Disposition) (place : Place) (o : Option Data) (v : Stripping) → strip_found disposition place o ≡ Ok v → StripsFewOf v
+strip_in disposition place None v e = subst StripsFewOf (let f : Named [] ≡ v = cc in f) (omega arith)
+strip_in disposition place (Some d) v e =
+    let h : (is_longer 64 (option_map list_of (as_array d)) ≡ false) × (read_or_bad place (strippings disposition d) ≡ Ok v) =
+    longer_by (is_longer 64 (option_map list_of (as_array d))) (TooMany place) (read_or_bad place (strippings disposition d)) v e in
+    strip_read disposition d v h.0 (was_some (strippings disposition d) (BadValue place) v h.1)
 
-strip_few : (choice : Choice) (place : Place) (d : Data) (v : Stripping) → strip_at choice place d ≡ Ok v → StripsFewOf v
+strip_few : (disposition : Disposition) (place : Place) (d : Data) (v : Stripping) → strip_at disposition place d ≡ Ok v → StripsFewOf v
 unfolding strip_at
-strip_few choice place d v e = strip_in choice (keyed place K.Strip) (get (key_text K.Strip) d) v e
+strip_few disposition place d v e = strip_in disposition (keyed place K.Strip) (get (key_text K.Strip) d) v e
 
 any_preference : (preference : Option ℕ) (v : Stripping) → StripsFewOf v → StripsFew (A.Pass preference v)
 any_preference preference (Named communities) h = h
 any_preference preference Every h = h
 
-action_sound : (choice : Choice) (preference : Option ℕ) (v : Stripping) → StripsFewOf v → StripsFew (action_with choice preference v)
-action_sound C.Drop preference v h = tt
-action_sound C.Pass preference v h = any_preference preference v h
+action_sound : (disposition : Disposition) (preference : Option ℕ) (v : Stripping) → StripsFewOf v → StripsFew (action_with disposition preference v)
+action_sound D.Drop preference v h = tt
+action_sound D.Pass preference v h = any_preference preference v h
 
 rule_sound : (clients : List Client) (place : Place) (d : Data) (rule : Rule) → SaysRule clients place d rule
     → IsSoundRule (length clients) rule
@@ -107,7 +107,7 @@ rule_sound clients place d rule h = record {
   from = at_maybe (λ c. c < length clients) (text_as (client_named clients)) place K.From d rule.tests.from
       (λ d v e. text_is (λ c. c < length clients) (client_named clients) d v (named_is clients) e) h.tests.from;
   strip = subst StripsFew (sym h.action.action_is)
-      (action_sound h.action.choice h.action.preference h.action.strip (strip_few h.action.choice place d h.action.strip h.action.strip_is));
+      (action_sound h.action.disposition h.action.preference h.action.strip (strip_few h.action.disposition place d h.action.strip h.action.strip_is));
 }
 
 -- ---- lists
@@ -170,7 +170,7 @@ all_true x y z p q r = ap (λ w. (w && y) && z) p ∙ ap (λ w. w && z) q ∙ r
 not_same : (a b : Client) → is_same b a ≡ false → AreOthers a b
 not_same a b e =
     let h : (bytes_eq b.name a.name ≡ false) × (((b.listen.0 == a.listen.0 && b.listen.1 == a.listen.1) && b.peer == a.peer) ≡ false) =
-    either_false (bytes_eq b.name a.name) ((b.listen.0 == a.listen.0 && b.listen.1 == a.listen.1) && b.peer == a.peer) e in (
+    or_parts (bytes_eq b.name a.name) ((b.listen.0 == a.listen.0 && b.listen.1 == a.listen.1) && b.peer == a.peer) e in (
       λ f. let g : bytes_eq b.name a.name ≡ true = (bytes_eq-Decides b.name a.name).1 (sym f) in
           let k : false ≡ true = sym h.0 ∙ g in cc,
       λ f p. let g : ((b.listen.0 == a.listen.0 && b.listen.1 == a.listen.1) && b.peer == a.peer) ≡ true =

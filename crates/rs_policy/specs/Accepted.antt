@@ -7,13 +7,13 @@ use Rattle.rs_octets.specs.Prefixes.{Prefix}
 use Rattle.rs_policy.specs.Keys.{top_keys, client_keys, rule_keys}
 use Rattle.rs_policy.specs.Values.{has_only}
 use Rattle.rs_policy.specs.Configuration.{Client, Policy, Configuration}
-use Rattle.rs_policy.specs.Rules.{prefix_at, min_at, max_at, range_with, from_at, path_has_at, origin_as_at, community_at, next_hop_is_peer_at, choice_at, preference_at, strip_at, action_with}
+use Rattle.rs_policy.specs.Rules.{prefix_at, min_at, max_at, range_with, from_at, path_has_at, origin_as_at, community_at, next_hop_is_peer_at, disposition_at, preference_at, strip_at, action_with}
 use Rattle.rs_policy.specs.Documents.{server_as_at, identifier_at, hold_at, default_at, flag_at, clients_at, name_at, client_as_at, listen_at, peer_at, limit_at, is_same, rules_at, rule_place, config_of}
 use Rattle.rs_policy.specs.declared.faults.Key.TheVariants as K
 use Rattle.rs_policy.specs.declared.faults.List.{List as RuleList}
 use Rattle.rs_policy.specs.declared.faults.List.TheVariants.{Import, Export}
 use Rattle.rs_policy.specs.declared.faults.Place.{Place}
-use Rattle.rs_policy.specs.declared.rules.Choice.{Choice}
+use Rattle.rs_policy.specs.declared.rules.Disposition.{Disposition}
 use Rattle.rs_policy.specs.declared.rules.Range.{Range}
 use Rattle.rs_policy.specs.declared.rules.Stripping.{Stripping}
 use Rattle.rs_policy.specs.declared.rules.Action.{Action}
@@ -55,13 +55,13 @@ pub record SaysTests (clients : List Client) (place : Place) (d : Data) (tests :
   pub next_hop_is_peer : next_hop_is_peer_at place d ≡ Ok tests.next_hop_is_peer
 
 pub record SaysAction (place : Place) (d : Data) (action : Action) : Type 0 where
-  pub choice : Choice
+  pub disposition : Disposition
   pub preference : Option ℕ
   pub strip : Stripping
-  pub choice_is : choice_at place d ≡ Ok choice
-  pub preference_is : preference_at choice place d ≡ Ok preference
-  pub strip_is : strip_at choice place d ≡ Ok strip
-  pub action_is : action ≡ action_with choice preference strip
+  pub disposition_is : disposition_at place d ≡ Ok disposition
+  pub preference_is : preference_at disposition place d ≡ Ok preference
+  pub strip_is : strip_at disposition place d ≡ Ok strip
+  pub action_is : action ≡ action_with disposition preference strip
 
 pub record SaysRule (clients : List Client) (place : Place) (d : Data) (rule : Rule) : Type 0 where
   pub range : SaysRange place d rule.range

@@ -6,7 +6,7 @@ use Rattle.toml.specs.Data.{Data, Members, table, as_bool}
 use Rattle.toml.specs.Parse.{parse_document}
 use Rattle.rs_policy.specs.Keys.{top_keys, client_keys}
 use Rattle.rs_policy.specs.Texts.{endpoint_of}
-use Rattle.rs_policy.specs.Values.{text_as, positive, hold_seconds, address, identifier, choice_of, name_of, required_at, optional_at, maybe_at, tables_at, some_tables_at, fault_in, value_or, stranger, answer, each_from, checks_from}
+use Rattle.rs_policy.specs.Values.{text_as, positive, hold_seconds, address, identifier, disposition_of, name_of, required_at, optional_at, maybe_at, tables_at, some_tables_at, fault_in, value_or, stranger, answer, each_from, checks_from}
 use Rattle.rs_policy.specs.Configuration.{Client, Policy, Configuration}
 use Rattle.rs_policy.specs.Rules.{rule_checks, rule_of}
 use Rattle.rs_policy.specs.declared.faults.Key.{Key}
@@ -16,8 +16,8 @@ use Rattle.rs_policy.specs.declared.faults.List.TheVariants.{Import, Export}
 use Rattle.rs_policy.specs.declared.faults.Place.{Place}
 use Rattle.rs_policy.specs.declared.faults.ConfigFault.{ConfigFault}
 use Rattle.rs_policy.specs.declared.faults.ConfigFault.TheVariants.{Syntax, Twice}
-use Rattle.rs_policy.specs.declared.rules.Choice.{Choice}
-use Rattle.rs_policy.specs.declared.rules.Choice.TheVariants.{Pass}
+use Rattle.rs_policy.specs.declared.rules.Disposition.{Disposition}
+use Rattle.rs_policy.specs.declared.rules.Disposition.TheVariants.{Pass}
 use Rattle.rs_policy.specs.declared.rules.Rule.{Rule}
 use Rattle.rs_policy.specs.declared.config.top.Top.{Top}
 
@@ -35,8 +35,8 @@ identifier_at = required_at identifier the_top K.Identifier
 abbrev pub hold_at : Data → Result ℕ ConfigFault
 hold_at = optional_at hold_seconds 90 the_top K.Hold
 
-abbrev pub default_at : Data → Result Choice ConfigFault
-default_at = optional_at (text_as choice_of) Pass the_top K.Default
+abbrev pub default_at : Data → Result Disposition ConfigFault
+default_at = optional_at (text_as disposition_of) Pass the_top K.Default
 
 abbrev pub flag_at : Key → Data → Result Bool ConfigFault
 flag_at k = optional_at as_bool false the_top k

@@ -4,14 +4,14 @@ use Rattle.toml.specs.Data.{Data, as_array, as_str, as_bool, get}
 use Rattle.rs_octets.specs.Prefixes.{Prefix}
 use Rattle.rs_policy.specs.Keys.{key_text, rule_keys}
 use Rattle.rs_policy.specs.Texts.{prefix_of, community_of}
-use Rattle.rs_policy.specs.Values.{text_as, integer_in, positive, nothing, choice_of, keyed, list_of, read_or_bad, required_at, optional_at, maybe_at, fault_in, value_or, stranger}
+use Rattle.rs_policy.specs.Values.{text_as, integer_in, positive, nothing, disposition_of, keyed, list_of, read_or_bad, required_at, optional_at, maybe_at, fault_in, value_or, stranger}
 use Rattle.rs_policy.specs.Configuration.{Client}
 use Rattle.rs_policy.specs.declared.faults.Key.TheVariants as K
 use Rattle.rs_policy.specs.declared.faults.Place.{Place}
 use Rattle.rs_policy.specs.declared.faults.ConfigFault.{ConfigFault}
 use Rattle.rs_policy.specs.declared.faults.ConfigFault.TheVariants.{TooMany}
-use Rattle.rs_policy.specs.declared.rules.Choice.{Choice}
-use Rattle.rs_policy.specs.declared.rules.Choice.TheVariants as C
+use Rattle.rs_policy.specs.declared.rules.Disposition.{Disposition}
+use Rattle.rs_policy.specs.declared.rules.Disposition.TheVariants as D
 use Rattle.rs_policy.specs.declared.rules.Range.{Range}
 use Rattle.rs_policy.specs.declared.rules.Stripping.{Stripping}
 use Rattle.rs_policy.specs.declared.rules.Stripping.TheVariants.{Named, All}
@@ -85,15 +85,15 @@ next_hop_is_peer_at place d = maybe_at as_bool place K.NextHopIsPeer d
 
 -- `action`, and `preference` and `strip`, which stand only beside "pass"
 
-abbrev pub choice_at : Place → Data → Result Choice ConfigFault
-choice_at place d = required_at (text_as choice_of) place K.Action d
+abbrev pub disposition_at : Place → Data → Result Disposition ConfigFault
+disposition_at place d = required_at (text_as disposition_of) place K.Action d
 
-abbrev pub preferences : Choice → Data → Option ℕ
-preferences C.Pass = integer_in 0 4294967295
-preferences C.Drop = nothing
+abbrev pub preferences : Disposition → Data → Option ℕ
+preferences D.Pass = integer_in 0 4294967295
+preferences D.Drop = nothing
 
-abbrev pub preference_at : Choice → Place → Data → Result (Option ℕ) ConfigFault
-preference_at choice place d = maybe_at (preferences choice) place K.Preference d
+abbrev pub preference_at : Disposition → Place → Data → Result (Option ℕ) ConfigFault
+preference_at disposition place d = maybe_at (preferences disposition) place K.Preference d
 
 -- communities, where each is one
 abbrev pub communities_of : List Data → Option (List ℕ)
@@ -109,37 +109,37 @@ stripping_from None None = None
 abbrev pub stripping_of : Data → Option Stripping
 stripping_of d = stripping_from (option_map list_of (as_array d)) (as_str d)
 
-abbrev pub strippings : Choice → Data → Option Stripping
-strippings C.Pass = stripping_of
-strippings C.Drop = nothing
+abbrev pub strippings : Disposition → Data → Option Stripping
+strippings D.Pass = stripping_of
+strippings D.Drop = nothing
 
 abbrev pub is_longer : ℕ → Option (List Data) → Bool
 is_longer most None = false
 is_longer most (Some ds) = nat_lt most (length ds)
 
-abbrev pub strip_found : Choice → Place → Option Data → Result Stripping ConfigFault
-strip_found choice place None = Ok (Named [])
-strip_found choice place (Some d) = if is_longer 64 (option_map list_of (as_array d)) then Err (TooMany place) else read_or_bad place (strippings choice d)
+abbrev pub strip_found : Disposition → Place → Option Data → Result Stripping ConfigFault
+strip_found disposition place None = Ok (Named [])
+strip_found disposition place (Some d) = if is_longer 64 (option_map list_of (as_array d)) then Err (TooMany place) else read_or_bad place (strippings disposition d)
 
-unfoldable pub strip_at : Choice → Place → Data → Result Stripping ConfigFault
-strip_at choice place d = strip_found choice (keyed place K.Strip) (get (key_text K.Strip) d)
+unfoldable pub strip_at : Disposition → Place → Data → Result Stripping ConfigFault
+strip_at disposition place d = strip_found disposition (keyed place K.Strip) (get (key_text K.Strip) d)
 
-abbrev pub choice_in : Place → Data → Choice
-choice_in place d = value_or C.Drop (choice_at place d)
+abbrev pub disposition_in : Place → Data → Disposition
+disposition_in place d = value_or D.Drop (disposition_at place d)
 
 unfoldable pub action_checks : Place → Data → List (Option ConfigFault)
 action_checks place d =
-    fault_in (choice_at place d)
-    ∷ fault_in (preference_at (choice_in place d) place d)
-    ∷ fault_in (strip_at (choice_in place d) place d)
+    fault_in (disposition_at place d)
+    ∷ fault_in (preference_at (disposition_in place d) place d)
+    ∷ fault_in (strip_at (disposition_in place d) place d)
     ∷ []
 
-abbrev pub action_with : Choice → Option ℕ → Stripping → Action
-action_with C.Drop preference strip = A.Drop
-action_with C.Pass preference strip = A.Pass preference strip
+abbrev pub action_with : Disposition → Option ℕ → Stripping → Action
+action_with D.Drop preference strip = A.Drop
+action_with D.Pass preference strip = A.Pass preference strip
 
 unfoldable pub action_of : Place → Data → Action
-action_of place d = action_with (choice_in place d) (value_or None (preference_at (choice_in place d) place d)) (value_or (Named []) (strip_at (choice_in place d) place d))
+action_of place d = action_with (disposition_in place d) (value_or None (preference_at (disposition_in place d) place d)) (value_or (Named []) (strip_at (disposition_in place d) place d))
 
 -- the rule
 

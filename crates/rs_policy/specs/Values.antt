@@ -11,8 +11,8 @@ use Rattle.rs_policy.specs.declared.faults.Key.TheVariants as K
 use Rattle.rs_policy.specs.declared.faults.Place.{Place}
 use Rattle.rs_policy.specs.declared.faults.ConfigFault.{ConfigFault}
 use Rattle.rs_policy.specs.declared.faults.ConfigFault.TheVariants.{Missing, BadValue, TooMany, OutOfMemory}
-use Rattle.rs_policy.specs.declared.rules.Choice.{Choice}
-use Rattle.rs_policy.specs.declared.rules.Choice.TheVariants.{Pass, Drop}
+use Rattle.rs_policy.specs.declared.rules.Disposition.{Disposition}
+use Rattle.rs_policy.specs.declared.rules.Disposition.TheVariants.{Pass, Drop}
 
 -- what a value of each kind is, and None for a value of another kind or out of its range
 
@@ -40,8 +40,8 @@ address = text_as address_of
 abbrev pub identifier : Data → Option ℕ
 identifier d = option_and_then no_zero (address d)
 
-abbrev pub choice_of : List ℕ → Option Choice
-choice_of text = if bytes_eq text (codes "pass") then Some Pass else (if bytes_eq text (codes "drop") then Some Drop else None)
+abbrev pub disposition_of : List ℕ → Option Disposition
+disposition_of text = if bytes_eq text (codes "pass") then Some Pass else (if bytes_eq text (codes "drop") then Some Drop else None)
 
 abbrev pub name_of : List ℕ → Option (List ℕ)
 name_of text = if is_name text then Some text else None

@@ -4,8 +4,8 @@ use Rattle.rs_octets.specs.Prefixes.{Prefix}
 use Rattle.rs_attrs.specs.Meaning.{Attribute}
 use Rattle.rs_attrs.specs.Getters.{path_has_of, origin_as_of, has_community, next_hop_of}
 use Rattle.rs_policy.specs.Configuration.{Configuration, client_of, policy_of}
-use Rattle.rs_policy.specs.declared.rules.Choice.{Choice}
-use Rattle.rs_policy.specs.declared.rules.Choice.TheVariants as C
+use Rattle.rs_policy.specs.declared.rules.Disposition.{Disposition}
+use Rattle.rs_policy.specs.declared.rules.Disposition.TheVariants as D
 use Rattle.rs_policy.specs.declared.rules.Range.{Range}
 use Rattle.rs_policy.specs.declared.rules.Stripping.TheVariants.{Named, All}
 use Rattle.rs_policy.specs.declared.rules.Action.{Action}
@@ -63,16 +63,16 @@ passing A.Drop = None
 passing (A.Pass preference (Named communities)) = Some (record { preference = preference; communities = communities; all = false })
 passing (A.Pass preference All) = Some (record { preference = preference; communities = []; all = true })
 
-abbrev pub passing_by_default : Choice → Option Passing
-passing_by_default C.Drop = None
-passing_by_default C.Pass = Some (record { preference = None; communities = []; all = false })
+abbrev pub passing_by_default : Disposition → Option Passing
+passing_by_default D.Drop = None
+passing_by_default D.Pass = Some (record { preference = None; communities = []; all = false })
 
-abbrev pub passing_by : Choice → Option Rule → Option Passing
+abbrev pub passing_by : Disposition → Option Rule → Option Passing
 passing_by default None = passing_by_default default
 passing_by default (Some rule) = passing rule.action
 
 -- the first rule that matches decides, and the default where none does
-unfoldable pub outcome : Choice → List Rule → AnnouncedRoute → Option Passing
+unfoldable pub outcome : Disposition → List Rule → AnnouncedRoute → Option Passing
 outcome default rules r = passing_by default (find (λ rule. matches rule r) rules)
 
 -- what becomes of a route

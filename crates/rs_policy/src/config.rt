@@ -24,7 +24,7 @@ use crate::config::policies::{Policy, read_policies};
 use crate::config::rule_tables::place_of;
 use crate::config::top::{Top, client_tables, refuse_other_keys};
 use crate::faults::ConfigFault;
-use crate::rules::Choice;
+use crate::rules::Disposition;
 use std::alloc::Global;
 use std::marker::Model;
 use toml::value::Value;
@@ -182,7 +182,7 @@ impl Config {
     }
 
     /// What becomes of routes that no rule of a list matches.
-    pub(crate) fn default(&self) -> Choice
+    pub(crate) fn default(&self) -> Disposition
         ensures { result ≡ self.now.top.default }
     {
         self.top.default

@@ -7,9 +7,9 @@ ghost use Rattle.std.specs.Prelude.{◌≡◌};
 use rs_octets::Prefix;
 use std::marker::Model;
 
-/// Whether a route is passed on.
+/// Whether a route is passed on or dropped.
 #[derive(Clone, Copy, Debug, PartialEq, Eq)]
-pub(crate) enum Choice {
+pub(crate) enum Disposition {
     Pass,
     Drop,
 }

@@ -7,6 +7,8 @@ mod replacing;
 mod routes;
 mod table_faults;
 
+ghost use Rattle.std.specs.Prelude.{◌≤◌};
+
 use crate::*;
 use std::process::Abort;
 
@@ -21,13 +23,19 @@ const OTHER: &str =
 /// The text that a fault writes, or "good" where a text is read.
 fn is_answered<R: Abort>(rt: &R, read: Result<Config, ConfigFault>, want: &str) {
     let mut out = [b'.'; 96];
-    let len = match read {
-        Ok(_) => {
-            assert_eq!(rt; "good", want);
-            return;
+    match read {
+        Ok(_) => assert_eq!(rt; "good", want),
+        Err(fault) => {
+            let len = fault.write(&mut out);
+            is_written(rt, &out, len, want);
         }
-        Err(fault) => fault.write(&mut out),
-    };
+    }
+}
+
+/// So many octets at the front are this text, and behind them nothing was written.
+fn is_written<R: Abort>(rt: &R, out: &[u8; 96], len: usize, want: &str)
+    requires { len ≤ 96 }
+{
     assert_eq!(rt; &out[..len], want.as_bytes(), "for {want}");
     assert!(rt;
         out[len..].iter().all(|octet| *octet == b'.'),

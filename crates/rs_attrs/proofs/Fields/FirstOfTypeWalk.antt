@@ -4,6 +4,7 @@ use Rattle.std.specs.Prelude.{is_some, not, count_by, ◌==◌}
 use Rattle.std.specs.List.{list_any, range_with_len}
 use Rattle.std.proofs.lemmas.Bool.{cases_lt, eqb-true, eq-eqb, ne_eqb, lt-ltb}
 use Rattle.std.proofs.lemmas.List.Sums.{sum_by-cons}
+use Rattle.std.proofs.Math.Bool.{or_comm}
 use Rattle.rs_attrs.specs.declared.mode.Mode.{Mode}
 use Rattle.rs_attrs.specs.declared.table.Outcome.{Outcome}
 use Rattle.rs_attrs.specs.Spellings.{Spelling}
@@ -119,12 +120,6 @@ any_put f g k b none put a (suc n) low high = by_order (cases_lt a k) (λ h. any
     or_assoc true y z = refl
     or_assoc false y z = refl
 
-    or_turned : (x y : Bool) → (x || y) ≡ (y || x)
-    or_turned true true = refl
-    or_turned true false = refl
-    or_turned false true = refl
-    or_turned false false = refl
-
     by_order : (a < k) ⊎ (k ≤ a) → (a < k → list_any g (range_with_len (a + 1) n) ≡ (list_any f (range_with_len (a + 1) n) || b))
         → list_any g (range_with_len a (suc n)) ≡ (list_any f (range_with_len a (suc n)) || b)
     by_order (inl h) later =
@@ -133,7 +128,7 @@ any_put f g k b none put a (suc n) low high = by_order (cases_lt a k) (λ h. any
     by_order (inr h) later =
         let here : k ≡ a = omega arith in
         (λ i. (put a ∙ ap (λ c. cond c b (f a)) (eq-eqb k a here)) i || any_above f g k b put (a + 1) n (omega arith) i)
-        ∙ or_turned b (list_any f (range_with_len (a + 1) n))
+        ∙ or_comm b (list_any f (range_with_len (a + 1) n))
         ∙ ap (λ x. x || list_any f (range_with_len (a + 1) n) || b) (sym (ap f (sym here) ∙ none))
 
 -- some type comes to an outcome, with a spelling more

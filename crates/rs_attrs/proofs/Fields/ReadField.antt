@@ -6,7 +6,7 @@ use Rattle.rs_attrs.specs.declared.mode.Mode.{Mode}
 use Rattle.rs_attrs.specs.declared.mode.Mode.TheVariants.{Two, Four}
 use Rattle.rs_attrs.specs.declared.faults.Faults.{Faults}
 use Rattle.rs_attrs.specs.declared.reading.field.Found.{Found}
-use Rattle.rs_attrs.specs.Spellings.{Spelling, IsSpelling, SplitsField, spellings_of, rest_of}
+use Rattle.rs_attrs.specs.Spellings.{Spelling, IsSpelling, spellings_of, rest_of}
 use Rattle.rs_attrs.specs.Meaning.{Attribute, attribute_with, that_counts, is_as4, value_meant, meant, meaning_of, kept as kept_of, get, IsMeant, Reads, faults_of}
 use Rattle.rs_attrs.specs.Writing.{IsLegal}
 use Rattle.rs_attrs.specs.Walking.{noted, Keeps, meant_by, AreKept, AreShort}
@@ -19,12 +19,8 @@ use Rattle.rs_attrs.proofs.Fields.Legal.{HasOctets, values_fit, legal_four, shor
 use Rattle.rs_attrs.proofs.Fields.LegalTwo.{legal_two}
 use Rattle.rs_attrs.proofs.Fields.ShortTwo.{short_by_two}
 
--- the spellings of a field, and their values, as they have to be
-field_splits : (field : List ℕ) → FitOctets field → SplitsField field (spellings_of field) (rest_of field)
-field_splits field fits = splits_of field fits
-
 field_octets : (field : List ℕ) → FitOctets field → AllByRecursion HasOctets (spellings_of field)
-field_octets field fits = values_fit (spellings_of field) (rest_of field) (subst FitOctets (field_splits field fits).whole fits)
+field_octets field fits = values_fit (spellings_of field) (rest_of field) (subst FitOctets (splits_of field fits).whole fits)
 
 -- what is kept means what the spellings mean
 meant_is : (mode : Mode) (kept : List Found) (ss : List Spelling) → AllByRecursion IsSpelling ss → Keeps mode kept ss → meant_by mode kept ≡ meaning_of mode ss
@@ -62,7 +58,7 @@ short_values : (mode : Mode) (field : List ℕ) (kept : List Found) → FitOctet
 short_values mode field kept fits keeps kind s e =
     let ss = spellings_of field in
     let had = kept_is mode kind (that_counts kind ss) s (sym (keeps.same kind) ∙ e) in
-    short_value s (counts_has IsSpelling kind ss s had.0 (field_splits field fits).each)
+    short_value s (counts_has IsSpelling kind ss s had.0 (splits_of field fits).each)
 
 pub short_field : (mode : Mode) (field : List ℕ) (kept : List Found) → FitOctets field → Keeps mode kept (spellings_of field) → AreShort mode kept
 short_field Four field kept fits keeps kind s e = let short = short_values Four field kept fits keeps kind s e in omega arith
@@ -76,13 +72,13 @@ legal_spellings Two ss each octets = legal_two ss each octets
 pub legal_field : (mode : Mode) (field : List ℕ) (kept : List Found) → FitOctets field → Keeps mode kept (spellings_of field) → IsLegal (meant_by mode kept)
 legal_field mode field kept fits keeps =
     let ss = spellings_of field in
-    let each = (field_splits field fits).each in
+    let each = (splits_of field fits).each in
     subst IsLegal (sym (meant_is mode kept ss each keeps)) (legal_spellings mode ss each (field_octets field fits))
 
 pub field_reads : (mode : Mode) (field : List ℕ) (kept : List Found) (m : List Attribute) (faults : Faults) → FitOctets field → Keeps mode kept (spellings_of field) → m ≡ meant_by mode kept
     → faults ≡ faults_of mode (spellings_of field) (rest_of field) → Reads field mode m faults
 field_reads mode field kept m faults fits keeps m_is faults_is =
     let ss = spellings_of field in
-    let split = field_splits field fits in
+    let split = splits_of field fits in
     let Q : List Attribute → Type 0 = λ m. Reads field mode m faults in
     subst Q (sym (m_is ∙ meant_is mode kept ss split.each keeps)) (ss, rest_of field, split, is_meant mode ss split.each, faults_is)

@@ -4,9 +4,9 @@ use Rattle.std.specs.Prelude.{nat_le}
 use Rattle.std.specs.Int.{w16, from_be_bytes}
 use Rattle.std.proofs.lemmas.Bool.{le-leb, leb-true, eq-eqb, ne_eqb}
 use Rattle.std.proofs.lemmas.List.{append-nil}
+use Rattle.rs_attrs.proofs.Paths.NarrowPath.{are_octets}
 use Rattle.rs_attrs.specs.declared.segments.RawSegment.{RawSegment}
 use Rattle.rs_attrs.specs.Paths.{Segment, two_octets, four_octets, pairs, segment_octets, path_octets, segment_length, leading, is_set_or_sequence}
-use Rattle.rs_attrs.specs.Spellings.{AreOctets}
 use Rattle.rs_attrs.specs.Merging.{segments_in, IsWhole, IsCut, plain, segment_in}
 use Rattle.rs_attrs.proofs.Paths.PathLaws.{numbers_found}
 use Rattle.rs_attrs.proofs.Paths.PathLength.{numbers_count}
@@ -114,10 +114,6 @@ copying_skip old path values rest s had cut other = record {
   octets = had.octets ∙ ap (λ ss. values ++ path_octets four_octets (plain ss)) cut.segments
       ∙ ap (λ ss. values ++ path_octets four_octets ss) (plain_cons (segment_in four_octets s) (segments_in four_octets true s.rest.now) false other);
 }
-
-are_octets : (octets : List ℕ) → ((i : ℕ) → get_or octets i 0 < 256) → AreOctets octets
-are_octets [] fits = tt
-are_octets (o ∷ octets) fits = (fits 0, are_octets octets (λ i. fits (suc i)))
 
 -- a set or a sequence
 pub copying_step : (old path values head values' rest : List ℕ) (s : RawSegment) → Copying old path values rest → IsCut four_octets true rest s → is_set_or_sequence s.kind ≡ true → ((i : ℕ) → get_or s.numbers.now i 0 < 256)

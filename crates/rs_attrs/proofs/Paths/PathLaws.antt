@@ -6,7 +6,7 @@ use Rattle.std.specs.Int.{w16, w32, from_be_bytes}
 use Rattle.std.proofs.lemmas.Nat.{be_bytes_2, be_bytes_4, from_be_bytes-to_be_bytes_2, from_be_bytes-to_be_bytes_4}
 use Rattle.std.proofs.lemmas.Bool.{ltb-true, lt-ltb, le-leb, leb-true}
 use Rattle.std.proofs.lemmas.List.{take-append-drop, length-take-le}
-use Rattle.std.proofs.Math.Seq.{take-append_seam, drop-append_seam}
+use Rattle.std.proofs.Math.Seq.{take-append_seam, drop-append_seam, drop-nil}
 use Rattle.rs_attrs.specs.Spellings.{AreOctets}
 use Rattle.rs_attrs.specs.Paths.{Segment, AsSize, two_octets, four_octets, octets_each, number_octets, path_octets, IsSegment, IsPath, pairs, quads, numbers_in, begins_segment, with_front, segments_behind, segments_of}
 
@@ -106,10 +106,6 @@ path_back size is_kind (s ∷ path) each =
     segment_step size is_kind s.kind (length s.numbers) (flat_map (number_octets size) s.numbers) (path_octets size path) here.kind here.some (numbers_size size s.numbers)
     ∙ (λ i. with_front (record { kind = s.kind; numbers = numbers_back size s.numbers here.numbers i }) (path_back size is_kind path each.1 i))
 
-drop_none : (n : ℕ) → drop {A = ℕ} n [] ≡ []
-drop_none zero = refl
-drop_none (suc n) = refl
-
 pub are_taken : (n : ℕ) (octets : List ℕ) → AreOctets octets → AreOctets (take n octets)
 are_taken zero octets are = tt
 are_taken (suc n) [] are = tt
@@ -157,7 +153,7 @@ path_more size is_kind kind count octets path are here rest =
 path_behind : (size : AsSize) (is_kind : ℕ → Bool) (n : ℕ) (octets : List ℕ) (path : List Segment) → AreOctets octets → segments_behind size is_kind n octets ≡ Some path → IsPath size is_kind (drop n octets) path
 path_behind size is_kind n [] path are e =
     let none : [] ≡ path = cc in
-    subst (λ (path : List Segment). IsPath size is_kind (drop n []) path) none (record { whole = drop_none n; each = tt })
+    subst (λ (path : List Segment). IsPath size is_kind (drop n []) path) none (record { whole = drop-nil n; each = tt })
 path_behind size is_kind (suc n) (o ∷ octets) path are e = path_behind size is_kind n octets path are.1 e
 path_behind size is_kind zero (kind ∷ []) path are e = cc
 path_behind size is_kind zero (kind ∷ count ∷ octets) path are e =

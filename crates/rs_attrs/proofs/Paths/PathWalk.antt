@@ -1,14 +1,10 @@
 -- A path is walked a segment at a time.
-use Rattle.std.proofs.Common.{◌≡◌, ℕ, ◌*◌, ◌<◌, ◌≤◌, ◌&&◌, Bool, true, false, cond, List, [], ◌∷◌, length, take, drop, get_or, Option, Some, None, refl, sym, ap, subst, ◌∙◌, arith}
+use Rattle.std.proofs.Common.{◌≡◌, ℕ, ◌*◌, ◌<◌, ◌≤◌, ◌&&◌, Bool, true, false, cond, List, ◌∷◌, length, take, drop, get_or, Option, Some, None, refl, sym, ap, subst, ◌∙◌}
 use Rattle.std.specs.Prelude.{is_some}
 use Rattle.std.proofs.lemmas.Bool.{lt-ltb, le-leb}
+use Rattle.rs_attrs.proofs.Paths.SegmentCut.{two_at_front}
 use Rattle.rs_attrs.proofs.Paths.PathLaws.{skip_segments}
 use Rattle.rs_attrs.specs.Paths.{AsSize, octets_each, Segment, begins_segment, with_front, segments_behind, segments_of, numbers_in}
-
-two_at_front : (octets : List ℕ) → 2 ≤ length octets → octets ≡ get_or octets 0 0 ∷ get_or octets 1 0 ∷ drop 2 octets
-two_at_front [] h = absurd (omega arith)
-two_at_front (a ∷ []) h = absurd (omega arith)
-two_at_front (a ∷ b ∷ octets) h = refl
 
 front_is_some : (s : Segment) (path : Option (List Segment)) → is_some (with_front s path) ≡ is_some path
 front_is_some s None = refl

@@ -42,7 +42,7 @@ front size is_kind kind count behind whole = by_test (begins_segment size is_kin
           segments = ap (λ b. or_none (cond b (with_front s rest) None)) t ∙ both.1 ∙ ap (λ path. s ∷ or_none path) skipped;
         }
 
-two_at_front : (octets : List ℕ) → 2 ≤ length octets → octets ≡ get_or octets 0 0 ∷ get_or octets 1 0 ∷ drop 2 octets
+pub two_at_front : (octets : List ℕ) → 2 ≤ length octets → octets ≡ get_or octets 0 0 ∷ get_or octets 1 0 ∷ drop 2 octets
 two_at_front [] h = absurd (omega arith)
 two_at_front (a ∷ []) h = absurd (omega arith)
 two_at_front (a ∷ b ∷ octets) h = refl

@@ -4,7 +4,7 @@ use Rattle.std.specs.Prelude.{is_some, filter}
 use Rattle.std.specs.List.{list_any, AllByRecursion}
 use Rattle.std.specs.Int.{w16, w32, to_be_bytes}
 use Rattle.std.proofs.lemmas.Nat.{be_bytes_4, from_be_bytes-to_be_bytes_2}
-use Rattle.std.proofs.lemmas.Bool.{eqb-true, ltb-false, lt-ltb}
+use Rattle.std.proofs.lemmas.Bool.{eqb-true, ltb-false, lt-ltb, or_parts}
 use Rattle.std.proofs.lemmas.List.{length-map, take-append-drop, length-take-le}
 use Rattle.std.proofs.lemmas.List.Sums.{sum_by-cons}
 use Rattle.rs_attrs.specs.declared.mode.Mode.TheVariants.{Two, Four}
@@ -85,21 +85,17 @@ narrowed_length (s ∷ path) =
     ∙ (λ i. narrowed_segment_length s i + narrowed_length path i)
     ∙ sym (sum_by-cons segment_length s path)
 
-or_false : (a b : Bool) → (a || b) ≡ false → (a ≡ false) × (b ≡ false)
-or_false true b e = absurd cc
-or_false false b e = (refl, e)
-
 same_numbers : (ns : List ℕ) → list_any needs_four_octets ns ≡ false → map as_trans_or ns ≡ ns
 same_numbers [] e = refl
 same_numbers (n ∷ ns) e =
-    let both = or_false (needs_four_octets n) (list_any needs_four_octets ns) e in
+    let both = or_parts (needs_four_octets n) (list_any needs_four_octets ns) e in
     λ i. ap (λ b. cond b as_trans n) both.0 i ∷ same_numbers ns both.1 i
 
 -- a path without numbers that need four octets stays as it is
 pub same_path : (path : List Segment) → list_any (λ s. list_any needs_four_octets s.numbers) path ≡ false → map narrowed_segment path ≡ path
 same_path [] e = refl
 same_path (s ∷ path) e =
-    let both = or_false (list_any needs_four_octets s.numbers) (list_any (λ s. list_any needs_four_octets s.numbers) path) e in
+    let both = or_parts (list_any needs_four_octets s.numbers) (list_any (λ s. list_any needs_four_octets s.numbers) path) e in
     λ i. record { kind = s.kind; numbers = same_numbers s.numbers both.0 i } ∷ same_path path both.1 i
 
 any_each : (path : List Segment) → AllByRecursion (IsSegment four_octets is_set_or_sequence) path → AllByRecursion (IsSegment four_octets is_any_segment) path

@@ -35,6 +35,10 @@ narrowed_is a = by_tests (nat_eq a.kind 2) (nat_eq a.kind 7)
     by_tests false true = refl
     by_tests false false = refl
 
+-- AS_PATH and AGGREGATOR alone have another
+pub other_value : (a : Attribute) → (a.kind ≡ 2 → ⊥) → (a.kind ≡ 7 → ⊥) → narrowed_value a ≡ a.value
+other_value a no2 no7 = λ i. cond (ne_eqb a.kind 2 no2 i) (path_octets two_octets (map narrowed_segment (path_in a.value))) (cond (ne_eqb a.kind 7 no7 i) (to_be_bytes w16 (as_trans_or (aggregator_in a.value)) ++ drop 4 a.value) a.value)
+
 -- ---- flags
 
 -- the optional and the transitive flag are those of the attribute, whatever its value

@@ -16,7 +16,7 @@ use Rattle.rs_attrs.specs.Writing.{attribute_octets, with_value, narrowed, as4_o
 use Rattle.rs_attrs.specs.Parts.{narrow_path, narrow_aggregator, octets_of_length, parts_left, begins_below}
 use Rattle.rs_attrs.proofs.Fields.FirstOfType.{as4_discarded}
 use Rattle.rs_attrs.proofs.HeldLemmas.{attribute_length, attribute_spelling}
-use Rattle.rs_attrs.proofs.Written.Narrowing.{narrowed_is, narrowed_value}
+use Rattle.rs_attrs.proofs.Written.Narrowing.{narrowed_is, narrowed_value, other_value}
 
 -- ---- one attribute for a two-octet peer
 
@@ -25,9 +25,6 @@ path_value a kind = ap (λ b. cond b (narrow_path a.value) (cond (nat_eq a.kind 
 
 aggregator_value : (a : Attribute) → a.kind ≡ 7 → narrowed_value a ≡ narrow_aggregator a.value
 aggregator_value a kind = λ i. cond (ne_eqb a.kind 2 (λ e. omega arith) i) (narrow_path a.value) (cond (eq-eqb a.kind 7 kind i) (narrow_aggregator a.value) a.value)
-
-other_value : (a : Attribute) → (a.kind ≡ 2 → ⊥) → (a.kind ≡ 7 → ⊥) → narrowed_value a ≡ a.value
-other_value a no2 no7 = λ i. cond (ne_eqb a.kind 2 no2 i) (narrow_path a.value) (cond (ne_eqb a.kind 7 no7 i) (narrow_aggregator a.value) a.value)
 
 pub narrowed_path : (a : Attribute) → a.kind ≡ 2 → with_value a (narrow_path a.value) ≡ narrowed a
 narrowed_path a kind = sym (narrowed_is a ∙ ap (with_value a) (path_value a kind))

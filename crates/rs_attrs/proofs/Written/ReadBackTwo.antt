@@ -3,6 +3,7 @@ use Rattle.std.proofs.Common.{◌≡◌, ℕ, ◌+◌, ◌-◌, ◌<◌, ◌&&�
 use Rattle.std.specs.Prelude.{◌==◌, filter, option_map}
 use Rattle.std.specs.List.{flat_map, list_any, AllByRecursion}
 use Rattle.std.proofs.lemmas.Bool.{eqb-true, eq-eqb, ne_eqb, le-ltb}
+use Rattle.rs_attrs.proofs.Paths.Leading.{leading_none}
 use Rattle.rs_attrs.specs.declared.mode.Mode.TheVariants.{Two, Four}
 use Rattle.rs_attrs.specs.Spellings.{Spelling, IsSpelling}
 use Rattle.rs_attrs.specs.Paths.{Segment, two_octets, four_octets, is_set_or_sequence, path_octets, path_length, leading, as_path_in, as4_path_in, or_none}
@@ -66,10 +67,6 @@ attribute_two_back a value read legal e =
     let back : FlagsBack a.optional a.transitive a.partial (nat_lt 255 (length value)) = flags_of_back (with_value a value) in
     let partial : partial_of (spelling_of (with_value a value)) ≡ a.partial = partial_of_back (with_value a value) legal.partial in
     λ i. record { kind = a.kind; optional = back.optional i; transitive = back.transitive i; partial = partial i; value = e i }
-
-leading_none : (path : List Segment) → leading 0 path ≡ []
-leading_none [] = refl
-leading_none (s ∷ path) = refl
 
 -- AS_PATH with AS4_PATH beside it, where a number needs that
 path_read : (path : List Segment) (ss : List Spelling) → (o : Option (List Segment)) → ((list_any (λ (s : Segment). list_any needs_four_octets s.numbers) path ≡ true → o ≡ Some path))

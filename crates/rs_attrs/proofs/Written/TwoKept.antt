@@ -1,5 +1,5 @@
 -- Each attribute that is written for a two-octet peer is kept where it is read.
-use Rattle.std.proofs.Common.{◌≡◌, ℕ, ◌+◌, ◌-◌, ◌<◌, ◌&&◌, Bool, true, false, cond, List, [], ◌∷◌, ◌++◌, length, map, refl, sym, ap, subst, ◌∙◌, arith, nat_lt, nat_eq}
+use Rattle.std.proofs.Common.{◌≡◌, ℕ, ◌<◌, ◌&&◌, Bool, true, false, cond, List, [], ◌∷◌, ◌++◌, length, map, refl, sym, ap, subst, ◌∙◌, arith, nat_lt, nat_eq}
 use Rattle.std.specs.Prelude.{filter, is_some}
 use Rattle.std.specs.List.{flat_map, list_any, AllByRecursion}
 use Rattle.std.proofs.lemmas.Bool.{eqb-true, eq-eqb, ne_eqb, ltb-true}
@@ -12,9 +12,9 @@ use Rattle.rs_attrs.specs.Meaning.{Attribute, kept, is_as4}
 use Rattle.rs_attrs.specs.Writing.{flags_of, spelling_of, IsLegalAttribute, with_value, narrowed, narrowed_segment, path_in, aggregator_in, needs_four_octets, path_needs_four_octets, as4_attribute, as4_of, for_two}
 use Rattle.rs_attrs.proofs.Fields.FirstOfType.{as4_discarded, IsGood}
 use Rattle.rs_attrs.proofs.Paths.PathLaws.{path_back}
-use Rattle.rs_attrs.proofs.Written.Narrowing.{narrowed_value, narrowed_is, same_class, IsPlain, same_outcome}
+use Rattle.rs_attrs.proofs.Written.Narrowing.{narrowed_value, narrowed_is, same_class, IsPlain, same_outcome, other_value}
 use Rattle.rs_attrs.proofs.Written.NarrowedNumbers.{path_facts, narrowed_each, as4_path_kept, aggregator_facts, as4_aggregator_kept, aggregator_value, aggregator_size}
-use Rattle.rs_attrs.proofs.Written.TwoMap.{narrowed_same, same_written}
+use Rattle.rs_attrs.proofs.Written.TwoMap.{narrowed_same}
 
 -- ---- each is kept
 
@@ -67,7 +67,7 @@ narrowed_good a legal = subst (λ (a : Attribute). IsGood Two (spelling_of a)) (
     by_tests false true e f = aggregator_good a legal (eqb-true a.kind 7 f)
     by_tests false false e f =
         let is = plain e f in
-        subst (λ (value : List ℕ). IsGood Two (spelling_of (with_value a value))) (sym (same_written a is.not_path is.not_aggregator))
+        subst (λ (value : List ℕ). IsGood Two (spelling_of (with_value a value))) (sym (other_value a is.not_path is.not_aggregator))
         (ap is_kept (same_outcome (spelling_of a) is) ∙ legal.is_kept)
 
 as4_good : (a : Attribute) → IsLegalAttribute a → AllByRecursion (λ a. IsGood Two (spelling_of a)) (as4_of a)

@@ -1,13 +1,11 @@
 -- What stands in the map of the attributes that are written for a two-octet peer.
-use Rattle.std.proofs.Common.{◌≡◌, ℕ, ◌+◌, ◌-◌, ◌<◌, ◌≤◌, ◌&&◌, Bool, true, false, cond, List, [], ◌∷◌, ◌++◌, map, Option, Some, None, refl, sym, ap, subst, ◌∙◌, arith, nat_lt, nat_eq}
+use Rattle.std.proofs.Common.{◌≡◌, ℕ, ◌<◌, ◌≤◌, ◌&&◌, Bool, true, false, cond, List, [], ◌∷◌, ◌++◌, map, Option, Some, None, refl, sym, ap, subst, ◌∙◌, arith, nat_lt, nat_eq}
 use Rattle.std.specs.Prelude.{filter, option_map}
 use Rattle.std.specs.List.{flat_map, AllByRecursion}
 use Rattle.std.proofs.lemmas.Bool.{eqb-true, ne_eqb, ltb-true, ltb-false, lt-ltb, le-ltb}
-use Rattle.rs_attrs.specs.Paths.{two_octets, path_octets}
 use Rattle.rs_attrs.specs.Meaning.{Attribute, that_counts, get, IsRising, AllAbove}
-use Rattle.rs_attrs.specs.Writing.{spelling_of, with_value, narrowed, narrowed_segment, path_in, aggregator_in, needs_four_octets, path_needs_four_octets, as4_attribute, as4_of, for_two}
-use Rattle.rs_attrs.proofs.Written.Narrowing.{narrowed_value, narrowed_is}
-use Rattle.rs_attrs.proofs.Written.NarrowedNumbers.{aggregator_value}
+use Rattle.rs_attrs.specs.Writing.{spelling_of, with_value, narrowed, aggregator_in, needs_four_octets, path_needs_four_octets, as4_attribute, as4_of, for_two}
+use Rattle.rs_attrs.proofs.Written.Narrowing.{narrowed_is, other_value}
 
 -- ---- what stands in a map
 
@@ -192,12 +190,8 @@ as4_path_found m rising = parts_at 17 m ∙ first_else (get 17 (flat_map as4_of 
 pub as4_aggregator_found : (m : List Attribute) → IsRising m → get 18 (for_two m) ≡ as4_aggregator_of (get 7 m)
 as4_aggregator_found m rising = parts_at 18 m ∙ first_else (get 18 (flat_map as4_of m)) ∙ as4_aggregator_at m rising
 
--- an attribute of another type than AS_PATH and AGGREGATOR is written as it is
-pub same_written : (a : Attribute) → (a.kind ≡ 2 → ⊥) → (a.kind ≡ 7 → ⊥) → narrowed_value a ≡ a.value
-same_written a no2 no7 = λ i. cond (ne_eqb a.kind 2 no2 i) (path_octets two_octets (map narrowed_segment (path_in a.value))) (cond (ne_eqb a.kind 7 no7 i) (aggregator_value a.value) a.value)
-
 pub narrowed_same : (a : Attribute) → (a.kind ≡ 2 → ⊥) → (a.kind ≡ 7 → ⊥) → narrowed a ≡ a
-narrowed_same a no2 no7 = narrowed_is a ∙ ap (with_value a) (same_written a no2 no7)
+narrowed_same a no2 no7 = narrowed_is a ∙ ap (with_value a) (other_value a no2 no7)
 
 pub other_found : (kind : ℕ) (m : List Attribute) → (kind ≡ 17 → ⊥) → (kind ≡ 18 → ⊥) → get kind (for_two m) ≡ option_map narrowed (get kind m)
 other_found kind m no17 no18 =

@@ -13,7 +13,7 @@ use crate::config::values::{
     maybe, optional, required,
 };
 use crate::faults::{ConfigFault, Key, Place};
-use crate::rules::{Action, Choice, Communities, Range, Rule, Stripping, Tests};
+use crate::rules::{Action, Communities, Disposition, Range, Rule, Stripping, Tests};
 use std::alloc::{AllocError, Global};
 use toml::value::Value;
 
@@ -121,9 +121,9 @@ fn read_strip(
     alloc: Global,
     table: &Value,
     here: Place,
-    choice: Choice,
+    disposition: Disposition,
 ) -> Result<Stripping, ConfigFault>
-    ensures { Answers result (strip_at choice here (view table.now)) }
+    ensures { Answers result (strip_at disposition here (view table.now)) }
 {
     let place = Place {
         key: Key::Strip,
@@ -135,7 +135,7 @@ fn read_strip(
     if is_longer(value, 64) {
         return Err(ConfigFault::TooMany(place));
     }
-    if let Choice::Drop = choice {
+    if let Disposition::Drop = disposition {
         return Err(ConfigFault::BadValue(place));
     }
     match stripping_of(alloc, value)? {
@@ -150,18 +150,18 @@ fn read_action(alloc: Global, table: &Value, here: Place) -> Result<Action, Conf
         (answer (action_checks here (view table.now)) (action_of here (view table.now))) }
 {
     match required(table, here, Key::Action, PassOrDrop)? {
-        Choice::Drop => {
+        Disposition::Drop => {
             maybe(table, here, Key::Preference, Nothing)?;
-            read_strip(alloc, table, here, Choice::Drop)?;
+            read_strip(alloc, table, here, Disposition::Drop)?;
             Ok(Action::Drop)
         }
-        Choice::Pass => {
+        Disposition::Pass => {
             let any = Integer {
                 low: 0,
                 high: 4_294_967_295,
             };
             let preference = maybe(table, here, Key::Preference, any)?;
-            let stripping = read_strip(alloc, table, here, Choice::Pass)?;
+            let stripping = read_strip(alloc, table, here, Disposition::Pass)?;
             Ok(Action::Pass(preference, stripping))
         }
     }

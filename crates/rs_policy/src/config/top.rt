@@ -10,7 +10,7 @@ ghost use Rattle.rs_policy.specs.Values.{answer, stranger};
 use crate::config::arrays::{refuse_others, some_tables};
 use crate::config::values::{Flag, HoldTime, Identifier, POSITIVE, PassOrDrop, optional, required};
 use crate::faults::{ConfigFault, Key, Place};
-use crate::rules::Choice;
+use crate::rules::Disposition;
 use toml::value::Value;
 
 /// What the top says, but for the clients.
@@ -19,7 +19,7 @@ pub(crate) struct Top {
     pub(crate) server_as: u32,
     pub(crate) identifier: u32,
     pub(crate) hold: u16,
-    pub(crate) default: Choice,
+    pub(crate) default: Disposition,
     pub(crate) extended: bool,
     pub(crate) refresh: bool,
     pub(crate) multiprotocol: bool,
@@ -55,7 +55,7 @@ impl Top {
             server_as: required(document, TOP, Key::As, POSITIVE)?,
             identifier: required(document, TOP, Key::Identifier, Identifier)?,
             hold: optional(document, TOP, Key::Hold, HoldTime, 90)?,
-            default: optional(document, TOP, Key::Default, PassOrDrop, Choice::Pass)?,
+            default: optional(document, TOP, Key::Default, PassOrDrop, Disposition::Pass)?,
             extended: optional(document, TOP, Key::Extended, Flag, false)?,
             refresh: optional(document, TOP, Key::Refresh, Flag, false)?,
             multiprotocol: optional(document, TOP, Key::Multiprotocol, Flag, false)?,

@@ -5,11 +5,11 @@ ghost use Rattle.toml.specs.Data.{Data, get, as_str, as_bool};
 ghost use Rattle.toml.specs.View.{view};
 ghost use Rattle.rs_policy.specs.Keys.{key_text};
 ghost use Rattle.rs_policy.specs.Texts.{address_of, endpoint_of, prefix_of, community_of};
-ghost use Rattle.rs_policy.specs.Values.{integer_in, hold_seconds, text_as, address, identifier, choice_of, name_of, nothing, required_at, optional_at, maybe_at};
+ghost use Rattle.rs_policy.specs.Values.{integer_in, hold_seconds, text_as, address, identifier, disposition_of, name_of, nothing, required_at, optional_at, maybe_at};
 
 use crate::config::texts;
 use crate::faults::{ConfigFault, Key, Place};
-use crate::rules::Choice;
+use crate::rules::Disposition;
 use rs_octets::{Prefix, is_refused_hold};
 use toml::value::Value;
 
@@ -200,14 +200,14 @@ impl Kind for CommunityText {
 pub(crate) struct PassOrDrop;
 
 impl Kind for PassOrDrop {
-    type Out = Choice;
+    type Out = Disposition;
 
-    ghost reads = { λ k. text_as choice_of };
+    ghost reads = { λ k. text_as disposition_of };
 
-    fn read(&self, value: &Value) -> Option<Choice> {
+    fn read(&self, value: &Value) -> Option<Disposition> {
         match value.as_str()? {
-            "pass" => Some(Choice::Pass),
-            "drop" => Some(Choice::Drop),
+            "pass" => Some(Disposition::Pass),
+            "drop" => Some(Disposition::Drop),
             _ => None,
         }
     }

@@ -5,7 +5,7 @@ ghost use Rattle.rs_policy.specs.Verdicts.{front, in_range, matches, next_hop_is
 ghost use Rattle.rs_policy.specs.Judged.{offered, passed_as, judged};
 
 use crate::config::Config;
-use crate::rules::{Action, Choice, Range, Rule, Stripping};
+use crate::rules::{Action, Disposition, Range, Rule, Stripping};
 use rs_attrs::{Attrs, Strip};
 use rs_octets::Prefix;
 
@@ -127,7 +127,7 @@ fn action_of<'a>(rules: &'a [Rule], offer: &Offer<'_, '_>) -> Option<&'a Action>
 
 /// How a list of rules passes a route, and None where it drops it.
 #[tactic(auto, unfolding(crate::specs::Verdicts::outcome))]
-fn outcome<'a>(default: Choice, rules: &'a [Rule], offer: &Offer<'_, '_>) -> Option<Passed<'a>>
+fn outcome<'a>(default: Disposition, rules: &'a [Rule], offer: &Offer<'_, '_>) -> Option<Passed<'a>>
     ensures { option_map passed_as result ≡ outcome default rules.now (offered offer.now) }
 {
     match action_of(rules, offer) {
@@ -143,8 +143,8 @@ fn outcome<'a>(default: Choice, rules: &'a [Rule], offer: &Offer<'_, '_>) -> Opt
             all: true,
         }),
         None => match default {
-            Choice::Drop => None,
-            Choice::Pass => Some(Passed {
+            Disposition::Drop => None,
+            Disposition::Pass => Some(Passed {
                 preference: None,
                 communities: &[],
                 all: false,

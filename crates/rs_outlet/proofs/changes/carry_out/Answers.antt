@@ -1,6 +1,7 @@
 use Rattle.std.proofs.Common.{◌≡◌, ◌<◌, ◌∙◌, ap, cond, option_map, length, None, Some, IfSome, sym, subst, arith, rules}
 use Rattle.std.specs.FinMap as fin
 use Rattle.std.specs.Arc.{arc_value}
+use Rattle.std.proofs.lemmas.Option.{same_Some}
 use Rattle.rs_outlet.specs.Views.{HaveNumbers}
 use Rattle.rs_outlet.specs.Inside.{FitsAlone, RowsFit, numbers_from, loc_of, prefix_and_hash, row_at}
 use Rattle.rs_outlet.proofs.Backing.{announced_backed, fit_set, other_row, this_row}
@@ -8,7 +9,6 @@ use Rattle.rs_outlet.proofs.Numbering.{numbers_write, numbers_erase}
 use Rattle.rs_outlet.proofs.LocByNumber.{same, numbered, loc_set}
 use Rattle.rs_outlet.proofs.OneOf.{cond_twice}
 use Rattle.rs_adjin.specs.AdjIns.{number_of}
-use Rattle.rs_adjin.proofs.Rows.{some_is}
 use Rattle.rs_outlet.specs.declared.rows.Row.{Row}
 use Rattle.rs_outlet.proofs.Withdrawals.{announced_listed, free_row, withdrawn_listed}
 use Rattle.rs_outlet.proofs.changes.carry_out.Goals as goal
@@ -32,7 +32,7 @@ returns-in-Some-clause-loc c = λ ins is h q.
     let kept : HaveNumbers (numbers_from 0 mid) ins = subst (λ xs. HaveNumbers (numbers_from 0 xs) ins) (sym c.take-was.ensures.rows) (numbers_erase ins rows n h) in
     let erased = ap (λ xs. fin.get (loc_of xs) q) c.take-was.ensures.rows ∙ loc_set ins rows n None below p (numbered ins rows h) is (λ r e. cc e) q in
     ap (λ xs. fin.get (loc_of xs) q) c.put.ensures.rows
-    ∙ loc_set ins mid n _ again p (numbered ins mid kept) is (λ r e. ap (λ (t : Row). number_of ins t.prefix) (sym (some_is _ r e)) ∙ is) q
+    ∙ loc_set ins mid n _ again p (numbered ins mid kept) is (λ r e. ap (λ (t : Row). number_of ins t.prefix) (sym (same_Some _ r e)) ∙ is) q
     ∙ ap (cond (same q p) _) erased
     ∙ cond_twice (same q p) _ _ _
     ∙ ap (λ o. cond (same q p) (option_map arc_value o) (fin.get (loc_of rows) q)) (sym c.in-Some.is)
@@ -85,7 +85,7 @@ returns-in-Some-clause-fit c = λ speech new fit.
     let again : n < length mid = omega (arith, c.requires.number, c.take-was.ensures.room, c.take-was.new.self.rows.ok) in
     let due : FitsAlone speech p (arc_value c.in-Some.due) = subst (λ o. IfSome o (λ attrs. FitsAlone speech p (arc_value attrs))) c.in-Some.is new in
     subst (RowsFit speech) (sym c.put.ensures.rows)
-    (fit_set mid n _ speech again (λ r e. subst (λ (t : Row). FitsAlone speech t.prefix (arc_value t.attrs)) (some_is _ r e) due)
+    (fit_set mid n _ speech again (λ r e. subst (λ (t : Row). FitsAlone speech t.prefix (arc_value t.attrs)) (same_Some _ r e) due)
     (subst (RowsFit speech) (sym c.take-was.ensures.rows) (fit_set rows n None speech below (λ r e. absurd (let f : None ≡ Some r = e in cc)) fit)))
 
 pub returns-in-Some-clause-waits : goal.returns-in-Some-clause-waits

@@ -2,7 +2,7 @@ use Rattle.std.proofs.Common.{◌≡◌, ◌∙◌, false, ◌<◌, ◌≤◌, L
 use Rattle.rs_octets.specs.Prefixes.{Prefix}
 use Rattle.rs_packer.specs.Packed.{IsLongestFront, announcement}
 use Rattle.std.specs.List.{AllWithin}
-use Rattle.rs_adjin.proofs.Rows.{some_is}
+use Rattle.std.proofs.lemmas.Option.{same_Some}
 use Rattle.rs_outlet.specs.declared.waiting.Wait.{Wait}
 use Rattle.rs_outlet.specs.Places.{is_announced}
 use Rattle.rs_outlet.specs.Choosing.{passing, shares}
@@ -19,7 +19,7 @@ returns-clause-update c = inr (record {
   in_turn = c.requires.in_turn;
   chosen = c.collect_announced.ensures.are (none_chosen c.args.rows.now.rows.items c.args.waits.now.places.items (Some c.args.attrs.now) _ _ c.requires.none.0 c.requires.none.1);
   rise = c.collect_announced.ensures.rise c.requires.none.0;
-  first = λ n at. subst (AllWithin (λ (w : Wait). is_announced w ≡ false) c.args.waits.now.places.items 0) (some_is c.args.first n (sym (c.collect_announced.ensures.first c.requires.some.0 c.requires.some.1 (search rules) c.requires.empty c.requires.none.0) ∙ at)) c.requires.before;
+  first = λ n at. subst (AllWithin (λ (w : Wait). is_announced w ≡ false) c.args.waits.now.places.items 0) (same_Some c.args.first n (sym (c.collect_announced.ensures.first c.requires.some.0 c.requires.some.1 (search rules) c.requires.empty c.requires.none.0) ∙ at)) c.requires.before;
   written = record { some = c.put_announcement.ensures.some; within = subst (λ (xs : List Prefix). c.put_announcement.result.prefixes ≤ length xs) c.deref.ensures.value c.put_announcement.ensures.within; says = c.put_announcement.ensures.octets ∙ ap (λ xs. announcement c.args.attrs.now c.args.speech.mode (take c.put_announcement.result.prefixes xs)) c.deref.ensures.value };
   all =
       let rows = c.args.rows.now.rows.items in

@@ -2,7 +2,7 @@ use Rattle.std.proofs.Common.{◌≡◌, ◌∙◌, ◌+◌, ◌-◌, ◌<◌, �
 use Rattle.rs_adjin.specs.Numbers.{prefix_of_in}
 use Rattle.rs_adjin.specs.Listing.{numbered_from}
 use Rattle.rs_adjin.specs.Table.{held_prefix}
-use Rattle.rs_adjin.proofs.Rows.{row_within}
+use Rattle.rs_adjin.proofs.TableRows.{row_within}
 use Rattle.rs_adjin.proofs.NumberLists.{none_from, next_from}
 use Rattle.rs_adjin.proofs.Holding.{prefix_held, prefix_left}
 use Rattle.rs_adjin.proofs.prefixes.HeldPrefixesIterator.next.Goals as goal

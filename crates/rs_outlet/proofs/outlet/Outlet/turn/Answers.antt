@@ -1,9 +1,9 @@
 use Rattle.std.proofs.Common.{◌≡◌, ◌∙◌, ℕ, Bool, false, cond, is_some, None, Some, Option, List, refl, sym, ap, subst}
 use mathlib.Core.Bool.{true≢false}
 use Rattle.std.specs.FinMap as map
+use Rattle.std.proofs.lemmas.Option.{same_Some}
 use Rattle.rs_octets.specs.Prefixes.{Prefix}
 use Rattle.rs_attrs.specs.Meaning.{Attribute}
-use Rattle.rs_adjin.proofs.Rows.{some_is}
 use Rattle.rs_outlet.specs.declared.answers.Speech.{Speech}
 use Rattle.rs_adjin.specs.declared.adj_ins.AdjIns.{AdjIns}
 use Rattle.rs_policy.specs.Configuration.{Configuration}
@@ -48,7 +48,7 @@ returns-in-Ok-clause-turned c = λ are.
       loc = λ speech up p.
           for_client t _ (map.get now.loc p) (is_touched now.touched p) _ now.client _ speech p
           (ap (λ (v : View). v.client) c.self.view_is)
-          (some_is c.in-Some.speech speech (sym c.in-Some.is ∙ ap (λ (v : View). v.speech) c.self.view_is ∙ up))
+          (same_Some c.in-Some.speech speech (sym c.in-Some.is ∙ ap (λ (v : View). v.speech) c.self.view_is ∙ up))
           (c.in-Ok.ensures.loc are p);
       told = c.in-Ok.ensures.told are;
       marked = c.in-Ok.ensures.marked are;
@@ -66,5 +66,5 @@ returns-in-Ok-clause-due c = λ speech up are p.
     one_of (is_touched now.touched p) _ _ _
     (for_client t _ (map.get now.loc p) (is_touched now.touched p) _ now.client _ speech p
     (ap (λ (v : View). v.client) c.self.view_is)
-    (some_is c.in-Some.speech speech (sym c.in-Some.is ∙ ap (λ (v : View). v.speech) c.self.view_is ∙ up))
+    (same_Some c.in-Some.speech speech (sym c.in-Some.is ∙ ap (λ (v : View). v.speech) c.self.view_is ∙ up))
     (c.in-Ok.ensures.loc are p))

@@ -1,11 +1,11 @@
 use Rattle.std.proofs.Common.{◌≡◌, ◌<◌, ◌∙◌, [], None, Some, ap, arith, inl, inr, refl, rules, sym, subst, vec_len}
 use Rattle.std.specs.Prelude.{true}
 use Rattle.std.specs.List.{HoldsAt}
+use Rattle.std.proofs.lemmas.Bool.{cases_eq}
 use Rattle.rs_outlet.specs.Places.{is_withdrawn}
 use Rattle.rs_outlet.proofs.Chosen.{as_many, none_chosen}
 use Rattle.rs_outlet.proofs.Fullest.{listed_all, listed_none, listed_one}
 use Rattle.rs_outlet.proofs.Rising.{head_first, head_more, none_listed, rise_more}
-use Rattle.rs_adjin.proofs.Rows.{number_is}
 use Rattle.rs_outlet.proofs.waiting.Waits.collect_withdrawn.Goals as goal
 
 pub loop-place-init : goal.loop-place-init
@@ -28,7 +28,7 @@ loop-place-preserved c =
       chosen = c.list_withdrawn.ensures.chosen ∙ inv.chosen;
       front = c.list_withdrawn.ensures.front ∙ inv.front;
       first = λ never. search rules;
-      some = λ _ at below room. elim (number_is c.loop-place.place c.args.first) [
+      some = λ _ at below room. elim (cases_eq c.loop-place.place c.args.first) [
         | inl start ↦
             let was = inv.first start in
             c.list_withdrawn.ensures.listed (subst (HoldsAt (λ w. is_withdrawn w ≡ true) c.args.self.now.places.items) (sym start) at)
@@ -38,7 +38,7 @@ loop-place-preserved c =
             omega (arith, some, c.list_withdrawn.ensures.grows)
       ];
       same = λ never. search rules;
-      head = λ _ at below room none. elim (number_is c.loop-place.place c.args.first) [
+      head = λ _ at below room none. elim (cases_eq c.loop-place.place c.args.first) [
         | inl start ↦
             let was = inv.first start in
             let there = c.list_withdrawn.ensures.there (subst (HoldsAt (λ w. is_withdrawn w ≡ true) c.args.self.now.places.items) (sym start) at)

@@ -1,11 +1,12 @@
--- Rows added, written and given up.
+-- Rows of the table of numbers: added, written and given up.
 use Rattle.std.proofs.Common.{Bool, true, false, cond, ◌≡◌, ◌≢◌, ◌<◌, ◌&&◌, ◌==◌, ◌++◌, ℕ, zero, suc, List, [], ◌∷◌, length, refl, sym, ◌∙◌, ap, subst, arith, ◌⊎◌, inl, inr}
 use Rattle.std.specs.Prelude.{Option, Some, None, slice_get, slice_set, slice_index_or, if◌then◌else◌}
 use Rattle.std.specs.BTreeMap.{BTreeMap, get, is_at}
 use Rattle.std.specs.Ordering.{nat_cmp, ordering_then, is_eq}
 use Rattle.std.proofs.lemmas.Bool.Decides.{nat_tests}
 use Rattle.std.proofs.lemmas.Grind.{common_steps}
-use Rattle.std.proofs.lemmas.Option.{slice_get_read}
+use Rattle.std.proofs.lemmas.Option.{slice_get_read, same_Some}
+use Rattle.std.proofs.lemmas.Bool.{cases_eq}
 use Rattle.rs_octets.specs.Prefixes.{Prefix, prefix_order}
 use Rattle.rs_attrs.specs.Effects.{same_prefix}
 use Rattle.rs_attrs.proofs.EachOnce.{same_is, same_itself}
@@ -24,24 +25,14 @@ at_both a b c d = grind (arith, nat_tests, common_steps)
 pub at_prefix : (p q : Prefix) → is_at (prefix_order p) q ≡ same_prefix q p
 at_prefix p q = at_both p.bits q.bits p.len q.len
 
-at_itself : (p : Prefix) → is_at (prefix_order p) p ≡ true
+pub at_itself : (p : Prefix) → is_at (prefix_order p) p ≡ true
 at_itself p = at_prefix p p ∙ same_itself p
 
-at_same : (p q : Prefix) → is_at (prefix_order p) q ≡ true → q ≡ p
+pub at_same : (p q : Prefix) → is_at (prefix_order p) q ≡ true → q ≡ p
 at_same p q h = same_is q p (sym (at_prefix p q) ∙ h)
-
-pub some_is : {A : Type 0} (x y : A) → Some x ≡ Some y → x ≡ y
-some_is x y e = (cc)
 
 pub none_some : {A : Type 0} (o : Option A) (x : A) → o ≡ None → o ≡ Some x → ⊥
 none_some o x n s = let e : None ≡ Some x = sym n ∙ s in (cc)
-
-pub number_is : (m n : ℕ) → (m ≡ n) ⊎ (m ≢ n)
-number_is m n = go (m == n) refl
-  where
-    go : (b : Bool) → (m == n) ≡ b → (m ≡ n) ⊎ (m ≢ n)
-    go true is = inl (grind (arith, nat_tests, is))
-    go false is = inr (grind (arith, nat_tests, is))
 
 pub prefix_is : (p q : Prefix) → (q ≡ p) ⊎ (is_at (prefix_order p) q ≡ false)
 prefix_is p q = go (is_at (prefix_order p) q) refl
@@ -106,11 +97,13 @@ nothing (x ∷ xs) is = absurd (omega (arith, is))
 pub shown : {A : Type 0} (xs ys : List A) (n : ℕ) (r : A) → xs ≡ ys → n < length xs → r ≡ slice_index_or xs n r → slice_get ys n ≡ Some r
 shown xs ys n r is below value = subst (λ zs. slice_get zs n ≡ Some r) is (slice_get_read xs _ n r refl below value)
 
-pub same_row : (rows : List Row) (n : ℕ) (a b : Row) → slice_get rows n ≡ Some a → slice_get rows n ≡ Some b → a ≡ b
-same_row rows n a b left right = some_is a b (sym left ∙ right)
-
-pub named_by : (a b : Row) (o : Option Prefix) → a ≡ b → a.prefix ≡ o → b.prefix ≡ o
-named_by a b o same is = sym (ap (λ (r : Row). r.prefix) same) ∙ is
+-- two reads at a number lead to one row, which has this prefix
+pub same_row : (xs rows : List Row) (n : ℕ) (a b : Row) (o : Option Prefix) → xs ≡ rows → n < length xs → a ≡ slice_index_or xs n a → b ≡ slice_index_or rows n b → a.prefix ≡ o
+    → (slice_get rows n ≡ Some b) × (b.prefix ≡ o) × (a ≡ b)
+same_row xs rows n a b o is below left right named =
+    let read = shown rows rows n b refl (subst (λ zs. n < length zs) is below) right in
+    let same = same_Some a b (sym (shown xs rows n a is below left) ∙ read) in
+    (read, sym (ap (λ (r : Row). r.prefix) same) ∙ named, same)
 
 pub empty_by : (a b : Row) → a ≡ b → length a.routes.items ≡ 0 → b.routes.items ≡ []
 empty_by a b same is = sym (ap (λ (r : Row). r.routes.items) same) ∙ nothing a.routes.items is
@@ -148,28 +141,28 @@ module _ (rows : List Row) (n : ℕ) (r s : Row) (read : slice_get rows n ≡ So
 
   -- the routes alone are others
   pub kept_prefix : s.prefix ≡ r.prefix → (m : ℕ) → prefix_at (slice_set rows n s) m ≡ prefix_at rows m
-  kept_prefix same m = elim (number_is m n) [
+  kept_prefix same m = elim (cases_eq m n) [
     | inl e ↦ subst (λ k. prefix_at (slice_set rows n s) k ≡ prefix_at rows k) (sym e) (ap prefix_in here ∙ (same ∙ sym (ap prefix_in read)))
     | inr ne ↦ ap prefix_in (apart m ne)
   ]
 
   pub kept_routes : s.routes.items ≡ r.routes.items → (m : ℕ) → routes_in (slice_get (slice_set rows n s) m) ≡ routes_in (slice_get rows m)
-  kept_routes same m = elim (number_is m n) [
+  kept_routes same m = elim (cases_eq m n) [
     | inl e ↦ subst (λ k. routes_in (slice_get (slice_set rows n s) k) ≡ routes_in (slice_get rows k)) (sym e) (ap routes_in here ∙ (same ∙ sym (ap routes_in read)))
     | inr ne ↦ ap routes_in (apart m ne)
   ]
 
   pub vacant_written : (p : Prefix) → s.prefix ≡ Some p → AreVacant rows → AreVacant (slice_set rows n s)
-  vacant_written p is vacant m none = elim (number_is m n) [
+  vacant_written p is vacant m none = elim (cases_eq m n) [
     | inl e ↦ absurd (none_some (prefix_at (slice_set rows n s) n) p (subst (λ k. prefix_at (slice_set rows n s) k ≡ None) e none) (ap prefix_in here ∙ is))
     | inr ne ↦ ap routes_in (apart m ne) ∙ vacant m (sym (ap prefix_in (apart m ne)) ∙ none)
   ]
 
   other_row : (numbers : Numbers) (p q : Prefix) → IsInverse numbers rows → prefix_at rows n ≡ Some p → is_at (prefix_order p) q ≡ false → (o : Option ℕ) → get prefix_order numbers q ≡ o → routes_by (slice_set rows n s) o ≡ routes_by rows o
   other_row numbers p q i at ne None is = refl
-  other_row numbers p q i at ne (Some m) is = elim (number_is m n) [
+  other_row numbers p q i at ne (Some m) is = elim (cases_eq m n) [
     | inl e ↦ absurd (
-        let same : q ≡ p = some_is q p (sym (i.there q n (is ∙ ap (λ k. Some k) e)) ∙ at) in
+        let same : q ≡ p = same_Some q p (sym (i.there q n (is ∙ ap (λ k. Some k) e)) ∙ at) in
         let t : is_at (prefix_order p) p ≡ false = subst (λ x. is_at (prefix_order p) x ≡ false) same ne in
         let f : true ≡ false = sym (at_itself p) ∙ t in (cc))
     | inr ne ↦ ap routes_in (apart m ne)
@@ -207,15 +200,15 @@ module _ (old new : Numbers) (rows : List Row) (n : ℕ) (p : Prefix) (r s : Row
   added_inverse = record {
     there = λ q m is. elim (prefix_is p q) [
       | inl e ↦
-          let m_is : m ≡ n = sym (some_is n m (sym (written old new p (Some n) u) ∙ subst (λ x. get prefix_order new x ≡ Some m) e is)) in
+          let m_is : m ≡ n = sym (same_Some n m (sym (written old new p (Some n) u) ∙ subst (λ x. get prefix_order new x ≡ Some m) e is)) in
           ap (prefix_at (slice_set rows n s)) m_is ∙ (ap prefix_in new_row ∙ (named ∙ ap (λ x. Some x) (sym e)))
       | inr ne ↦
           let was : get prefix_order old q ≡ Some m = sym (unwritten old new p (Some n) u q ne) ∙ is in
           ap prefix_in (set_apart rows n s m (other_number q m was)) ∙ i.there q m was
     ];
-    back = λ q m is. elim (number_is m n) [
+    back = λ q m is. elim (cases_eq m n) [
       | inl e ↦
-          let q_is : p ≡ q = some_is p q (sym (ap prefix_in new_row ∙ named) ∙ subst (λ k. prefix_at (slice_set rows n s) k ≡ Some q) e is) in
+          let q_is : p ≡ q = same_Some p q (sym (ap prefix_in new_row ∙ named) ∙ subst (λ k. prefix_at (slice_set rows n s) k ≡ Some q) e is) in
           subst (λ x. get prefix_order new x ≡ Some m) q_is (written old new p (Some n) u ∙ ap (λ k. Some k) (sym e))
       | inr ne ↦ added_kept q m (i.back q m (sym (ap prefix_in (set_apart rows n s m ne)) ∙ is))
     ];
@@ -243,7 +236,7 @@ module _ (old new : Numbers) (rows : List Row) (n : ℕ) (p : Prefix) (r s : Row
 
   other_left : (q : Prefix) (m : ℕ) → m ≢ n → get prefix_order old q ≡ Some m → is_at (prefix_order p) q ≡ false
   other_left q m ne is = elim (prefix_is p q) [
-    | inl e ↦ absurd (ne (some_is m n (sym (subst (λ x. get prefix_order old x ≡ Some m) e is) ∙ number_was)))
+    | inl e ↦ absurd (ne (same_Some m n (sym (subst (λ x. get prefix_order old x ≡ Some m) e is) ∙ number_was)))
     | inr other ↦ other
   ]
 
@@ -259,7 +252,7 @@ module _ (old new : Numbers) (rows : List Row) (n : ℕ) (p : Prefix) (r s : Row
     | inr other ↦
         let before : get prefix_order old q ≡ Some m = sym (unwritten old new p None u q other) ∙ is in (
           λ e.
-              let same : q ≡ p = some_is q p (sym (i.there q m before) ∙ (ap (prefix_at rows) e ∙ (ap prefix_in read ∙ was))) in
+              let same : q ≡ p = same_Some q p (sym (i.there q m before) ∙ (ap (prefix_at rows) e ∙ (ap prefix_in read ∙ was))) in
               let t : is_at (prefix_order p) p ≡ false = subst (λ x. is_at (prefix_order p) x ≡ false) same other in
               let f : true ≡ false = sym (at_itself p) ∙ t in (cc),
           before,
@@ -269,14 +262,14 @@ module _ (old new : Numbers) (rows : List Row) (n : ℕ) (p : Prefix) (r s : Row
   pub gone_inverse : IsInverse new (slice_set rows n s)
   gone_inverse = record {
     there = λ q m is. let o = gone_old q m is in ap prefix_in (set_apart rows n s m o.0) ∙ i.there q m o.1;
-    back = λ q m is. elim (number_is m n) [
+    back = λ q m is. elim (cases_eq m n) [
       | inl e ↦ absurd (none_some (prefix_at (slice_set rows n s) n) q gone_here (subst (λ k. prefix_at (slice_set rows n s) k ≡ Some q) e is))
       | inr ne ↦ gone_kept q m ne (i.back q m (sym (ap prefix_in (set_apart rows n s m ne)) ∙ is))
     ];
   }
 
   pub gone_vacant : s.routes.items ≡ [] → AreVacant rows → AreVacant (slice_set rows n s)
-  gone_vacant empty vacant m nil = elim (number_is m n) [
+  gone_vacant empty vacant m nil = elim (cases_eq m n) [
     | inl e ↦ subst (λ k. routes_in (slice_get (slice_set rows n s) k) ≡ []) (sym e) (ap routes_in gone_row ∙ empty)
     | inr ne ↦ ap routes_in (set_apart rows n s m ne) ∙ vacant m (sym (ap prefix_in (set_apart rows n s m ne)) ∙ nil)
   ]
