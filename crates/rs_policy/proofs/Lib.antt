@@ -9,3 +9,4 @@ mod Rows
 pub mod SoundKeys
 pub mod Soundness
 mod Wholes
+mod WithoutRules

@@ -1,13 +1,16 @@
 //! What the rules make of a route.
 
 ghost use Rattle.std.specs.Prelude.{◌≡◌, ◌<◌, ◌≤◌, length, find, option_map};
-ghost use Rattle.rs_policy.specs.Verdicts.{front, in_range, matches, next_hop_is_peer, origin_as_is, passing, passing_by_default, outcome, verdict};
+ghost use Rattle.rs_policy.specs.Verdicts.{front, in_range, joined, matches, next_hop_is_peer, origin_as_is, passing, passing_by_default, outcome, verdict};
 ghost use Rattle.rs_policy.specs.Judged.{offered, passed_as, judged};
 
 use crate::config::Config;
 use crate::rules::{Action, Disposition, Range, Rule, Stripping};
 use rs_attrs::{Attrs, Strip};
 use rs_octets::Prefix;
+
+/// The preference of a route that no rule gives one.
+const DEFAULT_PREFERENCE: u32 = 100;
 
 /// What becomes of a route on its way from one client to another. `S` says which communities it
 /// loses.
@@ -153,6 +156,22 @@ fn outcome<'a>(default: Disposition, rules: &'a [Rule], offer: &Offer<'_, '_>) -
     }
 }
 
+/// What becomes of a route where neither list has a rule.
+fn judge_without_rules<'a>(default: Choice) -> Verdict<'a>
+    ensures { judged result ≡ joined (passing_by_default default) (passing_by_default default) }
+{
+    match default {
+        Choice::Drop => Verdict::Drop,
+        Choice::Pass => Verdict::Pass {
+            preference: DEFAULT_PREFERENCE,
+            strip: Strip {
+                lists: [&[], &[]],
+                all: false,
+            },
+        },
+    }
+}
+
 /// What becomes of a route of client `from` on its way to client `to`: the first rule that matches
 /// decides, in the sender's import list and in the receiver's export list, both over the attributes
 /// as they were received (RFC 7947, 2.3). It takes no memory.
@@ -168,20 +187,26 @@ pub fn judge<'a>(
     requires to { to < length config.now.clients }
     ensures { judged result ≡ verdict config.now from to prefix.now attrs.now }
 {
+    let default = config.default();
+    let imports: &[Rule] = &config.policy(from).import;
+    let exports: &[Rule] = &config.policy(to).export;
+    if imports.is_empty() && exports.is_empty() {
+        return judge_without_rules(default);
+    }
     let offer = Offer {
         from,
         peer: config.peer(from),
         prefix,
         attrs,
     };
-    let default = config.default();
-    let Some(import) = outcome(default, &config.policy(from).import, &offer) else {
+    let Some(import) = outcome(default, imports, &offer) else {
         return Verdict::Drop;
     };
-    let Some(export) = outcome(default, &config.policy(to).export, &offer) else {
+    let Some(export) = outcome(default, exports, &offer) else {
         return Verdict::Drop;
     };
-    let preference = export.preference.or(import.preference).unwrap_or(100);
+    let given = export.preference.or(import.preference);
+    let preference = given.unwrap_or(DEFAULT_PREFERENCE);
     let strip = Strip {
         lists: [import.communities, export.communities],
         all: import.all || export.all,
