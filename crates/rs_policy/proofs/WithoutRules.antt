@@ -4,10 +4,10 @@ use Rattle.rs_octets.specs.Prefixes.{Prefix}
 use Rattle.rs_attrs.specs.Meaning.{Attribute}
 use Rattle.rs_policy.specs.Configuration.{Configuration, policy_of}
 use Rattle.rs_policy.specs.Verdicts.{AnnouncedRoute, announced_route, joined, outcome, passing_by_default, verdict}
-use Rattle.rs_policy.specs.declared.rules.Choice.{Choice}
+use Rattle.rs_policy.specs.declared.rules.Disposition.{Disposition}
 use Rattle.rs_policy.specs.declared.rules.Rule.{Rule}
 
-nothing_matches : (default : Choice) (rules : List Rule) (r : AnnouncedRoute) → (length rules == 0) ≡ true → outcome default rules r ≡ passing_by_default default
+nothing_matches : (default : Disposition) (rules : List Rule) (r : AnnouncedRoute) → (length rules == 0) ≡ true → outcome default rules r ≡ passing_by_default default
 unfolding outcome
 nothing_matches default [] r e = refl
 nothing_matches default (rule ∷ rules) r e = let none = eqb-true (length (rule ∷ rules)) 0 e in absurd (omega (arith, none))

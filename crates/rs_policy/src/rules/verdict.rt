@@ -157,12 +157,12 @@ fn outcome<'a>(default: Disposition, rules: &'a [Rule], offer: &Offer<'_, '_>) -
 }
 
 /// What becomes of a route where neither list has a rule.
-fn judge_without_rules<'a>(default: Choice) -> Verdict<'a>
+fn judge_without_rules<'a>(default: Disposition) -> Verdict<'a>
     ensures { judged result ≡ joined (passing_by_default default) (passing_by_default default) }
 {
     match default {
-        Choice::Drop => Verdict::Drop,
-        Choice::Pass => Verdict::Pass {
+        Disposition::Drop => Verdict::Drop,
+        Disposition::Pass => Verdict::Pass {
             preference: DEFAULT_PREFERENCE,
             strip: Strip {
                 lists: [&[], &[]],
