@@ -4,6 +4,7 @@ pub mod FirstOfTypeWalk
 pub mod Placing
 pub mod GatherWalk
 pub mod FlawWalk
+pub mod Reasons
 pub mod Building
 pub mod Meant
 pub mod Legal

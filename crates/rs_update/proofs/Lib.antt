@@ -4,4 +4,5 @@ pub mod BodyFields
 pub mod Effecting
 pub mod Mandatory
 pub mod OneEffect
+pub mod Reasons
 mod WorkedRows

@@ -1,11 +1,13 @@
--- Laws of the definition: octets have an effect and no second one, so that a list of UPDATEs means one table.
-use Rattle.std.specs.Prelude.{◌≡◌, ℕ, List, ◌∷◌, Option}
+-- Laws of the definition: octets have an effect and no second one, so that a list of UPDATEs means one table; and where NLRI
+-- counts as withdrawn for its attributes, one of them is told.
+use Rattle.std.specs.Prelude.{◌≡◌, ℕ, List, ◌∷◌, Option, is_some}
 use Rattle.std.specs.List.{AllByRecursion, AllZip}
 use Rattle.rs_octets.specs.Prefixes.{Prefix}
 use Rattle.rs_attrs.specs.declared.mode.Mode.{Mode}
+use Rattle.rs_attrs.specs.declared.faults.Faults.{Faults}
 use Rattle.rs_attrs.specs.Spellings.{AreOctets}
-use Rattle.rs_attrs.specs.Meaning.{Attribute}
-use Rattle.rs_attrs.specs.Effects.{Effect, Reset, Changes, Change, HasEffect, MeansTable, has_prefix, effect_of, table_since, table_of}
+use Rattle.rs_attrs.specs.Meaning.{Attribute, Reads}
+use Rattle.rs_attrs.specs.Effects.{Fields, Effect, Reset, Changes, Change, HasEffect, MeansTable, has_prefix, effect_of, table_since, table_of, told_of, treat_as_withdraw}
 
 -- both withdraw the same prefixes and announce the same ones with the same attributes
 pub record IsSameChange (x y : Change) : Type 0 where
@@ -42,3 +44,8 @@ BodiesMeanOneTable =
 -- changes that are the same lie over a table in the same way; the newest stands first
 abbrev pub SameChangesOverlayAlike : Type 0
 SameChangesOverlayAlike = (x y : Change) (changes : List Change) (p : Prefix) → IsSameChange x y → table_since (x ∷ changes) p ≡ table_since (y ∷ changes) p
+
+-- what is told of an UPDATE names an attribute for which it is treated as withdraw exactly where it is
+abbrev pub UpdatesTellWhy : Type 0
+UpdatesTellWhy = (fields : Fields) (mode : Mode) (m : List Attribute) (faults : Faults) → AreOctets fields.attributes → Reads fields.attributes mode m faults
+    → is_some (told_of fields mode).withdraw ≡ treat_as_withdraw fields m faults

@@ -1,6 +1,6 @@
 //! Laws of the definition that `effect` meets: each is the contract of a function that does nothing.
 
-ghost use Rattle.rs_update.specs.Laws.{BodiesHaveEffects, BodiesHaveOneEffect, BodiesMeanTables, BodiesMeanOneTable, SameChangesOverlayAlike};
+ghost use Rattle.rs_update.specs.Laws.{BodiesHaveEffects, BodiesHaveOneEffect, BodiesMeanTables, BodiesMeanOneTable, SameChangesOverlayAlike, UpdatesTellWhy};
 
 /// The body of an UPDATE has an effect, and no second one but for the order in which prefixes are
 /// listed (RFC 4271, 4.3; RFC 7606, 2 to 5).
@@ -18,4 +18,9 @@ pub fn bodies_mean_one_table()
 /// What an outcome changes and what is computed of its body are the same change to each table.
 pub fn same_changes_overlay_alike()
     ensures { SameChangesOverlayAlike }
+{}
+
+/// An UPDATE whose NLRI counts as withdrawn tells why, and no other does (RFC 7606, 2 and 3, d).
+pub fn updates_tell_why()
+    ensures { UpdatesTellWhy }
 {}

@@ -3,7 +3,8 @@
 use crate::endings::{Ending, Notice};
 use crate::route_server::Core;
 use crate::tests::exchange::{
-    A, B, BAD_ROUTE, NO_NEXT_HOP, NO_ROUTE, OPEN_A, OPEN_B, ROUTE, come_up, hear, server, with_a_route,
+    A, B, BAD_ROUTE, NO_NEXT_HOP, NO_ROUTE, OPEN_A, OPEN_B, ROUTE, come_up, hear, server,
+    with_a_route,
 };
 use rs_attrs::{AttributeFault, Cause, Faulted};
 use rs_open::Short;
