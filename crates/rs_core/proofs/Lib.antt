@@ -12,6 +12,7 @@ pub mod Updating
 pub mod Saying
 pub mod Limits
 mod Rows
+mod AlteringRows
 pub mod Leading
 pub mod Clients
 pub mod Dues

@@ -1,5 +1,5 @@
 -- Worked rows as runs, by computation: four clients, and what is due after each move that counts.
-use Rattle.std.specs.Prelude.{◌≡◌, ℕ, ◌+◌, true, false, List, [], ◌∷◌, ◌++◌, replicate, refl, codes, Some, None, Option}
+use Rattle.std.specs.Prelude.{◌≡◌, ℕ, ◌+◌, true, false, List, [], ◌∷◌, ◌++◌, replicate, refl, codes, Some, None}
 use Rattle.rs_octets.specs.Prefixes.{Prefix}
 use Rattle.rs_attrs.specs.Meaning.{Attribute, all_types}
 use Rattle.rs_octets.proofs.Rows.{hex}
@@ -20,20 +20,16 @@ use Rattle.rs_policy.specs.declared.rules.Disposition.TheVariants as disposition
 use Rattle.rs_decision.specs.Choice.{unbeaten}
 use Rattle.rs_core.specs.Moves.{Move, Ruled, Came, Heard, Saw, Left, Dropped, Turned}
 use Rattle.rs_core.specs.Hearing.{session_in, state_in, ending_in, faulted_in}
-use Rattle.rs_core.specs.Runs.{hearing, is_established, due, dues, table}
+use Rattle.rs_core.specs.Runs.{hearing, is_established, due, dues}
 use Rattle.rs_core.specs.Watching.{notice_with, faulted_by}
 use Rattle.rs_core.specs.declared.endings.Ending.TheVariants as reasons
-use Rattle.std.proofs.Common.{inl, inr, arith}
-use Rattle.rs_core.specs.Altering.{IsAlteredBy}
-use Rattle.rs_core.specs.Touched.{Alters}
-use Rattle.rs_core.specs.Stirring.{stands}
 
 -- ---- the configuration and the octets
 
 abbrev client : ℕ → ℕ → Client
 client place limit_as = record { name = (place + 97) ∷ []; client_as = limit_as; listen = (0x7f000001, 17901 + place); peer = 0xc000020b + place; limit = None }
 
-abbrev base : Configuration
+abbrev pub base : Configuration
 base = record {
   top = record { server_as = 64500; identifier = 0xc0000201; hold = 90; default = dispositions.Pass; extended = false; refresh = false; multiprotocol = false };
   clients = client 0 64496 ∷ client 1 64497 ∷ client 2 64498 ∷ client 3 64499 ∷ [];
@@ -60,7 +56,7 @@ abbrev keepalive : List ℕ
 keepalive = m (codes "0013 04")
 
 -- announcements of 198.51.100.0/24 by a and by b; a's with a MULTI_EXIT_DISC of 5, with ORIGIN 3; its withdrawal
-abbrev u1 : List ℕ
+abbrev pub u1 : List ℕ
 u1 = m (codes "002f 02 0000 0014 40010100 40020602010000fbf0 400304c000020b 18c63364")
 
 abbrev ub : List ℕ
@@ -75,10 +71,10 @@ bad_origin = m (codes "002f 02 0000 0014 40010103 40020602010000fbf0 400304c0000
 abbrev bad_origin_alone : List ℕ
 bad_origin_alone = m (codes "002b 02 0000 0014 40010103 40020602010000fbf0 400304c000020b")
 
-abbrev w1 : List ℕ
+abbrev pub w1 : List ℕ
 w1 = m (codes "001b 02 0004 18c63364 0000")
 
-abbrev n24 : Prefix
+abbrev pub n24 : Prefix
 n24 = record { bits = 0xc6336400; len = 24 }
 
 abbrev ub_attributes : List Attribute
@@ -91,7 +87,7 @@ u5_attributes = u1_attributes ++ record { kind = 4; optional = true; transitive 
 abbrev up : ℕ → List ℕ → List Move → List Move
 up c opening run = Heard c keepalive ∷ Heard c opening ∷ Came c ∷ run
 
-abbrev two_up : List Move
+abbrev pub two_up : List Move
 two_up = up 1 open_b (up 0 open_a (Ruled base ∷ []))
 
 -- ---- a session comes up at the last octet of its KEEPALIVE
@@ -107,7 +103,7 @@ at_the_last_octet = refl
 
 -- ---- one client's route is due to the others, and not to itself
 
-abbrev announced : List Move
+abbrev pub announced : List Move
 announced = Turned [] ∷ Heard 0 u1 ∷ two_up
 
 due_to_b : due announced 1 n24 ≡ Some u1_attributes
@@ -122,38 +118,6 @@ none_due_to_a = refl
 none_due_to_c : due announced 2 n24 ≡ None
 unfolding all_types matches outcome verdict unbeaten
 none_due_to_c = refl
-
--- ---- each message counts by itself
-
--- a route that comes and goes in one piece was there
-comes_and_goes : IsAlteredBy base 0 (u1 ++ w1) (hearing 0 two_up) n24
-unfolding all_types
-comes_and_goes = inl (λ same. let e : ◌≡◌ {A = Option (List Attribute)} (Some u1_attributes) None = same in cc)
-
-none_left : table (Heard 0 (u1 ++ w1) ∷ two_up) 0 n24 ≡ None
-unfolding all_types
-none_left = refl
-
--- so it is touched for b, and not for a, which sent it
-touched_for_b : Alters (Heard 0 (u1 ++ w1)) two_up 1 n24
-touched_for_b = (λ e. absurd (omega (arith, e)), comes_and_goes)
-
-not_touched_for_a : Alters (Heard 0 (u1 ++ w1)) two_up 0 n24 → ⊥
-not_touched_for_a altered = altered.0 refl
-
--- the same route again alters nothing
-same_again : IsAlteredBy base 0 u1 (hearing 0 announced) n24 → ⊥
-unfolding all_types
-same_again altered = elim altered [ inl differs ↦ differs refl | inr none ↦ absurd none ]
-
--- nor do octets that are no whole message yet
-not_whole : IsAlteredBy base 0 (replicate 16 255) (hearing 0 two_up) n24 → ⊥
-not_whole altered = altered
-
--- what stands of a client: what another one holds
-holds : stands announced 1 n24 ≡ true
-unfolding all_types matches outcome verdict unbeaten
-holds = refl
 
 -- ---- an UPDATE at fault is a withdrawal (RFC 7606, 2), and without NLRI a session reset
 

@@ -25,7 +25,7 @@ use Rattle.rs_core.specs.declared.route_server.Core.{Core}
 -- ---- one client
 
 -- its session has heard this, its Adj-RIB-In has what that means, its outlet says what agrees with it, in order, and this is kept
--- for those who watch
+-- for the operator
 pub record Knows (core : Core) (s : Configuration) (c : ℕ) (h : Hearing) : Type 0 where
   pub session : (x : Session) → slice_get core.sessions.items c ≡ Some x → HasHeard x (session_in s c) h.items
   pub table : (p : Prefix) → held_of core.ribs.tables c p ≡ table_in s c h p

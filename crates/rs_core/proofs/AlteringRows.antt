@@ -1,0 +1,45 @@
+-- Worked rows of what moves alter, by computation: routes that come and go, and what stands of a client.
+use Rattle.std.specs.Prelude.{◌≡◌, true, ◌∷◌, ◌++◌, List, replicate, refl, Some, None, Option}
+use Rattle.std.proofs.Common.{inl, inr, arith}
+use Rattle.rs_attrs.specs.Meaning.{Attribute, all_types}
+use Rattle.rs_attrs.proofs.Rows.{u1_attributes}
+use Rattle.rs_policy.specs.Verdicts.{matches, outcome, verdict}
+use Rattle.rs_decision.specs.Choice.{unbeaten}
+use Rattle.rs_core.specs.Moves.{Heard}
+use Rattle.rs_core.specs.Runs.{hearing, table}
+use Rattle.rs_core.specs.Altering.{IsAlteredBy}
+use Rattle.rs_core.specs.Touched.{Alters}
+use Rattle.rs_core.specs.Stirring.{stands}
+use Rattle.rs_core.proofs.Rows.{announced, base, n24, two_up, u1, w1}
+
+-- ---- each message counts by itself
+
+-- a route that comes and goes in one piece was there
+comes_and_goes : IsAlteredBy base 0 (u1 ++ w1) (hearing 0 two_up) n24
+unfolding all_types
+comes_and_goes = inl (λ same. let e : ◌≡◌ {A = Option (List Attribute)} (Some u1_attributes) None = same in cc)
+
+none_left : table (Heard 0 (u1 ++ w1) ∷ two_up) 0 n24 ≡ None
+unfolding all_types
+none_left = refl
+
+-- so it is touched for b, and not for a, which sent it
+touched_for_b : Alters (Heard 0 (u1 ++ w1)) two_up 1 n24
+touched_for_b = (λ e. absurd (omega (arith, e)), comes_and_goes)
+
+not_touched_for_a : Alters (Heard 0 (u1 ++ w1)) two_up 0 n24 → ⊥
+not_touched_for_a altered = altered.0 refl
+
+-- the same route again alters nothing
+same_again : IsAlteredBy base 0 u1 (hearing 0 announced) n24 → ⊥
+unfolding all_types
+same_again altered = elim altered [ inl differs ↦ differs refl | inr none ↦ absurd none ]
+
+-- nor do octets that are no whole message yet
+not_whole : IsAlteredBy base 0 (replicate 16 255) (hearing 0 two_up) n24 → ⊥
+not_whole altered = altered
+
+-- what stands of a client: what another one holds
+holds : stands announced 1 n24 ≡ true
+unfolding all_types matches outcome verdict unbeaten
+holds = refl
