@@ -13,12 +13,12 @@ use Rattle.rs_session.specs.Sessions.{agreed_identifier, identifier_by}
 use Rattle.rs_session.specs.Hearing.{HasHeard, Tells, Stays}
 use Rattle.rs_session.specs.declared.act.State.{State}
 use Rattle.rs_session.specs.declared.act.State.TheVariants as states
-use Rattle.rs_adjin.specs.AdjIns.{held_of, identifier_of, Begins}
+use Rattle.rs_adjin.specs.AdjIns.{held_of, identifier_of}
 use Rattle.rs_adjin.specs.declared.adj_ins.AdjIns.{AdjIns}
 use Rattle.rs_policy.specs.Configuration.{Configuration}
 use Rattle.rs_core.specs.Hearing.{Hearing, session_in, state_in, is_up, identifier_in, table_in}
-use Rattle.rs_core.specs.Steps.{IsSpared, ActsOn}
-use Rattle.rs_core.proofs.Agreeing.{begun_held, begun_identifier, others_held, others_identifiers}
+use Rattle.rs_core.specs.Steps.{ActsOn}
+use Rattle.rs_core.proofs.Agreeing.{begun_held, begun_identifier}
 
 -- ---- what a client holds and is known by, by its state
 
@@ -108,11 +108,3 @@ acted_has (acts.Down _) old new sessions x s c h next does read heard tells fres
       identifier = begun_identifier old new c 0 does ∙ sym (down_identifier s c next now);
     }
 acted_has acts.Again old new sessions x s c h next does read heard tells fresh same has = alike_has old new s c h next does (stays_alike s c h next tells.same same) has
-
--- what is done for one client is done for no other
-
-pub same_spared : (c : ℕ) (old new : AdjIns) → new ≡ old → IsSpared c old new
-same_spared c old new e = record { held = λ d p ne. ap (λ ins. held_of ins d p) e; identifiers = λ d ne. ap (λ ins. identifier_of ins d) e }
-
-pub begins_spared : (c i : ℕ) (old new : AdjIns) → Begins old new c i → IsSpared c old new
-begins_spared c i old new begins = record { held = others_held old new c i begins; identifiers = others_identifiers old new c i begins }

@@ -56,6 +56,7 @@ pub fn touches_what_was_altered()
 
 /// What a turn answers for a client, by the run: it was whole just where all was touched, and counts the
 /// prefixes that were altered, or where it was whole those that a client holds or that were due before.
+/// Only where memory was refused for octets since may it be whole, or count more, without that.
 pub fn answers_by_what_was_altered()
     ensures { AnswersByWhatWasAltered }
 {}
