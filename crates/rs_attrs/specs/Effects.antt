@@ -1,8 +1,12 @@
 -- What an UPDATE does, and what a list of UPDATEs means (RFC 4271, 4.3 and 6.3; RFC 7606, 2 to 5).
-use Rattle.std.specs.Prelude.{◌≡◌, ℕ, ◌<◌, ◌==◌, ◌⊎◌, Bool, true, false, ◌&&◌, ◌||◌, not, List, [], ◌∷◌, ◌++◌, length, take, drop, filter, reverse, find, Option, Some, None, option_map, is_none, is_err, Result, Ok, Err, nat_lt, if◌then◌else◌}
+use Rattle.std.specs.Prelude.{◌≡◌, ℕ, ◌<◌, ◌==◌, ◌⊎◌, Bool, true, false, ◌&&◌, ◌||◌, not, List, [], ◌∷◌, ◌++◌, length, take, drop, filter, reverse, find, Option, Some, None, option_map, is_none, is_err, nat_lt, if◌then◌else◌}
 use Rattle.std.specs.List.{list_any, filter_map, IsDistinct, AllZip}
 use Rattle.std.specs.Option.{option_or}
+use Rattle.std.specs.Result.{result_ok}
 use Rattle.std.specs.Int.{w16, from_be_bytes, to_be_bytes}
+use Rattle.rs_octets.specs.declared.notification.Notification.{Notification}
+use Rattle.rs_octets.specs.declared.notification.Notification.TheVariants as names
+use Rattle.rs_octets.specs.Names.{code_of, sub_of, codes_named}
 use Rattle.rs_octets.specs.Prefixes.{Prefix}
 use Rattle.rs_octets.specs.PrefixFields.{prefixes_of}
 use Rattle.rs_attrs.specs.declared.mode.Mode.{Mode}
@@ -41,12 +45,8 @@ has_prefix p prefixes = list_any (same_prefix p) prefixes
 abbrev pub is_faulty : List ℕ → Bool
 is_faulty field = list_any is_err (prefixes_of field)
 
-abbrev pub if_ok : {A B : Type 0} → Result A B → Option A
-if_ok (Ok x) = Some x
-if_ok (Err e) = None
-
 abbrev pub prefixes_in : List ℕ → List Prefix
-prefixes_in field = filter_map if_ok (prefixes_of field)
+prefixes_in field = filter_map result_ok (prefixes_of field)
 
 -- ---- the effect
 
@@ -61,17 +61,21 @@ pub data Effect : Type 0 where
   Reset : ℕ → ℕ → Effect
   Changes : Change → Effect
 
+-- the reset by the NOTIFICATION of this name
+abbrev pub reset_named : Notification → Effect
+reset_named name = Reset (code_of name) (sub_of name)
+
 abbrev pub is_empty : {A : Type 0} → List A → Bool
 is_empty [] = true
 is_empty (x ∷ xs) = false
 
--- the first reset that holds of fields that the body is made of (RFC 7606, 3, 5.2 and 5.3)
-abbrev pub reset_of : Fields → Faults → Option (ℕ × ℕ)
+-- the NOTIFICATION of the first reset that holds of fields that the body is made of (RFC 7606, 3, 5.2 and 5.3)
+abbrev pub reset_of : Fields → Faults → Option Notification
 reset_of fields faults =
-    if is_faulty fields.withdrawn || is_faulty fields.nlri then Some (3, 10)
-    else if faults.mp_twice then Some (3, 1)
-    else if faults.withdraw && not (is_empty fields.attributes) && is_empty fields.nlri then Some (3, 1)
-    else if faults.unknown then Some (3, 2)
+    if is_faulty fields.withdrawn || is_faulty fields.nlri then Some names.InvalidNetworkField
+    else if faults.mp_twice then Some names.MalformedAttributeList
+    else if faults.withdraw && not (is_empty fields.attributes) && is_empty fields.nlri then Some names.MalformedAttributeList
+    else if faults.unknown then Some names.UnrecognizedWellKnownAttribute
     else None
 
 -- ORIGIN, AS_PATH or NEXT_HOP isn't there
@@ -103,13 +107,13 @@ pub record IsChange (fields : Fields) (m : List Attribute) (faults : Faults) (ch
   pub attributes : change.attributes ≡ (if is_empty change.announced then None else Some m)
 
 abbrev pub IsEffect : Fields → List Attribute → Faults → Effect → Type 0
-IsEffect fields m faults (Reset code sub) = reset_of fields faults ≡ Some (code, sub)
+IsEffect fields m faults (Reset code sub) = option_map codes_named (reset_of fields faults) ≡ Some (code, sub)
 IsEffect fields m faults (Changes change) = (reset_of fields faults ≡ None) × IsChange fields m faults change
 
 -- the body of an UPDATE has this effect; where its two lengths exceed it, a reset
 abbrev pub HasEffect : List ℕ → Mode → Effect → Type 0
 HasEffect body mode effect =
-    (((fields : Fields) → IsBody body fields → ⊥) × (effect ≡ Reset 3 1))
+    (((fields : Fields) → IsBody body fields → ⊥) × (effect ≡ reset_named names.MalformedAttributeList))
     ⊎ ((fields : Fields) × IsBody body fields × (m : List Attribute) × (faults : Faults) × Reads fields.attributes mode m faults × IsEffect fields m faults effect)
 
 -- ---- what is told of an UPDATE that is taken, but not as it came (RFC 7606, 2 and 3, d)
@@ -199,12 +203,12 @@ change_of fields read =
       attributes = if is_empty announced then None else Some read.attributes;
     }
 
-abbrev pub effect_by : Option (ℕ × ℕ) → Change → Effect
-effect_by (Some reset) change = Reset reset.0 reset.1
+abbrev pub effect_by : Option Notification → Change → Effect
+effect_by (Some name) change = reset_named name
 effect_by None change = Changes change
 
 abbrev pub effect_in : Mode → Option Fields → Effect
-effect_in mode None = Reset 3 1
+effect_in mode None = reset_named names.MalformedAttributeList
 effect_in mode (Some fields) =
     let read = read_of fields.attributes mode in
     effect_by (reset_of fields read.faults) (change_of fields read)

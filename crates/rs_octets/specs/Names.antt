@@ -60,6 +60,10 @@ code_of name = (codes_of name).code
 abbrev pub sub_of : Notification → ℕ
 sub_of name = (codes_of name).sub
 
+-- both, as a pair
+abbrev pub codes_named : Notification → ℕ × ℕ
+codes_named name = (code_of name, sub_of name)
+
 -- the name of this error code and this subcode
 abbrev pub IsNamed : Notification → ℕ → ℕ → Type 0
 IsNamed name code sub = codes_of name ≡ codes code sub

@@ -2,6 +2,9 @@
 use Rattle.std.proofs.Common.{◌≡◌, ℕ, ◌<◌, ◌&&◌, ◌||◌, not, Bool, true, false, cond, List, [], ◌∷◌, length, map, Option, Some, None, refl, sym, ap, ◌∙◌, subst, inr, arith}
 use Rattle.std.specs.Prelude.{Ok, is_err}
 use Rattle.std.specs.List.{list_any, filter_map, IsDistinct}
+use Rattle.std.specs.Result.{result_ok}
+use Rattle.rs_octets.specs.declared.notification.Notification.{Notification}
+use Rattle.rs_octets.specs.declared.notification.Notification.TheVariants.{InvalidNetworkField, MalformedAttributeList, UnrecognizedWellKnownAttribute}
 use Rattle.rs_octets.specs.declared.prefix.FieldFault.{FieldFault}
 use Rattle.rs_octets.specs.Prefixes.{Prefix}
 use Rattle.rs_octets.specs.PrefixFields.{prefixes_of}
@@ -9,7 +12,7 @@ use Rattle.rs_attrs.specs.declared.mode.Mode.{Mode}
 use Rattle.rs_attrs.specs.declared.mode.Mode.TheVariants.{Two, Four}
 use Rattle.rs_attrs.specs.Meaning.{Attribute, Reads}
 use Rattle.rs_attrs.specs.Writing.{IsLegal, in_mode, spelt, no_faults}
-use Rattle.rs_attrs.specs.Effects.{Fields, if_ok, is_faulty, prefixes_in, reset_of, same_prefix, has_prefix, is_empty, lacks_mandatory, announced_by}
+use Rattle.rs_attrs.specs.Effects.{Fields, is_faulty, prefixes_in, reset_of, same_prefix, has_prefix, is_empty, lacks_mandatory, announced_by}
 use Rattle.rs_attrs.proofs.EachOnce.{same_itself}
 use Rattle.rs_attrs.proofs.HeldLemmas.{short_values}
 use Rattle.rs_attrs.proofs.Written.ReadBack.{reads_back}
@@ -29,21 +32,22 @@ none_faulty (p ∷ ps) = none_faulty ps
 pub not_faulty : (field : List ℕ) (ps : List Prefix) → prefixes_of field ≡ map Ok ps → is_faulty field ≡ false
 not_faulty field ps e = ap (list_any is_err) e ∙ none_faulty ps
 
-all_held : (ps : List Prefix) → filter_map (if_ok {B = FieldFault}) (map Ok ps) ≡ ps
+all_held : (ps : List Prefix) → filter_map (result_ok {E = FieldFault}) (map Ok ps) ≡ ps
 all_held [] = refl
 all_held (p ∷ ps) = ap (λ qs. p ∷ qs) (all_held ps)
 
 pub held : (field : List ℕ) (ps : List Prefix) → prefixes_of field ≡ map Ok ps → prefixes_in field ≡ ps
-held field ps e = ap (filter_map if_ok) e ∙ all_held ps
+held field ps e = ap (filter_map result_ok) e ∙ all_held ps
 
 -- nothing resets the session
 pub no_reset : (fields : Fields) (ws ps : List Prefix) → prefixes_of fields.withdrawn ≡ map Ok ws → prefixes_of fields.nlri ≡ map Ok ps → reset_of fields no_faults ≡ None
 no_reset fields ws ps w n = λ i. first (not_faulty fields.withdrawn ws w i || not_faulty fields.nlri ps n i)
   where
-    first : Bool → Option (ℕ × ℕ)
+    first : Bool → Option Notification
     first faulty =
-        cond faulty (Some (3, 10))
-        (cond false (Some (3, 1)) (cond (false && not (is_empty fields.attributes) && is_empty fields.nlri) (Some (3, 1)) (cond false (Some (3, 2)) None)))
+        cond faulty (Some InvalidNetworkField)
+        (cond false (Some MalformedAttributeList)
+        (cond (false && not (is_empty fields.attributes) && is_empty fields.nlri) (Some MalformedAttributeList) (cond false (Some UnrecognizedWellKnownAttribute) None)))
 
 -- ---- attributes that are spelt within a message
 

@@ -1,6 +1,7 @@
 -- A message has one effect.
-use Rattle.std.proofs.Common.{◌≡◌, ℕ, ◌<◌, ◌&&◌, ◌||◌, not, false, cond, List, [], length, map, Some, None, refl, ap, ◌∙◌, subst, inl, inr}
-use Rattle.std.specs.Prelude.{Ok}
+use Rattle.std.proofs.Common.{◌≡◌, ℕ, ◌<◌, ◌&&◌, ◌||◌, not, false, cond, List, [], length, map, Option, Some, None, refl, sym, ap, ◌∙◌, subst, inl, inr}
+use Rattle.std.specs.Prelude.{Ok, option_map}
+use Rattle.rs_octets.specs.Names.{codes_named}
 use Rattle.rs_octets.specs.Prefixes.{Prefix}
 use Rattle.rs_octets.specs.PrefixFields.{prefixes_of}
 use Rattle.rs_attrs.specs.declared.mode.Mode.{Mode}
@@ -24,8 +25,8 @@ one_effect body mode ws m ps effect holds (inr (fields, are, n, faults, reads, i
     let P : Fields → List Attribute → Faults → Type 0 = λ fields m faults. IsEffect fields m faults effect in
     subst (λ faults. P holds.fields m faults) meant.1 (subst (λ m. P holds.fields m faults) meant.0 (subst (λ fields. P fields n faults) same is))
 
-no_effect : (fields : Fields) (code sub : ℕ) → reset_of fields no_faults ≡ None → reset_of fields no_faults ≡ Some (code, sub) → ⊥
-no_effect fields code sub none some = cc
+no_effect : (fields : Fields) (code sub : ℕ) → reset_of fields no_faults ≡ None → option_map codes_named (reset_of fields no_faults) ≡ Some (code, sub) → ⊥
+no_effect fields code sub none some = let no : ◌≡◌ {A = Option (ℕ × ℕ)} None (Some (code, sub)) = ap (option_map codes_named) (sym none) ∙ some in cc
 
 announces : (fields : Fields) (m : List Attribute) (ps : List Prefix) (effect : Effect) → prefixes_of fields.withdrawn ≡ map Ok [] → prefixes_of fields.nlri ≡ map Ok ps → lacks_mandatory m ≡ false → 0 < length ps
     → IsEffect fields m no_faults effect → (change : Change) × (effect ≡ Changes change) × Announces m ps change

@@ -1,16 +1,18 @@
 -- From what the code found to the effect of an UPDATE.
 use Rattle.std.proofs.Common.{inl, inr, ◌≡◌, ℕ, ◌&&◌, ◌||◌, Bool, true, false, cond, not, List, [], ◌∷◌, Option, Some, None, refl, sym, ap, ◌∙◌, subst}
+use Rattle.std.specs.Prelude.{option_map}
 use Rattle.std.specs.List.{IsDistinct, AllByRecursion}
 use Rattle.std.specs.List.Sorted.{IsStrictlySortedBy}
 use Rattle.std.specs.declared.cmp.Ordering.TheVariants.{Less}
 use Rattle.std.specs.Ordering.{is_eq}
 use Rattle.rs_octets.specs.declared.notification.Notification.{Notification}
-use Rattle.rs_octets.specs.Names.{code_of, sub_of}
+use Rattle.rs_octets.specs.declared.notification.Notification.TheVariants.{InvalidNetworkField, MalformedAttributeList, UnrecognizedWellKnownAttribute}
+use Rattle.rs_octets.specs.Names.{code_of, sub_of, codes_named}
 use Rattle.rs_octets.specs.Prefixes.{Prefix, prefix_order}
 use Rattle.rs_attrs.specs.declared.mode.Mode.{Mode}
 use Rattle.rs_attrs.specs.declared.faults.Faults.{Faults}
 use Rattle.rs_attrs.specs.Meaning.{Attribute, Reads}
-use Rattle.rs_attrs.specs.Effects.{Fields, fields_of, Effect, Reset, Change, HasEffect, IsEffect, IsChange, reset_of, is_faulty, is_empty, has_prefix, same_prefix, prefixes_in, treat_as_withdraw}
+use Rattle.rs_attrs.specs.Effects.{Fields, fields_of, Effect, Change, HasEffect, IsEffect, IsChange, reset_named, reset_of, is_faulty, is_empty, has_prefix, same_prefix, prefixes_in, treat_as_withdraw}
 use Rattle.rs_update.specs.declared.outcome.Outcome.{Outcome}
 use Rattle.rs_update.specs.declared.outcome.Outcome.TheVariants as outcomes
 use Rattle.rs_update.specs.Outcomes.{effect_seen, IsWithdrawn, IsAnnounced}
@@ -18,7 +20,7 @@ use Rattle.rs_update.proofs.BodyFields.{Fit, body_of_fields, no_body}
 use Rattle.rs_update.proofs.PrefixSets.{same_ties}
 
 -- the lengths exceed the body
-pub no_fields : (body : List ℕ) (mode : Mode) → fields_of body ≡ None → HasEffect body mode (Reset 3 1)
+pub no_fields : (body : List ℕ) (mode : Mode) → fields_of body ≡ None → HasEffect body mode (reset_named MalformedAttributeList)
 no_fields body mode e = inl (no_body body e, refl)
 
 -- what the fields are read as has this effect
@@ -28,21 +30,25 @@ by_reading body mode effect fields m faults fit e reads is = inr (fields, body_o
 -- ---- resets
 
 -- the resets behind those by a faulty prefix
-abbrev behind : Fields → Faults → Option (ℕ × ℕ)
+abbrev behind : Fields → Faults → Option Notification
 behind fields faults =
-    cond faults.mp_twice (Some (3, 1))
-    (cond (faults.withdraw && not (is_empty fields.attributes) && is_empty fields.nlri) (Some (3, 1))
-    (cond faults.unknown (Some (3, 2)) None))
+    cond faults.mp_twice (Some MalformedAttributeList)
+    (cond (faults.withdraw && not (is_empty fields.attributes) && is_empty fields.nlri) (Some MalformedAttributeList)
+    (cond faults.unknown (Some UnrecognizedWellKnownAttribute) None))
 
-pub withdrawn_faulty : (fields : Fields) (faults : Faults) → is_faulty fields.withdrawn ≡ true → reset_of fields faults ≡ Some (3, 10)
-withdrawn_faulty fields faults e = ap (λ b. cond (b || is_faulty fields.nlri) (Some (3, 10)) (behind fields faults)) e
+pub withdrawn_faulty : (fields : Fields) (faults : Faults) → is_faulty fields.withdrawn ≡ true → reset_of fields faults ≡ Some InvalidNetworkField
+withdrawn_faulty fields faults e = ap (λ b. cond (b || is_faulty fields.nlri) (Some InvalidNetworkField) (behind fields faults)) e
 
-pub nlri_faulty : (fields : Fields) (faults : Faults) → is_faulty fields.withdrawn ≡ false → is_faulty fields.nlri ≡ true → reset_of fields faults ≡ Some (3, 10)
-nlri_faulty fields faults e f = λ i. cond (e i || f i) (Some (3, 10)) (behind fields faults)
+pub nlri_faulty : (fields : Fields) (faults : Faults) → is_faulty fields.withdrawn ≡ false → is_faulty fields.nlri ≡ true → reset_of fields faults ≡ Some InvalidNetworkField
+nlri_faulty fields faults e f = λ i. cond (e i || f i) (Some InvalidNetworkField) (behind fields faults)
+
+-- the first reset that holds is the effect
+pub is_reset : (fields : Fields) (m : List Attribute) (faults : Faults) (name : Notification) → reset_of fields faults ≡ Some name → IsEffect fields m faults (reset_named name)
+is_reset fields m faults name e = ap (option_map codes_named) e
 
 -- the outcome that a name stands for has the effect that its codes have
 pub by_reset : (body : List ℕ) (mode : Mode) (name : Notification) (outcome : Outcome) → outcome ≡ outcomes.Reset (code_of name) (sub_of name)
-    → HasEffect body mode (Reset (code_of name) (sub_of name)) → HasEffect body mode (effect_seen outcome)
+    → HasEffect body mode (reset_named name) → HasEffect body mode (effect_seen outcome)
 by_reset body mode name outcome e is = subst (λ (o : Outcome). HasEffect body mode (effect_seen o)) (sym e) is
 
 -- ---- changes

@@ -1,9 +1,13 @@
 -- Octets have one effect, and bodies one table.
 use Rattle.std.proofs.Common.{◌≡◌, ℕ, ◌&&◌, ◌||◌, not, Bool, true, false, cond, List, [], ◌∷◌, ◌++◌, Option, Some, None, refl, sym, ap, ◌∙◌, subst, inl, inr, reverse}
+use Rattle.std.specs.Prelude.{option_map}
 use Rattle.std.specs.List.{AllByRecursion, AllZip, find}
 use Rattle.std.proofs.lemmas.List.{reverse-append}
 use Rattle.std.proofs.lemmas.List.Elements.{AllZip-push}
 use Rattle.std.proofs.lemmas.List.Folds.{list_any-append}
+use Rattle.rs_octets.specs.declared.notification.Notification.{Notification}
+use Rattle.rs_octets.specs.declared.notification.Notification.TheVariants.{MalformedAttributeList}
+use Rattle.rs_octets.specs.Names.{codes_named}
 use Rattle.rs_octets.specs.Prefixes.{Prefix}
 use Rattle.rs_attrs.specs.declared.mode.Mode.{Mode}
 use Rattle.rs_attrs.specs.declared.faults.Faulted.{Faulted}
@@ -11,13 +15,13 @@ use Rattle.rs_attrs.specs.declared.faults.Faults.{Faults}
 use Rattle.rs_attrs.specs.Flaws.{faulted_of}
 use Rattle.rs_attrs.specs.Spellings.{AreOctets}
 use Rattle.rs_attrs.specs.Meaning.{Attribute, Reading, Reads, read_of}
-use Rattle.rs_attrs.specs.Effects.{Fields, IsBody, Effect, Reset, Changes, Change, IsChange, IsEffect, HasEffect, reset_of, announced_by, prefixes_in, has_prefix, same_prefix, is_empty, mentions, attributes_after, once, fields_of, change_of, effect_by, effect_in, effect_of, table_since, behind_its_length, missing_for, told_of, with_missing}
+use Rattle.rs_attrs.specs.Effects.{Fields, IsBody, Effect, Reset, Changes, Change, IsChange, IsEffect, HasEffect, reset_named, reset_of, announced_by, prefixes_in, has_prefix, same_prefix, is_empty, mentions, attributes_after, once, fields_of, change_of, effect_by, effect_in, effect_of, table_since, behind_its_length, missing_for, told_of, with_missing}
 use Rattle.rs_attrs.proofs.EachOnce.{once_distinct, once_has, distinct_filtered, filtered_has, same_itself}
 use Rattle.rs_attrs.proofs.Overlaying.{newest_overlays}
 use Rattle.rs_attrs.proofs.OneMeaning.{same_fields, same_meaning, fit_all, fields_are_read}
 use Rattle.rs_update.specs.Laws.{IsSameChange, IsSameEffect, BodiesHaveEffects, BodiesHaveOneEffect, BodiesMeanTables, BodiesMeanOneTable, SameChangesOverlayAlike}
 use Rattle.rs_update.proofs.BodyFields.{body_of_fields}
-use Rattle.rs_update.proofs.Effecting.{no_fields}
+use Rattle.rs_update.proofs.Effecting.{no_fields, is_reset}
 
 -- ---- there is one
 
@@ -48,9 +52,9 @@ is_change fields read =
       attributes = refl;
     }
 
-is_effect : (fields : Fields) (read : Reading) (r : Option (ℕ × ℕ)) → reset_of fields read.faults ≡ r → IsEffect fields read.attributes read.faults (effect_by r (change_of fields read))
+is_effect : (fields : Fields) (read : Reading) (r : Option Notification) → reset_of fields read.faults ≡ r → IsEffect fields read.attributes read.faults (effect_by r (change_of fields read))
 is_effect fields read None e = (e, is_change fields read)
-is_effect fields read (Some (code, sub)) e = e
+is_effect fields read (Some name) e = is_reset fields read.attributes read.faults name e
 
 pub have_effects : BodiesHaveEffects
 have_effects body mode are = by_fields (fields_of body) refl
@@ -90,13 +94,13 @@ no_pair r e = cc
 
 same_effect : (fields : Fields) (m : List Attribute) (faults : Faults) (x y : Effect) → IsEffect fields m faults x → IsEffect fields m faults y → IsSameEffect x y
 same_effect fields m faults (Reset code sub) (Reset other subcode) is are = let pair = same_pair (code, sub) (other, subcode) (sym is ∙ are) in (ap (λ r. r.0) pair, ap (λ r. r.1) pair)
-same_effect fields m faults (Reset code sub) (Changes y) is are = absurd (no_pair (code, sub) (sym is ∙ are.0))
-same_effect fields m faults (Changes x) (Reset code sub) is are = absurd (no_pair (code, sub) (sym are ∙ is.0))
+same_effect fields m faults (Reset code sub) (Changes y) is are = absurd (no_pair (code, sub) (sym is ∙ ap (option_map codes_named) are.0))
+same_effect fields m faults (Changes x) (Reset code sub) is are = absurd (no_pair (code, sub) (sym are ∙ ap (option_map codes_named) is.0))
 same_effect fields m faults (Changes x) (Changes y) is are = same_change fields m faults x y is.1 are.1
 
 pub have_one_effect : BodiesHaveOneEffect
 have_one_effect body mode x y (inl (none, e)) (inl (never, f)) =
-    subst (λ x. IsSameEffect x y) (sym e) (subst (λ y. IsSameEffect (Reset 3 1) y) (sym f) (refl, refl))
+    subst (λ x. IsSameEffect x y) (sym e) (subst (λ y. IsSameEffect (reset_named MalformedAttributeList) y) (sym f) (refl, refl))
 have_one_effect body mode x y (inl (none, e)) (inr (fields, are, m, faults, reads, is)) = absurd (none fields are)
 have_one_effect body mode x y (inr (fields, are, m, faults, reads, is)) (inl (none, e)) = absurd (none fields are)
 have_one_effect body mode x y (inr (fields, are, m, faults, reads, is)) (inr (others, have, n, flaws, means, has)) =

@@ -8,6 +8,7 @@ use Rattle.std.specs.declared.cmp.Ordering.{Ordering}
 use Rattle.std.specs.Ordering.{on, nat_cmp, ordering_index, is_eq, eq_by_cmp}
 use Rattle.std.specs.Cmp.{IsTotalOrder, IsEquivalence, nat_cmp_total, unsigned_ties, tied_then, then_total, on_total, eq_by_cmp_equiv, tied_itself, tied_back, alike_right}
 use Rattle.std.proofs.lemmas.Bool.{ltb-true, ltb-false}
+use Rattle.std.proofs.lemmas.Bool.Decides.{same_from_decides}
 use Rattle.std.proofs.lemmas.Map.Views.{list_any-from_Contains, Contains-from_any}
 use Rattle.std.proofs.lemmas.List.Kept.{Contains-dedup, Contains-from_dedup}
 use Rattle.std.proofs.lemmas.List.Sorted.{Contains-permutation, IsPermutation-sym}
@@ -33,14 +34,10 @@ member_has p ps m = list_any-from_Contains same_equiv p ps m
 pub has_member : (p : Prefix) (ps : List Prefix) → has_prefix p ps ≡ true → Contains ps p
 has_member p ps e = Contains-from_any same_is p ps e
 
-both_ways : (a b : Bool) → (a ≡ true → b ≡ true) → (b ≡ true → a ≡ true) → a ≡ b
-both_ways true b f g = sym (f refl)
-both_ways false true f g = g refl
-both_ways false false f g = refl
-
 -- lists with the same members are the same set
 pub same_set : (p : Prefix) (ps qs : List Prefix) → (Contains ps p → Contains qs p) → (Contains qs p → Contains ps p) → has_prefix p qs ≡ has_prefix p ps
-same_set p ps qs f g = both_ways (has_prefix p qs) (has_prefix p ps) (λ e. member_has p ps (g (has_member p qs e))) (λ e. member_has p qs (f (has_member p ps e)))
+same_set p ps qs f g =
+    same_from_decides {P = Contains ps p} (has_prefix p qs) (has_prefix p ps) (λ e. g (has_member p qs e), λ m. member_has p qs (f m)) (has_member p ps, member_has p ps)
 
 pub permuted : (p : Prefix) (ps qs : List Prefix) → IsPermutation ps qs → has_prefix p qs ≡ has_prefix p ps
 permuted p ps qs f = same_set p ps qs (Contains-permutation ps qs p f) (Contains-permutation qs ps p (IsPermutation-sym ps qs f))

@@ -1,13 +1,13 @@
 -- What UPDATEs do where something is wrong with them (RFC 7606), worked out by hand, by computation.
 use Rattle.std.specs.Prelude.{◌≡◌, List, [], ◌∷◌, ◌++◌, refl, codes, Some, None}
 use Rattle.rs_octets.specs.declared.notification.Notification.TheVariants as names
+use Rattle.rs_octets.specs.Names.{codes_named}
 use Rattle.rs_octets.specs.Prefixes.{Prefix}
 use Rattle.rs_attrs.specs.declared.mode.Mode.TheVariants.{Two, Four}
 use Rattle.rs_attrs.specs.Meaning.{Attribute, all_types}
 use Rattle.rs_attrs.specs.Effects.{Effect, Reset, Changes, effect_of}
 use Rattle.rs_octets.proofs.Rows.{hex}
 use Rattle.rs_attrs.proofs.Rows.{u1, u1_attributes}
-use Rattle.rs_update.specs.Changes.{codes_named}
 
 -- 198.51.100.0/24 and 203.0.113.0/24
 abbrev test_net_2 : Prefix

@@ -1,8 +1,6 @@
 -- The words of the private contracts: what the fields of a body are, and which set of prefixes a list is.
 use Rattle.std.specs.Prelude.{◌≡◌, ℕ, ◌&&◌, not, List}
 use Rattle.std.specs.Borrow.{Bor}
-use Rattle.rs_octets.specs.declared.notification.Notification.{Notification}
-use Rattle.rs_octets.specs.Names.{code_of, sub_of}
 use Rattle.rs_octets.specs.Prefixes.{Prefix}
 use Rattle.rs_attrs.specs.Effects.{Fields, Cut, has_prefix}
 use Rattle.rs_update.specs.declared.fields.Fields.{Fields as FieldsRead}
@@ -22,7 +20,3 @@ SameMembers old new = (p : Prefix) → has_prefix p new ≡ has_prefix p old
 -- the new list has just the prefixes of the old one that the others lack
 abbrev pub LacksMembers : List Prefix → List Prefix → List Prefix → Type 0
 LacksMembers old others new = (p : Prefix) → has_prefix p new ≡ (has_prefix p old && not (has_prefix p others))
-
--- the error code and the subcode of a name, as the definition of an effect has them
-abbrev pub codes_named : Notification → ℕ × ℕ
-codes_named name = (code_of name, sub_of name)

@@ -1,9 +1,9 @@
 //! The effect of an UPDATE (RFC 7606, 2 to 5).
 
-ghost use Rattle.std.specs.Prelude.{◌≡◌, ◌&&◌, ◌||◌, IfOk, false, is_some, not, option_map};
+ghost use Rattle.std.specs.Prelude.{◌≡◌, ◌&&◌, ◌||◌, IfOk, false, is_some, not};
 ghost use Rattle.rs_octets.specs.Names.{code_of, sub_of};
 ghost use Rattle.rs_attrs.specs.Effects.{HasEffect, effect_of, is_empty, is_faulty, lacks_mandatory, missing_for, reset_of, with_missing};
-ghost use Rattle.rs_update.specs.Changes.{fields_in, codes_named};
+ghost use Rattle.rs_update.specs.Changes.{fields_in};
 ghost use Rattle.rs_update.specs.Laws.{IsSameEffect};
 ghost use Rattle.rs_update.specs.Outcomes.{effect_seen, change_seen, IsRising, AreDistinct, AreApart, HasItsAttributes, HasItsMandatory, TellsFaults, IsWithdrawn, IsAnnounced};
 ghost use Rattle.rs_update.specs.declared.outcome.Outcome.TheVariants.{Reset};
@@ -42,11 +42,12 @@ struct Routes {
     attrs: Option<Arc<Attrs>>,
 }
 
-/// The first reset that attributes bring about, where neither field of prefixes is faulty.
+/// The NOTIFICATION of the first reset that attributes bring about, where neither field of prefixes is
+/// faulty.
 fn reset_by(faults: &Faults, fields: &Fields<'_>) -> Option<Notification>
     requires withdrawn { is_faulty (fields_in fields.now).withdrawn ≡ false }
     requires nlri { is_faulty (fields_in fields.now).nlri ≡ false }
-    ensures { option_map codes_named result ≡ reset_of (fields_in fields.now) faults.now }
+    ensures { result ≡ reset_of (fields_in fields.now) faults.now }
 {
     if faults.mp_twice {
         return Some(MalformedAttributeList);

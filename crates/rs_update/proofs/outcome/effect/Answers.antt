@@ -1,14 +1,13 @@
 use Rattle.std.proofs.Common.{◌≡◌, ◌||◌, ℕ, true, false, List, Vec, Global, Option, Some, None, sym, ap, ◌∙◌, subst, arith}
 use Rattle.std.specs.Prelude.{MatchOption, option_map}
 use Rattle.rs_octets.specs.declared.notification.Notification.TheVariants.{MalformedAttributeList, InvalidNetworkField}
-use Rattle.rs_octets.specs.Names.{code_of, sub_of}
 use Rattle.rs_octets.specs.declared.prefix.Prefix.{Prefix as DeclaredPrefix}
-use Rattle.rs_attrs.specs.Effects.{Reset, Changes, is_faulty, prefixes_in}
+use Rattle.rs_attrs.specs.Effects.{Changes, is_faulty, prefixes_in, reset_named}
 use Rattle.rs_attrs.proofs.Fields.Legal.{are_octets}
 use Rattle.rs_update.proofs.BodyFields.{body_of_fields}
-use Rattle.rs_update.specs.Changes.{fields_in, codes_named}
+use Rattle.rs_update.specs.Changes.{fields_in}
 use Rattle.rs_update.specs.Outcomes.{change_seen}
-use Rattle.rs_update.proofs.Effecting.{no_fields, by_reading, withdrawn_faulty, nlri_faulty, by_reset, is_withdrawn, is_announced, same_withdrawn, same_announced, rising_distinct, BothRise, withdrawn_rise, announced_rise}
+use Rattle.rs_update.proofs.Effecting.{no_fields, by_reading, is_reset, withdrawn_faulty, nlri_faulty, by_reset, is_withdrawn, is_announced, same_withdrawn, same_announced, rising_distinct, BothRise, withdrawn_rise, announced_rise}
 use Rattle.rs_update.proofs.Mandatory.{has_mandatory, seen_complete}
 use Rattle.rs_update.proofs.OneEffect.{effect_is, tells}
 use Rattle.rs_update.proofs.outcome.effect.Goals as goal
@@ -31,8 +30,9 @@ returns-in_default-2-clause-effect c =
     let fields = fields_in c.in-Some.fields in
     let faulty = found_at fields.withdrawn _ None c.in_default-2.is c.in_ok-withdrawn.ensures in
     by_reset c.args.body.now c.args.mode InvalidNetworkField _ c.reset-in_default-2.ensures
-    (by_reading c.args.body.now c.args.mode (Reset 3 10) fields c.in_ok-parsed.parsed.attrs c.in_ok-parsed.parsed.faults (λ i. omega (arith, c.type_inv.body i))
-    (sym c.cut_body.ensures ∙ ap (option_map fields_in) c.in-Some.is) c.in_ok-parsed.ensures.reads (withdrawn_faulty fields c.in_ok-parsed.parsed.faults faulty))
+    (by_reading c.args.body.now c.args.mode (reset_named InvalidNetworkField) fields c.in_ok-parsed.parsed.attrs c.in_ok-parsed.parsed.faults (λ i. omega (arith, c.type_inv.body i))
+    (sym c.cut_body.ensures ∙ ap (option_map fields_in) c.in-Some.is) c.in_ok-parsed.ensures.reads
+    (is_reset fields c.in_ok-parsed.parsed.attrs c.in_ok-parsed.parsed.faults InvalidNetworkField (withdrawn_faulty fields c.in_ok-parsed.parsed.faults faulty)))
 
 pub returns-in_default-3-clause-effect : goal.returns-in_default-3-clause-effect
 returns-in_default-3-clause-effect c =
@@ -40,24 +40,25 @@ returns-in_default-3-clause-effect c =
     let withdrawn = found_at fields.withdrawn _ (Some c.in-Some-2.withdrawn) c.in-Some-2.is c.in_ok-withdrawn.ensures in
     let faulty = found_at fields.nlri _ None c.in_default-3.is c.in_ok-nlri.ensures in
     by_reset c.args.body.now c.args.mode InvalidNetworkField _ c.reset-in_default-3.ensures
-    (by_reading c.args.body.now c.args.mode (Reset 3 10) fields c.in_ok-parsed.parsed.attrs c.in_ok-parsed.parsed.faults (λ i. omega (arith, c.type_inv.body i))
-    (sym c.cut_body.ensures ∙ ap (option_map fields_in) c.in-Some.is) c.in_ok-parsed.ensures.reads (nlri_faulty fields c.in_ok-parsed.parsed.faults withdrawn.0 faulty))
+    (by_reading c.args.body.now c.args.mode (reset_named InvalidNetworkField) fields c.in_ok-parsed.parsed.attrs c.in_ok-parsed.parsed.faults (λ i. omega (arith, c.type_inv.body i))
+    (sym c.cut_body.ensures ∙ ap (option_map fields_in) c.in-Some.is) c.in_ok-parsed.ensures.reads
+    (is_reset fields c.in_ok-parsed.parsed.attrs c.in_ok-parsed.parsed.faults InvalidNetworkField (nlri_faulty fields c.in_ok-parsed.parsed.faults withdrawn.0 faulty)))
 
 pub returns-in-Some-reset_by-clause-effect : goal.returns-in-Some-reset_by-clause-effect
 returns-in-Some-reset_by-clause-effect c =
     let fields = fields_in c.in-Some.fields in
     let name = c.in-Some-reset_by.name in
     by_reset c.args.body.now c.args.mode name _ c.reset-in-Some-reset_by.ensures
-    (by_reading c.args.body.now c.args.mode (Reset (code_of name) (sub_of name)) fields c.in_ok-parsed.parsed.attrs c.in_ok-parsed.parsed.faults (λ i. omega (arith, c.type_inv.body i))
+    (by_reading c.args.body.now c.args.mode (reset_named name) fields c.in_ok-parsed.parsed.attrs c.in_ok-parsed.parsed.faults (λ i. omega (arith, c.type_inv.body i))
     (sym c.cut_body.ensures ∙ ap (option_map fields_in) c.in-Some.is) c.in_ok-parsed.ensures.reads
-    (sym c.reset_by.ensures ∙ ap (option_map codes_named) c.in-Some-reset_by.is))
+    (is_reset fields c.in_ok-parsed.parsed.attrs c.in_ok-parsed.parsed.faults name (sym c.reset_by.ensures ∙ c.in-Some-reset_by.is)))
 
 pub returns-clause-effect : goal.returns-clause-effect
 returns-clause-effect c =
     let fields = fields_in c.in-Some.fields in
     let withdrawn = found_at fields.withdrawn _ (Some c.in-Some-2.withdrawn) c.in-Some-2.is c.in_ok-withdrawn.ensures in
     let nlri = found_at fields.nlri _ (Some c.in-Some-3.nlri) c.in-Some-3.is c.in_ok-nlri.ensures in
-    let no_reset = sym c.reset_by.ensures ∙ ap (option_map codes_named) c.in_default-reset_by.is in
+    let no_reset = sym c.reset_by.ensures ∙ c.in_default-reset_by.is in
     let withdraws = ap (λ b. c.in_ok-parsed.parsed.faults.withdraw || b) (sym c.missing-missing.ensures.lacks) ∙ sym c.treats_as_withdraw.ensures in
     by_reading c.args.body.now c.args.mode (Changes (change_seen c.if-treats_as_withdraw.withdrawn)) fields c.in_ok-parsed.parsed.attrs c.in_ok-parsed.parsed.faults (λ i. omega (arith, c.type_inv.body i))
     (sym c.cut_body.ensures ∙ ap (option_map fields_in) c.in-Some.is) c.in_ok-parsed.ensures.reads (
