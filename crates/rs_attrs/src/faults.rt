@@ -11,13 +11,17 @@ use crate::reading::field::Found;
 use crate::reading::values::{fits_class, outcome_of};
 use crate::table::{Outcome, Shape, row_of};
 
-/// What is wrong with a field of path attributes.
+/// What is wrong with a field of path attributes, of which each type's first attribute counts
+/// (RFC 7606, 2 and 3).
 #[derive(Clone, Copy, Debug, PartialEq, Eq)]
 pub struct Faults {
-    /// Type 14 or type 15 stands twice.
+    /// MP_REACH_NLRI or MP_UNREACH_NLRI stands twice (RFC 7606, 3, g).
     pub mp_twice: bool,
+    /// An attribute asks for treat-as-withdraw, or the field ends within one.
     pub withdraw: bool,
+    /// There is a well-known attribute of a type that is not known (RFC 4271, 6.3).
     pub unknown: bool,
+    /// An attribute is discarded.
     pub discard: bool,
 }
 
@@ -53,7 +57,9 @@ pub struct AttributeFault {
 /// missing; a field of attributes alone misses none.
 #[derive(Clone, Copy, Debug, PartialEq, Eq)]
 pub struct Faulted {
+    /// For which the UPDATE is treated as withdraw.
     pub withdraw: Option<AttributeFault>,
+    /// That is discarded.
     pub discard: Option<AttributeFault>,
 }
 

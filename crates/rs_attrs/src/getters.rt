@@ -12,7 +12,8 @@ use crate::attrs::{Attrs, Head};
 use crate::segments::{Numbers, Segments};
 use crate::types::{AS_PATH, COMMUNITIES, MULTI_EXIT_DISC, NEXT_HOP, ORIGIN};
 
-/// An attribute as it stands in `Attrs`.
+/// An attribute as it stands in `Attrs`: its type, its flags (RFC 4271, 4.3) and its value, with AS
+/// numbers in four octets.
 #[derive(Clone, Copy, Debug)]
 pub struct AttributeRef<'a> {
     pub kind: u8,
@@ -61,7 +62,7 @@ fn path_length(segments: Segments<'_>) -> usize
 }
 
 impl Attrs {
-    /// The attribute of this type.
+    /// The attribute of this type; None where there is none.
     pub fn get(&self, kind: u8) -> Option<AttributeRef<'_>>
         ensures attribute { option_map attribute_at result ≡ get kind self.now }
         ensures value { option_map (λ a. a.value.now) result ≡ value_of kind self.now }
@@ -86,7 +87,7 @@ impl Attrs {
         Some(value[0])
     }
 
-    /// NEXT_HOP (RFC 4271, 5.1.3).
+    /// NEXT_HOP, the address as a number (RFC 4271, 5.1.3).
     pub fn next_hop(&self) -> Option<u32>
         ensures { result ≡ next_hop_of self.now }
     {
@@ -111,7 +112,8 @@ impl Attrs {
         }
     }
 
-    /// The length of AS_PATH: each set counts 1 (RFC 4271, 9.1.2.2, a).
+    /// The length of AS_PATH: each number of a sequence counts 1, and each set (RFC 4271, 9.1.2.2, a).
+    /// It is 0 where there is no AS_PATH.
     pub fn path_len(&self) -> usize
         ensures { result ≡ path_length_of self.now }
     {

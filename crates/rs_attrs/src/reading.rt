@@ -100,7 +100,9 @@ fn attributes_of(alloc: Global, mode: Mode, kept: &[Found<'_>]) -> Result<Attrs,
 /// What a field means, and what is wrong with it.
 #[derive(Debug, Drop)]
 pub struct Parsed {
+    /// What is kept.
     pub attrs: Attrs,
+    /// What comes of the attributes that aren't.
     pub faults: Faults,
     /// The first attributes at fault, to be told.
     pub faulted: Faulted,

@@ -13,6 +13,7 @@ ghost use Rattle.rs_attrs.specs.Merging.{segments_in, is_whole_behind, IsWhole, 
 ghost use Rattle.rs_attrs.specs.Writing.{path_in, needs_four_octets};
 
 use crate::mode::Mode;
+use crate::types::{AS_CONFED_SEQUENCE, AS_CONFED_SET, AS_SEQUENCE, AS_SET};
 use std::marker::Model;
 
 /// A segment as it stands at the front of a path, and what follows it.
@@ -35,10 +36,13 @@ pub(crate) fn number_size(mode: Mode) -> usize
     }
 }
 
+/// Whether a path may have segments of this type, those of a confederation too or not.
 pub(crate) fn is_segment_kind(kind: u8, confederations: bool) -> bool
     ensures { result ≡ segment_kinds confederations kind }
 {
-    kind == 1 || kind == 2 || confederations && (kind == 3 || kind == 4)
+    kind == AS_SET
+        || kind == AS_SEQUENCE
+        || confederations && (kind == AS_CONFED_SEQUENCE || kind == AS_CONFED_SET)
 }
 
 /// The segment at the front of octets, where a whole one of these kinds stands there.
@@ -128,7 +132,7 @@ impl<'a> Model for PathSegment<'a> {
 }
 
 impl PathSegment<'_> {
-    /// 1 for a set, 2 for a sequence.
+    /// Its type, AS_SET or AS_SEQUENCE.
     pub(crate) fn kind(&self) -> u8
         ensures { result ≡ self.now.kind }
     {
@@ -159,13 +163,14 @@ impl PathSegment<'_> {
     pub(crate) fn path_len(&self) -> usize
         ensures { result ≡ segment_length self.now }
     {
-        if self.kind == 1 {
+        if self.kind == AS_SET {
             1
         } else {
             self.numbers.len() / 4
         }
     }
 
+    /// Whether the number stands in it.
     pub(crate) fn has(&self, number: u32) -> bool
         ensures { result ≡ list_any (λ n. n == number) self.now.numbers }
     {
@@ -176,7 +181,7 @@ impl PathSegment<'_> {
     pub(crate) fn origin(&self) -> Option<u32>
         ensures { result ≡ segment_origin (Some self.now) }
     {
-        if self.kind == 2 {
+        if self.kind == AS_SEQUENCE {
             Numbers::of(self.numbers).last()
         } else {
             None

@@ -18,7 +18,9 @@ use std::alloc::{AllocError, Global};
 /// What is taken out of COMMUNITIES (RFC 1997): the communities of both lists, or all.
 #[derive(Clone, Copy, Debug)]
 pub struct Strip<'a> {
+    /// The communities that are taken out, as numbers of 32 bits.
     pub lists: [&'a [u32]; 2],
+    /// All are, whatever the lists say.
     pub all: bool,
 }
 

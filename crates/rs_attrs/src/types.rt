@@ -1,4 +1,4 @@
-//! The types of path attributes that are known, by name.
+//! The types of path attributes that are known, and those of a path's segments, by name.
 
 /// RFC 4271, 5.1.
 pub(crate) const ORIGIN: u8 = 1;
@@ -38,3 +38,15 @@ pub(crate) const AS4_AGGREGATOR: u8 = 18;
 
 /// RFC 8092, 3.
 pub(crate) const LARGE_COMMUNITY: u8 = 32;
+
+// ---- segments of a path
+
+/// RFC 4271, 4.3.
+pub(crate) const AS_SET: u8 = 1;
+
+pub(crate) const AS_SEQUENCE: u8 = 2;
+
+/// RFC 5065, 3.
+pub(crate) const AS_CONFED_SEQUENCE: u8 = 3;
+
+pub(crate) const AS_CONFED_SET: u8 = 4;

@@ -8,7 +8,7 @@ use Rattle.rs_attrs.specs.declared.table.Class.TheVariants.{WellKnown, OptionalT
 use Rattle.rs_attrs.specs.declared.table.Outcome.TheVariants.{Kept, Withdraw, Discard}
 use Rattle.rs_attrs.specs.Paths.{Segment, two_octets, is_set_or_sequence, path_octets}
 use Rattle.rs_attrs.specs.Table.{fits_class, outcome_of, is_kept, is_path}
-use Rattle.rs_attrs.specs.Meaning.{Attribute, kept, is_as4}
+use Rattle.rs_attrs.specs.Meaning.{Attribute, is_as4}
 use Rattle.rs_attrs.specs.Writing.{flags_of, spelling_of, IsLegalAttribute, with_value, narrowed, narrowed_segment, path_in, aggregator_in, needs_four_octets, path_needs_four_octets, as4_attribute, as4_of, for_two}
 use Rattle.rs_attrs.proofs.Fields.FirstOfType.{as4_discarded, IsGood}
 use Rattle.rs_attrs.proofs.Paths.PathLaws.{path_back}

@@ -16,7 +16,7 @@ ghost use Rattle.rs_attrs.specs.Merging.{segments_in, IsWhole, plain, as4_value}
 use crate::mode::Mode;
 use crate::reading::field::Found;
 use crate::segments::{first_segment, is_segment_kind};
-use crate::types::{AGGREGATOR, AS_PATH, AS4_AGGREGATOR, AS4_PATH};
+use crate::types::{AGGREGATOR, AS_PATH, AS_SEQUENCE, AS_SET, AS4_AGGREGATOR, AS4_PATH};
 use rs_octets::AS_TRANS;
 use std::alloc::AllocError;
 
@@ -29,8 +29,8 @@ fn path_length(path: &[u8], mode: Mode, confederations: bool) -> usize
     let mut rest = path;
     while let Some(segment) = first_segment(rest, mode, confederations) {
         length += match segment.kind {
-            1 => 1,
-            2 => usize::from(segment.count),
+            AS_SET => 1,
+            AS_SEQUENCE => usize::from(segment.count),
             _ => 0,
         };
         rest = segment.rest;
@@ -72,7 +72,7 @@ fn push_leading(values: &mut Vec<u8>, path: &[u8], keep: usize) -> Result<(), Al
         if left == 0 {
             return Ok(());
         }
-        let length = if segment.kind == 1 {
+        let length = if segment.kind == AS_SET {
             1
         } else {
             usize::from(segment.count)
