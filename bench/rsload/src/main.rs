@@ -1,9 +1,13 @@
 //! rsload: a load of BGP clients for a route server, and its measures.
 
+mod changes;
 mod conf;
 mod net;
+mod numbering;
+mod octets;
 mod phases;
 mod procs;
+mod random;
 mod report;
 mod session;
 mod shared;

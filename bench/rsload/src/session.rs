@@ -2,7 +2,8 @@
 
 use crate::net::{Event, IN, OUT};
 use crate::shared::{message, Cl, Shared, St, ABSENT, ALTERED};
-use crate::work::{canonical, find, id_of};
+use crate::numbering::id_of;
+use crate::octets::{canonical, find};
 use std::io::{Read, Write};
 use std::os::fd::AsRawFd;
 use std::sync::atomic::Ordering::*;

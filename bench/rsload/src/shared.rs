@@ -1,7 +1,8 @@
 //! The clients and what each has heard, as the threads and the phases share it.
 
 use crate::net::Epoll;
-use crate::work::{find, Work};
+use crate::octets::find;
+use crate::work::Work;
 use std::collections::{BTreeMap, VecDeque};
 use std::net::TcpStream;
 use std::sync::atomic::{AtomicBool, AtomicIsize, AtomicU64};

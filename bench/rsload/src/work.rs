@@ -1,93 +1,14 @@
 //! The work: clients, prefixes, attribute sets, who announces what.
 //! All of it follows from the options and the seed.
 
+use crate::numbering::PER_BLOCK;
+use crate::octets::{attr, update};
+use crate::random::Rng;
 use std::collections::HashMap;
 use std::sync::Arc;
 
 pub const SERVER_AS: u32 = 64500;
 pub const SERVER_ID: u32 = 0x0aff_ff01; // 10.255.255.1
-
-/// A small fixed random generator (splitmix64).
-#[derive(Clone)]
-pub struct Rng(pub u64);
-impl Rng {
-    pub fn next(&mut self) -> u64 {
-        self.0 = self.0.wrapping_add(0x9e37_79b9_7f4a_7c15);
-        let mut z = self.0;
-        z = (z ^ (z >> 30)).wrapping_mul(0xbf58_476d_1ce4_e5b9);
-        z = (z ^ (z >> 27)).wrapping_mul(0x94d0_49bb_1331_11eb);
-        z ^ (z >> 31)
-    }
-    pub fn below(&mut self, n: u64) -> u64 {
-        ((self.next() as u128 * n as u128) >> 64) as u64
-    }
-    pub fn shuffle<T>(&mut self, v: &mut [T]) {
-        for i in (1..v.len()).rev() {
-            let j = self.below(i as u64 + 1) as usize;
-            v.swap(i, j);
-        }
-    }
-}
-
-// ---- prefixes: number <-> prefix, both by arithmetic alone ----
-// A block of 4096 addresses (a /20) holds 20 prefixes:
-// one /20, one /21, two /22, two /23, fourteen /24.
-const PER_BLOCK: u32 = 20;
-const SLOTS: [(u8, u8); 20] = [
-    (20, 0),
-    (21, 0),
-    (22, 0),
-    (22, 8),
-    (23, 0),
-    (23, 6),
-    (24, 0),
-    (24, 1),
-    (24, 2),
-    (24, 3),
-    (24, 4),
-    (24, 5),
-    (24, 6),
-    (24, 7),
-    (24, 8),
-    (24, 9),
-    (24, 10),
-    (24, 11),
-    (24, 12),
-    (24, 13),
-];
-const BASE: u32 = 0x1000_0000; // 16.0.0.0
-
-pub fn prefix_of(id: u32) -> (u32, u8) {
-    let (len, off) = SLOTS[(id % PER_BLOCK) as usize];
-    (BASE + (id / PER_BLOCK) * 4096 + off as u32 * 256, len)
-}
-
-/// Answers None for a prefix that isn't of the numbering.
-pub fn id_of(bits: u32, len: u8) -> Option<u32> {
-    if bits < BASE || !(20..=24).contains(&len) || bits & 0xff != 0 {
-        return None;
-    }
-    let rel = bits - BASE;
-    let (block, off) = (rel / 4096, (rel % 4096) / 256);
-    let slot = match (len, off) {
-        (20, 0) => 0,
-        (21, 0) => 1,
-        (22, 0) => 2,
-        (22, 8) => 3,
-        (23, 0) => 4,
-        (23, 6) => 5,
-        (24, o) if o < 14 => 6 + o,
-        _ => return None,
-    };
-    Some(block * PER_BLOCK + slot)
-}
-
-pub fn put_prefix(out: &mut Vec<u8>, id: u32) {
-    let (bits, len) = prefix_of(id);
-    out.push(len);
-    let b = bits.to_be_bytes();
-    out.extend_from_slice(&b[..(len as usize + 7) / 8]);
-}
 
 // ---- hashing of attribute octets ----
 #[derive(Default, Clone)]
@@ -178,12 +99,6 @@ pub fn as_of(k: usize) -> u32 {
     }
 }
 
-fn attr(out: &mut Vec<u8>, flags: u8, kind: u8, value: &[u8]) {
-    assert!(value.len() < 256);
-    out.extend_from_slice(&[flags, kind, value.len() as u8]);
-    out.extend_from_slice(value);
-}
-
 fn make_set(r: &mut Rng, k: usize, profile: Profile) -> Set {
     let asn = as_of(k);
     let mut path = vec![asn];
@@ -245,37 +160,6 @@ fn make_set(r: &mut Rng, k: usize, profile: Profile) -> Set {
         }
     }
     Set { owner: k as u32, octets: o.into(), path_len: path.len() as u8, origin }
-}
-
-pub fn update(set: &[u8], ids: &[u32], out: &mut Vec<u8>) {
-    let mut i = 0;
-    while i < ids.len() {
-        let at = out.len();
-        out.extend_from_slice(&[0xff; 16]);
-        out.extend_from_slice(&[0, 0, 2, 0, 0]);
-        out.extend_from_slice(&(set.len() as u16).to_be_bytes());
-        out.extend_from_slice(set);
-        while i < ids.len() && out.len() - at + 5 <= 4096 {
-            put_prefix(out, ids[i]);
-            i += 1;
-        }
-        let n = (out.len() - at) as u16;
-        out[at + 16..at + 18].copy_from_slice(&n.to_be_bytes());
-    }
-}
-
-pub fn withdrawal(ids: &[u32], out: &mut Vec<u8>) {
-    let at = out.len();
-    out.extend_from_slice(&[0xff; 16]);
-    out.extend_from_slice(&[0, 0, 2, 0, 0]);
-    for &id in ids {
-        put_prefix(out, id);
-    }
-    let w = (out.len() - at - 21) as u16;
-    out[at + 19..at + 21].copy_from_slice(&w.to_be_bytes());
-    out.extend_from_slice(&[0, 0]);
-    let n = (out.len() - at) as u16;
-    out[at + 16..at + 18].copy_from_slice(&n.to_be_bytes());
 }
 
 impl Work {
@@ -410,63 +294,4 @@ impl Work {
             .filter(|&p| self.announcers(p).iter().any(|(k, _)| *k as usize != c && up[*k as usize]))
             .count()
     }
-}
-
-/// Attributes by rising type, short length form where it fits. None where the field is cut.
-pub fn canonical(field: &[u8], out: &mut Vec<u8>) -> Option<()> {
-    let mut parts: Vec<(u8, u8, &[u8])> = Vec::with_capacity(10);
-    let mut f = field;
-    while !f.is_empty() {
-        if f.len() < 3 {
-            return None;
-        }
-        let (flags, kind) = (f[0], f[1]);
-        let (n, h) = if flags & 0x10 != 0 {
-            if f.len() < 4 {
-                return None;
-            }
-            (u16::from_be_bytes([f[2], f[3]]) as usize, 4)
-        } else {
-            (f[2] as usize, 3)
-        };
-        if f.len() < h + n {
-            return None;
-        }
-        parts.push((kind, flags & 0xe0, &f[h..h + n]));
-        f = &f[h + n..];
-    }
-    parts.sort_by_key(|p| p.0);
-    out.clear();
-    for (kind, flags, v) in parts {
-        if v.len() < 256 {
-            out.extend_from_slice(&[flags, kind, v.len() as u8]);
-        } else {
-            out.extend_from_slice(&[flags | 0x10, kind, (v.len() >> 8) as u8, v.len() as u8]);
-        }
-        out.extend_from_slice(v);
-    }
-    Some(())
-}
-
-/// Value of an attribute in a well-formed field.
-pub fn find(field: &[u8], kind: u8) -> Option<(u8, &[u8])> {
-    let mut f = field;
-    while f.len() >= 3 {
-        let (n, h) = if f[0] & 0x10 != 0 {
-            if f.len() < 4 {
-                return None;
-            }
-            (u16::from_be_bytes([f[2], f[3]]) as usize, 4)
-        } else {
-            (f[2] as usize, 3)
-        };
-        if f.len() < h + n {
-            return None;
-        }
-        if f[1] == kind {
-            return Some((f[0] & 0xe0, &f[h..h + n]));
-        }
-        f = &f[h + n..];
-    }
-    None
 }
