@@ -1,4 +1,5 @@
 mod Rows
+mod OpenRows
 pub mod Phases
 pub mod Standing
 pub mod Messages
