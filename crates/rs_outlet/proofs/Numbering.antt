@@ -94,6 +94,17 @@ free_from k (Some r ∷ rows) (suc n) m free is = (λ e. absurd (omega (arith, i
 pub free_number : (rows : List (Option Row)) (n : ℕ) → row_at rows n ≡ None → IsNoNumberOf n (numbers_from 0 rows)
 free_number rows n free = free_from 0 rows n n free (let e : n ≡ 0 + n = omega arith in e)
 
+-- a row that has a route has its number
+taken_from : (k : ℕ) (rows : List (Option Row)) (n m : ℕ) (r : Row) → row_at rows n ≡ Some r → m ≡ k + n → IsNoNumberOf m (numbers_from k rows) → ⊥
+taken_from k [] n m r is e h = absurd (let f : ◌≡◌ {A = Option Row} None (Some r) = is in cc)
+taken_from k (None ∷ rows) zero m r is e h = absurd (let f : ◌≡◌ {A = Option Row} None (Some r) = is in cc)
+taken_from k (Some s ∷ rows) zero m r is e h = h.0 (omega (arith, e))
+taken_from k (None ∷ rows) (suc n) m r is e h = taken_from (suc k) rows n m r is (omega (arith, e)) h
+taken_from k (Some s ∷ rows) (suc n) m r is e h = taken_from (suc k) rows n m r is (omega (arith, e)) h.1
+
+pub taken_number : (rows : List (Option Row)) (n : ℕ) (r : Row) → row_at rows n ≡ Some r → IsNoNumberOf n (numbers_from 0 rows) → ⊥
+taken_number rows n r is h = taken_from 0 rows n n r is (let e : n ≡ 0 + n = omega arith in e) h
+
 zero_plus : (n : ℕ) → 0 + n ≡ n
 zero_plus n = omega arith
 

@@ -115,6 +115,18 @@ zero_is n h = grind (arith, nat_tests, h)
 is_zero : (n : ℕ) → n ≡ 0 → nat_eq n 0 ≡ true
 is_zero n h = grind (arith, nat_tests, h)
 
+nil_by_length : (es : List Entry) → length es ≡ 0 → es ≡ []
+nil_by_length [] h = refl
+nil_by_length (e ∷ es) h = absurd (omega (arith, h))
+
+pub no_entries : (es : List Entry) (n : ℕ) (b : Bool) → n ≡ length es → b ≡ nat_eq n 0 → (b ≡ true) ↔ (es ≡ [])
+no_entries es n b len is = (λ t. nil_by_length es (sym len ∙ zero_is n (sym is ∙ t)), λ e. is ∙ is_zero n (len ∙ ap length e))
+
+-- where nothing is touched, no touch is listed
+pub none_listed : (all : Bool) (es : List Entry) → touched_of all es ≡ Some set.empty → es ≡ []
+none_listed true es h = absurd (let f : ◌≡◌ {A = Option Prefixes} None (Some set.empty) = h in cc)
+none_listed false es h = nil_by_length es (none_touched es h)
+
 pub emptied : (es : List Entry) (n : ℕ) (b : Bool) → n ≡ length es → b ≡ nat_eq n 0 → (b ≡ true) ↔ (touched_by es ≡ Some set.empty)
 emptied es n b len is = (λ t. empty_touched es (sym len ∙ zero_is n (sym is ∙ t)), λ e. is ∙ is_zero n (len ∙ none_touched es e))
 

@@ -279,7 +279,8 @@ impl Outlet {
     /// Whether the row of a number has no route, and no prefix is touched by itself. What is touched
     /// is not looked through for the number: behind a turn that was not refused nothing is.
     pub fn is_free(&self, number: u32) -> bool
-        ensures { IsTrue result → IsNoNumberOf number self.now.numbers }
+        ensures free { IsTrue result → IsNoNumberOf number self.now.numbers }
+        ensures all { self.now.touched ≡ Some set.empty → IsNoNumberOf number self.now.numbers → IsTrue result }
     {
         match self.rows.get(number) {
             Some(_) => false,

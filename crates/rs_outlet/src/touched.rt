@@ -95,7 +95,7 @@ impl Touched {
 
     /// Whether no prefix is touched by itself.
     pub(crate) fn lists_none(&self) -> bool
-        ensures { IsTrue result → self.now.prefixes.items ≡ [] }
+        ensures { IsTrue result ↔ self.now.prefixes.items ≡ [] }
     {
         self.prefixes.is_empty()
     }
