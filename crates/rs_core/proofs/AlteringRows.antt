@@ -1,14 +1,14 @@
 -- Worked rows of what moves alter, by computation: routes that come and go, and what stands of a client.
-use Rattle.std.specs.Prelude.{◌≡◌, true, ◌∷◌, ◌++◌, List, replicate, refl, Some, None, Option}
+use Rattle.std.specs.Prelude.{◌≡◌, true, [], ◌∷◌, ◌++◌, List, replicate, refl, Some, None, Option}
 use Rattle.std.proofs.Common.{inl, inr, arith}
 use Rattle.rs_attrs.specs.Meaning.{Attribute, all_types}
 use Rattle.rs_attrs.proofs.Rows.{u1_attributes}
 use Rattle.rs_policy.specs.Verdicts.{matches, outcome, verdict}
 use Rattle.rs_decision.specs.Choice.{unbeaten}
-use Rattle.rs_core.specs.Moves.{Heard}
+use Rattle.rs_core.specs.Moves.{Heard, Dropped}
 use Rattle.rs_core.specs.Runs.{hearing, table}
 use Rattle.rs_core.specs.Altering.{IsAlteredBy}
-use Rattle.rs_core.specs.Touched.{Alters}
+use Rattle.rs_core.specs.Touched.{Alters, MayAlter}
 use Rattle.rs_core.specs.Stirring.{stands}
 use Rattle.rs_core.proofs.Rows.{announced, base, n24, two_up, u1, w1}
 
@@ -38,6 +38,23 @@ same_again altered = elim altered [ inl differs ↦ differs refl | inr none ↦ 
 -- nor do octets that are no whole message yet
 not_whole : IsAlteredBy base 0 (replicate 16 255) (hearing 0 two_up) n24 → ⊥
 not_whole altered = altered
+
+-- ---- octets for which memory was refused
+
+-- what they would have announced may be touched for b, though nothing of it is heard
+may_be_touched : MayAlter (Dropped 0 u1) two_up 1 n24
+unfolding all_types
+may_be_touched = inr (0, u1, refl, (λ e. absurd (omega (arith, e))), inl (λ same. let e : ◌≡◌ {A = Option (List Attribute)} (Some u1_attributes) None = same in cc))
+
+not_heard : Alters (Dropped 0 u1) two_up 1 n24 → ⊥
+not_heard altered = altered.1 refl
+
+-- what goes with the connection is touched
+lost_with_it : Alters (Dropped 0 []) announced 1 n24
+unfolding all_types
+lost_with_it = (λ e. absurd (omega (arith, e)), λ same. let e : ◌≡◌ {A = Option (List Attribute)} None (Some u1_attributes) = same in cc)
+
+-- ---- what stands
 
 -- what stands of a client: what another one holds
 holds : stands announced 1 n24 ≡ true

@@ -114,6 +114,16 @@ was_filled s c buffer new h front live w behind (inl none) some =
     absurd (some (ap (heard_of (allowed_in s)) (behind ∙ ap (λ f. buffer ++ f) none ∙ append-nil buffer ∙ w.rest live) ∙ waiting_silent (allowed_in s) h.octets (w.good live)))
 was_filled s c buffer new h front live w behind (inr is) some = is
 
+-- a message that stands there is all of it, and all that is new
+pub newly_message : (s : Configuration) (c : ℕ) (h : Hearing) (buffer new piece rest : List ℕ) (kind : Kind) (body behind : List ℕ) → is_live (state_in s c h) ≡ true → Waits s c buffer h
+    → (fills : FillsUp (allowed_in s) buffer piece new rest) → (at : BeginsWith (allowed_in s) new kind body behind)
+    → (new ≡ at.message) × (newly_heard (allowed_in s) h.octets fills.front ≡ Ok at.message ∷ [])
+newly_message s c h buffer new piece rest kind body behind live w fills at =
+    let a = allowed_in s in
+    let filled = was_filled s c buffer new h fills.front live w fills.behind fills.wanted (no_message a new kind body behind at) in
+    let whole : new ≡ at.message = at.whole ∙ ap (λ r. at.message ++ r) (just_it a new kind body behind filled at) ∙ append-nil at.message in
+    (whole, newly_waiting s c buffer fills.front h live w ∙ ap (heard_of a) (sym fills.behind ∙ whole) ∙ heard_alone a at.message (of_type_is a kind at.message at.is))
+
 -- ---- what the front of a piece makes of it
 
 pub waiting_on : (core : Core) (s : Configuration) (c : ℕ) (h : Hearing) (buffer new piece rest : List ℕ) (n : ℕ) → is_live (state_in s c h) ≡ true → Waits s c buffer h
@@ -155,18 +165,15 @@ pub waiting_message : (core : Core) (s : Configuration) (c : ℕ) (h : Hearing) 
     → Knows core s c (takes_in s c (body_said s c h kind body) h) → HasHeardFront core s c h piece [] rest
 waiting_message core s c h buffer new piece rest kind body behind live w fills at knows =
     let a = allowed_in s in
-    let filled = was_filled s c buffer new h fills.front live w fills.behind fills.wanted (no_message a new kind body behind at) in
-    let whole : new ≡ at.message = at.whole ∙ ap (λ r. at.message ++ r) (just_it a new kind body behind filled at) ∙ append-nil at.message in
-    let is_message = of_type_is a kind at.message at.is in
+    let is = newly_message s c h buffer new piece rest kind body behind live w fills at in
     let left : rest_of a (h.octets ++ fills.front) ≡ [] =
-    rest_waiting s c buffer fills.front h live w ∙ ap (rest_of a) (sym fills.behind ∙ whole) ∙ (alone a at.message is_message).1 in
-    let new_is = newly_waiting s c buffer fills.front h live w ∙ ap (heard_of a) (sym fills.behind ∙ whole) ∙ heard_alone a at.message is_message in
-    let e = hears_message s c h kind body fills.front at.message at.is at.body_is live new_is in
+    rest_waiting s c buffer fills.front h live w ∙ ap (rest_of a) (sym fills.behind ∙ is.0) ∙ (alone a at.message (of_type_is a kind at.message at.is)).1 in
+    let e = hears_message s c h kind body fills.front at.message at.is at.body_is live is.1 in
     let next : Hearing = takes_in s c (body_said s c h kind body) h in
     record {
       front = fills.front;
       whole = fills.whole;
-      once = subst (λ (ms : List (Result (List ℕ) HeaderFault)). length ms ≤ 1) (sym new_is) (omega arith);
+      once = subst (λ (ms : List (Result (List ℕ) HeaderFault)). length ms ≤ 1) (sym is.1) (omega arith);
       knows = subst (λ k. Knows core s c k) (sym e) (with_others core s c (h.octets ++ fills.front) next knows);
       waits = subst (λ k. Waits s c [] k) (sym e) (record { rest = λ _. sym left; good = λ _. ap (header_fault_of a) left });
       all = inr refl;

@@ -1,5 +1,5 @@
 -- A run grows by a move: what is touched for each client behind it.
-use Rattle.std.proofs.Common.{◌≡◌, ◌≢◌, inl, inr, ◌<◌, ◌==◌, ℕ, Bool, true, false, List, [], ◌∷◌, length, refl, sym, ◌∙◌, ap, subst}
+use Rattle.std.proofs.Common.{◌≡◌, ◌≢◌, inl, inr, ◌<◌, ◌==◌, ℕ, Bool, true, false, List, [], ◌∷◌, length, refl, sym, ◌∙◌, ap, subst, arith}
 use Rattle.std.specs.Prelude.{Option, Some, None, if◌then◌else◌}
 use Rattle.std.specs.FinSet as set
 use Rattle.std.proofs.lemmas.Bool.{false≢true}
@@ -14,8 +14,8 @@ use Rattle.rs_core.specs.Moves.{Move, Ruled, Came, Heard, Saw, Left, Dropped, Tu
 use Rattle.rs_core.specs.Hearing.{is_up, session_in, state_in, takes}
 use Rattle.rs_core.specs.Runs.{hearing, is_established, is_listed}
 use Rattle.rs_core.specs.Core.{client_count, is_refused, touched_for}
-use Rattle.rs_core.specs.Stirring.{IsChangedBy, IsChangedElsewhere, KeepsTouched, TouchesAll, TouchesChanges, TouchesItself, TouchesOthersAtLeast, TouchesOthersWhere, TouchesWhere}
-use Rattle.rs_core.specs.Touched.{TouchesBehind}
+use Rattle.rs_core.specs.Stirring.{IsChangedBy, IsChangedElsewhere, KeepsTouched, MayBeChangedBy, TouchesAll, TouchesChanges, TouchesItself, TouchesOthersBetween, TouchesOthersWhere, TouchesWhere}
+use Rattle.rs_core.specs.Touched.{MayAlter, TouchesBehind}
 use Rattle.rs_core.specs.Altering.{IsAlteredBy}
 use Rattle.rs_core.specs.Agreeing.{Agrees}
 use Rattle.rs_core.specs.declared.route_server.Core.{Core}
@@ -96,13 +96,18 @@ left_agrees c old new run count same down others h on = grown_by (Left c) old ne
     (λ d lt ne up. by_others (IsChangedBy (Left c) run c) c d (touched_for old d) (touched_for new d) ne (others.others d lt ne up))
     (λ before behind e. by_itself (IsChangedBy (Left c) run c) c before behind e) (down_itself (Left c) c run old new down))
 
-pub dropped_agrees : (c : ℕ) (old new : Core) (run : List Move) → new.count ≡ old.count → ((d : ℕ) → d ≢ c → hearing d (Dropped c ∷ run) ≡ hearing d run) → is_established (Dropped c ∷ run) c ≡ false
-    → TouchesOthersAtLeast (IsChangedBy (Dropped c) run c) c run old new → Agrees old run → AgreesOnClients new (Dropped c ∷ run) → Agrees new (Dropped c ∷ run)
+-- octets for which memory was refused
+may_alter : (c d : ℕ) (octets : List ℕ) (run : List Move) (p : Prefix) → d ≢ c → MayBeChangedBy octets run c p → MayAlter (Dropped c octets) run d p
+may_alter c d octets run p ne (inl changed) = inl ((λ e. ne (sym e)), changed)
+may_alter c d octets run p ne (inr altered) = inr (c, octets, refl, (λ e. ne (sym e)), altered)
+
+pub dropped_agrees : (c : ℕ) (octets : List ℕ) (old new : Core) (run : List Move) → new.count ≡ old.count → ((d : ℕ) → d ≢ c → hearing d (Dropped c octets ∷ run) ≡ hearing d run) → is_established (Dropped c octets ∷ run) c ≡ false
+    → TouchesOthersBetween (IsChangedBy (Dropped c octets) run c) (MayBeChangedBy octets run c) c run old new → Agrees old run → AgreesOnClients new (Dropped c octets ∷ run) → Agrees new (Dropped c octets ∷ run)
 unfolding client_count
-dropped_agrees c old new run count same down others h on = grown_by (Dropped c) old new run count h on
-    (of_one (Dropped c) c old new run refl same
-    (λ d lt ne up. let at = others.others d lt ne up in record { prefixes = at.prefixes; all = λ p x. at.all p x.1; are = at.are })
-    (λ before behind e. record { prefixes = []; all = λ p x. absurd (x.0 refl); are = e }) (down_itself (Dropped c) c run old new down))
+dropped_agrees c octets old new run count same down others h on = grown_by (Dropped c octets) old new run count h on
+    (of_one (Dropped c octets) c old new run refl same
+    (λ d lt ne up. let at = others.others d lt ne up in record { prefixes = at.prefixes; all = λ p x. at.all p x.1; most = λ p has. may_alter c d octets run p ne (at.most p has); are = at.are })
+    (λ before behind e. record { prefixes = []; all = λ p x. absurd (x.0 refl); most = λ p has. absurd (let lt = has.1 in omega (arith, lt)); are = e }) (down_itself (Dropped c octets) c run old new down))
 
 -- ---- what goes out
 

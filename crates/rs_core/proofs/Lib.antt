@@ -34,6 +34,7 @@ pub mod Delivering
 pub mod Around
 pub mod Stirring
 pub mod Altering
+pub mod CutShort
 pub mod Ordering
 pub mod ToldNext
 pub mod Refusing

@@ -268,7 +268,7 @@ none_ended = refl
 ended_with_it : ending_in (hearing 0 (Left 0 ∷ two_up)) ≡ Some reasons.Lost
 ended_with_it = refl
 
-ended_for_memory : ending_in (hearing 0 (Came 0 ∷ Dropped 0 ∷ two_up)) ≡ Some reasons.Memory
+ended_for_memory : ending_in (hearing 0 (Came 0 ∷ Dropped 0 u1 ∷ two_up)) ≡ Some reasons.Memory
 ended_for_memory = refl
 
 ended_by_timer : ending_in (hearing 0 (Saw 90 ∷ Saw 89 ∷ two_up)) ≡ Some reasons.HoldTimer

@@ -1,5 +1,5 @@
 -- What an UPDATE says to a session, as the code finds it.
-use Rattle.std.proofs.Common.{◌≡◌, inl, inr, ℕ, zero, suc, Bool, true, false, List, [], ◌∷◌, length, refl, sym, ◌∙◌, ap, subst}
+use Rattle.std.proofs.Common.{◌≡◌, ◌≢◌, inl, inr, ℕ, zero, suc, Bool, true, false, List, [], ◌∷◌, length, refl, sym, ◌∙◌, ap, subst}
 use Rattle.std.specs.Prelude.{Option, Some, None, IsSome, is_none, is_some, nat_lt, option_map, if◌then◌else◌}
 use Rattle.std.proofs.lemmas.Bool.{false≢true}
 use Rattle.rs_octets.specs.declared.heads.Kind.TheVariants as kinds
@@ -16,12 +16,13 @@ use Rattle.rs_session.specs.Items.{Item, Message, is_connected, message_count}
 use Rattle.rs_session.specs.Endings.{Fate, GoesOn, Ends, message_fate}
 use Rattle.rs_session.specs.Sessions.{state_of, state_by, fate, earlier, agreed_mode}
 use Rattle.rs_policy.specs.Configuration.{Configuration, client_of}
-use Rattle.rs_core.specs.Hearing.{Hearing, session_in, state_in, is_up, mode_in, without_change, changing, update_said, effect_said, faulted_by_fields, held_by, reset_beyond, body_said, takes_in}
+use Rattle.rs_core.specs.Hearing.{Hearing, session_in, state_in, is_up, mode_in, table_in, without_change, changing, update_said, effect_said, faulted_by_fields, held_by, reset_beyond, body_said, takes_in}
 use Rattle.rs_core.specs.Steps.{Follows, IsAnnouncing}
 use Rattle.rs_core.specs.Watching.{no_faults}
 use Rattle.rs_core.specs.Agreeing.{Knows}
 use Rattle.rs_core.specs.declared.route_server.Core.{Core}
 use Rattle.rs_core.proofs.Updating.{is_reset}
+use Rattle.rs_core.proofs.Faulting.{found}
 use Rattle.rs_core.proofs.Limits.{reset_if}
 
 -- ---- by its mode and its effect
@@ -49,6 +50,17 @@ update_changes new s c h body mode change reset faulted m is beyond at_fault kno
     by_effect new s c h body mode (Changes change) m is
     (subst (λ f. Knows new s c (takes_in s c (changing (reset_beyond (client_of s c).limit (change ∷ h.changes)) change f) h)) at_fault
     (subst (λ r. Knows new s c (takes_in s c (changing r change faulted) h)) (sym beyond) knows))
+
+-- where a part of it that was heard gave another value, the whole does
+pub update_within : (s : Configuration) (c : ℕ) (h : Hearing) (body : List ℕ) (mode : Mode) (change : Change) (faulted : Faulted) (p : Prefix) → mode_in s c h ≡ Some mode → effect_of body mode ≡ Changes change
+    → reset_beyond (client_of s c).limit (change ∷ h.changes) ≡ None → table_in s c (takes_in s c (changing None change no_faults) (found faulted h)) p ≢ table_in s c (found faulted h) p
+    → table_in s c (takes_in s c (body_said s c h kinds.Update body) h) p ≢ table_in s c h p
+update_within s c h body mode change faulted p m is beyond differs = λ same.
+    let limit = (client_of s c).limit in
+    let at_fault_by = faulted_by_fields mode (fields_of body) in
+    let said : body_said s c h kinds.Update body ≡ changing None change at_fault_by =
+    ap (λ o. update_said o limit h.changes body) m ∙ ap (effect_said limit h.changes at_fault_by) is ∙ ap (λ r. changing r change at_fault_by) beyond in
+    differs (ap (λ x. table_in s c (takes_in s c x h) p) (sym said) ∙ same)
 
 -- what is told of it is read off its fields
 pub at_fault : (body : List ℕ) (mode : Mode) (x : Change) (faulted : Faulted) → HasEffect body mode (Changes x)

@@ -15,9 +15,9 @@ use Rattle.rs_core.specs.Moves.{Move, Ruled, Came, Heard, Saw, Left, Dropped, Be
 use Rattle.rs_core.specs.Moves as moves
 use Rattle.rs_core.specs.Runs.{is_established, is_listed}
 use Rattle.rs_core.specs.Core.{client_count, touched_for}
-use Rattle.rs_core.specs.Stirring.{IsCountOf, TouchesAtLeast, TouchesWhere, stands, with_touches}
-use Rattle.rs_core.specs.Touched.{Alters, IsTouchedBehind, TouchesBehind}
-use Rattle.rs_core.specs.Decided.{Since, AsksForAll, IsAskedForAll, IsAltered, IsTouchedSince, TouchesWhatWasAltered, AnswersByWhatWasAltered}
+use Rattle.rs_core.specs.Stirring.{IsCountOf, TouchesBetween, TouchesWhere, stands, with_touches}
+use Rattle.rs_core.specs.Touched.{Alters, MayAlter, IsTouchedBehind, TouchesBehind}
+use Rattle.rs_core.specs.Decided.{Since, AsksForAll, IsAskedForAll, IsAltered, MayBeAltered, IsCut, LieBetween, if_room, IsTouchedSince, IsAnswerFor, TouchesWhatWasAltered, AnswersByWhatWasAltered}
 use Rattle.rs_core.proofs.Room.{all_in, equal_only, many_touches, with_all}
 use Rattle.rs_core.proofs.Touching.{touched_here, touched_more}
 
@@ -84,10 +84,35 @@ or_second false b e = e
 listed : (ps : List Prefix) (p : Prefix) → list_any (eq_by_cmp prefix_order p) ps ≡ true → Contains ps p
 listed ps p e = Contains-from_any (λ x y same. prefix_order_exact x y (equal_only (prefix_order x y) same)) p ps e
 
+-- ---- where no octets were cut short
+
+-- only what was altered may have been
+unless_cut : (c : ℕ) (run : List Move) (p : Prefix) → (IsCut run c → ⊥) → MayBeAltered run c p → IsAltered run c p
+unless_cut c run p whole s = record {
+  later = s.later;
+  move = s.move;
+  before = s.before;
+  whole = s.whole;
+  refused = s.refused;
+  holds = elim s.holds [
+    | inl alters ↦ alters
+    | inr would ↦ absurd (whole (record { later = s.later; move = s.move; before = s.before; whole = s.whole; refused = s.refused; holds = (would.0, would.1, would.2) }))
+  ];
+}
+
+since_last : (run : List Move) (c : ℕ) (touched : Option Prefixes) → (IsAskedForAll run c → touched ≡ None) → ((p : Prefix) → IsAltered run c p → is_touched touched p ≡ true)
+    → ((IsAskedForAll run c → ⊥) → (prefixes : Prefixes) × LieBetween (IsAltered run c) (MayBeAltered run c) prefixes × (touched ≡ if_room prefixes)) → IsTouchedSince run c touched
+since_last run c touched all least most = record {
+  all = all;
+  least = least;
+  most = most;
+  just = λ none whole. let it = most none in record { prefixes = it.0; just = λ p. (λ has. unless_cut c run p whole (it.1.most p has), λ altered. it.1.all p altered); are = it.2 };
+}
+
 -- ---- a move that goes on
 
 -- it touches at least what it alters
-least_behind : (c : ℕ) (move : Move) (run : List Move) (before touched : Option Prefixes) → TouchesAtLeast (Alters move run c) before touched → ((p : Prefix) → IsAltered run c p → is_touched before p ≡ true)
+least_behind : (c : ℕ) (move : Move) (run : List Move) (before touched : Option Prefixes) → TouchesBetween (Alters move run c) (MayAlter move run c) before touched → ((p : Prefix) → IsAltered run c p → is_touched before p ≡ true)
     → (p : Prefix) → IsAltered (move ∷ run) c p → is_touched touched p ≡ true
 least_behind c move run before touched step least p altered = ap (λ o. is_touched o p) step.are ∙ elim (last_or _ c move run altered) [
   | inl alters ↦ at_index step.prefixes before p (step.all p alters)
@@ -101,35 +126,40 @@ all_behind c move run before touched ps unasked are all asked = are ∙ elim (la
   | inr earlier ↦ ap (with_touches ps) (all earlier.1) ∙ all_stay ps
 ]
 
--- it touches just what it alters
-more_behind : (c : ℕ) (move : Move) (run : List Move) (before touched : Option Prefixes) → GoesOn c move → (AsksForAll c move run → ⊥) → IsTouchedSince run c before → TouchesWhere (Alters move run c) before touched
+-- it touches what it alters, and within what it may alter
+more_behind : (c : ℕ) (move : Move) (run : List Move) (before touched : Option Prefixes) → GoesOn c move → (AsksForAll c move run → ⊥) → IsTouchedSince run c before → TouchesBetween (Alters move run c) (MayAlter move run c) before touched
     → IsTouchedSince (move ∷ run) c touched
-more_behind c move run before touched goes unasked it step = record {
-  all = all_behind c move run before touched step.prefixes unasked step.are it.all;
-  least = least_behind c move run before touched (record { prefixes = step.prefixes; all = λ p x. (step.just p).1 x; are = step.are }) it.least;
-  just = λ none whole.
-      let was = it.just (λ asked. none (on (AsksForAll c) c move run goes asked)) (λ cut. whole (on _ c move run goes cut)) in
+more_behind c move run before touched goes unasked it step = since_last (move ∷ run) c touched
+    (all_behind c move run before touched step.prefixes unasked step.are it.all)
+    (least_behind c move run before touched step it.least)
+    (λ none.
+    let was = it.most (λ asked. none (on (AsksForAll c) c move run goes asked)) in
+    let now = λ (p : Prefix). list_any (eq_by_cmp prefix_order p) step.prefixes in (
+      with_all step.prefixes was.0,
       record {
-        prefixes = with_all step.prefixes was.prefixes;
-        just = λ p. (
-          λ has. elim (or_cases (list_any (eq_by_cmp prefix_order p) step.prefixes) (set.contains was.prefixes p) (sym (all_in step.prefixes was.prefixes p) ∙ has)) [
-            | inl now ↦ here (λ m r. Alters m r c p) c move run ((step.just p).0 (listed step.prefixes p now))
-            | inr earlier ↦ on (λ m r. Alters m r c p) c move run goes ((was.just p).0 earlier)
-          ],
-          λ altered. all_in step.prefixes was.prefixes p ∙ elim (last_or (λ m r. Alters m r c p) c move run altered) [
-            | inl alters ↦ or_first (list_any (eq_by_cmp prefix_order p) step.prefixes) (set.contains was.prefixes p) (list_any-from_Contains (eq_by_cmp_equiv prefix_order_total) p step.prefixes ((step.just p).1 alters))
-            | inr earlier ↦ or_second (list_any (eq_by_cmp prefix_order p) step.prefixes) (set.contains was.prefixes p) ((was.just p).1 earlier.1)
-          ],
-        );
-        are = step.are ∙ ap (with_touches step.prefixes) was.are ∙ many_touches step.prefixes was.prefixes;
-      };
-}
+        all = λ p altered. all_in step.prefixes was.0 p ∙ elim (last_or (λ m r. Alters m r c p) c move run altered) [
+          | inl alters ↦ or_first (now p) (set.contains was.0 p) (list_any-from_Contains (eq_by_cmp_equiv prefix_order_total) p step.prefixes (step.all p alters))
+          | inr earlier ↦ or_second (now p) (set.contains was.0 p) (was.1.all p earlier.1)
+        ];
+        most = λ p has. elim (or_cases (now p) (set.contains was.0 p) (sym (all_in step.prefixes was.0 p) ∙ has)) [
+          | inl last ↦ here (λ m r. MayAlter m r c p) c move run (step.most p (listed step.prefixes p last))
+          | inr earlier ↦ on (λ m r. MayAlter m r c p) c move run goes (was.1.most p earlier)
+        ];
+      },
+      step.are ∙ ap (with_touches step.prefixes) was.2 ∙ many_touches step.prefixes was.0,
+    ))
+
+-- it touches just what it alters
+just_behind : (c : ℕ) (move : Move) (run : List Move) (before touched : Option Prefixes) → GoesOn c move → (AsksForAll c move run → ⊥) → IsTouchedSince run c before → TouchesWhere (Alters move run c) before touched
+    → IsTouchedSince (move ∷ run) c touched
+just_behind c move run before touched goes unasked it step =
+    more_behind c move run before touched goes unasked it (record { prefixes = step.prefixes; all = λ p x. (step.just p).1 x; most = λ p has. inl ((step.just p).0 has); are = step.are })
 
 -- ---- a turn
 
 -- memory was refused for the client
 refused_behind : (c : ℕ) (refused : List ℕ) (run : List Move) (before touched : Option Prefixes) → is_listed c refused ≡ true → (AsksForAll c (moves.Turned refused) run → ⊥) → IsTouchedSince run c before → touched ≡ before → IsTouchedSince (moves.Turned refused ∷ run) c touched
-refused_behind c refused run before touched is unasked it same = more_behind c (moves.Turned refused) run before touched (λ clients e. ap (is_listed c) (sym (same_refused refused clients e)) ∙ is) unasked it (record {
+refused_behind c refused run before touched is unasked it same = just_behind c (moves.Turned refused) run before touched (λ clients e. ap (is_listed c) (sym (same_refused refused clients e)) ∙ is) unasked it (record {
   prefixes = [];
   just = λ p. (λ has. absurd (let lt = has.1 in omega (arith, lt)), λ none. absurd none);
   are = same;
@@ -139,45 +169,36 @@ refused_behind c refused run before touched is unasked it same = more_behind c (
 
 -- it was done
 done_behind : (c : ℕ) (refused : List ℕ) (run : List Move) (touched : Option Prefixes) → is_listed c refused ≡ false → (AsksForAll c (moves.Turned refused) run → ⊥) → touched ≡ Some set.empty → IsTouchedSince (moves.Turned refused ∷ run) c touched
-done_behind c refused run touched is unasked nothing = record {
-  all = λ asked. absurd (nothing_since (AsksForAll c) unasked asked);
-  least = λ p altered. absurd (nothing_since (λ m r. Alters m r c p) (λ x. x) altered);
-  just = λ none whole. record {
-    prefixes = set.empty;
-    just = λ p. (λ has. absurd (false≢true (sym (set.contains-empty prefix_order p) ∙ has)), λ altered. absurd (nothing_since (λ m r. Alters m r c p) (λ x. x) altered));
-    are = nothing ∙ sym (ap (λ n. if nat_lt 4096 n then None else Some (set.empty {R = prefix_order})) (set.len-empty prefix_order));
-  };
-} where
-  nothing_since : (Holds : Move → List Move → Type 0) → (Holds (moves.Turned refused) run → ⊥) → Since Holds c (moves.Turned refused ∷ run) → ⊥
-  nothing_since Holds none s = elim (last_or Holds c (moves.Turned refused) run s) [
-    | inl holds ↦ none holds
-    | inr earlier ↦ false≢true (sym is ∙ earlier.0 refused refl)
-  ]
+done_behind c refused run touched is unasked nothing = since_last (moves.Turned refused ∷ run) c touched
+    (λ asked. absurd (nothing_since (AsksForAll c) unasked asked))
+    (λ p altered. absurd (nothing_since (λ m r. Alters m r c p) (λ x. x) altered))
+    (λ none. (
+      set.empty,
+      record {
+        all = λ p altered. absurd (nothing_since (λ m r. Alters m r c p) (λ x. x) altered);
+        most = λ p has. absurd (false≢true (sym (set.contains-empty prefix_order p) ∙ has));
+      },
+      nothing ∙ sym (ap (λ n. if nat_lt 4096 n then None else Some (set.empty {R = prefix_order})) (set.len-empty prefix_order)),
+    )) where
+      nothing_since : (Holds : Move → List Move → Type 0) → (Holds (moves.Turned refused) run → ⊥) → Since Holds c (moves.Turned refused ∷ run) → ⊥
+      nothing_since Holds none s = elim (last_or Holds c (moves.Turned refused) run s) [
+        | inl holds ↦ none holds
+        | inr earlier ↦ false≢true (sym is ∙ earlier.0 refused refl)
+      ]
 
 -- ---- any move
-
-cut_behind : (c d : ℕ) (run : List Move) (before touched : Option Prefixes) → (AsksForAll c (Dropped d) run → ⊥) → IsTouchedSince run c before → TouchesAtLeast (Alters (Dropped d) run c) before touched → IsTouchedSince (Dropped d ∷ run) c touched
-cut_behind c d run before touched unasked it step = record {
-  all = all_behind c (Dropped d) run before touched step.prefixes unasked step.are it.all;
-  least = least_behind c (Dropped d) run before touched step it.least;
-  just = λ none whole. absurd (whole (here _ c (Dropped d) run (d, refl)));
-}
 
 no_more_asked : (c : ℕ) (move : Move) (run : List Move) → is_established run c ≡ true → ((config : Configuration) → move ≡ Ruled config → ⊥) → AsksForAll c move run → ⊥
 no_more_asked c move run up none (inl ruled) = none ruled.0 ruled.1
 no_more_asked c move run up none (inr raised) = false≢true (sym raised.0 ∙ up)
 
 any_behind : (c : ℕ) (move : Move) (run : List Move) (before touched : Option Prefixes) → is_established run c ≡ true → IsTouchedSince run c before → TouchesBehind move run c before touched → IsTouchedSince (move ∷ run) c touched
-any_behind c (Ruled config) run before touched up it step = record {
-  all = λ _. step;
-  least = λ p _. ap (λ o. is_touched o p) step;
-  just = λ none _. absurd (none (here (AsksForAll c) c (Ruled config) run (inl (config, refl))));
-}
-any_behind c (Came d) run before touched up it step = more_behind c (Came d) run before touched (λ clients e. absurd (cc)) (no_more_asked c (Came d) run up (λ config e. cc)) it step
-any_behind c (Heard d octets) run before touched up it step = more_behind c (Heard d octets) run before touched (λ clients e. absurd (cc)) (no_more_asked c (Heard d octets) run up (λ config e. cc)) it step
-any_behind c (Saw t) run before touched up it step = more_behind c (Saw t) run before touched (λ clients e. absurd (cc)) (no_more_asked c (Saw t) run up (λ config e. cc)) it step
-any_behind c (Left d) run before touched up it step = more_behind c (Left d) run before touched (λ clients e. absurd (cc)) (no_more_asked c (Left d) run up (λ config e. cc)) it step
-any_behind c (Dropped d) run before touched up it step = cut_behind c d run before touched (no_more_asked c (Dropped d) run up (λ config e. cc)) it step
+any_behind c (Ruled config) run before touched up it step = since_last (Ruled config ∷ run) c touched (λ _. step) (λ p _. ap (λ o. is_touched o p) step) (λ none. absurd (none (here (AsksForAll c) c (Ruled config) run (inl (config, refl)))))
+any_behind c (Came d) run before touched up it step = just_behind c (Came d) run before touched (λ clients e. absurd (cc)) (no_more_asked c (Came d) run up (λ config e. cc)) it step
+any_behind c (Heard d octets) run before touched up it step = just_behind c (Heard d octets) run before touched (λ clients e. absurd (cc)) (no_more_asked c (Heard d octets) run up (λ config e. cc)) it step
+any_behind c (Saw t) run before touched up it step = just_behind c (Saw t) run before touched (λ clients e. absurd (cc)) (no_more_asked c (Saw t) run up (λ config e. cc)) it step
+any_behind c (Left d) run before touched up it step = just_behind c (Left d) run before touched (λ clients e. absurd (cc)) (no_more_asked c (Left d) run up (λ config e. cc)) it step
+any_behind c (Dropped d octets) run before touched up it step = more_behind c (Dropped d octets) run before touched (λ clients e. absurd (cc)) (no_more_asked c (Dropped d octets) run up (λ config e. cc)) it step
 any_behind c (moves.Turned refused) run before touched up it step = by_list (is_listed c refused) refl where
   unasked : AsksForAll c (moves.Turned refused) run → ⊥
   unasked = no_more_asked c (moves.Turned refused) run up (λ config e. cc)
@@ -185,8 +206,8 @@ any_behind c (moves.Turned refused) run before touched up it step = by_list (is_
   by_list : (b : Bool) → is_listed c refused ≡ b → IsTouchedSince (moves.Turned refused ∷ run) c touched
   by_list true e = refused_behind c refused run before touched e unasked it (step ∙ ap (λ b. if b then before else Some set.empty) e)
   by_list false e = done_behind c refused run touched e unasked (step ∙ ap (λ b. if b then before else Some set.empty) e)
-any_behind c (Began d) run before touched up it step = more_behind c (Began d) run before touched (λ clients e. absurd (cc)) (no_more_asked c (Began d) run up (λ config e. cc)) it step
-any_behind c (Took d octets) run before touched up it step = more_behind c (Took d octets) run before touched (λ clients e. absurd (cc)) (no_more_asked c (Took d octets) run up (λ config e. cc)) it step
+any_behind c (Began d) run before touched up it step = just_behind c (Began d) run before touched (λ clients e. absurd (cc)) (no_more_asked c (Began d) run up (λ config e. cc)) it step
+any_behind c (Took d octets) run before touched up it step = just_behind c (Took d octets) run before touched (λ clients e. absurd (cc)) (no_more_asked c (Took d octets) run up (λ config e. cc)) it step
 
 -- ---- a run
 
@@ -195,11 +216,7 @@ touched_since c [] touched up h = absurd h
 touched_since c (move ∷ run) touched up h = by_before (is_established run c) refl (λ before was k. touched_since c run before was k) where
   by_before : (b : Bool) → is_established run c ≡ b → ((before : Option Prefixes) → is_established run c ≡ true → IsTouchedBehind run c before → IsTouchedSince run c before) → IsTouchedSince (move ∷ run) c touched
   by_before true was earlier = let it = h.1 was in any_behind c move run it.0 touched was (earlier it.0 was it.1) it.2
-  by_before false down earlier = record {
-    all = λ _. h.0 down;
-    least = λ p _. ap (λ o. is_touched o p) (h.0 down);
-    just = λ none _. absurd (none (here (AsksForAll c) c move run (inr (down, up))));
-  }
+  by_before false down earlier = since_last (move ∷ run) c touched (λ _. h.0 down) (λ p _. ap (λ o. is_touched o p) (h.0 down)) (λ none. absurd (none (here (AsksForAll c) c move run (inr (down, up)))))
 
 pub touches_what_was_altered : TouchesWhatWasAltered
 unfolding client_count
@@ -221,16 +238,20 @@ numbers is_in (Some s) n e h = absurd (false≢true e)
 
 pub answers_by_what_was_altered : AnswersByWhatWasAltered
 unfolding client_count
-answers_by_what_was_altered old new run c lt h up d =
-    let it = touches_what_was_altered old run c lt h up in (
-      d.turned,
-      d.last,
-      record {
-        all = λ asked. d.whole ∙ ap is_whole (it.all asked);
-        just = λ none whole.
-            let was = it.just none whole in
-            let is = d.whole ∙ ap is_whole was.are ∙ whole_of was.prefixes (nat_lt 4096 (set.len was.prefixes)) in
-            (was.prefixes, was.just, is, λ part. counts (stands run c) was.prefixes d.turned.decided (nat_lt 4096 (set.len was.prefixes)) (sym is ∙ part) (subst (λ o. IsCountOf (stands run c) o d.turned.decided) was.are d.count));
-        standing = λ whole. numbers (stands run c) (touched_for old c) d.turned.decided (sym d.whole ∙ whole) d.count;
-      },
-    )
+answers_by_what_was_altered old new run c lt h up d = (
+  d.turned,
+  d.last,
+  record {
+    all = λ asked. d.whole ∙ ap is_whole (it.all asked);
+    most = λ none. let was = it.most none in (was.0, was.1, answer_for was.0 was.2);
+    just = λ none whole. let was = it.just none whole in (was.prefixes, was.just, answer_for was.prefixes was.are);
+    standing = λ whole. numbers (stands run c) (touched_for old c) d.turned.decided (sym d.whole ∙ whole) d.count;
+  },
+) where
+  it : IsTouchedSince run c (touched_for old c)
+  it = touches_what_was_altered old run c lt h up
+
+  answer_for : (prefixes : Prefixes) → touched_for old c ≡ if_room prefixes → IsAnswerFor prefixes d.turned
+  answer_for prefixes are =
+      let is = d.whole ∙ ap is_whole are ∙ whole_of prefixes (nat_lt 4096 (set.len prefixes)) in
+      record { whole = is; count = λ part. counts (stands run c) prefixes d.turned.decided (nat_lt 4096 (set.len prefixes)) (sym is ∙ part) (subst (λ o. IsCountOf (stands run c) o d.turned.decided) are d.count) }

@@ -3,6 +3,7 @@ use Rattle.std.proofs.Common.{◌≡◌, ◌≢◌, ◌⊎◌, inl, inr, ◌<◌
 use Rattle.std.specs.Prelude.{Option, Some, None, IsSome, ◌↔◌, slice_index_or, if◌then◌else◌}
 use Rattle.std.specs.List.{Contains}
 use Rattle.std.specs.Global.{Vec}
+use Rattle.std.proofs.lemmas.Bool.{false≢true}
 use Rattle.std.proofs.lemmas.List.Elements.{Contains-append_left, Contains-append_right, Contains-append_cases}
 use Rattle.rs_octets.specs.Prefixes.{Prefix}
 use Rattle.rs_attrs.specs.Meaning.{Attribute}
@@ -12,8 +13,8 @@ use Rattle.rs_adjin.specs.AdjIns.{held_of, Sets, Same, Begins}
 use Rattle.rs_adjin.specs.declared.adj_ins.AdjIns.{AdjIns}
 use Rattle.rs_outlet.specs.Views.{View, touched_at}
 use Rattle.rs_core.specs.Touches.{touched_with, IsTouchedAt, IsTouchedWhere, IsTouchedWhereHeld}
-use Rattle.rs_core.specs.Ribs.{outlet_in, ChangesOwn, ChangesOthers, ChangesAround, Stirs, StirsAtLeast, StirsWhere, TouchesChange}
-use Rattle.rs_core.specs.Steps.{HasOverlaid}
+use Rattle.rs_core.specs.Ribs.{outlet_in, ChangesOwn, ChangesOthers, ChangesAround, Stirs, StirsWhere, StirsWithin, TouchesChange}
+use Rattle.rs_core.specs.Steps.{HasOverlaid, HasOverlaidSome}
 use Rattle.rs_core.specs.declared.ribs.Ribs.{Ribs}
 use Rattle.rs_core.proofs.Around.{same_or}
 use Rattle.rs_core.proofs.Agreeing.{begun_held}
@@ -152,7 +153,7 @@ stirs_same_held c q old mid new count same touches stirred = stirs_on c old mid 
     (stirs_none c mid new (same.held c) (λ d none ne. ap (λ (v : Vec View). slice_index_or v.items d none) (touches.unchanged (same.held c q))))
 
 -- where a prefix isn't among them, it has what it had
-pub overlaid_kept : (c : ℕ) (ps : List Prefix) (w : Option (List Attribute)) (old new : AdjIns) → HasOverlaid c ps w old new → (p : Prefix) → has_prefix p ps ≡ false → held_of new c p ≡ held_of old c p
+overlaid_kept : (c : ℕ) (ps : List Prefix) (w : Option (List Attribute)) (old new : AdjIns) → HasOverlaid c ps w old new → (p : Prefix) → has_prefix p ps ≡ false → held_of new c p ≡ held_of old c p
 overlaid_kept c ps w old new has p none = has.held p ∙ ap (λ b. if b then w else held_of old c p) none
 
 neither : (b all first : Bool) → (all ≡ false → first ≡ false) → (b || all) ≡ false → (b || first) ≡ false
@@ -160,18 +161,35 @@ neither true all first so e = absurd (let f : true ≡ false = e in cc)
 neither false all first so e = so e
 
 -- nor is it among the first of them
-pub none_of_first : (p : Prefix) (ps : List Prefix) (k : ℕ) → has_prefix p ps ≡ false → has_prefix p (take k ps) ≡ false
+none_of_first : (p : Prefix) (ps : List Prefix) (k : ℕ) → has_prefix p ps ≡ false → has_prefix p (take k ps) ≡ false
 none_of_first p [] zero none = refl
 none_of_first p [] (suc k) none = refl
 none_of_first p (q ∷ ps) zero none = refl
 none_of_first p (q ∷ ps) (suc k) none = neither (same_prefix p q) (has_prefix p ps) (has_prefix p (take k ps)) (none_of_first p ps k) none
 
--- what is withdrawn, and then what is announced
-pub stirs_withdrawn : (c : ℕ) (W A : List Prefix) (old mid new : Ribs) → mid.count ≡ old.count → HasOverlaid c W None old.tables mid.tables
-    → ((p : Prefix) → has_prefix p A ≡ false → held_of new.tables c p ≡ held_of mid.tables c p) → ((p : Prefix) → has_prefix p W ≡ true → has_prefix p A ≡ false) → Stirs c old mid → Stirs c mid new → Stirs c old new
-stirs_withdrawn c W A old mid new count withdrawn kept apart a b = stirs_on c old mid new count (λ p. either p (has_prefix p W) refl) a b where
+first_are_some : (p : Prefix) (ps : List Prefix) (k : ℕ) → has_prefix p (take k ps) ≡ true → has_prefix p ps ≡ true
+first_are_some p ps k e = by_test (has_prefix p ps) refl where
+  by_test : (b : Bool) → has_prefix p ps ≡ b → has_prefix p ps ≡ true
+  by_test true f = f
+  by_test false f = absurd (false≢true (sym (none_of_first p ps k f) ∙ e))
+
+-- the first of them were written
+pub first_overlaid : (c k : ℕ) (ps : List Prefix) (w : Option (List Attribute)) (old new : AdjIns) → HasOverlaid c (take k ps) w old new → HasOverlaidSome c ps w old new
+first_overlaid c k ps w old new has = record { held = λ p. here p (has_prefix p (take k ps)) refl } where
+  here : (p : Prefix) (b : Bool) → has_prefix p (take k ps) ≡ b → (held_of new c p ≡ held_of old c p) ⊎ ((has_prefix p ps ≡ true) × (held_of new c p ≡ w))
+  here p true e = inr (first_are_some p ps k e, has.held p ∙ ap (λ b. if b then w else held_of old c p) e)
+  here p false e = inl (overlaid_kept c (take k ps) w old new has p e)
+
+-- and then memory was refused
+pub some_overlaid : (c : ℕ) (ps : List Prefix) (w : Option (List Attribute)) (old mid new : AdjIns) → Same mid new → HasOverlaidSome c ps w old mid → HasOverlaidSome c ps w old new
+some_overlaid c ps w old mid new same has = record { held = λ p. elim (has.held p) [ inl was ↦ inl (same.held c p ∙ was) | inr written ↦ inr (written.0, same.held c p ∙ written.1) ] }
+
+-- what is withdrawn, and then some of what is announced
+pub stirs_withdrawn : (c : ℕ) (W A : List Prefix) (w : Option (List Attribute)) (old mid new : Ribs) → mid.count ≡ old.count → HasOverlaid c W None old.tables mid.tables
+    → HasOverlaidSome c A w mid.tables new.tables → ((p : Prefix) → has_prefix p W ≡ true → has_prefix p A ≡ false) → Stirs c old mid → Stirs c mid new → Stirs c old new
+stirs_withdrawn c W A w old mid new count withdrawn announced apart a b = stirs_on c old mid new count (λ p. either p (has_prefix p W) refl) a b where
   either : (p : Prefix) (b : Bool) → has_prefix p W ≡ b → (held_of mid.tables c p ≡ held_of old.tables c p) ⊎ (held_of new.tables c p ≡ held_of mid.tables c p)
-  either p true e = inr (kept p (apart p e))
+  either p true e = elim (announced.held p) [ inl was ↦ inr was | inr written ↦ absurd (false≢true (sym (apart p e) ∙ written.0)) ]
   either p false e = inl (overlaid_kept c W None old.tables mid.tables withdrawn p e)
 
 -- ---- all that it held is gone
@@ -190,26 +208,49 @@ held_stirs c i old new begins changes = record { others = λ d none lt ne. where
 pub around_stirs : (c i : ℕ) (Is : View → View → Type 0) (old new : Ribs) → Begins old.tables new.tables c i → ChangesAround c Is (IsTouchedWhereHeld old.tables c) old new → Stirs c old new
 around_stirs c i Is old new begins changes = record { others = λ d none lt ne. where_held c old new _ _ (begun_held old.tables new.tables c i begins) (changes.others d none lt ne) }
 
--- ---- at least where a value has changed
+-- ---- at each prefix where a value has changed, and within some others
 
-pub stirs_least : (c : ℕ) (old new : Ribs) → Stirs c old new → StirsAtLeast c old new
-stirs_least c old new h = record { others = λ d none lt ne. let at = h.others d none lt ne in record { prefixes = at.prefixes; all = λ p differs. (at.just p).1 differs; touched = at.touched } }
+-- just where something holds, which does where a value has changed, and only within the bound
+pub within_of : (Holds Most : Prefix → Type 0) (c : ℕ) (old new : Ribs) → ((p : Prefix) → held_of new.tables c p ≢ held_of old.tables c p → Holds p) → ((p : Prefix) → Holds p → Most p)
+    → StirsWhere Holds c old new → StirsWithin Most c old new
+within_of Holds Most c old new changed within h = record {
+  others = λ d none lt ne. let at = h.others d none lt ne in record { prefixes = at.prefixes; all = λ p differs. (at.just p).1 (changed p differs); most = λ p has. within p ((at.just p).0 has); touched = at.touched };
+}
 
-pub least_on : (c : ℕ) (old mid new : Ribs) → mid.count ≡ old.count → StirsAtLeast c old mid → StirsAtLeast c mid new → StirsAtLeast c old new
-least_on c old mid new count a b = record {
+-- where a value has changed, and that is within the bound
+pub within_changed : (Most : Prefix → Type 0) (c : ℕ) (old new : Ribs) → ((p : Prefix) → held_of new.tables c p ≢ held_of old.tables c p → Most p) → Stirs c old new → StirsWithin Most c old new
+within_changed Most c old new within h = within_of (λ p. held_of new.tables c p ≢ held_of old.tables c p) Most c old new (λ p differs. differs) within h
+
+-- one behind the other; the second need only be within the bound where the first has left the value
+pub within_on : (P Q R : Prefix → Type 0) (c : ℕ) (old mid new : Ribs) → mid.count ≡ old.count → ((p : Prefix) → P p → R p) → ((p : Prefix) → Q p → held_of mid.tables c p ≡ held_of old.tables c p → R p)
+    → StirsWithin P c old mid → StirsWithin Q c mid new → StirsWithin R c old new
+within_on P Q R c old mid new count first second a b = record {
   others = λ d none lt ne.
-      let first = a.others d none lt ne in
-      let then_at = b.others d none (subst (λ n. d < n) (sym count) lt) ne in
+      let before = a.others d none lt ne in
+      let behind = b.others d none (subst (λ n. d < n) (sym count) lt) ne in
       record {
-        prefixes = first.prefixes ++ then_at.prefixes;
+        prefixes = before.prefixes ++ behind.prefixes;
         all = λ p differs. elim (same_or (held_of mid.tables c p) (held_of old.tables c p)) [
-          | inl same ↦ Contains-append_right first.prefixes then_at.prefixes p (then_at.all p (λ e. differs (e ∙ same)))
-          | inr other ↦ Contains-append_left first.prefixes then_at.prefixes p (first.all p other)
+          | inl same ↦ Contains-append_right before.prefixes behind.prefixes p (behind.all p (λ e. differs (e ∙ same)))
+          | inr other ↦ Contains-append_left before.prefixes behind.prefixes p (before.all p other)
         ];
-        touched = touched_both first.prefixes then_at.prefixes (outlet_in old d none) (outlet_in mid d none) (outlet_in new d none) first.touched then_at.touched;
+        most = λ p has. elim (Contains-append_cases before.prefixes behind.prefixes p has) [
+          | inl there ↦ first p (before.most p there)
+          | inr there ↦ elim (same_or (held_of mid.tables c p) (held_of old.tables c p)) [
+            | inl same ↦ second p (behind.most p there) same
+            | inr other ↦ first p (before.most p (before.all p other))
+          ]
+        ];
+        touched = touched_both before.prefixes behind.prefixes (outlet_in old d none) (outlet_in mid d none) (outlet_in new d none) before.touched behind.touched;
       };
 }
 
+-- then all that it held is gone
+pub within_gone : (Most : Prefix → Type 0) (c : ℕ) (old mid new : Ribs) → mid.count ≡ old.count → StirsWithin Most c old mid → Stirs c mid new → StirsWithin (λ p. (held_of new.tables c p ≢ held_of old.tables c p) ⊎ Most p) c old new
+within_gone Most c old mid new count a b =
+    within_on Most (λ p. held_of new.tables c p ≢ held_of mid.tables c p) (λ p. (held_of new.tables c p ≢ held_of old.tables c p) ⊎ Most p) c old mid new count
+    (λ p x. inr x) (λ p differs same. inl (λ e. differs (e ∙ sym same))) a (within_changed (λ p. held_of new.tables c p ≢ held_of mid.tables c p) c mid new (λ p differs. differs) b)
+
 -- a step before and one behind that leave the RIBs as they are
-pub least_between : (c : ℕ) (old mid heard new : Ribs) → mid ≡ old → new ≡ heard → StirsAtLeast c mid heard → StirsAtLeast c old new
-least_between c old mid heard new before behind h = subst (λ r. StirsAtLeast c old r) (sym behind) (subst (λ r. StirsAtLeast c r heard) before h)
+pub within_between : (Most : Prefix → Type 0) (c : ℕ) (old mid heard new : Ribs) → mid ≡ old → new ≡ heard → StirsWithin Most c mid heard → StirsWithin Most c old new
+within_between Most c old mid heard new before behind h = subst (λ r. StirsWithin Most c old r) (sym behind) (subst (λ r. StirsWithin Most c r heard) before h)

@@ -17,14 +17,15 @@ use Rattle.rs_outlet.specs.HeldBy.{tables_of}
 use Rattle.rs_outlet.specs.Turns.{HasTurned}
 use Rattle.rs_outlet.specs.Views.{View, IsCount, Prefixes, Table, if_up, is_touched, is_whole, touched_at, with_touch}
 use Rattle.rs_core.specs.Points.{latest}
-use Rattle.rs_core.specs.Moves.{Move, config_in}
+use Rattle.rs_core.specs.Moves.{Move, Dropped, config_in}
 use Rattle.rs_core.specs.Runs.{hearing, is_established, due, dues, held_in, table}
-use Rattle.rs_core.specs.Ribs.{outlet_in, ChangesAll, Stirs, StirsAtLeast, StirsWhere}
-use Rattle.rs_core.specs.Touches.{IsTouchedAtLeast, IsTouchedWhere, KeepsTouches, touched_with}
+use Rattle.rs_core.specs.Altering.{IsAlteredBy}
+use Rattle.rs_core.specs.Ribs.{outlet_in, ChangesAll, Stirs, StirsWhere, StirsWithin}
+use Rattle.rs_core.specs.Touches.{IsTouchedBetween, IsTouchedWhere, KeepsTouches, touched_with}
 use Rattle.rs_core.specs.Turns.{IsDone, IsTurn, IsMarked}
 use Rattle.rs_core.specs.Agreeing.{Agrees}
 use Rattle.rs_core.specs.Core.{client_count, is_refusal, is_refused, last_in, last_of, loc_in, loc_rib, refusal_in, touched_for}
-use Rattle.rs_core.specs.Stirring.{DecidesTouched, IsChangedBy, IsCountOf, KeepsTouched, TouchesAll, TouchesAtLeast, TouchesItself, TouchesOthersAtLeast, TouchesOthersWhere, TouchesWhere, stands, with_touches}
+use Rattle.rs_core.specs.Stirring.{DecidesTouched, IsChangedBy, IsCountOf, KeepsTouched, MayBeChangedBy, TouchesAll, TouchesBetween, TouchesItself, TouchesOthersBetween, TouchesOthersWhere, TouchesWhere, stands, with_touches}
 use Rattle.rs_core.specs.declared.ribs.Ribs.{Ribs}
 use Rattle.rs_core.specs.declared.route_server.Core.{Core}
 use Rattle.rs_core.proofs.Agreeing.{AgreesOnClients, on_clients}
@@ -33,7 +34,7 @@ use Rattle.rs_core.proofs.InTurn.{has_what_was_due}
 use Rattle.rs_core.proofs.Outgoing.{within}
 use Rattle.rs_core.proofs.Paying.{nobody, outlet_is, touched_is}
 use Rattle.rs_core.proofs.Serving.{due_is, due_spoken}
-use Rattle.rs_core.proofs.Stirring.{stirs_as}
+use Rattle.rs_core.proofs.Stirring.{stirs_as, within_gone}
 use Rattle.rs_core.proofs.Voicing.{down_speech}
 
 -- ---- what is seen of an outlet
@@ -101,24 +102,32 @@ touches_itself move c old new run lt h after count keeps = record {
   now : c < new.count
   now = subst (λ n. c < n) (sym count) lt
 
--- at least there
-touches_least : (Holds : Prefix → Type 0) (v w : View) (speech : Speech) → v.speech ≡ Some speech → IsTouchedAtLeast Holds v w → TouchesAtLeast Holds v.touched w.touched
-touches_least Holds v w speech up h = record { prefixes = h.prefixes; all = h.all; are = ap (λ (x : View). x.touched) h.touched.is ∙ touches_by_speech h.prefixes v speech up }
+-- octets for which memory was refused: what was heard of them, and then the loss
+between_by_speech : (Least Most : Prefix → Type 0) (v w : View) (speech : Speech) → v.speech ≡ Some speech → IsTouchedBetween Least Most v w → TouchesBetween Least Most v.touched w.touched
+between_by_speech Least Most v w speech up h = record { prefixes = h.prefixes; all = h.all; most = h.most; are = ap (λ (x : View). x.touched) h.touched.is ∙ touches_by_speech h.prefixes v speech up }
 
-pub touches_changes_least : (c : ℕ) (move : Move) (old new : Core) (run : List Move) → c < old.count → AgreesOnClients old run → AgreesOnClients new (move ∷ run) → new.count ≡ old.count → StirsAtLeast c old.ribs new.ribs
-    → TouchesOthersAtLeast (IsChangedBy move run c) c run old new
+pub touches_dropped : (c : ℕ) (octets : List ℕ) (old mid new : Core) (run : List Move) → c < old.count → AgreesOnClients old run → AgreesOnClients new (Dropped c octets ∷ run) → mid.count ≡ old.count → new.count ≡ mid.count
+    → StirsWithin (IsAlteredBy (config_in run) c octets (hearing c run)) c old.ribs mid.ribs → Stirs c mid.ribs new.ribs
+    → TouchesOthersBetween (IsChangedBy (Dropped c octets) run c) (MayBeChangedBy octets run c) c run old new
 unfolding client_count
-touches_changes_least c move old new run lt h after count stirs = record {
+touches_dropped c octets old mid new run lt h after count same stirs gone = record {
   others = λ d there ne up.
       let heard = spoken_outlet old run d there h up in
-      let at = stirs.others d nobody (within old d there) ne in
-      let before : (p : Prefix) → held_of old.ribs.tables c p ≡ table run c p = (h.clients c lt).knows.table in
-      let now : (p : Prefix) → held_of new.ribs.tables c p ≡ table (move ∷ run) c p = (after.clients c (subst (λ n. c < n) (sym count) lt)).knows.table in
-      subst (λ t. TouchesAtLeast (IsChangedBy move run c) t (touched_for new d)) (sym (touched_is old d there))
-      (subst (λ t. TouchesAtLeast (IsChangedBy move run c) (outlet_in old.ribs d nobody).touched t) (sym (touched_is new d (subst (λ n. d < n) (sym count) there)))
-      (touches_least (IsChangedBy move run c) (outlet_in old.ribs d nobody) (outlet_in new.ribs d nobody) heard.0 heard.1
-      (record { prefixes = at.prefixes; all = λ p differs. at.all p (λ e. differs (sym (now p) ∙ e ∙ before p)); touched = at.touched })));
-}
+      let at = (within_gone (IsAlteredBy (config_in run) c octets (hearing c run)) c old.ribs mid.ribs new.ribs (mid.ribs_len ∙ count ∙ sym old.ribs_len) stirs gone).others d nobody (within old d there) ne in
+      subst (λ t. TouchesBetween (IsChangedBy (Dropped c octets) run c) (MayBeChangedBy octets run c) t (touched_for new d)) (sym (touched_is old d there))
+      (subst (λ t. TouchesBetween (IsChangedBy (Dropped c octets) run c) (MayBeChangedBy octets run c) (outlet_in old.ribs d nobody).touched t) (sym (touched_is new d (subst (λ n. d < n) (sym (same ∙ count)) there)))
+      (between_by_speech (IsChangedBy (Dropped c octets) run c) (MayBeChangedBy octets run c) (outlet_in old.ribs d nobody) (outlet_in new.ribs d nobody) heard.0 heard.1 (record {
+        prefixes = at.prefixes;
+        all = λ p differs. at.all p (λ e. differs (sym (now p) ∙ e ∙ before p));
+        most = λ p has. elim (at.most p has) [ inl differs ↦ inl (λ e. differs (now p ∙ e ∙ sym (before p))) | inr x ↦ inr x ];
+        touched = at.touched;
+      })));
+} where
+  before : (p : Prefix) → held_of old.ribs.tables c p ≡ table run c p
+  before p = (h.clients c lt).knows.table p
+
+  now : (p : Prefix) → held_of new.ribs.tables c p ≡ table (Dropped c octets ∷ run) c p
+  now p = (after.clients c (subst (λ n. c < n) (sym (same ∙ count)) lt)).knows.table p
 
 -- what goes on with one client alone, which is not Established
 pub keeps_touched : (c : ℕ) (old new : Core) (run : List Move) → new.count ≡ old.count → is_established run c ≡ false → ((d : ℕ) (none : View) → d ≢ c → outlet_in new.ribs d none ≡ outlet_in old.ribs d none) → KeepsTouched run old new

@@ -1,5 +1,5 @@
 -- What UPDATEs make of a client's Adj-RIB-In.
-use Rattle.std.proofs.Common.{◌≡◌, ◌≢◌, ◌<◌, ◌==◌, ◌&&◌, ◌||◌, ℕ, zero, suc, Bool, true, false, List, [], ◌∷◌, ◌++◌, length, take, get_or, refl, sym, ◌∙◌, ap, subst, arith}
+use Rattle.std.proofs.Common.{◌≡◌, ◌≢◌, ◌⊎◌, inl, inr, ◌<◌, ◌==◌, ◌&&◌, ◌||◌, ℕ, zero, suc, Bool, true, false, List, [], ◌∷◌, ◌++◌, length, take, get_or, refl, sym, ◌∙◌, ap, subst, arith}
 use Rattle.std.specs.Prelude.{Option, Some, None, find, slice_get, slice_set, if◌then◌else◌}
 use Rattle.std.specs.List.{cons_option}
 use Rattle.std.proofs.lemmas.Bool.Decides.{nat_tests}
@@ -13,7 +13,6 @@ use Rattle.rs_session.specs.declared.heard.Heard.TheVariants as heard
 use Rattle.rs_session.specs.declared.heard.Heard.{Heard}
 use Rattle.rs_session.specs.declared.act.Act.{Act}
 use Rattle.rs_session.specs.declared.act.Act.TheVariants as acts
-use Rattle.rs_session.specs.declared.act.State.TheVariants as states
 use Rattle.rs_session.proofs.Updates.{updates_are_taken}
 use Rattle.rs_session.specs.declared.session.Session.{Session}
 use Rattle.rs_session.specs.Items.{Message}
@@ -22,8 +21,8 @@ use Rattle.rs_session.specs.Hearing.{HasHeard, RespondsTo, Takes}
 use Rattle.rs_adjin.specs.AdjIns.{held_of, identifier_of, Sets, Same}
 use Rattle.rs_adjin.specs.declared.adj_ins.AdjIns.{AdjIns}
 use Rattle.rs_policy.specs.Configuration.{Configuration}
-use Rattle.rs_core.specs.Hearing.{Hearing, session_in, state_in, is_up, changing, takes_in}
-use Rattle.rs_core.specs.Steps.{IsSpared, HasOverlaid, ChangesRoutes}
+use Rattle.rs_core.specs.Hearing.{Hearing, session_in, state_in, is_up, table_in, changing, takes_in}
+use Rattle.rs_core.specs.Steps.{IsSpared, HasOverlaid, HasOverlaidSome, ChangesRoutes}
 use Rattle.rs_core.specs.Agreeing.{Knows, IsCutShort}
 use Rattle.rs_outlet.specs.Views.{View}
 use Rattle.rs_core.specs.Ribs.{outlet_in, Stirs, TouchesChange}
@@ -145,6 +144,26 @@ unasked : (b : Bool) (points : List Point) → asked_if (b && false) points ≡ 
 unasked true points = refl
 unasked false points = refl
 
+-- the table of a client behind an UPDATE that its session takes
+taken_table : (core : Core) (x t : Session) (s : Configuration) (c : ℕ) (h : Hearing) (W A : List Prefix) (m : Option (List Attribute)) (change : Change)
+    → slice_get core.sessions.items c ≡ Some x → RespondsTo x t (Message (heard.Update None)) acts.None → Takes x acts.None → is_live (state_in s c h) ≡ true
+    → IsSameChange (record { withdrawn = W; announced = A; attributes = m }) change → Knows core s c h
+    → (p : Prefix) → (if has_prefix p A then m else (if has_prefix p W then None else held_of core.ribs.tables c p)) ≡ table_in s c (takes_in s c (changing None change no_faults) h) p
+taken_table core x t s c h W A m change read responds takes live same knows p =
+    let y : Change = record { withdrawn = W; announced = A; attributes = m } in
+    let next : Hearing = takes_in s c (changing None change no_faults) h in
+    let was = knows.session x read in
+    let it = responds (session_in s c) h.items was in
+    let up : is_up (state_in s c h) ≡ true = ap is_up (takes (session_in s c) h.items was refl live) in
+    let now : is_up (state_in s c next) ≡ true = ap is_up it.tells.state ∙ up in
+    let grown : next.changes ≡ change ∷ h.changes = ap (λ b. if b then change ∷ h.changes else []) up in
+    ap (λ o. if has_prefix p A then m else (if has_prefix p W then None else o)) (knows.table p ∙ up_table s c h up p)
+    ∙ in_two_steps (has_prefix p W) (has_prefix p A) m None (table_since h.changes p)
+    ∙ sym (found y h.changes p)
+    ∙ overlay_alike y change h.changes p same
+    ∙ ap (λ cs. table_since cs p) (sym grown)
+    ∙ sym (up_table s c next now p)
+
 pub changed : (old new : Core) (x t : Session) (s : Configuration) (c : ℕ) (h : Hearing) (W A : List Prefix) (m : Option (List Attribute)) (change : Change)
     → slice_get old.sessions.items c ≡ Some x → c < length old.sessions.items → new.sessions.items ≡ slice_set old.sessions.items c t
     → RespondsTo x t (Message (heard.Update None)) acts.None → Takes x acts.None
@@ -154,23 +173,14 @@ pub changed : (old new : Core) (x t : Session) (s : Configuration) (c : ℕ) (h 
     → is_live (state_in s c h) ≡ true → IsSameChange (record { withdrawn = W; announced = A; attributes = m }) change
     → new.watched ≡ old.watched → Knows old s c h → Knows new s c (takes_in s c (changing None change no_faults) h)
 changed old new x t s c h W A m change read lt sessions responds takes held identifier config own live same watched knows =
-    let y : Change = record { withdrawn = W; announced = A; attributes = m } in
     let next : Hearing = takes_in s c (changing None change no_faults) h in
     let was = knows.session x read in
     let it = responds (session_in s c) h.items was in
     let up : is_up (state_in s c h) ≡ true = ap is_up (takes (session_in s c) h.items was refl live) in
     let now : is_up (state_in s c next) ≡ true = ap is_up it.tells.state ∙ up in
-    let grown : next.changes ≡ change ∷ h.changes = ap (λ b. if b then change ∷ h.changes else []) up in
     record {
       session = λ z e. subst (λ v. HasHeard v (session_in s c) next.items) (sym ((set_at old.sessions.items c t lt).own z (ap (λ l. slice_get l c) (sym sessions) ∙ e))) it.heard;
-      table = λ p.
-          held p
-          ∙ ap (λ o. if has_prefix p A then m else (if has_prefix p W then None else o)) (knows.table p ∙ up_table s c h up p)
-          ∙ in_two_steps (has_prefix p W) (has_prefix p A) m None (table_since h.changes p)
-          ∙ sym (found y h.changes p)
-          ∙ overlay_alike y change h.changes p same
-          ∙ ap (λ cs. table_since cs p) (sym grown)
-          ∙ sym (up_table s c next now p);
+      table = λ p. held p ∙ taken_table old x t s c h W A m change read responds takes live same knows p;
       identifier = identifier ∙ knows.identifier ∙ up_identifier s c h up ∙ ap identifier_by (sym it.tells.agreed) ∙ sym (up_identifier s c next now);
       outlet = λ is none. stayed s c h next (outlet_in old.ribs c none) (outlet_in new.ribs c none) it.tells refl (same_again _ _ (same_is _ _ (own none)))
           (record {
@@ -183,6 +193,23 @@ changed old new x t s c h W A m change read lt sessions responds takes held iden
       watched = subst (λ es. IsWatched new.watched.items c es h.faults) (ap (λ a. cons_option (ending_by [] a) h.endings) it.act_is)
           (watched_still old.watched.items new.watched.items c h.endings h.faults (ap (λ v. v.items) watched) knows.watched);
     }
+
+-- where all was withdrawn, and some announced, another value than before is that of the whole
+part_is_whole : (w a : Bool) (m old mid new : Option (List Attribute)) → (w ≡ true → a ≡ false) → mid ≡ (if w then None else old) → (new ≡ mid) ⊎ ((a ≡ true) × (new ≡ m)) → new ≢ old
+    → new ≡ (if a then m else (if w then None else old))
+part_is_whole w a m old mid new apart withdrawn (inr written) differs = written.1 ∙ ap (λ b. if b then m else (if w then None else old)) (sym written.0)
+part_is_whole true a m old mid new apart withdrawn (inl same) differs = same ∙ withdrawn ∙ ap (λ b. if b then m else None) (sym (apart refl))
+part_is_whole false a m old mid new apart withdrawn (inl same) differs = absurd (differs (same ∙ withdrawn))
+
+-- so memory that is refused in the midst leaves another value only where the whole change gives it
+pub changed_within : (old new : Core) (x t : Session) (s : Configuration) (c : ℕ) (h : Hearing) (W A : List Prefix) (m : Option (List Attribute)) (change : Change) (mid : AdjIns)
+    → slice_get old.sessions.items c ≡ Some x → RespondsTo x t (Message (heard.Update None)) acts.None → Takes x acts.None → HasOverlaid c W None old.ribs.tables mid → HasOverlaidSome c A m mid new.ribs.tables
+    → ((p : Prefix) → has_prefix p W ≡ true → has_prefix p A ≡ false) → is_live (state_in s c h) ≡ true → IsSameChange (record { withdrawn = W; announced = A; attributes = m }) change → Knows old s c h
+    → (p : Prefix) → held_of new.ribs.tables c p ≢ held_of old.ribs.tables c p → table_in s c (takes_in s c (changing None change no_faults) h) p ≢ table_in s c h p
+changed_within old new x t s c h W A m change mid read responds takes withdrawn announced apart live same knows p differs = λ e.
+    differs (
+    part_is_whole (has_prefix p W) (has_prefix p A) m (held_of old.ribs.tables c p) (held_of mid c p) (held_of new.ribs.tables c p) (apart p) (withdrawn.held p) (announced.held p) differs
+    ∙ taken_table old x t s c h W A m change read responds takes live same knows p ∙ e ∙ sym (knows.table p))
 
 -- ---- what the code found an UPDATE to do is what is computed of it
 

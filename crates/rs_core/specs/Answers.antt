@@ -72,7 +72,7 @@ pub data Answers (n : ℕ) (octets : List ℕ) : Event → Course → Course →
   Declines : (c : ℕ) (x : Course) → c < n → (IsIdle x.run c → ⊥) → Answers n octets (events.Opened c) x (called (Busy c) x)
   Hears : (c len : ℕ) (x : Course) → c < n → len ≤ 4096 → Answers n octets (events.Octets c len) x (moved (Heard c octets) x)
   -- memory was refused for them
-  Drops : (c len : ℕ) (x : Course) → c < n → len ≤ 4096 → Answers n octets (events.Octets c len) x (moved (Dropped c) (called (End c) (called (Memory c) x)))
+  Drops : (c len : ℕ) (x : Course) → c < n → len ≤ 4096 → Answers n octets (events.Octets c len) x (moved (Dropped c octets) (called (End c) (called (Memory c) x)))
   Sees : (t : ℕ) (x : Course) → Answers n octets (events.Moment t) x (moved (Saw t) x)
   -- memory was refused for some
   Turns : (refused : List ℕ) (x : Course) → AreFalling n refused → Answers n octets events.Turn x (record { steps = memories refused x.steps; run = Turned refused ∷ x.run })

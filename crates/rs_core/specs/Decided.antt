@@ -13,7 +13,7 @@ use Rattle.rs_core.specs.Runs.{is_established, is_listed}
 use Rattle.rs_core.specs.Core.{client_count, last_of, touched_for}
 use Rattle.rs_core.specs.Agreeing.{Agrees}
 use Rattle.rs_core.specs.Stirring.{DecidesTouched, stands}
-use Rattle.rs_core.specs.Touched.{Alters}
+use Rattle.rs_core.specs.Touched.{Alters, MayAlter}
 use Rattle.rs_core.specs.declared.route_server.Core.{Core}
 
 -- ---- since the last turn
@@ -39,9 +39,13 @@ IsAskedForAll run c = Since (AsksForAll c) c run
 abbrev pub IsAltered : List Move → ℕ → Prefix → Type 0
 IsAltered run c p = Since (λ move before. Alters move before c p) c run
 
+-- a move did, or would have, if memory had not been refused for its octets
+abbrev pub MayBeAltered : List Move → ℕ → Prefix → Type 0
+MayBeAltered run c p = Since (λ move before. MayAlter move before c p) c run
+
 -- memory was refused for octets of a client
 abbrev pub IsCut : List Move → ℕ → Type 0
-IsCut run c = Since (λ move before. (d : ℕ) × (move ≡ Dropped d)) c run
+IsCut run c = Since (λ move before. (d : ℕ) × (octets : List ℕ) × (move ≡ Dropped d octets)) c run
 
 -- ---- what is touched
 
@@ -55,11 +59,17 @@ pub record IsJustWhere (Holds : Prefix → Type 0) (touched : Option Prefixes) :
   pub just : (p : Prefix) → (set.contains prefixes p ≡ true) ↔ Holds p
   pub are : touched ≡ if_room prefixes
 
--- What is touched for an Established client: all, where all is to be decided; else just what was altered, where no octets were
--- cut short, and that at least in any case.
+-- among these is each prefix where the first holds, and none but where the second does
+pub record LieBetween (Least Most : Prefix → Type 0) (prefixes : Prefixes) : Type 0 where
+  pub all : (p : Prefix) → Least p → set.contains prefixes p ≡ true
+  pub most : (p : Prefix) → set.contains prefixes p ≡ true → Most p
+
+-- What is touched for an Established client: all, where all is to be decided; else a set of prefixes, by themselves or as all, that
+-- has each that was altered and none but those that may have been. Where no octets were cut short it is just what was altered.
 pub record IsTouchedSince (run : List Move) (c : ℕ) (touched : Option Prefixes) : Type 0 where
   pub all : IsAskedForAll run c → touched ≡ None
   pub least : (p : Prefix) → IsAltered run c p → is_touched touched p ≡ true
+  pub most : (IsAskedForAll run c → ⊥) → (prefixes : Prefixes) × LieBetween (IsAltered run c) (MayBeAltered run c) prefixes × (touched ≡ if_room prefixes)
   pub just : (IsAskedForAll run c → ⊥) → (IsCut run c → ⊥) → IsJustWhere (IsAltered run c) touched
 
 abbrev pub TouchesWhatWasAltered : Type 0
@@ -67,11 +77,18 @@ TouchesWhatWasAltered = (core : Core) (run : List Move) (c : ℕ) → c < client
 
 -- ---- what a turn decides
 
--- The answer of a turn of client c: it was whole where all was to be decided; else, where no octets were cut short, just where
--- more than 4,096 prefixes were altered. It counts those that were altered; a whole one those that anyone holds or that were due.
+-- it was whole just where these are more than 4,096, and counts them where it was not
+pub record IsAnswerFor (prefixes : Prefixes) (turned : Turned) : Type 0 where
+  pub whole : turned.whole ≡ nat_lt 4096 (set.len prefixes)
+  pub count : turned.whole ≡ false → turned.decided ≡ set.len prefixes
+
+-- The answer of a turn of client c: it was whole where all was to be decided; else it is that for a set of prefixes that has each
+-- that was altered and none but those that may have been; where no octets were cut short, for just those that were altered. A
+-- whole one counts the prefixes that anyone holds or that were due.
 pub record IsAnswerTo (run : List Move) (c : ℕ) (turned : Turned) : Type 0 where
   pub all : IsAskedForAll run c → turned.whole ≡ true
-  pub just : (IsAskedForAll run c → ⊥) → (IsCut run c → ⊥) → (prefixes : Prefixes) × ((p : Prefix) → (set.contains prefixes p ≡ true) ↔ IsAltered run c p) × (turned.whole ≡ nat_lt 4096 (set.len prefixes)) × (turned.whole ≡ false → turned.decided ≡ set.len prefixes)
+  pub most : (IsAskedForAll run c → ⊥) → (prefixes : Prefixes) × LieBetween (IsAltered run c) (MayBeAltered run c) prefixes × IsAnswerFor prefixes turned
+  pub just : (IsAskedForAll run c → ⊥) → (IsCut run c → ⊥) → (prefixes : Prefixes) × ((p : Prefix) → (set.contains prefixes p ≡ true) ↔ IsAltered run c p) × IsAnswerFor prefixes turned
   pub standing : turned.whole ≡ true → IsNumberOf (stands run c) turned.decided
 
 abbrev pub AnswersByWhatWasAltered : Type 0

@@ -10,7 +10,7 @@ pub data Move : Type 0 where
   Heard : (c : ℕ) (octets : List ℕ) → Move  -- octets of a client came, in a piece
   Saw : (t : ℕ) → Move  -- a moment was seen, in seconds
   Left : (c : ℕ) → Move  -- a connection was lost
-  Dropped : (c : ℕ) → Move  -- memory was refused for octets of a client, and its connection counts as lost without them
+  Dropped : (c : ℕ) (octets : List ℕ) → Move  -- memory was refused for these octets of a client, and its connection counts as lost without them
   Turned : (refused : List ℕ) → Move  -- a turn of all clients but those for which memory was refused
   Began : (c : ℕ) → Move  -- where none was in flight, the next message to a client began, if there was one
   Took : (c : ℕ) (octets : List ℕ) → Move  -- octets of the message in flight to a client were taken
@@ -29,7 +29,7 @@ config_in (Came c ∷ run) = config_in run
 config_in (Heard c octets ∷ run) = config_in run
 config_in (Saw t ∷ run) = config_in run
 config_in (Left c ∷ run) = config_in run
-config_in (Dropped c ∷ run) = config_in run
+config_in (Dropped c octets ∷ run) = config_in run
 config_in (Turned refused ∷ run) = config_in run
 config_in (Began c ∷ run) = config_in run
 config_in (Took c octets ∷ run) = config_in run

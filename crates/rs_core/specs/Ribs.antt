@@ -8,7 +8,7 @@ use Rattle.rs_outlet.specs.declared.answers.Speech.{Speech}
 use Rattle.rs_outlet.specs.Due.{due_to}
 use Rattle.rs_outlet.specs.HeldBy.{tables_of}
 use Rattle.rs_outlet.specs.Views.{View, AreNumbered, is_touched}
-use Rattle.rs_core.specs.Touches.{IsTouchedAt, IsTouchedAtLeast, IsTouchedWhere}
+use Rattle.rs_core.specs.Touches.{IsTouchedAt, IsTouchedBetween, IsTouchedWhere}
 use Rattle.rs_core.specs.declared.ribs.Ribs.{Ribs}
 
 abbrev pub outlet_count : Ribs → ℕ
@@ -88,6 +88,6 @@ pub record StirsWhere (Holds : Prefix → Type 0) (c : ℕ) (old new : Ribs) : T
 abbrev pub Stirs : ℕ → Ribs → Ribs → Type 0
 Stirs c old new = StirsWhere (λ p. held_of new.tables c p ≢ held_of old.tables c p) c old new
 
--- the outlets of all clients but c were touched at least at those
-pub record StirsAtLeast (c : ℕ) (old new : Ribs) : Type 0 where
-  pub others : (d : ℕ) (none : View) → d < old.count → d ≢ c → IsTouchedAtLeast (λ p. held_of new.tables c p ≢ held_of old.tables c p) (outlet_in old d none) (outlet_in new d none)
+-- the outlets of all clients but c were touched at each of those, and at none but where this holds
+pub record StirsWithin (Most : Prefix → Type 0) (c : ℕ) (old new : Ribs) : Type 0 where
+  pub others : (d : ℕ) (none : View) → d < old.count → d ≢ c → IsTouchedBetween (λ p. held_of new.tables c p ≢ held_of old.tables c p) Most (outlet_in old d none) (outlet_in new d none)

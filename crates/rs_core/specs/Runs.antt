@@ -58,7 +58,7 @@ hearing c (Came d ∷ run) = if d == c then begins (hearing c run) else hearing 
 hearing c (Heard d octets ∷ run) = if d == c then hears (config_in run) c octets (hearing c run) else hearing c run
 hearing c (Saw t ∷ run) = sees (config_in run) c t (hearing c run)
 hearing c (Left d ∷ run) = if d == c then leaves (config_in run) c reasons.Lost (hearing c run) else hearing c run
-hearing c (Dropped d ∷ run) = if d == c then leaves (config_in run) c reasons.Memory (hearing c run) else hearing c run
+hearing c (Dropped d octets ∷ run) = if d == c then leaves (config_in run) c reasons.Memory (hearing c run) else hearing c run
 hearing c (Turned refused ∷ run) =
     decides (is_up (state_in (config_in run) c (hearing c run)) && not (is_listed c refused)) (due_among (config_in run) (λ d. hearing d run) c) (hearing c run)
 hearing c (Began d ∷ run) = offers (d == c) (hearing c run)

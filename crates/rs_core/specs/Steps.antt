@@ -32,7 +32,7 @@ use Rattle.rs_adjin.specs.AdjIns.{held_of, identifier_of, Begins}
 use Rattle.rs_octets.specs.Prefixes.{Prefix}
 use Rattle.rs_adjin.specs.declared.adj_ins.AdjIns.{AdjIns}
 use Rattle.rs_policy.specs.Configuration.{Configuration}
-use Rattle.rs_core.specs.Hearing.{Hearing, allowed_in, session_in, state_in, is_up, changing, body_said, takes_in, hears}
+use Rattle.rs_core.specs.Hearing.{Hearing, allowed_in, session_in, state_in, is_up, table_in, changing, body_said, takes_in, hears}
 
 -- the value of client c is v, and those of the others are what they were
 pub record SetsAt {X : Type 0} (c : ℕ) (v : X) (old new : List X) : Type 0 where
@@ -82,6 +82,13 @@ Hears kind body c old new =
 abbrev pub CutsShort : ℕ → Core → Core → Type 0
 CutsShort c old new = (s : Configuration) (h : Hearing) → Knows old s c h → IsCutShort new s c h
 
+-- memory was refused in the midst of a message of this type with this body: the client has another value than before only where the
+-- whole message gives it one
+abbrev pub AltersWithin : Kind → List ℕ → ℕ → Core → Core → Type 0
+AltersWithin kind body c old new =
+    (s : Configuration) (h : Hearing) → old.ribs.config ≡ s → is_live (state_in s c h) ≡ true → Knows old s c h
+    → (p : Prefix) → held_of new.ribs.tables c p ≢ held_of old.ribs.tables c p → table_in s c (takes_in s c (body_said s c h kind body) h) p ≢ table_in s c h p
+
 -- what is touched for the client itself is kept, where its session heard this before
 abbrev pub KeepsOwnTouches : ℕ → Core → Core → Type 0
 KeepsOwnTouches c old new = (s : Configuration) (h : Hearing) → old.ribs.config ≡ s → Knows old s c h → (none : View) → KeepsTouches (outlet_in old.ribs c none) (outlet_in new.ribs c none)
@@ -96,6 +103,10 @@ pub record IsAnnouncing (withdrawn announced : List Prefix) (change : Change) : 
 pub record HasOverlaid (c : ℕ) (prefixes : List Prefix) (w : Option (List Attribute)) (old new : AdjIns) : Type 0 where
   pub held : (p : Prefix) → held_of new c p ≡ (if has_prefix p prefixes then w else held_of old c p)
   pub identifier : identifier_of new c ≡ identifier_of old c
+
+-- some of these prefixes have w at client c, and each other one what it had
+pub record HasOverlaidSome (c : ℕ) (prefixes : List Prefix) (w : Option (List Attribute)) (old new : AdjIns) : Type 0 where
+  pub held : (p : Prefix) → (held_of new c p ≡ held_of old c p) ⊎ ((has_prefix p prefixes ≡ true) × (held_of new c p ≡ w))
 
 -- only the routes of client c change, and what is touched for the others by that
 pub record ChangesRoutes (c : ℕ) (old new : Core) : Type 0 where
@@ -114,6 +125,13 @@ Changes c withdrawn announced attributes old new =
     (s : Configuration) (h : Hearing) (change : Change) → is_live (state_in s c h) ≡ true → Knows old s c h
     → IsSameChange (record { withdrawn = withdrawn; announced = announced; attributes = attributes }) change
     → Knows new s c (takes_in s c (changing None change no_faults) h)
+
+-- memory was refused in the midst of it: the client has another value than before only where the whole change gives it one
+abbrev pub ChangesWithin : ℕ → List Prefix → List Prefix → Option (List Attribute) → Core → Core → Type 0
+ChangesWithin c withdrawn announced attributes old new =
+    (s : Configuration) (h : Hearing) (change : Change) → is_live (state_in s c h) ≡ true → Knows old s c h
+    → IsSameChange (record { withdrawn = withdrawn; announced = announced; attributes = attributes }) change
+    → (p : Prefix) → held_of new.ribs.tables c p ≢ held_of old.ribs.tables c p → table_in s c (takes_in s c (changing None change no_faults) h) p ≢ table_in s c h p
 
 -- ---- pieces
 

@@ -1,5 +1,5 @@
 -- What is touched for a client, and what its turn decides, by the run.
-use Rattle.std.specs.Prelude.{◌≡◌, ◌≢◌, ◌<◌, ◌↔◌, ℕ, Bool, true, false, ◌||◌, List, [], ◌∷◌, is_some, Option, Some, None}
+use Rattle.std.specs.Prelude.{◌≡◌, ◌≢◌, ◌<◌, ◌↔◌, ◌⊎◌, ℕ, Bool, true, false, ◌||◌, List, [], ◌∷◌, is_some, Option, Some, None}
 use Rattle.std.specs.List.{Contains}
 use Rattle.std.specs.FinSet as set
 use Rattle.rs_octets.specs.Prefixes.{Prefix}
@@ -8,8 +8,9 @@ use Rattle.rs_outlet.specs.declared.answers.Turned.{Turned}
 use Rattle.rs_outlet.specs.Due.{any_holds}
 use Rattle.rs_outlet.specs.Views.{IsNumberOf, Prefixes, is_touched, is_whole, with_touch}
 use Rattle.rs_core.specs.Points.{latest}
-use Rattle.rs_core.specs.Moves.{Move}
-use Rattle.rs_core.specs.Runs.{due, dues, held_in, is_established, table}
+use Rattle.rs_core.specs.Moves.{Move, Dropped, config_in}
+use Rattle.rs_core.specs.Runs.{due, dues, hearing, held_in, is_established, table}
+use Rattle.rs_core.specs.Altering.{IsAlteredBy}
 use Rattle.rs_core.specs.Core.{client_count, last_of, loc_rib, touched_for}
 use Rattle.rs_core.specs.declared.route_server.Core.{Core}
 
@@ -26,23 +27,29 @@ pub record TouchesWhere (Holds : Prefix → Type 0) (old new : Option Prefixes) 
   pub just : (p : Prefix) → Contains prefixes p ↔ Holds p
   pub are : new ≡ with_touches prefixes old
 
--- prefixes were touched, besides those that were, and among them each where this holds
-pub record TouchesAtLeast (Holds : Prefix → Type 0) (old new : Option Prefixes) : Type 0 where
+-- prefixes were touched, besides those that were: each where the first holds, and none but where the second does
+pub record TouchesBetween (Least Most : Prefix → Type 0) (old new : Option Prefixes) : Type 0 where
   pub prefixes : List Prefix
-  pub all : (p : Prefix) → Holds p → Contains prefixes p
+  pub all : (p : Prefix) → Least p → Contains prefixes p
+  pub most : (p : Prefix) → Contains prefixes p → Most p
   pub are : new ≡ with_touches prefixes old
 
 -- client c has another value at p behind a move than before it
 abbrev pub IsChangedBy : Move → List Move → ℕ → Prefix → Type 0
 IsChangedBy move run c p = table (move ∷ run) c p ≢ table run c p
 
+-- Octets of client c for which memory was refused may have changed its value at p: it has another one without its connection, or
+-- one of the messages that are whole with these octets would have given it one, and may have been heard before memory was refused.
+abbrev pub MayBeChangedBy : List ℕ → List Move → ℕ → Prefix → Type 0
+MayBeChangedBy octets run c p = IsChangedBy (Dropped c octets) run c p ⊎ IsAlteredBy (config_in run) c octets (hearing c run) p
+
 -- just the prefixes where this holds were touched for each client but c that is Established
 pub record TouchesOthersWhere (Holds : Prefix → Type 0) (c : ℕ) (run : List Move) (old new : Core) : Type 0 where
   pub others : (d : ℕ) → d < client_count old → d ≢ c → is_established run d ≡ true → TouchesWhere Holds (touched_for old d) (touched_for new d)
 
--- at least the prefixes where this holds
-pub record TouchesOthersAtLeast (Holds : Prefix → Type 0) (c : ℕ) (run : List Move) (old new : Core) : Type 0 where
-  pub others : (d : ℕ) → d < client_count old → d ≢ c → is_established run d ≡ true → TouchesAtLeast Holds (touched_for old d) (touched_for new d)
+-- each prefix where the first holds, and none but where the second does
+pub record TouchesOthersBetween (Least Most : Prefix → Type 0) (c : ℕ) (run : List Move) (old new : Core) : Type 0 where
+  pub others : (d : ℕ) → d < client_count old → d ≢ c → is_established run d ≡ true → TouchesBetween Least Most (touched_for old d) (touched_for new d)
 
 -- one of the first n clients, and not c, has another value at p behind a move than before it
 abbrev pub IsChangedElsewhere : ℕ → Move → List Move → ℕ → Prefix → Type 0

@@ -23,10 +23,11 @@ pub record IsTouchedWhere (Holds : Prefix → Type 0) (old new : View) : Type 0 
   pub just : (p : Prefix) → Contains prefixes p ↔ Holds p
   pub touched : IsTouchedAt prefixes old new
 
--- prefixes were touched, among them each where this holds, and nothing else has changed but numbers
-pub record IsTouchedAtLeast (Holds : Prefix → Type 0) (old new : View) : Type 0 where
+-- prefixes were touched, each where the first holds and none but where the second does, and nothing else has changed but numbers
+pub record IsTouchedBetween (Least Most : Prefix → Type 0) (old new : View) : Type 0 where
   pub prefixes : List Prefix
-  pub all : (p : Prefix) → Holds p → Contains prefixes p
+  pub all : (p : Prefix) → Least p → Contains prefixes p
+  pub most : (p : Prefix) → Contains prefixes p → Most p
   pub touched : IsTouchedAt prefixes old new
 
 -- these are the prefixes that a client holds

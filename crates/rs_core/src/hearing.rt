@@ -53,8 +53,8 @@ impl Core {
     ghost use Rattle.rs_core.specs.Runs.{hearing};
     ghost use Rattle.rs_core.specs.Agreeing.{Agrees, AgreesAt, IsCutShort, Knows, Spares, Waits};
     ghost use Rattle.rs_core.specs.Altering.{IsAlteredBy};
-    ghost use Rattle.rs_core.specs.Ribs.{Stirs, StirsAtLeast, StirsWhere, outlet_in};
-    ghost use Rattle.rs_core.specs.Stirring.{IsChangedBy, TouchesChanges, TouchesItself, TouchesOthersAtLeast, TouchesOthersWhere};
+    ghost use Rattle.rs_core.specs.Ribs.{Stirs, StirsWhere, StirsWithin, outlet_in};
+    ghost use Rattle.rs_core.specs.Stirring.{IsChangedBy, MayBeChangedBy, TouchesChanges, TouchesItself, TouchesOthersBetween, TouchesOthersWhere};
     ghost use Rattle.rs_core.specs.Touches.{KeepsTouches};
     ghost use Rattle.rs_core.specs.Steps.{HasHeardFront, IsBetween, KeepsOwnTouches};
     ghost use Rattle.rs_outlet.specs.Views.{View};
@@ -71,9 +71,9 @@ impl Core {
         requires { c < client_count self.old }
         ensures count { client_count self.new ≡ client_count self.old }
         ensures heard { OnOk result ((run : List Move) → Agrees self.old run → Agrees self.new (moves.Heard c piece.now ∷ run)) }
-        ensures refused { OnErr result ((run : List Move) → Agrees self.old run → Agrees self.new (Dropped c ∷ run)) }
+        ensures refused { OnErr result ((run : List Move) → Agrees self.old run → Agrees self.new (Dropped c piece.now ∷ run)) }
         ensures touched { OnOk result ((run : List Move) → Agrees self.old run → TouchesOthersWhere (IsAlteredBy (config_in run) c piece.now (hearing c run)) c run self.old self.new) }
-        ensures dropped { OnErr result ((run : List Move) → Agrees self.old run → TouchesOthersAtLeast (IsChangedBy (Dropped c) run c) c run self.old self.new) }
+        ensures dropped { OnErr result ((run : List Move) → Agrees self.old run → TouchesOthersBetween (IsChangedBy (Dropped c piece.now) run c) (MayBeChangedBy piece.now run c) c run self.old self.new) }
         ensures itself { OnOk result ((run : List Move) → Agrees self.old run → TouchesItself (moves.Heard c piece.now) c run self.old self.new) }
         ensures unheard { (run : List Move) → Agrees self.old run → is_live (state_in (config_in run) c (hearing c run)) ≡ false → (result ≡ Ok tt) × (self.new ≡ self.old) }
     {
@@ -97,7 +97,7 @@ impl Core {
         ensures heard { OnOk result ((s : Configuration) (h : Hearing) → self.old.ribs.config ≡ s → AgreesAt self.old s c h → AgreesAt self.new s c (hears s c piece.now h)) }
         ensures refused { OnErr result ((s : Configuration) (h : Hearing) → self.old.ribs.config ≡ s → AgreesAt self.old s c h → IsCutShort self.new s c h) }
         ensures stirs { OnOk result ((s : Configuration) (h : Hearing) → self.old.ribs.config ≡ s → AgreesAt self.old s c h → StirsWhere (IsAlteredBy s c piece.now h) c self.old.ribs self.new.ribs) }
-        ensures least { StirsAtLeast c self.old.ribs self.new.ribs }
+        ensures cut { OnErr result ((s : Configuration) (h : Hearing) → self.old.ribs.config ≡ s → AgreesAt self.old s c h → StirsWithin (IsAlteredBy s c piece.now h) c self.old.ribs self.new.ribs) }
         ensures keeps { OnOk result ((s : Configuration) (h : Hearing) → self.old.ribs.config ≡ s → AgreesAt self.old s c h → (none : View) → KeepsTouches (outlet_in self.old.ribs c none) (outlet_in self.new.ribs c none)) }
         ensures unheard { (s : Configuration) (h : Hearing) → Knows self.old s c h → is_live (state_in s c h) ≡ false → (result ≡ Ok tt) × (self.new ≡ self.old) }
     {
@@ -132,6 +132,8 @@ impl Core {
             → Waits s c buffer.old.items h → HasHeardFront self.new s c h piece.now buffer.new.items rest.now) }
         ensures refused { OnErr result ((s : Configuration) (h : Hearing) → self.old.ribs.config ≡ s → is_live (state_in s c h) ≡ true → Knows self.old s c h
             → Waits s c buffer.old.items h → IsCutShort self.new s c h) }
+        ensures cut { OnErr result ((s : Configuration) (h : Hearing) → self.old.ribs.config ≡ s → is_live (state_in s c h) ≡ true → Knows self.old s c h
+            → Waits s c buffer.old.items h → StirsWithin (IsAlteredBy s c piece.now h) c self.old.ribs self.new.ribs) }
         ensures stirs { Stirs c self.old.ribs self.new.ribs }
         ensures keeps { KeepsOwnTouches c self.old self.new }
     {
@@ -159,7 +161,7 @@ impl Core {
         ensures heard { OnOk result ((s : Configuration) (h : Hearing) → self.old.ribs.config ≡ s → IsBetween self.old s c h → AgreesAt self.new s c (hears s c piece.now h)) }
         ensures refused { OnErr result ((s : Configuration) (h : Hearing) → self.old.ribs.config ≡ s → IsBetween self.old s c h → IsCutShort self.new s c h) }
         ensures stirs { OnOk result ((s : Configuration) (h : Hearing) → self.old.ribs.config ≡ s → IsBetween self.old s c h → StirsWhere (IsAlteredBy s c piece.now h) c self.old.ribs self.new.ribs) }
-        ensures least { StirsAtLeast c self.old.ribs self.new.ribs }
+        ensures cut { OnErr result ((s : Configuration) (h : Hearing) → self.old.ribs.config ≡ s → IsBetween self.old s c h → StirsWithin (IsAlteredBy s c piece.now h) c self.old.ribs self.new.ribs) }
         ensures keeps { OnOk result ((s : Configuration) (h : Hearing) → self.old.ribs.config ≡ s → IsBetween self.old s c h → (none : View) → KeepsTouches (outlet_in self.old.ribs c none) (outlet_in self.new.ribs c none)) }
     {
         let allowed = allowed(&self.ribs.config);

@@ -47,8 +47,9 @@ pub fn sends_all_owed()
 
 /// At each point of each run: for a client that is Established all is touched where, since the last turn
 /// that was done for it, it came up or other rules were accepted. Else just those prefixes are touched at
-/// which another client was given another value since, and all where they are more than 4,096; only where
-/// memory was refused for octets since may more be touched.
+/// which another client was given another value since, and all where they are more than 4,096. Where memory
+/// was refused for octets since, prefixes may be among them at which a message in these octets would have
+/// given its sender another value, and no others.
 #[tactic(auto, using(crate::proofs::Since::touches_what_was_altered))]
 pub fn touches_what_was_altered()
     ensures { TouchesWhatWasAltered }
@@ -56,7 +57,8 @@ pub fn touches_what_was_altered()
 
 /// What a turn answers for a client, by the run: it was whole just where all was touched, and counts the
 /// prefixes that were altered, or where it was whole those that a client holds or that were due before.
-/// Only where memory was refused for octets since may it be whole, or count more, without that.
+/// Where memory was refused for octets since, it may count prefixes with them that messages in these octets
+/// would have altered, and be whole where both together are more than 4,096.
 pub fn answers_by_what_was_altered()
     ensures { AnswersByWhatWasAltered }
 {}

@@ -19,7 +19,7 @@ impl Core {
     ghost use Rattle.rs_outlet.specs.Views.{View};
     ghost use Rattle.rs_core.specs.Ribs.{Stirs, outlet_in};
     ghost use Rattle.rs_core.specs.Voices.{IsFinished, KeepsVoices, Voices};
-    ghost use Rattle.rs_core.specs.Steps.{CutsShort, Follows, Hears, IsSpared, ActsOn, KeepsOwnTouches};
+    ghost use Rattle.rs_core.specs.Steps.{AltersWithin, CutsShort, Follows, Hears, IsSpared, ActsOn, KeepsOwnTouches};
 
     /// Hears a whole message.
     pub(crate) fn hear_message(
@@ -34,6 +34,7 @@ impl Core {
         ensures buffers { self.new.buffers ≡ self.old.buffers }
         ensures heard { OnOk result (Hears kind body.now c self.old self.new) }
         ensures refused { OnErr result (CutsShort c self.old self.new) }
+        ensures part { OnErr result (AltersWithin kind body.now c self.old self.new) }
         ensures stirs { Stirs c self.old.ribs self.new.ribs }
         ensures keeps { KeepsOwnTouches c self.old self.new }
     {

@@ -17,12 +17,11 @@ use std::sync::Arc;
 
 impl Core {
     ghost use Rattle.rs_core.specs.Core.{client_count};
-    ghost use Rattle.rs_adjin.specs.AdjIns.{held_of};
     ghost use Rattle.rs_policy.specs.Configuration.{Configuration, client_of};
     ghost use Rattle.rs_core.specs.Hearing.{Hearing, state_in, is_up, reset_beyond};
     ghost use Rattle.rs_core.specs.Agreeing.{Knows, Spares};
     ghost use Rattle.rs_core.specs.Ribs.{Stirs};
-    ghost use Rattle.rs_core.specs.Steps.{Changes, ChangesRoutes, CutsShort, HasOverlaid, Hears, IsAnnouncing, KeepsOwnTouches};
+    ghost use Rattle.rs_core.specs.Steps.{AltersWithin, Changes, ChangesRoutes, ChangesWithin, CutsShort, HasOverlaid, HasOverlaidSome, Hears, IsAnnouncing, KeepsOwnTouches};
 
     /// Hears the UPDATE with this body.
     pub(crate) fn hear_update(&mut self, c: usize, body: &[u8]) -> Result<(), AllocError>
@@ -31,6 +30,7 @@ impl Core {
         ensures buffers { self.new.buffers ≡ self.old.buffers }
         ensures heard { OnOk result (Hears Kind.Update body.now c self.old self.new) }
         ensures refused { OnErr result (CutsShort c self.old self.new) }
+        ensures part { OnErr result (AltersWithin Kind.Update body.now c self.old self.new) }
         ensures stirs { Stirs c self.old.ribs self.new.ribs }
         ensures keeps { KeepsOwnTouches c self.old self.new }
     {
@@ -91,6 +91,7 @@ impl Core {
         ensures buffers { self.new.buffers ≡ self.old.buffers }
         ensures heard { OnOk result (Changes c withdrawn.now announced.now (option_map arc_value attrs) self.old self.new) }
         ensures refused { OnErr result (CutsShort c self.old self.new) }
+        ensures part { OnErr result (((p : Prefix) → has_prefix p withdrawn.now ≡ true → has_prefix p announced.now ≡ false) → ChangesWithin c withdrawn.now announced.now (option_map arc_value attrs) self.old self.new) }
         ensures stirs { ((p : Prefix) → has_prefix p withdrawn.now ≡ true → has_prefix p announced.now ≡ false) → Stirs c self.old.ribs self.new.ribs }
         ensures keeps { KeepsOwnTouches c self.old self.new }
     {
@@ -130,7 +131,7 @@ impl Core {
         requires mandatory { HasMandatory (arc_value attrs.now) }
         ensures alone { ChangesRoutes c self.old self.new }
         ensures held { OnOk result (HasOverlaid c prefixes.now (Some (arc_value attrs.now)) self.old.ribs.tables self.new.ribs.tables) }
-        ensures kept { (p : Prefix) → has_prefix p prefixes.now ≡ false → held_of self.new.ribs.tables c p ≡ held_of self.old.ribs.tables c p }
+        ensures part { HasOverlaidSome c prefixes.now (Some (arc_value attrs.now)) self.old.ribs.tables self.new.ribs.tables }
     {
         for prefix in prefixes {
             self.ribs.announce(c, *prefix, attrs)?;

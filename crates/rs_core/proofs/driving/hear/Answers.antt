@@ -43,6 +43,6 @@ pub returns-in-Err-clause-answers : goal.returns-in-Err-clause-answers
 returns-in-Err-clause-answers g c =
     let here : c.args.c < client_count c.args.core.now = omega (arith, c.if-c-clients.false, c.clients.ensures.count) in
     let within : c.args.len ≤ 4096 = omega (arith, c.if-len-gt4096.false) in
-    goes g.L.Link.happens _ _ _ _ (λ n. Answers n _ (events.Octets c.args.c c.args.len)) (λ x. moved (Dropped c.args.c) (called (End c.args.c) (called (Memory c.args.c) x))) c.octets.ensures.count
+    goes g.L.Link.happens _ _ _ _ (λ n. Answers n _ (events.Octets c.args.c c.args.len)) (λ x. moved (Dropped c.args.c _) (called (End c.args.c) (called (Memory c.args.c) x))) c.octets.ensures.count
     (λ first x l. (c.memory.new.self, (c.args.link.now, l, c.memory.ensures), c.end.ensures)) (λ x h. c.in-Err.ensures.refused x.run h)
     (λ n x count h. Drops c.args.c c.args.len x (subst (λ k. c.args.c < k) count here) within)

@@ -3,7 +3,7 @@ use Rattle.std.specs.Prelude.{Some}
 use Rattle.std.specs.Arc.{arc_value}
 use Rattle.std.proofs.lemmas.List.{take_all}
 use Rattle.rs_core.specs.Steps.{HasOverlaid}
-use Rattle.rs_core.proofs.Stirring.{none_of_first, overlaid_kept, stirs_more, stirs_same_held}
+use Rattle.rs_core.proofs.Stirring.{first_overlaid, some_overlaid, stirs_more, stirs_same_held}
 use Rattle.rs_core.proofs.Updating.{none_overlaid, one_overlaid, one_spared, routes_none, routes_on, same_spared_behind}
 use Rattle.rs_core.proofs.route_server.Core.announce_all.Goals as goal
 
@@ -42,9 +42,13 @@ returns-in_err-announce-clause-alone c =
     (same_spared_behind c.args.c old.tables mid.tables new.tables c.in_err-announce.ensures.refused was.others) touches
     (stirs_same_held c.args.c c.prefix-item.result old mid new (c.loop-prefix.self.ribs_len ∙ was.count ∙ sym c.args.self.now.ribs_len) c.in_err-announce.ensures.refused touches was.stirs) was
 
-pub returns-clause-kept : goal.returns-clause-kept
-returns-clause-kept c = λ p none. overlaid_kept c.args.c (take c.loop-prefix.prefix-index c.args.prefixes.now) _ c.args.self.now.ribs.tables c.loop-prefix.self.ribs.tables c.loop-prefix.invariant.held p (none_of_first p c.args.prefixes.now c.loop-prefix.prefix-index none)
+pub returns-clause-part : goal.returns-clause-part
+returns-clause-part c = first_overlaid c.args.c c.loop-prefix.prefix-index c.args.prefixes.now (Some (arc_value c.args.attrs.now)) c.args.self.now.ribs.tables c.loop-prefix.self.ribs.tables c.loop-prefix.invariant.held
 
-pub returns-in_err-announce-clause-kept : goal.returns-in_err-announce-clause-kept
-returns-in_err-announce-clause-kept c = λ p none. c.in_err-announce.ensures.refused.held c.args.c p
-    ∙ overlaid_kept c.args.c (take c.loop-prefix.prefix-index c.args.prefixes.now) _ c.args.self.now.ribs.tables c.loop-prefix.self.ribs.tables c.loop-prefix.invariant.held p (none_of_first p c.args.prefixes.now c.loop-prefix.prefix-index none)
+pub returns-in_err-announce-clause-part : goal.returns-in_err-announce-clause-part
+returns-in_err-announce-clause-part c =
+    let value = Some (arc_value c.args.attrs.now) in
+    let old = c.args.self.now.ribs.tables in
+    let mid = c.loop-prefix.self.ribs.tables in
+    some_overlaid c.args.c c.args.prefixes.now value old mid c.announce.new.self.tables c.in_err-announce.ensures.refused
+    (first_overlaid c.args.c c.loop-prefix.prefix-index c.args.prefixes.now value old mid c.loop-prefix.invariant.held)

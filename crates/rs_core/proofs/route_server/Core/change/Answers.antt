@@ -20,7 +20,7 @@ use Rattle.rs_core.proofs.Acting.{acted, acted_spares, asked_by_message}
 use Rattle.rs_core.proofs.Voicing.{never_open_by_message}
 use Rattle.rs_core.proofs.Around.{voices_on}
 use Rattle.rs_core.proofs.Stirring.{stirs_withdrawn}
-use Rattle.rs_core.proofs.Updating.{changed, cut_after, none_there, not_taken}
+use Rattle.rs_core.proofs.Updating.{changed, changed_within, cut_after, none_there, not_taken}
 use Rattle.rs_outlet.specs.Views.{View}
 use Rattle.rs_core.proofs.Raising.{item_keeps, keeps_same}
 use Rattle.rs_core.proofs.route_server.Core.change.Goals as goal
@@ -53,6 +53,7 @@ returns-in_default c =
           (λ up now. absurd (not_taken c.args.self.now c.index_mut.result.now c.message.new.self s c.args.c h c.message.result read c.message.ensures.hears live up knows c.in_default.not-None))
           (ending_by []) (noted_by kept c.act.new.self.watched.items c.args.c c.index_mut-in_default.result.now c.end.new.self c.ending_by.result (ending_by [] c.message.result) was there noting c.ending_by.ensures c.end.ensures) refl refl knows;
       refused = tt;
+      part = tt;
       stirs = λ apart. c.act.ensures.stirs;
       keeps = λ s h config knows none. item_keeps c.args.self.now c.act.new.self c.message.result (Message (heard.Update None)) c.index_mut.result.now c.message.new.self s c.args.c h read lt c.message.ensures.hears c.act.ensures.own config knows none;
     }
@@ -95,14 +96,21 @@ returns-in-Some-clause-heard c = map_ok c.announce_all.result c.announce_all.ens
     (λ none. c.announce_all.ensures.alone.touched.own none ∙ c.withdraw_all.ensures.alone.touched.own none) live
     (subst (λ o. IsSameChange (record { withdrawn = c.args.withdrawn.now; announced = c.args.announced.now; attributes = option_map arc_value o }) change) c.in-Some.is same) (c.announce_all.ensures.alone.watched ∙ c.withdraw_all.ensures.alone.watched) knows)
 
+pub returns-in-Some-clause-part : goal.returns-in-Some-clause-part
+unfolding client_count
+returns-in-Some-clause-part c = on_err c.announce_all.result (λ apart s h change live knows same p differs.
+    changed_within c.args.self.now c.announce_all.new.self c.index_mut.result.now c.message.new.self s c.args.c h c.args.withdrawn.now c.args.announced.now (Some (arc_value c.in-Some.attrs)) change c.withdraw_all.new.self.ribs.tables
+    (slice_get_read _ _ _ _ (sym c.args.self.now.sessions_len) c.requires.client c.index_mut.ensures.value) c.in-None.ensures.hears c.in-None.ensures.takes c.withdraw_all.ensures.held c.announce_all.ensures.part apart live
+    (subst (λ o. IsSameChange (record { withdrawn = c.args.withdrawn.now; announced = c.args.announced.now; attributes = option_map arc_value o }) change) c.in-Some.is same) knows p differs)
+
 pub returns-in-None-attrs-clause-stirs : goal.returns-in-None-attrs-clause-stirs
 returns-in-None-attrs-clause-stirs c = λ apart. c.withdraw_all.ensures.alone.stirs
 
 pub returns-in-Some-clause-stirs : goal.returns-in-Some-clause-stirs
 unfolding client_count
 returns-in-Some-clause-stirs c = λ apart.
-    stirs_withdrawn c.args.c c.args.withdrawn.now c.args.announced.now c.args.self.now.ribs c.withdraw_all.new.self.ribs c.announce_all.new.self.ribs (c.withdraw_all.new.self.ribs_len ∙ c.withdraw_all.ensures.alone.count ∙ sym c.args.self.now.ribs_len)
-    c.withdraw_all.ensures.held c.announce_all.ensures.kept apart c.withdraw_all.ensures.alone.stirs c.announce_all.ensures.alone.stirs
+    stirs_withdrawn c.args.c c.args.withdrawn.now c.args.announced.now (Some (arc_value c.in-Some.attrs)) c.args.self.now.ribs c.withdraw_all.new.self.ribs c.announce_all.new.self.ribs (c.withdraw_all.new.self.ribs_len ∙ c.withdraw_all.ensures.alone.count ∙ sym c.args.self.now.ribs_len)
+    c.withdraw_all.ensures.held c.announce_all.ensures.part apart c.withdraw_all.ensures.alone.stirs c.announce_all.ensures.alone.stirs
 
 pub returns-in-None-attrs-clause-keeps : goal.returns-in-None-attrs-clause-keeps
 returns-in-None-attrs-clause-keeps c = λ s h config knows none.

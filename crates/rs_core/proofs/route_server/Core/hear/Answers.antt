@@ -3,7 +3,7 @@ use Rattle.std.proofs.lemmas.Bool.{false≢true}
 use Rattle.rs_core.specs.Core.{client_count}
 use Rattle.rs_core.specs.Hearing.{hears}
 use Rattle.rs_core.specs.declared.ribs.Ribs.{Ribs}
-use Rattle.rs_core.proofs.Lists.{map_ok, map_err, none_are}
+use Rattle.rs_core.proofs.Lists.{map_ok, map_err, none_are, on_err}
 use Rattle.rs_core.proofs.Ruling.{unmoved}
 use Rattle.rs_core.proofs.Cutting.{deaf_agrees, none_waits, cut_before, agrees_joined}
 use Rattle.rs_core.proofs.Filling.{front_agrees, front_between}
@@ -15,7 +15,8 @@ use Rattle.rs_core.specs.Touches.{KeepsTouches}
 use Rattle.rs_core.specs.Ribs.{outlet_in}
 use Rattle.rs_core.proofs.Altering.{both_ok}
 use Rattle.rs_core.proofs.Raising.{keeps_behind, keeps_same}
-use Rattle.rs_core.proofs.Stirring.{least_between, least_on, stirs_least, stirs_same}
+use Rattle.rs_core.proofs.Stirring.{within_between}
+use Rattle.rs_core.proofs.CutShort.{rest_within}
 use Rattle.rs_core.proofs.route_server.Core.hear.Goals as goal
 
 pub returns-then-not-is_live-clause-heard : goal.returns-then-not-is_live-clause-heard
@@ -168,22 +169,33 @@ returns-clause-keeps c = both_ok c.hear_piece-2.result c.hear_piece-2.ensures.ke
     (subst (λ r. KeepsTouches (outlet_in r i none) (outlet_in heard.new.self.ribs i none)) taken.ensures.ribs (heard.ensures.keeps s h first was none)))
     (on s (hears s i front.front h) mid between none))
 
-pub returns-then-not-is_live-clause-least : goal.returns-then-not-is_live-clause-least
-returns-then-not-is_live-clause-least c = stirs_least c.args.c c.args.self.now.ribs c.args.self.now.ribs (stirs_same c.args.c c.args.self.now.ribs c.args.self.now.ribs refl)
-
-pub returns-in_err-rest-clause-least : goal.returns-in_err-rest-clause-least
-returns-in_err-rest-clause-least c =
-    least_between c.args.c c.args.self.now.ribs c.take_buffer-buffer.new.self.ribs c.hear_waiting-heard.new.self.ribs c.put_buffer.new.self.ribs c.take_buffer-buffer.ensures.ribs c.put_buffer.ensures.ribs
-    (stirs_least c.args.c c.take_buffer-buffer.new.self.ribs c.hear_waiting-heard.new.self.ribs c.hear_waiting-heard.ensures.stirs)
-
-pub returns-then-is_empty-2-clause-least : goal.returns-then-is_empty-2-clause-least
-returns-then-is_empty-2-clause-least c =
-    least_between c.args.c c.args.self.now.ribs c.take_buffer-buffer.new.self.ribs c.hear_waiting-heard.new.self.ribs c.put_buffer.new.self.ribs c.take_buffer-buffer.ensures.ribs c.put_buffer.ensures.ribs
-    (stirs_least c.args.c c.take_buffer-buffer.new.self.ribs c.hear_waiting-heard.new.self.ribs c.hear_waiting-heard.ensures.stirs)
-
-pub returns-clause-least : goal.returns-clause-least
+pub returns-then-is_empty-clause-cut : goal.returns-then-is_empty-clause-cut
 unfolding client_count
-returns-clause-least c = least_on c.args.c c.args.self.now.ribs c.put_buffer.new.self.ribs c.hear_piece-2.new.self.ribs
-    (ap (λ (r : Ribs). r.count) c.put_buffer.ensures.ribs ∙ c.hear_waiting-heard.new.self.ribs_len ∙ c.hear_waiting-heard.ensures.spares.count ∙ c.take_buffer-buffer.ensures.count ∙ sym c.args.self.now.ribs_len)
-    (least_between c.args.c c.args.self.now.ribs c.take_buffer-buffer.new.self.ribs c.hear_waiting-heard.new.self.ribs c.put_buffer.new.self.ribs c.take_buffer-buffer.ensures.ribs c.put_buffer.ensures.ribs
-    (stirs_least c.args.c c.take_buffer-buffer.new.self.ribs c.hear_waiting-heard.new.self.ribs c.hear_waiting-heard.ensures.stirs)) c.hear_piece-2.ensures.least
+returns-then-is_empty-clause-cut c = map_err c.hear_piece.result c.hear_piece.ensures.cut (λ cut s h config at.
+    cut s h config (none_waits c.args.self.now s c.args.c h c.index.result.now c.requires c.index.ensures (sym c.is_empty.ensures ∙ c.if-is_empty.true) at))
+
+pub returns-in_err-rest-clause-cut : goal.returns-in_err-rest-clause-cut
+unfolding client_count
+returns-in_err-rest-clause-cut c = on_err c.from_residual.result (λ s h config at.
+    let taken = c.take_buffer-buffer in
+    let live = sym (c.is_live.ensures s h at.knows) ∙ c.if-not-is_live.false in
+    within_between (IsAlteredBy s c.args.c c.args.piece.now h) c.args.c c.args.self.now.ribs taken.new.self.ribs c.hear_waiting-heard.new.self.ribs c.put_buffer.new.self.ribs taken.ensures.ribs c.put_buffer.ensures.ribs
+    (c.in_err-rest.ensures.cut s h (ap (λ (r : Ribs). r.config) taken.ensures.ribs ∙ config) live
+    (unmoved c.args.self.now taken.new.self s c.args.c h taken.ensures.sessions taken.ensures.ribs taken.ensures.watched at.knows) (at.waits taken.result taken.ensures.taken)))
+
+pub returns-clause-cut : goal.returns-clause-cut
+unfolding client_count
+returns-clause-cut c = map_err c.hear_piece-2.result c.hear_piece-2.ensures.cut (λ cut s h config at.
+    let i = c.args.c in
+    let taken = c.take_buffer-buffer in
+    let heard = c.hear_waiting-heard in
+    let live = sym (c.is_live.ensures s h at.knows) ∙ c.if-not-is_live.false in
+    let first = ap (λ (r : Ribs). r.config) taken.ensures.ribs ∙ config in
+    let was = unmoved c.args.self.now taken.new.self s i h taken.ensures.sessions taken.ensures.ribs taken.ensures.watched at.knows in
+    let front = c.in_ok-rest.ensures.heard s h first live was (at.waits taken.result taken.ensures.taken) in
+    let between = front_between heard.new.self c.put_buffer.new.self s i h c.args.piece.now heard.new.buffer.items c.in_ok-rest.rest.now c.put_buffer.ensures.sessions c.put_buffer.ensures.ribs c.put_buffer.ensures.watched c.put_buffer.ensures.put
+    (sym c.is_empty-2.ensures ∙ c.if-is_empty-2.false) front in
+    rest_within s i h c.args.piece.now front.front c.in_ok-rest.rest.now c.args.self.now c.put_buffer.new.self c.hear_piece-2.new.self.ribs front.whole
+    (ap (λ (r : Ribs). r.count) c.put_buffer.ensures.ribs ∙ heard.new.self.ribs_len ∙ heard.ensures.spares.count ∙ taken.ensures.count ∙ sym c.args.self.now.ribs_len) at.knows between.knows
+    (front_stirs s i h front.front front.front c.args.self.now taken.new.self heard.new.self c.put_buffer.new.self taken.ensures.ribs c.put_buffer.ensures.ribs refl (stirs_once s i front.front h taken.new.self heard.new.self front.once heard.ensures.stirs was front.knows))
+    (cut s (hears s i front.front h) (ap (λ (r : Ribs). r.config) c.put_buffer.ensures.ribs ∙ heard.ensures.spares.config ∙ first) between))

@@ -18,15 +18,14 @@ use Rattle.rs_core.proofs.Altering.{beginning_silent, message_once, on_ok, one_f
 use Rattle.rs_core.specs.Touches.{KeepsTouches}
 use Rattle.rs_core.specs.Ribs.{outlet_in}
 use Rattle.rs_core.proofs.Raising.{keeps_behind, keeps_same}
-use Rattle.rs_core.specs.Ribs.{StirsAtLeast}
-use Rattle.rs_core.proofs.Stirring.{least_on, stirs_least, stirs_same}
+use Rattle.rs_core.specs.Ribs.{StirsWithin}
+use Rattle.rs_core.proofs.CutShort.{beginning_within, piece_within}
 use Rattle.rs_core.proofs.route_server.Core.hear_piece.Goals as goal
 
 pub loop-octets-init : goal.loop-octets-init
 loop-octets-init c = record {
   spares = same_spares c.args.self.now c.args.c;
   buffers = refl;
-  least = stirs_least c.args.c c.args.self.now.ribs c.args.self.now.ribs (stirs_same c.args.c c.args.self.now.ribs c.args.self.now.ribs refl);
   heard = ([], refl, λ s h config between. subst (λ k. IsBetween c.args.self.now s c.args.c k) (sym (hears_nothing s c.args.c h)) between, λ s h config between. stirs_at_first s c.args.c h c.args.self.now.ribs, λ s h config between none. keeps_same _ _ refl refl);
 }
 
@@ -99,7 +98,6 @@ loop-octets-preserved c =
     record {
       spares = spares_both c.args.c c.args.self.now c.loop-octets.self c.hear_message.new.self c.loop-octets.invariant.spares c.hear_message.ensures.spares;
       buffers = c.hear_message.ensures.buffers ∙ c.loop-octets.invariant.buffers;
-      least = least_on c.args.c c.args.self.now.ribs c.loop-octets.self.ribs c.hear_message.new.self.ribs (c.loop-octets.self.ribs_len ∙ c.loop-octets.invariant.spares.count ∙ sym c.args.self.now.ribs_len) c.loop-octets.invariant.least (stirs_least c.args.c c.loop-octets.self.ribs c.hear_message.new.self.ribs c.hear_message.ensures.stirs);
       heard = (
         it.0 ++ at.message,
         it.1 ∙ ap (λ o. it.0 ++ o) at.whole ∙ sym (append_assoc it.0 at.message c.in-Message.rest.now),
@@ -207,21 +205,23 @@ returns-in-Fault-clause-keeps c = λ s h config between none.
 pub returns-clause-keeps : goal.returns-clause-keeps
 returns-clause-keeps c = λ s h config between none. c.loop-octets.invariant.heard.4 s h config between none
 
-pub returns-then-not-is_live-clause-least : goal.returns-then-not-is_live-clause-least
-returns-then-not-is_live-clause-least c = c.loop-octets.invariant.least
-
-pub returns-in-Wants-clause-least : goal.returns-in-Wants-clause-least
-returns-in-Wants-clause-least c = subst (λ r. StirsAtLeast c.args.c c.args.self.now.ribs r) (sym c.wait.ensures.ribs) c.loop-octets.invariant.least
-
-pub returns-in-Fault-clause-least : goal.returns-in-Fault-clause-least
+pub returns-in-Wants-clause-cut : goal.returns-in-Wants-clause-cut
 unfolding client_count
-returns-in-Fault-clause-least c =
-    least_on c.args.c c.args.self.now.ribs c.loop-octets.self.ribs c.say.new.self.ribs (c.loop-octets.self.ribs_len ∙ c.loop-octets.invariant.spares.count ∙ sym c.args.self.now.ribs_len) c.loop-octets.invariant.least (stirs_least c.args.c c.loop-octets.self.ribs c.say.new.self.ribs c.say.ensures.stirs)
+returns-in-Wants-clause-cut c = on_err c.wait.result (λ s h config between.
+    let it = c.loop-octets.invariant.heard in
+    let at = it.2 s h config between in
+    subst (λ r. StirsWithin (IsAlteredBy s c.args.c c.args.piece.now h) c.args.c c.args.self.now.ribs r) (sym c.wait.ensures.ribs)
+    (beginning_within s c.args.c h c.args.piece.now it.0 c.loop-octets.octets.now c.args.self.now c.loop-octets.self it.1 between.knows at.knows (it.3 s h config between)))
 
-pub returns-in_err-hear_message-in-Message-clause-least : goal.returns-in_err-hear_message-in-Message-clause-least
+pub returns-in_err-hear_message-in-Message-clause-cut : goal.returns-in_err-hear_message-in-Message-clause-cut
 unfolding client_count
-returns-in_err-hear_message-in-Message-clause-least c =
-    least_on c.args.c c.args.self.now.ribs c.loop-octets.self.ribs c.hear_message.new.self.ribs (c.loop-octets.self.ribs_len ∙ c.loop-octets.invariant.spares.count ∙ sym c.args.self.now.ribs_len) c.loop-octets.invariant.least (stirs_least c.args.c c.loop-octets.self.ribs c.hear_message.new.self.ribs c.hear_message.ensures.stirs)
-
-pub returns-clause-least : goal.returns-clause-least
-returns-clause-least c = c.loop-octets.invariant.least
+returns-in_err-hear_message-in-Message-clause-cut c = on_err c.from_residual.result (λ s h config between.
+    let it = c.loop-octets.invariant.heard in
+    let was = it.2 s h config between in
+    let before : Hearing = hears s c.args.c it.0 h in
+    let live = sym (c.is_live.ensures s before was.knows) ∙ c.if-not-is_live.false in
+    let begins : BeginsWith (allowed_in s) c.loop-octets.octets.now c.in-Message.kind c.in-Message.body.now c.in-Message.rest.now =
+    subst (λ a. BeginsWith a c.loop-octets.octets.now c.in-Message.kind c.in-Message.body.now c.in-Message.rest.now) (c.allowed-allowed.ensures ∙ ap allowed_in config) c.in-Message.ensures.front in
+    piece_within s c.args.c h c.args.piece.now it.0 c.loop-octets.octets.now c.in-Message.kind c.in-Message.body.now c.in-Message.rest.now c.args.self.now c.loop-octets.self c.hear_message.new.self it.1
+    (c.loop-octets.self.ribs_len ∙ c.loop-octets.invariant.spares.count ∙ sym c.args.self.now.ribs_len) live begins between.knows was
+    (c.in_err-hear_message-in-Message.ensures.part s before (c.loop-octets.invariant.spares.config ∙ config) live was.knows) (it.3 s h config between) c.hear_message.ensures.stirs)

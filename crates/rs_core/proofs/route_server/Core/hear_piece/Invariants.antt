@@ -4,7 +4,7 @@ use Rattle.rs_core.specs.Hearing.{Hearing, hears}
 use Rattle.rs_core.specs.Altering.{IsAlteredBy}
 use Rattle.rs_outlet.specs.Views.{View}
 use Rattle.rs_core.specs.Touches.{KeepsTouches}
-use Rattle.rs_core.specs.Ribs.{StirsWhere, outlet_in, StirsAtLeast}
+use Rattle.rs_core.specs.Ribs.{StirsWhere, outlet_in}
 use Rattle.rs_core.specs.Steps.{IsBetween}
 use Rattle.rs_core.specs.Agreeing.{Spares}
 use Rattle.rs_core.proofs.route_server.Core.hear_piece.Given as goal
@@ -13,7 +13,6 @@ abbrev pub invariant-loop-octets : goal.invariant-loop-octets
 invariant-loop-octets l = record {
   spares : Spares l.c l.fn.self l.self;
   buffers : l.self.buffers ≡ l.fn.self.buffers;
-  least : StirsAtLeast l.c l.fn.self.ribs l.self.ribs;
   heard : (before : List ℕ) × (l.piece ≡ before ++ l.octets)
       × ((s : Configuration) (h : Hearing) → l.fn.self.ribs.config ≡ s → IsBetween l.fn.self s l.c h → IsBetween l.self s l.c (hears s l.c before h))
       × ((s : Configuration) (h : Hearing) → l.fn.self.ribs.config ≡ s → IsBetween l.fn.self s l.c h → StirsWhere (IsAlteredBy s l.c before h) l.c l.fn.self.ribs l.self.ribs)

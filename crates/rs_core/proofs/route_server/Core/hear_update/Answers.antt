@@ -14,7 +14,7 @@ use Rattle.rs_core.proofs.Lists.{on_err, map_ok, map_err}
 use Rattle.rs_core.proofs.Agreeing.{cut_short}
 use Rattle.rs_core.proofs.Faulting.{found, found_knows, cut_found}
 use Rattle.rs_core.proofs.Updating.{is_change}
-use Rattle.rs_core.proofs.Saying.{update_reset, update_changes, at_fault, moded_up, is_reset_beyond, is_none_beyond, reset_follows, announcing}
+use Rattle.rs_core.proofs.Saying.{update_reset, update_changes, at_fault, moded_up, is_reset_beyond, is_none_beyond, reset_follows, announcing, update_within}
 use Rattle.rs_core.proofs.Stirring.{stirs_same}
 use Rattle.rs_core.proofs.Raising.{keeps_same}
 use Rattle.rs_core.proofs.Spared.{kept_spares}
@@ -73,6 +73,25 @@ returns-else-is_beyond-clause-refused c = map_err c.change.result c.change.ensur
     let was = slice_get_read _ _ _ _ (sym c.args.self.now.watched_len) c.requires c.index_mut.ensures.value in
     cut_found c.change.new.self s c.args.c h c.in-Change.faulted
     (refused s (found c.in-Change.faulted h) (found_knows c.args.self.now _ s c.args.c h c.index_mut.result.now c.note.new.self c.in-Change.faulted refl refl was there refl c.note.ensures knows)))
+
+pub returns-in_err-code-clause-part : goal.returns-in_err-code-clause-part
+returns-in_err-code-clause-part c = on_err c.from_residual.result (λ s h config live knows p differs. absurd (differs refl))
+
+pub returns-else-is_beyond-clause-part : goal.returns-else-is_beyond-clause-part
+unfolding client_count
+returns-else-is_beyond-clause-part c = map_err c.change.result c.change.ensures.part (λ part s h config live knows p differs.
+    let mode = sym (c.in-Some.ensures s h knows) in
+    let it = is_change _ (effect_of c.args.body.now c.in-Some.mode) (subst (λ o. IsSameEffect (effect_seen o) (effect_of c.args.body.now c.in-Some.mode)) c.in-Change.is c.in_ok-code.ensures.computed) in
+    let there : c.args.c < length c.args.self.now.watched.items = subst (λ k. c.args.c < k) (sym c.args.self.now.watched_len) c.requires in
+    let was = slice_get_read _ _ _ _ (sym c.args.self.now.watched_len) c.requires c.index_mut.ensures.value in
+    let as_noted = found_knows c.args.self.now _ s c.args.c h c.index_mut.result.now c.note.new.self c.in-Change.faulted refl refl was there refl c.note.ensures knows in
+    let next = found c.in-Change.faulted h in
+    let says = c.is_beyond.ensures s next it.change config (moded_up s c.args.c h c.in-Some.mode mode) as_noted
+    (subst (λ a. IsAnnouncing c.deref.result.now a it.change) (sym c.deref-in-Change.ensures.value) (subst (λ w. IsAnnouncing w c.in-Change.announced.items it.change) (sym c.deref.ensures.value) (announcing arc_value c.in-Change.attrs c.in-Change.withdrawn.items c.in-Change.announced.items it.change (subst HasItsAttributes c.in-Change.is c.in_ok-code.ensures.attributes) it.same))) in
+    update_within s c.args.c h c.args.body.now c.in-Some.mode it.change c.in-Change.faulted p mode it.is (is_none_beyond (client_of s c.args.c).limit (it.change ∷ h.changes) (sym says ∙ c.if-is_beyond.false))
+    (part (λ q has. ap (has_prefix q) c.deref-in-Change-3.ensures.value ∙ subst AreApart c.in-Change.is c.in_ok-code.ensures.apart q (ap (has_prefix q) (sym c.deref-in-Change-2.ensures.value) ∙ has)) s next it.change live as_noted
+    (subst (λ a. IsSameChange (record { withdrawn = c.deref-in-Change-2.result.now; announced = a; attributes = option_map arc_value c.in-Change.attrs }) it.change) (sym c.deref-in-Change-3.ensures.value)
+    (subst (λ w. IsSameChange (record { withdrawn = w; announced = c.in-Change.announced.items; attributes = option_map arc_value c.in-Change.attrs }) it.change) (sym c.deref-in-Change-2.ensures.value) it.same)) p differs))
 
 pub returns-in_err-code-clause-stirs : goal.returns-in_err-code-clause-stirs
 returns-in_err-code-clause-stirs c = stirs_same c.args.c c.args.self.now.ribs c.args.self.now.ribs refl

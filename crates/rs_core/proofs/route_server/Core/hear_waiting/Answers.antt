@@ -10,7 +10,8 @@ use Rattle.rs_core.specs.Agreeing.{Spares}
 use Rattle.rs_core.proofs.Lists.{on_err}
 use Rattle.rs_core.proofs.Agreeing.{cut_short}
 use Rattle.rs_core.proofs.Cutting.{same_spares}
-use Rattle.rs_core.proofs.Stirring.{stirs_same}
+use Rattle.rs_core.proofs.Stirring.{stirs_same, within_changed}
+use Rattle.rs_core.proofs.CutShort.{waiting_within}
 use Rattle.rs_core.proofs.Filling.{waiting_on, waiting_fault, waiting_message}
 use Rattle.rs_core.specs.Touches.{KeepsTouches}
 use Rattle.rs_core.proofs.Raising.{keeps_same}
@@ -61,6 +62,23 @@ returns-clause-heard c = λ s h config live knows waits.
           (subst (λ l. HasHeardFront w.hear_message.new.self s i h piece l rest) (sym (ap (λ (b : Vec ℕ). b.items) w.buffer-is ∙ w.clear-in-Message.ensures.items))
           (waiting_message w.hear_message.new.self s i h was new piece rest kind body behind live waits fills begins (w.in_ok-hear_message-in-Message.ensures.heard s h config live knows)))
     ]
+
+pub returns-in_err-rest-clause-cut : goal.returns-in_err-rest-clause-cut
+returns-in_err-rest-clause-cut c = on_err c.from_residual.result (λ s h config live knows waits.
+    within_changed _ c.args.c c.args.self.now.ribs c.args.self.now.ribs (λ p differs. absurd (differs refl)) (stirs_same c.args.c c.args.self.now.ribs c.args.self.now.ribs refl))
+
+pub returns-in_err-hear_message-in-Message-clause-cut : goal.returns-in_err-hear_message-in-Message-clause-cut
+unfolding client_count
+returns-in_err-hear_message-in-Message-clause-cut c = on_err c.from_residual-in_err-hear_message-in-Message.result (λ s h config live knows waits.
+    let new = c.fill_up.new.buffer.items in
+    let kind = c.in-Message.kind in
+    let body = c.in-Message.body.now in
+    let behind = c.in-Message.rest.now in
+    let allowed_is = c.allowed-allowed.ensures ∙ ap allowed_in config in
+    let begins = subst (λ o. BeginsWith (allowed_in s) o kind body behind) c.deref.ensures.value (subst (λ a. BeginsWith a c.deref.result.now kind body behind) allowed_is c.in-Message.ensures.front) in
+    waiting_within s c.args.c h c.args.buffer.now.items new c.args.piece.now c.in_ok-rest.rest.now kind body behind c.args.self.now.ribs c.hear_message.new.self.ribs live waits
+    (subst (λ a. FillsUp a c.args.buffer.now.items c.args.piece.now new c.in_ok-rest.rest.now) allowed_is c.in_ok-rest.ensures) begins
+    (c.in_err-hear_message-in-Message.ensures.part s h config live knows) c.hear_message.ensures.stirs)
 
 pub returns-clause-stirs : goal.returns-clause-stirs
 returns-clause-stirs c = elim c.match-read_front.branch [

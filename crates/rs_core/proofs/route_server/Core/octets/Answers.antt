@@ -14,8 +14,7 @@ use Rattle.rs_core.proofs.Cutting.{cut_unmoved}
 use Rattle.rs_core.proofs.Spared.{put_spares}
 use Rattle.rs_core.proofs.Agreeing.{grown, on_clients, spares_both}
 use Rattle.rs_core.proofs.Growing.{dropped_agrees, heard_agrees}
-use Rattle.rs_core.proofs.Stirring.{least_on, stirs_least}
-use Rattle.rs_core.proofs.Touched.{touches_changes_least, touches_itself, touches_others}
+use Rattle.rs_core.proofs.Touched.{touches_dropped, touches_itself, touches_others}
 use Rattle.rs_core.proofs.route_server.Core.octets.Goals as goal
 
 live_by : (b : Bool) → (b ≡ false → b ≡ true) → b ≡ true
@@ -48,16 +47,15 @@ returns-in-Err-clause-refused c = λ run h.
     let lasted = live_by (is_live (state_in (config_in run) c.args.c it)) (λ dead. absurd (let e = c.in-Err.ensures.unheard (config_in run) it at.knows dead in cc)) in
     let ended = c.end.ensures it.endings it.faults (at.knows.watched c.index.result.now was) in
     let others = λ (d : ℕ) (ne : d ≢ c.args.c). other c.args.c d (leaves (config_in run) d reasons.Memory (hearing d run)) (hearing d run) ne in
-    let on = grown c.args.self.now c.forget.new.self c.args.c run (Dropped c.args.c ∷ run) refl others h
+    let on = grown c.args.self.now c.forget.new.self c.args.c run (Dropped c.args.c c.args.piece.now ∷ run) refl others h
     (spares_both c.args.c c.args.self.now _ c.forget.new.self (put_spares c.args.c c.args.self.now c.hear.new.self _ c.end.new.self there refl refl refl refl refl c.hear.ensures.spares) c.forget.ensures.spares)
     (subst (λ k. AgreesAt c.forget.new.self (config_in run) c.args.c k) (sym (own c.args.c (leaves (config_in run) c.args.c reasons.Memory it) it))
     (c.forget.ensures.forgotten (config_in run) it reasons.Memory (cut_unmoved c.hear.new.self _ (config_in run) c.args.c it refl (c.in-Err.ensures.refused (config_in run) it h.config at))
     (λ x e. (set_at kept c.args.c c.end.new.self there).own x e ∙ ended ∙ ap (λ b. watched_by (cons_option (ended_if b reasons.Memory) it.endings) it.faults) (sym lasted)))) in
-    dropped_agrees c.args.c c.args.self.now c.forget.new.self run (c.forget.ensures.spares.count ∙ c.hear.ensures.spares.count) others
+    dropped_agrees c.args.c c.args.piece.now c.args.self.now c.forget.new.self run (c.forget.ensures.spares.count ∙ c.hear.ensures.spares.count) others
     (ap (λ k. is_up (state_in (config_in run) c.args.c k)) (own c.args.c (leaves (config_in run) c.args.c reasons.Memory it) it))
-    (touches_changes_least c.args.c (Dropped c.args.c) c.args.self.now c.forget.new.self run c.requires (on_clients c.args.self.now run h) on (c.forget.ensures.spares.count ∙ c.hear.ensures.spares.count)
-    (least_on c.args.c c.args.self.now.ribs c.hear.new.self.ribs c.forget.new.self.ribs (c.hear.new.self.ribs_len ∙ c.hear.ensures.spares.count ∙ sym c.args.self.now.ribs_len) c.hear.ensures.least
-    (stirs_least c.args.c c.hear.new.self.ribs c.forget.new.self.ribs c.forget.ensures.stirs))) h on
+    (touches_dropped c.args.c c.args.piece.now c.args.self.now c.hear.new.self c.forget.new.self run c.requires (on_clients c.args.self.now run h) on c.hear.ensures.spares.count c.forget.ensures.spares.count
+    (c.in-Err.ensures.cut (config_in run) it h.config at) c.forget.ensures.stirs) h on
 
 pub returns-in-Ok-clause-unheard : goal.returns-in-Ok-clause-unheard
 unfolding client_count
@@ -80,7 +78,6 @@ returns-in-Ok-clause-itself c = λ run h. touches_itself (Heard c.args.c c.args.
 
 pub returns-in-Err-clause-dropped : goal.returns-in-Err-clause-dropped
 unfolding client_count
-returns-in-Err-clause-dropped c = λ run h. touches_changes_least c.args.c (Dropped c.args.c) c.args.self.now c.forget.new.self run c.requires (on_clients c.args.self.now run h)
-    (on_clients c.forget.new.self (Dropped c.args.c ∷ run) (returns-in-Err-clause-refused c run h)) (c.forget.ensures.spares.count ∙ c.hear.ensures.spares.count)
-    (least_on c.args.c c.args.self.now.ribs c.hear.new.self.ribs c.forget.new.self.ribs (c.hear.new.self.ribs_len ∙ c.hear.ensures.spares.count ∙ sym c.args.self.now.ribs_len) c.hear.ensures.least
-    (stirs_least c.args.c c.hear.new.self.ribs c.forget.new.self.ribs c.forget.ensures.stirs))
+returns-in-Err-clause-dropped c = λ run h. touches_dropped c.args.c c.args.piece.now c.args.self.now c.hear.new.self c.forget.new.self run c.requires (on_clients c.args.self.now run h)
+    (on_clients c.forget.new.self (Dropped c.args.c c.args.piece.now ∷ run) (returns-in-Err-clause-refused c run h)) c.hear.ensures.spares.count c.forget.ensures.spares.count
+    (c.in-Err.ensures.cut (config_in run) (hearing c.args.c run) h.config (h.clients c.args.c c.requires)) c.forget.ensures.stirs
