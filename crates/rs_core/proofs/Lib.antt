@@ -32,6 +32,7 @@ pub mod Alike
 pub mod Voicing
 pub mod Delivering
 pub mod Around
+pub mod KeptAnswers
 pub mod Stirring
 pub mod Altering
 pub mod Ordering
@@ -57,4 +58,6 @@ pub mod Touched
 pub mod Moments
 pub mod Growing
 pub mod Room
+pub mod TurnAnswers
 pub mod Since
+pub mod LastTurns
