@@ -24,7 +24,7 @@ use Rattle.rs_core.specs.declared.endings.Ending.{Ending}
 use Rattle.rs_core.specs.Steps.{Follows, IsSpared, ActsOn}
 use Rattle.rs_core.specs.Agreeing.{Knows, AgreesAt, Spares}
 use Rattle.rs_outlet.specs.Views.{View}
-use Rattle.rs_core.specs.Ribs.{outlet_in}
+use Rattle.rs_core.specs.Ribs.{KeepsAnswers, outlet_in}
 use Rattle.rs_core.specs.Conversations.{outgoing_of, own_open}
 use Rattle.rs_core.specs.Voices.{IsGreeting, KeepsVoices, Voices}
 use Rattle.rs_core.specs.declared.route_server.Core.{Core}
@@ -129,8 +129,8 @@ acted old new act item x t s c h next is_item read lt sessions responds does con
 
 pub acted_spares : (old new : Core) (c : ℕ) (t : Session) → new.count ≡ old.count → new.ribs.config ≡ old.ribs.config → c < length old.sessions.items
     → new.sessions.items ≡ slice_set old.sessions.items c t → new.buffers ≡ old.buffers → IsSpared c old.ribs.tables new.ribs.tables → KeepsVoices c old.ribs new.ribs
-    → ((d : ℕ) → d ≢ c → slice_get new.watched.items d ≡ slice_get old.watched.items d) → Spares c old new
-acted_spares old new c t count config lt sessions buffers spared voices watched = record {
+    → ((d : ℕ) → d ≢ c → slice_get new.watched.items d ≡ slice_get old.watched.items d) → KeepsAnswers old.ribs new.ribs → Spares c old new
+acted_spares old new c t count config lt sessions buffers spared voices watched answers = record {
   count = count;
   config = config;
   sessions = λ d ne. ap (λ l. slice_get l d) sessions ∙ (set_at old.sessions.items c t lt).others d ne;
@@ -139,6 +139,7 @@ acted_spares old new c t count config lt sessions buffers spared voices watched 
   identifiers = spared.identifiers;
   voices = voices;
   watched = watched;
+  answers = answers;
 }
 
 -- ---- a moment

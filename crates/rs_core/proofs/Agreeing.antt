@@ -15,6 +15,7 @@ use Rattle.rs_core.proofs.Lists.{own, other}
 use Rattle.rs_core.proofs.Alike.{still}
 use Rattle.rs_core.proofs.Voicing.{voiced_same}
 use Rattle.rs_core.proofs.Around.{voices_on}
+use Rattle.rs_core.proofs.KeptAnswers.{answers_on}
 use Rattle.rs_core.proofs.Ordering.{same_ordered}
 use Rattle.rs_core.proofs.Clients.{equal_or}
 
@@ -73,11 +74,12 @@ spares_both c old mid new a b = record {
   identifiers = λ d ne. b.identifiers d ne ∙ a.identifiers d ne;
   voices = voices_on c old.ribs mid.ribs new.ribs (mid.ribs_len ∙ a.count ∙ sym old.ribs_len) a.voices b.voices;
   watched = λ d ne. b.watched d ne ∙ a.watched d ne;
+  answers = answers_on old.ribs mid.ribs new.ribs (mid.ribs_len ∙ a.count ∙ sym old.ribs_len) a.answers b.answers;
 }
 
 -- ---- all of them
 
--- what is held of each client is what the run means, whatever is touched for it
+-- what is held of each client is what the run means, whatever is touched for it, and whatever its last turn answered
 pub record AgreesOnClients (core : Core) (run : List Move) : Type 0 where
   pub config : core.ribs.config ≡ config_in run
   pub clients : (c : ℕ) → c < core.count → AgreesAt core (config_in run) c (hearing c run)

@@ -5,15 +5,10 @@ use Rattle.std.specs.FinMap as fin
 use Rattle.std.specs.FinSet as set
 use Rattle.rs_octets.specs.Prefixes.{Prefix, prefix_order}
 use Rattle.rs_attrs.specs.Meaning.{Attribute}
-use Rattle.rs_session.specs.declared.act.Act.TheVariants as acts
-use Rattle.rs_session.specs.declared.act.State.TheVariants as states
 use Rattle.rs_open.specs.declared.short.Short.{Short}
-use Rattle.rs_open.specs.declared.short.Short.TheVariants as short
 use Rattle.rs_outlet.specs.declared.answers.Speech.{Speech}
-use Rattle.rs_octets.specs.declared.heads.Kind.TheVariants as kinds
 use Rattle.rs_open.specs.Writing.{server_open}
 use Rattle.rs_open.specs.declared.writing.ServerOpen.{ServerOpen}
-use Rattle.rs_open.specs.declared.short.Limit.TheVariants as limits
 use Rattle.rs_outlet.specs.declared.answers.Last.{Last}
 use Rattle.rs_outlet.specs.Views.{View, waits_at, bare, cleared, finished, begun, touched_at}
 use Rattle.rs_adjin.specs.declared.adj_ins.AdjIns.{AdjIns}
@@ -25,19 +20,23 @@ use Rattle.rs_core.specs.Voices.{IsInOrder, SaysTheSame, IsDue, IsLeftAlone, IsF
 -- ---- outlets that say the same
 
 pub alone_on : (u v w : View) → IsLeftAlone u v → IsLeftAlone v w → IsLeftAlone u w
-alone_on u v w a b = record { is = b.is ∙ ap (λ (x : View). record x { touched = w.touched; numbers = w.numbers; last = w.last }) a.is }
+alone_on u v w a b = record { is = b.is ∙ ap (λ (x : View). record x { touched = w.touched; numbers = w.numbers }) a.is }
 
 pub alone_is : (v w : View) → w ≡ v → IsLeftAlone v w
-alone_is v w e = record { is = e ∙ (λ i. record v { touched = (sym e i).touched; numbers = (sym e i).numbers; last = (sym e i).last }) }
+alone_is v w e = record { is = e ∙ (λ i. record v { touched = (sym e i).touched; numbers = (sym e i).numbers }) }
 
 -- who is left alone says the same
 pub still : (v w : View) → IsLeftAlone v w → SaysTheSame v w
-still v w h = record { is = h.is ∙ (λ i. record v { beat = (sym h.is i).beat; touched = w.touched; numbers = w.numbers; last = w.last }) }
+still v w h = record { is = h.is ∙ (λ i. record v { beat = (sym h.is i).beat; touched = w.touched; numbers = w.numbers; last = (sym h.is i).last }) }
 
 pub same_is : (v w : View) → w ≡ v → SaysTheSame v w
 same_is v w e = still v w (alone_is v w e)
 
--- and the same is still to be said
+-- its last turn answered otherwise
+pub last_same : (v w : View) (last : Last) → w ≡ record v { last = last } → SaysTheSame v w
+last_same v w last e = record { is = e ∙ (λ i. record v { beat = (sym e i).beat; touched = (sym e i).touched; numbers = (sym e i).numbers; last = (sym e i).last }) }
+
+-- who is left alone is still to be told the same
 pub alone_out : (v w : View) → IsLeftAlone v w → outgoing_of w ≡ outgoing_of v
 alone_out v w h = ap outgoing_of h.is
 
@@ -121,11 +120,11 @@ touched_rest (p ∷ ps) v = touched_rest ps (touched_at p v)
 
 pub touched_alone : (ps : List Prefix) (v w : View) → IsTouchedAt ps v w → IsLeftAlone v w
 touched_alone ps v w h = alone_on v (touched_with ps v) w
-    (record { is = touched_rest ps v ∙ (λ i. let x = sym (touched_rest ps v) i in record v { touched = (touched_with ps v).touched; numbers = x.numbers; last = x.last }) })
-    (record { is = h.is ∙ (λ i. record (touched_with ps v) { touched = (sym h.is i).touched; numbers = w.numbers; last = (sym h.is i).last }) })
+    (record { is = touched_rest ps v ∙ (λ i. let x = sym (touched_rest ps v) i in record v { touched = (touched_with ps v).touched; numbers = x.numbers }) })
+    (record { is = h.is ∙ (λ i. record (touched_with ps v) { touched = (sym h.is i).touched; numbers = w.numbers }) })
 
 pub marked_alone : (ins : AdjIns) (v w : View) → IsMarked ins v w → IsLeftAlone v w
-marked_alone ins v w h = record { is = h.is ∙ (λ i. record v { touched = (sym h.is i).touched; numbers = w.numbers; last = (sym h.is i).last }) }
+marked_alone ins v w h = record { is = h.is ∙ (λ i. record v { touched = (sym h.is i).touched; numbers = w.numbers }) }
 
 pub marked_same : (ins : AdjIns) (v w : View) → IsMarked ins v w → SaysTheSame v w
 marked_same ins v w h = still v w (marked_alone ins v w h)

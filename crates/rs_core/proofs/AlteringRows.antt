@@ -1,11 +1,13 @@
--- Worked rows of what moves alter, by computation: routes that come and go, and what stands of a client.
-use Rattle.std.specs.Prelude.{◌≡◌, true, [], ◌∷◌, ◌++◌, List, replicate, refl, Some, None, Option}
+-- Worked rows of what moves alter, by computation: routes that come and go, what stands of a client, and what a turn answers.
+use Rattle.std.specs.Prelude.{◌≡◌, true, false, [], ◌∷◌, ◌++◌, List, replicate, refl, Some, None, Option}
 use Rattle.std.proofs.Common.{inl, inr, arith}
 use Rattle.rs_attrs.specs.Meaning.{Attribute, all_types}
 use Rattle.rs_attrs.proofs.Rows.{u1_attributes}
 use Rattle.rs_policy.specs.Verdicts.{matches, outcome, verdict}
 use Rattle.rs_decision.specs.Choice.{unbeaten}
-use Rattle.rs_core.specs.Moves.{Heard, Dropped}
+use Rattle.rs_outlet.specs.declared.answers.Last.TheVariants as lasts
+use Rattle.rs_core.specs.Moves.{Came, Dropped, Heard, Left, Turned}
+use Rattle.rs_core.specs.Answering.{IsLastBehind}
 use Rattle.rs_core.specs.Runs.{hearing, table}
 use Rattle.rs_core.specs.Altering.{IsAlteredBy}
 use Rattle.rs_core.specs.Touched.{Alters, MayAlter}
@@ -60,3 +62,21 @@ lost_with_it = (λ e. absurd (omega (arith, e)), λ same. let e : ◌≡◌ {A =
 holds : stands announced 1 n24 ≡ true
 unfolding all_types matches outcome verdict unbeaten
 holds = refl
+
+-- ---- the answer of the last turn stays
+
+-- c isn't Established: nothing was decided for it
+nothing_for_c : IsLastBehind (Came 2 ∷ announced) 2 (lasts.Done (record { decided = 0; whole = false }))
+nothing_for_c = record {
+  refusal = λ is. absurd (let f : false ≡ true = is in cc);
+  down = λ _ _. refl;
+  up = λ _ up. absurd (let f : false ≡ true = up in cc);
+}
+
+-- b is lost behind a turn at which memory was refused for it
+refused_for_b : IsLastBehind (Came 1 ∷ Left 1 ∷ Turned (1 ∷ []) ∷ announced) 1 lasts.Refused
+refused_for_b = record {
+  refusal = λ _. refl;
+  down = λ not. absurd (let f : true ≡ false = not in cc);
+  up = λ not. absurd (let f : true ≡ false = not in cc);
+}

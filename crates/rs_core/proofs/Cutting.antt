@@ -28,6 +28,7 @@ use Rattle.rs_core.specs.declared.route_server.Core.{Core}
 use Rattle.rs_core.proofs.Listening.{Heards, hears_joined, hears_moment, deaf}
 use Rattle.rs_core.proofs.Ruling.{unmoved}
 use Rattle.rs_core.proofs.Alike.{alone_is, same_again, same_is}
+use Rattle.rs_core.proofs.KeptAnswers.{same_answers}
 use Rattle.rs_core.proofs.Voicing.{voiced_on}
 use Rattle.rs_core.proofs.Ordering.{ordered_on}
 use Rattle.rs_core.specs.Core.{client_count}
@@ -56,6 +57,7 @@ waiting_spares old new c count sessions ribs watched others = record {
   held = λ d p ne. ap (λ r. held_of r.tables d p) ribs;
   identifiers = λ d ne. ap (λ r. identifier_of r.tables d) ribs;
   watched = λ d ne. ap (λ v. slice_get v.items d) watched;
+  answers = same_answers old.ribs new.ribs ribs;
 }
 
 pub same_spares : (core : Core) (c : ℕ) → Spares c core core

@@ -3,22 +3,17 @@ use Rattle.std.proofs.Common.{◌≡◌, inl, inr, ℕ, Bool, true, false, List,
 use Rattle.std.proofs.lemmas.List.{append-nil, take-append-drop}
 use Rattle.std.specs.Prelude.{Option, Some, None, if◌then◌else◌}
 use Rattle.std.specs.FinMap as fin
-use Rattle.std.specs.FinSet as set
 use Rattle.rs_octets.specs.Prefixes.{Prefix}
 use Rattle.rs_attrs.specs.declared.mode.Mode.{Mode}
 use Rattle.rs_attrs.specs.Meaning.{Attribute}
-use Rattle.rs_session.specs.declared.act.Act.TheVariants as acts
-use Rattle.rs_session.specs.declared.act.State.TheVariants as states
 use Rattle.rs_session.specs.Sessions.{state_of, is_live, agreed_of}
 use Rattle.rs_open.specs.declared.short.Short.{Short}
-use Rattle.rs_open.specs.declared.short.Short.TheVariants as short
 use Rattle.rs_policy.specs.Configuration.{Configuration}
 use Rattle.rs_outlet.specs.declared.answers.Speech.{Speech}
 use Rattle.rs_octets.specs.declared.heads.Kind.TheVariants as kinds
 use Rattle.rs_attrs.specs.Effects.{lacks_mandatory}
 use Rattle.rs_open.specs.Notes.{limit_octets}
 use Rattle.rs_open.specs.Writing.{keepalive}
-use Rattle.rs_open.specs.declared.short.Limit.TheVariants as limits
 use Rattle.rs_octets.proofs.GoodHeaders.{written_is_message}
 use Rattle.rs_packer.specs.Packed.{announcement, withdrawal}
 use Rattle.rs_outlet.specs.Begins.{BeginsUpdate}
@@ -41,8 +36,8 @@ use Rattle.rs_core.proofs.Uttering.{agreed_by_speech, all_gone, due_mandatory, l
 use Rattle.rs_core.proofs.Telling.{speaks_on, speaks_same}
 use Rattle.rs_core.proofs.Spoken.{announced_speaks, withdrawn_speaks}
 use Rattle.rs_core.proofs.Mandated.{due_has_mandatory}
-use Rattle.rs_core.proofs.Alike.{in_order, same_again, same_is}
-use Rattle.rs_core.proofs.Voicing.{says_still, spoken_up, up_live, voiced_by, voiced_on, voiced_same}
+use Rattle.rs_core.proofs.Alike.{in_order, last_same, same_again, same_is}
+use Rattle.rs_core.proofs.Voicing.{says_still, spoken_up, up_live, voiced_by, voiced_on}
 
 -- ---- octets are taken, and messages begin
 
@@ -188,4 +183,4 @@ done_voice s c h config ins v w numbered done at =
 pub turned_voice : (s : Configuration) (c : ℕ) (h : Hearing) (config : Configuration) (ins : AdjIns) (v w : View) → AreNumbered v ins → IsTurn config ins v w → SpeaksTo s c h v → SpeaksTo s c h w
 turned_voice s c h config ins v w numbered (inl done) at = done_voice s c h config ins v w numbered done at
 turned_voice s c h config ins v w numbered (inr refused) at =
-    voiced_same s c h v w (record { is = refused ∙ (λ i. record v { touched = (sym refused i).touched; numbers = (sym refused i).numbers; last = (sym refused i).last }) }) at
+    voiced_on s s c h h v w refl (λ l. l) refl (same_again v w (last_same v w _ refused)) (says_still s c h v w (ap outgoing_of refused) at) at

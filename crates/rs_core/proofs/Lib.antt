@@ -32,6 +32,7 @@ pub mod Alike
 pub mod Voicing
 pub mod Delivering
 pub mod Around
+pub mod KeptAnswers
 pub mod Stirring
 pub mod Altering
 pub mod CutShort
@@ -58,4 +59,6 @@ pub mod Touched
 pub mod Moments
 pub mod Growing
 pub mod Room
+pub mod TurnAnswers
 pub mod Since
+pub mod LastTurns

@@ -23,7 +23,6 @@ use Rattle.rs_session.specs.Hearing.{Asks, HasHeard, Tells, Stays, Says}
 use Rattle.rs_adjin.specs.declared.adj_ins.AdjIns.{AdjIns}
 use Rattle.rs_policy.specs.Configuration.{Configuration}
 use Rattle.rs_outlet.specs.declared.answers.Speech.{Speech}
-use Rattle.rs_outlet.specs.declared.answers.Last.{Last}
 use Rattle.rs_outlet.specs.Views.{View, AreNumbered}
 use Rattle.rs_core.specs.Points.{Point, Asked, Value, asked_if, dues_at, latest}
 use Rattle.rs_core.specs.Orders.{IsOrdered, IsToldInOrder, TellsAt, TellsInOrder}
@@ -34,7 +33,7 @@ use Rattle.rs_core.specs.Turns.{IsDone, IsTurn}
 use Rattle.rs_core.specs.Conversations.{own_open}
 use Rattle.rs_core.specs.Voices.{IsInOrder, IsGreeting, IsRaised, SaysTheSame, SpeaksTo, TellsAgain, Voices}
 use Rattle.rs_core.proofs.Telling.{updates_more}
-use Rattle.rs_core.proofs.Alike.{due_same, same_is}
+use Rattle.rs_core.proofs.Alike.{due_same, last_same, same_is}
 use Rattle.rs_core.proofs.Voicing.{down_speech}
 
 -- ---- what goes on as before
@@ -203,9 +202,6 @@ decided_ordered s c h due v w up flight speech told marked loc at = record {
 -- nothing was decided: the outlet is not up, or memory was refused
 not_decided : (s : Configuration) (c : ℕ) (h : Hearing) (due : Prefix → Value) (v w : View) → SaysTheSame v w → IsOrdered s c h v → IsOrdered s c (decides false due h) w
 not_decided s c h due v w same at = same_on s s c h (decides false due h) v w refl refl (λ l d. (l, d)) same at
-
-last_same : (v w : View) (last : Last) → w ≡ record v { last = last } → SaysTheSame v w
-last_same v w last e = record { is = e ∙ (λ i. record v { beat = (sym e i).beat; touched = (sym e i).touched; numbers = (sym e i).numbers; last = (sym e i).last }) }
 
 and_not : (up listed : Bool) → listed ≡ true → (up && not listed) ≡ false
 and_not true listed e = ap not e

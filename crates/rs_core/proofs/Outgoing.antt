@@ -26,6 +26,7 @@ use Rattle.rs_core.specs.declared.route_server.Core.{Core}
 use Rattle.rs_core.proofs.Lists.{own, other}
 use Rattle.rs_core.proofs.Agreeing.{AgreesOnClients, grown}
 use Rattle.rs_core.proofs.Around.{own_voices}
+use Rattle.rs_core.proofs.KeptAnswers.{own_answers}
 use Rattle.rs_core.proofs.Walks.{default_same}
 use Rattle.rs_core.proofs.Delivering.{begun_voice, took_voice, turned_voice}
 use Rattle.rs_core.proofs.Watching.{watched_still}
@@ -45,8 +46,8 @@ pub record MovesOutlet (c : ℕ) (Is : View → View → Type 0) (old new : Core
   pub tables : new.ribs.tables ≡ old.ribs.tables
   pub outlet : ChangesOwn c Is old.ribs new.ribs
 
-moved_spares : (c : ℕ) (Is : View → View → Type 0) (old new : Core) → MovesOutlet c Is old new → Spares c old new
-moved_spares c Is old new m = record {
+moved_spares : (c : ℕ) (Is : View → View → Type 0) (old new : Core) → MovesOutlet c Is old new → ((v w : View) → Is v w → w.last ≡ v.last) → Spares c old new
+moved_spares c Is old new m answered = record {
   count = m.count;
   config = m.settings.config;
   sessions = λ d ne. ap (λ v. slice_get v.items d) m.sessions;
@@ -55,6 +56,7 @@ moved_spares c Is old new m = record {
   identifiers = λ d ne. ap (λ t. identifier_of t d) m.tables;
   voices = own_voices c Is old.ribs new.ribs m.outlet;
   watched = λ d ne. ap (λ v. slice_get v.items d) m.watched;
+  answers = own_answers c Is old.ribs new.ribs m.outlet answered;
 }
 
 moved_at : (c : ℕ) (octets : List ℕ) (Is : View → View → Type 0) (old new : Core) (s : Configuration) (h : Hearing) → MovesOutlet c Is old new
@@ -94,11 +96,15 @@ still_at c Is old new s h m outlet ordered at = record {
 pub within : (old : Core) (c : ℕ) → c < old.count → c < old.ribs.count
 within old c lt = subst (λ n. c < n) (sym old.ribs_len) lt
 
+-- no message is a turn
+pub begun_last : (v w : View) → HasBegun v w → w.last ≡ v.last
+begun_last v w b = ap (λ (x : View). x.last) b.rest
+
 -- the next message was begun
 pub begun_agrees : (c : ℕ) (old new : Core) (run : List Move) → c < old.count → MovesOutlet c HasBegun old new → Agrees old run → AgreesOnClients new (Began c ∷ run)
 begun_agrees c old new run lt m h =
     let it = hearing c run in
-    grown old new c run (Began c ∷ run) refl (λ d ne. ap (λ b. offers b (hearing d run)) (is_other c d (λ e. ne (sym e)))) h (moved_spares c HasBegun old new m)
+    grown old new c run (Began c ∷ run) refl (λ d ne. ap (λ b. offers b (hearing d run)) (is_other c d (λ e. ne (sym e)))) h (moved_spares c HasBegun old new m begun_last)
     (subst (λ k. AgreesAt new (config_in run) c k) (sym (ap (λ b. offers b it) (is_own c)))
     (still_at c HasBegun old new (config_in run) it m
     (λ config none. begun_voice (config_in run) c it old.ribs.tables (outlet_in old.ribs c none) (outlet_in new.ribs c none) (old.numbered.each c none (within old c lt)) (m.outlet.own none (within old c lt))
@@ -108,6 +114,9 @@ begun_agrees c old new run lt m h =
 
 abbrev pub IsTakenFrom : ℕ → View → View → Type 0
 IsTakenFrom n v w = w ≡ record v { flight = drop n v.flight }
+
+pub taken_last : (n : ℕ) (v w : View) → IsTakenFrom n v w → w.last ≡ v.last
+taken_last n v w e = ap (λ (x : View). x.last) e
 
 -- what is lent is what is in flight
 pub lent_is : (core : Core) (c : ℕ) (none : View) → c < core.count → lent_by core.ribs c ≡ (outlet_in core.ribs c none).flight
@@ -120,7 +129,7 @@ lent_is core c none lt =
 pub took_agrees : (c n : ℕ) (old new : Core) (run : List Move) (octets : List ℕ) → c < old.count → ((none : View) → octets ≡ take n (outlet_in old.ribs c none).flight) → MovesOutlet c (IsTakenFrom n) old new → Agrees old run
     → AgreesOnClients new (Took c octets ∷ run)
 took_agrees c n old new run octets lt are m h =
-    grown old new c run (Took c octets ∷ run) refl (λ d ne. other c d (takes octets (hearing d run)) (hearing d run) ne) h (moved_spares c (IsTakenFrom n) old new m)
+    grown old new c run (Took c octets ∷ run) refl (λ d ne. other c d (takes octets (hearing d run)) (hearing d run) ne) h (moved_spares c (IsTakenFrom n) old new m (taken_last n))
     (subst (λ k. AgreesAt new (config_in run) c k) (sym (own c (takes octets (hearing c run)) (hearing c run)))
     (moved_at c octets (IsTakenFrom n) old new (config_in run) (hearing c run) m
     (λ config none. took_voice (config_in run) c n (hearing c run) (takes octets (hearing c run)) (outlet_in old.ribs c none) (outlet_in new.ribs c none) (m.outlet.own none (within old c lt)) refl

@@ -10,7 +10,7 @@ use Rattle.rs_core.specs.Ribs.{outlet_in}
 use Rattle.rs_outlet.specs.Begun.{HasBegun}
 use Rattle.rs_core.specs.Agreeing.{Agrees}
 use Rattle.rs_core.specs.Owing.{owed_by, is_decided_for, is_none}
-use Rattle.rs_core.specs.Core.{client_count, lent_octets, owed, owed_in, is_decided, decided_in, touched_for, touched_in}
+use Rattle.rs_core.specs.Core.{client_count, last_in, last_of, lent_octets, owed, owed_in, is_decided, decided_in, touched_for, touched_in}
 use Rattle.rs_core.specs.Paying.{SparesOwed, OwesNoMore, OwesLess}
 use Rattle.rs_core.specs.declared.route_server.Core.{Core}
 use Rattle.rs_core.proofs.Clients.{equal_or}
@@ -40,6 +40,10 @@ decided_is core c lt = ap decided_in (outlet_is core c lt)
 pub touched_is : (core : Core) (c : ℕ) → c < core.count → touched_for core c ≡ (outlet_in core.ribs c nobody).touched
 unfolding touched_for
 touched_is core c lt = ap touched_in (outlet_is core c lt)
+
+pub last_is : (core : Core) (c : ℕ) → c < core.count → last_of core c ≡ (outlet_in core.ribs c nobody).last
+unfolding last_of
+last_is core c lt = ap last_in (outlet_is core c lt)
 
 lent_at : (core : Core) (c : ℕ) → c < core.count → lent_octets core c ≡ (outlet_in core.ribs c nobody).flight
 unfolding lent_octets

@@ -46,13 +46,13 @@ pub refused_listed : (core : Core) (c : ℕ) → c < core.count → is_listed c 
 unfolding client_count
 refused_listed core c lt = listed_below core c core.count lt
 
-last_is : (core : Core) (c : ℕ) (none : View) → c < core.count → is_refused core c ≡ is_refusal (outlet_in core.ribs c none).last
+-- and where its outlet says so
+pub says_refused : (core : Core) (c : ℕ) (none : View) → c < core.count → is_refused core c ≡ is_refusal (outlet_in core.ribs c none).last
 unfolding is_refused
-last_is core c none lt =
+says_refused core c none lt =
     let xs : List View = core.ribs.outlets.items in
     let there : c < length xs = subst (λ n. c < n) (sym (core.ribs.outlets_len ∙ core.ribs_len)) lt in
     ap refusal_in (slice_get_read xs (length xs) c (outlet_in core.ribs c none) refl there (default_same xs c none (outlet_in core.ribs c none) there))
 
--- and where its outlet says so
 pub listed_is : (core : Core) (c : ℕ) (none : View) → c < core.count → is_listed c (refused_below core (client_count core)) ≡ is_refusal (outlet_in core.ribs c none).last
-listed_is core c none lt = refused_listed core c lt ∙ last_is core c none lt
+listed_is core c none lt = refused_listed core c lt ∙ says_refused core c none lt

@@ -10,6 +10,7 @@ use Rattle.std.proofs.lemmas.Map.Views.{Contains-from_any, list_any-from_Contain
 use Rattle.rs_octets.specs.PrefixOrder.{prefix_order_exact, prefix_order_total}
 use Rattle.rs_octets.specs.Prefixes.{Prefix, prefix_order}
 use Rattle.rs_policy.specs.Configuration.{Configuration}
+use Rattle.rs_outlet.specs.declared.answers.Turned.{Turned}
 use Rattle.rs_outlet.specs.Views.{IsNumberOf, Prefixes, is_touched, is_whole, with_touch}
 use Rattle.rs_core.specs.Moves.{Move, Ruled, Came, Heard, Saw, Left, Dropped, Began, Took}
 use Rattle.rs_core.specs.Moves as moves
@@ -17,7 +18,7 @@ use Rattle.rs_core.specs.Runs.{is_established, is_listed}
 use Rattle.rs_core.specs.Core.{client_count, touched_for}
 use Rattle.rs_core.specs.Stirring.{IsCountOf, TouchesBetween, TouchesWhere, stands, with_touches}
 use Rattle.rs_core.specs.Touched.{Alters, MayAlter, IsTouchedBehind, TouchesBehind}
-use Rattle.rs_core.specs.Decided.{Since, AsksForAll, IsAskedForAll, IsAltered, MayBeAltered, IsCut, LieBetween, if_room, IsTouchedSince, IsAnswerFor, TouchesWhatWasAltered, AnswersByWhatWasAltered}
+use Rattle.rs_core.specs.Decided.{Since, AsksForAll, IsAskedForAll, IsAltered, MayBeAltered, IsCut, LieBetween, if_room, IsTouchedSince, IsAnswerFor, IsAnswerTo, TouchesWhatWasAltered, AnswersByWhatWasAltered}
 use Rattle.rs_core.proofs.Room.{all_in, equal_only, many_touches, with_all}
 use Rattle.rs_core.proofs.Touching.{touched_here, touched_more}
 
@@ -36,11 +37,14 @@ on Holds c move run goes s = record { later = move ∷ s.later; move = s.move; b
   by_place clients (zero, lt, is) = goes clients is
   by_place clients (suc k, lt, is) = s.refused clients (k, omega (arith, lt), is)
 
-first_is : (m n : Move) (ms ns : List Move) → m ∷ ms ≡ n ∷ ns → m ≡ n
+pub first_is : (m n : Move) (ms ns : List Move) → m ∷ ms ≡ n ∷ ns → m ≡ n
 first_is m n ms ns e = cc
 
-rest_is : (m n : Move) (ms ns : List Move) → m ∷ ms ≡ n ∷ ns → ms ≡ ns
+pub rest_is : (m n : Move) (ms ns : List Move) → m ∷ ms ≡ n ∷ ns → ms ≡ ns
 rest_is m n ms ns e = cc
+
+pub same_refused : (a b : List ℕ) → moves.Turned a ≡ moves.Turned b → a ≡ b
+same_refused a b e = cc
 
 -- by the last move, or before it
 last_or : (Holds : Move → List Move → Type 0) (c : ℕ) (move : Move) (run : List Move) → Since Holds c (move ∷ run) → Holds move run ⊎ (GoesOn c move × Since Holds c run)
@@ -163,9 +167,7 @@ refused_behind c refused run before touched is unasked it same = just_behind c (
   prefixes = [];
   just = λ p. (λ has. absurd (let lt = has.1 in omega (arith, lt)), λ none. absurd none);
   are = same;
-}) where
-  same_refused : (a b : List ℕ) → moves.Turned a ≡ moves.Turned b → a ≡ b
-  same_refused a b e = cc
+})
 
 -- it was done
 done_behind : (c : ℕ) (refused : List ℕ) (run : List Move) (touched : Option Prefixes) → is_listed c refused ≡ false → (AsksForAll c (moves.Turned refused) run → ⊥) → touched ≡ Some set.empty → IsTouchedSince (moves.Turned refused ∷ run) c touched
@@ -211,7 +213,7 @@ any_behind c (Took d octets) run before touched up it step = just_behind c (Took
 
 -- ---- a run
 
-touched_since : (c : ℕ) (run : List Move) (touched : Option Prefixes) → is_established run c ≡ true → IsTouchedBehind run c touched → IsTouchedSince run c touched
+pub touched_since : (c : ℕ) (run : List Move) (touched : Option Prefixes) → is_established run c ≡ true → IsTouchedBehind run c touched → IsTouchedSince run c touched
 touched_since c [] touched up h = absurd h
 touched_since c (move ∷ run) touched up h = by_before (is_established run c) refl (λ before was k. touched_since c run before was k) where
   by_before : (b : Bool) → is_established run c ≡ b → ((before : Option Prefixes) → is_established run c ≡ true → IsTouchedBehind run c before → IsTouchedSince run c before) → IsTouchedSince (move ∷ run) c touched
@@ -236,22 +238,18 @@ numbers : (is_in : Prefix → Bool) (o : Option Prefixes) (n : ℕ) → is_whole
 numbers is_in None n e h = h
 numbers is_in (Some s) n e h = absurd (false≢true e)
 
+pub answer_since : (c : ℕ) (run : List Move) (touched : Option Prefixes) (turned : Turned) → IsTouchedSince run c touched → turned.whole ≡ is_whole touched → IsCountOf (stands run c) touched turned.decided → IsAnswerTo run c turned
+answer_since c run touched turned it of_all count = (record {
+  all = λ asked. of_all ∙ ap is_whole (it.all asked);
+  most = λ none. let was = it.most none in (was.0, was.1, answer_for was.0 was.2);
+  just = λ none whole. let was = it.just none whole in (was.prefixes, was.just, answer_for was.prefixes was.are);
+  standing = λ whole. numbers (stands run c) touched turned.decided (sym of_all ∙ whole) count;
+}) where
+  answer_for : (prefixes : Prefixes) → touched ≡ if_room prefixes → IsAnswerFor prefixes turned
+  answer_for prefixes are =
+      let is = of_all ∙ ap is_whole are ∙ whole_of prefixes (nat_lt 4096 (set.len prefixes)) in
+      record { whole = is; count = λ part. counts (stands run c) prefixes turned.decided (nat_lt 4096 (set.len prefixes)) (sym is ∙ part) (subst (λ o. IsCountOf (stands run c) o turned.decided) are count) }
+
 pub answers_by_what_was_altered : AnswersByWhatWasAltered
 unfolding client_count
-answers_by_what_was_altered old new run c lt h up d = (
-  d.turned,
-  d.last,
-  record {
-    all = λ asked. d.whole ∙ ap is_whole (it.all asked);
-    most = λ none. let was = it.most none in (was.0, was.1, answer_for was.0 was.2);
-    just = λ none whole. let was = it.just none whole in (was.prefixes, was.just, answer_for was.prefixes was.are);
-    standing = λ whole. numbers (stands run c) (touched_for old c) d.turned.decided (sym d.whole ∙ whole) d.count;
-  },
-) where
-  it : IsTouchedSince run c (touched_for old c)
-  it = touches_what_was_altered old run c lt h up
-
-  answer_for : (prefixes : Prefixes) → touched_for old c ≡ if_room prefixes → IsAnswerFor prefixes d.turned
-  answer_for prefixes are =
-      let is = d.whole ∙ ap is_whole are ∙ whole_of prefixes (nat_lt 4096 (set.len prefixes)) in
-      record { whole = is; count = λ part. counts (stands run c) prefixes d.turned.decided (nat_lt 4096 (set.len prefixes)) (sym is ∙ part) (subst (λ o. IsCountOf (stands run c) o d.turned.decided) are d.count) }
+answers_by_what_was_altered old new run c lt h up d = (d.turned, d.last, answer_since c run (touched_for old c) d.turned (touches_what_was_altered old run c lt h up) d.whole d.count)

@@ -10,6 +10,7 @@ use Rattle.rs_core.specs.declared.endings.Watched.{Watched}
 use Rattle.rs_core.specs.declared.route_server.Core.{Core}
 use Rattle.rs_core.proofs.Agreeing.{spares_both}
 use Rattle.rs_core.proofs.Alike.{alone_is}
+use Rattle.rs_core.proofs.KeptAnswers.{same_answers}
 use Rattle.rs_core.proofs.Watching.{others_kept}
 
 -- it alone is another
@@ -25,6 +26,7 @@ written c old new count sessions buffers ribs others =
       identifiers = λ d ne. ap (λ r. identifier_of r.tables d) ribs;
       voices = λ d none lt ne. alone_is _ _ (ap (λ r. outlet_in r d none) ribs);
       watched = others;
+      answers = same_answers old.ribs new.ribs ribs;
     }
 
 -- an ending was noted first

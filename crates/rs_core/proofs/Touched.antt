@@ -24,7 +24,7 @@ use Rattle.rs_core.specs.Ribs.{outlet_in, ChangesAll, Stirs, StirsWhere, StirsWi
 use Rattle.rs_core.specs.Touches.{IsTouchedBetween, IsTouchedWhere, KeepsTouches, touched_with}
 use Rattle.rs_core.specs.Turns.{IsDone, IsTurn, IsMarked}
 use Rattle.rs_core.specs.Agreeing.{Agrees}
-use Rattle.rs_core.specs.Core.{client_count, is_refusal, is_refused, last_in, last_of, loc_in, loc_rib, refusal_in, touched_for}
+use Rattle.rs_core.specs.Core.{client_count, is_refusal, is_refused, loc_in, loc_rib, refusal_in, touched_for}
 use Rattle.rs_core.specs.Stirring.{DecidesTouched, IsChangedBy, IsCountOf, KeepsTouched, MayBeChangedBy, TouchesAll, TouchesBetween, TouchesItself, TouchesOthersBetween, TouchesOthersWhere, TouchesWhere, stands, with_touches}
 use Rattle.rs_core.specs.declared.ribs.Ribs.{Ribs}
 use Rattle.rs_core.specs.declared.route_server.Core.{Core}
@@ -32,7 +32,7 @@ use Rattle.rs_core.proofs.Agreeing.{AgreesOnClients, on_clients}
 use Rattle.rs_core.proofs.Drained.{established_spoken}
 use Rattle.rs_core.proofs.InTurn.{has_what_was_due}
 use Rattle.rs_core.proofs.Outgoing.{within}
-use Rattle.rs_core.proofs.Paying.{nobody, outlet_is, touched_is}
+use Rattle.rs_core.proofs.Paying.{last_is, nobody, outlet_is, touched_is}
 use Rattle.rs_core.proofs.Serving.{due_is, due_spoken}
 use Rattle.rs_core.proofs.Stirring.{stirs_as, within_gone}
 use Rattle.rs_core.proofs.Voicing.{down_speech}
@@ -42,10 +42,6 @@ use Rattle.rs_core.proofs.Voicing.{down_speech}
 loc_is : (core : Core) (c : ℕ) (p : Prefix) → c < core.count → loc_rib core c p ≡ map.get (outlet_in core.ribs c nobody).loc p
 unfolding loc_rib
 loc_is core c p lt = ap (λ o. loc_in o p) (outlet_is core c lt)
-
-last_is : (core : Core) (c : ℕ) → c < core.count → last_of core c ≡ (outlet_in core.ribs c nobody).last
-unfolding last_of
-last_is core c lt = ap last_in (outlet_is core c lt)
 
 -- the outlet of a client that is Established is spoken to
 spoken_outlet : (core : Core) (run : List Move) (c : ℕ) → c < core.count → AgreesOnClients core run → is_established run c ≡ true → (speech : Speech) × ((outlet_in core.ribs c nobody).speech ≡ Some speech)

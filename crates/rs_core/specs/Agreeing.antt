@@ -13,10 +13,11 @@ use Rattle.rs_policy.specs.Configuration.{Configuration}
 use Rattle.rs_policy.specs.Replacing.{Replaces}
 use Rattle.rs_core.specs.Moves.{Move, Ruled, config_in}
 use Rattle.rs_core.specs.Hearing.{Hearing, allowed_in, session_in, state_in, identifier_in, table_in}
-use Rattle.rs_core.specs.Core.{touched_for}
+use Rattle.rs_core.specs.Core.{last_of, touched_for}
 use Rattle.rs_core.specs.Runs.{hearing, is_established}
 use Rattle.rs_core.specs.Touched.{IsTouchedBehind}
-use Rattle.rs_core.specs.Ribs.{outlet_in}
+use Rattle.rs_core.specs.Answering.{IsLastBehind}
+use Rattle.rs_core.specs.Ribs.{outlet_in, KeepsAnswers}
 use Rattle.rs_core.specs.Voices.{SpeaksTo, KeepsVoices}
 use Rattle.rs_core.specs.Orders.{IsOrdered}
 use Rattle.rs_core.specs.Watching.{IsWatched}
@@ -55,6 +56,7 @@ pub record Agrees (core : Core) (run : List Move) : Type 0 where
   pub config : core.ribs.config ≡ config_in run
   pub clients : (c : ℕ) → c < core.count → AgreesAt core (config_in run) c (hearing c run)
   pub touched : (c : ℕ) → c < core.count → is_established run c ≡ true → IsTouchedBehind run c (touched_for core c)
+  pub last : (c : ℕ) → c < core.count → IsLastBehind run c (last_of core c)
 
 -- it agrees with the run grown by the configuration that octets are, which may replace the one before
 pub record IsRuled (octets : List ℕ) (core : Core) (run : List Move) : Type 0 where
@@ -62,7 +64,8 @@ pub record IsRuled (octets : List ℕ) (core : Core) (run : List Move) : Type 0 
   pub replaces : Replaces (config_in run) octets config
   pub agrees : Agrees core (Ruled config ∷ run)
 
--- whatever belongs to another client is what it was, but for touches, and so is the configuration
+-- whatever belongs to another client is what it was, but for touches, and so are the configuration and what the last turn of each
+-- client answered
 pub record Spares (c : ℕ) (old new : Core) : Type 0 where
   pub count : new.count ≡ old.count
   pub config : new.ribs.config ≡ old.ribs.config
@@ -72,3 +75,4 @@ pub record Spares (c : ℕ) (old new : Core) : Type 0 where
   pub identifiers : (d : ℕ) → d ≢ c → identifier_of new.ribs.tables d ≡ identifier_of old.ribs.tables d
   pub voices : KeepsVoices c old.ribs new.ribs
   pub watched : (d : ℕ) → d ≢ c → slice_get new.watched.items d ≡ slice_get old.watched.items d
+  pub answers : KeepsAnswers old.ribs new.ribs

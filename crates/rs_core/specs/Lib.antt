@@ -18,8 +18,10 @@ pub mod Voices
 pub mod Altering
 pub mod Stirring
 pub mod Touched
+pub mod Answering
 pub mod Agreeing
 pub mod Decided
+pub mod LastTurns
 pub mod Paying
 pub mod Steps
 pub mod Courses

@@ -56,6 +56,10 @@ pub record KeepsSettings (old new : Ribs) : Type 0 where
   pub extended : new.extended ≡ old.extended
   pub config : new.config ≡ old.config
 
+-- the last turn of each client answered what it did
+abbrev pub KeepsAnswers : Ribs → Ribs → Type 0
+KeepsAnswers old new = (c : ℕ) (none : View) → c < old.count → (outlet_in new c none).last ≡ (outlet_in old c none).last
+
 -- only the outlet of client c has changed, so
 pub record ChangesOwn (c : ℕ) (Is : View → View → Type 0) (old new : Ribs) : Type 0 where
   pub own : (none : View) → c < old.count → Is (outlet_in old c none) (outlet_in new c none)

@@ -60,9 +60,9 @@ pub record SaysTheSame (v w : View) : Type 0 where
 pub record IsDue (v w : View) : Type 0 where
   pub is : w ≡ record v { beat = true }
 
--- prefixes were touched, or a turn was refused
+-- prefixes were touched
 pub record IsLeftAlone (v w : View) : Type 0 where
-  pub is : w ≡ record v { touched = w.touched; numbers = w.numbers; last = w.last }
+  pub is : w ≡ record v { touched = w.touched; numbers = w.numbers }
 
 -- what a client was told goes, and it is spoken to like this
 pub record IsRaised (agreed : Option Speech) (v w : View) : Type 0 where

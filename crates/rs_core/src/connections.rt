@@ -30,7 +30,7 @@ ghost use Rattle.rs_core.specs.Hearing.{Hearing, state_in, leaves};
 ghost use Rattle.rs_core.specs.Runs.{hearing};
 ghost use Rattle.rs_core.specs.Agreeing.{Agrees, AgreesAt, Knows, IsCutShort, Spares};
 ghost use Rattle.rs_outlet.specs.Views.{View};
-ghost use Rattle.rs_core.specs.Ribs.{Stirs, outlet_in};
+ghost use Rattle.rs_core.specs.Ribs.{KeepsAnswers, Stirs, outlet_in};
 ghost use Rattle.rs_core.specs.Stirring.{IsChangedBy, KeepsTouched, TouchesOthersWhere};
 ghost use Rattle.rs_core.specs.Conversations.{own_open};
 ghost use Rattle.rs_core.specs.Voices.{IsGreeting, KeepsVoices};
@@ -85,6 +85,7 @@ impl Core {
         ensures voices { KeepsVoices c self.old.ribs self.new.ribs }
         ensures own { (none : View) → IsGreeting (own_open self.old.ribs.config) (outlet_in self.new.ribs c none) }
         ensures apart { (d : ℕ) (none : View) → d ≢ c → outlet_in self.new.ribs d none ≡ outlet_in self.old.ribs d none }
+        ensures answers { KeepsAnswers self.old.ribs self.new.ribs }
     {
         let said = server_open(&self.ribs.config);
         self.pass_over(c);

@@ -5,6 +5,7 @@ ghost use Rattle.rs_core.specs.Conversed.{SendsInOrder};
 ghost use Rattle.rs_core.specs.Paying.{SendsAllOwed};
 ghost use Rattle.rs_core.specs.Serving.{ServesByOffers};
 ghost use Rattle.rs_core.specs.Decided.{AnswersByWhatWasAltered, TouchesWhatWasAltered};
+ghost use Rattle.rs_core.specs.LastTurns.{AnswersByTheLastTurn};
 
 /// From the start on, behind any number of drives: where a client is served by the run, the UPDATEs
 /// that its link took of the offers since it last began mean just the table that is due to the client.
@@ -61,4 +62,13 @@ pub fn touches_what_was_altered()
 /// would have altered, and be whole where both together are more than 4,096.
 pub fn answers_by_what_was_altered()
     ensures { AnswersByWhatWasAltered }
+{}
+
+/// At each point of each run `last` is what the last turn answered for a client: that memory was refused,
+/// where it was; for a client that was not Established then, that nothing was decided; else what was
+/// altered before that turn, as said above. Before the first turn it is `Never`. Neither the end of a
+/// session nor a new one changes it.
+#[tactic(auto, using(crate::proofs::LastTurns::answers_by_the_last_turn))]
+pub fn answers_by_the_last_turn()
+    ensures { AnswersByTheLastTurn }
 {}

@@ -17,7 +17,7 @@ impl Core {
     ghost use Rattle.rs_core.specs.Hearing.{Hearing, takes_in, without_change};
     ghost use Rattle.rs_core.specs.Agreeing.{Knows, Spares};
     ghost use Rattle.rs_outlet.specs.Views.{View};
-    ghost use Rattle.rs_core.specs.Ribs.{Stirs, outlet_in};
+    ghost use Rattle.rs_core.specs.Ribs.{KeepsAnswers, Stirs, outlet_in};
     ghost use Rattle.rs_core.specs.Voices.{IsFinished, KeepsVoices, Voices};
     ghost use Rattle.rs_core.specs.Steps.{AltersWithin, CutsShort, Follows, Hears, IsSpared, ActsOn, KeepsOwnTouches};
 
@@ -128,6 +128,7 @@ impl Core {
         ensures voices { KeepsVoices c self.old.ribs self.new.ribs }
         ensures own { (none : View) → Voices act self.old.ribs.extended c self.old.sessions.items (outlet_in self.old.ribs c none) (outlet_in self.new.ribs c none) }
         ensures stirs { Stirs c self.old.ribs self.new.ribs }
+        ensures answers { KeepsAnswers self.old.ribs self.new.ribs }
     {
         match act {
             Act::None => {}
@@ -151,6 +152,7 @@ impl Core {
         ensures voices { KeepsVoices c self.old.ribs self.new.ribs }
         ensures own { (none : View) → Voices Act.Up self.old.ribs.extended c self.old.sessions.items (outlet_in self.old.ribs c none) (outlet_in self.new.ribs c none) }
         ensures stirs { Stirs c self.old.ribs self.new.ribs }
+        ensures answers { KeepsAnswers self.old.ribs self.new.ribs }
     {
         let session = &self.sessions[c];
         let identifier = session.identifier();
@@ -172,6 +174,7 @@ impl Core {
         ensures voices { KeepsVoices c self.old.ribs self.new.ribs }
         ensures own { (none : View) → IsFinished note (outlet_in self.old.ribs c none) (outlet_in self.new.ribs c none) }
         ensures stirs { Stirs c self.old.ribs self.new.ribs }
+        ensures answers { KeepsAnswers self.old.ribs self.new.ribs }
     {
         self.ribs.unlearn(c);
         self.ribs.finish(c, note);

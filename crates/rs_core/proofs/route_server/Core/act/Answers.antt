@@ -1,8 +1,10 @@
-use Rattle.std.proofs.Common.{◌<◌, refl, sym, subst}
+use Rattle.std.proofs.Common.{◌<◌, refl, sym, ap, subst}
 use Rattle.rs_core.specs.Core.{client_count}
 use Rattle.rs_core.specs.Ribs.{outlet_in}
 use Rattle.rs_core.specs.Voices.{Voices}
+use Rattle.rs_outlet.specs.Views.{View}
 use Rattle.rs_core.proofs.Around.{asked_again}
+use Rattle.rs_core.proofs.KeptAnswers.{own_answers, same_answers}
 use Rattle.rs_core.proofs.Stirring.{own_stirs, stirs_same}
 use Rattle.rs_core.proofs.route_server.Core.act.Goals as goal
 
@@ -20,3 +22,12 @@ returns-in-Say-clause-stirs c = own_stirs c.args.c _ c.args.self.now.ribs c.say_
 
 pub returns-in-Again-clause-stirs : goal.returns-in-Again-clause-stirs
 returns-in-Again-clause-stirs c = own_stirs c.args.c _ c.args.self.now.ribs c.again.new.self c.again.ensures.tables c.again.ensures.outlet
+
+pub returns-in-None-clause-answers : goal.returns-in-None-clause-answers
+returns-in-None-clause-answers c = same_answers c.args.self.now.ribs c.args.self.now.ribs refl
+
+pub returns-in-Say-clause-answers : goal.returns-in-Say-clause-answers
+returns-in-Say-clause-answers c = own_answers c.args.c _ c.args.self.now.ribs c.say_keepalive.new.self c.say_keepalive.ensures.outlet (λ v w e. ap (λ (x : View). x.last) e)
+
+pub returns-in-Again-clause-answers : goal.returns-in-Again-clause-answers
+returns-in-Again-clause-answers c = own_answers c.args.c _ c.args.self.now.ribs c.again.new.self c.again.ensures.outlet (λ v w e. ap (λ (x : View). x.last) e.rest)

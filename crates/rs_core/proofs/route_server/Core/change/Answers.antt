@@ -19,6 +19,7 @@ use Rattle.rs_core.proofs.Watching.{noted_by, others_kept}
 use Rattle.rs_core.proofs.Acting.{acted, acted_spares, asked_by_message}
 use Rattle.rs_core.proofs.Voicing.{never_open_by_message}
 use Rattle.rs_core.proofs.Around.{voices_on}
+use Rattle.rs_core.proofs.KeptAnswers.{answers_on, routes_answers}
 use Rattle.rs_core.proofs.Stirring.{stirs_withdrawn}
 use Rattle.rs_core.proofs.Updating.{changed, changed_within, cut_after, none_there, not_taken}
 use Rattle.rs_outlet.specs.Views.{View}
@@ -45,7 +46,7 @@ returns-in_default c =
     let noting = ap (λ (v : Vec Watched). v.items) c.act.ensures.watched in
     record {
       spares = acted_spares c.args.self.now c.act.new.self c.args.c c.message.new.self c.act.ensures.count c.act.ensures.config lt set c.act.ensures.buffers c.act.ensures.others c.act.ensures.voices
-          (others_kept kept c.act.new.self.watched.items c.args.c c.end.new.self there noting);
+          (others_kept kept c.act.new.self.watched.items c.args.c c.end.new.self there noting) c.act.ensures.answers;
       buffers = c.act.ensures.buffers;
       heard = λ s h change live knows same. acted c.args.self.now c.act.new.self c.message.result (Message (heard.Update None)) c.index_mut.result.now c.message.new.self s c.args.c h
           (takes_in s c.args.c (changing None change no_faults) h) tt read lt set c.message.ensures.hears c.act.ensures.tables c.act.ensures.config c.act.ensures.own (never_open_by_message (session_in s c.args.c) (heard.Update None) h.items) refl refl refl (asked_by_message s c.args.c (heard.Update None) h _ refl)
@@ -83,6 +84,8 @@ returns-in-Some-clause-spares c =
     (voices_on c.args.c c.args.self.now.ribs c.withdraw_all.new.self.ribs c.announce_all.new.self.ribs (c.withdraw_all.new.self.ribs_len ∙ c.withdraw_all.ensures.alone.count ∙ sym c.args.self.now.ribs_len)
     c.withdraw_all.ensures.alone.touched.others c.announce_all.ensures.alone.touched.others)
     (λ d ne. ap (λ (v : Vec Watched). slice_get v.items d) (c.announce_all.ensures.alone.watched ∙ c.withdraw_all.ensures.alone.watched))
+    (answers_on c.args.self.now.ribs c.withdraw_all.new.self.ribs c.announce_all.new.self.ribs (c.withdraw_all.new.self.ribs_len ∙ c.withdraw_all.ensures.alone.count ∙ sym c.args.self.now.ribs_len)
+    (routes_answers c.args.c c.args.self.now.ribs c.withdraw_all.new.self.ribs c.withdraw_all.ensures.alone.touched) (routes_answers c.args.c c.withdraw_all.new.self.ribs c.announce_all.new.self.ribs c.announce_all.ensures.alone.touched))
 
 pub returns-in-Some-clause-heard : goal.returns-in-Some-clause-heard
 unfolding client_count

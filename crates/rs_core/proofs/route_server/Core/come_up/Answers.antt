@@ -1,11 +1,13 @@
-use Rattle.std.proofs.Common.{◌<◌, refl, sym, ◌∙◌, subst}
+use Rattle.std.proofs.Common.{◌<◌, refl, sym, ◌∙◌, ap, subst}
 use Rattle.std.proofs.lemmas.Option.{slice_get_read}
 use Rattle.rs_session.specs.Sessions.{agreed_of}
 use Rattle.rs_session.specs.Hearing.{HasHeard}
 use Rattle.rs_core.specs.Core.{client_count}
 use Rattle.rs_core.specs.Ribs.{outlet_in}
 use Rattle.rs_core.specs.Voices.{IsRaised}
+use Rattle.rs_outlet.specs.Views.{View}
 use Rattle.rs_core.proofs.Around.{around_voices}
+use Rattle.rs_core.proofs.KeptAnswers.{around_answers, same_answers}
 use Rattle.rs_core.proofs.Stirring.{around_stirs, stirs_same}
 use Rattle.rs_core.proofs.Lists.{some_is}
 use Rattle.rs_core.proofs.Alike.{begun_raised}
@@ -28,6 +30,13 @@ returns-in-Some-clause-own c = λ none x read settings items has _.
 
 pub returns-in-Some-clause-stirs : goal.returns-in-Some-clause-stirs
 returns-in-Some-clause-stirs c = around_stirs c.args.c _ _ c.args.self.now.ribs c.come_up.new.self c.come_up.ensures.held (c.come_up.ensures.outlet c.args.self.now.numbered)
+
+pub returns-in-Some-clause-answers : goal.returns-in-Some-clause-answers
+returns-in-Some-clause-answers c =
+    around_answers c.args.c _ c.args.self.now.ribs.tables c.args.self.now.ribs c.come_up.new.self (c.come_up.ensures.outlet c.args.self.now.numbered) (λ v w e. ap (λ (x : View). x.last) e)
+
+pub returns-in_default-clause-answers : goal.returns-in_default-clause-answers
+returns-in_default-clause-answers c = same_answers c.args.self.now.ribs c.args.self.now.ribs refl
 
 pub returns-in_default-clause-stirs : goal.returns-in_default-clause-stirs
 returns-in_default-clause-stirs c = stirs_same c.args.c c.args.self.now.ribs c.args.self.now.ribs refl

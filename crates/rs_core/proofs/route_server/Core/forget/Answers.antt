@@ -8,13 +8,15 @@ use Rattle.rs_session.specs.Hearing.{HasHeard}
 use Rattle.rs_adjin.specs.AdjIns.{held_of, identifier_of}
 use Rattle.rs_core.specs.Core.{client_count}
 use Rattle.rs_core.specs.Hearing.{session_in, leaves}
-use Rattle.rs_core.specs.Ribs.{Stirs, outlet_in}
+use Rattle.rs_outlet.specs.Views.{View}
+use Rattle.rs_core.specs.Ribs.{KeepsAnswers, Stirs, outlet_in}
 use Rattle.rs_core.specs.Voices.{KeepsVoices}
 use Rattle.rs_core.specs.declared.endings.Watched.{Watched}
 use Rattle.rs_core.specs.declared.ribs.Ribs.{Ribs}
 use Rattle.rs_core.proofs.Lists.{set_at}
 use Rattle.rs_core.proofs.Stirring.{held_stirs, stirs_then_own}
 use Rattle.rs_core.proofs.Around.{held_voices, own_voices, voices_on}
+use Rattle.rs_core.proofs.KeptAnswers.{answers_on, held_answers, own_answers}
 use Rattle.rs_core.specs.Conversations.{outgoing_of, own_open}
 use Rattle.rs_core.proofs.Proceeding.{nothing_converses}
 use Rattle.rs_core.proofs.Alike.{cleared_out, cleared_silent}
@@ -42,6 +44,10 @@ returns-clause-spares c =
           (held_voices c.args.c c.pass_over.new.self.ribs.tables c.pass_over.new.self.ribs c.unlearn.new.self (c.unlearn.ensures.touched c.pass_over.new.self.numbered))
           (own_voices c.args.c _ c.unlearn.new.self c.clear.new.self c.clear.ensures.outlet));
       watched = λ d ne. ap (λ (v : Vec Watched). slice_get v.items d) c.pass_over.ensures.watched;
+      answers = subst (λ r. KeepsAnswers r c.clear.new.self) ribs
+          (answers_on c.pass_over.new.self.ribs c.unlearn.new.self c.clear.new.self c.unlearn.ensures.settings.count
+          (held_answers c.args.c c.pass_over.new.self.ribs.tables c.pass_over.new.self.ribs c.unlearn.new.self (c.unlearn.ensures.touched c.pass_over.new.self.numbered))
+          (own_answers c.args.c _ c.unlearn.new.self c.clear.new.self c.clear.ensures.outlet (λ v w e. ap (λ (x : View). x.last) e)));
     }
 
 pub returns-clause-forgotten : goal.returns-clause-forgotten

@@ -1,9 +1,11 @@
 use Rattle.std.proofs.Common.{◌<◌, sym, ◌∙◌, ap, subst}
 use Rattle.rs_core.specs.Core.{client_count}
-use Rattle.rs_core.specs.Ribs.{outlet_in}
+use Rattle.rs_outlet.specs.Views.{View}
+use Rattle.rs_core.specs.Ribs.{KeepsAnswers, outlet_in}
 use Rattle.rs_core.specs.Voices.{IsGreeting, KeepsVoices}
 use Rattle.rs_core.specs.declared.ribs.Ribs.{Ribs}
 use Rattle.rs_core.proofs.Around.{own_voices, voices_on}
+use Rattle.rs_core.proofs.KeptAnswers.{answers_on, own_answers}
 use Rattle.rs_core.proofs.Alike.{greets}
 use Rattle.rs_core.proofs.route_server.Core.greet.Goals as goal
 
@@ -12,6 +14,12 @@ returns-clause-voices c = subst (λ r. KeepsVoices c.args.c r c.say_open.new.sel
     (voices_on c.args.c c.pass_over.new.self.ribs c.clear.new.self c.say_open.new.self c.clear.ensures.settings.count
     (own_voices c.args.c _ c.pass_over.new.self.ribs c.clear.new.self c.clear.ensures.outlet)
     (own_voices c.args.c _ c.clear.new.self c.say_open.new.self c.say_open.ensures.outlet))
+
+pub returns-clause-answers : goal.returns-clause-answers
+returns-clause-answers c = subst (λ r. KeepsAnswers r c.say_open.new.self) c.pass_over.ensures.ribs
+    (answers_on c.pass_over.new.self.ribs c.clear.new.self c.say_open.new.self c.clear.ensures.settings.count
+    (own_answers c.args.c _ c.pass_over.new.self.ribs c.clear.new.self c.clear.ensures.outlet (λ v w e. ap (λ (x : View). x.last) e))
+    (own_answers c.args.c _ c.clear.new.self c.say_open.new.self c.say_open.ensures.outlet (λ v w e. ap (λ (x : View). x.last) e)))
 
 pub returns-clause-own : goal.returns-clause-own
 unfolding client_count

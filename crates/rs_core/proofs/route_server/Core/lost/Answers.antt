@@ -31,7 +31,7 @@ returns-clause-left c = λ run h.
     (subst (λ k. AgreesAt c.forget.new.self (config_in run) c.args.c k) (sym (own c.args.c (leaves (config_in run) c.args.c reasons.Lost it) it))
     (c.forget.ensures.forgotten (config_in run) it reasons.Lost (record { items = it.items; moment = refl; session = at.knows.session }) (notes.own it.endings it.faults at.knows.watched))) in
     left_agrees c.args.c c.args.self.now c.forget.new.self run c.forget.ensures.spares.count others (ap (λ k. is_up (state_in (config_in run) c.args.c k)) (own c.args.c (leaves (config_in run) c.args.c reasons.Lost it) it))
-    (touches_changes c.args.c (Left c.args.c) c.args.self.now c.forget.new.self run c.requires (on_clients c.args.self.now run h) on c.forget.ensures.spares.count c.forget.ensures.stirs) h on
+    (touches_changes c.args.c (Left c.args.c) c.args.self.now c.forget.new.self run c.requires (on_clients c.args.self.now run h) on c.forget.ensures.spares.count c.forget.ensures.stirs) c.forget.ensures.spares.answers h on
 
 pub returns-clause-touched : goal.returns-clause-touched
 unfolding client_count

@@ -2,6 +2,7 @@ use Rattle.std.proofs.Common.{◌≡◌, List}
 use Rattle.rs_core.specs.Core.{client_count}
 use Rattle.rs_core.specs.Moves.{Move}
 use Rattle.rs_core.specs.Agreeing.{Agrees}
+use Rattle.rs_core.specs.Ribs.{KeepsAnswers}
 use Rattle.rs_core.proofs.Agreeing.{HaveSeen}
 use Rattle.rs_core.proofs.Moments.{HaveTouched}
 use Rattle.rs_core.proofs.route_server.Core.moment.Given as goal
@@ -11,4 +12,5 @@ invariant-loop-c l = record {
   count : client_count l.self ≡ client_count l.fn.self;
   seen : (run : List Move) → Agrees l.fn.self run → HaveSeen l.t l.c l.self run;
   touched : (run : List Move) → Agrees l.fn.self run → HaveTouched l.t l.c run l.fn.self l.self;
+  answers : KeepsAnswers l.fn.self.ribs l.self.ribs;
 }

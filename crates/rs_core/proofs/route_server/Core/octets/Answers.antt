@@ -33,7 +33,7 @@ returns-in-Ok-clause-heard c = λ run h.
     (subst (λ k. AgreesAt c.hear.new.self (config_in run) c.args.c k) (sym (own c.args.c (hears (config_in run) c.args.c piece it) it)) (c.in-Ok.ensures.heard (config_in run) it h.config at)) in
     heard_agrees c.args.c piece old c.hear.new.self run c.hear.ensures.spares.count others
     (touches_others _ c.args.c old c.hear.new.self run (on_clients old run h) c.hear.ensures.spares.count (c.in-Ok.ensures.stirs (config_in run) it h.config at))
-    (touches_itself (Heard c.args.c piece) c.args.c old c.hear.new.self run c.requires (on_clients old run h) on c.hear.ensures.spares.count (c.in-Ok.ensures.keeps (config_in run) it h.config at)) h on
+    (touches_itself (Heard c.args.c piece) c.args.c old c.hear.new.self run c.requires (on_clients old run h) on c.hear.ensures.spares.count (c.in-Ok.ensures.keeps (config_in run) it h.config at)) c.hear.ensures.spares.answers h on
 
 pub returns-in-Err-clause-refused : goal.returns-in-Err-clause-refused
 unfolding client_count
@@ -47,15 +47,15 @@ returns-in-Err-clause-refused c = λ run h.
     let lasted = live_by (is_live (state_in (config_in run) c.args.c it)) (λ dead. absurd (let e = c.in-Err.ensures.unheard (config_in run) it at.knows dead in cc)) in
     let ended = c.end.ensures it.endings it.faults (at.knows.watched c.index.result.now was) in
     let others = λ (d : ℕ) (ne : d ≢ c.args.c). other c.args.c d (leaves (config_in run) d reasons.Memory (hearing d run)) (hearing d run) ne in
-    let on = grown c.args.self.now c.forget.new.self c.args.c run (Dropped c.args.c c.args.piece.now ∷ run) refl others h
-    (spares_both c.args.c c.args.self.now _ c.forget.new.self (put_spares c.args.c c.args.self.now c.hear.new.self _ c.end.new.self there refl refl refl refl refl c.hear.ensures.spares) c.forget.ensures.spares)
+    let spared = spares_both c.args.c c.args.self.now _ c.forget.new.self (put_spares c.args.c c.args.self.now c.hear.new.self _ c.end.new.self there refl refl refl refl refl c.hear.ensures.spares) c.forget.ensures.spares in
+    let on = grown c.args.self.now c.forget.new.self c.args.c run (Dropped c.args.c c.args.piece.now ∷ run) refl others h spared
     (subst (λ k. AgreesAt c.forget.new.self (config_in run) c.args.c k) (sym (own c.args.c (leaves (config_in run) c.args.c reasons.Memory it) it))
     (c.forget.ensures.forgotten (config_in run) it reasons.Memory (cut_unmoved c.hear.new.self _ (config_in run) c.args.c it refl (c.in-Err.ensures.refused (config_in run) it h.config at))
     (λ x e. (set_at kept c.args.c c.end.new.self there).own x e ∙ ended ∙ ap (λ b. watched_by (cons_option (ended_if b reasons.Memory) it.endings) it.faults) (sym lasted)))) in
     dropped_agrees c.args.c c.args.piece.now c.args.self.now c.forget.new.self run (c.forget.ensures.spares.count ∙ c.hear.ensures.spares.count) others
     (ap (λ k. is_up (state_in (config_in run) c.args.c k)) (own c.args.c (leaves (config_in run) c.args.c reasons.Memory it) it))
     (touches_dropped c.args.c c.args.piece.now c.args.self.now c.hear.new.self c.forget.new.self run c.requires (on_clients c.args.self.now run h) on c.hear.ensures.spares.count c.forget.ensures.spares.count
-    (c.in-Err.ensures.cut (config_in run) it h.config at) c.forget.ensures.stirs) h on
+    (c.in-Err.ensures.cut (config_in run) it h.config at) c.forget.ensures.stirs) spared.answers h on
 
 pub returns-in-Ok-clause-unheard : goal.returns-in-Ok-clause-unheard
 unfolding client_count

@@ -40,7 +40,7 @@ returns-in-Ok-clause-came c = λ run h.
     let set = ap (λ (v : Vec Session). v.items) c.greet.ensures.sessions in
     let others = λ (d : ℕ) (ne : d ≢ c.args.c). other c.args.c d (begins (hearing d run)) (hearing d run) ne in
     came_agrees c.args.c c.args.self.now c.greet.new.self run c.greet.ensures.count others (ap (λ k. is_up (state_in (config_in run) c.args.c k)) (own c.args.c (begins it) it))
-    (keeps_touched c.args.c c.args.self.now c.greet.new.self run c.greet.ensures.count (ap is_up (returns-in-Ok-clause-idle c run h)) c.greet.ensures.apart) h
+    (keeps_touched c.args.c c.args.self.now c.greet.new.self run c.greet.ensures.count (ap is_up (returns-in-Ok-clause-idle c run h)) c.greet.ensures.apart) c.greet.ensures.answers h
     (grown c.args.self.now c.greet.new.self c.args.c run (Came c.args.c ∷ run) refl others h
     (record {
       count = c.greet.ensures.count;
@@ -51,6 +51,7 @@ returns-in-Ok-clause-came c = λ run h.
       identifiers = λ d ne. ap (λ ins. identifier_of ins d) c.greet.ensures.tables;
       voices = c.greet.ensures.voices;
       watched = λ d ne. ap (λ (v : Vec Watched). slice_get v.items d) c.greet.ensures.watched;
+      answers = c.greet.ensures.answers;
     })
     (subst (λ k. AgreesAt c.greet.new.self (config_in run) c.args.c k) (sym (own c.args.c (begins it) it))
     (came c.args.self.now c.greet.new.self c.in-Ok.field-0 c.index_mut.result.now c.opened.new.self (config_in run) c.args.c it read lt set c.greet.ensures.emptied c.greet.ensures.tables c.greet.ensures.config c.greet.ensures.own

@@ -3,6 +3,7 @@ use Rattle.rs_policy.specs.Replacing.{Replaces}
 use Rattle.rs_core.specs.Core.{client_count}
 use Rattle.rs_core.proofs.Agreeing.{on_clients}
 use Rattle.rs_core.proofs.Growing.{ruled_agrees}
+use Rattle.rs_core.proofs.KeptAnswers.{marked_answers}
 use Rattle.rs_core.proofs.Ruling.{ruled}
 use Rattle.rs_core.proofs.Touched.{touches_all}
 use Rattle.rs_core.proofs.route_server.Core.rules.Goals as goal
@@ -15,7 +16,8 @@ returns-clause-accepted c = λ run h.
     record {
       config = c.in_ok-config.config;
       replaces = replaces;
-      agrees = ruled_agrees c.in_ok-config.config c.args.self.now _ run refl replaces.same (touches_all c.args.self.now _ run refl c.replace.ensures.touched on) h
+      agrees = ruled_agrees c.in_ok-config.config c.args.self.now _ run refl replaces.same (touches_all c.args.self.now _ run refl c.replace.ensures.touched on)
+          (marked_answers c.args.self.now.ribs.tables c.args.self.now.ribs c.replace.new.self c.replace.ensures.touched) h
           (ruled c.args.self.now _ run c.in_ok-config.config replaces.same refl c.replace.ensures.config refl refl refl c.replace.ensures.tables c.replace.ensures.touched on);
     }
 

@@ -19,7 +19,7 @@ returns-clause-spares c =
     let there : c.args.c < length kept = subst (λ k. c.args.c < k) (sym c.args.self.now.watched_len) c.requires in
     let set = ap (λ (v : Vec Watched). v.items) c.act.ensures.watched in
     acted_spares c.args.self.now c.act.new.self c.args.c c.moment-act.new.self c.act.ensures.count c.act.ensures.config lt (ap (λ (v : Vec Session). v.items) c.act.ensures.sessions) c.act.ensures.buffers c.act.ensures.others c.act.ensures.voices
-    (others_kept kept c.act.new.self.watched.items c.args.c c.end.new.self there set)
+    (others_kept kept c.act.new.self.watched.items c.args.c c.end.new.self there set) c.act.ensures.answers
 
 pub returns-clause-seen : goal.returns-clause-seen
 unfolding client_count

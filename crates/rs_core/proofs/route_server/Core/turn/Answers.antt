@@ -5,13 +5,15 @@ use Rattle.rs_core.proofs.Touched.{decides_touched, refusal_keeps}
 use Rattle.rs_core.proofs.Growing.{turned_by}
 use Rattle.rs_core.proofs.Outgoing.{turned_agrees}
 use Rattle.rs_core.proofs.Refusing.{listed_is, refused_listed}
+use Rattle.rs_core.proofs.TurnAnswers.{answers_turn}
 use Rattle.rs_core.proofs.route_server.Core.turn.Goals as goal
 
 pub returns-clause-turned : goal.returns-clause-turned
 unfolding client_count
 returns-clause-turned c = λ run h.
     turned_by _ c.args.self.now _ run refl (λ d lt. refused_listed _ d lt) (λ d lt refused. refusal_keeps d c.args.self.now _ c.turn.new.self lt refl c.turn.ensures.turned c.sweep.ensures.outlets refused)
-    (λ d lt up done. (decides_touched d c.args.self.now _ c.turn.new.self run lt refl c.turn.ensures.turned c.sweep.ensures.outlets h up done).none_left) h
+    (λ d lt up done. (decides_touched d c.args.self.now _ c.turn.new.self run lt refl c.turn.ensures.turned c.sweep.ensures.outlets h up done).none_left)
+    (λ d lt. answers_turn d _ c.args.self.now _ c.turn.new.self run lt refl c.turn.ensures.turned c.sweep.ensures.outlets (refused_listed _ d lt) h) h
     (turned_agrees c.args.self.now _ c.turn.new.self run _ refl refl refl refl
     c.turn.ensures.settings c.turn.ensures.tables c.turn.ensures.turned c.sweep.ensures.settings c.sweep.ensures.tables c.sweep.ensures.outlets (λ d none lt. listed_is _ d none lt) h)
 
