@@ -1,5 +1,6 @@
 mod Limits
 mod Listings
+mod Deduped
 mod LocByNumber
 mod Decisions
 mod OneOf

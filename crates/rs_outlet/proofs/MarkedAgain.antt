@@ -3,7 +3,7 @@ use Rattle.std.proofs.Common.{◌≡◌, ◌<◌, ◌≤◌, ℕ, zero, suc, Boo
 use Rattle.std.specs.Prelude.{option_map}
 use mathlib.Core.Bool.{true≢false}
 use Rattle.std.proofs.Common.{inl, inr}
-use Rattle.std.specs.List.{All, AllByRecursion, Contains, dedup, dedup_from, list_any}
+use Rattle.std.specs.List.{All, AllByRecursion, Contains, dedup, list_any}
 use Rattle.std.specs.List.Sorted.{IsBinarySearchResult, IsSearchInRange, IsStrictlySortedBy}
 use Rattle.std.specs.declared.cmp.Ordering.TheVariants.{Equal, Less}
 use Rattle.std.specs.FinMap as fin
@@ -19,6 +19,7 @@ use Rattle.rs_outlet.specs.Views.{Table}
 use Rattle.rs_outlet.specs.Places.{is_withdrawal, open_at, prefixes_at, still_open}
 use Rattle.rs_outlet.specs.Inside.{AreBacked, IsBacked, loc_of, prefix_and_hash, row_at}
 use Rattle.rs_outlet.specs.Marking.{IsPlacedAgain, MayAddRow, MayWaitAgain, WaitsAgain, remarked}
+use Rattle.rs_outlet.proofs.Deduped.{any_deduped}
 use Rattle.rs_outlet.proofs.Orders.{exact_prefixes, prefixes_total}
 use Rattle.rs_outlet.proofs.LocByNumber.{same, same_is, same_itself}
 use Rattle.rs_outlet.proofs.Places.{first_open, later_at, none_behind}
@@ -42,23 +43,8 @@ found_listed q ws (Err i) is within h = absurd (true≢false (sym h))
 
 -- ---- the prefixes that a `dedup` leaves
 
-or_twice : (a b : Bool) → (a || b) ≡ (a || (a || b))
-or_twice true b = refl
-or_twice false b = refl
-
-deduped_from : (E : Wait → Wait → Bool) → ((v w : Wait) → E v w ≡ same v.prefix w.prefix) → (q : Prefix) (k : Wait) (ws : List Wait) → list_any (same q) (prefixes_at (dedup_from E k ws)) ≡ (same q k.prefix || list_any (same q) (prefixes_at ws))
-deduped_from E is q k [] = refl
-deduped_from E is q k (w ∷ ws) =
-    elim (E w k) as (λ b. E w k ≡ b → list_any (same q) (prefixes_at (cond b (dedup_from E k ws) (k ∷ dedup_from E w ws))) ≡ (same q k.prefix || (same q w.prefix || list_any (same q) (prefixes_at ws)))) [
-      | true ↦ λ t.
-          deduped_from E is q k ws ∙ or_twice (same q k.prefix) (list_any (same q) (prefixes_at ws))
-          ∙ ap (λ p. same q k.prefix || (same q p || list_any (same q) (prefixes_at ws))) (sym (same_is w.prefix k.prefix (sym (is w k) ∙ t)))
-      | false ↦ λ f. ap (λ b. same q k.prefix || b) (deduped_from E is q w ws)
-    ] refl
-
 pub deduped : (E : Wait → Wait → Bool) → ((v w : Wait) → E v w ≡ same v.prefix w.prefix) → (q : Prefix) (ws : List Wait) → list_any (same q) (prefixes_at (dedup E ws)) ≡ list_any (same q) (prefixes_at ws)
-deduped E is q [] = refl
-deduped E is q (w ∷ ws) = deduped_from E is q w ws
+deduped E is q ws = any_deduped (λ (w : Wait). w.prefix) E (λ v w t. same_is v.prefix w.prefix (sym (is v w) ∙ t)) (same q) ws
 
 -- ---- what stands at a prefix
 

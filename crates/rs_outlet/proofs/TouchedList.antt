@@ -20,6 +20,7 @@ use Rattle.rs_adjin.specs.declared.adj_ins.AdjIns.{AdjIns}
 use Rattle.rs_adjin.specs.AdjIns.{number_of}
 use Rattle.rs_outlet.specs.Views.{HaveNumbers, Prefixes, with_touch}
 use Rattle.rs_outlet.specs.Touching.{AreOnce, is_numbered_in, prefixes_in, touched_by, touched_of}
+use Rattle.rs_outlet.proofs.Deduped.{any_deduped}
 use Rattle.rs_outlet.proofs.Orders.{exact_prefixes, prefixes_total}
 use Rattle.rs_outlet.proofs.Touches.{contains-from_list, prefix_eq, prefix_eq-cmp, prefix_eq-is, unsigned}
 use Rattle.rs_outlet.proofs.TouchedNumbers.{any_none, any_number, moved_numbers, touched_count}
@@ -150,23 +151,8 @@ unfolding IsStrictlySortedBy IsDistinct
 rising_once [] h = tt
 rising_once (e ∷ es) h = (all_apart e.0 es h.0, rising_once es h.1)
 
-or_twice : (a b : Bool) → (a || b) ≡ (a || (a || b))
-or_twice true b = refl
-or_twice false b = refl
-
-numbered_from : (n : ℕ) (k : Entry) (es : List Entry) → is_numbered_in (dedup_from same_number k es) n ≡ (nat_eq n k.0 || is_numbered_in es n)
-numbered_from n k [] = refl
-numbered_from n k (e ∷ es) =
-    elim (nat_eq e.0 k.0) as (λ b. nat_eq e.0 k.0 ≡ b → is_numbered_in (cond b (dedup_from same_number k es) (k ∷ dedup_from same_number e es)) n ≡ (nat_eq n k.0 || (nat_eq n e.0 || is_numbered_in es n))) [
-      | true ↦ λ t.
-          numbered_from n k es ∙ or_twice (nat_eq n k.0) (is_numbered_in es n)
-          ∙ ap (λ m. nat_eq n k.0 || (nat_eq n m || is_numbered_in es n)) (sym (eqb-true e.0 k.0 t))
-      | false ↦ λ f. ap (λ b. nat_eq n k.0 || b) (numbered_from n e es)
-    ] refl
-
 numbered_once : (n : ℕ) (es : List Entry) → is_numbered_in (dedup same_number es) n ≡ is_numbered_in es n
-numbered_once n [] = refl
-numbered_once n (e ∷ es) = numbered_from n e es
+numbered_once n es = any_deduped (λ (e : Entry). e.0) same_number (λ e f t. eqb-true e.0 f.0 t) (nat_eq n) es
 
 all_from : (P : Entry → Type 0) (k : Entry) (es : List Entry) → P k → AllByRecursion P es → AllByRecursion P (dedup_from same_number k es)
 all_from P k [] is h = (is, tt)

@@ -6,7 +6,7 @@ use Rattle.std.specs.FinSet as set
 use Rattle.rs_octets.specs.Prefixes.{Prefix}
 use Rattle.rs_outlet.specs.declared.rows.Row.{Row}
 use Rattle.rs_outlet.specs.declared.waiting.Wait.{Wait}
-use Rattle.rs_outlet.specs.Views.{View, Table, WaitsAreExact}
+use Rattle.rs_outlet.specs.Views.{Table}
 use Rattle.rs_outlet.specs.Views as views
 use Rattle.rs_outlet.specs.Places.{open_at, told_by, marked_told, is_withdrawal}
 use Rattle.rs_outlet.specs.Inside.{AreBacked, told_over, marked_of, waits_of}

@@ -128,12 +128,12 @@ impl Waits {
         ensures room { OnOk result (count ≤ vec_capacity self.new.places) }
         ensures kept { vec_capacity self.old.places ≤ vec_capacity self.new.places }
     {
-        let more = count.saturating_sub(self.places.len());
-        self.places.reserve(more)?;
+        let more = count.saturating_sub(self.heads.len());
+        self.heads.reserve(more)?;
         let more = count.saturating_sub(self.links.len());
         self.links.reserve(more)?;
-        let more = count.saturating_sub(self.heads.len());
-        self.heads.reserve(more)
+        let more = count.saturating_sub(self.places.len());
+        self.places.reserve(more)
     }
 
     /// The place where a prefix waits.

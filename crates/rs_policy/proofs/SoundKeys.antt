@@ -10,11 +10,9 @@ use Rattle.rs_policy.specs.Keys.{key_text}
 use Rattle.rs_policy.specs.Texts.{number_after, is_decimal, number_to, parted, both, point, slash, colon, octet, address_of, no_zero, endpoint_of, prefix_of, is_name}
 use Rattle.rs_policy.specs.Values.{between, integer_in, hold_seconds, text_as, address, identifier, name_of, keyed, required, optional, required_at, optional_at, maybe_at, list_of, is_table, tables_of, optional_tables, tables_at, some_tables, some_tables_at}
 use Rattle.rs_policy.specs.declared.faults.Key.{Key}
-use Rattle.rs_policy.specs.declared.faults.Key.TheVariants as K
 use Rattle.rs_policy.specs.declared.faults.Place.{Place}
 use Rattle.rs_policy.specs.declared.faults.ConfigFault.{ConfigFault}
 use Rattle.rs_policy.specs.declared.faults.ConfigFault.TheVariants.{BadValue, TooMany}
-use Rattle.rs_policy.specs.declared.rules.Disposition.TheVariants as D
 use Rattle.rs_policy.specs.declared.rules.Action.TheVariants as A
 
 -- ---- what is at a key

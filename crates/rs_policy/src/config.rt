@@ -50,7 +50,11 @@ impl Model for Config {
 }
 
 impl Config {
-    /// Reads a configuration in TOML, or answers its first fault.
+    /// Reads a configuration in TOML.
+    ///
+    /// # Errors
+    ///
+    /// Its first fault, or `OutOfMemory`.
     #[tactic(auto, unfolding(crate::specs::Documents::config_of))]
     pub fn read(alloc: Global, text: &str) -> Result<Config, ConfigFault>
         ensures { Answers result (config_of text.now) }
@@ -92,7 +96,7 @@ impl Config {
         self.top.identifier
     }
 
-    /// The server's Hold Time in seconds.
+    /// The server's Hold Time in seconds: 0 for none, or at least 3.
     pub fn hold(&self) -> u16
         ensures { result ≡ self.now.top.hold }
     {
@@ -128,7 +132,7 @@ impl Config {
         self.clients.len()
     }
 
-    /// The client with this name.
+    /// The place of the client with this name, from 0; None where there is none.
     pub fn place(&self, name: &str) -> Option<usize>
         ensures named { result ≡ client_named self.now.clients name.now }
         ensures within { IfSome result (λ c. c < length self.now.clients) }
@@ -154,7 +158,7 @@ impl Config {
         client.client_as
     }
 
-    /// The address and the port at which the server listens for a client.
+    /// The address, as a number, and the port at which the server listens for a client.
     pub fn listen(&self, c: usize) -> (u32, u16)
         requires { c < length self.now.clients }
         ensures { result ≡ (client_of self.now c).listen }
@@ -163,7 +167,7 @@ impl Config {
         client.listen
     }
 
-    /// The address that a client connects from.
+    /// The address, as a number, that a client connects from.
     pub fn peer(&self, c: usize) -> u32
         requires { c < length self.now.clients }
         ensures { result ≡ (client_of self.now c).peer }
@@ -172,7 +176,7 @@ impl Config {
         client.peer
     }
 
-    /// How many prefixes a client may have announced at once.
+    /// How many prefixes a client may have announced at once; None where there is no limit.
     pub fn limit(&self, c: usize) -> Option<u32>
         requires { c < length self.now.clients }
         ensures { result ≡ (client_of self.now c).limit }

@@ -90,7 +90,8 @@ pub enum List {
     Export,
 }
 
-/// A place in a configuration. Clients and rules are counted from 1.
+/// A place in a configuration: at its top, in the table of a client, or in one of its rules. Clients
+/// and rules are counted from 1.
 #[derive(Clone, Copy, Debug, PartialEq, Eq)]
 pub struct Place {
     pub client: Option<usize>,
@@ -112,6 +113,7 @@ pub enum ConfigFault {
     Twice(usize),
     /// An array is too long.
     TooMany(Place),
+    /// Memory was refused.
     OutOfMemory,
 }
 

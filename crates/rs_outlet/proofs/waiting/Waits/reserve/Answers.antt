@@ -9,50 +9,34 @@ use Rattle.rs_outlet.specs.Places.{is_announced, is_withdrawn, open_count, prefi
 use Rattle.rs_outlet.proofs.Links.{same_linked}
 use Rattle.rs_outlet.proofs.waiting.Waits.reserve.Goals as goal
 
-pub invariant_of-self : goal.invariant_of-self
-invariant_of-self c =
-    let old = c.args.self.now in
-    let same : c.reserve.new.self.items ≡ old.places.items = c.reserve.ensures.items in
-    record {
-      counted = ap open_count same ∙ old.counted;
-      withdrawn = subst (λ (ws : List Wait). AllWithin (λ (w : Wait). is_withdrawn w ≡ false) ws 0 old.gone) (sym same) old.withdrawn;
-      announced = subst (λ (ws : List Wait). AllWithin (λ (w : Wait). is_announced w ≡ false) ws 0 old.news) (sym same) old.announced;
-      chains = same_linked old.places.items c.reserve.new.self.items old.links.items old.links.items same refl old.chains;
-      within = omega (arith, old.within, ap length same, old.places.ok, c.reserve.new.self.ok);
-      first = subst (λ (ws : List Wait). IsStrictlySortedBy prefix_order (take old.sorted (prefixes_at ws))) (sym same) old.first;
-      late = subst (λ (ws : List Wait). IsStrictlySortedBy prefix_order (drop old.sorted (prefixes_at ws))) (sym same) old.late;
-      apart = subst (λ (ws : List Wait). IsDistinct (eq_by_cmp prefix_order) (prefixes_at ws)) (sym same) old.apart;
-      one_run = λ ready. omega (arith, old.one_run ready, ap length same, old.places.ok, c.reserve.new.self.ok);
-    }
-
 pub invariant_of-self-in-Break-branch-2 : goal.invariant_of-self-in-Break-branch-2
 invariant_of-self-in-Break-branch-2 c =
     let old = c.args.self.now in
-    let same : c.reserve.new.self.items ≡ old.places.items = c.reserve.ensures.items in
     record {
-      counted = ap open_count same ∙ old.counted;
-      withdrawn = subst (λ (ws : List Wait). AllWithin (λ (w : Wait). is_withdrawn w ≡ false) ws 0 old.gone) (sym same) old.withdrawn;
-      announced = subst (λ (ws : List Wait). AllWithin (λ (w : Wait). is_announced w ≡ false) ws 0 old.news) (sym same) old.announced;
-      chains = same_linked old.places.items c.reserve.new.self.items old.links.items c.reserve-2.new.self.items same c.reserve-2.ensures.items old.chains;
-      within = omega (arith, old.within, ap length same, old.places.ok, c.reserve.new.self.ok);
-      first = subst (λ (ws : List Wait). IsStrictlySortedBy prefix_order (take old.sorted (prefixes_at ws))) (sym same) old.first;
-      late = subst (λ (ws : List Wait). IsStrictlySortedBy prefix_order (drop old.sorted (prefixes_at ws))) (sym same) old.late;
-      apart = subst (λ (ws : List Wait). IsDistinct (eq_by_cmp prefix_order) (prefixes_at ws)) (sym same) old.apart;
-      one_run = λ ready. omega (arith, old.one_run ready, ap length same, old.places.ok, c.reserve.new.self.ok);
+      counted = old.counted;
+      withdrawn = old.withdrawn;
+      announced = old.announced;
+      chains = same_linked old.places.items old.places.items old.links.items c.reserve-2.new.self.items refl c.reserve-2.ensures.items old.chains;
+      within = old.within;
+      first = old.first;
+      late = old.late;
+      apart = old.apart;
+      one_run = old.one_run;
     }
 
 pub invariant_of-self-2 : goal.invariant_of-self-2
 invariant_of-self-2 c =
     let old = c.args.self.now in
-    let same : c.reserve.new.self.items ≡ old.places.items = c.reserve.ensures.items in
+    let places = c.reserve-3.new.self in
+    let same : places.items ≡ old.places.items = c.reserve-3.ensures.items in
     record {
       counted = ap open_count same ∙ old.counted;
       withdrawn = subst (λ (ws : List Wait). AllWithin (λ (w : Wait). is_withdrawn w ≡ false) ws 0 old.gone) (sym same) old.withdrawn;
       announced = subst (λ (ws : List Wait). AllWithin (λ (w : Wait). is_announced w ≡ false) ws 0 old.news) (sym same) old.announced;
-      chains = same_linked old.places.items c.reserve.new.self.items old.links.items c.reserve-2.new.self.items same c.reserve-2.ensures.items old.chains;
-      within = omega (arith, old.within, ap length same, old.places.ok, c.reserve.new.self.ok);
+      chains = same_linked old.places.items places.items old.links.items c.reserve-2.new.self.items same c.reserve-2.ensures.items old.chains;
+      within = omega (arith, old.within, ap length same, old.places.ok, places.ok);
       first = subst (λ (ws : List Wait). IsStrictlySortedBy prefix_order (take old.sorted (prefixes_at ws))) (sym same) old.first;
       late = subst (λ (ws : List Wait). IsStrictlySortedBy prefix_order (drop old.sorted (prefixes_at ws))) (sym same) old.late;
       apart = subst (λ (ws : List Wait). IsDistinct (eq_by_cmp prefix_order) (prefixes_at ws)) (sym same) old.apart;
-      one_run = λ ready. omega (arith, old.one_run ready, ap length same, old.places.ok, c.reserve.new.self.ok);
+      one_run = λ ready. omega (arith, old.one_run ready, ap length same, old.places.ok, places.ok);
     }
