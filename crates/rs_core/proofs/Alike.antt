@@ -5,15 +5,10 @@ use Rattle.std.specs.FinMap as fin
 use Rattle.std.specs.FinSet as set
 use Rattle.rs_octets.specs.Prefixes.{Prefix, prefix_order}
 use Rattle.rs_attrs.specs.Meaning.{Attribute}
-use Rattle.rs_session.specs.declared.act.Act.TheVariants as acts
-use Rattle.rs_session.specs.declared.act.State.TheVariants as states
 use Rattle.rs_open.specs.declared.short.Short.{Short}
-use Rattle.rs_open.specs.declared.short.Short.TheVariants as short
 use Rattle.rs_outlet.specs.declared.answers.Speech.{Speech}
-use Rattle.rs_octets.specs.declared.heads.Kind.TheVariants as kinds
 use Rattle.rs_open.specs.Writing.{server_open}
 use Rattle.rs_open.specs.declared.writing.ServerOpen.{ServerOpen}
-use Rattle.rs_open.specs.declared.short.Limit.TheVariants as limits
 use Rattle.rs_outlet.specs.declared.answers.Last.{Last}
 use Rattle.rs_outlet.specs.Views.{View, waits_at, bare, cleared, finished, begun, touched_at}
 use Rattle.rs_adjin.specs.declared.adj_ins.AdjIns.{AdjIns}

@@ -3,22 +3,17 @@ use Rattle.std.proofs.Common.{◌≡◌, inl, inr, ℕ, Bool, true, false, List,
 use Rattle.std.proofs.lemmas.List.{append-nil, take-append-drop}
 use Rattle.std.specs.Prelude.{Option, Some, None, if◌then◌else◌}
 use Rattle.std.specs.FinMap as fin
-use Rattle.std.specs.FinSet as set
 use Rattle.rs_octets.specs.Prefixes.{Prefix}
 use Rattle.rs_attrs.specs.declared.mode.Mode.{Mode}
 use Rattle.rs_attrs.specs.Meaning.{Attribute}
-use Rattle.rs_session.specs.declared.act.Act.TheVariants as acts
-use Rattle.rs_session.specs.declared.act.State.TheVariants as states
 use Rattle.rs_session.specs.Sessions.{state_of, is_live, agreed_of}
 use Rattle.rs_open.specs.declared.short.Short.{Short}
-use Rattle.rs_open.specs.declared.short.Short.TheVariants as short
 use Rattle.rs_policy.specs.Configuration.{Configuration}
 use Rattle.rs_outlet.specs.declared.answers.Speech.{Speech}
 use Rattle.rs_octets.specs.declared.heads.Kind.TheVariants as kinds
 use Rattle.rs_attrs.specs.Effects.{lacks_mandatory}
 use Rattle.rs_open.specs.Notes.{limit_octets}
 use Rattle.rs_open.specs.Writing.{keepalive}
-use Rattle.rs_open.specs.declared.short.Limit.TheVariants as limits
 use Rattle.rs_octets.proofs.GoodHeaders.{written_is_message}
 use Rattle.rs_packer.specs.Packed.{announcement, withdrawal}
 use Rattle.rs_outlet.specs.Begins.{BeginsUpdate}

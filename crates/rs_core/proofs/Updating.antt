@@ -13,7 +13,6 @@ use Rattle.rs_session.specs.declared.heard.Heard.TheVariants as heard
 use Rattle.rs_session.specs.declared.heard.Heard.{Heard}
 use Rattle.rs_session.specs.declared.act.Act.{Act}
 use Rattle.rs_session.specs.declared.act.Act.TheVariants as acts
-use Rattle.rs_session.specs.declared.act.State.TheVariants as states
 use Rattle.rs_session.proofs.Updates.{updates_are_taken}
 use Rattle.rs_session.specs.declared.session.Session.{Session}
 use Rattle.rs_session.specs.Items.{Message}
