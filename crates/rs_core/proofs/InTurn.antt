@@ -11,7 +11,6 @@ use Rattle.rs_octets.specs.Headers.{header_of}
 use Rattle.rs_octets.proofs.Cut.{pieces_join}
 use Rattle.rs_attrs.specs.declared.mode.Mode.{Mode}
 use Rattle.rs_attrs.specs.Effects.{Change, Changes, HasEffect, attributes_after, mentions}
-use Rattle.rs_session.specs.declared.act.State.TheVariants as states
 use Rattle.rs_session.specs.Sessions.{agreed_of}
 use Rattle.rs_session.proofs.Lasting.{brings_up}
 use Rattle.rs_policy.specs.Configuration.{Configuration}

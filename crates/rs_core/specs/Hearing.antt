@@ -8,6 +8,8 @@ use Rattle.rs_octets.specs.declared.heads.Head.{Head}
 use Rattle.rs_octets.specs.declared.heads.HeaderFault.{HeaderFault}
 use Rattle.rs_octets.specs.Headers.{header_of}
 use Rattle.rs_octets.specs.Messages.{body_of, newly_heard}
+use Rattle.rs_octets.specs.declared.notification.Notification.TheVariants as names
+use Rattle.rs_octets.specs.Names.{codes_named}
 use Rattle.rs_octets.specs.Prefixes.{Prefix}
 use Rattle.rs_attrs.specs.declared.mode.Mode.{Mode}
 use Rattle.rs_attrs.specs.Meaning.{Attribute}
@@ -131,7 +133,7 @@ held_by changes = filter (λ p. is_some (table_since changes p)) (once (flat_map
 -- Cease, Maximum Number of Prefixes Reached (RFC 4486, 4), where more prefixes are held than the limit allows
 abbrev pub reset_beyond : Option ℕ → List Change → Option (ℕ × ℕ)
 reset_beyond None changes = None
-reset_beyond (Some limit) changes = if nat_lt limit (length (held_by changes)) then Some (6, 1) else None
+reset_beyond (Some limit) changes = if nat_lt limit (length (held_by changes)) then Some (codes_named names.MaximumPrefixesReached) else None
 
 abbrev pub effect_said : Option ℕ → List Change → Faulted → Effect → Said
 effect_said limit changes faulted (Reset code sub) = without_change (heard.Update (Some (code, sub)))

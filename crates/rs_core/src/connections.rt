@@ -119,8 +119,7 @@ impl Core {
         self.forget(c);
     }
 
-    /// Forgets a client's session, of which all may be in disorder but what is kept for those who
-    /// watch.
+    /// Forgets a client's session, of which all may be in disorder but what is kept for the operator.
     pub(crate) fn forget(&mut self, c: usize)
         requires { c < client_count self.old }
         ensures spares { Spares c self.old self.new }

@@ -4,11 +4,12 @@ use Rattle.std.specs.Prelude.{Result, Ok, Err, OnOk, is_ok}
 use Rattle.std.proofs.lemmas.List.{append-nil, take-append-drop}
 use Rattle.rs_replay.specs.declared.fault.ReplayFault.TheVariants.{Line, Memory, Reading, Writing}
 use Rattle.rs_replay.specs.declared.fault.Stop.{Stop}
+use Rattle.rs_replay.specs.declared.names.Names.{Names}
 use Rattle.rs_replay.specs.declared.fault.Stop.TheVariants.{End, Table, Fault}
 use Rattle.rs_replay.specs.Lines as lines
 use Rattle.rs_replay.specs.Trace.{Saying, Listed}
 use Rattle.rs_replay.specs.Played.{SaysFirst, Stands, PutsFront, Puts, failed, failures_read, failures_written, GoesOn}
-use Rattle.rs_replay.specs.Replays.{Plays, TellsAs, FailsOn, ReadsOn}
+use Rattle.rs_replay.specs.Replays.{Adds, Plays, TellsAs, FailsOn, ReadsOn, place_in}
 use Rattle.rs_replay.proofs.ReplayLemmas.{says_first_now, says_all, says_less}
 
 module _ (put : List ℕ → Type 0) (octets : List ℕ) where
@@ -132,6 +133,29 @@ pub stands_after : (place : List ℕ → Option ℕ) (text : List ℕ) (over : T
 stands_after place text over s n r stop after (inl e) h = subst (λ x. Stands place text over s n r x) (sym e) h
 stands_after place text over s n r stop after (inr (inl e)) h = subst (λ x. Stands place text over s n r x) (sym e.1) (stands_first place text over s n r stop h)
 stands_after place text over s n r stop after (inr (inr e)) h = subst (λ x. Stands place text over s n r x) (sym e.1) (stands_first place text over s n r stop h)
+
+-- a line of output is written that no step asks for
+pub adds_line : {R W G : Type 0} (takes : R → List ℕ → R → Type 0) (at_end : R → Type 0) (fails : R → ℕ) (puts : W → List ℕ → W → Type 0) (loses : W → ℕ)
+    (names : Names) (reads writes : G) (reader : R) (writer written : W) (r : lines.Reading) (n : ℕ) (stop after : Option Stop) (line : List ℕ)
+    → ((to : W) (octets : List ℕ) → Puts (λ xs. puts to xs writer) octets stop → Puts (λ xs. puts to xs written) (octets ++ line) after)
+    → FailsOn stop after
+    → ((k : ℕ) → failures_read after k ≡ failures_read stop k)
+    → ((k : ℕ) → loses writer ≡ failures_written stop k → loses written ≡ failures_written after k)
+    → Adds takes at_end fails puts loses names reads writes reader writer r n stop line names reads writes reader written r n after
+adds_line takes at_end fails puts loses names reads writes reader writer written r n stop after line put on read lost =
+    record {
+      same_names = refl;
+      same_reader = refl;
+      same_writer = refl;
+      goes = λ first to s o p. record {
+        text = p.text;
+        taken = p.taken;
+        stands = stands_after (place_in names) p.text (at_end reader) s n r stop after on p.stands;
+        put = put to o p.put;
+        reads = p.reads ∙ sym (read (fails first));
+        writes = lost (loses to) p.writes;
+      };
+    }
 
 -- nothing is read
 pub reads_nothing : {R : Type 0} (takes : R → List ℕ → R → Type 0) (at_end : R → Type 0) (place : List ℕ → Option ℕ) (reader : R) (n : ℕ) (r : lines.Reading) → takes reader [] reader → ReadsOn takes at_end place reader n r reader n r [] None

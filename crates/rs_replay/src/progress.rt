@@ -1,5 +1,5 @@
-//! What who started a long replay sees of it: how many lines were read, and how many UPDATEs were
-//! heard. It is told of each line that was read, and has no part in what is read and written.
+//! What is told of a long replay while it runs: how many lines were read, and how many UPDATEs were
+//! heard. It sees each line that was read, and has no part in what is read and written.
 
 ghost use Rattle.std.specs.Prelude.{◌≡◌, ◌≢◌, ◌≤◌, ◌↔◌, ◌+◌, ◌⊎◌, Some, IsTrue};
 

@@ -1,4 +1,4 @@
-use Rattle.std.proofs.Common.{◌<◌, length, sym, subst}
+use Rattle.std.proofs.Common.{◌<◌, sym, subst}
 use Rattle.rs_workers.specs.Turned.{TurnedAlone}
 use Rattle.rs_workers.proofs.Placing.{walked_on}
 use Rattle.rs_workers.proofs.turning.turn_run.Goals as goal
