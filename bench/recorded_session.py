@@ -45,19 +45,25 @@ def pieces(number, identifier, first, routes):
     yield piece
 
 
+def configuration(folder, members):
+    """Writes FOLDER/full.toml with so many members; answers their names."""
+    names = [f"m{k}" for k in range(members)]
+    with open(folder / "full.toml", "w") as config:
+        config.write('as = 64500\nidentifier = "192.0.2.1"\nhold = 90\n')
+        for k, name in enumerate(names):
+            config.write(
+                f'\n[[client]]\nname = "{name}"\nas = {64501 + k}\nlisten = "127.0.0.1:{17901 + k}"\npeer = "192.0.2.{11 + k}"\n'
+            )
+    return names
+
+
 def main():
     parser = argparse.ArgumentParser()
     parser.add_argument("folder", type=pathlib.Path)
     parser.add_argument("--members", type=int, default=10)
     parser.add_argument("--routes", type=int, default=100000)
     options = parser.parse_args()
-    names = [f"m{k}" for k in range(options.members)]
-    with open(options.folder / "full.toml", "w") as config:
-        config.write('as = 64500\nidentifier = "192.0.2.1"\nhold = 90\n')
-        for k, name in enumerate(names):
-            config.write(
-                f'\n[[client]]\nname = "{name}"\nas = {64501 + k}\nlisten = "127.0.0.1:{17901 + k}"\npeer = "192.0.2.{11 + k}"\n'
-            )
+    names = configuration(options.folder, options.members)
     keepalive = message(4, b"")
     with open(options.folder / "full.trace", "w") as trace:
         feeds = []
