@@ -63,6 +63,7 @@ impl AdjIns {
         })
     }
 
+    /// How many clients there are.
     pub fn clients(&self) -> usize
         ensures { result ≡ client_count self.now }
     {
@@ -87,8 +88,11 @@ impl AdjIns {
         self.identifiers[client] = identifier;
     }
 
-    /// The client announces a route, and the answer says whether that changes what it has. Where
-    /// memory is refused, nothing has changed.
+    /// The client announces a route, and the answer says whether that changes what it has.
+    ///
+    /// # Errors
+    ///
+    /// `AllocError` where memory was refused: then no route has changed.
     pub fn put(
         &mut self,
         client: usize,
@@ -108,6 +112,10 @@ impl AdjIns {
     }
 
     /// The number of a prefix, which gets one if it has none.
+    ///
+    /// # Errors
+    ///
+    /// `AllocError` where memory was refused, or where no number of 32 bits is left.
     pub fn add(&mut self, prefix: Prefix) -> Result<u32, AllocError>
         ensures number { IfOk result (λ n. number_of self.new prefix ≡ Some n) }
         ensures prefix { IfOk result (λ n. prefix_of self.new n ≡ Some prefix) }
@@ -214,7 +222,7 @@ impl AdjIns {
         Holders::new(self.routes(prefix))
     }
 
-    /// The attributes that the client announced for a prefix.
+    /// The attributes that the client announced for a prefix; None where it holds none.
     pub fn route(&self, client: usize, prefix: Prefix) -> Option<&Arc<Attrs>>
         ensures { option_map (λ attrs. arc_value attrs.now) result ≡ held_of self.now client prefix }
     {
@@ -247,7 +255,7 @@ impl AdjIns {
         self.table.prefix(number)
     }
 
-    /// One more than the greatest number that there was.
+    /// A number above each that a prefix has.
     pub fn numbers(&self) -> usize
         ensures { (p : Prefix) (n : ℕ) → number_of self.now p ≡ Some n → n < result }
     {

@@ -13,6 +13,7 @@ use std::sync::Arc;
 /// A client that holds a prefix, with the attributes that it announced.
 #[derive(Clone, Copy, Debug)]
 pub struct Holder<'a> {
+    /// Its place, from 0.
     pub client: usize,
     pub attrs: &'a Arc<Attrs>,
 }
