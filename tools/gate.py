@@ -87,8 +87,16 @@ def watch(gate, over, tasks, seconds):
         look(gate, tasks, seconds)
 
 
+def lanes():
+    """How many crates are tried side by side: one for each processor, as many as memory holds. A check split into
+    jobs reads its libraries for each of them, so `RT_JOBS` gives each check one."""
+    memory = int(re.search(r"MemAvailable:\s+(\d+)", pathlib.Path("/proc/meminfo").read_text())[1])
+    return max(1, min(len(os.sched_getaffinity(0)), memory // (6 << 20)))
+
+
 def run_gate():
     """Runs `rt ci`; answers its counts, and the processor seconds of each crate and kind."""
+    os.environ.setdefault("RT_JOBS", str(lanes()))
     tasks, seconds, over = {}, {}, threading.Event()
     line = ""
     with subprocess.Popen(["rt", "ci"], cwd=TOP, stdout=subprocess.PIPE, stderr=subprocess.STDOUT, text=True) as gate:
