@@ -6,7 +6,7 @@ ghost use Rattle.rs_core.specs.Steps.{HaveHeardNothing};
 use crate::endings::Watched;
 use crate::ribs::Ribs;
 use crate::route_server::Core;
-use rs_octets::{LONGEST_EXTENDED_MESSAGE, LONGEST_MESSAGE};
+use rs_octets::longest_message;
 use rs_policy::Config;
 use rs_session::{Session, Settings};
 use std::alloc::{AllocError, Global};
@@ -31,11 +31,7 @@ fn sessions(alloc: Global, config: &Config) -> Result<Vec<Session>, AllocError>
 fn buffers(alloc: Global, config: &Config) -> Result<Vec<Vec<u8>>, AllocError>
     ensures { IfOk result (λ v. length v.items ≡ length config.now.clients) }
 {
-    let longest = usize::from(if config.extended() {
-        LONGEST_EXTENDED_MESSAGE
-    } else {
-        LONGEST_MESSAGE
-    });
+    let longest = usize::from(longest_message(config.extended()));
     let mut all = Vec::with_capacity(alloc, config.clients())?;
     for _c in 0..config.clients() {
         all.push(Vec::with_capacity(alloc, longest)?)?;

@@ -2,7 +2,7 @@
 use Rattle.std.specs.Prelude.{ℕ, ◌==◌, ◌≤◌, ◌++◌, List, [], ◌∷◌, take, replicate, Option, Some, None, Result, Ok, Err, if◌then◌else◌, slice_index}
 use Rattle.std.specs.List.{list_all}
 use Rattle.std.specs.Int.{w16, from_be_bytes, to_be_bytes, is_in_range}
-use Rattle.rs_octets.specs.Numbers.{longest_message, longest_extended_message}
+use Rattle.rs_octets.specs.Numbers.{longest_message, longest_where}
 use Rattle.rs_octets.specs.declared.heads.Allowed.{Allowed}
 use Rattle.rs_octets.specs.declared.heads.Kind.TheVariants.{Open, Update, Note, Keepalive, Refresh}
 use Rattle.rs_octets.specs.declared.heads.Kind.{Kind}
@@ -12,7 +12,7 @@ use Rattle.rs_octets.specs.declared.heads.HeaderFault.TheVariants as faults
 
 -- the greatest length of any message
 abbrev pub longest : Allowed → ℕ
-longest allowed = if allowed.long then longest_extended_message else longest_message
+longest allowed = longest_where allowed.long
 
 -- the number of a type (RFC 4271, 4.1; RFC 2918, 3)
 abbrev pub type_number : Kind → ℕ

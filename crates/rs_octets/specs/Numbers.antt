@@ -1,5 +1,5 @@
 -- Numbers of the protocol that several crates need.
-use Rattle.std.specs.Prelude.{ℕ}
+use Rattle.std.specs.Prelude.{ℕ, Bool, if◌then◌else◌}
 
 -- the AS number that stands for one that two octets can't hold (RFC 6793, 9)
 abbrev pub as_trans : ℕ
@@ -12,3 +12,7 @@ longest_message = 4096
 -- the octets of the longest message where longer ones are taken (RFC 8654, 4)
 abbrev pub longest_extended_message : ℕ
 longest_extended_message = 65535
+
+-- the octets of the longest message, where longer ones are taken or not
+abbrev pub longest_where : Bool → ℕ
+longest_where extended = if extended then longest_extended_message else longest_message

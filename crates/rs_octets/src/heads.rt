@@ -3,10 +3,10 @@
 ghost use Rattle.std.specs.Prelude.{◌≡◌, ◌==◌, ◌≤◌, length, IfOk};
 ghost use Rattle.std.specs.List.{list_all};
 ghost use Rattle.std.specs.Int.{is_in_range};
-ghost use Rattle.rs_octets.specs.Headers.{longest, type_number, kind_numbered, least_length, greatest_length, HasLengthOfType, header_of, header_octets};
+ghost use Rattle.rs_octets.specs.Headers.{type_number, kind_numbered, least_length, greatest_length, HasLengthOfType, header_of, header_octets};
 ghost use Rattle.rs_octets.specs.Writes.{Writes};
 
-use crate::numbers::{LONGEST_EXTENDED_MESSAGE, LONGEST_MESSAGE};
+use crate::numbers::{LONGEST_MESSAGE, longest_message};
 use crate::writes::put;
 use byteorder::{BigEndian, ByteOrder};
 use thiserror::Error;
@@ -56,17 +56,6 @@ pub enum HeaderFault {
     Kind(u8),
 }
 
-/// The greatest length of a message.
-fn longest_message(allowed: Allowed) -> u16
-    ensures { result ≡ longest allowed }
-{
-    if allowed.long {
-        LONGEST_EXTENDED_MESSAGE
-    } else {
-        LONGEST_MESSAGE
-    }
-}
-
 impl Kind {
     /// The number of the type.
     pub fn number(self) -> u8
@@ -114,7 +103,7 @@ impl Kind {
     {
         match self {
             Kind::Open => LONGEST_MESSAGE,
-            Kind::Update | Kind::Note => longest_message(allowed),
+            Kind::Update | Kind::Note => longest_message(allowed.long),
             Kind::Keepalive | Kind::Refresh => self.least_length(),
         }
     }
@@ -142,7 +131,7 @@ pub fn header(octets: &[u8; 19], allowed: Allowed) -> Result<Head, HeaderFault>
         return Err(HeaderFault::Marker);
     }
     let length = BigEndian::read_u16(&octets[16..18]);
-    if !is_within(19, longest_message(allowed), length) {
+    if !is_within(19, longest_message(allowed.long), length) {
         return Err(HeaderFault::Length(length));
     }
     let number = octets[18];

@@ -29,6 +29,6 @@ pub use fronts::{Front, read_front};
 pub use heads::{Allowed, Head, HeaderFault, Kind, header, put_header};
 pub use hold_times::is_refused_hold;
 pub use notification::Notification;
-pub use numbers::{AS_TRANS, LONGEST_EXTENDED_MESSAGE, LONGEST_MESSAGE};
+pub use numbers::{AS_TRANS, longest_message};
 pub use prefix::{FieldFault, Prefix, PrefixIter, put_prefix, read_prefixes};
 pub use writes::put;

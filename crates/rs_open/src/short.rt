@@ -5,7 +5,7 @@ ghost use Rattle.rs_octets.specs.declared.notification.Notification.{Notificatio
 ghost use Rattle.rs_open.specs.Notes.{note_of, IsNameOf, limit_octets};
 ghost use Rattle.rs_open.specs.Notes as notes;
 
-use rs_octets::{LONGEST_EXTENDED_MESSAGE, LONGEST_MESSAGE, Notification};
+use rs_octets::{Notification, longest_message};
 
 /// A message that a session says: any but an UPDATE.
 #[derive(Clone, Copy, Debug, PartialEq, Eq)]
@@ -94,8 +94,8 @@ impl Limit {
         ensures { result ≡ limit_octets self }
     {
         match self {
-            Limit::Short => usize::from(LONGEST_MESSAGE),
-            Limit::Long => usize::from(LONGEST_EXTENDED_MESSAGE),
+            Limit::Short => usize::from(longest_message(false)),
+            Limit::Long => usize::from(longest_message(true)),
         }
     }
 }

@@ -6,7 +6,7 @@ use Rattle.std.specs.Vec.{vec_capacity}
 use Rattle.std.specs.Arc.{arc_value}
 use Rattle.std.specs.FinMap as fin
 use Rattle.std.specs.FinSet as set
-use Rattle.rs_octets.specs.Numbers.{longest_message, longest_extended_message}
+use Rattle.rs_octets.specs.Numbers.{longest_where}
 use Rattle.rs_octets.specs.Prefixes.{Prefix, prefix_order}
 use Rattle.rs_attrs.specs.Meaning.{Attribute}
 use Rattle.rs_open.specs.declared.short.Limit.TheVariants as limits
@@ -185,18 +185,14 @@ view_of a = record {
   last = a.last;
 }
 
-abbrev pub room_of : Bool → ℕ
-room_of false = longest_message
-room_of true = longest_extended_message
-
 -- the most prefixes that one message holds, each of one octet, behind the header and two lengths
 abbrev pub batch_of : Bool → ℕ
-batch_of extended = room_of extended - 23
+batch_of extended = longest_where extended - 23
 
 pub record IsKept (a : Inside) : Type 0 where
-  pub octets : vec_len a.octets ≡ room_of a.extended
+  pub octets : vec_len a.octets ≡ longest_where a.extended
   pub started : a.start ≤ a.end
-  pub ended : a.end ≤ room_of a.extended
+  pub ended : a.end ≤ longest_where a.extended
   pub front : batch_of a.extended ≤ vec_capacity a.front
   pub chosen : batch_of a.extended ≤ vec_capacity a.chosen
   pub places : a.rows.used + withdrawn_count a.waits.places.items ≤ vec_capacity a.waits.places

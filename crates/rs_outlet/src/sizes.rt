@@ -1,20 +1,17 @@
 //! How much room a message has.
 
 ghost use Rattle.std.specs.Prelude.{◌≡◌, ◌≤◌};
-ghost use Rattle.rs_outlet.specs.Inside.{room_of, batch_of};
+ghost use Rattle.rs_octets.specs.Numbers.{longest_where};
+ghost use Rattle.rs_outlet.specs.Inside.{batch_of};
 
-use rs_octets::{LONGEST_EXTENDED_MESSAGE, LONGEST_MESSAGE};
+use rs_octets::longest_message;
 
 /// The octets of the longest message.
 pub(crate) fn room(extended: bool) -> usize
-    ensures value { result ≡ room_of extended }
+    ensures value { result ≡ longest_where extended }
     ensures most { result ≤ 65535 }
 {
-    usize::from(if extended {
-        LONGEST_EXTENDED_MESSAGE
-    } else {
-        LONGEST_MESSAGE
-    })
+    usize::from(longest_message(extended))
 }
 
 /// The octets of an UPDATE without prefixes and attributes: its header and two lengths.

@@ -9,7 +9,7 @@ mod refused;
 mod told;
 
 use crate::{Last, Outlet, Turned};
-use rs_adjin::{AdjIns, has_mandatory};
+use rs_adjin::AdjIns;
 use rs_attrs::{Attrs, Mode, read};
 use rs_octets::Prefix;
 use rs_open::Limit;
@@ -53,7 +53,7 @@ fn tables(alloc: Global, config: &Config, count: u32) -> Result<AdjIns, AllocErr
     for n in 0..count {
         if let Some(prefix) = prefix(n) {
             let set = &sets[n as usize % 2];
-            if SENDER < made.clients() && has_mandatory(set) {
+            if SENDER < made.clients() && set.has_mandatory() {
                 made.put(SENDER, prefix, set)?;
             }
         }

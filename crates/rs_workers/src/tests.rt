@@ -6,7 +6,7 @@ ghost use Rattle.rs_workers.specs.Turned.{ArePlaced};
 
 use crate::gate::{Free, Gate};
 use crate::turning::{turn_all, turn_run};
-use rs_adjin::{AdjIns, has_mandatory};
+use rs_adjin::AdjIns;
 use rs_attrs::{Attrs, Mode, read};
 use rs_octets::Prefix;
 use rs_open::Limit;
@@ -87,7 +87,7 @@ fn tables(alloc: Global, config: &Config, prefixes: u32) -> Result<AdjIns, Alloc
         let from = n as usize % config.clients().max(1);
         if let Some(prefix) = Prefix::new(0x0a00_0000 | (n & 0xffff) << 8, 24) {
             let set = &sets[n as usize / 100 % 3];
-            if from < made.clients() && has_mandatory(set) {
+            if from < made.clients() && set.has_mandatory() {
                 made.put(from, prefix, set)?;
             }
         }

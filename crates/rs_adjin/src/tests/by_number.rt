@@ -40,7 +40,7 @@ fn put_at(
     let Some(prefix) = prefix(of) else {
         return Ok(None);
     };
-    if client >= ins.clients() || !has_mandatory(attrs) {
+    if client >= ins.clients() || !attrs.has_mandatory() {
         return Ok(None);
     }
     let number = ins.add(prefix)?;

@@ -6,7 +6,7 @@ ghost use Rattle.rs_adjin.specs.AdjIns.{client_count};
 
 use super::{CLIENT, SENDER, attrs, drain, exchange, prefix, tables, touch};
 use crate::{Outlet, Turned};
-use rs_adjin::{AdjIns, has_mandatory};
+use rs_adjin::AdjIns;
 use rs_attrs::{Mode, read};
 use rs_octets::Prefix;
 use rs_open::Limit;
@@ -66,7 +66,7 @@ fn hear(
         tables.begin(member, identifier);
     }
     if let Some(prefix) = announced() {
-        if member < tables.clients() && has_mandatory(&set) {
+        if member < tables.clients() && set.has_mandatory() {
             tables.put(member, prefix, &set)?;
         }
     }
@@ -254,7 +254,7 @@ fn change(alloc: Global, tables: &mut AdjIns, first: u32) -> Result<(), AllocErr
     let set = attrs(alloc, 13)?;
     for n in first..first.saturating_add(1_000) {
         if let Some(prefix) = prefix(n) {
-            if SENDER < tables.clients() && has_mandatory(&set) {
+            if SENDER < tables.clients() && set.has_mandatory() {
                 tables.put(SENDER, prefix, &set)?;
             }
         }
