@@ -12,3 +12,6 @@ pub mod replay;
 pub mod serve;
 
 pub use asked::Asked;
+
+#[cfg(test)]
+mod tests;
