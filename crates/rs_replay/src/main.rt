@@ -3,12 +3,10 @@
 //! A trace comes in by `text` and `lines`; `words`, `number` and `trace` say what each of its lines
 //! means; `entries` reads one after the other, `recording` hands that to the core as a link, and
 //! `replay` lets the core run, to the end or to a `fault`; `tables` lists a client's Loc-RIB, and
-//! `output` says what lines go out, with clients by their `names`. `command` and `settings` read the
-//! words of the command line and the file that they name, and `progress` tells on a terminal how far a
-//! long replay is.
+//! `output` says what lines go out, with clients by their `names`. `settings` reads the file that the
+//! command line names, and `progress` tells on a terminal how far a long replay is.
 #![tactic(auto)]
 
-pub mod command;
 pub mod entries;
 pub mod fault;
 pub mod lines;
@@ -24,12 +22,13 @@ pub mod text;
 pub mod trace;
 pub mod words;
 
-use crate::command::{Asked, Options, read_command};
 use crate::fault::ReplayFault;
 use crate::progress::{Progress, Unwatched, Watch};
 use crate::replay::replay;
 use crate::settings::{read_settings, tell_settings_fault};
 use crate::text::{OverRead, OverWrite};
+use rs_command::Asked;
+use rs_command::replay::{Options, read_command};
 use rs_policy::Config;
 use std::io;
 use std::io::{BufWriter, ErrorKind, IsTerminal};
@@ -39,7 +38,7 @@ use std::sync::Wait;
 use std::thread::Threads;
 
 /// Reads the words of the command line, and tells help or what is wrong with them.
-fn ask<R: Env + Print + Eprint + AllocGlobal>(rt: &R) -> io::Result<Asked> {
+fn ask<R: Env + Print + Eprint + AllocGlobal>(rt: &R) -> io::Result<Asked<Options>> {
     let alloc = rt.alloc();
     let words: Vec<String> = std::env::args(rt)?.collect(alloc)?;
     read_command(rt, alloc, &words)
@@ -101,7 +100,7 @@ fn status_of(played: Result<(), ReplayFault>) -> u8 {
 
 fn main(rt: HostRuntime) -> ExitCode {
     let options = match ask(&rt) {
-        Ok(Asked::Play(options)) => options,
+        Ok(Asked::Run(options)) => options,
         Ok(Asked::End(status)) => return ExitCode::from(status),
         Err(error) => return ExitCode::from(tell_asking_fault(&rt, &error)),
     };

@@ -1,12 +1,11 @@
-//! The live route server. `command` reads the command line and `configuration` the file that it names;
-//! `serve` is the loop, which gives the core events by a `link` over `ports`: `events` says which comes
-//! next, `orders` what the core's calls are on the ports. `sockets` are the ports of the system, with
-//! the listeners of `doors`. `seats` and `outbox` are what the link keeps of each connection, `watch`
-//! and `reports` tell an operator what happened, of clients by their `names`, and `lines` is standard
-//! output, both within `rations`.
+//! The live route server. `configuration` reads the file that the command line names; `serve` is the
+//! loop, which gives the core events by a `link` over `ports`: `events` says which comes next, `orders`
+//! what the core's calls are on the ports. `sockets` are the ports of the system, with the listeners of
+//! `doors`. `seats` and `outbox` are what the link keeps of each connection, `watch` and `reports` tell
+//! an operator what happened, of clients by their `names`, and `lines` is standard output, both within
+//! `rations`.
 #![tactic(auto)]
 
-pub mod command;
 pub mod configuration;
 mod doors;
 mod events;
@@ -23,13 +22,14 @@ pub mod serve;
 pub mod sockets;
 pub mod watch;
 
-use crate::command::{Asked, Options, read_command};
 use crate::configuration::{Refused, read_configuration};
 use crate::names::Names;
 use crate::seats::listeners;
 use crate::serve::{Limits, serve};
 use crate::sockets::Sockets;
 use anyhow::Result;
+use rs_command::Asked;
+use rs_command::serve::{Options, read_command};
 use rs_policy::Config;
 use std::alloc::Global;
 use std::net::Net;
@@ -84,7 +84,7 @@ fn start<R: Threads + Wait + Sync + Net + Clock + Env + Files + Print + Eprint +
     let alloc = rt.alloc();
     let words: Vec<String> = std::env::args(rt)?.collect(alloc)?;
     let options = match read_command(rt, alloc, &words)? {
-        Asked::Serve(options) => options,
+        Asked::Run(options) => options,
         Asked::End(status) => return Ok(status),
     };
     let config = match read_configuration(rt, alloc, &options.config) {

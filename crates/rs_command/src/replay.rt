@@ -1,0 +1,62 @@
+//! The command line of rs_replay.
+
+use crate::Asked;
+use crate::arguments::{file, flag, number};
+use clap::{ArgMatches, Command, Error};
+use std::alloc::{AllocError, Global};
+use std::io;
+
+/// What to play.
+#[derive(Drop)]
+pub struct Options {
+    /// The file of the configuration.
+    pub config: String,
+    /// How many workers share the work of a turn, 1 to 16.
+    pub workers: usize,
+    /// How far the replay is, is told on standard error where that is a terminal.
+    pub progress: bool,
+}
+
+/// Reads the command line, and tells help on standard output, or what is wrong with it on standard
+/// error. An error is refused memory, or telling that failed.
+pub fn read_command<R: Print + Eprint>(
+    rt: &R,
+    alloc: Global,
+    words: &[String],
+) -> io::Result<Asked<Options>> {
+    Asked::of(rt, read_options(alloc, words))
+}
+
+fn read_options(alloc: Global, words: &[String]) -> Result<Options, Error> {
+    let matches = command(alloc)?.try_get_matches_from(words)?;
+    Ok(options_of(alloc, &matches)?)
+}
+
+fn options_of(alloc: Global, matches: &ArgMatches<'_>) -> Result<Options, AllocError> {
+    Ok(Options {
+        config: String::from_str(alloc, matches.get_str("config").unwrap_or(""))?,
+        workers: matches.get_one::<usize>("workers").unwrap_or(1),
+        progress: matches.get_flag("progress"),
+    })
+}
+
+/// The command line that is understood.
+fn command<'a>(alloc: Global) -> Result<Command<'a>, AllocError> {
+    Command::new(alloc, "rs_replay")
+        .about(
+            "Plays a recorded session from standard input to a route server and writes what its clients are sent",
+        )
+        .arg(file(alloc, "config", "the configuration, in TOML"))?
+        .arg(number(
+            alloc,
+            "workers",
+            16,
+            "how many workers share the work of a turn, 1 to 16",
+        )
+        .default_value("1"))?
+        .arg(flag(
+            alloc,
+            "progress",
+            "tell on standard error, where it is a terminal, how many lines were read and UPDATEs heard",
+        ))
+}
