@@ -183,4 +183,4 @@ done_voice s c h config ins v w numbered done at =
 pub turned_voice : (s : Configuration) (c : ℕ) (h : Hearing) (config : Configuration) (ins : AdjIns) (v w : View) → AreNumbered v ins → IsTurn config ins v w → SpeaksTo s c h v → SpeaksTo s c h w
 turned_voice s c h config ins v w numbered (inl done) at = done_voice s c h config ins v w numbered done at
 turned_voice s c h config ins v w numbered (inr refused) at =
-    voiced_on s s c h h v w refl (λ l. l) refl (same_again v w (last_same v w _ refused)) (says_still s c h v w (ap outgoing_of refused) at) at
+    voiced_on s s c h h v w refl (λ l. l) refl (same_again v w (last_same v w _ refused.rest)) (says_still s c h v w (ap outgoing_of refused.rest) at) at
