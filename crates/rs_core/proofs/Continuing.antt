@@ -155,7 +155,7 @@ rules_by happens old before new after octets text answer is count step ruled ref
 
 established_on : (run : List Move) (n : ℕ) (cs : List ℕ) → AreEstablished run n cs → AreEstablished run (suc n) cs
 established_on run n [] h = tt
-established_on run n (c ∷ cs) h = (omega (arith, h.0), h.1)
+established_on run n (c ∷ cs) h = (omega (arith, h.0), h.1, h.2)
 
 refused_established : (core : Core) (run : List Move) (n : ℕ) → ((c : ℕ) → c < n → is_refused core c ≡ true → is_established run c ≡ true) → AreEstablished run n (refused_below core n)
 refused_established core run zero up = tt
@@ -181,7 +181,7 @@ turned happens old before new after count agrees up told =
     let refused = refused_below new (client_count new) in
     goes happens old before new after (λ n. Answers n [] events.Turn) (λ x. record { steps = memories refused x.steps; run = Turned refused ∷ x.run }) count
     (λ first x l. told first x.steps l) (λ x h. agrees x.run h) (λ n x k h. Turns refused x (subst (λ m. AreEstablished x.run m refused) (count ∙ k)
-        (refused_established new x.run (client_count new) (λ c lt is. up c x.run (subst (λ m. c < m) count lt) h is))))
+    (refused_established new x.run (client_count new) (λ c lt is. up c x.run (subst (λ m. c < m) count lt) h is))))
 
 -- ---- octets that are lent
 
