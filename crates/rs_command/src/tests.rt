@@ -1,11 +1,12 @@
 //! What command lines ask for, and what is told of those that ask for nothing.
 
 use crate::{Asked, replay, serve};
-use std::alloc::Global;
+use std::alloc::{AllocError, Global};
 use std::cell::RefCell;
 use std::fmt::{Display, Write};
 use std::io;
 use std::io::ErrorKind;
+use std::process::Abort;
 use std::test::Fail;
 
 /// What `clap` tells by the texts of the two command lines.
@@ -92,16 +93,8 @@ impl Eprint for Streams {
     }
 }
 
-/// What was told since the last call: on standard output, and on standard error.
-fn take_told(streams: &Streams, alloc: Global) -> Result<(String, String), Fail> {
-    Ok((
-        streams.output.try_replace(String::new(alloc))?,
-        streams.errors.try_replace(String::new(alloc))?,
-    ))
-}
-
 /// The words of a command line, which stand one space apart.
-fn words_of(alloc: Global, line: &str) -> Result<Vec<String>, Fail> {
+fn words_of(alloc: Global, line: &str) -> Result<Vec<String>, AllocError> {
     let mut words = Vec::new(alloc);
     for word in line.split(' ') {
         words.push(String::from_str(alloc, word)?)?;
@@ -109,145 +102,138 @@ fn words_of(alloc: Global, line: &str) -> Result<Vec<String>, Fail> {
     Ok(words)
 }
 
-/// What a command line asks of rs_replay.
-fn asked_to_play(streams: &Streams, alloc: Global, line: &str) -> Result<String, Fail> {
+/// By this line rs_replay plays, and nothing is told.
+fn is_played<R: Abort>(
+    rt: &R,
+    alloc: Global,
+    line: &str,
+    wanted: (&str, usize, bool),
+) -> Result<(), Fail> {
+    let streams = Streams::new(alloc);
     let words = words_of(alloc, line)?;
-    Ok(match replay::read_command(streams, alloc, &words)? {
-        Asked::Run(options) => {
-            let (config, workers, progress) = (options.config, options.workers, options.progress);
-            format!(in alloc; "{config} {workers} {progress}")?
-        }
-        Asked::End(status) => format!(in alloc; "end {status}")?,
-    })
+    let asked = replay::read_command(&streams, alloc, &words)?;
+    let options = match &asked {
+        Asked::Run(it) => Some((it.config.as_str(), it.workers, it.progress)),
+        Asked::End(_) => None,
+    };
+    assert_eq!(rt; options, Some(wanted), "{line}");
+    is_told(rt, &streams, "", "")
 }
 
-/// What a command line asks of rs_served.
-fn asked_to_serve(streams: &Streams, alloc: Global, line: &str) -> Result<String, Fail> {
+/// By this line rs_served serves, and nothing is told.
+fn is_served<R: Abort>(
+    rt: &R,
+    alloc: Global,
+    line: &str,
+    wanted: (&str, usize, Option<u64>, Option<u16>, bool, bool),
+) -> Result<(), Fail> {
+    let streams = Streams::new(alloc);
     let words = words_of(alloc, line)?;
-    Ok(match serve::read_command(streams, alloc, &words)? {
-        Asked::Run(options) => {
-            let (config, workers) = (options.config, options.workers);
-            let (sessions, reload) = (options.sessions, options.reload);
-            let (log, check) = (options.log, options.check);
-            format!(in alloc; "{config} {workers} {sessions:?} {reload:?} {log} {check}")?
-        }
-        Asked::End(status) => format!(in alloc; "end {status}")?,
-    })
+    let asked = serve::read_command(&streams, alloc, &words)?;
+    let options = match &asked {
+        Asked::Run(it) => Some((
+            it.config.as_str(),
+            it.workers,
+            it.sessions,
+            it.reload,
+            it.log,
+            it.check,
+        )),
+        Asked::End(_) => None,
+    };
+    assert_eq!(rt; options, Some(wanted), "{line}");
+    is_told(rt, &streams, "", "")
+}
+
+/// This was told on standard output and on standard error.
+fn is_told<R: Abort>(rt: &R, streams: &Streams, output: &str, errors: &str) -> Result<(), Fail> {
+    assert_eq!(rt; streams.output.try_borrow()?.as_str(), output);
+    assert_eq!(rt; streams.errors.try_borrow()?.as_str(), errors);
+    Ok(())
+}
+
+/// By this line rs_served ends with status 2, and nothing is told on standard output.
+fn is_refused<R: Abort>(rt: &R, alloc: Global, line: &str) -> Result<(), Fail> {
+    let streams = Streams::new(alloc);
+    let words = words_of(alloc, line)?;
+    let asked = serve::read_command(&streams, alloc, &words)?;
+    assert!(rt; matches!(asked, Asked::End(2)), "{line}");
+    assert!(rt; streams.output.try_borrow()?.is_empty(), "{line}");
+    Ok(())
 }
 
 #[test]
 fn options_to_play_by(rt: HostRuntime) -> Result<(), Fail> {
-    let streams = Streams::new(rt.alloc());
-    for (line, wanted) in [
-        ("rs_replay --config a.toml", "a.toml 1 false"),
-        (
-            "rs_replay --progress --workers 16 --config=b.toml",
-            "b.toml 16 true",
-        ),
-    ] {
-        assert_eq!(rt;
-            asked_to_play(&streams, rt.alloc(), line)?.as_str(),
-            wanted,
-            "{line}"
-        );
-    }
-    let (output, errors) = take_told(&streams, rt.alloc())?;
-    assert_eq!(rt; (output.as_str(), errors.as_str()), ("", ""));
-    Ok(())
+    let alloc = rt.alloc();
+    is_played(&rt, alloc, "rs_replay --config a", ("a", 1, false))?;
+    is_played(
+        &rt,
+        alloc,
+        "rs_replay --progress --workers 16 --config=a",
+        ("a", 16, true),
+    )
 }
 
 #[test]
 fn options_to_serve_by(rt: HostRuntime) -> Result<(), Fail> {
-    let streams = Streams::new(rt.alloc());
-    for (line, wanted) in [
-        (
-            "rs_served --config a.toml",
-            "a.toml 1 None None false false",
-        ),
-        (
-            "rs_served --config a --workers=16 --sessions 4294967295 --reload 65535 --log",
-            "a 16 Some(4294967295) Some(65535) true false",
-        ),
-        (
-            "rs_served --check --reload 1 --sessions 1 --config a",
-            "a 1 Some(1) Some(1) false true",
-        ),
-    ] {
-        assert_eq!(rt;
-            asked_to_serve(&streams, rt.alloc(), line)?.as_str(),
-            wanted,
-            "{line}"
-        );
-    }
-    let (output, errors) = take_told(&streams, rt.alloc())?;
-    assert_eq!(rt; (output.as_str(), errors.as_str()), ("", ""));
-    Ok(())
+    let alloc = rt.alloc();
+    is_served(
+        &rt,
+        alloc,
+        "rs_served --config a",
+        ("a", 1, None, None, false, false),
+    )?;
+    is_served(
+        &rt,
+        alloc,
+        "rs_served --config a --workers=16 --sessions 4294967295 --reload 65535 --log",
+        ("a", 16, Some(4_294_967_295), Some(65_535), true, false),
+    )?;
+    is_served(
+        &rt,
+        alloc,
+        "rs_served --check --reload 1 --sessions 1 --config a",
+        ("a", 1, Some(1), Some(1), false, true),
+    )
 }
 
 #[test]
 fn faults_end_with_2(rt: HostRuntime) -> Result<(), Fail> {
-    let streams = Streams::new(rt.alloc());
-    for line in [
-        "rs",
-        "rs --config",
-        "rs --config a b",
-        "rs --config a --config b",
-        "rs --config a --workers 0",
-        "rs --config a --workers 17",
-        "rs --config a --workers two",
-        "rs --config a --unknown",
-    ] {
-        assert_eq!(rt;
-            asked_to_play(&streams, rt.alloc(), line)?.as_str(),
-            "end 2",
-            "{line}"
-        );
-        assert_eq!(rt;
-            asked_to_serve(&streams, rt.alloc(), line)?.as_str(),
-            "end 2",
-            "{line}"
-        );
-    }
-    for line in [
-        "rs --config a --sessions 0",
-        "rs --config a --sessions 4294967296",
-        "rs --config a --reload 0",
-        "rs --config a --reload 65536",
-    ] {
-        assert_eq!(rt;
-            asked_to_serve(&streams, rt.alloc(), line)?.as_str(),
-            "end 2",
-            "{line}"
-        );
-    }
-    let (output, _) = take_told(&streams, rt.alloc())?;
-    assert_eq!(rt; output.as_str(), "");
-    Ok(())
+    let alloc = rt.alloc();
+    is_refused(&rt, alloc, "rs_served")?;
+    is_refused(&rt, alloc, "rs_served --config")?;
+    is_refused(&rt, alloc, "rs_served --config a b")?;
+    is_refused(&rt, alloc, "rs_served --config a --config b")?;
+    is_refused(&rt, alloc, "rs_served --config a --unknown")?;
+    is_refused(&rt, alloc, "rs_served --config a --workers two")?;
+    is_refused(&rt, alloc, "rs_served --config a --workers 0")?;
+    is_refused(&rt, alloc, "rs_served --config a --sessions 4294967296")?;
+    is_refused(&rt, alloc, "rs_served --config a --reload 65536")
 }
 
 #[test]
 fn a_fault_is_told(rt: HostRuntime) -> Result<(), Fail> {
     let streams = Streams::new(rt.alloc());
-    asked_to_play(&streams, rt.alloc(), "rs_replay --config a --workers 17")?;
-    let (_, errors) = take_told(&streams, rt.alloc())?;
-    assert_eq!(rt; errors.as_str(), FAULT);
-    Ok(())
+    let words = words_of(rt.alloc(), "rs_replay --config a --workers 17")?;
+    let asked = replay::read_command(&streams, rt.alloc(), &words)?;
+    assert!(rt; matches!(asked, Asked::End(2)));
+    is_told(&rt, &streams, "", FAULT)
 }
 
 #[test]
-fn help_is_told(rt: HostRuntime) -> Result<(), Fail> {
+fn help_to_play_is_told(rt: HostRuntime) -> Result<(), Fail> {
     let streams = Streams::new(rt.alloc());
-    assert_eq!(rt;
-        asked_to_play(&streams, rt.alloc(), "rs_replay --help")?.as_str(),
-        "end 0"
-    );
-    let (output, errors) = take_told(&streams, rt.alloc())?;
-    assert_eq!(rt; (output.as_str(), errors.as_str()), (HELP_TO_PLAY, ""));
-    assert_eq!(rt;
-        asked_to_serve(&streams, rt.alloc(), "rs_served -h")?.as_str(),
-        "end 0"
-    );
-    let (output, errors) = take_told(&streams, rt.alloc())?;
-    assert_eq!(rt; (output.as_str(), errors.as_str()), (HELP_TO_SERVE, ""));
-    Ok(())
+    let words = words_of(rt.alloc(), "rs_replay --help")?;
+    let asked = replay::read_command(&streams, rt.alloc(), &words)?;
+    assert!(rt; matches!(asked, Asked::End(0)));
+    is_told(&rt, &streams, HELP_TO_PLAY, "")
+}
+
+#[test]
+fn help_to_serve_is_told(rt: HostRuntime) -> Result<(), Fail> {
+    let streams = Streams::new(rt.alloc());
+    let words = words_of(rt.alloc(), "rs_served -h")?;
+    let asked = serve::read_command(&streams, rt.alloc(), &words)?;
+    assert!(rt; matches!(asked, Asked::End(0)));
+    is_told(&rt, &streams, HELP_TO_SERVE, "")
 }
