@@ -1,5 +1,5 @@
 #!/usr/bin/env python3
-"""Checks that the example configurations are those that a test of rs_policy reads, and those that OPERATING tells of.
+"""Checks that the example configurations are those that a test of the configuration reads, and those that OPERATING tells of.
 
 A test can read no files, so it has their texts as literals. This compares them, octet for octet. The data of
 rs_replay has one of them too. OPERATING has a table of the rules by which a member's export list reads action
@@ -12,7 +12,7 @@ import tomllib
 from results import end, tell
 
 TOP = pathlib.Path(__file__).resolve().parent.parent
-TESTS = TOP / "crates/rs_policy/src/tests/examples.rt"
+TESTS = TOP / "crates/rs_tests/src/policy/examples.rt"
 EXAMPLES = {"FOUR_MEMBERS": "four_members.toml", "SMALL": "small.toml", "EXCHANGE": "exchange.toml"}
 COPY = TOP / "crates/rs_replay/data/four_members.toml"
 OPERATING = TOP / "docs/OPERATING.md"

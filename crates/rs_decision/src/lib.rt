@@ -13,8 +13,6 @@
 mod choice;
 mod laws;
 mod rank;
-#[cfg(test)]
-mod tests;
 
 pub use choice::best;
 pub use laws::{best_ignores_order, best_is_unbeaten};

@@ -21,8 +21,6 @@ pub mod laws;
 mod notification;
 mod numbers;
 mod prefix;
-#[cfg(test)]
-mod tests;
 mod writes;
 
 pub use fronts::{Front, read_front};

@@ -17,8 +17,6 @@ mod open;
 mod reading;
 mod refresh;
 mod short;
-#[cfg(test)]
-mod tests;
 mod triples;
 mod writing;
 

@@ -14,8 +14,6 @@ mod announced;
 mod fields;
 pub mod laws;
 mod packed;
-#[cfg(test)]
-mod tests;
 mod withdrawn;
 
 pub use announced::{fits, pack_announced, try_pack_announced};

@@ -21,6 +21,3 @@ mod rules;
 pub use config::Config;
 pub use faults::{ConfigFault, Key, List, Place, RulesFault};
 pub use rules::verdict::{Fate, Verdict, judge};
-
-#[cfg(test)]
-mod tests;

@@ -27,6 +27,3 @@ pub use act::{Act, Busy, State};
 pub use heard::Heard;
 pub use session::Session;
 pub use settings::Settings;
-
-#[cfg(test)]
-mod tests;

@@ -14,9 +14,5 @@ mod fields;
 pub mod laws;
 mod outcome;
 mod prefixes;
-#[cfg(test)]
-mod rows;
-#[cfg(test)]
-mod tests;
 
 pub use outcome::{Outcome, effect};

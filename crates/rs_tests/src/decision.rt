@@ -1,9 +1,7 @@
-//! Worked choices: the values come from the standard's rules, not from the program.
+//! Tests of `rs_decision`: worked choices, whose values come from the standard's rules and not from the program.
 
-ghost use Rattle.std.specs.Prelude.{◌≢◌};
-
-use crate::choice::best;
-use crate::rank::Rank;
+use rs_decision::{Rank, best};
+use std::process::Abort;
 
 const EQUAL: Rank = Rank {
     preference: 100,
@@ -16,17 +14,17 @@ const EQUAL: Rank = Rank {
     place: 0,
 };
 
-fn best_of_two(first: Rank, second: Rank) -> Option<usize>
-    requires { first.place ≢ second.place }
-{
+/// The best of two ranks of different places.
+fn best_of_two(rt: &impl Abort, first: Rank, second: Rank) -> Option<usize> {
+    assert!(rt; first.place != second.place);
     best(&[first, second])
 }
 
-fn best_of_three(first: Rank, second: Rank, third: Rank) -> Option<usize>
-    requires ends { first.place ≢ third.place }
-    requires front { first.place ≢ second.place }
-    requires back { second.place ≢ third.place }
-{
+/// The best of three, each of another place.
+fn best_of_three(rt: &impl Abort, first: Rank, second: Rank, third: Rank) -> Option<usize> {
+    assert!(rt; first.place != second.place);
+    assert!(rt; first.place != third.place);
+    assert!(rt; second.place != third.place);
     best(&[first, second, third])
 }
 
@@ -43,6 +41,7 @@ fn one_is_best_alone(rt: HostRuntime) {
 #[test]
 fn the_lowest_place_is_best_of_equals(rt: HostRuntime) {
     let answer = best_of_three(
+        &rt,
         Rank { place: 3, ..EQUAL },
         Rank { place: 1, ..EQUAL },
         Rank { place: 2, ..EQUAL },
@@ -54,6 +53,7 @@ fn the_lowest_place_is_best_of_equals(rt: HostRuntime) {
 #[test]
 fn med_is_not_compared_across_neighbours(rt: HostRuntime) {
     let answer = best_of_two(
+        &rt,
         Rank {
             med: Some(10),
             neighbour: 64496,
@@ -97,12 +97,12 @@ fn pairwise_comparing_fails(rt: HostRuntime) {
         place: 2,
         ..EQUAL
     };
-    assert_eq!(rt; best_of_three(first, second, third), Some(1));
-    assert_eq!(rt; best_of_three(first, third, second), Some(2));
-    assert_eq!(rt; best_of_three(second, first, third), Some(0));
-    assert_eq!(rt; best_of_three(second, third, first), Some(0));
-    assert_eq!(rt; best_of_three(third, first, second), Some(2));
-    assert_eq!(rt; best_of_three(third, second, first), Some(1));
+    assert_eq!(rt; best_of_three(&rt, first, second, third), Some(1));
+    assert_eq!(rt; best_of_three(&rt, first, third, second), Some(2));
+    assert_eq!(rt; best_of_three(&rt, second, first, third), Some(0));
+    assert_eq!(rt; best_of_three(&rt, second, third, first), Some(0));
+    assert_eq!(rt; best_of_three(&rt, third, first, second), Some(2));
+    assert_eq!(rt; best_of_three(&rt, third, second, first), Some(1));
 }
 
 /// A missing MED counts 0: it is lower than 1, and equal to 0.
@@ -126,8 +126,8 @@ fn a_missing_med_counts_zero(rt: HostRuntime) {
         place: 1,
         ..EQUAL
     };
-    assert_eq!(rt; best_of_two(one, missing), Some(1));
-    assert_eq!(rt; best_of_two(missing, zero), Some(1));
+    assert_eq!(rt; best_of_two(&rt, one, missing), Some(1));
+    assert_eq!(rt; best_of_two(&rt, missing, zero), Some(1));
 }
 
 /// In each row the second is better in one respect alone, and worse in all that come behind it.
@@ -199,14 +199,14 @@ fn each_filter_decides_alone(rt: HostRuntime) {
     ];
     for (respect, second) in rows {
         let second = Rank { place: 1, ..second };
-        assert_eq!(rt; best_of_two(EQUAL, second), Some(1), "by {respect}");
+        assert_eq!(rt; best_of_two(&rt, EQUAL, second), Some(1), "by {respect}");
         assert_eq!(rt;
-            best_of_two(second, EQUAL),
+            best_of_two(&rt, second, EQUAL),
             Some(0),
             "by {respect}, the other way round"
         );
     }
     let earlier = Rank { place: 0, ..EQUAL };
     let later = Rank { place: 1, ..EQUAL };
-    assert_eq!(rt; best_of_two(later, earlier), Some(1), "by place");
+    assert_eq!(rt; best_of_two(&rt, later, earlier), Some(1), "by place");
 }

@@ -2,8 +2,7 @@
 //! `make examples` compares.
 
 use super::*;
-use rs_attrs::{Mode, read};
-use rs_octets::Prefix;
+use crate::common::{ROUTE, attrs, prefix};
 use std::test::Fail;
 
 const FOUR_MEMBERS: &str =
@@ -219,11 +218,6 @@ fn the_small_example_is_read(rt: HostRuntime) -> Result<(), Fail> {
     Ok(())
 }
 
-/// ORIGIN 0, AS_PATH 64496, NEXT_HOP 192.0.2.11 and these communities of the form 0:N and 64500:N.
-const ORIGIN_PATH_NEXT_HOP: &[u8] = &[
-    0x40, 1, 1, 0, 0x40, 2, 6, 2, 1, 0, 0, 0xfb, 0xf0, 0x40, 3, 4, 192, 0, 2, 11,
-];
-
 #[test]
 fn the_exchange_example_is_read_and_filters(rt: HostRuntime) -> Result<(), Fail> {
     let config = Config::read(rt.alloc(), EXCHANGE)?;
@@ -271,10 +265,10 @@ fn the_exchange_example_is_read_and_filters(rt: HostRuntime) -> Result<(), Fail>
         ),
     ];
     for (bits, len, communities, beta, gamma) in rows {
-        let mut octets = ORIGIN_PATH_NEXT_HOP.to_vec(rt.alloc())?;
+        let mut octets = ROUTE.to_vec(rt.alloc())?;
         octets.extend_from_slice(communities)?;
-        let attrs = read(rt.alloc(), &octets, Mode::Four)?.attrs;
-        let prefix = Prefix::new(bits, len).expect(&rt, "a length of at most 32");
+        let attrs = attrs(rt.alloc(), &octets)?;
+        let prefix = prefix(&rt, bits, len);
         let to_beta = !matches!(judge(&config, 0, 1, &prefix, &attrs), Verdict::Drop);
         let to_gamma = !matches!(judge(&config, 0, 2, &prefix, &attrs), Verdict::Drop);
         assert_eq!(rt; (to_beta, to_gamma), (beta, gamma), "at {bits} {len}");

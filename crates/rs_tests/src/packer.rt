@@ -1,20 +1,11 @@
-//! Messages and their numbers from outside.
+//! Tests of `rs_packer`: messages and their numbers from outside.
 
-ghost use Rattle.std.specs.Prelude.{◌≡◌, length, OnOk};
-
-use crate::{Packed, fits, pack_announced, pack_withdrawn, try_pack_announced};
-use rs_attrs::{Attrs, Mode, read};
+use crate::common::{ROUTE, attrs, prefix};
+use rs_attrs::{Attrs, Mode};
 use rs_octets::Prefix;
+use rs_packer::{Packed, fits, pack_announced, pack_withdrawn, try_pack_announced};
 use std::alloc::{AllocError, Global};
 use std::test::Fail;
-
-/// ORIGIN IGP, AS_PATH of 64496 alone, NEXT_HOP 192.0.2.11.
-const ATTRIBUTES: &[u8] =
-    b"\x40\x01\x01\x00\x40\x02\x06\x02\x01\x00\x00\xfb\xf0\x40\x03\x04\xc0\x00\x02\x0b";
-
-fn attributes(alloc: Global) -> Result<Attrs, AllocError> {
-    Ok(read(alloc, ATTRIBUTES, Mode::Four)?.attrs)
-}
 
 /// So many prefixes of length 24, from 10.0.0.0/24 on.
 fn prefixes(alloc: Global, count: u32) -> Result<Vec<Prefix>, AllocError> {
@@ -53,16 +44,14 @@ fn has(packed: Option<Packed>, octets: usize, prefixes: usize) -> bool {
 
 #[test]
 fn writes_an_announcement(rt: HostRuntime) -> Result<(), Fail> {
-    let attrs = attributes(rt.alloc())?;
+    let attrs = attrs(rt.alloc(), &ROUTE)?;
     let mut out = [7; 4096];
-    let list = [Prefix::new(0xc633_6400, 24)];
-    if let [Some(prefix)] = list {
-        let packed = announced(&attrs, &[prefix], &mut out);
-        assert!(rt; has(packed, 47, 1));
-    }
+    let prefix = prefix(&rt, 0xc633_6400, 24);
+    let packed = announced(&attrs, &[prefix], &mut out);
+    assert!(rt; has(packed, 47, 1));
     assert!(rt; out[..16].starts_with(&[255; 16]));
     assert!(rt; out[16..23].starts_with(b"\x00\x2f\x02\x00\x00\x00\x14"));
-    assert!(rt; out[23..43].starts_with(ATTRIBUTES));
+    assert!(rt; out[23..43].starts_with(&ROUTE));
     assert!(rt; out[43..48].starts_with(b"\x18\xc6\x33\x64\x07"));
     Ok(())
 }
@@ -71,13 +60,11 @@ fn writes_an_announcement(rt: HostRuntime) -> Result<(), Fail> {
 fn writes_an_announcement_to_a_two_octet_peer(rt: HostRuntime) -> Result<(), Fail> {
     let field =
         b"\x40\x01\x01\x00\x40\x02\x0a\x02\x02\x00\x00\xfb\xf0\xfa\x56\xea\x00\x40\x03\x04\xc0\x00\x02\x0b";
-    let attrs = read(rt.alloc(), field, Mode::Four)?.attrs;
+    let attrs = attrs(rt.alloc(), field)?;
     let mut out = [7; 4096];
-    let list = [Prefix::new(0xc633_6400, 24)];
-    if let [Some(prefix)] = list {
-        let packed = announced_in(Mode::Two, &attrs, &[prefix], &mut out);
-        assert!(rt; has(packed, 60, 1));
-    }
+    let prefix = prefix(&rt, 0xc633_6400, 24);
+    let packed = announced_in(Mode::Two, &attrs, &[prefix], &mut out);
+    assert!(rt; has(packed, 60, 1));
     assert!(rt; out[..16].starts_with(&[255; 16]));
     assert!(rt; out[16..23].starts_with(b"\x00\x3c\x02\x00\x00\x00\x21"));
     // ORIGIN, AS_PATH with AS_TRANS, NEXT_HOP, AS4_PATH
@@ -92,18 +79,16 @@ fn writes_an_announcement_to_a_two_octet_peer(rt: HostRuntime) -> Result<(), Fai
 #[test]
 fn writes_a_withdrawal(rt: HostRuntime) {
     let mut out = [7; 4096];
-    let list = [Prefix::new(0xc633_6400, 24)];
-    if let [Some(prefix)] = list {
-        let packed = withdrawn(&[prefix], &mut out);
-        assert!(rt; has(packed, 27, 1));
-    }
+    let prefix = prefix(&rt, 0xc633_6400, 24);
+    let packed = withdrawn(&[prefix], &mut out);
+    assert!(rt; has(packed, 27, 1));
     assert!(rt; out[..16].starts_with(&[255; 16]));
     assert!(rt; out[16..28].starts_with(b"\x00\x1b\x02\x00\x04\x18\xc6\x33\x64\x00\x00\x07"));
 }
 
 #[test]
 fn announces_the_longest_front(rt: HostRuntime) -> Result<(), Fail> {
-    let attrs = attributes(rt.alloc())?;
+    let attrs = attrs(rt.alloc(), &ROUTE)?;
     let mut list = prefixes(rt.alloc(), 1014)?;
     assert_eq!(rt; list.len(), 1014);
     let mut out = [0; 4096];
@@ -112,9 +97,7 @@ fn announces_the_longest_front(rt: HostRuntime) -> Result<(), Fail> {
     let packed = announced(&attrs, &list[1013..], &mut out);
     assert!(rt; has(packed, 47, 1));
     // 0.0.0.0/0 before the last, which needs one octet
-    if let Some(all) = Prefix::new(0, 0) {
-        list.insert(1013, all)?;
-    }
+    list.insert(1013, prefix(&rt, 0, 0))?;
     let packed = announced(&attrs, &list, &mut out);
     assert!(rt; has(packed, 4096, 1014));
     Ok(())
@@ -122,7 +105,7 @@ fn announces_the_longest_front(rt: HostRuntime) -> Result<(), Fail> {
 
 #[test]
 fn fills_long_messages(rt: HostRuntime) -> Result<(), Fail> {
-    let attrs = attributes(rt.alloc())?;
+    let attrs = attrs(rt.alloc(), &ROUTE)?;
     let mut out = vec![in rt.alloc(); 0u8; 65535]?;
     let list = prefixes(rt.alloc(), 16374)?;
     let packed = announced(&attrs, &list, &mut out);
@@ -135,19 +118,18 @@ fn fills_long_messages(rt: HostRuntime) -> Result<(), Fail> {
 
 #[test]
 fn fits_up_to_the_limit(rt: HostRuntime) -> Result<(), Fail> {
-    let attrs = attributes(rt.alloc())?;
-    if let Some(prefix) = Prefix::new(0xc633_6400, 24) {
-        assert!(rt; fits(&attrs, Mode::Four, &prefix, 50));
-        assert!(rt; fits(&attrs, Mode::Four, &prefix, 47));
-        assert!(rt; !fits(&attrs, Mode::Four, &prefix, 46));
-        assert!(rt; !fits(&attrs, Mode::Four, &prefix, 0));
-    }
+    let attrs = attrs(rt.alloc(), &ROUTE)?;
+    let prefix = prefix(&rt, 0xc633_6400, 24);
+    assert!(rt; fits(&attrs, Mode::Four, &prefix, 50));
+    assert!(rt; fits(&attrs, Mode::Four, &prefix, 47));
+    assert!(rt; !fits(&attrs, Mode::Four, &prefix, 46));
+    assert!(rt; !fits(&attrs, Mode::Four, &prefix, 0));
     Ok(())
 }
 
 #[test]
 fn announces_only_where_the_first_fits(rt: HostRuntime) -> Result<(), Fail> {
-    let attrs = attributes(rt.alloc())?;
+    let attrs = attrs(rt.alloc(), &ROUTE)?;
     let list = prefixes(rt.alloc(), 3)?;
     assert_eq!(rt; list.len(), 3);
     let mut short = [7; 46];
@@ -184,20 +166,18 @@ fn long_path(alloc: Global) -> Result<Vec<u8>, AllocError> {
 fn long_path_fits_into_a_long_message_alone(rt: HostRuntime) -> Result<(), Fail> {
     let field = long_path(rt.alloc())?;
     assert_eq!(rt; field.len(), 2821);
-    let attrs = read(rt.alloc(), &field, Mode::Four)?.attrs;
-    let list = [Prefix::new(0xc633_6400, 24)];
-    if let [Some(prefix)] = list {
-        let mut out = vec![in rt.alloc(); 0u8; 65535]?;
-        let packed = announced_in(Mode::Four, &attrs, &[prefix], &mut out[..4096]);
-        assert!(rt; has(packed, 2848, 1));
-        assert!(rt; fits(&attrs, Mode::Four, &prefix, 4096));
-        assert!(rt; !fits(&attrs, Mode::Two, &prefix, 4096));
-        assert!(rt; !fits(&attrs, Mode::Two, &prefix, 4257));
-        assert!(rt; fits(&attrs, Mode::Two, &prefix, 4258));
-        assert!(rt; fits(&attrs, Mode::Two, &prefix, 65535));
-        let packed = announced_in(Mode::Two, &attrs, &[prefix], &mut out);
-        assert!(rt; has(packed, 4258, 1));
-        assert!(rt; out[16..23].starts_with(b"\x10\xa2\x02\x00\x00\x10\x87"));
-    }
+    let attrs = attrs(rt.alloc(), &field)?;
+    let prefix = prefix(&rt, 0xc633_6400, 24);
+    let mut out = vec![in rt.alloc(); 0u8; 65535]?;
+    let packed = announced_in(Mode::Four, &attrs, &[prefix], &mut out[..4096]);
+    assert!(rt; has(packed, 2848, 1));
+    assert!(rt; fits(&attrs, Mode::Four, &prefix, 4096));
+    assert!(rt; !fits(&attrs, Mode::Two, &prefix, 4096));
+    assert!(rt; !fits(&attrs, Mode::Two, &prefix, 4257));
+    assert!(rt; fits(&attrs, Mode::Two, &prefix, 4258));
+    assert!(rt; fits(&attrs, Mode::Two, &prefix, 65535));
+    let packed = announced_in(Mode::Two, &attrs, &[prefix], &mut out);
+    assert!(rt; has(packed, 4258, 1));
+    assert!(rt; out[16..23].starts_with(b"\x10\xa2\x02\x00\x00\x10\x87"));
     Ok(())
 }

@@ -1,5 +1,5 @@
 use Rattle.std.specs.List.{IsDistinct}
-use Rattle.rs_adjin.proofs.tests.count.count_without.Goals as goal
+use Rattle.rs_tests.proofs.adjin.count.count_without.Goals as goal
 
 pub count_after-requires-clause-withdrawn : goal.count_after-requires-clause-withdrawn
 unfolding IsDistinct

@@ -1,4 +1,4 @@
-//! Texts of configurations with their faults and values, and routes with their verdicts, from outside the program.
+//! Tests of `rs_policy`: texts of configurations with their faults and values, and routes with their verdicts, from outside the program.
 
 mod examples;
 mod faults;
@@ -7,9 +7,7 @@ mod replacing;
 mod routes;
 mod table_faults;
 
-ghost use Rattle.std.specs.Prelude.{◌≤◌};
-
-use crate::*;
+use rs_policy::*;
 use std::process::Abort;
 
 const TOP: &str = "as = 64500\nidentifier = \"192.0.2.1\"\n";
@@ -33,9 +31,8 @@ fn is_answered<R: Abort>(rt: &R, read: Result<Config, ConfigFault>, want: &str) 
 }
 
 /// So many octets at the front are this text, and behind them nothing was written.
-fn is_written<R: Abort>(rt: &R, out: &[u8; 96], len: usize, want: &str)
-    requires { len ≤ 96 }
-{
+fn is_written<R: Abort>(rt: &R, out: &[u8; 96], len: usize, want: &str) {
+    assert!(rt; len <= out.len(), "for {want}");
     assert_eq!(rt; &out[..len], want.as_bytes(), "for {want}");
     assert!(rt;
         out[len..].iter().all(|octet| *octet == b'.'),

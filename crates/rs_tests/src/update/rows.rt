@@ -1,45 +1,15 @@
-//! Rows of a table: a body, and what an UPDATE with it does, in words. `A` stands in a body for
-//! the attributes of a route.
+//! Rows of a table: a body, and what an UPDATE with it does, in words.
 
-use crate::outcome::{Outcome, effect};
+use crate::common::octets;
 use rs_attrs::{Attrs, Mode};
 use rs_octets::Prefix;
+use rs_update::{Outcome, effect};
 use std::alloc::{AllocError, Global};
 use std::process::Abort;
 use std::test::Fail;
 
-/// ORIGIN IGP, AS_PATH 64496, NEXT_HOP 192.0.2.11.
-const ROUTE: [u8; 20] = [
-    0x40, 1, 1, 0, 0x40, 2, 6, 2, 1, 0, 0, 0xfb, 0xf0, 0x40, 3, 4, 0xc0, 0, 2, 11,
-];
-
 /// What the row shows, a body in hex and the answer.
-pub(crate) type Row = (&'static str, &'static str, &'static str);
-
-/// The octets that a text spells.
-pub(crate) fn octets(alloc: Global, text: &str) -> Result<Vec<u8>, AllocError> {
-    let mut octets = Vec::new(alloc);
-    let mut high = None;
-    for digit in text.bytes() {
-        let value = match digit {
-            b'0'..=b'9' => digit - b'0',
-            b'a'..=b'f' => digit - b'a' + 10,
-            b'A' => {
-                octets.extend_from_slice(&ROUTE)?;
-                continue;
-            }
-            _ => continue,
-        };
-        high = match high {
-            None => Some(value << 4),
-            Some(before) => {
-                octets.push(before | value)?;
-                None
-            }
-        };
-    }
-    Ok(octets)
-}
+pub(super) type Row = (&'static str, &'static str, &'static str);
 
 fn prefixes_told(alloc: Global, prefixes: &[Prefix]) -> Result<String, AllocError> {
     let mut told = String::new(alloc);
@@ -82,7 +52,7 @@ fn attributes_told(alloc: Global, attrs: &Attrs) -> Result<String, AllocError> {
     Ok(told)
 }
 
-pub(crate) fn told(alloc: Global, outcome: &Outcome) -> Result<String, AllocError> {
+pub(super) fn told(alloc: Global, outcome: &Outcome) -> Result<String, AllocError> {
     match outcome {
         Outcome::Reset(code, subcode) => format!(in alloc; "Reset({code}, {subcode})"),
         Outcome::Change {
@@ -103,7 +73,7 @@ pub(crate) fn told(alloc: Global, outcome: &Outcome) -> Result<String, AllocErro
 }
 
 /// Asserts that each row holds.
-pub(crate) fn hold(rt: &impl Abort, alloc: Global, mode: Mode, rows: &[Row]) -> Result<(), Fail> {
+pub(super) fn hold(rt: &impl Abort, alloc: Global, mode: Mode, rows: &[Row]) -> Result<(), Fail> {
     for (shows, body, answer) in rows {
         let body = octets(alloc, body)?;
         let outcome = effect(alloc, &body, mode)?;

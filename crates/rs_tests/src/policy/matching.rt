@@ -1,7 +1,7 @@
 //! Which routes a rule matches: prefixes with their lengths, and what attributes say.
 
-use super::routes::{COLOURED, ELSEWHERE, PLAIN, SET, attrs, config, preference, prefix};
-use super::*;
+use super::routes::{COLOURED, ELSEWHERE, SET, config, preference};
+use crate::common::{ROUTE, attrs, prefix};
 use std::test::Fail;
 
 /// Tests of a prefix, each with a prefix and whether the rule matches.
@@ -64,7 +64,7 @@ const PREFIXES: [(&str, u32, u8, bool); 17] = [
 
 #[test]
 fn prefixes_and_their_lengths(rt: HostRuntime) -> Result<(), Fail> {
-    let route = attrs(rt.alloc(), PLAIN)?;
+    let route = attrs(rt.alloc(), &ROUTE)?;
     for (test, bits, len, matches) in PREFIXES {
         let rule = format!(in rt.alloc(); "{{ {test}, action = \"drop\" }}")?;
         let config = config(rt.alloc(), "", "", rule.as_str())?;
@@ -81,20 +81,20 @@ fn prefixes_and_their_lengths(rt: HostRuntime) -> Result<(), Fail> {
 #[test]
 fn tests_of_attributes(rt: HostRuntime) -> Result<(), Fail> {
     let to = prefix(&rt, 0xc633_6400, 24);
-    let rows = [
-        ("origin_as = 64496", PLAIN, true),
-        ("origin_as = 64499", PLAIN, false),
+    let rows: [(&str, &[u8], bool); 15] = [
+        ("origin_as = 64496", &ROUTE, true),
+        ("origin_as = 64499", &ROUTE, false),
         // a path whose last segment is a set has no origin
         ("origin_as = 64496", SET, false),
         ("origin_as = 64499", SET, false),
         ("path_has = 64496", SET, true),
         ("path_has = 64499", SET, true),
         ("path_has = 64500", SET, false),
-        ("next_hop_is_peer = true", PLAIN, true),
-        ("next_hop_is_peer = false", PLAIN, false),
+        ("next_hop_is_peer = true", &ROUTE, true),
+        ("next_hop_is_peer = false", &ROUTE, false),
         ("next_hop_is_peer = true", ELSEWHERE, false),
         ("next_hop_is_peer = false", ELSEWHERE, true),
-        ("community = \"64500:1\"", PLAIN, false),
+        ("community = \"64500:1\"", &ROUTE, false),
         ("community = \"64500:1\"", COLOURED, true),
         ("community = \"64500:2\"", COLOURED, true),
         ("community = \"64500:3\"", COLOURED, false),

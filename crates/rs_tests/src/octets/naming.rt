@@ -1,6 +1,6 @@
 //! Names of error codes and subcodes, and their texts.
 
-use crate::Notification;
+use rs_octets::Notification;
 use std::alloc::Global;
 use std::process::Abort;
 use std::test::Fail;

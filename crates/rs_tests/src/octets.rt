@@ -1,8 +1,8 @@
-//! Values from outside: octets of BGP messages, taken apart by hand.
+//! Tests of `rs_octets`: octets of BGP messages, taken apart by hand.
 
 mod naming;
 
-use crate::{
+use rs_octets::{
     AS_TRANS, Allowed, FieldFault, Front, Head, HeaderFault, Kind, Prefix, header, laws, put,
     put_header, put_prefix, read_front, read_prefixes,
 };

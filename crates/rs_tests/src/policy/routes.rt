@@ -1,7 +1,8 @@
 //! Routes and what the rules make of them. Attributes are given as the octets of an UPDATE.
 
 use super::*;
-use rs_attrs::{Attrs, Mode, read};
+use crate::common::{ROUTE, attrs, prefix};
+use rs_attrs::Attrs;
 use rs_octets::Prefix;
 use std::alloc::Global;
 use std::test::Fail;
@@ -12,35 +13,22 @@ const ALPHA: &str =
 const BETA: &str =
     "[[client]]\nname = \"b\"\nas = 64497\nlisten = \"127.0.0.1:17902\"\npeer = \"192.0.2.12\"\n";
 
-/// ORIGIN 0, AS_PATH 64496, NEXT_HOP 192.0.2.11.
-pub(super) const PLAIN: &[u8] = &[
-    0x40, 1, 1, 0, 0x40, 2, 6, 2, 1, 0, 0, 0xfb, 0xf0, 0x40, 3, 4, 192, 0, 2, 11,
-];
-
-/// The same, but the path is 64499 and then the set of 64496.
+/// `ROUTE`, but the path is 64499 and then the set of 64496.
 pub(super) const SET: &[u8] = &[
     0x40, 1, 1, 0, 0x40, 2, 12, 2, 1, 0, 0, 0xfb, 0xf3, 1, 1, 0, 0, 0xfb, 0xf0, 0x40, 3, 4, 192, 0,
     2, 11,
 ];
 
-/// PLAIN with NEXT_HOP 192.0.2.12.
+/// `ROUTE` with NEXT_HOP 192.0.2.12.
 pub(super) const ELSEWHERE: &[u8] = &[
     0x40, 1, 1, 0, 0x40, 2, 6, 2, 1, 0, 0, 0xfb, 0xf0, 0x40, 3, 4, 192, 0, 2, 12,
 ];
 
-/// PLAIN with the communities 64500:1 and 64500:2.
+/// `ROUTE` with the communities 64500:1 and 64500:2.
 pub(super) const COLOURED: &[u8] = &[
     0x40, 1, 1, 0, 0x40, 2, 6, 2, 1, 0, 0, 0xfb, 0xf0, 0x40, 3, 4, 192, 0, 2, 11, 0xc0, 8, 8, 0xfb,
     0xf4, 0, 1, 0xfb, 0xf4, 0, 2,
 ];
-
-pub(super) fn attrs(alloc: Global, octets: &[u8]) -> Result<Attrs, Fail> {
-    Ok(read(alloc, octets, Mode::Four)?.attrs)
-}
-
-pub(super) fn prefix(rt: &impl Abort, bits: u32, len: u8) -> Prefix {
-    Prefix::new(bits, len).expect(rt, "a length of at most 32")
-}
 
 /// A configuration of a and b with these lists.
 pub(super) fn config(alloc: Global, top: &str, import: &str, export: &str) -> Result<Config, Fail> {
@@ -123,7 +111,7 @@ const LISTS: [(&str, &str, Option<u32>); 14] = [
 
 #[test]
 fn without_rules_the_default_decides(rt: HostRuntime) -> Result<(), Fail> {
-    let route = attrs(rt.alloc(), PLAIN)?;
+    let route = attrs(rt.alloc(), &ROUTE)?;
     let to = prefix(&rt, 0xc633_6400, 24);
     let rows = [
         ("", "", "", Some(100)),
@@ -152,7 +140,7 @@ fn without_rules_the_default_decides(rt: HostRuntime) -> Result<(), Fail> {
 
 #[test]
 fn the_first_rule_that_matches_decides(rt: HostRuntime) -> Result<(), Fail> {
-    let route = attrs(rt.alloc(), PLAIN)?;
+    let route = attrs(rt.alloc(), &ROUTE)?;
     let to = prefix(&rt, 0xc633_6400, 24);
     for (import, export, want) in LISTS {
         let config = config(rt.alloc(), "", import, export)?;

@@ -1,0 +1,46 @@
+//! What the tests of several crates need: octets, prefixes, and the attributes of a route.
+
+use rs_attrs::{Attrs, Mode, read};
+use rs_octets::Prefix;
+use std::alloc::{AllocError, Global};
+use std::process::Abort;
+
+/// ORIGIN IGP, AS_PATH 64496, NEXT_HOP 192.0.2.11, as a four-octet peer spells them.
+pub(crate) const ROUTE: [u8; 20] = [
+    0x40, 1, 1, 0, 0x40, 2, 6, 2, 1, 0, 0, 0xfb, 0xf0, 0x40, 3, 4, 192, 0, 2, 11,
+];
+
+/// The octets that a text of hexadecimal digits and blanks spells, in which `A` stands for `ROUTE`.
+pub(crate) fn octets(alloc: Global, text: &str) -> Result<Vec<u8>, AllocError> {
+    let mut octets = Vec::new(alloc);
+    let mut high = None;
+    for digit in text.bytes() {
+        let value = match digit {
+            b'0'..=b'9' => digit - b'0',
+            b'a'..=b'f' => digit - b'a' + 10,
+            b'A' => {
+                octets.extend_from_slice(&ROUTE)?;
+                continue;
+            }
+            _ => continue,
+        };
+        high = match high {
+            None => Some(value << 4),
+            Some(before) => {
+                octets.push(before | value)?;
+                None
+            }
+        };
+    }
+    Ok(octets)
+}
+
+/// The prefix of this length, 0 to 32, with these bits.
+pub(crate) fn prefix(rt: &impl Abort, bits: u32, len: u8) -> Prefix {
+    Prefix::new(bits, len).expect(rt, "a length of at most 32")
+}
+
+/// The attributes that a four-octet peer spells so.
+pub(crate) fn attrs(alloc: Global, field: &[u8]) -> Result<Attrs, AllocError> {
+    Ok(read(alloc, field, Mode::Four)?.attrs)
+}

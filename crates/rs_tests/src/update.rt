@@ -1,0 +1,12 @@
+//! Tests of `rs_update`: what UPDATEs do, by tables whose answers are worked out by hand from RFC 4271 and RFC 7606.
+
+mod faults;
+mod resets;
+mod routes;
+mod rows;
+
+use crate::common::octets;
+use rows::{Row, hold, told};
+use rs_attrs::Mode;
+use rs_update::{Outcome, effect};
+use std::test::Fail;
