@@ -2,9 +2,6 @@
 //! `told` is what clients are told by the rules and by what they take, `refused` turns that memory
 //! was refused to.
 
-ghost use Rattle.std.specs.Prelude.{◌≡◌, ◌<◌, length};
-ghost use Rattle.rs_adjin.specs.AdjIns.{client_count};
-
 mod refused;
 mod told;
 
@@ -15,182 +12,203 @@ use rs_octets::Prefix;
 use rs_open::Limit;
 use rs_policy::Config;
 use std::alloc::{AllocError, Global};
+use std::process::Abort;
 use std::sync::Arc;
-use std::test::Fail;
 
 /// The member that announces, and the one whose outlet it is.
 const SENDER: usize = 0;
 
 const CLIENT: usize = 1;
 
-fn exchange(alloc: Global) -> Result<Config, Fail> {
-    let text = concat!(
-        "as = 64500\nidentifier = \"192.0.2.1\"\n",
-        "[[client]]\nname = \"a\"\nas = 64512\nlisten = \"127.0.0.1:17901\"\npeer = \"127.0.1.1\"\n",
-        "[[client]]\nname = \"b\"\nas = 64513\nlisten = \"127.0.0.1:17901\"\npeer = \"127.0.1.2\"\n",
-    );
-    Ok(Config::read(alloc, text)?)
-}
+/// The configuration of these two.
+const TWO_MEMBERS: &str = concat!(
+    "as = 64500\nidentifier = \"192.0.2.1\"\n",
+    "[[client]]\nname = \"a\"\nas = 64512\nlisten = \"127.0.0.1:17901\"\npeer = \"127.0.1.1\"\n",
+    "[[client]]\nname = \"b\"\nas = 64513\nlisten = \"127.0.0.1:17901\"\npeer = \"127.0.1.2\"\n",
+);
 
 /// ORIGIN IGP, AS_PATH 64512 and NEXT_HOP 192.0.2.`host`.
-fn attrs(alloc: Global, host: u8) -> Result<Arc<Attrs>, AllocError> {
+fn attrs(rt: &impl Abort, alloc: Global, host: u8) -> Arc<Attrs> {
     let field = [
         0x40, 1, 1, 0, 0x40, 2, 6, 2, 1, 0, 0, 0xfc, 0, 0x40, 3, 4, 0xc0, 0, 2, host,
     ];
-    let attrs = read(alloc, &field, Mode::Four)?.attrs;
-    Ok(Arc::new(alloc, attrs)?)
+    let attrs = read(alloc, &field, Mode::Four)
+        .expect(rt, "attributes")
+        .attrs;
+    Arc::new(alloc, attrs).expect(rt, "attributes")
 }
 
 /// One of 131,072 prefixes of 24 bits from 10.0.0.0 on, in scattered order.
-fn prefix(n: u32) -> Option<Prefix> {
-    Prefix::new(0x0a00_0000 | (n % 131_072 * 32_003 % 131_072) << 8, 24)
+fn prefix(rt: &impl Abort, n: u32) -> Prefix {
+    let bits = 0x0a00_0000 | (n % 131_072 * 32_003 % 131_072) << 8;
+    Prefix::new(bits, 24).expect(rt, "a prefix of 24 bits")
 }
 
-/// So many routes of the sender, by two sets of attributes.
-fn tables(alloc: Global, config: &Config, count: u32) -> Result<AdjIns, AllocError> {
-    let mut made = AdjIns::new(alloc, config.clients())?;
-    let sets = [attrs(alloc, 11)?, attrs(alloc, 12)?];
-    for n in 0..count {
-        if let Some(prefix) = prefix(n) {
-            let set = &sets[n as usize % 2];
-            if SENDER < made.clients() && set.has_mandatory() {
-                made.put(SENDER, prefix, set)?;
-            }
+/// A member announces a prefix with a set of attributes.
+fn announce(
+    rt: &impl Abort,
+    tables: &mut AdjIns,
+    member: usize,
+    prefix: Prefix,
+    attrs: &Arc<Attrs>,
+) {
+    assert!(rt; member < tables.clients());
+    assert!(rt; attrs.has_mandatory());
+    tables.put(member, prefix, attrs).expect(rt, "a route");
+}
+
+/// A turn that went over so many touched prefixes.
+fn some(decided: usize) -> Turned {
+    Turned {
+        decided,
+        whole: false,
+    }
+}
+
+/// A turn that went over all prefixes, which are so many.
+fn all(decided: usize) -> Turned {
+    Turned {
+        decided,
+        whole: true,
+    }
+}
+
+/// The members' configuration, and what they announce.
+#[derive(Drop)]
+struct Exchange {
+    alloc: Global,
+    config: Config,
+    tables: AdjIns,
+}
+
+impl Exchange {
+    /// Members that announce nothing.
+    fn new(rt: &impl Abort, alloc: Global, text: &str) -> Exchange {
+        let config = Config::read(alloc, text).expect(rt, "a configuration");
+        let tables = AdjIns::new(alloc, config.clients()).expect(rt, "tables");
+        Exchange {
+            alloc,
+            config,
+            tables,
         }
     }
-    Ok(made)
-}
 
-/// Touches so many prefixes from this one on.
-fn touch(outlet: &mut Outlet, tables: &AdjIns, first: u32, count: u32)
-    ensures { outlet.new.client ≡ outlet.old.client }
-{
-    for n in first..first.saturating_add(count) {
-        if let Some(prefix) = prefix(n)
-            && let Some(number) = tables.number(prefix)
-        {
+    /// Two members, of which the sender announces so many prefixes, by two sets of attributes.
+    fn with_routes(rt: &impl Abort, alloc: Global, count: u32) -> Exchange {
+        let mut made = Exchange::new(rt, alloc, TWO_MEMBERS);
+        let sets = [attrs(rt, alloc, 11), attrs(rt, alloc, 12)];
+        for n in 0..count {
+            let set = &sets[n as usize % 2];
+            announce(rt, &mut made.tables, SENDER, prefix(rt, n), set);
+        }
+        made
+    }
+
+    /// The outlet of a client of four octets, which takes messages of up to 4,096.
+    fn outlet(&self, rt: &impl Abort, client: usize) -> Outlet {
+        let mut outlet = Outlet::new(self.alloc, client, false).expect(rt, "an outlet");
+        outlet.up(Mode::Four, Limit::Short);
+        outlet
+    }
+
+    /// Touches so many prefixes from this one on.
+    fn touch(&self, rt: &impl Abort, outlet: &mut Outlet, first: u32, count: u32) {
+        for n in first..first.saturating_add(count) {
+            let prefix = prefix(rt, n);
+            let number = self.tables.number(prefix).expect(rt, "its number");
             outlet.touch(number, prefix);
         }
+    }
+
+    /// What a turn answers.
+    fn turn(&self, rt: &impl Abort, outlet: &mut Outlet) -> Result<Turned, AllocError> {
+        assert!(rt; outlet.client < self.config.clients());
+        assert!(rt; self.tables.clients() == self.config.clients());
+        outlet.turn(&self.tables, &self.config)
+    }
+
+    /// A turn decides so much.
+    fn decides(&self, rt: &impl Abort, outlet: &mut Outlet, want: Turned) {
+        let turned = self.turn(rt, outlet).expect(rt, "a turn");
+        assert_eq!(rt; turned, want);
     }
 }
 
 /// Takes all messages that wait, and answers their octets.
-fn drain(alloc: Global, outlet: &mut Outlet) -> Result<Vec<u8>, AllocError>
-    ensures { outlet.new.client ≡ outlet.old.client }
-{
+fn drain(rt: &impl Abort, alloc: Global, outlet: &mut Outlet) -> Vec<u8> {
     let mut taken = Vec::new(alloc);
     for _ in 0..1_000u32 {
         outlet.begin();
-        taken.extend_from_slice(outlet.lent())?;
+        taken.extend_from_slice(outlet.lent()).expect(rt, "octets");
         let count = outlet.lent().len();
         outlet.took(count);
         if outlet.is_drained() {
-            return Ok(taken);
+            break;
         }
     }
-    Ok(taken)
+    taken
 }
 
-/// The first so many prefixes are touched, each twice; what the turn behind them answers.
-fn turn_behind(
+/// The first so many prefixes are touched, each twice; what the turn behind them decides.
+fn decides_behind(
+    rt: &impl Abort,
+    exchange: &Exchange,
     outlet: &mut Outlet,
-    tables: &AdjIns,
-    config: &Config,
     touched: u32,
-) -> Result<Turned, AllocError>
-    requires client { outlet.old.client < length config.now.clients }
-    requires clients { client_count tables.now ≡ length config.now.clients }
-    ensures { outlet.new.client ≡ outlet.old.client }
-{
-    touch(outlet, tables, 0, touched);
-    touch(outlet, tables, 0, touched);
-    outlet.turn(tables, config)
+    want: Turned,
+) {
+    exchange.touch(rt, outlet, 0, touched);
+    exchange.touch(rt, outlet, 0, touched);
+    exchange.decides(rt, outlet, want);
 }
 
 #[test]
-fn more_than_4096_touched_are_all(rt: HostRuntime) -> Result<(), Fail> {
-    let alloc = rt.alloc();
-    let config = exchange(alloc)?;
-    let tables = tables(alloc, &config, 5_000)?;
-    assert!(rt; CLIENT < config.clients());
-    assert!(rt; tables.clients() == config.clients());
-    let mut outlet = Outlet::new(alloc, CLIENT, false)?;
-    outlet.up(Mode::Four, Limit::Short);
-    assert_eq!(rt;
-        outlet.turn(&tables, &config)?,
-        Turned {
-            decided: 5_000,
-            whole: true
-        }
-    );
-    assert_eq!(rt;
-        turn_behind(&mut outlet, &tables, &config, 1)?,
-        Turned {
-            decided: 1,
-            whole: false
-        }
-    );
-    assert_eq!(rt;
-        turn_behind(&mut outlet, &tables, &config, 4_096)?,
-        Turned {
-            decided: 4_096,
-            whole: false
-        }
-    );
-    assert_eq!(rt;
-        turn_behind(&mut outlet, &tables, &config, 4_097)?,
-        Turned {
-            decided: 5_000,
-            whole: true
-        }
-    );
-    assert_eq!(rt;
-        outlet.last(),
-        Last::Done(Turned {
-            decided: 5_000,
-            whole: true
-        })
-    );
-    Ok(())
+fn more_than_4096_touched_are_all(rt: HostRuntime) {
+    let exchange = Exchange::with_routes(&rt, rt.alloc(), 5_000);
+    let mut outlet = exchange.outlet(&rt, CLIENT);
+    exchange.decides(&rt, &mut outlet, all(5_000));
+    decides_behind(&rt, &exchange, &mut outlet, 1, some(1));
+    decides_behind(&rt, &exchange, &mut outlet, 4_096, some(4_096));
+    decides_behind(&rt, &exchange, &mut outlet, 4_097, all(5_000));
+    assert_eq!(rt; outlet.last(), Last::Done(all(5_000)));
+}
+
+/// All that was told is told again, and nothing else.
+fn tells_again(rt: &impl Abort, exchange: &Exchange, outlet: &mut Outlet, told: &[u8]) {
+    outlet.again();
+    assert!(rt; !outlet.is_drained());
+    let again = drain(rt, exchange.alloc, outlet);
+    assert!(rt; again.as_slice() == told);
+    assert!(rt; outlet.is_drained());
 }
 
 #[test]
-fn all_is_told_again(rt: HostRuntime) -> Result<(), Fail> {
-    let alloc = rt.alloc();
-    let config = exchange(alloc)?;
-    let tables = tables(alloc, &config, 3_000)?;
-    assert!(rt; CLIENT < config.clients());
-    assert!(rt; tables.clients() == config.clients());
-    let mut outlet = Outlet::new(alloc, CLIENT, false)?;
-    outlet.up(Mode::Four, Limit::Short);
-    outlet.turn(&tables, &config)?;
-    let first = drain(alloc, &mut outlet)?;
+fn all_is_told_again(rt: HostRuntime) {
+    let exchange = Exchange::with_routes(&rt, rt.alloc(), 3_000);
+    let mut outlet = exchange.outlet(&rt, CLIENT);
+    exchange.decides(&rt, &mut outlet, all(3_000));
+    let first = drain(&rt, exchange.alloc, &mut outlet);
     assert!(rt; outlet.is_drained());
     // 3,000 prefixes of 4 octets each, in messages of at most 4,096 octets
     assert!(rt; first.len() > 12_000);
-    for _ in 0..2u8 {
-        outlet.again();
-        assert!(rt; !outlet.is_drained());
-        assert!(rt; drain(alloc, &mut outlet)? == first);
-        assert!(rt; outlet.is_drained());
+    tells_again(&rt, &exchange, &mut outlet, &first);
+    tells_again(&rt, &exchange, &mut outlet, &first);
+}
+
+/// The bits of the first ten prefixes that an outlet has a route for.
+fn bits(rt: &impl Abort, exchange: &Exchange, outlet: &Outlet) -> Vec<u32> {
+    let mut bits = Vec::new(exchange.alloc);
+    for (prefix, _) in outlet.routes(&exchange.tables).take(10) {
+        bits.push(prefix.bits()).expect(rt, "a prefix");
     }
-    Ok(())
+    bits
 }
 
 #[test]
-fn routes_rise(rt: HostRuntime) -> Result<(), Fail> {
-    let alloc = rt.alloc();
-    let config = exchange(alloc)?;
-    let tables = tables(alloc, &config, 6)?;
-    assert!(rt; CLIENT < config.clients());
-    assert!(rt; tables.clients() == config.clients());
-    let mut outlet = Outlet::new(alloc, CLIENT, false)?;
-    outlet.up(Mode::Four, Limit::Short);
-    outlet.turn(&tables, &config)?;
-    let mut bits = Vec::new(alloc);
-    for (prefix, _) in outlet.routes(&tables).take(10) {
-        bits.push(prefix.bits())?;
-    }
+fn routes_rise(rt: HostRuntime) {
+    let exchange = Exchange::with_routes(&rt, rt.alloc(), 6);
+    let mut outlet = exchange.outlet(&rt, CLIENT);
+    exchange.decides(&rt, &mut outlet, all(6));
     // 10.0.0.0, 10.113.15.0, 10.125.3.0, 10.250.6.0, 11.119.9.0 and 11.244.12.0
     let rising = [
         0x0a00_0000,
@@ -200,6 +218,5 @@ fn routes_rise(rt: HostRuntime) -> Result<(), Fail> {
         0x0b77_0900,
         0x0bf4_0c00,
     ];
-    assert_eq!(rt; bits.as_slice(), rising.as_slice());
-    Ok(())
+    assert_eq!(rt; bits(&rt, &exchange, &outlet).as_slice(), rising.as_slice());
 }

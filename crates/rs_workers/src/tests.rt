@@ -1,7 +1,6 @@
 //! Turns of a small exchange by several workers, against the same turns by one.
 
-ghost use Rattle.std.specs.Prelude.{◌≡◌, ◌≤◌, IfOk, length};
-ghost use Rattle.rs_adjin.specs.AdjIns.{client_count};
+ghost use Rattle.std.specs.Prelude.{IfOk};
 ghost use Rattle.rs_workers.specs.Turned.{ArePlaced};
 
 use crate::gate::{Free, Gate};
@@ -13,16 +12,26 @@ use rs_open::Limit;
 use rs_outlet::{Last, Outlet, Turned};
 use rs_policy::Config;
 use std::alloc::{AllocError, Global};
-use std::sync::Arc;
+use std::process::Abort;
 use std::sync::atomic::{AtomicBool, AtomicU64, Ordering};
-use std::test::Fail;
+use std::sync::{Arc, Wait};
 use std::thread;
+use std::thread::Threads;
 
 /// Holds each of shares 0 and 1 until the other has entered.
 #[derive(Drop)]
 struct Both {
     entered: [AtomicBool; 2],
     failed: AtomicBool,
+}
+
+impl Both {
+    fn new() -> Both {
+        Both {
+            entered: [AtomicBool::new(false), AtomicBool::new(false)],
+            failed: AtomicBool::new(false),
+        }
+    }
 }
 
 impl Gate for Both {
@@ -47,6 +56,17 @@ struct Counting {
     shares: Vec<AtomicU64>,
 }
 
+impl Counting {
+    /// None of 16 shares has entered.
+    fn new(rt: &impl Abort, alloc: Global) -> Counting {
+        let mut shares = Vec::new(alloc);
+        for _ in 0..16u8 {
+            shares.push(AtomicU64::new(0)).expect(rt, "a share");
+        }
+        Counting { shares }
+    }
+}
+
 impl Gate for Counting {
     fn enter(&self, share: usize) {
         if let Some(count) = self.shares.get(share) {
@@ -55,44 +75,59 @@ impl Gate for Counting {
     }
 }
 
-/// An exchange of so many members, AS 64496 and on.
-fn exchange(alloc: Global, members: u8) -> Result<Config, Fail> {
-    let mut text = format!(in alloc; "as = 64500\nidentifier = \"192.0.2.1\"\n")?;
+/// Puts what is said of one member, AS 64512 or one behind it, at the end of the configuration.
+fn put_member(rt: &impl Abort, alloc: Global, text: &mut String, n: u8) {
+    let number = 64512 + u32::from(n);
+    let member = format!(in alloc;
+        "[[client]]\nname = \"m{n}\"\nas = {number}\nlisten = \"127.0.0.1:17901\"\npeer = \"127.0.1.{n}\"\n"
+    );
+    let member = member.expect(rt, "a member");
+    text.push_str(member.as_str()).expect(rt, "a member");
+}
+
+/// The configuration of so many members.
+fn configuration(rt: &impl Abort, alloc: Global, members: u8) -> Config {
+    let top = "as = 64500\nidentifier = \"192.0.2.1\"\n";
+    let mut text = String::from_str(alloc, top).expect(rt, "a text");
     for n in 0..members {
-        let number = 64512 + u32::from(n);
-        let member = format!(in alloc;
-            "[[client]]\nname = \"m{n}\"\nas = {number}\nlisten = \"127.0.0.1:17901\"\npeer = \"127.0.1.{n}\"\n"
-        )?;
-        text.push_str(member.as_str())?;
+        put_member(rt, alloc, &mut text, n);
     }
-    Ok(Config::read(alloc, text.as_str())?)
+    Config::read(alloc, text.as_str()).expect(rt, "a configuration")
 }
 
 /// ORIGIN IGP, AS_PATH 64496 and NEXT_HOP 192.0.2.`host`.
-fn attrs(alloc: Global, host: u8) -> Result<Arc<Attrs>, AllocError> {
+fn attrs(rt: &impl Abort, alloc: Global, host: u8) -> Arc<Attrs> {
     let field = [
         0x40, 1, 1, 0, 0x40, 2, 6, 2, 1, 0, 0, 0xfb, 0xf0, 0x40, 3, 4, 0xc0, 0, 2, host,
     ];
-    let attrs = read(alloc, &field, Mode::Four)?.attrs;
-    Ok(Arc::new(alloc, attrs)?)
+    let attrs = read(alloc, &field, Mode::Four)
+        .expect(rt, "attributes")
+        .attrs;
+    Arc::new(alloc, attrs).expect(rt, "attributes")
+}
+
+/// A member announces one of 65,536 prefixes of 24 bits from 10.0.0.0 on.
+fn announce(rt: &impl Abort, tables: &mut AdjIns, member: usize, n: u32, attrs: &Arc<Attrs>) {
+    let prefix = Prefix::new(0x0a00_0000 | (n & 0xffff) << 8, 24).expect(rt, "a prefix");
+    assert!(rt; member < tables.clients());
+    assert!(rt; attrs.has_mandatory());
+    tables.put(member, prefix, attrs).expect(rt, "a route");
 }
 
 /// Of all members routes for their share of so many prefixes, by three sets of attributes.
-fn tables(alloc: Global, config: &Config, prefixes: u32) -> Result<AdjIns, AllocError>
-    ensures { IfOk result (λ made. client_count made ≡ length config.now.clients) }
-{
-    let mut made = AdjIns::new(alloc, config.clients())?;
-    let sets = [attrs(alloc, 11)?, attrs(alloc, 12)?, attrs(alloc, 13)?];
+fn tables(rt: &impl Abort, alloc: Global, config: &Config, prefixes: u32) -> AdjIns {
+    let mut made = AdjIns::new(alloc, config.clients()).expect(rt, "tables");
+    let sets = [
+        attrs(rt, alloc, 11),
+        attrs(rt, alloc, 12),
+        attrs(rt, alloc, 13),
+    ];
     for n in 0..prefixes {
         let from = n as usize % config.clients().max(1);
-        if let Some(prefix) = Prefix::new(0x0a00_0000 | (n & 0xffff) << 8, 24) {
-            let set = &sets[n as usize / 100 % 3];
-            if from < made.clients() && set.has_mandatory() {
-                made.put(from, prefix, set)?;
-            }
-        }
+        let set = &sets[n as usize / 100 % 3];
+        announce(rt, &mut made, from, n, set);
     }
-    Ok(made)
+    made
 }
 
 /// The outlets of all members, each up.
@@ -106,6 +141,69 @@ fn outlets(alloc: Global, config: &Config) -> Result<Vec<Outlet>, AllocError>
         all.push(outlet)?;
     }
     Ok(all)
+}
+
+/// The members' configuration, and what they announce.
+#[derive(Drop)]
+struct Exchange {
+    alloc: Global,
+    config: Config,
+    tables: AdjIns,
+}
+
+impl Exchange {
+    /// One of so many members, which announce so many prefixes.
+    fn new(rt: &impl Abort, alloc: Global, members: u8, prefixes: u32) -> Exchange {
+        let config = configuration(rt, alloc, members);
+        let tables = tables(rt, alloc, &config, prefixes);
+        Exchange {
+            alloc,
+            config,
+            tables,
+        }
+    }
+
+    /// The outlets of all members, turned by so many workers.
+    fn turned<R: Threads + Wait + Sync + Abort, G: Gate>(
+        &self,
+        rt: &R,
+        workers: usize,
+        gate: &G,
+    ) -> Vec<Outlet> {
+        assert!(rt; workers > 0);
+        assert!(rt; workers <= 16);
+        assert!(rt; self.tables.clients() == self.config.clients());
+        let mut all = outlets(self.alloc, &self.config).expect(rt, "outlets");
+        turn_all(
+            rt,
+            workers,
+            &self.tables,
+            &self.config,
+            all.as_mut_slice(),
+            gate,
+        );
+        all
+    }
+
+    /// The same, turned one after the other.
+    fn turned_alone(&self, rt: &impl Abort) -> Vec<Outlet> {
+        assert!(rt; self.tables.clients() == self.config.clients());
+        let mut all = outlets(self.alloc, &self.config).expect(rt, "outlets");
+        turn_run(&Free, 0, &self.tables, &self.config, all.as_mut_slice());
+        all
+    }
+}
+
+/// Each of so many outlets has decided all prefixes, which are so many.
+fn have_decided(rt: &impl Abort, all: &[Outlet], count: usize, decided: usize) {
+    let done = Last::Done(Turned {
+        decided,
+        whole: true,
+    });
+    assert_eq!(rt; all.len(), count);
+    for outlet in all {
+        assert_eq!(rt; outlet.last(), done);
+    }
 }
 
 /// Takes one message from each of two outlets. Whether both gave the same octets, or both none.
@@ -137,95 +235,57 @@ fn are_alike(one: &mut Outlet, other: &mut Outlet) -> bool {
 }
 
 #[test]
-fn both_shares_run(rt: HostRuntime) -> Result<(), Fail> {
-    let alloc = rt.alloc();
-    let gate = Both {
-        entered: [AtomicBool::new(false), AtomicBool::new(false)],
-        failed: AtomicBool::new(false),
-    };
-    let config = exchange(alloc, 2)?;
-    let tables = tables(alloc, &config, 10)?;
-    let mut all = outlets(alloc, &config)?;
-    turn_all(&rt, 2, &tables, &config, all.as_mut_slice(), &gate);
+fn both_shares_run(rt: HostRuntime) {
+    let gate = Both::new();
+    let exchange = Exchange::new(&rt, rt.alloc(), 2, 10);
+    let all = exchange.turned(&rt, 2, &gate);
     assert!(rt; !gate.failed.load(Ordering::SeqCst));
-    assert_eq!(rt; all.len(), 2);
-    for outlet in all.iter() {
-        let done = Last::Done(Turned {
-            decided: 10,
-            whole: true,
-        });
-        assert_eq!(rt; outlet.last(), done);
+    have_decided(&rt, &all, 2, 10);
+}
+
+/// The outlets of so many members are turned by so many workers in so many runs.
+fn has_runs<R: Threads + Wait + Sync + Abort>(
+    rt: &R,
+    alloc: Global,
+    members: u8,
+    workers: usize,
+    runs: usize,
+) {
+    let gate = Counting::new(rt, alloc);
+    let exchange = Exchange::new(rt, alloc, members, 10);
+    exchange.turned(rt, workers, &gate);
+    for (share, entries) in gate.shares.iter().enumerate() {
+        let count = entries.load(Ordering::SeqCst);
+        let want = u64::from(share < runs);
+        assert_eq!(rt; count, want, "share {share} of {members} by {workers}");
     }
-    Ok(())
 }
 
 #[test]
-fn runs_are_as_long_as_said(rt: HostRuntime) -> Result<(), Fail> {
-    let alloc = rt.alloc();
-    // outlets, workers, runs
-    for (members, workers, runs) in [
-        (1u8, 16usize, 1usize),
-        (5, 4, 3),
-        (16, 16, 16),
-        (7, 2, 2),
-        (6, 1, 1),
-    ] {
-        let mut shares = Vec::new(alloc);
-        for _ in 0..16u8 {
-            shares.push(AtomicU64::new(0))?;
-        }
-        let gate = Counting { shares };
-        let config = exchange(alloc, members)?;
-        let tables = tables(alloc, &config, 10)?;
-        let mut all = outlets(alloc, &config)?;
-        turn_all(
-            &rt,
-            workers.clamp(1, 16),
-            &tables,
-            &config,
-            all.as_mut_slice(),
-            &gate,
-        );
-        for (share, entries) in gate.shares.iter().enumerate() {
-            let want = u64::from(share < runs);
-            assert_eq!(rt;
-                entries.load(Ordering::SeqCst),
-                want,
-                "share {share} of {members} by {workers}"
-            );
-        }
+fn runs_are_as_long_as_said(rt: HostRuntime) {
+    // members, workers, runs
+    has_runs(&rt, rt.alloc(), 1, 16, 1);
+    has_runs(&rt, rt.alloc(), 5, 4, 3);
+    has_runs(&rt, rt.alloc(), 16, 16, 16);
+    has_runs(&rt, rt.alloc(), 7, 2, 2);
+    has_runs(&rt, rt.alloc(), 6, 1, 1);
+}
+
+/// Turns by so many workers leave all seven outlets as turns one after the other do.
+fn is_the_same<R: Threads + Wait + Sync + Abort>(rt: &R, exchange: &Exchange, workers: usize) {
+    let mut alone = exchange.turned_alone(rt);
+    let mut all = exchange.turned(rt, workers, &Free);
+    have_decided(rt, &all, 7, 10_000);
+    for (one, other) in alone.iter_mut().zip(all.iter_mut()) {
+        assert!(rt; are_alike(one, other), "{workers} workers");
     }
-    Ok(())
 }
 
 #[test]
-fn any_number_of_workers_gives_the_same(rt: HostRuntime) -> Result<(), Fail> {
-    let alloc = rt.alloc();
-    let config = exchange(alloc, 7)?;
-    let tables = tables(alloc, &config, 10_000)?;
-    for workers in [1usize, 2, 3, 16] {
-        let mut alone = outlets(alloc, &config)?;
-        turn_run(&Free, 0, &tables, &config, alone.as_mut_slice());
-        let mut all = outlets(alloc, &config)?;
-        turn_all(
-            &rt,
-            workers.clamp(1, 16),
-            &tables,
-            &config,
-            all.as_mut_slice(),
-            &Free,
-        );
-        assert_eq!(rt; all.len(), 7);
-        for (one, other) in alone.iter_mut().zip(all.iter_mut()) {
-            assert_eq!(rt;
-                other.last(),
-                Last::Done(Turned {
-                    decided: 10_000,
-                    whole: true
-                })
-            );
-            assert!(rt; are_alike(one, other), "{workers} workers");
-        }
-    }
-    Ok(())
+fn any_number_of_workers_gives_the_same(rt: HostRuntime) {
+    let exchange = Exchange::new(&rt, rt.alloc(), 7, 10_000);
+    is_the_same(&rt, &exchange, 1);
+    is_the_same(&rt, &exchange, 2);
+    is_the_same(&rt, &exchange, 3);
+    is_the_same(&rt, &exchange, 16);
 }

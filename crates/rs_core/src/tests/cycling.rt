@@ -1,9 +1,8 @@
 //! A member that announces and withdraws ever new prefixes.
 
-use crate::route_server::Core;
-use crate::tests::exchange::{A, B, OPEN_A, OPEN_B, come_up, sent, server};
+use crate::tests::exchange::{A, B, Exchange, put};
 use std::alloc::Global;
-use std::test::Fail;
+use std::process::Abort;
 
 /// How many prefixes one of its UPDATEs names.
 const EACH: u32 = 1000;
@@ -13,77 +12,71 @@ const ATTRIBUTES: [u8; 20] = [
     0x40, 1, 1, 0, 0x40, 2, 6, 2, 1, 0, 0, 0xfb, 0xf0, 0x40, 3, 4, 0xc0, 0, 2, 11,
 ];
 
-fn put_count(octets: &mut Vec<u8>, count: usize) -> Result<(), Fail> {
-    octets.push((count / 256 % 256) as u8)?;
-    octets.push((count % 256) as u8)?;
-    Ok(())
+/// Puts a number in two octets.
+fn put_count(rt: &impl Abort, octets: &mut Vec<u8>, count: usize) {
+    put(
+        rt,
+        octets,
+        &[(count / 256 % 256) as u8, (count % 256) as u8],
+    );
 }
 
 /// So many prefixes of 24 bits, from a number on.
-fn prefixes(alloc: Global, first: u32) -> Result<Vec<u8>, Fail> {
+fn prefixes(rt: &impl Abort, alloc: Global, first: u32) -> Vec<u8> {
     let mut octets = Vec::new(alloc);
     for k in 0..EACH {
-        let bits = first.wrapping_add(k);
-        let [_, a, b, c] = bits.to_be_bytes();
-        octets.extend_from_slice(&[24, a, b, c])?;
+        let [_, a, b, c] = first.wrapping_add(k).to_be_bytes();
+        put(rt, &mut octets, &[24, a, b, c]);
     }
-    Ok(octets)
+    octets
 }
 
-/// An UPDATE that announces such prefixes, or withdraws them.
-fn update(alloc: Global, first: u32, is_announced: bool) -> Result<Vec<u8>, Fail> {
-    let all = prefixes(alloc, first)?;
-    let mut octets = vec![in alloc; 0xff; 16]?;
-    let attributes: &[u8] = if is_announced { &ATTRIBUTES } else { &[] };
-    let (withdrawn, nlri) = if is_announced {
-        (0, all.len())
-    } else {
-        (all.len(), 0)
-    };
-    put_count(
-        &mut octets,
-        all.len()
-            .saturating_add(23)
-            .saturating_add(attributes.len()),
-    )?;
-    octets.push(2)?;
-    put_count(&mut octets, withdrawn)?;
-    if nlri == 0 {
-        octets.extend_from_slice(&all)?;
-    }
-    put_count(&mut octets, attributes.len())?;
-    octets.extend_from_slice(attributes)?;
-    if nlri > 0 {
-        octets.extend_from_slice(&all)?;
-    }
-    Ok(octets)
+/// An UPDATE of these fields.
+fn update(
+    rt: &impl Abort,
+    alloc: Global,
+    withdrawn: &[u8],
+    attributes: &[u8],
+    announced: &[u8],
+) -> Vec<u8> {
+    let count = withdrawn
+        .len()
+        .saturating_add(attributes.len())
+        .saturating_add(announced.len());
+    let mut octets = Vec::new(alloc);
+    put(rt, &mut octets, &[0xff; 16]);
+    put_count(rt, &mut octets, count.saturating_add(23));
+    put(rt, &mut octets, &[2]);
+    put_count(rt, &mut octets, withdrawn.len());
+    put(rt, &mut octets, withdrawn);
+    put_count(rt, &mut octets, attributes.len());
+    put(rt, &mut octets, attributes);
+    put(rt, &mut octets, announced);
+    octets
 }
 
-fn hear(core: &mut Core, octets: &[u8]) -> Result<(), Fail> {
-    if A < core.clients() {
-        core.octets(A, octets)?;
-    }
-    core.turn();
-    Ok(())
+/// The member announces prefixes from a number on, of which the other is told, and withdraws them.
+fn cycle(rt: &impl Abort, exchange: &mut Exchange, first: u32) {
+    let all = prefixes(rt, exchange.alloc, first);
+    let announced = update(rt, exchange.alloc, &[], &ATTRIBUTES, &all);
+    exchange.hear_octets(rt, A, &announced);
+    exchange.turn();
+    assert!(rt; !exchange.sent(rt, B, 5_000).is_empty());
+    let withdrawn = update(rt, exchange.alloc, &all, &[], &[]);
+    exchange.hear_octets(rt, A, &withdrawn);
+    exchange.turn();
+    exchange.sent(rt, B, 5_000);
 }
 
 #[test]
-fn cycled_prefixes_make_no_table_grow(rt: HostRuntime) -> Result<(), Fail> {
-    let alloc = rt.alloc();
-    let mut core = server(alloc, "", "")?;
-    come_up(alloc, &mut core, A, OPEN_A)?;
-    come_up(alloc, &mut core, B, OPEN_B)?;
+fn cycled_prefixes_make_no_table_grow(rt: HostRuntime) {
+    let mut exchange = Exchange::of_both(&rt, rt.alloc(), "");
     for round in 0..20u32 {
         let first = round.wrapping_mul(EACH).wrapping_add(0x0a_0000);
-        hear(&mut core, &update(alloc, first, true)?)?;
-        assert!(rt; !sent(alloc, &mut core, B, 5000)?.is_empty());
-        hear(&mut core, &update(alloc, first, false)?)?;
-        sent(alloc, &mut core, B, 5000)?;
+        cycle(&rt, &mut exchange, first);
     }
     // Two rounds' prefixes may have numbers at once: a number is given up behind the turn.
-    assert!(rt; core.ribs.tables.numbers() <= 2 * EACH as usize);
-    if A < core.clients() {
-        assert!(rt; core.is_established(A));
-    }
-    Ok(())
+    assert!(rt; exchange.core.ribs.tables.numbers() <= 2 * EACH as usize);
+    assert!(rt; A < exchange.core.clients());
+    assert!(rt; exchange.core.is_established(A));
 }

@@ -2,13 +2,15 @@
 
 use crate::driving::{drive, drive_with};
 use crate::links::Event;
+use crate::route_server::Core;
 use crate::tests::exchange::{
-    A, B, KEEPALIVE, OPEN_A, OPEN_B, OPEN_SERVER, ROUTE, messages, server, text,
+    A, B, KEEPALIVE, NO_ROUTE, OPEN_A, OPEN_B, OPEN_SERVER, ROUTE, server, text,
 };
 use crate::tests::link::{Said, Tape};
 use crate::tests::turns::Both;
 use std::alloc::Global;
-use std::test::Fail;
+use std::process::Abort;
+use std::sync::Wait;
 
 /// The octets of our OPEN, of a KEEPALIVE and of the UPDATE with a's route.
 const OPEN_LEN: usize = 37;
@@ -18,26 +20,39 @@ const KEEPALIVE_LEN: usize = 19;
 const ROUTE_LEN: usize = 47;
 
 /// A link by which both members come up, a announces its route, and what is touched is decided.
-fn with_a_route(alloc: Global) -> Result<Tape, Fail> {
+fn with_a_route(rt: &impl Abort, alloc: Global) -> Tape {
     let mut link = Tape::new(alloc);
-    link.come_up(A, OPEN_A)?;
-    link.come_up(B, OPEN_B)?;
-    link.hear(A, ROUTE)?;
-    link.add(Event::Turn)?;
-    Ok(link)
+    link.come_up(rt, A, OPEN_A);
+    link.come_up(rt, B, OPEN_B);
+    link.hear(rt, A, ROUTE);
+    link.add(rt, Event::Turn);
+    link
 }
 
 /// What such a link is told so far: it began two clients, and each took two messages.
 const UP: usize = 6;
 
+/// The same link takes all of these.
+fn take_all_so_far(rt: &impl Abort, link: &mut Tape) {
+    for _ in 0..4 {
+        link.take(rt, Some(5_000));
+    }
+}
+
+/// Drives a route server by a link to its next stop.
+fn play(rt: &impl Wait, core: &mut Core, link: &mut Tape) {
+    drive(rt, core, link);
+}
+
+/// Nothing is owed to a client.
+fn is_drained(rt: &impl Abort, core: &Core, c: usize) {
+    assert!(rt; c < core.clients());
+    assert!(rt; core.is_drained(c));
+}
+
 #[test]
-fn a_route_goes_over_a_link(rt: HostRuntime) -> Result<(), Fail> {
-    let alloc = rt.alloc();
-    let mut core = server(alloc, "", "")?;
-    let mut link = with_a_route(alloc)?;
-    link.add(Event::Room(B, 5000))?;
-    drive(&rt, &mut core, &mut link);
-    let all_said = [
+fn a_route_goes_over_a_link(rt: HostRuntime) {
+    const ALL_SAID: [Said; 7] = [
         Said::Begin(A),
         Said::Took(A, OPEN_LEN),
         Said::Took(A, KEEPALIVE_LEN),
@@ -46,61 +61,42 @@ fn a_route_goes_over_a_link(rt: HostRuntime) -> Result<(), Fail> {
         Said::Took(B, KEEPALIVE_LEN),
         Said::Took(B, ROUTE_LEN),
     ];
-    assert_eq!(rt; link.said_from(0), all_said.as_slice());
-    let greeting = messages(alloc, &[OPEN_SERVER, KEEPALIVE])?;
-    assert_eq!(rt; link.sent[A], greeting);
-    let all = messages(alloc, &[OPEN_SERVER, KEEPALIVE, ROUTE])?;
-    assert_eq!(rt; link.sent[B], all);
+    let mut core = server(&rt, rt.alloc(), "", "");
+    let mut link = with_a_route(&rt, rt.alloc());
+    link.room(&rt, B, 5_000);
+    play(&rt, &mut core, &mut link);
+    link.was_told(&rt, 0, &ALL_SAID);
+    link.was_sent(&rt, A, &[OPEN_SERVER, KEEPALIVE]);
+    link.was_sent(&rt, B, &[OPEN_SERVER, KEEPALIVE, ROUTE]);
     assert!(rt; !link.is_full);
-    if B < core.clients() {
-        assert!(rt; core.is_drained(B));
-    }
-    Ok(())
+    is_drained(&rt, &core, B);
 }
 
 #[test]
-fn a_link_takes_nothing_or_a_part(rt: HostRuntime) -> Result<(), Fail> {
-    let alloc = rt.alloc();
-    let mut core = server(alloc, "", "")?;
-    let mut link = with_a_route(alloc)?;
-    for _ in 0..4 {
-        link.take(Some(5000))?;
-    }
-    link.take(Some(0))?;
-    link.take(Some(20))?;
-    link.take(Some(0))?;
-    for _ in 0..3 {
-        link.add(Event::Room(B, 5000))?;
-    }
-    drive(&rt, &mut core, &mut link);
-    let last = [
+fn a_link_takes_nothing_or_a_part(rt: HostRuntime) {
+    const LAST: [Said; 4] = [
         Said::Took(B, 0),
         Said::Took(B, 20),
         Said::Took(B, 0),
         Said::Took(B, ROUTE_LEN - 20),
     ];
-    assert_eq!(rt; link.said_from(UP), last.as_slice());
-    let all = messages(alloc, &[OPEN_SERVER, KEEPALIVE, ROUTE])?;
-    assert_eq!(rt; link.sent[B], all);
-    Ok(())
+    let mut core = server(&rt, rt.alloc(), "", "");
+    let mut link = with_a_route(&rt, rt.alloc());
+    take_all_so_far(&rt, &mut link);
+    link.take(&rt, Some(0));
+    link.take(&rt, Some(20));
+    link.take(&rt, Some(0));
+    link.room(&rt, B, 5_000);
+    link.room(&rt, B, 5_000);
+    link.room(&rt, B, 5_000);
+    play(&rt, &mut core, &mut link);
+    link.was_told(&rt, UP, &LAST);
+    link.was_sent(&rt, B, &[OPEN_SERVER, KEEPALIVE, ROUTE]);
 }
 
 #[test]
-fn a_link_that_fails_is_a_loss(rt: HostRuntime) -> Result<(), Fail> {
-    let alloc = rt.alloc();
-    let mut core = server(alloc, "", "")?;
-    let mut link = with_a_route(alloc)?;
-    for _ in 0..4 {
-        link.take(Some(5000))?;
-    }
-    link.take(Some(20))?;
-    link.take(None)?;
-    link.add(Event::Room(B, 5000))?;
-    link.come_up(B, OPEN_B)?;
-    link.add(Event::Turn)?;
-    link.add(Event::Room(B, 5000))?;
-    drive(&rt, &mut core, &mut link);
-    let last = [
+fn a_link_that_fails_is_a_loss(rt: HostRuntime) {
+    const LAST: [Said; 6] = [
         Said::Took(B, 20),
         Said::Failed(B),
         Said::Begin(B),
@@ -108,64 +104,65 @@ fn a_link_that_fails_is_a_loss(rt: HostRuntime) -> Result<(), Fail> {
         Said::Took(B, KEEPALIVE_LEN),
         Said::Took(B, ROUTE_LEN),
     ];
-    assert_eq!(rt; link.said_from(UP), last.as_slice());
-    Ok(())
+    let mut core = server(&rt, rt.alloc(), "", "");
+    let mut link = with_a_route(&rt, rt.alloc());
+    take_all_so_far(&rt, &mut link);
+    link.take(&rt, Some(20));
+    link.take(&rt, None);
+    link.room(&rt, B, 5_000);
+    link.come_up(&rt, B, OPEN_B);
+    link.add(&rt, Event::Turn);
+    link.room(&rt, B, 5_000);
+    play(&rt, &mut core, &mut link);
+    link.was_told(&rt, UP, &LAST);
 }
 
 #[test]
-fn a_second_drive_goes_on(rt: HostRuntime) -> Result<(), Fail> {
-    let alloc = rt.alloc();
-    let mut core = server(alloc, "", "")?;
-    let mut link = with_a_route(alloc)?;
-    link.add(Event::Room(B, 20))?;
-    link.add(Event::Stop)?;
-    link.add(Event::Lost(A))?;
-    link.add(Event::Turn)?;
-    link.add(Event::Room(B, 5000))?;
-    drive(&rt, &mut core, &mut link);
-    assert_eq!(rt; link.said_from(UP), [Said::Took(B, 20)].as_slice());
-    drive(&rt, &mut core, &mut link);
-    let no_route = "001b02000418c633640000";
-    let all = messages(alloc, &[OPEN_SERVER, KEEPALIVE, ROUTE, no_route])?;
-    assert_eq!(rt; link.sent[B], all);
-    Ok(())
+fn a_second_drive_goes_on(rt: HostRuntime) {
+    let mut core = server(&rt, rt.alloc(), "", "");
+    let mut link = with_a_route(&rt, rt.alloc());
+    link.room(&rt, B, 20);
+    link.add(&rt, Event::Stop);
+    link.add(&rt, Event::Lost(A));
+    link.add(&rt, Event::Turn);
+    link.room(&rt, B, 5_000);
+    play(&rt, &mut core, &mut link);
+    link.was_told(&rt, UP, &[Said::Took(B, 20)]);
+    play(&rt, &mut core, &mut link);
+    link.was_sent(&rt, B, &[OPEN_SERVER, KEEPALIVE, ROUTE, NO_ROUTE]);
 }
 
 #[test]
-fn a_link_is_told_of_ends_and_rules(rt: HostRuntime) -> Result<(), Fail> {
-    let alloc = rt.alloc();
-    let mut core = server(alloc, "", "")?;
-    let mut link = Tape::new(alloc);
-    link.come_up(A, OPEN_A)?;
-    link.add(Event::Opened(A))?;
-    link.put_text(text(alloc, "", "", "export = [{ action = \"drop\" }]")?.as_str())?;
-    link.add(Event::Rules)?;
-    // an OPEN is not expected any more (RFC 4271, 6.6)
-    link.hear(A, OPEN_A)?;
-    link.add(Event::Room(A, 20))?;
-    link.add(Event::Room(A, 5000))?;
-    drive(&rt, &mut core, &mut link);
-    let last = [
+fn a_link_is_told_of_ends_and_rules(rt: HostRuntime) {
+    const LAST: [Said; 5] = [
         Said::Busy(A),
         Said::Ruled(true),
         Said::Took(A, 20),
         Said::Took(A, 1),
         Said::End(A),
     ];
-    assert_eq!(rt; link.said_from(3), last.as_slice());
-    Ok(())
+    let rules = text(&rt, rt.alloc(), "", "", "export = [{ action = \"drop\" }]");
+    let mut core = server(&rt, rt.alloc(), "", "");
+    let mut link = Tape::new(rt.alloc());
+    link.come_up(&rt, A, OPEN_A);
+    link.add(&rt, Event::Opened(A));
+    link.put_text(&rt, rules.as_str());
+    link.add(&rt, Event::Rules);
+    // an OPEN is not expected any more (RFC 4271, 6.6)
+    link.hear(&rt, A, OPEN_A);
+    link.room(&rt, A, 20);
+    link.room(&rt, A, 5_000);
+    play(&rt, &mut core, &mut link);
+    link.was_told(&rt, 3, &LAST);
 }
 
 #[test]
-fn both_shares_run_by_a_link(rt: HostRuntime) -> Result<(), Fail> {
-    let alloc = rt.alloc();
-    let mut core = server(alloc, "", "")?;
-    let mut link = with_a_route(alloc)?;
-    link.add(Event::Room(B, 5000))?;
+fn both_shares_run_by_a_link(rt: HostRuntime) {
+    let mut core = server(&rt, rt.alloc(), "", "");
+    let mut link = with_a_route(&rt, rt.alloc());
+    link.room(&rt, B, 5_000);
     let gate = Both::new();
     drive_with(&rt, 2, &gate, &mut core, &mut link);
     assert!(rt; !gate.has_failed());
-    let all = messages(alloc, &[OPEN_SERVER, KEEPALIVE, ROUTE])?;
-    assert_eq!(rt; link.sent[B], all);
-    Ok(())
+    link.was_sent(&rt, B, &[OPEN_SERVER, KEEPALIVE, ROUTE]);
 }

@@ -1,164 +1,126 @@
 //! Why sessions end, and which UPDATEs are not taken as they come.
 
-use crate::endings::{Ending, Notice};
-use crate::route_server::Core;
-use crate::tests::exchange::{
-    A, B, BAD_ROUTE, NO_NEXT_HOP, NO_ROUTE, OPEN_A, OPEN_B, ROUTE, come_up, hear, server,
-    with_a_route,
-};
+use crate::endings::{Ending, FaultedUpdates, Notice};
+use crate::tests::exchange::{A, B, BAD_ROUTE, Exchange, NO_NEXT_HOP, NO_ROUTE, OPEN_A, ROUTE};
 use rs_attrs::{AttributeFault, Cause, Faulted};
 use rs_open::Short;
-use std::test::Fail;
+use std::process::Abort;
 
 /// Why the last session of a client ended.
-fn ending(core: &Core, c: usize) -> Option<Ending> {
-    if c < core.clients() {
-        core.ending(c)
-    } else {
-        None
-    }
+fn ending(rt: &impl Abort, exchange: &Exchange, c: usize) -> Option<Ending> {
+    assert!(rt; c < exchange.core.clients());
+    exchange.core.ending(c)
 }
 
-/// The NOTIFICATION by which a client ended it.
-fn notice(core: &Core, c: usize) -> Option<Notice> {
-    match ending(core, c) {
-        Some(Ending::Heard(notice)) => Some(notice),
-        _ => None,
-    }
+/// The last session of a client ended so.
+fn has_ended(rt: &impl Abort, exchange: &Exchange, c: usize, want: Ending) {
+    assert_eq!(rt; ending(rt, exchange, c), Some(want), "client {c}");
 }
 
-/// How many of its UPDATEs were at fault, and the last one's faults.
-fn faulted(core: &Core, c: usize) -> Option<(u64, Faulted)> {
-    if c < core.clients() {
-        let found = core.faulted(c);
-        Some((found.count, found.last))
-    } else {
-        None
-    }
+/// No session of a client has ended.
+fn goes_on(rt: &impl Abort, exchange: &Exchange, c: usize) {
+    assert_eq!(rt; ending(rt, exchange, c), None, "client {c}");
 }
 
-fn lose(core: &mut Core, c: usize) {
-    if c < core.clients() {
-        core.lost(c);
-    }
+/// So many UPDATEs of a client were at fault, the last one by these faults.
+fn has_faulted(rt: &impl Abort, exchange: &Exchange, c: usize, count: u64, last: Faulted) {
+    assert!(rt; c < exchange.core.clients());
+    let want = FaultedUpdates { count, last };
+    assert_eq!(rt; exchange.core.faulted(c), want, "client {c}");
 }
 
 #[test]
-fn a_session_ends_by_a_notification_of_ours(rt: HostRuntime) -> Result<(), Fail> {
-    let alloc = rt.alloc();
-    let mut core = server(alloc, "", "")?;
-    come_up(alloc, &mut core, A, OPEN_A)?;
-    come_up(alloc, &mut core, B, OPEN_B)?;
-    assert_eq!(rt; ending(&core, A), None);
+fn a_session_ends_by_a_notification_of_ours(rt: HostRuntime) {
+    let mut exchange = Exchange::of_both(&rt, rt.alloc(), "");
+    goes_on(&rt, &exchange, A);
     // Finite State Machine Error (RFC 4271, 6.6)
-    hear(alloc, &mut core, A, OPEN_A)?;
-    assert_eq!(rt; ending(&core, A), Some(Ending::Said(Short::note(5, 0))));
-    assert_eq!(rt; ending(&core, B), None);
+    exchange.hear(&rt, A, OPEN_A);
+    let unexpected = Ending::Said(Short::note(5, 0));
+    has_ended(&rt, &exchange, A, unexpected);
+    goes_on(&rt, &exchange, B);
     // Bad Message Type, with the type as its data (RFC 4271, 6.1)
-    hear(alloc, &mut core, B, "001309")?;
-    assert_eq!(rt;
-        ending(&core, B),
-        Some(Ending::Said(Short::note_1(1, 3, 9)))
-    );
+    exchange.hear(&rt, B, "001309");
+    has_ended(&rt, &exchange, B, Ending::Said(Short::note_1(1, 3, 9)));
     // The connection is lost behind the end.
-    lose(&mut core, A);
-    assert_eq!(rt; ending(&core, A), Some(Ending::Said(Short::note(5, 0))));
-    Ok(())
+    exchange.lose(&rt, A);
+    has_ended(&rt, &exchange, A, unexpected);
 }
 
 #[test]
-fn a_session_ends_by_its_hold_timer(rt: HostRuntime) -> Result<(), Fail> {
-    let alloc = rt.alloc();
-    let mut core = server(alloc, "", "")?;
-    come_up(alloc, &mut core, A, OPEN_A)?;
-    core.moment(89);
-    assert_eq!(rt; ending(&core, A), None);
-    core.moment(90);
-    assert_eq!(rt; ending(&core, A), Some(Ending::HoldTimer));
-    assert_eq!(rt; ending(&core, B), None);
-    Ok(())
+fn a_session_ends_by_its_hold_timer(rt: HostRuntime) {
+    let mut exchange = Exchange::new(&rt, rt.alloc(), "", "");
+    exchange.come_up(&rt, A, OPEN_A);
+    exchange.core.moment(89);
+    goes_on(&rt, &exchange, A);
+    exchange.core.moment(90);
+    has_ended(&rt, &exchange, A, Ending::HoldTimer);
+    goes_on(&rt, &exchange, B);
 }
 
 #[test]
-fn a_session_ends_by_the_clients_notification(rt: HostRuntime) -> Result<(), Fail> {
-    let alloc = rt.alloc();
-    let mut core = server(alloc, "", "")?;
-    come_up(alloc, &mut core, A, OPEN_A)?;
-    come_up(alloc, &mut core, B, OPEN_B)?;
+fn a_session_ends_by_the_clients_notification(rt: HostRuntime) {
+    let mut exchange = Exchange::new(&rt, rt.alloc(), "", "");
+    exchange.come_up(&rt, A, OPEN_A);
     // Administrative Shutdown, with a text of two octets behind its length (RFC 9003, 2)
-    hear(alloc, &mut core, A, "0018030602026f6b")?;
+    exchange.hear(&rt, A, "0018030602026f6b");
     let mut data = [0; 64];
-    data[0] = 2;
-    data[1] = 0x6f;
-    data[2] = 0x6b;
+    data[..3].copy_from_slice(&[2, 0x6f, 0x6b]);
     let shutdown = Notice {
         code: 6,
         sub: 2,
         data,
         count: 3,
     };
-    assert_eq!(rt; notice(&core, A), Some(shutdown));
-    assert_eq!(rt; ending(&core, B), None);
-    Ok(())
+    has_ended(&rt, &exchange, A, Ending::Heard(shutdown));
+    goes_on(&rt, &exchange, B);
 }
 
 #[test]
-fn a_session_ends_with_its_connection(rt: HostRuntime) -> Result<(), Fail> {
-    let alloc = rt.alloc();
-    let mut core = server(alloc, "", "")?;
-    come_up(alloc, &mut core, A, OPEN_A)?;
-    lose(&mut core, A);
-    lose(&mut core, B);
-    assert_eq!(rt; ending(&core, A), Some(Ending::Lost));
-    assert_eq!(rt; ending(&core, B), None);
-    Ok(())
+fn a_session_ends_with_its_connection(rt: HostRuntime) {
+    let mut exchange = Exchange::new(&rt, rt.alloc(), "", "");
+    exchange.come_up(&rt, A, OPEN_A);
+    exchange.lose(&rt, A);
+    exchange.lose(&rt, B);
+    has_ended(&rt, &exchange, A, Ending::Lost);
+    goes_on(&rt, &exchange, B);
+}
+
+const NO_FAULT: Faulted = Faulted {
+    withdraw: None,
+    discard: None,
+};
+
+/// An attribute of this type is at fault.
+fn fault(kind: u8, cause: Cause) -> Faulted {
+    Faulted {
+        withdraw: Some(AttributeFault { kind, cause }),
+        discard: None,
+    }
 }
 
 #[test]
-fn updates_at_fault_are_counted(rt: HostRuntime) -> Result<(), Fail> {
-    let alloc = rt.alloc();
-    let mut core = server(alloc, "", "")?;
-    let none = Faulted {
-        withdraw: None,
-        discard: None,
-    };
-    let origin = Faulted {
-        withdraw: Some(AttributeFault {
-            kind: 1,
-            cause: Cause::Value,
-        }),
-        discard: None,
-    };
-    with_a_route(alloc, &mut core)?;
-    assert_eq!(rt; faulted(&core, A), Some((0, none)));
-    hear(alloc, &mut core, A, BAD_ROUTE)?;
-    hear(alloc, &mut core, A, ROUTE)?;
-    assert_eq!(rt; faulted(&core, A), Some((1, origin)));
+fn updates_at_fault_are_counted(rt: HostRuntime) {
+    let origin = fault(1, Cause::Value);
+    let mut exchange = Exchange::with_a_route(&rt, rt.alloc(), "");
+    has_faulted(&rt, &exchange, A, 0, NO_FAULT);
+    exchange.hear(&rt, A, BAD_ROUTE);
+    exchange.hear(&rt, A, ROUTE);
+    has_faulted(&rt, &exchange, A, 1, origin);
     // They are counted over all sessions.
-    lose(&mut core, A);
-    come_up(alloc, &mut core, A, OPEN_A)?;
-    hear(alloc, &mut core, A, BAD_ROUTE)?;
-    assert_eq!(rt; faulted(&core, A), Some((2, origin)));
-    assert_eq!(rt; faulted(&core, B), Some((0, none)));
-    Ok(())
+    exchange.lose(&rt, A);
+    exchange.come_up(&rt, A, OPEN_A);
+    exchange.hear(&rt, A, BAD_ROUTE);
+    has_faulted(&rt, &exchange, A, 2, origin);
+    has_faulted(&rt, &exchange, B, 0, NO_FAULT);
 }
 
 #[test]
-fn routes_without_next_hop_are_counted(rt: HostRuntime) -> Result<(), Fail> {
-    let alloc = rt.alloc();
-    let mut core = server(alloc, "", "")?;
-    let next_hop = Faulted {
-        withdraw: Some(AttributeFault {
-            kind: 3,
-            cause: Cause::Missing,
-        }),
-        discard: None,
-    };
-    with_a_route(alloc, &mut core)?;
-    hear(alloc, &mut core, A, NO_NEXT_HOP)?;
-    assert_eq!(rt; faulted(&core, A), Some((1, next_hop)));
+fn routes_without_next_hop_are_counted(rt: HostRuntime) {
+    let next_hop = fault(3, Cause::Missing);
+    let mut exchange = Exchange::with_a_route(&rt, rt.alloc(), "");
+    exchange.hear(&rt, A, NO_NEXT_HOP);
+    has_faulted(&rt, &exchange, A, 1, next_hop);
     // What only withdraws misses nothing.
-    hear(alloc, &mut core, A, NO_ROUTE)?;
-    assert_eq!(rt; faulted(&core, A), Some((1, next_hop)));
-    Ok(())
+    exchange.hear(&rt, A, NO_ROUTE);
+    has_faulted(&rt, &exchange, A, 1, next_hop);
 }

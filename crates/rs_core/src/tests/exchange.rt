@@ -1,12 +1,9 @@
 //! An exchange of members a and b, AS 64496 and 64497, beside the server's AS 64500.
 
-ghost use Rattle.std.specs.Prelude.{◌≡◌, ◌<◌, ◌≤◌, length};
-ghost use Rattle.rs_core.specs.Core.{client_count, lent_octets};
-
 use crate::route_server::Core;
 use rs_policy::Config;
 use std::alloc::Global;
-use std::test::Fail;
+use std::process::Abort;
 
 pub const A: usize = 0;
 
@@ -37,95 +34,183 @@ pub const ROUTE_B: &str = "002f02000000144001010040020602010000fbf1400304c000020
 
 pub const NO_ROUTE_B: &str = "001b02000418cb00710000";
 
-/// The octets that these hexadecimal digits spell, behind a marker (RFC 4271, 4.1).
-pub fn message(alloc: Global, digits: &str) -> Result<Vec<u8>, Fail> {
-    let mut octets = vec![in alloc; 0xff; 16]?;
-    for pair in digits.as_bytes().chunks(2) {
-        let mut octet = 0u32;
-        for digit in pair {
-            octet = octet % 16 * 16 + char::from(*digit).to_digit(16).unwrap_or(0) % 16;
-        }
-        octets.push((octet % 256) as u8)?;
+/// Puts octets behind others.
+pub fn put(rt: &impl Abort, octets: &mut Vec<u8>, more: &[u8]) {
+    octets.extend_from_slice(more).expect(rt, "octets");
+}
+
+/// The octet that two hexadecimal digits spell.
+fn octet(pair: &[u8]) -> u8 {
+    let mut octet = 0u32;
+    for digit in pair {
+        octet = octet % 16 * 16 + char::from(*digit).to_digit(16).unwrap_or(0) % 16;
     }
-    Ok(octets)
+    (octet % 256) as u8
+}
+
+/// Puts the octets that these hexadecimal digits spell, behind a marker (RFC 4271, 4.1).
+fn put_message(rt: &impl Abort, octets: &mut Vec<u8>, digits: &str) {
+    put(rt, octets, &[0xff; 16]);
+    for pair in digits.as_bytes().chunks(2) {
+        octets.push(octet(pair)).expect(rt, "an octet");
+    }
 }
 
 /// These messages, one behind the other.
-pub fn messages(alloc: Global, all: &[&str]) -> Result<Vec<u8>, Fail> {
+pub fn messages(rt: &impl Abort, alloc: Global, all: &[&str]) -> Vec<u8> {
     let mut octets = Vec::new(alloc);
     for digits in all {
-        octets.extend_from_slice(&message(alloc, digits)?)?;
+        put_message(rt, &mut octets, digits);
     }
-    Ok(octets)
+    octets
+}
+
+/// One message.
+pub fn message(rt: &impl Abort, alloc: Global, digits: &str) -> Vec<u8> {
+    let mut octets = Vec::new(alloc);
+    put_message(rt, &mut octets, digits);
+    octets
 }
 
 /// The text of the configuration, with these lines more for the server, for a and for b.
-pub fn text(alloc: Global, server: &str, of_a: &str, of_b: &str) -> Result<String, Fail> {
-    Ok(format!(in alloc;
+pub fn text(rt: &impl Abort, alloc: Global, server: &str, of_a: &str, of_b: &str) -> String {
+    let text = format!(in alloc;
         "as = 64500\nidentifier = \"192.0.2.1\"\nhold = 90\n{server}\n\
         [[client]]\nname = \"a\"\nas = 64496\nlisten = \"127.0.0.1:17901\"\npeer = \"192.0.2.11\"\n{of_a}\n\
         [[client]]\nname = \"b\"\nas = 64497\nlisten = \"127.0.0.1:17902\"\npeer = \"192.0.2.12\"\n{of_b}\n"
-    )?)
+    );
+    text.expect(rt, "a text")
 }
 
 /// A route server with these lines in its configuration.
-pub fn server(alloc: Global, server: &str, of_a: &str) -> Result<Core, Fail> {
-    let text = text(alloc, server, of_a, "")?;
-    let config = Config::read(alloc, text.as_str())?;
-    Ok(Core::new(alloc, config)?)
+pub fn server(rt: &impl Abort, alloc: Global, server: &str, of_a: &str) -> Core {
+    let text = text(rt, alloc, server, of_a, "");
+    let config = Config::read(alloc, text.as_str()).expect(rt, "a configuration");
+    Core::new(alloc, config).expect(rt, "a route server")
 }
 
-/// A message of a client comes, in one piece.
-pub fn hear(alloc: Global, core: &mut Core, c: usize, digits: &str) -> Result<(), Fail> {
-    if c < core.clients() {
-        core.octets(c, &message(alloc, digits)?)?;
-    }
-    Ok(())
-}
-
-/// What a client is lent next, as far as there is room for it, which its link takes.
-fn take(core: &mut Core, c: usize, room: usize, taken: &mut Vec<u8>) -> Result<usize, Fail>
-    requires { c < client_count core.old }
-    ensures { client_count core.new ≡ client_count core.old }
-{
+/// A client's link takes what it is lent next, as far as there is room for it. Answers how much.
+fn take(rt: &impl Abort, core: &mut Core, c: usize, room: usize, taken: &mut Vec<u8>) -> usize {
+    assert!(rt; c < core.clients());
     let lent = core.writable(c);
     let count = lent.len().min(room);
-    taken.extend_from_slice(&lent[..count])?;
+    put(rt, taken, &lent[..count]);
     core.took(c, count);
-    Ok(count)
+    count
 }
 
-/// What the link of a client takes, up to so many octets.
-pub fn sent(alloc: Global, core: &mut Core, c: usize, room: usize) -> Result<Vec<u8>, Fail> {
-    let mut taken = Vec::new(alloc);
-    let mut left = room;
-    for _ in 0..room {
-        if c >= core.clients() {
-            break;
-        }
-        let count = take(core, c, left, &mut taken)?;
-        if count == 0 {
-            break;
-        }
-        left = left.saturating_sub(count);
+/// A route server with its members.
+#[derive(Drop)]
+pub struct Exchange {
+    pub alloc: Global,
+    pub core: Core,
+}
+
+impl Exchange {
+    /// One with these lines in its configuration, to which nobody has come yet.
+    pub fn new(rt: &impl Abort, alloc: Global, lines: &str, of_a: &str) -> Exchange {
+        let core = server(rt, alloc, lines, of_a);
+        Exchange { alloc, core }
     }
-    Ok(taken)
-}
 
-/// A connection of a client comes, its OPEN and its KEEPALIVE. Answers what it is sent.
-pub fn come_up(alloc: Global, core: &mut Core, c: usize, open: &str) -> Result<Vec<u8>, Fail> {
-    if c < core.clients() && core.opened(c).is_ok() {
-        hear(alloc, core, c, open)?;
-        hear(alloc, core, c, KEEPALIVE)?;
+    /// One with these lines for the server, to which both members have come.
+    pub fn of_both(rt: &impl Abort, alloc: Global, lines: &str) -> Exchange {
+        let mut made = Exchange::new(rt, alloc, lines, "");
+        made.come_up(rt, A, OPEN_A);
+        made.come_up(rt, B, OPEN_B);
+        made
     }
-    sent(alloc, core, c, 1000)
-}
 
-/// Both members come up, and a announces its route.
-pub fn with_a_route(alloc: Global, core: &mut Core) -> Result<(), Fail> {
-    come_up(alloc, core, A, OPEN_A)?;
-    come_up(alloc, core, B, OPEN_B)?;
-    hear(alloc, core, A, ROUTE)?;
-    core.turn();
-    Ok(())
+    /// The same, and a has announced its route.
+    pub fn with_a_route(rt: &impl Abort, alloc: Global, lines: &str) -> Exchange {
+        let mut made = Exchange::of_both(rt, alloc, lines);
+        made.hear_in_turn(rt, A, ROUTE);
+        made
+    }
+
+    /// A message of a client comes, in one piece.
+    pub fn hear(&mut self, rt: &impl Abort, c: usize, digits: &str) {
+        let octets = message(rt, self.alloc, digits);
+        self.hear_octets(rt, c, &octets);
+    }
+
+    /// Octets of a client come.
+    pub fn hear_octets(&mut self, rt: &impl Abort, c: usize, octets: &[u8]) {
+        assert!(rt; c < self.core.clients());
+        self.core.octets(c, octets).expect(rt, "octets");
+    }
+
+    /// What is touched is decided.
+    pub fn turn(&mut self) {
+        self.core.turn();
+    }
+
+    /// A message of a client comes, and what it touches is decided.
+    pub fn hear_in_turn(&mut self, rt: &impl Abort, c: usize, digits: &str) {
+        self.hear(rt, c, digits);
+        self.turn();
+    }
+
+    /// A connection of a client is lost.
+    pub fn lose(&mut self, rt: &impl Abort, c: usize) {
+        assert!(rt; c < self.core.clients());
+        self.core.lost(c);
+    }
+
+    /// The connection of a client that has none is taken.
+    fn open(&mut self, rt: &impl Abort, c: usize) {
+        assert!(rt; c < self.core.clients());
+        assert!(rt; self.core.opened(c).is_ok());
+    }
+
+    /// A connection of a client comes, its OPEN and its KEEPALIVE.
+    fn connect(&mut self, rt: &impl Abort, c: usize, open: &str) {
+        self.open(rt, c);
+        self.hear(rt, c, open);
+        self.hear(rt, c, KEEPALIVE);
+    }
+
+    /// A session of a client comes up, and its link takes what it is sent.
+    pub fn come_up(&mut self, rt: &impl Abort, c: usize, open: &str) {
+        self.connect(rt, c, open);
+        self.sent(rt, c, 1_000);
+    }
+
+    /// A session of a client comes up, which is sent the server's OPEN and a KEEPALIVE.
+    pub fn greet(&mut self, rt: &impl Abort, c: usize, open: &str) {
+        self.connect(rt, c, open);
+        self.sends(rt, c, &[OPEN_SERVER, KEEPALIVE]);
+    }
+
+    /// The connection of a client is to be closed.
+    pub fn closes(&mut self, rt: &impl Abort, c: usize) {
+        assert!(rt; c < self.core.clients());
+        assert!(rt; self.core.wants_close(c));
+    }
+
+    /// What the link of a client takes, up to so many octets.
+    pub fn sent(&mut self, rt: &impl Abort, c: usize, room: usize) -> Vec<u8> {
+        let mut taken = Vec::new(self.alloc);
+        for _ in 0..room {
+            let left = room.saturating_sub(taken.len());
+            if take(rt, &mut self.core, c, left, &mut taken) == 0 {
+                break;
+            }
+        }
+        taken
+    }
+
+    /// A client is sent these messages, and no more.
+    pub fn sends(&mut self, rt: &impl Abort, c: usize, all: &[&str]) {
+        let front = Vec::new(self.alloc);
+        self.sends_behind(rt, c, front, all);
+    }
+
+    /// With what is left for a client it was sent these messages, of which its link took a front.
+    pub fn sends_behind(&mut self, rt: &impl Abort, c: usize, front: Vec<u8>, all: &[&str]) {
+        let mut octets = front;
+        let rest = self.sent(rt, c, 5_000);
+        put(rt, &mut octets, &rest);
+        assert_eq!(rt; octets, messages(rt, self.alloc, all), "client {c}");
+    }
 }

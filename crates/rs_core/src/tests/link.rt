@@ -2,10 +2,10 @@
 //! of one over sockets.
 
 use crate::links::{Event, Link, Sink, Source};
-use crate::tests::exchange::{KEEPALIVE, message};
+use crate::tests::exchange::{KEEPALIVE, message, messages, put};
 use rs_policy::RulesFault;
 use std::alloc::Global;
-use std::test::Fail;
+use std::process::Abort;
 
 /// What a link was told.
 #[derive(Clone, Copy, Debug, PartialEq, Eq)]
@@ -34,7 +34,7 @@ pub struct Tape {
     offers: usize,
     said: Vec<Said>,
     /// What each client was sent.
-    pub sent: [Vec<u8>; 2],
+    sent: [Vec<u8>; 2],
     text: Vec<u8>,
     /// Memory was refused to it.
     pub is_full: bool,
@@ -56,47 +56,68 @@ impl Tape {
     }
 
     /// It will tell this event, too.
-    pub fn add(&mut self, event: Event) -> Result<(), Fail> {
-        self.events.push((event, Vec::new(self.alloc)))?;
-        Ok(())
+    pub fn add(&mut self, rt: &impl Abort, event: Event) {
+        let nothing = Vec::new(self.alloc);
+        self.events.push((event, nothing)).expect(rt, "an event");
     }
 
     /// It will tell that this message of a client has come.
-    pub fn hear(&mut self, c: usize, digits: &str) -> Result<(), Fail> {
-        let octets = message(self.alloc, digits)?;
-        self.events.push((Event::Octets(c, octets.len()), octets))?;
-        Ok(())
+    pub fn hear(&mut self, rt: &impl Abort, c: usize, digits: &str) {
+        let octets = message(rt, self.alloc, digits);
+        let event = Event::Octets(c, octets.len());
+        self.events.push((event, octets)).expect(rt, "an event");
     }
 
     /// A connection of a client will come, its OPEN and its KEEPALIVE, and there is room for what it is
     /// sent.
-    pub fn come_up(&mut self, c: usize, open: &str) -> Result<(), Fail> {
-        self.add(Event::Opened(c))?;
-        self.hear(c, open)?;
-        self.hear(c, KEEPALIVE)?;
-        self.add(Event::Room(c, 1000))
+    pub fn come_up(&mut self, rt: &impl Abort, c: usize, open: &str) {
+        self.add(rt, Event::Opened(c));
+        self.hear(rt, c, open);
+        self.hear(rt, c, KEEPALIVE);
+        self.room(rt, c, 1000);
+    }
+
+    /// It will tell that there is room for so many octets of a client.
+    pub fn room(&mut self, rt: &impl Abort, c: usize, octets: u64) {
+        self.add(rt, Event::Room(c, octets));
     }
 
     /// It will take at most so many octets of the next offer that nothing was said of; or fail.
-    pub fn take(&mut self, most: Option<usize>) -> Result<(), Fail> {
-        self.takes.push(most)?;
-        Ok(())
+    pub fn take(&mut self, rt: &impl Abort, most: Option<usize>) {
+        self.takes.push(most).expect(rt, "an offer");
     }
 
     /// This is the text of the rules.
-    pub fn put_text(&mut self, text: &str) -> Result<(), Fail> {
+    pub fn put_text(&mut self, rt: &impl Abort, text: &str) {
         self.text.clear();
-        self.text.extend_from_slice(text.as_bytes())?;
-        Ok(())
+        put(rt, &mut self.text, text.as_bytes());
     }
 
-    /// What it was told, but for the first so many.
-    pub fn said_from(&self, first: usize) -> &[Said] {
-        self.said.get(first..).unwrap_or(&[])
+    /// Behind the first so much it was told just this.
+    pub fn was_told(&self, rt: &impl Abort, first: usize, want: &[Said]) {
+        let last = self.said.get(first..).unwrap_or(&[]);
+        assert_eq!(rt; last, want);
+    }
+
+    /// A client was sent just these messages.
+    pub fn was_sent(&self, rt: &impl Abort, c: usize, all: &[&str]) {
+        let want = messages(rt, self.alloc, all);
+        let sent = self.sent.get(c).expect(rt, "a client");
+        assert!(rt; *sent == want, "client {c}");
     }
 
     fn say(&mut self, what: Said) {
         if self.said.push(what).is_err() {
+            self.is_full = true;
+        }
+    }
+
+    /// Keeps what a client was sent.
+    fn keep(&mut self, c: usize, octets: &[u8]) {
+        let Some(sent) = self.sent.get_mut(c) else {
+            return;
+        };
+        if sent.extend_from_slice(octets).is_err() {
             self.is_full = true;
         }
     }
@@ -143,11 +164,7 @@ impl Sink for Tape {
         };
         let count = most.min(octets.len());
         self.say(Said::Took(c, count));
-        if let Some(sent) = self.sent.get_mut(c) {
-            if sent.extend_from_slice(&octets[..count]).is_err() {
-                self.is_full = true;
-            }
-        }
+        self.keep(c, &octets[..count]);
         Some(count)
     }
 

@@ -1,143 +1,115 @@
 //! What members are sent of each other's routes.
 
 use crate::tests::exchange::{
-    A, B, BAD_ROUTE, KEEPALIVE, NO_ROUTE, NO_ROUTE_B, OPEN_A, OPEN_B, OPEN_SERVER, ROUTE, ROUTE_B,
-    come_up, hear, message, messages, sent, server, text, with_a_route,
+    A, B, BAD_ROUTE, Exchange, KEEPALIVE, NO_ROUTE, NO_ROUTE_B, OPEN_A, OPEN_B, ROUTE, ROUTE_B,
+    text,
 };
 use rs_outlet::{Last, Turned};
-use std::test::Fail;
+use std::process::Abort;
 
 #[test]
-fn a_route_goes_from_one_member_to_the_other(rt: HostRuntime) -> Result<(), Fail> {
-    let alloc = rt.alloc();
-    let mut core = server(alloc, "", "")?;
-    let greeting = messages(alloc, &[OPEN_SERVER, KEEPALIVE])?;
-    assert_eq!(rt; come_up(alloc, &mut core, A, OPEN_A)?, greeting);
-    assert_eq!(rt; come_up(alloc, &mut core, B, OPEN_B)?, greeting);
-    hear(alloc, &mut core, A, ROUTE)?;
-    core.turn();
-    assert_eq!(rt; sent(alloc, &mut core, B, 5000)?, message(alloc, ROUTE)?);
-    assert_eq!(rt; sent(alloc, &mut core, A, 5000)?.len(), 0);
-    Ok(())
+fn a_route_goes_from_one_member_to_the_other(rt: HostRuntime) {
+    let mut exchange = Exchange::new(&rt, rt.alloc(), "", "");
+    exchange.greet(&rt, A, OPEN_A);
+    exchange.greet(&rt, B, OPEN_B);
+    exchange.hear_in_turn(&rt, A, ROUTE);
+    exchange.sends(&rt, B, &[ROUTE]);
+    exchange.sends(&rt, A, &[]);
 }
 
-#[test]
-fn a_faulty_route_is_withdrawn(rt: HostRuntime) -> Result<(), Fail> {
-    let alloc = rt.alloc();
-    let mut core = server(alloc, "", "")?;
-    with_a_route(alloc, &mut core)?;
-    sent(alloc, &mut core, B, 5000)?;
-    hear(alloc, &mut core, A, BAD_ROUTE)?;
-    core.turn();
-    assert_eq!(rt; sent(alloc, &mut core, B, 5000)?, message(alloc, NO_ROUTE)?);
+/// The last turn decided one prefix for a client, to which nothing is owed.
+fn is_told_of_one(rt: &impl Abort, exchange: &Exchange, c: usize) {
     let one = Last::Done(Turned {
         decided: 1,
         whole: false,
     });
-    if B < core.clients() {
-        assert_eq!(rt; core.last(B), one);
-        assert!(rt; core.is_drained(B));
-    }
-    Ok(())
+    assert!(rt; c < exchange.core.clients());
+    assert_eq!(rt; exchange.core.last(c), one);
+    assert!(rt; exchange.core.is_drained(c));
 }
 
 #[test]
-fn a_flap_between_takings_is_not_seen(rt: HostRuntime) -> Result<(), Fail> {
-    let alloc = rt.alloc();
-    let mut core = server(alloc, "", "")?;
-    with_a_route(alloc, &mut core)?;
-    assert_eq!(rt; sent(alloc, &mut core, B, 5000)?, message(alloc, ROUTE)?);
-    hear(alloc, &mut core, A, NO_ROUTE)?;
-    core.turn();
-    hear(alloc, &mut core, A, ROUTE)?;
-    core.turn();
-    assert_eq!(rt; sent(alloc, &mut core, B, 5000)?.len(), 0);
-    Ok(())
+fn a_faulty_route_is_withdrawn(rt: HostRuntime) {
+    let mut exchange = Exchange::with_a_route(&rt, rt.alloc(), "");
+    exchange.sends(&rt, B, &[ROUTE]);
+    exchange.hear_in_turn(&rt, A, BAD_ROUTE);
+    exchange.sends(&rt, B, &[NO_ROUTE]);
+    is_told_of_one(&rt, &exchange, B);
 }
 
 #[test]
-fn a_member_that_comes_back_is_told_all(rt: HostRuntime) -> Result<(), Fail> {
-    let alloc = rt.alloc();
-    let mut core = server(alloc, "", "")?;
-    with_a_route(alloc, &mut core)?;
-    assert_eq!(rt; sent(alloc, &mut core, B, 10)?.len(), 10);
-    if B < core.clients() {
-        core.lost(B);
-    }
-    let greeting = messages(alloc, &[OPEN_SERVER, KEEPALIVE])?;
-    assert_eq!(rt; come_up(alloc, &mut core, B, OPEN_B)?, greeting);
-    core.turn();
-    assert_eq!(rt; sent(alloc, &mut core, B, 5000)?, message(alloc, ROUTE)?);
-    Ok(())
+fn a_flap_between_takings_is_not_seen(rt: HostRuntime) {
+    let mut exchange = Exchange::with_a_route(&rt, rt.alloc(), "");
+    exchange.sends(&rt, B, &[ROUTE]);
+    exchange.hear_in_turn(&rt, A, NO_ROUTE);
+    exchange.hear_in_turn(&rt, A, ROUTE);
+    exchange.sends(&rt, B, &[]);
 }
 
 #[test]
-fn a_message_that_was_begun_is_finished(rt: HostRuntime) -> Result<(), Fail> {
-    let alloc = rt.alloc();
+fn a_member_that_comes_back_is_told_all(rt: HostRuntime) {
+    let mut exchange = Exchange::with_a_route(&rt, rt.alloc(), "");
+    let front = exchange.sent(&rt, B, 10);
+    assert_eq!(rt; front.len(), 10);
+    exchange.lose(&rt, B);
+    exchange.greet(&rt, B, OPEN_B);
+    exchange.turn();
+    exchange.sends(&rt, B, &[ROUTE]);
+}
+
+#[test]
+fn a_message_that_was_begun_is_finished(rt: HostRuntime) {
     let with_med = "0036020000001b4001010040020602010000fbf0400304c000020b8004040000000518c63364";
-    let mut core = server(alloc, "", "")?;
-    with_a_route(alloc, &mut core)?;
-    let mut all = sent(alloc, &mut core, B, 20)?;
-    if A < core.clients() {
-        core.lost(A);
-    }
-    come_up(alloc, &mut core, A, OPEN_A)?;
-    hear(alloc, &mut core, A, with_med)?;
-    core.turn();
-    all.extend_from_slice(&sent(alloc, &mut core, B, 5000)?)?;
-    assert_eq!(rt; all, messages(alloc, &[ROUTE, with_med])?);
-    Ok(())
+    let mut exchange = Exchange::with_a_route(&rt, rt.alloc(), "");
+    let front = exchange.sent(&rt, B, 20);
+    exchange.lose(&rt, A);
+    exchange.come_up(&rt, A, OPEN_A);
+    exchange.hear_in_turn(&rt, A, with_med);
+    exchange.sends_behind(&rt, B, front, &[ROUTE, with_med]);
 }
 
 #[test]
-fn a_member_asks_for_all_again(rt: HostRuntime) -> Result<(), Fail> {
-    let alloc = rt.alloc();
-    let mut core = server(alloc, "refresh = true", "")?;
-    with_a_route(alloc, &mut core)?;
-    let route = message(alloc, ROUTE)?;
-    assert_eq!(rt; sent(alloc, &mut core, B, 5000)?, route);
-    hear(alloc, &mut core, B, "00170500010001")?;
-    assert_eq!(rt; sent(alloc, &mut core, B, 5000)?, route);
-    Ok(())
+fn a_member_asks_for_all_again(rt: HostRuntime) {
+    let mut exchange = Exchange::with_a_route(&rt, rt.alloc(), "refresh = true");
+    exchange.sends(&rt, B, &[ROUTE]);
+    exchange.hear(&rt, B, "00170500010001");
+    exchange.sends(&rt, B, &[ROUTE]);
+}
+
+/// The rules are replaced by those by which b is told of nothing.
+fn drop_all_for_b(rt: &impl Abort, exchange: &mut Exchange) {
+    let text = text(
+        rt,
+        exchange.alloc,
+        "",
+        "",
+        "export = [{ action = \"drop\" }]",
+    );
+    assert!(rt; exchange.core.rules(text.as_str().as_bytes()).is_ok());
 }
 
 #[test]
-fn other_rules_are_used_for_all_that_is_held(rt: HostRuntime) -> Result<(), Fail> {
-    let alloc = rt.alloc();
-    let mut core = server(alloc, "", "")?;
-    with_a_route(alloc, &mut core)?;
-    assert_eq!(rt; sent(alloc, &mut core, B, 5000)?, message(alloc, ROUTE)?);
-    let text = text(alloc, "", "", "export = [{ action = \"drop\" }]")?;
-    let answer = core.rules(text.as_str().as_bytes());
-    assert!(rt; answer.is_ok());
-    core.turn();
-    assert_eq!(rt; sent(alloc, &mut core, B, 5000)?, message(alloc, NO_ROUTE)?);
-    Ok(())
+fn other_rules_are_used_for_all_that_is_held(rt: HostRuntime) {
+    let mut exchange = Exchange::with_a_route(&rt, rt.alloc(), "");
+    exchange.sends(&rt, B, &[ROUTE]);
+    drop_all_for_b(&rt, &mut exchange);
+    exchange.turn();
+    exchange.sends(&rt, B, &[NO_ROUTE]);
 }
 
 #[test]
-fn routes_of_a_session_that_timed_out_are_withdrawn(rt: HostRuntime) -> Result<(), Fail> {
-    let alloc = rt.alloc();
-    let mut core = server(alloc, "", "")?;
-    come_up(alloc, &mut core, A, OPEN_A)?;
-    come_up(alloc, &mut core, B, OPEN_B)?;
-    hear(alloc, &mut core, B, ROUTE_B)?;
-    core.turn();
-    assert_eq!(rt; sent(alloc, &mut core, A, 5000)?, message(alloc, ROUTE_B)?);
-    hear(alloc, &mut core, A, ROUTE)?;
-    core.turn();
-    let mut of_b = sent(alloc, &mut core, B, 20)?;
-    core.moment(89);
-    hear(alloc, &mut core, A, KEEPALIVE)?;
-    core.moment(90);
-    core.turn();
-    of_b.extend_from_slice(&sent(alloc, &mut core, B, 5000)?)?;
+fn routes_of_a_session_that_timed_out_are_withdrawn(rt: HostRuntime) {
+    let mut exchange = Exchange::of_both(&rt, rt.alloc(), "");
+    exchange.hear_in_turn(&rt, B, ROUTE_B);
+    exchange.sends(&rt, A, &[ROUTE_B]);
+    exchange.hear_in_turn(&rt, A, ROUTE);
+    let of_b = exchange.sent(&rt, B, 20);
+    exchange.core.moment(89);
+    exchange.hear(&rt, A, KEEPALIVE);
+    exchange.core.moment(90);
+    exchange.turn();
     // Hold Timer Expired (RFC 4271, 4.5)
-    assert_eq!(rt; of_b, messages(alloc, &[ROUTE, "0015030400"])?);
-    if B < core.clients() {
-        assert!(rt; core.wants_close(B));
-    }
-    let of_a = messages(alloc, &[KEEPALIVE, NO_ROUTE_B])?;
-    assert_eq!(rt; sent(alloc, &mut core, A, 5000)?, of_a);
-    Ok(())
+    exchange.sends_behind(&rt, B, of_b, &[ROUTE, "0015030400"]);
+    exchange.closes(&rt, B);
+    exchange.sends(&rt, A, &[KEEPALIVE, NO_ROUTE_B]);
 }

@@ -1,9 +1,8 @@
 //! Turns by workers.
 
-use crate::tests::exchange::{A, B, OPEN_A, OPEN_B, come_up, hear, message, server, with_a_route};
+use crate::tests::exchange::Exchange;
 use rs_workers::Gate;
 use std::sync::atomic::{AtomicBool, Ordering};
-use std::test::Fail;
 use std::thread;
 
 /// Holds each of shares 0 and 1 until the other has entered.
@@ -44,14 +43,11 @@ impl Gate for Both {
 }
 
 #[test]
-fn both_shares_run(rt: HostRuntime) -> Result<(), Fail> {
-    let alloc = rt.alloc();
-    let mut core = server(alloc, "", "")?;
-    with_a_route(alloc, &mut core)?;
+fn both_shares_run(rt: HostRuntime) {
+    let mut exchange = Exchange::with_a_route(&rt, rt.alloc(), "");
     let gate = Both::new();
-    let turns = core.turn_with(&rt, 2, &gate);
+    let turns = exchange.core.turn_with(&rt, 2, &gate);
     assert!(rt; !gate.has_failed());
     assert_eq!(rt; turns.done, 2);
     assert_eq!(rt; turns.refused, 0);
-    Ok(())
 }

@@ -2,16 +2,10 @@
 //! `tools/play_without_memory.py` runs this test once for each request for memory, and refuses that
 //! one.
 
-ghost use Rattle.std.specs.Prelude.{◌≡◌, IfOk};
-
-use super::{CLIENT, SENDER, drain, exchange, prefix, tables, touch};
+use super::{CLIENT, Exchange, SENDER, all, drain, prefix, some};
 use crate::{Last, Outlet};
-use rs_adjin::AdjIns;
-use rs_attrs::Mode;
 use rs_octets::Prefix;
-use rs_open::Limit;
-use rs_policy::Config;
-use std::alloc::{AllocError, Global};
+use std::process::Abort;
 use std::test::Fail;
 
 /// How many prefixes the sender announced before the first turn, and how many before the second.
@@ -20,64 +14,74 @@ const BEFORE: u32 = 600;
 const NOW: u32 = 900;
 
 /// The sender withdraws 50 prefixes from this one on.
-fn withdraw(tables: &mut AdjIns, first: u32) {
+fn withdraw(rt: &impl Abort, exchange: &mut Exchange, first: u32) {
     for n in first..first.saturating_add(50) {
-        if let Some(prefix) = prefix(n)
-            && SENDER < tables.clients()
-        {
-            let _ = tables.withdraw(SENDER, prefix);
-        }
+        assert!(rt; SENDER < exchange.tables.clients());
+        assert!(rt; exchange.tables.withdraw(SENDER, prefix(rt, n)));
     }
 }
 
 /// An outlet that told some of what was due at its first turn; the rest waits. 500 prefixes are
 /// touched: some were withdrawn since, some are due as before, and some are new.
-fn half_told(alloc: Global, config: &Config) -> Result<(Outlet, AdjIns), AllocError>
-    ensures { IfOk result (λ made. made.0.client ≡ 1) }
-{
-    let before = tables(alloc, config, BEFORE)?;
-    let mut now = tables(alloc, config, NOW)?;
-    withdraw(&mut now, BEFORE - 200);
-    let mut outlet = Outlet::new(alloc, CLIENT, false)?;
-    outlet.up(Mode::Four, Limit::Short);
-    if CLIENT < config.clients() && before.clients() == config.clients() {
-        outlet.turn(&before, config)?;
-    }
+fn half_told(rt: &impl Abort, before: &Exchange, now: &Exchange) -> Outlet {
+    let mut outlet = before.outlet(rt, CLIENT);
+    before.decides(rt, &mut outlet, all(600));
     outlet.begin();
     outlet.took(outlet.lent().len());
     outlet.begin();
-    touch(&mut outlet, &now, BEFORE - 200, 500);
-    Ok((outlet, now))
+    now.touch(rt, &mut outlet, BEFORE - 200, 500);
+    outlet
 }
 
 /// The prefixes that an outlet has a route for.
-fn listed(alloc: Global, outlet: &Outlet, tables: &AdjIns) -> Result<Vec<Prefix>, AllocError> {
-    let mut prefixes = Vec::new(alloc);
-    for (prefix, _) in outlet.routes(tables).take(10_000) {
-        prefixes.push(prefix)?;
+fn listed(rt: &impl Abort, exchange: &Exchange, outlet: &Outlet) -> Vec<Prefix> {
+    let mut prefixes = Vec::new(exchange.alloc);
+    for (prefix, _) in outlet.routes(&exchange.tables).take(10_000) {
+        prefixes.push(prefix).expect(rt, "a prefix");
     }
-    Ok(prefixes)
+    prefixes
+}
+
+/// A refused turn is the last one of an outlet with these routes, and what is in flight is what
+/// another one has in flight.
+fn is_refused(
+    rt: &impl Abort,
+    exchange: &Exchange,
+    outlet: &Outlet,
+    other: &Outlet,
+    before: &[Prefix],
+) {
+    assert_eq!(rt; outlet.last(), Last::Refused);
+    let now = listed(rt, exchange, outlet);
+    assert!(rt; now.as_slice() == before);
+    assert!(rt; outlet.lent() == other.lent());
+}
+
+/// Two outlets have answered the same, and have and tell the same routes.
+fn are_alike(rt: &impl Abort, exchange: &Exchange, one: &mut Outlet, other: &mut Outlet) {
+    assert_eq!(rt; one.last(), other.last());
+    let of_one = listed(rt, exchange, one);
+    let of_other = listed(rt, exchange, other);
+    assert!(rt; of_one == of_other);
+    let told_one = drain(rt, exchange.alloc, one);
+    let told_other = drain(rt, exchange.alloc, other);
+    assert!(rt; told_one == told_other);
 }
 
 #[test]
 fn a_refused_turn_changes_nothing_but_last(rt: HostRuntime) -> Result<(), Fail> {
-    let alloc = rt.alloc();
-    let config = exchange(alloc)?;
-    let (mut other, tables) = half_told(alloc, &config)?;
-    let (mut outlet, _) = half_told(alloc, &config)?;
-    assert!(rt; CLIENT < config.clients());
-    assert!(rt; tables.clients() == config.clients());
-    let before = listed(alloc, &outlet, &tables)?;
-    other.turn(&tables, &config)?;
-    if outlet.turn(&tables, &config).is_err() {
+    let before = Exchange::with_routes(&rt, rt.alloc(), BEFORE);
+    let mut now = Exchange::with_routes(&rt, rt.alloc(), NOW);
+    withdraw(&rt, &mut now, BEFORE - 200);
+    let mut other = half_told(&rt, &before, &now);
+    let mut outlet = half_told(&rt, &before, &now);
+    let routes = listed(&rt, &now, &outlet);
+    now.decides(&rt, &mut other, some(500));
+    if now.turn(&rt, &mut outlet).is_err() {
         println!(rt; "memory was refused to a turn")?;
-        assert_eq!(rt; outlet.last(), Last::Refused);
-        assert!(rt; listed(alloc, &outlet, &tables)? == before);
-        assert!(rt; outlet.lent() == other.lent());
-        outlet.turn(&tables, &config)?;
+        is_refused(&rt, &now, &outlet, &other, &routes);
+        now.decides(&rt, &mut outlet, some(500));
     }
-    assert_eq!(rt; outlet.last(), other.last());
-    assert!(rt; listed(alloc, &outlet, &tables)? == listed(alloc, &other, &tables)?);
-    assert!(rt; drain(alloc, &mut outlet)? == drain(alloc, &mut other)?);
+    are_alike(&rt, &now, &mut outlet, &mut other);
     Ok(())
 }
