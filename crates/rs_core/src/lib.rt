@@ -44,6 +44,3 @@ pub use endings::{Ending, FaultedUpdates, NOTICE_MAX, Notice};
 pub use links::{Event, Link, Sink, Source};
 pub use route_server::Core;
 pub use turning::Turns;
-
-#[cfg(test)]
-mod tests;

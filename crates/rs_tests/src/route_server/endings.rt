@@ -1,8 +1,10 @@
 //! Why sessions end, and which UPDATEs are not taken as they come.
 
-use crate::endings::{Ending, FaultedUpdates, Notice};
-use crate::tests::exchange::{A, B, BAD_ROUTE, Exchange, NO_NEXT_HOP, NO_ROUTE, OPEN_A, ROUTE};
+use crate::route_server::exchange::{
+    A, B, BAD_ROUTE, Exchange, NO_NEXT_HOP, NO_ROUTE, OPEN_A, ROUTE,
+};
 use rs_attrs::{AttributeFault, Cause, Faulted};
+use rs_core::{Ending, FaultedUpdates, Notice};
 use rs_open::Short;
 use std::process::Abort;
 

@@ -1,6 +1,6 @@
 //! Turns by workers.
 
-use crate::tests::exchange::Exchange;
+use crate::route_server::exchange::Exchange;
 use rs_workers::Gate;
 use std::sync::atomic::{AtomicBool, Ordering};
 use std::thread;

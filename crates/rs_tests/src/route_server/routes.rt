@@ -1,6 +1,6 @@
 //! What members are sent of each other's routes.
 
-use crate::tests::exchange::{
+use crate::route_server::exchange::{
     A, B, BAD_ROUTE, Exchange, KEEPALIVE, NO_ROUTE, NO_ROUTE_B, OPEN_A, OPEN_B, ROUTE, ROUTE_B,
     text,
 };

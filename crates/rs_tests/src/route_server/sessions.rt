@@ -1,6 +1,6 @@
 //! How sessions come up and end.
 
-use crate::tests::exchange::{A, Exchange, OPEN_A, ROUTE};
+use crate::route_server::exchange::{A, Exchange, OPEN_A, ROUTE};
 use std::process::Abort;
 
 /// A client is Established, and no other connection of it is taken.

@@ -1,13 +1,11 @@
 //! A route server that is driven by a link in memory.
 
-use crate::driving::{drive, drive_with};
-use crate::links::Event;
-use crate::route_server::Core;
-use crate::tests::exchange::{
+use crate::route_server::exchange::{
     A, B, KEEPALIVE, NO_ROUTE, OPEN_A, OPEN_B, OPEN_SERVER, ROUTE, server, text,
 };
-use crate::tests::link::{Said, Tape};
-use crate::tests::turns::Both;
+use crate::route_server::link::{Said, Tape};
+use crate::route_server::turns::Both;
+use rs_core::{Core, Event, drive, drive_with};
 use std::alloc::Global;
 use std::process::Abort;
 use std::sync::Wait;

@@ -1,6 +1,6 @@
 //! A member that announces and withdraws ever new prefixes.
 
-use crate::tests::exchange::{A, B, Exchange, put};
+use crate::route_server::exchange::{A, B, Exchange, put};
 use std::alloc::Global;
 use std::process::Abort;
 

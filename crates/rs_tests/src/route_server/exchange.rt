@@ -1,6 +1,6 @@
 //! An exchange of members a and b, AS 64496 and 64497, beside the server's AS 64500.
 
-use crate::route_server::Core;
+use rs_core::Core;
 use rs_policy::Config;
 use std::alloc::Global;
 use std::process::Abort;
