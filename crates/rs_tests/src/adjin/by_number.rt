@@ -7,57 +7,51 @@ use super::*;
 #[test]
 fn numbers_stay_until_given_up(rt: HostRuntime) -> Result<(), Fail> {
     let alloc = rt.alloc();
-    let mut ins = filled(alloc)?;
-    let (Some(wide), Some(inner)) = (prefix(WIDE), prefix(INNER)) else {
-        return Ok(());
-    };
+    let mut ins = filled(&rt, alloc)?;
+    let wide = prefix(&rt, WIDE);
+    let inner = prefix(&rt, INNER);
+    let other = prefix(&rt, (0x0b00_0000, 8));
     assert_eq!(rt; ins.number(wide), Some(0));
     assert_eq!(rt; ins.number(inner), Some(2));
     assert_eq!(rt; ins.numbers(), 3);
     assert!(rt; !ins.release(2));
-    clear(&mut ins, 0);
+    clear(&rt, &mut ins, 0);
     assert_eq!(rt; ins.number(inner), Some(2));
     assert!(rt; ins.release(2));
     assert_eq!(rt; ins.number(inner), None);
     assert!(rt; ins.prefix(2).is_none());
     let one = attrs(alloc, 1)?;
-    put(&mut ins, 1, (0x0b00_0000, 8), &one)?;
-    if let Some(other) = prefix((0x0b00_0000, 8)) {
-        assert_eq!(rt; ins.number(other), Some(2));
-        assert_eq!(rt; ins.prefix(2), Some(other));
-    }
+    put(&rt, &mut ins, 1, (0x0b00_0000, 8), &one)?;
+    assert_eq!(rt; ins.number(other), Some(2));
+    assert_eq!(rt; ins.prefix(2), Some(other));
     assert_eq!(rt; ins.numbers(), 3);
     Ok(())
 }
 
-/// Puts a route at the number of a prefix, where the client is there and the attributes are whole.
+/// Puts a route at the number of a prefix, which is given one where it has none.
 fn put_at(
+    rt: &impl Abort,
     ins: &mut AdjIns,
     client: usize,
     of: (u32, u8),
     attrs: &Arc<Attrs>,
-) -> Result<Option<bool>, AllocError> {
-    let Some(prefix) = prefix(of) else {
-        return Ok(None);
-    };
-    if client >= ins.clients() || !attrs.has_mandatory() {
-        return Ok(None);
-    }
-    let number = ins.add(prefix)?;
-    Ok(Some(ins.put_at(client, number, attrs)?))
+) -> Result<bool, AllocError> {
+    assert!(rt; client < ins.clients());
+    assert!(rt; attrs.has_mandatory());
+    let number = ins.add(prefix(rt, of))?;
+    ins.put_at(client, number, attrs)
 }
 
-fn withdraw_at(ins: &mut AdjIns, client: usize, of: (u32, u8)) -> Option<bool> {
-    let number = ins.number(prefix(of)?)?;
-    if client >= ins.clients() {
-        return None;
-    }
+/// Withdraws a route by the number of its prefix, or answers None where the prefix has none.
+fn withdraw_at(rt: &impl Abort, ins: &mut AdjIns, client: usize, of: (u32, u8)) -> Option<bool> {
+    assert!(rt; client < ins.clients());
+    let number = ins.number(prefix(rt, of))?;
     Some(ins.withdraw_at(client, number))
 }
 
 /// The last octet of the next hop of a client's route.
-fn route(ins: &AdjIns, client: usize, of: (u32, u8)) -> Option<u32> {
-    Some(ins.route(client, prefix(of)?)?.next_hop()? % 256)
+fn route(rt: &impl Abort, ins: &AdjIns, client: usize, of: (u32, u8)) -> Option<u32> {
+    Some(ins.route(client, prefix(rt, of))?.next_hop()? % 256)
 }
 
 #[test]
@@ -66,35 +60,39 @@ fn routes_by_number_are_routes_by_prefix(rt: HostRuntime) -> Result<(), Fail> {
     let mut ins = AdjIns::new(alloc, 3)?;
     let one = attrs(alloc, 1)?;
     let two = attrs(alloc, 2)?;
-    assert_eq!(rt; put_at(&mut ins, 1, INNER, &one)?, Some(true));
-    assert_eq!(rt; put_at(&mut ins, 1, INNER, &one)?, Some(false));
-    assert_eq!(rt; put_at(&mut ins, 2, INNER, &two)?, Some(true));
-    assert_eq!(rt; route(&ins, 1, INNER), Some(1));
-    assert_eq!(rt; route(&ins, 2, INNER), Some(2));
-    assert_eq!(rt; route(&ins, 0, INNER), None);
-    assert_eq!(rt; route(&ins, 1, WIDE), None);
-    assert_eq!(rt; held(alloc, &ins, 1)?.as_slice(), [INNER].as_slice());
-    assert_eq!(rt; withdraw_at(&mut ins, 0, INNER), Some(false));
-    assert_eq!(rt; withdraw_at(&mut ins, 1, INNER), Some(true));
-    assert_eq!(rt; withdraw_at(&mut ins, 1, WIDE), None);
-    assert_eq!(rt; route(&ins, 1, INNER), None);
-    assert_eq!(rt; at(alloc, &ins, INNER)?.as_slice(), [(2, 2)].as_slice());
+    assert_eq!(rt; put_at(&rt, &mut ins, 1, INNER, &one)?, true);
+    assert_eq!(rt; put_at(&rt, &mut ins, 1, INNER, &one)?, false);
+    assert_eq!(rt; put_at(&rt, &mut ins, 2, INNER, &two)?, true);
+    assert_eq!(rt; route(&rt, &ins, 1, INNER), Some(1));
+    assert_eq!(rt; route(&rt, &ins, 2, INNER), Some(2));
+    assert_eq!(rt; route(&rt, &ins, 0, INNER), None);
+    assert_eq!(rt; route(&rt, &ins, 1, WIDE), None);
+    assert_eq!(rt; held(&rt, alloc, &ins, 1)?.as_slice(), [INNER].as_slice());
+    assert_eq!(rt; withdraw_at(&rt, &mut ins, 0, INNER), Some(false));
+    assert_eq!(rt; withdraw_at(&rt, &mut ins, 1, INNER), Some(true));
+    assert_eq!(rt; withdraw_at(&rt, &mut ins, 1, WIDE), None);
+    assert_eq!(rt; route(&rt, &ins, 1, INNER), None);
+    assert_eq!(rt;
+        at(&rt, alloc, &ins, INNER)?.as_slice(),
+        [(2, 2)].as_slice()
+    );
     Ok(())
 }
 
 /// Client 0 announces so many prefixes from this /24 on and withdraws them, and then the numbers
 /// that there are are given up.
 fn come_and_go(
+    rt: &impl Abort,
     ins: &mut AdjIns,
     attrs: &Arc<Attrs>,
     first: u32,
     count: u32,
 ) -> Result<(), AllocError> {
     for n in first..first.saturating_add(count) {
-        put(ins, 0, (n.wrapping_mul(256), 24), attrs)?;
+        put(rt, ins, 0, (n.wrapping_mul(256), 24), attrs)?;
     }
     for n in first..first.saturating_add(count) {
-        withdraw(ins, 0, (n.wrapping_mul(256), 24));
+        withdraw(rt, ins, 0, (n.wrapping_mul(256), 24));
     }
     for number in 0..count {
         ins.release(number);
@@ -109,7 +107,7 @@ fn a_million_prefixes_take_few_numbers(rt: HostRuntime) -> Result<(), Fail> {
     let mut ins = AdjIns::new(rt.alloc(), 1)?;
     let attrs = attrs(rt.alloc(), 1)?;
     for round in 0..245 {
-        come_and_go(&mut ins, &attrs, round * 4096, 4096)?;
+        come_and_go(&rt, &mut ins, &attrs, round * 4096, 4096)?;
         assert_eq!(rt; ins.numbers(), 4096);
     }
     assert!(rt; ins.iter().next().is_none());

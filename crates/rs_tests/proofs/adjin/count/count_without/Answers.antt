@@ -3,8 +3,8 @@ use Rattle.rs_tests.proofs.adjin.count.count_without.Goals as goal
 
 pub count_after-requires-clause-withdrawn : goal.count_after-requires-clause-withdrawn
 unfolding IsDistinct
-count_after-requires-clause-withdrawn c = (tt, tt)
+count_after-requires-clause-withdrawn c _ = (tt, tt)
 
 pub count_after-requires-clause-announced : goal.count_after-requires-clause-announced
 unfolding IsDistinct
-count_after-requires-clause-announced c = tt
+count_after-requires-clause-announced c _ = tt
