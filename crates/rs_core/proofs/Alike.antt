@@ -40,14 +40,15 @@ last_same v w last e = record { is = e ∙ (λ i. record v { beat = (sym e i).be
 pub alone_out : (v w : View) → IsLeftAlone v w → outgoing_of w ≡ outgoing_of v
 alone_out v w h = ap outgoing_of h.is
 
-pub in_order : (v w : View) → w.loc ≡ v.loc → w.told ≡ v.told → w.marked ≡ v.marked → w.waits ≡ v.waits → IsInOrder v → IsInOrder w
-in_order v w loc told marked waits o = record {
+pub in_order : (v w : View) → w.speech ≡ v.speech → w.loc ≡ v.loc → w.told ≡ v.told → w.marked ≡ v.marked → w.waits ≡ v.waits → IsInOrder v → IsInOrder w
+in_order v w speech loc told marked waits o = record {
   mandatory = λ p m e. o.mandatory p m (ap (λ t. fin.get t p) (sym loc) ∙ e);
   exact = λ p. ap (λ t. fin.get t p) waits ∙ o.exact p ∙ sym (λ i. waits_at (fin.get (loc i) p) (fin.get (told i) p) (set.contains (marked i) p));
+  down = λ silent. loc ∙ o.down (sym speech ∙ silent);
 }
 
 same_order : (v w : View) → SaysTheSame v w → IsInOrder v → IsInOrder w
-same_order v w h o = in_order v w (ap (λ (x : View). x.loc) h.is) (ap (λ (x : View). x.told) h.is) (ap (λ (x : View). x.marked) h.is) (ap (λ (x : View). x.waits) h.is) o
+same_order v w h o = in_order v w (ap (λ (x : View). x.speech) h.is) (ap (λ (x : View). x.loc) h.is) (ap (λ (x : View). x.told) h.is) (ap (λ (x : View). x.marked) h.is) (ap (λ (x : View). x.waits) h.is) o
 
 pub same_again : (v w : View) → SaysTheSame v w → TellsTheSame v w
 same_again v w h = record {
@@ -64,14 +65,17 @@ again_same v w h = record { speech = h.speech; flight = h.flight; note = h.note;
 
 -- ---- outlets in which nothing is told
 
-nothing_in_order : (v : View) → ((p : Prefix) → fin.get v.loc p ≡ None) → ((p : Prefix) → fin.get v.told p ≡ None) → ((p : Prefix) → fin.get v.waits p ≡ None) → IsInOrder v
-nothing_in_order v loc told waits = record {
-  mandatory = λ p m e. absurd (let f : ◌≡◌ {A = Option (List Attribute)} None (Some m) = sym (loc p) ∙ e in cc);
-  exact = λ p. waits p ∙ sym (λ i. waits_at (loc p i) (told p i) (set.contains v.marked p));
-}
-
 none_in : {X : Type 0} (p : Prefix) → fin.get (fin.empty {X = X} {R = prefix_order}) p ≡ None
 none_in p = fin.get-empty prefix_order p
+
+nothing_in_order : (v : View) → v.loc ≡ fin.empty → ((p : Prefix) → fin.get v.told p ≡ None) → ((p : Prefix) → fin.get v.waits p ≡ None) → IsInOrder v
+nothing_in_order v empty told waits = record {
+  mandatory = λ p m e. absurd (let f : ◌≡◌ {A = Option (List Attribute)} None (Some m) = sym (none p) ∙ e in cc);
+  exact = λ p. waits p ∙ sym (λ i. waits_at (none p i) (told p i) (set.contains v.marked p));
+  down = λ _. empty;
+} where
+  none : (p : Prefix) → fin.get v.loc p ≡ None
+  none p = ap (λ t. fin.get t p) empty ∙ none_in p
 
 pub bare_out : (c : ℕ) (long : Bool) (last : Last) (v : View) → v ≡ bare c long last → outgoing_of v ≡ record { flight = []; note = None; beat = false }
 bare_out c long last v e = ap outgoing_of e
@@ -82,7 +86,7 @@ cleared_out v w e = ap outgoing_of e
 pub bare_silent : (c : ℕ) (long : Bool) (last : Last) (v : View) → v ≡ bare c long last → IsSilent v
 bare_silent c long last v e = record {
   speech = ap (λ (x : View). x.speech) e;
-  order = nothing_in_order v (λ p. ap (λ (x : View). fin.get x.loc p) e ∙ none_in p) (λ p. ap (λ (x : View). fin.get x.told p) e ∙ none_in p) (λ p. ap (λ (x : View). fin.get x.waits p) e ∙ none_in p);
+  order = nothing_in_order v (ap (λ (x : View). x.loc) e) (λ p. ap (λ (x : View). fin.get x.told p) e ∙ none_in p) (λ p. ap (λ (x : View). fin.get x.waits p) e ∙ none_in p);
 }
 
 pub cleared_silent : (v w : View) → w ≡ cleared v → IsSilent w
@@ -92,7 +96,7 @@ pub ends_so : (said : Option Short) (v w : View) → w ≡ finished said v → I
 ends_so said v w e = record {
   out = ap outgoing_of e;
   speech = ap (λ (x : View). x.speech) e;
-  order = nothing_in_order w (λ p. ap (λ (x : View). fin.get x.loc p) e ∙ none_in p) (λ p. ap (λ (x : View). fin.get x.told p) e ∙ none_in p) (λ p. ap (λ (x : View). fin.get x.waits p) e ∙ none_in p);
+  order = nothing_in_order w (ap (λ (x : View). x.loc) e) (λ p. ap (λ (x : View). fin.get x.told p) e ∙ none_in p) (λ p. ap (λ (x : View). fin.get x.waits p) e ∙ none_in p);
 }
 
 -- a KEEPALIVE is due
@@ -109,7 +113,7 @@ begun_raised speech v w e = record {
   told = λ p. ap (λ (x : View). fin.get x.told p) e ∙ none_in p;
   marked = λ p. ap (λ (x : View). set.contains x.marked p) e ∙ set.contains-empty prefix_order p;
   touched = ap (λ (x : View). x.touched) e;
-  order = nothing_in_order w (λ p. ap (λ (x : View). fin.get x.loc p) e ∙ none_in p) (λ p. ap (λ (x : View). fin.get x.told p) e ∙ none_in p) (λ p. ap (λ (x : View). fin.get x.waits p) e ∙ none_in p);
+  order = nothing_in_order w (ap (λ (x : View). x.loc) e) (λ p. ap (λ (x : View). fin.get x.told p) e ∙ none_in p) (λ p. ap (λ (x : View). fin.get x.waits p) e ∙ none_in p);
 }
 
 -- ---- touches
@@ -137,6 +141,6 @@ greets said u v w e f = let was = cleared_silent u v e in record {
   beat = ap (λ (x : View). x.beat) f ∙ ap (λ (x : View). x.beat) e;
   silent = record {
     speech = ap (λ (x : View). x.speech) f ∙ was.speech;
-    order = in_order v w (ap (λ (x : View). x.loc) f) (ap (λ (x : View). x.told) f) (ap (λ (x : View). x.marked) f) (ap (λ (x : View). x.waits) f) was.order;
+    order = in_order v w (ap (λ (x : View). x.speech) f) (ap (λ (x : View). x.loc) f) (ap (λ (x : View). x.told) f) (ap (λ (x : View). x.marked) f) (ap (λ (x : View). x.waits) f) was.order;
   };
 }

@@ -69,14 +69,14 @@ holds = refl
 nothing_for_c : IsLastBehind (Came 2 ∷ announced) 2 (lasts.Done (record { decided = 0; whole = false }))
 nothing_for_c = record {
   refusal = λ is. absurd (let f : false ≡ true = is in cc);
-  down = λ _ _. refl;
+  down = λ _. refl;
   up = λ _ up. absurd (let f : false ≡ true = up in cc);
 }
 
 -- b is lost behind a turn at which memory was refused for it
 refused_for_b : IsLastBehind (Came 1 ∷ Left 1 ∷ Turned (1 ∷ []) ∷ announced) 1 lasts.Refused
 refused_for_b = record {
-  refusal = λ _. refl;
-  down = λ not. absurd (let f : true ≡ false = not in cc);
+  refusal = λ _. (refl, refl);
+  down = λ down. absurd (let f : true ≡ false = down in cc);
   up = λ not. absurd (let f : true ≡ false = not in cc);
 }

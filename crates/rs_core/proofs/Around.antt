@@ -71,5 +71,9 @@ asked_again v w h = record {
   told = h.told;
   marked = h.marked;
   touched = ap (λ (x : View). x.touched) h.rest;
-  order = λ o. record { mandatory = λ p m e. o.mandatory p m (ap (λ (x : View). fin.get x.loc p) (sym h.rest) ∙ e); exact = h.exact o.exact };
+  order = λ o. record {
+    mandatory = λ p m e. o.mandatory p m (ap (λ (x : View). fin.get x.loc p) (sym h.rest) ∙ e);
+    exact = h.exact o.exact;
+    down = λ silent. ap (λ (x : View). x.loc) h.rest ∙ o.down (sym (ap (λ (x : View). x.speech) h.rest) ∙ silent);
+  };
 }

@@ -7,10 +7,11 @@ use Rattle.rs_policy.specs.Replacing.{Refuses}
 use Rattle.rs_policy.specs.declared.faults.RulesFault.{RulesFault}
 use Rattle.rs_core.specs.Core.{client_count, lent_octets, is_refused, refused_below}
 use Rattle.rs_core.specs.Moves.{Move, Ruled, Left, Turned, Began, config_in}
+use Rattle.rs_core.specs.Runs.{is_established}
 use Rattle.rs_core.specs.Agreeing.{Agrees, IsRuled}
 use Rattle.rs_core.specs.Links.{Step, Told, Memory, End, Replaced, HasLed, Leads, octets_of, stops}
 use Rattle.rs_core.specs.Courses.{Course, called, moved, memories, Stands, Continues}
-use Rattle.rs_core.specs.Answers.{is_passed_over, closes, AreFalling, Answers, Passes, Turns, Rules, Keeps, Ends, Ended, Lasts, Owes, Closes, Gives, Goes_on, Offers, Rounds, Start, Round, Drives}
+use Rattle.rs_core.specs.Answers.{is_passed_over, closes, AreEstablished, Answers, Passes, Turns, Rules, Keeps, Ends, Ended, Lasts, Owes, Closes, Gives, Goes_on, Offers, Rounds, Start, Round, Drives}
 use Rattle.rs_core.specs.declared.links.Event.{Event}
 use Rattle.rs_core.specs.declared.links.Event.TheVariants as events
 use Rattle.rs_core.specs.declared.route_server.Core.{Core}
@@ -152,16 +153,16 @@ rules_by happens old before new after octets text answer is count step ruled ref
 
 -- ---- a turn
 
-falling_on : (n : ℕ) (cs : List ℕ) → AreFalling n cs → AreFalling (suc n) cs
-falling_on n [] h = tt
-falling_on n (c ∷ cs) h = (omega (arith, h.0), h.1)
+established_on : (run : List Move) (n : ℕ) (cs : List ℕ) → AreEstablished run n cs → AreEstablished run (suc n) cs
+established_on run n [] h = tt
+established_on run n (c ∷ cs) h = (omega (arith, h.0), h.1, h.2)
 
-pub falling : (core : Core) (n : ℕ) → AreFalling n (refused_below core n)
-falling core zero = tt
-falling core (suc c) = go (is_refused core c) (falling core c) where
-  go : (b : Bool) → AreFalling c (refused_below core c) → AreFalling (suc c) (if b then c ∷ refused_below core c else refused_below core c)
-  go true below = (omega arith, below)
-  go false below = falling_on c (refused_below core c) below
+refused_established : (core : Core) (run : List Move) (n : ℕ) → ((c : ℕ) → c < n → is_refused core c ≡ true → is_established run c ≡ true) → AreEstablished run n (refused_below core n)
+refused_established core run zero up = tt
+refused_established core run (suc c) up = go (is_refused core c) refl (refused_established core run c (λ d lt. up d (omega (arith, lt)))) where
+  go : (b : Bool) → is_refused core c ≡ b → AreEstablished run c (refused_below core c) → AreEstablished run (suc c) (if b then c ∷ refused_below core c else refused_below core c)
+  go true refused below = (omega arith, up c (omega arith) refused, below)
+  go false done below = established_on run c (refused_below core c) below
 
 pub told_more : {L : Type 0} (happens : L → Step → L → Type 0) (core : Core) (c : ℕ) (first before after : L) (steps : List Step)
     → (is_refused core c ≡ true → happens before (Memory c) after) → (is_refused core c ≡ false → after ≡ before)
@@ -173,12 +174,14 @@ told_more happens core c first before after steps refused done so = go (is_refus
 
 pub turned : {L : Type 0} (happens : L → Step → L → Type 0) (old : Core) (before : L) (new : Core) (after : L) → client_count new ≡ client_count old
     → ((run : List Move) → Agrees old run → Agrees new (Turned (refused_below new (client_count new)) ∷ run))
+    → ((c : ℕ) (run : List Move) → c < client_count old → Agrees old run → is_refused new c ≡ true → is_established run c ≡ true)
     → ((first : L) (steps : List Step) → Leads happens first steps before → Leads happens first (memories (refused_below new (client_count new)) steps) after)
     → Continues happens old before new after (λ n. Answers n [] events.Turn)
-turned happens old before new after count agrees told =
+turned happens old before new after count agrees up told =
     let refused = refused_below new (client_count new) in
     goes happens old before new after (λ n. Answers n [] events.Turn) (λ x. record { steps = memories refused x.steps; run = Turned refused ∷ x.run }) count
-    (λ first x l. told first x.steps l) (λ x h. agrees x.run h) (λ n x k h. Turns refused x (subst (λ m. AreFalling m refused) (count ∙ k) (falling new (client_count new))))
+    (λ first x l. told first x.steps l) (λ x h. agrees x.run h) (λ n x k h. Turns refused x (subst (λ m. AreEstablished x.run m refused) (count ∙ k)
+    (refused_established new x.run (client_count new) (λ c lt is. up c x.run (subst (λ m. c < m) count lt) h is))))
 
 -- ---- octets that are lent
 

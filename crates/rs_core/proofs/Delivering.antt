@@ -48,7 +48,7 @@ took_voice s c n h next v w e items taken beats at =
     (λ l. ap (λ k. is_live (state_of (session_in s c) k)) (sym items) ∙ l)
     same
     (ap (λ (x : View). x.speech) e) (ap (λ (x : View). x.note) e) (ap (λ (x : View). x.told) e)
-    (in_order v w (ap (λ (x : View). x.loc) e) (ap (λ (x : View). x.told) e) (ap (λ (x : View). x.marked) e) (ap (λ (x : View). x.waits) e) at.order)
+    (in_order v w (ap (λ (x : View). x.speech) e) (ap (λ (x : View). x.loc) e) (ap (λ (x : View). x.told) e) (ap (λ (x : View). x.marked) e) (ap (λ (x : View). x.waits) e) at.order)
     (record {
       messages = subst (λ l. Converses (session_in s c) (own_open s) l next.taken (outgoing_of w)) (sym items) (subst (λ o. Converses (session_in s c) (own_open s) h.items o (outgoing_of w)) (sym taken)
           (took_converses n (session_in s c) (own_open s) h.items h.taken (outgoing_of v) (outgoing_of w) (ap outgoing_of e) at.talk.messages));
@@ -112,11 +112,15 @@ beats mode octets t s = speaks_on mode octets keepalive kinds.Keepalive t refl (
 
 pub begun_voice : (s : Configuration) (c : ℕ) (h : Hearing) (ins : AdjIns) (v w : View) → AreNumbered v ins → HasBegun v w → SpeaksTo s c h v → SpeaksTo s c (offers true h) w
 begun_voice s c h ins v w numbered b at = by_flight v.flight refl where
-  rest_order : IsInOrder w
-  rest_order = record { mandatory = λ p m e. at.order.mandatory p m (ap (λ (x : View). fin.get x.loc p) (sym b.rest) ∙ e); exact = b.exact at.order.exact }
-
   rest_speech : w.speech ≡ v.speech
   rest_speech = ap (λ (x : View). x.speech) b.rest
+
+  rest_order : IsInOrder w
+  rest_order = record {
+    mandatory = λ p m e. at.order.mandatory p m (ap (λ (x : View). fin.get x.loc p) (sym b.rest) ∙ e);
+    exact = b.exact at.order.exact;
+    down = λ silent. ap (λ (x : View). x.loc) b.rest ∙ at.order.down (sym rest_speech ∙ silent);
+  }
 
   by_speech : (o : Option Speech) → v.flight ≡ [] → v.note ≡ None → v.beat ≡ false → v.speech ≡ o → SpeaksTo s c (offers true h) w
   by_speech None empty quiet beat e = let is = b.down empty quiet beat e in
@@ -169,7 +173,11 @@ done_voice : (s : Configuration) (c : ℕ) (h : Hearing) (config : Configuration
 done_voice s c h config ins v w numbered done at =
     let turned = done.decided numbered in
     voiced_by s s c h h v w refl (λ l. l) (ap (λ (x : View). h.taken ++ x.flight) done.rest) (ap (λ (x : View). x.speech) done.rest) (ap (λ (x : View). x.note) done.rest) turned.told
-    (record { mandatory = λ p m e. by_speech v.speech refl p m e; exact = done.exact numbered at.order.exact }) (says_still s c h v w (ap outgoing_of done.rest) at) at where
+    (record {
+      mandatory = λ p m e. by_speech v.speech refl p m e;
+      exact = done.exact numbered at.order.exact;
+      down = λ silent. let none = sym (ap (λ (x : View). x.speech) done.rest) ∙ silent in ap (λ (x : View). x.loc) (turned.down none).1 ∙ at.order.down none;
+    }) (says_still s c h v w (ap outgoing_of done.rest) at) at where
       by_speech : (o : Option Speech) → v.speech ≡ o → (p : Prefix) (m : List Attribute) → fin.get w.loc p ≡ Some m → lacks_mandatory m ≡ false
       by_speech None none p m e = at.order.mandatory p m (ap (λ (x : View). fin.get x.loc p) (sym ((done.decided numbered).down none).1) ∙ e)
       by_speech (Some speech) up p m e = by_touch (is_touched v.touched p) refl where
@@ -183,4 +191,4 @@ done_voice s c h config ins v w numbered done at =
 pub turned_voice : (s : Configuration) (c : ℕ) (h : Hearing) (config : Configuration) (ins : AdjIns) (v w : View) → AreNumbered v ins → IsTurn config ins v w → SpeaksTo s c h v → SpeaksTo s c h w
 turned_voice s c h config ins v w numbered (inl done) at = done_voice s c h config ins v w numbered done at
 turned_voice s c h config ins v w numbered (inr refused) at =
-    voiced_on s s c h h v w refl (λ l. l) refl (same_again v w (last_same v w _ refused)) (says_still s c h v w (ap outgoing_of refused) at) at
+    voiced_on s s c h h v w refl (λ l. l) refl (same_again v w (last_same v w _ refused.rest)) (says_still s c h v w (ap outgoing_of refused.rest) at) at

@@ -146,5 +146,5 @@ turned_decided c old new mid run lt count turned same h up done = decided_is new
   by_turn (inl d) = ap (λ (x : View). is_none x.touched) is
       ∙ none_touched w.touched ((d.decided (old.numbered.each c nobody (within old c lt))).touched (subst IsSome (sym (((h.clients c lt).knows.outlet h.config nobody).speech ∙ heard.1)) refl))
   by_turn (inr refused) = absurd (
-      let last : (outlet_in new.ribs c nobody).last ≡ lasts.Refused = ap (λ (x : View). x.last) is ∙ ap (λ (x : View). x.last) refused in
+      let last : (outlet_in new.ribs c nobody).last ≡ lasts.Refused = ap (λ (x : View). x.last) is ∙ ap (λ (x : View). x.last) refused.rest in
       let f : true ≡ false = sym (ap refusal_in (outlet_is new c now) ∙ ap is_refusal last) ∙ done in cc)

@@ -1,6 +1,7 @@
 -- What a client is told over a run.
 use Rattle.std.proofs.Common.{◌≡◌, ◌≢◌, ◌⊎◌, inl, inr, ◌<◌, ℕ, Bool, true, false, List, [], ◌∷◌, ◌++◌, length, take, refl, sym, ◌∙◌, ap, subst}
 use Rattle.std.specs.Prelude.{Some, None, reverse, if◌then◌else◌}
+use Rattle.std.specs.FinMap as fin
 use Rattle.std.specs.List.{AllZip}
 use Rattle.std.proofs.lemmas.Bool.{false≢true}
 use Rattle.std.proofs.lemmas.List.{reverse-append}
@@ -19,14 +20,17 @@ use Rattle.rs_outlet.specs.declared.answers.Last.TheVariants as lasts
 use Rattle.rs_core.specs.Core.{client_count, loc_in, loc_rib}
 use Rattle.rs_core.specs.Hearing.{Hearing, session_in, state_in}
 use Rattle.rs_core.specs.InTurn.{IsHadFrom, Alternate, has_asked, IsToldInTurn, TellsInTurn, HasWhatWasDue}
-use Rattle.rs_core.specs.Moves.{config_in}
+use Rattle.rs_core.specs.Moves.{Move, config_in}
 use Rattle.rs_core.specs.Orders.{TellsAt, TellsInOrder, told_by}
 use Rattle.rs_core.specs.Points.{Point, Decided, Asked, Offered, Value, dues_at, latest}
 use Rattle.rs_core.specs.Ribs.{outlet_in}
-use Rattle.rs_core.specs.Runs.{hearing, speech_by, speech_in}
+use Rattle.rs_core.specs.Runs.{hearing, is_established, speech_by, speech_in}
 use Rattle.rs_core.specs.Telling.{body_if, each_message, heads_update, updates_among, updates_in}
 use Rattle.rs_core.proofs.Walks.{default_same}
+use Rattle.rs_core.specs.Agreeing.{Agrees}
+use Rattle.rs_core.specs.declared.route_server.Core.{Core}
 use Rattle.rs_core.proofs.Holding.{up_is}
+use Rattle.rs_core.proofs.Voicing.{down_speech}
 
 -- ---- had from what was due
 
@@ -162,3 +166,9 @@ has_what_was_due core run c p lt h up =
     let there : c < length xs = subst (λ n. c < n) (sym (core.ribs.outlets_len ∙ core.ribs_len)) lt in
     ap (λ o. loc_in o p) (slice_get_read xs (length xs) c v refl there (default_same xs c any_view v there))
     ∙ (at.ordered h.config any_view).loc _ ((at.outlet h.config any_view).speech ∙ spoken) p
+
+-- and that of one that isn't Established is empty
+pub loc_empty : (core : Core) (run : List Move) (c : ℕ) (none : View) → c < core.count → Agrees core run → is_established run c ≡ false → (outlet_in core.ribs c none).loc ≡ fin.empty
+loc_empty core run c none lt h down =
+    let at = (h.clients c lt).knows.outlet h.config none in
+    at.order.down (at.speech ∙ down_speech (config_in run) c (hearing c run) down)

@@ -52,8 +52,10 @@ still c move run last other h = record {
 turned : (c : ℕ) (clients : List ℕ) (run : List Move) (last : Last) → IsTurnAnswer clients run c last → HasLastAnswer (moves.Turned clients ∷ run) c last
 turned c clients run last h = record {
   never = λ none. absurd (none clients (0, omega arith, refl));
-  refused = λ refused before at is. h.refusal (listed refused before true at is);
-  down = λ refused before at not down. h.down (listed refused before false at not) (established refused before false at down);
+  refused = λ refused before at is.
+      let it = h.refusal (listed refused before true at is) in
+      (subst (λ r. is_established r c ≡ true) (sym (itself clients refused run before at).1) it.0, it.1);
+  down = λ refused before at down. h.down (established refused before false at down);
   up = λ refused before at not up.
       let now = established refused before true at up in
       let it = h.up (listed refused before false at not) now in (

@@ -222,5 +222,5 @@ turned_ordered s c h due config ins v w listed numbered says is loc (inl done) a
     subst (λ b. IsOrdered s c (decides b due h) w) (sym (ap (λ b. is_up (state_in s c h) && not b) (is ∙ ap is_refusal done.last) ∙ and-true (is_up (state_in s c h))))
     (done_ordered s c h due config ins v w numbered says done (loc done) (is_up (state_in s c h)) refl at)
 turned_ordered s c h due config ins v w listed numbered says is loc (inr refused) at =
-    subst (λ b. IsOrdered s c (decides b due h) w) (sym (and_not (is_up (state_in s c h)) listed (is ∙ ap (λ (x : View). is_refusal x.last) refused)))
-    (not_decided s c h due v w (last_same v w _ refused) at)
+    subst (λ b. IsOrdered s c (decides b due h) w) (sym (and_not (is_up (state_in s c h)) listed (is ∙ ap (λ (x : View). is_refusal x.last) refused.rest)))
+    (not_decided s c h due v w (last_same v w _ refused.rest) at)

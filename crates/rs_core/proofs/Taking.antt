@@ -93,7 +93,7 @@ answers_keep n octets event c x y (Declines d u lt busy) so = so
 answers_keep n octets event c x y (Hears d len u lt le) so = heard (d == c) (config_in u.run) c octets (hearing c u.run) (taken_by c u.steps) so
 answers_keep n octets event c x y (Drops d len u lt le) so = left (d == c) (config_in u.run) c reasons.Memory (hearing c u.run) (taken_by c u.steps) so
 answers_keep n octets event c x y (Sees t u) so = so
-answers_keep n octets event c x y (Turns refused u falling) so = λ on. so on ∙ sym (remembered c refused u.steps)
+answers_keep n octets event c x y (Turns refused u established) so = λ on. so on ∙ sym (remembered c refused u.steps)
 answers_keep n octets event c x y (Fills d room u v lt gives) so = gives_keep n d room c u v gives so
 answers_keep n octets event c x y (Loses d u lt) so = left (d == c) (config_in u.run) c reasons.Lost (hearing c u.run) (taken_by c u.steps) so
 answers_keep n octets event c x y (Rules config u replaces) so = so

@@ -219,7 +219,7 @@ decides_touched c old new mid run lt count turned same h up done = by_turn (turn
   by_turn : IsTurn old.ribs.config old.ribs.tables v w → DecidesTouched run c old new
   by_turn (inl d) = by_done d (d.decided (old.numbered.each c nobody (within old c lt)))
   by_turn (inr refused) = absurd (
-      let last : (outlet_in new.ribs c nobody).last ≡ lasts.Refused = ap (λ (x : View). x.last) is ∙ ap (λ (x : View). x.last) refused in
+      let last : (outlet_in new.ribs c nobody).last ≡ lasts.Refused = ap (λ (x : View). x.last) is ∙ ap (λ (x : View). x.last) refused.rest in
       let f : true ≡ false = sym (ap refusal_in (outlet_is new c now) ∙ ap is_refusal last) ∙ done in cc)
 
 -- where memory was refused for a client, nothing was decided for it
@@ -237,4 +237,4 @@ refusal_keeps c old new mid lt count turned same refused = by_turn (turned.each 
   by_turn (inl d) = absurd (
       let last : (outlet_in new.ribs c nobody).last ≡ lasts.Done d.turned = ap (λ (x : View). x.last) is ∙ d.last in
       let f : false ≡ true = sym (ap refusal_in (outlet_is new c now) ∙ ap is_refusal last) ∙ refused in cc)
-  by_turn (inr e) = touched_is new c now ∙ ap (λ (x : View). x.touched) (is ∙ e) ∙ sym (touched_is old c lt)
+  by_turn (inr refused) = touched_is new c now ∙ ap (λ (x : View). x.touched) (is ∙ refused.rest) ∙ sym (touched_is old c lt)

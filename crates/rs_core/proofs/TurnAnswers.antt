@@ -1,6 +1,6 @@
 -- What a turn answers for a client, by the run.
-use Rattle.std.proofs.Common.{◌≡◌, inl, inr, ◌<◌, ℕ, true, false, List, refl, sym, ◌∙◌, ap, subst}
-use Rattle.std.specs.Prelude.{Option, Some, None, slice_get, slice_index_or}
+use Rattle.std.proofs.Common.{◌≡◌, inl, inr, ◌<◌, ℕ, Bool, true, false, List, refl, sym, ◌∙◌, ap, subst}
+use Rattle.std.specs.Prelude.{Option, Some, None, is_some, slice_get, slice_index_or}
 use Rattle.std.specs.Global.{Vec}
 use Rattle.std.proofs.lemmas.Bool.{false≢true}
 use Rattle.rs_outlet.specs.declared.answers.Last.{Last}
@@ -18,7 +18,6 @@ use Rattle.rs_core.specs.declared.ribs.Ribs.{Ribs}
 use Rattle.rs_core.specs.declared.route_server.Core.{Core}
 use Rattle.rs_core.proofs.Outgoing.{within}
 use Rattle.rs_core.proofs.Paying.{last_is, nobody}
-use Rattle.rs_core.proofs.Refusing.{says_refused}
 use Rattle.rs_core.proofs.Touched.{decides_touched}
 use Rattle.rs_core.proofs.Voicing.{down_speech}
 
@@ -41,8 +40,8 @@ abbrev nothing : Turned
 nothing = record { decided = 0; whole = false }
 
 down_last : (c : ℕ) (old new : Core) (mid : Ribs) (run : List Move) → c < old.count → new.count ≡ old.count → ChangesAll (λ d. IsTurn old.ribs.config old.ribs.tables) old.ribs mid → new.ribs.outlets ≡ mid.outlets
-    → Agrees old run → is_established run c ≡ false → is_refused new c ≡ false → last_of new c ≡ lasts.Done nothing
-down_last c old new mid run lt count turned same h down done = last_is new c now ∙ ap (λ (x : View). x.last) is ∙ by_turn (turned.each c nobody (within old c lt)) where
+    → Agrees old run → is_established run c ≡ false → last_of new c ≡ lasts.Done nothing
+down_last c old new mid run lt count turned same h down = last_is new c now ∙ ap (λ (x : View). x.last) is ∙ by_turn (turned.each c nobody (within old c lt)) where
   now : c < new.count
   now = subst (λ n. c < n) (sym count) lt
 
@@ -60,13 +59,21 @@ down_last c old new mid run lt count turned same h down done = last_is new c now
 
   by_turn : IsTurn old.ribs.config old.ribs.tables v w → w.last ≡ lasts.Done nothing
   by_turn (inl d) = d.last ∙ ap (λ (t : Turned). lasts.Done t) ((d.decided (old.numbered.each c nobody (within old c lt))).down silent).0
-  by_turn (inr refused) = absurd (false≢true (sym done ∙ says_refused new c nobody now ∙ ap (λ (x : View). is_refusal x.last) (is ∙ refused)))
+  by_turn (inr refused) = absurd (false≢true (sym (ap is_some silent) ∙ refused.up))
+
+-- memory is refused only for one that is
+pub refused_up : (c : ℕ) (old new : Core) (mid : Ribs) (run : List Move) → c < old.count → new.count ≡ old.count → ChangesAll (λ d. IsTurn old.ribs.config old.ribs.tables) old.ribs mid → new.ribs.outlets ≡ mid.outlets
+    → Agrees old run → is_refused new c ≡ true → is_established run c ≡ true
+refused_up c old new mid run lt count turned same h refused = by_state (is_established run c) refl where
+  by_state : (b : Bool) → is_established run c ≡ b → b ≡ true
+  by_state true up = refl
+  by_state false down = absurd (false≢true (sym (ap is_refusal (down_last c old new mid run lt count turned same h down)) ∙ ap is_refusal (refused_last new c refused)))
 
 pub answers_turn : (c : ℕ) (refused : List ℕ) (old new : Core) (mid : Ribs) (run : List Move) → c < old.count → new.count ≡ old.count → ChangesAll (λ d. IsTurn old.ribs.config old.ribs.tables) old.ribs mid → new.ribs.outlets ≡ mid.outlets
     → is_listed c refused ≡ is_refused new c → Agrees old run → IsTurnAnswer refused run c (last_of new c)
 answers_turn c refused old new mid run lt count turned same listed h = record {
-  refusal = λ is. refused_last new c (sym listed ∙ is);
-  down = λ not down. down_last c old new mid run lt count turned same h down (sym listed ∙ not);
+  refusal = λ is. (refused_up c old new mid run lt count turned same h (sym listed ∙ is), refused_last new c (sym listed ∙ is));
+  down = λ down. down_last c old new mid run lt count turned same h down;
   up = λ not up.
       let d = decides_touched c old new mid run lt count turned same h up (sym listed ∙ not) in
       (d.turned, d.last, record { touched = touched_for old c; behind = h.touched c lt up; whole = d.whole; count = d.count });

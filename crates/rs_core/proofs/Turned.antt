@@ -20,7 +20,7 @@ use Rattle.rs_core.proofs.Walks.{IsWalked}
 
 pub turn_numbered : (config : Configuration) (ins : AdjIns) (v w : View) → IsTurn config ins v w → AreNumbered v ins → AreNumbered w ins
 turn_numbered config ins v w (inl done) h = done.numbered h
-turn_numbered config ins v w (inr refused) h = subst (λ es. HaveNumbers es ins) (sym (ap (λ (x : View). x.numbers) refused)) h
+turn_numbered config ins v w (inr refused) h = subst (λ es. HaveNumbers es ins) (sym (ap (λ (x : View). x.numbers) refused.rest)) h
 
 -- ---- what is due to a client stays so, and what was touched is
 
@@ -38,7 +38,7 @@ refused_decided due v w e decided = record {
 
 turn_decided : (config : Configuration) (ins : AdjIns) (c : ℕ) (v w : View) → v.client ≡ c → AreNumbered v ins → IsTurn config ins v w → IsDecidedBy (due_to (tables_of config ins) c) v → IsDecidedBy (due_to (tables_of config ins) c) w
 turn_decided config ins c v w client numbered (inl done) decided = done_decided config ins c v w done.turned client (ap (λ (x : View). x.speech) done.rest) (done.decided numbered) decided
-turn_decided config ins c v w client numbered (inr refused) decided = refused_decided (due_to (tables_of config ins) c) v w refused decided
+turn_decided config ins c v w client numbered (inr refused) decided = refused_decided (due_to (tables_of config ins) c) v w refused.rest decided
 
 pub turned_fresh : (old new : Ribs) → IsWalked (λ c. IsTurn old.config old.tables) old.count old new → IsNumbered old → IsFresh old → IsFresh new
 turned_fresh old new h numbered fresh = record {

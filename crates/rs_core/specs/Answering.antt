@@ -18,11 +18,11 @@ pub record CountsTouched (run : List Move) (c : ℕ) (turned : Turned) : Type 0 
   pub whole : turned.whole ≡ is_whole touched
   pub count : IsCountOf (stands run c) touched turned.decided
 
--- What a turn behind this run answers for client c, which is of all but those for which memory was refused. Nothing is decided
--- for a client that isn't Established.
+-- What a turn behind this run answers for client c, which is of all but those for which memory was refused. Each of these is
+-- Established; nothing is decided for a client that isn't.
 pub record IsTurnAnswer (refused : List ℕ) (run : List Move) (c : ℕ) (last : Last) : Type 0 where
-  pub refusal : is_listed c refused ≡ true → last ≡ lasts.Refused
-  pub down : is_listed c refused ≡ false → is_established run c ≡ false → last ≡ lasts.Done (record { decided = 0; whole = false })
+  pub refusal : is_listed c refused ≡ true → (is_established run c ≡ true) × (last ≡ lasts.Refused)
+  pub down : is_established run c ≡ false → last ≡ lasts.Done (record { decided = 0; whole = false })
   pub up : is_listed c refused ≡ false → is_established run c ≡ true → (turned : Turned) × (last ≡ lasts.Done turned) × CountsTouched run c turned
 
 -- Only a turn gives another answer: neither the end of a session nor a new one does.

@@ -6,7 +6,7 @@ use Rattle.rs_policy.specs.Replacing.{Replaces, Refuses}
 use Rattle.rs_policy.specs.declared.faults.RulesFault.{RulesFault}
 use Rattle.rs_core.specs.Moves.{Move, Ruled, Came, Heard, Saw, Left, Dropped, Turned, Began, Took, config_in}
 use Rattle.rs_core.specs.Hearing.{state_in, is_closing}
-use Rattle.rs_core.specs.Runs.{hearing}
+use Rattle.rs_core.specs.Runs.{hearing, is_established}
 use Rattle.rs_core.specs.Core.{client_count, lent_octets}
 use Rattle.rs_core.specs.Agreeing.{Agrees}
 use Rattle.rs_core.specs.Links.{Told, Begin, Busy, Offer, Memory, End, Replaced, stops}
@@ -61,10 +61,10 @@ is_passed_over n (events.Lost c) = nat_le n c
 is_passed_over n events.Rules = false
 is_passed_over n events.Stop = false
 
--- clients below n, the greatest first
-abbrev pub AreFalling : ℕ → List ℕ → Type 0
-AreFalling n [] = ⊤
-AreFalling n (c ∷ cs) = (c < n) × AreFalling c cs
+-- clients below n that are Established behind this run, the greatest first
+abbrev pub AreEstablished : List Move → ℕ → List ℕ → Type 0
+AreEstablished run n [] = ⊤
+AreEstablished run n (c ∷ cs) = (c < n) × (is_established run c ≡ true) × AreEstablished run c cs
 
 pub data Answers (n : ℕ) (octets : List ℕ) : Event → Course → Course → Type 0 where
   Passes : (event : Event) (x : Course) → is_passed_over n event ≡ true → Answers n octets event x x
@@ -74,8 +74,8 @@ pub data Answers (n : ℕ) (octets : List ℕ) : Event → Course → Course →
   -- memory was refused for them
   Drops : (c len : ℕ) (x : Course) → c < n → len ≤ 4096 → Answers n octets (events.Octets c len) x (moved (Dropped c octets) (called (End c) (called (Memory c) x)))
   Sees : (t : ℕ) (x : Course) → Answers n octets (events.Moment t) x (moved (Saw t) x)
-  -- memory was refused for some
-  Turns : (refused : List ℕ) (x : Course) → AreFalling n refused → Answers n octets events.Turn x (record { steps = memories refused x.steps; run = Turned refused ∷ x.run })
+  -- memory was refused for some of those that are Established
+  Turns : (refused : List ℕ) (x : Course) → AreEstablished x.run n refused → Answers n octets events.Turn x (record { steps = memories refused x.steps; run = Turned refused ∷ x.run })
   Fills : (c room : ℕ) (x y : Course) → c < n → Gives n c room x y → Answers n octets (events.Room c room) x y
   Loses : (c : ℕ) (x : Course) → c < n → Answers n octets (events.Lost c) x (moved (Left c) x)
   Rules : (config : Configuration) (x : Course) → Replaces (config_in x.run) octets config → Answers n octets events.Rules x (moved (Ruled config) (called (Replaced (Ok tt)) x))

@@ -21,12 +21,12 @@ pub record IsLastTurn (run : List Move) (refused : List ℕ) (before : List Move
   pub whole : run ≡ later ++ moves.Turned refused ∷ before
   pub none : HasNoTurn later
 
--- Client c has the answer of the last turn: refused where memory was refused for it, nothing decided where it wasn't Established,
--- else what was altered before that turn. Where there was no turn yet it has none.
+-- Client c has the answer of the last turn: refused where memory was refused for it, which is then Established; nothing decided
+-- where it wasn't Established; else what was altered before that turn. Where there was no turn yet it has none.
 pub record HasLastAnswer (run : List Move) (c : ℕ) (last : Last) : Type 0 where
   pub never : HasNoTurn run → last ≡ lasts.Never
-  pub refused : (clients : List ℕ) (before : List Move) → IsLastTurn run clients before → is_listed c clients ≡ true → last ≡ lasts.Refused
-  pub down : (clients : List ℕ) (before : List Move) → IsLastTurn run clients before → is_listed c clients ≡ false → is_established before c ≡ false → last ≡ lasts.Done (record { decided = 0; whole = false })
+  pub refused : (clients : List ℕ) (before : List Move) → IsLastTurn run clients before → is_listed c clients ≡ true → (is_established before c ≡ true) × (last ≡ lasts.Refused)
+  pub down : (clients : List ℕ) (before : List Move) → IsLastTurn run clients before → is_established before c ≡ false → last ≡ lasts.Done (record { decided = 0; whole = false })
   pub up : (clients : List ℕ) (before : List Move) → IsLastTurn run clients before → is_listed c clients ≡ false → is_established before c ≡ true → (turned : Turned) × (last ≡ lasts.Done turned) × IsAnswerTo before c turned
 
 abbrev pub AnswersByTheLastTurn : Type 0

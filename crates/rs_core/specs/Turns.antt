@@ -5,7 +5,7 @@ use Rattle.rs_policy.specs.Configuration.{Configuration}
 use Rattle.rs_outlet.specs.declared.answers.Last.{Last}
 use Rattle.rs_outlet.specs.declared.answers.Last.TheVariants as lasts
 use Rattle.rs_outlet.specs.declared.answers.Turned.{Turned}
-use Rattle.rs_outlet.specs.Turns.{HasTurned}
+use Rattle.rs_outlet.specs.Turns.{HasTurned, IsRefused}
 use Rattle.rs_outlet.specs.Views.{View, AreNumbered, WaitsAreExact, if_up}
 
 -- what a turn that was not refused made of an outlet: where each prefix stands at its number, what is touched was
@@ -18,9 +18,9 @@ pub record IsDone (config : Configuration) (ins : AdjIns) (old new : View) : Typ
   pub numbered : AreNumbered old ins → AreNumbered new ins
   pub exact : AreNumbered old ins → WaitsAreExact old → WaitsAreExact new
 
--- what a turn made of it: a refused one changes nothing but its answer
+-- what a turn made of it: a refused one is of an outlet that is up, and changes nothing but its answer
 abbrev pub IsTurn : Configuration → AdjIns → View → View → Type 0
-IsTurn config ins old new = IsDone config ins old new ⊎ (new ≡ record old { last = lasts.Refused })
+IsTurn config ins old new = IsDone config ins old new ⊎ IsRefused old new
 
 -- all is to be decided for a client that is Established, and nothing else has changed but numbers
 pub record IsMarked (ins : AdjIns) (old new : View) : Type 0 where

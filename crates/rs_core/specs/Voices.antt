@@ -29,10 +29,12 @@ use Rattle.rs_core.specs.Conversations.{Converses, outgoing_of, own_open}
 use Rattle.rs_core.specs.Ribs.{outlet_in}
 use Rattle.rs_core.specs.declared.ribs.Ribs.{Ribs}
 
--- each route of the Loc-RIB has ORIGIN, AS_PATH and NEXT_HOP, and what waits is what was told otherwise than it is due
+-- each route of the Loc-RIB has ORIGIN, AS_PATH and NEXT_HOP, and what waits is what was told otherwise than it is due; the
+-- Loc-RIB of a client that isn't Established is empty
 pub record IsInOrder (v : View) : Type 0 where
   pub mandatory : (p : Prefix) (m : List Attribute) → fin.get v.loc p ≡ Some m → lacks_mandatory m ≡ false
   pub exact : WaitsAreExact v
+  pub down : v.speech ≡ None → v.loc ≡ fin.empty
 
 -- These messages went to a client, and go to it, as its session asks for them; and while it lasts, a KEEPALIVE is due exactly
 -- where one fell due since the last message began.

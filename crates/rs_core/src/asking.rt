@@ -1,6 +1,6 @@
 //! What a route server is asked.
 
-ghost use Rattle.std.specs.Prelude.{◌≡◌, ◌==◌, ◌&&◌, ◌<◌, T, true, false, List, ◌∷◌, length, IfSome, IsTrue};
+ghost use Rattle.std.specs.Prelude.{◌≡◌, ◌==◌, ◌&&◌, ◌<◌, T, true, false, List, [], ◌∷◌, length, IfSome, IsTrue};
 ghost use Rattle.std.specs.FinMap.{find, is_sorted};
 ghost use Rattle.rs_octets.specs.Prefixes.{Prefix, prefix_order};
 
@@ -135,11 +135,13 @@ impl Core {
         self.watched[c].faulted
     }
 
-    /// The Loc-RIB of a client, by rising prefix: what was due to it at its last turn.
+    /// The Loc-RIB of a client, by rising prefix: what was due to it at its last turn, and nothing where
+    /// it is not Established.
     pub fn routes(&self, c: usize) -> Routes<'_>
         requires { c < client_count self.now }
         ensures rising { T (is_sorted prefix_order result) }
         ensures routes { (p : Prefix) → find prefix_order p result ≡ loc_rib self.now c p }
+        ensures down { (run : List Move) → Agrees self.now run → is_established run c ≡ false → result ≡ [] }
     {
         let outlet = &self.ribs.outlets[c];
         outlet.routes(&self.ribs.tables)

@@ -26,7 +26,8 @@ impl Core {
     ghost use Rattle.rs_core.specs.Runs.{is_established};
     ghost use Rattle.rs_core.specs.Stirring.{DecidesTouched};
 
-    /// A turn of all clients, one after the other.
+    /// A turn of all clients, one after the other. Memory is refused only for those that are
+    /// Established.
     #[tactic(auto, unfolding(crate::specs::Core::client_count, crate::specs::Core::refused_clients))]
     pub fn turn(&mut self) -> Turns
         ensures clients { client_count self.new ≡ client_count self.old }
@@ -36,13 +37,15 @@ impl Core {
         ensures decided { (c : ℕ) (run : List Move) → c < client_count self.old → Agrees self.old run → is_established run c ≡ true → is_refused self.new c ≡ false → is_decided self.new c ≡ true }
         ensures touched { (c : ℕ) (run : List Move) → c < client_count self.old → Agrees self.old run → is_established run c ≡ true → is_refused self.new c ≡ false → DecidesTouched run c self.old self.new }
         ensures refusal { (c : ℕ) → c < client_count self.old → is_refused self.new c ≡ true → touched_for self.new c ≡ touched_for self.old c }
+        ensures refused_only_up { (c : ℕ) (run : List Move) → c < client_count self.old → Agrees self.old run → is_refused self.new c ≡ true → is_established run c ≡ true }
     {
         self.ribs.turn();
         self.ribs.sweep();
         self.ribs.turns()
     }
 
-    /// A turn of all clients by 1 to 16 workers.
+    /// A turn of all clients by 1 to 16 workers. Memory is refused only for those that are
+    /// Established.
     #[tactic(auto, unfolding(crate::specs::Core::client_count, crate::specs::Core::refused_clients))]
     pub fn turn_with<R: Threads + Wait + Sync, G: Gate>(
         &mut self,
@@ -58,6 +61,7 @@ impl Core {
         ensures decided { (c : ℕ) (run : List Move) → c < client_count self.old → Agrees self.old run → is_established run c ≡ true → is_refused self.new c ≡ false → is_decided self.new c ≡ true }
         ensures touched { (c : ℕ) (run : List Move) → c < client_count self.old → Agrees self.old run → is_established run c ≡ true → is_refused self.new c ≡ false → DecidesTouched run c self.old self.new }
         ensures refusal { (c : ℕ) → c < client_count self.old → is_refused self.new c ≡ true → touched_for self.new c ≡ touched_for self.old c }
+        ensures refused_only_up { (c : ℕ) (run : List Move) → c < client_count self.old → Agrees self.old run → is_refused self.new c ≡ true → is_established run c ≡ true }
     {
         self.ribs.turn_with(rt, workers, gate);
         self.ribs.sweep();

@@ -6,7 +6,7 @@ use Rattle.rs_octets.specs.Prefixes.{Prefix}
 use Rattle.rs_adjin.specs.declared.adj_ins.AdjIns.{AdjIns}
 use Rattle.rs_policy.specs.Configuration.{Configuration}
 use Rattle.rs_outlet.specs.declared.answers.Speech.{Speech}
-use Rattle.rs_outlet.specs.declared.answers.Last.TheVariants.{Done}
+use Rattle.rs_outlet.specs.declared.answers.Last.TheVariants.{Done, Refused}
 use Rattle.rs_outlet.specs.declared.answers.Turned.{Turned}
 use Rattle.rs_outlet.specs.Views.{View, IsCount, is_touched, is_whole}
 use Rattle.rs_outlet.specs.Due.{any_holds, due_to}
@@ -23,3 +23,8 @@ pub record HasTurned (config : Configuration) (ins : AdjIns) (old new : View) (t
   pub count : IsSome old.speech → IsCount (any_holds (tables_of config ins)) old.loc old.touched turned.decided
   pub down : old.speech ≡ None → (turned ≡ record { decided = 0; whole = false }) × (new ≡ record old { last = Done turned })
   pub last : new.last ≡ Done turned
+
+-- what a turn does that memory was refused: it was of an outlet that is up, and nothing but the answer of the last turn has changed
+pub record IsRefused (old new : View) : Type 0 where
+  pub up : IsSome old.speech
+  pub rest : new ≡ record old { last = Refused }

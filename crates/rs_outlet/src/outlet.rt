@@ -200,7 +200,8 @@ impl Outlet {
         }
     }
 
-    /// Decides what is touched. A refused turn changes nothing but the answer of the last turn.
+    /// Decides what is touched. Memory is refused only where the client is Established, and such a turn
+    /// changes nothing but the answer of the last turn.
     pub fn turn(&mut self, ins: &AdjIns, config: &Config) -> Result<Turned, AllocError>
         requires client { self.old.client < length config.now.clients }
         requires clients { client_count ins.now ≡ length config.now.clients }
@@ -212,6 +213,7 @@ impl Outlet {
         ensures touched { OnOk result (IsSome self.old.speech → self.new.touched ≡ Some set.empty) }
         ensures due { (speech : Speech) → self.old.speech ≡ Some speech → AreNumbered self.old ins.now → (p : Prefix) → IsOneOf (map.get self.new.loc p) (map.get self.old.loc p) (due_to (tables_of config.now ins.now) self.old.client speech p) }
         ensures refused { OnErr result (self.new ≡ record self.old { last = Last.Refused }) }
+        ensures refused_only_up { OnErr result (IsSome self.old.speech) }
         ensures numbered { AreNumbered self.old ins.now → AreNumbered self.new ins.now }
         ensures exact { AreNumbered self.old ins.now → WaitsAreExact self.old → WaitsAreExact self.new }
     {

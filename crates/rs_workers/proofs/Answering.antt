@@ -1,6 +1,6 @@
 -- The answer of a turn, done or refused.
 use Rattle.std.proofs.Common.{◌≡◌, inl, inr}
-use Rattle.std.specs.Prelude.{Result, Ok, Err, IfOk, OnErr}
+use Rattle.std.specs.Prelude.{Result, Ok, Err, IfOk, OnErr, IsSome}
 use Rattle.rs_adjin.specs.declared.adj_ins.AdjIns.{AdjIns}
 use Rattle.rs_policy.specs.Configuration.{Configuration}
 use Rattle.rs_outlet.specs.declared.answers.Last.TheVariants.{Refused}
@@ -10,6 +10,6 @@ use Rattle.rs_outlet.specs.Turns.{HasTurned}
 use Rattle.rs_workers.specs.Turned.{IsAnswered}
 
 pub answered : {E : Type 0} (config : Configuration) (tables : AdjIns) (old new : View) (result : Result Turned E) → (AreNumbered old tables → IfOk result (HasTurned config tables old new))
-    → OnErr result (new ≡ record old { last = Refused }) → IsAnswered config tables old new
-answered config tables old new (Ok turned) done refused = inl (turned, done)
-answered config tables old new (Err e) done refused = inr refused
+    → OnErr result (new ≡ record old { last = Refused }) → OnErr result (IsSome old.speech) → IsAnswered config tables old new
+answered config tables old new (Ok turned) done refused up = inl (turned, done)
+answered config tables old new (Err e) done refused up = inr (record { up = up; rest = refused })

@@ -2,18 +2,17 @@
 use Rattle.std.specs.Prelude.{◌≡◌, ◌<◌, ◌⊎◌, ℕ, List, length, slice_index_or}
 use Rattle.rs_adjin.specs.declared.adj_ins.AdjIns.{AdjIns}
 use Rattle.rs_policy.specs.Configuration.{Configuration}
-use Rattle.rs_outlet.specs.declared.answers.Last.TheVariants.{Refused}
 use Rattle.rs_outlet.specs.declared.answers.Turned.{Turned}
 use Rattle.rs_outlet.specs.Views.{View, AreNumbered, WaitsAreExact}
-use Rattle.rs_outlet.specs.Turns.{HasTurned}
+use Rattle.rs_outlet.specs.Turns.{HasTurned, IsRefused}
 
 -- each outlet's client is one of the configuration's
 abbrev pub ArePlaced : Configuration → List View → Type 0
 ArePlaced config outlets = (i : ℕ) (d : View) → i < length outlets → (slice_index_or outlets i d).client < length config.clients
 
--- the turn was done, or it was refused memory, and then nothing but the answer of the last turn has changed
+-- the turn was done, or it was refused memory, and then the outlet is up and nothing but the answer of the last turn has changed
 abbrev pub IsAnswered : Configuration → AdjIns → View → View → Type 0
-IsAnswered config tables old new = ((turned : Turned) × (AreNumbered old tables → HasTurned config tables old new turned)) ⊎ (new ≡ record old { last = Refused })
+IsAnswered config tables old new = ((turned : Turned) × (AreNumbered old tables → HasTurned config tables old new turned)) ⊎ IsRefused old new
 
 -- what its own turn makes of an outlet
 pub record TurnedAlone (config : Configuration) (tables : AdjIns) (old new : View) : Type 0 where

@@ -5,7 +5,7 @@ use Rattle.rs_core.proofs.Touched.{decides_touched, refusal_keeps}
 use Rattle.rs_core.proofs.Growing.{turned_by}
 use Rattle.rs_core.proofs.Outgoing.{turned_agrees}
 use Rattle.rs_core.proofs.Refusing.{listed_is, refused_listed}
-use Rattle.rs_core.proofs.TurnAnswers.{answers_turn}
+use Rattle.rs_core.proofs.TurnAnswers.{answers_turn, refused_up}
 use Rattle.rs_core.proofs.route_server.Core.turn.Goals as goal
 
 pub returns-clause-turned : goal.returns-clause-turned
@@ -28,3 +28,7 @@ returns-clause-touched c = λ d run lt h up done. decides_touched d c.args.self.
 pub returns-clause-refusal : goal.returns-clause-refusal
 unfolding client_count
 returns-clause-refusal c = λ d lt refused. refusal_keeps d c.args.self.now _ c.turn.new.self lt refl c.turn.ensures.turned c.sweep.ensures.outlets refused
+
+pub returns-clause-refused_only_up : goal.returns-clause-refused_only_up
+unfolding client_count
+returns-clause-refused_only_up c = λ d run lt h refused. refused_up d c.args.self.now _ c.turn.new.self run lt refl c.turn.ensures.turned c.sweep.ensures.outlets h refused
