@@ -65,9 +65,9 @@ pub fn answers_by_what_was_altered()
 {}
 
 /// At each point of each run `last` is what the last turn answered for a client: that memory was refused,
-/// where it was; for a client that was not Established then, that nothing was decided; else what was
-/// altered before that turn, as said above. Before the first turn it is `Never`. Neither the end of a
-/// session nor a new one changes it.
+/// where it was, and the client was Established then; for one that was not, that nothing was decided; else
+/// what was altered before that turn, as said above. Before the first turn it is `Never`. Neither the end
+/// of a session nor a new one changes it.
 #[tactic(auto, using(crate::proofs::LastTurns::answers_by_the_last_turn))]
 pub fn answers_by_the_last_turn()
     ensures { AnswersByTheLastTurn }
