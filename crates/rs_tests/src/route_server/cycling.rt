@@ -79,4 +79,5 @@ fn cycled_prefixes_make_no_table_grow(rt: HostRuntime) {
     assert!(rt; exchange.core.ribs.tables.numbers() <= 2 * EACH as usize);
     assert!(rt; A < exchange.core.clients());
     assert!(rt; exchange.core.is_established(A));
+    exchange.let_go();
 }

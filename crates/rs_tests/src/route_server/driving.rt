@@ -9,6 +9,7 @@ use rs_core::{Core, Event, drive, drive_with};
 use std::alloc::Global;
 use std::process::Abort;
 use std::sync::Wait;
+use std::thread::Threads;
 
 /// The octets of our OPEN, of a KEEPALIVE and of the UPDATE with a's route.
 const OPEN_LEN: usize = 37;
@@ -37,15 +38,37 @@ fn take_all_so_far(rt: &impl Abort, link: &mut Tape) {
     }
 }
 
-/// Drives a route server by a link to its next stop.
-fn play(rt: &impl Wait, core: &mut Core, link: &mut Tape) {
-    drive(rt, core, link);
+/// A new route server, and the link that drives it.
+#[derive(Drop)]
+struct Driven {
+    core: Core,
+    link: Tape,
 }
 
-/// Nothing is owed to a client.
-fn is_drained(rt: &impl Abort, core: &Core, c: usize) {
-    assert!(rt; c < core.clients());
-    assert!(rt; core.is_drained(c));
+impl Driven {
+    fn new(rt: &impl Abort, alloc: Global, link: Tape) -> Driven {
+        let core = server(rt, alloc, "", "");
+        Driven { core, link }
+    }
+
+    /// Drives the route server to the link's next stop.
+    fn play(&mut self, rt: &impl Wait) {
+        drive(rt, &mut self.core, &mut self.link);
+    }
+
+    /// The same, with turns by two workers.
+    fn play_with<R: Threads + Wait + Sync>(&mut self, rt: &R, gate: &Both) {
+        drive_with(rt, 2, gate, &mut self.core, &mut self.link);
+    }
+
+    /// Nothing is owed to a client.
+    fn has_drained(&self, rt: &impl Abort, c: usize) {
+        assert!(rt; c < self.core.clients());
+        assert!(rt; self.core.is_drained(c));
+    }
+
+    /// Gives all that it has back, in one call: where it goes out of scope each of its lists does.
+    fn let_go(self) {}
 }
 
 #[test]
@@ -59,15 +82,18 @@ fn a_route_goes_over_a_link(rt: HostRuntime) {
         Said::Took(B, KEEPALIVE_LEN),
         Said::Took(B, ROUTE_LEN),
     ];
-    let mut core = server(&rt, rt.alloc(), "", "");
     let mut link = with_a_route(&rt, rt.alloc());
     link.room(&rt, B, 5_000);
-    play(&rt, &mut core, &mut link);
-    link.was_told(&rt, 0, &ALL_SAID);
-    link.was_sent(&rt, A, &[OPEN_SERVER, KEEPALIVE]);
-    link.was_sent(&rt, B, &[OPEN_SERVER, KEEPALIVE, ROUTE]);
-    assert!(rt; !link.is_full);
-    is_drained(&rt, &core, B);
+    let mut driven = Driven::new(&rt, rt.alloc(), link);
+    driven.play(&rt);
+    driven.link.was_told(&rt, 0, &ALL_SAID);
+    driven.link.was_sent(&rt, A, &[OPEN_SERVER, KEEPALIVE]);
+    driven
+        .link
+        .was_sent(&rt, B, &[OPEN_SERVER, KEEPALIVE, ROUTE]);
+    assert!(rt; !driven.link.is_full);
+    driven.has_drained(&rt, B);
+    driven.let_go();
 }
 
 #[test]
@@ -78,7 +104,6 @@ fn a_link_takes_nothing_or_a_part(rt: HostRuntime) {
         Said::Took(B, 0),
         Said::Took(B, ROUTE_LEN - 20),
     ];
-    let mut core = server(&rt, rt.alloc(), "", "");
     let mut link = with_a_route(&rt, rt.alloc());
     take_all_so_far(&rt, &mut link);
     link.take(&rt, Some(0));
@@ -87,9 +112,13 @@ fn a_link_takes_nothing_or_a_part(rt: HostRuntime) {
     link.room(&rt, B, 5_000);
     link.room(&rt, B, 5_000);
     link.room(&rt, B, 5_000);
-    play(&rt, &mut core, &mut link);
-    link.was_told(&rt, UP, &LAST);
-    link.was_sent(&rt, B, &[OPEN_SERVER, KEEPALIVE, ROUTE]);
+    let mut driven = Driven::new(&rt, rt.alloc(), link);
+    driven.play(&rt);
+    driven.link.was_told(&rt, UP, &LAST);
+    driven
+        .link
+        .was_sent(&rt, B, &[OPEN_SERVER, KEEPALIVE, ROUTE]);
+    driven.let_go();
 }
 
 #[test]
@@ -102,7 +131,6 @@ fn a_link_that_fails_is_a_loss(rt: HostRuntime) {
         Said::Took(B, KEEPALIVE_LEN),
         Said::Took(B, ROUTE_LEN),
     ];
-    let mut core = server(&rt, rt.alloc(), "", "");
     let mut link = with_a_route(&rt, rt.alloc());
     take_all_so_far(&rt, &mut link);
     link.take(&rt, Some(20));
@@ -111,23 +139,28 @@ fn a_link_that_fails_is_a_loss(rt: HostRuntime) {
     link.come_up(&rt, B, OPEN_B);
     link.add(&rt, Event::Turn);
     link.room(&rt, B, 5_000);
-    play(&rt, &mut core, &mut link);
-    link.was_told(&rt, UP, &LAST);
+    let mut driven = Driven::new(&rt, rt.alloc(), link);
+    driven.play(&rt);
+    driven.link.was_told(&rt, UP, &LAST);
+    driven.let_go();
 }
 
 #[test]
 fn a_second_drive_goes_on(rt: HostRuntime) {
-    let mut core = server(&rt, rt.alloc(), "", "");
     let mut link = with_a_route(&rt, rt.alloc());
     link.room(&rt, B, 20);
     link.add(&rt, Event::Stop);
     link.add(&rt, Event::Lost(A));
     link.add(&rt, Event::Turn);
     link.room(&rt, B, 5_000);
-    play(&rt, &mut core, &mut link);
-    link.was_told(&rt, UP, &[Said::Took(B, 20)]);
-    play(&rt, &mut core, &mut link);
-    link.was_sent(&rt, B, &[OPEN_SERVER, KEEPALIVE, ROUTE, NO_ROUTE]);
+    let mut driven = Driven::new(&rt, rt.alloc(), link);
+    driven.play(&rt);
+    driven.link.was_told(&rt, UP, &[Said::Took(B, 20)]);
+    driven.play(&rt);
+    driven
+        .link
+        .was_sent(&rt, B, &[OPEN_SERVER, KEEPALIVE, ROUTE, NO_ROUTE]);
+    driven.let_go();
 }
 
 #[test]
@@ -140,7 +173,6 @@ fn a_link_is_told_of_ends_and_rules(rt: HostRuntime) {
         Said::End(A),
     ];
     let rules = text(&rt, rt.alloc(), "", "", "export = [{ action = \"drop\" }]");
-    let mut core = server(&rt, rt.alloc(), "", "");
     let mut link = Tape::new(rt.alloc());
     link.come_up(&rt, A, OPEN_A);
     link.add(&rt, Event::Opened(A));
@@ -150,17 +182,22 @@ fn a_link_is_told_of_ends_and_rules(rt: HostRuntime) {
     link.hear(&rt, A, OPEN_A);
     link.room(&rt, A, 20);
     link.room(&rt, A, 5_000);
-    play(&rt, &mut core, &mut link);
-    link.was_told(&rt, 3, &LAST);
+    let mut driven = Driven::new(&rt, rt.alloc(), link);
+    driven.play(&rt);
+    driven.link.was_told(&rt, 3, &LAST);
+    driven.let_go();
 }
 
 #[test]
 fn both_shares_run_by_a_link(rt: HostRuntime) {
-    let mut core = server(&rt, rt.alloc(), "", "");
     let mut link = with_a_route(&rt, rt.alloc());
     link.room(&rt, B, 5_000);
     let gate = Both::new();
-    drive_with(&rt, 2, &gate, &mut core, &mut link);
+    let mut driven = Driven::new(&rt, rt.alloc(), link);
+    driven.play_with(&rt, &gate);
     assert!(rt; !gate.has_failed());
-    link.was_sent(&rt, B, &[OPEN_SERVER, KEEPALIVE, ROUTE]);
+    driven
+        .link
+        .was_sent(&rt, B, &[OPEN_SERVER, KEEPALIVE, ROUTE]);
+    driven.let_go();
 }

@@ -46,6 +46,7 @@ fn a_session_ends_by_a_notification_of_ours(rt: HostRuntime) {
     // The connection is lost behind the end.
     exchange.lose(&rt, A);
     has_ended(&rt, &exchange, A, unexpected);
+    exchange.let_go();
 }
 
 #[test]
@@ -57,6 +58,7 @@ fn a_session_ends_by_its_hold_timer(rt: HostRuntime) {
     exchange.core.moment(90);
     has_ended(&rt, &exchange, A, Ending::HoldTimer);
     goes_on(&rt, &exchange, B);
+    exchange.let_go();
 }
 
 #[test]
@@ -75,6 +77,7 @@ fn a_session_ends_by_the_clients_notification(rt: HostRuntime) {
     };
     has_ended(&rt, &exchange, A, Ending::Heard(shutdown));
     goes_on(&rt, &exchange, B);
+    exchange.let_go();
 }
 
 #[test]
@@ -85,6 +88,7 @@ fn a_session_ends_with_its_connection(rt: HostRuntime) {
     exchange.lose(&rt, B);
     has_ended(&rt, &exchange, A, Ending::Lost);
     goes_on(&rt, &exchange, B);
+    exchange.let_go();
 }
 
 const NO_FAULT: Faulted = Faulted {
@@ -114,6 +118,7 @@ fn updates_at_fault_are_counted(rt: HostRuntime) {
     exchange.hear(&rt, A, BAD_ROUTE);
     has_faulted(&rt, &exchange, A, 2, origin);
     has_faulted(&rt, &exchange, B, 0, NO_FAULT);
+    exchange.let_go();
 }
 
 #[test]
@@ -125,4 +130,5 @@ fn routes_without_next_hop_are_counted(rt: HostRuntime) {
     // What only withdraws misses nothing.
     exchange.hear(&rt, A, NO_ROUTE);
     has_faulted(&rt, &exchange, A, 1, next_hop);
+    exchange.let_go();
 }

@@ -82,9 +82,9 @@ pub fn text(rt: &impl Abort, alloc: Global, server: &str, of_a: &str, of_b: &str
     text.expect(rt, "a text")
 }
 
-/// A route server with these lines in its configuration.
-pub fn server(rt: &impl Abort, alloc: Global, server: &str, of_a: &str) -> Core {
-    let text = text(rt, alloc, server, of_a, "");
+/// A route server with these lines in its configuration, for the server and for a.
+pub fn server(rt: &impl Abort, alloc: Global, lines: &str, of_a: &str) -> Core {
+    let text = text(rt, alloc, lines, of_a, "");
     let config = Config::read(alloc, text.as_str()).expect(rt, "a configuration");
     Core::new(alloc, config).expect(rt, "a route server")
 }
@@ -127,6 +127,9 @@ impl Exchange {
         made.hear_in_turn(rt, A, ROUTE);
         made
     }
+
+    /// Gives all that it has back, in one call: where it goes out of scope each of its lists does.
+    pub fn let_go(self) {}
 
     /// A message of a client comes, in one piece.
     pub fn hear(&mut self, rt: &impl Abort, c: usize, digits: &str) {

@@ -15,6 +15,7 @@ fn a_route_goes_from_one_member_to_the_other(rt: HostRuntime) {
     exchange.hear_in_turn(&rt, A, ROUTE);
     exchange.sends(&rt, B, &[ROUTE]);
     exchange.sends(&rt, A, &[]);
+    exchange.let_go();
 }
 
 /// The last turn decided one prefix for a client, to which nothing is owed.
@@ -35,6 +36,7 @@ fn a_faulty_route_is_withdrawn(rt: HostRuntime) {
     exchange.hear_in_turn(&rt, A, BAD_ROUTE);
     exchange.sends(&rt, B, &[NO_ROUTE]);
     is_told_of_one(&rt, &exchange, B);
+    exchange.let_go();
 }
 
 #[test]
@@ -44,6 +46,7 @@ fn a_flap_between_takings_is_not_seen(rt: HostRuntime) {
     exchange.hear_in_turn(&rt, A, NO_ROUTE);
     exchange.hear_in_turn(&rt, A, ROUTE);
     exchange.sends(&rt, B, &[]);
+    exchange.let_go();
 }
 
 #[test]
@@ -55,6 +58,7 @@ fn a_member_that_comes_back_is_told_all(rt: HostRuntime) {
     exchange.greet(&rt, B, OPEN_B);
     exchange.turn();
     exchange.sends(&rt, B, &[ROUTE]);
+    exchange.let_go();
 }
 
 #[test]
@@ -66,6 +70,7 @@ fn a_message_that_was_begun_is_finished(rt: HostRuntime) {
     exchange.come_up(&rt, A, OPEN_A);
     exchange.hear_in_turn(&rt, A, with_med);
     exchange.sends_behind(&rt, B, front, &[ROUTE, with_med]);
+    exchange.let_go();
 }
 
 #[test]
@@ -74,6 +79,7 @@ fn a_member_asks_for_all_again(rt: HostRuntime) {
     exchange.sends(&rt, B, &[ROUTE]);
     exchange.hear(&rt, B, "00170500010001");
     exchange.sends(&rt, B, &[ROUTE]);
+    exchange.let_go();
 }
 
 /// The rules are replaced by those by which b is told of nothing.
@@ -95,6 +101,7 @@ fn other_rules_are_used_for_all_that_is_held(rt: HostRuntime) {
     drop_all_for_b(&rt, &mut exchange);
     exchange.turn();
     exchange.sends(&rt, B, &[NO_ROUTE]);
+    exchange.let_go();
 }
 
 #[test]
@@ -112,4 +119,5 @@ fn routes_of_a_session_that_timed_out_are_withdrawn(rt: HostRuntime) {
     exchange.sends_behind(&rt, B, of_b, &[ROUTE, "0015030400"]);
     exchange.closes(&rt, B);
     exchange.sends(&rt, A, &[KEEPALIVE, NO_ROUTE_B]);
+    exchange.let_go();
 }

@@ -15,6 +15,7 @@ fn a_second_connection_is_not_taken(rt: HostRuntime) {
     let mut exchange = Exchange::new(&rt, rt.alloc(), "", "");
     exchange.greet(&rt, A, OPEN_A);
     is_busy(&rt, &mut exchange, A);
+    exchange.let_go();
 }
 
 #[test]
@@ -30,4 +31,5 @@ fn the_limit_is_on_held_prefixes(rt: HostRuntime) {
     // Maximum Number of Prefixes Reached (RFC 4486, 4)
     exchange.sends(&rt, A, &["0015030601"]);
     exchange.closes(&rt, A);
+    exchange.let_go();
 }

@@ -50,4 +50,5 @@ fn both_shares_run(rt: HostRuntime) {
     assert!(rt; !gate.has_failed());
     assert_eq!(rt; turns.done, 2);
     assert_eq!(rt; turns.refused, 0);
+    exchange.let_go();
 }
