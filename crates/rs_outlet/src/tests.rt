@@ -134,6 +134,10 @@ impl Exchange {
     }
 }
 
+/// Lets an exchange and an outlet go in one call, which is one step of a test, and not one for each
+/// of their lists.
+fn let_go(_exchange: Exchange, _outlet: Outlet) {}
+
 /// Takes all messages that wait, and answers their octets.
 fn drain(rt: &impl Abort, alloc: Global, outlet: &mut Outlet) -> Vec<u8> {
     let mut taken = Vec::new(alloc);
@@ -171,6 +175,7 @@ fn more_than_4096_touched_are_all(rt: HostRuntime) {
     decides_behind(&rt, &exchange, &mut outlet, 4_096, some(4_096));
     decides_behind(&rt, &exchange, &mut outlet, 4_097, all(5_000));
     assert_eq!(rt; outlet.last(), Last::Done(all(5_000)));
+    let_go(exchange, outlet);
 }
 
 /// All that was told is told again, and nothing else.
@@ -193,6 +198,7 @@ fn all_is_told_again(rt: HostRuntime) {
     assert!(rt; first.len() > 12_000);
     tells_again(&rt, &exchange, &mut outlet, &first);
     tells_again(&rt, &exchange, &mut outlet, &first);
+    let_go(exchange, outlet);
 }
 
 /// The bits of the first ten prefixes that an outlet has a route for.
@@ -219,4 +225,5 @@ fn routes_rise(rt: HostRuntime) {
         0x0bf4_0c00,
     ];
     assert_eq!(rt; bits(&rt, &exchange, &outlet).as_slice(), rising.as_slice());
+    let_go(exchange, outlet);
 }

@@ -2,11 +2,10 @@
 //! `tools/play_without_memory.py` runs this test once for each request for memory, and refuses that
 //! one.
 
-use super::{CLIENT, Exchange, SENDER, all, drain, prefix, some};
+use super::{CLIENT, Exchange, SENDER, all, drain, let_go, prefix, some};
 use crate::{Last, Outlet};
 use rs_octets::Prefix;
 use std::process::Abort;
-use std::test::Fail;
 
 /// How many prefixes the sender announced before the first turn, and how many before the second.
 const BEFORE: u32 = 600;
@@ -69,7 +68,7 @@ fn are_alike(rt: &impl Abort, exchange: &Exchange, one: &mut Outlet, other: &mut
 }
 
 #[test]
-fn a_refused_turn_changes_nothing_but_last(rt: HostRuntime) -> Result<(), Fail> {
+fn a_refused_turn_changes_nothing_but_last(rt: HostRuntime) {
     let before = Exchange::with_routes(&rt, rt.alloc(), BEFORE);
     let mut now = Exchange::with_routes(&rt, rt.alloc(), NOW);
     withdraw(&rt, &mut now, BEFORE - 200);
@@ -78,10 +77,11 @@ fn a_refused_turn_changes_nothing_but_last(rt: HostRuntime) -> Result<(), Fail> 
     let routes = listed(&rt, &now, &outlet);
     now.decides(&rt, &mut other, some(500));
     if now.turn(&rt, &mut outlet).is_err() {
-        println!(rt; "memory was refused to a turn")?;
+        println!(rt; "memory was refused to a turn").expect(&rt, "a line");
         is_refused(&rt, &now, &outlet, &other, &routes);
         now.decides(&rt, &mut outlet, some(500));
     }
     are_alike(&rt, &now, &mut outlet, &mut other);
-    Ok(())
+    let_go(before, other);
+    let_go(now, outlet);
 }

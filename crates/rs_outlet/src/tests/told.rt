@@ -1,7 +1,7 @@
 //! What clients are told of the same routes, by their rules, by the mode that they speak and by the
 //! longest message that they take; and of 100,000 routes at once.
 
-use super::{CLIENT, Exchange, SENDER, all, announce, attrs, drain, prefix, some};
+use super::{CLIENT, Exchange, SENDER, all, announce, attrs, drain, let_go, prefix, some};
 use crate::Outlet;
 use rs_adjin::AdjIns;
 use rs_attrs::{Mode, read};
@@ -75,6 +75,9 @@ impl Exchange {
         assert_eq!(rt; octets.len(), count);
     }
 
+    /// Lets it go in one call.
+    fn let_go(self) {}
+
     /// A client of four octets is sent one message, by which that prefix has these attributes.
     fn tells(&self, rt: &impl Abort, client: usize, field: &[u8]) {
         let octets = self.sent(rt, client, Mode::Four, Limit::Short);
@@ -122,6 +125,7 @@ fn the_rules_come_before_the_choice(rt: HostRuntime) {
     exchange.tells(&rt, C, &OF_B);
     // The lower BGP Identifier.
     exchange.tells(&rt, D, &OF_A);
+    exchange.let_go();
 }
 
 /// A segment of an AS_PATH: so many times 4,200,000,000.
@@ -156,6 +160,7 @@ fn no_lesser_route_goes_where_the_best_does_not_fit(rt: HostRuntime) {
     exchange.tells(&rt, A, &OF_B);
     // With the longer messages of RFC 8654 it fits.
     exchange.sends(&rt, C, Mode::Two, Limit::Long, 4_258);
+    exchange.let_go();
 }
 
 #[test]
@@ -167,6 +172,7 @@ fn a_rule_strips_communities(rt: HostRuntime) {
     let exchange = heard(&rt, rt.alloc(), ("", of_c), (&tagged, &OF_A));
     exchange.tells(&rt, C, &OF_A);
     exchange.tells(&rt, D, &tagged);
+    exchange.let_go();
 }
 
 /// What waits are just these octets.
@@ -193,6 +199,7 @@ fn what_was_told_is_not_told_again(rt: HostRuntime) {
     exchange.decides(&rt, &mut outlet, some(1));
     assert!(rt; outlet.is_drained());
     drains(&rt, &exchange, &mut outlet, &[]);
+    let_go(exchange, outlet);
 }
 
 #[test]
@@ -204,6 +211,7 @@ fn messages_are_as_long_as_the_client_takes(rt: HostRuntime) {
     exchange.sends(&rt, CLIENT, Mode::Four, Limit::Long, 12_000 + 2 * 43);
     exchange.sends(&rt, CLIENT, Mode::Two, Limit::Short, 12_000 + 4 * 41);
     exchange.sends(&rt, CLIENT, Mode::Two, Limit::Long, 12_000 + 2 * 41);
+    exchange.let_go();
 }
 
 /// The sender announces 1,000 prefixes from this one on with other attributes, and they are decided.
@@ -228,4 +236,5 @@ fn turns_go_on_while_100_000_wait(rt: HostRuntime) {
     let told = drain(&rt, exchange.alloc, &mut outlet);
     assert_eq!(rt; told.len(), 400_000 + (49 + 49 + 2) * 43);
     assert!(rt; outlet.is_drained());
+    let_go(exchange, outlet);
 }

@@ -67,7 +67,7 @@ impl Driven {
         assert!(rt; self.core.is_drained(c));
     }
 
-    /// Gives all that it has back, in one call: where it goes out of scope each of its lists does.
+    /// Lets it go in one call, which is one step of a test, and not one for each of its lists.
     fn let_go(self) {}
 }
 

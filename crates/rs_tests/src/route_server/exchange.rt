@@ -128,7 +128,7 @@ impl Exchange {
         made
     }
 
-    /// Gives all that it has back, in one call: where it goes out of scope each of its lists does.
+    /// Lets it go in one call, which is one step of a test, and not one for each of its lists.
     pub fn let_go(self) {}
 
     /// A message of a client comes, in one piece.
