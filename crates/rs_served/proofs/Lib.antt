@@ -1,2 +1,3 @@
 pub mod Handling
 pub mod Rounds
+pub mod Sending

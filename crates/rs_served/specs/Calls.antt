@@ -1,5 +1,5 @@
 -- What the server asks of its ports, each call with its answer.
-use Rattle.std.specs.Prelude.{◌≡◌, ℕ, List, Option, Result, IsOk, IsErr, ⊤}
+use Rattle.std.specs.Prelude.{◌≡◌, ℕ, List, Option, Some, None, Result, Ok, Err, IsOk, IsErr, ⊤}
 use Rattle.rs_served.specs.declared.ports.PortFault.{PortFault}
 use Rattle.rs_served.specs.declared.ports.Caller.{Caller}
 use Rattle.rs_served.specs.declared.ports.Line.{Line}
@@ -16,11 +16,18 @@ pub data Call : Type 0 where
   Said : (line : Line) → Call
   Logged : (report : Report) → Call
 
--- it is no wait, no accept, no read and no write that failed
+-- a read with this answer is the last of its connection: it failed, or it read 0 octets, the end of the input
+abbrev pub IsLastRead : Result (Option ℕ) PortFault → Type 0
+IsLastRead (Ok None) = ⊥
+IsLastRead (Ok (Some count)) = count ≡ 0
+IsLastRead (Err fault) = ⊤
+
+-- nothing comes of this call: it is no wait, no accept and no write that failed, no accept of a connection, and no read
+-- that is a connection's last or gave octets
 abbrev pub IsGood : Call → Type 0
 IsGood (Waited answer) = IsOk answer
-IsGood (Accepted answer) = IsOk answer
-IsGood (Read key piece answer) = IsOk answer
+IsGood (Accepted answer) = answer ≡ Ok None
+IsGood (Read key piece answer) = answer ≡ Ok None
 IsGood (Wrote key octets answer) = IsOk answer
 IsGood (Closed key) = ⊤
 IsGood (Timed seconds) = ⊤
@@ -50,14 +57,26 @@ IsFailedAccept (Fetched text answer) = ⊥
 IsFailedAccept (Said line) = ⊥
 IsFailedAccept (Logged report) = ⊥
 
--- a read or a write of the connection with this key that failed
-abbrev pub IsFaultOf : ℕ → Call → Type 0
-IsFaultOf key (Waited answer) = ⊥
-IsFaultOf key (Accepted answer) = ⊥
-IsFaultOf key (Read k piece answer) = (k ≡ key) × IsErr answer
-IsFaultOf key (Wrote k octets answer) = (k ≡ key) × IsErr answer
-IsFaultOf key (Closed k) = ⊥
-IsFaultOf key (Timed seconds) = ⊥
-IsFaultOf key (Fetched text answer) = ⊥
-IsFaultOf key (Said line) = ⊥
-IsFaultOf key (Logged report) = ⊥
+-- a write of the connection with this key that failed
+abbrev pub IsFailedWriteOf : ℕ → Call → Type 0
+IsFailedWriteOf key (Waited answer) = ⊥
+IsFailedWriteOf key (Accepted answer) = ⊥
+IsFailedWriteOf key (Read k piece answer) = ⊥
+IsFailedWriteOf key (Wrote k octets answer) = (k ≡ key) × IsErr answer
+IsFailedWriteOf key (Closed k) = ⊥
+IsFailedWriteOf key (Timed seconds) = ⊥
+IsFailedWriteOf key (Fetched text answer) = ⊥
+IsFailedWriteOf key (Said line) = ⊥
+IsFailedWriteOf key (Logged report) = ⊥
+
+-- by this call the connection with this key is found to be lost: a read that is its last, or a write that failed
+abbrev pub FindsLost : ℕ → Call → Type 0
+FindsLost key (Waited answer) = ⊥
+FindsLost key (Accepted answer) = ⊥
+FindsLost key (Read k piece answer) = (k ≡ key) × IsLastRead answer
+FindsLost key (Wrote k octets answer) = (k ≡ key) × IsErr answer
+FindsLost key (Closed k) = ⊥
+FindsLost key (Timed seconds) = ⊥
+FindsLost key (Fetched text answer) = ⊥
+FindsLost key (Said line) = ⊥
+FindsLost key (Logged report) = ⊥

@@ -3,8 +3,9 @@
 //! for each connection. Turns so stay small: an outlet that was touched at more than 4,096 prefixes
 //! would decide its whole table.
 
-ghost use Rattle.std.specs.Prelude.{◌≡◌, false};
-ghost use Rattle.rs_served.specs.Handled.{Has, AreHandled, Follows, Answers, Tells};
+ghost use Rattle.std.specs.Prelude.{◌≡◌, ℕ, List, Some, Ok, false};
+ghost use Rattle.rs_served.specs.Calls.{Accepted};
+ghost use Rattle.rs_served.specs.Handled.{Has, AreHandled, EndBy, Follows, Answers};
 
 use crate::link::{Link, Phase};
 use crate::ports::{Caller, Line, Ports};
@@ -34,13 +35,13 @@ impl<'a, P: Ports> Link<'a, P> {
             && seat.peer == caller.address)
     }
 
-    /// Closes a connection that is nobody's.
+    /// Closes a connection that has just come and is nobody's.
     fn refuse(&mut self, caller: &Caller)
         ensures same_ports { self.new.ports.ghost_name ≡ self.old.ports.ghost_name }
         ensures failed { self.new.has_failed ≡ self.old.has_failed }
-        ensures handled { Has P.asked self.old.ports.now AreHandled → Has P.asked self.new.ports.now AreHandled }
+        ensures handled { Has P.asked self.old.ports.now (EndBy (λ call. call ≡ Accepted (Ok (Some caller.now)))) → Has P.asked self.new.ports.now AreHandled }
     {
-        self.say(Line::Stranger);
+        self.ports.say(&Line::Stranger);
         self.ports.close(caller.key);
         let (address, count) = self.strangers.unwrap_or((caller.address, 0));
         self.strangers = Some((address, count.saturating_add(1)));
@@ -49,7 +50,7 @@ impl<'a, P: Ports> Link<'a, P> {
     /// Accepts until a client's connection comes, none is left, or the round has accepted enough.
     fn accepted(&mut self) -> Option<Event>
         ensures same_ports { self.new.ports.ghost_name ≡ self.old.ports.ghost_name }
-        ensures told { self.old.has_failed ≡ false → Has P.asked self.old.ports.now AreHandled → Answers P.asked result self.new.ports.now self.new.has_failed }
+        ensures told { self.old.has_failed ≡ false → Has P.asked self.old.ports.now AreHandled → (piece : List ℕ) → Answers P.asked result piece self.new.ports.now self.new.has_failed }
     {
         for _ in self.accepted..ACCEPTED {
             match self.ports.accept() {
@@ -76,10 +77,11 @@ impl<'a, P: Ports> Link<'a, P> {
         None
     }
 
-    /// Reads a piece of the client whose turn it is; `None` where nothing is there.
+    /// Reads a piece of the client whose turn it is; `None` where nothing is there. At the end of its
+    /// input the connection is lost, as where the read fails.
     fn piece(&mut self, piece: &mut [u8; 4096]) -> Option<Event>
         ensures same_ports { self.new.ports.ghost_name ≡ self.old.ports.ghost_name }
-        ensures told { self.old.has_failed ≡ false → Has P.asked self.old.ports.now AreHandled → Answers P.asked result self.new.ports.now self.new.has_failed }
+        ensures told { self.old.has_failed ≡ false → Has P.asked self.old.ports.now AreHandled → Answers P.asked result piece.new self.new.ports.now self.new.has_failed }
     {
         let c = self.reading;
         let key = self.seats.get(c)?.live.key()?;
@@ -89,7 +91,14 @@ impl<'a, P: Ports> Link<'a, P> {
         }
         match self.ports.read(key, piece) {
             Ok(None) => None,
-            Ok(Some(count)) => Some(self.heard(c, key, count)),
+            Ok(Some(count)) => {
+                if count == 0 {
+                    self.lose(c, key);
+                    return Some(Event::Lost(c));
+                }
+                self.heard(count);
+                Some(Event::Octets(c, count))
+            }
             Err(_) => {
                 self.lose(c, key);
                 Some(Event::Lost(c))
@@ -97,25 +106,21 @@ impl<'a, P: Ports> Link<'a, P> {
         }
     }
 
-    /// So many octets of a client were read; 0 at the end of input.
-    fn heard(&mut self, c: usize, key: usize, count: usize) -> Event
+    /// Counts octets that were read.
+    fn heard(&mut self, count: usize)
         ensures same_ports { self.new.ports.ghost_name ≡ self.old.ports.ghost_name }
-        ensures told { self.old.has_failed ≡ false → Has P.asked self.old.ports.now AreHandled → Tells P.asked result self.new.ports.now self.new.has_failed }
+        ensures failed { self.new.has_failed ≡ self.old.has_failed }
+        ensures unasked { self.new.ports.now ≡ self.old.ports.now }
     {
-        if count == 0 {
-            self.lose(c, key);
-            return Event::Lost(c);
-        }
         self.pieces = self.pieces.saturating_add(1);
         self.pieces_heard = self.pieces_heard.saturating_add(1);
         self.octets_heard = self.octets_heard.saturating_add(count);
-        Event::Octets(c, count)
     }
 
     /// Reads on, until enough was heard for a turn or nothing is left.
     fn read_on(&mut self, piece: &mut [u8; 4096]) -> Option<Event>
         ensures same_ports { self.new.ports.ghost_name ≡ self.old.ports.ghost_name }
-        ensures told { self.old.has_failed ≡ false → Has P.asked self.old.ports.now AreHandled → Answers P.asked result self.new.ports.now self.new.has_failed }
+        ensures told { self.old.has_failed ≡ false → Has P.asked self.old.ports.now AreHandled → Answers P.asked result piece.new self.new.ports.now self.new.has_failed }
     {
         self.phase = Phase::Moment;
         if self.pieces_heard >= PIECES_A_TURN {
@@ -141,7 +146,7 @@ impl<'a, P: Ports> Link<'a, P> {
 
     fn moment(&mut self) -> Option<Event>
         ensures same_ports { self.new.ports.ghost_name ≡ self.old.ports.ghost_name }
-        ensures told { self.old.has_failed ≡ false → Has P.asked self.old.ports.now AreHandled → Answers P.asked result self.new.ports.now self.new.has_failed }
+        ensures told { self.old.has_failed ≡ false → Has P.asked self.old.ports.now AreHandled → (piece : List ℕ) → Answers P.asked result piece self.new.ports.now self.new.has_failed }
     {
         self.phase = Phase::Turn;
         self.now = self.ports.seconds();
@@ -151,7 +156,7 @@ impl<'a, P: Ports> Link<'a, P> {
     /// A turn; or a stop before it, where other workers are to do it.
     fn turn(&mut self) -> Option<Event>
         ensures same_ports { self.new.ports.ghost_name ≡ self.old.ports.ghost_name }
-        ensures told { self.old.has_failed ≡ false → Has P.asked self.old.ports.now AreHandled → Answers P.asked result self.new.ports.now self.new.has_failed }
+        ensures told { self.old.has_failed ≡ false → Has P.asked self.old.ports.now AreHandled → (piece : List ℕ) → Answers P.asked result piece self.new.ports.now self.new.has_failed }
     {
         let is_wide = self.octets_heard >= MUCH;
         if is_wide != self.is_wide {
@@ -167,7 +172,7 @@ impl<'a, P: Ports> Link<'a, P> {
     /// Gives room to the next connection from this client's on.
     fn room(&mut self, from: usize) -> Option<Event>
         ensures same_ports { self.new.ports.ghost_name ≡ self.old.ports.ghost_name }
-        ensures told { self.old.has_failed ≡ false → Has P.asked self.old.ports.now AreHandled → Answers P.asked result self.new.ports.now self.new.has_failed }
+        ensures told { self.old.has_failed ≡ false → Has P.asked self.old.ports.now AreHandled → (piece : List ℕ) → Answers P.asked result piece self.new.ports.now self.new.has_failed }
     {
         let next = self
             .seats
@@ -196,7 +201,7 @@ impl<'a, P: Ports> Link<'a, P> {
     /// Writes what a connection was handed; gives it room again where it was full and no longer is.
     fn handed(&mut self, c: usize) -> Option<Event>
         ensures same_ports { self.new.ports.ghost_name ≡ self.old.ports.ghost_name }
-        ensures told { self.old.has_failed ≡ false → Has P.asked self.old.ports.now AreHandled → Answers P.asked result self.new.ports.now self.new.has_failed }
+        ensures told { self.old.has_failed ≡ false → Has P.asked self.old.ports.now AreHandled → (piece : List ℕ) → Answers P.asked result piece self.new.ports.now self.new.has_failed }
     {
         self.phase = Phase::Room(c.saturating_add(1));
         let seat = self.seats.get_mut(c)?;
@@ -219,7 +224,7 @@ impl<'a, P: Ports> Link<'a, P> {
     /// Room for a connection once more, unless it had much behind this turn.
     fn room_again(&mut self, c: usize) -> Option<Event>
         ensures same_ports { self.new.ports.ghost_name ≡ self.old.ports.ghost_name }
-        ensures told { self.old.has_failed ≡ false → Has P.asked self.old.ports.now AreHandled → Answers P.asked result self.new.ports.now self.new.has_failed }
+        ensures told { self.old.has_failed ≡ false → Has P.asked self.old.ports.now AreHandled → (piece : List ℕ) → Answers P.asked result piece self.new.ports.now self.new.has_failed }
     {
         if self.rooms >= ROOMS {
             self.has_more = true;
@@ -255,7 +260,7 @@ impl<'a, P: Ports> Link<'a, P> {
     /// What the round does next, and the event that comes of it.
     fn step(&mut self, piece: &mut [u8; 4096]) -> Option<Event>
         ensures same_ports { self.new.ports.ghost_name ≡ self.old.ports.ghost_name }
-        ensures told { self.old.has_failed ≡ false → Has P.asked self.old.ports.now AreHandled → Answers P.asked result self.new.ports.now self.new.has_failed }
+        ensures told { self.old.has_failed ≡ false → Has P.asked self.old.ports.now AreHandled → Answers P.asked result piece.new self.new.ports.now self.new.has_failed }
     {
         match self.phase {
             Phase::Rules => {

@@ -3,7 +3,7 @@
 //! loss at once.
 
 ghost use Rattle.std.specs.Prelude.{◌≡◌, false, IsTrue, IsFalse};
-ghost use Rattle.rs_served.specs.Calls.{IsFaultOf, IsFailedWait};
+ghost use Rattle.rs_served.specs.Calls.{FindsLost, IsFailedWait};
 ghost use Rattle.rs_served.specs.Handled.{Has, AreHandled, AreLosing, EndBy};
 
 use crate::ports::{Caller, Line, Ports};
@@ -247,7 +247,7 @@ impl<'a, P: Ports> Link<'a, P> {
         ensures same_ports { self.new.ports.ghost_name ≡ self.old.ports.ghost_name }
         ensures failed { self.new.has_failed ≡ self.old.has_failed }
         ensures lost { Has P.asked self.old.ports.now AreHandled → Has P.asked self.new.ports.now (AreLosing c) }
-        ensures fault { Has P.asked self.old.ports.now (EndBy (IsFaultOf key)) → Has P.asked self.new.ports.now (AreLosing c) }
+        ensures found { Has P.asked self.old.ports.now (EndBy (FindsLost key)) → Has P.asked self.new.ports.now (AreLosing c) }
     {
         self.ports.say(&Line::Lost(c));
         self.ports.close(key);

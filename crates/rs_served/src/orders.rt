@@ -1,7 +1,7 @@
 //! What the core says, as calls on the ports.
 
 ghost use Rattle.std.specs.Prelude.{◌≡◌, ◌≤◌, length, IfOk, IfErr, IsOk};
-ghost use Rattle.rs_served.specs.Calls.{IsFaultOf};
+ghost use Rattle.rs_served.specs.Calls.{IsFailedWriteOf};
 ghost use Rattle.rs_served.specs.Handled.{Has, AreHandled, EndBy};
 
 use crate::link::Link;
@@ -43,7 +43,7 @@ impl<'a, P: Ports> Link<'a, P> {
         ensures failed { self.new.has_failed ≡ self.old.has_failed }
         ensures count { IfOk result (λ n. n ≤ length octets.now) }
         ensures ok { IsOk result → Has P.asked self.old.ports.now AreHandled → Has P.asked self.new.ports.now AreHandled }
-        ensures err { IfErr result (λ key. Has P.asked self.old.ports.now AreHandled → Has P.asked self.new.ports.now (EndBy (IsFaultOf key))) }
+        ensures err { IfErr result (λ key. Has P.asked self.old.ports.now AreHandled → Has P.asked self.new.ports.now (EndBy (IsFailedWriteOf key))) }
     {
         match self.seats.get_mut(c) {
             Some(seat) if seat.live.is_open() => seat.live.offer(self.ports, octets, self.now),

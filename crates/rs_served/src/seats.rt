@@ -1,9 +1,10 @@
 //! A place for each client: where its connection comes from, the one that it has, and an earlier one
 //! that the server is closing.
 
-ghost use Rattle.std.specs.Prelude.{◌≤◌, length, IfOk, IfErr, IsOk};
-ghost use Rattle.rs_served.specs.Calls.{IsFaultOf};
+ghost use Rattle.std.specs.Prelude.{◌≡◌, ◌≤◌, ◌++◌, List, [], length, take, drop, None, Some, IfOk, IfErr, IsOk, IsErr};
+ghost use Rattle.rs_served.specs.Calls.{Call, IsFailedWriteOf};
 ghost use Rattle.rs_served.specs.Handled.{Has, AreHandled, EndBy};
+ghost use Rattle.rs_served.specs.Sending.{Sent};
 
 use crate::outbox::Outbox;
 use crate::ports::Ports;
@@ -39,7 +40,10 @@ impl Connection {
     }
 
     /// A connection begins here.
-    pub fn begin(&mut self, key: usize) {
+    pub fn begin(&mut self, key: usize)
+        ensures key { self.new.key ≡ Some key }
+        ensures empty { self.new.out ≡ [] }
+    {
         self.key = Some(key);
         self.out.clear();
         self.is_closing = false;
@@ -80,8 +84,9 @@ impl Connection {
         }
     }
 
-    /// Hands octets to the connection, as much as there is room for, and answers how many. Where
-    /// there is no room, what waits is written first; where that fails the error is the key.
+    /// Hands octets to the connection, as much as there is room for, and answers how many: they wait
+    /// behind what waits. Where there is no room, what waits is written first; where that fails the
+    /// error is the key.
     pub fn offer<P: Ports>(
         &mut self,
         ports: &mut P,
@@ -89,8 +94,11 @@ impl Connection {
         now: u64,
     ) -> Result<usize, usize>
         ensures count { IfOk result (λ n. n ≤ length octets.now) }
+        ensures key { self.new.key ≡ self.old.key }
+        ensures taken { IfOk result (λ n. (calls : List Call) → P.asked ports.old calls → Sent P.asked self.old.key calls self.old.out ports.new (λ waiting. self.new.out ≡ waiting ++ take n octets.now)) }
+        ensures refused { IsErr result → (calls : List Call) → P.asked ports.old calls → Sent P.asked self.old.key calls self.old.out ports.new (λ waiting. self.new.out ≡ waiting) }
         ensures ok { IsOk result → Has P.asked ports.old AreHandled → Has P.asked ports.new AreHandled }
-        ensures err { IfErr result (λ key. Has P.asked ports.old AreHandled → Has P.asked ports.new (EndBy (IsFaultOf key))) }
+        ensures err { IfErr result (λ key. Has P.asked ports.old AreHandled → Has P.asked ports.new (EndBy (IsFailedWriteOf key))) }
     {
         self.make_room(ports, now)?;
         if self.out.is_empty() {
@@ -101,8 +109,10 @@ impl Connection {
 
     /// Writes what waits where there is no room; where that fails the error is the key.
     fn make_room<P: Ports>(&mut self, ports: &mut P, now: u64) -> Result<(), usize>
+        ensures key { self.new.key ≡ self.old.key }
+        ensures sent { (calls : List Call) → P.asked ports.old calls → Sent P.asked self.old.key calls self.old.out ports.new (λ waiting. self.new.out ≡ waiting) }
         ensures ok { IsOk result → Has P.asked ports.old AreHandled → Has P.asked ports.new AreHandled }
-        ensures err { IfErr result (λ key. Has P.asked ports.old AreHandled → Has P.asked ports.new (EndBy (IsFaultOf key))) }
+        ensures err { IfErr result (λ key. Has P.asked ports.old AreHandled → Has P.asked ports.new (EndBy (IsFailedWriteOf key))) }
     {
         if !self.out.is_full() {
             return Ok(());
@@ -114,8 +124,10 @@ impl Connection {
 
     /// Writes what waits, until the socket takes no more; where that fails the error is the key.
     pub fn write<P: Ports>(&mut self, ports: &mut P, now: u64) -> Result<(), usize>
+        ensures key { self.new.key ≡ self.old.key }
+        ensures sent { (calls : List Call) → P.asked ports.old calls → Sent P.asked self.old.key calls self.old.out ports.new (λ waiting. self.new.out ≡ waiting) }
         ensures ok { IsOk result → Has P.asked ports.old AreHandled → Has P.asked ports.new AreHandled }
-        ensures err { IfErr result (λ key. Has P.asked ports.old AreHandled → Has P.asked ports.new (EndBy (IsFaultOf key))) }
+        ensures err { IfErr result (λ key. Has P.asked ports.old AreHandled → Has P.asked ports.new (EndBy (IsFailedWriteOf key))) }
     {
         let Some(key) = self.key else {
             return Ok(());
@@ -134,7 +146,10 @@ impl Connection {
     }
 
     /// The socket took so many of the octets that wait.
-    fn took(&mut self, count: usize, now: u64) {
+    fn took(&mut self, count: usize, now: u64)
+        ensures key { self.new.key ≡ self.old.key }
+        ensures rest { self.new.out ≡ drop count self.old.out }
+    {
         if !self.is_closing {
             self.since = now;
         }
