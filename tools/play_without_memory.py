@@ -1,9 +1,9 @@
 #!/usr/bin/env python3
-"""Runs a test of rs_outlet with one request for memory refused, another one in each run, and says what went wrong.
+"""Runs a test of outlets with one request for memory refused, another one in each run, and says what went wrong.
 
 play_without_memory.py TESTS
 
-TESTS is the crate's built tests. The test turns an outlet at its end, and says so where memory was refused to that
+TESTS is the built tests of rs_tests. The test turns an outlet at its end, and says so where memory was refused to that
 turn: then it must pass, which it does where nothing but the answer of the last turn has changed. Where memory is
 refused before or behind the turn the test can't go on, and fails without a word of the turn.
 """
@@ -16,7 +16,7 @@ import tempfile
 from results import end, tell
 
 SHIM = pathlib.Path(__file__).resolve().parent / "refuse_memory.c"
-TEST = "tests::refused::a_refused_turn_changes_nothing_but_last"
+TEST = "outlet::refused::a_refused_turn_changes_nothing_but_last"
 SAID = b"memory was refused to a turn"
 SECONDS = 120
 # So many of the last requests are refused, one after the other; the turn makes some of them.

@@ -12,6 +12,3 @@ pub mod replay;
 pub mod serve;
 
 pub use asked::Asked;
-
-#[cfg(test)]
-mod tests;

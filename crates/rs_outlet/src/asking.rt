@@ -15,6 +15,13 @@ use rs_octets::Prefix;
 use std::sync::Arc;
 
 impl Outlet {
+    /// The place of its client among those of the configuration.
+    pub fn client(&self) -> usize
+        ensures { result ≡ self.now.client }
+    {
+        self.client
+    }
+
     /// The answer of the last turn.
     pub fn last(&self) -> Last
         ensures { result ≡ self.now.last }

@@ -33,8 +33,6 @@ mod runs;
 mod sending;
 mod sizes;
 mod table;
-#[cfg(test)]
-mod tests;
 mod touched;
 mod turn;
 mod waiting;

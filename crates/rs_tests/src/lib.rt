@@ -10,6 +10,8 @@
 #[cfg(test)]
 mod adjin;
 #[cfg(test)]
+mod command;
+#[cfg(test)]
 mod common;
 #[cfg(test)]
 mod decision;
@@ -17,6 +19,8 @@ mod decision;
 mod octets;
 #[cfg(test)]
 mod open;
+#[cfg(test)]
+mod outlet;
 #[cfg(test)]
 mod packer;
 #[cfg(test)]

@@ -5,11 +5,11 @@
 mod refused;
 mod told;
 
-use crate::{Last, Outlet, Turned};
 use rs_adjin::AdjIns;
 use rs_attrs::{Attrs, Mode, read};
 use rs_octets::Prefix;
 use rs_open::Limit;
+use rs_outlet::{Last, Outlet, Turned};
 use rs_policy::Config;
 use std::alloc::{AllocError, Global};
 use std::process::Abort;
@@ -122,7 +122,7 @@ impl Exchange {
 
     /// What a turn answers.
     fn turn(&self, rt: &impl Abort, outlet: &mut Outlet) -> Result<Turned, AllocError> {
-        assert!(rt; outlet.client < self.config.clients());
+        assert!(rt; outlet.client() < self.config.clients());
         assert!(rt; self.tables.clients() == self.config.clients());
         outlet.turn(&self.tables, &self.config)
     }

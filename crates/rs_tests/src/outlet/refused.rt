@@ -3,8 +3,8 @@
 //! one.
 
 use super::{CLIENT, Exchange, SENDER, all, drain, let_go, prefix, some};
-use crate::{Last, Outlet};
 use rs_octets::Prefix;
+use rs_outlet::{Last, Outlet};
 use std::process::Abort;
 
 /// How many prefixes the sender announced before the first turn, and how many before the second.

@@ -2,11 +2,11 @@
 //! longest message that they take; and of 100,000 routes at once.
 
 use super::{CLIENT, Exchange, SENDER, all, announce, attrs, drain, let_go, prefix, some};
-use crate::Outlet;
 use rs_adjin::AdjIns;
 use rs_attrs::{Mode, read};
 use rs_octets::Prefix;
 use rs_open::Limit;
+use rs_outlet::Outlet;
 use std::alloc::Global;
 use std::process::Abort;
 use std::sync::Arc;

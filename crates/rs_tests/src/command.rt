@@ -1,6 +1,6 @@
 //! What command lines ask for, and what is told of those that ask for nothing.
 
-use crate::{Asked, replay, serve};
+use rs_command::{Asked, replay, serve};
 use std::alloc::{AllocError, Global};
 use std::cell::RefCell;
 use std::fmt::{Display, Write};
