@@ -1,8 +1,9 @@
 //! What a route server is asked.
 
-ghost use Rattle.std.specs.Prelude.{◌≡◌, ◌==◌, ◌&&◌, ◌<◌, T, true, false, List, [], ◌∷◌, length, IfSome, IsTrue};
+ghost use Rattle.std.specs.Prelude.{ℕ, Some, ◌≡◌, ◌==◌, ◌&&◌, ◌<◌, T, true, false, List, [], ◌∷◌, length, IfSome, IsTrue};
 ghost use Rattle.std.specs.FinMap.{find, is_sorted};
 ghost use Rattle.rs_octets.specs.Prefixes.{Prefix, prefix_order};
+ghost use Rattle.rs_adjin.specs.AdjIns.{number_of};
 
 use crate::endings::{Ending, FaultedUpdates};
 use crate::route_server::Core;
@@ -133,6 +134,13 @@ impl Core {
         ensures { (run : List Move) → Agrees self.now run → result ≡ faulted_in (hearing c run) }
     {
         self.watched[c].faulted
+    }
+
+    /// How many rows the tables of prefixes have: a number above each that a prefix has.
+    pub fn rows(&self) -> usize
+        ensures { (p : Prefix) (n : ℕ) → number_of self.now.ribs.tables p ≡ Some n → n < result }
+    {
+        self.ribs.tables.numbers()
     }
 
     /// The Loc-RIB of a client, by rising prefix: what was due to it at its last turn, and nothing where

@@ -76,7 +76,7 @@ fn cycled_prefixes_make_no_table_grow(rt: HostRuntime) {
         cycle(&rt, &mut exchange, first);
     }
     // Two rounds' prefixes may have numbers at once: a number is given up behind the turn.
-    assert!(rt; exchange.core.ribs.tables.numbers() <= 2 * EACH as usize);
+    assert!(rt; exchange.core.rows() <= 2 * EACH as usize);
     assert!(rt; A < exchange.core.clients());
     assert!(rt; exchange.core.is_established(A));
     exchange.let_go();
