@@ -41,4 +41,9 @@ pub use laws::{
 pub use mode::Mode;
 pub use reading::{Parsed, read};
 pub use stripping::{Strip, stripped};
+pub use types::{
+    AGGREGATOR, AS_PATH, AS4_AGGREGATOR, AS4_PATH, ATOMIC_AGGREGATE, CLUSTER_LIST, COMMUNITIES,
+    EXTENDED_COMMUNITIES, LARGE_COMMUNITY, LOCAL_PREF, MP_REACH_NLRI, MP_UNREACH_NLRI,
+    MULTI_EXIT_DISC, NEXT_HOP, ORIGIN, ORIGINATOR_ID,
+};
 pub use writing::{size, size_at_most, write_into};

@@ -2,7 +2,11 @@
 //! of packets to see it.
 
 use crate::names::Names;
-use rs_attrs::{AttributeFault, Cause, Faulted, Mode};
+use rs_attrs::{
+    AGGREGATOR, AS_PATH, AS4_AGGREGATOR, AS4_PATH, ATOMIC_AGGREGATE, AttributeFault, CLUSTER_LIST,
+    COMMUNITIES, Cause, EXTENDED_COMMUNITIES, Faulted, LARGE_COMMUNITY, LOCAL_PREF, MP_REACH_NLRI,
+    MP_UNREACH_NLRI, MULTI_EXIT_DISC, Mode, NEXT_HOP, ORIGIN, ORIGINATOR_ID,
+};
 use rs_core::{Ending, Notice};
 use rs_octets::Notification;
 use rs_open::{Limit, Short};
@@ -146,23 +150,26 @@ impl fmt::Display for Why<'_> {
     }
 }
 
-/// The name of a type of path attribute (RFC 4271, 5; RFC 1997; RFC 4760; RFC 6793; RFC 8092).
+/// The name of a type of path attribute (RFC 4271, 5; RFC 1997; RFC 4360; RFC 4456; RFC 4760;
+/// RFC 6793; RFC 8092).
 fn attribute_name(kind: u8) -> &'static str {
     match kind {
-        1 => "ORIGIN",
-        2 => "AS_PATH",
-        3 => "NEXT_HOP",
-        4 => "MULTI_EXIT_DISC",
-        5 => "LOCAL_PREF",
-        6 => "ATOMIC_AGGREGATE",
-        7 => "AGGREGATOR",
-        8 => "COMMUNITIES",
-        14 => "MP_REACH_NLRI",
-        15 => "MP_UNREACH_NLRI",
-        16 => "EXTENDED COMMUNITIES",
-        17 => "AS4_PATH",
-        18 => "AS4_AGGREGATOR",
-        32 => "LARGE_COMMUNITY",
+        ORIGIN => "ORIGIN",
+        AS_PATH => "AS_PATH",
+        NEXT_HOP => "NEXT_HOP",
+        MULTI_EXIT_DISC => "MULTI_EXIT_DISC",
+        LOCAL_PREF => "LOCAL_PREF",
+        ATOMIC_AGGREGATE => "ATOMIC_AGGREGATE",
+        AGGREGATOR => "AGGREGATOR",
+        COMMUNITIES => "COMMUNITIES",
+        ORIGINATOR_ID => "ORIGINATOR_ID",
+        CLUSTER_LIST => "CLUSTER_LIST",
+        MP_REACH_NLRI => "MP_REACH_NLRI",
+        MP_UNREACH_NLRI => "MP_UNREACH_NLRI",
+        EXTENDED_COMMUNITIES => "EXTENDED COMMUNITIES",
+        AS4_PATH => "AS4_PATH",
+        AS4_AGGREGATOR => "AS4_AGGREGATOR",
+        LARGE_COMMUNITY => "LARGE_COMMUNITY",
         _ => "an attribute",
     }
 }
