@@ -1,5 +1,5 @@
 -- All that a link does between two calls of the core.
-use Rattle.std.proofs.Common.{◌≡◌, ℕ, Bool, true, false, List, [], ◌∷◌, refl, ◌∙◌, subst}
+use Rattle.std.proofs.Common.{◌≡◌, Bool, true, false, List, [], ◌∷◌, refl, ◌∙◌, subst}
 use Rattle.rs_core.specs.declared.links.Event.TheVariants.{Stop}
 use Rattle.rs_core.specs.Links.{Step, Told, Leads, GoesOn, AllGoOn, HasStopped}
 use Rattle.rs_served.specs.Calls.{Call, IsFailedAccept}

@@ -2,7 +2,7 @@
 use Rattle.std.proofs.Common.{◌≡◌, ℕ, List, ◌∷◌, Option, Some, Result, drop, refl, ◌∙◌, subst}
 use Rattle.rs_served.specs.declared.ports.PortFault.{PortFault}
 use Rattle.rs_served.specs.Calls.{Call, Wrote}
-use Rattle.rs_served.specs.Sending.{taken, Writes, NoWrite, OneMore, Sent}
+use Rattle.rs_served.specs.Sending.{taken, NoWrite, OneMore, Sent}
 use Rattle.rs_served.proofs.Handling.{AsksMore}
 
 -- nothing was written yet

@@ -1,4 +1,4 @@
-use Rattle.std.proofs.Common.{◌≡◌, ◌∙◌, sym, subst, rules}
+use Rattle.std.proofs.Common.{◌∙◌, sym, subst, rules}
 use Rattle.rs_served.specs.Handled.{Has, AreHandled, IsServed}
 use Rattle.rs_served.proofs.Handling.{begun}
 use Rattle.rs_served.proofs.serve.serve.Goals as goal
