@@ -47,6 +47,36 @@ pub struct Sockets<'a, R> {
     start: Instant,
 }
 
+/// Listens at an address and says so, a line. The poll knows the listener by its place.
+fn open_door<R: Net + Print>(
+    rt: &R,
+    poll: &Poll,
+    place: usize,
+    address: (u32, u16),
+) -> io::Result<TcpListener> {
+    let address = SocketAddrV4::new(Ipv4Addr::from(address.0), address.1);
+    let mut listener = TcpListener::bind(rt, SocketAddr::V4(address))?;
+    let token = Token(FIRST_LISTENER.saturating_add(place));
+    poll.registry()
+        .register(&mut listener, token, Interest::READABLE)?;
+    rt.println(format_args!("listening {address}"))?;
+    Ok(listener)
+}
+
+/// Listens at these addresses.
+fn open_doors<R: Net + Print>(
+    rt: &R,
+    alloc: Global,
+    poll: &Poll,
+    addresses: &[(u32, u16)],
+) -> io::Result<Doors> {
+    let mut doors = Doors::new(alloc);
+    for (place, address) in addresses.iter().enumerate() {
+        doors.add(open_door(rt, poll, place, *address)?)?;
+    }
+    Ok(doors)
+}
+
 impl<'a, R: Net + Clock + Files + Print + Eprint> Sockets<'a, R> {
     /// Listens at these addresses and says so, a line each.
     pub fn listen(
@@ -59,16 +89,7 @@ impl<'a, R: Net + Clock + Files + Print + Eprint> Sockets<'a, R> {
     ) -> io::Result<Sockets<'a, R>> {
         let poll = Poll::new(rt)?;
         let events = Events::with_capacity(alloc, 1024)?;
-        let mut doors = Doors::new(alloc);
-        for (at, address) in addresses.iter().enumerate() {
-            let address = SocketAddrV4::new(Ipv4Addr::from(address.0), address.1);
-            let mut listener = TcpListener::bind(rt, SocketAddr::V4(address))?;
-            let token = Token(FIRST_LISTENER.saturating_add(at));
-            poll.registry()
-                .register(&mut listener, token, Interest::READABLE)?;
-            rt.println(format_args!("listening {address}"))?;
-            doors.add(listener)?;
-        }
+        let doors = open_doors(rt, alloc, &poll, addresses)?;
         let mut streams = Slab::new(alloc);
         streams.reserve(names.count().saturating_mul(2).saturating_add(1))?;
         Ok(Sockets {
