@@ -25,7 +25,7 @@ const PIECES_A_TURN: u32 = 3;
 const ROOMS: u32 = 16;
 
 /// From so many octets heard since the last turn on, all workers turn; else one does, since to start
-/// threads costs more than a short turn saves. The number is a choice, and was not measured.
+/// threads costs more than a short turn saves. `bench/turns.py` measures from where on.
 const MUCH: usize = 4096;
 
 impl<'a, P: Ports> Link<'a, P> {
