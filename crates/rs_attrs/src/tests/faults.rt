@@ -5,7 +5,7 @@ use crate::faults::{AttributeFault, Cause, Faulted};
 use crate::mode::Mode;
 use crate::reading::read;
 use std::alloc::{AllocError, Global};
-use std::test::Fail;
+use std::process::Abort;
 
 // Each row: what it shows, a field, and the two faults that are told.
 
@@ -116,29 +116,27 @@ fn told(alloc: Global, fault: Option<AttributeFault>) -> Result<String, AllocErr
     format!(in alloc; "{kind} {cause}")
 }
 
-fn hold(
-    rt: &impl std::process::Abort,
-    alloc: Global,
-    mode: Mode,
-    rows: &[(&str, &str, &str)],
-) -> Result<(), Fail> {
-    for (shows, field, answer) in rows {
-        let field = octets(alloc, field)?;
-        let Faulted { withdraw, discard } = read(alloc, &field, mode)?.faulted;
-        let withdraw = told(alloc, withdraw)?;
-        let discard = told(alloc, discard)?;
-        let both = format!(in alloc; "{withdraw}; {discard}")?;
-        assert_eq!(rt; both.as_str(), *answer, "{shows}");
+/// The two faults of a field that are told.
+fn tells(rt: &impl Abort, alloc: Global, mode: Mode, row: &(&str, &str, &str)) {
+    let (shows, field, answer) = row;
+    let field = octets(alloc, field).expect(rt, "octets");
+    let Faulted { withdraw, discard } = read(alloc, &field, mode).expect(rt, "attributes").faulted;
+    let withdraw = told(alloc, withdraw).expect(rt, "a text");
+    let discard = told(alloc, discard).expect(rt, "a text");
+    let both = format!(in alloc; "{withdraw}; {discard}").expect(rt, "a text");
+    assert_eq!(rt; both.as_str(), *answer, "{shows}");
+}
+
+#[test]
+fn the_first_attributes_at_fault_are_told(rt: HostRuntime) {
+    for row in &ROWS {
+        tells(&rt, rt.alloc(), Mode::Four, row);
     }
-    Ok(())
 }
 
 #[test]
-fn the_first_attributes_at_fault_are_told(rt: HostRuntime) -> Result<(), Fail> {
-    hold(&rt, rt.alloc(), Mode::Four, &ROWS)
-}
-
-#[test]
-fn attributes_of_two_octet_peers_are_told(rt: HostRuntime) -> Result<(), Fail> {
-    hold(&rt, rt.alloc(), Mode::Two, &OF_TWO_OCTET_PEERS)
+fn attributes_of_two_octet_peers_are_told(rt: HostRuntime) {
+    for row in &OF_TWO_OCTET_PEERS {
+        tells(&rt, rt.alloc(), Mode::Two, row);
+    }
 }

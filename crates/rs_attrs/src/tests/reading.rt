@@ -1,11 +1,12 @@
 //! What fields mean: each type with good and bad values, and the rules that join them.
 
-use super::octets;
+use super::{octets, put, spelt};
+use crate::attrs::Attrs;
 use crate::faults::Faults;
 use crate::mode::Mode;
-use crate::reading::{Parsed, read};
-use std::alloc::{AllocError, Global};
-use std::test::Fail;
+use crate::reading::read;
+use std::alloc::Global;
+use std::process::Abort;
 
 // Each row: a name, a field, what is kept of it as a four-octet peer spells it, and the faults.
 
@@ -148,26 +149,6 @@ const AGGREGATORS_OF_TWO: [&str; 9] = [
     "AS4_PATH of a malformed AGGREGATOR | 40020402015ba0 c00705fbf0c00002 c01208fa56ea00c000020c c011060201fa56ea00 | 4002060201fa56ea00 | discard",
 ];
 
-fn flag(is_set: bool, worth: u8) -> u8 {
-    if is_set { worth } else { 0 }
-}
-
-/// What is kept, as a four-octet peer spells it.
-fn spelt(alloc: Global, parsed: &Parsed) -> Result<Vec<u8>, AllocError> {
-    let mut octets = Vec::new(alloc);
-    for kind in 0..=255 {
-        if let Some(attribute) = parsed.attrs.get(kind) {
-            let flags = flag(attribute.optional, 0x80)
-                | flag(attribute.transitive, 0x40)
-                | flag(attribute.partial, 0x20);
-            let [.., len] = attribute.value.len().to_be_bytes();
-            octets.extend_from_slice(&[flags, kind, len])?;
-            octets.extend_from_slice(attribute.value)?;
-        }
-    }
-    Ok(octets)
-}
-
 fn faults_by(names: &str) -> Faults {
     Faults {
         mp_twice: names.contains("mp_twice"),
@@ -177,120 +158,130 @@ fn faults_by(names: &str) -> Faults {
     }
 }
 
-/// The first row that is read otherwise.
-fn first_wrong(
-    alloc: Global,
-    mode: Mode,
-    rows: &[&'static str],
-) -> Result<Option<&'static str>, AllocError> {
+/// A field is read as what is kept of it, with these faults.
+fn is_read(rt: &impl Abort, alloc: Global, mode: Mode, row: &str, fields: [&str; 3]) {
+    let [field, kept, faults] = fields;
+    let field = octets(alloc, field).expect(rt, "octets");
+    let wanted = octets(alloc, kept).expect(rt, "octets");
+    let parsed = read(alloc, &field, mode).expect(rt, "attributes");
+    let spelt = spelt(alloc, &parsed).expect(rt, "octets");
+    assert!(rt; spelt == wanted, "{row}");
+    assert!(rt; parsed.faults == faults_by(faults), "{row}");
+}
+
+/// Each row is read as it says.
+fn are_read(rt: &impl Abort, alloc: Global, mode: Mode, rows: &[&str]) {
     for row in rows {
         let mut parts = row.split('|').skip(1);
         let field = parts.next().unwrap_or("");
         let kept = parts.next().unwrap_or("");
         let kept = if kept.contains("=") { field } else { kept };
         let faults = parts.next().unwrap_or("");
-        let parsed = read(alloc, &octets(alloc, field)?, mode)?;
-        let wanted = octets(alloc, kept)?;
-        if spelt(alloc, &parsed)? != wanted || parsed.faults != faults_by(faults) {
-            return Ok(Some(*row));
-        }
+        is_read(rt, alloc, mode, row, [field, kept, faults]);
     }
-    Ok(None)
 }
 
 #[test]
-fn well_known_types(rt: HostRuntime) -> Result<(), Fail> {
-    assert_eq!(rt; first_wrong(rt.alloc(), Mode::Four, &WELL_KNOWN)?, None);
-    Ok(())
+fn well_known_types(rt: HostRuntime) {
+    are_read(&rt, rt.alloc(), Mode::Four, &WELL_KNOWN);
 }
 
 #[test]
-fn paths(rt: HostRuntime) -> Result<(), Fail> {
-    assert_eq!(rt; first_wrong(rt.alloc(), Mode::Four, &PATHS)?, None);
-    Ok(())
+fn paths(rt: HostRuntime) {
+    are_read(&rt, rt.alloc(), Mode::Four, &PATHS);
 }
 
 #[test]
-fn optional_types(rt: HostRuntime) -> Result<(), Fail> {
-    assert_eq!(rt; first_wrong(rt.alloc(), Mode::Four, &OPTIONAL)?, None);
-    Ok(())
+fn optional_types(rt: HostRuntime) {
+    are_read(&rt, rt.alloc(), Mode::Four, &OPTIONAL);
 }
 
 #[test]
-fn discarded_types(rt: HostRuntime) -> Result<(), Fail> {
-    assert_eq!(rt; first_wrong(rt.alloc(), Mode::Four, &DISCARDED)?, None);
-    Ok(())
+fn discarded_types(rt: HostRuntime) {
+    are_read(&rt, rt.alloc(), Mode::Four, &DISCARDED);
 }
 
 #[test]
-fn aggregators(rt: HostRuntime) -> Result<(), Fail> {
-    assert_eq!(rt; first_wrong(rt.alloc(), Mode::Four, &AGGREGATORS)?, None);
-    Ok(())
+fn aggregators(rt: HostRuntime) {
+    are_read(&rt, rt.alloc(), Mode::Four, &AGGREGATORS);
 }
 
 #[test]
-fn unrecognized_types_and_rests(rt: HostRuntime) -> Result<(), Fail> {
-    assert_eq!(rt; first_wrong(rt.alloc(), Mode::Four, &UNRECOGNIZED)?, None);
-    Ok(())
+fn unrecognized_types_and_rests(rt: HostRuntime) {
+    are_read(&rt, rt.alloc(), Mode::Four, &UNRECOGNIZED);
 }
 
 #[test]
-fn rules_that_join_types(rt: HostRuntime) -> Result<(), Fail> {
-    assert_eq!(rt; first_wrong(rt.alloc(), Mode::Four, &JOINED)?, None);
-    Ok(())
+fn rules_that_join_types(rt: HostRuntime) {
+    are_read(&rt, rt.alloc(), Mode::Four, &JOINED);
 }
 
 #[test]
-fn paths_of_two_octet_peers(rt: HostRuntime) -> Result<(), Fail> {
-    assert_eq!(rt; first_wrong(rt.alloc(), Mode::Two, &PATHS_OF_TWO)?, None);
-    Ok(())
+fn paths_of_two_octet_peers(rt: HostRuntime) {
+    are_read(&rt, rt.alloc(), Mode::Two, &PATHS_OF_TWO);
 }
 
 #[test]
-fn aggregators_of_two_octet_peers(rt: HostRuntime) -> Result<(), Fail> {
-    assert_eq!(rt;
-        first_wrong(rt.alloc(), Mode::Two, &AGGREGATORS_OF_TWO)?,
-        None
-    );
-    Ok(())
+fn aggregators_of_two_octet_peers(rt: HostRuntime) {
+    are_read(&rt, rt.alloc(), Mode::Two, &AGGREGATORS_OF_TWO);
 }
 
-#[test]
-fn a_thousand_attributes_of_one_octet(rt: HostRuntime) -> Result<(), Fail> {
-    let alloc = rt.alloc();
-    let mut field = Vec::new(alloc);
-    for place in 0..1000u16 {
-        let kind = 33 + (place % 200) as u8;
-        let value = (place / 200) as u8;
-        field.extend_from_slice(&[0x80, kind, 1, value])?;
-    }
-    assert_eq!(rt; field.len(), 4000);
-    let parsed = read(alloc, &field, Mode::Four)?;
-    assert_eq!(rt; parsed.attrs.heads.len(), 200);
-    assert_eq!(rt; parsed.attrs.heads.capacity(), 200);
-    assert_eq!(rt; parsed.attrs.values.capacity(), 200);
-    assert!(rt; parsed.attrs.values.iter().all(|value| *value == 0));
+/// The attributes of a field without faults.
+fn faultless(rt: &impl Abort, alloc: Global, field: &[u8], mode: Mode) -> Attrs {
+    let parsed = read(alloc, field, mode).expect(rt, "attributes");
     assert_eq!(rt; parsed.faults, faults_by(""));
-    Ok(())
+    parsed.attrs
+}
+
+/// A thousand attributes of an octet each: 200 types, each five times, with the values 0 to 4.
+fn thousand(rt: &impl Abort, alloc: Global) -> Vec<u8> {
+    let mut field = Vec::new(alloc);
+    for value in 0..5u8 {
+        for kind in 33..233u8 {
+            put(rt, &mut field, &[0x80, kind, 1, value]);
+        }
+    }
+    field
+}
+
+/// Attributes are so many, each with an octet of 0 as its value, and no more room is held for them.
+fn holds_zeros(rt: &impl Abort, attrs: &Attrs, count: usize) {
+    assert_eq!(rt; attrs.heads.len(), count);
+    assert_eq!(rt; attrs.heads.capacity(), count);
+    assert_eq!(rt; attrs.values.capacity(), count);
+    assert!(rt; attrs.values.iter().all(|value| *value == 0));
 }
 
 #[test]
-fn a_path_of_three_full_segments(rt: HostRuntime) -> Result<(), Fail> {
-    let alloc = rt.alloc();
-    let mut two = Vec::from_slice(alloc, &[0x50, 2, 0x06, 0x00])?;
-    let mut four = Vec::from_slice(alloc, &[0x50, 2, 0x0b, 0xfa])?;
+fn a_thousand_attributes_of_one_octet(rt: HostRuntime) {
+    let field = thousand(&rt, rt.alloc());
+    assert_eq!(rt; field.len(), 4000);
+    let attrs = faultless(&rt, rt.alloc(), &field, Mode::Four);
+    holds_zeros(&rt, &attrs, 200);
+}
+
+/// An AS_PATH of three segments of 255 numbers, with its length in these two octets and these octets in
+/// front of the two low ones of each number.
+fn full_path(rt: &impl Abort, alloc: Global, length: [u8; 2], high: &[u8]) -> Vec<u8> {
+    let mut field = Vec::new(alloc);
+    put(rt, &mut field, &[0x50, 2]);
+    put(rt, &mut field, &length);
     for _ in 0..3 {
-        two.extend_from_slice(&[2, 255])?;
-        four.extend_from_slice(&[2, 255])?;
+        put(rt, &mut field, &[2, 255]);
         for number in 0..255u8 {
-            two.extend_from_slice(&[0xfb, number])?;
-            four.extend_from_slice(&[0, 0, 0xfb, number])?;
+            put(rt, &mut field, high);
+            put(rt, &mut field, &[0xfb, number]);
         }
     }
-    let of_four = read(alloc, &four, Mode::Four)?;
-    let of_two = read(alloc, &two, Mode::Two)?;
-    assert_eq!(rt; of_four.attrs.path_len(), 765);
-    assert!(rt; of_four.attrs == of_two.attrs);
-    assert_eq!(rt; of_two.faults, faults_by(""));
-    Ok(())
+    field
+}
+
+#[test]
+fn a_path_of_three_full_segments(rt: HostRuntime) {
+    let two = full_path(&rt, rt.alloc(), [0x06, 0x00], &[]);
+    let four = full_path(&rt, rt.alloc(), [0x0b, 0xfa], &[0, 0]);
+    let of_two = faultless(&rt, rt.alloc(), &two, Mode::Two);
+    let of_four = faultless(&rt, rt.alloc(), &four, Mode::Four);
+    assert_eq!(rt; of_four.path_len(), 765);
+    assert!(rt; of_four == of_two);
 }

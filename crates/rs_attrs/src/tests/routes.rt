@@ -1,44 +1,194 @@
 //! Routes as clients send them, and what is asked of their attributes.
 
+use super::{ROUTE, attrs_of, put, route_with};
 use crate::attrs::Attrs;
 use crate::mode::Mode;
-use crate::reading::read;
 use crate::stripping::{Strip, stripped};
 use crate::writing::{size, size_at_most};
-use std::alloc::{AllocError, Global};
+use std::alloc::Global;
 use std::cmp::Ordering;
 use std::hash::{DefaultHasher, Hash, Hasher};
-use std::test::Fail;
+use std::process::Abort;
 
-// ORIGIN IGP, AS_PATH 64496, NEXT_HOP 192.0.2.11
-const ROUTE: [u8; 20] =
-    *b"\x40\x01\x01\x00\x40\x02\x06\x02\x01\x00\x00\xfb\xf0\x40\x03\x04\xc0\x00\x02\x0b";
+/// Segments of an AS_PATH: the type, the count, and the number that each holds.
+type Segments<'a> = &'a [(u8, u8, u32)];
 
-fn attrs_of(alloc: Global, field: &[u8]) -> Result<Attrs, AllocError> {
-    Ok(read(alloc, field, Mode::Four)?.attrs)
-}
-
-/// The route with these attributes behind its own.
-fn route_with(alloc: Global, more: &[u8]) -> Result<Attrs, AllocError> {
-    let mut field = Vec::from_slice(alloc, &ROUTE)?;
-    field.extend_from_slice(more)?;
-    attrs_of(alloc, &field)
-}
-
-/// Attributes of an AS_PATH alone, of these segments: type, count, the number that each holds.
-fn path_of(alloc: Global, segments: &[(u8, u8, u32)]) -> Result<Attrs, AllocError> {
+/// The value of an AS_PATH of these segments.
+fn path_value(rt: &impl Abort, alloc: Global, segments: Segments<'_>) -> Vec<u8> {
     let mut value = Vec::new(alloc);
-    for segment in segments {
-        value.extend_from_slice(&[segment.0, segment.1])?;
-        for _ in 0..segment.1 {
-            value.extend_from_slice(&segment.2.to_be_bytes())?;
+    for (kind, count, number) in segments {
+        put(rt, &mut value, &[*kind, *count]);
+        for _ in 0..*count {
+            put(rt, &mut value, &number.to_be_bytes());
         }
     }
-    let mut field = Vec::from_slice(alloc, &[0x50, 2])?;
+    value
+}
+
+/// Attributes of an AS_PATH alone.
+fn path_of(rt: &impl Abort, alloc: Global, segments: Segments<'_>) -> Attrs {
+    let value = path_value(rt, alloc, segments);
     let [_, _, .., high, low] = value.len().to_be_bytes();
-    field.extend_from_slice(&[high, low])?;
-    field.extend_from_slice(&value)?;
-    attrs_of(alloc, &field)
+    let mut field = Vec::new(alloc);
+    put(rt, &mut field, &[0x50, 2, high, low]);
+    put(rt, &mut field, &value);
+    attrs_of(rt, alloc, &field)
+}
+
+/// A getter's answer.
+fn gets(rt: &impl Abort, got: Option<u32>, want: Option<u32>) {
+    assert_eq!(rt; got, want);
+}
+
+/// Whether a path has a number.
+fn has_number(rt: &impl Abort, attrs: &Attrs, number: u32, want: bool) {
+    assert_eq!(rt; attrs.path_has(number), want, "{number}");
+}
+
+/// Whether a community is among them.
+fn has_community(rt: &impl Abort, attrs: &Attrs, community: u32, want: bool) {
+    assert_eq!(rt; attrs.has_community(community), want, "{community}");
+}
+
+/// An attribute of this type is not among them.
+fn lacks(rt: &impl Abort, attrs: &Attrs, kind: u8) {
+    assert!(rt; attrs.get(kind).is_none(), "type {kind}");
+}
+
+#[test]
+fn a_route_of_three_attributes(rt: HostRuntime) {
+    let attrs = attrs_of(&rt, rt.alloc(), &ROUTE);
+    assert_eq!(rt; attrs.origin(), Some(0));
+    assert_eq!(rt; attrs.path_len(), 1);
+    gets(&rt, attrs.next_hop(), Some(0xc000_020b));
+    gets(&rt, attrs.med(), None);
+    gets(&rt, attrs.origin_as(), Some(64496));
+    has_number(&rt, &attrs, 64496, true);
+    has_number(&rt, &attrs, 64497, false);
+    has_community(&rt, &attrs, 64496, false);
+    lacks(&rt, &attrs, 4);
+}
+
+/// The first mandatory attribute that a field lacks.
+fn misses(rt: &impl Abort, field: &[u8], alloc: Global, missing: Option<u8>) {
+    let attrs = attrs_of(rt, alloc, field);
+    assert_eq!(rt; attrs.missing(), missing);
+    assert_eq!(rt; attrs.has_mandatory(), missing.is_none());
+}
+
+#[test]
+fn the_first_mandatory_attribute_that_is_missing(rt: HostRuntime) {
+    let alloc = rt.alloc();
+    misses(&rt, &ROUTE, alloc, None);
+    misses(&rt, &ROUTE[..13], alloc, Some(3));
+    misses(&rt, &ROUTE[4..], alloc, Some(1));
+    misses(&rt, &ROUTE[13..], alloc, Some(1));
+    misses(&rt, &ROUTE[..4], alloc, Some(2));
+    misses(&rt, &[], alloc, Some(1));
+}
+
+#[test]
+fn the_first_med_counts(rt: HostRuntime) {
+    let attrs = route_with(
+        &rt,
+        rt.alloc(),
+        b"\x80\x04\x04\x00\x00\x00\x0a\x80\x04\x04\x00\x00\x00\x14\x40\x05\x04\x00\x00\x00\xc8",
+    );
+    gets(&rt, attrs.med(), Some(10));
+    lacks(&rt, &attrs, 5);
+}
+
+/// An optional attribute has this value; it is transitive and partial, or neither.
+fn holds(rt: &impl Abort, attrs: &Attrs, kind: u8, passes: bool, value: &[u8]) {
+    let attribute = attrs.get(kind).expect(rt, "an attribute of the type");
+    assert!(rt; attribute.optional, "type {kind}");
+    assert_eq!(rt; attribute.transitive, passes, "type {kind}");
+    assert_eq!(rt; attribute.partial, passes, "type {kind}");
+    assert_eq!(rt; attribute.value, value, "type {kind}");
+}
+
+#[test]
+fn unknown_types_with_their_flags(rt: HostRuntime) {
+    let attrs = route_with(&rt, rt.alloc(), b"\xc0\x63\x02\xab\xcd\x80\x64\x00");
+    holds(&rt, &attrs, 99, true, b"\xab\xcd");
+    holds(&rt, &attrs, 100, false, b"");
+}
+
+/// How many octets attributes take, and how many at most with each length in two octets.
+fn takes(rt: &impl Abort, attrs: &Attrs, mode: Mode, count: usize, at_most: usize) {
+    assert_eq!(rt; size(attrs, mode), count);
+    assert_eq!(rt; size_at_most(attrs, mode), at_most);
+}
+
+#[test]
+fn sizes(rt: HostRuntime) {
+    let attrs = attrs_of(&rt, rt.alloc(), &ROUTE);
+    // an octet more for each of the three
+    takes(&rt, &attrs, Mode::Four, 20, 23);
+    takes(&rt, &attrs, Mode::Two, 18, 18);
+}
+
+/// A path's length, its origin AS, and an AS that it has.
+fn path_is(
+    rt: &impl Abort,
+    attrs: &Attrs,
+    length: usize,
+    origin: Option<u32>,
+    member: Option<u32>,
+) {
+    assert_eq!(rt; attrs.path_len(), length);
+    gets(rt, attrs.origin_as(), origin);
+    has_number(rt, attrs, 23456, false);
+    if let Some(number) = member {
+        has_number(rt, attrs, number, true);
+    }
+}
+
+/// Each row: segments, path length, origin AS, an AS that it has.
+const PATHS: [(Segments<'static>, usize, Option<u32>, Option<u32>); 7] = [
+    (&[], 0, None, None),
+    (&[(2, 1, 64496)], 1, Some(64496), Some(64496)),
+    (&[(2, 2, 64496), (1, 3, 64497)], 3, None, Some(64497)),
+    (&[(1, 3, 64497), (2, 2, 64496)], 3, Some(64496), Some(64497)),
+    (
+        &[(2, 255, 1), (2, 255, 2), (2, 255, 3)],
+        765,
+        Some(3),
+        Some(2),
+    ),
+    (
+        &[(2, 255, 1), (1, 255, 2), (2, 255, 3)],
+        511,
+        Some(3),
+        Some(2),
+    ),
+    (
+        &[(2, 255, 1), (2, 255, 2), (1, 255, 4_200_000_000)],
+        511,
+        None,
+        Some(4_200_000_000),
+    ),
+];
+
+#[test]
+fn paths(rt: HostRuntime) {
+    for (segments, length, origin, member) in PATHS {
+        let attrs = path_of(&rt, rt.alloc(), segments);
+        path_is(&rt, &attrs, length, origin, member);
+    }
+}
+
+#[test]
+fn communities_stand_at_each_fourth_octet(rt: HostRuntime) {
+    let attrs = route_with(
+        &rt,
+        rt.alloc(),
+        b"\xc0\x08\x08\xfb\xf0\x00\x01\xfb\xf0\x00\x02",
+    );
+    has_community(&rt, &attrs, 0xfbf0_0001, true);
+    has_community(&rt, &attrs, 0xfbf0_0002, true);
+    has_community(&rt, &attrs, 0x0001_fbf0, false);
+    has_community(&rt, &attrs, 0xfbf0_0003, false);
 }
 
 fn hash_of(attrs: &Attrs) -> u64 {
@@ -47,191 +197,99 @@ fn hash_of(attrs: &Attrs) -> u64 {
     state.finish()
 }
 
-#[test]
-fn a_route_of_three_attributes(rt: HostRuntime) -> Result<(), Fail> {
-    let attrs = attrs_of(rt.alloc(), &ROUTE)?;
-    assert_eq!(rt; attrs.origin(), Some(0));
-    assert_eq!(rt; attrs.next_hop(), Some(0xc000_020b));
-    assert_eq!(rt; attrs.med(), None);
-    assert_eq!(rt; attrs.path_len(), 1);
-    assert!(rt; attrs.path_has(64496));
-    assert!(rt; !attrs.path_has(64497));
-    assert_eq!(rt; attrs.origin_as(), Some(64496));
-    assert!(rt; !attrs.has_community(64496));
-    assert!(rt; attrs.get(4).is_none());
-    Ok(())
+/// Attributes that are equal are ordered and hashed so.
+fn are_equal(rt: &impl Abort, left: &Attrs, right: &Attrs) {
+    assert!(rt; left == right);
+    assert_eq!(rt; left.cmp(right), Ordering::Equal);
+    assert_eq!(rt; hash_of(left), hash_of(right));
+}
+
+/// The order of two sets of attributes is that of the other way round, reversed.
+fn is_ordered(rt: &impl Abort, left: &Attrs, right: &Attrs) {
+    let order = left.cmp(right);
+    assert_eq!(rt; order, right.cmp(left).reverse());
+    assert_eq!(rt; left.partial_cmp(right), Some(order));
+}
+
+/// Whether the route with one field behind its own is equal to that with another.
+fn compares(rt: &impl Abort, alloc: Global, left: &[u8], right: &[u8], equal: bool) {
+    let left = route_with(rt, alloc, left);
+    let right = route_with(rt, alloc, right);
+    assert_eq!(rt; left == right, equal);
+    assert_eq!(rt; left.cmp(&right) == Ordering::Equal, equal);
+    is_ordered(rt, &left, &right);
 }
 
 #[test]
-fn the_first_mandatory_attribute_that_is_missing(rt: HostRuntime) -> Result<(), Fail> {
+fn equal_by_meaning(rt: HostRuntime) {
     let alloc = rt.alloc();
-    for (field, missing) in [
-        (ROUTE.as_slice(), None),
-        (&ROUTE[..13], Some(3)),
-        (&ROUTE[4..], Some(1)),
-        (&ROUTE[13..], Some(1)),
-        (&ROUTE[..4], Some(2)),
-        (&[], Some(1)),
-    ] {
-        let attrs = attrs_of(alloc, field)?;
-        assert_eq!(rt; attrs.missing(), missing);
-        assert_eq!(rt; attrs.has_mandatory(), missing.is_none());
-    }
-    Ok(())
-}
-
-#[test]
-fn the_first_med_counts(rt: HostRuntime) -> Result<(), Fail> {
-    let attrs = route_with(
-        rt.alloc(),
-        b"\x80\x04\x04\x00\x00\x00\x0a\x80\x04\x04\x00\x00\x00\x14\x40\x05\x04\x00\x00\x00\xc8",
-    )?;
-    assert_eq!(rt; attrs.med(), Some(10));
-    assert!(rt; attrs.get(5).is_none());
-    Ok(())
-}
-
-#[test]
-fn unknown_types_with_their_flags(rt: HostRuntime) -> Result<(), Fail> {
-    let attrs = route_with(rt.alloc(), b"\xc0\x63\x02\xab\xcd\x80\x64\x00")?;
-    let transitive = attrs.get(99).ok_or("type 99")?;
-    assert!(rt; transitive.optional && transitive.transitive && transitive.partial);
-    assert_eq!(rt; transitive.value, b"\xab\xcd".as_slice());
-    let other = attrs.get(100).ok_or("type 100")?;
-    assert!(rt; other.optional && !other.transitive && !other.partial);
-    assert!(rt; other.value.is_empty());
-    Ok(())
-}
-
-#[test]
-fn sizes(rt: HostRuntime) -> Result<(), Fail> {
-    let attrs = attrs_of(rt.alloc(), &ROUTE)?;
-    assert_eq!(rt; size(&attrs, Mode::Four), 20);
-    assert_eq!(rt; size(&attrs, Mode::Two), 18);
-    // an octet more for each of the three
-    assert_eq!(rt; size_at_most(&attrs, Mode::Four), 23);
-    assert_eq!(rt; size_at_most(&attrs, Mode::Two), 18);
-    Ok(())
-}
-
-#[test]
-fn paths(rt: HostRuntime) -> Result<(), Fail> {
-    let alloc = rt.alloc();
-    // segments, path length, origin AS, an AS that it has
-    let cases: [(&[(u8, u8, u32)], usize, Option<u32>, Option<u32>); 7] = [
-        (&[], 0, None, None),
-        (&[(2, 1, 64496)], 1, Some(64496), Some(64496)),
-        (&[(2, 2, 64496), (1, 3, 64497)], 3, None, Some(64497)),
-        (&[(1, 3, 64497), (2, 2, 64496)], 3, Some(64496), Some(64497)),
-        (
-            &[(2, 255, 1), (2, 255, 2), (2, 255, 3)],
-            765,
-            Some(3),
-            Some(2),
-        ),
-        (
-            &[(2, 255, 1), (1, 255, 2), (2, 255, 3)],
-            511,
-            Some(3),
-            Some(2),
-        ),
-        (
-            &[(2, 255, 1), (2, 255, 2), (1, 255, 4_200_000_000)],
-            511,
-            None,
-            Some(4_200_000_000),
-        ),
-    ];
-    for (segments, length, origin, member) in cases {
-        let attrs = path_of(alloc, segments)?;
-        assert_eq!(rt; attrs.path_len(), length, "{segments:?}");
-        assert_eq!(rt; attrs.origin_as(), origin, "{segments:?}");
-        assert!(rt; !attrs.path_has(23456), "{segments:?}");
-        if let Some(number) = member {
-            assert!(rt; attrs.path_has(number), "{segments:?}");
-        }
-    }
-    Ok(())
-}
-
-#[test]
-fn communities_stand_at_each_fourth_octet(rt: HostRuntime) -> Result<(), Fail> {
-    let attrs = route_with(rt.alloc(), b"\xc0\x08\x08\xfb\xf0\x00\x01\xfb\xf0\x00\x02")?;
-    assert!(rt; attrs.has_community(0xfbf0_0001));
-    assert!(rt; attrs.has_community(0xfbf0_0002));
-    assert!(rt; !attrs.has_community(0x0001_fbf0));
-    assert!(rt; !attrs.has_community(0xfbf0_0003));
-    Ok(())
-}
-
-#[test]
-fn equal_by_meaning(rt: HostRuntime) -> Result<(), Fail> {
-    let alloc = rt.alloc();
-    let route = attrs_of(alloc, &ROUTE)?;
+    let route = attrs_of(&rt, alloc, &ROUTE);
     // the same in another order, with a length of two octets
     let again = attrs_of(
+        &rt,
         alloc,
         b"\x50\x03\x00\x04\xc0\x00\x02\x0b\x40\x02\x06\x02\x01\x00\x00\xfb\xf0\x40\x01\x01\x00",
-    )?;
-    assert!(rt; route == again);
-    assert_eq!(rt; route.cmp(&again), Ordering::Equal);
-    assert_eq!(rt; hash_of(&route), hash_of(&again));
-    assert!(rt; route == route.clone()?);
+    );
+    are_equal(&rt, &route, &again);
+    are_equal(&rt, &route, &route.clone().expect(&rt, "a copy"));
     // the partial bit of an unknown transitive type is set in any case, that of COMMUNITIES stays
-    let cases: [(&[u8], &[u8], bool); 4] = [
-        (b"\xc0\x63\x00", b"\xe0\x63\x00", true),
-        (
-            b"\xc0\x08\x04\xfb\xf0\x00\x01",
-            b"\xe0\x08\x04\xfb\xf0\x00\x01",
-            false,
-        ),
-        (
-            b"\x80\x04\x04\x00\x00\x00\x0a",
-            b"\x80\x04\x04\x00\x00\x00\x0b",
-            false,
-        ),
-        (b"\xc0\x63\x00", b"", false),
-    ];
-    for (left, right, equal) in cases {
-        let left = route_with(alloc, left)?;
-        let right = route_with(alloc, right)?;
-        assert_eq!(rt; left == right, equal);
-        assert_eq!(rt; left.cmp(&right) == Ordering::Equal, equal);
-        assert_eq!(rt; left.cmp(&right), right.cmp(&left).reverse());
-        assert_eq!(rt; left.partial_cmp(&right), Some(left.cmp(&right)));
-    }
-    Ok(())
+    compares(&rt, alloc, b"\xc0\x63\x00", b"\xe0\x63\x00", true);
+    compares(
+        &rt,
+        alloc,
+        b"\xc0\x08\x04\xfb\xf0\x00\x01",
+        b"\xe0\x08\x04\xfb\xf0\x00\x01",
+        false,
+    );
+    compares(
+        &rt,
+        alloc,
+        b"\x80\x04\x04\x00\x00\x00\x0a",
+        b"\x80\x04\x04\x00\x00\x00\x0b",
+        false,
+    );
+    compares(&rt, alloc, b"\xc0\x63\x00", b"", false);
+}
+
+// 64496:1, 64496:2, 64496:1, with the partial bit, and an unknown attribute behind them
+const SENT: &[u8] =
+    b"\xe0\x08\x0c\xfb\xf0\x00\x01\xfb\xf0\x00\x02\xfb\xf0\x00\x01\xc0\x63\x02\xab\xcd";
+
+const WITHOUT_1: &[u8] = b"\xe0\x08\x04\xfb\xf0\x00\x02\xc0\x63\x02\xab\xcd";
+
+const WITHOUT_ANY: &[u8] = b"\xc0\x63\x02\xab\xcd";
+
+/// A strip leaves just this of attributes, and says whether that is less.
+fn leaves(rt: &impl Abort, alloc: Global, strip: &Strip<'_>, attrs: &Attrs, left: &Attrs) {
+    assert_eq!(rt; strip.changes(attrs), left != attrs, "{strip:?}");
+    let outcome = stripped(alloc, attrs, strip).expect(rt, "attributes");
+    assert!(rt; outcome == *left, "{strip:?}");
+}
+
+/// What is left of the communities sent where these lists are stripped, or all; a route without any
+/// is left as it is.
+fn strips(rt: &impl Abort, alloc: Global, lists: [&[u32]; 2], all: bool, left: &[u8]) {
+    let strip = Strip { lists, all };
+    let sent = route_with(rt, alloc, SENT);
+    let left = route_with(rt, alloc, left);
+    leaves(rt, alloc, &strip, &sent, &left);
+    let route = attrs_of(rt, alloc, &ROUTE);
+    leaves(rt, alloc, &strip, &route, &route);
 }
 
 #[test]
-fn strips_communities(rt: HostRuntime) -> Result<(), Fail> {
+fn strips_communities(rt: HostRuntime) {
     let alloc = rt.alloc();
-    let route = attrs_of(alloc, &ROUTE)?;
-    // 64496:1, 64496:2, 64496:1, with the partial bit, and an unknown attribute behind them
-    let sent = route_with(
+    strips(&rt, alloc, [&[], &[]], false, SENT);
+    strips(&rt, alloc, [&[0x0001_fbf0, 7], &[8]], false, SENT);
+    strips(&rt, alloc, [&[0xfbf0_0001], &[]], false, WITHOUT_1);
+    strips(&rt, alloc, [&[], &[5, 0xfbf0_0001]], false, WITHOUT_1);
+    strips(
+        &rt,
         alloc,
-        b"\xe0\x08\x0c\xfb\xf0\x00\x01\xfb\xf0\x00\x02\xfb\xf0\x00\x01\xc0\x63\x02\xab\xcd",
-    )?;
-    let without_1 = route_with(alloc, b"\xe0\x08\x04\xfb\xf0\x00\x02\xc0\x63\x02\xab\xcd")?;
-    let without_any = route_with(alloc, b"\xc0\x63\x02\xab\xcd")?;
-    let cases: [(&[u32], &[u32], bool, &Attrs); 6] = [
-        (&[], &[], false, &sent),
-        (&[0x0001_fbf0, 7], &[8], false, &sent),
-        (&[0xfbf0_0001], &[], false, &without_1),
-        (&[], &[5, 0xfbf0_0001], false, &without_1),
-        (&[0xfbf0_0002], &[0xfbf0_0001], false, &without_any),
-        (&[5], &[], true, &without_any),
-    ];
-    for (first, second, all, left) in cases {
-        let strip = Strip {
-            lists: [first, second],
-            all,
-        };
-        let outcome = stripped(alloc, &sent, &strip)?;
-        assert_eq!(rt; strip.changes(&sent), *left != sent, "{strip:?}");
-        assert!(rt; !strip.changes(&route));
-        assert!(rt; outcome == *left, "{strip:?}");
-        assert!(rt; stripped(alloc, &route, &strip)? == route);
-    }
-    Ok(())
+        [&[0xfbf0_0002], &[0xfbf0_0001]],
+        false,
+        WITHOUT_ANY,
+    );
+    strips(&rt, alloc, [&[5], &[]], true, WITHOUT_ANY);
 }

@@ -1,28 +1,29 @@
 //! What is told where more comes than a line in a second.
 
 use crate::rations::{Due, Ration};
-use std::test::Fail;
+use std::process::Abort;
+
+/// What is due in this second: so many left out, and the last one.
+fn takes(rt: &impl Abort, ration: &mut Ration<u8>, second: u64, left_out: u64, item: u8) {
+    assert_eq!(rt; ration.take(second), Some(Due { left_out, item }));
+}
+
+/// Nothing is due in this second.
+fn takes_nothing(rt: &impl Abort, ration: &mut Ration<u8>, second: u64) {
+    assert_eq!(rt; ration.take(second), None);
+}
 
 #[test]
-fn the_last_of_a_second_is_told_in_the_next(rt: HostRuntime) -> Result<(), Fail> {
+fn the_last_of_a_second_is_told_in_the_next(rt: HostRuntime) {
     let mut ration = Ration::new();
-    assert_eq!(rt; ration.take(5), None);
+    takes_nothing(&rt, &mut ration, 5);
     ration.put(1u8);
-    let first = Due {
-        left_out: 0,
-        item: 1,
-    };
-    assert_eq!(rt; ration.take(5), Some(first));
+    takes(&rt, &mut ration, 5, 0, 1);
     ration.put(2);
     ration.put(3);
     ration.put(4);
     assert!(rt; !ration.is_free(5));
-    assert_eq!(rt; ration.take(5), None);
-    let last = Due {
-        left_out: 2,
-        item: 4,
-    };
-    assert_eq!(rt; ration.take(6), Some(last));
-    assert_eq!(rt; ration.take(7), None);
-    Ok(())
+    takes_nothing(&rt, &mut ration, 5);
+    takes(&rt, &mut ration, 6, 2, 4);
+    takes_nothing(&rt, &mut ration, 7);
 }

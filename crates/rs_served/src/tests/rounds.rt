@@ -3,12 +3,12 @@
 use crate::ports::Line;
 use crate::reports::Report;
 use crate::serve::{Limits, ServeFault, serve};
-use crate::tests::script::{Broken, Said, Script};
+use crate::tests::script::{Broken, Said, Script, sent};
 use rs_attrs::{AttributeFault, Cause, Faulted};
 use rs_policy::Config;
-use std::alloc::{AllocError, Global};
+use std::alloc::Global;
+use std::process::Abort;
 use std::sync::Wait;
-use std::test::Fail;
 use std::thread::Threads;
 
 /// Two members, and a third that is never there.
@@ -72,79 +72,86 @@ pub fn comes_up(open: &'static [u8]) -> [Said; 2] {
     ]
 }
 
-/// a announces a route once b is there; b closes when it was sent it, and then a does.
-fn exchange(alloc: Global, failing: u64) -> Result<Script, AllocError> {
-    let mut ports = Script::new(alloc, failing);
-    let [open, keepalive] = comes_up(OPEN_A);
-    let update = Said {
-        octets: UPDATE,
+/// What a member says once it has come up.
+pub fn behind(octets: &'static [u8]) -> Said {
+    Said {
+        octets,
         behind: COMING_UP,
-    };
-    ports.wire(0, A, &[open, keepalive, update], COMING_UP)?;
-    ports.stay(0, 20);
-    ports.wire(1, B, &comes_up(OPEN_B), COMING_UP + UPDATE.len())?;
-    Ok(ports)
+    }
 }
 
-/// The server's part in an exchange.
-pub fn served<R: Threads + Wait + Sync>(
+/// a announces a route once b is there; b closes when it was sent it, and then a does. This call fails.
+fn exchange(rt: &impl Abort, alloc: Global, failing: u64) -> Script {
+    let mut ports = Script::new(alloc, failing);
+    let [open, keepalive] = comes_up(OPEN_A);
+    ports.wire(rt, 0, A, &[open, keepalive, behind(UPDATE)], COMING_UP);
+    ports.stay(0, 20);
+    let until = COMING_UP + UPDATE.len();
+    ports.wire(rt, 1, B, &comes_up(OPEN_B), until);
+    ports
+}
+
+/// How the server ends over these ports.
+fn ended<R: Abort + Threads + Wait + Sync>(
     rt: &R,
     alloc: Global,
     ports: &mut Script,
     limits: Limits,
-) -> Result<(), Fail>
-    requires workers { (0 < limits.workers) × (limits.workers ≤ 16) }
-{
-    let config = Config::read(alloc, THREE)?;
-    serve(rt, alloc, ports, config, limits)?;
-    Ok(())
+) -> Result<(), ServeFault> {
+    assert!(rt; 0 < limits.workers && limits.workers <= 16);
+    let config = Config::read(alloc, THREE).expect(rt, "a configuration");
+    serve(rt, alloc, ports, config, limits)
 }
 
-ghost use Rattle.std.specs.Prelude.{◌≡◌, ◌≤◌, ◌<◌};
+/// The server's part in an exchange.
+pub fn served<R: Abort + Threads + Wait + Sync>(
+    rt: &R,
+    alloc: Global,
+    ports: &mut Script,
+    limits: Limits,
+) {
+    assert_eq!(rt; ended(rt, alloc, ports, limits), Ok(()));
+}
 
 #[test]
-fn a_route_goes_from_one_member_to_the_other(rt: HostRuntime) -> Result<(), Fail> {
-    let mut ports = exchange(rt.alloc(), 0)?;
-    served(&rt, rt.alloc(), &mut ports, until(2))?;
-    let heard = ports.heard(1);
-    assert_eq!(rt; &heard[..37.min(heard.len())], OPEN_S);
-    assert_eq!(rt; heard.get(37..COMING_UP), Some(KEEPALIVE));
-    assert_eq!(rt; heard.get(COMING_UP..), Some(UPDATE));
-    assert_eq!(rt; ports.heard(0).get(COMING_UP..), Some([].as_slice()));
+fn a_route_goes_from_one_member_to_the_other(rt: HostRuntime) {
+    let mut ports = exchange(&rt, rt.alloc(), 0);
+    served(&rt, rt.alloc(), &mut ports, until(2));
+    sent(&rt, ports.heard(1).get(..37), OPEN_S);
+    sent(&rt, ports.heard(1).get(37..COMING_UP), KEEPALIVE);
+    sent(&rt, ports.heard(1).get(COMING_UP..), UPDATE);
+    sent(&rt, ports.heard(0).get(COMING_UP..), &[]);
     assert!(rt; ports.wires.iter().all(|wire| !wire.is_open));
-    Ok(())
+    ports.let_go();
 }
 
 #[test]
-fn strangers_and_second_connections_are_closed(rt: HostRuntime) -> Result<(), Fail> {
-    let mut ports = exchange(rt.alloc(), 0)?;
-    ports.wire(1, A, &[], 0)?;
-    ports.wire(0, A, &[], 0)?;
-    served(&rt, rt.alloc(), &mut ports, until(2))?;
-    assert_eq!(rt;
-        ports.said.get(..4),
-        Some([
-            Line::Begin(0),
-            Line::Begin(1),
-            Line::Stranger,
-            Line::Busy(0)
-        ]
-        .as_slice())
-    );
-    assert_eq!(rt; ports.heard(1).get(COMING_UP..), Some(UPDATE));
+fn strangers_and_second_connections_are_closed(rt: HostRuntime) {
+    let mut ports = exchange(&rt, rt.alloc(), 0);
+    ports.wire(&rt, 1, A, &[], 0);
+    ports.wire(&rt, 0, A, &[], 0);
+    served(&rt, rt.alloc(), &mut ports, until(2));
+    let lines = [
+        Line::Begin(0),
+        Line::Begin(1),
+        Line::Stranger,
+        Line::Busy(0),
+    ];
+    ports.says_first(&rt, &lines);
+    sent(&rt, ports.heard(1).get(COMING_UP..), UPDATE);
     assert!(rt; !ports.reports.is_empty());
-    Ok(())
+    ports.let_go();
 }
 
 #[test]
-fn strangers_without_end_keep_nobody_waiting(rt: HostRuntime) -> Result<(), Fail> {
-    let mut ports = exchange(rt.alloc(), 0)?;
+fn strangers_without_end_keep_nobody_waiting(rt: HostRuntime) {
+    let mut ports = exchange(&rt, rt.alloc(), 0);
     ports.is_flooded = true;
-    served(&rt, rt.alloc(), &mut ports, until(2))?;
-    assert_eq!(rt; ports.heard(1).get(COMING_UP..), Some(UPDATE));
+    served(&rt, rt.alloc(), &mut ports, until(2));
+    sent(&rt, ports.heard(1).get(COMING_UP..), UPDATE);
     assert!(rt; ports.said.contains(&Line::Stranger));
     assert_eq!(rt; ports.most_accepts, 64);
-    Ok(())
+    ports.let_go();
 }
 
 /// The client whose connection has this key in the exchange with a's second connection.
@@ -152,74 +159,105 @@ fn client_of(key: usize) -> usize {
     if key == 1 { 1 } else { 0 }
 }
 
+/// The session of a connection is lost, and the connection is closed.
+fn is_lost(rt: &impl Abort, ports: &Script, key: usize) {
+    let lost = Line::Lost(client_of(key));
+    assert!(rt; ports.said.contains(&lost), "of connection {key}");
+    let wire = ports.wires.get(key).expect(rt, "a connection");
+    assert!(rt; !wire.is_open, "connection {key}");
+}
+
+/// The server ends as it is to behind a call that failed.
+fn ends_by(rt: &impl Abort, ports: &Script, broken: Broken, ended: Result<(), ServeFault>) {
+    match broken {
+        Broken::Wait => assert_eq!(rt; ended, Err(ServeFault::Poll)),
+        Broken::Accept => assert_eq!(rt; ended, Err(ServeFault::Listener)),
+        Broken::Read(key) | Broken::Write(key) => {
+            assert_eq!(rt; ended, Ok(()));
+            is_lost(rt, ports, key);
+        }
+    }
+}
+
+/// The exchange with a second connection of a, of which this call fails; whether there were so many.
+fn breaks<R: Abort + Threads + Wait + Sync>(rt: &R, alloc: Global, failing: u64) -> bool {
+    let mut ports = exchange(rt, alloc, failing);
+    ports.wire(rt, 0, A, &comes_up(OPEN_A), COMING_UP);
+    ports.end = 40;
+    let ended = ended(rt, alloc, &mut ports, until(2));
+    match ports.broken {
+        None => assert_eq!(rt; ended, Ok(())),
+        Some(broken) => ends_by(rt, &ports, broken, ended),
+    }
+    ports.broken.is_some()
+}
+
 #[test]
-fn each_call_that_fails_ends_one_session_or_the_server(rt: HostRuntime) -> Result<(), Fail> {
+fn each_call_that_fails_ends_one_session_or_the_server(rt: HostRuntime) {
     for failing in 1..1000 {
-        let mut ports = exchange(rt.alloc(), failing)?;
-        ports.wire(0, A, &comes_up(OPEN_A), COMING_UP)?;
-        ports.end = 40;
-        let config = Config::read(rt.alloc(), THREE)?;
-        let served = serve(&rt, rt.alloc(), &mut ports, config, until(2));
-        match ports.broken {
-            None => {
-                assert!(rt; failing > 30 && served.is_ok());
-                return Ok(());
-            }
-            Some(Broken::Wait) => assert_eq!(rt; served, Err(ServeFault::Poll), "at {failing}"),
-            Some(Broken::Accept) => {
-                assert_eq!(rt; served, Err(ServeFault::Listener), "at {failing}")
-            }
-            Some(Broken::Read(key) | Broken::Write(key)) => {
-                assert_eq!(rt; served, Ok(()), "at {failing}");
-                let lost = Line::Lost(client_of(key));
-                assert!(rt; ports.said.contains(&lost), "at {failing}");
-                assert!(rt; ports.wires.get(key).is_some_and(|wire| !wire.is_open));
-            }
+        if !breaks(&rt, rt.alloc(), failing) {
+            assert!(rt; failing > 30);
+            return;
         }
     }
     assert!(rt; false, "the run goes on for ever");
-    Ok(())
+}
+
+/// a says this once it has come up, and stays for 30 seconds; the server's part.
+fn hears_of_a<R: Abort + Threads + Wait + Sync>(rt: &R, alloc: Global, says: &[Said]) -> Script {
+    let mut ports = Script::new(alloc, 0);
+    ports.wire(rt, 0, A, says, COMING_UP);
+    ports.stay(0, 30);
+    ports.pace = 1;
+    served(rt, alloc, &mut ports, until(1));
+    ports
 }
 
 /// 198.51.100.0/24 with an ORIGIN of 3, which no route has.
 const BAD_ORIGIN: &[u8] =
     b"\xff\xff\xff\xff\xff\xff\xff\xff\xff\xff\xff\xff\xff\xff\xff\xff\x00\x2f\x02\x00\x00\x00\x14\x40\x01\x01\x03\x40\x02\x06\x02\x01\x00\x00\xfb\xf0\x40\x03\x04\xc0\x00\x02\x0b\x18\xc6\x33\x64";
 
-#[test]
-fn faulty_updates_are_reported_once_a_second(rt: HostRuntime) -> Result<(), Fail> {
-    let mut ports = Script::new(rt.alloc(), 0);
-    let [open, keepalive] = comes_up(OPEN_A);
-    let bad = Said {
-        octets: BAD_ORIGIN,
-        behind: COMING_UP,
+/// a's ORIGIN is told as malformed, and nothing else; how many UPDATEs the report counts.
+fn faulty_origins(rt: &impl Abort, report: &Report) -> Option<u64> {
+    let Report::Faulted {
+        client,
+        count,
+        last,
+    } = report
+    else {
+        return None;
     };
-    ports.wire(0, A, &[open, keepalive, bad, bad, bad], COMING_UP)?;
-    ports.stay(0, 30);
-    ports.pace = 1;
-    served(&rt, rt.alloc(), &mut ports, until(1))?;
+    let wanted = AttributeFault {
+        kind: 1,
+        cause: Cause::Value,
+    };
+    assert_eq!(rt; *client, 0);
+    assert_eq!(rt; last.withdraw, Some(wanted));
+    assert_eq!(rt; last.discard, None);
+    Some(*count)
+}
+
+/// How many reports tell of faulty UPDATEs, and how many UPDATEs they count.
+fn faulty(rt: &impl Abort, reports: &[Report]) -> (u64, u64) {
     let mut lines = 0u64;
     let mut updates = 0u64;
-    for report in &ports.reports {
-        if let Report::Faulted {
-            client,
-            count,
-            last,
-        } = report
-        {
+    for report in reports {
+        if let Some(count) = faulty_origins(rt, report) {
             lines = lines.saturating_add(1);
-            updates = updates.saturating_add(*count);
-            let wanted = AttributeFault {
-                kind: 1,
-                cause: Cause::Value,
-            };
-            assert_eq!(rt; *client, 0);
-            assert_eq!(rt; last.withdraw, Some(wanted));
-            assert_eq!(rt; last.discard, None);
+            updates = updates.saturating_add(count);
         }
     }
+    (lines, updates)
+}
+
+#[test]
+fn faulty_updates_are_reported_once_a_second(rt: HostRuntime) {
+    let [open, keepalive] = comes_up(OPEN_A);
+    let bad = behind(BAD_ORIGIN);
+    let ports = hears_of_a(&rt, rt.alloc(), &[open, keepalive, bad, bad, bad]);
     // All three were heard in one round, so in one second.
-    assert_eq!(rt; (lines, updates), (1, 3));
-    Ok(())
+    assert_eq!(rt; faulty(&rt, &ports.reports), (1, 3));
+    ports.let_go();
 }
 
 /// The same route with ORIGIN IGP, and without NEXT_HOP.
@@ -227,17 +265,10 @@ const NO_NEXT_HOP: &[u8] =
     b"\xff\xff\xff\xff\xff\xff\xff\xff\xff\xff\xff\xff\xff\xff\xff\xff\x00\x28\x02\x00\x00\x00\x0d\x40\x01\x01\x00\x40\x02\x06\x02\x01\x00\x00\xfb\xf0\x18\xc6\x33\x64";
 
 #[test]
-fn a_route_without_next_hop_is_reported(rt: HostRuntime) -> Result<(), Fail> {
-    let mut ports = Script::new(rt.alloc(), 0);
+fn a_route_without_next_hop_is_reported(rt: HostRuntime) {
     let [open, keepalive] = comes_up(OPEN_A);
-    let bad = Said {
-        octets: NO_NEXT_HOP,
-        behind: COMING_UP,
-    };
-    ports.wire(0, A, &[open, keepalive, bad], COMING_UP)?;
-    ports.stay(0, 30);
-    ports.pace = 1;
-    served(&rt, rt.alloc(), &mut ports, until(1))?;
+    let bad = behind(NO_NEXT_HOP);
+    let ports = hears_of_a(&rt, rt.alloc(), &[open, keepalive, bad]);
     let told = Report::Faulted {
         client: 0,
         count: 1,
@@ -250,25 +281,18 @@ fn a_route_without_next_hop_is_reported(rt: HostRuntime) -> Result<(), Fail> {
         },
     };
     assert!(rt; ports.reports.contains(&told));
-    Ok(())
+    ports.let_go();
 }
 
 #[test]
-fn a_member_that_takes_nothing_is_lost_behind_the_send_hold_time(
-    rt: HostRuntime,
-) -> Result<(), Fail> {
+fn a_member_that_takes_nothing_is_lost_behind_the_send_hold_time(rt: HostRuntime) {
     let mut ports = Script::new(rt.alloc(), 0);
-    let open = Said {
-        octets: OPEN_HOLD_0,
-        behind: 0,
-    };
-    ports.wire(0, A, &[open], 1)?;
+    let [open, _] = comes_up(OPEN_HOLD_0);
+    ports.wire(&rt, 0, A, &[open], 1);
     ports.deafen(0);
     ports.pace = 60;
-    served(&rt, rt.alloc(), &mut ports, until(1))?;
-    assert_eq!(rt;
-        ports.said.as_slice(),
-        [Line::Begin(0), Line::Lost(0)].as_slice()
-    );
-    Ok(())
+    served(&rt, rt.alloc(), &mut ports, until(1));
+    assert_eq!(rt; ports.said.len(), 2);
+    ports.says_first(&rt, &[Line::Begin(0), Line::Lost(0)]);
+    ports.let_go();
 }

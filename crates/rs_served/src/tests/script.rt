@@ -2,7 +2,8 @@
 
 use crate::ports::{Caller, Line, PortFault, Ports};
 use crate::reports::Report;
-use std::alloc::{AllocError, Global};
+use std::alloc::Global;
+use std::process::Abort;
 
 /// A connection from an address that is nobody's.
 const STRANGER: Caller = Caller {
@@ -95,27 +96,28 @@ impl Script {
     /// A connection that comes from this address.
     pub fn wire(
         &mut self,
+        rt: &impl Abort,
         listener: usize,
         address: u32,
         says: &[Said],
         until: usize,
-    ) -> Result<(), AllocError> {
+    ) {
         let key = self.wires.len();
-        self.wires.push(Wire {
+        let wire = Wire {
             caller: Caller {
                 listener,
                 address,
                 key,
             },
-            says: Vec::from_slice(self.alloc, says)?,
+            says: Vec::from_slice(self.alloc, says).expect(rt, "what it says"),
             given: 0,
             until,
             stays: 0,
             is_deaf: false,
             heard: Vec::new(self.alloc),
             is_open: false,
-        })?;
-        Ok(())
+        };
+        self.wires.push(wire).expect(rt, "a connection");
     }
 
     /// The member of this connection doesn't close before this round.
@@ -140,6 +142,14 @@ impl Script {
         }
     }
 
+    /// What the server says first.
+    pub fn says_first(&self, rt: &impl Abort, lines: &[Line]) {
+        assert!(rt; self.said.starts_with(lines));
+    }
+
+    /// Lets it go in one call, which is one step of a test, and not one for each of its lists.
+    pub fn let_go(self) {}
+
     /// A connection is accepted.
     fn count_accept(&mut self) {
         self.accepts = self.accepts.saturating_add(1);
@@ -155,6 +165,11 @@ impl Script {
         }
         fails
     }
+}
+
+/// These octets of what was sent on a connection.
+pub fn sent(rt: &impl Abort, octets: Option<&[u8]>, want: &[u8]) {
+    assert_eq!(rt; octets, Some(want));
 }
 
 impl Ports for Script {
