@@ -3,7 +3,9 @@
 
 use super::*;
 use crate::common::{ROUTE, attrs, prefix};
-use std::test::Fail;
+use rs_attrs::Attrs;
+use rs_octets::Prefix;
+use std::process::Abort;
 
 const FOUR_MEMBERS: &str =
     r#"# The four members of the recorded sessions in examples/sessions. The server's OPEN is the shortest
@@ -166,114 +168,168 @@ export = [
 ]
 "#;
 
-#[test]
-fn clients_are_found_by_their_names(rt: HostRuntime) -> Result<(), Fail> {
-    let config = Config::read(rt.alloc(), FOUR_MEMBERS)?;
-    assert_eq!(rt; config.place("a"), Some(0));
-    assert_eq!(rt; config.place("d"), Some(3));
-    assert_eq!(rt; config.place("e"), None);
-    assert_eq!(rt; config.place(""), None);
-    Ok(())
+/// A client of this name stands at this place, or none does.
+fn is_found(rt: &impl Abort, config: &Config, name: &str, place: Option<usize>) {
+    assert_eq!(rt; config.place(name), place);
 }
 
 #[test]
-fn the_four_members_are_read(rt: HostRuntime) -> Result<(), Fail> {
-    let config = Config::read(rt.alloc(), FOUR_MEMBERS)?;
+fn clients_are_found_by_their_names(rt: HostRuntime) {
+    let config = read(&rt, rt.alloc(), FOUR_MEMBERS);
+    is_found(&rt, &config, "a", Some(0));
+    is_found(&rt, &config, "d", Some(3));
+    is_found(&rt, &config, "e", None);
+    is_found(&rt, &config, "", None);
+    let_go(config);
+}
+
+/// The server's AS number is 64500, its BGP Identifier 192.0.2.1 and its Hold Time 90.
+fn is_the_server(rt: &impl Abort, config: &Config) {
+    assert_eq!(rt; config.server_as(), 64500);
+    assert_eq!(rt; config.identifier(), 0xc000_0201);
+    assert_eq!(rt; config.hold(), 90);
+}
+
+/// The server speaks of long messages, of route refresh and of address families, or does not.
+fn speaks_of(rt: &impl Abort, config: &Config, extended: bool, refresh: bool, families: bool) {
+    assert_eq!(rt; config.extended(), extended);
+    assert_eq!(rt; config.refresh(), refresh);
+    assert_eq!(rt; config.multiprotocol(), families);
+}
+
+/// A client has this name.
+fn is_named(rt: &impl Abort, config: &Config, client: usize, name: &str) {
+    assert!(rt; client < config.clients());
+    assert_eq!(rt; config.name(client), name);
+}
+
+/// A client is of this AS.
+fn is_of(rt: &impl Abort, config: &Config, client: usize, number: u32) {
+    assert!(rt; client < config.clients());
+    assert_eq!(rt; config.client_as(client), number);
+}
+
+/// The server listens for a client at this address and port, to which the client comes from its own.
+fn is_reached(rt: &impl Abort, config: &Config, client: usize, listen: (u32, u16), peer: u32) {
+    assert!(rt; client < config.clients());
+    assert_eq!(rt; config.listen(client), listen);
+    assert_eq!(rt; config.peer(client), peer);
+}
+
+/// A client may announce so many prefixes, or any number.
+fn is_limited(rt: &impl Abort, config: &Config, client: usize, limit: Option<u32>) {
+    assert!(rt; client < config.clients());
+    assert_eq!(rt; config.limit(client), limit);
+}
+
+#[test]
+fn the_four_members_are_read(rt: HostRuntime) {
+    let config = read(&rt, rt.alloc(), FOUR_MEMBERS);
     assert_eq!(rt; config.clients(), 4);
-    assert_eq!(rt;
-        (config.server_as(), config.identifier(), config.hold()),
-        (64500, 0xc000_0201, 90)
-    );
-    assert_eq!(rt;
-        (config.extended(), config.refresh(), config.multiprotocol()),
-        (false, false, false)
-    );
-    assert_eq!(rt; (config.name(0), config.client_as(0)), ("a", 64496));
-    assert_eq!(rt; (config.name(1), config.client_as(1)), ("b", 64497));
-    assert_eq!(rt; (config.name(2), config.client_as(2)), ("c", 64498));
-    assert_eq!(rt; (config.name(3), config.client_as(3)), ("d", 64499));
-    assert_eq!(rt; config.listen(3), (0x7f00_0001, 17904));
-    assert_eq!(rt; config.peer(3), 0xc000_020e);
-    Ok(())
-}
-
-#[test]
-fn the_small_example_is_read(rt: HostRuntime) -> Result<(), Fail> {
-    let config = Config::read(rt.alloc(), SMALL)?;
-    assert_eq!(rt; config.clients(), 2);
-    assert_eq!(rt;
-        (config.server_as(), config.identifier(), config.hold()),
-        (64500, 0xc000_0201, 90)
-    );
-    assert_eq!(rt;
-        (config.extended(), config.refresh(), config.multiprotocol()),
-        (false, false, true)
-    );
-    assert_eq!(rt; config.name(0), "alpha");
-    assert_eq!(rt; config.name(1), "beta");
-    assert_eq!(rt; config.client_as(1), 64497);
-    assert_eq!(rt; config.listen(1), (0x7f00_0001, 17902));
-    assert_eq!(rt; config.peer(1), 0x7f00_0001);
-    assert_eq!(rt; config.limit(1), None);
-    Ok(())
-}
-
-#[test]
-fn the_exchange_example_is_read_and_filters(rt: HostRuntime) -> Result<(), Fail> {
-    let config = Config::read(rt.alloc(), EXCHANGE)?;
-    assert_eq!(rt; config.clients(), 3);
-    assert_eq!(rt;
-        (config.extended(), config.refresh(), config.multiprotocol()),
-        (true, true, true)
-    );
-    assert_eq!(rt; config.name(2), "gamma");
-    assert_eq!(rt; config.listen(2), (0xc000_0201, 179));
-    assert_eq!(rt; config.peer(2), 0xc000_020d);
-    assert_eq!(rt; config.limit(2), Some(20000));
-    // (prefix, communities as octets, alpha's route goes to beta, and to gamma)
-    let rows: [(u32, u8, &[u8], bool, bool); 10] = [
-        (0x5db8_d800, 24, &[], true, true),
-        (0x5db8_d800, 25, &[], false, false),
-        (0, 0, &[], false, false),
-        (0x0a01_0000, 16, &[], false, false),
-        (0x6440_0000, 10, &[], false, false),
-        (0xc000_0200, 24, &[], false, false),
-        (0xe000_0000, 8, &[], false, false),
-        // 0:64500, to no member
-        (
-            0x5db8_d800,
-            24,
-            &[0xc0, 8, 4, 0, 0, 0xfb, 0xf4],
-            false,
-            false,
-        ),
-        // 0:64497, not to beta
-        (
-            0x5db8_d800,
-            24,
-            &[0xc0, 8, 4, 0, 0, 0xfb, 0xf1],
-            false,
-            true,
-        ),
-        // 0:64500 and 64500:64498, to gamma alone
-        (
-            0x5db8_d800,
-            24,
-            &[0xc0, 8, 8, 0, 0, 0xfb, 0xf4, 0xfb, 0xf4, 0xfb, 0xf2],
-            false,
-            true,
-        ),
-    ];
-    for (bits, len, communities, beta, gamma) in rows {
-        let mut octets = ROUTE.to_vec(rt.alloc())?;
-        octets.extend_from_slice(communities)?;
-        let attrs = attrs(rt.alloc(), &octets)?;
-        let prefix = prefix(&rt, bits, len);
-        let to_beta = !matches!(judge(&config, 0, 1, &prefix, &attrs), Verdict::Drop);
-        let to_gamma = !matches!(judge(&config, 0, 2, &prefix, &attrs), Verdict::Drop);
-        assert_eq!(rt; (to_beta, to_gamma), (beta, gamma), "at {bits} {len}");
-        // from beta the NEXT_HOP isn't the sender's
-        assert!(rt; matches!(judge(&config, 1, 2, &prefix, &attrs), Verdict::Drop));
+    is_the_server(&rt, &config);
+    speaks_of(&rt, &config, false, false, false);
+    for (client, name, number) in [
+        (0, "a", 64496),
+        (1, "b", 64497),
+        (2, "c", 64498),
+        (3, "d", 64499),
+    ] {
+        is_named(&rt, &config, client, name);
+        is_of(&rt, &config, client, number);
     }
-    Ok(())
+    is_reached(&rt, &config, 3, (0x7f00_0001, 17904), 0xc000_020e);
+    let_go(config);
+}
+
+#[test]
+fn the_small_example_is_read(rt: HostRuntime) {
+    let config = read(&rt, rt.alloc(), SMALL);
+    assert_eq!(rt; config.clients(), 2);
+    is_the_server(&rt, &config);
+    speaks_of(&rt, &config, false, false, true);
+    is_named(&rt, &config, 0, "alpha");
+    is_named(&rt, &config, 1, "beta");
+    is_of(&rt, &config, 1, 64497);
+    is_reached(&rt, &config, 1, (0x7f00_0001, 17902), 0x7f00_0001);
+    is_limited(&rt, &config, 1, None);
+    let_go(config);
+}
+
+/// Prefix, communities as octets, and whether alpha's route goes to beta and to gamma.
+const FILTERED: [(u32, u8, &[u8], bool, bool); 10] = [
+    (0x5db8_d800, 24, &[], true, true),
+    (0x5db8_d800, 25, &[], false, false),
+    (0, 0, &[], false, false),
+    (0x0a01_0000, 16, &[], false, false),
+    (0x6440_0000, 10, &[], false, false),
+    (0xc000_0200, 24, &[], false, false),
+    (0xe000_0000, 8, &[], false, false),
+    // 0:64500, to no member
+    (
+        0x5db8_d800,
+        24,
+        b"\xc0\x08\x04\x00\x00\xfb\xf4",
+        false,
+        false,
+    ),
+    // 0:64497, not to beta
+    (
+        0x5db8_d800,
+        24,
+        b"\xc0\x08\x04\x00\x00\xfb\xf1",
+        false,
+        true,
+    ),
+    // 0:64500 and 64500:64498, to gamma alone
+    (
+        0x5db8_d800,
+        24,
+        b"\xc0\x08\x08\x00\x00\xfb\xf4\xfb\xf4\xfb\xf2",
+        false,
+        true,
+    ),
+];
+
+/// `ROUTE` with these octets behind it.
+fn route_with(rt: &impl Abort, alloc: Global, communities: &[u8]) -> Attrs {
+    let mut octets = Vec::new(alloc);
+    octets.extend_from_slice(&ROUTE).expect(rt, "octets");
+    octets.extend_from_slice(communities).expect(rt, "octets");
+    attrs(alloc, &octets).expect(rt, "attributes")
+}
+
+/// The route to a prefix goes from one client to another, or does not.
+fn goes(
+    rt: &impl Abort,
+    config: &Config,
+    clients: (usize, usize),
+    route: (&Prefix, &Attrs),
+    want: bool,
+) {
+    let (from, to) = clients;
+    assert!(rt; from < config.clients());
+    assert!(rt; to < config.clients());
+    let (prefix, attrs) = route;
+    let goes = !matches!(judge(config, from, to, prefix, attrs), Verdict::Drop);
+    let (bits, len) = (prefix.bits(), prefix.len());
+    assert_eq!(rt; goes, want, "from {from} to {to} at {bits} {len}");
+}
+
+#[test]
+fn the_exchange_example_is_read_and_filters(rt: HostRuntime) {
+    let config = read(&rt, rt.alloc(), EXCHANGE);
+    assert_eq!(rt; config.clients(), 3);
+    speaks_of(&rt, &config, true, true, true);
+    is_named(&rt, &config, 2, "gamma");
+    is_reached(&rt, &config, 2, (0xc000_0201, 179), 0xc000_020d);
+    is_limited(&rt, &config, 2, Some(20000));
+    for (bits, len, communities, beta, gamma) in &FILTERED {
+        let prefix = prefix(&rt, *bits, *len);
+        let attrs = route_with(&rt, rt.alloc(), communities);
+        goes(&rt, &config, (0, 1), (&prefix, &attrs), *beta);
+        goes(&rt, &config, (0, 2), (&prefix, &attrs), *gamma);
+        // from beta the NEXT_HOP isn't the sender's
+        goes(&rt, &config, (1, 2), (&prefix, &attrs), false);
+    }
+    let_go(config);
 }

@@ -1,7 +1,8 @@
 //! Faults at the top, their order, and their texts.
 
 use super::*;
-use std::test::Fail;
+use std::alloc::AllocError;
+use std::process::Abort;
 
 /// Texts, each with its fault: no document, and the first two keys.
 const AT_THE_TOP: [(&str, &str); 18] = [
@@ -72,73 +73,93 @@ const BEHIND_THE_FIRST_KEYS: [(&str, &str); 20] = [
     ("client = [{}]\n", "missing client 1 name"),
 ];
 
-#[test]
-fn faults_at_the_top(rt: HostRuntime) -> Result<(), Fail> {
-    for (text, want) in AT_THE_TOP {
-        is_answered(&rt, Config::read(rt.alloc(), text), want);
-    }
-    for (rest, want) in BEHIND_THE_FIRST_KEYS {
-        let text = format!(in rt.alloc(); "{TOP}{rest}")?;
-        is_answered(&rt, Config::read(rt.alloc(), text.as_str()), want);
-    }
-    Ok(())
+/// What stands behind the first two keys is answered by this.
+fn behind_is_answered(rt: &impl Abort, alloc: Global, rest: &str, want: &str) {
+    let text = format!(in alloc; "{TOP}{rest}").expect(rt, "a text");
+    is_answered(rt, alloc, text.as_str(), want);
 }
 
 #[test]
-fn arrays_that_are_too_long(rt: HostRuntime) -> Result<(), Fail> {
-    let mut ones = String::new(rt.alloc());
-    for _ in 0..513 {
-        ones.push_str("1, ")?;
+fn faults_at_the_top(rt: HostRuntime) {
+    for (text, want) in &AT_THE_TOP {
+        is_answered(&rt, rt.alloc(), text, want);
     }
-    let text = format!(in rt.alloc(); "{TOP}client = [{ones}]\n")?;
-    is_answered(
-        &rt,
-        Config::read(rt.alloc(), text.as_str()),
-        "too many client",
-    );
-    let mut ones = String::new(rt.alloc());
-    for _ in 0..65 {
-        ones.push_str("1, ")?;
+    for (rest, want) in &BEHIND_THE_FIRST_KEYS {
+        behind_is_answered(&rt, rt.alloc(), rest, want);
     }
-    for list in ["import", "export"] {
-        let text = format!(in rt.alloc(); "{TOP}{CLIENT}{list} = [{ones}]\n")?;
-        let want = format!(in rt.alloc(); "too many client 1 {list}")?;
-        is_answered(&rt, Config::read(rt.alloc(), text.as_str()), want.as_str());
-        let text = format!(in rt.alloc();
-            "{TOP}{CLIENT}{list} = [{{ action = \"drop\", strip = [{ones}] }}]\n"
-        )?;
-        let want = format!(in rt.alloc(); "too many client 1 {list} 1 strip")?;
-        is_answered(&rt, Config::read(rt.alloc(), text.as_str()), want.as_str());
+}
+
+/// So many numbers, as an array has them.
+fn ones(rt: &impl Abort, alloc: Global, count: u32) -> String {
+    let mut ones = String::new(alloc);
+    for _ in 0..count {
+        ones.push_str("1, ").expect(rt, "a text");
     }
-    Ok(())
+    ones
+}
+
+/// A first client with this list is answered by this.
+fn list_is_answered(rt: &impl Abort, alloc: Global, list: &str, of: &str, want: &str) {
+    let rest = format!(in alloc; "{CLIENT}{list} = [{of}]\n").expect(rt, "a text");
+    behind_is_answered(rt, alloc, rest.as_str(), want);
+}
+
+/// A list that is too long, and a list of communities that is, in a rule of it.
+fn list_is_too_long(rt: &impl Abort, alloc: Global, list: &str) {
+    let ones = ones(rt, alloc, 65);
+    let want = format!(in alloc; "too many client 1 {list}").expect(rt, "a text");
+    list_is_answered(rt, alloc, list, ones.as_str(), want.as_str());
+    let rule = format!(in alloc; "{{ action = \"drop\", strip = [{ones}] }}").expect(rt, "a text");
+    let want = format!(in alloc; "too many client 1 {list} 1 strip").expect(rt, "a text");
+    list_is_answered(rt, alloc, list, rule.as_str(), want.as_str());
 }
 
 #[test]
-fn faults_come_in_order(rt: HostRuntime) -> Result<(), Fail> {
-    let rows = [
-        // the clients' keys before any list; an import list and its rules before the export list
-        ("import = [{}]\n[[client]]\n", "missing client 2 name"),
-        (
-            "export = 1\nimport = [{}]\n",
-            "missing client 1 import 1 action",
-        ),
-        (
-            "export = [{}]\nimport = [{ action = \"pass\" }]\n",
-            "missing client 1 export 1 action",
-        ),
-        (
-            "import = [{ colour = 1, action = \"pass\" }, {}]\n",
-            "bad value client 1 import 1 ?",
-        ),
-    ];
-    for (rest, want) in rows {
-        let text = format!(in rt.alloc(); "{TOP}{CLIENT}{rest}")?;
-        is_answered(&rt, Config::read(rt.alloc(), text.as_str()), want);
+fn arrays_that_are_too_long(rt: HostRuntime) {
+    let ones = ones(&rt, rt.alloc(), 513);
+    let clients = format!(in rt.alloc(); "client = [{ones}]\n").expect(&rt, "a text");
+    behind_is_answered(&rt, rt.alloc(), clients.as_str(), "too many client");
+    list_is_too_long(&rt, rt.alloc(), "import");
+    list_is_too_long(&rt, rt.alloc(), "export");
+}
+
+/// What stands behind a first client is answered by this.
+fn more_is_answered(rt: &impl Abort, alloc: Global, rest: &str, want: &str) {
+    let rest = format!(in alloc; "{CLIENT}{rest}").expect(rt, "a text");
+    behind_is_answered(rt, alloc, rest.as_str(), want);
+}
+
+/// What stands behind a first client, each with its fault: the clients' keys before any list, and an import
+/// list and its rules before the export list.
+const IN_ORDER: [(&str, &str); 4] = [
+    ("import = [{}]\n[[client]]\n", "missing client 2 name"),
+    (
+        "export = 1\nimport = [{}]\n",
+        "missing client 1 import 1 action",
+    ),
+    (
+        "export = [{}]\nimport = [{ action = \"pass\" }]\n",
+        "missing client 1 export 1 action",
+    ),
+    (
+        "import = [{ colour = 1, action = \"pass\" }, {}]\n",
+        "bad value client 1 import 1 ?",
+    ),
+];
+
+#[test]
+fn faults_come_in_order(rt: HostRuntime) {
+    for (rest, want) in &IN_ORDER {
+        more_is_answered(&rt, rt.alloc(), rest, want);
     }
     // a fault of a client before an unknown key at the top is told behind it
-    let text = format!(in rt.alloc(); "{TOP}colour = 1\n[[client]]\n")?;
-    is_answered(&rt, Config::read(rt.alloc(), text.as_str()), "bad value ?");
-    Ok(())
+    behind_is_answered(&rt, rt.alloc(), "colour = 1\n[[client]]\n", "bad value ?");
+}
+
+/// A fault's text stands in front of what was written before.
+fn is_in_front(rt: &impl Abort, fault: &ConfigFault, out: &mut [u8; 96], want: &str) {
+    let len = fault.write(out);
+    assert_eq!(rt; &out[..len], want.as_bytes());
 }
 
 #[test]
@@ -150,28 +171,26 @@ fn the_longest_text_fits(rt: HostRuntime) {
         key: Key::NextHopIsPeer,
     };
     let mut out = [b'.'; 96];
-    let len = ConfigFault::BadValue(place).write(&mut out);
     let want = "bad value client 18446744073709551615 export 18446744073709551615 next_hop_is_peer";
-    assert_eq!(rt; &out[..len], want.as_bytes());
+    is_in_front(&rt, &ConfigFault::BadValue(place), &mut out, want);
     // a list without its rule isn't written
-    let place = Place {
+    let no_rule = Place {
         rule: None,
         ..place
     };
-    let len = ConfigFault::Missing(place).write(&mut out);
-    assert_eq!(rt;
-        &out[..len],
-        b"missing client 18446744073709551615 next_hop_is_peer".as_slice()
-    );
+    let want = "missing client 18446744073709551615 next_hop_is_peer";
+    is_in_front(&rt, &ConfigFault::Missing(no_rule), &mut out, want);
+}
+
+/// What is shown is this text.
+fn is_shown(rt: &impl Abort, shown: Result<String, AllocError>, want: &str) {
+    assert_eq!(rt; shown.expect(rt, "a text").as_str(), want);
 }
 
 #[test]
-fn faults_are_displayed_as_they_are_written(rt: HostRuntime) -> Result<(), Fail> {
+fn faults_are_displayed_as_they_are_written(rt: HostRuntime) {
     let fault = ConfigFault::Twice(3);
-    let shown = format!(in rt.alloc(); "{fault}")?;
-    assert_eq!(rt; shown.as_str(), "twice client 3");
+    is_shown(&rt, format!(in rt.alloc(); "{fault}"), "twice client 3");
     let fault = RulesFault::Config(fault);
-    let shown = format!(in rt.alloc(); "{fault}")?;
-    assert_eq!(rt; shown.as_str(), "twice client 3");
-    Ok(())
+    is_shown(&rt, format!(in rt.alloc(); "{fault}"), "twice client 3");
 }

@@ -1,8 +1,9 @@
 //! Which routes a rule matches: prefixes with their lengths, and what attributes say.
 
-use super::routes::{COLOURED, ELSEWHERE, SET, config, preference};
-use crate::common::{ROUTE, attrs, prefix};
-use std::test::Fail;
+use super::routes::{COLOURED, ELSEWHERE, Route, SET};
+use crate::common::{ROUTE, prefix};
+use std::alloc::Global;
+use std::process::Abort;
 
 /// Tests of a prefix, each with a prefix and whether the rule matches.
 const PREFIXES: [(&str, u32, u8, bool); 17] = [
@@ -62,59 +63,60 @@ const PREFIXES: [(&str, u32, u8, bool); 17] = [
     ("prefix = \"255.255.255.255/32\"", 0xffff_ffff, 32, true),
 ];
 
-#[test]
-fn prefixes_and_their_lengths(rt: HostRuntime) -> Result<(), Fail> {
-    let route = attrs(rt.alloc(), &ROUTE)?;
-    for (test, bits, len, matches) in PREFIXES {
-        let rule = format!(in rt.alloc(); "{{ {test}, action = \"drop\" }}")?;
-        let config = config(rt.alloc(), "", "", rule.as_str())?;
-        let want = if matches { None } else { Some(100) };
-        assert_eq!(rt;
-            preference(&rt, &config, &prefix(&rt, bits, len), &route),
-            want,
-            "at {test} {bits} {len}"
-        );
-    }
-    Ok(())
+/// The preference of a route where a rule that drops matches it, or doesn't.
+fn left(matches: bool) -> Option<u32> {
+    if matches { None } else { Some(100) }
+}
+
+/// A rule with this test, which drops.
+fn drops(rt: &impl Abort, alloc: Global, test: &str) -> String {
+    format!(in alloc; "{{ {test}, action = \"drop\" }}").expect(rt, "a text")
 }
 
 #[test]
-fn tests_of_attributes(rt: HostRuntime) -> Result<(), Fail> {
-    let to = prefix(&rt, 0xc633_6400, 24);
-    let rows: [(&str, &[u8], bool); 15] = [
-        ("origin_as = 64496", &ROUTE, true),
-        ("origin_as = 64499", &ROUTE, false),
-        // a path whose last segment is a set has no origin
-        ("origin_as = 64496", SET, false),
-        ("origin_as = 64499", SET, false),
-        ("path_has = 64496", SET, true),
-        ("path_has = 64499", SET, true),
-        ("path_has = 64500", SET, false),
-        ("next_hop_is_peer = true", &ROUTE, true),
-        ("next_hop_is_peer = false", &ROUTE, false),
-        ("next_hop_is_peer = true", ELSEWHERE, false),
-        ("next_hop_is_peer = false", ELSEWHERE, true),
-        ("community = \"64500:1\"", &ROUTE, false),
-        ("community = \"64500:1\"", COLOURED, true),
-        ("community = \"64500:2\"", COLOURED, true),
-        ("community = \"64500:3\"", COLOURED, false),
-    ];
-    for (test, octets, matches) in rows {
-        let route = attrs(rt.alloc(), octets)?;
-        let rule = format!(in rt.alloc(); "{{ {test}, action = \"drop\" }}")?;
-        let want = if matches { None } else { Some(100) };
-        let sender = config(rt.alloc(), "", rule.as_str(), "")?;
-        assert_eq!(rt;
-            preference(&rt, &sender, &to, &route),
-            want,
-            "at import {test}"
-        );
-        let receiver = config(rt.alloc(), "", "", rule.as_str())?;
-        assert_eq!(rt;
-            preference(&rt, &receiver, &to, &route),
-            want,
-            "at export {test}"
-        );
+fn prefixes_and_their_lengths(rt: HostRuntime) {
+    let mut route = Route::spelt(&rt, rt.alloc(), &ROUTE);
+    for (test, bits, len, matches) in &PREFIXES {
+        let rule = drops(&rt, rt.alloc(), test);
+        route.prefix = prefix(&rt, *bits, *len);
+        route.goes(&rt, rt.alloc(), ("", "", rule.as_str()), left(*matches));
     }
-    Ok(())
+    route.let_go();
+}
+
+/// Tests of attributes, each with attributes and whether the rule matches.
+const ATTRIBUTES: [(&str, &[u8], bool); 15] = [
+    ("origin_as = 64496", &ROUTE, true),
+    ("origin_as = 64499", &ROUTE, false),
+    // a path whose last segment is a set has no origin
+    ("origin_as = 64496", SET, false),
+    ("origin_as = 64499", SET, false),
+    ("path_has = 64496", SET, true),
+    ("path_has = 64499", SET, true),
+    ("path_has = 64500", SET, false),
+    ("next_hop_is_peer = true", &ROUTE, true),
+    ("next_hop_is_peer = false", &ROUTE, false),
+    ("next_hop_is_peer = true", ELSEWHERE, false),
+    ("next_hop_is_peer = false", ELSEWHERE, true),
+    ("community = \"64500:1\"", &ROUTE, false),
+    ("community = \"64500:1\"", COLOURED, true),
+    ("community = \"64500:2\"", COLOURED, true),
+    ("community = \"64500:3\"", COLOURED, false),
+];
+
+/// A rule with this test drops a route with these attributes, or doesn't, from the import list and from the
+/// export list.
+fn is_tested(rt: &impl Abort, alloc: Global, test: &str, octets: &[u8], matches: bool) {
+    let route = Route::spelt(rt, alloc, octets);
+    let rule = drops(rt, alloc, test);
+    route.goes(rt, alloc, ("", rule.as_str(), ""), left(matches));
+    route.goes(rt, alloc, ("", "", rule.as_str()), left(matches));
+    route.let_go();
+}
+
+#[test]
+fn tests_of_attributes(rt: HostRuntime) {
+    for (test, octets, matches) in &ATTRIBUTES {
+        is_tested(&rt, rt.alloc(), test, octets, *matches);
+    }
 }

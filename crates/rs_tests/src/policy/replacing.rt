@@ -1,8 +1,7 @@
 //! What may change while the server runs, and what may not.
 
 use super::*;
-use std::alloc::Global;
-use std::test::Fail;
+use std::process::Abort;
 
 /// What the texts of another configuration have at the top and in the two clients, each with what is answered.
 const TOPS: [(&str, &str, &str, &str); 7] = [
@@ -64,30 +63,55 @@ const SECONDS: [(&str, &str); 5] = [
     ),
 ];
 
-#[test]
-fn what_may_change_while_the_server_runs(rt: HostRuntime) -> Result<(), Fail> {
-    let text = format!(in rt.alloc(); "{TOP}{CLIENT}{OTHER}")?;
-    let config = Config::read(rt.alloc(), text.as_str())?;
-    for (top, first, second, want) in TOPS {
-        let text = format!(in rt.alloc(); "{TOP}{top}{CLIENT}{first}{OTHER}{second}")?;
-        is_replaced(&rt, &config, text.as_bytes(), want, rt.alloc());
+/// Octets in place of a configuration are answered by this: "good", or the text that their fault writes.
+fn is_replaced(rt: &impl Abort, config: &Config, alloc: Global, octets: &[u8], want: &str) {
+    match config.replacement(alloc, octets).err() {
+        None => assert_eq!(rt; "good", want),
+        Some(fault) => is_refused(rt, &fault, want),
     }
-    for (second, want) in SECONDS {
-        let text = format!(in rt.alloc(); "{TOP}{CLIENT}[[client]]\n{second}")?;
-        is_replaced(&rt, &config, text.as_bytes(), want, rt.alloc());
-    }
-    is_replaced(&rt, &config, b"as = \xff", "unreadable", rt.alloc());
-    is_replaced(&rt, &config, b"as = 1\n", "missing identifier", rt.alloc());
-    Ok(())
 }
 
-fn is_replaced<R: Abort>(rt: &R, config: &Config, octets: &[u8], want: &str, alloc: Global) {
+/// A fault writes this text.
+fn is_refused(rt: &impl Abort, fault: &RulesFault, want: &str) {
     let mut out = [b'.'; 96];
-    match config.replacement(alloc, octets) {
-        Ok(_) => assert_eq!(rt; "good", want),
-        Err(fault) => {
-            let len = fault.write(&mut out);
-            is_written(rt, &out, len, want);
-        }
+    let len = fault.write(&mut out);
+    is_written(rt, &out, len, want);
+}
+
+/// Another top, and more in both clients.
+fn top_is_replaced(
+    rt: &impl Abort,
+    config: &Config,
+    alloc: Global,
+    row: &(&str, &str, &str, &str),
+) {
+    let (top, first, second, want) = *row;
+    let text = format!(in alloc; "{TOP}{top}{CLIENT}{first}{OTHER}{second}").expect(rt, "a text");
+    is_replaced(rt, config, alloc, text.as_bytes(), want);
+}
+
+/// Another second client.
+fn second_is_replaced(rt: &impl Abort, config: &Config, alloc: Global, second: &str, want: &str) {
+    let text = format!(in alloc; "{TOP}{CLIENT}[[client]]\n{second}").expect(rt, "a text");
+    is_replaced(rt, config, alloc, text.as_bytes(), want);
+}
+
+/// The configuration of both clients, as it runs.
+fn running(rt: &impl Abort, alloc: Global) -> Config {
+    let text = format!(in alloc; "{TOP}{CLIENT}{OTHER}").expect(rt, "a text");
+    read(rt, alloc, text.as_str())
+}
+
+#[test]
+fn what_may_change_while_the_server_runs(rt: HostRuntime) {
+    let config = running(&rt, rt.alloc());
+    for row in &TOPS {
+        top_is_replaced(&rt, &config, rt.alloc(), row);
     }
+    for (second, want) in &SECONDS {
+        second_is_replaced(&rt, &config, rt.alloc(), second, want);
+    }
+    is_replaced(&rt, &config, rt.alloc(), b"as = \xff", "unreadable");
+    is_replaced(&rt, &config, rt.alloc(), b"as = 1\n", "missing identifier");
+    let_go(config);
 }

@@ -2,16 +2,9 @@
 
 use super::*;
 use crate::common::{ROUTE, attrs, prefix};
-use rs_attrs::Attrs;
+use rs_attrs::{Attrs, Strip};
 use rs_octets::Prefix;
-use std::alloc::Global;
-use std::test::Fail;
-
-const ALPHA: &str =
-    "[[client]]\nname = \"a\"\nas = 64496\nlisten = \"127.0.0.1:17901\"\npeer = \"192.0.2.11\"\n";
-
-const BETA: &str =
-    "[[client]]\nname = \"b\"\nas = 64497\nlisten = \"127.0.0.1:17902\"\npeer = \"192.0.2.12\"\n";
+use std::process::Abort;
 
 /// `ROUTE`, but the path is 64499 and then the set of 64496.
 pub(super) const SET: &[u8] = &[
@@ -30,25 +23,69 @@ pub(super) const COLOURED: &[u8] = &[
     0xf4, 0, 1, 0xfb, 0xf4, 0, 2,
 ];
 
-/// A configuration of a and b with these lists.
-pub(super) fn config(alloc: Global, top: &str, import: &str, export: &str) -> Result<Config, Fail> {
+/// A configuration of a and b with this at its top, in a's import list and in b's export list.
+fn config(rt: &impl Abort, alloc: Global, rules: (&str, &str, &str)) -> Config {
+    let (top, import, export) = rules;
     let text = format!(in alloc;
-        "{TOP}{top}{ALPHA}import = [{import}]\n{BETA}export = [{export}]\n"
-    )?;
-    Ok(Config::read(alloc, text.as_str())?)
+        "{TOP}{top}{CLIENT}import = [{import}]\n{OTHER}export = [{export}]\n"
+    );
+    read(rt, alloc, text.expect(rt, "a text").as_str())
 }
 
-/// The preference with which a's route goes to b, or None where it is dropped.
-pub(super) fn preference<R: Abort>(
-    rt: &R,
-    config: &Config,
-    prefix: &Prefix,
-    attrs: &Attrs,
-) -> Option<u32> {
-    assert_eq!(rt; config.clients(), 2);
-    match judge(config, 0, 1, prefix, attrs) {
-        Verdict::Drop => None,
-        Verdict::Pass { preference, .. } => Some(preference),
+/// A route of a, which may go to b.
+#[derive(Drop)]
+pub(super) struct Route {
+    pub(super) prefix: Prefix,
+    pub(super) attrs: Attrs,
+}
+
+impl Route {
+    /// 198.51.100.0/24 with attributes that are spelt so.
+    pub(super) fn spelt(rt: &impl Abort, alloc: Global, octets: &[u8]) -> Route {
+        let prefix = prefix(rt, 0xc633_6400, 24);
+        let attrs = attrs(alloc, octets).expect(rt, "attributes");
+        Route { prefix, attrs }
+    }
+
+    /// Lets it go in one call.
+    pub(super) fn let_go(self) {}
+
+    /// What the rules make of it on its way to b.
+    fn judged<'a>(&self, rt: &impl Abort, config: &'a Config) -> Verdict<'a> {
+        assert_eq!(rt; config.clients(), 2);
+        judge(config, 0, 1, &self.prefix, &self.attrs)
+    }
+
+    /// The preference with which it goes to b, or None where it is dropped.
+    fn preference(&self, rt: &impl Abort, config: &Config) -> Option<u32> {
+        match self.judged(rt, config) {
+            Verdict::Drop => None,
+            Verdict::Pass { preference, .. } => Some(preference),
+        }
+    }
+
+    /// The preference with which it goes to b, and what is taken away, where it isn't dropped.
+    fn passed<'a>(&self, rt: &impl Abort, config: &'a Config) -> (u32, Strip<'a>) {
+        let passed = match self.judged(rt, config) {
+            Verdict::Drop => None,
+            Verdict::Pass { preference, strip } => Some((preference, strip)),
+        };
+        passed.expect(rt, "a route that goes to b")
+    }
+
+    /// By these rules it goes to b with this preference, or not at all.
+    pub(super) fn goes(
+        &self,
+        rt: &impl Abort,
+        alloc: Global,
+        rules: (&str, &str, &str),
+        want: Option<u32>,
+    ) {
+        let config = config(rt, alloc, rules);
+        let found = self.preference(rt, &config);
+        let (top, import, export) = rules;
+        assert_eq!(rt; found, want, "at {top}, import {import}, export {export}");
+        let_go(config);
     }
 }
 
@@ -109,91 +146,76 @@ const LISTS: [(&str, &str, Option<u32>); 14] = [
     ),
 ];
 
+/// The same with a default: the text at the top, import and export rules, and the preference of the route.
+const DEFAULTS: [(&str, &str, &str, Option<u32>); 7] = [
+    ("", "", "", Some(100)),
+    ("default = \"drop\"\n", "", "", None),
+    ("default = \"drop\"\n", "{ action = \"pass\" }", "", None),
+    ("default = \"drop\"\n", "", "{ action = \"pass\" }", None),
+    (
+        "default = \"drop\"\n",
+        "{ action = \"pass\" }",
+        "{ action = \"pass\" }",
+        Some(100),
+    ),
+    ("", "{ action = \"drop\" }", "", None),
+    ("", "", "{ action = \"drop\" }", None),
+];
+
 #[test]
-fn without_rules_the_default_decides(rt: HostRuntime) -> Result<(), Fail> {
-    let route = attrs(rt.alloc(), &ROUTE)?;
-    let to = prefix(&rt, 0xc633_6400, 24);
-    let rows = [
-        ("", "", "", Some(100)),
-        ("default = \"drop\"\n", "", "", None),
-        ("default = \"drop\"\n", "{ action = \"pass\" }", "", None),
-        ("default = \"drop\"\n", "", "{ action = \"pass\" }", None),
-        (
-            "default = \"drop\"\n",
-            "{ action = \"pass\" }",
-            "{ action = \"pass\" }",
-            Some(100),
-        ),
-        ("", "{ action = \"drop\" }", "", None),
-        ("", "", "{ action = \"drop\" }", None),
-    ];
-    for (top, import, export, want) in rows {
-        let config = config(rt.alloc(), top, import, export)?;
-        assert_eq!(rt;
-            preference(&rt, &config, &to, &route),
-            want,
-            "at {top} {import} {export}"
-        );
+fn without_rules_the_default_decides(rt: HostRuntime) {
+    let route = Route::spelt(&rt, rt.alloc(), &ROUTE);
+    for (top, import, export, want) in &DEFAULTS {
+        route.goes(&rt, rt.alloc(), (top, import, export), *want);
     }
-    Ok(())
+    route.let_go();
 }
 
 #[test]
-fn the_first_rule_that_matches_decides(rt: HostRuntime) -> Result<(), Fail> {
-    let route = attrs(rt.alloc(), &ROUTE)?;
-    let to = prefix(&rt, 0xc633_6400, 24);
-    for (import, export, want) in LISTS {
-        let config = config(rt.alloc(), "", import, export)?;
-        assert_eq!(rt;
-            preference(&rt, &config, &to, &route),
-            want,
-            "at {import} {export}"
-        );
+fn the_first_rule_that_matches_decides(rt: HostRuntime) {
+    let route = Route::spelt(&rt, rt.alloc(), &ROUTE);
+    for (import, export, want) in &LISTS {
+        route.goes(&rt, rt.alloc(), ("", import, export), *want);
     }
-    Ok(())
+    route.let_go();
+}
+
+impl Route {
+    /// By these rules it goes with this preference, and these communities are taken away by each list.
+    fn loses(&self, rt: &impl Abort, config: &Config, preference: u32, lists: [&[u32]; 2]) {
+        let (found, strip) = self.passed(rt, config);
+        assert_eq!(rt; found, preference);
+        let [sender, receiver] = strip.lists;
+        assert_eq!(rt; sender, lists[0]);
+        assert_eq!(rt; receiver, lists[1]);
+        assert!(rt; !strip.all);
+    }
+
+    /// By these rules it goes with preference 100, and all communities are taken away.
+    fn loses_all(&self, rt: &impl Abort, alloc: Global, import: &str, export: &str) {
+        let config = config(rt, alloc, ("", import, export));
+        let (preference, strip) = self.passed(rt, &config);
+        assert_eq!(rt; preference, 100);
+        assert!(rt; strip.all);
+        let_go(config);
+    }
 }
 
 #[test]
-fn both_rules_take_communities_away(rt: HostRuntime) -> Result<(), Fail> {
-    let route = attrs(rt.alloc(), COLOURED)?;
-    let to = prefix(&rt, 0xc633_6400, 24);
+fn both_rules_take_communities_away(rt: HostRuntime) {
+    let route = Route::spelt(&rt, rt.alloc(), COLOURED);
     let one = 64500 * 65536 + 1;
     let two = 64500 * 65536 + 2;
     // the export rule sees the community that the import rule takes away
-    let strips = config(
-        rt.alloc(),
-        "",
-        "{ action = \"pass\", strip = [\"64500:1\"] }",
-        "{ community = \"64500:1\", action = \"pass\", strip = [\"64500:2\", \"1:1\"], preference = 7 }",
-    )?;
-    assert_eq!(rt; strips.clients(), 2);
-    let Verdict::Pass { preference, strip } = judge(&strips, 0, 1, &to, &route) else {
-        assert!(rt; false, "dropped");
-        return Ok(());
-    };
-    assert_eq!(rt; preference, 7);
-    let [sender, receiver] = strip.lists;
-    assert_eq!(rt; sender, [one].as_slice());
-    assert_eq!(rt; receiver, [two, 65537].as_slice());
-    assert!(rt; !strip.all);
-    for (import, export) in [
-        (
-            "{ action = \"pass\", strip = \"all\" }",
-            "{ action = \"pass\", strip = [\"64500:2\"] }",
-        ),
-        (
-            "{ action = \"pass\", strip = [\"64500:2\"] }",
-            "{ action = \"pass\", strip = \"all\" }",
-        ),
-    ] {
-        let all = config(rt.alloc(), "", import, export)?;
-        assert_eq!(rt; all.clients(), 2);
-        let Verdict::Pass { preference, strip } = judge(&all, 0, 1, &to, &route) else {
-            assert!(rt; false, "dropped");
-            return Ok(());
-        };
-        assert_eq!(rt; preference, 100);
-        assert!(rt; strip.all);
-    }
-    Ok(())
+    let import = "{ action = \"pass\", strip = [\"64500:1\"] }";
+    let export =
+        "{ community = \"64500:1\", action = \"pass\", strip = [\"64500:2\", \"1:1\"], preference = 7 }";
+    let strips = config(&rt, rt.alloc(), ("", import, export));
+    route.loses(&rt, &strips, 7, [&[one], &[two, 65537]]);
+    let_go(strips);
+    let one_list = "{ action = \"pass\", strip = [\"64500:2\"] }";
+    let all = "{ action = \"pass\", strip = \"all\" }";
+    route.loses_all(&rt, rt.alloc(), all, one_list);
+    route.loses_all(&rt, rt.alloc(), one_list, all);
+    route.let_go();
 }

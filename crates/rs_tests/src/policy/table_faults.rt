@@ -1,7 +1,7 @@
 //! Faults in the tables of a client and of a rule: every kind of fault at every key.
 
 use super::*;
-use std::test::Fail;
+use std::process::Abort;
 
 /// The keys of a second client, each with the fault.
 const IN_A_CLIENT: [(&str, &str); 32] = [
@@ -238,26 +238,39 @@ const IN_A_RULE: [(&str, &str, &str); 37] = [
     ),
 ];
 
-#[test]
-fn faults_in_a_client(rt: HostRuntime) -> Result<(), Fail> {
-    for (rest, want) in IN_A_CLIENT {
-        let text = format!(in rt.alloc(); "{TOP}{CLIENT}[[client]]\n{rest}")?;
-        is_answered(&rt, Config::read(rt.alloc(), text.as_str()), want);
-    }
-    Ok(())
+/// A second client with these keys is answered by this.
+fn second_is_answered(rt: &impl Abort, alloc: Global, rest: &str, want: &str) {
+    let text = format!(in alloc; "{TOP}{CLIENT}[[client]]\n{rest}").expect(rt, "a text");
+    is_answered(rt, alloc, text.as_str(), want);
 }
 
 #[test]
-fn faults_in_a_rule(rt: HostRuntime) -> Result<(), Fail> {
-    for list in ["import", "export"] {
-        for (rule, cause, key) in IN_A_RULE {
-            // behind a good rule, and before the faults of a later client
-            let text = format!(in rt.alloc();
-                "{TOP}{CLIENT}{list} = [{{ action = \"drop\" }}, {{ {rule} }}]\n{OTHER}import = 1\n"
-            )?;
-            let want = format!(in rt.alloc(); "{cause} client 1 {list} 2 {key}")?;
-            is_answered(&rt, Config::read(rt.alloc(), text.as_str()), want.as_str());
-        }
+fn faults_in_a_client(rt: HostRuntime) {
+    for (rest, want) in &IN_A_CLIENT {
+        second_is_answered(&rt, rt.alloc(), rest, want);
     }
-    Ok(())
+}
+
+/// A configuration with this rule in one of its lists, behind a good rule, and before the faults of a later client.
+fn with_rule(rt: &impl Abort, alloc: Global, list: &str, rule: &str) -> String {
+    let text = format!(in alloc;
+        "{TOP}{CLIENT}{list} = [{{ action = \"drop\" }}, {{ {rule} }}]\n{OTHER}import = 1\n"
+    );
+    text.expect(rt, "a text")
+}
+
+/// A rule of this list has a fault of this cause at this key.
+fn rule_is_faulty(rt: &impl Abort, alloc: Global, list: &str, row: &(&str, &str, &str)) {
+    let (rule, cause, key) = *row;
+    let text = with_rule(rt, alloc, list, rule);
+    let want = format!(in alloc; "{cause} client 1 {list} 2 {key}").expect(rt, "a text");
+    is_answered(rt, alloc, text.as_str(), want.as_str());
+}
+
+#[test]
+fn faults_in_a_rule(rt: HostRuntime) {
+    for row in &IN_A_RULE {
+        rule_is_faulty(&rt, rt.alloc(), "import", row);
+        rule_is_faulty(&rt, rt.alloc(), "export", row);
+    }
 }

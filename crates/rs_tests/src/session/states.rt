@@ -64,35 +64,63 @@ fn in_each_state() -> [(&'static str, Heard, Act, Act, Act); 8] {
     ]
 }
 
+/// A session has the settings that it was made with.
+fn is_set(rt: &impl Abort, session: &Session) {
+    assert_eq!(rt; session.settings(), SETTINGS);
+}
+
+/// A session is in this state.
+fn is_in(rt: &impl Abort, session: &Session, state: State) {
+    assert_eq!(rt; session.state(), state);
+}
+
+/// The peer spells AS numbers so, where a session is up.
+fn speaks(rt: &impl Abort, session: &Session, mode: Option<Mode>) {
+    assert_eq!(rt; session.mode(), mode);
+}
+
+/// A connection that comes is answered by this.
+fn answers(rt: &impl Abort, session: &mut Session, want: Result<Act, Busy>) {
+    assert_eq!(rt; session.opened(), want);
+}
+
+/// A message that is heard asks for this.
+fn asks(rt: &impl Abort, session: &mut Session, heard: Heard, want: Act) {
+    assert_eq!(rt; session.message(heard), want);
+}
+
+/// A session knows what the OPEN said.
+fn knows_open(rt: &impl Abort, session: &Session) {
+    assert_eq!(rt; session.identifier(), 0xc000_020b);
+    assert_eq!(rt; session.limit(), Limit::Short);
+}
+
 #[test]
 fn comes_up_and_goes(rt: HostRuntime) {
     let mut session = Session::new(SETTINGS);
-    assert_eq!(rt; session.settings(), SETTINGS);
-    assert_eq!(rt; session.state(), State::Idle);
-    assert_eq!(rt; session.mode(), None);
-    assert_eq!(rt; session.opened(), Ok(Act::Say(Short::Open)));
-    assert_eq!(rt; session.state(), State::OpenSent);
-    assert_eq!(rt; session.opened(), Err(Busy));
-    assert_eq!(rt;
-        session.message(Heard::Open(read_open(OPEN))),
-        SAY_KEEPALIVE
-    );
-    assert_eq!(rt; session.state(), State::OpenConfirm);
-    assert_eq!(rt; session.opened(), Err(Busy));
-    assert_eq!(rt; session.message(Heard::Keepalive), Act::Up);
-    assert_eq!(rt; session.state(), State::Established);
-    assert_eq!(rt; session.mode(), Some(Mode::Four));
-    assert_eq!(rt; session.identifier(), 0xc000_020b);
-    assert_eq!(rt; session.limit(), Limit::Short);
-    assert_eq!(rt; session.opened(), Err(Busy));
-    assert_eq!(rt; session.message(Heard::Note), Act::Down(None));
-    assert_eq!(rt; session.state(), State::Closing);
-    assert_eq!(rt; session.mode(), None);
-    assert_eq!(rt; session.opened(), Err(Busy));
+    is_set(&rt, &session);
+    is_in(&rt, &session, State::Idle);
+    speaks(&rt, &session, None);
+    answers(&rt, &mut session, Ok(Act::Say(Short::Open)));
+    is_in(&rt, &session, State::OpenSent);
+    answers(&rt, &mut session, Err(Busy));
+    let open = Heard::Open(read_open(OPEN));
+    asks(&rt, &mut session, open, SAY_KEEPALIVE);
+    is_in(&rt, &session, State::OpenConfirm);
+    answers(&rt, &mut session, Err(Busy));
+    asks(&rt, &mut session, Heard::Keepalive, Act::Up);
+    is_in(&rt, &session, State::Established);
+    speaks(&rt, &session, Some(Mode::Four));
+    knows_open(&rt, &session);
+    answers(&rt, &mut session, Err(Busy));
+    asks(&rt, &mut session, Heard::Note, Act::Down(None));
+    is_in(&rt, &session, State::Closing);
+    speaks(&rt, &session, None);
+    answers(&rt, &mut session, Err(Busy));
     session.lost();
-    assert_eq!(rt; session.state(), State::Idle);
-    assert_eq!(rt; session.settings(), SETTINGS);
-    assert_eq!(rt; session.opened(), Ok(Act::Say(Short::Open)));
+    is_in(&rt, &session, State::Idle);
+    is_set(&rt, &session);
+    answers(&rt, &mut session, Ok(Act::Say(Short::Open)));
 }
 
 #[test]
