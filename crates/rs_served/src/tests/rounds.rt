@@ -1,5 +1,7 @@
 //! Sessions over ports in memory.
 
+ghost use Rattle.std.specs.Prelude.{◌≡◌};
+
 use crate::ports::Line;
 use crate::reports::Report;
 use crate::serve::{Limits, ServeFault, serve};
