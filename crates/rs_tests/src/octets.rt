@@ -6,8 +6,9 @@ use rs_octets::{
     AS_TRANS, Allowed, FieldFault, Front, Head, HeaderFault, Kind, Prefix, header, laws, put,
     put_header, put_prefix, read_front, read_prefixes,
 };
+use std::alloc::{AllocError, Global};
 use std::cmp::Ordering;
-use std::test::Fail;
+use std::process::Abort;
 
 const PLAIN: Allowed = Allowed {
     long: false,
@@ -148,24 +149,41 @@ fn finds_the_fault_of_a_header(rt: HostRuntime) {
     assert!(rt; is_wanted);
 }
 
+/// What is shown is this text.
+fn is_shown(rt: &impl Abort, shown: Result<String, AllocError>, want: &str) {
+    assert_eq!(rt; shown.expect(rt, "a text").as_str(), want);
+}
+
+/// A fault of a header is shown by this text.
+fn header_fault_is_shown(rt: &impl Abort, alloc: Global, fault: HeaderFault, want: &str) {
+    is_shown(rt, format!(in alloc; "{fault}"), want);
+}
+
+/// A fault of a field is shown by this text.
+fn field_fault_is_shown(rt: &impl Abort, alloc: Global, fault: FieldFault, want: &str) {
+    is_shown(rt, format!(in alloc; "{fault}"), want);
+}
+
 #[test]
-fn faults_have_texts(rt: HostRuntime) -> Result<(), Fail> {
-    let texts = [
-        format!(in rt.alloc(); "{}", HeaderFault::Marker)?,
-        format!(in rt.alloc(); "{}", HeaderFault::Length(4097))?,
-        format!(in rt.alloc(); "{}", HeaderFault::Kind(5))?,
-        format!(in rt.alloc(); "{}", FieldFault::TooLong)?,
-        format!(in rt.alloc(); "{}", FieldFault::Cut)?,
-    ];
-    assert_eq!(rt; texts[0].as_str(), "the marker is not sixteen octets ff");
-    assert_eq!(rt; texts[1].as_str(), "bad message length 4097");
-    assert_eq!(rt; texts[2].as_str(), "bad message type 5");
-    assert_eq!(rt; texts[3].as_str(), "a prefix is longer than 32 bits");
-    assert_eq!(rt;
-        texts[4].as_str(),
-        "a prefix runs over the end of its field"
-    );
-    Ok(())
+fn faults_have_texts(rt: HostRuntime) {
+    let alloc = rt.alloc();
+    let marker = "the marker is not sixteen octets ff";
+    header_fault_is_shown(&rt, alloc, HeaderFault::Marker, marker);
+    let length = "bad message length 4097";
+    header_fault_is_shown(&rt, alloc, HeaderFault::Length(4097), length);
+    header_fault_is_shown(&rt, alloc, HeaderFault::Kind(5), "bad message type 5");
+    let too_long = "a prefix is longer than 32 bits";
+    field_fault_is_shown(&rt, alloc, FieldFault::TooLong, too_long);
+    let cut = "a prefix runs over the end of its field";
+    field_fault_is_shown(&rt, alloc, FieldFault::Cut, cut);
+}
+
+/// A prefix has these bits, and spelt it takes so many octets.
+fn is_prefix(rt: &impl Abort, made: Option<Prefix>, bits: u32, len: u8, size: usize) {
+    let prefix = made.expect(rt, "a prefix of a length of at most 32");
+    assert_eq!(rt; prefix.bits(), bits);
+    assert_eq!(rt; prefix.len(), len);
+    assert_eq!(rt; prefix.size(), size);
 }
 
 #[test]
@@ -179,14 +197,7 @@ fn makes_prefixes(rt: HostRuntime) {
         (0xc000_0201, 32, 0xc000_0201, 5),
     ];
     for (given, len, bits, size) in cases {
-        match Prefix::new(given, len) {
-            Some(prefix) => {
-                assert_eq!(rt; prefix.bits(), bits);
-                assert_eq!(rt; prefix.len(), len);
-                assert_eq!(rt; prefix.size(), size);
-            }
-            None => assert!(rt; false, "no prefix of length {len}"),
-        }
+        is_prefix(&rt, Prefix::new(given, len), bits, len, size);
     }
     assert!(rt; Prefix::new(0, 33).is_none());
     assert!(rt; Prefix::new(0, 255).is_none());

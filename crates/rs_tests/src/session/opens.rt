@@ -101,18 +101,19 @@ fn opens_that_are_refused(rt: HostRuntime) {
     }
 }
 
+/// What holds once a client has said an OPEN that is taken.
+fn holds_from_then_on(rt: &impl Abort, session: &Session, mode: Mode, limit: Limit, name: &str) {
+    assert_eq!(rt; session.mode(), Some(mode), "{name}");
+    assert_eq!(rt; session.limit(), limit, "{name}");
+    assert_eq!(rt; session.identifier(), 0xc000_020b, "{name}");
+}
+
 #[test]
 fn opens_that_are_taken(rt: HostRuntime) {
     for (name, settings, body, mode, limit) in TAKEN {
         let mut session = connected(&rt, settings);
-        play(
-            &rt,
-            name,
-            &mut session,
-            &[(Call::Open(body), SAY_KEEPALIVE)],
-        );
-        assert_eq!(rt; session.mode(), Some(mode), "{name}");
-        assert_eq!(rt; session.limit(), limit, "{name}");
-        assert_eq!(rt; session.identifier(), 0xc000_020b, "{name}");
+        let script = [(Call::Open(body), SAY_KEEPALIVE)];
+        play(&rt, name, &mut session, &script);
+        holds_from_then_on(&rt, &session, mode, limit, name);
     }
 }
