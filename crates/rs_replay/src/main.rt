@@ -1,35 +1,14 @@
-//! Plays recorded sessions to a route server and writes what its clients are sent.
-//!
-//! A trace comes in by `text` and `lines`; `words`, `number` and `trace` say what each of its lines
-//! means; `entries` reads one after the other, `recording` hands that to the core as a link, and
-//! `replay` lets the core run, to the end or to a `fault`; `tables` lists a client's Loc-RIB, and
-//! `output` says what lines go out, with clients by their `names`. `settings` reads the file that the
-//! command line names, and `progress` tells on a terminal how far a long replay is.
+//! The program that plays a recorded session: standard input to standard output.
 #![tactic(auto)]
 
-pub mod entries;
-pub mod fault;
-pub mod lines;
-pub mod names;
-pub mod number;
-pub mod output;
-pub mod progress;
-pub mod recording;
-pub mod replay;
-pub mod settings;
-pub mod tables;
-pub mod text;
-pub mod trace;
-pub mod words;
-
-use crate::fault::ReplayFault;
-use crate::progress::{Progress, Unwatched, Watch};
-use crate::replay::replay;
-use crate::settings::{read_settings, tell_settings_fault};
-use crate::text::{OverRead, OverWrite};
 use rs_command::Asked;
 use rs_command::replay::{Options, read_command};
 use rs_policy::Config;
+use rs_trace::fault::ReplayFault;
+use rs_trace::progress::{Progress, Unwatched, Watch};
+use rs_trace::replay::replay;
+use rs_trace::settings::{read_settings, tell_settings_fault};
+use rs_trace::text::{OverRead, OverWrite};
 use std::io;
 use std::io::{BufWriter, ErrorKind, IsTerminal};
 use std::process::ExitCode;
@@ -122,6 +101,3 @@ fn main(rt: HostRuntime) -> ExitCode {
     }
     ExitCode::from(status_of(played))
 }
-
-#[cfg(test)]
-mod tests;

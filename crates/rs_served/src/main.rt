@@ -1,35 +1,15 @@
-//! The live route server. `configuration` reads the file that the command line names; `serve` is the
-//! loop, which gives the core events by a `link` over `ports`: `events` says which comes next, `orders`
-//! what the core's calls are on the ports. `sockets` are the ports of the system, with the listeners of
-//! `doors`. `seats` and `outbox` are what the link keeps of each connection, `watch` and `reports` tell
-//! an operator what happened, of clients by their `names`, and `lines` is standard output, both within
-//! `rations`.
+//! The program of the live route server: reads the command line and the file of the configuration, and
+//! serves over sockets.
 #![tactic(auto)]
 
-pub mod configuration;
-mod doors;
-mod events;
-pub mod lines;
-pub mod link;
-pub mod names;
-mod orders;
-pub mod outbox;
-pub mod ports;
-pub mod rations;
-pub mod reports;
-pub mod seats;
-pub mod serve;
-pub mod sockets;
-pub mod watch;
-
-use crate::configuration::{Refused, read_configuration};
-use crate::names::Names;
-use crate::seats::listeners;
-use crate::serve::{Limits, serve};
-use crate::sockets::Sockets;
 use anyhow::Result;
 use rs_command::Asked;
 use rs_command::serve::{Options, read_command};
+use rs_live::configuration::{Refused, read_configuration};
+use rs_live::names::Names;
+use rs_live::seats::listeners;
+use rs_live::serve::{Limits, serve};
+use rs_live::sockets::Sockets;
 use rs_policy::Config;
 use std::alloc::Global;
 use std::net::Net;
@@ -115,6 +95,3 @@ fn main(rt: HostRuntime) -> ExitCode {
         }
     }
 }
-
-#[cfg(test)]
-mod tests;

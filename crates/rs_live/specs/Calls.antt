@@ -1,0 +1,82 @@
+-- What the server asks of its ports, each call with its answer.
+use Rattle.std.specs.Prelude.{◌≡◌, ℕ, List, Option, Some, None, Result, Ok, Err, IsOk, IsErr, ⊤}
+use Rattle.rs_live.specs.declared.ports.PortFault.{PortFault}
+use Rattle.rs_live.specs.declared.ports.Caller.{Caller}
+use Rattle.rs_live.specs.declared.ports.Line.{Line}
+use Rattle.rs_live.specs.declared.reports.Report.{Report}
+
+pub data Call : Type 0 where
+  Waited : (answer : Result (Unit {0}) PortFault) → Call
+  Accepted : (answer : Result (Option Caller) PortFault) → Call
+  Read : (key : ℕ) (piece : List ℕ) (answer : Result (Option ℕ) PortFault) → Call
+  Wrote : (key : ℕ) (octets : List ℕ) (answer : Result (Option ℕ) PortFault) → Call
+  Closed : (key : ℕ) → Call
+  Timed : (seconds : ℕ) → Call
+  Fetched : (text : List ℕ) (answer : Result (Unit {0}) PortFault) → Call
+  Said : (line : Line) → Call
+  Logged : (report : Report) → Call
+
+-- a read with this answer is the last of its connection: it failed, or it read 0 octets, the end of the input
+abbrev pub IsLastRead : Result (Option ℕ) PortFault → Type 0
+IsLastRead (Ok None) = ⊥
+IsLastRead (Ok (Some count)) = count ≡ 0
+IsLastRead (Err fault) = ⊤
+
+-- nothing comes of this call: it is no wait, no accept and no write that failed, no accept of a connection, and no read
+-- that is a connection's last or gave octets
+abbrev pub IsGood : Call → Type 0
+IsGood (Waited answer) = IsOk answer
+IsGood (Accepted answer) = answer ≡ Ok None
+IsGood (Read key piece answer) = answer ≡ Ok None
+IsGood (Wrote key octets answer) = IsOk answer
+IsGood (Closed key) = ⊤
+IsGood (Timed seconds) = ⊤
+IsGood (Fetched text answer) = ⊤
+IsGood (Said line) = ⊤
+IsGood (Logged report) = ⊤
+
+abbrev pub IsFailedWait : Call → Type 0
+IsFailedWait (Waited answer) = IsErr answer
+IsFailedWait (Accepted answer) = ⊥
+IsFailedWait (Read key piece answer) = ⊥
+IsFailedWait (Wrote key octets answer) = ⊥
+IsFailedWait (Closed key) = ⊥
+IsFailedWait (Timed seconds) = ⊥
+IsFailedWait (Fetched text answer) = ⊥
+IsFailedWait (Said line) = ⊥
+IsFailedWait (Logged report) = ⊥
+
+abbrev pub IsFailedAccept : Call → Type 0
+IsFailedAccept (Waited answer) = ⊥
+IsFailedAccept (Accepted answer) = IsErr answer
+IsFailedAccept (Read key piece answer) = ⊥
+IsFailedAccept (Wrote key octets answer) = ⊥
+IsFailedAccept (Closed key) = ⊥
+IsFailedAccept (Timed seconds) = ⊥
+IsFailedAccept (Fetched text answer) = ⊥
+IsFailedAccept (Said line) = ⊥
+IsFailedAccept (Logged report) = ⊥
+
+-- a write of the connection with this key that failed
+abbrev pub IsFailedWriteOf : ℕ → Call → Type 0
+IsFailedWriteOf key (Waited answer) = ⊥
+IsFailedWriteOf key (Accepted answer) = ⊥
+IsFailedWriteOf key (Read k piece answer) = ⊥
+IsFailedWriteOf key (Wrote k octets answer) = (k ≡ key) × IsErr answer
+IsFailedWriteOf key (Closed k) = ⊥
+IsFailedWriteOf key (Timed seconds) = ⊥
+IsFailedWriteOf key (Fetched text answer) = ⊥
+IsFailedWriteOf key (Said line) = ⊥
+IsFailedWriteOf key (Logged report) = ⊥
+
+-- by this call the connection with this key is found to be lost: a read that is its last, or a write that failed
+abbrev pub FindsLost : ℕ → Call → Type 0
+FindsLost key (Waited answer) = ⊥
+FindsLost key (Accepted answer) = ⊥
+FindsLost key (Read k piece answer) = (k ≡ key) × IsLastRead answer
+FindsLost key (Wrote k octets answer) = (k ≡ key) × IsErr answer
+FindsLost key (Closed k) = ⊥
+FindsLost key (Timed seconds) = ⊥
+FindsLost key (Fetched text answer) = ⊥
+FindsLost key (Said line) = ⊥
+FindsLost key (Logged report) = ⊥

@@ -1,0 +1,301 @@
+//! The events of a round, one at a time. A round accepts the connections that have come, then reads
+//! each connection. After every few pieces read, and once at the end, come a moment, a turn, and room
+//! for each connection. Turns so stay small: an outlet that was touched at more than 4,096 prefixes
+//! would decide its whole table.
+
+ghost use Rattle.std.specs.Prelude.{◌≡◌, ℕ, List, Some, Ok, false};
+ghost use Rattle.rs_live.specs.Calls.{Accepted};
+ghost use Rattle.rs_live.specs.Handled.{Has, AreHandled, EndBy, Follows, Answers};
+
+use crate::link::{Link, Phase};
+use crate::ports::{Caller, Line, Ports};
+use rs_core::{Event, Link as CoreLink, Source};
+
+/// How many connections a round accepts. More wait for the next round, which comes at once: so nobody
+/// who connects over and over keeps the server from those that are connected.
+const ACCEPTED: u32 = 64;
+
+/// How many pieces of one connection a round reads.
+const PIECES: u32 = 16;
+
+/// How many pieces are read before a turn: three of 4,096 octets name some 3,000 prefixes of 24 bits.
+const PIECES_A_TURN: u32 = 3;
+
+/// How many times in a row one connection is given room behind a turn.
+const ROOMS: u32 = 16;
+
+/// From so many octets heard since the last turn on, all workers turn; else one does, since to start
+/// threads costs more than a short turn saves. `bench/turns.py` measures from where on.
+const MUCH: usize = 4096;
+
+impl<'a, P: Ports> Link<'a, P> {
+    /// The client whose connection this is.
+    fn client_of(&self, caller: &Caller) -> Option<usize> {
+        self.seats.iter().position(|seat| seat.listener == caller.listener
+            && seat.peer == caller.address)
+    }
+
+    /// Closes a connection that has just come and is nobody's.
+    fn refuse(&mut self, caller: &Caller)
+        ensures same_ports { self.new.ports.ghost_name ≡ self.old.ports.ghost_name }
+        ensures failed { self.new.has_failed ≡ self.old.has_failed }
+        ensures handled { Has P.asked self.old.ports.now (EndBy (λ call. call ≡ Accepted (Ok (Some caller.now)))) → Has P.asked self.new.ports.now AreHandled }
+    {
+        self.ports.say(&Line::Stranger);
+        self.ports.close(caller.key);
+        let (address, count) = self.strangers.unwrap_or((caller.address, 0));
+        self.strangers = Some((address, count.saturating_add(1)));
+    }
+
+    /// Accepts until a client's connection comes, none is left, or the round has accepted enough.
+    fn accepted(&mut self) -> Option<Event>
+        ensures same_ports { self.new.ports.ghost_name ≡ self.old.ports.ghost_name }
+        ensures told { self.old.has_failed ≡ false → Has P.asked self.old.ports.now AreHandled → (piece : List ℕ) → Answers P.asked result piece self.new.ports.now self.new.has_failed }
+    {
+        for _ in self.accepted..ACCEPTED {
+            match self.ports.accept() {
+                Err(_) => {
+                    self.has_failed = true;
+                    return Some(Event::Stop);
+                }
+                Ok(None) => {
+                    self.phase = Phase::Read;
+                    return None;
+                }
+                Ok(Some(caller)) => {
+                    self.accepted = self.accepted.saturating_add(1);
+                    if let Some(c) = self.client_of(&caller) {
+                        self.fresh = Some(caller);
+                        return Some(Event::Opened(c));
+                    }
+                    self.refuse(&caller);
+                }
+            }
+        }
+        self.has_more = true;
+        self.phase = Phase::Read;
+        None
+    }
+
+    /// Reads a piece of the client whose turn it is; `None` where nothing is there. At the end of its
+    /// input the connection is lost, as where the read fails.
+    fn piece(&mut self, piece: &mut [u8; 4096]) -> Option<Event>
+        ensures same_ports { self.new.ports.ghost_name ≡ self.old.ports.ghost_name }
+        ensures told { self.old.has_failed ≡ false → Has P.asked self.old.ports.now AreHandled → Answers P.asked result piece.new self.new.ports.now self.new.has_failed }
+    {
+        let c = self.reading;
+        let key = self.seats.get(c)?.live.key()?;
+        if self.pieces >= PIECES {
+            self.has_more = true;
+            return None;
+        }
+        match self.ports.read(key, piece) {
+            Ok(None) => None,
+            Ok(Some(count)) => {
+                if count == 0 {
+                    self.lose(c, key);
+                    return Some(Event::Lost(c));
+                }
+                self.heard(count);
+                Some(Event::Octets(c, count))
+            }
+            Err(_) => {
+                self.lose(c, key);
+                Some(Event::Lost(c))
+            }
+        }
+    }
+
+    /// Counts octets that were read.
+    fn heard(&mut self, count: usize)
+        ensures same_ports { self.new.ports.ghost_name ≡ self.old.ports.ghost_name }
+        ensures failed { self.new.has_failed ≡ self.old.has_failed }
+        ensures unasked { self.new.ports.now ≡ self.old.ports.now }
+    {
+        self.pieces = self.pieces.saturating_add(1);
+        self.pieces_heard = self.pieces_heard.saturating_add(1);
+        self.octets_heard = self.octets_heard.saturating_add(count);
+    }
+
+    /// Reads on, until enough was heard for a turn or nothing is left.
+    fn read_on(&mut self, piece: &mut [u8; 4096]) -> Option<Event>
+        ensures same_ports { self.new.ports.ghost_name ≡ self.old.ports.ghost_name }
+        ensures told { self.old.has_failed ≡ false → Has P.asked self.old.ports.now AreHandled → Answers P.asked result piece.new self.new.ports.now self.new.has_failed }
+    {
+        self.phase = Phase::Moment;
+        if self.pieces_heard >= PIECES_A_TURN {
+            return None;
+        }
+        for _ in 0..self.seats.len() {
+            if self.reading >= self.seats.len() {
+                return None;
+            }
+            match self.piece(piece) {
+                Some(event) => {
+                    self.phase = Phase::Read;
+                    return Some(event);
+                }
+                None => {
+                    self.reading = self.reading.saturating_add(1);
+                    self.pieces = 0;
+                }
+            }
+        }
+        None
+    }
+
+    fn moment(&mut self) -> Option<Event>
+        ensures same_ports { self.new.ports.ghost_name ≡ self.old.ports.ghost_name }
+        ensures told { self.old.has_failed ≡ false → Has P.asked self.old.ports.now AreHandled → (piece : List ℕ) → Answers P.asked result piece self.new.ports.now self.new.has_failed }
+    {
+        self.phase = Phase::Turn;
+        self.now = self.ports.seconds();
+        Some(Event::Moment(self.now))
+    }
+
+    /// A turn; or a stop before it, where other workers are to do it.
+    fn turn(&mut self) -> Option<Event>
+        ensures same_ports { self.new.ports.ghost_name ≡ self.old.ports.ghost_name }
+        ensures told { self.old.has_failed ≡ false → Has P.asked self.old.ports.now AreHandled → (piece : List ℕ) → Answers P.asked result piece self.new.ports.now self.new.has_failed }
+    {
+        let is_wide = self.octets_heard >= MUCH;
+        if is_wide != self.is_wide {
+            self.is_wide = is_wide;
+            return Some(Event::Stop);
+        }
+        self.pieces_heard = 0;
+        self.octets_heard = 0;
+        self.phase = Phase::Room(0);
+        Some(Event::Turn)
+    }
+
+    /// Gives room to the next connection from this client's on.
+    fn room(&mut self, from: usize) -> Option<Event>
+        ensures same_ports { self.new.ports.ghost_name ≡ self.old.ports.ghost_name }
+        ensures told { self.old.has_failed ≡ false → Has P.asked self.old.ports.now AreHandled → (piece : List ℕ) → Answers P.asked result piece self.new.ports.now self.new.has_failed }
+    {
+        let next = self
+            .seats
+            .iter()
+            .skip(from)
+            .position(|seat| seat.live.is_open());
+        match next {
+            Some(k) => {
+                let c = from.saturating_add(k);
+                self.rooms = 0;
+                self.phase = Phase::Handed(c);
+                Some(Event::Room(c, u64::MAX))
+            }
+            None if self.reading < self.seats.len() => {
+                self.phase = Phase::Read;
+                None
+            }
+            None => {
+                self.phase = Phase::Over;
+                self.finish_closing();
+                None
+            }
+        }
+    }
+
+    /// Writes what a connection was handed; gives it room again where it was full and no longer is.
+    fn handed(&mut self, c: usize) -> Option<Event>
+        ensures same_ports { self.new.ports.ghost_name ≡ self.old.ports.ghost_name }
+        ensures told { self.old.has_failed ≡ false → Has P.asked self.old.ports.now AreHandled → (piece : List ℕ) → Answers P.asked result piece self.new.ports.now self.new.has_failed }
+    {
+        self.phase = Phase::Room(c.saturating_add(1));
+        let seat = self.seats.get_mut(c)?;
+        let key = seat.live.key()?;
+        let was_full = seat.live.is_full();
+        match seat.live.write(self.ports, self.now) {
+            Err(key) => {
+                self.lose(c, key);
+                return Some(Event::Lost(c));
+            }
+            Ok(()) if seat.live.is_over(self.now) => {
+                self.lose(c, key);
+                return Some(Event::Lost(c));
+            }
+            Ok(()) if was_full && seat.live.is_empty() => self.room_again(c),
+            Ok(()) => None,
+        }
+    }
+
+    /// Room for a connection once more, unless it had much behind this turn.
+    fn room_again(&mut self, c: usize) -> Option<Event>
+        ensures same_ports { self.new.ports.ghost_name ≡ self.old.ports.ghost_name }
+        ensures told { self.old.has_failed ≡ false → Has P.asked self.old.ports.now AreHandled → (piece : List ℕ) → Answers P.asked result piece self.new.ports.now self.new.has_failed }
+    {
+        if self.rooms >= ROOMS {
+            self.has_more = true;
+            return None;
+        }
+        self.rooms = self.rooms.saturating_add(1);
+        self.phase = Phase::Handed(c);
+        Some(Event::Room(c, u64::MAX))
+    }
+
+    /// Goes on with the connections that are being closed.
+    fn finish_closing(&mut self)
+        ensures same_ports { self.new.ports.ghost_name ≡ self.old.ports.ghost_name }
+        ensures failed { self.new.has_failed ≡ self.old.has_failed }
+        ensures handled { Has P.asked self.old.ports.now AreHandled → Has P.asked self.new.ports.now AreHandled }
+    {
+        for c in 0..self.seats.len() {
+            self.finish(c);
+        }
+    }
+
+    /// Goes on with a client's connection that is being closed.
+    fn finish(&mut self, c: usize)
+        ensures same_ports { self.new.ports.ghost_name ≡ self.old.ports.ghost_name }
+        ensures failed { self.new.has_failed ≡ self.old.has_failed }
+        ensures handled { Has P.asked self.old.ports.now AreHandled → Has P.asked self.new.ports.now AreHandled }
+    {
+        if let Some(seat) = self.seats.get_mut(c) {
+            seat.closing.finish(self.ports, self.now);
+        }
+    }
+
+    /// What the round does next, and the event that comes of it.
+    fn step(&mut self, piece: &mut [u8; 4096]) -> Option<Event>
+        ensures same_ports { self.new.ports.ghost_name ≡ self.old.ports.ghost_name }
+        ensures told { self.old.has_failed ≡ false → Has P.asked self.old.ports.now AreHandled → Answers P.asked result piece.new self.new.ports.now self.new.has_failed }
+    {
+        match self.phase {
+            Phase::Rules => {
+                self.phase = Phase::Accept;
+                Some(Event::Rules)
+            }
+            Phase::Accept => self.accepted(),
+            Phase::Read => self.read_on(piece),
+            Phase::Moment => self.moment(),
+            Phase::Turn => self.turn(),
+            Phase::Room(from) => self.room(from),
+            Phase::Handed(c) => self.handed(c),
+            Phase::Over => Some(Event::Stop),
+        }
+    }
+}
+
+impl<'a, P: Ports> CoreLink for Link<'a, P> {
+    ghost happens = { λ old step new. (new.ports.ghost_name ≡ old.ports.ghost_name) × (old.has_failed ≡ false → Has P.asked old.ports.now AreHandled → Follows P.asked step new.ports.now new.has_failed) };
+
+    ghost text = { λ link. link.text.now.items };
+}
+
+impl<'a, P: Ports> Source for Link<'a, P> {
+    fn next(&mut self, piece: &mut [u8; 4096]) -> Event {
+        for _ in 0..8 {
+            match self.step(piece) {
+                Some(event) => return event,
+                None => {}
+            }
+        }
+        Event::Stop
+    }
+
+    fn rules(&self) -> &[u8] {
+        self.text.as_slice()
+    }
+}

@@ -1,0 +1,84 @@
+//! What the server asks of the outside, as one trait: connections, a clock, a file, and places to
+//! print. Nothing else of the crate but its sockets reaches further.
+
+ghost use Rattle.std.specs.Prelude.{◌≤◌, ◌∷◌, ℕ, List, IfOk, IfSome, length};
+ghost use Rattle.rs_live.specs.Calls.{Call, Waited, Accepted, Read, Wrote, Closed, Timed, Fetched, Said, Logged};
+
+use crate::reports::Report;
+use rs_policy::RulesFault;
+
+/// A call on the ports failed.
+#[derive(Clone, Copy, Debug, PartialEq, Eq)]
+pub struct PortFault;
+
+/// A connection that was accepted: at which of the distinct `listen` addresses, in the order of the
+/// configuration and counted from 0; the address that it came from; and a key that the ports chose.
+#[derive(Clone, Copy, Debug, PartialEq, Eq)]
+pub struct Caller {
+    pub listener: usize,
+    pub address: u32,
+    pub key: usize,
+}
+
+/// A line that the server prints on standard output.
+#[derive(Clone, Copy, Debug, PartialEq, Eq)]
+pub enum Line {
+    /// A connection of a client begins.
+    Begin(usize),
+    /// A second connection of a client is closed.
+    Busy(usize),
+    /// A connection of nobody's is closed.
+    Stranger,
+    /// The server closes the connection of a client.
+    Close(usize),
+    /// The connection of a client is lost.
+    Lost(usize),
+    /// Memory was refused in hearing a client, or in deciding for it.
+    Memory(usize),
+    /// A text of rules was accepted, or why it was not.
+    Rules(Result<(), RulesFault>),
+}
+
+/// Listeners, connections, a clock, a file of rules and places to print. `asked ports calls` says that
+/// the ports were asked these calls, the newest first; where it always holds, nothing is known.
+pub trait Ports {
+    ghost asked: { Self → List Call → Type 0 };
+
+    /// Waits until something is ready, at most one second, or only asks for what is.
+    fn wait(&mut self, pause: bool) -> Result<(), PortFault>
+        ensures { (calls : List Call) → asked self.old calls → asked self.new (Waited result ∷ calls) };
+
+    /// The next connection that has come; `None` where none has.
+    fn accept(&mut self) -> Result<Option<Caller>, PortFault>
+        ensures { (calls : List Call) → asked self.old calls → asked self.new (Accepted result ∷ calls) };
+
+    /// Reads a piece of a connection. `None` where nothing is there, 0 at the end of input.
+    fn read(&mut self, key: usize, piece: &mut [u8; 4096]) -> Result<Option<usize>, PortFault>
+        ensures count { IfOk result (λ r. IfSome r (λ n. n ≤ 4096)) }
+        ensures asked { (calls : List Call) → asked self.old calls → asked self.new (Read key piece.new result ∷ calls) };
+
+    /// Writes a front of the octets. `None` where the connection takes none at present.
+    fn write(&mut self, key: usize, octets: &[u8]) -> Result<Option<usize>, PortFault>
+        ensures count { IfOk result (λ r. IfSome r (λ n. n ≤ length octets.now)) }
+        ensures asked { (calls : List Call) → asked self.old calls → asked self.new (Wrote key octets.now result ∷ calls) };
+
+    /// Closes a connection.
+    fn close(&mut self, key: usize)
+        ensures { (calls : List Call) → asked self.old calls → asked self.new (Closed key ∷ calls) };
+
+    /// The whole seconds since the start.
+    fn seconds(&mut self) -> u64
+        ensures { (calls : List Call) → asked self.old calls → asked self.new (Timed result ∷ calls) };
+
+    /// The text of the file of rules, in place of what stands in `text`.
+    fn text(&mut self, text: &mut Vec<u8>) -> Result<(), PortFault>
+        ensures { (calls : List Call) → asked self.old calls → asked self.new (Fetched text.new.items result ∷ calls) };
+
+    /// Prints a line, now or later, or counts it among those that are left out.
+    fn say(&mut self, line: &Line)
+        ensures { (calls : List Call) → asked self.old calls → asked self.new (Said line.now ∷ calls) };
+
+    /// Tells an operator what happened and why.
+    fn log(&mut self, report: &Report)
+        ensures { (calls : List Call) → asked self.old calls → asked self.new (Logged report.now ∷ calls) };
+}

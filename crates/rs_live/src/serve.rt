@@ -1,0 +1,183 @@
+//! The loop of the server.
+
+ghost use Rattle.std.specs.Prelude.{◌≡◌, ◌≤◌, ◌<◌, [], false, true, IsOk, IsErr, IsSome, IsTrue};
+ghost use Rattle.rs_live.specs.Calls.{IsFailedAccept};
+ghost use Rattle.rs_live.specs.Handled.{Has, AreHandled, EndBy, IsServed};
+
+use crate::link::Link;
+use crate::ports::Ports;
+use crate::seats::seats;
+use crate::watch::Watch;
+use rs_core::{Core, drive, drive_with};
+use rs_policy::Config;
+use rs_workers::Free;
+use std::alloc::Global;
+use std::sync::Wait;
+use std::thread::Threads;
+use thiserror::Error;
+
+/// Why the server ended.
+#[derive(Clone, Copy, Debug, Drop, Error, PartialEq, Eq)]
+pub enum ServeFault {
+    #[error("a listener failed")]
+    Listener,
+    #[error("the poll failed")]
+    Poll,
+    #[error("out of memory")]
+    Memory,
+}
+
+/// What a server is told beside its configuration.
+#[derive(Clone, Copy, Debug, PartialEq, Eq)]
+pub struct Limits {
+    /// How many workers turn where much was heard: 1 to 16.
+    pub workers: usize,
+    /// After how many ended sessions the server ends; `None`: never.
+    pub sessions: Option<u64>,
+    /// Every how many rounds the file of rules is read; `None`: never.
+    pub reload: Option<u16>,
+}
+
+/// Serves the clients of a configuration, over ports that listen already and were asked nothing yet.
+/// It ends without a fault once `sessions` begun sessions have ended and their connections are closed.
+///
+/// # Errors
+///
+/// `Poll` where `wait` failed, `Listener` where `accept` failed, and `Memory` where memory was refused
+/// at the start, before the first call of the ports. Any other fault of the ports is a lost connection,
+/// and all others go on.
+#[tactic(auto, using(crate::proofs::Handling::unasked))]
+pub fn serve<R: Threads + Wait + Sync, P: Ports>(
+    rt: &R,
+    alloc: Global,
+    ports: &mut P,
+    config: Config,
+    limits: Limits,
+) -> Result<(), ServeFault>
+    requires workers { (0 < limits.workers) × (limits.workers ≤ 16) }
+    ensures served { P.asked ports.old [] → Has P.asked ports.new (IsServed result) }
+    ensures ended { IsOk result → IsSome limits.sessions }
+{
+    let Ok(mut seats) = seats(alloc, &config) else {
+        return Err(ServeFault::Memory);
+    };
+    let Ok(mut watch) = Watch::new(alloc, config.clients()) else {
+        return Err(ServeFault::Memory);
+    };
+    let Ok(mut core) = Core::new(alloc, config) else {
+        return Err(ServeFault::Memory);
+    };
+    let mut text = Vec::new(alloc);
+    let mut read = Vec::new(alloc);
+    let mut link = Link::new(ports, &mut seats, &mut text, &mut read);
+    serve_on(rt, limits, &mut watch, &mut core, &mut link)
+}
+
+/// Serves round by round.
+fn serve_on<R: Threads + Wait + Sync, P: Ports>(
+    rt: &R,
+    limits: Limits,
+    watch: &mut Watch,
+    core: &mut Core,
+    link: &mut Link<'_, P>,
+) -> Result<(), ServeFault>
+    requires workers { (0 < limits.workers) × (limits.workers ≤ 16) }
+    ensures same_ports { link.new.ports.ghost_name ≡ link.old.ports.ghost_name }
+    ensures served { link.old.has_failed ≡ false → Has P.asked link.old.ports.now AreHandled → Has P.asked link.new.ports.now (IsServed result) }
+    ensures ended { IsOk result → IsSome limits.sessions }
+{
+    let mut rounds = 0;
+    for _ in rt.forever() {
+        if !link.begin_round() {
+            return Err(ServeFault::Poll);
+        }
+        rounds = reload(rounds, limits.reload, link);
+        match play_round(rt, limits.workers, core, link) {
+            Ok(()) => watch.tell(core, link),
+            Err(_) => return Err(ServeFault::Listener),
+        }
+        if is_done(limits.sessions, link) {
+            return Ok(());
+        }
+    }
+    unreachable!()
+}
+
+/// Reads the file of rules in a round in which it is to be read, and answers the number of the round
+/// since the last such one.
+fn reload<P: Ports>(rounds: u16, every: Option<u16>, link: &mut Link<'_, P>) -> u16
+    ensures same_ports { link.new.ports.ghost_name ≡ link.old.ports.ghost_name }
+    ensures failed { link.new.has_failed ≡ link.old.has_failed }
+    ensures handled { Has P.asked link.old.ports.now AreHandled → Has P.asked link.new.ports.now AreHandled }
+{
+    let next = next_round(rounds, every);
+    if next == 0 {
+        link.read_rules();
+    }
+    next
+}
+
+/// As many sessions have ended as were asked for, and their connections are closed.
+fn is_done<P: Ports>(sessions: Option<u64>, link: &Link<'_, P>) -> bool
+    ensures { IsTrue result → IsSome sessions }
+{
+    match sessions {
+        Some(most) => link.ended() >= most && link.has_closed_all(),
+        None => false,
+    }
+}
+
+/// Drives the core until the round is over, with all workers where the link asks for them.
+fn play_round<R: Threads + Wait + Sync, P: Ports>(
+    rt: &R,
+    workers: usize,
+    core: &mut Core,
+    link: &mut Link<'_, P>,
+) -> Result<(), ServeFault>
+    requires workers { (0 < workers) × (workers ≤ 16) }
+    ensures same_ports { link.new.ports.ghost_name ≡ link.old.ports.ghost_name }
+    ensures ok { IsOk result → link.old.has_failed ≡ false → Has P.asked link.old.ports.now AreHandled → (link.new.has_failed ≡ false) × Has P.asked link.new.ports.now AreHandled }
+    ensures err { IsErr result → link.old.has_failed ≡ false → Has P.asked link.old.ports.now AreHandled → Has P.asked link.new.ports.now (EndBy IsFailedAccept) }
+{
+    for _ in rt.forever() {
+        drive_on(rt, workers, core, link);
+        if link.has_failed() {
+            return Err(ServeFault::Listener);
+        }
+        if link.is_over() {
+            return Ok(());
+        }
+    }
+    unreachable!()
+}
+
+/// Drives the core until the link stops, with all workers where it asks for them.
+fn drive_on<R: Threads + Wait + Sync, P: Ports>(
+    rt: &R,
+    workers: usize,
+    core: &mut Core,
+    link: &mut Link<'_, P>,
+)
+    requires workers { (0 < workers) × (workers ≤ 16) }
+    ensures same_ports { link.new.ports.ghost_name ≡ link.old.ports.ghost_name }
+    ensures handled { link.old.has_failed ≡ false → Has P.asked link.old.ports.now AreHandled → link.new.has_failed ≡ false → Has P.asked link.new.ports.now AreHandled }
+    ensures halted { link.old.has_failed ≡ false → Has P.asked link.old.ports.now AreHandled → link.new.has_failed ≡ true → Has P.asked link.new.ports.now (EndBy IsFailedAccept) }
+{
+    if link.is_wide() {
+        drive_with(rt, workers, &Free, core, link);
+    } else {
+        drive(rt, core, link);
+    }
+}
+
+/// The number of a round since the last one in which the file of rules was read: 0 where it is to be
+/// read again.
+fn next_round(rounds: u16, reload: Option<u16>) -> u16 {
+    match reload {
+        None => 1,
+        Some(every) => {
+            let next = rounds.saturating_add(1);
+            if next >= every { 0 } else { next }
+        }
+    }
+}

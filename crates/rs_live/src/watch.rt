@@ -1,0 +1,186 @@
+//! What has become of each client between two rounds, told in reports: at most one of each client in a
+//! second, so that no member can fill a disk.
+
+ghost use Rattle.std.specs.Prelude.{◌≡◌};
+ghost use Rattle.rs_live.specs.Handled.{Has, AreHandled};
+
+use crate::link::Link;
+use crate::ports::Ports;
+use crate::rations::Ration;
+use crate::reports::Report;
+use rs_core::Core;
+use std::alloc::{AllocError, Global};
+
+/// What was told of a client.
+#[derive(Clone, Copy)]
+struct Told {
+    /// Its session was Established.
+    is_up: bool,
+    /// How many of its UPDATEs were at fault.
+    faulted: u64,
+    reports: Ration<Report>,
+}
+
+/// What was told of each client.
+#[derive(Drop)]
+pub struct Watch {
+    all: Vec<Told>,
+    strangers: Option<u64>,
+}
+
+/// What a client's session is, where it is Established.
+fn up(core: &Core, client: usize) -> Option<Report> {
+    if client >= core.clients() {
+        return None;
+    }
+    Some(Report::Up {
+        client,
+        mode: core.mode(client)?,
+        limit: core.limit(client)?,
+        hold: core.hold(client)?,
+    })
+}
+
+/// How the last session of a client ended.
+fn down(core: &Core, client: usize) -> Report {
+    let ending = if client < core.clients() {
+        core.ending(client)
+    } else {
+        None
+    };
+    Report::Down { client, ending }
+}
+
+/// Tells how many reports of a client were left out, where there are some.
+fn tell_left_out<P: Ports>(link: &mut Link<'_, P>, client: usize, count: u64)
+    ensures same_ports { link.new.ports.ghost_name ≡ link.old.ports.ghost_name }
+    ensures failed { link.new.has_failed ≡ link.old.has_failed }
+    ensures handled { Has P.asked link.old.ports.now AreHandled → Has P.asked link.new.ports.now AreHandled }
+{
+    if count > 0 {
+        link.log(&Report::LeftOut { client, count });
+    }
+}
+
+impl Told {
+    /// Tells a report, now or in a later second.
+    fn tell<P: Ports>(&mut self, link: &mut Link<'_, P>, client: usize, report: &Report)
+        ensures same_ports { link.new.ports.ghost_name ≡ link.old.ports.ghost_name }
+        ensures failed { link.new.has_failed ≡ link.old.has_failed }
+        ensures handled { Has P.asked link.old.ports.now AreHandled → Has P.asked link.new.ports.now AreHandled }
+    {
+        self.reports.put(*report);
+        self.tell_waiting(link, client);
+    }
+
+    /// Tells the report that waits for this second, behind the count of those that were left out.
+    fn tell_waiting<P: Ports>(&mut self, link: &mut Link<'_, P>, client: usize)
+        ensures same_ports { link.new.ports.ghost_name ≡ link.old.ports.ghost_name }
+        ensures failed { link.new.has_failed ≡ link.old.has_failed }
+        ensures handled { Has P.asked link.old.ports.now AreHandled → Has P.asked link.new.ports.now AreHandled }
+    {
+        if let Some(due) = self.reports.take(link.now()) {
+            tell_left_out(link, client, due.left_out);
+            link.log(&due.item);
+        }
+    }
+
+    /// Tells the end of a client's session, where one ended.
+    fn tell_end<P: Ports>(&mut self, core: &Core, link: &mut Link<'_, P>, client: usize)
+        ensures same_ports { link.new.ports.ghost_name ≡ link.old.ports.ghost_name }
+        ensures failed { link.new.has_failed ≡ link.old.has_failed }
+        ensures handled { Has P.asked link.old.ports.now AreHandled → Has P.asked link.new.ports.now AreHandled }
+    {
+        if link.take_ended(client) {
+            self.is_up = false;
+            self.tell(link, client, &down(core, client));
+        }
+    }
+
+    /// Tells the begin of a client's session, where one is Established.
+    fn tell_begin<P: Ports>(&mut self, core: &Core, link: &mut Link<'_, P>, client: usize)
+        ensures same_ports { link.new.ports.ghost_name ≡ link.old.ports.ghost_name }
+        ensures failed { link.new.has_failed ≡ link.old.has_failed }
+        ensures handled { Has P.asked link.old.ports.now AreHandled → Has P.asked link.new.ports.now AreHandled }
+    {
+        if self.is_up {
+            return;
+        }
+        if let Some(report) = up(core, client) {
+            self.is_up = true;
+            self.tell(link, client, &report);
+        }
+    }
+
+    /// Tells of the UPDATEs that were not taken as they came, where there are more than were told and
+    /// there was no report in this second.
+    fn tell_faulted<P: Ports>(&mut self, core: &Core, link: &mut Link<'_, P>, client: usize)
+        ensures same_ports { link.new.ports.ghost_name ≡ link.old.ports.ghost_name }
+        ensures failed { link.new.has_failed ≡ link.old.has_failed }
+        ensures handled { Has P.asked link.old.ports.now AreHandled → Has P.asked link.new.ports.now AreHandled }
+    {
+        if client >= core.clients() || !self.reports.is_free(link.now()) {
+            return;
+        }
+        let faulted = core.faulted(client);
+        let count = faulted.count.saturating_sub(self.faulted);
+        if count > 0 {
+            self.faulted = faulted.count;
+            let last = faulted.last;
+            self.tell(
+                link,
+                client,
+                &Report::Faulted {
+                    client,
+                    count,
+                    last,
+                },
+            );
+        }
+    }
+}
+
+impl Watch {
+    /// Nothing was told of so many clients.
+    pub fn new(alloc: Global, count: usize) -> Result<Watch, AllocError> {
+        let nothing = Told {
+            is_up: false,
+            faulted: 0,
+            reports: Ration::new(),
+        };
+        Ok(Watch {
+            all: vec![in alloc; nothing; count]?,
+            strangers: None,
+        })
+    }
+
+    /// Tells what has changed since the last call.
+    pub fn tell<P: Ports>(&mut self, core: &Core, link: &mut Link<'_, P>)
+        ensures same_ports { link.new.ports.ghost_name ≡ link.old.ports.ghost_name }
+        ensures failed { link.new.has_failed ≡ link.old.has_failed }
+        ensures handled { Has P.asked link.old.ports.now AreHandled → Has P.asked link.new.ports.now AreHandled }
+    {
+        self.tell_strangers(link);
+        for (client, told) in self.all.iter_mut().enumerate() {
+            told.tell_waiting(link, client);
+            told.tell_end(core, link, client);
+            told.tell_begin(core, link, client);
+            told.tell_faulted(core, link, client);
+        }
+    }
+
+    /// Tells of connections of strangers, at most once in a second.
+    fn tell_strangers<P: Ports>(&mut self, link: &mut Link<'_, P>)
+        ensures same_ports { link.new.ports.ghost_name ≡ link.old.ports.ghost_name }
+        ensures failed { link.new.has_failed ≡ link.old.has_failed }
+        ensures handled { Has P.asked link.old.ports.now AreHandled → Has P.asked link.new.ports.now AreHandled }
+    {
+        if self.strangers == Some(link.now()) {
+            return;
+        }
+        if let Some((address, count)) = link.take_strangers() {
+            self.strangers = Some(link.now());
+            link.log(&Report::Strangers { address, count });
+        }
+    }
+}

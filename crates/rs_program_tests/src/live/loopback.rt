@@ -1,0 +1,54 @@
+//! The server over sockets on loopback.
+
+use crate::live::rounds::{COMING_UP, KEEPALIVE, OPEN_A, OPEN_B, UPDATE, until};
+use rs_live::names::Names;
+use rs_live::seats::listeners;
+use rs_live::serve::serve;
+use rs_live::sockets::Sockets;
+use rs_policy::Config;
+use std::io::{Read, Write};
+use std::net::{Ipv4Addr, SocketAddr, SocketAddrV4, TcpStream};
+use std::test::Fail;
+use std::{io, thread};
+
+const TWO: &str = "as = 64500\nidentifier = \"192.0.2.1\"\n\
+[[client]]\nname = \"a\"\nas = 64496\nlisten = \"127.0.0.1:17931\"\npeer = \"127.0.0.1\"\n\
+[[client]]\nname = \"b\"\nas = 64497\nlisten = \"127.0.0.1:17932\"\npeer = \"127.0.0.1\"\n";
+
+/// A member that has come up.
+fn come_up(rt: &HostRuntime, port: u16, open: &[u8]) -> io::Result<TcpStream> {
+    let address = SocketAddrV4::new(Ipv4Addr::LOCALHOST, port);
+    let mut stream = TcpStream::connect(rt, SocketAddr::V4(address))?;
+    stream.write_all(open)?;
+    stream.write_all(KEEPALIVE)?;
+    let mut heard = [0u8; COMING_UP];
+    stream.read_exact(&mut heard)?;
+    Ok(stream)
+}
+
+/// What b is sent of the route that a announces.
+fn exchange(rt: &HostRuntime) -> io::Result<[u8; 47]> {
+    let mut a = come_up(rt, 17931, OPEN_A)?;
+    let mut b = come_up(rt, 17932, OPEN_B)?;
+    a.write_all(UPDATE)?;
+    let mut heard = [0u8; 47];
+    b.read_exact(&mut heard)?;
+    Ok(heard)
+}
+
+#[test]
+fn a_route_goes_over_sockets(rt: HostRuntime) -> Result<(), Fail> {
+    let alloc = rt.alloc();
+    let config = Config::read(alloc, TWO)?;
+    let names = Names::of(alloc, &config)?;
+    let addresses = listeners(alloc, &config)?;
+    let mut ports = Sockets::listen(&rt, alloc, "", &names, false, &addresses)?;
+    let (served, heard) = thread::join(
+        &rt,
+        || serve(&rt, alloc, &mut ports, config, until(2)),
+        || exchange(&rt),
+    );
+    assert_eq!(rt; heard?.as_slice(), UPDATE);
+    assert!(rt; served.is_ok());
+    Ok(())
+}

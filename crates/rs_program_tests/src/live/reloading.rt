@@ -1,0 +1,54 @@
+//! Rules that are read again while the server runs.
+
+use crate::live::rounds::{
+    A, B, COMING_UP, OPEN_A, OPEN_B, THREE, UPDATE, WITHDRAWAL, behind, comes_up, served,
+};
+use crate::live::script::{Script, sent};
+use rs_live::ports::Line;
+use rs_live::serve::Limits;
+use std::alloc::Global;
+use std::process::Abort;
+
+/// The same members, and what a sends goes to nobody.
+const NOTHING_OF_A: &str = "as = 64500\nidentifier = \"192.0.2.1\"\n\
+[[client]]\nname = \"a\"\nas = 64496\nlisten = \"127.0.0.1:17901\"\npeer = \"192.0.2.11\"\nimport = [{ action = \"drop\" }]\n\
+[[client]]\nname = \"b\"\nas = 64497\nlisten = \"127.0.0.1:17902\"\npeer = \"192.0.2.12\"\n\
+[[client]]\nname = \"c\"\nas = 64498\nlisten = \"127.0.0.1:17902\"\npeer = \"192.0.2.13\"\n";
+
+/// Two members, of whom a announces a route; what a sends goes to nobody from the tenth round on.
+fn changing(rt: &impl Abort, alloc: Global) -> Script {
+    let mut ports = Script::new(alloc, 0);
+    ports.text = THREE.as_bytes();
+    ports.later = Some((10, NOTHING_OF_A.as_bytes()));
+    let [open, keepalive] = comes_up(OPEN_A);
+    ports.wire(rt, 0, A, &[open, keepalive, behind(UPDATE)], COMING_UP);
+    ports.stay(0, 30);
+    let until = COMING_UP + UPDATE.len() + WITHDRAWAL.len();
+    ports.wire(rt, 1, B, &comes_up(OPEN_B), until);
+    ports
+}
+
+/// How often the server says that it took the rules that it read.
+fn accepted(said: &[Line]) -> usize {
+    said.iter()
+        .filter(|line| **line == Line::Rules(Ok(())))
+        .count()
+}
+
+#[test]
+fn a_text_is_handed_over_at_first_and_when_it_changes(rt: HostRuntime) {
+    let mut ports = changing(&rt, rt.alloc());
+    let limits = Limits {
+        workers: 1,
+        sessions: Some(2),
+        reload: Some(2),
+    };
+    served(&rt, rt.alloc(), &mut ports, limits);
+    let told = COMING_UP + UPDATE.len();
+    sent(&rt, ports.heard(1).get(COMING_UP..told), UPDATE);
+    sent(&rt, ports.heard(1).get(told..), WITHDRAWAL);
+    // The first reading, and the one behind the change; b was sent the withdrawal while a was there.
+    assert_eq!(rt; accepted(&ports.said), 2);
+    assert!(rt; ports.said.ends_with(&[Line::Lost(1), Line::Lost(0)]));
+    ports.let_go();
+}

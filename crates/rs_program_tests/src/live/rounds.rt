@@ -1,0 +1,300 @@
+//! Sessions over ports in memory.
+
+ghost use Rattle.std.specs.Prelude.{◌≡◌};
+
+use crate::live::script::{Broken, Said, Script, sent};
+use rs_attrs::{AttributeFault, Cause, Faulted};
+use rs_live::ports::Line;
+use rs_live::reports::Report;
+use rs_live::serve::{Limits, ServeFault, serve};
+use rs_policy::Config;
+use std::alloc::Global;
+use std::process::Abort;
+use std::sync::Wait;
+use std::thread::Threads;
+
+/// Two members, and a third that is never there.
+pub const THREE: &str = "as = 64500\nidentifier = \"192.0.2.1\"\n\
+[[client]]\nname = \"a\"\nas = 64496\nlisten = \"127.0.0.1:17901\"\npeer = \"192.0.2.11\"\n\
+[[client]]\nname = \"b\"\nas = 64497\nlisten = \"127.0.0.1:17902\"\npeer = \"192.0.2.12\"\n\
+[[client]]\nname = \"c\"\nas = 64498\nlisten = \"127.0.0.1:17902\"\npeer = \"192.0.2.13\"\n";
+
+pub const A: u32 = 0xc000_020b;
+
+pub const B: u32 = 0xc000_020c;
+
+/// OPENs of AS 64496, identifier 192.0.2.11, and of AS 64497, identifier 192.0.2.12; Hold Time 90, and the
+/// capability for four-octet AS numbers.
+pub const OPEN_A: &[u8] =
+    b"\xff\xff\xff\xff\xff\xff\xff\xff\xff\xff\xff\xff\xff\xff\xff\xff\x00\x25\x01\x04\xfb\xf0\x00\x5a\xc0\x00\x02\x0b\x08\x02\x06\x41\x04\x00\x00\xfb\xf0";
+
+pub const OPEN_B: &[u8] =
+    b"\xff\xff\xff\xff\xff\xff\xff\xff\xff\xff\xff\xff\xff\xff\xff\xff\x00\x25\x01\x04\xfb\xf1\x00\x5a\xc0\x00\x02\x0c\x08\x02\x06\x41\x04\x00\x00\xfb\xf1";
+/// The first with Hold Time 0, by which there are no timers.
+const OPEN_HOLD_0: &[u8] =
+    b"\xff\xff\xff\xff\xff\xff\xff\xff\xff\xff\xff\xff\xff\xff\xff\xff\x00\x25\x01\x04\xfb\xf0\x00\x00\xc0\x00\x02\x0b\x08\x02\x06\x41\x04\x00\x00\xfb\xf0";
+/// The server's OPEN.
+pub const OPEN_S: &[u8] =
+    b"\xff\xff\xff\xff\xff\xff\xff\xff\xff\xff\xff\xff\xff\xff\xff\xff\x00\x25\x01\x04\xfb\xf4\x00\x5a\xc0\x00\x02\x01\x08\x02\x06\x41\x04\x00\x00\xfb\xf4";
+
+pub const KEEPALIVE: &[u8] =
+    b"\xff\xff\xff\xff\xff\xff\xff\xff\xff\xff\xff\xff\xff\xff\xff\xff\x00\x13\x04";
+/// 198.51.100.0/24 with ORIGIN IGP, AS_PATH 64496 and NEXT_HOP 192.0.2.11.
+pub const UPDATE: &[u8] =
+    b"\xff\xff\xff\xff\xff\xff\xff\xff\xff\xff\xff\xff\xff\xff\xff\xff\x00\x2f\x02\x00\x00\x00\x14\x40\x01\x01\x00\x40\x02\x06\x02\x01\x00\x00\xfb\xf0\x40\x03\x04\xc0\x00\x02\x0b\x18\xc6\x33\x64";
+/// 198.51.100.0/24 withdrawn.
+pub const WITHDRAWAL: &[u8] =
+    b"\xff\xff\xff\xff\xff\xff\xff\xff\xff\xff\xff\xff\xff\xff\xff\xff\x00\x1b\x02\x00\x04\x18\xc6\x33\x64\x00\x00";
+
+/// The octets of the server's OPEN and KEEPALIVE, by which a session comes up.
+pub const COMING_UP: usize = 37 + 19;
+
+/// One worker, and an end behind so many sessions.
+pub fn until(sessions: u64) -> Limits
+    ensures { result.workers ≡ 1 }
+{
+    Limits {
+        workers: 1,
+        sessions: Some(sessions),
+        reload: None,
+    }
+}
+
+/// What a member says to come up.
+pub fn comes_up(open: &'static [u8]) -> [Said; 2] {
+    [
+        Said {
+            octets: open,
+            behind: 0,
+        },
+        Said {
+            octets: KEEPALIVE,
+            behind: 37,
+        },
+    ]
+}
+
+/// What a member says once it has come up.
+pub fn behind(octets: &'static [u8]) -> Said {
+    Said {
+        octets,
+        behind: COMING_UP,
+    }
+}
+
+/// a announces a route once b is there; b closes when it was sent it, and then a does. This call fails.
+fn exchange(rt: &impl Abort, alloc: Global, failing: u64) -> Script {
+    let mut ports = Script::new(alloc, failing);
+    let [open, keepalive] = comes_up(OPEN_A);
+    ports.wire(rt, 0, A, &[open, keepalive, behind(UPDATE)], COMING_UP);
+    ports.stay(0, 20);
+    let until = COMING_UP + UPDATE.len();
+    ports.wire(rt, 1, B, &comes_up(OPEN_B), until);
+    ports
+}
+
+/// How the server ends over these ports.
+fn ended<R: Abort + Threads + Wait + Sync>(
+    rt: &R,
+    alloc: Global,
+    ports: &mut Script,
+    limits: Limits,
+) -> Result<(), ServeFault> {
+    assert!(rt; 0 < limits.workers && limits.workers <= 16);
+    let config = Config::read(alloc, THREE).expect(rt, "a configuration");
+    serve(rt, alloc, ports, config, limits)
+}
+
+/// The server's part in an exchange.
+pub fn served<R: Abort + Threads + Wait + Sync>(
+    rt: &R,
+    alloc: Global,
+    ports: &mut Script,
+    limits: Limits,
+) {
+    assert_eq!(rt; ended(rt, alloc, ports, limits), Ok(()));
+}
+
+#[test]
+fn a_route_goes_from_one_member_to_the_other(rt: HostRuntime) {
+    let mut ports = exchange(&rt, rt.alloc(), 0);
+    served(&rt, rt.alloc(), &mut ports, until(2));
+    sent(&rt, ports.heard(1).get(..37), OPEN_S);
+    sent(&rt, ports.heard(1).get(37..COMING_UP), KEEPALIVE);
+    sent(&rt, ports.heard(1).get(COMING_UP..), UPDATE);
+    sent(&rt, ports.heard(0).get(COMING_UP..), &[]);
+    assert!(rt; ports.wires.iter().all(|wire| !wire.is_open));
+    ports.let_go();
+}
+
+#[test]
+fn strangers_and_second_connections_are_closed(rt: HostRuntime) {
+    let mut ports = exchange(&rt, rt.alloc(), 0);
+    ports.wire(&rt, 1, A, &[], 0);
+    ports.wire(&rt, 0, A, &[], 0);
+    served(&rt, rt.alloc(), &mut ports, until(2));
+    let lines = [
+        Line::Begin(0),
+        Line::Begin(1),
+        Line::Stranger,
+        Line::Busy(0),
+    ];
+    ports.says_first(&rt, &lines);
+    sent(&rt, ports.heard(1).get(COMING_UP..), UPDATE);
+    assert!(rt; !ports.reports.is_empty());
+    ports.let_go();
+}
+
+#[test]
+fn strangers_without_end_keep_nobody_waiting(rt: HostRuntime) {
+    let mut ports = exchange(&rt, rt.alloc(), 0);
+    ports.is_flooded = true;
+    served(&rt, rt.alloc(), &mut ports, until(2));
+    sent(&rt, ports.heard(1).get(COMING_UP..), UPDATE);
+    assert!(rt; ports.said.contains(&Line::Stranger));
+    assert_eq!(rt; ports.most_accepts, 64);
+    ports.let_go();
+}
+
+/// The client whose connection has this key in the exchange with a's second connection.
+fn client_of(key: usize) -> usize {
+    if key == 1 { 1 } else { 0 }
+}
+
+/// The session of a connection is lost, and the connection is closed.
+fn is_lost(rt: &impl Abort, ports: &Script, key: usize) {
+    let lost = Line::Lost(client_of(key));
+    assert!(rt; ports.said.contains(&lost), "of connection {key}");
+    let wire = ports.wires.get(key).expect(rt, "a connection");
+    assert!(rt; !wire.is_open, "connection {key}");
+}
+
+/// The server ends as it is to behind a call that failed.
+fn ends_by(rt: &impl Abort, ports: &Script, broken: Broken, ended: Result<(), ServeFault>) {
+    match broken {
+        Broken::Wait => assert_eq!(rt; ended, Err(ServeFault::Poll)),
+        Broken::Accept => assert_eq!(rt; ended, Err(ServeFault::Listener)),
+        Broken::Read(key) | Broken::Write(key) => {
+            assert_eq!(rt; ended, Ok(()));
+            is_lost(rt, ports, key);
+        }
+    }
+}
+
+/// The exchange with a second connection of a, of which this call fails; whether there were so many.
+fn breaks<R: Abort + Threads + Wait + Sync>(rt: &R, alloc: Global, failing: u64) -> bool {
+    let mut ports = exchange(rt, alloc, failing);
+    ports.wire(rt, 0, A, &comes_up(OPEN_A), COMING_UP);
+    ports.end = 40;
+    let ended = ended(rt, alloc, &mut ports, until(2));
+    match ports.broken {
+        None => assert_eq!(rt; ended, Ok(())),
+        Some(broken) => ends_by(rt, &ports, broken, ended),
+    }
+    ports.broken.is_some()
+}
+
+#[test]
+fn each_call_that_fails_ends_one_session_or_the_server(rt: HostRuntime) {
+    for failing in 1..1000 {
+        if !breaks(&rt, rt.alloc(), failing) {
+            assert!(rt; failing > 30);
+            return;
+        }
+    }
+    assert!(rt; false, "the run goes on for ever");
+}
+
+/// a says this once it has come up, and stays for 30 seconds; the server's part.
+fn hears_of_a<R: Abort + Threads + Wait + Sync>(rt: &R, alloc: Global, says: &[Said]) -> Script {
+    let mut ports = Script::new(alloc, 0);
+    ports.wire(rt, 0, A, says, COMING_UP);
+    ports.stay(0, 30);
+    ports.pace = 1;
+    served(rt, alloc, &mut ports, until(1));
+    ports
+}
+
+/// 198.51.100.0/24 with an ORIGIN of 3, which no route has.
+const BAD_ORIGIN: &[u8] =
+    b"\xff\xff\xff\xff\xff\xff\xff\xff\xff\xff\xff\xff\xff\xff\xff\xff\x00\x2f\x02\x00\x00\x00\x14\x40\x01\x01\x03\x40\x02\x06\x02\x01\x00\x00\xfb\xf0\x40\x03\x04\xc0\x00\x02\x0b\x18\xc6\x33\x64";
+
+/// a's ORIGIN is told as malformed, and nothing else; how many UPDATEs the report counts.
+fn faulty_origins(rt: &impl Abort, report: &Report) -> Option<u64> {
+    let Report::Faulted {
+        client,
+        count,
+        last,
+    } = report
+    else {
+        return None;
+    };
+    let wanted = AttributeFault {
+        kind: 1,
+        cause: Cause::Value,
+    };
+    assert_eq!(rt; *client, 0);
+    assert_eq!(rt; last.withdraw, Some(wanted));
+    assert_eq!(rt; last.discard, None);
+    Some(*count)
+}
+
+/// How many reports tell of faulty UPDATEs, and how many UPDATEs they count.
+fn faulty(rt: &impl Abort, reports: &[Report]) -> (u64, u64) {
+    let mut lines = 0u64;
+    let mut updates = 0u64;
+    for report in reports {
+        if let Some(count) = faulty_origins(rt, report) {
+            lines = lines.saturating_add(1);
+            updates = updates.saturating_add(count);
+        }
+    }
+    (lines, updates)
+}
+
+#[test]
+fn faulty_updates_are_reported_once_a_second(rt: HostRuntime) {
+    let [open, keepalive] = comes_up(OPEN_A);
+    let bad = behind(BAD_ORIGIN);
+    let ports = hears_of_a(&rt, rt.alloc(), &[open, keepalive, bad, bad, bad]);
+    // All three were heard in one round, so in one second.
+    assert_eq!(rt; faulty(&rt, &ports.reports), (1, 3));
+    ports.let_go();
+}
+
+/// The same route with ORIGIN IGP, and without NEXT_HOP.
+const NO_NEXT_HOP: &[u8] =
+    b"\xff\xff\xff\xff\xff\xff\xff\xff\xff\xff\xff\xff\xff\xff\xff\xff\x00\x28\x02\x00\x00\x00\x0d\x40\x01\x01\x00\x40\x02\x06\x02\x01\x00\x00\xfb\xf0\x18\xc6\x33\x64";
+
+#[test]
+fn a_route_without_next_hop_is_reported(rt: HostRuntime) {
+    let [open, keepalive] = comes_up(OPEN_A);
+    let bad = behind(NO_NEXT_HOP);
+    let ports = hears_of_a(&rt, rt.alloc(), &[open, keepalive, bad]);
+    let told = Report::Faulted {
+        client: 0,
+        count: 1,
+        last: Faulted {
+            withdraw: Some(AttributeFault {
+                kind: 3,
+                cause: Cause::Missing,
+            }),
+            discard: None,
+        },
+    };
+    assert!(rt; ports.reports.contains(&told));
+    ports.let_go();
+}
+
+#[test]
+fn a_member_that_takes_nothing_is_lost_behind_the_send_hold_time(rt: HostRuntime) {
+    let mut ports = Script::new(rt.alloc(), 0);
+    let [open, _] = comes_up(OPEN_HOLD_0);
+    ports.wire(&rt, 0, A, &[open], 1);
+    ports.deafen(0);
+    ports.pace = 60;
+    served(&rt, rt.alloc(), &mut ports, until(1));
+    assert_eq!(rt; ports.said.len(), 2);
+    ports.says_first(&rt, &[Line::Begin(0), Line::Lost(0)]);
+    ports.let_go();
+}

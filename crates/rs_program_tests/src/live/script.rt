@@ -1,0 +1,272 @@
+//! Ports in memory: members that say what a script has, and a call that fails where it is wanted.
+
+use rs_live::ports::{Caller, Line, PortFault, Ports};
+use rs_live::reports::Report;
+use std::alloc::Global;
+use std::process::Abort;
+
+/// A connection from an address that is nobody's.
+const STRANGER: Caller = Caller {
+    listener: 0,
+    address: 0xcb00_7101,
+    key: usize::MAX,
+};
+
+/// Octets that a member says once it was sent so many.
+#[derive(Clone, Copy)]
+pub struct Said {
+    pub octets: &'static [u8],
+    pub behind: usize,
+}
+
+/// A connection of a member.
+#[derive(Drop)]
+pub struct Wire {
+    caller: Caller,
+    says: Vec<Said>,
+    given: usize,
+    /// The member closes once it has said all and was sent so many octets, and not before this round.
+    until: usize,
+    stays: u64,
+    /// It takes no octets.
+    is_deaf: bool,
+    pub heard: Vec<u8>,
+    pub is_open: bool,
+}
+
+/// The call that failed.
+#[derive(Clone, Copy, Debug, PartialEq, Eq)]
+pub enum Broken {
+    Wait,
+    Accept,
+    /// A read of the connection with this key.
+    Read(usize),
+    /// A write to it.
+    Write(usize),
+}
+
+/// Ports whose `failing`th call of those that can fail does.
+#[derive(Drop)]
+pub struct Script {
+    alloc: Global,
+    pub wires: Vec<Wire>,
+    accepted: usize,
+    /// Behind them strangers come without end.
+    pub is_flooded: bool,
+    /// How many connections this round has accepted, and the most that any has.
+    accepts: u64,
+    pub most_accepts: u64,
+    calls: u64,
+    failing: u64,
+    pub broken: Option<Broken>,
+    /// In this round all members close.
+    pub end: u64,
+    /// How many seconds pass in each round.
+    pub pace: u64,
+    rounds: u64,
+    pub text: &'static [u8],
+    /// What the text is from this round on.
+    pub later: Option<(u64, &'static [u8])>,
+    pub said: Vec<Line>,
+    pub reports: Vec<Report>,
+}
+
+impl Script {
+    pub fn new(alloc: Global, failing: u64) -> Script {
+        Script {
+            alloc,
+            wires: Vec::new(alloc),
+            accepted: 0,
+            is_flooded: false,
+            accepts: 0,
+            most_accepts: 0,
+            calls: 0,
+            failing,
+            broken: None,
+            end: u64::MAX,
+            pace: 0,
+            rounds: 0,
+            text: b"",
+            later: None,
+            said: Vec::new(alloc),
+            reports: Vec::new(alloc),
+        }
+    }
+
+    /// A connection that comes from this address.
+    pub fn wire(
+        &mut self,
+        rt: &impl Abort,
+        listener: usize,
+        address: u32,
+        says: &[Said],
+        until: usize,
+    ) {
+        let key = self.wires.len();
+        let wire = Wire {
+            caller: Caller {
+                listener,
+                address,
+                key,
+            },
+            says: Vec::from_slice(self.alloc, says).expect(rt, "what it says"),
+            given: 0,
+            until,
+            stays: 0,
+            is_deaf: false,
+            heard: Vec::new(self.alloc),
+            is_open: false,
+        };
+        self.wires.push(wire).expect(rt, "a connection");
+    }
+
+    /// The member of this connection doesn't close before this round.
+    pub fn stay(&mut self, key: usize, round: u64) {
+        if let Some(wire) = self.wires.get_mut(key) {
+            wire.stays = round;
+        }
+    }
+
+    /// The member of this connection takes no octets from now on.
+    pub fn deafen(&mut self, key: usize) {
+        if let Some(wire) = self.wires.get_mut(key) {
+            wire.is_deaf = true;
+        }
+    }
+
+    /// What was sent on a connection.
+    pub fn heard(&self, key: usize) -> &[u8] {
+        match self.wires.get(key) {
+            Some(wire) => &wire.heard,
+            None => &[],
+        }
+    }
+
+    /// What the server says first.
+    pub fn says_first(&self, rt: &impl Abort, lines: &[Line]) {
+        assert!(rt; self.said.starts_with(lines));
+    }
+
+    /// Lets it go in one call, which is one step of a test, and not one for each of its lists.
+    pub fn let_go(self) {}
+
+    /// A connection is accepted.
+    fn count_accept(&mut self) {
+        self.accepts = self.accepts.saturating_add(1);
+        self.most_accepts = self.most_accepts.max(self.accepts);
+    }
+
+    /// Counts a call, and answers whether it fails.
+    fn fails(&mut self, call: Broken) -> bool {
+        self.calls = self.calls.saturating_add(1);
+        let fails = self.calls == self.failing;
+        if fails {
+            self.broken = Some(call);
+        }
+        fails
+    }
+}
+
+/// These octets of what was sent on a connection.
+pub fn sent(rt: &impl Abort, octets: Option<&[u8]>, want: &[u8]) {
+    assert_eq!(rt; octets, Some(want));
+}
+
+impl Ports for Script {
+    ghost asked = { λ ports calls. Unit {0} };
+
+    fn wait(&mut self, _pause: bool) -> Result<(), PortFault> {
+        self.rounds = self.rounds.saturating_add(1);
+        self.accepts = 0;
+        if self.fails(Broken::Wait) {
+            return Err(PortFault);
+        }
+        Ok(())
+    }
+
+    fn accept(&mut self) -> Result<Option<Caller>, PortFault> {
+        if self.fails(Broken::Accept) {
+            return Err(PortFault);
+        }
+        let caller = match self.wires.get_mut(self.accepted) {
+            None if self.is_flooded => STRANGER,
+            None => return Ok(None),
+            Some(wire) => {
+                self.accepted = self.accepted.saturating_add(1);
+                wire.is_open = true;
+                wire.caller
+            }
+        };
+        self.count_accept();
+        Ok(Some(caller))
+    }
+
+    fn read(&mut self, key: usize, piece: &mut [u8; 4096]) -> Result<Option<usize>, PortFault> {
+        if self.fails(Broken::Read(key)) {
+            return Err(PortFault);
+        }
+        let Some(wire) = self.wires.get_mut(key) else {
+            return Ok(None);
+        };
+        if self.rounds >= self.end {
+            return Ok(Some(0));
+        }
+        let Some(said) = wire.says.get(wire.given) else {
+            let is_done = wire.heard.len() >= wire.until && self.rounds >= wire.stays;
+            return Ok(if is_done { Some(0) } else { None });
+        };
+        if wire.heard.len() < said.behind {
+            return Ok(None);
+        }
+        wire.given = wire.given.saturating_add(1);
+        let n = said.octets.len().min(4096);
+        piece[..n].copy_from_slice(&said.octets[..n]);
+        Ok(Some(n))
+    }
+
+    fn write(&mut self, key: usize, octets: &[u8]) -> Result<Option<usize>, PortFault> {
+        if self.fails(Broken::Write(key)) {
+            return Err(PortFault);
+        }
+        let Some(wire) = self.wires.get_mut(key) else {
+            return Ok(None);
+        };
+        if wire.is_deaf {
+            return Ok(None);
+        }
+        match wire.heard.extend_from_slice(octets) {
+            Ok(()) => Ok(Some(octets.len())),
+            Err(_) => Err(PortFault),
+        }
+    }
+
+    fn close(&mut self, key: usize) {
+        if let Some(wire) = self.wires.get_mut(key) {
+            wire.is_open = false;
+        }
+    }
+
+    fn seconds(&mut self) -> u64 {
+        self.rounds.saturating_mul(self.pace)
+    }
+
+    fn text(&mut self, text: &mut Vec<u8>) -> Result<(), PortFault> {
+        let octets = match self.later {
+            Some((round, octets)) if self.rounds >= round => octets,
+            _ => self.text,
+        };
+        text.clear();
+        match text.extend_from_slice(octets) {
+            Ok(()) => Ok(()),
+            Err(_) => Err(PortFault),
+        }
+    }
+
+    fn say(&mut self, line: &Line) {
+        let _ = self.said.push(*line);
+    }
+
+    fn log(&mut self, report: &Report) {
+        let _ = self.reports.push(*report);
+    }
+}

@@ -1,0 +1,181 @@
+//! A reader and a writer that give and take little at a time, and fail from a chosen call on.
+
+ghost use Rattle.std.specs.Prelude.{Some};
+ghost use Rattle.std.specs.Io.KnownBytes.{Consumes, Appends, IsAtEnd};
+ghost use Rattle.std.proofs.KnownBytes.{Consumes-nil, Consumes-trans, Appends-nil, Appends-trans};
+ghost use Rattle.rs_trace.specs.Texts.{IsKnown, none_left};
+
+use super::MEMBERS;
+use rs_policy::Config;
+use rs_trace::fault::ReplayFault;
+use rs_trace::progress::Unwatched;
+use rs_trace::replay::replay;
+use rs_trace::text::{Failed, OverRead, OverWrite, TextIn, TextOut};
+use std::alloc::Global;
+use std::test::Fail;
+
+#[derive(Drop)]
+struct FailingIn<'a> {
+    text: &'a [u8],
+    good_calls: u64,
+    failures: u64,
+}
+
+impl TextIn for FailingIn<'_> {
+    ghost failures = { λ a. a.failures };
+
+    ghost takes = { λ a octets b. Consumes (Some a.text.now) (Some b.text.now) octets };
+
+    ghost at_end = { λ a. IsAtEnd (Some a.text.now) };
+
+    ghost is_known = { λ a. IsKnown (Some a.text.now) };
+
+    ghost takes_none = { λ a. Consumes-nil (Some a.text.now) };
+
+    ghost takes_on = { λ a b c xs ys. Consumes-trans (Some a.text.now) (Some b.text.now) (Some c.text.now) xs ys };
+
+    ghost none_behind_end = { λ a b xs known end taken. none_left (Some a.text.now) (Some b.text.now) xs known end taken };
+
+    fn read(&mut self, room: &mut [u8]) -> Result<usize, Failed> {
+        if self.failures < u64::MAX && self.good_calls > 0 {
+            self.good_calls -= 1;
+            let size = self.text.len().min(room.len()).min(7);
+            let (front, rest) = self.text.split_at(size);
+            room[..size].copy_from_slice(front);
+            self.text = rest;
+            return Ok(size);
+        }
+        self.failures = self.failures.saturating_add(1);
+        Err(Failed)
+    }
+}
+
+#[derive(Drop)]
+struct FailingOut {
+    text: Vec<u8>,
+    good_calls: u64,
+    failures: u64,
+}
+
+impl TextOut for FailingOut {
+    ghost failures = { λ a. a.failures };
+
+    ghost puts = { λ a octets b. Appends (Some a.text.items) (Some b.text.items) octets };
+
+    ghost puts_none = { λ a. Appends-nil (Some a.text.items) };
+
+    ghost puts_on = { λ a b c xs ys. Appends-trans (Some a.text.items) (Some b.text.items) (Some c.text.items) xs ys };
+
+    fn write(&mut self, octets: &[u8]) -> Result<usize, Failed> {
+        if self.failures < u64::MAX && self.good_calls > 0 {
+            self.good_calls -= 1;
+            let size = octets.len().min(5);
+            if self.text.extend_from_slice(&octets[..size]).is_ok() {
+                return Ok(size);
+            }
+        }
+        self.failures = self.failures.saturating_add(1);
+        Err(Failed)
+    }
+}
+
+/// Two clients, one after the other, and a line with a fault.
+const TRACE: &[u8] = b"open a\nroom a 40\nopen b\nroom b 40\n\n# end\nopen a\nturns\nturn\n";
+
+const WRITTEN: &[u8] =
+    b"sent a ffffffffffffffffffffffffffffffff00250104fbf4005ac000020108020641040000fbf4
+sent b ffffffffffffffffffffffffffffffff00250104fbf4005ac000020108020641040000fbf4
+busy a
+line 8: unknown word
+";
+
+fn members(alloc: Global) -> Result<Config, Fail> {
+    Ok(Config::read(alloc, MEMBERS)?)
+}
+
+#[test]
+fn each_call_failing(rt: HostRuntime) -> Result<(), Fail> {
+    let alloc = rt.alloc();
+    let mut reading_failed = 0u64;
+    let mut writing_failed = 0u64;
+    for good_calls in 0..60u64 {
+        let mut reader = FailingIn {
+            text: TRACE,
+            good_calls,
+            failures: 0,
+        };
+        let mut writer = FailingOut {
+            text: Vec::new(alloc),
+            good_calls: 60,
+            failures: 0,
+        };
+        let played = replay(
+            &rt,
+            alloc,
+            &mut reader,
+            &mut writer,
+            &mut Unwatched,
+            members(alloc)?,
+            1,
+        );
+        assert!(rt; WRITTEN.starts_with(writer.text.as_slice()), "{good_calls}");
+        assert_eq!(rt; writer.failures, 0);
+        if reader.failures > 0 {
+            assert_eq!(rt; played, Err(ReplayFault::Reading), "{good_calls}");
+            reading_failed = reading_failed.saturating_add(1);
+        } else {
+            assert_eq!(rt; writer.text.as_slice(), WRITTEN, "{good_calls}");
+        }
+        let mut reader = OverRead::new(TRACE);
+        let mut writer = FailingOut {
+            text: Vec::new(alloc),
+            good_calls,
+            failures: 0,
+        };
+        let played = replay(
+            &rt,
+            alloc,
+            &mut reader,
+            &mut writer,
+            &mut Unwatched,
+            members(alloc)?,
+            1,
+        );
+        assert!(rt; WRITTEN.starts_with(writer.text.as_slice()), "{good_calls}");
+        if writer.failures > 0 {
+            assert_eq!(rt; played, Err(ReplayFault::Writing), "{good_calls}");
+            assert_eq!(rt; writer.failures, 1);
+            writing_failed = writing_failed.saturating_add(1);
+        } else {
+            assert_eq!(rt; writer.text.as_slice(), WRITTEN, "{good_calls}");
+        }
+    }
+    // The text up to its fault takes eight readings of seven octets, and the output 41 writings.
+    assert_eq!(rt; reading_failed, 8);
+    assert_eq!(rt; writing_failed, 41);
+    Ok(())
+}
+
+#[test]
+fn counts_that_are_full(rt: HostRuntime) -> Result<(), Fail> {
+    let mut reader = FailingIn {
+        text: TRACE,
+        good_calls: 60,
+        failures: u64::MAX,
+    };
+    let mut written = Vec::new(rt.alloc());
+    let mut writer = OverWrite::new(&mut written);
+    let played = replay(
+        &rt,
+        rt.alloc(),
+        &mut reader,
+        &mut writer,
+        &mut Unwatched,
+        members(rt.alloc())?,
+        1,
+    );
+    assert_eq!(rt; played, Err(ReplayFault::Reading));
+    assert_eq!(rt; reader.failures, u64::MAX);
+    assert_eq!(rt; reader.text, TRACE);
+    Ok(())
+}

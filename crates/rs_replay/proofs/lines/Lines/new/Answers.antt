@@ -1,5 +1,0 @@
-use Rattle.std.proofs.Common.{refl}
-use Rattle.rs_replay.proofs.lines.Lines.new.Goals as goal
-
-pub returns : goal.returns
-returns c = refl

@@ -1,5 +1,0 @@
-use Rattle.rs_served.proofs.Handling.{asks}
-use Rattle.rs_served.proofs.seats.Connection.close.Goals as goal
-
-pub returns-in-Some : goal.returns-in-Some
-returns-in-Some g c h = asks g.P.Ports.asked _ _ _ c.close.ensures tt h

@@ -1,5 +1,0 @@
-use Rattle.rs_served.proofs.Handling.{drops}
-use Rattle.rs_served.proofs.seats.Connection.finish.Goals as goal
-
-pub returns-in-Err : goal.returns-in-Err
-returns-in-Err g c h = drops g.P.Ports.asked _ _ _ c.close.ensures (c.in-Err.ensures.err h)

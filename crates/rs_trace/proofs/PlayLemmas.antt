@@ -1,0 +1,251 @@
+-- What was written, and where a replay stands, behind a line of output or a line of the trace.
+use Rattle.std.proofs.Common.{◌≡◌, ℕ, List, [], ◌∷◌, ◌++◌, take, drop, refl, sym, ◌∙◌, ap, true, false, inl, inr, Option, Some, None, append_assoc, subst}
+use Rattle.std.specs.Prelude.{Result, Ok, Err, OnOk, is_ok}
+use Rattle.std.proofs.lemmas.List.{append-nil, take-append-drop}
+use Rattle.rs_trace.specs.declared.fault.ReplayFault.TheVariants.{Line, Memory, Reading, Writing}
+use Rattle.rs_trace.specs.declared.fault.Stop.{Stop}
+use Rattle.rs_trace.specs.declared.names.Names.{Names}
+use Rattle.rs_trace.specs.declared.fault.Stop.TheVariants.{End, Table, Fault}
+use Rattle.rs_trace.specs.Lines as lines
+use Rattle.rs_trace.specs.Trace.{Saying, Listed}
+use Rattle.rs_trace.specs.Played.{SaysFirst, Stands, PutsFront, Puts, failed, failures_read, failures_written, GoesOn}
+use Rattle.rs_trace.specs.Replays.{Adds, Plays, TellsAs, FailsOn, ReadsOn, place_in}
+use Rattle.rs_trace.proofs.ReplayLemmas.{says_first_now, says_all, says_less}
+
+module _ (put : List ℕ → Type 0) (octets : List ℕ) where
+  -- what goes on has put all
+  pub puts_all : (stop : Option Stop) → failed stop ≡ false → Puts put octets stop → put octets
+  puts_all None h p = p
+  puts_all (Some End) h p = p
+  puts_all (Some (Table c)) h p = p
+  puts_all (Some (Fault (Line m fault))) h p = p
+  puts_all (Some (Fault Memory)) h p = let bad : true ≡ false = h in cc
+  puts_all (Some (Fault Reading)) h p = let bad : true ≡ false = h in cc
+  puts_all (Some (Fault Writing)) h p = let bad : true ≡ false = h in cc
+
+  pub all_put : (stop : Option Stop) → failed stop ≡ false → put octets → Puts put octets stop
+  all_put None h p = p
+  all_put (Some End) h p = p
+  all_put (Some (Table c)) h p = p
+  all_put (Some (Fault (Line m fault))) h p = p
+  all_put (Some (Fault Memory)) h p = let bad : true ≡ false = h in cc
+  all_put (Some (Fault Reading)) h p = let bad : true ≡ false = h in cc
+  all_put (Some (Fault Writing)) h p = let bad : true ≡ false = h in cc
+
+  more_front : (wanted : List ℕ) → PutsFront put octets → PutsFront put (octets ++ wanted)
+  more_front wanted p = (p.0, p.1 ++ wanted, ap (λ xs. xs ++ wanted) p.2 ∙ append_assoc p.0 p.1 wanted, p.3)
+
+  -- behind a failure a front stays one
+  pub puts_no_more : (wanted : List ℕ) (stop : Option Stop) → failed stop ≡ true → Puts put octets stop → Puts put (octets ++ wanted) stop
+  puts_no_more wanted None h p = let bad : false ≡ true = h in cc
+  puts_no_more wanted (Some End) h p = let bad : false ≡ true = h in cc
+  puts_no_more wanted (Some (Table c)) h p = let bad : false ≡ true = h in cc
+  puts_no_more wanted (Some (Fault (Line m fault))) h p = let bad : false ≡ true = h in cc
+  puts_no_more wanted (Some (Fault Memory)) h p = more_front wanted p
+  puts_no_more wanted (Some (Fault Reading)) h p = more_front wanted p
+  puts_no_more wanted (Some (Fault Writing)) h p = more_front wanted p
+
+  -- all that was put is a front of more
+  pub front_of_more : (wanted : List ℕ) → put octets → PutsFront put (octets ++ wanted)
+  front_of_more wanted p = (octets, wanted, refl, p)
+
+  -- and so is a part of what comes behind it
+  pub front_of_part : (wanted : List ℕ) (n : ℕ) → put (octets ++ take n wanted) → PutsFront put (octets ++ wanted)
+  front_of_part wanted n p =
+      (octets ++ take n wanted, drop n wanted, ap (λ xs. octets ++ xs) (sym (take-append-drop n wanted)) ∙ sym (append_assoc octets (take n wanted) (drop n wanted)), p)
+
+-- what goes on has met no failure
+pub none_read : (stop : Option Stop) (n : ℕ) → failed stop ≡ false → failures_read stop n ≡ n
+none_read None n h = refl
+none_read (Some End) n h = refl
+none_read (Some (Table c)) n h = refl
+none_read (Some (Fault (Line m fault))) n h = refl
+none_read (Some (Fault Memory)) n h = let bad : true ≡ false = h in cc
+none_read (Some (Fault Reading)) n h = let bad : true ≡ false = h in cc
+none_read (Some (Fault Writing)) n h = let bad : true ≡ false = h in cc
+
+pub none_written : (stop : Option Stop) (n : ℕ) → failed stop ≡ false → failures_written stop n ≡ n
+none_written None n h = refl
+none_written (Some End) n h = refl
+none_written (Some (Table c)) n h = refl
+none_written (Some (Fault (Line m fault))) n h = refl
+none_written (Some (Fault Memory)) n h = let bad : true ≡ false = h in cc
+none_written (Some (Fault Reading)) n h = let bad : true ≡ false = h in cc
+none_written (Some (Fault Writing)) n h = let bad : true ≡ false = h in cc
+
+module _ (place : List ℕ → Option ℕ) (text : List ℕ) (over : Type 0) (s : List Saying) (n : ℕ) (r : lines.Reading) where
+  -- wherever it stands, what was said is what the text says first
+  pub stands_first : (stop : Option Stop) → Stands place text over s n r stop → SaysFirst place text s
+  stands_first None h = says_first_now place text s n r h.0
+  stands_first (Some End) h = says_all place text s None h.0
+  stands_first (Some (Table c)) h = says_less place text s (Listed c ∷ []) (says_first_now place text (s ++ (Listed c ∷ [])) n r h.0)
+  stands_first (Some (Fault (Line m fault))) h = says_all place text s (Some (m, fault)) h.0
+  stands_first (Some (Fault Memory)) h = h
+  stands_first (Some (Fault Reading)) h = h
+  stands_first (Some (Fault Writing)) h = h
+
+  -- what was read was told
+  pub stands_told : (read told : List Saying) (stop : Option Stop) → GoesOn place text over (s ++ read) n r → TellsAs read told stop → Stands place text over (s ++ told) n r stop
+  stands_told read told None h t = subst (λ xs. GoesOn place text over (s ++ xs) n r) (sym t) h
+  stands_told read told (Some End) h t = absurd t
+  stands_told read told (Some (Table c)) h t =
+      let same : s ++ read ≡ (s ++ told) ++ (Listed c ∷ []) = ap (λ xs. s ++ xs) t.1 ∙ ap (λ xs. xs ++ (Listed c ∷ [])) (sym (append-nil s) ∙ ap (λ xs. s ++ xs) (sym t.0)) in
+      subst (λ xs. GoesOn place text over xs n r) same h
+  stands_told read told (Some (Fault (Line m fault))) h t = absurd t
+  stands_told read told (Some (Fault Memory)) h t =
+      subst (λ xs. SaysFirst place text xs) (sym (append-nil s) ∙ ap (λ xs. s ++ xs) (sym t)) (says_less place text s read (says_first_now place text (s ++ read) n r h.0))
+  stands_told read told (Some (Fault Reading)) h t = absurd t
+  stands_told read told (Some (Fault Writing)) h t = absurd t
+
+-- a line of output is written
+pub sank : {R W : Type 0} (takes : R → List ℕ → R → Type 0) (at_end : R → Type 0) (fails : R → ℕ) (puts : W → List ℕ → W → Type 0) (loses : W → ℕ)
+    (place : List ℕ → Option ℕ) (first : R) (to : W) (sayings : List Saying) (octets line : List ℕ) (reader : R) (writer written : W) (r : lines.Reading) (n : ℕ) (stop after : Option Stop)
+    → Plays takes at_end fails puts loses place first to sayings octets reader writer r n stop
+    → (Puts (λ xs. puts to xs writer) octets stop → Puts (λ xs. puts to xs written) (octets ++ line) after)
+    → ((text : List ℕ) → Stands place text (at_end reader) sayings n r stop → Stands place text (at_end reader) sayings n r after)
+    → ((k : ℕ) → failures_read after k ≡ failures_read stop k)
+    → ((k : ℕ) → loses writer ≡ failures_written stop k → loses written ≡ failures_written after k)
+    → Plays takes at_end fails puts loses place first to (sayings ++ []) (octets ++ line) reader written r n after
+sank takes at_end fails puts loses place first to sayings octets line reader writer written r n stop after p put stands reads writes =
+    record {
+      text = p.text;
+      taken = p.taken;
+      stands = subst (λ xs. Stands place p.text (at_end reader) xs n r after) (sym (append-nil sayings)) (stands p.text p.stands);
+      put = put p.put;
+      reads = p.reads ∙ sym (reads (fails first));
+      writes = writes (loses to) p.writes;
+    }
+
+-- nothing happens
+pub stays : {R W : Type 0} (takes : R → List ℕ → R → Type 0) (at_end : R → Type 0) (fails : R → ℕ) (puts : W → List ℕ → W → Type 0) (loses : W → ℕ)
+    (place : List ℕ → Option ℕ) (first : R) (to : W) (sayings : List Saying) (octets : List ℕ) (reader : R) (writer : W) (r : lines.Reading) (n : ℕ) (stop : Option Stop)
+    → Plays takes at_end fails puts loses place first to sayings octets reader writer r n stop → Plays takes at_end fails puts loses place first to (sayings ++ []) (octets ++ []) reader writer r n stop
+stays takes at_end fails puts loses place first to sayings octets reader writer r n stop p =
+    subst (λ xs. Plays takes at_end fails puts loses place first to xs (octets ++ []) reader writer r n stop) (sym (append-nil sayings))
+    (subst (λ xs. Plays takes at_end fails puts loses place first to sayings xs reader writer r n stop) (sym (append-nil octets)) p)
+
+-- what was said first stays so with nothing more
+pub still_first : (place : List ℕ → Option ℕ) (text : List ℕ) (s : List Saying) → SaysFirst place text s → SaysFirst place text (s ++ [])
+still_first place text s h = subst (λ xs. SaysFirst place text xs) (sym (append-nil s)) h
+
+-- where it stands behind a line of output
+pub stands_after : (place : List ℕ → Option ℕ) (text : List ℕ) (over : Type 0) (s : List Saying) (n : ℕ) (r : lines.Reading) (stop after : Option Stop) → FailsOn stop after → Stands place text over s n r stop → Stands place text over s n r after
+stands_after place text over s n r stop after (inl e) h = subst (λ x. Stands place text over s n r x) (sym e) h
+stands_after place text over s n r stop after (inr (inl e)) h = subst (λ x. Stands place text over s n r x) (sym e.1) (stands_first place text over s n r stop h)
+stands_after place text over s n r stop after (inr (inr e)) h = subst (λ x. Stands place text over s n r x) (sym e.1) (stands_first place text over s n r stop h)
+
+-- a line of output is written that no step asks for
+pub adds_line : {R W G : Type 0} (takes : R → List ℕ → R → Type 0) (at_end : R → Type 0) (fails : R → ℕ) (puts : W → List ℕ → W → Type 0) (loses : W → ℕ)
+    (names : Names) (reads writes : G) (reader : R) (writer written : W) (r : lines.Reading) (n : ℕ) (stop after : Option Stop) (line : List ℕ)
+    → ((to : W) (octets : List ℕ) → Puts (λ xs. puts to xs writer) octets stop → Puts (λ xs. puts to xs written) (octets ++ line) after)
+    → FailsOn stop after
+    → ((k : ℕ) → failures_read after k ≡ failures_read stop k)
+    → ((k : ℕ) → loses writer ≡ failures_written stop k → loses written ≡ failures_written after k)
+    → Adds takes at_end fails puts loses names reads writes reader writer r n stop line names reads writes reader written r n after
+adds_line takes at_end fails puts loses names reads writes reader writer written r n stop after line put on read lost =
+    record {
+      same_names = refl;
+      same_reader = refl;
+      same_writer = refl;
+      goes = λ first to s o p. record {
+        text = p.text;
+        taken = p.taken;
+        stands = stands_after (place_in names) p.text (at_end reader) s n r stop after on p.stands;
+        put = put to o p.put;
+        reads = p.reads ∙ sym (read (fails first));
+        writes = lost (loses to) p.writes;
+      };
+    }
+
+-- nothing is read
+pub reads_nothing : {R : Type 0} (takes : R → List ℕ → R → Type 0) (at_end : R → Type 0) (place : List ℕ → Option ℕ) (reader : R) (n : ℕ) (r : lines.Reading) → takes reader [] reader → ReadsOn takes at_end place reader n r reader n r [] None
+reads_nothing takes at_end place reader n r none text s h = (
+  [],
+  none,
+  subst (λ (xs : List ℕ). GoesOn place xs (at_end reader) (s ++ []) n r) (sym (append-nil text)) (subst (λ xs. GoesOn place text (at_end reader) xs n r) (sym (append-nil s)) h),
+)
+
+-- first what says nothing is read, and then more
+pub reads_twice : {R : Type 0} (takes : R → List ℕ → R → Type 0) (at_end : R → Type 0) (place : List ℕ → Option ℕ) → ((a b c : R) (xs ys : List ℕ) → takes a xs b → takes b ys c → takes a (xs ++ ys) c)
+    → (one two three : R) (n m k : ℕ) (r q p : lines.Reading) (more : List Saying) (stop : Option Stop) → ReadsOn takes at_end place one n r two m q [] None → ReadsOn takes at_end place two m q three k p more stop
+    → ReadsOn takes at_end place one n r three k p more stop
+reads_twice takes at_end place on one two three n m k r q p more stop first then_so text s h =
+    let a = first text s h in
+    let b = then_so (text ++ a.0) (s ++ []) a.2 in (
+      a.0 ++ b.0,
+      on one two three a.0 b.0 a.1 b.1,
+      subst (λ (xs : List ℕ). Stands place xs (at_end three) (s ++ more) k p stop) (append_assoc text a.0 b.0)
+          (subst (λ xs. Stands place ((text ++ a.0) ++ b.0) (at_end three) xs k p stop) (ap (λ xs. xs ++ more) (append-nil s)) b.2),
+    )
+
+-- what goes for an Ok goes for what follows from it
+pub on_ok : {A B : Type 0} {P Q : Type 0} (r : Result A B) → OnOk r P → (P → Q) → OnOk r Q
+on_ok (Ok value) p f = f p
+on_ok (Err e) p f = p
+
+pub made_so : {A B : Type 0} {P : Type 0} (r : Result A B) → is_ok r ≡ true → OnOk r P → P
+made_so (Ok value) h p = p
+made_so (Err e) h p = let bad : false ≡ true = h in cc
+
+-- what was put is put whatever comes then
+pub any_puts : (put : List ℕ → Type 0) (octets : List ℕ) (stop : Option Stop) → put octets → Puts put (octets ++ []) stop
+any_puts put octets None p = subst put (sym (append-nil octets)) p
+any_puts put octets (Some End) p = subst put (sym (append-nil octets)) p
+any_puts put octets (Some (Table c)) p = subst put (sym (append-nil octets)) p
+any_puts put octets (Some (Fault (Line m fault))) p = subst put (sym (append-nil octets)) p
+any_puts put octets (Some (Fault Memory)) p = (octets, [], refl, p)
+any_puts put octets (Some (Fault Reading)) p = (octets, [], refl, p)
+any_puts put octets (Some (Fault Writing)) p = (octets, [], refl, p)
+
+told_reads : (read told : List Saying) (stop : Option Stop) (n : ℕ) → TellsAs read told stop → n ≡ failures_read stop n
+told_reads read told None n t = refl
+told_reads read told (Some End) n t = refl
+told_reads read told (Some (Table c)) n t = refl
+told_reads read told (Some (Fault (Line m fault))) n t = refl
+told_reads read told (Some (Fault Memory)) n t = refl
+told_reads read told (Some (Fault Reading)) n t = absurd t
+told_reads read told (Some (Fault Writing)) n t = refl
+
+told_writes : (read told : List Saying) (stop : Option Stop) (n : ℕ) → TellsAs read told stop → n ≡ failures_written stop n
+told_writes read told None n t = refl
+told_writes read told (Some End) n t = refl
+told_writes read told (Some (Table c)) n t = refl
+told_writes read told (Some (Fault (Line m fault))) n t = refl
+told_writes read told (Some (Fault Memory)) n t = refl
+told_writes read told (Some (Fault Reading)) n t = refl
+told_writes read told (Some (Fault Writing)) n t = absurd t
+
+module _ {R W : Type 0} (takes : R → List ℕ → R → Type 0) (at_end : R → Type 0) (fails : R → ℕ) (puts : W → List ℕ → W → Type 0) (loses : W → ℕ)
+    (place : List ℕ → Option ℕ) (on : (a b c : R) (xs ys : List ℕ) → takes a xs b → takes b ys c → takes a (xs ++ ys) c)
+    (first : R) (to : W) (sayings : List Saying) (octets : List ℕ) (reader later : R) (writer : W) (r q : lines.Reading) (n m : ℕ) (stop after : Option Stop) where
+  -- a line was read, and the core is told of it
+  pub told_on : (read told : List Saying) → Plays takes at_end fails puts loses place first to sayings octets reader writer r n stop → stop ≡ None
+      → ReadsOn takes at_end place reader n r later m q read None → fails later ≡ fails reader → TellsAs read told after
+      → Plays takes at_end fails puts loses place first to (sayings ++ told) (octets ++ []) later writer q m after
+  told_on read told p none reads count tells =
+      let goes = subst (λ x. Stands place p.text (at_end reader) sayings n r x) none p.stands in
+      let so = reads p.text sayings goes in
+      record {
+        text = p.text ++ so.0;
+        taken = on first reader later p.text so.0 p.taken so.1;
+        stands = stands_told place (p.text ++ so.0) (at_end later) sayings m q read told after so.2 tells;
+        put = any_puts (λ xs. puts to xs writer) octets after (subst (λ x. Puts (λ xs. puts to xs writer) octets x) none p.put);
+        reads = count ∙ (subst (λ x. fails reader ≡ failures_read x (fails first)) none p.reads) ∙ told_reads read told after (fails first) tells;
+        writes = (subst (λ x. loses writer ≡ failures_written x (loses to)) none p.writes) ∙ told_writes read told after (loses to) tells;
+      }
+
+  -- no further line tells anything
+  pub stopped_on : Plays takes at_end fails puts loses place first to sayings octets reader writer r n stop → stop ≡ None
+      → ReadsOn takes at_end place reader n r later m q [] after → fails later ≡ failures_read after (fails reader) → ((k : ℕ) → k ≡ failures_written after k)
+      → Plays takes at_end fails puts loses place first to (sayings ++ []) (octets ++ []) later writer q m after
+  stopped_on p none reads count unwritten =
+      let goes = subst (λ x. Stands place p.text (at_end reader) sayings n r x) none p.stands in
+      let so = reads p.text sayings goes in
+      record {
+        text = p.text ++ so.0;
+        taken = on first reader later p.text so.0 p.taken so.1;
+        stands = so.2;
+        put = any_puts (λ xs. puts to xs writer) octets after (subst (λ x. Puts (λ xs. puts to xs writer) octets x) none p.put);
+        reads = count ∙ ap (failures_read after) (subst (λ x. fails reader ≡ failures_read x (fails first)) none p.reads);
+        writes = (subst (λ x. loses writer ≡ failures_written x (loses to)) none p.writes) ∙ unwritten (loses to);
+      }

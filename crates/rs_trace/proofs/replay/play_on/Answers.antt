@@ -1,0 +1,206 @@
+use Rattle.std.proofs.Common.{◌≡◌, ◌∙◌, ℕ, List, [], ◌∷◌, Some, None, subst, sym, ap, refl}
+use Rattle.std.specs.Prelude.{Result, Ok, Err, IfOk}
+use Rattle.std.specs.Global.{Vec}
+use Rattle.std.specs.declared.alloc.AllocError.{AllocError}
+use Rattle.rs_policy.specs.Configuration.{Configuration}
+use Rattle.rs_core.specs.Links as links
+use Rattle.rs_core.specs.Links.{HasStopped}
+use Rattle.rs_core.specs.Agreeing.{Agrees}
+use Rattle.rs_core.specs.Core.{client_count}
+use Rattle.rs_core.specs.Moves.{Move, Ruled}
+use Rattle.rs_core.specs.Courses.{Continues}
+use Rattle.rs_core.specs.Answers.{Drives}
+use Rattle.rs_core.specs.declared.route_server.Core.{Core}
+use Rattle.rs_trace.specs.declared.recording.Recording.{Recording}
+use Rattle.rs_trace.specs.declared.fault.Stop.{Stop}
+use Rattle.rs_trace.specs.declared.fault.Stop.TheVariants.{End, Table}
+use Rattle.rs_trace.specs.declared.fault.ReplayFault.{ReplayFault}
+use Rattle.rs_trace.specs.Played.{Act, Did, ToldRoutes, said, written, failures_read, failures_written}
+use Rattle.rs_trace.specs.Replays.{Adds, Begins, Happens, IsOver, Plays, PlaysOut, Tells, place_in, name_in}
+use Rattle.rs_trace.specs.Tables.{ListsOf}
+use Rattle.rs_trace.proofs.Replaying.{HasGone, did, told, done_first, gone_on, led_to_stop, over_at_end}
+use Rattle.rs_trace.proofs.replay.play_on.Given as given
+use Rattle.rs_trace.proofs.replay.play_on.Invariants.{Does}
+use Rattle.rs_trace.proofs.replay.play_on.Goals as goal
+
+-- a step of the link, as the recording says it
+abbrev Stepped : (g : given.Over) → Recording g.row.R.Denot g.row.W.Denot g.row.P.Denot → links.Step → Recording g.row.R.Denot g.row.W.Denot g.row.P.Denot → Type 0
+Stepped g a s b = Happens g.R.TextIn.takes g.R.TextIn.at_end g.R.TextIn.failures g.W.TextOut.puts g.W.TextOut.failures
+    a.names.now a.reader.ghost_name a.writer.ghost_name a.reader.now a.writer.now a.lines.now a.number a.stop s
+    b.names.now b.reader.ghost_name b.writer.ghost_name b.reader.now b.writer.now b.lines.now b.number b.stop
+
+step : (g : given.Over) (first a b : Recording g.row.R.Denot g.row.W.Denot g.row.P.Denot) (s : links.Step) (acts : List Act) → Stepped g a s b → Does g first acts a → Does g first (Did s ∷ acts) b
+step g first a b s acts happens done = did g.R.TextIn.takes g.R.TextIn.at_end g.R.TextIn.failures g.W.TextOut.puts g.W.TextOut.failures
+    first.names.now first.reader.ghost_name first.writer.ghost_name first.reader.now first.writer.now acts s
+    a.names.now a.reader.ghost_name a.writer.ghost_name a.reader.now a.writer.now a.lines.now a.number a.stop
+    b.names.now b.reader.ghost_name b.writer.ghost_name b.reader.now b.writer.now b.lines.now b.number b.stop happens done
+
+-- a run of the link's steps was done
+led : (g : given.Over) (first old new : Recording g.row.R.Denot g.row.W.Denot g.row.P.Denot) → ((acts : List Act) × Does g first acts old) → HasStopped (Stepped g) old new → (acts : List Act) × Does g first acts new
+led g first old new before h = led_to_stop (Stepped g) (λ link acts. Does g first acts link) (step g first) old new before.0 h before.1
+
+-- and it is the route server's
+gone : (g : given.Over) (first old new : Recording g.row.R.Denot g.row.W.Denot g.row.P.Denot) (settings : Configuration) (before after : Core)
+    → Continues (Stepped g) before old after new Drives
+    → HasGone (λ link acts. Does g first acts link) settings (name_in first.names.now) before old → HasGone (λ link acts. Does g first acts link) settings (name_in first.names.now) after new
+gone g first old new settings before after c h = gone_on (Stepped g) (λ link acts. Does g first acts link) (step g first) settings (name_in first.names.now) before old after new c h
+
+-- routes were told
+told_one : (g : given.Over) (first old resumed new : Recording g.row.R.Denot g.row.W.Denot g.row.P.Denot) (c : ℕ) (line : List ℕ) (acts : List Act)
+    → old.stop ≡ Some (Table c) → resumed ≡ record old { stop = None }
+    → Adds g.R.TextIn.takes g.R.TextIn.at_end g.R.TextIn.failures g.W.TextOut.puts g.W.TextOut.failures
+    resumed.names.now resumed.reader.ghost_name resumed.writer.ghost_name resumed.reader.now resumed.writer.now resumed.lines.now resumed.number resumed.stop line
+    new.names.now new.reader.ghost_name new.writer.ghost_name new.reader.now new.writer.now new.lines.now new.number new.stop
+    → Does g first acts old → Does g first (ToldRoutes c line ∷ acts) new
+told_one g first old resumed new c line acts stop is adds done = told g.R.TextIn.takes g.R.TextIn.at_end g.R.TextIn.failures g.W.TextOut.puts g.W.TextOut.failures
+    first.names.now first.reader.ghost_name first.writer.ghost_name first.reader.now first.writer.now acts c line
+    old.names.now old.reader.ghost_name old.writer.ghost_name old.reader.now old.writer.now old.lines.now old.number old.stop
+    new.names.now new.reader.ghost_name new.writer.ghost_name new.reader.now new.writer.now new.lines.now new.number new.stop
+    stop
+    (subst (λ (a : Recording g.row.R.Denot g.row.W.Denot g.row.P.Denot). Adds g.R.TextIn.takes g.R.TextIn.at_end g.R.TextIn.failures g.W.TextOut.puts g.W.TextOut.failures
+    a.names.now a.reader.ghost_name a.writer.ghost_name a.reader.now a.writer.now a.lines.now a.number a.stop line
+    new.names.now new.reader.ghost_name new.writer.ghost_name new.reader.now new.writer.now new.lines.now new.number new.stop) is adds)
+    done
+
+-- what lines are told: none where memory was refused
+some_told : (lines : Result (Vec ℕ) AllocError) → (told : List ℕ) × IfOk lines (λ made. made.items ≡ told)
+some_told (Ok made) = (made.items, refl)
+some_told (Err refused) = ([], tt)
+
+told_gone : (g : given.Over) (first old new : Recording g.row.R.Denot g.row.W.Denot g.row.P.Denot) (c : ℕ) (lines : Result (Vec ℕ) AllocError) (settings : Configuration) (core : Core)
+    → ((told : List ℕ) → IfOk lines (λ made. made.items ≡ told) → (acts : List Act) → Does g first acts old → Does g first (ToldRoutes c told ∷ acts) new)
+    → ((run : List Move) → Agrees core run → (told : List ℕ) × ListsOf (client_count core) run c (name_in first.names.now c) told × IfOk lines (λ made. made.items ≡ told))
+    → HasGone (λ link acts. Does g first acts link) settings (name_in first.names.now) core old → HasGone (λ link acts. Does g first acts link) settings (name_in first.names.now) core new
+told_gone g first old new c lines settings core one lists h =
+    let found = lists h.run h.agrees in
+    record {
+      acts = ToldRoutes c found.0 ∷ h.acts;
+      run = h.run;
+      done = one found.0 found.2 h.acts h.done;
+      ran = Tells c found.0 h.acts h.run h.ran (subst (λ n. ListsOf n h.run c (name_in first.names.now c) found.0) h.clients found.1);
+      clients = h.clients;
+      agrees = h.agrees;
+    }
+
+-- the replay is over, at this stop
+played_to : (g : given.Over) (first last : Recording g.row.R.Denot g.row.W.Denot g.row.P.Denot) (settings : Configuration) (core : Core) (stop : Stop) (answer : Result (Unit {0}) ReplayFault) (reader : g.row.R.Denot) (writer : g.row.W.Denot)
+    → HasGone (λ link acts. Does g first acts link) settings (name_in first.names.now) core last → last.stop ≡ Some stop
+    → ((acts : List Act) → Plays g.R.TextIn.takes g.R.TextIn.at_end g.R.TextIn.failures g.W.TextOut.puts g.W.TextOut.failures (place_in last.names.now) first.reader.now first.writer.now (said acts) (written (name_in first.names.now) acts) last.reader.now last.writer.now last.lines.now last.number (Some stop)
+    → IsOver g.R.TextIn.takes g.R.TextIn.at_end g.W.TextOut.puts (place_in last.names.now) first.reader.now first.writer.now (said acts) (written (name_in first.names.now) acts) reader writer answer)
+    → PlaysOut settings g.R.TextIn.takes g.R.TextIn.at_end g.W.TextOut.puts first.names.now first.reader.now first.writer.now reader writer answer
+played_to g first last settings core stop answer reader writer h at over = record {
+  acts = h.acts;
+  run = h.run;
+  ran = h.ran;
+  took = h.done.took;
+  over = subst (λ ns. Plays g.R.TextIn.takes g.R.TextIn.at_end g.R.TextIn.failures g.W.TextOut.puts g.W.TextOut.failures (place_in ns) first.reader.now first.writer.now (said h.acts) (written (name_in first.names.now) h.acts) last.reader.now last.writer.now last.lines.now last.number (Some stop)
+      → IsOver g.R.TextIn.takes g.R.TextIn.at_end g.W.TextOut.puts (place_in ns) first.reader.now first.writer.now (said h.acts) (written (name_in first.names.now) h.acts) reader writer answer)
+      h.done.same_names (over h.acts)
+      (subst (λ x. Plays g.R.TextIn.takes g.R.TextIn.at_end g.R.TextIn.failures g.W.TextOut.puts g.W.TextOut.failures (place_in first.names.now) first.reader.now first.writer.now (said h.acts) (written (name_in first.names.now) h.acts) last.reader.now last.writer.now last.lines.now last.number x) at h.done.plays);
+}
+
+pub loop-init : goal.loop-init
+loop-init g c =
+    let now = c.args.recording.now in
+    let done = done_first g.R.TextIn.takes g.R.TextIn.at_end g.R.TextIn.failures g.W.TextOut.puts g.W.TextOut.failures now.names.now now.reader.ghost_name now.writer.ghost_name now.reader.now now.writer.now now.lines.now now.number now.stop
+    (g.met.R.TextIn.takes_none now.reader.now) (g.met.W.TextOut.puts_none now.writer.now) c.requires.first in
+    (([], done), λ settings clients agrees. record { acts = []; run = Ruled settings ∷ []; done = done; ran = Begins; clients = clients; agrees = agrees })
+
+pub loop-preserved-in-None-stop : goal.loop-preserved-in-None-stop
+loop-preserved-in-None-stop g c = (
+  led g c.args.recording.now c.loop.recording c.drive_with.new.link c.loop.invariant.0 c.drive_with.ensures.led,
+  λ settings clients agrees. gone g c.args.recording.now c.loop.recording c.drive_with.new.link settings c.loop.core c.drive_with.new.core c.drive_with.ensures.drives (c.loop.invariant.1 settings clients agrees),
+)
+
+pub loop-preserved-in-Some-Table : goal.loop-preserved-in-Some-Table
+loop-preserved-in-Some-Table g c =
+    let first = c.args.recording.now in
+    let last = c.drive_with.new.link in
+    let at = c.in-Some-Table.c in
+    let lines = c.route_lines-lines.result in
+    let stop : last.stop ≡ Some (Table at) = sym c.stop.ensures ∙ c.in-Some-Table.is ∙ ap Some c.in-Some-Table.field-0-is in
+    let before = led g first c.loop.recording last c.loop.invariant.0 c.drive_with.ensures.led in
+    let name : c.name.result.now ≡ name_in first.names.now at =
+    c.name.ensures ∙ ap (λ (r : Recording g.row.R.Denot g.row.W.Denot g.row.P.Denot). name_in r.names.now at) c.resume.ensures ∙ ap (λ ns. name_in ns at) before.1.same_names in
+    let one : (told : List ℕ) → IfOk lines (λ made. made.items ≡ told) → (acts : List Act) → Does g first acts last → Does g first (ToldRoutes at told ∷ acts) c.tell_routes.new.self =
+    λ told is acts done. told_one g first last c.resume.new.self c.tell_routes.new.self at told acts stop c.resume.ensures (c.tell_routes.ensures told is) done in
+    let some = some_told lines in (
+      (_, one some.0 some.1 before.0 before.1),
+      λ settings clients agrees. told_gone g first last c.tell_routes.new.self at lines settings c.drive_with.new.core one
+          (subst (λ n. (run : List Move) → Agrees c.drive_with.new.core run → (told : List ℕ) × ListsOf (client_count c.drive_with.new.core) run at n told × IfOk lines (λ made. made.items ≡ told)) name c.route_lines-lines.ensures)
+          (gone g first c.loop.recording last settings c.loop.core c.drive_with.new.core c.drive_with.ensures.drives (c.loop.invariant.1 settings clients agrees)),
+    )
+
+pub loop-preserved : goal.loop-preserved
+loop-preserved g c =
+    let first = c.args.recording.now in
+    let last = c.drive_with.new.link in
+    let at = c.in-Some-Table.c in
+    let lines = c.route_lines-lines.result in
+    let stop : last.stop ≡ Some (Table at) = sym c.stop.ensures ∙ c.in-Some-Table.is ∙ ap Some c.in-Some-Table.field-0-is in
+    let before = led g first c.loop.recording last c.loop.invariant.0 c.drive_with.ensures.led in
+    let name : c.name.result.now ≡ name_in first.names.now at =
+    c.name.ensures ∙ ap (λ (r : Recording g.row.R.Denot g.row.W.Denot g.row.P.Denot). name_in r.names.now at) c.resume.ensures ∙ ap (λ ns. name_in ns at) before.1.same_names in
+    let one : (told : List ℕ) → IfOk lines (λ made. made.items ≡ told) → (acts : List Act) → Does g first acts last → Does g first (ToldRoutes at told ∷ acts) c.tell_routes.new.self =
+    λ told is acts done. told_one g first last c.resume.new.self c.tell_routes.new.self at told acts stop c.resume.ensures (c.tell_routes.ensures told is) done in
+    let some = some_told lines in (
+      (_, one some.0 some.1 before.0 before.1),
+      λ settings clients agrees. told_gone g first last c.tell_routes.new.self at lines settings c.drive_with.new.core one
+          (subst (λ n. (run : List Move) → Agrees c.drive_with.new.core run → (told : List ℕ) × ListsOf (client_count c.drive_with.new.core) run at n told × IfOk lines (λ made. made.items ≡ told)) name c.route_lines-lines.ensures)
+          (gone g first c.loop.recording last settings c.loop.core c.drive_with.new.core c.drive_with.ensures.drives (c.loop.invariant.1 settings clients agrees)),
+    )
+
+pub returns-in-Some-End-clause-reader : goal.returns-in-Some-End-clause-reader
+returns-in-Some-End-clause-reader g c = (led g c.args.recording.now c.loop.recording c.drive_with.new.link c.loop.invariant.0 c.drive_with.ensures.led).1.same_reader
+
+pub returns-in-Some-End-clause-writer : goal.returns-in-Some-End-clause-writer
+returns-in-Some-End-clause-writer g c = (led g c.args.recording.now c.loop.recording c.drive_with.new.link c.loop.invariant.0 c.drive_with.ensures.led).1.same_writer
+
+pub returns-in-Some-End-clause-played : goal.returns-in-Some-End-clause-played
+returns-in-Some-End-clause-played g c = λ settings clients agrees.
+    let first = c.args.recording.now in
+    let last = c.drive_with.new.link in
+    played_to g first last settings c.drive_with.new.core End (Ok tt) last.reader.now last.writer.now
+    (gone g first c.loop.recording last settings c.loop.core c.drive_with.new.core c.drive_with.ensures.drives (c.loop.invariant.1 settings clients agrees))
+    (sym c.stop.ensures ∙ c.in-Some-End.is ∙ ap Some c.in-Some-End.field-0-is)
+    (λ acts p. over_at_end g.R.TextIn.takes g.R.TextIn.at_end g.R.TextIn.failures g.W.TextOut.puts g.W.TextOut.failures (place_in last.names.now) first.reader.now first.writer.now (said acts) (written (name_in first.names.now) acts) last.reader.now last.writer.now last.lines.now last.number p)
+
+pub returns-in-Some-Fault-clause-reader : goal.returns-in-Some-Fault-clause-reader
+returns-in-Some-Fault-clause-reader g c = c.end_at.ensures.reader ∙ (led g c.args.recording.now c.loop.recording c.drive_with.new.link c.loop.invariant.0 c.drive_with.ensures.led).1.same_reader
+
+pub returns-in-Some-Fault-clause-writer : goal.returns-in-Some-Fault-clause-writer
+returns-in-Some-Fault-clause-writer g c = c.end_at.ensures.writer ∙ (led g c.args.recording.now c.loop.recording c.drive_with.new.link c.loop.invariant.0 c.drive_with.ensures.led).1.same_writer
+
+pub returns-in-Some-Fault-clause-played : goal.returns-in-Some-Fault-clause-played
+returns-in-Some-Fault-clause-played g c = λ settings clients agrees.
+    let first = c.args.recording.now in
+    let last = c.drive_with.new.link in
+    let at = sym c.stop.ensures ∙ c.in-Some-Fault.is in
+    played_to g first last settings c.drive_with.new.core c.in-Some-Fault.field-0 (Err c.end_at.result) c.end_at.new.self.reader.now c.end_at.new.self.writer.now
+    (gone g first c.loop.recording last settings c.loop.core c.drive_with.new.core c.drive_with.ensures.drives (c.loop.invariant.1 settings clients agrees)) at
+    (λ acts p. c.end_at.ensures.over first.reader.now first.writer.now (said acts) (written (name_in first.names.now) acts)
+    (subst (λ x. Plays g.R.TextIn.takes g.R.TextIn.at_end g.R.TextIn.failures g.W.TextOut.puts g.W.TextOut.failures (place_in last.names.now) first.reader.now first.writer.now (said acts) (written (name_in first.names.now) acts) last.reader.now last.writer.now last.lines.now last.number x) (sym at) p))
+
+pub returns-in-Some-End-clause-reads : goal.returns-in-Some-End-clause-reads
+returns-in-Some-End-clause-reads g c =
+    let first = c.args.recording.now in
+    let last = c.drive_with.new.link in
+    subst (λ x. g.R.TextIn.failures last.reader.now ≡ failures_read x (g.R.TextIn.failures first.reader.now)) (sym c.stop.ensures ∙ c.in-Some-End.is ∙ ap Some c.in-Some-End.field-0-is)
+    (led g first c.loop.recording last c.loop.invariant.0 c.drive_with.ensures.led).1.plays.reads
+
+pub returns-in-Some-End-clause-writes : goal.returns-in-Some-End-clause-writes
+returns-in-Some-End-clause-writes g c =
+    let first = c.args.recording.now in
+    let last = c.drive_with.new.link in
+    subst (λ x. g.W.TextOut.failures last.writer.now ≡ failures_written x (g.W.TextOut.failures first.writer.now)) (sym c.stop.ensures ∙ c.in-Some-End.is ∙ ap Some c.in-Some-End.field-0-is)
+    (led g first c.loop.recording last c.loop.invariant.0 c.drive_with.ensures.led).1.plays.writes
+
+pub returns-in-Some-Fault-clause-reads : goal.returns-in-Some-Fault-clause-reads
+returns-in-Some-Fault-clause-reads g c =
+    c.end_at.ensures.reads (g.R.TextIn.failures c.args.recording.now.reader.now)
+    (led g c.args.recording.now c.loop.recording c.drive_with.new.link c.loop.invariant.0 c.drive_with.ensures.led).1.plays.reads
+
+pub returns-in-Some-Fault-clause-writes : goal.returns-in-Some-Fault-clause-writes
+returns-in-Some-Fault-clause-writes g c =
+    c.end_at.ensures.writes (g.W.TextOut.failures c.args.recording.now.writer.now)
+    (led g c.args.recording.now c.loop.recording c.drive_with.new.link c.loop.invariant.0 c.drive_with.ensures.led).1.plays.writes

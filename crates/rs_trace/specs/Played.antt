@@ -1,0 +1,155 @@
+-- What a replay did, the newest first, and what that comes to.
+use Rattle.std.specs.Prelude.{◌≡◌, ◌⊎◌, ℕ, ◌+◌, List, [], ◌∷◌, ◌++◌, length, min, codes, Bool, true, false, Option, Some, None, Result, Ok, Err, ⊤}
+use Rattle.rs_policy.specs.declared.faults.RulesFault.{RulesFault}
+use Rattle.rs_policy.specs.FaultTexts.{rules_fault_text}
+use Rattle.rs_core.specs.declared.links.Event.{Event}
+use Rattle.rs_core.specs.declared.links.Event.TheVariants as events
+use Rattle.rs_core.specs.Links as links
+use Rattle.rs_trace.specs.declared.fault.ReplayFault.TheVariants.{Line, Memory, Reading, Writing}
+use Rattle.rs_trace.specs.declared.fault.Stop.{Stop}
+use Rattle.rs_trace.specs.declared.fault.Stop.TheVariants.{End, Table, Fault}
+use Rattle.rs_trace.specs.Lines as lines
+use Rattle.rs_trace.specs.Output.{client_line, sent_line, accepted_line, refused_line}
+use Rattle.rs_trace.specs.Trace.{Saying, Opened, Heard, Offered, Passed, Turned, Left, Replaced, Listed}
+use Rattle.rs_trace.specs.Text.{lines_of, whole_lines, outcome, tells, behind, IsRead}
+
+pub data Act : Type 0 where
+  -- the core's link did a step
+  Did : (step : links.Step) → Act
+  -- the routes of a client were told, in these lines
+  ToldRoutes : (c : ℕ) (told : List ℕ) → Act
+
+-- the line of the trace that an event comes from; a stop comes from none
+abbrev pub saying_told : Event → List ℕ → List Saying
+saying_told (events.Opened c) octets = Opened c ∷ []
+saying_told (events.Octets c n) octets = Heard c octets ∷ []
+saying_told (events.Moment t) octets = Passed t ∷ []
+saying_told events.Turn octets = Turned ∷ []
+saying_told (events.Room c n) octets = Offered c n ∷ []
+saying_told (events.Lost c) octets = Left c ∷ []
+saying_told events.Rules octets = Replaced octets ∷ []
+saying_told events.Stop octets = []
+
+abbrev pub saying_at : links.Step → List Saying
+saying_at (links.Told event octets) = saying_told event octets
+saying_at (links.Begin c) = []
+saying_at (links.Busy c) = []
+saying_at (links.Offer c octets answer) = []
+saying_at (links.Memory c) = []
+saying_at (links.End c) = []
+saying_at (links.Replaced answer) = []
+
+-- the lines of the trace that were done, in their order
+abbrev pub said : List Act → List Saying
+said [] = []
+said (Did step ∷ acts) = said acts ++ saying_at step
+said (ToldRoutes c told ∷ acts) = said acts ++ (Listed c ∷ [])
+
+abbrev pub rules_line : Result (Unit {0}) RulesFault → List ℕ
+rules_line (Ok done) = accepted_line
+rules_line (Err fault) = refused_line (rules_fault_text fault)
+
+-- the line of output that a step is told by
+abbrev pub line_at : (ℕ → List ℕ) → links.Step → List ℕ
+line_at name (links.Told event octets) = []
+line_at name (links.Begin c) = []
+line_at name (links.Busy c) = client_line (codes "busy") (name c)
+line_at name (links.Offer c octets answer) = sent_line (name c) octets
+line_at name (links.Memory c) = client_line (codes "memory") (name c)
+line_at name (links.End c) = client_line (codes "close") (name c)
+line_at name (links.Replaced answer) = rules_line answer
+
+-- the output of what was done
+abbrev pub written : (ℕ → List ℕ) → List Act → List ℕ
+written name [] = []
+written name (Did step ∷ acts) = written name acts ++ line_at name step
+written name (ToldRoutes c told ∷ acts) = written name acts ++ told
+
+-- of an offer all was taken
+abbrev pub TookAll : links.Step → Type 0
+TookAll (links.Told event octets) = ⊤
+TookAll (links.Begin c) = ⊤
+TookAll (links.Busy c) = ⊤
+TookAll (links.Offer c octets answer) = answer ≡ Some (length octets)
+TookAll (links.Memory c) = ⊤
+TookAll (links.End c) = ⊤
+TookAll (links.Replaced answer) = ⊤
+
+abbrev pub AllTookAll : List Act → Type 0
+AllTookAll [] = ⊤
+AllTookAll (Did step ∷ acts) = AllTookAll acts × TookAll step
+AllTookAll (ToldRoutes c told ∷ acts) = AllTookAll acts
+
+-- What a reader of lines has still to give, with whatever may come, is what the text says behind what was said. n lines were read.
+abbrev pub FollowsOn : (List ℕ → Option ℕ) → List ℕ → List Saying → ℕ → lines.Reading → Type 0
+FollowsOn place text sayings n r =
+    (more : List ℕ) → (r.is_over ≡ true → more ≡ []) → outcome place 1 (lines_of (text ++ more)) ≡ behind sayings (outcome place (n + 1) (lines_of (r.rest ++ more)))
+
+-- the lines that were read are those that are whole, unless the last was not
+abbrev pub AreWhole : List ℕ → ℕ → lines.Reading → Type 0
+AreWhole text n r = (whole_lines text ≡ n + whole_lines r.rest) ⊎ (r.is_over ≡ true)
+
+-- the text says these first
+abbrev pub SaysFirst : (List ℕ → Option ℕ) → List ℕ → List Saying → Type 0
+SaysFirst place text sayings = (others : List Saying) × ((outcome place 1 (lines_of text)).sayings ≡ sayings ++ others)
+
+-- so far no line had a fault
+abbrev pub GoesOn : (List ℕ → Option ℕ) → List ℕ → Type 0 → List Saying → ℕ → lines.Reading → Type 0
+GoesOn place text over sayings n r = FollowsOn place text sayings n r × (r.is_over ≡ true → over) × AreWhole text n r
+
+-- The text was read so far: what was said of it, and where the reading stands. `over` says that nothing more comes.
+abbrev pub Stands : (List ℕ → Option ℕ) → List ℕ → Type 0 → List Saying → ℕ → lines.Reading → Option Stop → Type 0
+Stands place text over sayings n r None = GoesOn place text over sayings n r
+Stands place text over sayings n r (Some End) = (outcome place 1 (lines_of text) ≡ tells sayings None) × over
+Stands place text over sayings n r (Some (Table c)) = GoesOn place text over (sayings ++ (Listed c ∷ [])) n r
+Stands place text over sayings n r (Some (Fault (Line m fault))) =
+    (outcome place 1 (lines_of text) ≡ tells sayings (Some (m, fault))) × IsRead text m fault over
+Stands place text over sayings n r (Some (Fault Memory)) = SaysFirst place text sayings
+Stands place text over sayings n r (Some (Fault Reading)) = SaysFirst place text sayings
+Stands place text over sayings n r (Some (Fault Writing)) = SaysFirst place text sayings
+
+-- a front of these octets was put
+abbrev pub PutsFront : (List ℕ → Type 0) → List ℕ → Type 0
+PutsFront put octets = (front rest : List ℕ) × (octets ≡ front ++ rest) × put front
+
+-- These octets were put: all of them, but behind a failure.
+abbrev pub Puts : (List ℕ → Type 0) → List ℕ → Option Stop → Type 0
+Puts put octets None = put octets
+Puts put octets (Some End) = put octets
+Puts put octets (Some (Table c)) = put octets
+Puts put octets (Some (Fault (Line m fault))) = put octets
+Puts put octets (Some (Fault Memory)) = PutsFront put octets
+Puts put octets (Some (Fault Reading)) = PutsFront put octets
+Puts put octets (Some (Fault Writing)) = PutsFront put octets
+
+-- a failure came, and nothing is written any more
+abbrev pub failed : Option Stop → Bool
+failed None = false
+failed (Some End) = false
+failed (Some (Table c)) = false
+failed (Some (Fault (Line m fault))) = false
+failed (Some (Fault Memory)) = true
+failed (Some (Fault Reading)) = true
+failed (Some (Fault Writing)) = true
+
+-- one failure more, up to the greatest count
+abbrev pub more_failures : ℕ → ℕ
+more_failures n = min (n + 1) 18446744073709551615
+
+abbrev pub failures_read : Option Stop → ℕ → ℕ
+failures_read None n = n
+failures_read (Some End) n = n
+failures_read (Some (Table c)) n = n
+failures_read (Some (Fault (Line m fault))) n = n
+failures_read (Some (Fault Memory)) n = n
+failures_read (Some (Fault Reading)) n = more_failures n
+failures_read (Some (Fault Writing)) n = n
+
+abbrev pub failures_written : Option Stop → ℕ → ℕ
+failures_written None n = n
+failures_written (Some End) n = n
+failures_written (Some (Table c)) n = n
+failures_written (Some (Fault (Line m fault))) n = n
+failures_written (Some (Fault Memory)) n = n
+failures_written (Some (Fault Reading)) n = n
+failures_written (Some (Fault Writing)) n = more_failures n

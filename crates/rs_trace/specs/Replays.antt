@@ -1,0 +1,197 @@
+-- From what a reader gives to what a writer is given.
+use Rattle.std.specs.Prelude.{◌≡◌, ◌⊎◌, ℕ, List, [], ◌∷◌, ◌++◌, length, map, false, Option, Some, None, Result, Ok, Err, position, bytes_eq, slice_get}
+use Rattle.rs_policy.specs.Configuration.{Configuration}
+use Rattle.rs_core.specs.Links as links
+use Rattle.rs_core.specs.Moves.{Move, Ruled}
+use Rattle.rs_core.specs.Courses.{Course}
+use Rattle.rs_core.specs.Answers.{Drives}
+use Rattle.rs_trace.specs.declared.trace.LineFault.{LineFault}
+use Rattle.rs_trace.specs.declared.trace.Entry.{Entry}
+use Rattle.rs_trace.specs.declared.names.Names.{Names}
+use Rattle.rs_trace.specs.declared.fault.ReplayFault.{ReplayFault}
+use Rattle.rs_trace.specs.declared.fault.ReplayFault.TheVariants.{Line, Memory, Reading, Writing}
+use Rattle.rs_trace.specs.declared.fault.Stop.{Stop}
+use Rattle.rs_trace.specs.declared.fault.Stop.TheVariants.{End, Table, Fault}
+use Rattle.rs_trace.specs.Lines as lines
+use Rattle.rs_trace.specs.Output.{fault_line}
+use Rattle.rs_trace.specs.Trace.{Saying, Listed}
+use Rattle.rs_trace.specs.Entries.{saying_in}
+use Rattle.rs_trace.specs.Tables.{ListsOf}
+use Rattle.rs_trace.specs.Text.{lines_of, outcome, tells, IsRead}
+use Rattle.rs_trace.specs.Played.{Act, Did, ToldRoutes, said, written, saying_at, line_at, TookAll, AllTookAll, SaysFirst, Stands, PutsFront, Puts, failed, failures_read, failures_written}
+
+-- the client of a name, and the name of a client
+abbrev pub place_in : Names → List ℕ → Option ℕ
+place_in names text = position (λ name. bytes_eq name.items text) names.names.items
+
+abbrev pub name_or_none : Option (List ℕ) → List ℕ
+name_or_none None = []
+name_or_none (Some name) = name
+
+abbrev pub name_in : Names → ℕ → List ℕ
+name_in names c = name_or_none (slice_get (map (λ name. name.items) names.names.items) c)
+
+abbrev pub stop_of : {A : Type 0} → Result A Stop → Option Stop
+stop_of (Ok value) = None
+stop_of (Err stop) = Some stop
+
+-- what an entry says, where there is one
+abbrev pub sayings_in : List ℕ → Result (Option Entry) Stop → List Saying
+sayings_in piece (Ok None) = []
+sayings_in piece (Ok (Some entry)) = saying_in piece entry ∷ []
+sayings_in piece (Err stop) = []
+
+abbrev pub saying_read : List ℕ → Result Entry Stop → List Saying
+saying_read piece (Ok entry) = saying_in piece entry ∷ []
+saying_read piece (Err stop) = []
+
+-- More octets were taken, and what they say so far is these sayings more.
+abbrev pub ReadsOn : {R : Type 0} → (R → List ℕ → R → Type 0) → (R → Type 0) → (List ℕ → Option ℕ) → R → ℕ → lines.Reading → R → ℕ → lines.Reading → List Saying → Option Stop → Type 0
+ReadsOn takes at_end place old n r new m q more stop =
+    (text : List ℕ) (sayings : List Saying) → Stands place text (at_end old) sayings n r None →
+    (taken : List ℕ) × takes old taken new × Stands place (text ++ taken) (at_end new) (sayings ++ more) m q stop
+
+-- nothing failed, or what had failed before is the last failure, or writing failed now
+abbrev pub FailsOn : Option Stop → Option Stop → Type 0
+FailsOn stop after = (after ≡ stop) ⊎ ((failed stop ≡ false) × (after ≡ Some (Fault Memory))) ⊎ ((failed stop ≡ false) × (after ≡ Some (Fault Writing)))
+
+-- What the core is told of what was read, and whether it is stopped.
+abbrev pub TellsAs : List Saying → List Saying → Option Stop → Type 0
+TellsAs read told None = told ≡ read
+TellsAs read told (Some End) = ⊥
+TellsAs read told (Some (Table c)) = (told ≡ []) × (read ≡ Listed c ∷ [])
+TellsAs read told (Some (Fault (Line m fault))) = ⊥
+TellsAs read told (Some (Fault Memory)) = told ≡ []
+TellsAs read told (Some (Fault Reading)) = ⊥
+TellsAs read told (Some (Fault Writing)) = ⊥
+
+-- Since the first reader and writer these sayings were done and this output came of it, and now all stands so.
+pub record Plays {R W : Type 0} (takes : R → List ℕ → R → Type 0) (at_end : R → Type 0) (fails : R → ℕ) (puts : W → List ℕ → W → Type 0) (loses : W → ℕ)
+    (place : List ℕ → Option ℕ) (first : R) (to : W) (sayings : List Saying) (octets : List ℕ) (reader : R) (writer : W) (r : lines.Reading) (n : ℕ) (stop : Option Stop) : Type 0 where
+  pub text : List ℕ
+  pub taken : takes first text reader
+  pub stands : Stands place text (at_end reader) sayings n r stop
+  pub put : Puts (λ xs. puts to xs writer) octets stop
+  pub reads : fails reader ≡ failures_read stop (fails first)
+  pub writes : loses writer ≡ failures_written stop (loses to)
+
+-- the stop that a replay with this answer came to
+abbrev pub end_of : Result (Unit {0}) ReplayFault → Option Stop
+end_of (Ok done) = Some End
+end_of (Err fault) = Some (Fault fault)
+
+-- what was done is what the text says up to its first fault: this one, of a line that was read
+abbrev pub EndsAt : (List ℕ → Option ℕ) → List ℕ → Type 0 → List Saying → ℕ → LineFault → Type 0
+EndsAt place text over sayings m fault = (outcome place 1 (lines_of text) ≡ tells sayings (Some (m, fault))) × IsRead text m fault over
+
+-- how the text ends in the answer of a replay
+abbrev pub Ends : (List ℕ → Option ℕ) → List ℕ → Type 0 → List Saying → Result (Unit {0}) ReplayFault → Type 0
+Ends place text over sayings (Ok done) = (outcome place 1 (lines_of text) ≡ tells sayings None) × over
+Ends place text over sayings (Err (Line m fault)) = EndsAt place text over sayings m fault
+Ends place text over sayings (Err Memory) = SaysFirst place text sayings
+Ends place text over sayings (Err Reading) = SaysFirst place text sayings
+Ends place text over sayings (Err Writing) = SaysFirst place text sayings
+
+-- a front of these octets was put; or the text ends at a fault, and the front goes on into that fault's line
+abbrev pub BreaksOff : (ℕ → LineFault → Type 0) → (List ℕ → Type 0) → List ℕ → Type 0
+BreaksOff ends put octets = PutsFront put octets ⊎ ((m : ℕ) × (fault : LineFault) × ends m fault × PutsFront put (octets ++ fault_line m fault))
+
+-- the output: all of it, with the line of a line's fault as the last, or a front of it
+abbrev pub Gives : (ℕ → LineFault → Type 0) → (List ℕ → Type 0) → List ℕ → Result (Unit {0}) ReplayFault → Type 0
+Gives ends put octets (Ok done) = put octets
+Gives ends put octets (Err (Line m fault)) = put (octets ++ fault_line m fault)
+Gives ends put octets (Err Memory) = BreaksOff ends put octets
+Gives ends put octets (Err Reading) = PutsFront put octets
+Gives ends put octets (Err Writing) = BreaksOff ends put octets
+
+-- the names are those of the configuration, in its order
+abbrev pub AreNamesOf : Names → Configuration → Type 0
+AreNamesOf names settings = map (λ name. name.items) names.names.items ≡ map (λ client. client.name) settings.clients
+
+-- the acts of steps, before which others were done
+abbrev pub steps_done : List links.Step → List Act → List Act
+steps_done [] acts = acts
+steps_done (s ∷ run) acts = Did s ∷ steps_done run acts
+
+-- What was done is what a link and a route server of so many clients do together in drives (one behind the other), and between them the lines of
+-- a client's Loc-RIB, as it is then, were told; this run was made by it.
+pub data HasRun (settings : Configuration) (name : ℕ → List ℕ) : List Act → List Move → Type 0 where
+  Begins : HasRun settings name [] (Ruled settings ∷ [])
+  Drove : (acts : List Act) (run : List Move) (y : Course) → HasRun settings name acts run
+      → Drives (length settings.clients) (record { steps = []; run = run }) y → HasRun settings name (steps_done y.steps acts) y.run
+  Tells : (c : ℕ) (told : List ℕ) (acts : List Act) (run : List Move) → HasRun settings name acts run
+      → ListsOf (length settings.clients) run c (name c) told → HasRun settings name (ToldRoutes c told ∷ acts) run
+
+-- The octets that were taken say what was done, in that order, and the octets that were put are its output. What was done is a run of
+-- the route server, and each offer took all.
+pub record IsPlayed (settings : Configuration) (takes : List ℕ → Type 0) (over : Type 0) (put : List ℕ → Type 0) (result : Result (Unit {0}) ReplayFault) : Type 0 where
+  pub names : Names
+  pub named : AreNamesOf names settings
+  pub acts : List Act
+  pub text : List ℕ
+  pub taken : takes text
+  pub ends : Ends (place_in names) text over (said acts) result
+  pub gives : Gives (EndsAt (place_in names) text over (said acts)) put (written (name_in names) acts) result
+  pub took : AllTookAll acts
+  pub run : List Move
+  pub ran : HasRun settings (name_in names) acts run
+
+-- nothing was read yet, and the core was not stopped
+pub record IsAtFirst (r : lines.Reading) (n : ℕ) (stop : Option Stop) : Type 0 where
+  pub rest : r.rest ≡ []
+  pub goes : r.is_over ≡ false
+  pub number : n ≡ 0
+  pub running : stop ≡ None
+
+-- Want of memory may come before the configuration's names are there.
+abbrev pub HasPlayed : Configuration → (List ℕ → Type 0) → Type 0 → (List ℕ → Type 0) → Result (Unit {0}) ReplayFault → Type 0
+HasPlayed settings takes over put result = IsPlayed settings takes over put result ⊎ ((result ≡ Err Memory) × takes [] × put [])
+
+-- A recording goes on from an old state to a new one by a step of the core's link: it has the same names, reader and writer; of an offer all
+-- is taken; and whatever was done and written before, what the step is told of and the step's line come behind it.
+pub record Happens {R W G : Type 0} (takes : R → List ℕ → R → Type 0) (at_end : R → Type 0) (fails : R → ℕ) (puts : W → List ℕ → W → Type 0) (loses : W → ℕ)
+    (names : Names) (reads writes : G) (reader : R) (writer : W) (r : lines.Reading) (n : ℕ) (stop : Option Stop) (step : links.Step)
+    (names2 : Names) (reads2 writes2 : G) (reader2 : R) (writer2 : W) (r2 : lines.Reading) (n2 : ℕ) (stop2 : Option Stop) : Type 0 where
+  pub same_names : names2 ≡ names
+  pub same_reader : reads2 ≡ reads
+  pub same_writer : writes2 ≡ writes
+  pub took : TookAll step
+  pub goes : (first : R) (to : W) (sayings : List Saying) (octets : List ℕ) → Plays takes at_end fails puts loses (place_in names) first to sayings octets reader writer r n stop →
+      Plays takes at_end fails puts loses (place_in names) first to (sayings ++ saying_at step) (octets ++ line_at (name_in names) step) reader2 writer2 r2 n2 stop2
+
+-- A recording goes on by a line of output that no step of the core's link asks for: what was said stays, and the line comes behind what was written.
+pub record Adds {R W G : Type 0} (takes : R → List ℕ → R → Type 0) (at_end : R → Type 0) (fails : R → ℕ) (puts : W → List ℕ → W → Type 0) (loses : W → ℕ)
+    (names : Names) (reads writes : G) (reader : R) (writer : W) (r : lines.Reading) (n : ℕ) (stop : Option Stop) (line : List ℕ)
+    (names2 : Names) (reads2 writes2 : G) (reader2 : R) (writer2 : W) (r2 : lines.Reading) (n2 : ℕ) (stop2 : Option Stop) : Type 0 where
+  pub same_names : names2 ≡ names
+  pub same_reader : reads2 ≡ reads
+  pub same_writer : writes2 ≡ writes
+  pub goes : (first : R) (to : W) (sayings : List Saying) (octets : List ℕ) → Plays takes at_end fails puts loses (place_in names) first to sayings octets reader writer r n stop →
+      Plays takes at_end fails puts loses (place_in names) first to sayings (octets ++ line) reader2 writer2 r2 n2 stop2
+
+-- What was read up to here says what was done, and the replay ends with this answer.
+pub record IsOver {R W : Type 0} (takes : R → List ℕ → R → Type 0) (at_end : R → Type 0) (puts : W → List ℕ → W → Type 0)
+    (place : List ℕ → Option ℕ) (first : R) (to : W) (sayings : List Saying) (octets : List ℕ) (reader : R) (writer : W) (answer : Result (Unit {0}) ReplayFault) : Type 0 where
+  pub text : List ℕ
+  pub taken : takes first text reader
+  pub ends : Ends place text (at_end reader) sayings answer
+  pub gives : Gives (EndsAt place text (at_end reader) sayings) (λ xs. puts to xs writer) octets answer
+
+-- Some acts were done since the first reader and writer, and then the replay ended with this answer. Each offer took all.
+pub record PlaysOut {R W : Type 0} (settings : Configuration) (takes : R → List ℕ → R → Type 0) (at_end : R → Type 0) (puts : W → List ℕ → W → Type 0)
+    (names : Names) (first : R) (to : W) (reader : R) (writer : W) (answer : Result (Unit {0}) ReplayFault) : Type 0 where
+  pub acts : List Act
+  pub run : List Move
+  pub ran : HasRun settings (name_in names) acts run
+  pub took : AllTookAll acts
+  pub over : IsOver takes at_end puts (place_in names) first to (said acts) (written (name_in names) acts) reader writer answer
+
+-- Since the first reader and writer these acts were done, by a recording with these names, and now all stands so.
+pub record HasDone {R W G : Type 0} (takes : R → List ℕ → R → Type 0) (at_end : R → Type 0) (fails : R → ℕ) (puts : W → List ℕ → W → Type 0) (loses : W → ℕ)
+    (names : Names) (reads writes : G) (first : R) (to : W) (acts : List Act)
+    (names2 : Names) (reads2 writes2 : G) (reader : R) (writer : W) (r : lines.Reading) (n : ℕ) (stop : Option Stop) : Type 0 where
+  pub same_names : names2 ≡ names
+  pub same_reader : reads2 ≡ reads
+  pub same_writer : writes2 ≡ writes
+  pub took : AllTookAll acts
+  pub plays : Plays takes at_end fails puts loses (place_in names) first to (said acts) (written (name_in names) acts) reader writer r n stop

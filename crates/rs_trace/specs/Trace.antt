@@ -1,0 +1,91 @@
+-- What a line of a trace says.
+use Rattle.std.specs.Prelude.{ℕ, ◌==◌, nat_lt, Bool, true, if◌then◌else◌, List, [], ◌∷◌, length, codes, bytes_eq, Option, Some, None, Result, Ok, Err}
+use Rattle.std.specs.Result.{result_ok}
+use Rattle.hex.specs.Hex.{decode_of}
+use Rattle.rs_trace.specs.declared.trace.LineFault.{LineFault}
+use Rattle.rs_trace.specs.declared.trace.LineFault.TheVariants.{TooLong, UnknownWord, WordCount, UnknownClient, BadNumber, BadHex}
+use Rattle.rs_trace.specs.declared.trace.Word.{Word}
+use Rattle.rs_trace.specs.declared.trace.Word.TheVariants.{Open, Octets, Room, Moment, Turn, Lost, Rules, Table}
+use Rattle.rs_trace.specs.Words.{words_of}
+use Rattle.rs_trace.specs.Numbers.{number_of}
+
+-- what a line says; a client is its place in the configuration
+pub data Saying : Type 0 where
+  -- a connection to the client is there
+  Opened : ℕ → Saying
+  -- the client sends octets
+  Heard : ℕ → List ℕ → Saying
+  -- the client's connection takes up to so many octets
+  Offered : ℕ → ℕ → Saying
+  -- the clock has come to this second
+  Passed : ℕ → Saying
+  -- what is due is worked out anew
+  Turned : Saying
+  -- the client's connection is lost
+  Left : ℕ → Saying
+  -- the configuration is to be replaced by this text
+  Replaced : List ℕ → Saying
+  -- the routes of the client's Loc-RIB are asked for
+  Listed : ℕ → Saying
+
+-- the words that a line may begin with
+abbrev pub word_of : List ℕ → Option Word
+word_of text =
+    if bytes_eq text (codes "octets") then Some Octets
+    else if bytes_eq text (codes "room") then Some Room
+    else if bytes_eq text (codes "turn") then Some Turn
+    else if bytes_eq text (codes "moment") then Some Moment
+    else if bytes_eq text (codes "open") then Some Open
+    else if bytes_eq text (codes "lost") then Some Lost
+    else if bytes_eq text (codes "rules") then Some Rules
+    else if bytes_eq text (codes "table") then Some Table
+    else None
+
+-- what comes of a value, or the fault where there is none
+abbrev pub with_value : {A B : Type 0} → Option A → LineFault → (A → Result B LineFault) → Result B LineFault
+with_value None fault next = Err fault
+with_value (Some value) fault next = next value
+
+-- at most 4,096 octets, as two hex digits each, of either case
+abbrev pub octets_of : List ℕ → Option (List ℕ)
+octets_of digits = if nat_lt 8192 (length digits) then None else result_ok (decode_of digits)
+
+-- the same, and at least one octet
+abbrev pub text_of : List ℕ → Option (List ℕ)
+text_of [] = None
+text_of (digit ∷ digits) = octets_of (digit ∷ digits)
+
+-- what each word makes of the words behind it
+abbrev pub saying_of : (List ℕ → Option ℕ) → Word → List (List ℕ) → Result Saying LineFault
+saying_of place Open (name ∷ []) = with_value (place name) UnknownClient (λ c. Ok (Opened c))
+saying_of place Octets (name ∷ []) = with_value (place name) UnknownClient (λ c. Ok (Heard c []))
+saying_of place Octets (name ∷ digits ∷ []) =
+    with_value (place name) UnknownClient (λ c. with_value (octets_of digits) BadHex (λ octets. Ok (Heard c octets)))
+saying_of place Room (name ∷ number ∷ []) =
+    with_value (place name) UnknownClient (λ c. with_value (number_of number) BadNumber (λ n. Ok (Offered c n)))
+saying_of place Moment (number ∷ []) = with_value (number_of number) BadNumber (λ t. Ok (Passed t))
+saying_of place Turn [] = Ok Turned
+saying_of place Lost (name ∷ []) = with_value (place name) UnknownClient (λ c. Ok (Left c))
+saying_of place Rules (digits ∷ []) = with_value (text_of digits) BadHex (λ text. Ok (Replaced text))
+saying_of place Table (name ∷ []) = with_value (place name) UnknownClient (λ c. Ok (Listed c))
+saying_of place _ _ = Err WordCount
+
+abbrev pub saying_by_words : (List ℕ → Option ℕ) → List (List ℕ) → Result Saying LineFault
+saying_by_words place [] = Err UnknownWord
+saying_by_words place (word ∷ operands) = with_value (word_of word) UnknownWord (λ w. saying_of place w operands)
+
+-- an empty line, or a comment
+abbrev pub is_passed_over : List ℕ → Bool
+is_passed_over [] = true
+is_passed_over (octet ∷ octets) = octet == 35
+
+abbrev pub result_some : Result Saying LineFault → Result (Option Saying) LineFault
+result_some (Ok saying) = Ok (Some saying)
+result_some (Err fault) = Err fault
+
+-- what a line says, or its first fault; nothing where it is passed over. `place` finds a client by its name.
+abbrev pub line_of : (List ℕ → Option ℕ) → List ℕ → Result (Option Saying) LineFault
+line_of place line =
+    if nat_lt 8240 (length line) then Err TooLong
+    else if is_passed_over line then Ok None
+    else result_some (saying_by_words place (words_of line))

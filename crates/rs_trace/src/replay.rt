@@ -1,0 +1,79 @@
+//! Plays a recorded session through the core.
+
+ghost use Rattle.std.specs.Prelude.{◌≡◌, ◌<◌, ◌≤◌, [], ◌∷◌, length};
+ghost use Rattle.rs_policy.specs.Configuration.{Configuration};
+ghost use Rattle.rs_core.specs.Core.{client_count};
+ghost use Rattle.rs_core.specs.Moves.{Ruled};
+ghost use Rattle.rs_core.specs.Agreeing.{Agrees};
+ghost use Rattle.rs_trace.specs.Played.{failures_read, failures_written};
+ghost use Rattle.rs_trace.specs.Replays.{HasPlayed, IsAtFirst, PlaysOut, end_of};
+
+use crate::fault::{ReplayFault, Stop};
+use crate::progress::Watch;
+use crate::recording::{Kept, Recording};
+use crate::tables::route_lines;
+use crate::text::{TextIn, TextOut};
+use rs_core::{Core, drive_with};
+use rs_policy::Config;
+use rs_workers::Free;
+use std::alloc::Global;
+use std::sync::Wait;
+use std::thread::Threads;
+
+/// Plays a trace to its end or to its first fault, whose line is then the last that is written.
+/// Each line before it has had its effect. So many workers share the work of a turn.
+pub fn replay<T: Threads + Wait + Sync, R: TextIn, W: TextOut, P: Watch>(
+    rt: &T,
+    alloc: Global,
+    reader: &mut R,
+    writer: &mut W,
+    watch: &mut P,
+    config: Config,
+    workers: usize,
+) -> Result<(), ReplayFault>
+    requires { (0 < workers) × (workers ≤ 16) }
+    ensures played { HasPlayed config (λ text. R.takes reader.old text reader.new) (R.at_end reader.new) (λ octets. W.puts writer.old octets writer.new) result }
+    ensures reads { R.failures reader.new ≡ failures_read (end_of result) (R.failures reader.old) }
+    ensures writes { W.failures writer.new ≡ failures_written (end_of result) (W.failures writer.old) }
+{
+    let Ok(mut kept) = Kept::new(alloc, &config) else {
+        return Err(ReplayFault::Memory);
+    };
+    let Ok(mut core) = Core::new(alloc, config) else {
+        return Err(ReplayFault::Memory);
+    };
+    let mut recording = Recording::new(alloc, &mut kept, reader, writer, watch);
+    play_on(rt, alloc, workers, &mut core, &mut recording)
+}
+
+/// Lets the core run until the recording is over, and tells routes where it stops for them.
+fn play_on<T: Threads + Wait + Sync, R: TextIn, W: TextOut, P: Watch>(
+    rt: &T,
+    alloc: Global,
+    workers: usize,
+    core: &mut Core,
+    recording: &mut Recording<'_, R, W, P>,
+) -> Result<(), ReplayFault>
+    requires workers { (0 < workers) × (workers ≤ 16) }
+    requires first { IsAtFirst recording.old.lines.now recording.old.number recording.old.stop }
+    ensures reader { recording.new.reader.ghost_name ≡ recording.old.reader.ghost_name }
+    ensures writer { recording.new.writer.ghost_name ≡ recording.old.writer.ghost_name }
+    ensures played { (settings : Configuration) → client_count core.old ≡ length settings.clients → Agrees core.old (Ruled settings ∷ []) → PlaysOut settings R.takes R.at_end W.puts recording.old.names.now recording.old.reader.now recording.old.writer.now recording.new.reader.now recording.new.writer.now result }
+    ensures reads { R.failures recording.new.reader.now ≡ failures_read (end_of result) (R.failures recording.old.reader.now) }
+    ensures writes { W.failures recording.new.writer.now ≡ failures_written (end_of result) (W.failures recording.old.writer.now) }
+{
+    for _ in rt.forever() {
+        drive_with(rt, workers, &Free, core, recording);
+        match recording.stop() {
+            None => {}
+            Some(Stop::Table(c)) => {
+                recording.resume();
+                let lines = route_lines(alloc, core, c, recording.name(c));
+                recording.tell_routes(&lines);
+            }
+            Some(Stop::End) => return Ok(()),
+            Some(Stop::Fault(fault)) => return Err(recording.end_at(fault)),
+        }
+    }
+    unreachable!()
+}

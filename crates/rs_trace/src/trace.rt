@@ -1,0 +1,197 @@
+//! The lines of a trace: what each says, and the first fault of one that says nothing. A further
+//! kind of line is a further row of `Word`, of `Entry` and of `entry_of`.
+
+ghost use Rattle.std.specs.Prelude.{◌≡◌, ℕ, List, Option, take, ok_or, option_map};
+ghost use Rattle.rs_trace.specs.Words.{AreOperands};
+ghost use Rattle.rs_trace.specs.Output.{fault_text};
+ghost use Rattle.rs_trace.specs.Trace.{word_of, octets_of, text_of, saying_of, line_of};
+ghost use Rattle.rs_trace.specs.Entries.{entry_as_saying, line_as_saying};
+
+use crate::number::read_number;
+use crate::words::{Operands, split_words};
+use thiserror::Error;
+
+/// The longest line, in octets without its end.
+pub const LONGEST_LINE: usize = 8240;
+
+/// The most octets that a line gives.
+pub const LONGEST_PIECE: usize = 4096;
+
+/// The fault of a line: the first, in this order, that it has.
+#[derive(Clone, Copy, Debug, Drop, Error, PartialEq, Eq)]
+#[error("{}", self.text())]
+pub enum LineFault {
+    TooLong,
+    UnknownWord,
+    WordCount,
+    UnknownClient,
+    BadNumber,
+    BadHex,
+}
+
+impl LineFault {
+    /// What is told of it.
+    pub fn text(&self) -> &'static str
+        ensures { result.now ≡ fault_text self.now }
+    {
+        match self {
+            LineFault::TooLong => "too long",
+            LineFault::UnknownWord => "unknown word",
+            LineFault::WordCount => "word count",
+            LineFault::UnknownClient => "unknown client",
+            LineFault::BadNumber => "bad number",
+            LineFault::BadHex => "bad hex",
+        }
+    }
+}
+
+/// The word that a line begins with.
+#[derive(Clone, Copy)]
+pub enum Word {
+    Open,
+    Octets,
+    Room,
+    Moment,
+    Turn,
+    Lost,
+    Rules,
+    Table,
+}
+
+/// What a line asks for, by a client's place in the configuration.
+#[derive(Clone, Copy, Debug, PartialEq, Eq)]
+pub enum Entry {
+    /// A connection to the client is there.
+    Open(usize),
+    /// The client sends so many octets, which stand at the front of a piece.
+    Octets(usize, usize),
+    /// The client's connection takes up to so many octets.
+    Room(usize, u64),
+    /// The second of the clock.
+    Moment(u64),
+    /// What is due is worked out anew.
+    Turn,
+    /// The client's connection is lost.
+    Lost(usize),
+    /// The configuration is replaced by a text of so many octets, which stand at the front of a piece.
+    Rules(usize),
+    /// The routes of the client's Loc-RIB are to be told.
+    Table(usize),
+}
+
+/// Where the names of clients are looked up.
+pub trait Places {
+    ghost place_of: { Self → List ℕ → Option ℕ };
+
+    /// The place of the client of this name.
+    fn place(&self, name: &[u8]) -> Option<usize>
+        ensures { result ≡ place_of self.now name.now };
+}
+
+fn read_word(text: &[u8]) -> Option<Word>
+    ensures { result ≡ word_of text.now }
+{
+    if text == b"octets".as_slice() {
+        Some(Word::Octets)
+    } else if text == b"room".as_slice() {
+        Some(Word::Room)
+    } else if text == b"turn".as_slice() {
+        Some(Word::Turn)
+    } else if text == b"moment".as_slice() {
+        Some(Word::Moment)
+    } else if text == b"open".as_slice() {
+        Some(Word::Open)
+    } else if text == b"lost".as_slice() {
+        Some(Word::Lost)
+    } else if text == b"rules".as_slice() {
+        Some(Word::Rules)
+    } else if text == b"table".as_slice() {
+        Some(Word::Table)
+    } else {
+        None
+    }
+}
+
+/// Reads hex to the front of the piece, and answers how many octets that makes.
+fn read_hex(digits: &[u8], piece: &mut [u8; 4096]) -> Option<usize>
+    ensures { option_map (λ n. take n piece.new) result ≡ octets_of digits.now }
+{
+    if digits.len() > 2 * LONGEST_PIECE {
+        return None;
+    }
+    let size = digits.len() / 2;
+    match hex::decode_to_slice(digits, &mut piece[..size]) {
+        Ok(()) => Some(size),
+        Err(_) => None,
+    }
+}
+
+/// Reads hex of at least one octet, as `read_hex` does.
+fn read_text(digits: &[u8], piece: &mut [u8; 4096]) -> Option<usize>
+    ensures { option_map (λ n. take n piece.new) result ≡ text_of digits.now }
+{
+    if digits.is_empty() {
+        return None;
+    }
+    read_hex(digits, piece)
+}
+
+fn place<P: Places>(names: &P, name: &[u8]) -> Result<usize, LineFault>
+    ensures { result ≡ ok_or (P.place_of names.now name.now) LineFault.UnknownClient }
+{
+    names.place(name).ok_or(LineFault::UnknownClient)
+}
+
+fn entry_of<P: Places>(
+    names: &P,
+    word: Word,
+    operands: Operands<'_>,
+    piece: &mut [u8; 4096],
+) -> Result<Entry, LineFault>
+    ensures { (ws : List (List ℕ)) → AreOperands operands.entry ws → entry_as_saying piece.new result ≡ saying_of (P.place_of names.now) word ws }
+{
+    match (word, operands) {
+        (Word::Octets, Operands::Two(name, digits)) => {
+            let client = place(names, name)?;
+            let size = read_hex(digits, piece).ok_or(LineFault::BadHex)?;
+            Ok(Entry::Octets(client, size))
+        }
+        (Word::Octets, Operands::One(name)) => Ok(Entry::Octets(place(names, name)?, 0)),
+        (Word::Room, Operands::Two(name, number)) => {
+            let client = place(names, name)?;
+            let room = read_number(number).ok_or(LineFault::BadNumber)?;
+            Ok(Entry::Room(client, room))
+        }
+        (Word::Turn, Operands::Nothing) => Ok(Entry::Turn),
+        (Word::Moment, Operands::One(number)) => {
+            Ok(Entry::Moment(read_number(number).ok_or(LineFault::BadNumber)?))
+        }
+        (Word::Open, Operands::One(name)) => Ok(Entry::Open(place(names, name)?)),
+        (Word::Lost, Operands::One(name)) => Ok(Entry::Lost(place(names, name)?)),
+        (Word::Rules, Operands::One(digits)) => {
+            Ok(Entry::Rules(read_text(digits, piece).ok_or(LineFault::BadHex)?))
+        }
+        (Word::Table, Operands::One(name)) => Ok(Entry::Table(place(names, name)?)),
+        _ => Err(LineFault::WordCount),
+    }
+}
+
+/// Reads a line without its end. Octets that it gives stand at the front of the piece. Nothing is
+/// answered for an empty line and for a comment.
+pub fn read_line<P: Places>(
+    names: &P,
+    line: &[u8],
+    piece: &mut [u8; 4096],
+) -> Result<Option<Entry>, LineFault>
+    ensures meaning { line_as_saying piece.new result ≡ line_of (P.place_of names.now) line.now }
+{
+    if line.len() > LONGEST_LINE {
+        return Err(LineFault::TooLong);
+    }
+    if line.is_empty() || line[0] == b'#' {
+        return Ok(None);
+    }
+    let (first, operands) = split_words(line);
+    let word = read_word(first).ok_or(LineFault::UnknownWord)?;
+    Ok(Some(entry_of(names, word, operands, piece)?))
+}
