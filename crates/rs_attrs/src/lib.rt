@@ -26,8 +26,6 @@ mod reading;
 mod segments;
 mod stripping;
 mod table;
-#[cfg(test)]
-mod tests;
 mod types;
 mod writing;
 

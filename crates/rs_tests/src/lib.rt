@@ -10,6 +10,8 @@
 #[cfg(test)]
 mod adjin;
 #[cfg(test)]
+mod attrs;
+#[cfg(test)]
 mod command;
 #[cfg(test)]
 mod common;

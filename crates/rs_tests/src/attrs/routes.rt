@@ -1,10 +1,7 @@
 //! Routes as clients send them, and what is asked of their attributes.
 
 use super::{ROUTE, attrs_of, put, route_with};
-use crate::attrs::Attrs;
-use crate::mode::Mode;
-use crate::stripping::{Strip, stripped};
-use crate::writing::{size, size_at_most};
+use rs_attrs::{Attrs, Mode, Strip, size, size_at_most, stripped};
 use std::alloc::Global;
 use std::cmp::Ordering;
 use std::hash::{DefaultHasher, Hash, Hasher};

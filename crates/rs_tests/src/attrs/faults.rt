@@ -1,9 +1,7 @@
 //! What is told of fields that are not well formed.
 
 use super::octets;
-use crate::faults::{AttributeFault, Cause, Faulted};
-use crate::mode::Mode;
-use crate::reading::read;
+use rs_attrs::{AttributeFault, Cause, Faulted, Mode, read};
 use std::alloc::{AllocError, Global};
 use std::process::Abort;
 

@@ -1,10 +1,7 @@
 //! What fields mean: each type with good and bad values, and the rules that join them.
 
 use super::{octets, put, spelt};
-use crate::attrs::Attrs;
-use crate::faults::Faults;
-use crate::mode::Mode;
-use crate::reading::read;
+use rs_attrs::{Attrs, Faults, Mode, read};
 use std::alloc::Global;
 use std::process::Abort;
 
@@ -244,12 +241,16 @@ fn thousand(rt: &impl Abort, alloc: Global) -> Vec<u8> {
     field
 }
 
-/// Attributes are so many, each with an octet of 0 as its value, and no more room is held for them.
-fn holds_zeros(rt: &impl Abort, attrs: &Attrs, count: usize) {
-    assert_eq!(rt; attrs.heads.len(), count);
-    assert_eq!(rt; attrs.heads.capacity(), count);
-    assert_eq!(rt; attrs.values.capacity(), count);
-    assert!(rt; attrs.values.iter().all(|value| *value == 0));
+/// Of an attribute of this type the value is an octet of 0 where it is one of the thousand; of the others there is none.
+fn is_zero_or_none(rt: &impl Abort, attrs: &Attrs, kind: u8) {
+    let is_of_them = kind >= 33 && kind < 233;
+    match attrs.get(kind) {
+        Some(attribute) => {
+            assert!(rt; is_of_them, "type {kind}");
+            assert_eq!(rt; attribute.value, [0].as_slice(), "type {kind}");
+        }
+        None => assert!(rt; !is_of_them, "type {kind}"),
+    }
 }
 
 #[test]
@@ -257,7 +258,9 @@ fn a_thousand_attributes_of_one_octet(rt: HostRuntime) {
     let field = thousand(&rt, rt.alloc());
     assert_eq!(rt; field.len(), 4000);
     let attrs = faultless(&rt, rt.alloc(), &field, Mode::Four);
-    holds_zeros(&rt, &attrs, 200);
+    for kind in 0..=255 {
+        is_zero_or_none(&rt, &attrs, kind);
+    }
 }
 
 /// An AS_PATH of three segments of 255 numbers, with its length in these two octets and these octets in
