@@ -1,6 +1,6 @@
 //! What a trace asks for, one entry after the other, as events for the core. It reads by `TextIn` alone.
 
-ghost use Rattle.std.specs.Prelude.{◌≡◌, ◌∷◌, ℕ, []};
+ghost use Rattle.std.specs.Prelude.{◌≡◌, ◌∷◌, ℕ, OnOk, [], suc};
 ghost use Rattle.rs_core.specs.Links as links;
 ghost use Rattle.rs_trace.specs.Entries.{saying_in};
 ghost use Rattle.rs_trace.specs.Played.{failures_read, failures_written, saying_told};
@@ -26,6 +26,7 @@ fn read_entry<R: TextIn, P: Watch>(
     ensures on { ReadsOn R.takes R.at_end (place_in names.now) reader.old number.old lines.old reader.new number.new lines.new (sayings_in piece.new result) (stop_of result) }
     ensures reads { R.failures reader.new ≡ failures_read (stop_of result) (R.failures reader.old) }
     ensures unwritten { (n : ℕ) → n ≡ failures_written (stop_of result) n }
+    ensures line { OnOk result (number.new ≡ suc number.old) }
 {
     if *number >= u64::MAX - 1 {
         // The number of a further line has no room.
