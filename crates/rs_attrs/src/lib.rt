@@ -26,6 +26,8 @@ mod reading;
 mod segments;
 mod stripping;
 mod table;
+#[cfg(test)]
+mod tests;
 mod types;
 mod writing;
 

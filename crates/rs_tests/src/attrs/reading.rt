@@ -230,39 +230,6 @@ fn faultless(rt: &impl Abort, alloc: Global, field: &[u8], mode: Mode) -> Attrs 
     parsed.attrs
 }
 
-/// A thousand attributes of an octet each: 200 types, each five times, with the values 0 to 4.
-fn thousand(rt: &impl Abort, alloc: Global) -> Vec<u8> {
-    let mut field = Vec::new(alloc);
-    for value in 0..5u8 {
-        for kind in 33..233u8 {
-            put(rt, &mut field, &[0x80, kind, 1, value]);
-        }
-    }
-    field
-}
-
-/// Of an attribute of this type the value is an octet of 0 where it is one of the thousand; of the others there is none.
-fn is_zero_or_none(rt: &impl Abort, attrs: &Attrs, kind: u8) {
-    let is_of_them = kind >= 33 && kind < 233;
-    match attrs.get(kind) {
-        Some(attribute) => {
-            assert!(rt; is_of_them, "type {kind}");
-            assert_eq!(rt; attribute.value, [0].as_slice(), "type {kind}");
-        }
-        None => assert!(rt; !is_of_them, "type {kind}"),
-    }
-}
-
-#[test]
-fn a_thousand_attributes_of_one_octet(rt: HostRuntime) {
-    let field = thousand(&rt, rt.alloc());
-    assert_eq!(rt; field.len(), 4000);
-    let attrs = faultless(&rt, rt.alloc(), &field, Mode::Four);
-    for kind in 0..=255 {
-        is_zero_or_none(&rt, &attrs, kind);
-    }
-}
-
 /// An AS_PATH of three segments of 255 numbers, with its length in these two octets and these octets in
 /// front of the two low ones of each number.
 fn full_path(rt: &impl Abort, alloc: Global, length: [u8; 2], high: &[u8]) -> Vec<u8> {
