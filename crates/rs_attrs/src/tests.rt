@@ -35,6 +35,18 @@ fn holds_zeros(rt: &impl Abort, attrs: &Attrs, count: usize) {
     assert!(rt; attrs.values.iter().all(|value| *value == 0));
 }
 
+/// Of an attribute of this type the value is an octet of 0 where it is one of the thousand; of the others there is none.
+fn is_zero_or_none(rt: &impl Abort, attrs: &Attrs, kind: u8) {
+    let is_of_them = kind >= 33 && kind < 233;
+    match attrs.get(kind) {
+        Some(attribute) => {
+            assert!(rt; is_of_them, "type {kind}");
+            assert_eq!(rt; attribute.value, [0].as_slice(), "type {kind}");
+        }
+        None => assert!(rt; !is_of_them, "type {kind}"),
+    }
+}
+
 #[test]
 fn a_thousand_attributes_of_one_octet(rt: HostRuntime) {
     let field = thousand(&rt, rt.alloc());
@@ -42,4 +54,7 @@ fn a_thousand_attributes_of_one_octet(rt: HostRuntime) {
     let parsed = read(rt.alloc(), &field, Mode::Four).expect(&rt, "attributes");
     assert_eq!(rt; parsed.faults, NO_FAULTS);
     holds_zeros(&rt, &parsed.attrs, 200);
+    for kind in 0..=255 {
+        is_zero_or_none(&rt, &parsed.attrs, kind);
+    }
 }
