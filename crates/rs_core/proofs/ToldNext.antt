@@ -81,11 +81,11 @@ news_by (Some m) (Some n) false is_gone e = inl (λ same. absurd (by_test (same_
 
 -- an UPDATE about these prefixes: each has what is due, and each other one what it had
 one_update : (mode : Mode) (points : List Point) (taken flight : List ℕ) (v w : View) (change : Change) (ps : List Prefix) (p : Prefix)
-    → HasEffect (body_of flight) mode (Changes change) → updates_in (taken ++ flight) ≡ updates_in taken ++ body_of flight ∷ []
+    → rest_of each_message taken ≡ [] → HasEffect (body_of flight) mode (Changes change) → updates_in (taken ++ flight) ≡ updates_in taken ++ body_of flight ∷ []
     → mentions p change ≡ has_prefix p ps → (has_prefix p ps ≡ true → attributes_after p (Some change) ≡ fin.get v.loc p)
     → (has_prefix p ps ≡ true → (fin.get v.loc p ≢ fin.get v.told p) ⊎ (set.contains v.marked p ≡ true))
     → Settles v w ps → fin.get v.loc p ≡ latest (dues_at points p) → IsToldInOrder mode points taken v p → IsToldInOrder mode (Offered taken ∷ points) (taken ++ flight) w p
-one_update mode points taken flight v w change ps p effect updates mention after news settles due t = by_test (has_prefix p ps) refl where
+one_update mode points taken flight v w change ps p rest effect updates mention after news settles due t = by_test (has_prefix p ps) refl where
   all : List Change
   all = t.tells.changes ++ change ∷ []
 
@@ -110,7 +110,7 @@ one_update mode points taken flight v w change ps p effect updates mention after
       are = (λ i. sym (after e) i ∷ t.tells.are i)
           ∙ sym (newest ∙ ap (λ b. if b then attributes_after p (Some change) ∷ told_by (reverse t.tells.changes) p else told_by (reverse t.tells.changes) p) (mention ∙ e));
     };
-    order = inr (record { value = fin.get v.loc p; earlier = t.values; was_asked = t.asked; are = refl; before = t.order; taken_tells = t.tells; due = due; news = is_news (news e); answered = refl });
+    order = inr (record { value = fin.get v.loc p; earlier = t.values; was_asked = t.asked; are = refl; before = t.order; taken_tells = t.tells; whole = rest; due = due; news = is_news (news e); answered = refl });
     told = settles.told p ∙ ap (λ b. if b then fin.get v.loc p else fin.get v.told p) (among_has p ps ∙ e);
     marked = λ m. absurd (false≢true (sym (settles.marked p ∙ ap (λ b. not b && set.contains v.marked p) (among_has p ps ∙ e)) ∙ m));
     pending = λ a there. absurd (false≢true a);
@@ -148,7 +148,7 @@ told_next speech points taken v w ins p numbered order whole (inr (inl gone)) du
     let ok : IsWithdrawable gone.prefixes = record { prefixes = gone.prefixes_legal; fits = let most = limit_most speech.limit in let fits : length (withdrawal gone.prefixes) ≤ limit_octets speech.limit = subst (λ f. length f ≤ limit_octets speech.limit) gone.flight gone.fits in omega (arith, most, fits) } in
     subst (λ f. IsToldInOrder speech.mode (Offered taken ∷ points) (taken ++ f) w p) (sym gone.flight)
     (one_update speech.mode points taken (withdrawal gone.prefixes) v w (record { withdrawn = once gone.prefixes; announced = []; attributes = None }) gone.prefixes p
-    (withdrawal_withdraws speech.mode gone.prefixes ok) (updates_more taken (withdrawal gone.prefixes) kinds.Update whole (update_is_message each_message gone.prefixes [] [] ok.fits))
+    whole (withdrawal_withdraws speech.mode gone.prefixes ok) (updates_more taken (withdrawal gone.prefixes) kinds.Update whole (update_is_message each_message gone.prefixes [] [] ok.fits))
     (or-false (has_prefix p (once gone.prefixes)) ∙ once_has p gone.prefixes)
     (λ e. sym (all_at (λ q. fin.get v.loc q ≡ None) gone.prefixes p (all_gone v gone.prefixes order.exact gone.waited) e))
     (λ e. news_by (fin.get v.loc p) (fin.get v.told p) (set.contains v.marked p) true (sym (order.exact p) ∙ all_at (λ q. fin.get v.waits q ≡ Some true) gone.prefixes p gone.waited e))
@@ -166,7 +166,7 @@ told_next speech points taken v w ins p numbered order whole (inr (inr news)) du
     } in
     subst (λ f. IsToldInOrder speech.mode (Offered taken ∷ points) (taken ++ f) w p) (sym news.flight)
     (one_update speech.mode points taken (announcement m speech.mode news.prefixes) v w (record { withdrawn = []; announced = once news.prefixes; attributes = Some m }) news.prefixes p
-    (announcement_announces m speech.mode news.prefixes ok) (updates_more taken (announcement m speech.mode news.prefixes) kinds.Update whole (update_is_message each_message [] (spelt m speech.mode) news.prefixes ok.fits))
+    whole (announcement_announces m speech.mode news.prefixes ok) (updates_more taken (announcement m speech.mode news.prefixes) kinds.Update whole (update_is_message each_message [] (spelt m speech.mode) news.prefixes ok.fits))
     (once_has p news.prefixes)
     (λ e. ap (λ b. if b then Some m else None) (once_has p news.prefixes ∙ e) ∙ sym (all_at (λ q. fin.get v.loc q ≡ Some m) news.prefixes p all_due e))
     (λ e. news_by (fin.get v.loc p) (fin.get v.told p) (set.contains v.marked p) false (sym (order.exact p) ∙ all_at (λ q. fin.get v.waits q ≡ Some false) news.prefixes p news.waited e))

@@ -13,7 +13,8 @@ use Rattle.rs_outlet.specs.declared.answers.Speech.{Speech}
 use Rattle.rs_outlet.specs.Views.{View}
 use Rattle.rs_core.specs.Points.{Point, Decided, Asked, Offered, Value, dues_at, latest}
 use Rattle.rs_core.specs.Hearing.{Hearing, state_in, is_up}
-use Rattle.rs_core.specs.Telling.{updates_in}
+use Rattle.rs_core.specs.Telling.{each_message, updates_in}
+use Rattle.rs_octets.specs.Messages.{rest_of}
 
 -- what these changes tell a prefix, one value for each that mentions it; the newest stand first
 abbrev pub told_by : List Change → Prefix → List Value
@@ -35,6 +36,7 @@ pub record TellsOneMore (mode : Mode) (points : List Point) (taken : List ℕ) (
   pub are : values ≡ value ∷ earlier
   pub before : Before earlier was_asked
   pub taken_tells : TellsAt mode taken p earlier
+  pub whole : rest_of each_message taken ≡ []
   pub due : value ≡ latest (dues_at points p)
   pub news : (value ≢ latest earlier) ⊎ (was_asked ≡ true)
   pub answered : asked ≡ false
