@@ -13,6 +13,7 @@ use Rattle.rs_core.specs.Hearing.{Hearing, session_in, state_in, is_up, said_in,
 use Rattle.rs_core.specs.Runs.{hearing, due}
 use Rattle.rs_core.specs.Telling.{updates_in}
 use Rattle.rs_core.specs.Links.{Step, Told}
+use Rattle.rs_core.specs.Core.{client_count, lent_octets}
 use Rattle.rs_core.specs.Courses.{Course, called, memories}
 use Rattle.rs_core.specs.Answers.{Offers, Nothing, Fails, Takes, Gives, Used, Stopped, Goes_on, Answers, Passes, Begins, Declines, Hears, Drops, Sees, Turns, Fills, Loses, Rules, Keeps, Ended, Lasts, Owes, Closes, Ends, Rounds, Start, Round, Drives, Drove, Never, Again}
 use Rattle.rs_core.specs.Serving.{taken_by, start, IsTakenBy, ServesByOffers}
@@ -74,51 +75,51 @@ cut k room octets within = take-take k room octets (omega (arith, within, length
 
 -- ---- by what a link and a route server do together
 
-offers_keep : (n d room k c : ℕ) (x y : Course) → Offers n d room k x y → IsTakenBy c x → IsTakenBy c y
-offers_keep n d room k c x y (Nothing u lends) so = so
-offers_keep n d room k c x y (Fails octets u some lends) so = left (d == c) (config_in u.run) c reasons.Lost (offers (d == c) (hearing c u.run)) (taken_by c u.steps) so
-offers_keep n d room k c x y (Takes octets j u some lends within) so = λ on.
-    took (d == c) (offers (d == c) (hearing c u.run)) (taken_by c u.steps) (take j octets) so on
-    ∙ ap (λ l. if d == c then taken_by c u.steps ++ l else taken_by c u.steps) (sym (cut j room octets within))
+offers_keep : (d room k c : ℕ) (x y : Course) → Offers d room k x y → IsTakenBy c x → IsTakenBy c y
+offers_keep d room k c x y (Nothing u core lent none empty) so = so
+offers_keep d room k c x y (Fails u core after lent some lost) so = left (d == c) (config_in u.run) c reasons.Lost (offers (d == c) (hearing c u.run)) (taken_by c u.steps) so
+offers_keep d room k c x y (Takes j u core after lent some within taken) so = λ on.
+    took (d == c) (offers (d == c) (hearing c u.run)) (taken_by c u.steps) (take j (lent_octets core d)) so on
+    ∙ ap (λ l. if d == c then taken_by c u.steps ++ l else taken_by c u.steps) (sym (cut j room (lent_octets core d) within))
 
-gives_keep : (n d room c : ℕ) (x y : Course) → Gives n d room x y → IsTakenBy c x → IsTakenBy c y
-gives_keep n d room c x y (Used u) so = so
-gives_keep n d room c x y (Stopped r u v some offers) so = offers_keep n d r 0 c u v offers so
-gives_keep n d room c x y (Goes_on r k u v w some within offers rest) so = gives_keep n d _ c v w rest (offers_keep n d r k c u v offers so)
+gives_keep : (d room c : ℕ) (x y : Course) → Gives d room x y → IsTakenBy c x → IsTakenBy c y
+gives_keep d room c x y (Used u) so = so
+gives_keep d room c x y (Stopped r u v some offers) so = offers_keep d r 0 c u v offers so
+gives_keep d room c x y (Goes_on r k u v w some within offers rest) so = gives_keep d _ c v w rest (offers_keep d r k c u v offers so)
 
-answers_keep : (n : ℕ) (octets : List ℕ) (event : Event) (c : ℕ) (x y : Course) → Answers n octets event x y → IsTakenBy c x → IsTakenBy c y
-answers_keep n octets event c x y (Passes e u over) so = so
-answers_keep n octets event c x y (Begins d u lt idle) so = came (d == c) (hearing c u.run) (taken_by c u.steps) so
-answers_keep n octets event c x y (Declines d u lt busy) so = so
-answers_keep n octets event c x y (Hears d len u lt le) so = heard (d == c) (config_in u.run) c octets (hearing c u.run) (taken_by c u.steps) so
-answers_keep n octets event c x y (Drops d len u lt le) so = left (d == c) (config_in u.run) c reasons.Memory (hearing c u.run) (taken_by c u.steps) so
-answers_keep n octets event c x y (Sees t u) so = so
-answers_keep n octets event c x y (Turns refused u established) so = λ on. so on ∙ sym (remembered c refused u.steps)
-answers_keep n octets event c x y (Fills d room u v lt gives) so = gives_keep n d room c u v gives so
-answers_keep n octets event c x y (Loses d u lt) so = left (d == c) (config_in u.run) c reasons.Lost (hearing c u.run) (taken_by c u.steps) so
-answers_keep n octets event c x y (Rules config u replaces) so = so
-answers_keep n octets event c x y (Keeps fault u refuses) so = so
+answers_keep : (octets : List ℕ) (event : Event) (c : ℕ) (x y : Course) → Answers octets event x y → IsTakenBy c x → IsTakenBy c y
+answers_keep octets event c x y (Passes e u over) so = so
+answers_keep octets event c x y (Begins d u core became lt idle) so = came (d == c) (hearing c u.run) (taken_by c u.steps) so
+answers_keep octets event c x y (Declines d u lt busy) so = so
+answers_keep octets event c x y (Hears d len u core became lt le) so = heard (d == c) (config_in u.run) c octets (hearing c u.run) (taken_by c u.steps) so
+answers_keep octets event c x y (Drops d len u core became lt le) so = left (d == c) (config_in u.run) c reasons.Memory (hearing c u.run) (taken_by c u.steps) so
+answers_keep octets event c x y (Sees t u core became) so = so
+answers_keep octets event c x y (Turns refused u core became established) so = λ on. so on ∙ sym (remembered c refused u.steps)
+answers_keep octets event c x y (Fills d room u v lt gives) so = gives_keep d room c u v gives so
+answers_keep octets event c x y (Loses d u core became lt) so = left (d == c) (config_in u.run) c reasons.Lost (hearing c u.run) (taken_by c u.steps) so
+answers_keep octets event c x y (Rules config u core became replaces) so = so
+answers_keep octets event c x y (Keeps fault u refuses) so = so
 
-ended_keep : (n d c : ℕ) (x y : Course) → Ended n d x y → IsTakenBy c x → IsTakenBy c y
-ended_keep n d c x y (Lasts u not) so = so
-ended_keep n d c x y (Owes octets u closing some lends) so = so
-ended_keep n d c x y (Closes u closing lends) so = left (d == c) (config_in u.run) c reasons.Lost (offers (d == c) (hearing c u.run)) (taken_by c u.steps) so
+ended_keep : (d c : ℕ) (x y : Course) → Ended d x y → IsTakenBy c x → IsTakenBy c y
+ended_keep d c x y (Lasts u not) so = so
+ended_keep d c x y (Owes u core lent closing some) so = so
+ended_keep d c x y (Closes u core after lent closing none gone) so = left (d == c) (config_in u.run) c reasons.Lost (offers (d == c) (hearing c u.run)) (taken_by c u.steps) so
 
-ends_keep : (n k c : ℕ) (x y : Course) → Ends n k x y → IsTakenBy c x → IsTakenBy c y
-ends_keep n zero c x y ends so = subst (IsTakenBy c) ends so
-ends_keep n (suc k) c x y ends so = ended_keep n k c ends.0 y ends.2 (ends_keep n k c x ends.0 ends.1 so)
+ends_keep : (k c : ℕ) (x y : Course) → Ends k x y → IsTakenBy c x → IsTakenBy c y
+ends_keep zero c x y ends so = subst (IsTakenBy c) ends so
+ends_keep (suc k) c x y ends so = ended_keep k c ends.0 y ends.2 (ends_keep k c x ends.0 ends.1 so)
 
-rounds_keep : (n c : ℕ) (x y : Course) → Rounds n x y → IsTakenBy c x → IsTakenBy c y
-rounds_keep n c x y Start so = so
-rounds_keep n c x y (Round event octets u v w rounds goes_on answers ends) so =
-    ends_keep n n c v w ends (answers_keep n octets event c (called (Told event octets) u) v answers (rounds_keep n c x u rounds so))
+rounds_keep : (c : ℕ) (x y : Course) → Rounds x y → IsTakenBy c x → IsTakenBy c y
+rounds_keep c x y Start so = so
+rounds_keep c x y (Round event octets u v w rounds goes_on answers ends) so =
+    ends_keep (client_count v.core) c v w ends (answers_keep octets event c (called (Told event octets) u) v answers (rounds_keep c x u rounds so))
 
-drives_keep : (n c : ℕ) (x y : Course) → Drives n x y → IsTakenBy c x → IsTakenBy c y
-drives_keep n c x y drives so = subst (IsTakenBy c) (sym drives.stop) (rounds_keep n c x drives.before drives.rounds so)
+drives_keep : (c : ℕ) (x y : Course) → Drives x y → IsTakenBy c x → IsTakenBy c y
+drives_keep c x y drives so = subst (IsTakenBy c) (sym drives.stop) (rounds_keep c x drives.before drives.rounds so)
 
-drove_keep : (n c : ℕ) (x y : Course) → Drove n x y → IsTakenBy c x → IsTakenBy c y
-drove_keep n c x y Never so = so
-drove_keep n c x y (Again u v drove drives) so = drives_keep n c u v drives (drove_keep n c x u drove so)
+drove_keep : (c : ℕ) (x y : Course) → Drove x y → IsTakenBy c x → IsTakenBy c y
+drove_keep c x y Never so = so
+drove_keep c x y (Again u v drove drives) so = drives_keep c u v drives (drove_keep c x u drove so)
 
 -- ---- a client that is served
 
@@ -127,8 +128,8 @@ connected_by true f k up = refl
 connected_by false f k up = absurd (let g : false ≡ true = up in cc)
 
 pub serves : ServesByOffers
-serves n c config x drove served =
+serves c config core agrees x drove served =
     let h = hearing c x.run in
     let on : is_connected h.items ≡ true = connected_by (is_connected h.items) (fate (session_in (config_in x.run) c) h.items) (message_count h.items) served.established in
-    let taken : h.taken ≡ taken_by c x.steps = drove_keep n c (start config) x drove (λ none. absurd (let g : false ≡ true = none in cc)) on in
+    let taken : h.taken ≡ taken_by c x.steps = drove_keep c (start config core agrees) x drove (λ none. absurd (let g : false ≡ true = none in cc)) on in
     record { established = served.established; told = λ speech is. subst (λ l. MeansTable (updates_in l) speech.mode (due x.run c)) taken (served.told speech is) }

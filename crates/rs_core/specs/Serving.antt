@@ -8,8 +8,10 @@ use Rattle.rs_core.specs.Moves.{Ruled, config_in}
 use Rattle.rs_core.specs.Telling.{updates_in}
 use Rattle.rs_core.specs.Runs.{hearing, speech_in, is_established, due, IsServed}
 use Rattle.rs_core.specs.Links.{Step, Told, Begin, Busy, Offer, Memory, End, Replaced}
-use Rattle.rs_core.specs.Courses.{Course}
+use Rattle.rs_core.specs.Agreeing.{Agrees}
+use Rattle.rs_core.specs.Courses.{Course, course}
 use Rattle.rs_core.specs.Answers.{Drove}
+use Rattle.rs_core.specs.declared.route_server.Core.{Core}
 
 -- what the link of a client took of its offers, since its connection was last begun
 abbrev pub taken_by : ℕ → List Step → List ℕ
@@ -24,8 +26,8 @@ taken_by c (End d ∷ steps) = taken_by c steps
 taken_by c (Replaced answer ∷ steps) = taken_by c steps
 
 -- nothing has happened yet
-abbrev pub start : Configuration → Course
-start config = record { steps = []; run = Ruled config ∷ [] }
+abbrev pub start : (config : Configuration) (core : Core) → Agrees core (Ruled config ∷ []) → Course
+start config core agrees = course core [] (Ruled config ∷ []) agrees
 
 -- a client is Established, and the UPDATEs that its link took mean exactly the table that is due to it
 pub record IsServedBy (x : Course) (c : ℕ) : Type 0 where
@@ -38,4 +40,4 @@ IsTakenBy c x = is_connected (hearing c x.run).items ≡ true → (hearing c x.r
 
 -- behind any number of drives a client that is served was told so by the offers
 abbrev pub ServesByOffers : Type 0
-ServesByOffers = (n c : ℕ) (config : Configuration) (x : Course) → Drove n (start config) x → IsServed x.run c → IsServedBy x c
+ServesByOffers = (c : ℕ) (config : Configuration) (core : Core) (agrees : Agrees core (Ruled config ∷ [])) (x : Course) → Drove (start config core agrees) x → IsServed x.run c → IsServedBy x c

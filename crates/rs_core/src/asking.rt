@@ -36,11 +36,12 @@ ghost use Rattle.rs_core.specs.Hearing.{is_up, is_closing};
 
 impl Core {
     ghost use Rattle.rs_core.specs.Core.{client_count, loc_rib, is_refusal, is_refused, last_of, lent_octets, owed, is_decided};
-    ghost use Rattle.rs_core.specs.Moves.{Move, Began, config_in};
+    ghost use Rattle.rs_core.specs.Moves.{Move, config_in};
     ghost use Rattle.rs_core.specs.Hearing.{Hearing, state_in, hold_in, mode_in, limit_in, ending_in, faulted_in};
     ghost use Rattle.rs_core.specs.Runs.{hearing, is_established, IsServed};
     ghost use Rattle.rs_core.specs.Agreeing.{Agrees, Knows};
     ghost use Rattle.rs_core.specs.InTurn.{IsAnswered};
+    ghost use Rattle.rs_core.specs.Paying.{HasLent};
     ghost use Rattle.rs_policy.specs.Configuration.{Configuration};
     ghost use Rattle.rs_policy.specs.Rules.{client_named};
 
@@ -183,7 +184,7 @@ impl Core {
         ensures closing { (run : List Move) → Agrees self.old run → result ≡ (is_closing (state_in (config_in run) c (hearing c run)) && (length (lent_octets self.new c) == 0)) }
         ensures owing { (run : List Move) → Agrees self.old run → result ≡ (is_closing (state_in (config_in run) c (hearing c run)) && (owed self.old c == 0)) }
         ensures unchanged { (run : List Move) → Agrees self.old run → is_closing (state_in (config_in run) c (hearing c run)) ≡ false → self.new ≡ self.old }
-        ensures began { (run : List Move) → Agrees self.old run → is_closing (state_in (config_in run) c (hearing c run)) ≡ true → Agrees self.new (Began c ∷ run) }
+        ensures lends { (run : List Move) → Agrees self.old run → is_closing (state_in (config_in run) c (hearing c run)) ≡ true → HasLent c self.old (lent_octets self.new c) self.new }
     {
         if !is_closing(self.sessions[c].state()) {
             return false;

@@ -60,7 +60,7 @@ impl Core {
         ensures idle { OnOk result ((run : List Move) → Agrees self.old run → state_in (config_in run) c (hearing c run) ≡ State.Idle) }
         ensures greets { OnOk result ((run : List Move) → Agrees self.old run → lent_octets self.new c ≡ server_open (own_open (config_in run))) }
         ensures touched { OnOk result ((run : List Move) → Agrees self.old run → KeepsTouched run self.old self.new) }
-        ensures unchanged { OnErr result ((run : List Move) → Agrees self.old run → Agrees self.new run) }
+        ensures unchanged { OnErr result (self.new ≡ self.old) }
         ensures busy { OnErr result ((run : List Move) → Agrees self.old run → state_in (config_in run) c (hearing c run) ≢ State.Idle) }
     {
         match self.sessions[c].opened() {

@@ -4,7 +4,7 @@ ghost use Rattle.std.specs.Prelude.{◌≡◌, ◌≢◌, ◌<◌, ◌≤◌, tr
 ghost use Rattle.rs_core.specs.Core.{client_count, is_refused, refused_below};
 ghost use Rattle.rs_core.specs.Links.{HasLed, HasStopped, Leads, Memory, Step, octets_of, stops};
 ghost use Rattle.rs_core.specs.Courses.{Continues, memories};
-ghost use Rattle.rs_core.specs.Answers.{Answers, Drives, Ended, Ends};
+ghost use Rattle.rs_core.specs.Answers.{Answers, Drives, Ended, EndsAll};
 
 use crate::links::{Event, Sink, Source};
 use crate::offering::fill;
@@ -78,7 +78,7 @@ fn answer<L: Source + Sink>(core: &mut Core, link: &mut L, event: Event, piece: 
     requires { stops event ≡ false }
     ensures count { client_count core.new ≡ client_count core.old }
     ensures led { HasLed L.happens link.old link.new }
-    ensures answers { Continues L.happens core.old link.old core.new link.new (λ n. Answers n (octets_of event piece.now (L.text link.old)) event) }
+    ensures answers { Continues L.happens core.old link.old core.new link.new (Answers (octets_of event piece.now (L.text link.old)) event) }
 {
     match event {
         Event::Turn => turn(core, link),
@@ -100,7 +100,7 @@ fn answer_with<R: Threads + Wait + Sync, G: Gate, L: Source + Sink>(
     requires event { stops event ≡ false }
     ensures count { client_count core.new ≡ client_count core.old }
     ensures led { HasLed L.happens link.old link.new }
-    ensures answers { Continues L.happens core.old link.old core.new link.new (λ n. Answers n (octets_of event piece.now (L.text link.old)) event) }
+    ensures answers { Continues L.happens core.old link.old core.new link.new (Answers (octets_of event piece.now (L.text link.old)) event) }
 {
     match event {
         Event::Turn => turn_with(rt, workers, gate, core, link),
@@ -112,7 +112,7 @@ fn answer_with<R: Threads + Wait + Sync, G: Gate, L: Source + Sink>(
 fn turn<L: Sink>(core: &mut Core, link: &mut L)
     ensures count { client_count core.new ≡ client_count core.old }
     ensures led { HasLed L.happens link.old link.new }
-    ensures answers { Continues L.happens core.old link.old core.new link.new (λ n. Answers n [] Event.Turn) }
+    ensures answers { Continues L.happens core.old link.old core.new link.new (Answers [] Event.Turn) }
 {
     core.turn();
     tell_refused(core, link);
@@ -129,7 +129,7 @@ fn turn_with<R: Threads + Wait + Sync, G: Gate, L: Sink>(
     requires { (0 < workers) × (workers ≤ 16) }
     ensures count { client_count core.new ≡ client_count core.old }
     ensures led { HasLed L.happens link.old link.new }
-    ensures answers { Continues L.happens core.old link.old core.new link.new (λ n. Answers n [] Event.Turn) }
+    ensures answers { Continues L.happens core.old link.old core.new link.new (Answers [] Event.Turn) }
 {
     core.turn_with(rt, workers, gate);
     tell_refused(core, link);
@@ -143,7 +143,7 @@ fn handle<L: Source + Sink>(core: &mut Core, link: &mut L, event: Event, piece: 
     requires stop { stops event ≡ false }
     ensures count { client_count core.new ≡ client_count core.old }
     ensures led { HasLed L.happens link.old link.new }
-    ensures answers { Continues L.happens core.old link.old core.new link.new (λ n. Answers n (octets_of event piece.now (L.text link.old)) event) }
+    ensures answers { Continues L.happens core.old link.old core.new link.new (Answers (octets_of event piece.now (L.text link.old)) event) }
 {
     match event {
         Event::Opened(c) => open(core, link, c),
@@ -161,7 +161,7 @@ fn handle<L: Source + Sink>(core: &mut Core, link: &mut L, event: Event, piece: 
 fn open<L: Sink>(core: &mut Core, link: &mut L, c: usize)
     ensures count { client_count core.new ≡ client_count core.old }
     ensures led { HasLed L.happens link.old link.new }
-    ensures answers { Continues L.happens core.old link.old core.new link.new (λ n. Answers n [] (Event.Opened c)) }
+    ensures answers { Continues L.happens core.old link.old core.new link.new (Answers [] (Event.Opened c)) }
 {
     if c >= core.clients() {
         return;
@@ -176,7 +176,7 @@ fn open<L: Sink>(core: &mut Core, link: &mut L, c: usize)
 fn hear<L: Sink>(core: &mut Core, link: &mut L, c: usize, len: usize, piece: &[u8; 4096])
     ensures count { client_count core.new ≡ client_count core.old }
     ensures led { HasLed L.happens link.old link.new }
-    ensures answers { Continues L.happens core.old link.old core.new link.new (λ n. Answers n (take len piece.now) (Event.Octets c len)) }
+    ensures answers { Continues L.happens core.old link.old core.new link.new (Answers (take len piece.now) (Event.Octets c len)) }
 {
     if c >= core.clients() {
         return;
@@ -197,7 +197,7 @@ fn hear<L: Sink>(core: &mut Core, link: &mut L, c: usize, len: usize, piece: &[u
 fn lose<L: Sink>(core: &mut Core, link: &mut L, c: usize)
     ensures count { client_count core.new ≡ client_count core.old }
     ensures led { HasLed L.happens link.old link.new }
-    ensures answers { Continues L.happens core.old link.old core.new link.new (λ n. Answers n [] (Event.Lost c)) }
+    ensures answers { Continues L.happens core.old link.old core.new link.new (Answers [] (Event.Lost c)) }
 {
     if c < core.clients() {
         core.lost(c);
@@ -208,7 +208,7 @@ fn lose<L: Sink>(core: &mut Core, link: &mut L, c: usize)
 fn rule<L: Source + Sink>(core: &mut Core, link: &mut L)
     ensures count { client_count core.new ≡ client_count core.old }
     ensures led { HasLed L.happens link.old link.new }
-    ensures answers { Continues L.happens core.old link.old core.new link.new (λ n. Answers n (L.text link.old) Event.Rules) }
+    ensures answers { Continues L.happens core.old link.old core.new link.new (Answers (L.text link.old) Event.Rules) }
 {
     let answer = core.rules(link.rules());
     link.ruled(&answer);
@@ -242,7 +242,7 @@ fn tell_if_refused<L: Sink>(core: &Core, link: &mut L, c: usize)
 fn end_closed<L: Sink>(core: &mut Core, link: &mut L)
     ensures count { client_count core.new ≡ client_count core.old }
     ensures led { HasLed L.happens link.old link.new }
-    ensures ends { Continues L.happens core.old link.old core.new link.new (λ n. Ends n n) }
+    ensures ends { Continues L.happens core.old link.old core.new link.new EndsAll }
 {
     for c in 0..core.clients() {
         end_if_wanted(core, link, c);
@@ -254,7 +254,7 @@ fn end_if_wanted<L: Sink>(core: &mut Core, link: &mut L, c: usize)
     requires { c < client_count core.old }
     ensures count { client_count core.new ≡ client_count core.old }
     ensures led { HasLed L.happens link.old link.new }
-    ensures ended { Continues L.happens core.old link.old core.new link.new (λ n. Ended n c) }
+    ensures ended { Continues L.happens core.old link.old core.new link.new (Ended c) }
 {
     if core.wants_close(c) {
         link.end(c);

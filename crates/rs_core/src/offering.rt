@@ -13,7 +13,7 @@ use crate::route_server::Core;
 pub(crate) fn fill<L: Sink>(core: &mut Core, link: &mut L, c: usize, room: u64)
     ensures count { client_count core.new ≡ client_count core.old }
     ensures led { HasLed L.happens link.old link.new }
-    ensures answers { Continues L.happens core.old link.old core.new link.new (λ n. Answers n [] (Event.Room c room)) }
+    ensures answers { Continues L.happens core.old link.old core.new link.new (Answers [] (Event.Room c room)) }
 {
     if c < core.clients() {
         give(core, link, c, room);
@@ -25,7 +25,7 @@ fn give<L: Sink>(core: &mut Core, link: &mut L, c: usize, room: u64)
     requires { c < client_count core.old }
     ensures count { client_count core.new ≡ client_count core.old }
     ensures led { HasLed L.happens link.old link.new }
-    ensures gives { Continues L.happens core.old link.old core.new link.new (λ n. Gives n c room) }
+    ensures gives { Continues L.happens core.old link.old core.new link.new (Gives c room) }
 {
     let mut left = room;
     while left > 0 {
@@ -57,7 +57,7 @@ fn offer<L: Sink>(core: &mut Core, link: &mut L, c: usize, room: u64) -> u64
     ensures within { result ≤ room }
     ensures count { client_count core.new ≡ client_count core.old }
     ensures led { HasLed L.happens link.old link.new }
-    ensures offers { Continues L.happens core.old link.old core.new link.new (λ n. Offers n c room result) }
+    ensures offers { Continues L.happens core.old link.old core.new link.new (Offers c room result) }
 {
     core.begin(c);
     let lent = core.lent(c);

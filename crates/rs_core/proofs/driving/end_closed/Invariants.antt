@@ -9,5 +9,5 @@ abbrev pub invariant-loop-c : goal.invariant-loop-c
 invariant-loop-c g l = record {
   count : client_count l.core ≡ client_count l.fn.core;
   led : HasLed g.L.Link.happens l.fn.link l.link;
-  ends : Continues g.L.Link.happens l.fn.core l.fn.link l.core l.link (λ n. Ends n l.c);
+  ends : Continues g.L.Link.happens l.fn.core l.fn.link l.core l.link (Ends l.c);
 }

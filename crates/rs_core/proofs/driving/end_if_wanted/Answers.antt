@@ -11,10 +11,10 @@ returns-else-wants_close-clause-led g c = led_same g.L.Link.happens _
 pub returns-then-wants_close-clause-ended : goal.returns-then-wants_close-clause-ended
 returns-then-wants_close-clause-ended g c =
     let asked = c.wants_close.ensures in
-    closed g.L.Link.happens _ _ _ _ _ c.args.c c.wants_close.result (record { count = asked.count; is = asked.closing; unchanged = asked.unchanged; began = asked.began }) c.if-wants_close.true
+    closed g.L.Link.happens _ _ _ _ _ c.args.c c.wants_close.result (record { owing = asked.owing; unchanged = asked.unchanged; lends = asked.lends }) c.if-wants_close.true
     c.lost.ensures.count c.lost.ensures.left c.end.ensures
 
 pub returns-else-wants_close-clause-ended : goal.returns-else-wants_close-clause-ended
 returns-else-wants_close-clause-ended g c =
     let asked = c.wants_close.ensures in
-    kept g.L.Link.happens _ _ _ c.args.c c.wants_close.result (record { count = asked.count; is = asked.closing; unchanged = asked.unchanged; began = asked.began }) c.if-wants_close.false
+    kept g.L.Link.happens _ _ _ c.args.c c.wants_close.result (record { owing = asked.owing; unchanged = asked.unchanged; lends = asked.lends }) c.if-wants_close.false

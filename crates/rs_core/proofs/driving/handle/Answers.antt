@@ -1,7 +1,7 @@
-use Rattle.std.proofs.Common.{◌≡◌, true, false, sym, ◌∙◌, ap}
+use Rattle.std.proofs.Common.{◌≡◌, ◌∷◌, true, false, sym, ◌∙◌, ap}
 use Rattle.rs_core.specs.Links.{stops}
 use Rattle.rs_core.specs.Moves.{Saw}
-use Rattle.rs_core.specs.Courses.{moved}
+use Rattle.rs_core.specs.Courses.{course}
 use Rattle.rs_core.specs.Answers.{Answers, Sees}
 use Rattle.rs_core.specs.declared.links.Event.TheVariants as events
 use Rattle.rs_core.proofs.Continuing.{goes, as_event}
@@ -15,7 +15,8 @@ returns-in-Octets-clause-answers g c = as_event g.L.Link.happens _ _ _ _ c.args.
 
 pub returns-in-Moment-clause-answers : goal.returns-in-Moment-clause-answers
 returns-in-Moment-clause-answers g c = as_event g.L.Link.happens _ _ _ _ c.args.event (events.Moment c.in-Moment.t) c.args.piece.now (g.L.Link.text c.args.link.now) c.in-Moment.is
-    (goes g.L.Link.happens _ _ _ _ (λ n. Answers n _ (events.Moment c.in-Moment.t)) (moved (Saw c.in-Moment.t)) c.moment.ensures.count (λ first x l. l) (λ x h. c.moment.ensures.saw x.run h) (λ n x count h. Sees c.in-Moment.t x))
+    (goes g.L.Link.happens _ _ _ _ (Answers _ (events.Moment c.in-Moment.t)) (λ s. s) (λ r. Saw c.in-Moment.t ∷ r) (λ first s l. l) (λ run h. c.moment.ensures.saw run h)
+    (λ s run h. Sees c.in-Moment.t (course _ s run h) _ (record { count = c.moment.ensures.count; agrees = c.moment.ensures.saw run h })))
 
 pub returns-in-Turn : goal.returns-in-Turn
 returns-in-Turn g c = absurd (c.requires.turn c.in-Turn.is)

@@ -1,8 +1,8 @@
-use Rattle.std.proofs.Common.{◌<◌, ◌≤◌, subst, arith}
+use Rattle.std.proofs.Common.{◌<◌, ◌≤◌, ◌∷◌, arith}
 use Rattle.rs_core.specs.Core.{client_count}
 use Rattle.rs_core.specs.Moves.{Heard, Dropped}
 use Rattle.rs_core.specs.Links.{Memory, End}
-use Rattle.rs_core.specs.Courses.{called, moved}
+use Rattle.rs_core.specs.Courses.{course}
 use Rattle.rs_core.specs.Answers.{Answers, Hears, Drops}
 use Rattle.rs_core.specs.declared.links.Event.TheVariants as events
 use Rattle.rs_core.proofs.Leading.{led_same, led_once, led_by}
@@ -35,14 +35,14 @@ pub returns-in-Ok-clause-answers : goal.returns-in-Ok-clause-answers
 returns-in-Ok-clause-answers g c =
     let here : c.args.c < client_count c.args.core.now = omega (arith, c.if-c-clients.false, c.clients.ensures.count) in
     let within : c.args.len ≤ 4096 = omega (arith, c.if-len-gt4096.false) in
-    goes g.L.Link.happens _ _ _ _ (λ n. Answers n _ (events.Octets c.args.c c.args.len)) (moved (Heard c.args.c _)) c.octets.ensures.count
-    (λ first x l. l) (λ x h. c.in-Ok.ensures.heard x.run h)
-    (λ n x count h. Hears c.args.c c.args.len x (subst (λ k. c.args.c < k) count here) within)
+    goes g.L.Link.happens _ _ _ _ (Answers _ (events.Octets c.args.c c.args.len)) (λ s. s) (λ r. Heard c.args.c _ ∷ r)
+    (λ first s l. l) (λ run h. c.in-Ok.ensures.heard run h)
+    (λ s run h. Hears c.args.c c.args.len (course _ s run h) _ (record { count = c.octets.ensures.count; agrees = c.in-Ok.ensures.heard run h }) here within)
 
 pub returns-in-Err-clause-answers : goal.returns-in-Err-clause-answers
 returns-in-Err-clause-answers g c =
     let here : c.args.c < client_count c.args.core.now = omega (arith, c.if-c-clients.false, c.clients.ensures.count) in
     let within : c.args.len ≤ 4096 = omega (arith, c.if-len-gt4096.false) in
-    goes g.L.Link.happens _ _ _ _ (λ n. Answers n _ (events.Octets c.args.c c.args.len)) (λ x. moved (Dropped c.args.c _) (called (End c.args.c) (called (Memory c.args.c) x))) c.octets.ensures.count
-    (λ first x l. (c.memory.new.self, (c.args.link.now, l, c.memory.ensures), c.end.ensures)) (λ x h. c.in-Err.ensures.refused x.run h)
-    (λ n x count h. Drops c.args.c c.args.len x (subst (λ k. c.args.c < k) count here) within)
+    goes g.L.Link.happens _ _ _ _ (Answers _ (events.Octets c.args.c c.args.len)) (λ s. End c.args.c ∷ Memory c.args.c ∷ s) (λ r. Dropped c.args.c _ ∷ r)
+    (λ first s l. (c.memory.new.self, (c.args.link.now, l, c.memory.ensures), c.end.ensures)) (λ run h. c.in-Err.ensures.refused run h)
+    (λ s run h. Drops c.args.c c.args.len (course _ s run h) _ (record { count = c.octets.ensures.count; agrees = c.in-Err.ensures.refused run h }) here within)

@@ -1,7 +1,7 @@
-use Rattle.std.proofs.Common.{◌<◌, ◌≤◌, subst, arith}
+use Rattle.std.proofs.Common.{◌<◌, ◌≤◌, ◌∷◌, arith}
 use Rattle.rs_core.specs.Core.{client_count}
 use Rattle.rs_core.specs.Moves.{Left}
-use Rattle.rs_core.specs.Courses.{moved}
+use Rattle.rs_core.specs.Courses.{course}
 use Rattle.rs_core.specs.Answers.{Answers, Loses}
 use Rattle.rs_core.specs.declared.links.Event.TheVariants as events
 use Rattle.rs_core.proofs.Leading.{led_same}
@@ -17,8 +17,9 @@ returns-else-c-clients-clause-led g c = led_same g.L.Link.happens _
 pub returns-then-c-clients-clause-answers : goal.returns-then-c-clients-clause-answers
 returns-then-c-clients-clause-answers g c =
     let here : c.args.c < client_count c.args.core.now = omega (arith, c.if-c-clients.true, c.clients.ensures.count) in
-    goes g.L.Link.happens _ _ _ _ (λ n. Answers n _ (events.Lost c.args.c)) (moved (Left c.args.c)) c.lost.ensures.count
-    (λ first x l. l) (λ x h. c.lost.ensures.left x.run h) (λ n x count h. Loses c.args.c x (subst (λ k. c.args.c < k) count here))
+    goes g.L.Link.happens _ _ _ _ (Answers _ (events.Lost c.args.c)) (λ s. s) (λ r. Left c.args.c ∷ r)
+    (λ first s l. l) (λ run h. c.lost.ensures.left run h)
+    (λ s run h. Loses c.args.c (course _ s run h) _ (record { count = c.lost.ensures.count; agrees = c.lost.ensures.left run h }) here)
 
 pub returns-else-c-clients-clause-answers : goal.returns-else-c-clients-clause-answers
 returns-else-c-clients-clause-answers g c =

@@ -1,12 +1,14 @@
-use Rattle.std.proofs.Common.{◌<◌, ◌≤◌, subst, arith}
+use Rattle.std.proofs.Common.{◌<◌, ◌≤◌, ◌∷◌, sym, subst, arith}
 use Rattle.rs_core.specs.Core.{client_count}
+use Rattle.rs_core.specs.Agreeing.{Agrees}
+use Rattle.rs_core.specs.declared.route_server.Core.{Core}
 use Rattle.rs_core.specs.Moves.{Came}
 use Rattle.rs_core.specs.Links.{Begin, Busy}
-use Rattle.rs_core.specs.Courses.{called, moved}
+use Rattle.rs_core.specs.Courses.{course}
 use Rattle.rs_core.specs.Answers.{Answers, Begins, Declines}
 use Rattle.rs_core.specs.declared.links.Event.TheVariants as events
 use Rattle.rs_core.proofs.Leading.{led_same, led_once}
-use Rattle.rs_core.proofs.Continuing.{goes, passes, over_client}
+use Rattle.rs_core.proofs.Continuing.{goes, answers_by, passes, over_client}
 use Rattle.rs_core.proofs.driving.open.Goals as goal
 
 pub returns-then-c-clients-clause-led : goal.returns-then-c-clients-clause-led
@@ -26,13 +28,12 @@ returns-then-c-clients-clause-answers g c =
 pub returns-in-Ok-clause-answers : goal.returns-in-Ok-clause-answers
 returns-in-Ok-clause-answers g c =
     let here : c.args.c < client_count c.args.core.now = omega (arith, c.if-c-clients.false, c.clients.ensures.count) in
-    goes g.L.Link.happens _ _ _ _ (λ n. Answers n _ (events.Opened c.args.c)) (λ x. moved (Came c.args.c) (called (Begin c.args.c) x)) c.opened.ensures.count
-    (λ first x l. (c.args.link.now, l, c.begin.ensures)) (λ x h. c.in-Ok.ensures.came x.run h)
-    (λ n x count h. Begins c.args.c x (subst (λ k. c.args.c < k) count here) (c.in-Ok.ensures.idle x.run h))
+    goes g.L.Link.happens _ _ _ _ (Answers _ (events.Opened c.args.c)) (λ s. Begin c.args.c ∷ s) (λ r. Came c.args.c ∷ r)
+    (λ first s l. (c.args.link.now, l, c.begin.ensures)) (λ run h. c.in-Ok.ensures.came run h)
+    (λ s run h. Begins c.args.c (course _ s run h) _ (record { count = c.opened.ensures.count; agrees = c.in-Ok.ensures.came run h }) here (c.in-Ok.ensures.idle run h))
 
 pub returns-in-Err-clause-answers : goal.returns-in-Err-clause-answers
 returns-in-Err-clause-answers g c =
     let here : c.args.c < client_count c.args.core.now = omega (arith, c.if-c-clients.false, c.clients.ensures.count) in
-    goes g.L.Link.happens _ _ _ _ (λ n. Answers n _ (events.Opened c.args.c)) (called (Busy c.args.c)) c.opened.ensures.count
-    (λ first x l. (c.args.link.now, l, c.busy.ensures)) (λ x h. c.in-Err.ensures.unchanged x.run h)
-    (λ n x count h. Declines c.args.c x (subst (λ k. c.args.c < k) count here) (c.in-Err.ensures.busy x.run h))
+    answers_by g.L.Link.happens _ _ _ _ _ (events.Opened c.args.c) (Busy c.args.c) c.in-Err.ensures.unchanged c.busy.ensures
+    (λ x is. Declines c.args.c x (subst (λ (k : Core). c.args.c < client_count k) (sym is) here) (c.in-Err.ensures.busy x.run (subst (λ (k : Core). Agrees k x.run) is x.agrees)))

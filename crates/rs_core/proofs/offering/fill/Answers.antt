@@ -1,5 +1,6 @@
-use Rattle.std.proofs.Common.{◌<◌, ◌≤◌, subst, arith}
+use Rattle.std.proofs.Common.{◌<◌, ◌≤◌, arith}
 use Rattle.rs_core.specs.Core.{client_count}
+use Rattle.rs_core.specs.Courses.{course}
 use Rattle.rs_core.specs.Answers.{Answers, Gives, Fills}
 use Rattle.rs_core.specs.declared.links.Event.TheVariants as events
 use Rattle.rs_core.proofs.Leading.{led_same}
@@ -12,8 +13,8 @@ returns-else-c-clients-clause-led g c = led_same g.L.Link.happens _
 pub returns-then-c-clients-clause-answers : goal.returns-then-c-clients-clause-answers
 returns-then-c-clients-clause-answers g c =
     let here : c.args.c < client_count c.args.core.now = omega (arith, c.if-c-clients.true, c.clients.ensures.count) in
-    also g.L.Link.happens _ _ _ _ (λ n. Gives n c.args.c c.args.room) (λ n. Answers n _ (events.Room c.args.c c.args.room))
-    (λ n x y count h. Fills c.args.c c.args.room x y (subst (λ k. c.args.c < k) count here) h) c.give.ensures.gives
+    also g.L.Link.happens _ _ _ _ (Gives c.args.c c.args.room) (Answers _ (events.Room c.args.c c.args.room))
+    (λ s run h y gives. Fills c.args.c c.args.room (course _ s run h) y here gives) c.give.ensures.gives
 
 pub returns-else-c-clients-clause-answers : goal.returns-else-c-clients-clause-answers
 returns-else-c-clients-clause-answers g c =
