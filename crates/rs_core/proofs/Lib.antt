@@ -52,6 +52,7 @@ pub mod Answered
 pub mod Owing
 pub mod Paying
 pub mod Drained
+pub mod Draining
 pub mod Conversed
 pub mod Sent
 pub mod Raising

@@ -21,6 +21,7 @@ pub mod Touched
 pub mod Answering
 pub mod Agreeing
 pub mod Decided
+pub mod Draining
 pub mod LastTurns
 pub mod Paying
 pub mod Steps
