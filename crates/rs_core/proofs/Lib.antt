@@ -2,6 +2,7 @@ pub mod Keeping
 pub mod Lists
 pub mod Watching
 pub mod Agreeing
+pub mod Headline
 pub mod Holding
 pub mod Acting
 pub mod Ruling

@@ -9,6 +9,7 @@ pub mod Core
 pub mod Moves
 pub mod Points
 pub mod Beats
+pub mod Headline
 pub mod Hearing
 pub mod Telling
 pub mod Runs
