@@ -58,6 +58,7 @@ pub mod Raising
 pub mod Touched
 pub mod Moments
 pub mod Growing
+pub mod Idling
 pub mod Room
 pub mod TurnAnswers
 pub mod Since

@@ -20,6 +20,7 @@ impl Core {
         ensures touched { OnOk result ((run : List Move) → Agrees self.old run → TouchesAll run self.new) }
         ensures refused { IfErr result (λ fault. (run : List Move) → Agrees self.old run → Refuses (config_in run) octets.now fault) }
         ensures unchanged { OnErr result ((run : List Move) → Agrees self.old run → Agrees self.new run) }
+        ensures same { OnErr result (self.new ≡ self.old) }
     {
         let config = self.ribs.config.replacement(self.alloc, octets)?;
         self.ribs.replace(config);
