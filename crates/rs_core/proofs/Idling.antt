@@ -1,6 +1,5 @@
 -- A client without a connection: losing it changes nothing.
 use Rattle.std.proofs.Common.{◌≡◌, ◌≢◌, ◌<◌, ℕ, zero, suc, Bool, true, false, List, ◌∷◌, refl, sym, ◌∙◌, ap, subst}
-use Rattle.std.specs.Prelude.{None, if◌then◌else◌}
 use Rattle.std.specs.List.{cons_option}
 use Rattle.std.proofs.lemmas.Bool.{false≢true}
 use Rattle.rs_octets.specs.Prefixes.{Prefix}
@@ -13,11 +12,10 @@ use Rattle.rs_session.specs.Sessions.{fate, is_live, state_by, state_of}
 use Rattle.rs_session.specs.Hearing.{HasHeard, Stands}
 use Rattle.rs_session.proofs.Phases.{idle_heard}
 use Rattle.rs_policy.specs.Configuration.{Configuration}
-use Rattle.rs_outlet.specs.Views.{View}
 use Rattle.rs_core.specs.Moves as moves
 use Rattle.rs_core.specs.Moves.{Move, config_in}
 use Rattle.rs_core.specs.Hearing.{Hearing, is_up, leaves, session_in, state_in, table_in}
-use Rattle.rs_core.specs.Runs.{hearing, is_established, table}
+use Rattle.rs_core.specs.Runs.{hearing, table}
 use Rattle.rs_core.specs.Watching.{IsWatched, ended_if}
 use Rattle.rs_core.specs.Agreeing.{Agrees, AgreesAt, Knows}
 use Rattle.rs_core.specs.Conversations.{outgoing_of, own_open}
@@ -28,7 +26,6 @@ use Rattle.rs_core.specs.declared.endings.Ending.{Ending}
 use Rattle.rs_core.specs.declared.endings.Ending.TheVariants as reasons
 use Rattle.rs_core.specs.declared.route_server.Core.{Core}
 use Rattle.rs_core.proofs.Agreeing.{grown}
-use Rattle.rs_core.proofs.Clients.{equal_or}
 use Rattle.rs_core.proofs.Cutting.{over, same_spares}
 use Rattle.rs_core.proofs.Growing.{left_agrees}
 use Rattle.rs_core.proofs.Holding.{down_identifier, down_table}
@@ -101,5 +98,5 @@ idle_left core run c lt idle h =
     let it = hearing c run in
     let others = λ (d : ℕ) (ne : d ≢ c). other c d (leaves s d reasons.Lost (hearing d run)) (hearing d run) ne in
     let on = grown core core c run (moves.Left c ∷ run) refl others h (same_spares core c)
-        (subst (λ k. AgreesAt core s c k) (sym (own c (leaves s c reasons.Lost it) it)) (left_at core s c it reasons.Lost idle (h.clients c lt))) in
+    (subst (λ k. AgreesAt core s c k) (sym (own c (leaves s c reasons.Lost it) it)) (left_at core s c it reasons.Lost idle (h.clients c lt))) in
     left_agrees c core core run refl others (ap (λ k. is_up (state_in s c k)) (own c (leaves s c reasons.Lost it) it)) (idle_touches core run c idle) (λ d none lt. refl) h on

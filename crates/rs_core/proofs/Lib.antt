@@ -63,3 +63,5 @@ pub mod Room
 pub mod TurnAnswers
 pub mod Since
 pub mod LastTurns
+pub mod Rising
+pub mod Senders
