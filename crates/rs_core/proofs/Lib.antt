@@ -60,7 +60,10 @@ pub mod Raising
 pub mod Touched
 pub mod Moments
 pub mod Growing
+pub mod Idling
 pub mod Room
 pub mod TurnAnswers
 pub mod Since
 pub mod LastTurns
+pub mod Rising
+pub mod Senders
