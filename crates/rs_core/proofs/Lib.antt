@@ -23,6 +23,7 @@ pub mod Numbers
 pub mod Freshness
 pub mod Changing
 pub mod Turned
+pub mod Longer
 pub mod Telling
 pub mod Spoken
 pub mod Conversing

@@ -49,4 +49,4 @@ DueIsTheSenders = (run : List Move) (c : ℕ) (p : Prefix) (told : List Attribut
 abbrev pub ToldIsTheSenders : Type 0
 ToldIsTheSenders =
     (run : List Move) (c : ℕ) (speech : Speech) (table : Prefix → Option (List Attribute)) → IsServed run c → speech_in (config_in run) c (hearing c run) ≡ Some speech
-    → MeansTable (updates_in (hearing c run).taken) speech.mode table → (p : Prefix) (told : List Attribute) → table p ≡ Some told → IsSendersRoute run c p told
+    → MeansTable (updates_in speech.limit (hearing c run).taken) speech.mode table → (p : Prefix) (told : List Attribute) → table p ≡ Some told → IsSendersRoute run c p told
