@@ -14,7 +14,8 @@ use crate::links::Link;
 
 /// The claim of the whole. From `Core::new` on, behind any number of calls of `drive` and `drive_with` with
 /// a link: wherever a client is drained, as `is_drained` says, it is Established, and the UPDATEs that its
-/// link took of the offers since its connection last began mean just the table that is due to it.
+/// link took of the offers since its connection last began mean just the table that is due to it, each
+/// route of which is its sender's.
 pub fn drained_clients_have_what_is_due<L: Link>()
     ensures { DrainedClientsHaveWhatIsDue L.happens }
 {}
