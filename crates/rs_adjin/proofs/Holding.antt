@@ -2,13 +2,15 @@
 use Rattle.std.proofs.Common.{Bool, true, false, cond, ◌≡◌, ◌≢◌, ◌<◌, ◌≤◌, ◌+◌, ◌&&◌, ◌==◌, ℕ, suc, List, [], ◌∷◌, length, refl, sym, ◌∙◌, ap, subst, arith, inl, inr, ◌⊎◌}
 use Rattle.std.specs.Prelude.{Option, Some, None, is_some, IsSome, All, if◌then◌else◌}
 use Rattle.std.specs.List.{filter, count_by, AllByRecursion}
+use Rattle.std.specs.List.Sorted.{IsStrictlySortedBy}
 use Rattle.std.specs.Map.{keys_of}
+use Rattle.std.proofs.lemmas.List.Kept.{IsStrictlySortedBy-filter}
 use Rattle.std.proofs.lemmas.List.Elements.{All-from_recursion}
 use Rattle.std.proofs.lemmas.List.Sums.{length-filter}
 use Rattle.std.proofs.lemmas.Bool.{cases_eq}
 use Rattle.std.proofs.lemmas.Bool.Decides.{nat_tests}
 use Rattle.std.proofs.lemmas.Option.{same_Some}
-use Rattle.rs_octets.specs.Prefixes.{Prefix}
+use Rattle.rs_octets.specs.Prefixes.{Prefix, prefix_order}
 use Rattle.rs_attrs.specs.Meaning.{Attribute}
 use Rattle.rs_attrs.specs.Effects.{same_prefix, has_prefix}
 use Rattle.rs_attrs.proofs.EachOnce.{same_is, same_itself}
@@ -21,7 +23,7 @@ use Rattle.rs_adjin.specs.Numbers.{number_in, prefix_of_in, routes_at, routes_of
 use Rattle.rs_adjin.specs.Held.{has_number, one_if, Marks, SameSet}
 use Rattle.rs_adjin.specs.Listing.{Lists, Counts, numbered_from}
 use Rattle.rs_adjin.specs.Table.{IsTable, Writes, KeepsOthers, Clears, IsHeldBy, has_prefix_of, held_prefix}
-use Rattle.rs_octets.proofs.Members.{Has, Apart, keeps}
+use Rattle.rs_octets.proofs.Members.{Has, Apart, kept, keeps}
 use Rattle.rs_adjin.proofs.RouteLists.{is_rising}
 use Rattle.rs_adjin.proofs.TableRows.{row_within}
 use Rattle.rs_adjin.proofs.NumberLists.{member_has, has_member, all_are, numbered_apart, numbered_len}
@@ -297,3 +299,31 @@ module _ (c : ℕ) (held : Held) (table : Numbered) (tied : IsHeldBy c held tabl
   pub held_few : held.count ≤ length table.rows.items
   unfolding held_counts
   held_few = let few : length prefixes ≤ length table.rows.items = numbered_len (held_prefix table held) 0 (length table.rows.items) in omega (arith, few, held_long)
+
+-- ---- of all prefixes with a number those that the client holds
+
+module _ (c : ℕ) (held : Held) (table : Numbered) (tied : IsHeldBy c held table) where
+  abbrev has_entry : Prefix × ℕ → Bool
+  has_entry e = has_number held e.1
+
+  abbrev has_by_prefix : Prefix → Bool
+  has_by_prefix p = has_prefix_of held (number_in table p)
+
+  keys_at : (p : Prefix) (n : ℕ) (es : List (Prefix × ℕ)) → keys_of (filter has_entry es) ≡ filter has_by_prefix (keys_of es) → number_in table p ≡ Some n → (b : Bool) → has_number held n ≡ b
+      → keys_of (cond b ((p, n) ∷ filter has_entry es) (filter has_entry es)) ≡ cond (has_by_prefix p) (p ∷ filter has_by_prefix (keys_of es)) (filter has_by_prefix (keys_of es))
+  keys_at p n es same at true is = ap (λ ps. p ∷ ps) same ∙ ap (λ b. cond b (p ∷ filter has_by_prefix (keys_of es)) (filter has_by_prefix (keys_of es))) (sym (ap (has_prefix_of held) at ∙ is))
+  keys_at p n es same at false is = same ∙ ap (λ b. cond b (p ∷ filter has_by_prefix (keys_of es)) (filter has_by_prefix (keys_of es))) (sym (ap (has_prefix_of held) at ∙ is))
+
+  pub held_keys : (es : List (Prefix × ℕ)) → AllByRecursion (λ e. number_in table e.0 ≡ Some e.1) es → keys_of (filter has_entry es) ≡ filter has_by_prefix (keys_of es)
+  held_keys [] at = refl
+  held_keys (e ∷ es) at = keys_at e.0 e.1 es (held_keys es at.1) at.0 (has_number held e.1) refl
+
+  pub rising_held : (es : List (Prefix × ℕ)) → AllByRecursion (λ e. number_in table e.0 ≡ Some e.1) es → IsStrictlySortedBy prefix_order (keys_of es) → IsStrictlySortedBy prefix_order (keys_of (filter has_entry es))
+  rising_held es at up = subst (IsStrictlySortedBy prefix_order) (sym (held_keys es at)) (IsStrictlySortedBy-filter prefix_order has_by_prefix (keys_of es) up)
+
+  -- one that is listed is held, and one that is held is listed
+  pub listed_held : (es : List (Prefix × ℕ)) → AllByRecursion (λ e. number_in table e.0 ≡ Some e.1) es → (p : Prefix) → Has (keys_of (filter has_entry es)) p → IsSome (value_in c (routes_at table p))
+  listed_held es at p h = sym (holds_by c held table tied p) ∙ (kept has_by_prefix (keys_of es) p (subst (λ ps. Has ps p) (held_keys es at) h)).1
+
+  pub held_listed : (es : List (Prefix × ℕ)) → AllByRecursion (λ e. number_in table e.0 ≡ Some e.1) es → (p : Prefix) → Has (keys_of es) p → IsSome (value_in c (routes_at table p)) → Has (keys_of (filter has_entry es)) p
+  held_listed es at p there h = subst (λ ps. Has ps p) (sym (held_keys es at)) (keeps has_by_prefix (keys_of es) p there (holds_by c held table tied p ∙ h))

@@ -1,9 +1,10 @@
 -- Prefixes listed with their numbers.
 use Rattle.std.proofs.Common.{◌≡◌, ◌≢◌, ◌<◌, ◌≤◌, ◌+◌, ℕ, zero, suc, List, [], ◌∷◌, length, refl, sym, ◌∙◌, ap, arith, inl, inr, ◌⊎◌}
 use Rattle.std.specs.Prelude.{Option, Some, None}
-use Rattle.std.specs.List.{AllByRecursion}
+use Rattle.std.specs.List.{AllByRecursion, AllPairs}
 use Rattle.std.specs.Map.{keys_of}
 use Rattle.std.proofs.lemmas.Bool.{cases_eq}
+use Rattle.std.proofs.lemmas.List.Elements.{All-from_recursion}
 use Rattle.rs_octets.specs.Prefixes.{Prefix}
 use Rattle.rs_adjin.specs.Listing.{with_numbered, numbered_from}
 use Rattle.rs_octets.proofs.Members.{Has, Apart}
@@ -83,3 +84,24 @@ len_at n k (Some p) es small = omega (arith, small)
 pub numbered_len : (f : ℕ → Option Prefix) (n k : ℕ) → length (keys_of (numbered_from f n k)) ≤ k
 numbered_len f n zero = omega arith
 numbered_len f n (suc k) = len_at n k (f n) (numbered_from f (suc n) k) (numbered_len f (suc n) k)
+
+-- ---- rising numbers
+
+low_at : (f : ℕ → Option Prefix) (m n k : ℕ) → m ≤ n → AllByRecursion (λ (e : Prefix × ℕ). m ≤ e.1) (numbered_from f (suc n) k) → (o : Option Prefix) → AllByRecursion (λ (e : Prefix × ℕ). m ≤ e.1) (with_numbered n o (numbered_from f (suc n) k))
+low_at f m n k low later None = later
+low_at f m n k low later (Some p) = (low, later)
+
+all_low : (f : ℕ → Option Prefix) (m n k : ℕ) → m ≤ n → AllByRecursion (λ (e : Prefix × ℕ). m ≤ e.1) (numbered_from f n k)
+all_low f m n zero low = tt
+all_low f m n (suc k) low = low_at f m n k low (all_low f m (suc n) k (omega (arith, low))) (f n)
+
+pairs_at : (f : ℕ → Option Prefix) (n k : ℕ) → AllPairs (λ (d e : Prefix × ℕ). d.1 < e.1) (numbered_from f (suc n) k) → (o : Option Prefix) → AllPairs (λ (d e : Prefix × ℕ). d.1 < e.1) (with_numbered n o (numbered_from f (suc n) k))
+pairs_at f n k later None i j d before below = later i j d before below
+pairs_at f n k later (Some p) zero zero d before below = absurd (omega (arith, before))
+pairs_at f n k later (Some p) zero (suc j) d before below = All-from_recursion (λ (e : Prefix × ℕ). suc n ≤ e.1) (numbered_from f (suc n) k) (all_low f (suc n) (suc n) k (omega arith)) j d (omega (arith, below))
+pairs_at f n k later (Some p) (suc i) zero d before below = absurd (omega (arith, before))
+pairs_at f n k later (Some p) (suc i) (suc j) d before below = later i j d (omega (arith, before)) (omega (arith, below))
+
+pub numbers_rise : (f : ℕ → Option Prefix) (n k : ℕ) → AllPairs (λ (d e : Prefix × ℕ). d.1 < e.1) (numbered_from f n k)
+numbers_rise f n zero i j d before below = absurd (omega (arith, below))
+numbers_rise f n (suc k) i j d before below = pairs_at f n k (numbers_rise f (suc n) k) (f n) i j d before below

@@ -52,6 +52,12 @@ written old new p w u = u p ∙ ap (λ b. cond b w (get prefix_order old p)) (at
 pub unwritten : (old new : Numbers) (p : Prefix) (w : Option ℕ) → Writes old new p w → (q : Prefix) → is_at (prefix_order p) q ≡ false → get prefix_order new q ≡ get prefix_order old q
 unwritten old new p w u q other = u q ∙ ap (λ b. cond b w (get prefix_order old q)) other
 
+pub written_apart : (old new : Numbers) (p : Prefix) (w : Option ℕ) → Writes old new p w → (q : Prefix) → q ≢ p → get prefix_order new q ≡ get prefix_order old q
+written_apart old new p w u q ne = elim (prefix_is p q) [
+  | inl e ↦ absurd (ne e)
+  | inr other ↦ unwritten old new p w u q other
+]
+
 -- ---- one element of a list written
 
 pub set_here : {A : Type 0} (xs : List A) (n : ℕ) (x y : A) → slice_get xs n ≡ Some y → slice_get (slice_set xs n x) n ≡ Some x

@@ -2,7 +2,7 @@
 #![tactic(auto, unfolding(crate::specs::AdjIns::client_count, crate::specs::AdjIns::identifier_of, crate::specs::AdjIns::held_of, crate::specs::AdjIns::number_of, crate::specs::AdjIns::prefix_of))]
 
 ghost use Rattle.std.specs.Prelude.{◌≡◌, true, false, IsTrue, ◌<◌, ℕ, Some, None, ◌↔◌, length, slice_get, is_some, IsSome, option_map, IfOk, OnOk, OnErr, All, Contains};
-ghost use Rattle.std.specs.List.{IsDistinct};
+ghost use Rattle.std.specs.List.{AllPairs, IsDistinct};
 ghost use Rattle.std.specs.List.Sorted.{IsStrictlySortedBy};
 ghost use Rattle.std.specs.Map.{keys_of};
 ghost use Rattle.std.specs.Arc.{arc_value};
@@ -19,7 +19,7 @@ use crate::candidates::Candidates;
 use crate::held::Held;
 use crate::holders::Holders;
 use crate::numbers::Numbered;
-use crate::prefixes::{HeldPrefixes, NumberedPrefixes};
+use crate::prefixes::{HeldByNumber, HeldPrefixes, NumberedPrefixes};
 use crate::routes::{Route, route_in};
 use crate::table::{clear_in, count_in, put_in, put_row, withdraw_in, withdraw_row};
 use rs_attrs::Attrs;
@@ -42,7 +42,7 @@ pub struct AdjIns {
 }
 
 impl AdjIns {
-    ghost use Rattle.rs_adjin.specs.AdjIns.{client_count, identifier_of, held_of, Sets, Clears, Begins, Same, ListsHolders, SetsAt, TellsChangeAt, would_hold, candidates_of, number_of, prefix_of, KeepsNumbers, SameNumbers, GivesUp};
+    ghost use Rattle.rs_adjin.specs.AdjIns.{client_count, identifier_of, held_of, Sets, Clears, Begins, Same, ListsHolders, SetsAt, TellsChangeAt, would_hold, candidates_of, number_of, prefix_of, KeepsNumbers, SameNumbers, SameNumbersBut, GivesUp};
 
     /// Empty tables for so many clients.
     pub fn new(alloc: Global, clients: usize) -> Result<AdjIns, AllocError>
@@ -92,7 +92,8 @@ impl AdjIns {
     ///
     /// # Errors
     ///
-    /// `AllocError` where memory was refused: then no route has changed.
+    /// `AllocError` where memory was refused, or where no number of 32 bits is left: then no route
+    /// has changed, and no prefix has a number that it had not.
     pub fn put(
         &mut self,
         client: usize,
@@ -105,7 +106,9 @@ impl AdjIns {
         ensures changed { IfOk result (λ changed. TellsChange changed (held_of self.old client prefix) (Some (arc_value attrs.now))) }
         ensures err { OnErr result (Same self.old self.new) }
         ensures numbers { KeepsNumbers self.old self.new }
+        ensures others { SameNumbersBut prefix self.old self.new }
         ensures numbered { OnOk result (IsSome (number_of self.new prefix)) }
+        ensures unnumbered { OnErr result (SameNumbers self.old self.new) }
     {
         let held = &mut self.held[client];
         put_in(self.alloc, &mut self.table, held, client, prefix, attrs)
@@ -115,11 +118,14 @@ impl AdjIns {
     ///
     /// # Errors
     ///
-    /// `AllocError` where memory was refused, or where no number of 32 bits is left.
+    /// `AllocError` where memory was refused, or where no number of 32 bits is left: then the prefix
+    /// has none.
     pub fn add(&mut self, prefix: Prefix) -> Result<u32, AllocError>
         ensures number { IfOk result (λ n. number_of self.new prefix ≡ Some n) }
         ensures prefix { IfOk result (λ n. prefix_of self.new n ≡ Some prefix) }
         ensures numbers { KeepsNumbers self.old self.new }
+        ensures others { SameNumbersBut prefix self.old self.new }
+        ensures unnumbered { OnErr result (SameNumbers self.old self.new) }
         ensures same { Same self.old self.new }
     {
         self.table.add(self.alloc, prefix)
@@ -182,13 +188,26 @@ impl AdjIns {
         clear_in(&mut self.table, &mut self.held[client], client);
     }
 
-    /// The prefixes that the client holds, with their numbers.
+    /// The prefixes that the client holds, rising, with their numbers. The walk goes over all
+    /// prefixes that have a number.
     pub fn held(&self, client: usize) -> HeldPrefixes<'_>
         requires { client < client_count self.now }
+        ensures rising { IsStrictlySortedBy prefix_order (keys_of result) }
         ensures all { (p : Prefix) → Contains (keys_of result) p ↔ IsSome (held_of self.now client p) }
         ensures numbers { All (λ e. number_of self.now e.0 ≡ Some e.1) result }
     {
-        HeldPrefixes::new(&self.table, &self.held[client])
+        HeldPrefixes::new(self.table.iter(), &self.held[client])
+    }
+
+    /// The prefixes that the client holds, by rising number, with it. The walk doesn't go over what
+    /// others hold.
+    pub fn held_by_number(&self, client: usize) -> HeldByNumber<'_>
+        requires { client < client_count self.now }
+        ensures rising { AllPairs (λ e f. e.1 < f.1) result }
+        ensures all { (p : Prefix) → Contains (keys_of result) p ↔ IsSome (held_of self.now client p) }
+        ensures numbers { All (λ e. number_of self.now e.0 ≡ Some e.1) result }
+    {
+        HeldByNumber::new(&self.table, &self.held[client])
     }
 
     /// How many prefixes the client would hold after an UPDATE that withdraws and announces these.
@@ -288,6 +307,7 @@ impl AdjIns {
 
     /// Gives up a number, if no client has a route for its prefix, and answers whether it did.
     pub fn release(&mut self, number: u32) -> bool
+        ensures given { (p : Prefix) → number_of self.old p ≡ Some number → ((c : ℕ) → held_of self.old c p ≡ None) → IsTrue result }
         ensures released { IsTrue result → prefix_of self.new number ≡ None }
         ensures kept { result ≡ false → SameNumbers self.old self.new }
         ensures numbers { GivesUp self.old self.new number }

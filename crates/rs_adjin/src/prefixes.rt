@@ -2,6 +2,7 @@
 
 ghost use Rattle.std.specs.Prelude.{◌≡◌, ◌<◌, ◌-◌, ℕ, true, length, IsSome};
 ghost use Rattle.std.specs.Iterator.{YieldsFirst, item_count};
+ghost use Rattle.std.specs.List.{filter};
 ghost use Rattle.rs_adjin.specs.Numbers.{prefix_of_in};
 ghost use Rattle.rs_adjin.specs.Held.{has_number};
 ghost use Rattle.rs_adjin.specs.Listing.{numbered_from};
@@ -56,15 +57,58 @@ impl<'a> Iterator for NumberedPrefixes<'a> {
     }
 }
 
-/// The prefixes that a client holds and that are left, by rising number.
+/// The prefixes that a client holds and that are left, by rising prefix.
 #[derive(Drop)]
 pub struct HeldPrefixes<'a> {
+    numbers: Iter<'a, Prefix, u32>,
+    held: &'a Held,
+}
+
+impl<'a> Model for HeldPrefixes<'a> {
+    ghost use Rattle.std.specs.Prelude.{ℕ, List};
+    ghost use Rattle.std.specs.List.{filter};
+    ghost use Rattle.rs_octets.specs.Prefixes.{Prefix};
+    ghost use Rattle.rs_adjin.specs.Held.{has_number};
+
+    ghost Value = { List (Prefix × ℕ) };
+
+    ghost view = { λ it. filter (λ e. has_number it.held.now e.1) it.numbers };
+}
+
+impl<'a> HeldPrefixes<'a> {
+    pub(crate) fn new(numbers: Iter<'a, Prefix, u32>, held: &'a Held) -> HeldPrefixes<'a>
+        ensures { result ≡ filter (λ e. has_number held.now e.1) numbers.entry }
+    {
+        HeldPrefixes { numbers, held }
+    }
+}
+
+impl<'a> Iterator for HeldPrefixes<'a> {
+    type Item = (Prefix, u32);
+
+    ghost next_gives = { YieldsFirst (λ left. left) };
+
+    ghost remaining = { item_count (λ left. left) };
+
+    fn next(&mut self) -> Option<(Prefix, u32)> {
+        while let Some((prefix, number)) = self.numbers.next() {
+            if self.held.has(*number) {
+                return Some((*prefix, *number));
+            }
+        }
+        None
+    }
+}
+
+/// The prefixes that a client holds and that are left, by rising number.
+#[derive(Drop)]
+pub struct HeldByNumber<'a> {
     table: &'a Numbered,
     held: &'a Held,
     first: usize,
 }
 
-impl<'a> Model for HeldPrefixes<'a> {
+impl<'a> Model for HeldByNumber<'a> {
     ghost use Rattle.std.specs.Prelude.{◌≡◌, ◌-◌, ℕ, List, true, length, IsSome};
     ghost use Rattle.rs_octets.specs.Prefixes.{Prefix};
     ghost use Rattle.rs_adjin.specs.Numbers.{prefix_of_in};
@@ -79,12 +123,12 @@ impl<'a> Model for HeldPrefixes<'a> {
     ghost invariant = { λ it. (n : ℕ) → has_number it.held.now n ≡ true → IsSome (prefix_of_in it.table.now n) };
 }
 
-impl<'a> HeldPrefixes<'a> {
-    pub(crate) fn new(table: &'a Numbered, held: &'a Held) -> HeldPrefixes<'a>
+impl<'a> HeldByNumber<'a> {
+    pub(crate) fn new(table: &'a Numbered, held: &'a Held) -> HeldByNumber<'a>
         requires { (n : ℕ) → has_number held.now n ≡ true → IsSome (prefix_of_in table.now n) }
         ensures { result ≡ numbered_from (held_prefix table.now held.now) 0 (length table.now.rows.items) }
     {
-        HeldPrefixes {
+        HeldByNumber {
             table,
             held,
             first: 0,
@@ -92,7 +136,7 @@ impl<'a> HeldPrefixes<'a> {
     }
 }
 
-impl<'a> Iterator for HeldPrefixes<'a> {
+impl<'a> Iterator for HeldByNumber<'a> {
     type Item = (Prefix, u32);
 
     ghost next_gives = { YieldsFirst (λ left. left) };

@@ -4,7 +4,7 @@ ghost use Rattle.std.specs.Prelude.{◌≡◌, ◌≢◌, ◌<◌, ◌≤◌, �
 ghost use Rattle.std.specs.List.{count_by};
 ghost use Rattle.std.specs.Arc.{arc_value};
 ghost use Rattle.rs_adjin.specs.Routes.{value_in, IsRising, KeepsRoutes, SameRoutes, Changes, BelongsAt};
-ghost use Rattle.rs_adjin.specs.Numbers.{number_in, routes_at, routes_of, KeepsNumbers, SameNumbers};
+ghost use Rattle.rs_adjin.specs.Numbers.{number_in, routes_at, routes_of, KeepsNumbers, SameNumbers, SameNumbersBut};
 ghost use Rattle.rs_adjin.specs.Table.{IsTable, KeepsTable, Writes, IsSame, KeepsOthers, Clears, TellsChange, IsHeldBy, has_prefix_of};
 ghost use Rattle.rs_adjin.specs.Held.{has_number, Marks, SameSet};
 
@@ -99,6 +99,39 @@ pub(crate) fn put_row(
     )
 }
 
+/// Gives a client a route for a prefix that has no number: where memory is refused it has none
+/// afterwards either.
+fn put_first(
+    alloc: Global,
+    table: &mut Numbered,
+    held: &mut Held,
+    client: usize,
+    prefix: Prefix,
+    attrs: &Arc<Attrs>,
+) -> Result<bool, AllocError>
+    requires table { IsTable table.old }
+    requires tied { IsHeldBy client held.old table.old }
+    requires absent { number_in table.old prefix ≡ None }
+    ensures kept { KeepsTable table.old table.new client }
+    ensures ok { OnOk result (Writes table.old table.new client prefix (Some (arc_value attrs.now))) }
+    ensures changed { IfOk result (λ changed. TellsChange changed (value_in client (routes_at table.old prefix)) (Some (arc_value attrs.now))) }
+    ensures tied { IsHeldBy client held.new table.new }
+    ensures err { OnErr result (IsSame table.old table.new) }
+    ensures numbers { KeepsNumbers table.old table.new }
+    ensures others { SameNumbersBut prefix table.old table.new }
+    ensures numbered { OnOk result (IsSome (number_in table.new prefix)) }
+    ensures unnumbered { OnErr result (SameNumbers table.old table.new) }
+{
+    let number = table.add_new(alloc, prefix)?;
+    match put_row(table, number, held, client, prefix, attrs) {
+        Ok(changed) => Ok(changed),
+        Err(refused) => {
+            table.release(number);
+            Err(refused)
+        }
+    }
+}
+
 /// Gives a client a route, and answers whether that changes what it has.
 pub(crate) fn put_in(
     alloc: Global,
@@ -116,10 +149,14 @@ pub(crate) fn put_in(
     ensures tied { IsHeldBy client held.new table.new }
     ensures err { OnErr result (IsSame table.old table.new) }
     ensures numbers { KeepsNumbers table.old table.new }
+    ensures others { SameNumbersBut prefix table.old table.new }
     ensures numbered { OnOk result (IsSome (number_in table.new prefix)) }
+    ensures unnumbered { OnErr result (SameNumbers table.old table.new) }
 {
-    let number = table.add(alloc, prefix)?;
-    put_row(table, number, held, client, prefix, attrs)
+    match table.number(prefix) {
+        Some(number) => put_row(table, number, held, client, prefix, attrs),
+        None => put_first(alloc, table, held, client, prefix, attrs),
+    }
 }
 
 /// Takes a client's route from those for a prefix, and answers whether there was one.

@@ -32,6 +32,39 @@ fn numbers_stay_until_given_up(rt: HostRuntime) {
     let_go(ins);
 }
 
+/// A client holds these prefixes with these numbers, listed by rising number.
+fn holds_by_number(
+    rt: &impl Abort,
+    alloc: Global,
+    ins: &AdjIns,
+    client: usize,
+    want: &[(u32, u8, u32)],
+) {
+    assert!(rt; client < ins.clients());
+    let mut held = Vec::new(alloc);
+    for (prefix, number) in ins.held_by_number(client) {
+        held.push((prefix.bits(), prefix.len(), number))
+            .expect(rt, "a prefix");
+    }
+    assert_eq!(rt; held.as_slice(), want);
+}
+
+/// The prefix that stands between two others came last, and has the greatest number.
+#[test]
+fn what_is_held_rises_by_prefix_or_by_number(rt: HostRuntime) {
+    let alloc = rt.alloc();
+    let ins = filled(&rt, alloc);
+    let listed = [
+        (WIDE.0, WIDE.1, 0),
+        (OTHER.0, OTHER.1, 1),
+        (INNER.0, INNER.1, 2),
+    ];
+    holds(&rt, alloc, &ins, 0, &[WIDE, INNER, OTHER]);
+    holds_by_number(&rt, alloc, &ins, 0, &listed);
+    holds_by_number(&rt, alloc, &ins, 1, &listed[..2]);
+    let_go(ins);
+}
+
 /// Puts a route at the number of a prefix, which is given one where it has none: the value changes or doesn't.
 fn changes_at(
     rt: &impl Abort,

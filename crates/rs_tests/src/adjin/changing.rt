@@ -18,7 +18,7 @@ fn new_tables_are_empty(rt: HostRuntime) {
 fn routes_are_listed_in_order(rt: HostRuntime) {
     let alloc = rt.alloc();
     let ins = filled(&rt, alloc);
-    holds(&rt, alloc, &ins, 0, &[WIDE, OTHER, INNER]);
+    holds(&rt, alloc, &ins, 0, &[WIDE, INNER, OTHER]);
     holds(&rt, alloc, &ins, 1, &[WIDE, OTHER]);
     holds(&rt, alloc, &ins, 2, &[WIDE]);
     are_at(&rt, alloc, &ins, WIDE, &[(0, 1), (1, 1), (2, 2)]);
@@ -62,7 +62,7 @@ fn put_tells_whether_the_value_changed(rt: HostRuntime) {
     changes(&rt, &mut ins, 1, INNER, &other, true);
     are_at(&rt, alloc, &ins, OTHER, &[(0, 1), (1, 3)]);
     are_at(&rt, alloc, &ins, INNER, &[(0, 2), (1, 3)]);
-    holds(&rt, alloc, &ins, 1, &[WIDE, OTHER, INNER]);
+    holds(&rt, alloc, &ins, 1, &[WIDE, INNER, OTHER]);
     assert_eq!(rt; Arc::strong_count(&other), 3);
     let_attrs_go(same);
     let_attrs_go(other);
@@ -145,8 +145,10 @@ fn put_or_nothing(
 ) {
     let prefix = prefix(rt, of);
     let before = sizes(rt, ins, client, prefix);
+    let number = ins.number(prefix);
     if try_put(rt, ins, client, of, attrs).is_err() {
         assert_eq!(rt; sizes(rt, ins, client, prefix), before);
+        assert_eq!(rt; ins.number(prefix), number);
         put(rt, ins, client, of, attrs);
     }
 }

@@ -5,7 +5,7 @@ use Rattle.rs_adjin.specs.Table.{held_prefix}
 use Rattle.rs_adjin.proofs.TableRows.{row_within}
 use Rattle.rs_adjin.proofs.NumberLists.{none_from, next_from}
 use Rattle.rs_adjin.proofs.Holding.{prefix_held, prefix_left}
-use Rattle.rs_adjin.proofs.prefixes.HeldPrefixesIterator.next.Goals as goal
+use Rattle.rs_adjin.proofs.prefixes.HeldByNumberIterator.next.Goals as goal
 
 -- nothing is left
 pub returns-in_err-number-clause-steps : goal.returns-in_err-number-clause-steps
