@@ -2,7 +2,7 @@
 //! hash falls into the same bucket. A message goes along them, and passes over none that has its
 //! attributes.
 
-ghost use Rattle.std.specs.Prelude.{◌≡◌, ◌<◌, ◌+◌, ◌%◌, ℕ, Some, true, false, IsTrue, slice_get, vec_len};
+ghost use Rattle.std.specs.Prelude.{◌≡◌, ◌<◌, ◌+◌, ◌%◌, ◌++◌, ◌∷◌, [], ℕ, Some, true, false, nat_lt, IsTrue, slice_get, vec_len, if◌then◌else◌};
 ghost use Rattle.std.specs.List.{HoldsAt};
 ghost use Rattle.std.specs.Vec.{vec_capacity};
 ghost use Rattle.rs_outlet.specs.declared.waiting.Due.{Due};
@@ -13,9 +13,19 @@ use crate::waiting::{Due, Waits};
 /// No place.
 const END: u32 = 0xffff_ffff;
 
+/// Adds a link, if there is room for it.
+fn put_link(links: &mut Vec<u32>, link: u32)
+    ensures items { links.new.items ≡ (if nat_lt (vec_len links.old) (vec_capacity links.old) then links.old.items ++ link ∷ [] else links.old.items) }
+    ensures capacity { vec_capacity links.new ≡ vec_capacity links.old }
+{
+    if links.len() < links.capacity() {
+        links.push_reserved(link);
+    }
+}
+
 impl Waits {
-    /// Links the places, from the last on. Where there is no room for a link, a place leads to the
-    /// one behind it.
+    /// Links the places, from the last on. It takes no memory: where there is no room for a link, a
+    /// place leads to the one behind it.
     pub(crate) fn link(&mut self)
         ensures items { self.new.places.items ≡ self.old.places.items }
         ensures sorted { self.new.sorted ≡ self.old.sorted }
@@ -24,8 +34,8 @@ impl Waits {
         self.links.clear();
         self.heads.clear();
         for _ in 0..self.places.len() {
-            let _ = self.links.push(0);
-            let _ = self.heads.push(END);
+            put_link(&mut self.links, 0);
+            put_link(&mut self.heads, END);
         }
         let count = self.places.len();
         for passed in 0..count {

@@ -16,10 +16,10 @@ use crate::runs::drop_shut;
 use crate::table::Rows;
 use crate::waiting::{Due, Told, Wait, Waits, count_open, hash_of, put_in_order};
 use rs_octets::Prefix;
-use std::alloc::Global;
 
 impl Waits {
-    /// Everything that was told waits to be told again: each row, and what waits already.
+    /// Everything that was told waits to be told again: each row, and what waits already. It takes no
+    /// memory.
     pub(crate) fn mark_all(&mut self, rows: &Rows)
         requires { rows.now.used + withdrawn_count self.old.places.items ≤ vec_capacity self.old.places }
         ensures again { (q : Prefix) → MayWaitAgain (fin.get (loc_of rows.now.rows.items) q) (open_at q self.old.places.items) (open_at q self.new.places.items) }
@@ -28,8 +28,8 @@ impl Waits {
         ensures capacity { vec_capacity self.new.places ≡ vec_capacity self.old.places }
         ensures backed { AreBacked rows.now.rows.items self.old.places.items → AreBacked rows.now.rows.items self.new.places.items }
     {
-        self.make_one_run();
-        add_rows(self.alloc, &mut self.places, rows);
+        self.make_one_run(None);
+        add_rows(&mut self.places, rows);
         self.waiting = count_open(&self.places);
         self.sorted = self.places.len();
         self.ready = false;
@@ -49,7 +49,7 @@ impl Told {
 
 /// Drops the places that wait no more, marks those at which something was told, and adds the rows at
 /// which nothing waits. There is room for these: each place that is left is to be withdrawn, or has a row.
-fn add_rows(alloc: Global, places: &mut Vec<Wait>, rows: &Rows)
+fn add_rows(places: &mut Vec<Wait>, rows: &Rows)
     requires rises { IsStrictlySortedBy prefix_order (prefixes_at places.old.items) }
     requires room { rows.now.used + withdrawn_count places.old.items ≤ vec_capacity places.old }
     ensures rises { IsStrictlySortedBy prefix_order (prefixes_at places.new.items) }
@@ -67,7 +67,7 @@ fn add_rows(alloc: Global, places: &mut Vec<Wait>, rows: &Rows)
             add_row(places, waited, place as u32, row);
         }
     }
-    put_in_order(alloc, places);
+    put_in_order(places);
 }
 
 /// Marks the places at which something was told.

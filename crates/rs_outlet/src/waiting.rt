@@ -232,15 +232,15 @@ pub(crate) fn count_open(places: &[Wait]) -> usize
     places.iter().filter(|wait| wait.open).count()
 }
 
-/// Puts the places in order. A prefix has one place.
-pub(crate) fn put_in_order(alloc: Global, places: &mut Vec<Wait>)
+/// Puts the places in order. A prefix has one place. It takes no memory.
+pub(crate) fn put_in_order(places: &mut Vec<Wait>)
     ensures rises { IsStrictlySortedBy prefix_order (prefixes_at places.new.items) }
     ensures from { (w : Wait) → Contains places.new.items w → Contains places.old.items w }
     ensures all { (q : Prefix) → list_any (eq_by_cmp prefix_order q) (prefixes_at places.new.items) ≡ list_any (eq_by_cmp prefix_order q) (prefixes_at places.old.items) }
     ensures withdrawn { withdrawn_count places.new.items ≤ withdrawn_count places.old.items }
     ensures capacity { vec_capacity places.new ≡ vec_capacity places.old }
 {
-    sort_from(alloc, places, 0);
+    sort_from(None, places, 0);
     places.dedup_by_key(|wait| wait.prefix);
 }
 

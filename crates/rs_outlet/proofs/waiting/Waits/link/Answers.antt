@@ -4,7 +4,7 @@ use Rattle.rs_outlet.proofs.Links.{as_many_dues, heads_past, linked_any}
 use Rattle.rs_outlet.proofs.waiting.Waits.link.Goals as goal
 
 pub invariant_of-self-in-loop-clause-chains : goal.invariant_of-self-in-loop-clause-chains
-invariant_of-self-in-loop-clause-chains c = linked_any (dues_at c.loop.self.places.items) c.loop.self.links.items _ _ c.push.ensures.items c.loop.self.chains
+invariant_of-self-in-loop-clause-chains c = linked_any (dues_at c.loop.self.places.items) c.loop.self.links.items _ _ c.put_link.ensures.items c.loop.self.chains
 
 pub loop-passed-init : goal.loop-passed-init
 loop-passed-init c = record {
