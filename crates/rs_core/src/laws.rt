@@ -1,7 +1,7 @@
 //! Laws of what a route server does over a run, and together with its link.
 
 ghost use Rattle.rs_core.specs.InTurn.{HasWhatWasDue, TellsInTurn};
-ghost use Rattle.rs_core.specs.Conversed.{SendsInOrder};
+ghost use Rattle.rs_core.specs.Conversed.{SendsInOrder, SendsNoneLonger};
 ghost use Rattle.rs_core.specs.Paying.{SendsAllOwed};
 ghost use Rattle.rs_core.specs.Serving.{ServesByOffers};
 ghost use Rattle.rs_core.specs.Decided.{AnswersByWhatWasAltered, TouchesWhatWasAltered};
@@ -37,6 +37,12 @@ pub fn clients_are_told_in_turn()
 /// where a NOTIFICATION was heard: then what was in flight is dropped, and nothing follows.
 pub fn messages_go_in_order()
     ensures { SendsInOrder }
+{}
+
+/// At each point of each run the link of a client took no message that is longer than the client
+/// takes: 4,096 octets, and 65,535 once it is Established where long messages were agreed on.
+pub fn no_message_is_too_long()
+    ensures { SendsNoneLonger }
 {}
 
 /// Where a turn has decided all for a client that is Established, what is owed to it then is enough: with
