@@ -21,7 +21,8 @@ use Rattle.rs_core.specs.Moves.{config_in}
 use Rattle.rs_core.specs.Ribs.{outlet_in}
 use Rattle.rs_core.specs.Runs.{hearing}
 use Rattle.rs_core.specs.Telling.{limit_to}
-use Rattle.rs_core.specs.Conversed.{IsFrontOfConversation, SendsInOrder}
+use Rattle.rs_core.specs.Conversed.{IsFrontOfConversation, SendsInOrder, SendsNoneLonger}
+use Rattle.rs_core.proofs.Longer.{none_longer}
 use Rattle.rs_core.proofs.Outgoing.{lent_is}
 use Rattle.rs_core.proofs.Walks.{default_same}
 
@@ -61,3 +62,8 @@ sends_in_order core run c lt h =
           ∙ owes_nothing v (((h.clients c lt).knows.outlet h.config any_view).speech ∙ down_speech s c it (down_by (is_connected it.items) (fate (session_in s c) it.items) (message_count it.items) alone)) ((talk.messages.alone alone).1);
       taken = λ connected. front_of (fate (session_in s c) it.items) (own_open s) (update_speech (session_in s c) it.items) it.taken (outgoing_of v) (talk.messages.connected connected);
     }
+
+pub sends_none_longer : SendsNoneLonger
+sends_none_longer core run c lt h on =
+    let front = (sends_in_order core run c lt h).taken on in
+    none_longer (limit_to (update_speech (session_in (config_in run) c) (hearing c run).items)) (hearing c run).taken front.missing front.whole.whole

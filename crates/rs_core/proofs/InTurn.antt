@@ -1,15 +1,17 @@
 -- What a client is told over a run.
-use Rattle.std.proofs.Common.{◌≡◌, ◌≢◌, ◌⊎◌, inl, inr, ◌<◌, ℕ, Bool, true, false, List, [], ◌∷◌, ◌++◌, length, take, refl, sym, ◌∙◌, ap, subst}
-use Rattle.std.specs.Prelude.{Some, None, reverse, if◌then◌else◌}
+use Rattle.std.proofs.Common.{◌≡◌, ◌≢◌, ◌⊎◌, inl, inr, ◌<◌, ◌≤◌, ℕ, Bool, true, false, List, [], ◌∷◌, ◌++◌, length, length-append, nat_lt, take, refl, sym, ◌∙◌, ap, subst, arith}
+use Rattle.std.specs.Prelude.{Some, None, Result, Ok, Err, IsOkAnd, reverse, if◌then◌else◌}
 use Rattle.std.specs.FinMap as fin
-use Rattle.std.specs.List.{AllZip}
-use Rattle.std.proofs.lemmas.Bool.{false≢true}
-use Rattle.std.proofs.lemmas.List.{reverse-append}
+use Rattle.std.specs.List.{AllByRecursion, AllZip, flat_map}
+use Rattle.std.proofs.lemmas.Bool.{false≢true, ltb-false}
+use Rattle.std.proofs.lemmas.List.{append-nil, reverse-append, take-append-le}
 use Rattle.std.proofs.lemmas.Option.{slice_get_read}
-use Rattle.rs_octets.specs.Messages.{body_of, messages_of, rest_of}
+use Rattle.rs_octets.specs.declared.heads.Head.{Head}
+use Rattle.rs_octets.specs.declared.heads.HeaderFault.{HeaderFault}
+use Rattle.rs_octets.specs.Messages.{IsMessage, body_of, header_fault, messages_of, rest_of}
 use Rattle.rs_octets.specs.Prefixes.{Prefix}
 use Rattle.rs_octets.specs.Headers.{header_of}
-use Rattle.rs_octets.proofs.Cut.{pieces_join}
+use Rattle.rs_octets.proofs.Cut.{cuts_of, pieces_join}
 use Rattle.rs_attrs.specs.Effects.{Change, Changes, HasEffect, attributes_after, mentions}
 use Rattle.rs_session.specs.Sessions.{agreed_of}
 use Rattle.rs_session.proofs.Lasting.{brings_up}
@@ -26,7 +28,7 @@ use Rattle.rs_core.specs.Orders.{TellsAt, TellsInOrder, told_by}
 use Rattle.rs_core.specs.Points.{Point, Decided, Asked, Offered, Value, dues_at, latest}
 use Rattle.rs_core.specs.Ribs.{outlet_in}
 use Rattle.rs_core.specs.Runs.{hearing, is_established, speech_by, speech_in}
-use Rattle.rs_core.specs.Telling.{allowed_to, body_if, heads_update, updates_among, updates_in}
+use Rattle.rs_core.specs.Telling.{IsReadable, allowed_to, body_if, heads_update, updates_among, updates_in}
 use Rattle.rs_core.proofs.Walks.{default_same}
 use Rattle.rs_core.specs.Agreeing.{Agrees}
 use Rattle.rs_core.specs.declared.route_server.Core.{Core}
@@ -121,8 +123,36 @@ told_join (x ∷ xs) ys p = by_test (mentions p x) (told_join xs ys p) where
   by_test true e = ap (λ l. attributes_after p (Some x) ∷ l) e
   by_test false e = e
 
-told_by_taken : (speech : Speech) (points : List Point) (taken flight : List ℕ) (p : Prefix) (values : List Value) (asked : Bool) → TellsAt speech (taken ++ flight) p values → TellsInOrder speech points p values asked → IsToldInTurn speech points taken p
-told_by_taken speech points taken flight p values asked tells order =
+-- what was taken of whole messages has no header at fault
+front_readable : (limit : Limit) (taken flight : List ℕ) → rest_of (allowed_to limit) (taken ++ flight) ≡ [] → IsReadable limit taken
+front_readable limit taken flight none = by_size (nat_lt (length rest) 19) refl where
+  rest : List ℕ
+  rest = rest_of (allowed_to limit) taken
+
+  by_header : (r : Result Head HeaderFault) (n : ℕ) → IsOkAnd r (λ head. head.length ≡ n) → header_fault r ≡ []
+  by_header (Ok head) n is = refl
+  by_header (Err fault) n is = absurd is
+
+  by_first : (ms : List (List ℕ)) → 19 ≤ length rest → rest ++ flight ≡ flat_map (λ (m : List ℕ). m) ms → AllByRecursion (IsMessage (allowed_to limit)) ms
+      → header_fault (header_of (allowed_to limit) (take 19 rest)) ≡ []
+  by_first [] long whole each = absurd (omega (arith, long, length-append rest flight, ap length whole))
+  by_first (m ∷ ms) long whole each =
+      let later : List ℕ = flat_map (λ (m : List ℕ). m) ms in
+      let first : take 19 rest ≡ take 19 m = sym (take-append-le 19 rest flight long) ∙ ap (take 19) whole ∙ take-append-le 19 m later (each.0).0 in
+      ap (λ front. header_fault (header_of (allowed_to limit) front)) first ∙ by_header (header_of (allowed_to limit) (take 19 m)) (length m) (each.0).1
+
+  by_size : (short : Bool) → nat_lt (length rest) 19 ≡ short → IsReadable limit taken
+  by_size true e = ap (λ b. if b then [] else header_fault (header_of (allowed_to limit) (take 19 rest))) e
+  by_size false e =
+      let cut = cuts_of (allowed_to limit) (rest ++ flight) in
+      let ms : List (List ℕ) = messages_of (allowed_to limit) (rest ++ flight) in
+      let nothing : rest_of (allowed_to limit) (rest ++ flight) ≡ [] = sym (pieces_join (allowed_to limit) taken flight).1 ∙ none in
+      ap (λ b. if b then [] else header_fault (header_of (allowed_to limit) (take 19 rest))) e
+      ∙ by_first ms (ltb-false _ _ e) (cut.whole ∙ ap (λ r. flat_map (λ (m : List ℕ). m) ms ++ r) nothing ∙ append-nil (flat_map (λ (m : List ℕ). m) ms)) cut.each
+
+told_by_taken : (speech : Speech) (points : List Point) (taken flight : List ℕ) (p : Prefix) (values : List Value) (asked : Bool) → rest_of (allowed_to speech.limit) (taken ++ flight) ≡ [] → TellsAt speech (taken ++ flight) p values
+    → TellsInOrder speech points p values asked → IsToldInTurn speech points taken p
+told_by_taken speech points taken flight p values asked whole tells order =
     let R : List ℕ → Change → Type 0 = λ body change. HasEffect body speech.mode (Changes change) in
     let allowed = allowed_to speech.limit in
     let more : List (List ℕ) = updates_among speech.limit (messages_of allowed (rest_of allowed taken ++ flight)) in
@@ -134,6 +164,7 @@ told_by_taken speech points taken flight p values asked tells order =
     let are : values ≡ newer ++ told = tells.are ∙ ap (λ l. told_by (reverse l) p) zips.whole ∙ ap (λ l. told_by l p) (reverse-append zips.front zips.behind) ∙ told_join (reverse zips.behind) (reverse zips.front) p in
     let so = without_newer speech points p newer told (record { asked = asked; order = subst (λ l. TellsInOrder speech points p l asked) are order }) in
     record {
+      readable = front_readable speech.limit taken flight whole;
       values = told;
       asked = so.asked;
       tells = record { changes = zips.front; have = zips.zips; are = refl };
@@ -153,7 +184,8 @@ tells_in_turn core run c speech p lt h spoken =
     let at = (h.clients c lt).knows in
     let v : View = outlet_in core.ribs c any_view in
     let told = (at.ordered h.config any_view).told speech ((at.outlet h.config any_view).speech ∙ spoken) p in
-    told_by_taken speech (hearing c run).points (hearing c run).taken v.flight p told.values told.asked told.tells told.order
+    let whole = ((at.outlet h.config any_view).since speech ((at.outlet h.config any_view).speech ∙ spoken)).whole in
+    told_by_taken speech (hearing c run).points (hearing c run).taken v.flight p told.values told.asked whole told.tells told.order
 
 pub has_what_was_due : HasWhatWasDue
 unfolding client_count loc_rib

@@ -1,5 +1,5 @@
 -- What a client reads that takes short messages alone, one that takes long ones reads alike (RFC 8654, 4).
-use Rattle.std.proofs.Common.{◌≡◌, inl, inr, ℕ, ◌≤◌, Bool, true, false, cond, List, [], ◌∷◌, ◌++◌, take, refl, sym, ◌∙◌, ap, arith}
+use Rattle.std.proofs.Common.{◌≡◌, inl, inr, ℕ, ◌≤◌, Bool, true, false, cond, List, [], ◌∷◌, ◌++◌, length, take, refl, sym, ◌∙◌, ap, subst, arith}
 use Rattle.std.specs.Prelude.{◌&&◌, ◌==◌, Option, Some, None, Ok, Err}
 use Rattle.std.specs.List.{flat_map, list_all, AllByRecursion}
 use Rattle.std.specs.Int.{is_in_range}
@@ -8,14 +8,16 @@ use Rattle.rs_octets.specs.declared.heads.Head.{Head}
 use Rattle.rs_octets.specs.declared.heads.HeaderFault.TheVariants as faults
 use Rattle.rs_octets.specs.declared.heads.Kind.{Kind}
 use Rattle.rs_octets.specs.declared.heads.Kind.TheVariants as kinds
-use Rattle.rs_octets.specs.Headers.{header_of, head_of_type, kind_numbered, length_field, type_field}
+use Rattle.rs_octets.specs.Headers.{greatest_length, header_of, head_of_type, kind_numbered, least_length, length_field, longest, type_field}
 use Rattle.rs_octets.specs.Messages.{IsMessage, IsMessageOf, messages_of, rest_of}
-use Rattle.rs_octets.proofs.Cut.{cuts_of, cuts_only}
+use Rattle.rs_octets.proofs.Cut.{cuts_of, cuts_only, pieces_join}
 use Rattle.rs_octets.proofs.GoodHeaders.{has_type, in_range, of_type_is}
 use Rattle.rs_open.specs.declared.short.Limit.{Limit}
 use Rattle.rs_open.specs.declared.short.Limit.TheVariants as limits
+use Rattle.rs_open.specs.Notes.{limit_octets}
 use Rattle.rs_open.specs.declared.writing.ServerOpen.{ServerOpen}
 use Rattle.rs_core.specs.Beats.{Beat, FellDue, Begun, IsNext, AreBeats}
+use Rattle.rs_core.specs.Conversed.{HasNoneLonger}
 use Rattle.rs_core.specs.Telling.{allowed_to}
 
 -- ---- one message
@@ -88,6 +90,59 @@ cut_longer limit octets none =
       stops = (cuts_of (allowed_to limit) []).stops;
     }) in
     (sym only.0, sym only.1)
+
+-- ---- how long they are
+
+-- a good header's length is one that the client takes
+header_most : (limit : Limit) (header : List ℕ) (head : Head) → header_of (allowed_to limit) header ≡ Ok head → head.length ≤ longest (allowed_to limit)
+header_most limit header head e =
+    by_tests (list_all (λ b. b == 255) (take 16 header)) (is_in_range 19 (longest (allowed_to limit)) len) (kind_numbered (allowed_to limit) number) refl e
+  where
+    len : ℕ
+    len = length_field header
+
+    number : ℕ
+    number = type_field header
+
+    by_kind : (within : Bool) (kind : Kind) → len ≤ longest (allowed_to limit) → cond within (Ok (record { length = len; kind = kind })) (Err (faults.Length len)) ≡ Ok head → head.length ≤ longest (allowed_to limit)
+    by_kind true kind h e = let same : len ≡ head.length = cc in subst (λ n. n ≤ longest (allowed_to limit)) same h
+    by_kind false kind h e = cc
+
+    by_tests : (marker within : Bool) (kind : Option Kind) → is_in_range 19 (longest (allowed_to limit)) len ≡ within
+        → cond marker (cond within (head_of_type (allowed_to limit) kind len number) (Err (faults.Length len))) (Err faults.Marker) ≡ Ok head → head.length ≤ longest (allowed_to limit)
+    by_tests false within kind p e = cc
+    by_tests true false kind p e = cc
+    by_tests true true None p e = cc
+    by_tests true true (Some kind) p e =
+        by_kind (is_in_range (least_length kind) (greatest_length (allowed_to limit) kind) len) kind (leb-true len (longest (allowed_to limit)) (both_true _ _ p).1) e
+
+pub longest_to : (limit : Limit) → longest (allowed_to limit) ≡ limit_octets limit
+longest_to limits.Short = refl
+longest_to limits.Long = refl
+
+message_most : (limit : Limit) (m : List ℕ) → IsMessage (allowed_to limit) m → length m ≤ limit_octets limit
+message_most limit m is = let of = has_type (allowed_to limit) m is in subst (λ n. length m ≤ n) (longest_to limit) (header_most limit (take 19 m) _ (of.1).1)
+
+each_most : (limit : Limit) (ms : List (List ℕ)) → AllByRecursion (IsMessage (allowed_to limit)) ms → AllByRecursion (λ m. length m ≤ limit_octets limit) ms
+each_most limit [] all = tt
+each_most limit (m ∷ ms) all = (message_most limit m all.0, each_most limit ms all.1)
+
+front_all : {A : Type 0} (P : A → Type 0) (xs ys : List A) → AllByRecursion P (xs ++ ys) → AllByRecursion P xs
+front_all P [] ys all = tt
+front_all P (x ∷ xs) ys all = (all.0, front_all P xs ys all.1)
+
+-- the same messages to one that takes long ones
+long_cut : (limit : Limit) (octets : List ℕ) → rest_of (allowed_to limit) octets ≡ [] → messages_of (allowed_to limits.Long) octets ≡ messages_of (allowed_to limit) octets
+long_cut limits.Short octets none = (cut_longer limits.Long octets none).0
+long_cut limits.Long octets none = refl
+
+-- the front of octets that a client reads as whole messages has none that is longer than it takes
+pub none_longer : (limit : Limit) (octets missing : List ℕ) → rest_of (allowed_to limit) (octets ++ missing) ≡ [] → HasNoneLonger limit octets
+none_longer limit octets missing none =
+    let P : List ℕ → Type 0 = λ m. length m ≤ limit_octets limit in
+    front_all P (messages_of (allowed_to limits.Long) octets) _
+    (subst (AllByRecursion P) (sym (long_cut limit (octets ++ missing) none) ∙ (pieces_join (allowed_to limits.Long) octets missing).0)
+    (each_most limit (messages_of (allowed_to limit) (octets ++ missing)) (cuts_of (allowed_to limit) (octets ++ missing)).each))
 
 -- ---- when KEEPALIVEs go out
 

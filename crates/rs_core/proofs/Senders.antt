@@ -110,4 +110,4 @@ due_is_the_senders run c p m e = by_speech run c p m (speech_in (config_in run) 
 
 pub told_is_the_senders : ToldIsTheSenders
 told_is_the_senders run c speech table served is means p m e =
-    due_is_the_senders run c p m (mean_one_table _ speech.mode _ table (served.told speech is) means p ∙ e)
+    due_is_the_senders run c p m (mean_one_table _ speech.mode _ table (served.told speech is).means means p ∙ e)

@@ -3,7 +3,6 @@ use Rattle.std.proofs.Common.{◌≡◌, ◌==◌, ◌≤◌, ℕ, zero, suc, Bo
 use Rattle.std.specs.Prelude.{Result, if◌then◌else◌}
 use Rattle.std.proofs.lemmas.List.{length-take, take-take}
 use Rattle.rs_octets.specs.declared.heads.HeaderFault.{HeaderFault}
-use Rattle.rs_attrs.specs.Effects.{MeansTable}
 use Rattle.rs_session.specs.Items.{is_connected, message_count}
 use Rattle.rs_session.specs.Endings.{Fate}
 use Rattle.rs_session.specs.Sessions.{state_by, is_live, fate}
@@ -11,7 +10,7 @@ use Rattle.rs_policy.specs.Configuration.{Configuration}
 use Rattle.rs_core.specs.Moves.{config_in}
 use Rattle.rs_core.specs.Hearing.{Hearing, session_in, state_in, is_up, said_in, takes_in, listens, listens_to, hears, begins, leaves, takes, offers, allowed_in}
 use Rattle.rs_core.specs.Runs.{hearing, due}
-use Rattle.rs_core.specs.Telling.{updates_in}
+use Rattle.rs_core.specs.Telling.{Speaks}
 use Rattle.rs_core.specs.Links.{Step, Told}
 use Rattle.rs_core.specs.Core.{client_count, lent_octets}
 use Rattle.rs_core.specs.Courses.{Course, called, memories}
@@ -132,4 +131,4 @@ serves c config core agrees x drove served =
     let h = hearing c x.run in
     let on : is_connected h.items ≡ true = connected_by (is_connected h.items) (fate (session_in (config_in x.run) c) h.items) (message_count h.items) served.established in
     let taken : h.taken ≡ taken_by c x.steps = drove_keep c (start config core agrees) x drove (λ none. absurd (let g : false ≡ true = none in cc)) on in
-    record { established = served.established; told = λ speech is. subst (λ l. MeansTable (updates_in speech.limit l) speech.mode (due x.run c)) taken (served.told speech is) }
+    record { established = served.established; told = λ speech is. subst (λ l. Speaks speech l (due x.run c)) taken (served.told speech is) }

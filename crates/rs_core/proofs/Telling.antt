@@ -5,14 +5,13 @@ use Rattle.std.specs.List.{AllZip}
 use Rattle.std.proofs.lemmas.List.{append-nil, reverse-append}
 use Rattle.rs_octets.specs.declared.heads.Kind.{Kind}
 use Rattle.rs_octets.specs.declared.heads.Kind.TheVariants as kinds
-use Rattle.rs_octets.specs.Headers.{header_of, longest}
+use Rattle.rs_octets.specs.Headers.{header_of}
 use Rattle.rs_octets.specs.Messages.{IsMessageOf, body_of, messages_of, rest_of}
 use Rattle.rs_octets.specs.Prefixes.{Prefix}
 use Rattle.rs_octets.proofs.Cut.{pieces_join, alone}
 use Rattle.rs_octets.proofs.GoodHeaders.{of_type_is}
 use Rattle.rs_attrs.specs.declared.mode.Mode.{Mode}
 use Rattle.rs_open.specs.declared.short.Limit.{Limit}
-use Rattle.rs_open.specs.declared.short.Limit.TheVariants as limits
 use Rattle.rs_open.specs.Notes.{limit_octets}
 use Rattle.rs_packer.specs.Packed.{announcement, withdrawal}
 use Rattle.rs_packer.proofs.UpdateMessages.{update_is_message}
@@ -21,6 +20,7 @@ use Rattle.rs_attrs.specs.Meaning.{Attribute}
 use Rattle.rs_attrs.specs.Effects.{Change, Changes, HasEffect, MeansTable, overlaid, table_since}
 use Rattle.rs_attrs.specs.Writing.{spelt}
 use Rattle.rs_attrs.proofs.Overlaying.{newest_overlays}
+use Rattle.rs_core.proofs.Longer.{longest_to}
 use Rattle.rs_core.specs.Telling.{allowed_to, is_update, heads_update, body_if, updates_among, updates_in, no_table, Speaks}
 
 abbrev Table : Type 0
@@ -53,10 +53,6 @@ updates_more limit octets m kind none is =
     ∙ ap (λ r. updates_in limit octets ++ body_if (heads_update r) m []) is.1
 
 -- ---- an UPDATE that is no longer than the client takes
-
-longest_to : (limit : Limit) → longest (allowed_to limit) ≡ limit_octets limit
-longest_to limits.Short = refl
-longest_to limits.Long = refl
 
 pub withdrawal_is_message : (limit : Limit) (flight : List ℕ) (ps : List Prefix) → flight ≡ withdrawal ps → length flight ≤ limit_octets limit → IsMessageOf (allowed_to limit) kinds.Update (withdrawal ps)
 withdrawal_is_message limit flight ps is fits =

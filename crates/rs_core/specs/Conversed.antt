@@ -1,5 +1,10 @@
 -- Which messages a client is sent over a run, as laws of each route server that agrees with it.
-use Rattle.std.specs.Prelude.{◌≡◌, ◌⊎◌, ◌<◌, ℕ, true, false, List, [], ◌∷◌, ◌++◌, Option, Some, None}
+use Rattle.std.specs.Prelude.{◌≡◌, ◌⊎◌, ◌<◌, ◌≤◌, ℕ, true, false, List, [], ◌∷◌, ◌++◌, length, Option, Some, None}
+use Rattle.std.specs.List.{AllByRecursion}
+use Rattle.rs_octets.specs.Messages.{messages_of}
+use Rattle.rs_open.specs.Notes.{limit_octets}
+use Rattle.rs_open.specs.declared.short.Limit.{Limit}
+use Rattle.rs_open.specs.declared.short.Limit.TheVariants as limits
 use Rattle.rs_open.specs.declared.short.Short.{Short}
 use Rattle.rs_open.specs.declared.writing.ServerOpen.{ServerOpen}
 use Rattle.rs_session.specs.Items.{is_connected}
@@ -13,7 +18,7 @@ use Rattle.rs_core.specs.Moves.{Move, config_in}
 use Rattle.rs_core.specs.Hearing.{session_in, state_in}
 use Rattle.rs_core.specs.Core.{client_count, lent_octets, outgoing, owed}
 use Rattle.rs_core.specs.Runs.{hearing}
-use Rattle.rs_core.specs.Telling.{limit_to}
+use Rattle.rs_core.specs.Telling.{allowed_to, limit_to}
 use Rattle.rs_core.specs.Agreeing.{Agrees}
 use Rattle.rs_core.specs.declared.route_server.Core.{Core}
 
@@ -39,6 +44,16 @@ pub record SaysAsAsked (core : Core) (run : List Move) (c : ℕ) : Type 0 where
   pub idle : is_connected (hearing c run).items ≡ false → owed core c ≡ 0
   pub taken : is_connected (hearing c run).items ≡ true
       → IsFrontOfConversation (fate (session_in (config_in run) c) (hearing c run).items) (own_open (config_in run)) (update_speech (session_in (config_in run) c) (hearing c run).items) (hearing c run).taken
+
+-- cut as one cuts them who takes long messages, these octets have none that is longer than this (RFC 8654, 4)
+abbrev pub HasNoneLonger : Limit → List ℕ → Type 0
+HasNoneLonger limit octets = AllByRecursion (λ message. length message ≤ limit_octets limit) (messages_of (allowed_to limits.Long) octets)
+
+-- at each point of each run the link of a client took no message that is longer than the client takes
+abbrev pub SendsNoneLonger : Type 0
+SendsNoneLonger =
+    (core : Core) (run : List Move) (c : ℕ) → c < client_count core → Agrees core run → is_connected (hearing c run).items ≡ true
+    → HasNoneLonger (limit_to (update_speech (session_in (config_in run) c) (hearing c run).items)) (hearing c run).taken
 
 abbrev pub SendsInOrder : Type 0
 SendsInOrder = (core : Core) (run : List Move) (c : ℕ) → c < client_count core → Agrees core run → SaysAsAsked core run c

@@ -7,6 +7,7 @@ use Rattle.rs_core.specs.Orders.{TellsAt, TellsInOrder}
 use Rattle.rs_core.specs.Moves.{Move, config_in}
 use Rattle.rs_core.specs.Core.{client_count, loc_rib}
 use Rattle.rs_core.specs.Runs.{hearing, speech_in, is_established, due, dues}
+use Rattle.rs_core.specs.Telling.{IsReadable}
 use Rattle.rs_core.specs.Agreeing.{Agrees}
 use Rattle.rs_core.specs.declared.route_server.Core.{Core}
 
@@ -40,6 +41,7 @@ has_asked (Offered taken ∷ points) = has_asked points
 
 -- the UPDATEs in these octets told a prefix this value last, in order, and the client has not asked since
 pub record HasBeenAnswered (speech : Speech) (points : List Point) (octets : List ℕ) (p : Prefix) (value : Value) : Type 0 where
+  pub readable : IsReadable speech.limit octets
   pub values : List Value
   pub tells : TellsAt speech octets p values
   pub last : latest values ≡ value
@@ -47,10 +49,11 @@ pub record HasBeenAnswered (speech : Speech) (points : List Point) (octets : Lis
 
 -- ---- laws
 
--- What the UPDATEs in these octets tell a prefix, behind none at first, was due at the turns, behind none at first, in this
+-- In these octets no header is at fault. What their UPDATEs tell a prefix, behind none at first, was due at the turns, behind none at first, in this
 -- order. Each value was the one due at the last turn before its message began, and it was another one than that told before
 -- it, but where the client had asked since.
 pub record IsToldInTurn (speech : Speech) (points : List Point) (octets : List ℕ) (p : Prefix) : Type 0 where
+  pub readable : IsReadable speech.limit octets
   pub values : List Value
   pub asked : Bool
   pub tells : TellsAt speech octets p values

@@ -3,7 +3,6 @@ use Rattle.std.specs.Prelude.{◌≡◌, ℕ, ◌==◌, true, Bool, ◌&&◌, no
 use Rattle.std.specs.List.{list_any}
 use Rattle.rs_octets.specs.Prefixes.{Prefix}
 use Rattle.rs_attrs.specs.Meaning.{Attribute}
-use Rattle.rs_attrs.specs.Effects.{MeansTable}
 use Rattle.rs_open.specs.declared.open.Open.{Open}
 use Rattle.rs_session.specs.Sessions.{agreed_of, limit_by}
 use Rattle.rs_session.specs.Sessions as sessions
@@ -11,7 +10,7 @@ use Rattle.rs_policy.specs.Configuration.{Configuration}
 use Rattle.rs_outlet.specs.declared.answers.Speech.{Speech}
 use Rattle.rs_outlet.specs.Due.{Held, due_to}
 use Rattle.rs_core.specs.Moves.{Move, Ruled, Came, Heard, Saw, Left, Dropped, Turned, Began, Took, config_in}
-use Rattle.rs_core.specs.Telling.{updates_in}
+use Rattle.rs_core.specs.Telling.{Speaks}
 use Rattle.rs_core.specs.declared.endings.Ending.TheVariants as reasons
 use Rattle.rs_core.specs.Hearing.{Hearing, silence, session_in, state_in, is_up, identifier_in, table_in, hears, begins, sees, leaves, takes, offers, decides}
 use Rattle.rs_core.specs.Points.{dues_at}
@@ -86,12 +85,13 @@ dues run c p = dues_at (hearing c run).points p
 
 -- ---- what a client was told
 
--- its table is the meaning of the UPDATEs that its link took since its connection came, as its OPEN asks to be spoken to
+-- what its link took since its connection came are whole messages, and this table is the meaning of their UPDATEs, as its OPEN asks
+-- to be spoken to
 abbrev pub IsTold : List Move → ℕ → (Prefix → Option (List Attribute)) → Type 0
 IsTold run c table =
-    (speech : Speech) → speech_in (config_in run) c (hearing c run) ≡ Some speech → MeansTable (updates_in speech.limit (hearing c run).taken) speech.mode table
+    (speech : Speech) → speech_in (config_in run) c (hearing c run) ≡ Some speech → Speaks speech (hearing c run).taken table
 
--- a client is Established, and the UPDATEs that its link took mean exactly the table that is due to it
+-- a client is Established, and its link took whole messages whose UPDATEs mean exactly the table that is due to it
 pub record IsServed (run : List Move) (c : ℕ) : Type 0 where
   pub established : is_established run c ≡ true
   pub told : IsTold run c (due run c)

@@ -1,11 +1,10 @@
 -- What a client that is drained was told, by the offers that its link took.
 use Rattle.std.specs.Prelude.{◌≡◌, ◌==◌, ℕ, true, List, [], ◌∷◌, ◌++◌, take, Some, None, if◌then◌else◌}
-use Rattle.rs_attrs.specs.Effects.{MeansTable}
 use Rattle.rs_session.specs.Items.{is_connected}
 use Rattle.rs_policy.specs.Configuration.{Configuration}
 use Rattle.rs_outlet.specs.declared.answers.Speech.{Speech}
 use Rattle.rs_core.specs.Moves.{Ruled, config_in}
-use Rattle.rs_core.specs.Telling.{updates_in}
+use Rattle.rs_core.specs.Telling.{Speaks}
 use Rattle.rs_core.specs.Runs.{hearing, speech_in, is_established, due, IsServed}
 use Rattle.rs_core.specs.Links.{Step, Told, Begin, Busy, Offer, Memory, End, Replaced}
 use Rattle.rs_core.specs.Agreeing.{Agrees}
@@ -29,10 +28,10 @@ taken_by c (Replaced answer ∷ steps) = taken_by c steps
 abbrev pub start : (config : Configuration) (core : Core) → Agrees core (Ruled config ∷ []) → Course
 start config core agrees = course core [] (Ruled config ∷ []) agrees
 
--- a client is Established, and the UPDATEs that its link took mean exactly the table that is due to it
+-- a client is Established, and its link took whole messages whose UPDATEs mean exactly the table that is due to it
 pub record IsServedBy (x : Course) (c : ℕ) : Type 0 where
   pub established : is_established x.run c ≡ true
-  pub told : (speech : Speech) → speech_in (config_in x.run) c (hearing c x.run) ≡ Some speech → MeansTable (updates_in speech.limit (taken_by c x.steps)) speech.mode (due x.run c)
+  pub told : (speech : Speech) → speech_in (config_in x.run) c (hearing c x.run) ≡ Some speech → Speaks speech (taken_by c x.steps) (due x.run c)
 
 -- what a connection took by the run is what its link took of the offers
 abbrev pub IsTakenBy : ℕ → Course → Type 0

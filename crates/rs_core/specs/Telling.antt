@@ -6,7 +6,7 @@ use Rattle.rs_octets.specs.declared.heads.Kind.TheVariants as kinds
 use Rattle.rs_octets.specs.declared.heads.Head.{Head}
 use Rattle.rs_octets.specs.declared.heads.HeaderFault.{HeaderFault}
 use Rattle.rs_octets.specs.Headers.{header_of}
-use Rattle.rs_octets.specs.Messages.{body_of, messages_of, rest_of}
+use Rattle.rs_octets.specs.Messages.{body_of, header_fault_of, messages_of, rest_of}
 use Rattle.rs_octets.specs.Prefixes.{Prefix}
 use Rattle.rs_attrs.specs.Meaning.{Attribute}
 use Rattle.rs_attrs.specs.Effects.{MeansTable}
@@ -51,6 +51,10 @@ updates_among limit (message ∷ messages) = body_if (heads_update (header_of (a
 -- the bodies of the UPDATEs in octets, as a client reads them that takes messages so long
 abbrev pub updates_in : Limit → List ℕ → List (List ℕ)
 updates_in limit octets = updates_among limit (messages_of (allowed_to limit) octets)
+
+-- a client that takes messages so long finds no header at fault in octets (RFC 4271, 6.1)
+abbrev pub IsReadable : Limit → List ℕ → Type 0
+IsReadable limit octets = header_fault_of (allowed_to limit) (rest_of (allowed_to limit) octets) ≡ []
 
 -- To a client that is spoken to like this, octets are whole messages, and their UPDATEs mean this table.
 pub record Speaks (speech : Speech) (octets : List ℕ) (table : Prefix → Option (List Attribute)) : Type 0 where

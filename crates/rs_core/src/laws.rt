@@ -2,7 +2,7 @@
 
 ghost use Rattle.rs_core.specs.Headline.{DrainedClientsHaveWhatIsDue};
 ghost use Rattle.rs_core.specs.InTurn.{HasWhatWasDue, TellsInTurn};
-ghost use Rattle.rs_core.specs.Conversed.{SendsInOrder};
+ghost use Rattle.rs_core.specs.Conversed.{SendsInOrder, SendsNoneLonger};
 ghost use Rattle.rs_core.specs.Paying.{SendsAllOwed};
 ghost use Rattle.rs_core.specs.Draining.{RoomDrains};
 ghost use Rattle.rs_core.specs.Serving.{ServesByOffers};
@@ -20,8 +20,9 @@ pub fn drained_clients_have_what_is_due<L: Link>()
     ensures { DrainedClientsHaveWhatIsDue L.happens }
 {}
 
-/// From the start on, behind any number of drives: where a client is served by the run, the UPDATEs
-/// that its link took of the offers since it last began mean just the table that is due to the client.
+/// From the start on, behind any number of drives: where a client is served by the run, its link took
+/// whole messages of the offers since it last began, as the client reads them, and their UPDATEs mean
+/// just the table that is due to it.
 #[tactic(auto, using(crate::proofs::Taking::serves))]
 pub fn serves_by_offers()
     ensures { ServesByOffers }
@@ -34,10 +35,10 @@ pub fn loc_rib_is_what_was_due()
     ensures { HasWhatWasDue }
 {}
 
-/// At each point of each run the UPDATEs that the link of an Established client took tell each prefix
-/// what was due at the turns, in order; each value is what was due at the last turn before its message
-/// began; and no value comes twice in a row, but where the client asked for all routes between.
-#[tactic(auto, using(crate::proofs::InTurn::tells_in_turn))]
+/// At each point of each run a client that is Established finds no header at fault in what its link
+/// took. The UPDATEs in it tell each prefix what was due at the turns, in order; each value is what was
+/// due at the last turn before its message began; and no value comes twice in a row, but where the
+/// client asked for all routes between.
 pub fn clients_are_told_in_turn()
     ensures { TellsInTurn }
 {}
@@ -45,10 +46,16 @@ pub fn clients_are_told_in_turn()
 /// At each point of each run what the link of a client took since its connection came, and what is in
 /// flight to it, is a conversation: the server's OPEN, then KEEPALIVEs and, once it is Established,
 /// UPDATEs with which nothing is wrong, then at most the NOTIFICATION that the end of its session asks
-/// for, which waits until it begins. They are whole messages, but where a NOTIFICATION was heard: then
-/// what was in flight is dropped, and nothing follows.
+/// for, which waits until it begins. They are whole messages, none longer than the client takes, but
+/// where a NOTIFICATION was heard: then what was in flight is dropped, and nothing follows.
 pub fn messages_go_in_order()
     ensures { SendsInOrder }
+{}
+
+/// At each point of each run the link of a client took no message that is longer than the client
+/// takes: 4,096 octets, and 65,535 once it is Established where long messages were agreed on.
+pub fn no_message_is_too_long()
+    ensures { SendsNoneLonger }
 {}
 
 /// Where a turn has decided all for a client that is Established, what is owed to it then is enough: with
