@@ -1,6 +1,6 @@
 -- How route servers and links go on, one call after another.
 use Rattle.std.proofs.Common.{◌≡◌, ◌≢◌, ◌<◌, ◌≤◌, ◌-◌, ◌==◌, ◌||◌, ◌&&◌, ◌⊎◌, inl, inr, ℕ, zero, suc, nat_le, nat_lt, Bool, true, false, List, [], ◌∷◌, length, take, refl, sym, ◌∙◌, ap, subst, arith}
-use Rattle.std.specs.Prelude.{Result, Ok, Err, Some, None, OnOk, OnErr, IfErr, if◌then◌else◌}
+use Rattle.std.specs.Prelude.{Result, Ok, Err, OnOk, OnErr, IfErr, if◌then◌else◌}
 use Rattle.std.proofs.lemmas.Bool.Decides.{nat_tests}
 use Rattle.std.proofs.lemmas.List.{take_all}
 use Rattle.rs_policy.specs.Replacing.{Refuses}
@@ -11,13 +11,12 @@ use Rattle.rs_core.specs.Moves.{Move, Ruled, Left, Turned, Began, config_in}
 use Rattle.rs_core.specs.Runs.{is_established}
 use Rattle.rs_core.specs.Agreeing.{Agrees, IsRuled}
 use Rattle.rs_core.specs.Links.{Step, Told, Memory, End, Replaced, HasLed, Leads, octets_of, stops}
-use Rattle.rs_core.specs.Courses.{Course, course, Becomes, called, memories, Reaches, Continues}
+use Rattle.rs_core.specs.Courses.{Course, course, called, memories, Reaches, Continues}
 use Rattle.rs_core.specs.Answers.{is_passed_over, closes, AreEstablished, Answers, Passes, Turns, Rules, Keeps, EndsAll, Ended, Lasts, Owes, Closes, Gives, Goes_on, Offers, Rounds, Start, Round, Drives}
 use Rattle.rs_core.specs.declared.links.Event.{Event}
 use Rattle.rs_core.specs.declared.links.Event.TheVariants as events
 use Rattle.rs_core.specs.declared.route_server.Core.{Core}
 use Rattle.rs_core.proofs.Leading.{led_by, led_on, led_same, stop_is}
-use Rattle.rs_core.proofs.Lists.{none_are}
 
 -- to what follows, by these steps and moves
 pub goes : {L : Type 0} (happens : L → Step → L → Type 0) (old : Core) (before : L) (new : Core) (after : L) (By : Course → Course → Type 0) (next : List Step → List Step) (grown : List Move → List Move)

@@ -1,5 +1,5 @@
 -- A turn and the room behind it lead to where nothing is touched and nothing is owed, and there a client was told what is due to it.
-use Rattle.std.proofs.Common.{◌≡◌, ◌≢◌, ◌<◌, ◌≤◌, ◌+◌, ◌-◌, ◌==◌, ◌&&◌, not, ℕ, zero, suc, Bool, true, false, List, [], ◌∷◌, length, take, refl, sym, ◌∙◌, ap, subst, arith, inl, inr, ◌⊎◌}
+use Rattle.std.proofs.Common.{◌≡◌, ◌≢◌, ◌<◌, ◌≤◌, ◌-◌, ◌&&◌, not, ℕ, zero, suc, Bool, true, false, List, [], ◌∷◌, length, take, refl, sym, ◌∙◌, ap, subst, arith, inl, inr, ◌⊎◌}
 use Rattle.std.specs.Prelude.{Option, Some, None, slice_get, if◌then◌else◌}
 use Rattle.std.specs.FinMap as fin
 use Rattle.std.specs.FinSet as set
@@ -24,7 +24,7 @@ use Rattle.rs_core.specs.Links.{Step, Told, Offer}
 use Rattle.rs_core.specs.Paying.{HasLent, HasTaken}
 use Rattle.rs_core.specs.Courses.{Course, called, began, took}
 use Rattle.rs_core.specs.Answers.{is_passed_over, closes, Offers, Nothing, Fails, Takes, Gives, Used, Stopped, Goes_on, Answers, Passes, Begins, Declines, Hears, Drops, Sees, Turns, Fills, Loses, Rules, Keeps, Ended, Lasts, Owes, Closes, Ends}
-use Rattle.rs_core.specs.Draining.{IsDrained, TakesWhole, TakesAll, TurnsFor, RoomFor, Rooms, NoRoom, MoreRoom, LeavesDrained, RoomDrains}
+use Rattle.rs_core.specs.Draining.{IsDrained, TakesWhole, TakesAll, TurnsFor, RoomFor, Rooms, NoRoom, MoreRoom, RoomDrains}
 use Rattle.rs_core.specs.declared.links.Event.{Event}
 use Rattle.rs_core.specs.declared.links.Event.TheVariants as events
 use Rattle.rs_core.specs.declared.endings.Ending.TheVariants as reasons

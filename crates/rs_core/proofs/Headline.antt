@@ -1,13 +1,13 @@
 -- The claim of the whole, by what each drive adds to a course.
-use Rattle.std.proofs.Common.{ℕ, List, [], ◌∷◌, refl}
+use Rattle.std.proofs.Common.{[], ◌∷◌, refl}
 use Rattle.rs_policy.specs.Configuration.{Configuration}
 use Rattle.rs_core.specs.Moves.{Ruled}
 use Rattle.rs_core.specs.Links.{Step}
-use Rattle.rs_core.specs.Courses.{Course, course, Reaches}
+use Rattle.rs_core.specs.Courses.{Course, course}
 use Rattle.rs_core.specs.Answers.{Drove, Never, Again}
 use Rattle.rs_core.specs.Agreeing.{Agrees}
 use Rattle.rs_core.specs.Serving.{start}
-use Rattle.rs_core.specs.Headline.{WereDriven, New, Driven, HasCome, DrainedClientsHaveWhatIsDue}
+use Rattle.rs_core.specs.Headline.{New, Driven, HasCome, DrainedClientsHaveWhatIsDue}
 use Rattle.rs_core.specs.declared.route_server.Core.{Core}
 use Rattle.rs_core.proofs.Taking.{serves}
 use Rattle.rs_core.proofs.Draining.{drained_served}

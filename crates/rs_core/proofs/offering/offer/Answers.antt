@@ -1,6 +1,5 @@
-use Rattle.std.proofs.Common.{◌≡◌, ◌≤◌, ◌≢◌, ℕ, List, [], ◌∷◌, length, take, refl, sym, ◌∙◌, ap, subst, arith}
+use Rattle.std.proofs.Common.{◌≡◌, ◌≤◌, ◌≢◌, ℕ, List, [], ◌∷◌, length, take, refl, sym, ◌∙◌, ap, subst}
 use Rattle.std.specs.Prelude.{Some, None}
-use Rattle.std.proofs.lemmas.List.{length-take}
 use Rattle.rs_core.specs.Core.{client_count, lent_octets}
 use Rattle.rs_core.specs.Agreeing.{Agrees}
 use Rattle.rs_core.specs.Moves.{Move, Left, Began, Took}
