@@ -1,11 +1,14 @@
 #!/usr/bin/env python3
-"""Runs a test of outlets with one request for memory refused, another one in each run, and says what went wrong.
+"""Runs tests of rs_tests where their requests for memory are counted, or one is refused, and says what went wrong.
 
 play_without_memory.py TESTS
 
-TESTS is the built tests of rs_tests. The test turns an outlet at its end, and says so where memory was refused to that
-turn: then it must pass, which it does where nothing but the answer of the last turn has changed. Where memory is
-refused before or behind the turn the test can't go on, and fails without a word of the turn.
+TESTS is the built tests of rs_tests. Those of calls that take no memory print a line before such calls and one behind
+them: between the two no memory may be asked for.
+
+Another test runs with one request refused, another one in each run. It turns an outlet at its end, and says so where
+memory was refused to that turn: then it must pass, which it does where nothing but the answer of the last turn has
+changed. Where memory is refused before or behind the turn the test can't go on, and fails without a word of the turn.
 """
 import os
 import pathlib
@@ -18,25 +21,65 @@ from results import end, tell
 SHIM = pathlib.Path(__file__).resolve().parent / "refuse_memory.c"
 TEST = "outlet::refused::a_refused_turn_changes_nothing_but_last"
 SAID = b"memory was refused to a turn"
+# The tests of calls that take no memory, and what both of their lines say.
+ASKING = (
+    "outlet::asking::a_message_behind_two_turns",
+    "outlet::asking::messages_of_a_client_that_takes_one_behind_each_turn",
+    "outlet::asking::a_message_of_a_client_that_took_none",
+    "outlet::asking::all_again",
+    "outlet::asking::touches_and_the_end_of_a_session",
+)
+MARK = "no memory is asked for"
 SECONDS = 120
 # So many of the last requests are refused, one after the other; the turn makes some of them.
 LAST = 300
 
 
-def run(program, library, refused):
-    """Whether the test passed, what it printed, and how many requests it made, with this one refused."""
+def run(program, library, test, refused):
+    """Whether the test passed, what it printed, and the requests made by each line and in all, with this one refused."""
     reader, writer = os.pipe()
-    environment = {**os.environ, "LD_PRELOAD": str(library), "REFUSE": str(refused), "COUNTED": str(writer)}
+    environment = {**os.environ, "LD_PRELOAD": str(library), "REFUSE": str(refused), "COUNTED": str(writer), "MARK": MARK}
     try:
-        ran = subprocess.run([program, TEST], env=environment, pass_fds=(writer,), capture_output=True, timeout=SECONDS)
+        ran = subprocess.run([program, test], env=environment, pass_fds=(writer,), capture_output=True, timeout=SECONDS)
     finally:
         os.close(writer)
     with os.fdopen(reader, "rb") as told:
-        return ran.returncode == 0, ran.stdout + ran.stderr, int(told.read() or 0)
+        return ran.returncode == 0, ran.stdout + ran.stderr, [int(line) for line in told] or [0]
 
 
-def play_refused(program):
+def count_requests(program, library):
+    """The result of each test of calls that take no memory."""
+    for test in ASKING:
+        passed, _, (*lines, requests) = run(program, library, test, 0)
+        asked = sum(behind - before for before, behind in zip(lines[::2], lines[1::2]))
+        wrong = None
+        if not passed:
+            wrong = "it failed"
+        elif not requests or not lines or len(lines) % 2:
+            wrong = "its requests were not counted"
+        elif asked:
+            wrong = f"memory was asked for {asked} times"
+        yield f"without memory, {test}", wrong
+
+
+def refuse_requests(program, library):
     """The result of each refused turn, by the number of the request that was refused."""
+    passed, _, (*_, requests) = run(program, library, TEST, 0)
+    if not passed or not requests:
+        yield "without memory", "the test fails though nothing was refused" if requests else "no request was seen"
+        return
+    turns = 0
+    for refused in range(max(1, requests - LAST), requests + 1):
+        passed, said, _ = run(program, library, TEST, refused)
+        if SAID in said:
+            turns += 1
+            yield f"without memory, request {refused} of {requests}", None if passed else "more has changed than `last`"
+    if not turns:
+        yield "without memory", "memory was refused to no turn"
+
+
+def play_memory(program):
+    """The results of all these tests."""
     if not program.exists():
         yield "without memory", f"{program} isn't there"
         return
@@ -46,19 +89,9 @@ def play_refused(program):
         if made.returncode:
             yield "without memory", f"cc: {made.stderr.strip()}"
             return
-        passed, _, requests = run(program, library, 0)
-        if not passed or not requests:
-            yield "without memory", "the test fails though nothing was refused" if requests else "no request was seen"
-            return
-        turns = []
-        for refused in range(max(1, requests - LAST), requests + 1):
-            passed, said, _ = run(program, library, refused)
-            if SAID in said:
-                turns.append(refused)
-                yield f"without memory, request {refused} of {requests}", None if passed else "more has changed than `last`"
-        if not turns:
-            yield "without memory", "memory was refused to no turn"
+        yield from count_requests(program, library)
+        yield from refuse_requests(program, library)
 
 
 if __name__ == "__main__":
-    end(*tell(play_refused(pathlib.Path(sys.argv[1]))))
+    end(*tell(play_memory(pathlib.Path(sys.argv[1]))))

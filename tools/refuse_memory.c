@@ -1,11 +1,13 @@
 // Preloaded into a program: of the requests for memory that the program itself makes, counted from 1, the one with the
-// number REFUSE is refused. At the end the descriptor COUNTED is told how many there were.
+// number REFUSE is refused. The descriptor COUNTED is told how many there were so far, in a line each time: where the
+// program writes octets that hold the text MARK, and at the end.
 #define _GNU_SOURCE
 #include <dlfcn.h>
 #include <errno.h>
 #include <stdatomic.h>
 #include <stdio.h>
 #include <stdlib.h>
+#include <string.h>
 #include <sys/auxv.h>
 #include <sys/syscall.h>
 #include <unistd.h>
@@ -15,6 +17,7 @@ void *__libc_realloc(void *block, size_t size);
 
 static atomic_long requests;
 static long refused;
+static const char *mark;
 static void *program;
 
 static void *object_of(void *address) {
@@ -25,12 +28,13 @@ static void *object_of(void *address) {
 __attribute__((constructor)) static void begin(void) {
     const char *number = getenv("REFUSE");
     refused = number ? atol(number) : 0;
+    mark = getenv("MARK");
     program = object_of((void *)getauxval(AT_ENTRY));
 }
 
 static void tell(void) {
     const char *descriptor = getenv("COUNTED");
-    if (descriptor && dprintf(atoi(descriptor), "%ld", (long)requests) < 0) {
+    if (descriptor && dprintf(atoi(descriptor), "%ld\n", (long)requests) < 0) {
         abort();
     }
 }
@@ -45,6 +49,13 @@ void _exit(int status) {
     for (;;) {
         syscall(SYS_exit_group, status);
     }
+}
+
+ssize_t write(int descriptor, const void *octets, size_t count) {
+    if (mark && memmem(octets, count, mark, strlen(mark))) {
+        tell();
+    }
+    return syscall(SYS_write, descriptor, octets, count);
 }
 
 static int is_refused(void *caller) {

@@ -44,3 +44,13 @@ pub(crate) fn prefix(rt: &impl Abort, bits: u32, len: u8) -> Prefix {
 pub(crate) fn attrs(alloc: Global, field: &[u8]) -> Result<Attrs, AllocError> {
     Ok(read(alloc, field, Mode::Four)?.attrs)
 }
+
+/// From here on no memory is to be asked for. `tools/play_without_memory.py` counts what is.
+pub(crate) fn from_here<R: Abort + Print>(rt: &R) {
+    println!(rt; "no memory is asked for from here").expect(rt, "a line");
+}
+
+/// Up to here no memory was to be asked for.
+pub(crate) fn to_here<R: Abort + Print>(rt: &R) {
+    println!(rt; "no memory is asked for to here").expect(rt, "a line");
+}

@@ -1,7 +1,8 @@
 //! An outlet of a small exchange: touches up to their bound, what is told again, and routes in order.
 //! `told` is what clients are told by the rules and by what they take, `refused` turns that memory
-//! was refused to.
+//! was refused to, `asking` calls that take none.
 
+mod asking;
 mod refused;
 mod told;
 
