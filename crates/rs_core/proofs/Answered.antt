@@ -15,7 +15,7 @@ use Rattle.rs_core.specs.Ribs.{outlet_in}
 use Rattle.rs_core.specs.Runs.{hearing, due}
 use Rattle.rs_core.specs.Agreeing.{Agrees}
 use Rattle.rs_core.specs.declared.route_server.Core.{Core}
-use Rattle.rs_core.proofs.Serving.{told_is_due}
+use Rattle.rs_core.proofs.Serving.{drained_done, told_is_due}
 
 pub drained_is_answered : (core : Core) (run : List Move) (c : ℕ) (none : View) → c < core.count → IsDrained (outlet_in core.ribs c none) → Agrees core run → IsAnswered run c
 drained_is_answered core run c none lt drained h = record {
@@ -25,7 +25,7 @@ drained_is_answered core run c none lt drained h = record {
       let it : Hearing = hearing c run in
       let up = (at.outlet h.config none).speech ∙ is in
       let t = (at.ordered h.config none).told speech up p in
-      let same : due run c p ≡ fin.get v.told p = told_is_due core run c none speech lt drained h up is p in
+      let same : due run c p ≡ fin.get v.told p = told_is_due core run c none speech lt (drained_done v drained) h up is p in
       let there : fin.contains_key v.told p ≡ true = ap is_some (sym same) ∙ some in
       let unmarked : set.contains v.marked p ≡ false = ap (λ x. set.contains x p) drained.unmarked ∙ set.contains-empty prefix_order p in
       record {

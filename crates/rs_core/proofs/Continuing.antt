@@ -6,7 +6,7 @@ use Rattle.std.proofs.lemmas.List.{take_all}
 use Rattle.rs_policy.specs.Replacing.{Refuses}
 use Rattle.rs_policy.specs.declared.faults.RulesFault.{RulesFault}
 use Rattle.rs_core.specs.Core.{client_count, lent_octets, owed, is_refused, refused_below}
-use Rattle.rs_core.specs.Paying.{HasLent, OwesNoMore}
+use Rattle.rs_core.specs.Paying.{HasLent, LeavesOwed}
 use Rattle.rs_core.specs.Moves.{Move, Ruled, Left, Turned, Began, config_in}
 use Rattle.rs_core.specs.Runs.{is_established}
 use Rattle.rs_core.specs.Agreeing.{Agrees, IsRuled}
@@ -264,9 +264,9 @@ is_zero : (n : ℕ) → (n == 0) ≡ true → n ≡ 0
 is_zero n e = grind (arith, nat_tests, e)
 
 pub closed : {L : Type 0} (happens : L → Step → L → Type 0) (old asked new : Core) (before after : L) (c : ℕ) (wants : Bool) → IsAsked old asked c wants → wants ≡ true
-    → client_count new ≡ client_count asked → ((run : List Move) → Agrees asked run → Agrees new (Left c ∷ run)) → happens before (End c) after
+    → client_count new ≡ client_count asked → ((run : List Move) → Agrees asked run → Agrees new (Left c ∷ run)) → LeavesOwed c asked new → happens before (End c) after
     → Continues happens old before new after (Ended c)
-closed happens old asked new before after c wants by does count left step = record {
+closed happens old asked new before after c wants by does count left owes step = record {
   on = λ first steps run h l.
       let closing = closing_by (closes run c) (owed old c == 0) (sym does ∙ by.owing run h) in
       let lent = by.lends run h closing.0 in
@@ -276,7 +276,7 @@ closed happens old asked new before after c wants by does count left step = reco
         run = Left c ∷ Began c ∷ run;
         agrees = gone;
         leads = (before, l, step);
-        is = Closes (course old steps run h) asked new lent closing.0 (is_zero (owed old c) closing.1) (record { count = count; agrees = gone });
+        is = Closes (course old steps run h) asked new lent closing.0 (is_zero (owed old c) closing.1) (record { becomes = record { count = count; agrees = gone }; owed = owes });
       };
 }
 

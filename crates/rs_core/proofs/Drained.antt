@@ -56,10 +56,10 @@ zero_test n e = grind (arith, nat_tests)
 test_zero : (n : ℕ) → (n == 0) ≡ true → n ≡ 0
 test_zero n e = grind (arith, nat_tests)
 
-none_touched : (o : Option Prefixes) → o ≡ Some set.empty → is_none o ≡ true
+pub none_touched : (o : Option Prefixes) → o ≡ Some set.empty → is_none o ≡ true
 none_touched o e = ap is_none e ∙ zero_test (set.len (set.empty {R = prefix_order})) (set.len-empty prefix_order)
 
-touched_none : (o : Option Prefixes) → is_none o ≡ true → o ≡ Some set.empty
+pub touched_none : (o : Option Prefixes) → is_none o ≡ true → o ≡ Some set.empty
 touched_none None e = absurd (let f : false ≡ true = e in cc)
 touched_none (Some s) e = ap (λ t. Some t) (set.empty_of_len s (test_zero (set.len s) e))
 
@@ -76,7 +76,7 @@ left_owed v quiet left =
     (λ i. length (left.flight i) + owed_behind (quiet i) (left.beat i) v.speech (fin.len (left.waits i)))
     ∙ all_zero 0 0 (waiting_octets v.speech (fin.len (fin.empty {X = Bool} {R = prefix_order}))) refl refl (ap (waiting_octets v.speech) (fin.len-empty prefix_order Bool) ∙ none_waiting v.speech)
 
-owed_left : (v : View) (speech : Speech) → v.note ≡ None → v.speech ≡ Some speech → v.touched ≡ Some set.empty → owed_by v ≡ 0 → HasNothingLeft v
+pub owed_left : (v : View) (speech : Speech) → v.note ≡ None → v.speech ≡ Some speech → v.touched ≡ Some set.empty → owed_by v ≡ 0 → HasNothingLeft v
 owed_left v speech quiet up untouched none = record {
   up = subst IsSome (sym up) refl;
   untouched = untouched;

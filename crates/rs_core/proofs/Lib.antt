@@ -2,6 +2,7 @@ pub mod Keeping
 pub mod Lists
 pub mod Watching
 pub mod Agreeing
+pub mod Headline
 pub mod Holding
 pub mod Acting
 pub mod Ruling
@@ -52,6 +53,7 @@ pub mod Answered
 pub mod Owing
 pub mod Paying
 pub mod Drained
+pub mod Draining
 pub mod Conversed
 pub mod Sent
 pub mod Raising

@@ -11,7 +11,8 @@ use Rattle.rs_outlet.specs.Begun.{HasBegun}
 use Rattle.rs_core.specs.Agreeing.{Agrees}
 use Rattle.rs_core.specs.Owing.{owed_by, is_decided_for, is_none}
 use Rattle.rs_core.specs.Core.{client_count, last_in, last_of, lent_octets, owed, owed_in, is_decided, decided_in, touched_for, touched_in}
-use Rattle.rs_core.specs.Paying.{SparesOwed, OwesNoMore, OwesLess}
+use Rattle.rs_core.specs.Paying.{SparesOwed, OwesNoMore, OwesLess, LeavesOwed}
+use Rattle.rs_core.specs.Voices.{KeepsVoices}
 use Rattle.rs_core.specs.declared.route_server.Core.{Core}
 use Rattle.rs_core.proofs.Clients.{equal_or}
 use Rattle.rs_core.proofs.Walks.{default_same}
@@ -94,4 +95,11 @@ took_owes_less c n old new lt most m = record {
   owing = ap (λ k. k + n) (owed_is new c (subst (λ k. c < k) (sym m.count) lt))
       ∙ took_owes n (outlet_in old.ribs c nobody) (outlet_in new.ribs c nobody) (subst (λ octets. n ≤ length octets) (lent_at old c lt) most) (m.outlet.own nobody (within old c lt))
       ∙ sym (owed_is old c lt);
+}
+
+-- the outlets of the others were left alone
+pub others_owed : (c : ℕ) (old new : Core) → new.count ≡ old.count → KeepsVoices c old.ribs new.ribs → LeavesOwed c old new
+unfolding client_count
+others_owed c old new count voices = record {
+  others = λ d lt ne. owed_is new d (subst (λ n. d < n) (sym count) lt) ∙ ap owed_by (voices d nobody (within old d lt) ne).is ∙ sym (owed_is old d lt);
 }

@@ -11,7 +11,7 @@ use Rattle.rs_core.proofs.Lists.{own, other}
 use Rattle.rs_core.proofs.Clients.{equal_or}
 
 -- who is Established stays so
-took_up : (run : List Move) (c d : ℕ) (octets : List ℕ) → is_established (Took d octets ∷ run) c ≡ is_established run c
+pub took_up : (run : List Move) (c d : ℕ) (octets : List ℕ) → is_established (Took d octets ∷ run) c ≡ is_established run c
 took_up run c d octets = by_test (d == c) where
   by_test : (b : Bool) → is_up (state_in (config_in run) c (if b then takes octets (hearing c run) else hearing c run)) ≡ is_established run c
   by_test true = refl

@@ -1,5 +1,5 @@
 -- Where an outlet is drained, its client was told what is due to it.
-use Rattle.std.proofs.Common.{◌≡◌, ◌<◌, ℕ, true, false, List, ◌++◌, length, refl, sym, ◌∙◌, ap, subst}
+use Rattle.std.proofs.Common.{◌≡◌, ◌<◌, ℕ, true, false, List, [], ◌++◌, length, refl, sym, ◌∙◌, ap, subst}
 use Rattle.std.specs.Prelude.{Option, Some, None, IsSome}
 use Rattle.std.specs.FinMap as fin
 use Rattle.std.specs.FinSet as set
@@ -37,17 +37,27 @@ pub spoken : (o : Option Speech) → IsSome o → (A : Type 0) → ((speech : Sp
 spoken None some A so = absurd (let f : false ≡ true = some in cc)
 spoken (Some speech) some A so = so speech refl
 
+-- nothing is touched or in flight, and what was told is what was due at the last turn
+pub record IsDone (v : View) : Type 0 where
+  pub up : IsSome v.speech
+  pub untouched : v.touched ≡ Some set.empty
+  pub told : (p : Prefix) → fin.get v.told p ≡ fin.get v.loc p
+  pub flight : v.flight ≡ []
+
+pub drained_done : (v : View) → IsDrained v → IsDone v
+drained_done v drained = record { up = drained.up; untouched = drained.untouched; told = λ p. ap (λ t. fin.get t p) drained.told; flight = drained.flight }
+
 -- what was told last is what is due
-pub told_is_due : (core : Core) (run : List Move) (c : ℕ) (none : View) (speech : Speech) → c < core.count → IsDrained (outlet_in core.ribs c none) → Agrees core run → (outlet_in core.ribs c none).speech ≡ Some speech
+pub told_is_due : (core : Core) (run : List Move) (c : ℕ) (none : View) (speech : Speech) → c < core.count → IsDone (outlet_in core.ribs c none) → Agrees core run → (outlet_in core.ribs c none).speech ≡ Some speech
     → speech_in (config_in run) c (hearing c run) ≡ Some speech → (p : Prefix) → due run c p ≡ fin.get (outlet_in core.ribs c none).told p
 told_is_due core run c none speech lt drained h up is p =
     due_spoken run c speech p is
     ∙ sym (due_is core run c speech p h)
     ∙ sym ((core.fresh.each c none (subst (λ n. c < n) (sym core.ribs_len) lt)).at speech p up (ap (λ t. is_touched t p) drained.untouched ∙ set.contains-empty prefix_order p))
-    ∙ ap (λ t. fin.get t p) (sym drained.told)
+    ∙ sym (drained.told p)
 
-drained_served : (core : Core) (run : List Move) (c : ℕ) (none : View) (speech : Speech) → c < core.count → IsDrained (outlet_in core.ribs c none) → Agrees core run → (outlet_in core.ribs c none).speech ≡ Some speech → IsServed run c
-drained_served core run c none speech lt drained h up =
+done_served : (core : Core) (run : List Move) (c : ℕ) (none : View) (speech : Speech) → c < core.count → IsDone (outlet_in core.ribs c none) → Agrees core run → (outlet_in core.ribs c none).speech ≡ Some speech → IsServed run c
+done_served core run c none speech lt drained h up =
     let v : View = outlet_in core.ribs c none in
     let at = (h.clients c lt).knows.outlet h.config none in
     let heard : speech_in (config_in run) c (hearing c run) ≡ Some speech = sym at.speech ∙ up in
@@ -60,6 +70,10 @@ drained_served core run c none speech lt drained h up =
     }
 
 -- a client whose outlet is drained is served
+pub done_is_served : (core : Core) (run : List Move) (c : ℕ) (none : View) → c < core.count → IsDone (outlet_in core.ribs c none) → Agrees core run → IsServed run c
+done_is_served core run c none lt done h =
+    spoken (outlet_in core.ribs c none).speech done.up (IsServed run c) (λ speech up. done_served core run c none speech lt done h up)
+
 pub drained_is_served : (core : Core) (run : List Move) (c : ℕ) (none : View) → c < core.count → IsDrained (outlet_in core.ribs c none) → Agrees core run → IsServed run c
 drained_is_served core run c none lt drained h =
-    spoken (outlet_in core.ribs c none).speech drained.up (IsServed run c) (λ speech up. drained_served core run c none speech lt drained h up)
+    done_is_served core run c none lt (drained_done (outlet_in core.ribs c none) drained) h

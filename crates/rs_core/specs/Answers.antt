@@ -10,7 +10,7 @@ use Rattle.rs_core.specs.Runs.{hearing, is_established}
 use Rattle.rs_core.specs.Core.{client_count, lent_octets, owed}
 use Rattle.rs_core.specs.Paying.{HasLent, HasTaken}
 use Rattle.rs_core.specs.Links.{Told, Begin, Busy, Offer, Memory, End, Replaced, stops}
-use Rattle.rs_core.specs.Courses.{Course, Becomes, called, remembered, moved, began, took}
+use Rattle.rs_core.specs.Courses.{Course, Becomes, IsLost, called, remembered, moved, began, took}
 use Rattle.rs_core.specs.declared.links.Event.{Event}
 use Rattle.rs_core.specs.declared.links.Event.TheVariants as events
 use Rattle.rs_core.specs.declared.route_server.Core.{Core}
@@ -33,8 +33,8 @@ pub data Offers (c room : ℕ) : ℕ → Course → Course → Type 0 where
   Nothing : (x : Course) (core : Core) (lent : HasLent c x.core (lent_octets core c) core) → owed x.core c ≡ 0 → lent_octets core c ≡ []
       → Offers c room 0 x (began c x core lent)
   Fails : (x : Course) (core after : Core) (lent : HasLent c x.core (lent_octets core c) core) → lent_octets core c ≢ []
-      → (lost : Becomes (Left c) (Began c ∷ x.run) core after)
-      → Offers c room 0 x (moved (Left c) (called (Offer c (take room (lent_octets core c)) None) (began c x core lent)) after lost)
+      → (lost : IsLost c (Began c ∷ x.run) core after)
+      → Offers c room 0 x (moved (Left c) (called (Offer c (take room (lent_octets core c)) None) (began c x core lent)) after lost.becomes)
   Takes : (k : ℕ) (x : Course) (core after : Core) (lent : HasLent c x.core (lent_octets core c) core) → lent_octets core c ≢ []
       → k ≤ length (take room (lent_octets core c)) → (taken : HasTaken c k core after)
       → Offers c room k x (took c k (called (Offer c (take room (lent_octets core c)) (Some k)) (began c x core lent)) after taken)
@@ -79,7 +79,7 @@ pub data Answers (octets : List ℕ) : Event → Course → Course → Type 0 wh
   Turns : (refused : List ℕ) (x : Course) (core : Core) (turned : Becomes (Turned refused) x.run x.core core) → AreEstablished x.run (client_count x.core) refused
       → Answers octets events.Turn x (moved (Turned refused) (remembered refused x) core turned)
   Fills : (c room : ℕ) (x y : Course) → c < client_count x.core → Gives c room x y → Answers octets (events.Room c room) x y
-  Loses : (c : ℕ) (x : Course) (core : Core) (left : Becomes (Left c) x.run x.core core) → c < client_count x.core → Answers octets (events.Lost c) x (moved (Left c) x core left)
+  Loses : (c : ℕ) (x : Course) (core : Core) (lost : IsLost c x.run x.core core) → c < client_count x.core → Answers octets (events.Lost c) x (moved (Left c) x core lost.becomes)
   Rules : (config : Configuration) (x : Course) (core : Core) (ruled : Becomes (Ruled config) x.run x.core core) → Replaces (config_in x.run) octets config
       → Answers octets events.Rules x (moved (Ruled config) (called (Replaced (Ok tt)) x) core ruled)
   Keeps : (fault : RulesFault) (x : Course) → Refuses (config_in x.run) octets fault → Answers octets events.Rules x (called (Replaced (Err fault)) x)
@@ -91,7 +91,7 @@ pub data Ended (c : ℕ) : Course → Course → Type 0 where
   Lasts : (x : Course) → closes x.run c ≡ false → Ended c x x
   Owes : (x : Course) (core : Core) (lent : HasLent c x.core (lent_octets core c) core) → closes x.run c ≡ true → owed x.core c ≢ 0 → Ended c x (began c x core lent)
   Closes : (x : Course) (core after : Core) (lent : HasLent c x.core (lent_octets core c) core) → closes x.run c ≡ true → owed x.core c ≡ 0
-      → (left : Becomes (Left c) (Began c ∷ x.run) core after) → Ended c x (moved (Left c) (called (End c) (began c x core lent)) after left)
+      → (lost : IsLost c (Began c ∷ x.run) core after) → Ended c x (moved (Left c) (called (End c) (began c x core lent)) after lost.becomes)
 
 -- so for each of the first so many clients, one after the other
 abbrev pub Ends : ℕ → Course → Course → Type 0

@@ -1,10 +1,10 @@
 -- How a link and a route server go on together: what has passed between them, what it means, and the route server at hand.
 use Rattle.std.specs.Prelude.{◌≡◌, ℕ, List, [], ◌∷◌, take}
-use Rattle.rs_core.specs.Moves.{Move, Began, Took}
+use Rattle.rs_core.specs.Moves.{Move, Left, Began, Took}
 use Rattle.rs_core.specs.Links.{Step, Leads, Memory}
 use Rattle.rs_core.specs.Core.{client_count, lent_octets}
 use Rattle.rs_core.specs.Agreeing.{Agrees}
-use Rattle.rs_core.specs.Paying.{HasLent, HasTaken}
+use Rattle.rs_core.specs.Paying.{HasLent, HasTaken, LeavesOwed}
 use Rattle.rs_core.specs.declared.route_server.Core.{Core}
 
 -- what a link told and was told, and the run that this makes, each the newest first; and the route server at hand, which agrees
@@ -38,6 +38,11 @@ remembered cs x = record { steps = memories cs x.steps; run = x.run; core = x.co
 pub record Becomes (move : Move) (run : List Move) (old new : Core) : Type 0 where
   pub count : client_count new ≡ client_count old
   pub agrees : Agrees new (move ∷ run)
+
+-- so by the loss of a client's connection, which leaves what is owed to the others
+pub record IsLost (c : ℕ) (run : List Move) (old new : Core) : Type 0 where
+  pub becomes : Becomes (Left c) run old new
+  pub owed : LeavesOwed c old new
 
 abbrev pub moved : (move : Move) (x : Course) (core : Core) → Becomes move x.run x.core core → Course
 moved move x core becomes = record { steps = x.steps; run = move ∷ x.run; core = core; agrees = becomes.agrees }

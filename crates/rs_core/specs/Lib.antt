@@ -9,6 +9,7 @@ pub mod Core
 pub mod Moves
 pub mod Points
 pub mod Beats
+pub mod Headline
 pub mod Hearing
 pub mod Telling
 pub mod Runs
@@ -21,6 +22,7 @@ pub mod Touched
 pub mod Answering
 pub mod Agreeing
 pub mod Decided
+pub mod Draining
 pub mod LastTurns
 pub mod Paying
 pub mod Steps

@@ -20,6 +20,10 @@ pub record OwesNoMore (c : ℕ) (old new : Core) : Type 0 where
   pub all : lent_octets new c ≡ [] → owed old c ≡ 0
   pub owing : (run : List Move) → Agrees old run → is_established run c ≡ true → owed new c ≤ owed old c
 
+-- what is owed to the other clients is what it was
+pub record LeavesOwed (c : ℕ) (old new : Core) : Type 0 where
+  pub others : (d : ℕ) → d < client_count old → d ≢ c → owed new d ≡ owed old d
+
 -- so many octets of it were taken, and so many fewer are owed
 pub record OwesLess (c n : ℕ) (old new : Core) : Type 0 where
   pub spares : SparesOwed c old new

@@ -29,6 +29,7 @@ ghost use Rattle.rs_core.specs.Moves.{Move, Came, Left, config_in};
 ghost use Rattle.rs_core.specs.Hearing.{Hearing, state_in, leaves};
 ghost use Rattle.rs_core.specs.Runs.{hearing};
 ghost use Rattle.rs_core.specs.Agreeing.{Agrees, AgreesAt, Knows, IsCutShort, Spares};
+ghost use Rattle.rs_core.specs.Paying.{LeavesOwed};
 ghost use Rattle.rs_outlet.specs.Views.{View};
 ghost use Rattle.rs_core.specs.Ribs.{KeepsAnswers, Stirs, outlet_in};
 ghost use Rattle.rs_core.specs.Stirring.{IsChangedBy, KeepsTouched, TouchesOthersWhere};
@@ -112,6 +113,7 @@ impl Core {
         requires { c < client_count self.old }
         ensures count { client_count self.new ≡ client_count self.old }
         ensures left { (run : List Move) → Agrees self.old run → Agrees self.new (Left c ∷ run) }
+        ensures owes { LeavesOwed c self.old self.new }
         ensures touched { (run : List Move) → Agrees self.old run → TouchesOthersWhere (IsChangedBy (Left c) run c) c run self.old self.new }
     {
         let lasts = self.is_live(c);

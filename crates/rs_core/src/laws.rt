@@ -1,11 +1,22 @@
 //! Laws of what a route server does over a run, and together with its link.
 
+ghost use Rattle.rs_core.specs.Headline.{DrainedClientsHaveWhatIsDue};
 ghost use Rattle.rs_core.specs.InTurn.{HasWhatWasDue, TellsInTurn};
 ghost use Rattle.rs_core.specs.Conversed.{SendsInOrder};
 ghost use Rattle.rs_core.specs.Paying.{SendsAllOwed};
+ghost use Rattle.rs_core.specs.Draining.{RoomDrains};
 ghost use Rattle.rs_core.specs.Serving.{ServesByOffers};
 ghost use Rattle.rs_core.specs.Decided.{AnswersByWhatWasAltered, TouchesWhatWasAltered};
 ghost use Rattle.rs_core.specs.LastTurns.{AnswersByTheLastTurn};
+
+use crate::links::Link;
+
+/// The claim of the whole. From `Core::new` on, behind any number of calls of `drive` and `drive_with` with
+/// a link: wherever a client is drained, as `is_drained` says, it is Established, and the UPDATEs that its
+/// link took of the offers since its connection last began mean just the table that is due to it.
+pub fn drained_clients_have_what_is_due<L: Link>()
+    ensures { DrainedClientsHaveWhatIsDue L.happens }
+{}
 
 /// From the start on, behind any number of drives: where a client is served by the run, the UPDATEs
 /// that its link took of the offers since it last began mean just the table that is due to the client.
@@ -44,6 +55,13 @@ pub fn messages_go_in_order()
 #[tactic(auto, using(crate::proofs::Sent::sends_all_owed))]
 pub fn sends_all_owed()
     ensures { SendsAllOwed }
+{}
+
+/// Behind a turn at which memory was not refused for a client that is Established, room for at least what
+/// is owed to it, of which its link takes whole what it is offered, leaves it drained, whatever room other
+/// clients had between the two: it was told just what is due to it.
+pub fn room_behind_a_turn_drains()
+    ensures { RoomDrains }
 {}
 
 /// At each point of each run: for a client that is Established all is touched where, since the last turn

@@ -12,7 +12,7 @@ pub returns-then-wants_close-clause-ended : goal.returns-then-wants_close-clause
 returns-then-wants_close-clause-ended g c =
     let asked = c.wants_close.ensures in
     closed g.L.Link.happens _ _ _ _ _ c.args.c c.wants_close.result (record { owing = asked.owing; unchanged = asked.unchanged; lends = asked.lends }) c.if-wants_close.true
-    c.lost.ensures.count c.lost.ensures.left c.end.ensures
+    c.lost.ensures.count c.lost.ensures.left c.lost.ensures.owes c.end.ensures
 
 pub returns-else-wants_close-clause-ended : goal.returns-else-wants_close-clause-ended
 returns-else-wants_close-clause-ended g c =

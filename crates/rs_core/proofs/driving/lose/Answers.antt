@@ -19,7 +19,7 @@ returns-then-c-clients-clause-answers g c =
     let here : c.args.c < client_count c.args.core.now = omega (arith, c.if-c-clients.true, c.clients.ensures.count) in
     goes g.L.Link.happens _ _ _ _ (Answers _ (events.Lost c.args.c)) (λ s. s) (λ r. Left c.args.c ∷ r)
     (λ first s l. l) (λ run h. c.lost.ensures.left run h)
-    (λ s run h. Loses c.args.c (course _ s run h) _ (record { count = c.lost.ensures.count; agrees = c.lost.ensures.left run h }) here)
+    (λ s run h. Loses c.args.c (course _ s run h) _ (record { becomes = record { count = c.lost.ensures.count; agrees = c.lost.ensures.left run h }; owed = c.lost.ensures.owes }) here)
 
 pub returns-else-c-clients-clause-answers : goal.returns-else-c-clients-clause-answers
 returns-else-c-clients-clause-answers g c =

@@ -43,7 +43,7 @@ returns-in-None-clause-offers g c =
     goes g.L.Link.happens _ _ _ _ (Offers c.args.c c.args.room 0) (λ s. Offer c.args.c (take c.args.room octets) None ∷ s) (λ r. Left c.args.c ∷ Began c.args.c ∷ r)
     (λ first s l. (c.args.link.now, l, step)) (λ run h. c.lost.ensures.left _ (c.begin.ensures.began run h))
     (λ s run h. Fails (course _ s run h) _ _ (begins c.args.c _ _ c.begin.ensures.count c.begin.ensures.began c.begin.ensures.owes) some
-    (record { count = c.lost.ensures.count; agrees = c.lost.ensures.left _ (c.begin.ensures.began run h) }))
+    (record { becomes = record { count = c.lost.ensures.count; agrees = c.lost.ensures.left _ (c.begin.ensures.began run h) }; owed = c.lost.ensures.owes }))
 
 pub returns-in-Some-clause-offers : goal.returns-in-Some-clause-offers
 returns-in-Some-clause-offers g c =

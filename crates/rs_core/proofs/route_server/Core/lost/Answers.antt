@@ -10,6 +10,7 @@ use Rattle.rs_core.specs.declared.endings.Ending.TheVariants as reasons
 use Rattle.rs_core.proofs.Lists.{own, other}
 use Rattle.rs_core.proofs.Agreeing.{grown, on_clients}
 use Rattle.rs_core.proofs.Growing.{left_agrees}
+use Rattle.rs_core.proofs.Paying.{others_owed}
 use Rattle.rs_core.proofs.Spared.{noted_spares}
 use Rattle.rs_core.proofs.Watching.{noted_by}
 use Rattle.rs_core.proofs.Touched.{touches_changes}
@@ -36,3 +37,6 @@ returns-clause-left c = λ run h.
 pub returns-clause-touched : goal.returns-clause-touched
 unfolding client_count
 returns-clause-touched c = λ run h. touches_changes c.args.c (Left c.args.c) c.args.self.now c.forget.new.self run c.requires (on_clients c.args.self.now run h) (on_clients c.forget.new.self (Left c.args.c ∷ run) (returns-clause-left c run h)) c.forget.ensures.spares.count c.forget.ensures.stirs
+
+pub returns-clause-owes : goal.returns-clause-owes
+returns-clause-owes c = others_owed c.args.c c.args.self.now c.forget.new.self c.forget.ensures.spares.count c.forget.ensures.spares.voices

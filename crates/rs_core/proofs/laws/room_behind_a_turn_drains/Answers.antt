@@ -1,0 +1,5 @@
+use Rattle.rs_core.proofs.Draining.{room_drains}
+use Rattle.rs_core.proofs.laws.room_behind_a_turn_drains.Goals as goal
+
+pub returns : goal.returns
+returns c = room_drains
