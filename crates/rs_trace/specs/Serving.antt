@@ -1,28 +1,27 @@
 -- What the clients of a route server were told in a replay.
-use Rattle.std.specs.Prelude.{◌≡◌, ◌==◌, ℕ, List, [], ◌∷◌, ◌++◌, if◌then◌else◌}
+use Rattle.std.specs.Prelude.{◌≡◌, ◌==◌, ◌<◌, ◌≤◌, ℕ, true, List, [], ◌∷◌, ◌++◌, if◌then◌else◌}
 use Rattle.rs_policy.specs.Configuration.{Configuration}
-use Rattle.rs_core.specs.Moves.{Ruled}
-use Rattle.rs_core.specs.Links.{Step, Told, Begin, Busy, Offer, Memory, End, Replaced}
-use Rattle.rs_core.specs.Agreeing.{Agrees}
-use Rattle.rs_core.specs.Courses.{Course}
-use Rattle.rs_core.specs.Answers.{Drove}
-use Rattle.rs_core.specs.Serving.{start, taken_by}
-use Rattle.rs_core.specs.declared.route_server.Core.{Core}
+use Rattle.rs_core.specs.Runs.{is_established}
+use Rattle.rs_core.specs.Core.{client_count, owed}
+use Rattle.rs_core.specs.Links.{Told, Begin, Busy, Offer, Memory, End, Replaced}
+use Rattle.rs_core.specs.Courses.{Course, called}
+use Rattle.rs_core.specs.Answers.{Gives, EndsAll}
+use Rattle.rs_core.specs.Serving.{taken_by, IsServedBy}
+use Rattle.rs_core.specs.Draining.{IsDrained, TurnsFor}
+use Rattle.rs_core.specs.Headline.{HasCome}
+use Rattle.rs_core.specs.declared.links.Event.TheVariants as events
 use Rattle.rs_trace.specs.Played.{Act, Did, ToldRoutes, AllTookAll, steps_of}
 use Rattle.rs_trace.specs.Replays.{HasRun}
 
 -- ---- a replay is one course
 
--- from the start on a route server with this configuration and a link came to this course in drives, one behind the other, by just
--- these steps
-pub record IsDrivenBy (settings : Configuration) (steps : List Step) (x : Course) : Type 0 where
-  pub core : Core
-  pub agrees : Agrees core (Ruled settings ∷ [])
-  pub drove : Drove (start settings core agrees) x
-  pub steps_are : x.steps ≡ steps
+-- from the start on a route server and a link came to this course in drives, one behind the other, by just the steps that were done
+pub record IsCourseOf (settings : Configuration) (acts : List Act) (x : Course) : Type 0 where
+  pub come : HasCome settings x
+  pub steps : x.steps ≡ steps_of acts
 
-abbrev pub ReplaysAreDriven : Type 0
-ReplaysAreDriven = (settings : Configuration) (name : ℕ → List ℕ) (acts : List Act) (x : Course) → HasRun settings name acts x → IsDrivenBy settings (steps_of acts) x
+abbrev pub ReplaysAreCourses : Type 0
+ReplaysAreCourses = (settings : Configuration) (name : ℕ → List ℕ) (acts : List Act) (x : Course) → HasRun settings name acts x → IsCourseOf settings acts x
 
 -- ---- what was sent
 
@@ -38,6 +37,51 @@ sent_to c (Did (Memory d) ∷ acts) = sent_to c acts
 sent_to c (Did (End d) ∷ acts) = sent_to c acts
 sent_to c (Did (Replaced answer) ∷ acts) = sent_to c acts
 
--- in a replay these are what the link of the client took
-abbrev pub ReplaysSendAll : Type 0
-ReplaysSendAll = (settings : Configuration) (name : ℕ → List ℕ) (acts : List Act) (x : Course) → HasRun settings name acts x → AllTookAll acts → (c : ℕ) → taken_by c x.steps ≡ sent_to c acts
+-- A client has what is due to it, by what its link took of the offers; and that is what its `sent` lines say.
+pub record IsServedIn (acts : List Act) (x : Course) (c : ℕ) : Type 0 where
+  pub served : IsServedBy x c
+  pub sent : taken_by c x.steps ≡ sent_to c acts
+
+-- at each point of a replay, and so at its end, each drained client has what is due to it
+abbrev pub ReplaysServe : Type 0
+ReplaysServe = (settings : Configuration) (name : ℕ → List ℕ) (acts : List Act) (x : Course) → HasRun settings name acts x → AllTookAll acts → (c : ℕ) → IsDrained x c → IsServedIn acts x c
+
+-- ---- a turn, and room
+
+-- room for so many octets to client d, and the ends behind it
+pub record GivesRoom (d room : ℕ) (x y : Course) : Type 0 where
+  pub octets : List ℕ
+  pub given : Course
+  pub gives : Gives d room (called (Told (events.Room d room) octets) x) given
+  pub ends : EndsAll given y
+
+-- so for any clients, one after the other
+pub data GivesRooms (x : Course) : Course → Type 0 where
+  NoRoom : GivesRooms x x
+  MoreRoom : (d room : ℕ) (y z : Course) → GivesRooms x y → GivesRoom d room y z → GivesRooms x z
+
+-- a turn, at which memory was not refused for client c, which was Established; then room for any clients; then room for client c, of at
+-- least what was owed to it; then a stop
+pub record EndsInRoom (c : ℕ) (x : Course) : Type 0 where
+  pub before : Course
+  pub turned : Course
+  pub given : Course
+  pub after : Course
+  pub room : ℕ
+  pub octets : List ℕ
+  pub client : c < client_count before.core
+  pub established : is_established before.run c ≡ true
+  pub turns : TurnsFor c before turned
+  pub rooms : GivesRooms turned given
+  pub enough : owed given.core c ≤ room
+  pub own : GivesRoom c room given after
+  pub stop : x ≡ called (Told events.Stop octets) after
+
+-- where a replay comes to that, the client is drained, and so it has what is due to it
+pub record LeavesServed (acts : List Act) (x : Course) (c : ℕ) : Type 0 where
+  pub drained : IsDrained x c
+  pub served : IsServedIn acts x c
+
+abbrev pub ReplaysDrain : Type 0
+ReplaysDrain =
+    (settings : Configuration) (name : ℕ → List ℕ) (acts : List Act) (x : Course) → HasRun settings name acts x → AllTookAll acts → (c : ℕ) → EndsInRoom c x → LeavesServed acts x c
