@@ -30,8 +30,8 @@ drained_is_answered core run c none lt drained h = record {
       let unmarked : set.contains v.marked p ≡ false = ap (λ x. set.contains x p) drained.unmarked ∙ set.contains-empty prefix_order p in
       record {
         values = t.values;
-        tells = subst (λ o. TellsAt speech.mode o p t.values) (ap (λ f. it.taken ++ f) drained.flight ∙ append-nil it.taken) t.tells;
+        tells = subst (λ o. TellsAt speech o p t.values) (ap (λ f. it.taken ++ f) drained.flight ∙ append-nil it.taken) t.tells;
         last = sym t.told ∙ sym same;
-        order = subst (λ a. TellsInOrder speech.mode it.points p t.values a) (false_from_ne_true t.asked (λ a. false≢true (sym unmarked ∙ t.pending a there))) t.order;
+        order = subst (λ a. TellsInOrder speech it.points p t.values a) (false_from_ne_true t.asked (λ a. false≢true (sym unmarked ∙ t.pending a there))) t.order;
       };
 }

@@ -2,7 +2,6 @@
 use Rattle.std.proofs.Common.{◌≡◌, inl, inr, ◌<◌, ◌+◌, ℕ, Bool, true, List, [], ◌++◌, length, refl, sym, ◌∙◌, ap, subst}
 use Rattle.std.specs.Prelude.{Option, Some, None, false}
 use Rattle.std.proofs.lemmas.Option.{slice_get_read}
-use Rattle.rs_attrs.specs.declared.mode.Mode.{Mode}
 use Rattle.rs_open.specs.declared.writing.ServerOpen.{ServerOpen}
 use Rattle.rs_session.specs.Endings.{Fate, GoesOn, Ends}
 use Rattle.rs_session.specs.Items.{is_connected, message_count}
@@ -10,25 +9,27 @@ use Rattle.rs_session.specs.Sessions.{fate, state_by}
 use Rattle.std.specs.FinMap as fin
 use Rattle.std.proofs.lemmas.Bool.{false≢true}
 use Rattle.rs_core.proofs.Voicing.{down_speech}
+use Rattle.rs_outlet.specs.declared.answers.Speech.{Speech}
 use Rattle.rs_outlet.specs.Views.{View, bare}
 use Rattle.rs_outlet.specs.declared.answers.Last.TheVariants as lasts
 use Rattle.rs_core.specs.Beats.{AreBeats}
-use Rattle.rs_core.specs.Conversations.{Outgoing, Concludes, Converses, outgoing_of, own_open, update_mode}
+use Rattle.rs_core.specs.Conversations.{Outgoing, Concludes, Converses, outgoing_of, own_open, update_speech}
 use Rattle.rs_core.specs.Core.{client_count, lent_octets, outgoing, outgoing_in, owed, owed_in}
 use Rattle.rs_core.specs.Owing.{owed_by, owed_behind}
 use Rattle.rs_core.specs.Hearing.{Hearing, session_in, is_up}
 use Rattle.rs_core.specs.Moves.{config_in}
 use Rattle.rs_core.specs.Ribs.{outlet_in}
 use Rattle.rs_core.specs.Runs.{hearing}
+use Rattle.rs_core.specs.Telling.{limit_to}
 use Rattle.rs_core.specs.Conversed.{IsFrontOfConversation, SendsInOrder}
 use Rattle.rs_core.proofs.Outgoing.{lent_is}
 use Rattle.rs_core.proofs.Walks.{default_same}
 
-front_of : (end : Fate) (said : ServerOpen) (mode : Option Mode) (taken : List ℕ) (out : Outgoing) → Concludes end said mode taken out → IsFrontOfConversation end said mode taken
-front_of GoesOn said mode taken out h = record { missing = out.flight; last = None; asked = inl refl; whole = h.1 }
-front_of (Ends (Some note)) said mode taken out (_, inl (_, whole)) = record { missing = out.flight; last = None; asked = inl refl; whole = whole }
-front_of (Ends (Some note)) said mode taken out (_, inr (_, whole)) = record { missing = out.flight; last = Some note; asked = inr refl; whole = whole }
-front_of (Ends None) said mode taken out h = record { missing = h.1.missing; last = None; asked = inl refl; whole = h.1.whole }
+front_of : (end : Fate) (said : ServerOpen) (speech : Option Speech) (taken : List ℕ) (out : Outgoing) → Concludes end said speech taken out → IsFrontOfConversation end said speech taken
+front_of GoesOn said speech taken out h = record { missing = out.flight; last = None; asked = inl refl; whole = h.1 }
+front_of (Ends (Some note)) said speech taken out (_, inl (_, whole)) = record { missing = out.flight; last = None; asked = inl refl; whole = whole }
+front_of (Ends (Some note)) said speech taken out (_, inr (_, whole)) = record { missing = out.flight; last = Some note; asked = inr refl; whole = whole }
+front_of (Ends None) said speech taken out h = record { missing = h.1.missing; last = None; asked = inl refl; whole = h.1.whole }
 
 -- nothing is owed where nothing is to be said to a client that is not Established
 owes_nothing : (v : View) → v.speech ≡ None → outgoing_of v ≡ record { flight = []; note = None; beat = false } → owed_by v ≡ 0
@@ -54,9 +55,9 @@ sends_in_order core run c lt h =
     record {
       lent = lent_is core c any_view lt ∙ sym (ap (λ (o : Outgoing). o.flight) out);
       messages = subst (λ o. Converses (session_in s c) (own_open s) it.items it.taken o) (sym out) talk.messages;
-      beats = λ live. subst (λ (o : Outgoing). AreBeats (own_open s) it.beats (it.taken ++ o.flight) o.beat) (sym out) (talk.beats live);
+      beats = λ live. subst (λ (o : Outgoing). AreBeats (own_open s) (limit_to (update_speech (session_in s c) it.items)) it.beats (it.taken ++ o.flight) o.beat) (sym out) (talk.beats live);
       idle = λ alone.
           ap (λ o. owed_in o) (slice_get_read xs (length xs) c v refl there (default_same xs c any_view v there))
           ∙ owes_nothing v (((h.clients c lt).knows.outlet h.config any_view).speech ∙ down_speech s c it (down_by (is_connected it.items) (fate (session_in s c) it.items) (message_count it.items) alone)) ((talk.messages.alone alone).1);
-      taken = λ connected. front_of (fate (session_in s c) it.items) (own_open s) (update_mode (session_in s c) it.items) it.taken (outgoing_of v) (talk.messages.connected connected);
+      taken = λ connected. front_of (fate (session_in s c) it.items) (own_open s) (update_speech (session_in s c) it.items) it.taken (outgoing_of v) (talk.messages.connected connected);
     }

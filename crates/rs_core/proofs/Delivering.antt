@@ -4,9 +4,9 @@ use Rattle.std.proofs.lemmas.List.{append-nil, take-append-drop}
 use Rattle.std.specs.Prelude.{Option, Some, None, if◌then◌else◌}
 use Rattle.std.specs.FinMap as fin
 use Rattle.rs_octets.specs.Prefixes.{Prefix}
-use Rattle.rs_attrs.specs.declared.mode.Mode.{Mode}
 use Rattle.rs_attrs.specs.Meaning.{Attribute}
 use Rattle.rs_session.specs.Sessions.{state_of, is_live, agreed_of}
+use Rattle.rs_open.specs.declared.short.Limit.{Limit}
 use Rattle.rs_open.specs.declared.short.Short.{Short}
 use Rattle.rs_policy.specs.Configuration.{Configuration}
 use Rattle.rs_outlet.specs.declared.answers.Speech.{Speech}
@@ -14,7 +14,6 @@ use Rattle.rs_octets.specs.declared.heads.Kind.TheVariants as kinds
 use Rattle.rs_attrs.specs.Effects.{lacks_mandatory}
 use Rattle.rs_open.specs.Notes.{limit_octets}
 use Rattle.rs_open.specs.Writing.{keepalive}
-use Rattle.rs_octets.proofs.GoodHeaders.{written_is_message}
 use Rattle.rs_packer.specs.Packed.{announcement, withdrawal}
 use Rattle.rs_outlet.specs.Begins.{BeginsUpdate}
 use Rattle.rs_outlet.specs.Due.{due_to}
@@ -25,14 +24,14 @@ use Rattle.rs_outlet.specs.Begun.{HasBegun}
 use Rattle.rs_core.specs.Turns.{IsDone, IsTurn}
 use Rattle.rs_core.specs.Hearing.{Hearing, session_in, state_in, is_up, offers}
 use Rattle.rs_core.specs.Runs.{speech_by}
-use Rattle.rs_core.specs.Telling.{Speaks, each_message, no_table}
+use Rattle.rs_core.specs.Telling.{Speaks, limit_to, no_table}
 use Rattle.rs_core.specs.Beats.{AreBeats, IsNext}
-use Rattle.rs_core.specs.Conversations.{Converses, outgoing_of, own_open}
+use Rattle.rs_core.specs.Conversations.{Converses, outgoing_of, own_open, update_speech}
 use Rattle.rs_core.specs.Voices.{IsInOrder, SpeaksTo, Talks}
-use Rattle.rs_core.proofs.Conversing.{mode_up}
+use Rattle.rs_core.proofs.Conversing.{keepalive_is_message}
 use Rattle.rs_core.proofs.Proceeding.{took_converses, keepalive_converses, note_converses, routine_converses}
 use Rattle.rs_core.proofs.Beating.{beats_same, next_beats, still_beats}
-use Rattle.rs_core.proofs.Uttering.{agreed_by_speech, all_gone, due_mandatory, limit_most, update_goes_on, update_is_next}
+use Rattle.rs_core.proofs.Uttering.{spoken_by_update, all_gone, due_mandatory, limit_most, update_goes_on, update_is_next}
 use Rattle.rs_core.proofs.Telling.{speaks_on, speaks_same}
 use Rattle.rs_core.proofs.Spoken.{announced_speaks, withdrawn_speaks}
 use Rattle.rs_core.proofs.Mandated.{due_has_mandatory}
@@ -52,23 +51,25 @@ took_voice s c n h next v w e items taken beats at =
     (record {
       messages = subst (λ l. Converses (session_in s c) (own_open s) l next.taken (outgoing_of w)) (sym items) (subst (λ o. Converses (session_in s c) (own_open s) h.items o (outgoing_of w)) (sym taken)
           (took_converses n (session_in s c) (own_open s) h.items h.taken (outgoing_of v) (outgoing_of w) (ap outgoing_of e) at.talk.messages));
-      beats = λ live. subst (λ b. AreBeats (own_open s) b (next.taken ++ w.flight) w.beat) (sym beats)
-          (beats_same (own_open s) h.beats (h.taken ++ v.flight) (next.taken ++ w.flight) v.beat w.beat same (ap (λ (x : View). x.beat) e) (at.talk.beats (ap (λ k. is_live (state_of (session_in s c) k)) (sym items) ∙ live)));
+      beats = λ live. subst (λ l. AreBeats (own_open s) (limit_to (update_speech (session_in s c) l)) next.beats (next.taken ++ w.flight) w.beat) (sym items)
+          (subst (λ b. AreBeats (own_open s) (limit_to (update_speech (session_in s c) h.items)) b (next.taken ++ w.flight) w.beat) (sym beats)
+          (beats_same (own_open s) (limit_to (update_speech (session_in s c) h.items)) h.beats (h.taken ++ v.flight) (next.taken ++ w.flight) v.beat w.beat same (ap (λ (x : View). x.beat) e)
+          (at.talk.beats (ap (λ k. is_live (state_of (session_in s c) k)) (sym items) ∙ live))));
     }) at where
       same : next.taken ++ w.flight ≡ h.taken ++ v.flight
       same = (λ i. taken i ++ (e i).flight) ∙ append_assoc h.taken (take n v.flight) (drop n v.flight) ∙ ap (λ l. h.taken ++ l) (take-append-drop n v.flight)
 
 -- another message in place of none
 said_next : (s : Configuration) (c : ℕ) (h : Hearing) (v w : View) → v.flight ≡ [] → v.note ≡ None → w.note ≡ None → w.speech ≡ v.speech → IsInOrder w
-    → ((mode : Mode) → v.speech ≡ None → Speaks mode h.taken no_table → Speaks mode (h.taken ++ w.flight) no_table)
-    → ((speech : Speech) → v.speech ≡ Some speech → Speaks speech.mode h.taken (fin.get v.told) → Speaks speech.mode (h.taken ++ w.flight) (fin.get w.told))
+    → ((speech : Speech) → v.speech ≡ None → Speaks speech h.taken no_table → Speaks speech (h.taken ++ w.flight) no_table)
+    → ((speech : Speech) → v.speech ≡ Some speech → Speaks speech h.taken (fin.get v.told) → Speaks speech (h.taken ++ w.flight) (fin.get w.told))
     → Talks s c (offers true h) w → SpeaksTo s c h v → SpeaksTo s c (offers true h) w
 said_next s c h v w empty quiet note speech order down up talk at = record {
   talk = talk;
   speech = speech ∙ at.speech;
   quiet = λ l. note;
-  before = λ l none mode. down mode (sym speech ∙ none) (subst (λ o. Speaks mode o no_table) bare_octets (at.before l (sym speech ∙ none) mode));
-  since = λ sp is. up sp (sym speech ∙ is) (subst (λ o. Speaks sp.mode o (fin.get v.told)) bare_octets (at.since sp (sym speech ∙ is)));
+  before = λ l none sp. down sp (sym speech ∙ none) (subst (λ o. Speaks sp o no_table) bare_octets (at.before l (sym speech ∙ none) sp));
+  since = λ sp is. up sp (sym speech ∙ is) (subst (λ o. Speaks sp o (fin.get v.told)) bare_octets (at.since sp (sym speech ∙ is)));
   order = order;
 } where
   bare_octets : h.taken ++ v.flight ≡ h.taken
@@ -80,22 +81,22 @@ noted s c h v w note waits speech order talk at = record {
   talk = talk;
   speech = speech ∙ at.speech;
   quiet = λ l. absurd (over l);
-  before = λ l none mode. absurd (over l);
+  before = λ l none sp. absurd (over l);
   since = λ sp is. absurd (over (up_live s c h (spoken_up s c h sp (sym at.speech ∙ sym speech ∙ is))));
   order = order;
 } where
   over : is_live (state_in s c h) ≡ true → ⊥
   over l = let f : ◌≡◌ {A = Option Short} None (Some note) = sym (at.quiet l) ∙ waits in cc
 
-update_voice : (speech : Speech) (v w : View) (ins : AdjIns) (octets : List ℕ) → AreNumbered v ins → IsInOrder v → BeginsUpdate speech v w → Speaks speech.mode octets (fin.get v.told) → Speaks speech.mode (octets ++ w.flight) (fin.get w.told)
+update_voice : (speech : Speech) (v w : View) (ins : AdjIns) (octets : List ℕ) → AreNumbered v ins → IsInOrder v → BeginsUpdate speech v w → Speaks speech octets (fin.get v.told) → Speaks speech (octets ++ w.flight) (fin.get w.told)
 update_voice speech v w ins octets numbered order (inl rests) s =
-    subst (λ o. Speaks speech.mode o (fin.get w.told)) (sym (ap (λ l. octets ++ l) rests.flight ∙ append-nil octets)) (speaks_same speech.mode octets (fin.get v.told) (fin.get w.told) rests.settles.told s)
+    subst (λ o. Speaks speech o (fin.get w.told)) (sym (ap (λ l. octets ++ l) rests.flight ∙ append-nil octets)) (speaks_same speech octets (fin.get v.told) (fin.get w.told) rests.settles.told s)
 update_voice speech v w ins octets numbered order (inr (inl gone)) s =
-    withdrawn_speaks speech.mode octets w.flight (fin.get v.told) (fin.get v.loc) (fin.get w.told) gone.prefixes
+    withdrawn_speaks speech octets w.flight (fin.get v.told) (fin.get v.loc) (fin.get w.told) gone.prefixes
     (record { prefixes = gone.prefixes_legal; fits = let most = limit_most speech.limit in let fits : length (withdrawal gone.prefixes) ≤ limit_octets speech.limit = subst (λ f. length f ≤ limit_octets speech.limit) gone.flight gone.fits in omega (arith, most, fits) })
-    gone.flight (all_gone v gone.prefixes order.exact gone.waited) gone.settles.told s
+    gone.fits gone.flight (all_gone v gone.prefixes order.exact gone.waited) gone.settles.told s
 update_voice speech v w ins octets numbered order (inr (inr news)) s =
-    announced_speaks speech.mode octets w.flight (fin.get v.told) (fin.get v.loc) (fin.get w.told) news.prefixes news.attributes
+    announced_speaks speech octets w.flight (fin.get v.told) (fin.get v.loc) (fin.get w.told) news.prefixes news.attributes
     (record {
       legal = news.legal;
       mandatory = due_mandatory v news.prefixes news.attributes order news.some (news.due ins numbered);
@@ -104,11 +105,11 @@ update_voice speech v w ins octets numbered order (inr (inr news)) s =
       fits = let most = limit_most speech.limit in
           let fits : length (announcement news.attributes speech.mode news.prefixes) ≤ limit_octets speech.limit = subst (λ f. length f ≤ limit_octets speech.limit) news.flight news.fits in omega (arith, most, fits);
     })
-    news.flight (news.due ins numbered) news.settles.told s
+    news.fits news.flight (news.due ins numbered) news.settles.told s
 
 -- a KEEPALIVE is no UPDATE
-beats : (mode : Mode) (octets : List ℕ) (t : Prefix → Option (List Attribute)) → Speaks mode octets t → Speaks mode (octets ++ keepalive) t
-beats mode octets t s = speaks_on mode octets keepalive kinds.Keepalive t refl (written_is_message each_message kinds.Keepalive [] refl (omega arith) (omega arith)) s
+beats : (speech : Speech) (octets : List ℕ) (t : Prefix → Option (List Attribute)) → Speaks speech octets t → Speaks speech (octets ++ keepalive) t
+beats speech octets t s = speaks_on speech octets keepalive kinds.Keepalive t refl (keepalive_is_message speech.limit) s
 
 pub begun_voice : (s : Configuration) (c : ℕ) (h : Hearing) (ins : AdjIns) (v w : View) → AreNumbered v ins → HasBegun v w → SpeaksTo s c h v → SpeaksTo s c (offers true h) w
 begun_voice s c h ins v w numbered b at = by_flight v.flight refl where
@@ -122,32 +123,35 @@ begun_voice s c h ins v w numbered b at = by_flight v.flight refl where
     down = λ silent. ap (λ (x : View). x.loc) b.rest ∙ at.order.down (sym rest_speech ∙ silent);
   }
 
+  limit : Limit
+  limit = limit_to (update_speech (session_in s c) h.items)
+
   by_speech : (o : Option Speech) → v.flight ≡ [] → v.note ≡ None → v.beat ≡ false → v.speech ≡ o → SpeaksTo s c (offers true h) w
   by_speech None empty quiet beat e = let is = b.down empty quiet beat e in
       voiced_on s s c h (offers true h) v w refl (λ l. l) refl (same_again v w (same_is v w is)) (record {
         messages = (says_still s c h v w (ap outgoing_of is) at).messages;
-        beats = λ l. next_beats (own_open s) h.beats h.taken v.flight w.flight v.beat w.beat empty (subst (λ d. IsNext d w.flight) (sym beat) (inl (ap (λ (x : View). x.flight) is ∙ empty)))
+        beats = λ l. next_beats (own_open s) limit h.beats h.taken v.flight w.flight v.beat w.beat empty (subst (λ d. IsNext limit d w.flight) (sym beat) (inl (ap (λ (x : View). x.flight) is ∙ empty)))
             (ap (λ (x : View). x.beat) is ∙ beat) (at.talk.beats l);
       }) at
   by_speech (Some speech) empty quiet beat e = said_next s c h v w empty quiet (b.update empty quiet beat).0 rest_speech rest_order
-      (λ mode none before. absurd (let f : ◌≡◌ {A = Option Speech} None (Some speech) = sym none ∙ e in cc))
+      (λ sp none before. absurd (let f : ◌≡◌ {A = Option Speech} None (Some speech) = sym none ∙ e in cc))
       (λ sp is since. update_voice sp v w ins h.taken numbered at.order (b.begins sp empty quiet beat is) since)
       (let up = spoken_up s c h speech (sym at.speech ∙ e) in record {
-        messages = routine_converses speech.mode (session_in s c) (own_open s) h.items h.taken (outgoing_of v) (outgoing_of w) (up_live s c h up)
-            (mode_up (session_in s c) h.items up ∙ agreed_by_speech s c h speech up (sym at.speech ∙ e)) empty (b.update empty quiet beat).0
+        messages = routine_converses speech (session_in s c) (own_open s) h.items h.taken (outgoing_of v) (outgoing_of w) (up_live s c h up)
+            (spoken_by_update s c h speech up (sym at.speech ∙ e)) empty (b.update empty quiet beat).0
             (update_goes_on (own_open s) speech v w ins h.taken numbered at.order (b.begins speech empty quiet beat e)) at.talk.messages;
-        beats = λ l. next_beats (own_open s) h.beats h.taken v.flight w.flight v.beat w.beat empty
-            (subst (λ d. IsNext d w.flight) (sym beat) (update_is_next speech v w ins numbered at.order (b.begins speech empty quiet beat e))) ((b.update empty quiet beat).1) (at.talk.beats l);
+        beats = λ l. next_beats (own_open s) limit h.beats h.taken v.flight w.flight v.beat w.beat empty
+            (subst (λ d. IsNext limit d w.flight) (sym beat) (subst (λ o. IsNext (limit_to o) false w.flight) (sym (spoken_by_update s c h speech up (sym at.speech ∙ e))) (update_is_next speech v w ins numbered at.order (b.begins speech empty quiet beat e)))) ((b.update empty quiet beat).1) (at.talk.beats l);
       }) at
 
   by_beat : (d : Bool) → v.flight ≡ [] → v.note ≡ None → v.beat ≡ d → SpeaksTo s c (offers true h) w
   by_beat true empty quiet e = let is = b.keepalive empty quiet e in said_next s c h v w empty quiet (ap (λ (x : View). x.note) is ∙ quiet) rest_speech rest_order
-      (λ mode none before. subst (λ f. Speaks mode (h.taken ++ f) no_table) (sym (ap (λ (x : View). x.flight) is)) (beats mode h.taken no_table before))
-      (λ sp up since. subst (λ f. Speaks sp.mode (h.taken ++ f) (fin.get w.told)) (sym (ap (λ (x : View). x.flight) is))
-      (beats sp.mode h.taken (fin.get w.told) (subst (λ t. Speaks sp.mode h.taken (fin.get t)) (sym (ap (λ (x : View). x.told) is)) since)))
+      (λ sp none before. subst (λ f. Speaks sp (h.taken ++ f) no_table) (sym (ap (λ (x : View). x.flight) is)) (beats sp h.taken no_table before))
+      (λ sp up since. subst (λ f. Speaks sp (h.taken ++ f) (fin.get w.told)) (sym (ap (λ (x : View). x.flight) is))
+      (beats sp h.taken (fin.get w.told) (subst (λ t. Speaks sp h.taken (fin.get t)) (sym (ap (λ (x : View). x.told) is)) since)))
       (record {
         messages = keepalive_converses (session_in s c) (own_open s) h.items h.taken (outgoing_of v) (outgoing_of w) empty quiet e (ap outgoing_of is) at.talk.messages;
-        beats = λ l. next_beats (own_open s) h.beats h.taken v.flight w.flight v.beat w.beat empty (subst (λ d. IsNext d w.flight) (sym e) (ap (λ (x : View). x.flight) is)) (ap (λ (x : View). x.beat) is) (at.talk.beats l);
+        beats = λ l. next_beats (own_open s) limit h.beats h.taken v.flight w.flight v.beat w.beat empty (subst (λ d. IsNext limit d w.flight) (sym e) (ap (λ (x : View). x.flight) is)) (ap (λ (x : View). x.beat) is) (at.talk.beats l);
       }) at
   by_beat false empty quiet e = by_speech v.speech empty quiet e refl
 
@@ -164,7 +168,7 @@ begun_voice s c h ins v w numbered b at = by_flight v.flight refl where
   by_flight (x ∷ xs) e = let is = b.kept (λ empty. let f : ◌≡◌ {A = List ℕ} (x ∷ xs) [] = sym e ∙ empty in cc) in
       voiced_on s s c h (offers true h) v w refl (λ l. l) refl (same_again v w (same_is v w is)) (record {
         messages = (says_still s c h v w (ap outgoing_of is) at).messages;
-        beats = λ l. still_beats (own_open s) h.beats h.taken x xs v.flight w.flight v.beat w.beat e (ap (λ (x : View). x.flight) is) (ap (λ (x : View). x.beat) is) (at.talk.beats l);
+        beats = λ l. still_beats (own_open s) limit h.beats h.taken x xs v.flight w.flight v.beat w.beat e (ap (λ (x : View). x.flight) is) (ap (λ (x : View). x.beat) is) (at.talk.beats l);
       }) at
 
 -- ---- a turn

@@ -65,14 +65,14 @@ place_to t c p h true d r is e = absurd (let f : None ≡ Some r = e in (cc))
 place_to t c p h false true r is e = absurd (let f : None ≡ Some r = e in (cc))
 place_to t c p h false false r is e = place_by t c h.0 h.1 _ r (λ own. absurd (let f : true ≡ false = sym (ap (λ k. k == c) own ∙ is_own c) ∙ is in (cc))) e
 
-abbrev AreOthers : ℕ → List Rank → Type 0
+abbrev pub AreOthers : ℕ → List Rank → Type 0
 AreOthers c rs = AllByRecursion (λ r. r.place ≢ c) rs
 
 others_cons : (c : ℕ) (o : Option Rank) (rs : List Rank) → ((r : Rank) → o ≡ Some r → r.place ≢ c) → AreOthers c rs → AreOthers c (cons_option o rs)
 others_cons c None rs is h = h
 others_cons c (Some r) rs is h = (is r refl, h)
 
-others_among : (t : Held) (c : ℕ) (p : Prefix) (hs : List (ℕ × List Attribute)) → AreOthers c (ranks_among t c p hs)
+pub others_among : (t : Held) (c : ℕ) (p : Prefix) (hs : List (ℕ × List Attribute)) → AreOthers c (ranks_among t c p hs)
 others_among t c p [] = tt
 others_among t c p (h ∷ hs) = others_cons c (rank_to t c p h) (ranks_among t c p hs) (λ r e. place_to t c p h (h.0 == c) (path_has_of t.settings.top.server_as h.1) r refl e) (others_among t c p hs)
 
@@ -88,12 +88,12 @@ unbeaten_kept : (P : Rank → Type 0) (is_better : Rank → Rank → Bool) (rs :
 unfolding unbeaten
 unbeaten_kept P is_better rs h = kept P _ rs h
 
-best_kept : (P : Rank → Type 0) (rs : List Rank) → AllByRecursion P rs → AllByRecursion P (by_place rs)
+pub best_kept : (P : Rank → Type 0) (rs : List Rank) → AllByRecursion P rs → AllByRecursion P (by_place rs)
 best_kept P rs h =
     unbeaten_kept P _ (by_address rs) (unbeaten_kept P _ (by_identifier rs) (unbeaten_kept P _ (by_med rs) (unbeaten_kept P _ (by_origin rs)
     (unbeaten_kept P _ (by_path rs) (unbeaten_kept P _ (by_preference rs) (unbeaten_kept P _ rs h))))))
 
-first_of_all : (P : Rank → Type 0) (rs : List Rank) (r : Rank) → AllByRecursion P rs → slice_get rs 0 ≡ Some r → P r
+pub first_of_all : (P : Rank → Type 0) (rs : List Rank) (r : Rank) → AllByRecursion P rs → slice_get rs 0 ≡ Some r → P r
 first_of_all P [] r h e = absurd (let f : None ≡ Some r = e in (cc))
 first_of_all P (x ∷ rs) r h e = subst P (ap (λ o. unwrap_or o r) e) h.0
 
@@ -116,7 +116,7 @@ one_below : (n : ℕ) (o : Option Rank) (rs : List Rank) → ((r : Rank) → o �
 one_below n None rs is h = h
 one_below n (Some r) rs is h = (is r refl, h)
 
-ranks_below : (t : Held) (c n : ℕ) (p : Prefix) (hs : List (ℕ × List Attribute)) → AllByRecursion (λ h. h.0 < n) hs → AllByRecursion (λ r. r.place < n) (ranks_among t c p hs)
+pub ranks_below : (t : Held) (c n : ℕ) (p : Prefix) (hs : List (ℕ × List Attribute)) → AllByRecursion (λ h. h.0 < n) hs → AllByRecursion (λ r. r.place < n) (ranks_among t c p hs)
 ranks_below t c n p [] below = tt
 ranks_below t c n p (h ∷ hs) below = one_below n (rank_to t c p h) (ranks_among t c p hs)
     (λ r e. subst (λ k. k < n) (sym (place_is t c p h ((h.0 == c) || path_has_of t.settings.top.server_as h.1) r e)) below.0) (ranks_below t c n p hs below.1)
@@ -125,7 +125,7 @@ held_below : (n k : ℕ) (w : Option (List Attribute)) (hs : List (ℕ × List A
 held_below n k None hs lt below = below
 held_below n k (Some m) hs lt below = (lt, below)
 
-holders_below : (x : ℕ → Option (List Attribute)) (n k left : ℕ) → k + left ≡ n → AllByRecursion (λ h. h.0 < n) (holders_from x k left)
+pub holders_below : (x : ℕ → Option (List Attribute)) (n k left : ℕ) → k + left ≡ n → AllByRecursion (λ h. h.0 < n) (holders_from x k left)
 holders_below x n k zero sum = tt
 holders_below x n k (suc left) sum = held_below n k (x k) (holders_from x (suc k) left) (omega (arith, sum)) (holders_below x n (suc k) left (omega (arith, sum)))
 

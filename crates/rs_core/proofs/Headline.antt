@@ -11,13 +11,17 @@ use Rattle.rs_core.specs.Headline.{WereDriven, New, Driven, HasCome, DrainedClie
 use Rattle.rs_core.specs.declared.route_server.Core.{Core}
 use Rattle.rs_core.proofs.Taking.{serves}
 use Rattle.rs_core.proofs.Draining.{drained_served}
+use Rattle.rs_core.proofs.Senders.{due_is_the_senders}
 
 has_come : (config : Configuration) (new : Core) (agrees : Agrees new (Ruled config ∷ [])) (x : Course) → Drove (start config new agrees) x → HasCome config x
 has_come config new agrees x drove = record {
   new = new;
   agrees = agrees;
   drove = drove;
-  drained = λ c drained. serves c config new agrees x drove (drained_served x c drained);
+  drained = λ c drained. record {
+    served = serves c config new agrees x drove (drained_served x c drained);
+    senders = λ p route is. due_is_the_senders x.run c p route is;
+  };
 }
 
 pub have_what_is_due : {L : Type 0} (happens : L → Step → L → Type 0) → DrainedClientsHaveWhatIsDue happens

@@ -10,11 +10,12 @@ use Rattle.rs_octets.specs.Messages.{body_of, messages_of, rest_of}
 use Rattle.rs_octets.specs.Prefixes.{Prefix}
 use Rattle.rs_octets.specs.Headers.{header_of}
 use Rattle.rs_octets.proofs.Cut.{pieces_join}
-use Rattle.rs_attrs.specs.declared.mode.Mode.{Mode}
 use Rattle.rs_attrs.specs.Effects.{Change, Changes, HasEffect, attributes_after, mentions}
 use Rattle.rs_session.specs.Sessions.{agreed_of}
 use Rattle.rs_session.proofs.Lasting.{brings_up}
 use Rattle.rs_policy.specs.Configuration.{Configuration}
+use Rattle.rs_open.specs.declared.short.Limit.{Limit}
+use Rattle.rs_outlet.specs.declared.answers.Speech.{Speech}
 use Rattle.rs_outlet.specs.Views.{View, bare}
 use Rattle.rs_outlet.specs.declared.answers.Last.TheVariants as lasts
 use Rattle.rs_core.specs.Core.{client_count, loc_in, loc_rib}
@@ -25,7 +26,7 @@ use Rattle.rs_core.specs.Orders.{TellsAt, TellsInOrder, told_by}
 use Rattle.rs_core.specs.Points.{Point, Decided, Asked, Offered, Value, dues_at, latest}
 use Rattle.rs_core.specs.Ribs.{outlet_in}
 use Rattle.rs_core.specs.Runs.{hearing, is_established, speech_by, speech_in}
-use Rattle.rs_core.specs.Telling.{body_if, each_message, heads_update, updates_among, updates_in}
+use Rattle.rs_core.specs.Telling.{allowed_to, body_if, heads_update, updates_among, updates_in}
 use Rattle.rs_core.proofs.Walks.{default_same}
 use Rattle.rs_core.specs.Agreeing.{Agrees}
 use Rattle.rs_core.specs.declared.route_server.Core.{Core}
@@ -47,13 +48,13 @@ one_more : (value : Value) (values dues : List Value) → value ≡ latest dues 
 one_more value values [] e had = on_top value None values [] e had
 one_more value values (due ∷ dues) e had = on_top value due values (dues ++ None ∷ []) e had
 
-had_from : (mode : Mode) (points : List Point) (p : Prefix) (values : List Value) (asked : Bool) → TellsInOrder mode points p values asked → IsHadFrom (values ++ None ∷ []) (dues_at points p ++ None ∷ [])
-had_from mode [] p values asked (none, not) = subst (λ l. IsHadFrom (l ++ None ∷ []) (None ∷ [])) (sym none) (inl (refl, inl tt))
-had_from mode (Decided due ∷ points) p values asked order = left_out (values ++ None ∷ []) (dues_at points p ++ None ∷ []) (due p) (had_from mode points p values asked order)
-had_from mode (Asked ∷ points) p values asked (now, was, order) = had_from mode points p values was order
-had_from mode (Offered taken ∷ points) p values asked (inl order) = had_from mode points p values asked order
-had_from mode (Offered taken ∷ points) p values asked (inr one) = subst (λ l. IsHadFrom (l ++ None ∷ []) (dues_at points p ++ None ∷ [])) (sym one.are)
-    (one_more one.value (one.earlier ++ None ∷ []) (dues_at points p) one.due (had_from mode points p one.earlier one.was_asked one.before))
+had_from : (speech : Speech) (points : List Point) (p : Prefix) (values : List Value) (asked : Bool) → TellsInOrder speech points p values asked → IsHadFrom (values ++ None ∷ []) (dues_at points p ++ None ∷ [])
+had_from speech [] p values asked (none, not) = subst (λ l. IsHadFrom (l ++ None ∷ []) (None ∷ [])) (sym none) (inl (refl, inl tt))
+had_from speech (Decided due ∷ points) p values asked order = left_out (values ++ None ∷ []) (dues_at points p ++ None ∷ []) (due p) (had_from speech points p values asked order)
+had_from speech (Asked ∷ points) p values asked (now, was, order) = had_from speech points p values was order
+had_from speech (Offered taken ∷ points) p values asked (inl order) = had_from speech points p values asked order
+had_from speech (Offered taken ∷ points) p values asked (inr one) = subst (λ l. IsHadFrom (l ++ None ∷ []) (dues_at points p ++ None ∷ [])) (sym one.are)
+    (one_more one.value (one.earlier ++ None ∷ []) (dues_at points p) one.due (had_from speech points p one.earlier one.was_asked one.before))
 
 -- ---- no two alike
 
@@ -61,13 +62,13 @@ other_first : (value : Value) (values : List Value) → value ≢ latest values 
 other_first value [] ne rest = (ne, tt)
 other_first value (next ∷ values) ne rest = (ne, rest)
 
-alternates : (mode : Mode) (points : List Point) (p : Prefix) (values : List Value) (asked : Bool) → has_asked points ≡ false → TellsInOrder mode points p values asked → Alternate (values ++ None ∷ []) × (asked ≡ false)
-alternates mode [] p values asked never (none, not) = (subst (λ l. Alternate (l ++ None ∷ [])) (sym none) tt, not)
-alternates mode (Decided due ∷ points) p values asked never order = alternates mode points p values asked never order
-alternates mode (Asked ∷ points) p values asked never order = absurd (false≢true (sym never))
-alternates mode (Offered taken ∷ points) p values asked never (inl order) = alternates mode points p values asked never order
-alternates mode (Offered taken ∷ points) p values asked never (inr one) =
-    let before = alternates mode points p one.earlier one.was_asked never one.before in
+alternates : (speech : Speech) (points : List Point) (p : Prefix) (values : List Value) (asked : Bool) → has_asked points ≡ false → TellsInOrder speech points p values asked → Alternate (values ++ None ∷ []) × (asked ≡ false)
+alternates speech [] p values asked never (none, not) = (subst (λ l. Alternate (l ++ None ∷ [])) (sym none) tt, not)
+alternates speech (Decided due ∷ points) p values asked never order = alternates speech points p values asked never order
+alternates speech (Asked ∷ points) p values asked never order = absurd (false≢true (sym never))
+alternates speech (Offered taken ∷ points) p values asked never (inl order) = alternates speech points p values asked never order
+alternates speech (Offered taken ∷ points) p values asked never (inr one) =
+    let before = alternates speech points p one.earlier one.was_asked never one.before in
     (subst (λ l. Alternate (l ++ None ∷ [])) (sym one.are) (other_first one.value one.earlier (is_news before.1 one.news) before.0), one.answered) where
       is_news : one.was_asked ≡ false → (one.value ≢ latest one.earlier) ⊎ (one.was_asked ≡ true) → one.value ≢ latest one.earlier
       is_news not (inl ne) = ne
@@ -76,27 +77,27 @@ alternates mode (Offered taken ∷ points) p values asked never (inr one) =
 -- ---- without what is still in flight
 
 -- in order, with or without a request since
-pub record IsSomehowInOrder (mode : Mode) (points : List Point) (p : Prefix) (values : List Value) : Type 0 where
+pub record IsSomehowInOrder (speech : Speech) (points : List Point) (p : Prefix) (values : List Value) : Type 0 where
   pub asked : Bool
-  pub order : TellsInOrder mode points p values asked
+  pub order : TellsInOrder speech points p values asked
 
-without_newest : (mode : Mode) (points : List Point) (p : Prefix) (value : Value) (values : List Value) (asked : Bool) → TellsInOrder mode points p (value ∷ values) asked → IsSomehowInOrder mode points p values
-without_newest mode [] p value values asked (none, not) = absurd (let f : ◌≡◌ {A = List Value} (value ∷ values) [] = none in cc)
-without_newest mode (Decided due ∷ points) p value values asked order = let rest = without_newest mode points p value values asked order in record { asked = rest.asked; order = rest.order }
-without_newest mode (Asked ∷ points) p value values asked (now, was, order) = let rest = without_newest mode points p value values was order in record { asked = true; order = (refl, rest.asked, rest.order) }
-without_newest mode (Offered taken ∷ points) p value values asked (inl order) = let rest = without_newest mode points p value values asked order in record { asked = rest.asked; order = inl rest.order }
-without_newest mode (Offered taken ∷ points) p value values asked (inr one) =
+without_newest : (speech : Speech) (points : List Point) (p : Prefix) (value : Value) (values : List Value) (asked : Bool) → TellsInOrder speech points p (value ∷ values) asked → IsSomehowInOrder speech points p values
+without_newest speech [] p value values asked (none, not) = absurd (let f : ◌≡◌ {A = List Value} (value ∷ values) [] = none in cc)
+without_newest speech (Decided due ∷ points) p value values asked order = let rest = without_newest speech points p value values asked order in record { asked = rest.asked; order = rest.order }
+without_newest speech (Asked ∷ points) p value values asked (now, was, order) = let rest = without_newest speech points p value values was order in record { asked = true; order = (refl, rest.asked, rest.order) }
+without_newest speech (Offered taken ∷ points) p value values asked (inl order) = let rest = without_newest speech points p value values asked order in record { asked = rest.asked; order = inl rest.order }
+without_newest speech (Offered taken ∷ points) p value values asked (inr one) =
     let same : one.earlier ≡ values = let e : ◌≡◌ {A = List Value} (value ∷ values) (one.value ∷ one.earlier) = one.are in cc in
-    record { asked = one.was_asked; order = inl (subst (λ l. TellsInOrder mode points p l one.was_asked) same one.before) }
+    record { asked = one.was_asked; order = inl (subst (λ l. TellsInOrder speech points p l one.was_asked) same one.before) }
 
-without_newer : (mode : Mode) (points : List Point) (p : Prefix) (newer values : List Value) → IsSomehowInOrder mode points p (newer ++ values) → IsSomehowInOrder mode points p values
-without_newer mode points p [] values so = so
-without_newer mode points p (value ∷ newer) values so = without_newer mode points p newer values (without_newest mode points p value (newer ++ values) so.asked so.order)
+without_newer : (speech : Speech) (points : List Point) (p : Prefix) (newer values : List Value) → IsSomehowInOrder speech points p (newer ++ values) → IsSomehowInOrder speech points p values
+without_newer speech points p [] values so = so
+without_newer speech points p (value ∷ newer) values so = without_newer speech points p newer values (without_newest speech points p value (newer ++ values) so.asked so.order)
 
-among_join : (ms ns : List (List ℕ)) → updates_among (ms ++ ns) ≡ updates_among ms ++ updates_among ns
-among_join [] ns = refl
-among_join (m ∷ ms) ns = by_test (heads_update (header_of each_message (take 19 m))) (among_join ms ns) where
-  by_test : (b : Bool) → updates_among (ms ++ ns) ≡ updates_among ms ++ updates_among ns → body_if b m (updates_among (ms ++ ns)) ≡ body_if b m (updates_among ms) ++ updates_among ns
+among_join : (limit : Limit) (ms ns : List (List ℕ)) → updates_among limit (ms ++ ns) ≡ updates_among limit ms ++ updates_among limit ns
+among_join limit [] ns = refl
+among_join limit (m ∷ ms) ns = by_test (heads_update (header_of (allowed_to limit) (take 19 m))) (among_join limit ms ns) where
+  by_test : (b : Bool) → updates_among limit (ms ++ ns) ≡ updates_among limit ms ++ updates_among limit ns → body_if b m (updates_among limit (ms ++ ns)) ≡ body_if b m (updates_among limit ms) ++ updates_among limit ns
   by_test true e = ap (λ l. body_of m ∷ l) e
   by_test false e = e
 
@@ -120,23 +121,25 @@ told_join (x ∷ xs) ys p = by_test (mentions p x) (told_join xs ys p) where
   by_test true e = ap (λ l. attributes_after p (Some x) ∷ l) e
   by_test false e = e
 
-told_by_taken : (mode : Mode) (points : List Point) (taken flight : List ℕ) (p : Prefix) (values : List Value) (asked : Bool) → TellsAt mode (taken ++ flight) p values → TellsInOrder mode points p values asked → IsToldInTurn mode points taken p
-told_by_taken mode points taken flight p values asked tells order =
-    let R : List ℕ → Change → Type 0 = λ body change. HasEffect body mode (Changes change) in
-    let more : List (List ℕ) = updates_among (messages_of each_message (rest_of each_message taken ++ flight)) in
-    let parts : updates_in (taken ++ flight) ≡ updates_in taken ++ more = ap updates_among (pieces_join each_message taken flight).0 ∙ among_join (messages_of each_message taken) _ in
-    let zips = zip_front R (updates_in taken) more tells.changes (subst (λ bodies. AllZip R bodies tells.changes) parts tells.have) in
+told_by_taken : (speech : Speech) (points : List Point) (taken flight : List ℕ) (p : Prefix) (values : List Value) (asked : Bool) → TellsAt speech (taken ++ flight) p values → TellsInOrder speech points p values asked → IsToldInTurn speech points taken p
+told_by_taken speech points taken flight p values asked tells order =
+    let R : List ℕ → Change → Type 0 = λ body change. HasEffect body speech.mode (Changes change) in
+    let allowed = allowed_to speech.limit in
+    let more : List (List ℕ) = updates_among speech.limit (messages_of allowed (rest_of allowed taken ++ flight)) in
+    let parts : updates_in speech.limit (taken ++ flight) ≡ updates_in speech.limit taken ++ more =
+    ap (updates_among speech.limit) (pieces_join allowed taken flight).0 ∙ among_join speech.limit (messages_of allowed taken) _ in
+    let zips = zip_front R (updates_in speech.limit taken) more tells.changes (subst (λ bodies. AllZip R bodies tells.changes) parts tells.have) in
     let told : List Value = told_by (reverse zips.front) p in
     let newer : List Value = told_by (reverse zips.behind) p in
     let are : values ≡ newer ++ told = tells.are ∙ ap (λ l. told_by (reverse l) p) zips.whole ∙ ap (λ l. told_by l p) (reverse-append zips.front zips.behind) ∙ told_join (reverse zips.behind) (reverse zips.front) p in
-    let so = without_newer mode points p newer told (record { asked = asked; order = subst (λ l. TellsInOrder mode points p l asked) are order }) in
+    let so = without_newer speech points p newer told (record { asked = asked; order = subst (λ l. TellsInOrder speech points p l asked) are order }) in
     record {
       values = told;
       asked = so.asked;
       tells = record { changes = zips.front; have = zips.zips; are = refl };
       order = so.order;
-      had = had_from mode points p told so.asked so.order;
-      alternate = λ never. (alternates mode points p told so.asked never so.order).0;
+      had = had_from speech points p told so.asked so.order;
+      alternate = λ never. (alternates speech points p told so.asked never so.order).0;
     }
 
 -- ---- laws
@@ -150,7 +153,7 @@ tells_in_turn core run c speech p lt h spoken =
     let at = (h.clients c lt).knows in
     let v : View = outlet_in core.ribs c any_view in
     let told = (at.ordered h.config any_view).told speech ((at.outlet h.config any_view).speech ∙ spoken) p in
-    told_by_taken speech.mode (hearing c run).points (hearing c run).taken v.flight p told.values told.asked told.tells told.order
+    told_by_taken speech (hearing c run).points (hearing c run).taken v.flight p told.values told.asked told.tells told.order
 
 pub has_what_was_due : HasWhatWasDue
 unfolding client_count loc_rib

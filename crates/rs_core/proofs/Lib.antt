@@ -23,6 +23,7 @@ pub mod Numbers
 pub mod Freshness
 pub mod Changing
 pub mod Turned
+pub mod Longer
 pub mod Telling
 pub mod Spoken
 pub mod Conversing
@@ -60,7 +61,10 @@ pub mod Raising
 pub mod Touched
 pub mod Moments
 pub mod Growing
+pub mod Idling
 pub mod Room
 pub mod TurnAnswers
 pub mod Since
 pub mod LastTurns
+pub mod Rising
+pub mod Senders

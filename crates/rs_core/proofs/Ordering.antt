@@ -9,7 +9,6 @@ use Rattle.std.proofs.lemmas.List.{take-append-drop}
 use Rattle.std.proofs.Math.Bool.{and-true}
 use Rattle.rs_octets.specs.declared.heads.Kind.TheVariants as kinds
 use Rattle.rs_octets.specs.Prefixes.{Prefix}
-use Rattle.rs_attrs.specs.declared.mode.Mode.{Mode}
 use Rattle.rs_attrs.specs.Effects.{Changes, HasEffect}
 use Rattle.rs_open.specs.declared.short.Short.{Short}
 use Rattle.rs_open.specs.declared.short.Short.TheVariants as short
@@ -27,7 +26,7 @@ use Rattle.rs_outlet.specs.Views.{View, AreNumbered}
 use Rattle.rs_core.specs.Points.{Point, Asked, Value, asked_if, dues_at, latest}
 use Rattle.rs_core.specs.Orders.{IsOrdered, IsToldInOrder, TellsAt, TellsInOrder}
 use Rattle.rs_core.specs.Hearing.{Hearing, session_in, state_in, is_up, decides}
-use Rattle.rs_core.specs.Telling.{each_message, updates_in}
+use Rattle.rs_core.specs.Telling.{allowed_to, updates_in}
 use Rattle.rs_core.specs.Core.{is_refusal}
 use Rattle.rs_core.specs.Turns.{IsDone, IsTurn}
 use Rattle.rs_core.specs.Conversations.{own_open}
@@ -39,8 +38,8 @@ use Rattle.rs_core.proofs.Voicing.{down_speech}
 -- ---- what goes on as before
 
 -- the same was told, and the same is marked
-told_on : (mode : Mode) (points : List Point) (octets : List ℕ) (v w : View) (p : Prefix) → w.told ≡ v.told → w.marked ≡ v.marked → IsToldInOrder mode points octets v p → IsToldInOrder mode points octets w p
-told_on mode points octets v w p told marked h = record {
+told_on : (speech : Speech) (points : List Point) (octets : List ℕ) (v w : View) (p : Prefix) → w.told ≡ v.told → w.marked ≡ v.marked → IsToldInOrder speech points octets v p → IsToldInOrder speech points octets w p
+told_on speech points octets v w p told marked h = record {
   values = h.values;
   asked = h.asked;
   tells = h.tells;
@@ -58,12 +57,12 @@ pub ordered_on : (s t : Configuration) (c : ℕ) (h next : Hearing) (v w : View)
 ordered_on s t c h next v w points octets speech loc told marked down at = record {
   before = λ l d. let was = down l d in let u = at.before was.0 was.1 in record {
     dues = λ p. ap (λ ps. dues_at ps p) points ∙ u.dues p;
-    order = λ mode p. subst (λ ps. TellsInOrder mode ps p [] false) (sym points) (u.order mode p);
-    updates = ap updates_in octets ∙ u.updates;
+    order = λ sp p. subst (λ ps. TellsInOrder sp ps p [] false) (sym points) (u.order sp p);
+    updates = λ limit. ap (updates_in limit) octets ∙ u.updates limit;
   };
   loc = λ sp is p. ap (λ t. fin.get t p) loc ∙ at.loc sp (sym speech ∙ is) p ∙ sym (ap (λ ps. latest (dues_at ps p)) points);
-  told = λ sp is p. subst (λ ps. IsToldInOrder sp.mode ps (next.taken ++ w.flight) w p) (sym points)
-      (subst (λ o. IsToldInOrder sp.mode h.points o w p) (sym octets) (told_on sp.mode h.points (h.taken ++ v.flight) v w p told marked (at.told sp (sym speech ∙ is) p)));
+  told = λ sp is p. subst (λ ps. IsToldInOrder sp ps (next.taken ++ w.flight) w p) (sym points)
+      (subst (λ o. IsToldInOrder sp h.points o w p) (sym octets) (told_on sp h.points (h.taken ++ v.flight) v w p told marked (at.told sp (sym speech ∙ is) p)));
 }
 
 -- nothing but a KEEPALIVE that is due, what is touched and the last answer has changed
@@ -91,8 +90,8 @@ pub greeted_ordered : (s : Configuration) (c : ℕ) (h : Hearing) (v : View) →
 greeted_ordered s c h v greets none points = record {
   before = λ l d. record {
     dues = λ p. ap (λ ps. dues_at ps p) points;
-    order = λ mode p. subst (λ ps. TellsInOrder mode ps p [] false) (sym points) (refl, refl);
-    updates = (λ i. updates_in (none i ++ greets.flight i)) ∙ updates_more [] (server_open (own_open s)) kinds.Open refl (short_is_message each_message (own_open s) short.Open tt);
+    order = λ sp p. subst (λ ps. TellsInOrder sp ps p [] false) (sym points) (refl, refl);
+    updates = λ limit. (λ i. updates_in limit (none i ++ greets.flight i)) ∙ updates_more limit [] (server_open (own_open s)) kinds.Open refl (short_is_message (allowed_to limit) (own_open s) short.Open tt);
   };
   loc = λ sp is p. absurd (let f : ◌≡◌ {A = Option Speech} None (Some sp) = sym greets.silent.speech ∙ is in cc);
   told = λ sp is p. absurd (let f : ◌≡◌ {A = Option Speech} None (Some sp) = sym greets.silent.speech ∙ is in cc);
@@ -114,10 +113,10 @@ raised_ordered s c h next v w agreed raised points taken live down up at = let u
     asked = false;
     tells = record {
       changes = [];
-      have = subst (λ bodies. AllZip (λ body change. HasEffect body sp.mode (Changes change)) bodies []) (sym ((λ i. updates_in (taken i ++ raised.flight i)) ∙ u.updates)) tt;
+      have = subst (λ bodies. AllZip (λ body change. HasEffect body sp.mode (Changes change)) bodies []) (sym ((λ i. updates_in sp.limit (taken i ++ raised.flight i)) ∙ u.updates sp.limit)) tt;
       are = refl;
     };
-    order = subst (λ ps. TellsInOrder sp.mode ps p [] false) (sym points) (u.order sp.mode p);
+    order = subst (λ ps. TellsInOrder sp ps p [] false) (sym points) (u.order sp p);
     told = raised.told p;
     marked = λ m. absurd (false≢true (sym (raised.marked p) ∙ m));
     pending = λ a t. absurd (false≢true a);
@@ -146,8 +145,8 @@ again_ordered s c h next v w in_order points tells taken same at = record {
   told = λ sp is p. let t = at.told sp (sym same.speech ∙ is) p in record {
     values = t.values;
     asked = true;
-    tells = subst (λ o. TellsAt sp.mode o p t.values) (λ i. sym taken i ++ sym same.flight i) t.tells;
-    order = subst (λ ps. TellsInOrder sp.mode ps p t.values true) (sym points) (refl, t.asked, t.order);
+    tells = subst (λ o. TellsAt sp o p t.values) (λ i. sym taken i ++ sym same.flight i) t.tells;
+    order = subst (λ ps. TellsInOrder sp ps p t.values true) (sym points) (refl, t.asked, t.order);
     told = ap (λ x. fin.get x p) same.told ∙ t.told;
     marked = λ m. refl;
     pending = λ a there. same.marked p ∙ ap (λ x. fin.contains_key x p) (sym same.told) ∙ there;
@@ -191,7 +190,7 @@ decided_ordered s c h due v w up flight speech told marked loc at = record {
   told = λ sp is p. let t = at.told sp (sym speech ∙ is) p in record {
     values = t.values;
     asked = t.asked;
-    tells = subst (λ f. TellsAt sp.mode (h.taken ++ f) p t.values) (sym flight) t.tells;
+    tells = subst (λ f. TellsAt sp (h.taken ++ f) p t.values) (sym flight) t.tells;
     order = t.order;
     told = ap (λ x. fin.get x p) told ∙ t.told;
     marked = λ m. t.marked (ap (λ x. set.contains x p) (sym marked) ∙ m);

@@ -19,7 +19,8 @@ use Rattle.rs_core.specs.Runs.{hearing, speech_by, speech_in}
 use Rattle.rs_core.specs.Ribs.{outlet_in, ChangesAll}
 use Rattle.rs_core.specs.Turns.{IsMarked}
 use Rattle.rs_core.specs.Beats.{AreBeats}
-use Rattle.rs_core.specs.Conversations.{Converses, outgoing_of, own_open}
+use Rattle.rs_core.specs.Conversations.{Converses, outgoing_of, own_open, update_speech}
+use Rattle.rs_core.specs.Telling.{limit_to}
 use Rattle.rs_core.specs.Voices.{IsLeftAlone, SpeaksTo, Talks}
 use Rattle.rs_core.specs.Steps.{HaveHeardNothing}
 use Rattle.rs_core.specs.Agreeing.{Knows, Waits}
@@ -79,8 +80,10 @@ talks_fixed s t c h v w session opening alone talk = record {
   messages = subst (λ k. Converses k (own_open t) h.items h.taken (outgoing_of w)) session
       (subst (λ o. Converses (session_in s c) o h.items h.taken (outgoing_of w)) opening
       (subst (λ o. Converses (session_in s c) (own_open s) h.items h.taken o) (sym (ap outgoing_of alone.is)) talk.messages));
-  beats = λ live. subst (λ o. AreBeats o h.beats (h.taken ++ w.flight) w.beat) opening
-      (subst (λ (o : View). AreBeats (own_open s) h.beats (h.taken ++ o.flight) o.beat) (sym alone.is) (talk.beats (ap (λ k. is_live (state_of k h.items)) session ∙ live)));
+  beats = λ live. subst (λ k. AreBeats (own_open t) (limit_to (update_speech k h.items)) h.beats (h.taken ++ w.flight) w.beat) session
+      (subst (λ o. AreBeats o (limit_to (update_speech (session_in s c) h.items)) h.beats (h.taken ++ w.flight) w.beat) opening
+      (subst (λ (o : View). AreBeats (own_open s) (limit_to (update_speech (session_in s c) h.items)) h.beats (h.taken ++ o.flight) o.beat) (sym alone.is)
+      (talk.beats (ap (λ k. is_live (state_of k h.items)) session ∙ live))));
 }
 
 -- another configuration that leaves as it is what has to stay

@@ -65,8 +65,8 @@ done_served core run c none speech lt drained h up =
       established = spoken_up (config_in run) c (hearing c run) speech heard;
       told = λ other is.
           let agreed : v.speech ≡ Some other = at.speech ∙ is in
-          let said = subst (λ o. Speaks other.mode o (fin.get v.told)) (ap (λ f. (hearing c run).taken ++ f) drained.flight ∙ append-nil (hearing c run).taken) (at.since other agreed) in
-          (speaks_same other.mode (hearing c run).taken (fin.get v.told) (due run c) (λ p. told_is_due core run c none other lt drained h agreed is p) said).means;
+          let said = subst (λ o. Speaks other o (fin.get v.told)) (ap (λ f. (hearing c run).taken ++ f) drained.flight ∙ append-nil (hearing c run).taken) (at.since other agreed) in
+          (speaks_same other (hearing c run).taken (fin.get v.told) (due run c) (λ p. told_is_due core run c none other lt drained h agreed is p) said).means;
     }
 
 -- a client whose outlet is drained is served

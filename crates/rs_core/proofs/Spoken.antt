@@ -1,5 +1,5 @@
 -- What a message of an outlet makes of what its client was told.
-use Rattle.std.proofs.Common.{◌≡◌, ◌||◌, ◌&&◌, nat_eq, ℕ, Bool, true, false, List, [], ◌∷◌, ◌++◌, refl, sym, ◌∙◌, ap, subst, arith}
+use Rattle.std.proofs.Common.{◌≡◌, ◌||◌, ◌&&◌, nat_eq, ℕ, Bool, true, false, List, [], ◌∷◌, ◌++◌, ◌≤◌, length, refl, sym, ◌∙◌, ap, subst, arith}
 use Rattle.std.specs.Prelude.{Option, Some, None, if◌then◌else◌}
 use Rattle.std.specs.List.{AllByRecursion}
 use Rattle.std.specs.Ordering.{eq_by_cmp, is_eq, nat_cmp, ordering_then}
@@ -7,18 +7,17 @@ use Rattle.std.specs.declared.cmp.Ordering.{Ordering}
 use Rattle.std.specs.declared.cmp.Ordering.TheVariants.{Less, Equal, Greater}
 use Rattle.std.proofs.lemmas.Bool.Decides.{nat_tests}
 use Rattle.rs_octets.specs.Prefixes.{Prefix, prefix_order}
-use Rattle.rs_attrs.specs.declared.mode.Mode.{Mode}
 use Rattle.rs_attrs.specs.Meaning.{Attribute}
-use Rattle.rs_attrs.specs.Writing.{spelt}
 use Rattle.rs_attrs.specs.Effects.{Change, has_prefix, once, overlaid, same_prefix}
 use Rattle.rs_attrs.proofs.EachOnce.{same_is, once_has}
 use Rattle.rs_packer.specs.Packed.{announcement, withdrawal}
 use Rattle.rs_packer.specs.Laws.{IsAnnounceable, IsWithdrawable}
 use Rattle.rs_packer.proofs.EachOnce.{announcement_announces, withdrawal_withdraws}
-use Rattle.rs_packer.proofs.UpdateMessages.{update_is_message}
+use Rattle.rs_open.specs.Notes.{limit_octets}
+use Rattle.rs_outlet.specs.declared.answers.Speech.{Speech}
 use Rattle.rs_outlet.specs.Begins.{is_among}
-use Rattle.rs_core.specs.Telling.{each_message, Speaks}
-use Rattle.rs_core.proofs.Telling.{speaks_over}
+use Rattle.rs_core.specs.Telling.{Speaks}
+use Rattle.rs_core.proofs.Telling.{announcement_is_message, speaks_over, withdrawal_is_message}
 
 both_equal : (r s : Ordering) → is_eq (ordering_then r s) ≡ (is_eq r && is_eq s)
 both_equal Less s = refl
@@ -44,12 +43,12 @@ all_at P (p ∷ ps) q h e = by_test (same_prefix q p) refl (all_at P ps q h.1) w
   by_test false f later = later (sym (ap (λ b. b || has_prefix q ps) f) ∙ e)
 
 -- these prefixes are announced with the attributes that are due there
-pub announced_speaks : (mode : Mode) (octets flight : List ℕ) (t loc u : Prefix → Option (List Attribute)) (ps : List Prefix) (m : List Attribute) → IsAnnounceable m mode ps
-    → flight ≡ announcement m mode ps → AllByRecursion (λ p. loc p ≡ Some m) ps → ((q : Prefix) → u q ≡ (if is_among q ps then loc q else t q))
-    → Speaks mode octets t → Speaks mode (octets ++ flight) u
-announced_speaks mode octets flight t loc u ps m ok is due says s =
-    subst (λ f. Speaks mode (octets ++ f) u) (sym is)
-    (speaks_over mode octets (announcement m mode ps) t u change (update_is_message each_message [] (spelt m mode) ps ok.fits) (announcement_announces m mode ps ok) (λ q. over q (has_prefix q ps) refl) s) where
+pub announced_speaks : (speech : Speech) (octets flight : List ℕ) (t loc u : Prefix → Option (List Attribute)) (ps : List Prefix) (m : List Attribute) → IsAnnounceable m speech.mode ps
+    → length flight ≤ limit_octets speech.limit → flight ≡ announcement m speech.mode ps → AllByRecursion (λ p. loc p ≡ Some m) ps → ((q : Prefix) → u q ≡ (if is_among q ps then loc q else t q))
+    → Speaks speech octets t → Speaks speech (octets ++ flight) u
+announced_speaks speech octets flight t loc u ps m ok fits is due says s =
+    subst (λ f. Speaks speech (octets ++ f) u) (sym is)
+    (speaks_over speech octets (announcement m speech.mode ps) t u change (announcement_is_message speech flight m ps is fits) (announcement_announces m speech.mode ps ok) (λ q. over q (has_prefix q ps) refl) s) where
       change : Change
       change = record { withdrawn = []; announced = once ps; attributes = Some m }
 
@@ -59,12 +58,12 @@ announced_speaks mode octets flight t loc u ps m ok is due says s =
       over q false e = says q ∙ ap (λ b. if b then loc q else t q) (among_has q ps ∙ e) ∙ sym (ap (λ b. if b then (if b then Some m else None) else t q) (once_has q ps ∙ e))
 
 -- these prefixes are withdrawn, and nothing is due there
-pub withdrawn_speaks : (mode : Mode) (octets flight : List ℕ) (t loc u : Prefix → Option (List Attribute)) (ps : List Prefix) → IsWithdrawable ps
-    → flight ≡ withdrawal ps → AllByRecursion (λ p. loc p ≡ None) ps → ((q : Prefix) → u q ≡ (if is_among q ps then loc q else t q))
-    → Speaks mode octets t → Speaks mode (octets ++ flight) u
-withdrawn_speaks mode octets flight t loc u ps ok is due says s =
-    subst (λ f. Speaks mode (octets ++ f) u) (sym is)
-    (speaks_over mode octets (withdrawal ps) t u change (update_is_message each_message ps [] [] ok.fits) (withdrawal_withdraws mode ps ok) (λ q. over q (has_prefix q ps) refl) s) where
+pub withdrawn_speaks : (speech : Speech) (octets flight : List ℕ) (t loc u : Prefix → Option (List Attribute)) (ps : List Prefix) → IsWithdrawable ps
+    → length flight ≤ limit_octets speech.limit → flight ≡ withdrawal ps → AllByRecursion (λ p. loc p ≡ None) ps → ((q : Prefix) → u q ≡ (if is_among q ps then loc q else t q))
+    → Speaks speech octets t → Speaks speech (octets ++ flight) u
+withdrawn_speaks speech octets flight t loc u ps ok fits is due says s =
+    subst (λ f. Speaks speech (octets ++ f) u) (sym is)
+    (speaks_over speech octets (withdrawal ps) t u change (withdrawal_is_message speech.limit flight ps is fits) (withdrawal_withdraws speech.mode ps ok) (λ q. over q (has_prefix q ps) refl) s) where
       change : Change
       change = record { withdrawn = once ps; announced = []; attributes = None }
 

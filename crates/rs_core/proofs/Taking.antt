@@ -132,4 +132,4 @@ serves c config core agrees x drove served =
     let h = hearing c x.run in
     let on : is_connected h.items ≡ true = connected_by (is_connected h.items) (fate (session_in (config_in x.run) c) h.items) (message_count h.items) served.established in
     let taken : h.taken ≡ taken_by c x.steps = drove_keep c (start config core agrees) x drove (λ none. absurd (let g : false ≡ true = none in cc)) on in
-    record { established = served.established; told = λ speech is. subst (λ l. MeansTable (updates_in l) speech.mode (due x.run c)) taken (served.told speech is) }
+    record { established = served.established; told = λ speech is. subst (λ l. MeansTable (updates_in speech.limit l) speech.mode (due x.run c)) taken (served.told speech is) }

@@ -10,15 +10,13 @@ use Rattle.std.proofs.Math.Bool.{or-false}
 use Rattle.rs_octets.specs.declared.heads.Kind.TheVariants as kinds
 use Rattle.rs_octets.specs.Messages.{body_of, rest_of}
 use Rattle.rs_octets.specs.Prefixes.{Prefix}
-use Rattle.rs_octets.proofs.GoodHeaders.{written_is_message}
-use Rattle.rs_attrs.specs.declared.mode.Mode.{Mode}
 use Rattle.rs_attrs.specs.declared.mode.Mode.TheVariants as modes
 use Rattle.rs_attrs.specs.Meaning.{Attribute}
 use Rattle.rs_attrs.specs.Comparing.{same_attributes}
 use Rattle.rs_attrs.specs.ComparisonLaws.{attributes_decides}
 use Rattle.rs_attrs.specs.Effects.{Change, Changes, HasEffect, attributes_after, has_prefix, mentions, once}
-use Rattle.rs_attrs.specs.Writing.{spelt}
 use Rattle.rs_attrs.proofs.EachOnce.{once_has}
+use Rattle.rs_open.specs.declared.short.Limit.{Limit}
 use Rattle.rs_open.specs.declared.short.Short.{Short}
 use Rattle.rs_open.specs.Notes.{limit_octets}
 use Rattle.rs_open.specs.Writing.{keepalive}
@@ -28,29 +26,29 @@ use Rattle.rs_policy.specs.Configuration.{Configuration}
 use Rattle.rs_packer.specs.Packed.{announcement, withdrawal}
 use Rattle.rs_packer.specs.Laws.{IsAnnounceable, IsWithdrawable}
 use Rattle.rs_packer.proofs.EachOnce.{announcement_announces, withdrawal_withdraws}
-use Rattle.rs_packer.proofs.UpdateMessages.{update_is_message}
 use Rattle.rs_outlet.specs.declared.answers.Speech.{Speech}
 use Rattle.rs_outlet.specs.Begins.{BeginsUpdate, Settles}
 use Rattle.rs_outlet.specs.Views.{View, AreNumbered, waits_at}
 use Rattle.rs_core.specs.Points.{Point, Offered, Value, dues_at, latest}
 use Rattle.rs_core.specs.Orders.{IsOrdered, IsToldInOrder, told_by}
 use Rattle.rs_core.specs.Hearing.{Hearing, state_in, offers}
-use Rattle.rs_core.specs.Telling.{each_message, updates_in}
+use Rattle.rs_core.specs.Telling.{allowed_to, updates_in}
 use Rattle.rs_outlet.specs.Begun.{HasBegun}
 use Rattle.rs_core.specs.Voices.{IsInOrder, SpeaksTo}
-use Rattle.rs_core.proofs.Telling.{updates_more, zip_more}
+use Rattle.rs_core.proofs.Conversing.{keepalive_is_message}
+use Rattle.rs_core.proofs.Telling.{announcement_is_message, updates_more, withdrawal_is_message, zip_more}
 use Rattle.rs_core.proofs.Spoken.{all_at, among_has}
 use Rattle.rs_core.proofs.Uttering.{all_gone, due_mandatory, limit_most}
 use Rattle.rs_core.proofs.Voicing.{down_speech, spoken_up, up_live}
 
 -- no UPDATE: what was told stays
-offered_on : (s : Configuration) (c : ℕ) (h : Hearing) (v w : View) → (rest_of each_message (h.taken ++ v.flight) ≡ [] → updates_in (h.taken ++ w.flight) ≡ updates_in (h.taken ++ v.flight))
+offered_on : (s : Configuration) (c : ℕ) (h : Hearing) (v w : View) → ((limit : Limit) → rest_of (allowed_to limit) (h.taken ++ v.flight) ≡ [] → updates_in limit (h.taken ++ w.flight) ≡ updates_in limit (h.taken ++ v.flight))
     → w.speech ≡ v.speech → w.loc ≡ v.loc → w.told ≡ v.told → w.marked ≡ v.marked → SpeaksTo s c h v → IsOrdered s c h v → IsOrdered s c (offers true h) w
 offered_on s c h v w updates speech loc told marks says at = record {
   before = λ l d. let u = at.before l d in record {
     dues = u.dues;
-    order = λ mode p. inl (u.order mode p);
-    updates = updates ((says.before l (says.speech ∙ down_speech s c h d) modes.Four).whole) ∙ u.updates;
+    order = λ sp p. inl (u.order sp p);
+    updates = λ limit. updates limit ((says.before l (says.speech ∙ down_speech s c h d) (record { mode = modes.Four; limit = limit })).whole) ∙ u.updates limit;
   };
   loc = λ sp is p. ap (λ t. fin.get t p) loc ∙ at.loc sp (sym speech ∙ is) p;
   told = λ sp is p. let t = at.told sp (sym speech ∙ is) p in record {
@@ -58,7 +56,7 @@ offered_on s c h v w updates speech loc told marks says at = record {
     asked = t.asked;
     tells = record {
       changes = t.tells.changes;
-      have = subst (λ bodies. AllZip (λ body change. HasEffect body sp.mode (Changes change)) bodies t.tells.changes) (sym (updates ((says.since sp (sym speech ∙ is)).whole))) t.tells.have;
+      have = subst (λ bodies. AllZip (λ body change. HasEffect body sp.mode (Changes change)) bodies t.tells.changes) (sym (updates sp.limit ((says.since sp (sym speech ∙ is)).whole))) t.tells.have;
       are = t.tells.are;
     };
     order = inl t.order;
@@ -80,18 +78,18 @@ news_by (Some m) (Some n) false is_gone e = inl (λ same. absurd (by_test (same_
   by_test false t e = false≢true t
 
 -- an UPDATE about these prefixes: each has what is due, and each other one what it had
-one_update : (mode : Mode) (points : List Point) (taken flight : List ℕ) (v w : View) (change : Change) (ps : List Prefix) (p : Prefix)
-    → rest_of each_message taken ≡ [] → HasEffect (body_of flight) mode (Changes change) → updates_in (taken ++ flight) ≡ updates_in taken ++ body_of flight ∷ []
+one_update : (speech : Speech) (points : List Point) (taken flight : List ℕ) (v w : View) (change : Change) (ps : List Prefix) (p : Prefix)
+    → rest_of (allowed_to speech.limit) taken ≡ [] → HasEffect (body_of flight) speech.mode (Changes change) → updates_in speech.limit (taken ++ flight) ≡ updates_in speech.limit taken ++ body_of flight ∷ []
     → mentions p change ≡ has_prefix p ps → (has_prefix p ps ≡ true → attributes_after p (Some change) ≡ fin.get v.loc p)
     → (has_prefix p ps ≡ true → (fin.get v.loc p ≢ fin.get v.told p) ⊎ (set.contains v.marked p ≡ true))
-    → Settles v w ps → fin.get v.loc p ≡ latest (dues_at points p) → IsToldInOrder mode points taken v p → IsToldInOrder mode (Offered taken ∷ points) (taken ++ flight) w p
-one_update mode points taken flight v w change ps p rest effect updates mention after news settles due t = by_test (has_prefix p ps) refl where
+    → Settles v w ps → fin.get v.loc p ≡ latest (dues_at points p) → IsToldInOrder speech points taken v p → IsToldInOrder speech (Offered taken ∷ points) (taken ++ flight) w p
+one_update speech points taken flight v w change ps p rest effect updates mention after news settles due t = by_test (has_prefix p ps) refl where
   all : List Change
   all = t.tells.changes ++ change ∷ []
 
-  have : AllZip (λ body x. HasEffect body mode (Changes x)) (updates_in (taken ++ flight)) all
-  have = subst (λ bodies. AllZip (λ body x. HasEffect body mode (Changes x)) bodies all) (sym updates)
-      (zip_more (λ body x. HasEffect body mode (Changes x)) (updates_in taken) t.tells.changes (body_of flight) change t.tells.have effect)
+  have : AllZip (λ body x. HasEffect body speech.mode (Changes x)) (updates_in speech.limit (taken ++ flight)) all
+  have = subst (λ bodies. AllZip (λ body x. HasEffect body speech.mode (Changes x)) bodies all) (sym updates)
+      (zip_more (λ body x. HasEffect body speech.mode (Changes x)) (updates_in speech.limit taken) t.tells.changes (body_of flight) change t.tells.have effect)
 
   newest : told_by (reverse all) p ≡ told_by (change ∷ reverse t.tells.changes) p
   newest = ap (λ l. told_by l p) (reverse-append t.tells.changes (change ∷ []))
@@ -100,7 +98,7 @@ one_update mode points taken flight v w change ps p rest effect updates mention 
   is_news (inl ne) = inl (λ e. ne (e ∙ sym t.told))
   is_news (inr m) = inr (t.marked m)
 
-  by_test : (b : Bool) → has_prefix p ps ≡ b → IsToldInOrder mode (Offered taken ∷ points) (taken ++ flight) w p
+  by_test : (b : Bool) → has_prefix p ps ≡ b → IsToldInOrder speech (Offered taken ∷ points) (taken ++ flight) w p
   by_test true e = record {
     values = fin.get v.loc p ∷ t.values;
     asked = false;
@@ -132,9 +130,9 @@ one_update mode points taken flight v w change ps p rest effect updates mention 
   }
 
 -- by what the outlet began
-told_next : (speech : Speech) (points : List Point) (taken : List ℕ) (v w : View) (ins : AdjIns) (p : Prefix) → AreNumbered v ins → IsInOrder v → rest_of each_message taken ≡ [] → BeginsUpdate speech v w
-    → fin.get v.loc p ≡ latest (dues_at points p) → IsToldInOrder speech.mode points taken v p → IsToldInOrder speech.mode (Offered taken ∷ points) (taken ++ w.flight) w p
-told_next speech points taken v w ins p numbered order whole (inl rests) due t = subst (λ o. IsToldInOrder speech.mode (Offered taken ∷ points) o w p) (sym (ap (λ l. taken ++ l) rests.flight ∙ append-nil taken))
+told_next : (speech : Speech) (points : List Point) (taken : List ℕ) (v w : View) (ins : AdjIns) (p : Prefix) → AreNumbered v ins → IsInOrder v → rest_of (allowed_to speech.limit) taken ≡ [] → BeginsUpdate speech v w
+    → fin.get v.loc p ≡ latest (dues_at points p) → IsToldInOrder speech points taken v p → IsToldInOrder speech (Offered taken ∷ points) (taken ++ w.flight) w p
+told_next speech points taken v w ins p numbered order whole (inl rests) due t = subst (λ o. IsToldInOrder speech (Offered taken ∷ points) o w p) (sym (ap (λ l. taken ++ l) rests.flight ∙ append-nil taken))
     (record {
       values = t.values;
       asked = t.asked;
@@ -146,9 +144,9 @@ told_next speech points taken v w ins p numbered order whole (inl rests) due t =
     })
 told_next speech points taken v w ins p numbered order whole (inr (inl gone)) due t =
     let ok : IsWithdrawable gone.prefixes = record { prefixes = gone.prefixes_legal; fits = let most = limit_most speech.limit in let fits : length (withdrawal gone.prefixes) ≤ limit_octets speech.limit = subst (λ f. length f ≤ limit_octets speech.limit) gone.flight gone.fits in omega (arith, most, fits) } in
-    subst (λ f. IsToldInOrder speech.mode (Offered taken ∷ points) (taken ++ f) w p) (sym gone.flight)
-    (one_update speech.mode points taken (withdrawal gone.prefixes) v w (record { withdrawn = once gone.prefixes; announced = []; attributes = None }) gone.prefixes p
-    whole (withdrawal_withdraws speech.mode gone.prefixes ok) (updates_more taken (withdrawal gone.prefixes) kinds.Update whole (update_is_message each_message gone.prefixes [] [] ok.fits))
+    subst (λ f. IsToldInOrder speech (Offered taken ∷ points) (taken ++ f) w p) (sym gone.flight)
+    (one_update speech points taken (withdrawal gone.prefixes) v w (record { withdrawn = once gone.prefixes; announced = []; attributes = None }) gone.prefixes p
+    whole (withdrawal_withdraws speech.mode gone.prefixes ok) (updates_more speech.limit taken (withdrawal gone.prefixes) kinds.Update whole (withdrawal_is_message speech.limit w.flight gone.prefixes gone.flight gone.fits))
     (or-false (has_prefix p (once gone.prefixes)) ∙ once_has p gone.prefixes)
     (λ e. sym (all_at (λ q. fin.get v.loc q ≡ None) gone.prefixes p (all_gone v gone.prefixes order.exact gone.waited) e))
     (λ e. news_by (fin.get v.loc p) (fin.get v.told p) (set.contains v.marked p) true (sym (order.exact p) ∙ all_at (λ q. fin.get v.waits q ≡ Some true) gone.prefixes p gone.waited e))
@@ -164,9 +162,9 @@ told_next speech points taken v w ins p numbered order whole (inr (inr news)) du
       fits = let most = limit_most speech.limit in
           let fits : length (announcement m speech.mode news.prefixes) ≤ limit_octets speech.limit = subst (λ f. length f ≤ limit_octets speech.limit) news.flight news.fits in omega (arith, most, fits);
     } in
-    subst (λ f. IsToldInOrder speech.mode (Offered taken ∷ points) (taken ++ f) w p) (sym news.flight)
-    (one_update speech.mode points taken (announcement m speech.mode news.prefixes) v w (record { withdrawn = []; announced = once news.prefixes; attributes = Some m }) news.prefixes p
-    whole (announcement_announces m speech.mode news.prefixes ok) (updates_more taken (announcement m speech.mode news.prefixes) kinds.Update whole (update_is_message each_message [] (spelt m speech.mode) news.prefixes ok.fits))
+    subst (λ f. IsToldInOrder speech (Offered taken ∷ points) (taken ++ f) w p) (sym news.flight)
+    (one_update speech points taken (announcement m speech.mode news.prefixes) v w (record { withdrawn = []; announced = once news.prefixes; attributes = Some m }) news.prefixes p
+    whole (announcement_announces m speech.mode news.prefixes ok) (updates_more speech.limit taken (announcement m speech.mode news.prefixes) kinds.Update whole (announcement_is_message speech w.flight m news.prefixes news.flight news.fits))
     (once_has p news.prefixes)
     (λ e. ap (λ b. if b then Some m else None) (once_has p news.prefixes ∙ e) ∙ sym (all_at (λ q. fin.get v.loc q ≡ Some m) news.prefixes p all_due e))
     (λ e. news_by (fin.get v.loc p) (fin.get v.told p) (set.contains v.marked p) false (sym (order.exact p) ∙ all_at (λ q. fin.get v.waits q ≡ Some false) news.prefixes p news.waited e))
@@ -175,7 +173,7 @@ told_next speech points taken v w ins p numbered order whole (inr (inr news)) du
 pub begun_ordered : (s : Configuration) (c : ℕ) (h : Hearing) (ins : AdjIns) (v w : View) → AreNumbered v ins → HasBegun v w → SpeaksTo s c h v → IsOrdered s c h v → IsOrdered s c (offers true h) w
 begun_ordered s c h ins v w numbered b says at = by_flight v.flight refl where
   same : w ≡ v → IsOrdered s c (offers true h) w
-  same e = offered_on s c h v w (λ whole. ap (λ (x : View). updates_in (h.taken ++ x.flight)) e) (ap (λ (x : View). x.speech) e) (ap (λ (x : View). x.loc) e)
+  same e = offered_on s c h v w (λ limit whole. ap (λ (x : View). updates_in limit (h.taken ++ x.flight)) e) (ap (λ (x : View). x.speech) e) (ap (λ (x : View). x.loc) e)
       (ap (λ (x : View). x.told) e) (ap (λ (x : View). x.marked) e) says at
 
   bare_octets : v.flight ≡ [] → h.taken ++ v.flight ≡ h.taken
@@ -188,17 +186,17 @@ begun_ordered s c h ins v w numbered b says at = by_flight v.flight refl where
     loc = λ sp is p. ap (λ (x : View). fin.get x.loc p) b.rest ∙ at.loc sp (ap (λ (x : View). x.speech) (sym b.rest) ∙ is) p;
     told = λ sp is p.
         let up : v.speech ≡ Some sp = ap (λ (x : View). x.speech) (sym b.rest) ∙ is in
-        told_next sp h.points h.taken v w ins p numbered says.order (subst (λ o. rest_of each_message o ≡ []) (bare_octets empty) ((says.since sp up).whole)) (b.begins sp empty quiet beat up) (at.loc sp up p)
-        (subst (λ o. IsToldInOrder sp.mode h.points o v p) (bare_octets empty) (at.told sp up p));
+        told_next sp h.points h.taken v w ins p numbered says.order (subst (λ o. rest_of (allowed_to sp.limit) o ≡ []) (bare_octets empty) ((says.since sp up).whole)) (b.begins sp empty quiet beat up) (at.loc sp up p)
+        (subst (λ o. IsToldInOrder sp h.points o v p) (bare_octets empty) (at.told sp up p));
   }
 
   by_beat : (d : Bool) → v.flight ≡ [] → v.note ≡ None → v.beat ≡ d → IsOrdered s c (offers true h) w
   by_beat true empty quiet e = let is = b.keepalive empty quiet e in
       offered_on s c h v w
-      (λ whole. let before = bare_octets empty in
-      ap (λ (x : View). updates_in (h.taken ++ x.flight)) is
-      ∙ updates_more h.taken keepalive kinds.Keepalive (subst (λ o. rest_of each_message o ≡ []) before whole) (written_is_message each_message kinds.Keepalive [] refl (omega arith) (omega arith))
-      ∙ append-nil (updates_in h.taken) ∙ sym (ap updates_in before))
+      (λ limit whole. let before = bare_octets empty in
+      ap (λ (x : View). updates_in limit (h.taken ++ x.flight)) is
+      ∙ updates_more limit h.taken keepalive kinds.Keepalive (subst (λ o. rest_of (allowed_to limit) o ≡ []) before whole) (keepalive_is_message limit)
+      ∙ append-nil (updates_in limit h.taken) ∙ sym (ap (updates_in limit) before))
       (ap (λ (x : View). x.speech) is) (ap (λ (x : View). x.loc) is) (ap (λ (x : View). x.told) is) (ap (λ (x : View). x.marked) is) says at
   by_beat false empty quiet e = by_speech v.speech empty quiet e refl
 

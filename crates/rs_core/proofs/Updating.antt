@@ -28,8 +28,10 @@ use Rattle.rs_outlet.specs.Views.{View}
 use Rattle.rs_core.specs.Ribs.{outlet_in, Stirs, TouchesChange}
 use Rattle.rs_core.specs.declared.route_server.Core.{Core}
 use Rattle.rs_core.specs.Beats.{AreBeats, asks_for_keepalive, fell_if}
-use Rattle.rs_core.specs.Conversations.{outgoing_of, own_open}
-use Rattle.rs_core.proofs.Conversing.{acted_converses}
+use Rattle.rs_core.specs.Conversations.{outgoing_of, own_open, update_speech}
+use Rattle.rs_core.specs.Telling.{limit_to}
+use Rattle.rs_core.proofs.Beating.{kept_beats}
+use Rattle.rs_core.proofs.Conversing.{acted_converses, kept_speech}
 use Rattle.rs_core.proofs.Alike.{same_again, same_is}
 use Rattle.rs_core.proofs.Voicing.{stayed}
 use Rattle.rs_core.specs.Watching.{ending_by, no_faults, IsWatched}
@@ -186,8 +188,12 @@ changed old new x t s c h W A m change read lt sessions responds takes held iden
           (record {
             messages = acted_converses (Message (heard.Update None)) acts.None (session_in s c) (own_open s) h.items h.taken (outgoing_of (outlet_in old.ribs c none)) (outgoing_of (outlet_in new.ribs c none)) tt it.act_is it.tells
                 (ap outgoing_of (own none)) (knows.outlet (sym config ∙ is) none).talk.messages;
-            beats = λ live. subst (λ a. AreBeats (own_open s) (fell_if (asks_for_keepalive a) h.beats) (h.taken ++ (outlet_in new.ribs c none).flight) (outlet_in new.ribs c none).beat) it.act_is
-                (subst (λ (o : View). AreBeats (own_open s) h.beats (h.taken ++ o.flight) o.beat) (sym (own none)) ((knows.outlet (sym config ∙ is) none).talk.beats (ap is_live (sym it.tells.state) ∙ live)));
+            beats = λ live. let v = outlet_in new.ribs c none in
+                let was = ap is_live (sym it.tells.state) ∙ live in
+                subst (λ a. AreBeats (own_open s) (limit_to (update_speech (session_in s c) next.items)) (fell_if (asks_for_keepalive a) h.beats) (h.taken ++ v.flight) v.beat) it.act_is
+                (kept_beats (own_open s) (update_speech (session_in s c) h.items) (update_speech (session_in s c) next.items) h.beats (h.taken ++ v.flight) v.beat
+                (kept_speech acts.None (session_in s c) h.items next.items tt it.tells was)
+                (subst (λ (o : View). AreBeats (own_open s) (limit_to (update_speech (session_in s c) h.items)) h.beats (h.taken ++ o.flight) o.beat) (sym (own none)) ((knows.outlet (sym config ∙ is) none).talk.beats was)));
           }) (knows.outlet (sym config ∙ is) none);
       ordered = λ is none. stayed_ordered s c h next (outlet_in old.ribs c none) (outlet_in new.ribs c none) (unasked (is_up (state_in s c h)) h.points) it.tells refl (same_is _ _ (own none)) (knows.ordered (sym config ∙ is) none);
       watched = subst (λ es. IsWatched new.watched.items c es h.faults) (ap (λ a. cons_option (ending_by [] a) h.endings) it.act_is)

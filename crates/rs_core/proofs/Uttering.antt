@@ -12,29 +12,28 @@ use Rattle.rs_attrs.specs.declared.mode.Mode.{Mode}
 use Rattle.rs_attrs.specs.Meaning.{Attribute}
 use Rattle.rs_attrs.specs.Comparing.{same_attributes}
 use Rattle.rs_attrs.specs.Effects.{lacks_mandatory}
-use Rattle.rs_attrs.specs.Writing.{IsLegal, spelt}
+use Rattle.rs_attrs.specs.Writing.{IsLegal}
 use Rattle.rs_adjin.specs.declared.adj_ins.AdjIns.{AdjIns}
 use Rattle.rs_open.specs.Notes.{limit_octets}
-use Rattle.rs_open.specs.declared.open.Open.{Open}
 use Rattle.rs_open.specs.declared.short.Limit.{Limit}
 use Rattle.rs_open.specs.declared.short.Limit.TheVariants as limits
 use Rattle.rs_open.specs.declared.writing.ServerOpen.{ServerOpen}
 use Rattle.rs_packer.specs.Packed.{announcement, withdrawal}
 use Rattle.rs_packer.specs.Laws.{IsAnnounceable, IsWithdrawable}
 use Rattle.rs_packer.proofs.Denoting.{announcement_holds, withdrawal_holds}
-use Rattle.rs_packer.proofs.UpdateMessages.{update_is_message}
-use Rattle.rs_session.specs.Sessions.{agreed_mode, agreed_of, mode_by}
+use Rattle.rs_session.specs.Sessions.{agreed_of}
 use Rattle.rs_policy.specs.Configuration.{Configuration}
 use Rattle.rs_outlet.specs.Begins.{BeginsUpdate}
 use Rattle.rs_outlet.specs.declared.answers.Speech.{Speech}
 use Rattle.rs_outlet.specs.Views.{View, WaitsAreExact, waits_at, AreNumbered}
 use Rattle.rs_core.specs.Hearing.{Hearing, session_in, state_in, is_up}
 use Rattle.rs_core.specs.Runs.{speech_by, speech_in}
-use Rattle.rs_core.specs.Telling.{each_message}
+use Rattle.rs_core.specs.Telling.{allowed_to}
 use Rattle.rs_core.specs.Beats.{IsNext}
-use Rattle.rs_core.specs.Conversations.{IsConversation}
+use Rattle.rs_core.specs.Conversations.{IsConversation, update_speech}
 use Rattle.rs_core.specs.Voices.{IsInOrder}
-use Rattle.rs_core.proofs.Conversing.{goes_on_with}
+use Rattle.rs_core.proofs.Conversing.{goes_on_with, speech_up}
+use Rattle.rs_core.proofs.Telling.{announcement_is_message, withdrawal_is_message}
 
 pub limit_most : (limit : Limit) → limit_octets limit ≤ 65535
 limit_most limits.Short = omega arith
@@ -76,46 +75,36 @@ announceable limit mode flight m ps legal mandatory some prefixes is fits = reco
 }
 
 -- nothing is wrong with the UPDATE that begins
-pub update_goes_on : (said : ServerOpen) (speech : Speech) (v w : View) (ins : AdjIns) (octets : List ℕ) → AreNumbered v ins → IsInOrder v → BeginsUpdate speech v w → IsConversation said (Some speech.mode) [] octets
-    → IsConversation said (Some speech.mode) [] (octets ++ w.flight)
+pub update_goes_on : (said : ServerOpen) (speech : Speech) (v w : View) (ins : AdjIns) (octets : List ℕ) → AreNumbered v ins → IsInOrder v → BeginsUpdate speech v w → IsConversation said (Some speech) [] octets
+    → IsConversation said (Some speech) [] (octets ++ w.flight)
 update_goes_on said speech v w ins octets numbered order (inl rests) h =
-    subst (λ o. IsConversation said (Some speech.mode) [] o) (sym (ap (λ l. octets ++ l) rests.flight ∙ append-nil octets)) h
+    subst (λ o. IsConversation said (Some speech) [] o) (sym (ap (λ l. octets ++ l) rests.flight ∙ append-nil octets)) h
 update_goes_on said speech v w ins octets numbered order (inr (inl gone)) h =
     let ok = withdrawable speech.limit w.flight gone.prefixes gone.prefixes_legal gone.flight gone.fits in
-    let is = update_is_message each_message gone.prefixes [] [] ok.fits in
-    subst (λ f. IsConversation said (Some speech.mode) [] (octets ++ f)) (sym gone.flight)
-    (goes_on_with said (Some speech.mode) octets (withdrawal gone.prefixes) kinds.Update is
+    let is = withdrawal_is_message speech.limit w.flight gone.prefixes gone.flight gone.fits in
+    subst (λ f. IsConversation said (Some speech) [] (octets ++ f)) (sym gone.flight)
+    (goes_on_with said (Some speech) octets (withdrawal gone.prefixes) kinds.Update is
     (inr (is, record { withdrawn = gone.prefixes; attributes = []; announced = []; holds = withdrawal_holds speech.mode gone.prefixes ok; mandatory = λ some. absurd (some refl) })) h)
 update_goes_on said speech v w ins octets numbered order (inr (inr news)) h =
     let m : List Attribute = news.attributes in
     let ok = announceable speech.limit speech.mode w.flight m news.prefixes news.legal (due_mandatory v news.prefixes m order news.some (news.due ins numbered)) news.some news.prefixes_legal news.flight news.fits in
-    let is = update_is_message each_message [] (spelt m speech.mode) news.prefixes ok.fits in
-    subst (λ f. IsConversation said (Some speech.mode) [] (octets ++ f)) (sym news.flight)
-    (goes_on_with said (Some speech.mode) octets (announcement m speech.mode news.prefixes) kinds.Update is
+    let is = announcement_is_message speech w.flight m news.prefixes news.flight news.fits in
+    subst (λ f. IsConversation said (Some speech) [] (octets ++ f)) (sym news.flight)
+    (goes_on_with said (Some speech) octets (announcement m speech.mode news.prefixes) kinds.Update is
     (inr (is, record { withdrawn = []; attributes = m; announced = news.prefixes; holds = announcement_holds m speech.mode news.prefixes ok; mandatory = λ some. ok.mandatory })) h)
 
 -- it is an UPDATE or none
-pub update_is_next : (speech : Speech) (v w : View) (ins : AdjIns) → AreNumbered v ins → IsInOrder v → BeginsUpdate speech v w → IsNext false w.flight
+pub update_is_next : (speech : Speech) (v w : View) (ins : AdjIns) → AreNumbered v ins → IsInOrder v → BeginsUpdate speech v w → IsNext speech.limit false w.flight
 update_is_next speech v w ins numbered order (inl rests) = inl rests.flight
 update_is_next speech v w ins numbered order (inr (inl gone)) =
-    let ok = withdrawable speech.limit w.flight gone.prefixes gone.prefixes_legal gone.flight gone.fits in
-    inr (subst (λ f. IsMessageOf each_message kinds.Update f) (sym gone.flight) (update_is_message each_message gone.prefixes [] [] ok.fits))
+    inr (subst (λ f. IsMessageOf (allowed_to speech.limit) kinds.Update f) (sym gone.flight) (withdrawal_is_message speech.limit w.flight gone.prefixes gone.flight gone.fits))
 update_is_next speech v w ins numbered order (inr (inr news)) =
     let m : List Attribute = news.attributes in
-    let ok = announceable speech.limit speech.mode w.flight m news.prefixes news.legal (due_mandatory v news.prefixes m order news.some (news.due ins numbered)) news.some news.prefixes_legal news.flight news.fits in
-    inr (subst (λ f. IsMessageOf each_message kinds.Update f) (sym news.flight) (update_is_message each_message [] (spelt m speech.mode) news.prefixes ok.fits))
+    inr (subst (λ f. IsMessageOf (allowed_to speech.limit) kinds.Update f) (sym news.flight) (announcement_is_message speech w.flight m news.prefixes news.flight news.fits))
 
--- ---- in the mode of its OPEN
+-- ---- as its OPEN asks
 
-abbrev mode_spoken : Option Speech → Option Mode
-mode_spoken None = None
-mode_spoken (Some speech) = Some speech.mode
-
-speech_mode : (extended : Bool) (o : Option Open) → mode_by o ≡ mode_spoken (speech_by extended o)
-speech_mode extended None = refl
-speech_mode extended (Some sent) = refl
-
-pub agreed_by_speech : (s : Configuration) (c : ℕ) (h : Hearing) (speech : Speech) → is_up (state_in s c h) ≡ true → speech_in s c h ≡ Some speech → agreed_mode (session_in s c) h.items ≡ Some speech.mode
-agreed_by_speech s c h speech up is =
-    speech_mode s.top.extended (agreed_of (session_in s c) h.items)
-    ∙ ap mode_spoken (sym (ap (λ b. if b then speech_by s.top.extended (agreed_of (session_in s c) h.items) else None) up) ∙ is)
+pub spoken_by_update : (s : Configuration) (c : ℕ) (h : Hearing) (speech : Speech) → is_up (state_in s c h) ≡ true → speech_in s c h ≡ Some speech → update_speech (session_in s c) h.items ≡ Some speech
+spoken_by_update s c h speech up is =
+    speech_up (session_in s c) h.items up
+    ∙ sym (ap (λ b. if b then speech_by s.top.extended (agreed_of (session_in s c) h.items) else None) up) ∙ is

@@ -27,12 +27,12 @@ use Rattle.rs_open.proofs.ShortMessages.{short_is_message}
 use Rattle.rs_outlet.specs.Views.{View}
 use Rattle.rs_core.specs.Hearing.{Hearing, session_in, state_in, is_up}
 use Rattle.rs_core.specs.Runs.{speech_by, speech_in}
-use Rattle.rs_core.specs.Telling.{Speaks, each_message, no_table}
+use Rattle.rs_core.specs.Telling.{Speaks, allowed_to, limit_to, no_table}
 use Rattle.rs_core.specs.Beats.{AreBeats, asks_for_keepalive, fell_if}
-use Rattle.rs_core.specs.Conversations.{Converses, Outgoing, outgoing_of, own_open}
+use Rattle.rs_core.specs.Conversations.{Converses, Outgoing, outgoing_of, own_open, update_speech}
 use Rattle.rs_core.specs.Voices.{IsInOrder, SpeaksTo, SaysTheSame, Talks, IsLeftAlone, IsGreeting, IsRaised, TellsTheSame, Voices, speech_within}
-use Rattle.rs_core.proofs.Conversing.{Moves, IsHeardOrSeen, acted_converses}
-use Rattle.rs_core.proofs.Beating.{acted_beats}
+use Rattle.rs_core.proofs.Conversing.{Moves, IsHeardOrSeen, acted_converses, goes_on_by, kept_speech}
+use Rattle.rs_core.proofs.Beating.{acted_beats, kept_beats}
 use Rattle.rs_core.proofs.Telling.{silence_speaks, speaks_on, speaks_same}
 use Rattle.rs_core.proofs.Alike.{again_same, alone_is, alone_out, due_same, same_again, same_is, still}
 
@@ -62,7 +62,7 @@ down_speech s c h e = ap (λ b. if b then speech_by s.top.extended (agreed_of (s
 pub says_still : (s : Configuration) (c : ℕ) (h : Hearing) (v w : View) → outgoing_of w ≡ outgoing_of v → SpeaksTo s c h v → Talks s c h w
 says_still s c h v w same at = record {
   messages = subst (λ o. Converses (session_in s c) (own_open s) h.items h.taken o) (sym same) at.talk.messages;
-  beats = λ l. subst (λ (o : Outgoing). AreBeats (own_open s) h.beats (h.taken ++ o.flight) o.beat) (sym same) (at.talk.beats l);
+  beats = λ l. subst (λ (o : Outgoing). AreBeats (own_open s) (limit_to (update_speech (session_in s c) h.items)) h.beats (h.taken ++ o.flight) o.beat) (sym same) (at.talk.beats l);
 }
 
 -- the speech is that of before, and so is what was said in all
@@ -73,8 +73,8 @@ voiced_by s t c h next v w speech live octets spoken note told order talk at = r
   talk = talk;
   speech = spoken ∙ at.speech ∙ sym speech;
   quiet = λ l. note ∙ at.quiet (live l);
-  before = λ l none mode. subst (λ o. Speaks mode o no_table) (sym octets) (at.before (live l) (sym spoken ∙ none) mode);
-  since = λ sp is. subst (λ o. Speaks sp.mode o (fin.get w.told)) (sym octets) (subst (λ tbl. Speaks sp.mode (h.taken ++ v.flight) (fin.get tbl)) (sym told) (at.since sp (sym spoken ∙ is)));
+  before = λ l none sp. subst (λ o. Speaks sp o no_table) (sym octets) (at.before (live l) (sym spoken ∙ none) sp);
+  since = λ sp is. subst (λ o. Speaks sp o (fin.get w.told)) (sym octets) (subst (λ tbl. Speaks sp (h.taken ++ v.flight) (fin.get tbl)) (sym told) (at.since sp (sym spoken ∙ is)));
   order = order;
 }
 
@@ -93,7 +93,7 @@ voiced_over s c h v dead down silent order talk = record {
   speech = silent ∙ sym (down_speech s c h down);
   talk = talk;
   quiet = λ l. absurd (let f : true ≡ false = sym l ∙ dead in cc);
-  before = λ l none mode. absurd (let f : true ≡ false = sym l ∙ dead in cc);
+  before = λ l none sp. absurd (let f : true ≡ false = sym l ∙ dead in cc);
   since = λ sp is. absurd (let f : ◌≡◌ {A = Option Speech} None (Some sp) = sym silent ∙ is in cc);
   order = order;
 }
@@ -135,9 +135,9 @@ raised_voice s c h next v w long room tells raised taken talk at =
     record {
       speech = agreed ∙ sym (ap (speech_by s.top.extended) tells.agreed) ∙ sym (ap (λ b. if b then speech_by s.top.extended (agreed_of (session_in s c) next.items) else None) (ap is_up tells.now));
       quiet = λ l. raised.note ∙ at.quiet was_live;
-      before = λ l none mode. absurd (let f : ◌≡◌ {A = Option Speech} None (speech_by s.top.extended (Some tells.sent)) = sym none ∙ agreed in cc);
-      since = λ sp is. speaks_same sp.mode (next.taken ++ w.flight) no_table (fin.get w.told) raised.told
-          (subst (λ o. Speaks sp.mode o no_table) (λ i. sym taken i ++ sym raised.flight i) (at.before was_live was_none sp.mode));
+      before = λ l none sp. absurd (let f : ◌≡◌ {A = Option Speech} None (speech_by s.top.extended (Some tells.sent)) = sym none ∙ agreed in cc);
+      since = λ sp is. speaks_same sp (next.taken ++ w.flight) no_table (fin.get w.told) raised.told
+          (subst (λ o. Speaks sp o no_table) (λ i. sym taken i ++ sym raised.flight i) (at.before was_live was_none sp));
       order = raised.order;
       talk = talk;
     }
@@ -168,9 +168,12 @@ acted_voice item act long s room sessions x c h next v w is act_is items beats v
       messages = subst (λ l. Converses (session_in s c) (own_open s) l next.taken (outgoing_of w)) (sym items) (subst (λ o. Converses (session_in s c) (own_open s) (item ∷ h.items) o (outgoing_of w)) (sym taken)
           (acted_converses item act (session_in s c) (own_open s) h.items h.taken (outgoing_of v) (outgoing_of w) is act_is (subst (λ l. Tells act (session_in s c) h.items l) items tells)
           (voices_move act long sessions x (session_in s c) c h.items next.items v w voices read heard tells) at.talk.messages));
-      beats = λ live. subst (λ b. AreBeats (own_open s) b (next.taken ++ w.flight) w.beat) (sym (beats ∙ ap (λ a. fell_if (asks_for_keepalive a) h.beats) (sym act_is)))
-          (subst (λ o. AreBeats (own_open s) (fell_if (asks_for_keepalive act) h.beats) (o ++ w.flight) w.beat) (sym taken)
-          (acted_beats act long sessions x (session_in s c) c h.items next.items (own_open s) h.beats h.taken v w voices read heard tells not live at.talk.beats));
+      beats = λ live. let limit : Limit = limit_to (update_speech (session_in s c) next.items) in
+          subst (λ b. AreBeats (own_open s) limit b (next.taken ++ w.flight) w.beat) (sym (beats ∙ ap (λ a. fell_if (asks_for_keepalive a) h.beats) (sym act_is)))
+          (subst (λ o. AreBeats (own_open s) limit (fell_if (asks_for_keepalive act) h.beats) (o ++ w.flight) w.beat) (sym taken)
+          (acted_beats act long sessions x (session_in s c) c h.items next.items (own_open s) limit h.beats h.taken v w voices read heard tells not live
+          (λ was. kept_beats (own_open s) (update_speech (session_in s c) h.items) (update_speech (session_in s c) next.items) h.beats (h.taken ++ v.flight) v.beat
+          (kept_speech act (session_in s c) h.items next.items (goes_on_by act (session_in s c) h.items next.items tells live) tells was) (at.talk.beats was))));
     }) at
 
 -- no message and no moment asks for an OPEN of ours
@@ -206,8 +209,8 @@ greeted s c h v greets none down talk = record {
   talk = talk;
   speech = greets.silent.speech ∙ sym (down_speech s c h down);
   quiet = λ l. greets.note;
-  before = λ l silent mode. subst (λ o. Speaks mode o no_table) (λ i. sym none i ++ sym greets.flight i)
-      (speaks_on mode [] (server_open (own_open s)) kinds.Open no_table refl (short_is_message each_message (own_open s) short.Open tt) (silence_speaks mode));
+  before = λ l silent sp. subst (λ o. Speaks sp o no_table) (λ i. sym none i ++ sym greets.flight i)
+      (speaks_on sp [] (server_open (own_open s)) kinds.Open no_table refl (short_is_message (allowed_to sp.limit) (own_open s) short.Open tt) (silence_speaks sp));
   since = λ sp is. absurd (let f : ◌≡◌ {A = Option Speech} None (Some sp) = sym greets.silent.speech ∙ is in cc);
   order = greets.silent.order;
 }

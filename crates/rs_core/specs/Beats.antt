@@ -3,11 +3,12 @@ use Rattle.std.specs.Prelude.{◌≡◌, ◌≢◌, ◌⊎◌, ℕ, Bool, true, 
 use Rattle.rs_octets.specs.declared.heads.Kind.TheVariants as kinds
 use Rattle.rs_octets.specs.Messages.{IsMessageOf}
 use Rattle.rs_open.specs.Writing.{keepalive, server_open}
+use Rattle.rs_open.specs.declared.short.Limit.{Limit}
 use Rattle.rs_open.specs.declared.short.Short.TheVariants as short
 use Rattle.rs_open.specs.declared.writing.ServerOpen.{ServerOpen}
 use Rattle.rs_session.specs.declared.act.Act.{Act}
 use Rattle.rs_session.specs.declared.act.Act.TheVariants as acts
-use Rattle.rs_core.specs.Telling.{each_message}
+use Rattle.rs_core.specs.Telling.{allowed_to}
 
 pub data Beat : Type 0 where
   FellDue : Beat  -- a KEEPALIVE fell due
@@ -26,21 +27,22 @@ asks_for_keepalive acts.Again = false
 abbrev pub fell_if : Bool → List Beat → List Beat
 fell_if falls beats = if falls then FellDue ∷ beats else beats
 
--- the next message while a session lasts: a KEEPALIVE where one is due, and else an UPDATE or none
-abbrev pub IsNext : Bool → List ℕ → Type 0
-IsNext true octets = octets ≡ keepalive
-IsNext false octets = (octets ≡ []) ⊎ IsMessageOf each_message kinds.Update octets
+-- the next message while a session lasts: a KEEPALIVE where one is due, and else an UPDATE, no longer than the client takes, or none
+abbrev pub IsNext : Limit → Bool → List ℕ → Type 0
+IsNext limit true octets = octets ≡ keepalive
+IsNext limit false octets = (octets ≡ []) ⊎ IsMessageOf (allowed_to limit) kinds.Update octets
 
 -- Before this beginning these octets were put on the connection, and a KEEPALIVE was due or not. Where some of them were not yet
 -- taken, nothing began. Where all were, the next message began, and no KEEPALIVE is due any more.
-pub record IsBegunAt (taken before : List ℕ) (was : Bool) (octets : List ℕ) (due : Bool) : Type 0 where
+pub record IsBegunAt (limit : Limit) (taken before : List ℕ) (was : Bool) (octets : List ℕ) (due : Bool) : Type 0 where
   pub message : List ℕ
   pub whole : octets ≡ before ++ message
-  pub is : ((before ≢ taken) × (message ≡ []) × (due ≡ was)) ⊎ ((before ≡ taken) × IsNext was message × (due ≡ false))
+  pub is : ((before ≢ taken) × (message ≡ []) × (due ≡ was)) ⊎ ((before ≡ taken) × IsNext limit was message × (due ≡ false))
 
 -- While a session lasts, this was put on the connection, behind the OPEN, by what befell the client, the newest first, and a
 -- KEEPALIVE is due or not: it is, exactly where one fell due since the last message began.
-abbrev pub AreBeats : ServerOpen → List Beat → List ℕ → Bool → Type 0
-AreBeats said [] octets due = (octets ≡ server_open said) × (due ≡ false)
-AreBeats said (FellDue ∷ beats) octets due = (due ≡ true) × (was : Bool) × AreBeats said beats octets was
-AreBeats said (Begun taken ∷ beats) octets due = (before : List ℕ) × (was : Bool) × AreBeats said beats before was × IsBegunAt taken before was octets due
+abbrev pub AreBeats : ServerOpen → Limit → List Beat → List ℕ → Bool → Type 0
+AreBeats said limit [] octets due = (octets ≡ server_open said) × (due ≡ false)
+AreBeats said limit (FellDue ∷ beats) octets due = (due ≡ true) × (was : Bool) × AreBeats said limit beats octets was
+AreBeats said limit (Begun taken ∷ beats) octets due =
+    (before : List ℕ) × (was : Bool) × AreBeats said limit beats before was × IsBegunAt limit taken before was octets due

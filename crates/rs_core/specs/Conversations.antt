@@ -15,12 +15,14 @@ use Rattle.rs_packer.specs.Denoted.{Holds}
 use Rattle.rs_session.specs.declared.settings.Settings.{Settings}
 use Rattle.rs_session.specs.Items.{Item, Came, Message, Moment, Left, is_connected}
 use Rattle.rs_session.specs.Endings.{Fate, GoesOn, Ends}
-use Rattle.rs_session.specs.Sessions.{state_of, agreed_mode, fate}
+use Rattle.rs_session.specs.Sessions.{state_of, agreed_of, fate}
 use Rattle.rs_policy.specs.Configuration.{Configuration}
+use Rattle.rs_outlet.specs.declared.answers.Speech.{Speech}
 use Rattle.rs_outlet.specs.Next.{note_octets}
 use Rattle.rs_outlet.specs.Views.{View}
 use Rattle.rs_core.specs.Hearing.{is_up}
-use Rattle.rs_core.specs.Telling.{each_message}
+use Rattle.rs_core.specs.Runs.{speech_by}
+use Rattle.rs_core.specs.Telling.{allowed_to, limit_to}
 
 -- ---- one message
 
@@ -33,10 +35,11 @@ pub record IsFaultless (mode : Mode) (body : List ℕ) : Type 0 where
   pub holds : Holds body mode withdrawn attributes announced
   pub mandatory : announced ≢ [] → HasMandatory attributes
 
--- a KEEPALIVE; or, where UPDATEs go to the client in this mode, an UPDATE with which nothing is wrong
-abbrev pub IsRoutine : Option Mode → List ℕ → Type 0
+-- a KEEPALIVE; or, where UPDATEs go to the client like this, an UPDATE, no longer than it takes, with which nothing is wrong
+abbrev pub IsRoutine : Option Speech → List ℕ → Type 0
 IsRoutine None message = message ≡ keepalive
-IsRoutine (Some mode) message = (message ≡ keepalive) ⊎ (IsMessageOf each_message kinds.Update message × IsFaultless mode (body_of message))
+IsRoutine (Some speech) message =
+    (message ≡ keepalive) ⊎ (IsMessageOf (allowed_to speech.limit) kinds.Update message × IsFaultless speech.mode (body_of message))
 
 -- ---- all of them
 
@@ -51,28 +54,32 @@ own_open s = record {
   refresh = s.top.refresh;
 }
 
--- octets are whole messages: this OPEN, then KEEPALIVEs and UPDATEs, then these
-pub record IsConversation (said : ServerOpen) (mode : Option Mode) (last : List (List ℕ)) (octets : List ℕ) : Type 0 where
-  pub whole : rest_of each_message octets ≡ []
+-- octets are whole messages, as the client reads them: this OPEN, then KEEPALIVEs and UPDATEs, then these
+pub record IsConversation (said : ServerOpen) (speech : Option Speech) (last : List (List ℕ)) (octets : List ℕ) : Type 0 where
+  pub whole : rest_of (allowed_to (limit_to speech)) octets ≡ []
   pub routine : List (List ℕ)
-  pub messages : messages_of each_message octets ≡ server_open said ∷ routine ++ last
-  pub each : AllByRecursion (IsRoutine mode) routine
+  pub messages : messages_of (allowed_to (limit_to speech)) octets ≡ server_open said ∷ routine ++ last
+  pub each : AllByRecursion (IsRoutine speech) routine
 
 -- they are the beginning of such octets
-pub record IsCutOff (said : ServerOpen) (mode : Option Mode) (octets : List ℕ) : Type 0 where
+pub record IsCutOff (said : ServerOpen) (speech : Option Speech) (octets : List ℕ) : Type 0 where
   pub missing : List ℕ
-  pub whole : IsConversation said mode [] (octets ++ missing)
+  pub whole : IsConversation said speech [] (octets ++ missing)
 
--- how many octets AS numbers have in the UPDATEs that go to a client since it is Established, and that went to it before its
--- session ended; before it is Established there are none
-abbrev pub update_mode : Settings → List Item → Option Mode
-update_mode settings [] = None
-update_mode settings (Came ∷ items) = None
-update_mode settings (Message message ∷ items) =
-    if is_up (state_of settings (Message message ∷ items)) then agreed_mode settings (Message message ∷ items) else update_mode settings items
-update_mode settings (Moment t ∷ items) =
-    if is_up (state_of settings (Moment t ∷ items)) then agreed_mode settings (Moment t ∷ items) else update_mode settings items
-update_mode settings (Left ∷ items) = None
+-- how a client is spoken to, by the OPEN that its session agreed on
+abbrev pub agreed_speech : Settings → List Item → Option Speech
+agreed_speech settings items = speech_by settings.extended (agreed_of settings items)
+
+-- how UPDATEs go to a client since it is Established, and went to it before its session ended: with AS numbers of so many octets,
+-- in messages no longer than this; before it is Established there are none
+abbrev pub update_speech : Settings → List Item → Option Speech
+update_speech settings [] = None
+update_speech settings (Came ∷ items) = None
+update_speech settings (Message message ∷ items) =
+    if is_up (state_of settings (Message message ∷ items)) then agreed_speech settings (Message message ∷ items) else update_speech settings items
+update_speech settings (Moment t ∷ items) =
+    if is_up (state_of settings (Moment t ∷ items)) then agreed_speech settings (Moment t ∷ items) else update_speech settings items
+update_speech settings (Left ∷ items) = None
 
 -- ---- by the session
 
@@ -86,20 +93,20 @@ abbrev pub outgoing_of : View → Outgoing
 outgoing_of v = record { flight = v.flight; note = v.note; beat = v.beat }
 
 -- this NOTIFICATION waits, or it is the last message
-abbrev pub EndsWith : Short → ServerOpen → Option Mode → List ℕ → Outgoing → Type 0
-EndsWith note said mode taken out =
-    ((out.note ≡ Some note) × IsConversation said mode [] (taken ++ out.flight))
-    ⊎ ((out.note ≡ None) × IsConversation said mode (note_octets note ∷ []) (taken ++ out.flight))
+abbrev pub EndsWith : Short → ServerOpen → Option Speech → List ℕ → Outgoing → Type 0
+EndsWith note said speech taken out =
+    ((out.note ≡ Some note) × IsConversation said speech [] (taken ++ out.flight))
+    ⊎ ((out.note ≡ None) × IsConversation said speech (note_octets note ∷ []) (taken ++ out.flight))
 
 -- The octets taken, and those in flight behind them, are what the session asks for. While it lasts, they are a conversation, and
 -- no NOTIFICATION waits. Where it ends with a NOTIFICATION, they are whole messages still, and that one waits or is the last of
 -- them, and nothing else follows. Where it ends with none, since one was heard, nothing is in flight, and nothing follows.
-abbrev pub Concludes : Fate → ServerOpen → Option Mode → List ℕ → Outgoing → Type 0
-Concludes GoesOn said mode taken out = (out.note ≡ None) × IsConversation said mode [] (taken ++ out.flight)
-Concludes (Ends (Some note)) said mode taken out = (out.beat ≡ false) × EndsWith note said mode taken out
-Concludes (Ends None) said mode taken out = (out ≡ record { flight = []; note = None; beat = false }) × IsCutOff said mode taken
+abbrev pub Concludes : Fate → ServerOpen → Option Speech → List ℕ → Outgoing → Type 0
+Concludes GoesOn said speech taken out = (out.note ≡ None) × IsConversation said speech [] (taken ++ out.flight)
+Concludes (Ends (Some note)) said speech taken out = (out.beat ≡ false) × EndsWith note said speech taken out
+Concludes (Ends None) said speech taken out = (out ≡ record { flight = []; note = None; beat = false }) × IsCutOff said speech taken
 
 -- so it is since the connection of a client came, by what befell its session; without a connection nothing was said, or is to be
 pub record Converses (settings : Settings) (said : ServerOpen) (items : List Item) (taken : List ℕ) (out : Outgoing) : Type 0 where
-  pub connected : is_connected items ≡ true → Concludes (fate settings items) said (update_mode settings items) taken out
+  pub connected : is_connected items ≡ true → Concludes (fate settings items) said (update_speech settings items) taken out
   pub alone : is_connected items ≡ false → (taken ≡ []) × (out ≡ record { flight = []; note = None; beat = false })

@@ -1,18 +1,19 @@
 -- Which messages a client is sent over a run, as laws of each route server that agrees with it.
 use Rattle.std.specs.Prelude.{◌≡◌, ◌⊎◌, ◌<◌, ℕ, true, false, List, [], ◌∷◌, ◌++◌, Option, Some, None}
-use Rattle.rs_attrs.specs.declared.mode.Mode.{Mode}
 use Rattle.rs_open.specs.declared.short.Short.{Short}
 use Rattle.rs_open.specs.declared.writing.ServerOpen.{ServerOpen}
 use Rattle.rs_session.specs.Items.{is_connected}
 use Rattle.rs_session.specs.Endings.{Fate, Ends}
 use Rattle.rs_session.specs.Sessions.{fate, is_live}
+use Rattle.rs_outlet.specs.declared.answers.Speech.{Speech}
 use Rattle.rs_outlet.specs.Next.{note_octets}
 use Rattle.rs_core.specs.Beats.{AreBeats}
-use Rattle.rs_core.specs.Conversations.{IsConversation, Converses, own_open, update_mode}
+use Rattle.rs_core.specs.Conversations.{IsConversation, Converses, own_open, update_speech}
 use Rattle.rs_core.specs.Moves.{Move, config_in}
 use Rattle.rs_core.specs.Hearing.{session_in, state_in}
 use Rattle.rs_core.specs.Core.{client_count, lent_octets, outgoing, owed}
 use Rattle.rs_core.specs.Runs.{hearing}
+use Rattle.rs_core.specs.Telling.{limit_to}
 use Rattle.rs_core.specs.Agreeing.{Agrees}
 use Rattle.rs_core.specs.declared.route_server.Core.{Core}
 
@@ -23,20 +24,21 @@ last_message (Some note) = note_octets note ∷ []
 
 -- Octets are the beginning of a conversation: the OPEN, then KEEPALIVEs and UPDATEs, and at most one NOTIFICATION as the last,
 -- which is the one that the end of the session asks for.
-pub record IsFrontOfConversation (end : Fate) (said : ServerOpen) (mode : Option Mode) (octets : List ℕ) : Type 0 where
+pub record IsFrontOfConversation (end : Fate) (said : ServerOpen) (speech : Option Speech) (octets : List ℕ) : Type 0 where
   pub missing : List ℕ
   pub last : Option Short
   pub asked : (last ≡ None) ⊎ (end ≡ Ends last)
-  pub whole : IsConversation said mode (last_message last) (octets ++ missing)
+  pub whole : IsConversation said speech (last_message last) (octets ++ missing)
 
 -- at each point of each run what the link of a client took, and what is still to be said to it, are as its session asks for
 pub record SaysAsAsked (core : Core) (run : List Move) (c : ℕ) : Type 0 where
   pub lent : lent_octets core c ≡ (outgoing core c).flight
   pub messages : Converses (session_in (config_in run) c) (own_open (config_in run)) (hearing c run).items (hearing c run).taken (outgoing core c)
-  pub beats : is_live (state_in (config_in run) c (hearing c run)) ≡ true → AreBeats (own_open (config_in run)) (hearing c run).beats ((hearing c run).taken ++ (outgoing core c).flight) (outgoing core c).beat
+  pub beats : is_live (state_in (config_in run) c (hearing c run)) ≡ true
+      → AreBeats (own_open (config_in run)) (limit_to (update_speech (session_in (config_in run) c) (hearing c run).items)) (hearing c run).beats ((hearing c run).taken ++ (outgoing core c).flight) (outgoing core c).beat
   pub idle : is_connected (hearing c run).items ≡ false → owed core c ≡ 0
   pub taken : is_connected (hearing c run).items ≡ true
-      → IsFrontOfConversation (fate (session_in (config_in run) c) (hearing c run).items) (own_open (config_in run)) (update_mode (session_in (config_in run) c) (hearing c run).items) (hearing c run).taken
+      → IsFrontOfConversation (fate (session_in (config_in run) c) (hearing c run).items) (own_open (config_in run)) (update_speech (session_in (config_in run) c) (hearing c run).items) (hearing c run).taken
 
 abbrev pub SendsInOrder : Type 0
 SendsInOrder = (core : Core) (run : List Move) (c : ℕ) → c < client_count core → Agrees core run → SaysAsAsked core run c

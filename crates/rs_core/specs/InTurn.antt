@@ -1,7 +1,6 @@
 -- What a client is told over a run, as laws of each route server that agrees with it.
 use Rattle.std.specs.Prelude.{◌≡◌, ◌≢◌, ◌⊎◌, ◌<◌, ℕ, Bool, true, false, List, [], ◌∷◌, ◌++◌, Some, None, is_some, ⊤}
 use Rattle.rs_octets.specs.Prefixes.{Prefix}
-use Rattle.rs_attrs.specs.declared.mode.Mode.{Mode}
 use Rattle.rs_outlet.specs.declared.answers.Speech.{Speech}
 use Rattle.rs_core.specs.Points.{Point, Decided, Asked, Offered, Value, dues_at, latest}
 use Rattle.rs_core.specs.Orders.{TellsAt, TellsInOrder}
@@ -40,22 +39,22 @@ has_asked (Asked ∷ points) = true
 has_asked (Offered taken ∷ points) = has_asked points
 
 -- the UPDATEs in these octets told a prefix this value last, in order, and the client has not asked since
-pub record HasBeenAnswered (mode : Mode) (points : List Point) (octets : List ℕ) (p : Prefix) (value : Value) : Type 0 where
+pub record HasBeenAnswered (speech : Speech) (points : List Point) (octets : List ℕ) (p : Prefix) (value : Value) : Type 0 where
   pub values : List Value
-  pub tells : TellsAt mode octets p values
+  pub tells : TellsAt speech octets p values
   pub last : latest values ≡ value
-  pub order : TellsInOrder mode points p values false
+  pub order : TellsInOrder speech points p values false
 
 -- ---- laws
 
 -- What the UPDATEs in these octets tell a prefix, behind none at first, was due at the turns, behind none at first, in this
 -- order. Each value was the one due at the last turn before its message began, and it was another one than that told before
 -- it, but where the client had asked since.
-pub record IsToldInTurn (mode : Mode) (points : List Point) (octets : List ℕ) (p : Prefix) : Type 0 where
+pub record IsToldInTurn (speech : Speech) (points : List Point) (octets : List ℕ) (p : Prefix) : Type 0 where
   pub values : List Value
   pub asked : Bool
-  pub tells : TellsAt mode octets p values
-  pub order : TellsInOrder mode points p values asked
+  pub tells : TellsAt speech octets p values
+  pub order : TellsInOrder speech points p values asked
   pub had : IsHadFrom (values ++ None ∷ []) (dues_at points p ++ None ∷ [])
   pub alternate : has_asked points ≡ false → Alternate (values ++ None ∷ [])
 
@@ -63,7 +62,7 @@ pub record IsToldInTurn (mode : Mode) (points : List Point) (octets : List ℕ) 
 abbrev pub TellsInTurn : Type 0
 TellsInTurn =
     (core : Core) (run : List Move) (c : ℕ) (speech : Speech) (p : Prefix) → c < client_count core → Agrees core run
-    → speech_in (config_in run) c (hearing c run) ≡ Some speech → IsToldInTurn speech.mode (hearing c run).points (hearing c run).taken p
+    → speech_in (config_in run) c (hearing c run) ≡ Some speech → IsToldInTurn speech (hearing c run).points (hearing c run).taken p
 
 -- and its Loc-RIB is what was due at its last turn since it is Established; empty before the first
 abbrev pub HasWhatWasDue : Type 0
@@ -73,4 +72,4 @@ HasWhatWasDue =
 
 -- what is due to a client at each prefix that has a route it was told last, by an UPDATE that began behind its last request
 pub record IsAnswered (run : List Move) (c : ℕ) : Type 0 where
-  pub told : (speech : Speech) (p : Prefix) → speech_in (config_in run) c (hearing c run) ≡ Some speech → is_some (due run c p) ≡ true → HasBeenAnswered speech.mode (hearing c run).points (hearing c run).taken p (due run c p)
+  pub told : (speech : Speech) (p : Prefix) → speech_in (config_in run) c (hearing c run) ≡ Some speech → is_some (due run c p) ≡ true → HasBeenAnswered speech (hearing c run).points (hearing c run).taken p (due run c p)

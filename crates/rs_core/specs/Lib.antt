@@ -31,3 +31,4 @@ pub mod Answers
 pub mod Serving
 pub mod InTurn
 pub mod Conversed
+pub mod Senders

@@ -89,7 +89,7 @@ dues run c p = dues_at (hearing c run).points p
 -- its table is the meaning of the UPDATEs that its link took since its connection came, as its OPEN asks to be spoken to
 abbrev pub IsTold : List Move → ℕ → (Prefix → Option (List Attribute)) → Type 0
 IsTold run c table =
-    (speech : Speech) → speech_in (config_in run) c (hearing c run) ≡ Some speech → MeansTable (updates_in (hearing c run).taken) speech.mode table
+    (speech : Speech) → speech_in (config_in run) c (hearing c run) ≡ Some speech → MeansTable (updates_in speech.limit (hearing c run).taken) speech.mode table
 
 -- a client is Established, and the UPDATEs that its link took mean exactly the table that is due to it
 pub record IsServed (run : List Move) (c : ℕ) : Type 0 where

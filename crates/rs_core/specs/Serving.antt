@@ -32,7 +32,7 @@ start config core agrees = course core [] (Ruled config ∷ []) agrees
 -- a client is Established, and the UPDATEs that its link took mean exactly the table that is due to it
 pub record IsServedBy (x : Course) (c : ℕ) : Type 0 where
   pub established : is_established x.run c ≡ true
-  pub told : (speech : Speech) → speech_in (config_in x.run) c (hearing c x.run) ≡ Some speech → MeansTable (updates_in (taken_by c x.steps)) speech.mode (due x.run c)
+  pub told : (speech : Speech) → speech_in (config_in x.run) c (hearing c x.run) ≡ Some speech → MeansTable (updates_in speech.limit (taken_by c x.steps)) speech.mode (due x.run c)
 
 -- what a connection took by the run is what its link took of the offers
 abbrev pub IsTakenBy : ℕ → Course → Type 0

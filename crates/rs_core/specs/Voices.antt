@@ -3,7 +3,6 @@ use Rattle.std.specs.Prelude.{◌≡◌, ◌≢◌, ◌<◌, ℕ, Bool, true, fa
 use Rattle.std.specs.FinMap as fin
 use Rattle.std.specs.FinSet as set
 use Rattle.rs_octets.specs.Prefixes.{Prefix}
-use Rattle.rs_attrs.specs.declared.mode.Mode.{Mode}
 use Rattle.rs_attrs.specs.Meaning.{Attribute}
 use Rattle.rs_attrs.specs.Effects.{lacks_mandatory}
 use Rattle.rs_open.specs.Writing.{server_open}
@@ -23,9 +22,9 @@ use Rattle.rs_open.specs.declared.short.Short.{Short}
 use Rattle.rs_outlet.specs.Views.{View, WaitsAreExact, flight_after}
 use Rattle.rs_core.specs.Hearing.{Hearing, session_in, state_in}
 use Rattle.rs_core.specs.Runs.{speech_in}
-use Rattle.rs_core.specs.Telling.{Speaks, no_table}
+use Rattle.rs_core.specs.Telling.{Speaks, limit_to, no_table}
 use Rattle.rs_core.specs.Beats.{AreBeats}
-use Rattle.rs_core.specs.Conversations.{Converses, outgoing_of, own_open}
+use Rattle.rs_core.specs.Conversations.{Converses, outgoing_of, own_open, update_speech}
 use Rattle.rs_core.specs.Ribs.{outlet_in}
 use Rattle.rs_core.specs.declared.ribs.Ribs.{Ribs}
 
@@ -40,15 +39,15 @@ pub record IsInOrder (v : View) : Type 0 where
 -- where one fell due since the last message began.
 pub record Talks (s : Configuration) (c : ℕ) (h : Hearing) (v : View) : Type 0 where
   pub messages : Converses (session_in s c) (own_open s) h.items h.taken (outgoing_of v)
-  pub beats : is_live (state_in s c h) ≡ true → AreBeats (own_open s) h.beats (h.taken ++ v.flight) v.beat
+  pub beats : is_live (state_in s c h) ≡ true → AreBeats (own_open s) (limit_to (update_speech (session_in s c) h.items)) h.beats (h.taken ++ v.flight) v.beat
 
 -- An Established client is spoken to as its OPEN asks, and the octets taken and in flight mean what it was told. Before, while
 -- the session lasts, no UPDATE is among them, and no NOTIFICATION waits.
 pub record SpeaksTo (s : Configuration) (c : ℕ) (h : Hearing) (v : View) : Type 0 where
   pub speech : v.speech ≡ speech_in s c h
   pub quiet : is_live (state_in s c h) ≡ true → v.note ≡ None
-  pub before : is_live (state_in s c h) ≡ true → v.speech ≡ None → (mode : Mode) → Speaks mode (h.taken ++ v.flight) no_table
-  pub since : (speech : Speech) → v.speech ≡ Some speech → Speaks speech.mode (h.taken ++ v.flight) (fin.get v.told)
+  pub before : is_live (state_in s c h) ≡ true → v.speech ≡ None → (speech : Speech) → Speaks speech (h.taken ++ v.flight) no_table
+  pub since : (speech : Speech) → v.speech ≡ Some speech → Speaks speech (h.taken ++ v.flight) (fin.get v.told)
   pub order : IsInOrder v
   pub talk : Talks s c h v
 

@@ -108,14 +108,19 @@ impl Core {
         buffer.clear();
     }
 
-    /// A connection of a client is lost. All that was learnt by it goes at once.
+    /// A connection of a client is lost. All that was learnt by it goes at once. Where the client has
+    /// none, nothing changes.
     pub fn lost(&mut self, c: usize)
         requires { c < client_count self.old }
         ensures count { client_count self.new ≡ client_count self.old }
         ensures left { (run : List Move) → Agrees self.old run → Agrees self.new (Left c ∷ run) }
         ensures owes { LeavesOwed c self.old self.new }
         ensures touched { (run : List Move) → Agrees self.old run → TouchesOthersWhere (IsChangedBy (Left c) run c) c run self.old self.new }
+        ensures idle { (run : List Move) → Agrees self.old run → state_in (config_in run) c (hearing c run) ≡ State.Idle → self.new ≡ self.old }
     {
+        if matches!(self.state(c), State::Idle) {
+            return;
+        }
         let lasts = self.is_live(c);
         self.watched[c].end(ended_if(lasts, Ending::Lost));
         self.forget(c);
@@ -133,6 +138,14 @@ impl Core {
         self.pass_over(c);
         self.ribs.unlearn(c);
         self.ribs.clear(c);
+    }
+
+    /// The state of a client's session.
+    fn state(&self, c: usize) -> State
+        requires { c < client_count self.now }
+        ensures { (s : Configuration) (h : Hearing) → Knows self.now s c h → result ≡ state_in s c h }
+    {
+        self.sessions[c].state()
     }
 
     /// Whether the session of a client lasts.

@@ -8,12 +8,14 @@ ghost use Rattle.rs_core.specs.Draining.{RoomDrains};
 ghost use Rattle.rs_core.specs.Serving.{ServesByOffers};
 ghost use Rattle.rs_core.specs.Decided.{AnswersByWhatWasAltered, TouchesWhatWasAltered};
 ghost use Rattle.rs_core.specs.LastTurns.{AnswersByTheLastTurn};
+ghost use Rattle.rs_core.specs.Senders.{DueIsTheSenders, ToldIsTheSenders};
 
 use crate::links::Link;
 
 /// The claim of the whole. From `Core::new` on, behind any number of calls of `drive` and `drive_with` with
 /// a link: wherever a client is drained, as `is_drained` says, it is Established, and the UPDATEs that its
-/// link took of the offers since its connection last began mean just the table that is due to it.
+/// link took of the offers since its connection last began mean just the table that is due to it, each
+/// route of which is its sender's.
 pub fn drained_clients_have_what_is_due<L: Link>()
     ensures { DrainedClientsHaveWhatIsDue L.happens }
 {}
@@ -89,4 +91,18 @@ pub fn answers_by_what_was_altered()
 #[tactic(auto, using(crate::proofs::LastTurns::answers_by_the_last_turn))]
 pub fn answers_by_the_last_turn()
     ensures { AnswersByTheLastTurn }
+{}
+
+/// Each route that is due to a client is another client's that the rules pass, with its sender's AS_PATH,
+/// NEXT_HOP and MULTI_EXIT_DISC and all other attributes as they were announced, or with none where the
+/// sender gave none (RFC 7947, 2.2). Only communities that the rules take away are missing.
+#[tactic(auto, using(crate::proofs::Senders::due_is_the_senders))]
+pub fn due_is_the_senders()
+    ensures { DueIsTheSenders }
+{}
+
+/// And so is each route that the UPDATEs mean that the link of a client took, where it is served, as it is
+/// where it is drained.
+pub fn told_is_the_senders()
+    ensures { ToldIsTheSenders }
 {}

@@ -1,10 +1,12 @@
-use Rattle.std.proofs.Common.{◌≢◌, ◌<◌, ℕ, ◌∷◌, length, refl, sym, ◌∙◌, ap, subst}
+use Rattle.std.proofs.Common.{◌≡◌, ◌≢◌, ◌<◌, ℕ, List, ◌∷◌, length, refl, sym, ◌∙◌, ap, subst}
+use Rattle.std.proofs.lemmas.Bool.{false≢true}
 use Rattle.std.proofs.lemmas.Option.{slice_get_read}
-use Rattle.rs_core.specs.Moves.{Left, config_in}
+use Rattle.rs_session.specs.declared.act.State.TheVariants as states
+use Rattle.rs_core.specs.Moves.{Move, Left, config_in}
 use Rattle.rs_core.specs.Hearing.{is_up, state_in, leaves}
 use Rattle.rs_core.specs.Runs.{hearing}
 use Rattle.rs_core.specs.Watching.{ended_if}
-use Rattle.rs_core.specs.Agreeing.{AgreesAt}
+use Rattle.rs_core.specs.Agreeing.{Agrees, AgreesAt}
 use Rattle.rs_core.specs.Core.{client_count}
 use Rattle.rs_core.specs.declared.endings.Ending.TheVariants as reasons
 use Rattle.rs_core.proofs.Lists.{own, other}
@@ -14,7 +16,9 @@ use Rattle.rs_core.proofs.Paying.{others_owed}
 use Rattle.rs_core.proofs.Spared.{noted_spares}
 use Rattle.rs_core.proofs.Watching.{noted_by}
 use Rattle.rs_core.proofs.Touched.{touches_changes}
+use Rattle.rs_core.proofs.Idling.{idle_left, idle_touches}
 use Rattle.rs_core.proofs.route_server.Core.lost.Goals as goal
+use Rattle.rs_core.proofs.route_server.Core.lost.Goals.{in-Idle, in_default}
 
 pub returns-clause-left : goal.returns-clause-left
 unfolding client_count
@@ -40,3 +44,18 @@ returns-clause-touched c = λ run h. touches_changes c.args.c (Left c.args.c) c.
 
 pub returns-clause-owes : goal.returns-clause-owes
 returns-clause-owes c = others_owed c.args.c c.args.self.now c.forget.new.self c.forget.ensures.spares.count c.forget.ensures.spares.voices
+
+was_idle : (c : goal.Then-matches) (run : List Move) → Agrees c.args.self.now run → state_in (config_in run) c.args.c (hearing c.args.c run) ≡ states.Idle
+unfolding client_count
+was_idle c run h = sym (c.state.ensures (config_in run) (hearing c.args.c run) (h.clients c.args.c c.requires).knows) ∙ is where
+  is : c.state.result ≡ states.Idle
+  is = elim c.match-matches.branch [ in-Idle w ↦ w.in-Idle.is | in_default w ↦ absurd (false≢true (sym w.matches-is ∙ c.if-matches.true)) ]
+
+pub returns-then-matches-clause-left : goal.returns-then-matches-clause-left
+returns-then-matches-clause-left c = λ run h. idle_left c.args.self.now run c.args.c c.requires (was_idle c run h) h
+
+pub returns-then-matches-clause-touched : goal.returns-then-matches-clause-touched
+returns-then-matches-clause-touched c = λ run h. idle_touches c.args.self.now run c.args.c (was_idle c run h)
+
+pub returns-then-matches-clause-owes : goal.returns-then-matches-clause-owes
+returns-then-matches-clause-owes c = record { others = λ d lt ne. refl }
