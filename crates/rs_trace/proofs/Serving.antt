@@ -1,5 +1,5 @@
 -- A replay is one course of a route server and a link, in which each offer was taken whole.
-use Rattle.std.proofs.Common.{◌≡◌, ◌==◌, ◌-◌, ℕ, zero, suc, List, [], ◌∷◌, ◌++◌, length, take, refl, sym, ◌∙◌, ap, subst, arith}
+use Rattle.std.proofs.Common.{◌≡◌, ◌==◌, ℕ, zero, suc, List, [], ◌∷◌, ◌++◌, length, take, refl, sym, ◌∙◌, ap, subst, arith}
 use Rattle.std.specs.Prelude.{Option, Some, None, ⊤, if◌then◌else◌}
 use Rattle.std.proofs.lemmas.List.{take_all}
 use Rattle.rs_policy.specs.Configuration.{Configuration}
@@ -15,11 +15,11 @@ use Rattle.rs_core.specs.Draining.{IsDrained, TakesWhole, TakesAll, Rooms, RoomF
 use Rattle.rs_core.specs.Draining as draining
 use Rattle.rs_core.specs.declared.links.Event.TheVariants as events
 use Rattle.rs_core.specs.declared.route_server.Core.{Core}
-use Rattle.rs_core.proofs.Taking.{serves}
-use Rattle.rs_core.proofs.Draining.{drained_served, room_drains}
+use Rattle.rs_core.proofs.Draining.{room_drains}
+use Rattle.rs_core.proofs.Headline.{has_come}
 use Rattle.rs_trace.specs.Played.{Act, Did, ToldRoutes, TookAll, AllTookAll, steps_of}
 use Rattle.rs_trace.specs.Replays.{HasRun, Begins, Drove, Tells, steps_done}
-use Rattle.rs_trace.specs.Serving.{IsCourseOf, ReplaysAreCourses, sent_to, ReplaysServe, GivesRoom, GivesRooms, NoRoom, MoreRoom, EndsInRoom, LeavesServed, ReplaysDrain}
+use Rattle.rs_trace.specs.Serving.{ReplaysAreCourses, sent_to, ReplaysServe, GivesRoom, GivesRooms, NoRoom, MoreRoom, ReplaysDrain}
 
 -- ---- a replay is one course
 
@@ -44,12 +44,7 @@ driven settings name acts x (Tells c told before u ran lists) =
     record { new = d.new; agrees = d.agrees; drove = d.drove; steps = d.steps }
 
 pub are_courses : ReplaysAreCourses
-are_courses settings name acts x ran =
-    let d = driven settings name acts x ran in
-    record {
-      come = record { new = d.new; agrees = d.agrees; drove = d.drove; drained = λ c drained. serves c settings d.new d.agrees x d.drove (drained_served x c drained) };
-      steps = d.steps;
-    }
+are_courses settings name acts x ran = let d = driven settings name acts x ran in record { come = has_come settings d.new d.agrees x d.drove; steps = d.steps }
 
 -- ---- each offer was taken whole
 

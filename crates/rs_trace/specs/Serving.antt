@@ -6,9 +6,9 @@ use Rattle.rs_core.specs.Core.{client_count, owed}
 use Rattle.rs_core.specs.Links.{Told, Begin, Busy, Offer, Memory, End, Replaced}
 use Rattle.rs_core.specs.Courses.{Course, called}
 use Rattle.rs_core.specs.Answers.{Gives, EndsAll}
-use Rattle.rs_core.specs.Serving.{taken_by, IsServedBy}
+use Rattle.rs_core.specs.Serving.{taken_by}
 use Rattle.rs_core.specs.Draining.{IsDrained, TurnsFor}
-use Rattle.rs_core.specs.Headline.{HasCome}
+use Rattle.rs_core.specs.Headline.{HasWhatIsDue, HasCome}
 use Rattle.rs_core.specs.declared.links.Event.TheVariants as events
 use Rattle.rs_trace.specs.Played.{Act, Did, ToldRoutes, AllTookAll, steps_of}
 use Rattle.rs_trace.specs.Replays.{HasRun}
@@ -39,7 +39,7 @@ sent_to c (Did (Replaced answer) ∷ acts) = sent_to c acts
 
 -- A client has what is due to it, by what its link took of the offers; and that is what its `sent` lines say.
 pub record IsServedIn (acts : List Act) (x : Course) (c : ℕ) : Type 0 where
-  pub served : IsServedBy x c
+  pub served : HasWhatIsDue x c
   pub sent : taken_by c x.steps ≡ sent_to c acts
 
 -- at each point of a replay, and so at its end, each drained client has what is due to it
