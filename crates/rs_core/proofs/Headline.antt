@@ -13,7 +13,7 @@ use Rattle.rs_core.proofs.Taking.{serves}
 use Rattle.rs_core.proofs.Draining.{drained_served}
 use Rattle.rs_core.proofs.Senders.{due_is_the_senders}
 
-has_come : (config : Configuration) (new : Core) (agrees : Agrees new (Ruled config ∷ [])) (x : Course) → Drove (start config new agrees) x → HasCome config x
+pub has_come : (config : Configuration) (new : Core) (agrees : Agrees new (Ruled config ∷ [])) (x : Course) → Drove (start config new agrees) x → HasCome config x
 has_come config new agrees x drove = record {
   new = new;
   agrees = agrees;

@@ -5,4 +5,6 @@ pub mod OutputLemmas
 pub mod ReplayLemmas
 pub mod TableLemmas
 pub mod PlayLemmas
+pub mod Behind
 pub mod Replaying
+pub mod Serving

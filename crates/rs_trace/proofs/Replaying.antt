@@ -9,7 +9,7 @@ use Rattle.rs_core.specs.declared.route_server.Core.{Core}
 use Rattle.rs_core.specs.Core.{client_count}
 use Rattle.rs_core.specs.Moves.{Move}
 use Rattle.rs_core.specs.Agreeing.{Agrees}
-use Rattle.rs_core.specs.Courses.{Continues}
+use Rattle.rs_core.specs.Courses.{course, Continues}
 use Rattle.rs_core.specs.Answers.{Drives}
 use Rattle.rs_policy.specs.Configuration.{Configuration}
 use Rattle.rs_trace.specs.declared.trace.LineFault.{LineFault}
@@ -24,6 +24,7 @@ use Rattle.rs_trace.specs.Trace.{Saying, Listed}
 use Rattle.rs_trace.specs.Played.{Act, Did, ToldRoutes, said, written, Puts, SaysFirst, TookAll, line_at, saying_at}
 use Rattle.rs_trace.specs.Replays.{Plays, Happens, HasRun, Drove, steps_done, Adds, HasDone, IsAtFirst, IsOver, FailsOn, IsPlayed, PlaysOut, AreNamesOf, place_in, name_in}
 use Rattle.rs_trace.specs.Text.{whole_lines}
+use Rattle.rs_trace.proofs.Behind.{drives_behind}
 use Rattle.rs_trace.proofs.PlayLemmas.{stands_first}
 use Rattle.rs_trace.proofs.ReplayLemmas.{follows_start}
 use mathlib.Core.Bool.{true≢false}
@@ -103,28 +104,32 @@ led_to_stop happens P step old new acts h p = (
   step h.before new (links.Told events.Stop h.octets) (steps_done h.led.run acts) h.stops (led_on happens P step h.led.run old h.before acts h.led.leads p),
 )
 
--- Where a route server and its link go on by a drive, what was done before and what the drive does is a run of the route server.
+-- What was done led to this route server and this link.
 pub record HasGone {L : Type 0} (P : L → List Act → Type 0) (settings : Configuration) (name : ℕ → List ℕ) (core : Core) (link : L) : Type 0 where
   pub acts : List Act
+  pub steps : List links.Step
   pub run : List Move
-  pub done : P link acts
-  pub ran : HasRun settings name acts run
-  pub clients : client_count core ≡ length settings.clients
   pub agrees : Agrees core run
+  pub done : P link acts
+  pub ran : HasRun settings name acts (course core steps run agrees)
+  pub clients : client_count core ≡ length settings.clients
 
+-- and they go on by a drive
 pub gone_on : {L : Type 0} (happens : L → links.Step → L → Type 0) (P : L → List Act → Type 0)
     → ((old new : L) (s : links.Step) (acts : List Act) → happens old s new → P old acts → P new (Did s ∷ acts))
-    → (settings : Configuration) (name : ℕ → List ℕ) (old : Core) (before : L) (new : Core) (after : L) → Continues happens old before new after Drives
+    → (settings : Configuration) (name : ℕ → List ℕ) (old : Core) (before : L) (new : Core) (after : L) → client_count new ≡ client_count old → Continues happens old before new after Drives
     → HasGone P settings name old before → HasGone P settings name new after
-gone_on happens P step settings name old before new after c g =
-    let on = c.on before (length settings.clients) (record { steps = []; run = g.run }) (record { clients = g.clients; leads = refl; agrees = g.agrees }) in
+gone_on happens P step settings name old before new after count c g =
+    let on = c.on before [] g.run g.agrees refl in
     record {
-      acts = steps_done on.0.steps g.acts;
-      run = on.0.run;
-      done = led_on happens P step on.0.steps before after g.acts on.1.leads g.done;
-      ran = Drove g.acts g.run on.0 g.ran on.2;
-      clients = on.1.clients;
-      agrees = on.1.agrees;
+      acts = steps_done on.steps g.acts;
+      steps = on.steps ++ g.steps;
+      run = on.run;
+      agrees = on.agrees;
+      done = led_on happens P step on.steps before after g.acts on.leads g.done;
+      ran = Drove on.steps g.acts (course old g.steps g.run g.agrees) (course new (on.steps ++ g.steps) on.run on.agrees) g.ran
+          (drives_behind g.steps (course old [] g.run g.agrees) (course new on.steps on.run on.agrees) on.is) refl;
+      clients = count ∙ g.clients;
     }
 
 -- a replay that is over was played
@@ -133,7 +138,7 @@ pub played_out : {R W : Type 0} (takes : R → List ℕ → R → Type 0) (at_en
     → AreNamesOf names settings → PlaysOut settings takes at_end puts names first to reader writer answer
     → IsPlayed settings (λ text. takes first text reader) (at_end reader) (λ octets. puts to octets writer) answer
 played_out takes at_end puts settings names first to reader writer answer named o =
-    record { names = names; named = named; acts = o.acts; text = o.over.text; taken = o.over.taken; ends = o.over.ends; gives = o.over.gives; took = o.took; run = o.run; ran = o.ran }
+    record { names = names; named = named; acts = o.acts; text = o.over.text; taken = o.over.taken; ends = o.over.ends; gives = o.over.gives; took = o.took; course = o.course; ran = o.ran }
 
 -- and it is so by whatever names the reader and the writer go at the end
 pub played_at : {R W : Type 0} (takes : R → List ℕ → R → Type 0) (at_end : R → Type 0) (puts : W → List ℕ → W → Type 0)

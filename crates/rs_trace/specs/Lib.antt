@@ -9,3 +9,4 @@ pub mod Texts
 pub mod Text
 pub mod Played
 pub mod Replays
+pub mod Serving

@@ -80,6 +80,12 @@ AllTookAll [] = ⊤
 AllTookAll (Did step ∷ acts) = AllTookAll acts × TookAll step
 AllTookAll (ToldRoutes c told ∷ acts) = AllTookAll acts
 
+-- the steps of the core's link among acts
+abbrev pub steps_of : List Act → List links.Step
+steps_of [] = []
+steps_of (Did step ∷ acts) = step ∷ steps_of acts
+steps_of (ToldRoutes c told ∷ acts) = steps_of acts
+
 -- What a reader of lines has still to give, with whatever may come, is what the text says behind what was said. n lines were read.
 abbrev pub FollowsOn : (List ℕ → Option ℕ) → List ℕ → List Saying → ℕ → lines.Reading → Type 0
 FollowsOn place text sayings n r =

@@ -2,9 +2,13 @@
 use Rattle.std.specs.Prelude.{◌≡◌, ◌⊎◌, ℕ, List, [], ◌∷◌, ◌++◌, length, map, false, Option, Some, None, Result, Ok, Err, position, bytes_eq, slice_get}
 use Rattle.rs_policy.specs.Configuration.{Configuration}
 use Rattle.rs_core.specs.Links as links
-use Rattle.rs_core.specs.Moves.{Move, Ruled}
+use Rattle.rs_core.specs.Moves.{Ruled}
+use Rattle.rs_core.specs.Core.{client_count}
+use Rattle.rs_core.specs.Agreeing.{Agrees}
 use Rattle.rs_core.specs.Courses.{Course}
 use Rattle.rs_core.specs.Answers.{Drives}
+use Rattle.rs_core.specs.Serving.{start}
+use Rattle.rs_core.specs.declared.route_server.Core.{Core}
 use Rattle.rs_trace.specs.declared.trace.LineFault.{LineFault}
 use Rattle.rs_trace.specs.declared.trace.Entry.{Entry}
 use Rattle.rs_trace.specs.declared.names.Names.{Names}
@@ -113,17 +117,18 @@ abbrev pub steps_done : List links.Step → List Act → List Act
 steps_done [] acts = acts
 steps_done (s ∷ run) acts = Did s ∷ steps_done run acts
 
--- What was done is what a link and a route server of so many clients do together in drives (one behind the other), and between them the lines of
--- a client's Loc-RIB, as it is then, were told; this run was made by it.
-pub data HasRun (settings : Configuration) (name : ℕ → List ℕ) : List Act → List Move → Type 0 where
-  Begins : HasRun settings name [] (Ruled settings ∷ [])
-  Drove : (acts : List Act) (run : List Move) (y : Course) → HasRun settings name acts run
-      → Drives (length settings.clients) (record { steps = []; run = run }) y → HasRun settings name (steps_done y.steps acts) y.run
-  Tells : (c : ℕ) (told : List ℕ) (acts : List Act) (run : List Move) → HasRun settings name acts run
-      → ListsOf (length settings.clients) run c (name c) told → HasRun settings name (ToldRoutes c told ∷ acts) run
+-- What was done is what a link and a route server do together in drives, one behind the other, and between them the lines of a
+-- client's Loc-RIB, as it is then, were told. By it they came to this course: all the steps of the link, the run that these make,
+-- and the route server at hand.
+pub data HasRun (settings : Configuration) (name : ℕ → List ℕ) : List Act → Course → Type 0 where
+  Begins : (core : Core) (agrees : Agrees core (Ruled settings ∷ [])) → client_count core ≡ length settings.clients → HasRun settings name [] (start settings core agrees)
+  Drove : (more : List links.Step) (acts : List Act) (x y : Course) → HasRun settings name acts x → Drives x y → y.steps ≡ more ++ x.steps
+      → HasRun settings name (steps_done more acts) y
+  Tells : (c : ℕ) (told : List ℕ) (acts : List Act) (x : Course) → HasRun settings name acts x
+      → ListsOf (length settings.clients) x.run c (name c) told → HasRun settings name (ToldRoutes c told ∷ acts) x
 
--- The octets that were taken say what was done, in that order, and the octets that were put are its output. What was done is a run of
--- the route server, and each offer took all.
+-- The octets that were taken say what was done, in that order, and the octets that were put are its output. What was done led to
+-- this course of the link and the route server, and each offer took all.
 pub record IsPlayed (settings : Configuration) (takes : List ℕ → Type 0) (over : Type 0) (put : List ℕ → Type 0) (result : Result (Unit {0}) ReplayFault) : Type 0 where
   pub names : Names
   pub named : AreNamesOf names settings
@@ -133,8 +138,8 @@ pub record IsPlayed (settings : Configuration) (takes : List ℕ → Type 0) (ov
   pub ends : Ends (place_in names) text over (said acts) result
   pub gives : Gives (EndsAt (place_in names) text over (said acts)) put (written (name_in names) acts) result
   pub took : AllTookAll acts
-  pub run : List Move
-  pub ran : HasRun settings (name_in names) acts run
+  pub course : Course
+  pub ran : HasRun settings (name_in names) acts course
 
 -- nothing was read yet, and the core was not stopped
 pub record IsAtFirst (r : lines.Reading) (n : ℕ) (stop : Option Stop) : Type 0 where
@@ -181,8 +186,8 @@ pub record IsOver {R W : Type 0} (takes : R → List ℕ → R → Type 0) (at_e
 pub record PlaysOut {R W : Type 0} (settings : Configuration) (takes : R → List ℕ → R → Type 0) (at_end : R → Type 0) (puts : W → List ℕ → W → Type 0)
     (names : Names) (first : R) (to : W) (reader : R) (writer : W) (answer : Result (Unit {0}) ReplayFault) : Type 0 where
   pub acts : List Act
-  pub run : List Move
-  pub ran : HasRun settings (name_in names) acts run
+  pub course : Course
+  pub ran : HasRun settings (name_in names) acts course
   pub took : AllTookAll acts
   pub over : IsOver takes at_end puts (place_in names) first to (said acts) (written (name_in names) acts) reader writer answer
 

@@ -9,6 +9,7 @@
 
 pub mod entries;
 pub mod fault;
+pub mod laws;
 pub mod lines;
 pub mod names;
 pub mod number;

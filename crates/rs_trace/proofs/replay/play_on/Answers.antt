@@ -8,7 +8,7 @@ use Rattle.rs_core.specs.Links.{HasStopped}
 use Rattle.rs_core.specs.Agreeing.{Agrees}
 use Rattle.rs_core.specs.Core.{client_count}
 use Rattle.rs_core.specs.Moves.{Move, Ruled}
-use Rattle.rs_core.specs.Courses.{Continues}
+use Rattle.rs_core.specs.Courses.{course, Continues}
 use Rattle.rs_core.specs.Answers.{Drives}
 use Rattle.rs_core.specs.declared.route_server.Core.{Core}
 use Rattle.rs_trace.specs.declared.recording.Recording.{Recording}
@@ -41,9 +41,9 @@ led g first old new before h = led_to_stop (Stepped g) (λ link acts. Does g fir
 
 -- and it is the route server's
 gone : (g : given.Over) (first old new : Recording g.row.R.Denot g.row.W.Denot g.row.P.Denot) (settings : Configuration) (before after : Core)
-    → Continues (Stepped g) before old after new Drives
+    → client_count after ≡ client_count before → Continues (Stepped g) before old after new Drives
     → HasGone (λ link acts. Does g first acts link) settings (name_in first.names.now) before old → HasGone (λ link acts. Does g first acts link) settings (name_in first.names.now) after new
-gone g first old new settings before after c h = gone_on (Stepped g) (λ link acts. Does g first acts link) (step g first) settings (name_in first.names.now) before old after new c h
+gone g first old new settings before after count c h = gone_on (Stepped g) (λ link acts. Does g first acts link) (step g first) settings (name_in first.names.now) before old after new count c h
 
 -- routes were told
 told_one : (g : given.Over) (first old resumed new : Recording g.row.R.Denot g.row.W.Denot g.row.P.Denot) (c : ℕ) (line : List ℕ) (acts : List Act)
@@ -75,11 +75,12 @@ told_gone g first old new c lines settings core one lists h =
     let found = lists h.run h.agrees in
     record {
       acts = ToldRoutes c found.0 ∷ h.acts;
+      steps = h.steps;
       run = h.run;
-      done = one found.0 found.2 h.acts h.done;
-      ran = Tells c found.0 h.acts h.run h.ran (subst (λ n. ListsOf n h.run c (name_in first.names.now c) found.0) h.clients found.1);
-      clients = h.clients;
       agrees = h.agrees;
+      done = one found.0 found.2 h.acts h.done;
+      ran = Tells c found.0 h.acts (course core h.steps h.run h.agrees) h.ran (subst (λ n. ListsOf n h.run c (name_in first.names.now c) found.0) h.clients found.1);
+      clients = h.clients;
     }
 
 -- the replay is over, at this stop
@@ -90,7 +91,7 @@ played_to : (g : given.Over) (first last : Recording g.row.R.Denot g.row.W.Denot
     → PlaysOut settings g.R.TextIn.takes g.R.TextIn.at_end g.W.TextOut.puts first.names.now first.reader.now first.writer.now reader writer answer
 played_to g first last settings core stop answer reader writer h at over = record {
   acts = h.acts;
-  run = h.run;
+  course = course core h.steps h.run h.agrees;
   ran = h.ran;
   took = h.done.took;
   over = subst (λ ns. Plays g.R.TextIn.takes g.R.TextIn.at_end g.R.TextIn.failures g.W.TextOut.puts g.W.TextOut.failures (place_in ns) first.reader.now first.writer.now (said h.acts) (written (name_in first.names.now) h.acts) last.reader.now last.writer.now last.lines.now last.number (Some stop)
@@ -104,12 +105,12 @@ loop-init g c =
     let now = c.args.recording.now in
     let done = done_first g.R.TextIn.takes g.R.TextIn.at_end g.R.TextIn.failures g.W.TextOut.puts g.W.TextOut.failures now.names.now now.reader.ghost_name now.writer.ghost_name now.reader.now now.writer.now now.lines.now now.number now.stop
     (g.met.R.TextIn.takes_none now.reader.now) (g.met.W.TextOut.puts_none now.writer.now) c.requires.first in
-    (([], done), λ settings clients agrees. record { acts = []; run = Ruled settings ∷ []; done = done; ran = Begins; clients = clients; agrees = agrees })
+    (([], done), λ settings clients agrees. record { acts = []; steps = []; run = Ruled settings ∷ []; agrees = agrees; done = done; ran = Begins c.args.core.now agrees clients; clients = clients })
 
 pub loop-preserved-in-None-stop : goal.loop-preserved-in-None-stop
 loop-preserved-in-None-stop g c = (
   led g c.args.recording.now c.loop.recording c.drive_with.new.link c.loop.invariant.0 c.drive_with.ensures.led,
-  λ settings clients agrees. gone g c.args.recording.now c.loop.recording c.drive_with.new.link settings c.loop.core c.drive_with.new.core c.drive_with.ensures.drives (c.loop.invariant.1 settings clients agrees),
+  λ settings clients agrees. gone g c.args.recording.now c.loop.recording c.drive_with.new.link settings c.loop.core c.drive_with.new.core c.drive_with.ensures.count c.drive_with.ensures.drives (c.loop.invariant.1 settings clients agrees),
 )
 
 pub loop-preserved-in-Some-Table : goal.loop-preserved-in-Some-Table
@@ -128,7 +129,7 @@ loop-preserved-in-Some-Table g c =
       (_, one some.0 some.1 before.0 before.1),
       λ settings clients agrees. told_gone g first last c.tell_routes.new.self at lines settings c.drive_with.new.core one
           (subst (λ n. (run : List Move) → Agrees c.drive_with.new.core run → (told : List ℕ) × ListsOf (client_count c.drive_with.new.core) run at n told × IfOk lines (λ made. made.items ≡ told)) name c.route_lines-lines.ensures)
-          (gone g first c.loop.recording last settings c.loop.core c.drive_with.new.core c.drive_with.ensures.drives (c.loop.invariant.1 settings clients agrees)),
+          (gone g first c.loop.recording last settings c.loop.core c.drive_with.new.core c.drive_with.ensures.count c.drive_with.ensures.drives (c.loop.invariant.1 settings clients agrees)),
     )
 
 pub loop-preserved : goal.loop-preserved
@@ -147,7 +148,7 @@ loop-preserved g c =
       (_, one some.0 some.1 before.0 before.1),
       λ settings clients agrees. told_gone g first last c.tell_routes.new.self at lines settings c.drive_with.new.core one
           (subst (λ n. (run : List Move) → Agrees c.drive_with.new.core run → (told : List ℕ) × ListsOf (client_count c.drive_with.new.core) run at n told × IfOk lines (λ made. made.items ≡ told)) name c.route_lines-lines.ensures)
-          (gone g first c.loop.recording last settings c.loop.core c.drive_with.new.core c.drive_with.ensures.drives (c.loop.invariant.1 settings clients agrees)),
+          (gone g first c.loop.recording last settings c.loop.core c.drive_with.new.core c.drive_with.ensures.count c.drive_with.ensures.drives (c.loop.invariant.1 settings clients agrees)),
     )
 
 pub returns-in-Some-End-clause-reader : goal.returns-in-Some-End-clause-reader
@@ -161,7 +162,7 @@ returns-in-Some-End-clause-played g c = λ settings clients agrees.
     let first = c.args.recording.now in
     let last = c.drive_with.new.link in
     played_to g first last settings c.drive_with.new.core End (Ok tt) last.reader.now last.writer.now
-    (gone g first c.loop.recording last settings c.loop.core c.drive_with.new.core c.drive_with.ensures.drives (c.loop.invariant.1 settings clients agrees))
+    (gone g first c.loop.recording last settings c.loop.core c.drive_with.new.core c.drive_with.ensures.count c.drive_with.ensures.drives (c.loop.invariant.1 settings clients agrees))
     (sym c.stop.ensures ∙ c.in-Some-End.is ∙ ap Some c.in-Some-End.field-0-is)
     (λ acts p. over_at_end g.R.TextIn.takes g.R.TextIn.at_end g.R.TextIn.failures g.W.TextOut.puts g.W.TextOut.failures (place_in last.names.now) first.reader.now first.writer.now (said acts) (written (name_in first.names.now) acts) last.reader.now last.writer.now last.lines.now last.number p)
 
@@ -177,7 +178,7 @@ returns-in-Some-Fault-clause-played g c = λ settings clients agrees.
     let last = c.drive_with.new.link in
     let at = sym c.stop.ensures ∙ c.in-Some-Fault.is in
     played_to g first last settings c.drive_with.new.core c.in-Some-Fault.field-0 (Err c.end_at.result) c.end_at.new.self.reader.now c.end_at.new.self.writer.now
-    (gone g first c.loop.recording last settings c.loop.core c.drive_with.new.core c.drive_with.ensures.drives (c.loop.invariant.1 settings clients agrees)) at
+    (gone g first c.loop.recording last settings c.loop.core c.drive_with.new.core c.drive_with.ensures.count c.drive_with.ensures.drives (c.loop.invariant.1 settings clients agrees)) at
     (λ acts p. c.end_at.ensures.over first.reader.now first.writer.now (said acts) (written (name_in first.names.now) acts)
     (subst (λ x. Plays g.R.TextIn.takes g.R.TextIn.at_end g.R.TextIn.failures g.W.TextOut.puts g.W.TextOut.failures (place_in last.names.now) first.reader.now first.writer.now (said acts) (written (name_in first.names.now) acts) last.reader.now last.writer.now last.lines.now last.number x) (sym at) p))
 
