@@ -11,7 +11,7 @@ use Rattle.rs_core.specs.Headline.{New, Driven, HasCome, DrainedClientsHaveWhatI
 use Rattle.rs_core.specs.declared.route_server.Core.{Core}
 use Rattle.rs_core.proofs.Taking.{serves}
 use Rattle.rs_core.proofs.Draining.{drained_served}
-use Rattle.rs_core.proofs.Senders.{due_is_the_senders}
+use Rattle.rs_core.proofs.Senders.{due_routes_are_the_senders}
 
 pub has_come : (config : Configuration) (new : Core) (agrees : Agrees new (Ruled config ∷ [])) (x : Course) → Drove (start config new agrees) x → HasCome config x
 has_come config new agrees x drove = record {
@@ -20,7 +20,7 @@ has_come config new agrees x drove = record {
   drove = drove;
   drained = λ c drained. record {
     served = serves c config new agrees x drove (drained_served x c drained);
-    senders = λ p route is. due_is_the_senders x.run c p route is;
+    senders = λ p route is. due_routes_are_the_senders x.run c p route is;
   };
 }
 

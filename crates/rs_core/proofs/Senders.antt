@@ -21,7 +21,7 @@ use Rattle.rs_outlet.specs.declared.answers.Speech.{Speech}
 use Rattle.rs_outlet.specs.Due.{holders_at, if_fits, passed_on, ranks_among, route_from}
 use Rattle.rs_core.specs.Moves.{Move, config_in}
 use Rattle.rs_core.specs.Runs.{due_by, held_in, hearing, speech_in, table}
-use Rattle.rs_core.specs.Senders.{ArePassedOn, DueIsTheSenders, IsSendersRoute, ToldIsTheSenders, communities_left}
+use Rattle.rs_core.specs.Senders.{ArePassedOn, DueRoutesAreTheSenders, IsSendersRoute, ToldRoutesAreTheSenders, communities_left}
 use Rattle.rs_core.proofs.Dues.{best_kept, first_of_all, holders_below, others_among, ranks_below}
 use Rattle.rs_core.proofs.Rising.{held_rising}
 
@@ -105,9 +105,9 @@ by_speech : (run : List Move) (c : ℕ) (p : Prefix) (m : List Attribute) (o : O
 by_speech run c p m None e = absurd (none_some m e)
 by_speech run c p m (Some speech) e = by_best run c speech p m (best_of (ranks run c speech p m)) refl e
 
-pub due_is_the_senders : DueIsTheSenders
-due_is_the_senders run c p m e = by_speech run c p m (speech_in (config_in run) c (hearing c run)) e
+pub due_routes_are_the_senders : DueRoutesAreTheSenders
+due_routes_are_the_senders run c p m e = by_speech run c p m (speech_in (config_in run) c (hearing c run)) e
 
-pub told_is_the_senders : ToldIsTheSenders
-told_is_the_senders run c speech table served is means p m e =
-    due_is_the_senders run c p m (mean_one_table _ speech.mode _ table (served.told speech is).means means p ∙ e)
+pub told_routes_are_the_senders : ToldRoutesAreTheSenders
+told_routes_are_the_senders run c speech table served is means p m e =
+    due_routes_are_the_senders run c p m (mean_one_table _ speech.mode _ table (served.told speech is).means means p ∙ e)

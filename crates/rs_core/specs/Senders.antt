@@ -42,11 +42,11 @@ pub record IsSendersRoute (run : List Move) (c : ℕ) (p : Prefix) (told : List 
   pub attributes : ArePassedOn lists all announced told
 
 -- so is each route that is due to a client
-abbrev pub DueIsTheSenders : Type 0
-DueIsTheSenders = (run : List Move) (c : ℕ) (p : Prefix) (told : List Attribute) → due run c p ≡ Some told → IsSendersRoute run c p told
+abbrev pub DueRoutesAreTheSenders : Type 0
+DueRoutesAreTheSenders = (run : List Move) (c : ℕ) (p : Prefix) (told : List Attribute) → due run c p ≡ Some told → IsSendersRoute run c p told
 
 -- and each that the UPDATEs mean that the link of a client took, where it is served
-abbrev pub ToldIsTheSenders : Type 0
-ToldIsTheSenders =
+abbrev pub ToldRoutesAreTheSenders : Type 0
+ToldRoutesAreTheSenders =
     (run : List Move) (c : ℕ) (speech : Speech) (table : Prefix → Option (List Attribute)) → IsServed run c → speech_in (config_in run) c (hearing c run) ≡ Some speech
     → MeansTable (updates_in speech.limit (hearing c run).taken) speech.mode table → (p : Prefix) (told : List Attribute) → table p ≡ Some told → IsSendersRoute run c p told

@@ -8,7 +8,7 @@ ghost use Rattle.rs_core.specs.Draining.{RoomDrains};
 ghost use Rattle.rs_core.specs.Serving.{ServesByOffers};
 ghost use Rattle.rs_core.specs.Decided.{AnswersByWhatWasAltered, TouchesWhatWasAltered};
 ghost use Rattle.rs_core.specs.LastTurns.{AnswersByTheLastTurn};
-ghost use Rattle.rs_core.specs.Senders.{DueIsTheSenders, ToldIsTheSenders};
+ghost use Rattle.rs_core.specs.Senders.{DueRoutesAreTheSenders, ToldRoutesAreTheSenders};
 
 use crate::links::Link;
 
@@ -103,13 +103,13 @@ pub fn answers_by_the_last_turn()
 /// Each route that is due to a client is another client's that the rules pass, with its sender's AS_PATH,
 /// NEXT_HOP and MULTI_EXIT_DISC and all other attributes as they were announced, or with none where the
 /// sender gave none (RFC 7947, 2.2). Only communities that the rules take away are missing.
-#[tactic(auto, using(crate::proofs::Senders::due_is_the_senders))]
-pub fn due_is_the_senders()
-    ensures { DueIsTheSenders }
+#[tactic(auto, using(crate::proofs::Senders::due_routes_are_the_senders))]
+pub fn due_routes_are_the_senders()
+    ensures { DueRoutesAreTheSenders }
 {}
 
 /// And so is each route that the UPDATEs mean that the link of a client took, where it is served, as it is
 /// where it is drained.
-pub fn told_is_the_senders()
-    ensures { ToldIsTheSenders }
+pub fn told_routes_are_the_senders()
+    ensures { ToldRoutesAreTheSenders }
 {}

@@ -1,5 +1,0 @@
-use Rattle.rs_core.proofs.Senders.{told_is_the_senders}
-use Rattle.rs_core.proofs.laws.told_is_the_senders.Goals as goal
-
-pub returns : goal.returns
-returns c = told_is_the_senders
