@@ -14,6 +14,9 @@ pub mod Saying
 pub mod Limits
 mod Rows
 mod AlteringRows
+mod Recorded
+mod FirstRoute
+mod KeptAlive
 pub mod Leading
 pub mod Clients
 pub mod Dues
