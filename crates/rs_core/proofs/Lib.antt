@@ -17,6 +17,10 @@ mod AlteringRows
 mod Recorded
 mod FirstRoute
 mod KeptAlive
+mod LossInMidMessage
+mod HalfTaken
+mod Refreshed
+mod NeverSent
 pub mod Leading
 pub mod Clients
 pub mod Dues
