@@ -21,6 +21,7 @@ mod LossInMidMessage
 mod HalfTaken
 mod Refreshed
 mod NeverSent
+mod FirstAnswers
 pub mod Leading
 pub mod Clients
 pub mod Dues
