@@ -14,6 +14,14 @@ pub mod Saying
 pub mod Limits
 mod Rows
 mod AlteringRows
+mod Recorded
+mod FirstRoute
+mod KeptAlive
+mod LossInMidMessage
+mod HalfTaken
+mod Refreshed
+mod NeverSent
+mod FirstAnswers
 pub mod Leading
 pub mod Clients
 pub mod Dues

@@ -37,13 +37,13 @@ base = record {
 }
 
 -- the octets of a message behind its marker
-abbrev m : List ℕ → List ℕ
+abbrev pub m : List ℕ → List ℕ
 m text = replicate 16 255 ++ hex text
 
-abbrev open_a : List ℕ
+abbrev pub open_a : List ℕ
 open_a = m (codes "0025 01 04 fbf0 005a c000020b 08 0206 4104 0000fbf0")
 
-abbrev open_b : List ℕ
+abbrev pub open_b : List ℕ
 open_b = m (codes "0025 01 04 fbf1 005a c000020c 08 0206 4104 0000fbf1")
 
 abbrev open_c : List ℕ
@@ -52,7 +52,7 @@ open_c = m (codes "0025 01 04 fbf2 005a c000020d 08 0206 4104 0000fbf2")
 abbrev open_d : List ℕ
 open_d = m (codes "0025 01 04 fbf3 005a c000020e 08 0206 4104 0000fbf3")
 
-abbrev keepalive : List ℕ
+abbrev pub keepalive : List ℕ
 keepalive = m (codes "0013 04")
 
 -- announcements of 198.51.100.0/24 by a and by b; a's with a MULTI_EXIT_DISC of 5, with ORIGIN 3; its withdrawal
@@ -62,7 +62,7 @@ u1 = m (codes "002f 02 0000 0014 40010100 40020602010000fbf0 400304c000020b 18c6
 abbrev ub : List ℕ
 ub = m (codes "002f 02 0000 0014 40010100 40020602010000fbf1 400304c000020c 18c63364")
 
-abbrev u5 : List ℕ
+abbrev pub u5 : List ℕ
 u5 = m (codes "0036 02 0000 001b 40010100 40020602010000fbf0 400304c000020b 80040400000005 18c63364")
 
 abbrev bad_origin : List ℕ
@@ -80,11 +80,11 @@ n24 = record { bits = 0xc6336400; len = 24 }
 abbrev ub_attributes : List Attribute
 ub_attributes = well (0 ∷ []) 1 ∷ well (hex (codes "02010000fbf1")) 2 ∷ well (hex (codes "c000020c")) 3 ∷ []
 
-abbrev u5_attributes : List Attribute
+abbrev pub u5_attributes : List Attribute
 u5_attributes = u1_attributes ++ record { kind = 4; optional = true; transitive = false; partial = false; value = 0 ∷ 0 ∷ 0 ∷ 5 ∷ [] } ∷ []
 
 -- a client comes up
-abbrev up : ℕ → List ℕ → List Move → List Move
+abbrev pub up : ℕ → List ℕ → List Move → List Move
 up c opening run = Heard c keepalive ∷ Heard c opening ∷ Came c ∷ run
 
 abbrev pub two_up : List Move
