@@ -19,7 +19,7 @@ use Rattle.rs_core.specs.Links.{Step, Told, Offer}
 use Rattle.rs_core.specs.Moves.{Move, Ruled, Heard, Turned, Began, Took}
 use Rattle.rs_core.specs.Runs.{hearing, due, IsServed}
 use Rattle.rs_core.specs.Serving.{taken_by}
-use Rattle.rs_core.specs.Telling.{updates_in}
+use Rattle.rs_core.specs.Telling.{Speaks}
 use Rattle.rs_core.specs.declared.links.Event.TheVariants.{Octets, Turn, Room}
 use Rattle.rs_core.proofs.Dues.{IsSameSent, due_below}
 use Rattle.rs_core.proofs.Rows.{base, n24, open_a, open_b, u1, up}
@@ -84,10 +84,13 @@ means_the_table : MeansTable (bodies (said ++ beat ++ route)) modes.Four (due fi
 unfolding all_types
 means_the_table = let m = means (bodies (said ++ beat ++ route)) (announces ∷ []) refl (refl, tt) in (m.0, m.1, λ p. due_is p ∙ m.2 p)
 
+speaks : Speaks four (said ++ beat ++ route) (due first_route 1)
+speaks = record { whole = refl; means = means_the_table }
+
 served : IsServed first_route 1
 served = record {
   established = refl;
-  told = λ speech is. subst (λ (s : Speech). MeansTable (updates_in s.limit (said ++ beat ++ route)) s.mode (due first_route 1)) (ap (λ o. unwrap_or o speech) is) means_the_table;
+  told = λ speech is. subst (λ (s : Speech). Speaks s (said ++ beat ++ route) (due first_route 1)) (ap (λ o. unwrap_or o speech) is) speaks;
 }
 
 -- before the UPDATE is taken it is not served
@@ -97,7 +100,7 @@ none_told [] zip same = let f : ◌≡◌ {A = Option (List Attribute)} (Some u1
 none_told (change ∷ changes) zip same = absurd zip
 
 not_served_yet : IsServed decided 1 → ⊥
-not_served_yet yet = let t = yet.told four refl in none_told t.0 t.1 (t.2 n24)
+not_served_yet yet = let t = (yet.told four refl).means in none_told t.0 t.1 (t.2 n24)
 
 -- ---- in order
 

@@ -76,7 +76,7 @@ twice = inl (inr (record {
 
 answered : HasBeenAnswered four (hearing 1 again).points (hearing 1 again).taken n24 (Some u1_attributes)
 unfolding all_types
-answered = record { values = Some u1_attributes ∷ Some u1_attributes ∷ []; tells = tells (said ++ beat ++ route ++ route) (announces ∷ announces ∷ []) refl (refl, (refl, tt)); last = refl; order = twice }
+answered = record { readable = refl; values = Some u1_attributes ∷ Some u1_attributes ∷ []; tells = tells (said ++ beat ++ route ++ route) (announces ∷ announces ∷ []) refl (refl, (refl, tt)); last = refl; order = twice }
 
 -- but not before
 not_answered_yet : (value : Value) → HasBeenAnswered four (hearing 1 (Heard 1 request ∷ told decided)).points (hearing 1 (told decided)).taken n24 value → ⊥
