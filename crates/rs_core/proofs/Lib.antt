@@ -76,3 +76,4 @@ pub mod Since
 pub mod LastTurns
 pub mod Rising
 pub mod Senders
+mod SenderRows
