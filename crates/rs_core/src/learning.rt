@@ -27,7 +27,7 @@ fn touch_all_of(outlet: &mut Outlet, tables: &AdjIns, c: usize)
     ensures touched { AreNumbered outlet.old tables.now → IsTouchedWhereHeld tables.now c outlet.old outlet.new }
     ensures numbered { AreNumbered outlet.old tables.now → AreNumbered outlet.new tables.now }
 {
-    for (prefix, number) in tables.held(c) {
+    for (prefix, number) in tables.held_by_number(c) {
         outlet.touch(number, prefix);
     }
 }

@@ -12,19 +12,19 @@ loop-prefix-preserved c =
     let e : Prefix × ℕ = (c.in-Some.prefix, c.in-Some.number) in
     let now = subst (λ s. IsTouching tables all s c.args.outlet.now c.loop-prefix.outlet) c.in-Some.ensures.steps c.loop-prefix.invariant in
     let numbers = subst (λ (es : List (Prefix × ℕ)). (k : ℕ) (d : Prefix × ℕ) → k < length es → number_of tables (slice_index_or es k d).0 ≡ Some (slice_index_or es k d).1)
-    (sym c.into_iter-prefix-iterator.ensures.into_iter_gives) c.held-prefix-items.ensures.numbers in
+    (sym c.into_iter-prefix-iterator.ensures.into_iter_gives) c.held_by_number-prefix-items.ensures.numbers in
     let number = next_number tables all c.next.new.self e c.args.outlet.now c.loop-prefix.outlet now numbers in
     touching_on tables all c.next.new.self e c.args.outlet.now c.loop-prefix.outlet c.touch.new.self now
     c.touch.ensures.rest (λ h. c.touch.ensures.touched tables h number) (λ h. c.touch.ensures.numbered tables h number)
 
 pub returns : goal.returns
 returns c =
-    let now = subst (λ s. IsTouching c.args.tables.now c.held-prefix-items.result s c.args.outlet.now c.loop-prefix.outlet) c.in-None.ensures.steps.0
+    let now = subst (λ s. IsTouching c.args.tables.now c.held_by_number-prefix-items.result s c.args.outlet.now c.loop-prefix.outlet) c.in-None.ensures.steps.0
     (subst (λ s. IsTouching c.args.tables.now s c.loop-prefix.prefix-iterator c.args.outlet.now c.loop-prefix.outlet) c.into_iter-prefix-iterator.ensures.into_iter_gives c.loop-prefix.invariant) in
     record {
       client = ap (λ (v : View). v.client) now.rest;
       extended = ap (λ (v : View). v.extended) now.rest;
       rest = now.rest;
-      touched = touching_ends c.args.tables.now c.args.c c.held-prefix-items.result c.args.outlet.now c.loop-prefix.outlet (record { all = c.held-prefix-items.ensures.all }) now;
+      touched = touching_ends c.args.tables.now c.args.c c.held_by_number-prefix-items.result c.args.outlet.now c.loop-prefix.outlet (record { all = c.held_by_number-prefix-items.ensures.all }) now;
       numbered = now.numbered;
     }
