@@ -1,3 +1,5 @@
+pub mod Agreeing
 pub mod Handling
+pub mod Places
 pub mod Rounds
 pub mod Sending

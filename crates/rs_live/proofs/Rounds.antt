@@ -2,16 +2,18 @@
 use Rattle.std.proofs.Common.{◌≡◌, Bool, true, false, List, [], ◌∷◌, refl, ◌∙◌, subst}
 use Rattle.rs_core.specs.declared.links.Event.TheVariants.{Stop}
 use Rattle.rs_core.specs.Links.{Step, Told, Leads, GoesOn, AllGoOn, HasStopped}
+use Rattle.rs_live.specs.declared.link.Link.{Link}
 use Rattle.rs_live.specs.Calls.{Call, IsFailedAccept}
-use Rattle.rs_live.specs.Handled.{Did, AreHandled, EndBy, Has, Follows, On, Halts}
+use Rattle.rs_live.specs.Deeds.{Did}
+use Rattle.rs_live.specs.Handled.{EndBy, Has, Keeps, Follows, On, Halts}
 
-went_on : {P : Type 0} (asked : P → List Call → Type 0) (step : Step) (p : P) (has_failed : Bool) → GoesOn step → Follows asked step p has_failed → (has_failed ≡ false) × Has asked p AreHandled
-went_on asked step p _ on (On h) = (refl, record { deeds = Did step ∷ h.deeds; are = h.are; were = h.were })
-went_on asked step p _ on (Halts octets e h) = let k : true ≡ false = subst GoesOn e on in cc
+went_on : {P : Type 0} (asked : P → List Call → Type 0) (step : Step) (l : Link P) (has_failed : Bool) → GoesOn step → Follows asked step l has_failed → (has_failed ≡ false) × Keeps asked l
+went_on asked step l _ on (On h) = (refl, record { deeds = Did step ∷ h.deeds; are = h.are; were = h.were })
+went_on asked step l _ on (Halts octets e h) = let k : true ≡ false = subst GoesOn e on in cc
 
-stopped : {P : Type 0} (asked : P → List Call → Type 0) (step : Step) (p : P) (has_failed : Bool) → Follows asked step p has_failed → (has_failed ≡ false → Has asked p AreHandled) × (has_failed ≡ true → Has asked p (EndBy IsFailedAccept))
-stopped asked step p _ (On h) = (λ e. record { deeds = Did step ∷ h.deeds; are = h.are; were = h.were }, λ (e : false ≡ true). cc)
-stopped asked step p _ (Halts octets is h) = (λ (e : true ≡ false). cc, λ e. h)
+stopped : {P : Type 0} (asked : P → List Call → Type 0) (step : Step) (l : Link P) (has_failed : Bool) → Follows asked step l has_failed → (has_failed ≡ false → Keeps asked l) × (has_failed ≡ true → Has asked l.ports.now (EndBy IsFailedAccept))
+stopped asked step l _ (On h) = (λ e. record { deeds = Did step ∷ h.deeds; are = h.are; were = h.were }, λ (e : false ≡ true). cc)
+stopped asked step l _ (Halts octets is h) = (λ (e : true ≡ false). cc, λ e. h)
 
 same_run : {L N : Type 0} (happens : L → Step → L → Type 0) (name : L → N) → ((x y : L) (s : Step) → happens x s y → name y ≡ name x) → (run : List Step) (a b : L) → Leads happens a run b → name b ≡ name a
 same_run happens name same [] a b e = subst (λ x. name x ≡ name a) e refl
@@ -22,19 +24,19 @@ pub stopped_same : {L N : Type 0} (a b : L) (happens : L → Step → L → Type
 stopped_same a b happens p name same = same p.before b (Told Stop p.octets) p.stops ∙ same_run happens name same p.led.run a p.before p.led.leads
 
 -- each step follows the ports, from a link that has not failed
-abbrev pub FollowsPorts : {L P : Type 0} → (L → Step → L → Type 0) → (P → List Call → Type 0) → (L → P) → (L → Bool) → Type 0
-FollowsPorts {L} happens asked ports has_failed = (x y : L) (s : Step) → happens x s y → has_failed x ≡ false → Has asked (ports x) AreHandled → Follows asked s (ports y) (has_failed y)
+abbrev pub FollowsPorts : {P : Type 0} → (Link P → Step → Link P → Type 0) → (P → List Call → Type 0) → Type 0
+FollowsPorts {P} happens asked = (x y : Link P) (s : Step) → happens x s y → x.has_failed ≡ false → Keeps asked x → Follows asked s y y.has_failed
 
-led : {L P : Type 0} (happens : L → Step → L → Type 0) (asked : P → List Call → Type 0) (ports : L → P) (has_failed : L → Bool) → FollowsPorts happens asked ports has_failed →
-    (run : List Step) (a b : L) → AllGoOn run → Leads happens a run b → has_failed a ≡ false → Has asked (ports a) AreHandled → (has_failed b ≡ false) × Has asked (ports b) AreHandled
-led happens asked ports has_failed follows [] a b on e f h = subst (λ x. (has_failed x ≡ false) × Has asked (ports x) AreHandled) e (f, h)
-led happens asked ports has_failed follows (s ∷ run) a b on leads f h =
-    let before = led happens asked ports has_failed follows run a leads.0 on.0 leads.1 f h in
-    went_on asked s (ports b) (has_failed b) on.1 (follows leads.0 b s leads.2 before.0 before.1)
+led : {P : Type 0} (happens : Link P → Step → Link P → Type 0) (asked : P → List Call → Type 0) → FollowsPorts happens asked →
+    (run : List Step) (a b : Link P) → AllGoOn run → Leads happens a run b → a.has_failed ≡ false → Keeps asked a → (b.has_failed ≡ false) × Keeps asked b
+led happens asked follows [] a b on e f h = subst (λ x. (x.has_failed ≡ false) × Keeps asked x) e (f, h)
+led happens asked follows (s ∷ run) a b on leads f h =
+    let before = led happens asked follows run a leads.0 on.0 leads.1 f h in
+    went_on asked s b b.has_failed on.1 (follows leads.0 b s leads.2 before.0 before.1)
 
 -- what the ports were asked up to the stop
-pub stopped_so : {L P : Type 0} (a b : L) (happens : L → Step → L → Type 0) → HasStopped happens a b → (asked : P → List Call → Type 0) (ports : L → P) (has_failed : L → Bool) → FollowsPorts happens asked ports has_failed →
-    has_failed a ≡ false → Has asked (ports a) AreHandled → (has_failed b ≡ false → Has asked (ports b) AreHandled) × (has_failed b ≡ true → Has asked (ports b) (EndBy IsFailedAccept))
-stopped_so a b happens p asked ports has_failed follows f h =
-    let before = led happens asked ports has_failed follows p.led.run a p.before p.led.onward p.led.leads f h in
-    stopped asked (Told Stop p.octets) (ports b) (has_failed b) (follows p.before b (Told Stop p.octets) p.stops before.0 before.1)
+pub stopped_so : {P : Type 0} (a b : Link P) (happens : Link P → Step → Link P → Type 0) → HasStopped happens a b → (asked : P → List Call → Type 0) → FollowsPorts happens asked →
+    a.has_failed ≡ false → Keeps asked a → (b.has_failed ≡ false → Keeps asked b) × (b.has_failed ≡ true → Has asked b.ports.now (EndBy IsFailedAccept))
+stopped_so a b happens p asked follows f h =
+    let before = led happens asked follows p.led.run a p.before p.led.onward p.led.leads f h in
+    stopped asked (Told Stop p.octets) b b.has_failed (follows p.before b (Told Stop p.octets) p.stops before.0 before.1)

@@ -25,7 +25,7 @@ IsLastRead (Err fault) = ⊤
 -- nothing comes of this call: it is no wait, no accept and no write that failed, no accept of a connection, and no read
 -- that is a connection's last or gave octets
 abbrev pub IsGood : Call → Type 0
-IsGood (Waited answer) = IsOk answer
+IsGood (Waited answer) = ⊥
 IsGood (Accepted answer) = answer ≡ Ok None
 IsGood (Read key piece answer) = answer ≡ Ok None
 IsGood (Wrote key octets answer) = IsOk answer

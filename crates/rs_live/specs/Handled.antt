@@ -1,5 +1,5 @@
 -- What comes of each call. What was done last stands first.
-use Rattle.std.specs.Prelude.{◌≡◌, ◌≢◌, ℕ, List, [], ◌∷◌, take, Bool, true, false, Option, Some, None, Result, Ok, Err, IsSome, ⊤}
+use Rattle.std.specs.Prelude.{◌≡◌, ◌≢◌, ℕ, List, [], ◌∷◌, take, drop, Bool, true, false, Option, Some, None, Result, Ok, Err, IsSome, ⊤}
 use Rattle.rs_core.specs.declared.links.Event.{Event}
 use Rattle.rs_core.specs.declared.links.Event.TheVariants.{Opened, Octets, Moment, Turn, Room, Lost, Rules, Stop}
 use Rattle.rs_core.specs.Links.{Step, Told, Begin, Busy, Offer, Memory, End, Replaced, octets_of}
@@ -7,18 +7,13 @@ use Rattle.rs_live.specs.declared.ports.Caller.{Caller}
 use Rattle.rs_live.specs.declared.serve.ServeFault.{ServeFault}
 use Rattle.rs_live.specs.declared.serve.ServeFault.TheVariants as faults
 use Rattle.rs_live.specs.declared.ports.Line.TheVariants as lines
-use Rattle.rs_live.specs.Calls.{Call, Accepted, Read, Closed, Timed, Said, IsGood, FindsLost, IsFailedWriteOf, IsFailedWait, IsFailedAccept}
-
-pub data Deed : Type 0 where
-  -- the ports were asked
-  Asked : (call : Call) → Deed
-  -- the core was told, or told the server
-  Did : (step : Step) → Deed
-
-abbrev pub calls : List Deed → List Call
-calls [] = []
-calls (Asked call ∷ deeds) = call ∷ calls deeds
-calls (Did step ∷ deeds) = calls deeds
+use Rattle.rs_live.specs.declared.link.Link.{Link}
+use Rattle.rs_live.specs.declared.link.Phase.{Phase}
+use Rattle.rs_live.specs.Calls.{Call, Waited, Accepted, Read, Closed, Timed, Said, IsGood, FindsLost, IsFailedWriteOf, IsFailedWait, IsFailedAccept}
+use Rattle.rs_live.specs.Deeds.{Deed, Asked, Did, calls}
+use Rattle.rs_live.specs.Keys.{come, key_of}
+use Rattle.rs_live.specs.Rounds.{IsSettled}
+use Rattle.rs_live.specs.Keeping.{Agrees, live_keys}
 
 -- by this step the core gets to know that the client's connection is lost
 abbrev pub IsLossOf : ℕ → Step → Type 0
@@ -41,41 +36,50 @@ IsOther (Lost c) = ⊥
 IsOther Rules = ⊤
 IsOther Stop = ⊤
 
--- by this step the core gets to know of no loss, and of nothing that the ports have just answered
+-- by this step the core gets to know of no loss, and of nothing that the ports have just answered, and it refuses nothing
 abbrev pub IsNoLoss : Step → Type 0
 IsNoLoss (Told event octets) = IsOther event
 IsNoLoss (Begin d) = ⊤
-IsNoLoss (Busy d) = ⊤
+IsNoLoss (Busy d) = ⊥
 IsNoLoss (Offer d octets answer) = IsSome answer
 IsNoLoss (Memory d) = ⊤
 IsNoLoss (End d) = ⊤
 IsNoLoss (Replaced answer) = ⊤
 
--- No wait and no accept failed. Where a read or a write of a connection did, and where a read found the end of its input,
--- a client's loss was told at once, the connection was closed, and the core was told; or, where a write failed, the connection
--- was closed at once, as is one whose session had ended before. All others went on. The core is told of no loss else but of a
--- connection that is closed. Each connection that was accepted was told to the core at once, or closed as a stranger's; what a
--- read gave was told at once, all of it; and a moment is what the clock answered just before. Nothing else is told as such.
+-- No wait and no accept failed, and each wait came where the round before might end. Where a read or a write of a client's
+-- connection did fail, and where a read found the end of its input, that client's loss was told at once, the connection was
+-- closed, and the core was told; or, where a write failed, the connection was closed at once, as is one whose session had ended
+-- before. All others went on. The core is told of no loss else but of a client whose connection is closed. Each connection that
+-- was accepted was told to the core at once, or closed as a stranger's; where the core refuses it as a client's second one, that
+-- was said and it was closed. What a read gave was told at once, all of it, of the client whose connection was read; and a
+-- moment is what the clock answered just before. Nothing else is told as such.
 pub data AreHandled : List Deed → Type 0 where
   Begun : AreHandled []
+  Waits : (deeds : List Deed) → IsSettled deeds → AreHandled deeds → AreHandled (Asked (Waited (Ok tt)) ∷ deeds)
   Asks : (call : Call) (deeds : List Deed) → IsGood call → AreHandled deeds → AreHandled (Asked call ∷ deeds)
   Does : (step : Step) (deeds : List Deed) → IsNoLoss step → AreHandled deeds → AreHandled (Did step ∷ deeds)
   Opens : (c : ℕ) (octets : List ℕ) (caller : Caller) (deeds : List Deed) → AreHandled deeds → AreHandled (Did (Told (Opened c) octets) ∷ Asked (Accepted (Ok (Some caller))) ∷ deeds)
   Refuses : (caller : Caller) (deeds : List Deed) → AreHandled deeds → AreHandled (Asked (Closed caller.key) ∷ Asked (Said lines.Stranger) ∷ Asked (Accepted (Ok (Some caller))) ∷ deeds)
-  Hears : (c key count : ℕ) (piece : List ℕ) (deeds : List Deed) → count ≢ 0 → AreHandled deeds → AreHandled (Did (Told (Octets c count) (take count piece)) ∷ Asked (Read key piece (Ok (Some count))) ∷ deeds)
+  TurnsAway : (c key : ℕ) (deeds : List Deed) → come c deeds ≡ Some key → AreHandled deeds → AreHandled (Did (Busy c) ∷ Asked (Closed key) ∷ Asked (Said (lines.Busy c)) ∷ deeds)
+  TurnsNoneAway : (c : ℕ) (deeds : List Deed) → come c deeds ≡ None → AreHandled deeds → AreHandled (Did (Busy c) ∷ deeds)
+  Hears : (c key count : ℕ) (piece : List ℕ) (deeds : List Deed) → key_of c deeds ≡ Some key → count ≢ 0 → AreHandled deeds → AreHandled (Did (Told (Octets c count) (take count piece)) ∷ Asked (Read key piece (Ok (Some count))) ∷ deeds)
   Times : (seconds : ℕ) (octets : List ℕ) (deeds : List Deed) → AreHandled deeds → AreHandled (Did (Told (Moment seconds) octets) ∷ Asked (Timed seconds) ∷ deeds)
-  Loses : (c key : ℕ) (step : Step) (deeds : List Deed) → IsLossOf c step → AreHandled deeds → AreHandled (Did step ∷ Asked (Closed key) ∷ Asked (Said (lines.Lost c)) ∷ deeds)
-  Fails : (c key : ℕ) (call : Call) (step : Step) (deeds : List Deed) → FindsLost key call → IsLossOf c step → AreHandled deeds → AreHandled (Did step ∷ Asked (Closed key) ∷ Asked (Said (lines.Lost c)) ∷ Asked call ∷ deeds)
+  Loses : (c key : ℕ) (step : Step) (deeds : List Deed) → key_of c deeds ≡ Some key → IsLossOf c step → AreHandled deeds → AreHandled (Did step ∷ Asked (Closed key) ∷ Asked (Said (lines.Lost c)) ∷ deeds)
+  Fails : (c key : ℕ) (call : Call) (step : Step) (deeds : List Deed) → key_of c deeds ≡ Some key → FindsLost key call → IsLossOf c step → AreHandled deeds → AreHandled (Did step ∷ Asked (Closed key) ∷ Asked (Said (lines.Lost c)) ∷ Asked call ∷ deeds)
   Drops : (key : ℕ) (call : Call) (deeds : List Deed) → IsFailedWriteOf key call → AreHandled deeds → AreHandled (Asked (Closed key) ∷ Asked call ∷ deeds)
 
 -- the last of these deeds is such a call, and all before are handled
 pub data EndBy (Is : Call → Type 0) : List Deed → Type 0 where
   By : (call : Call) (deeds : List Deed) → Is call → AreHandled deeds → EndBy Is (Asked call ∷ deeds)
 
+-- the last of these deeds is a wait that failed, where the round before might end
+abbrev pub EndByWait : List Deed → Type 0
+EndByWait deeds = EndBy IsFailedWait deeds × IsSettled (drop 1 deeds)
+
 -- what a server did that ended with this answer
 abbrev pub IsServed : Result (Unit {0}) ServeFault → List Deed → Type 0
-IsServed (Ok done) deeds = AreHandled deeds
-IsServed (Err faults.Poll) deeds = EndBy IsFailedWait deeds
+IsServed (Ok done) deeds = AreHandled deeds × IsSettled deeds
+IsServed (Err faults.Poll) deeds = EndByWait deeds
 IsServed (Err faults.Listener) deeds = EndBy IsFailedAccept deeds
 IsServed (Err faults.Memory) deeds = deeds ≡ []
 
@@ -85,20 +89,28 @@ pub record Has {P : Type 0} (asked : P → List Call → Type 0) (ports : P) (Is
   pub are : Is deeds
   pub were : asked ports (calls deeds)
 
--- the core is to be told the loss of this client
-abbrev pub AreLosing : ℕ → List Deed → Type 0
-AreLosing c deeds = (step : Step) → IsLossOf c step → AreHandled (Did step ∷ deeds)
+-- the deeds are handled, and what the link keeps agrees with them
+abbrev pub AreKept : List (Option ℕ) → Phase → List Deed → Type 0
+AreKept keys phase deeds = AreHandled deeds × Agrees keys phase deeds
+
+-- the last of these deeds is such a call, and what the link keeps agrees with them
+abbrev pub AreEndedBy : (Call → Type 0) → List (Option ℕ) → Phase → List Deed → Type 0
+AreEndedBy Is keys phase deeds = EndBy Is deeds × Agrees keys phase deeds
+
+-- so of a link
+abbrev pub Keeps : {P : Type 0} → (P → List Call → Type 0) → Link P → Type 0
+Keeps asked link = Has asked link.ports.now (AreKept (live_keys link.seats.now.items) link.phase)
 
 -- a step of the core's link was done; or it was the last, since an accept failed
-pub data Follows {P : Type 0} (asked : P → List Call → Type 0) (step : Step) (ports : P) : Bool → Type 0 where
-  On : Has asked ports (λ deeds. AreHandled (Did step ∷ deeds)) → Follows asked step ports false
-  Halts : (octets : List ℕ) → step ≡ Told Stop octets → Has asked ports (EndBy IsFailedAccept) → Follows asked step ports true
+pub data Follows {P : Type 0} (asked : P → List Call → Type 0) (step : Step) (link : Link P) : Bool → Type 0 where
+  On : Has asked link.ports.now (λ deeds. AreKept (live_keys link.seats.now.items) link.phase (Did step ∷ deeds)) → Follows asked step link false
+  Halts : (octets : List ℕ) → step ≡ Told Stop octets → Has asked link.ports.now (EndBy IsFailedAccept) → Follows asked step link true
 
 -- the core was told this event, or is about to be, with this in the piece
-abbrev pub Tells : {P : Type 0} → (P → List Call → Type 0) → Event → List ℕ → P → Bool → Type 0
-Tells asked event piece ports has_failed = (text : List ℕ) → Follows asked (Told event (octets_of event piece text)) ports has_failed
+abbrev pub Tells : {P : Type 0} → (P → List Call → Type 0) → Event → List ℕ → Link P → Type 0
+Tells asked event piece link = (text : List ℕ) → Follows asked (Told event (octets_of event piece text)) link link.has_failed
 
 -- it, or nothing, where no accept failed
-abbrev pub Answers : {P : Type 0} → (P → List Call → Type 0) → Option Event → List ℕ → P → Bool → Type 0
-Answers asked None piece ports has_failed = (has_failed ≡ false) × Has asked ports AreHandled
-Answers asked (Some event) piece ports has_failed = Tells asked event piece ports has_failed
+abbrev pub Answers : {P : Type 0} → (P → List Call → Type 0) → Option Event → List ℕ → Link P → Type 0
+Answers asked None piece link = (link.has_failed ≡ false) × Keeps asked link
+Answers asked (Some event) piece link = Tells asked event piece link

@@ -3,9 +3,10 @@
 //! for each connection. Turns so stay small: an outlet that was touched at more than 4,096 prefixes
 //! would decide its whole table.
 
-ghost use Rattle.std.specs.Prelude.{◌≡◌, ℕ, List, Some, Ok, false};
-ghost use Rattle.rs_live.specs.Calls.{Accepted};
-ghost use Rattle.rs_live.specs.Handled.{Has, AreHandled, EndBy, Follows, Answers};
+ghost use Rattle.std.specs.Prelude.{◌≡◌, ◌+◌, ◌<◌, ◌≤◌, ◌∷◌, ℕ, List, min, length, get_or, IfSome, IfErr, IsOk, IsNone, false};
+ghost use Rattle.rs_live.specs.Calls.{Call, Closed, Said, IsFailedWriteOf};
+ghost use Rattle.rs_live.specs.Handled.{Has, AreEndedBy, Keeps, Follows, Answers};
+ghost use Rattle.rs_live.specs.Keeping.{live_keys};
 
 use crate::link::{Link, Phase};
 use crate::ports::{Caller, Line, Ports};
@@ -30,16 +31,20 @@ const MUCH: usize = 4096;
 
 impl<'a, P: Ports> Link<'a, P> {
     /// The client whose connection this is.
-    fn client_of(&self, caller: &Caller) -> Option<usize> {
+    fn client_of(&self, caller: &Caller) -> Option<usize>
+        ensures { IfSome result (λ c. c < length (live_keys self.entry.now.seats.now.items)) }
+    {
         self.seats.iter().position(|seat| seat.listener == caller.listener
             && seat.peer == caller.address)
     }
 
-    /// Closes a connection that has just come and is nobody's.
+    /// Closes a connection that has come and is nobody's.
     fn refuse(&mut self, caller: &Caller)
         ensures same_ports { self.new.ports.ghost_name ≡ self.old.ports.ghost_name }
         ensures failed { self.new.has_failed ≡ self.old.has_failed }
-        ensures handled { Has P.asked self.old.ports.now (EndBy (λ call. call ≡ Accepted (Ok (Some caller.now)))) → Has P.asked self.new.ports.now AreHandled }
+        ensures keys { live_keys self.new.seats.now.items ≡ live_keys self.old.seats.now.items }
+        ensures phase { self.new.phase ≡ self.old.phase }
+        ensures asked { (calls : List Call) → P.asked self.old.ports.now calls → P.asked self.new.ports.now (Closed caller.now.key ∷ Said Line.Stranger ∷ calls) }
     {
         self.ports.say(&Line::Stranger);
         self.ports.close(caller.key);
@@ -50,7 +55,7 @@ impl<'a, P: Ports> Link<'a, P> {
     /// Accepts until a client's connection comes, none is left, or the round has accepted enough.
     fn accepted(&mut self) -> Option<Event>
         ensures same_ports { self.new.ports.ghost_name ≡ self.old.ports.ghost_name }
-        ensures told { self.old.has_failed ≡ false → Has P.asked self.old.ports.now AreHandled → (piece : List ℕ) → Answers P.asked result piece self.new.ports.now self.new.has_failed }
+        ensures told { self.old.phase ≡ Phase.Accept → self.old.has_failed ≡ false → Keeps P.asked self.old → (piece : List ℕ) → Answers P.asked result piece self.new }
     {
         for _ in self.accepted..ACCEPTED {
             match self.ports.accept() {
@@ -65,7 +70,7 @@ impl<'a, P: Ports> Link<'a, P> {
                 Ok(Some(caller)) => {
                     self.accepted = self.accepted.saturating_add(1);
                     if let Some(c) = self.client_of(&caller) {
-                        self.fresh = Some(caller);
+                        self.phase = Phase::Come(c, caller);
                         return Some(Event::Opened(c));
                     }
                     self.refuse(&caller);
@@ -81,10 +86,13 @@ impl<'a, P: Ports> Link<'a, P> {
     /// input the connection is lost, as where the read fails.
     fn piece(&mut self, piece: &mut [u8; 4096]) -> Option<Event>
         ensures same_ports { self.new.ports.ghost_name ≡ self.old.ports.ghost_name }
-        ensures told { self.old.has_failed ≡ false → Has P.asked self.old.ports.now AreHandled → Answers P.asked result piece.new self.new.ports.now self.new.has_failed }
+        ensures phase { self.new.phase ≡ self.old.phase }
+        ensures told { self.old.phase ≡ Phase.Read → self.old.has_failed ≡ false → Keeps P.asked self.old → Answers P.asked result piece.new self.new }
     {
         let c = self.reading;
-        let key = self.seats.get(c)?.live.key()?;
+        let Some(key) = self.live_key(c) else {
+            return None;
+        };
         if self.pieces >= PIECES {
             self.has_more = true;
             return None;
@@ -110,6 +118,8 @@ impl<'a, P: Ports> Link<'a, P> {
     fn heard(&mut self, count: usize)
         ensures same_ports { self.new.ports.ghost_name ≡ self.old.ports.ghost_name }
         ensures failed { self.new.has_failed ≡ self.old.has_failed }
+        ensures keys { live_keys self.new.seats.now.items ≡ live_keys self.old.seats.now.items }
+        ensures phase { self.new.phase ≡ self.old.phase }
         ensures unasked { self.new.ports.now ≡ self.old.ports.now }
     {
         self.pieces = self.pieces.saturating_add(1);
@@ -120,33 +130,29 @@ impl<'a, P: Ports> Link<'a, P> {
     /// Reads on, until enough was heard for a turn or nothing is left.
     fn read_on(&mut self, piece: &mut [u8; 4096]) -> Option<Event>
         ensures same_ports { self.new.ports.ghost_name ≡ self.old.ports.ghost_name }
-        ensures told { self.old.has_failed ≡ false → Has P.asked self.old.ports.now AreHandled → Answers P.asked result piece.new self.new.ports.now self.new.has_failed }
+        ensures told { self.old.phase ≡ Phase.Read → self.old.has_failed ≡ false → Keeps P.asked self.old → Answers P.asked result piece.new self.new }
     {
+        if self.pieces_heard < PIECES_A_TURN {
+            for _ in 0..self.seats.len() {
+                if self.reading >= self.seats.len() {
+                    break;
+                }
+                match self.piece(piece) {
+                    Some(event) => return Some(event),
+                    None => {
+                        self.reading = self.reading.saturating_add(1);
+                        self.pieces = 0;
+                    }
+                }
+            }
+        }
         self.phase = Phase::Moment;
-        if self.pieces_heard >= PIECES_A_TURN {
-            return None;
-        }
-        for _ in 0..self.seats.len() {
-            if self.reading >= self.seats.len() {
-                return None;
-            }
-            match self.piece(piece) {
-                Some(event) => {
-                    self.phase = Phase::Read;
-                    return Some(event);
-                }
-                None => {
-                    self.reading = self.reading.saturating_add(1);
-                    self.pieces = 0;
-                }
-            }
-        }
         None
     }
 
     fn moment(&mut self) -> Option<Event>
         ensures same_ports { self.new.ports.ghost_name ≡ self.old.ports.ghost_name }
-        ensures told { self.old.has_failed ≡ false → Has P.asked self.old.ports.now AreHandled → (piece : List ℕ) → Answers P.asked result piece self.new.ports.now self.new.has_failed }
+        ensures told { self.old.phase ≡ Phase.Moment → self.old.has_failed ≡ false → Keeps P.asked self.old → (piece : List ℕ) → Answers P.asked result piece self.new }
     {
         self.phase = Phase::Turn;
         self.now = self.ports.seconds();
@@ -156,7 +162,7 @@ impl<'a, P: Ports> Link<'a, P> {
     /// A turn; or a stop before it, where other workers are to do it.
     fn turn(&mut self) -> Option<Event>
         ensures same_ports { self.new.ports.ghost_name ≡ self.old.ports.ghost_name }
-        ensures told { self.old.has_failed ≡ false → Has P.asked self.old.ports.now AreHandled → (piece : List ℕ) → Answers P.asked result piece self.new.ports.now self.new.has_failed }
+        ensures told { self.old.phase ≡ Phase.Turn → self.old.has_failed ≡ false → Keeps P.asked self.old → (piece : List ℕ) → Answers P.asked result piece self.new }
     {
         let is_wide = self.octets_heard >= MUCH;
         if is_wide != self.is_wide {
@@ -169,19 +175,26 @@ impl<'a, P: Ports> Link<'a, P> {
         Some(Event::Turn)
     }
 
+    /// The next client from this one on that has a connection.
+    fn next_live(&self, from: usize) -> Option<usize>
+        ensures found { IfSome result (λ c. (from ≤ c) × ((d : ℕ) → from ≤ d → d < c → get_or (live_keys self.entry.now.seats.now.items) d None ≡ None)) }
+        ensures none { IsNone result → (d : ℕ) → from ≤ d → get_or (live_keys self.entry.now.seats.now.items) d None ≡ None }
+    {
+        for c in from..self.seats.len() {
+            if self.live_key(c).is_some() {
+                return Some(c);
+            }
+        }
+        None
+    }
+
     /// Gives room to the next connection from this client's on.
     fn room(&mut self, from: usize) -> Option<Event>
         ensures same_ports { self.new.ports.ghost_name ≡ self.old.ports.ghost_name }
-        ensures told { self.old.has_failed ≡ false → Has P.asked self.old.ports.now AreHandled → (piece : List ℕ) → Answers P.asked result piece self.new.ports.now self.new.has_failed }
+        ensures told { self.old.phase ≡ Phase.Room from → self.old.has_failed ≡ false → Keeps P.asked self.old → (piece : List ℕ) → Answers P.asked result piece self.new }
     {
-        let next = self
-            .seats
-            .iter()
-            .skip(from)
-            .position(|seat| seat.live.is_open());
-        match next {
-            Some(k) => {
-                let c = from.saturating_add(k);
+        match self.next_live(from) {
+            Some(c) => {
                 self.rooms = 0;
                 self.phase = Phase::Handed(c);
                 Some(Event::Room(c, u64::MAX))
@@ -198,33 +211,72 @@ impl<'a, P: Ports> Link<'a, P> {
         }
     }
 
+    /// Writes what a client's connection was handed, and answers whether it was full and no longer is;
+    /// where a write fails the error is the key.
+    fn write_on(&mut self, c: usize) -> Result<bool, usize>
+        ensures same_ports { self.new.ports.ghost_name ≡ self.old.ports.ghost_name }
+        ensures failed { self.new.has_failed ≡ self.old.has_failed }
+        ensures keys { live_keys self.new.seats.now.items ≡ live_keys self.old.seats.now.items }
+        ensures phase { self.new.phase ≡ self.old.phase }
+        ensures ok { IsOk result → Keeps P.asked self.old → Keeps P.asked self.new }
+        ensures whose { IfErr result (λ key. get_or (live_keys self.old.seats.now.items) c None ≡ Some key) }
+        ensures err { IfErr result (λ key. Keeps P.asked self.old → Has P.asked self.new.ports.now (AreEndedBy (IsFailedWriteOf key) (live_keys self.new.seats.now.items) self.new.phase)) }
+    {
+        let Some(seat) = self.seats.get_mut(c) else {
+            return Ok(false);
+        };
+        let was_full = seat.live.is_full();
+        match seat.live.write(self.ports, self.now) {
+            Ok(()) => Ok(was_full && seat.live.is_empty()),
+            Err(key) => Err(key),
+        }
+    }
+
+    /// The key of a client's connection whose octets have waited too long.
+    fn overdue(&self, c: usize) -> Option<usize>
+        ensures { IfSome result (λ key. get_or (live_keys self.entry.now.seats.now.items) c None ≡ Some key) }
+    {
+        let seat = self.seats.get(c)?;
+        if !seat.live.is_over(self.now) {
+            return None;
+        }
+        seat.live.key()
+    }
+
     /// Writes what a connection was handed; gives it room again where it was full and no longer is.
     fn handed(&mut self, c: usize) -> Option<Event>
         ensures same_ports { self.new.ports.ghost_name ≡ self.old.ports.ghost_name }
-        ensures told { self.old.has_failed ≡ false → Has P.asked self.old.ports.now AreHandled → (piece : List ℕ) → Answers P.asked result piece self.new.ports.now self.new.has_failed }
+        ensures told { self.old.phase ≡ Phase.Handed c → self.old.has_failed ≡ false → Keeps P.asked self.old → (piece : List ℕ) → Answers P.asked result piece self.new }
     {
         self.phase = Phase::Room(c.saturating_add(1));
-        let seat = self.seats.get_mut(c)?;
-        let key = seat.live.key()?;
-        let was_full = seat.live.is_full();
-        match seat.live.write(self.ports, self.now) {
+        match self.write_on(c) {
             Err(key) => {
                 self.lose(c, key);
-                return Some(Event::Lost(c));
+                Some(Event::Lost(c))
             }
-            Ok(()) if seat.live.is_over(self.now) => {
-                self.lose(c, key);
-                return Some(Event::Lost(c));
-            }
-            Ok(()) if was_full && seat.live.is_empty() => self.room_again(c),
-            Ok(()) => None,
+            Ok(is_free) => self.written(c, is_free),
         }
+    }
+
+    /// A client's connection was written; it is given room again where it was full and no longer is.
+    fn written(&mut self, c: usize, is_free: bool) -> Option<Event>
+        ensures same_ports { self.new.ports.ghost_name ≡ self.old.ports.ghost_name }
+        ensures told { self.old.phase ≡ Phase.Room (min (c + 1) usize.MAX) → self.old.has_failed ≡ false → Keeps P.asked self.old → (piece : List ℕ) → Answers P.asked result piece self.new }
+    {
+        if let Some(key) = self.overdue(c) {
+            self.lose(c, key);
+            return Some(Event::Lost(c));
+        }
+        if !is_free {
+            return None;
+        }
+        self.room_again(c)
     }
 
     /// Room for a connection once more, unless it had much behind this turn.
     fn room_again(&mut self, c: usize) -> Option<Event>
         ensures same_ports { self.new.ports.ghost_name ≡ self.old.ports.ghost_name }
-        ensures told { self.old.has_failed ≡ false → Has P.asked self.old.ports.now AreHandled → (piece : List ℕ) → Answers P.asked result piece self.new.ports.now self.new.has_failed }
+        ensures told { self.old.phase ≡ Phase.Room (min (c + 1) usize.MAX) → self.old.has_failed ≡ false → Keeps P.asked self.old → (piece : List ℕ) → Answers P.asked result piece self.new }
     {
         if self.rooms >= ROOMS {
             self.has_more = true;
@@ -239,7 +291,9 @@ impl<'a, P: Ports> Link<'a, P> {
     fn finish_closing(&mut self)
         ensures same_ports { self.new.ports.ghost_name ≡ self.old.ports.ghost_name }
         ensures failed { self.new.has_failed ≡ self.old.has_failed }
-        ensures handled { Has P.asked self.old.ports.now AreHandled → Has P.asked self.new.ports.now AreHandled }
+        ensures keys { live_keys self.new.seats.now.items ≡ live_keys self.old.seats.now.items }
+        ensures phase { self.new.phase ≡ self.old.phase }
+        ensures handled { Keeps P.asked self.old → Keeps P.asked self.new }
     {
         for c in 0..self.seats.len() {
             self.finish(c);
@@ -250,7 +304,9 @@ impl<'a, P: Ports> Link<'a, P> {
     fn finish(&mut self, c: usize)
         ensures same_ports { self.new.ports.ghost_name ≡ self.old.ports.ghost_name }
         ensures failed { self.new.has_failed ≡ self.old.has_failed }
-        ensures handled { Has P.asked self.old.ports.now AreHandled → Has P.asked self.new.ports.now AreHandled }
+        ensures keys { live_keys self.new.seats.now.items ≡ live_keys self.old.seats.now.items }
+        ensures phase { self.new.phase ≡ self.old.phase }
+        ensures handled { Keeps P.asked self.old → Keeps P.asked self.new }
     {
         if let Some(seat) = self.seats.get_mut(c) {
             seat.closing.finish(self.ports, self.now);
@@ -260,7 +316,7 @@ impl<'a, P: Ports> Link<'a, P> {
     /// What the round does next, and the event that comes of it.
     fn step(&mut self, piece: &mut [u8; 4096]) -> Option<Event>
         ensures same_ports { self.new.ports.ghost_name ≡ self.old.ports.ghost_name }
-        ensures told { self.old.has_failed ≡ false → Has P.asked self.old.ports.now AreHandled → Answers P.asked result piece.new self.new.ports.now self.new.has_failed }
+        ensures told { self.old.has_failed ≡ false → Keeps P.asked self.old → Answers P.asked result piece.new self.new }
     {
         match self.phase {
             Phase::Rules => {
@@ -268,6 +324,11 @@ impl<'a, P: Ports> Link<'a, P> {
                 Some(Event::Rules)
             }
             Phase::Accept => self.accepted(),
+            Phase::Come(_, caller) => {
+                self.refuse(&caller);
+                self.phase = Phase::Accept;
+                None
+            }
             Phase::Read => self.read_on(piece),
             Phase::Moment => self.moment(),
             Phase::Turn => self.turn(),
@@ -279,7 +340,7 @@ impl<'a, P: Ports> Link<'a, P> {
 }
 
 impl<'a, P: Ports> CoreLink for Link<'a, P> {
-    ghost happens = { λ old step new. (new.ports.ghost_name ≡ old.ports.ghost_name) × (old.has_failed ≡ false → Has P.asked old.ports.now AreHandled → Follows P.asked step new.ports.now new.has_failed) };
+    ghost happens = { λ old step new. (new.ports.ghost_name ≡ old.ports.ghost_name) × (old.has_failed ≡ false → Keeps P.asked old → Follows P.asked step new new.has_failed) };
 
     ghost text = { λ link. link.text.now.items };
 }

@@ -2,9 +2,10 @@
 //! what the core says goes to the ports (`orders`). Where a connection fails the core is told of its
 //! loss at once.
 
-ghost use Rattle.std.specs.Prelude.{◌≡◌, false, IsTrue, IsFalse};
-ghost use Rattle.rs_live.specs.Calls.{FindsLost, IsFailedWait};
-ghost use Rattle.rs_live.specs.Handled.{Has, AreHandled, AreLosing, EndBy};
+ghost use Rattle.std.specs.Prelude.{◌≡◌, ◌∷◌, false, List, set, get_or, None, IsTrue, IsFalse};
+ghost use Rattle.rs_live.specs.Calls.{Call, Closed, Said};
+ghost use Rattle.rs_live.specs.Handled.{Has, EndByWait, Keeps};
+ghost use Rattle.rs_live.specs.Keeping.{IsPlain, live_keys};
 
 use crate::ports::{Caller, Line, Ports};
 use crate::reports::Report;
@@ -18,6 +19,8 @@ pub(crate) enum Phase {
     /// Tells of the text of rules that was read.
     Rules,
     Accept,
+    /// A connection of this client has come, and the core is to answer.
+    Come(usize, Caller),
     Read,
     Moment,
     Turn,
@@ -33,7 +36,6 @@ pub(crate) enum Phase {
 pub struct Link<'a, P> {
     pub(crate) ports: &'a mut P,
     pub(crate) seats: &'a mut Vec<Seat>,
-    pub(crate) fresh: Option<Caller>,
     pub(crate) phase: Phase,
     /// How many connections the round has accepted.
     pub(crate) accepted: u32,
@@ -73,12 +75,13 @@ impl<'a, P: Ports> Link<'a, P> {
     ) -> Link<'a, P>
         ensures same_ports { result.ports.ghost_name ≡ ports.entry.ghost_name }
         ensures value { result.ports.now ≡ ports.old }
+        ensures seats { result.seats.now ≡ seats.old }
+        ensures phase { result.phase ≡ Phase.Over }
         ensures fine { result.has_failed ≡ false }
     {
         Link {
             ports,
             seats,
-            fresh: None,
             phase: Phase::Over,
             accepted: 0,
             reading: 0,
@@ -103,8 +106,9 @@ impl<'a, P: Ports> Link<'a, P> {
     pub fn begin_round(&mut self) -> bool
         ensures same_ports { self.new.ports.ghost_name ≡ self.old.ports.ghost_name }
         ensures failed { self.new.has_failed ≡ self.old.has_failed }
-        ensures ready { IsTrue result → Has P.asked self.old.ports.now AreHandled → Has P.asked self.new.ports.now AreHandled }
-        ensures broken { IsFalse result → Has P.asked self.old.ports.now AreHandled → Has P.asked self.new.ports.now (EndBy IsFailedWait) }
+        ensures phase { self.new.phase ≡ Phase.Accept }
+        ensures ready { IsTrue result → self.old.phase ≡ Phase.Over → Keeps P.asked self.old → Keeps P.asked self.new }
+        ensures broken { IsFalse result → self.old.phase ≡ Phase.Over → Keeps P.asked self.old → Has P.asked self.new.ports.now EndByWait }
     {
         self.phase = Phase::Accept;
         self.accepted = 0;
@@ -122,7 +126,7 @@ impl<'a, P: Ports> Link<'a, P> {
     pub fn read_rules(&mut self)
         ensures same_ports { self.new.ports.ghost_name ≡ self.old.ports.ghost_name }
         ensures failed { self.new.has_failed ≡ self.old.has_failed }
-        ensures handled { Has P.asked self.old.ports.now AreHandled → Has P.asked self.new.ports.now AreHandled }
+        ensures handled { self.old.phase ≡ Phase.Accept → Keeps P.asked self.old → Keeps P.asked self.new }
     {
         if !self.fetch() {
             if !mem::replace(&mut self.is_unreadable, true) {
@@ -143,7 +147,9 @@ impl<'a, P: Ports> Link<'a, P> {
     fn fetch(&mut self) -> bool
         ensures same_ports { self.new.ports.ghost_name ≡ self.old.ports.ghost_name }
         ensures failed { self.new.has_failed ≡ self.old.has_failed }
-        ensures handled { Has P.asked self.old.ports.now AreHandled → Has P.asked self.new.ports.now AreHandled }
+        ensures keys { live_keys self.new.seats.now.items ≡ live_keys self.old.seats.now.items }
+        ensures phase { self.new.phase ≡ self.old.phase }
+        ensures handled { Keeps P.asked self.old → Keeps P.asked self.new }
     {
         self.ports.text(self.read).is_ok()
     }
@@ -152,15 +158,19 @@ impl<'a, P: Ports> Link<'a, P> {
     pub(crate) fn say_rules(&mut self, answer: Result<(), RulesFault>)
         ensures same_ports { self.new.ports.ghost_name ≡ self.old.ports.ghost_name }
         ensures failed { self.new.has_failed ≡ self.old.has_failed }
-        ensures handled { Has P.asked self.old.ports.now AreHandled → Has P.asked self.new.ports.now AreHandled }
+        ensures keys { live_keys self.new.seats.now.items ≡ live_keys self.old.seats.now.items }
+        ensures phase { self.new.phase ≡ self.old.phase }
+        ensures handled { Keeps P.asked self.old → Keeps P.asked self.new }
     {
         self.say(Line::Rules(answer));
         self.log(&Report::Rules(answer));
     }
 
     /// The round is over.
-    pub fn is_over(&self) -> bool {
-        self.phase == Phase::Over
+    pub fn is_over(&self) -> bool
+        ensures { IsTrue result → self.entry.now.phase ≡ Phase.Over }
+    {
+        matches!(self.phase, Phase::Over)
     }
 
     /// The turn that comes next is one for all workers.
@@ -189,6 +199,8 @@ impl<'a, P: Ports> Link<'a, P> {
     pub fn take_strangers(&mut self) -> Option<(u32, u64)>
         ensures same_ports { self.new.ports.ghost_name ≡ self.old.ports.ghost_name }
         ensures failed { self.new.has_failed ≡ self.old.has_failed }
+        ensures keys { live_keys self.new.seats.now.items ≡ live_keys self.old.seats.now.items }
+        ensures phase { self.new.phase ≡ self.old.phase }
         ensures unasked { self.new.ports.now ≡ self.old.ports.now }
     {
         self.strangers.take()
@@ -198,6 +210,8 @@ impl<'a, P: Ports> Link<'a, P> {
     pub fn take_ended(&mut self, c: usize) -> bool
         ensures same_ports { self.new.ports.ghost_name ≡ self.old.ports.ghost_name }
         ensures failed { self.new.has_failed ≡ self.old.has_failed }
+        ensures keys { live_keys self.new.seats.now.items ≡ live_keys self.old.seats.now.items }
+        ensures phase { self.new.phase ≡ self.old.phase }
         ensures unasked { self.new.ports.now ≡ self.old.ports.now }
     {
         match self.seats.get_mut(c) {
@@ -215,7 +229,9 @@ impl<'a, P: Ports> Link<'a, P> {
     pub fn log(&mut self, report: &Report)
         ensures same_ports { self.new.ports.ghost_name ≡ self.old.ports.ghost_name }
         ensures failed { self.new.has_failed ≡ self.old.has_failed }
-        ensures handled { Has P.asked self.old.ports.now AreHandled → Has P.asked self.new.ports.now AreHandled }
+        ensures keys { live_keys self.new.seats.now.items ≡ live_keys self.old.seats.now.items }
+        ensures phase { self.new.phase ≡ self.old.phase }
+        ensures handled { Keeps P.asked self.old → Keeps P.asked self.new }
     {
         self.ports.log(report);
     }
@@ -224,7 +240,10 @@ impl<'a, P: Ports> Link<'a, P> {
     pub(crate) fn say(&mut self, line: Line)
         ensures same_ports { self.new.ports.ghost_name ≡ self.old.ports.ghost_name }
         ensures failed { self.new.has_failed ≡ self.old.has_failed }
-        ensures handled { Has P.asked self.old.ports.now AreHandled → Has P.asked self.new.ports.now AreHandled }
+        ensures keys { live_keys self.new.seats.now.items ≡ live_keys self.old.seats.now.items }
+        ensures phase { self.new.phase ≡ self.old.phase }
+        ensures asked { (calls : List Call) → P.asked self.old.ports.now calls → P.asked self.new.ports.now (Said line ∷ calls) }
+        ensures handled { IsPlain (Said line) → Keeps P.asked self.old → Keeps P.asked self.new }
     {
         self.ports.say(&line);
     }
@@ -233,6 +252,8 @@ impl<'a, P: Ports> Link<'a, P> {
     pub(crate) fn note_end(&mut self, c: usize)
         ensures same_ports { self.new.ports.ghost_name ≡ self.old.ports.ghost_name }
         ensures failed { self.new.has_failed ≡ self.old.has_failed }
+        ensures keys { live_keys self.new.seats.now.items ≡ live_keys self.old.seats.now.items }
+        ensures phase { self.new.phase ≡ self.old.phase }
         ensures unasked { self.new.ports.now ≡ self.old.ports.now }
     {
         self.ended = self.ended.saturating_add(1);
@@ -246,8 +267,9 @@ impl<'a, P: Ports> Link<'a, P> {
     pub(crate) fn lose(&mut self, c: usize, key: usize)
         ensures same_ports { self.new.ports.ghost_name ≡ self.old.ports.ghost_name }
         ensures failed { self.new.has_failed ≡ self.old.has_failed }
-        ensures lost { Has P.asked self.old.ports.now AreHandled → Has P.asked self.new.ports.now (AreLosing c) }
-        ensures found { Has P.asked self.old.ports.now (EndBy (FindsLost key)) → Has P.asked self.new.ports.now (AreLosing c) }
+        ensures keys { live_keys self.new.seats.now.items ≡ set (live_keys self.old.seats.now.items) c None }
+        ensures phase { self.new.phase ≡ self.old.phase }
+        ensures asked { (calls : List Call) → P.asked self.old.ports.now calls → P.asked self.new.ports.now (Closed key ∷ Said (Line.Lost c) ∷ calls) }
     {
         self.ports.say(&Line::Lost(c));
         self.ports.close(key);
@@ -255,10 +277,19 @@ impl<'a, P: Ports> Link<'a, P> {
         self.note_end(c);
     }
 
+    /// The key of a client's connection.
+    pub(crate) fn live_key(&self, c: usize) -> Option<usize>
+        ensures { result ≡ get_or (live_keys self.entry.now.seats.now.items) c None }
+    {
+        self.seats.get(c)?.live.key()
+    }
+
     /// Forgets the connection of a client.
     fn forget(&mut self, c: usize)
         ensures same_ports { self.new.ports.ghost_name ≡ self.old.ports.ghost_name }
         ensures failed { self.new.has_failed ≡ self.old.has_failed }
+        ensures keys { live_keys self.new.seats.now.items ≡ set (live_keys self.old.seats.now.items) c None }
+        ensures phase { self.new.phase ≡ self.old.phase }
         ensures unasked { self.new.ports.now ≡ self.old.ports.now }
     {
         if let Some(seat) = self.seats.get_mut(c) {

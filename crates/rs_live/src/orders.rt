@@ -1,38 +1,47 @@
 //! What the core says, as calls on the ports.
 
-ghost use Rattle.std.specs.Prelude.{◌≡◌, ◌≤◌, length, IfOk, IfErr, IsOk};
+ghost use Rattle.std.specs.Prelude.{◌≡◌, ◌≤◌, ℕ, List, Option, length, get_or, set, None, IfOk, IfErr, IsOk, IsSome, IsNone};
 ghost use Rattle.rs_live.specs.Calls.{IsFailedWriteOf};
-ghost use Rattle.rs_live.specs.Handled.{Has, AreHandled, EndBy};
+ghost use Rattle.rs_live.specs.Handled.{Has, AreEndedBy, AreKept, Keeps};
+ghost use Rattle.rs_live.specs.Keeping.{key_come, live_keys};
 
-use crate::link::Link;
+use crate::link::{Link, Phase};
 use crate::ports::{Line, Ports};
 use rs_core::Sink;
 use rs_policy::RulesFault;
-use std::mem;
 
 impl<'a, P: Ports> Link<'a, P> {
-    /// The connection that has come is the client's; one that is being closed still is closed now.
-    fn take_on(&mut self, c: usize)
+    /// The key of the connection of this client that has come, to which the core answers now.
+    fn take_come(&mut self, c: usize) -> Option<usize>
         ensures same_ports { self.new.ports.ghost_name ≡ self.old.ports.ghost_name }
         ensures failed { self.new.has_failed ≡ self.old.has_failed }
-        ensures handled { Has P.asked self.old.ports.now AreHandled → Has P.asked self.new.ports.now AreHandled }
+        ensures unasked { self.new.ports.now ≡ self.old.ports.now }
+        ensures keys { live_keys self.new.seats.now.items ≡ live_keys self.old.seats.now.items }
+        ensures come { result ≡ key_come c self.old.phase }
+        ensures answered { IsSome result → self.new.phase ≡ Phase.Accept }
+        ensures same { IsNone result → self.new.phase ≡ self.old.phase }
     {
-        if let Some(caller) = self.fresh.take()
-            && let Some(seat) = self.seats.get_mut(c)
-        {
-            seat.closing.close(self.ports);
-            seat.live.begin(caller.key);
+        let Phase::Come(d, caller) = self.phase else {
+            return None;
+        };
+        if c != d {
+            return None;
         }
+        self.phase = Phase::Accept;
+        Some(caller.key)
     }
 
-    /// Closes the connection that has come.
-    fn turn_away(&mut self)
+    /// The connection with this key is the client's; one that is being closed still is closed now.
+    fn take_on(&mut self, c: usize, key: usize)
         ensures same_ports { self.new.ports.ghost_name ≡ self.old.ports.ghost_name }
         ensures failed { self.new.has_failed ≡ self.old.has_failed }
-        ensures handled { Has P.asked self.old.ports.now AreHandled → Has P.asked self.new.ports.now AreHandled }
+        ensures keys { live_keys self.new.seats.now.items ≡ set (live_keys self.old.seats.now.items) c (Some key) }
+        ensures phase { self.new.phase ≡ self.old.phase }
+        ensures handled { (keys : List (Option ℕ)) (phase : Phase) → Has P.asked self.old.ports.now (AreKept keys phase) → Has P.asked self.new.ports.now (AreKept keys phase) }
     {
-        if let Some(caller) = self.fresh.take() {
-            self.ports.close(caller.key);
+        if let Some(seat) = self.seats.get_mut(c) {
+            seat.closing.close(self.ports);
+            seat.live.begin(key);
         }
     }
 
@@ -42,8 +51,11 @@ impl<'a, P: Ports> Link<'a, P> {
         ensures same_ports { self.new.ports.ghost_name ≡ self.old.ports.ghost_name }
         ensures failed { self.new.has_failed ≡ self.old.has_failed }
         ensures count { IfOk result (λ n. n ≤ length octets.now) }
-        ensures ok { IsOk result → Has P.asked self.old.ports.now AreHandled → Has P.asked self.new.ports.now AreHandled }
-        ensures err { IfErr result (λ key. Has P.asked self.old.ports.now AreHandled → Has P.asked self.new.ports.now (EndBy (IsFailedWriteOf key))) }
+        ensures keys { live_keys self.new.seats.now.items ≡ live_keys self.old.seats.now.items }
+        ensures phase { self.new.phase ≡ self.old.phase }
+        ensures ok { IsOk result → Keeps P.asked self.old → Keeps P.asked self.new }
+        ensures whose { IfErr result (λ key. get_or (live_keys self.old.seats.now.items) c None ≡ Some key) }
+        ensures err { IfErr result (λ key. Keeps P.asked self.old → Has P.asked self.new.ports.now (AreEndedBy (IsFailedWriteOf key) (live_keys self.new.seats.now.items) self.new.phase)) }
     {
         match self.seats.get_mut(c) {
             Some(seat) if seat.live.is_open() => seat.live.offer(self.ports, octets, self.now),
@@ -56,27 +68,25 @@ impl<'a, P: Ports> Link<'a, P> {
     fn retire(&mut self, c: usize)
         ensures same_ports { self.new.ports.ghost_name ≡ self.old.ports.ghost_name }
         ensures failed { self.new.has_failed ≡ self.old.has_failed }
-        ensures handled { Has P.asked self.old.ports.now AreHandled → Has P.asked self.new.ports.now AreHandled }
+        ensures keys { live_keys self.new.seats.now.items ≡ set (live_keys self.old.seats.now.items) c None }
+        ensures phase { self.new.phase ≡ self.old.phase }
+        ensures handled { (keys : List (Option ℕ)) (phase : Phase) → Has P.asked self.old.ports.now (AreKept keys phase) → Has P.asked self.new.ports.now (AreKept keys phase) }
     {
         if let Some(seat) = self.seats.get_mut(c) {
             seat.closing.close(self.ports);
-            mem::swap(&mut seat.live, &mut seat.closing);
-            seat.closing.close_from(self.now);
+            seat.retire(self.now);
         }
-    }
-
-    /// There is a connection of the client.
-    fn has_live(&self, c: usize) -> bool {
-        self.seats.get(c).is_some_and(|seat| seat.live.is_open())
     }
 
     /// The session of a client has ended: its connection, if there is one, is to be closed.
     fn end_session(&mut self, c: usize)
         ensures same_ports { self.new.ports.ghost_name ≡ self.old.ports.ghost_name }
         ensures failed { self.new.has_failed ≡ self.old.has_failed }
-        ensures handled { Has P.asked self.old.ports.now AreHandled → Has P.asked self.new.ports.now AreHandled }
+        ensures keys { live_keys self.new.seats.now.items ≡ set (live_keys self.old.seats.now.items) c None }
+        ensures phase { self.new.phase ≡ self.old.phase }
+        ensures handled { (keys : List (Option ℕ)) (phase : Phase) → Has P.asked self.old.ports.now (AreKept keys phase) → Has P.asked self.new.ports.now (AreKept keys phase) }
     {
-        if self.has_live(c) {
+        if self.live_key(c).is_some() {
             self.note_end(c);
             self.retire(c);
         }
@@ -86,12 +96,16 @@ impl<'a, P: Ports> Link<'a, P> {
 impl<'a, P: Ports> Sink for Link<'a, P> {
     fn begin(&mut self, c: usize) {
         self.say(Line::Begin(c));
-        self.take_on(c);
+        if let Some(key) = self.take_come(c) {
+            self.take_on(c, key);
+        }
     }
 
     fn busy(&mut self, c: usize) {
         self.say(Line::Busy(c));
-        self.turn_away();
+        if let Some(key) = self.take_come(c) {
+            self.ports.close(key);
+        }
     }
 
     fn offer(&mut self, c: usize, octets: &[u8]) -> Option<usize> {

@@ -1,15 +1,18 @@
 //! A place for each client: where its connection comes from, the one that it has, and an earlier one
 //! that the server is closing.
 
-ghost use Rattle.std.specs.Prelude.{◌≡◌, ◌≤◌, ◌++◌, List, [], length, take, drop, None, Some, IfOk, IfErr, IsOk, IsErr};
+ghost use Rattle.std.specs.Prelude.{◌≡◌, ◌≤◌, ◌++◌, ◌↔◌, ℕ, List, [], length, take, drop, get_or, Option, IfOk, IfErr, IsOk, IsErr, IsSome, IsTrue};
 ghost use Rattle.rs_live.specs.Calls.{Call, IsFailedWriteOf};
-ghost use Rattle.rs_live.specs.Handled.{Has, AreHandled, EndBy};
+ghost use Rattle.rs_live.specs.declared.link.Phase.{Phase};
+ghost use Rattle.rs_live.specs.Handled.{Has, AreEndedBy, AreHandled, AreKept, EndBy};
+ghost use Rattle.rs_live.specs.Keeping.{live_keys};
 ghost use Rattle.rs_live.specs.Sending.{Sent};
 
 use crate::outbox::Outbox;
 use crate::ports::Ports;
 use rs_policy::Config;
 use std::alloc::{AllocError, Global};
+use std::mem;
 
 /// For how many seconds octets may wait before a connection counts as lost, where its socket takes
 /// none of them: the send hold timer (RFC 9687).
@@ -30,7 +33,9 @@ pub struct Connection {
 }
 
 impl Connection {
-    fn new(alloc: Global) -> Result<Connection, AllocError> {
+    fn new(alloc: Global) -> Result<Connection, AllocError>
+        ensures { IfOk result (λ it. it.key ≡ None) }
+    {
         Ok(Connection {
             key: None,
             out: Outbox::new(alloc)?,
@@ -49,12 +54,16 @@ impl Connection {
         self.is_closing = false;
     }
 
-    pub fn key(&self) -> Option<usize> {
+    pub fn key(&self) -> Option<usize>
+        ensures { result ≡ self.now.key }
+    {
         self.key
     }
 
     /// There is a connection.
-    pub fn is_open(&self) -> bool {
+    pub fn is_open(&self) -> bool
+        ensures { IsTrue result ↔ IsSome self.now.key }
+    {
         self.key.is_some()
     }
 
@@ -69,7 +78,9 @@ impl Connection {
     }
 
     /// It is to be closed once nothing waits.
-    pub fn close_from(&mut self, now: u64) {
+    pub fn close_from(&mut self, now: u64)
+        ensures { self.new.key ≡ self.old.key }
+    {
         self.since = now;
         self.is_closing = true;
     }
@@ -99,6 +110,9 @@ impl Connection {
         ensures refused { IsErr result → (calls : List Call) → P.asked ports.old calls → Sent P.asked self.old.key calls self.old.out ports.new (λ waiting. self.new.out ≡ waiting) }
         ensures ok { IsOk result → Has P.asked ports.old AreHandled → Has P.asked ports.new AreHandled }
         ensures err { IfErr result (λ key. Has P.asked ports.old AreHandled → Has P.asked ports.new (EndBy (IsFailedWriteOf key))) }
+        ensures kept { IsOk result → (keys : List (Option ℕ)) (phase : Phase) → Has P.asked ports.old (AreKept keys phase) → Has P.asked ports.new (AreKept keys phase) }
+        ensures whose { IfErr result (λ key. self.old.key ≡ Some key) }
+        ensures broken { IfErr result (λ key. (keys : List (Option ℕ)) (phase : Phase) → Has P.asked ports.old (AreKept keys phase) → Has P.asked ports.new (AreEndedBy (IsFailedWriteOf key) keys phase)) }
     {
         self.make_room(ports, now)?;
         if self.out.is_empty() {
@@ -113,6 +127,9 @@ impl Connection {
         ensures sent { (calls : List Call) → P.asked ports.old calls → Sent P.asked self.old.key calls self.old.out ports.new (λ waiting. self.new.out ≡ waiting) }
         ensures ok { IsOk result → Has P.asked ports.old AreHandled → Has P.asked ports.new AreHandled }
         ensures err { IfErr result (λ key. Has P.asked ports.old AreHandled → Has P.asked ports.new (EndBy (IsFailedWriteOf key))) }
+        ensures kept { IsOk result → (keys : List (Option ℕ)) (phase : Phase) → Has P.asked ports.old (AreKept keys phase) → Has P.asked ports.new (AreKept keys phase) }
+        ensures whose { IfErr result (λ key. self.old.key ≡ Some key) }
+        ensures broken { IfErr result (λ key. (keys : List (Option ℕ)) (phase : Phase) → Has P.asked ports.old (AreKept keys phase) → Has P.asked ports.new (AreEndedBy (IsFailedWriteOf key) keys phase)) }
     {
         if !self.out.is_full() {
             return Ok(());
@@ -128,6 +145,9 @@ impl Connection {
         ensures sent { (calls : List Call) → P.asked ports.old calls → Sent P.asked self.old.key calls self.old.out ports.new (λ waiting. self.new.out ≡ waiting) }
         ensures ok { IsOk result → Has P.asked ports.old AreHandled → Has P.asked ports.new AreHandled }
         ensures err { IfErr result (λ key. Has P.asked ports.old AreHandled → Has P.asked ports.new (EndBy (IsFailedWriteOf key))) }
+        ensures kept { IsOk result → (keys : List (Option ℕ)) (phase : Phase) → Has P.asked ports.old (AreKept keys phase) → Has P.asked ports.new (AreKept keys phase) }
+        ensures whose { IfErr result (λ key. self.old.key ≡ Some key) }
+        ensures broken { IfErr result (λ key. (keys : List (Option ℕ)) (phase : Phase) → Has P.asked ports.old (AreKept keys phase) → Has P.asked ports.new (AreEndedBy (IsFailedWriteOf key) keys phase)) }
     {
         let Some(key) = self.key else {
             return Ok(());
@@ -157,14 +177,19 @@ impl Connection {
     }
 
     /// Forgets the connection, and answers its key, if there is one.
-    pub fn forget(&mut self) -> Option<usize> {
+    pub fn forget(&mut self) -> Option<usize>
+        ensures was { result ≡ self.old.key }
+        ensures now { self.new.key ≡ None }
+    {
         self.out.clear();
         self.key.take()
     }
 
     /// Closes the connection, if there is one.
     pub fn close<P: Ports>(&mut self, ports: &mut P)
-        ensures { Has P.asked ports.old AreHandled → Has P.asked ports.new AreHandled }
+        ensures key { self.new.key ≡ None }
+        ensures handled { Has P.asked ports.old AreHandled → Has P.asked ports.new AreHandled }
+        ensures kept { (keys : List (Option ℕ)) (phase : Phase) → Has P.asked ports.old (AreKept keys phase) → Has P.asked ports.new (AreKept keys phase) }
     {
         if let Some(key) = self.forget() {
             ports.close(key);
@@ -174,7 +199,8 @@ impl Connection {
     /// Goes on with a connection that is being closed: what waits is written, and it is closed where
     /// nothing waits any more, where its time is up, and where a write fails.
     pub fn finish<P: Ports>(&mut self, ports: &mut P, now: u64)
-        ensures { Has P.asked ports.old AreHandled → Has P.asked ports.new AreHandled }
+        ensures handled { Has P.asked ports.old AreHandled → Has P.asked ports.new AreHandled }
+        ensures kept { (keys : List (Option ℕ)) (phase : Phase) → Has P.asked ports.old (AreKept keys phase) → Has P.asked ports.new (AreKept keys phase) }
     {
         match self.write(ports, now) {
             Err(key) => {
@@ -200,6 +226,17 @@ pub struct Seat {
     pub has_ended: bool,
 }
 
+impl Seat {
+    /// The connection, if there is one, is to be closed: it goes where one that is being closed has its
+    /// place.
+    pub(crate) fn retire(&mut self, now: u64)
+        ensures { self.new.live.key ≡ self.old.closing.key }
+    {
+        mem::swap(&mut self.live, &mut self.closing);
+        self.closing.close_from(now);
+    }
+}
+
 /// The distinct `listen` addresses, in the order of the configuration.
 pub fn listeners(alloc: Global, config: &Config) -> Result<Vec<(u32, u16)>, AllocError> {
     let mut all = Vec::new(alloc);
@@ -213,7 +250,9 @@ pub fn listeners(alloc: Global, config: &Config) -> Result<Vec<(u32, u16)>, Allo
 }
 
 /// A place for each client of the configuration.
-pub fn seats(alloc: Global, config: &Config) -> Result<Vec<Seat>, AllocError> {
+pub fn seats(alloc: Global, config: &Config) -> Result<Vec<Seat>, AllocError>
+    ensures { IfOk result (λ all. (c : ℕ) → get_or (live_keys all.items) c None ≡ None) }
+{
     let listeners = listeners(alloc, config)?;
     let mut all = Vec::with_capacity(alloc, config.clients())?;
     for c in 0..config.clients() {

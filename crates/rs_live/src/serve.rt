@@ -2,9 +2,9 @@
 
 ghost use Rattle.std.specs.Prelude.{◌≡◌, ◌≤◌, ◌<◌, [], false, true, IsOk, IsErr, IsSome, IsTrue};
 ghost use Rattle.rs_live.specs.Calls.{IsFailedAccept};
-ghost use Rattle.rs_live.specs.Handled.{Has, AreHandled, EndBy, IsServed};
+ghost use Rattle.rs_live.specs.Handled.{Has, EndBy, IsServed, Keeps};
 
-use crate::link::Link;
+use crate::link::{Link, Phase};
 use crate::ports::Ports;
 use crate::seats::seats;
 use crate::watch::Watch;
@@ -83,7 +83,7 @@ fn serve_on<R: Threads + Wait + Sync, P: Ports>(
 ) -> Result<(), ServeFault>
     requires workers { (0 < limits.workers) × (limits.workers ≤ 16) }
     ensures same_ports { link.new.ports.ghost_name ≡ link.old.ports.ghost_name }
-    ensures served { link.old.has_failed ≡ false → Has P.asked link.old.ports.now AreHandled → Has P.asked link.new.ports.now (IsServed result) }
+    ensures served { link.old.phase ≡ Phase.Over → link.old.has_failed ≡ false → Keeps P.asked link.old → Has P.asked link.new.ports.now (IsServed result) }
     ensures ended { IsOk result → IsSome limits.sessions }
 {
     let mut rounds = 0;
@@ -108,7 +108,7 @@ fn serve_on<R: Threads + Wait + Sync, P: Ports>(
 fn reload<P: Ports>(rounds: u16, every: Option<u16>, link: &mut Link<'_, P>) -> u16
     ensures same_ports { link.new.ports.ghost_name ≡ link.old.ports.ghost_name }
     ensures failed { link.new.has_failed ≡ link.old.has_failed }
-    ensures handled { Has P.asked link.old.ports.now AreHandled → Has P.asked link.new.ports.now AreHandled }
+    ensures handled { link.old.phase ≡ Phase.Accept → Keeps P.asked link.old → Keeps P.asked link.new }
 {
     let next = next_round(rounds, every);
     if next == 0 {
@@ -136,8 +136,9 @@ fn play_round<R: Threads + Wait + Sync, P: Ports>(
 ) -> Result<(), ServeFault>
     requires workers { (0 < workers) × (workers ≤ 16) }
     ensures same_ports { link.new.ports.ghost_name ≡ link.old.ports.ghost_name }
-    ensures ok { IsOk result → link.old.has_failed ≡ false → Has P.asked link.old.ports.now AreHandled → (link.new.has_failed ≡ false) × Has P.asked link.new.ports.now AreHandled }
-    ensures err { IsErr result → link.old.has_failed ≡ false → Has P.asked link.old.ports.now AreHandled → Has P.asked link.new.ports.now (EndBy IsFailedAccept) }
+    ensures over { IsOk result → link.new.phase ≡ Phase.Over }
+    ensures ok { IsOk result → link.old.has_failed ≡ false → Keeps P.asked link.old → (link.new.has_failed ≡ false) × Keeps P.asked link.new }
+    ensures err { IsErr result → link.old.has_failed ≡ false → Keeps P.asked link.old → Has P.asked link.new.ports.now (EndBy IsFailedAccept) }
 {
     for _ in rt.forever() {
         drive_on(rt, workers, core, link);
@@ -160,8 +161,8 @@ fn drive_on<R: Threads + Wait + Sync, P: Ports>(
 )
     requires workers { (0 < workers) × (workers ≤ 16) }
     ensures same_ports { link.new.ports.ghost_name ≡ link.old.ports.ghost_name }
-    ensures handled { link.old.has_failed ≡ false → Has P.asked link.old.ports.now AreHandled → link.new.has_failed ≡ false → Has P.asked link.new.ports.now AreHandled }
-    ensures halted { link.old.has_failed ≡ false → Has P.asked link.old.ports.now AreHandled → link.new.has_failed ≡ true → Has P.asked link.new.ports.now (EndBy IsFailedAccept) }
+    ensures handled { link.old.has_failed ≡ false → Keeps P.asked link.old → link.new.has_failed ≡ false → Keeps P.asked link.new }
+    ensures halted { link.old.has_failed ≡ false → Keeps P.asked link.old → link.new.has_failed ≡ true → Has P.asked link.new.ports.now (EndBy IsFailedAccept) }
 {
     if link.is_wide() {
         drive_with(rt, workers, &Free, core, link);

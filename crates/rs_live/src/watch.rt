@@ -2,7 +2,7 @@
 //! second, so that no member can fill a disk.
 
 ghost use Rattle.std.specs.Prelude.{◌≡◌};
-ghost use Rattle.rs_live.specs.Handled.{Has, AreHandled};
+ghost use Rattle.rs_live.specs.Handled.{Keeps};
 
 use crate::link::Link;
 use crate::ports::Ports;
@@ -55,7 +55,8 @@ fn down(core: &Core, client: usize) -> Report {
 fn tell_left_out<P: Ports>(link: &mut Link<'_, P>, client: usize, count: u64)
     ensures same_ports { link.new.ports.ghost_name ≡ link.old.ports.ghost_name }
     ensures failed { link.new.has_failed ≡ link.old.has_failed }
-    ensures handled { Has P.asked link.old.ports.now AreHandled → Has P.asked link.new.ports.now AreHandled }
+    ensures phase { link.new.phase ≡ link.old.phase }
+    ensures handled { Keeps P.asked link.old → Keeps P.asked link.new }
 {
     if count > 0 {
         link.log(&Report::LeftOut { client, count });
@@ -67,7 +68,8 @@ impl Told {
     fn tell<P: Ports>(&mut self, link: &mut Link<'_, P>, client: usize, report: &Report)
         ensures same_ports { link.new.ports.ghost_name ≡ link.old.ports.ghost_name }
         ensures failed { link.new.has_failed ≡ link.old.has_failed }
-        ensures handled { Has P.asked link.old.ports.now AreHandled → Has P.asked link.new.ports.now AreHandled }
+        ensures phase { link.new.phase ≡ link.old.phase }
+        ensures handled { Keeps P.asked link.old → Keeps P.asked link.new }
     {
         self.reports.put(*report);
         self.tell_waiting(link, client);
@@ -77,7 +79,8 @@ impl Told {
     fn tell_waiting<P: Ports>(&mut self, link: &mut Link<'_, P>, client: usize)
         ensures same_ports { link.new.ports.ghost_name ≡ link.old.ports.ghost_name }
         ensures failed { link.new.has_failed ≡ link.old.has_failed }
-        ensures handled { Has P.asked link.old.ports.now AreHandled → Has P.asked link.new.ports.now AreHandled }
+        ensures phase { link.new.phase ≡ link.old.phase }
+        ensures handled { Keeps P.asked link.old → Keeps P.asked link.new }
     {
         if let Some(due) = self.reports.take(link.now()) {
             tell_left_out(link, client, due.left_out);
@@ -89,7 +92,8 @@ impl Told {
     fn tell_end<P: Ports>(&mut self, core: &Core, link: &mut Link<'_, P>, client: usize)
         ensures same_ports { link.new.ports.ghost_name ≡ link.old.ports.ghost_name }
         ensures failed { link.new.has_failed ≡ link.old.has_failed }
-        ensures handled { Has P.asked link.old.ports.now AreHandled → Has P.asked link.new.ports.now AreHandled }
+        ensures phase { link.new.phase ≡ link.old.phase }
+        ensures handled { Keeps P.asked link.old → Keeps P.asked link.new }
     {
         if link.take_ended(client) {
             self.is_up = false;
@@ -101,7 +105,8 @@ impl Told {
     fn tell_begin<P: Ports>(&mut self, core: &Core, link: &mut Link<'_, P>, client: usize)
         ensures same_ports { link.new.ports.ghost_name ≡ link.old.ports.ghost_name }
         ensures failed { link.new.has_failed ≡ link.old.has_failed }
-        ensures handled { Has P.asked link.old.ports.now AreHandled → Has P.asked link.new.ports.now AreHandled }
+        ensures phase { link.new.phase ≡ link.old.phase }
+        ensures handled { Keeps P.asked link.old → Keeps P.asked link.new }
     {
         if self.is_up {
             return;
@@ -117,7 +122,8 @@ impl Told {
     fn tell_faulted<P: Ports>(&mut self, core: &Core, link: &mut Link<'_, P>, client: usize)
         ensures same_ports { link.new.ports.ghost_name ≡ link.old.ports.ghost_name }
         ensures failed { link.new.has_failed ≡ link.old.has_failed }
-        ensures handled { Has P.asked link.old.ports.now AreHandled → Has P.asked link.new.ports.now AreHandled }
+        ensures phase { link.new.phase ≡ link.old.phase }
+        ensures handled { Keeps P.asked link.old → Keeps P.asked link.new }
     {
         if client >= core.clients() || !self.reports.is_free(link.now()) {
             return;
@@ -158,7 +164,8 @@ impl Watch {
     pub fn tell<P: Ports>(&mut self, core: &Core, link: &mut Link<'_, P>)
         ensures same_ports { link.new.ports.ghost_name ≡ link.old.ports.ghost_name }
         ensures failed { link.new.has_failed ≡ link.old.has_failed }
-        ensures handled { Has P.asked link.old.ports.now AreHandled → Has P.asked link.new.ports.now AreHandled }
+        ensures phase { link.new.phase ≡ link.old.phase }
+        ensures handled { Keeps P.asked link.old → Keeps P.asked link.new }
     {
         self.tell_strangers(link);
         for (client, told) in self.all.iter_mut().enumerate() {
@@ -173,7 +180,8 @@ impl Watch {
     fn tell_strangers<P: Ports>(&mut self, link: &mut Link<'_, P>)
         ensures same_ports { link.new.ports.ghost_name ≡ link.old.ports.ghost_name }
         ensures failed { link.new.has_failed ≡ link.old.has_failed }
-        ensures handled { Has P.asked link.old.ports.now AreHandled → Has P.asked link.new.ports.now AreHandled }
+        ensures phase { link.new.phase ≡ link.old.phase }
+        ensures handled { Keeps P.asked link.old → Keeps P.asked link.new }
     {
         if self.strangers == Some(link.now()) {
             return;

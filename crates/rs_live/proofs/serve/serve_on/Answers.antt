@@ -1,12 +1,28 @@
-use Rattle.std.proofs.Common.{◌∙◌, refl}
+use Rattle.std.proofs.Common.{◌∙◌, refl, Ok}
+use Rattle.rs_live.specs.declared.link.Phase.TheVariants as phases
+use Rattle.rs_live.specs.Handled.{AreKept, IsServed}
+use Rattle.rs_live.specs.Keeping.{live_keys}
+use Rattle.rs_live.proofs.Agreeing.{settled}
+use Rattle.rs_live.proofs.Handling.{at_phase, so}
 use Rattle.rs_live.proofs.serve.serve_on.Goals as goal
 
 pub loop-preserved : goal.loop-preserved
 loop-preserved g c = record {
   same_ports = c.tell.ensures.same_ports ∙ c.play_round.ensures.same_ports ∙ c.reload-rounds.ensures.same_ports ∙ c.begin_round.ensures.same_ports ∙ c.loop.invariant.same_ports;
-  handled = λ f h.
-      let i = c.loop.invariant.handled f h in
-      let read = c.reload-rounds.ensures.handled (c.if-not-begin_round.ensures.ready refl i.1) in
+  phase = λ p. c.tell.ensures.phase ∙ c.in-Ok.ensures.over refl;
+  handled = λ p f h.
+      let i = c.loop.invariant.handled p f h in
+      let read = c.reload-rounds.ensures.handled c.begin_round.ensures.phase (c.if-not-begin_round.ensures.ready refl (c.loop.invariant.phase p) i.1) in
       let played = c.in-Ok.ensures.ok refl (c.reload-rounds.ensures.failed ∙ c.begin_round.ensures.failed ∙ i.0) read in
       (c.tell.ensures.failed ∙ played.0, c.tell.ensures.handled played.1);
 }
+
+pub returns-then-not-begin_round-clause-served : goal.returns-then-not-begin_round-clause-served
+returns-then-not-begin_round-clause-served g c p f h = let i = c.loop.invariant.handled p f h in c.if-not-begin_round.ensures.broken refl (c.loop.invariant.phase p) i.1
+
+pub returns-then-is_done-clause-served : goal.returns-then-is_done-clause-served
+returns-then-is_done-clause-served g c p f h =
+    let i = c.loop.invariant.handled p f h in
+    let read = c.reload-rounds.ensures.handled c.begin_round.ensures.phase (c.if-not-begin_round.ensures.ready refl (c.loop.invariant.phase p) i.1) in
+    let played = c.in-Ok.ensures.ok refl (c.reload-rounds.ensures.failed ∙ c.begin_round.ensures.failed ∙ i.0) read in
+    so g.P.Ports.asked (AreKept (live_keys c.tell.new.link.seats.now.items) phases.Over) (IsServed (Ok tt)) _ (λ deeds k. (k.0, settled _ deeds k.1)) (at_phase g.P.Ports.asked c.tell.new.link phases.Over (c.tell.ensures.phase ∙ c.in-Ok.ensures.over refl) (c.tell.ensures.handled played.1))

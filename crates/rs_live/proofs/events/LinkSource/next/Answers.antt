@@ -1,7 +1,7 @@
-use Rattle.std.proofs.Common.{◌∙◌}
+use Rattle.std.proofs.Common.{[], refl, ◌∙◌}
 use Rattle.rs_core.specs.declared.links.Event.TheVariants.{Stop}
 use Rattle.rs_core.specs.Links.{Told}
-use Rattle.rs_live.proofs.Handling.{does}
+use Rattle.rs_live.proofs.Handling.{does, follows}
 use Rattle.rs_live.proofs.events.LinkSource.next.Goals as goal
 
 pub returns-in-Some : goal.returns-in-Some
@@ -14,4 +14,4 @@ loop-preserved g c = record {
 }
 
 pub returns : goal.returns
-returns g c = (c.loop.invariant.same_ports, λ f h. let i = c.loop.invariant.told f h in does g.P.Ports.asked (Told Stop _) _ _ i.0 tt i.1)
+returns g c = (c.loop.invariant.same_ports, λ f h. let i = c.loop.invariant.told f h in follows g.P.Ports.asked (Told Stop []) _ _ _ _ i.0 refl refl (does g.P.Ports.asked _ _ (Told Stop []) _ tt tt i.1))

@@ -1,22 +1,26 @@
-use Rattle.std.proofs.Common.{◌≢◌, [], Ok, take, refl, sym, subst, ◌∙◌}
-use Rattle.rs_core.specs.declared.links.Event.TheVariants.{Octets}
+use Rattle.std.proofs.Common.{◌≢◌, Ok, [], take, refl, sym, subst, ◌∙◌}
+use Rattle.rs_core.specs.declared.links.Event.TheVariants.{Octets, Lost}
 use Rattle.rs_core.specs.Links.{Told}
+use Rattle.rs_live.specs.declared.link.Phase.TheVariants as phases
 use Rattle.rs_live.specs.Calls.{Read, IsGood, FindsLost}
-use Rattle.rs_live.specs.Handled.{Follows}
-use Rattle.rs_live.proofs.Handling.{asks, ends, ended, tells_octets, tells_loss}
+use Rattle.rs_live.proofs.Handling.{asks, at_phase, ends, fails, follows, follows_at, hears, is_last}
 use Rattle.rs_live.proofs.link.Link.piece.Goals as goal
 
 pub returns-in-Ok-None-clause-told : goal.returns-in-Ok-None-clause-told
-returns-in-Ok-None-clause-told g c f h = (f, asks g.P.Ports.asked _ _ _ c.in-Ok-None.ensures.asked (subst (λ r. IsGood (Read 0 [] (Ok r))) (sym c.in-Ok-None.field-0-is) refl) h)
+returns-in-Ok-None-clause-told g c p f h = (f, asks g.P.Ports.asked _ _ _ _ _ c.in-Ok-None.ensures.asked (subst (λ r. IsGood (Read 0 [] (Ok r))) (sym c.in-Ok-None.field-0-is) refl) tt h)
 
 pub returns-then-count-eq0-clause-told : goal.returns-then-count-eq0-clause-told
-returns-then-count-eq0-clause-told g c f h = tells_loss g.P.Ports.asked _ [] _ _ (c.lose.ensures.failed ∙ f) (c.lose.ensures.found (ends g.P.Ports.asked (FindsLost _) _ _ _ c.in-Ok-Some.ensures.asked (refl, ended _ _ c.in-Ok-Some.field-0-is c.if-count-eq0.true) h))
+returns-then-count-eq0-clause-told g c p f h text = follows g.P.Ports.asked (Told (Lost _) []) _ _ _ _ (c.lose.ensures.failed ∙ f) c.lose.ensures.keys c.lose.ensures.phase
+    (fails g.P.Ports.asked _ _ c.args.self.now.reading _ (Told (Lost _) []) _ _ c.lose.ensures.asked (sym c.in-Some.ensures) refl
+    (ends g.P.Ports.asked (FindsLost _) _ _ _ _ _ c.in-Ok-Some.ensures.asked (refl, is_last _ _ c.in-Ok-Some.field-0-is c.if-count-eq0.true) tt h))
 
 pub returns-else-count-eq0-clause-told : goal.returns-else-count-eq0-clause-told
-returns-else-count-eq0-clause-told g c f h text =
+returns-else-count-eq0-clause-told g c p f h text =
     let some : c.in-Ok-Some.count ≢ 0 = λ e. absurd (c.if-count-eq0.false e) in
-    subst (λ p. Follows g.P.Ports.asked (Told (Octets c.args.self.now.reading c.in-Ok-Some.count) (take c.in-Ok-Some.count c.read.new.piece)) p c.heard.new.self.has_failed) (sym c.heard.ensures.unasked)
-    (tells_octets g.P.Ports.asked _ _ _ _ c.read.new.piece _ _ _ (c.heard.ensures.failed ∙ f) some c.in-Ok-Some.field-0-is c.in-Ok-Some.ensures.asked h text)
+    follows_at g.P.Ports.asked (Told (Octets c.args.self.now.reading c.in-Ok-Some.count) (take c.in-Ok-Some.count c.read.new.piece)) _ _ _ phases.Read _ (c.heard.ensures.failed ∙ f) c.heard.ensures.keys (c.heard.ensures.phase ∙ p) c.heard.ensures.unasked
+    (hears g.P.Ports.asked _ _ _ _ _ c.read.new.piece _ _ (sym c.in-Some.ensures) some c.in-Ok-Some.field-0-is c.in-Ok-Some.ensures.asked (at_phase g.P.Ports.asked c.args.self.now phases.Read p h))
 
 pub returns-in-Err-clause-told : goal.returns-in-Err-clause-told
-returns-in-Err-clause-told g c f h = tells_loss g.P.Ports.asked _ [] _ _ (c.lose-in-Err.ensures.failed ∙ f) (c.lose-in-Err.ensures.found (ends g.P.Ports.asked (FindsLost _) _ _ _ c.in-Err.ensures.asked (refl, tt) h))
+returns-in-Err-clause-told g c p f h text = follows g.P.Ports.asked (Told (Lost _) []) _ _ _ _ (c.lose-in-Err.ensures.failed ∙ f) c.lose-in-Err.ensures.keys c.lose-in-Err.ensures.phase
+    (fails g.P.Ports.asked _ _ c.args.self.now.reading _ (Told (Lost _) []) _ _ c.lose-in-Err.ensures.asked (sym c.in-Some.ensures) refl
+    (ends g.P.Ports.asked (FindsLost _) _ _ _ _ _ c.in-Err.ensures.asked (refl, tt) tt h))
