@@ -91,7 +91,8 @@ def read_all(paths, notes):
     if captured and not packets.dpkt:
         raise Fault("captures are read by dpkt, which is not installed for this Python: apt-get install python3-dpkt")
     found = heapq.merge(*captured, key=lambda it: it.time)
-    return packets.segments(found, notes) if captured else (), heapq.merge(*(it for _, it in pairs if it != ()), key=lambda it: it.time)
+    records = heapq.merge(*(it for _, it in pairs if it != ()), key=lambda it: it.time)
+    return packets.segments(found, notes) if captured else (), records
 
 
 def described(options, said, dumped, notes):
@@ -121,8 +122,8 @@ def write(options, notes):
     events = heapq.merge(captured, dumped.events(records), key=lambda it: it.time)
     first = next(events, None)
     if first is None:
-        seen = ", ".join([*others, *dumped.others]) or "none"
-        raise Fault(f"no session of {', '.join(f'{a}:{p}' for a, p in options.server)} is there; seen were: {seen}")
+        seen = ", ".join([*others, *dumped.others][:20])
+        raise Fault(f"no session of {', '.join(f'{a}:{p}' for a, p in options.server)} is there" + (f"; seen were {seen}" if seen else ""))
     with open(options.session, "w") as session, open(options.sent or os.devnull, "w") as sent:
         session.write("".join(f"# from {path}\n" for path in options.capture))
         recorder = recorded.Recorder(lambda event: sent.write(f"sent {event.name} {event.octets.hex()}\n"))

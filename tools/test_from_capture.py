@@ -285,6 +285,19 @@ class Streams(unittest.TestCase):
         self.assertEqual(session[-3:], ["moment 3", f"lost {NAME_A}", "turn"])
         self.assertIn("RSTs outside the window: 1", said)
 
+    def test_a_syn_on_a_connection_that_is_there(self):
+        """It changes nothing until it is answered."""
+        packets = plain()[:-2]
+        wire = Wire(packets, first=70000, server_first=80000)
+        wire.put(1, "member", -1, flags=SYN, known=-1)
+        packets += plain()[-2:-1]
+        _, session, _, _, said = made(pcap(packets))
+        self.assertEqual(session, PLAIN[:-3])
+        self.assertIn("SYNs on connections that are there: 1", said)
+        wire.begin(9)
+        wire.put(9, "member", 0, OPEN_A + KEEPALIVE)
+        self.assertEqual(made(pcap(packets))[1][9:], ["moment 8", f"lost {NAME_A}", *PLAIN[1:5]])
+
     def test_a_connection_that_is_refused(self):
         packets = plain(time=1)
         wire = Wire(packets, port=50000)
@@ -415,6 +428,18 @@ class Sessions(unittest.TestCase):
         self.assertEqual(octets_of(session), expected + KEEPALIVE)
         self.assertIn("without four-octet AS numbers", said)
 
+    def test_a_server_of_two_octets_and_a_member_of_four(self):
+        """The member is AS_TRANS to the server (RFC 6793, 4.2.2)."""
+        short = bytes.fromhex("ff" * 16 + "001d0104fbf4005ac000020100")
+        packets = []
+        wire = Wire(packets)
+        wire.begin(0)
+        wire.put(0, "server", 0, short)
+        wire.put(0, "member", 0, OPEN_A[:20] + b"\x5b\xa0" + OPEN_A[22:33] + b"\xfa\x56\xea\0" + KEEPALIVE)
+        _, session, _, config, _ = made(pcap(packets))
+        self.assertIn("as = 23456", config)
+        self.assertEqual(octets_of(session, "as23456-192-0-2-11"), OPEN_A[:16] + b"\0\x1d\x01\x04\x5b\xa0" + OPEN_A[22:28] + b"\0" + KEEPALIVE)
+
     def test_path_identifiers(self):
         def offered(message, way):
             parameter = b"\2\x06\x45\4\0\1\1" + bytes([way])
@@ -466,7 +491,7 @@ class Faults(unittest.TestCase):
     def test_no_session(self):
         status, *_, said = made(pcap(plain()), words=("--server", "192.0.2.99"))
         self.assertEqual(status, 1)
-        self.assertIn("no session of 192.0.2.99:179 is there; seen were: 192.0.2.11:40000, 192.0.2.1:179", said)
+        self.assertIn("no session of 192.0.2.99:179 is there; seen were 192.0.2.11:40000, 192.0.2.1:179", said)
 
     def test_no_open_of_the_server(self):
         packets = [it for it in plain() if it[1][12:16] != socket.inet_aton(SERVER)]

@@ -136,7 +136,8 @@ class Sessions:
             it, behind = bgp.read_open(session.waiting), session.waiting[next(bgp.ends(session.waiting)) :]
             if it and four is not None and bgp.has(it, bgp.FOUR_OCTETS) != four:
                 words = ("two", "four") if four else ("four", "two")
-                self.notes.say(f"{record.place}: {session.member.name}: its OPEN says {words[0]}-octet AS numbers, its UPDATEs have {words[1]}: it is put down as these are")
+                name = f"{record.place}: {session.member.name}"
+                self.notes.say(f"{name}: its OPEN says {words[0]}-octet AS numbers, its UPDATEs have {words[1]}: it is put down as these are")
                 it = bgp.in_width(it, four)
                 session.waiting = bgp.make_open(it) + behind
             yield self.put(session, record, "octets", session.waiting)
@@ -145,7 +146,8 @@ class Sessions:
     def come_up(self, session, record, four, beat):
         """Puts down what is missing until the session is up: its connection, OPEN and KEEPALIVE (RFC 4271, 8.2.2)."""
         if session.said and session.four != four and beat:
-            self.notes.say(f"{record.place}: {session.member.name}: its AS numbers are {'four' if four else 'two'} octets wide from here on, so its session begins anew")
+            width = "four" if four else "two"
+            self.notes.say(f"{record.place}: {session.member.name}: its AS numbers are {width} octets wide from here on, so its session begins anew")
             yield from self.lose(session, record)
             session = self.sessions[session.member.name]
         yield from self.open(session, record)
@@ -153,7 +155,8 @@ class Sessions:
         member = session.member
         if not session.said:
             session.said, session.four = True, four
-            self.notes.say(f"{record.place}: {member.name}: an OPEN was made up: AS {member.number}, identifier {member.address}, no Hold Time, {'four' if four else 'two'}-octet AS numbers")
+            says = f"AS {member.number}, identifier {member.address}, no Hold Time, {'four' if four else 'two'}-octet AS numbers"
+            self.notes.say(f"{record.place}: {member.name}: an OPEN was made up: {says}")
             yield self.put(session, record, "octets", bgp.make_open(bgp.made_up(member.number, member.address, four)))
         if beat and not session.beat:
             session.beat = True
@@ -224,8 +227,11 @@ class Sessions:
         """The session of a change of state. Where the connection is gone, an address of it may be 0.0.0.0."""
         if ends.server:
             return self.session(ends.server, ends.address, ends.number)
-        nowhere = ends.address == "0.0.0.0"
-        found = [it for it in self.sessions.values() if it.opened and (it.member.number == ends.number if nowhere else it.member.address == ends.address)]
+        opened = [it for it in self.sessions.values() if it.opened]
+        if ends.address == "0.0.0.0":
+            found = [it for it in opened if it.member.number == ends.number]
+        else:
+            found = [it for it in opened if it.member.address == ends.address]
         if len(found) == 1:
             return found[0]
         self.notes.passed("changes of state that are of no member with a session")

@@ -75,13 +75,18 @@ def is_whole(talk, notes):
     return True
 
 
+def is_narrowed(talk):
+    """Whether the member offers four-octet AS numbers and the server does not, so that neither sends them (RFC 6793, 4.1)."""
+    return bool(talk.first and talk.theirs) and bgp.has(talk.first, bgp.FOUR_OCTETS) and not bgp.has(talk.theirs, bgp.FOUR_OCTETS)
+
+
 def opening(talk, name, notes):
     """The OPEN that stands for the member's, and how many octets it stands for.
 
     The replay's server always offers four-octet AS numbers. Where the server in the capture did not, the member's UPDATEs
-    have two octets for each (RFC 6793, 4.1), so its OPEN must not offer more.
+    have two octets for each, so its OPEN must not offer more.
     """
-    if not (talk.first and talk.theirs and bgp.has(talk.first, bgp.FOUR_OCTETS)) or bgp.has(talk.theirs, bgp.FOUR_OCTETS):
+    if not is_narrowed(talk):
         return b"", 0
     notes.say(f"{name}: its OPEN is without four-octet AS numbers here, since the server's OPEN is")
     stream = talk.connection.streams[talk.connection.member]
@@ -132,6 +137,8 @@ def told(talk, name, last, notes):
     """What the server sent on a connection, up to a gap of the server's or of the member's octets."""
     stream = talk.connection.streams[talk.connection.server]
     gap, lost = stream.gap(), talk.connection.streams[talk.connection.member].gap()
+    if talk.first and talk.theirs and bgp.adds_paths(talk.first, (1, 3)) and bgp.adds_paths(talk.theirs, (2, 3)):
+        notes.say(f"{name}: what the server sent has path identifiers (RFC 7911)")
     if gap:
         notes.say(f"{gap.place}: octets of the server to {name} are missing from here on")
         notes.passed("octets of the server behind a gap", stream.behind_gap())
@@ -158,9 +165,12 @@ def events_of(talk, name, following, notes):
 
 
 def number_of(talks):
-    """The AS number of a member: that of an OPEN which the server accepted, or else of its first; or None."""
-    opens = [it.first for it in talks if it.first and it.first.number and it.reached] + [it.first for it in talks if it.first and it.first.number]
-    return opens[0].number if opens else None
+    """The AS number of a member as the server saw it: that of an OPEN which was accepted, or else of its first; or None."""
+    opens = sorted((it for it in talks if it.first and it.first.number), key=lambda it: not it.reached)
+    if not opens:
+        return None
+    number = opens[0].first.number
+    return bgp.AS_TRANS if is_narrowed(opens[0]) and number > 65535 else number
 
 
 def events(connections, members, said, notes):

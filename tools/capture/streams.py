@@ -86,18 +86,26 @@ class Connection:
         self.made, self.ended, self.headless = None, None, 0
 
     def begins_another(self, segment):
-        """Whether the segment's SYN is one of another connection between the same ends."""
+        """Whether the segment's SYN is one of another connection between the same ends.
+
+        While this one is there a SYN alone changes nothing (RFC 9293, 3.10.7.4); one that is answered does.
+        """
         first = self.streams[segment.source].first
-        return bool(segment.flags & SYN) and first not in (None, (segment.sequence + 1) % (1 << 32))
+        if not segment.flags & SYN or first in (None, (segment.sequence + 1) % (1 << 32)):
+            return False
+        return self.made is None or self.ended is not None or bool(segment.flags & ACK)
 
     def is_headless(self):
         """Whether the connection's beginning is not here: no SYN of the member, though the member says more than RST."""
         return self.streams[self.member].first is None and (self.headless > 0 or self.streams[self.server].first is None)
 
     def hear(self, segment, moment, notes):
-        own, other = self.streams[segment.source], self.streams[segment.target]
+        own, other, begin = self.streams[segment.source], self.streams[segment.target], (segment.sequence + 1) % (1 << 32)
         if segment.flags & SYN and own.first is None:
-            own.first = (segment.sequence + 1) % (1 << 32)
+            own.first = begin
+        if segment.flags & SYN and own.first != begin:
+            notes.passed("SYNs on connections that are there")
+            return
         if segment.flags & SYN and segment.flags & ACK and other.first is None:
             other.first = segment.acknowledged
         if own.first is None:
@@ -122,8 +130,8 @@ class Connection:
         if self.made and not 0 <= own.place_of(segment.sequence) - len(own.octets) <= WINDOW:
             notes.passed("RSTs outside the window")
         else:
-            self.ended = self.ended or (moment, "RST")
-            self.ended = self.ended[0], "RST"
+            # It may stand behind octets that were never sent, so it doesn't tell of any that are missing.
+            self.ended = (self.ended or (moment, ""))[0], "RST"
 
 
 def server_of(segment, servers):
