@@ -285,6 +285,40 @@ class Streams(unittest.TestCase):
         self.assertEqual(session[-3:], ["moment 3", f"lost {NAME_A}", "turn"])
         self.assertIn("RSTs outside the window: 1", said)
 
+    def test_acknowledgments_before_what_they_acknowledge(self):
+        """That of the UPDATE comes first, that of the FIN is one more than the octets."""
+        begun = OPEN_A + KEEPALIVE
+        late = [(1, "server", 37, b"", ("known", 56 + 47)), (2, "member", 56, UPDATE), (3, "member", 56 + 47, b"", ("flags", FIN | ACK))]
+        _, session, _, _, said = self.streamed([(0, begun)], [*late, (3, "server", 37, b"", ("known", 56 + 48))])
+        self.assertEqual((octets_of(session), session[-3]), (begun + UPDATE, "moment 3"))
+        self.assertNotIn("missing", said)
+
+    def test_an_acknowledged_fin_before_what_it_ends(self):
+        late = [(1, "member", 56 + 47, b"", ("flags", FIN | ACK)), (1, "server", 37, b"", ("known", 56 + 48)), (2, "member", 56, UPDATE)]
+        _, session, _, _, said = self.streamed([(0, OPEN_A + KEEPALIVE)], late)
+        self.assertEqual(octets_of(session), OPEN_A + KEEPALIVE + UPDATE)
+        self.assertNotIn("missing", said)
+
+    def test_octets_behind_the_servers_end(self):
+        late = [(1, "server", 37, b"", ("flags", FIN | ACK)), (2, "member", 56, UPDATE)]
+        _, session, _, _, said = self.streamed([(0, OPEN_A + KEEPALIVE)], late)
+        self.assertEqual((octets_of(session), session[-3:]), (OPEN_A + KEEPALIVE, ["moment 1", f"lost {NAME_A}", "turn"]))
+        self.assertIn("octets of members behind the end of their connection: 47", said)
+
+    def test_a_fin_in_a_segment_that_is_cut_off(self):
+        packets = plain()[:-2]
+        wire = Wire(packets)
+        wire.put(2, "member", 56, UPDATE, flags=FIN | ACK)
+        packets[-1] = packets[-1][0], packets[-1][1][:-20]
+        _, session, _, _, said = made(pcap(packets))
+        self.assertEqual(octets_of(session), OPEN_A + KEEPALIVE + UPDATE[:-20])
+        self.assertIn("are missing from here on", said)
+
+    def test_a_turn_before_a_loss_in_the_same_second(self):
+        late = [(0, "member", 56, b"", ("flags", FIN | ACK))]
+        _, session, *_ = self.streamed([(0, OPEN_A + KEEPALIVE)], late)
+        self.assertEqual(session[2:], [PLAIN[2], "turn", ROOM_A, f"lost {NAME_A}", "turn"])
+
     def test_a_syn_on_a_connection_that_is_there(self):
         """It changes nothing until it is answered."""
         packets = plain()[:-2]
@@ -343,8 +377,43 @@ class Sessions(unittest.TestCase):
         wire.begin(0)
         wire.put(0, "server", 0, offer)
         wire.put(0, "member", 0, OPEN_A)
-        _, _, _, config, said = made(pcap(packets))
+        _, _, _, config, _ = made(pcap(packets))
         self.assertEqual(config[:6], ["as = 4200000000", 'identifier = "198.51.100.1"', "hold = 3", "extended = true", "refresh = true", "multiprotocol = true"])
+
+    def test_long_parameters(self):
+        """The same AS number in parameters whose lengths have two octets (RFC 9072, 2)."""
+        parameter = b"\2\0\6\x41\4" + struct.pack(">I", 64500)
+        body = OPEN_SERVER[19:28] + b"\xff\xff" + struct.pack(">H", len(parameter)) + parameter
+        packets = []
+        wire = Wire(packets)
+        wire.begin(0)
+        wire.put(0, "server", 0, b"\xff" * 16 + struct.pack(">HB", 19 + len(body), 1) + body)
+        wire.put(0, "member", 0, OPEN_A)
+        _, session, _, config, said = made(pcap(packets))
+        self.assertEqual((config[0], octets_of(session)), ("as = 64500", OPEN_A))
+        self.assertNotIn("four-octet", said)
+
+    def test_a_hold_time_that_is_none(self):
+        packets = []
+        wire = Wire(packets)
+        wire.begin(0)
+        wire.put(0, "server", 0, OPEN_SERVER[:22] + b"\0\2" + OPEN_SERVER[24:])
+        wire.put(0, "member", 0, OPEN_A)
+        _, _, _, config, said = made(pcap(packets))
+        self.assertEqual(config[2], "hold = 90")
+        self.assertIn("Hold Time of 2 is none", said)
+
+    def test_the_as_number_that_was_accepted(self):
+        """An OPEN of AS 64497 was refused (RFC 4271, 6.2), then one of AS 64496 was not."""
+        packets = []
+        wire = Wire(packets, port=39999)
+        wire.begin(0)
+        wire.put(0, "member", 0, OPEN_B)
+        wire.put(0, "server", 0, OPEN_SERVER + bytes.fromhex("ff" * 16 + "0015030202"))
+        wire.put(0, "server", 37 + 21, flags=FIN | ACK)
+        _, session, _, config, _ = made(pcap(packets + plain(time=3)))
+        self.assertIn("as = 64496", config)
+        self.assertEqual(octets_of(session), OPEN_B + OPEN_A + KEEPALIVE + UPDATE)
 
     def test_two_members_and_the_turns(self):
         packets = plain()
@@ -421,7 +490,8 @@ class Sessions(unittest.TestCase):
         wire.begin(0)
         wire.put(0, "server", 0, short)
         wire.put(0, "member", 0, OPEN_A[:10])
-        wire.put(0, "member", 10, OPEN_A[10:] + KEEPALIVE)
+        wire.put(0, "member", 10, OPEN_A[10:])
+        wire.put(1, "member", 37, KEEPALIVE)
         _, session, _, config, said = made(pcap(packets))
         # The same OPEN without its optional parameters: 8 octets fewer, and a length of 0 of these.
         expected = OPEN_A[:16] + b"\0\x1d" + OPEN_A[18:28] + b"\0"
@@ -651,6 +721,28 @@ class Dumps(unittest.TestCase):
         self.assertEqual(config[:3], ["as = 64500", 'identifier = "198.51.100.7"', "hold = 0"])
         self.assertIn("peers of a table that have no AS number or no IPv4 address: 2", said)
         self.assertIn("whose peer is no member, or whose session has ended since: 2", said)
+
+    def test_other_attributes_and_full_updates(self):
+        other = ATTRIBUTES[:3] + b"\2" + ATTRIBUTES[4:]
+        many = [b"\x18" + struct.pack(">I", at << 8)[:3] for at in range(1, 1100)]
+        dump = peers((2, A, 64496)) + routes(PREFIX, (0, ATTRIBUTES)) + b"".join(routes(it, (0, other)) for it in many)
+        _, session, *_ = made(dump, words=("--server", SERVER, "--as", "64500"))
+        octets, at, found = octets_of(session)[len(MADE_UP + KEEPALIVE) :], 0, []
+        while at < len(octets):
+            found.append(octets[at : at + struct.unpack_from(">H", octets, at + 16)[0]])
+            at += len(found[-1])
+        self.assertEqual((found[0], [it[23:43] for it in found[1:]]), (UPDATE, [other, other]))
+        self.assertEqual((b"".join(it[43:] for it in found[1:]), max(map(len, found)) <= 4096), (b"".join(many), True))
+
+    def test_routes_of_a_session_that_ended(self):
+        dump = peers((2, A, 64496)) + routes(PREFIX, (0, ATTRIBUTES)) + change(6, 1) + routes(PREFIX, (0, ATTRIBUTES))
+        _, session, _, _, said = made(dump)
+        self.assertEqual(octets_of(session), MADE_UP + KEEPALIVE + UPDATE)
+        self.assertIn("whose session has ended since: 1", said)
+
+    def test_too_many_members(self):
+        dump = peers(*((2, f"10.0.{at // 256}.{at % 256}", 64496) for at in range(1, 514)))
+        self.assertIn("there are 513 members; a configuration takes 512", made(dump, words=("--server", SERVER, "--as", "64500"))[-1])
 
     def test_flags_in_tables(self):
         wrong = ATTRIBUTES[:-7] + b"\0" + ATTRIBUTES[-6:]
