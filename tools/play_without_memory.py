@@ -28,6 +28,9 @@ ASKING = (
     "outlet::asking::a_message_of_a_client_that_took_none",
     "outlet::asking::all_again",
     "outlet::asking::touches_and_the_end_of_a_session",
+    "route_server::asking::what_is_lent_behind_two_turns",
+    "route_server::asking::a_refresh",
+    "route_server::asking::how_a_session_begins_and_ends",
 )
 MARK = "no memory is asked for"
 SECONDS = 120

@@ -1,5 +1,6 @@
 //! Worked examples of a small exchange, by calls of the core and over a link in memory.
 
+mod asking;
 mod cycling;
 mod driving;
 mod endings;

@@ -161,7 +161,7 @@ impl Exchange {
     }
 
     /// The connection of a client that has none is taken.
-    fn open(&mut self, rt: &impl Abort, c: usize) {
+    pub fn open(&mut self, rt: &impl Abort, c: usize) {
         assert!(rt; c < self.core.clients());
         assert!(rt; self.core.opened(c).is_ok());
     }
