@@ -11,8 +11,8 @@ abbrev pub accepted : List Deed → Option ℕ
 accepted (Asked (Accepted (Ok (Some caller))) ∷ deeds) = Some caller.key
 accepted deeds = None
 
--- the key of a connection of this client that has come and was not answered yet: the core neither began with it nor refused it
--- as a second one, and it was not refused as a stranger's
+-- the key of the connection of this client that came last, where it was not answered yet: the core neither began with it nor
+-- refused it as a second one, and it was not refused as a stranger's
 abbrev pub come : ℕ → List Deed → Option ℕ
 come c [] = None
 come c (Did (Told (Opened d) octets) ∷ deeds) = if c == d then accepted deeds else come c deeds

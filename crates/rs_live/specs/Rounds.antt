@@ -30,7 +30,7 @@ HasRoom c (Did (Told (Room d room) octets) ∷ deeds) = ((c ≡ d) × (room ≡ 
 HasRoom c (deed ∷ deeds) = HasRoom c deeds
 
 -- A round may end: behind the last octets that were told in it came a moment and then a turn, and behind that turn each client
--- that has a connection was given room; and no connection is unanswered.
+-- that has a connection was given room; and of no client is the connection that came last unanswered.
 pub record IsSettled (deeds : List Deed) : Type 0 where
   pub turned : IsTurned deeds
   pub rooms : (c : ℕ) → IsSome (key_of c deeds) → HasRoom c deeds
