@@ -1,52 +1,82 @@
--- The key of each client's connection, where one place is written.
-use Rattle.std.proofs.Common.{◌≡◌, ◌≤◌, ℕ, zero, suc, List, [], ◌∷◌, ◌++◌, length, set, get_or, Option, Some, None, refl, sym, ap, ◌∙◌, arith}
+-- What each client has, where one place is written.
+use Rattle.std.proofs.Common.{◌≡◌, ◌≤◌, ◌<◌, ℕ, zero, suc, List, [], ◌∷◌, ◌++◌, length, set, get_or, Option, Some, None, refl, sym, subst, ap, ◌∙◌, arith}
+use Rattle.std.proofs.lemmas.List.{length-set}
 use Rattle.std.specs.Prelude.{slice_get}
-use Rattle.std.proofs.lemmas.List.{map-set}
 use Rattle.rs_live.specs.declared.seats.Seat.{Seat}
-use Rattle.rs_live.specs.Keeping.{live_keys}
+use Rattle.rs_live.specs.Keeping.{Held, change, held_by, held_in, held_of, nothing, with_live}
 
--- it is written with this key
-pub keys_set : (seats : List Seat) (c : ℕ) (seat : Seat) (key : Option ℕ) → seat.live.key ≡ key → live_keys (set seats c seat) ≡ set (live_keys seats) c key
-keys_set seats c seat key e = map-set (λ s. s.live.key) seats c seat ∙ ap (λ k. set (live_keys seats) c k) e
+abbrev pub holds : Option ℕ → List ℕ → Option ℕ → List ℕ → Held
+holds key waiting rest_key rest = record { key = key; waiting = waiting; rest_key = rest_key; rest = rest }
 
--- it is written with the key that it had
-pub keys_same : (seats : List Seat) (c : ℕ) (was seat : Seat) → slice_get seats c ≡ Some was → seat.live.key ≡ was.live.key → live_keys (set seats c seat) ≡ live_keys seats
-keys_same [] c was seat e same = refl
-keys_same (s ∷ seats) zero was seat e same = let i : s ≡ was = cc in ap (λ k. k ∷ live_keys seats) (same ∙ ap (λ t. t.live.key) (sym i))
-keys_same (s ∷ seats) (suc c) was seat e same = ap (λ ks. s.live.key ∷ ks) (keys_same seats c was seat e same)
+-- it is written with what it had
+pub held_same : (seats : List Seat) (c : ℕ) (was seat : Seat) → slice_get seats c ≡ Some was → held_in seat ≡ held_in was → held_of (set seats c seat) ≡ held_of seats
+held_same [] c was seat e same = refl
+held_same (s ∷ seats) zero was seat e same = let i : s ≡ was = cc in ap (λ k. k ∷ held_of seats) (same ∙ ap held_in (sym i))
+held_same (s ∷ seats) (suc c) was seat e same = ap (λ ks. held_in s ∷ ks) (held_same seats c was seat e same)
+
+-- it is written with something else
+pub held_changed : (f : Held → Held) (seats : List Seat) (c : ℕ) (was seat : Seat) → slice_get seats c ≡ Some was → held_in seat ≡ f (held_in was) → held_of (set seats c seat) ≡ change c f (held_of seats)
+held_changed f [] c was seat e to = refl
+held_changed f (s ∷ seats) zero was seat e to = let i : s ≡ was = cc in ap (λ k. k ∷ held_of seats) (to ∙ ap (λ t. f (held_in t)) (sym i))
+held_changed f (s ∷ seats) (suc c) was seat e to = ap (λ ks. held_in s ∷ ks) (held_changed f seats c was seat e to)
 
 -- it is not there
-pub keys_past : (keys : List (Option ℕ)) (c : ℕ) (key : Option ℕ) → length keys ≤ c → set keys c key ≡ keys
-keys_past [] c key past = refl
-keys_past (k ∷ keys) zero key past = absurd (omega arith)
-keys_past (k ∷ keys) (suc c) key past = ap (λ ks. k ∷ ks) (keys_past keys c key (omega arith))
+pub unchanged_past : (f : Held → Held) (held : List Held) (c : ℕ) → length held ≤ c → change c f held ≡ held
+unchanged_past f [] c past = refl
+unchanged_past f (k ∷ held) zero past = absurd (omega arith)
+unchanged_past f (k ∷ held) (suc c) past = ap (λ ks. k ∷ ks) (unchanged_past f held c (omega arith))
 
--- it had no key
-pub keys_none : (keys : List (Option ℕ)) (c : ℕ) → get_or keys c None ≡ None → set keys c None ≡ keys
-keys_none [] c e = refl
-keys_none (k ∷ keys) zero e = ap (λ j. j ∷ keys) (sym e)
-keys_none (k ∷ keys) (suc c) e = ap (λ ks. k ∷ ks) (keys_none keys c e)
+-- it has what it had
+pub unchanged : (f : Held → Held) (held : List Held) (c : ℕ) → f (held_by c held) ≡ held_by c held → change c f held ≡ held
+unchanged f [] c e = refl
+unchanged f (k ∷ held) zero e = ap (λ j. j ∷ held) e
+unchanged f (k ∷ held) (suc c) e = ap (λ ks. k ∷ ks) (unchanged f held c e)
 
--- the key at a place
-pub key_there : (seats : List Seat) (c : ℕ) (seat : Seat) → slice_get seats c ≡ Some seat → get_or (live_keys seats) c None ≡ seat.live.key
-key_there [] c seat e = cc
-key_there (s ∷ seats) zero seat e = let i : s ≡ seat = cc in ap (λ t. t.live.key) i
-key_there (s ∷ seats) (suc c) seat e = key_there seats c seat e
+-- two changes of one place
+pub change_again : (f g h : Held → Held) (held : List Held) (c : ℕ) → ((x : Held) → g (f x) ≡ h x) → change c g (change c f held) ≡ change c h held
+change_again f g h [] c e = refl
+change_again f g h (k ∷ held) zero e = ap (λ j. j ∷ held) (e k)
+change_again f g h (k ∷ held) (suc c) e = ap (λ ks. k ∷ ks) (change_again f g h held c e)
+
+-- a place that is there has what it was changed to
+pub at_place : (f : Held → Held) (held : List Held) (c : ℕ) → c < length held → held_by c (change c f held) ≡ f (held_by c held)
+at_place f [] c below = absurd (omega arith)
+at_place f (k ∷ held) zero below = refl
+at_place f (k ∷ held) (suc c) below = at_place f held c (omega arith)
+
+-- and is there still
+pub below_change : (f : Held → Held) (held : List Held) (c : ℕ) → c < length held → c < length (change c f held)
+below_change f held c below = subst (λ n. c < n) (sym (length-set held c (f (held_by c held)))) below
+
+pub below_held : (seats : List Seat) (c : ℕ) → c < length seats → c < length (held_of seats)
+below_held [] c below = absurd (omega arith)
+below_held (s ∷ seats) zero below = omega arith
+below_held (s ∷ seats) (suc c) below = omega (arith, below_held seats c (omega arith))
+
+-- what the client of a place has
+pub held_there : (seats : List Seat) (c : ℕ) (seat : Seat) → slice_get seats c ≡ Some seat → held_by c (held_of seats) ≡ held_in seat
+held_there [] c seat e = cc
+held_there (s ∷ seats) zero seat e = let i : s ≡ seat = cc in ap held_in i
+held_there (s ∷ seats) (suc c) seat e = held_there seats c seat e
 
 -- there is none behind the last
-pub key_past : (seats : List Seat) (c : ℕ) → length seats ≤ c → get_or (live_keys seats) c None ≡ None
-key_past [] zero past = refl
-key_past [] (suc c) past = refl
-key_past (s ∷ seats) zero past = absurd (omega arith)
-key_past (s ∷ seats) (suc c) past = key_past seats c (omega arith)
+pub held_past : (seats : List Seat) (c : ℕ) → length seats ≤ c → held_by c (held_of seats) ≡ nothing
+held_past [] zero past = refl
+held_past [] (suc c) past = refl
+held_past (s ∷ seats) zero past = absurd (omega arith)
+held_past (s ∷ seats) (suc c) past = held_past seats c (omega arith)
 
--- nobody has a connection, where one place more has none
-pub none_more : (seats : List Seat) (seat : Seat) → seat.live.key ≡ None → ((c : ℕ) → get_or (live_keys seats) c None ≡ None) → (c : ℕ) → get_or (live_keys (seats ++ seat ∷ [])) c None ≡ None
+-- each part is the same
+pub parts : {k l : Option ℕ} {w v : List ℕ} {r s : Option ℕ} {o p : List ℕ} → k ≡ l → w ≡ v → r ≡ s → o ≡ p → holds k w r o ≡ holds l v s p
+parts {k} {l} {w} {v} {r} {s} {o} {p} a b c d = ap (λ x. holds x w r o) a ∙ ap (λ x. holds l x r o) b ∙ ap (λ x. holds l v x o) c ∙ ap (λ x. holds l v s x) d
+
+-- nobody has anything, where one place more has nothing
+pub none_more : (seats : List Seat) (seat : Seat) → held_in seat ≡ nothing → ((c : ℕ) → held_by c (held_of seats) ≡ nothing) → (c : ℕ) → held_by c (held_of (seats ++ seat ∷ [])) ≡ nothing
 none_more [] seat e none zero = e
-none_more [] seat e none (suc c) = no_key c
+none_more [] seat e none (suc c) = nobody c
   where
-    no_key : (c : ℕ) → get_or {A = Option ℕ} [] c None ≡ None
-    no_key zero = refl
-    no_key (suc c) = refl
+    nobody : (c : ℕ) → held_by c [] ≡ nothing
+    nobody zero = refl
+    nobody (suc c) = refl
 none_more (s ∷ seats) seat e none zero = none zero
 none_more (s ∷ seats) seat e none (suc c) = none_more seats seat e (λ d. none (suc d)) c

@@ -22,14 +22,14 @@ IsLastRead (Ok None) = ⊥
 IsLastRead (Ok (Some count)) = count ≡ 0
 IsLastRead (Err fault) = ⊤
 
--- nothing comes of this call: it is no wait, no accept and no write that failed, no accept of a connection, and no read
--- that is a connection's last or gave octets
+-- nothing comes of this call: it is no wait, no write and no close, no accept that failed or gave a connection, and no read that is
+-- a connection's last or gave octets
 abbrev pub IsGood : Call → Type 0
 IsGood (Waited answer) = ⊥
 IsGood (Accepted answer) = answer ≡ Ok None
 IsGood (Read key piece answer) = answer ≡ Ok None
-IsGood (Wrote key octets answer) = IsOk answer
-IsGood (Closed key) = ⊤
+IsGood (Wrote key octets answer) = ⊥
+IsGood (Closed key) = ⊥
 IsGood (Timed seconds) = ⊤
 IsGood (Fetched text answer) = ⊤
 IsGood (Said line) = ⊤
@@ -57,24 +57,12 @@ IsFailedAccept (Fetched text answer) = ⊥
 IsFailedAccept (Said line) = ⊥
 IsFailedAccept (Logged report) = ⊥
 
--- a write of the connection with this key that failed
-abbrev pub IsFailedWriteOf : ℕ → Call → Type 0
-IsFailedWriteOf key (Waited answer) = ⊥
-IsFailedWriteOf key (Accepted answer) = ⊥
-IsFailedWriteOf key (Read k piece answer) = ⊥
-IsFailedWriteOf key (Wrote k octets answer) = (k ≡ key) × IsErr answer
-IsFailedWriteOf key (Closed k) = ⊥
-IsFailedWriteOf key (Timed seconds) = ⊥
-IsFailedWriteOf key (Fetched text answer) = ⊥
-IsFailedWriteOf key (Said line) = ⊥
-IsFailedWriteOf key (Logged report) = ⊥
-
--- by this call the connection with this key is found to be lost: a read that is its last, or a write that failed
+-- by this call the connection with this key is found to be lost: a read that is its last
 abbrev pub FindsLost : ℕ → Call → Type 0
 FindsLost key (Waited answer) = ⊥
 FindsLost key (Accepted answer) = ⊥
 FindsLost key (Read k piece answer) = (k ≡ key) × IsLastRead answer
-FindsLost key (Wrote k octets answer) = (k ≡ key) × IsErr answer
+FindsLost key (Wrote k octets answer) = ⊥
 FindsLost key (Closed k) = ⊥
 FindsLost key (Timed seconds) = ⊥
 FindsLost key (Fetched text answer) = ⊥

@@ -5,3 +5,4 @@ pub mod Keeping
 pub mod Keys
 pub mod Rounds
 pub mod Sending
+pub mod Waiting

@@ -3,10 +3,10 @@
 //! for each connection. Turns so stay small: an outlet that was touched at more than 4,096 prefixes
 //! would decide its whole table.
 
-ghost use Rattle.std.specs.Prelude.{◌≡◌, ◌+◌, ◌<◌, ◌≤◌, ◌∷◌, ℕ, List, min, length, get_or, IfSome, IfErr, IsOk, IsNone, false};
-ghost use Rattle.rs_live.specs.Calls.{Call, Closed, Said, IsFailedWriteOf};
-ghost use Rattle.rs_live.specs.Handled.{Has, AreEndedBy, Keeps, Follows, Answers};
-ghost use Rattle.rs_live.specs.Keeping.{live_keys};
+ghost use Rattle.std.specs.Prelude.{◌≡◌, ◌+◌, ◌<◌, ◌≤◌, ◌∷◌, ℕ, List, min, length, None, IfSome, IfErr, IsOk, IsNone, false};
+ghost use Rattle.rs_live.specs.Calls.{Call, Closed, Said};
+ghost use Rattle.rs_live.specs.Handled.{Has, AreBroken, Keeps, Follows, Answers};
+ghost use Rattle.rs_live.specs.Keeping.{held_by, held_of};
 
 use crate::link::{Link, Phase};
 use crate::ports::{Caller, Line, Ports};
@@ -32,7 +32,7 @@ const MUCH: usize = 4096;
 impl<'a, P: Ports> Link<'a, P> {
     /// The client whose connection this is.
     fn client_of(&self, caller: &Caller) -> Option<usize>
-        ensures { IfSome result (λ c. c < length (live_keys self.entry.now.seats.now.items)) }
+        ensures { IfSome result (λ c. c < length (held_of self.entry.now.seats.now.items)) }
     {
         self.seats.iter().position(|seat| seat.listener == caller.listener
             && seat.peer == caller.address)
@@ -42,7 +42,7 @@ impl<'a, P: Ports> Link<'a, P> {
     fn refuse(&mut self, caller: &Caller)
         ensures same_ports { self.new.ports.ghost_name ≡ self.old.ports.ghost_name }
         ensures failed { self.new.has_failed ≡ self.old.has_failed }
-        ensures keys { live_keys self.new.seats.now.items ≡ live_keys self.old.seats.now.items }
+        ensures held { held_of self.new.seats.now.items ≡ held_of self.old.seats.now.items }
         ensures phase { self.new.phase ≡ self.old.phase }
         ensures asked { (calls : List Call) → P.asked self.old.ports.now calls → P.asked self.new.ports.now (Closed caller.now.key ∷ Said Line.Stranger ∷ calls) }
     {
@@ -118,7 +118,7 @@ impl<'a, P: Ports> Link<'a, P> {
     fn heard(&mut self, count: usize)
         ensures same_ports { self.new.ports.ghost_name ≡ self.old.ports.ghost_name }
         ensures failed { self.new.has_failed ≡ self.old.has_failed }
-        ensures keys { live_keys self.new.seats.now.items ≡ live_keys self.old.seats.now.items }
+        ensures held { held_of self.new.seats.now.items ≡ held_of self.old.seats.now.items }
         ensures phase { self.new.phase ≡ self.old.phase }
         ensures unasked { self.new.ports.now ≡ self.old.ports.now }
     {
@@ -177,8 +177,8 @@ impl<'a, P: Ports> Link<'a, P> {
 
     /// The next client from this one on that has a connection.
     fn next_live(&self, from: usize) -> Option<usize>
-        ensures found { IfSome result (λ c. (from ≤ c) × ((d : ℕ) → from ≤ d → d < c → get_or (live_keys self.entry.now.seats.now.items) d None ≡ None)) }
-        ensures none { IsNone result → (d : ℕ) → from ≤ d → get_or (live_keys self.entry.now.seats.now.items) d None ≡ None }
+        ensures found { IfSome result (λ c. (from ≤ c) × ((d : ℕ) → from ≤ d → d < c → (held_by d (held_of self.entry.now.seats.now.items)).key ≡ None)) }
+        ensures none { IsNone result → (d : ℕ) → from ≤ d → (held_by d (held_of self.entry.now.seats.now.items)).key ≡ None }
     {
         for c in from..self.seats.len() {
             if self.live_key(c).is_some() {
@@ -216,11 +216,9 @@ impl<'a, P: Ports> Link<'a, P> {
     fn write_on(&mut self, c: usize) -> Result<bool, usize>
         ensures same_ports { self.new.ports.ghost_name ≡ self.old.ports.ghost_name }
         ensures failed { self.new.has_failed ≡ self.old.has_failed }
-        ensures keys { live_keys self.new.seats.now.items ≡ live_keys self.old.seats.now.items }
         ensures phase { self.new.phase ≡ self.old.phase }
         ensures ok { IsOk result → Keeps P.asked self.old → Keeps P.asked self.new }
-        ensures whose { IfErr result (λ key. get_or (live_keys self.old.seats.now.items) c None ≡ Some key) }
-        ensures err { IfErr result (λ key. Keeps P.asked self.old → Has P.asked self.new.ports.now (AreEndedBy (IsFailedWriteOf key) (live_keys self.new.seats.now.items) self.new.phase)) }
+        ensures broke { IfErr result (λ key. Keeps P.asked self.old → Has P.asked self.new.ports.now (AreBroken c key (held_of self.new.seats.now.items) self.new.phase)) }
     {
         let Some(seat) = self.seats.get_mut(c) else {
             return Ok(false);
@@ -234,7 +232,7 @@ impl<'a, P: Ports> Link<'a, P> {
 
     /// The key of a client's connection whose octets have waited too long.
     fn overdue(&self, c: usize) -> Option<usize>
-        ensures { IfSome result (λ key. get_or (live_keys self.entry.now.seats.now.items) c None ≡ Some key) }
+        ensures { IfSome result (λ key. (held_by c (held_of self.entry.now.seats.now.items)).key ≡ Some key) }
     {
         let seat = self.seats.get(c)?;
         if !seat.live.is_over(self.now) {
@@ -291,7 +289,6 @@ impl<'a, P: Ports> Link<'a, P> {
     fn finish_closing(&mut self)
         ensures same_ports { self.new.ports.ghost_name ≡ self.old.ports.ghost_name }
         ensures failed { self.new.has_failed ≡ self.old.has_failed }
-        ensures keys { live_keys self.new.seats.now.items ≡ live_keys self.old.seats.now.items }
         ensures phase { self.new.phase ≡ self.old.phase }
         ensures handled { Keeps P.asked self.old → Keeps P.asked self.new }
     {
@@ -304,7 +301,6 @@ impl<'a, P: Ports> Link<'a, P> {
     fn finish(&mut self, c: usize)
         ensures same_ports { self.new.ports.ghost_name ≡ self.old.ports.ghost_name }
         ensures failed { self.new.has_failed ≡ self.old.has_failed }
-        ensures keys { live_keys self.new.seats.now.items ≡ live_keys self.old.seats.now.items }
         ensures phase { self.new.phase ≡ self.old.phase }
         ensures handled { Keeps P.asked self.old → Keeps P.asked self.new }
     {

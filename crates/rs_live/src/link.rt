@@ -2,10 +2,10 @@
 //! what the core says goes to the ports (`orders`). Where a connection fails the core is told of its
 //! loss at once.
 
-ghost use Rattle.std.specs.Prelude.{◌≡◌, ◌∷◌, false, List, set, get_or, None, IsTrue, IsFalse};
+ghost use Rattle.std.specs.Prelude.{◌≡◌, ◌∷◌, false, List, [], None, IsTrue, IsFalse};
 ghost use Rattle.rs_live.specs.Calls.{Call, Closed, Said};
 ghost use Rattle.rs_live.specs.Handled.{Has, EndByWait, Keeps};
-ghost use Rattle.rs_live.specs.Keeping.{IsPlain, live_keys};
+ghost use Rattle.rs_live.specs.Keeping.{IsPlain, change, held_by, held_of, with_live};
 
 use crate::ports::{Caller, Line, Ports};
 use crate::reports::Report;
@@ -147,7 +147,7 @@ impl<'a, P: Ports> Link<'a, P> {
     fn fetch(&mut self) -> bool
         ensures same_ports { self.new.ports.ghost_name ≡ self.old.ports.ghost_name }
         ensures failed { self.new.has_failed ≡ self.old.has_failed }
-        ensures keys { live_keys self.new.seats.now.items ≡ live_keys self.old.seats.now.items }
+        ensures held { held_of self.new.seats.now.items ≡ held_of self.old.seats.now.items }
         ensures phase { self.new.phase ≡ self.old.phase }
         ensures handled { Keeps P.asked self.old → Keeps P.asked self.new }
     {
@@ -158,7 +158,7 @@ impl<'a, P: Ports> Link<'a, P> {
     pub(crate) fn say_rules(&mut self, answer: Result<(), RulesFault>)
         ensures same_ports { self.new.ports.ghost_name ≡ self.old.ports.ghost_name }
         ensures failed { self.new.has_failed ≡ self.old.has_failed }
-        ensures keys { live_keys self.new.seats.now.items ≡ live_keys self.old.seats.now.items }
+        ensures held { held_of self.new.seats.now.items ≡ held_of self.old.seats.now.items }
         ensures phase { self.new.phase ≡ self.old.phase }
         ensures handled { Keeps P.asked self.old → Keeps P.asked self.new }
     {
@@ -199,7 +199,7 @@ impl<'a, P: Ports> Link<'a, P> {
     pub fn take_strangers(&mut self) -> Option<(u32, u64)>
         ensures same_ports { self.new.ports.ghost_name ≡ self.old.ports.ghost_name }
         ensures failed { self.new.has_failed ≡ self.old.has_failed }
-        ensures keys { live_keys self.new.seats.now.items ≡ live_keys self.old.seats.now.items }
+        ensures held { held_of self.new.seats.now.items ≡ held_of self.old.seats.now.items }
         ensures phase { self.new.phase ≡ self.old.phase }
         ensures unasked { self.new.ports.now ≡ self.old.ports.now }
     {
@@ -210,7 +210,7 @@ impl<'a, P: Ports> Link<'a, P> {
     pub fn take_ended(&mut self, c: usize) -> bool
         ensures same_ports { self.new.ports.ghost_name ≡ self.old.ports.ghost_name }
         ensures failed { self.new.has_failed ≡ self.old.has_failed }
-        ensures keys { live_keys self.new.seats.now.items ≡ live_keys self.old.seats.now.items }
+        ensures held { held_of self.new.seats.now.items ≡ held_of self.old.seats.now.items }
         ensures phase { self.new.phase ≡ self.old.phase }
         ensures unasked { self.new.ports.now ≡ self.old.ports.now }
     {
@@ -229,7 +229,7 @@ impl<'a, P: Ports> Link<'a, P> {
     pub fn log(&mut self, report: &Report)
         ensures same_ports { self.new.ports.ghost_name ≡ self.old.ports.ghost_name }
         ensures failed { self.new.has_failed ≡ self.old.has_failed }
-        ensures keys { live_keys self.new.seats.now.items ≡ live_keys self.old.seats.now.items }
+        ensures held { held_of self.new.seats.now.items ≡ held_of self.old.seats.now.items }
         ensures phase { self.new.phase ≡ self.old.phase }
         ensures handled { Keeps P.asked self.old → Keeps P.asked self.new }
     {
@@ -240,7 +240,7 @@ impl<'a, P: Ports> Link<'a, P> {
     pub(crate) fn say(&mut self, line: Line)
         ensures same_ports { self.new.ports.ghost_name ≡ self.old.ports.ghost_name }
         ensures failed { self.new.has_failed ≡ self.old.has_failed }
-        ensures keys { live_keys self.new.seats.now.items ≡ live_keys self.old.seats.now.items }
+        ensures held { held_of self.new.seats.now.items ≡ held_of self.old.seats.now.items }
         ensures phase { self.new.phase ≡ self.old.phase }
         ensures asked { (calls : List Call) → P.asked self.old.ports.now calls → P.asked self.new.ports.now (Said line ∷ calls) }
         ensures handled { IsPlain (Said line) → Keeps P.asked self.old → Keeps P.asked self.new }
@@ -252,7 +252,7 @@ impl<'a, P: Ports> Link<'a, P> {
     pub(crate) fn note_end(&mut self, c: usize)
         ensures same_ports { self.new.ports.ghost_name ≡ self.old.ports.ghost_name }
         ensures failed { self.new.has_failed ≡ self.old.has_failed }
-        ensures keys { live_keys self.new.seats.now.items ≡ live_keys self.old.seats.now.items }
+        ensures held { held_of self.new.seats.now.items ≡ held_of self.old.seats.now.items }
         ensures phase { self.new.phase ≡ self.old.phase }
         ensures unasked { self.new.ports.now ≡ self.old.ports.now }
     {
@@ -267,7 +267,7 @@ impl<'a, P: Ports> Link<'a, P> {
     pub(crate) fn lose(&mut self, c: usize, key: usize)
         ensures same_ports { self.new.ports.ghost_name ≡ self.old.ports.ghost_name }
         ensures failed { self.new.has_failed ≡ self.old.has_failed }
-        ensures keys { live_keys self.new.seats.now.items ≡ set (live_keys self.old.seats.now.items) c None }
+        ensures held { held_of self.new.seats.now.items ≡ change c (with_live None []) (held_of self.old.seats.now.items) }
         ensures phase { self.new.phase ≡ self.old.phase }
         ensures asked { (calls : List Call) → P.asked self.old.ports.now calls → P.asked self.new.ports.now (Closed key ∷ Said (Line.Lost c) ∷ calls) }
     {
@@ -279,7 +279,7 @@ impl<'a, P: Ports> Link<'a, P> {
 
     /// The key of a client's connection.
     pub(crate) fn live_key(&self, c: usize) -> Option<usize>
-        ensures { result ≡ get_or (live_keys self.entry.now.seats.now.items) c None }
+        ensures { result ≡ (held_by c (held_of self.entry.now.seats.now.items)).key }
     {
         self.seats.get(c)?.live.key()
     }
@@ -288,7 +288,7 @@ impl<'a, P: Ports> Link<'a, P> {
     fn forget(&mut self, c: usize)
         ensures same_ports { self.new.ports.ghost_name ≡ self.old.ports.ghost_name }
         ensures failed { self.new.has_failed ≡ self.old.has_failed }
-        ensures keys { live_keys self.new.seats.now.items ≡ set (live_keys self.old.seats.now.items) c None }
+        ensures held { held_of self.new.seats.now.items ≡ change c (with_live None []) (held_of self.old.seats.now.items) }
         ensures phase { self.new.phase ≡ self.old.phase }
         ensures unasked { self.new.ports.now ≡ self.old.ports.now }
     {

@@ -1,9 +1,11 @@
 //! What the core says, as calls on the ports.
 
-ghost use Rattle.std.specs.Prelude.{◌≡◌, ◌≤◌, ℕ, List, Option, length, get_or, set, None, IfOk, IfErr, IsOk, IsSome, IsNone};
-ghost use Rattle.rs_live.specs.Calls.{IsFailedWriteOf};
-ghost use Rattle.rs_live.specs.Handled.{Has, AreEndedBy, AreKept, Keeps};
-ghost use Rattle.rs_live.specs.Keeping.{key_come, live_keys};
+ghost use Rattle.std.specs.Prelude.{◌≡◌, ◌≤◌, ◌∷◌, Some, None, length, IfOk, IfErr, IsSome, IsNone};
+ghost use Rattle.rs_core.specs.Links.{Begin, Offer, End};
+ghost use Rattle.rs_live.specs.declared.ports.Caller.{Caller};
+ghost use Rattle.rs_live.specs.Deeds.{Did};
+ghost use Rattle.rs_live.specs.Handled.{Has, AreBroken, AreKept, Keeps};
+ghost use Rattle.rs_live.specs.Keeping.{held_by, held_of, key_come};
 
 use crate::link::{Link, Phase};
 use crate::ports::{Line, Ports};
@@ -16,7 +18,7 @@ impl<'a, P: Ports> Link<'a, P> {
         ensures same_ports { self.new.ports.ghost_name ≡ self.old.ports.ghost_name }
         ensures failed { self.new.has_failed ≡ self.old.has_failed }
         ensures unasked { self.new.ports.now ≡ self.old.ports.now }
-        ensures keys { live_keys self.new.seats.now.items ≡ live_keys self.old.seats.now.items }
+        ensures held { held_of self.new.seats.now.items ≡ held_of self.old.seats.now.items }
         ensures come { result ≡ key_come c self.old.phase }
         ensures answered { IsSome result → self.new.phase ≡ Phase.Accept }
         ensures same { IsNone result → self.new.phase ≡ self.old.phase }
@@ -35,9 +37,8 @@ impl<'a, P: Ports> Link<'a, P> {
     fn take_on(&mut self, c: usize, key: usize)
         ensures same_ports { self.new.ports.ghost_name ≡ self.old.ports.ghost_name }
         ensures failed { self.new.has_failed ≡ self.old.has_failed }
-        ensures keys { live_keys self.new.seats.now.items ≡ set (live_keys self.old.seats.now.items) c (Some key) }
         ensures phase { self.new.phase ≡ self.old.phase }
-        ensures handled { (keys : List (Option ℕ)) (phase : Phase) → Has P.asked self.old.ports.now (AreKept keys phase) → Has P.asked self.new.ports.now (AreKept keys phase) }
+        ensures begun { (caller : Caller) → caller.key ≡ key → Has P.asked self.old.ports.now (AreKept (held_of self.old.seats.now.items) (Phase.Come c caller)) → Has P.asked self.new.ports.now (λ deeds. AreKept (held_of self.new.seats.now.items) Phase.Accept (Did (Begin c) ∷ deeds)) }
     {
         if let Some(seat) = self.seats.get_mut(c) {
             seat.closing.close(self.ports);
@@ -51,11 +52,9 @@ impl<'a, P: Ports> Link<'a, P> {
         ensures same_ports { self.new.ports.ghost_name ≡ self.old.ports.ghost_name }
         ensures failed { self.new.has_failed ≡ self.old.has_failed }
         ensures count { IfOk result (λ n. n ≤ length octets.now) }
-        ensures keys { live_keys self.new.seats.now.items ≡ live_keys self.old.seats.now.items }
         ensures phase { self.new.phase ≡ self.old.phase }
-        ensures ok { IsOk result → Keeps P.asked self.old → Keeps P.asked self.new }
-        ensures whose { IfErr result (λ key. get_or (live_keys self.old.seats.now.items) c None ≡ Some key) }
-        ensures err { IfErr result (λ key. Keeps P.asked self.old → Has P.asked self.new.ports.now (AreEndedBy (IsFailedWriteOf key) (live_keys self.new.seats.now.items) self.new.phase)) }
+        ensures ok { IfOk result (λ n. Keeps P.asked self.old → Has P.asked self.new.ports.now (λ deeds. AreKept (held_of self.new.seats.now.items) self.new.phase (Did (Offer c octets.now (Some n)) ∷ deeds))) }
+        ensures broke { IfErr result (λ key. Keeps P.asked self.old → Has P.asked self.new.ports.now (AreBroken c key (held_of self.new.seats.now.items) self.new.phase)) }
     {
         match self.seats.get_mut(c) {
             Some(seat) if seat.live.is_open() => seat.live.offer(self.ports, octets, self.now),
@@ -68,9 +67,8 @@ impl<'a, P: Ports> Link<'a, P> {
     fn retire(&mut self, c: usize)
         ensures same_ports { self.new.ports.ghost_name ≡ self.old.ports.ghost_name }
         ensures failed { self.new.has_failed ≡ self.old.has_failed }
-        ensures keys { live_keys self.new.seats.now.items ≡ set (live_keys self.old.seats.now.items) c None }
         ensures phase { self.new.phase ≡ self.old.phase }
-        ensures handled { (keys : List (Option ℕ)) (phase : Phase) → Has P.asked self.old.ports.now (AreKept keys phase) → Has P.asked self.new.ports.now (AreKept keys phase) }
+        ensures ended { IsSome (held_by c (held_of self.old.seats.now.items)).key → Keeps P.asked self.old → Has P.asked self.new.ports.now (λ deeds. AreKept (held_of self.new.seats.now.items) self.new.phase (Did (End c) ∷ deeds)) }
     {
         if let Some(seat) = self.seats.get_mut(c) {
             seat.closing.close(self.ports);
@@ -82,14 +80,14 @@ impl<'a, P: Ports> Link<'a, P> {
     fn end_session(&mut self, c: usize)
         ensures same_ports { self.new.ports.ghost_name ≡ self.old.ports.ghost_name }
         ensures failed { self.new.has_failed ≡ self.old.has_failed }
-        ensures keys { live_keys self.new.seats.now.items ≡ set (live_keys self.old.seats.now.items) c None }
         ensures phase { self.new.phase ≡ self.old.phase }
-        ensures handled { (keys : List (Option ℕ)) (phase : Phase) → Has P.asked self.old.ports.now (AreKept keys phase) → Has P.asked self.new.ports.now (AreKept keys phase) }
+        ensures ended { Keeps P.asked self.old → Has P.asked self.new.ports.now (λ deeds. AreKept (held_of self.new.seats.now.items) self.new.phase (Did (End c) ∷ deeds)) }
     {
-        if self.live_key(c).is_some() {
-            self.note_end(c);
-            self.retire(c);
-        }
+        let Some(_) = self.live_key(c) else {
+            return;
+        };
+        self.note_end(c);
+        self.retire(c);
     }
 }
 

@@ -1,12 +1,12 @@
 //! A place for each client: where its connection comes from, the one that it has, and an earlier one
 //! that the server is closing.
 
-ghost use Rattle.std.specs.Prelude.{◌≡◌, ◌≤◌, ◌++◌, ◌↔◌, ℕ, List, [], length, take, drop, get_or, Option, IfOk, IfErr, IsOk, IsErr, IsSome, IsTrue};
-ghost use Rattle.rs_live.specs.Calls.{Call, IsFailedWriteOf};
+ghost use Rattle.std.specs.Prelude.{◌≡◌, ◌≤◌, ◌<◌, ◌++◌, ◌↔◌, ℕ, List, [], length, take, drop, IfOk, IfErr, IsOk, IsSome, IsTrue};
+ghost use Rattle.rs_live.specs.Calls.{Call};
 ghost use Rattle.rs_live.specs.declared.link.Phase.{Phase};
-ghost use Rattle.rs_live.specs.Handled.{Has, AreEndedBy, AreHandled, AreKept, EndBy};
-ghost use Rattle.rs_live.specs.Keeping.{live_keys};
-ghost use Rattle.rs_live.specs.Sending.{Sent};
+ghost use Rattle.rs_live.specs.Handled.{Has, AreKept};
+ghost use Rattle.rs_live.specs.Keeping.{Held, change, held_by, held_of, nothing, with_rest};
+ghost use Rattle.rs_live.specs.Sending.{Broke, Sent};
 
 use crate::outbox::Outbox;
 use crate::ports::Ports;
@@ -34,7 +34,7 @@ pub struct Connection {
 
 impl Connection {
     fn new(alloc: Global) -> Result<Connection, AllocError>
-        ensures { IfOk result (λ it. it.key ≡ None) }
+        ensures { IfOk result (λ it. (it.key ≡ None) × (it.out ≡ [])) }
     {
         Ok(Connection {
             key: None,
@@ -79,7 +79,8 @@ impl Connection {
 
     /// It is to be closed once nothing waits.
     pub fn close_from(&mut self, now: u64)
-        ensures { self.new.key ≡ self.old.key }
+        ensures key { self.new.key ≡ self.old.key }
+        ensures out { self.new.out ≡ self.old.out }
     {
         self.since = now;
         self.is_closing = true;
@@ -107,12 +108,7 @@ impl Connection {
         ensures count { IfOk result (λ n. n ≤ length octets.now) }
         ensures key { self.new.key ≡ self.old.key }
         ensures taken { IfOk result (λ n. (calls : List Call) → P.asked ports.old calls → Sent P.asked self.old.key calls self.old.out ports.new (λ waiting. self.new.out ≡ waiting ++ take n octets.now)) }
-        ensures refused { IsErr result → (calls : List Call) → P.asked ports.old calls → Sent P.asked self.old.key calls self.old.out ports.new (λ waiting. self.new.out ≡ waiting) }
-        ensures ok { IsOk result → Has P.asked ports.old AreHandled → Has P.asked ports.new AreHandled }
-        ensures err { IfErr result (λ key. Has P.asked ports.old AreHandled → Has P.asked ports.new (EndBy (IsFailedWriteOf key))) }
-        ensures kept { IsOk result → (keys : List (Option ℕ)) (phase : Phase) → Has P.asked ports.old (AreKept keys phase) → Has P.asked ports.new (AreKept keys phase) }
-        ensures whose { IfErr result (λ key. self.old.key ≡ Some key) }
-        ensures broken { IfErr result (λ key. (keys : List (Option ℕ)) (phase : Phase) → Has P.asked ports.old (AreKept keys phase) → Has P.asked ports.new (AreEndedBy (IsFailedWriteOf key) keys phase)) }
+        ensures broke { IfErr result (λ key. (calls : List Call) → P.asked ports.old calls → Broke P.asked key self.old.key calls self.old.out ports.new self.new.out) }
     {
         self.make_room(ports, now)?;
         if self.out.is_empty() {
@@ -124,12 +120,8 @@ impl Connection {
     /// Writes what waits where there is no room; where that fails the error is the key.
     fn make_room<P: Ports>(&mut self, ports: &mut P, now: u64) -> Result<(), usize>
         ensures key { self.new.key ≡ self.old.key }
-        ensures sent { (calls : List Call) → P.asked ports.old calls → Sent P.asked self.old.key calls self.old.out ports.new (λ waiting. self.new.out ≡ waiting) }
-        ensures ok { IsOk result → Has P.asked ports.old AreHandled → Has P.asked ports.new AreHandled }
-        ensures err { IfErr result (λ key. Has P.asked ports.old AreHandled → Has P.asked ports.new (EndBy (IsFailedWriteOf key))) }
-        ensures kept { IsOk result → (keys : List (Option ℕ)) (phase : Phase) → Has P.asked ports.old (AreKept keys phase) → Has P.asked ports.new (AreKept keys phase) }
-        ensures whose { IfErr result (λ key. self.old.key ≡ Some key) }
-        ensures broken { IfErr result (λ key. (keys : List (Option ℕ)) (phase : Phase) → Has P.asked ports.old (AreKept keys phase) → Has P.asked ports.new (AreEndedBy (IsFailedWriteOf key) keys phase)) }
+        ensures sent { IsOk result → (calls : List Call) → P.asked ports.old calls → Sent P.asked self.old.key calls self.old.out ports.new (λ waiting. self.new.out ≡ waiting) }
+        ensures broke { IfErr result (λ key. (calls : List Call) → P.asked ports.old calls → Broke P.asked key self.old.key calls self.old.out ports.new self.new.out) }
     {
         if !self.out.is_full() {
             return Ok(());
@@ -142,12 +134,8 @@ impl Connection {
     /// Writes what waits, until the socket takes no more; where that fails the error is the key.
     pub fn write<P: Ports>(&mut self, ports: &mut P, now: u64) -> Result<(), usize>
         ensures key { self.new.key ≡ self.old.key }
-        ensures sent { (calls : List Call) → P.asked ports.old calls → Sent P.asked self.old.key calls self.old.out ports.new (λ waiting. self.new.out ≡ waiting) }
-        ensures ok { IsOk result → Has P.asked ports.old AreHandled → Has P.asked ports.new AreHandled }
-        ensures err { IfErr result (λ key. Has P.asked ports.old AreHandled → Has P.asked ports.new (EndBy (IsFailedWriteOf key))) }
-        ensures kept { IsOk result → (keys : List (Option ℕ)) (phase : Phase) → Has P.asked ports.old (AreKept keys phase) → Has P.asked ports.new (AreKept keys phase) }
-        ensures whose { IfErr result (λ key. self.old.key ≡ Some key) }
-        ensures broken { IfErr result (λ key. (keys : List (Option ℕ)) (phase : Phase) → Has P.asked ports.old (AreKept keys phase) → Has P.asked ports.new (AreEndedBy (IsFailedWriteOf key) keys phase)) }
+        ensures sent { IsOk result → (calls : List Call) → P.asked ports.old calls → Sent P.asked self.old.key calls self.old.out ports.new (λ waiting. self.new.out ≡ waiting) }
+        ensures broke { IfErr result (λ key. (calls : List Call) → P.asked ports.old calls → Broke P.asked key self.old.key calls self.old.out ports.new self.new.out) }
     {
         let Some(key) = self.key else {
             return Ok(());
@@ -180,6 +168,7 @@ impl Connection {
     pub fn forget(&mut self) -> Option<usize>
         ensures was { result ≡ self.old.key }
         ensures now { self.new.key ≡ None }
+        ensures empty { self.new.out ≡ [] }
     {
         self.out.clear();
         self.key.take()
@@ -188,10 +177,10 @@ impl Connection {
     /// Closes the connection, if there is one.
     pub fn close<P: Ports>(&mut self, ports: &mut P)
         ensures key { self.new.key ≡ None }
-        ensures handled { Has P.asked ports.old AreHandled → Has P.asked ports.new AreHandled }
-        ensures kept { (keys : List (Option ℕ)) (phase : Phase) → Has P.asked ports.old (AreKept keys phase) → Has P.asked ports.new (AreKept keys phase) }
+        ensures kept { (c : ℕ) (held : List Held) (phase : Phase) → c < length held → (held_by c held).rest_key ≡ self.old.key → (held_by c held).rest ≡ self.old.out → Has P.asked ports.old (AreKept held phase) → Has P.asked ports.new (AreKept (change c (with_rest self.new.key self.new.out) held) phase) }
     {
-        if let Some(key) = self.forget() {
+        if let Some(key) = self.key {
+            self.forget();
             ports.close(key);
         }
     }
@@ -199,8 +188,7 @@ impl Connection {
     /// Goes on with a connection that is being closed: what waits is written, and it is closed where
     /// nothing waits any more, where its time is up, and where a write fails.
     pub fn finish<P: Ports>(&mut self, ports: &mut P, now: u64)
-        ensures handled { Has P.asked ports.old AreHandled → Has P.asked ports.new AreHandled }
-        ensures kept { (keys : List (Option ℕ)) (phase : Phase) → Has P.asked ports.old (AreKept keys phase) → Has P.asked ports.new (AreKept keys phase) }
+        ensures kept { (c : ℕ) (held : List Held) (phase : Phase) → c < length held → (held_by c held).rest_key ≡ self.old.key → (held_by c held).rest ≡ self.old.out → Has P.asked ports.old (AreKept held phase) → Has P.asked ports.new (AreKept (change c (with_rest self.new.key self.new.out) held) phase) }
     {
         match self.write(ports, now) {
             Err(key) => {
@@ -230,9 +218,13 @@ impl Seat {
     /// The connection, if there is one, is to be closed: it goes where one that is being closed has its
     /// place.
     pub(crate) fn retire(&mut self, now: u64)
-        ensures { self.new.live.key ≡ self.old.closing.key }
+        ensures key { self.new.live.key ≡ None }
+        ensures empty { self.new.live.out ≡ [] }
+        ensures rest_key { self.new.closing.key ≡ self.old.live.key }
+        ensures rest { self.new.closing.out ≡ self.old.live.out }
     {
         mem::swap(&mut self.live, &mut self.closing);
+        self.live.forget();
         self.closing.close_from(now);
     }
 }
@@ -251,7 +243,7 @@ pub fn listeners(alloc: Global, config: &Config) -> Result<Vec<(u32, u16)>, Allo
 
 /// A place for each client of the configuration.
 pub fn seats(alloc: Global, config: &Config) -> Result<Vec<Seat>, AllocError>
-    ensures { IfOk result (λ all. (c : ℕ) → get_or (live_keys all.items) c None ≡ None) }
+    ensures { IfOk result (λ all. (c : ℕ) → held_by c (held_of all.items) ≡ nothing) }
 {
     let listeners = listeners(alloc, config)?;
     let mut all = Vec::with_capacity(alloc, config.clients())?;

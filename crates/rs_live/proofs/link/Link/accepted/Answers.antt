@@ -3,12 +3,12 @@ use Rattle.rs_core.specs.declared.links.Event.TheVariants.{Opened}
 use Rattle.rs_core.specs.Links.{Told}
 use Rattle.rs_live.specs.declared.link.Phase.TheVariants as phases
 use Rattle.rs_live.specs.Calls.{Accepted, IsGood, IsFailedAccept}
-use Rattle.rs_live.specs.Keeping.{live_keys}
-use Rattle.rs_live.proofs.Handling.{asks, at_phase, ended, ends, follows, goes_on, halts, keeps_at, opens, refuses}
+use Rattle.rs_live.specs.Keeping.{held_of}
+use Rattle.rs_live.proofs.Handling.{asks, at_phase, end_alone, ends, follows, goes_on, halts, keeps_at, opens, refuses}
 use Rattle.rs_live.proofs.link.Link.accepted.Goals as goal
 
 pub returns-in-Err-clause-told : goal.returns-in-Err-clause-told
-returns-in-Err-clause-told g c p f h piece = halts g.P.Ports.asked piece _ refl (ended g.P.Ports.asked IsFailedAccept _ _ _ (ends g.P.Ports.asked IsFailedAccept _ _ _ _ _ c.in-Err.ensures refl tt (c.loop.invariant.told p f h).1))
+returns-in-Err-clause-told g c p f h piece = halts g.P.Ports.asked piece _ refl (end_alone g.P.Ports.asked IsFailedAccept _ _ _ (ends g.P.Ports.asked IsFailedAccept _ _ _ _ _ c.in-Err.ensures refl tt (c.loop.invariant.told p f h).1))
 
 pub returns-in-Ok-None-clause-told : goal.returns-in-Ok-None-clause-told
 returns-in-Ok-None-clause-told g c p f h piece =
@@ -35,9 +35,9 @@ loop-preserved g c = record {
   phase = λ p. c.refuse.ensures.phase ∙ c.loop.invariant.phase p;
   told = λ p f h.
       let i = c.loop.invariant.told p f h in
-      let keys = live_keys c.loop.self.seats.now.items in (
+      let keys = held_of c.loop.self.seats.now.items in (
         c.refuse.ensures.failed ∙ i.0,
-        keeps_at g.P.Ports.asked c.refuse.new.self keys phases.Accept c.refuse.new.self.ports.now c.refuse.ensures.keys (c.refuse.ensures.phase ∙ c.loop.invariant.phase p) refl
+        keeps_at g.P.Ports.asked c.refuse.new.self keys phases.Accept c.refuse.new.self.ports.now c.refuse.ensures.held (c.refuse.ensures.phase ∙ c.loop.invariant.phase p) refl
             (refuses g.P.Ports.asked keys c.in-Ok-Some.caller _ _ _ _ c.in-Ok-Some.field-0-is c.in-Ok-Some.ensures c.refuse.ensures.asked (at_phase g.P.Ports.asked c.loop.self phases.Accept (c.loop.invariant.phase p) i.1)),
       );
 }

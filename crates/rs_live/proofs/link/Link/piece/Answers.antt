@@ -10,17 +10,17 @@ pub returns-in-Ok-None-clause-told : goal.returns-in-Ok-None-clause-told
 returns-in-Ok-None-clause-told g c p f h = (f, asks g.P.Ports.asked _ _ _ _ _ c.in-Ok-None.ensures.asked (subst (λ r. IsGood (Read 0 [] (Ok r))) (sym c.in-Ok-None.field-0-is) refl) tt h)
 
 pub returns-then-count-eq0-clause-told : goal.returns-then-count-eq0-clause-told
-returns-then-count-eq0-clause-told g c p f h text = follows g.P.Ports.asked (Told (Lost _) []) _ _ _ _ (c.lose.ensures.failed ∙ f) c.lose.ensures.keys c.lose.ensures.phase
+returns-then-count-eq0-clause-told g c p f h text = follows g.P.Ports.asked (Told (Lost _) []) _ _ _ _ (c.lose.ensures.failed ∙ f) c.lose.ensures.held c.lose.ensures.phase
     (fails g.P.Ports.asked _ _ c.args.self.now.reading _ (Told (Lost _) []) _ _ c.lose.ensures.asked (sym c.in-Some.ensures) refl
     (ends g.P.Ports.asked (FindsLost _) _ _ _ _ _ c.in-Ok-Some.ensures.asked (refl, is_last _ _ c.in-Ok-Some.field-0-is c.if-count-eq0.true) tt h))
 
 pub returns-else-count-eq0-clause-told : goal.returns-else-count-eq0-clause-told
 returns-else-count-eq0-clause-told g c p f h text =
     let some : c.in-Ok-Some.count ≢ 0 = λ e. absurd (c.if-count-eq0.false e) in
-    follows_at g.P.Ports.asked (Told (Octets c.args.self.now.reading c.in-Ok-Some.count) (take c.in-Ok-Some.count c.read.new.piece)) _ _ _ phases.Read _ (c.heard.ensures.failed ∙ f) c.heard.ensures.keys (c.heard.ensures.phase ∙ p) c.heard.ensures.unasked
+    follows_at g.P.Ports.asked (Told (Octets c.args.self.now.reading c.in-Ok-Some.count) (take c.in-Ok-Some.count c.read.new.piece)) _ _ _ phases.Read _ (c.heard.ensures.failed ∙ f) c.heard.ensures.held (c.heard.ensures.phase ∙ p) c.heard.ensures.unasked
     (hears g.P.Ports.asked _ _ _ _ _ c.read.new.piece _ _ (sym c.in-Some.ensures) some c.in-Ok-Some.field-0-is c.in-Ok-Some.ensures.asked (at_phase g.P.Ports.asked c.args.self.now phases.Read p h))
 
 pub returns-in-Err-clause-told : goal.returns-in-Err-clause-told
-returns-in-Err-clause-told g c p f h text = follows g.P.Ports.asked (Told (Lost _) []) _ _ _ _ (c.lose-in-Err.ensures.failed ∙ f) c.lose-in-Err.ensures.keys c.lose-in-Err.ensures.phase
+returns-in-Err-clause-told g c p f h text = follows g.P.Ports.asked (Told (Lost _) []) _ _ _ _ (c.lose-in-Err.ensures.failed ∙ f) c.lose-in-Err.ensures.held c.lose-in-Err.ensures.phase
     (fails g.P.Ports.asked _ _ c.args.self.now.reading _ (Told (Lost _) []) _ _ c.lose-in-Err.ensures.asked (sym c.in-Some.ensures) refl
     (ends g.P.Ports.asked (FindsLost _) _ _ _ _ _ c.in-Err.ensures.asked (refl, tt) tt h))

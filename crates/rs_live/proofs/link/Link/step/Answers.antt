@@ -3,14 +3,14 @@ use Rattle.rs_core.specs.declared.links.Event.TheVariants.{Rules, Stop}
 use Rattle.rs_core.specs.Links.{Told}
 use Rattle.rs_live.specs.declared.link.Phase.TheVariants as phases
 use Rattle.rs_live.specs.Handled.{Has, AreKept}
-use Rattle.rs_live.proofs.Handling.{at_phase, does, follows, goes_on, passes_over}
+use Rattle.rs_live.proofs.Handling.{at_phase, come_at, does, follows, goes_on, passes_over}
 use Rattle.rs_live.proofs.link.Link.step.Goals as goal
 
 pub returns-in-Rules-clause-told : goal.returns-in-Rules-clause-told
 returns-in-Rules-clause-told g c f h text = follows g.P.Ports.asked (Told Rules text) _ _ _ _ f refl refl (does g.P.Ports.asked _ _ (Told Rules text) _ tt tt (goes_on g.P.Ports.asked _ phases.Rules phases.Accept _ (λ k. refl) (λ deeds x. tt) (at_phase g.P.Ports.asked c.args.self.now phases.Rules c.in-Rules.is h)))
 
 pub returns-in-Come-clause-told : goal.returns-in-Come-clause-told
-returns-in-Come-clause-told g c f h = (c.refuse.ensures.failed ∙ f, subst (λ keys. Has g.P.Ports.asked c.refuse.new.self.ports.now (AreKept keys phases.Accept)) (sym c.refuse.ensures.keys) (passes_over g.P.Ports.asked _ _ _ _ _ c.refuse.ensures.asked h))
+returns-in-Come-clause-told g c f h = (c.refuse.ensures.failed ∙ f, subst (λ keys. Has g.P.Ports.asked c.refuse.new.self.ports.now (AreKept keys phases.Accept)) (sym c.refuse.ensures.held) (passes_over g.P.Ports.asked _ _ _ _ _ _ (come_at c.args.self.now.phase _ _ c.in-Come.is) c.refuse.ensures.asked h))
 
 pub returns-in-Over-clause-told : goal.returns-in-Over-clause-told
 returns-in-Over-clause-told g c f h text = follows g.P.Ports.asked (Told Stop []) _ _ _ _ f refl refl (does g.P.Ports.asked _ _ (Told Stop []) _ tt tt h)

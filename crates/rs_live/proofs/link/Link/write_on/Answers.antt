@@ -1,24 +1,25 @@
-use Rattle.std.proofs.Common.{refl, sym, subst}
+use Rattle.std.proofs.Common.{ap, refl, sym, subst}
 use Rattle.std.proofs.lemmas.Option.{slice_get_read}
-use Rattle.rs_live.specs.Calls.{IsFailedWriteOf}
-use Rattle.rs_live.specs.Handled.{Has, AreEndedBy, AreKept}
-use Rattle.rs_live.proofs.Places.{keys_same}
+use Rattle.rs_live.specs.Handled.{Has, AreBroken, AreKept}
+use Rattle.rs_live.specs.Keeping.{with_live}
+use Rattle.rs_live.proofs.Places.{held_changed, held_there, parts}
+use Rattle.rs_live.proofs.Handling.{breaks_all, waits_so, waits_written}
 use Rattle.rs_live.proofs.link.Link.write_on.Goals as goal
 
-pub returns-in-Err-clause-keys : goal.returns-in-Err-clause-keys
-returns-in-Err-clause-keys g c = keys_same _ _ c.in-Some.seat.now _ (slice_get_read _ _ _ c.in-Some.seat.now refl c.in-Some.ensures.item.3.0 c.in-Some.ensures.item.1) c.write.ensures.key
-
-pub returns-in-Err-clause-err : goal.returns-in-Err-clause-err
-returns-in-Err-clause-err g c h = subst (λ keys. Has g.P.Ports.asked c.write.new.ports (AreEndedBy (IsFailedWriteOf c.in-Err.key) keys c.args.self.now.phase)) (sym (keys_same _ _ c.in-Some.seat.now _ (slice_get_read _ _ _ c.in-Some.seat.now refl c.in-Some.ensures.item.3.0 c.in-Some.ensures.item.1) c.write.ensures.key)) (c.in-Err.ensures.broken _ _ h)
-
-pub returns-then-was_full-clause-keys : goal.returns-then-was_full-clause-keys
-returns-then-was_full-clause-keys g c = keys_same _ _ c.in-Some.seat.now _ (slice_get_read _ _ _ c.in-Some.seat.now refl c.in-Some.ensures.item.3.0 c.in-Some.ensures.item.1) c.write.ensures.key
+pub returns-in-Err-clause-broke : goal.returns-in-Err-clause-broke
+returns-in-Err-clause-broke g c h =
+    let was = (slice_get_read _ _ _ c.in-Some.seat.now refl c.in-Some.ensures.item.3.0 c.in-Some.ensures.item.1) in
+    subst (λ held. Has g.P.Ports.asked c.write.new.ports (AreBroken c.args.c c.in-Err.key held c.args.self.now.phase)) (sym (held_changed (waits_so c.write.new.self.out) _ _ c.in-Some.seat.now _ was (parts c.write.ensures.key refl refl refl)))
+    (breaks_all g.P.Ports.asked _ _ c.args.c _ _ _ _ _ _ (ap (λ x. x.key) (held_there c.args.self.now.seats.now.items c.args.c c.in-Some.seat.now was)) (ap (λ x. x.waiting) (held_there c.args.self.now.seats.now.items c.args.c c.in-Some.seat.now was)) c.in-Err.ensures.broke h)
 
 pub returns-then-was_full-clause-ok : goal.returns-then-was_full-clause-ok
-returns-then-was_full-clause-ok g c o h = subst (λ keys. Has g.P.Ports.asked c.write.new.ports (AreKept keys c.args.self.now.phase)) (sym (keys_same _ _ c.in-Some.seat.now _ (slice_get_read _ _ _ c.in-Some.seat.now refl c.in-Some.ensures.item.3.0 c.in-Some.ensures.item.1) c.write.ensures.key)) (c.in-Ok.ensures.kept refl _ _ h)
-
-pub returns-else-was_full-clause-keys : goal.returns-else-was_full-clause-keys
-returns-else-was_full-clause-keys g c = keys_same _ _ c.in-Some.seat.now _ (slice_get_read _ _ _ c.in-Some.seat.now refl c.in-Some.ensures.item.3.0 c.in-Some.ensures.item.1) c.write.ensures.key
+returns-then-was_full-clause-ok g c o h =
+    let was = (slice_get_read _ _ _ c.in-Some.seat.now refl c.in-Some.ensures.item.3.0 c.in-Some.ensures.item.1) in
+    subst (λ held. Has g.P.Ports.asked c.write.new.ports (AreKept held c.args.self.now.phase)) (sym (held_changed (with_live c.write.new.self.key c.write.new.self.out) _ _ c.in-Some.seat.now _ was refl))
+    (waits_written g.P.Ports.asked _ _ c.args.c _ _ _ _ _ _ (ap (λ x. x.key) (held_there c.args.self.now.seats.now.items c.args.c c.in-Some.seat.now was)) (ap (λ x. x.waiting) (held_there c.args.self.now.seats.now.items c.args.c c.in-Some.seat.now was)) c.write.ensures.key (c.in-Ok.ensures.sent refl) h)
 
 pub returns-else-was_full-clause-ok : goal.returns-else-was_full-clause-ok
-returns-else-was_full-clause-ok g c o h = subst (λ keys. Has g.P.Ports.asked c.write.new.ports (AreKept keys c.args.self.now.phase)) (sym (keys_same _ _ c.in-Some.seat.now _ (slice_get_read _ _ _ c.in-Some.seat.now refl c.in-Some.ensures.item.3.0 c.in-Some.ensures.item.1) c.write.ensures.key)) (c.in-Ok.ensures.kept refl _ _ h)
+returns-else-was_full-clause-ok g c o h =
+    let was = (slice_get_read _ _ _ c.in-Some.seat.now refl c.in-Some.ensures.item.3.0 c.in-Some.ensures.item.1) in
+    subst (λ held. Has g.P.Ports.asked c.write.new.ports (AreKept held c.args.self.now.phase)) (sym (held_changed (with_live c.write.new.self.key c.write.new.self.out) _ _ c.in-Some.seat.now _ was refl))
+    (waits_written g.P.Ports.asked _ _ c.args.c _ _ _ _ _ _ (ap (λ x. x.key) (held_there c.args.self.now.seats.now.items c.args.c c.in-Some.seat.now was)) (ap (λ x. x.waiting) (held_there c.args.self.now.seats.now.items c.args.c c.in-Some.seat.now was)) c.write.ensures.key (c.in-Ok.ensures.sent refl) h)

@@ -12,7 +12,7 @@ returns-in-Some g c = (
   c.take_come.ensures.same_ports ∙ c.say.ensures.same_ports,
   λ f h.
       follows g.P.Ports.asked (Busy c.args.c) _ _ _ phases.Accept (c.take_come.ensures.failed ∙ c.say.ensures.failed ∙ f)
-      (c.take_come.ensures.keys ∙ c.say.ensures.keys)
+      (c.take_come.ensures.held ∙ c.say.ensures.held)
       (c.in-Some.ensures.answered refl)
       (turns_away g.P.Ports.asked _ c.args.self.now.phase c.args.c c.in-Some.key _ _
       (ap (λ p. key_come c.args.c p) (sym c.say.ensures.phase) ∙ sym c.take_come.ensures.come ∙ c.in-Some.is)
@@ -24,6 +24,6 @@ pub returns-in_default : goal.returns-in_default
 returns-in_default g c = (
   c.take_come.ensures.same_ports ∙ c.say.ensures.same_ports,
   λ f h.
-      follows_at g.P.Ports.asked (Busy c.args.c) _ _ _ _ _ (c.take_come.ensures.failed ∙ c.say.ensures.failed ∙ f) c.take_come.ensures.keys (c.in_default.ensures.same refl) c.take_come.ensures.unasked
+      follows_at g.P.Ports.asked (Busy c.args.c) _ _ _ _ _ (c.take_come.ensures.failed ∙ c.say.ensures.failed ∙ f) c.take_come.ensures.held (c.in_default.ensures.same refl) c.take_come.ensures.unasked
       (turns_none_away g.P.Ports.asked _ _ c.args.c _ (sym c.take_come.ensures.come ∙ c.in_default.is) (c.say.ensures.handled tt h)),
 )
