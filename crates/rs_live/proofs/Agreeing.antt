@@ -1,5 +1,5 @@
 -- What the link keeps still agrees with what was done, one deed later.
-use Rattle.std.proofs.Common.{◌≡◌, ◌≢◌, ◌<◌, ◌≤◌, ◌+◌, ◌==◌, ◌++◌, inl, inr, ℕ, suc, zero, Bool, true, false, List, [], ◌∷◌, length, get_or, set, take, drop, Option, Some, None, Result, Ok, refl, sym, subst, ap, ◌∙◌, arith}
+use Rattle.std.proofs.Common.{◌≡◌, ◌≢◌, ◌<◌, ◌≤◌, ◌+◌, ◌==◌, ◌++◌, inl, inr, ℕ, suc, zero, Bool, true, false, List, [], ◌∷◌, length, set, take, drop, Option, Some, None, Result, Ok, refl, sym, subst, ap, ◌∙◌, arith}
 use Rattle.std.specs.Prelude.{IsSome, ⊤, if◌then◌else◌}
 use Rattle.std.proofs.lemmas.Bool.{cases_eq, cases_lt, false≢true}
 use Rattle.std.proofs.lemmas.Bool.Decides.{nat_tests}
@@ -14,7 +14,7 @@ use Rattle.rs_live.specs.declared.link.Phase.{Phase}
 use Rattle.rs_live.specs.declared.link.Phase.TheVariants as phases
 use Rattle.rs_live.specs.Calls.{Call, Waited, Accepted, Read, Wrote, Closed, Timed, Fetched, Said, Logged}
 use Rattle.rs_live.specs.Deeds.{Deed, Asked, WroteTo, WroteRest, ClosedRest, Did}
-use Rattle.rs_live.specs.Keys.{come, key_of, or_else}
+use Rattle.rs_live.specs.Keys.{come, or_else}
 use Rattle.rs_live.specs.Sending.{taken}
 use Rattle.rs_live.specs.Waiting.{where_one}
 use Rattle.rs_live.specs.Rounds.{IsTimed, IsTurned, HasRoom, IsSettled}

@@ -1,5 +1,5 @@
 -- One call of the ports, or one step of the core's link, after the other.
-use Rattle.std.proofs.Common.{◌≡◌, ◌≢◌, ◌<◌, ◌≤◌, ◌+◌, ℕ, zero, suc, Bool, true, false, List, [], ◌∷◌, length, get_or, set, take, drop, ◌++◌, Option, Some, None, Result, Ok, Err, refl, sym, subst, ap, ◌∙◌, arith}
+use Rattle.std.proofs.Common.{◌≡◌, ◌≢◌, ◌<◌, ◌≤◌, ◌+◌, ℕ, zero, suc, Bool, true, false, List, [], ◌∷◌, length, set, take, drop, ◌++◌, Option, Some, None, Result, Ok, Err, refl, sym, subst, ap, ◌∙◌, arith}
 use Rattle.std.specs.Prelude.{IfOk, IfErr, IsOk, IsSome}
 use Rattle.std.proofs.lemmas.List.{append-nil}
 use Rattle.rs_core.specs.declared.links.Event.TheVariants.{Opened, Octets, Moment, Turn, Room, Stop}
@@ -10,12 +10,12 @@ use Rattle.rs_live.specs.declared.ports.Line.TheVariants as lines
 use Rattle.rs_live.specs.declared.link.Link.{Link}
 use Rattle.rs_live.specs.declared.link.Phase.{Phase}
 use Rattle.rs_live.specs.declared.link.Phase.TheVariants as phases
-use Rattle.rs_live.specs.Calls.{Call, Waited, Accepted, Read, Wrote, Closed, Timed, Fetched, Said, Logged, IsLastRead, IsGood, FindsLost, IsFailedAccept}
+use Rattle.rs_live.specs.Calls.{Call, Waited, Accepted, Read, Wrote, Closed, Timed, Said, IsLastRead, IsGood, FindsLost, IsFailedAccept}
 use Rattle.rs_live.specs.Deeds.{Deed, Asked, WroteTo, WroteRest, ClosedRest, Did, calls}
 use Rattle.rs_live.specs.Keys.{come, key_of}
 use Rattle.rs_live.specs.Waiting.{waiting, rest_key, rest}
 use Rattle.rs_live.specs.Sending.{taken, Writes, NoWrite, OneMore, Sent, Broke}
-use Rattle.rs_live.specs.Keeping.{Held, Agrees, IsInPhase, IsPlain, change, had_by, held_by, held_of, key_come, nothing, with_live, with_rest}
+use Rattle.rs_live.specs.Keeping.{Held, Agrees, IsInPhase, IsPlain, change, held_by, held_of, key_come, nothing, with_live, with_rest}
 use Rattle.rs_live.specs.Handled.{IsLossOf, IsNoLoss, AreHandled, Begun, Waits, Asks, Does, Opens, Refuses, TurnsAway, TurnsNoneAway, Hears, Times, Loses, Fails, Takes, Sends, Breaks, SendsRest, Drops, Closes, PassesOver, EndBy, By, EndByWrite, ByWrite, EndByWait, Has, AreKept, AreBroken, Keeps, Follows, On, Halts, Tells}
 use Rattle.rs_live.proofs.Agreeing.{at_same, agrees_asked, agrees_lost, agrees_end, ended, ended_same, no_some, agrees_offer, handed_more, agrees_wrote, taken_from, agrees_wrote_rest, taken_from_rest, agrees_closed, IsStill, agrees_still, agrees_phase, agrees_begin, agrees_begin_none, agrees_busy, agrees_busy_none, agrees_opened, agrees_stranger, agrees_octets, agrees_moment, agrees_turn, agrees_room, agrees_handed, agrees_over, settled, agrees_waited, agrees_begun, come_is}
 use Rattle.rs_live.proofs.Places.{at_place, below_change, change_again, unchanged}

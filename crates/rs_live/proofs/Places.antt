@@ -1,9 +1,9 @@
 -- What each client has, where one place is written.
-use Rattle.std.proofs.Common.{◌≡◌, ◌≤◌, ◌<◌, ℕ, zero, suc, List, [], ◌∷◌, ◌++◌, length, set, get_or, Option, Some, None, refl, sym, subst, ap, ◌∙◌, arith}
+use Rattle.std.proofs.Common.{◌≡◌, ◌≤◌, ◌<◌, ℕ, zero, suc, List, [], ◌∷◌, ◌++◌, length, set, Option, Some, refl, sym, subst, ap, ◌∙◌, arith}
 use Rattle.std.proofs.lemmas.List.{length-set}
 use Rattle.std.specs.Prelude.{slice_get}
 use Rattle.rs_live.specs.declared.seats.Seat.{Seat}
-use Rattle.rs_live.specs.Keeping.{Held, change, held_by, held_in, held_of, nothing, with_live}
+use Rattle.rs_live.specs.Keeping.{Held, change, held_by, held_in, held_of, nothing}
 
 abbrev pub holds : Option ℕ → List ℕ → Option ℕ → List ℕ → Held
 holds key waiting rest_key rest = record { key = key; waiting = waiting; rest_key = rest_key; rest = rest }

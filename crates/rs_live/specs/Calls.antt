@@ -1,5 +1,5 @@
 -- What the server asks of its ports, each call with its answer.
-use Rattle.std.specs.Prelude.{◌≡◌, ℕ, List, Option, Some, None, Result, Ok, Err, IsOk, IsErr, ⊤}
+use Rattle.std.specs.Prelude.{◌≡◌, ℕ, List, Option, Some, None, Result, Ok, Err, IsErr, ⊤}
 use Rattle.rs_live.specs.declared.ports.PortFault.{PortFault}
 use Rattle.rs_live.specs.declared.ports.Caller.{Caller}
 use Rattle.rs_live.specs.declared.ports.Line.{Line}

@@ -1,4 +1,4 @@
-use Rattle.std.proofs.Common.{refl, subst, ap, ◌∙◌}
+use Rattle.std.proofs.Common.{refl, subst, ap}
 use Rattle.rs_live.specs.Keeping.{with_rest}
 use Rattle.rs_live.specs.Handled.{Has, AreKept}
 use Rattle.rs_live.proofs.Places.{at_place, below_change, change_again}
