@@ -7,7 +7,7 @@ use Rattle.rs_attrs.specs.declared.faults.Cause.TheVariants as cause
 use Rattle.rs_attrs.specs.declared.faults.Faulted.{Faulted}
 use Rattle.rs_attrs.specs.Meaning.{Attribute, all_types}
 use Rattle.rs_attrs.specs.Flaws.{fault}
-use Rattle.rs_attrs.specs.Effects.{Effect, Change, Reset, Changes, effect_of, fields_of, table_of, told_of}
+use Rattle.rs_attrs.specs.Effects.{Effect, Change, Reset, Changes, effect_of, fields_of, table_of, faulted_in}
 use Rattle.rs_octets.proofs.Rows.{hex}
 use Rattle.rs_attrs.proofs.Rows.{well, u1, u1_attributes}
 
@@ -82,41 +82,41 @@ host_bits = refl
 
 -- ---- what is told of an UPDATE with this body
 
-abbrev told : List ℕ → Option Faulted
-told body = option_map (λ fields. told_of fields Four) (fields_of body)
+abbrev faults_noted : List ℕ → Option Faulted
+faults_noted body = option_map (λ fields. faulted_in fields Four) (fields_of body)
 
 abbrev at_fault : Option AttributeFault → Option AttributeFault → Option Faulted
 at_fault withdraw discard = Some (record { withdraw = withdraw; discard = discard })
 
-no_next_hop_told : told (hex (codes "0000 000d 40010100 40020602010000fbf0 18c63364")) ≡ at_fault (Some (fault 3 cause.Missing)) None
+no_next_hop_noted : faults_noted (hex (codes "0000 000d 40010100 40020602010000fbf0 18c63364")) ≡ at_fault (Some (fault 3 cause.Missing)) None
 unfolding all_types
-no_next_hop_told = refl
+no_next_hop_noted = refl
 
-first_missing_told : told (hex (codes "0000 0009 40020602010000fbf0 18c63364")) ≡ at_fault (Some (fault 1 cause.Missing)) None
+first_missing_noted : faults_noted (hex (codes "0000 0009 40020602010000fbf0 18c63364")) ≡ at_fault (Some (fault 1 cause.Missing)) None
 unfolding all_types
-first_missing_told = refl
+first_missing_noted = refl
 
 -- an ORIGIN that came and is none, and no NEXT_HOP
-came_before_missing : told (hex (codes "0000 000d 40010103 40020602010000fbf0 18c63364")) ≡ at_fault (Some (fault 1 cause.Value)) None
+came_before_missing : faults_noted (hex (codes "0000 000d 40010103 40020602010000fbf0 18c63364")) ≡ at_fault (Some (fault 1 cause.Value)) None
 unfolding all_types
 came_before_missing = refl
 
 -- an ATOMIC_AGGREGATE of one octet, and no NEXT_HOP
-missing_beside_discarded : told (hex (codes "0000 0011 40010100 40020602010000fbf0 40060100 18c63364")) ≡ at_fault (Some (fault 3 cause.Missing)) (Some (fault 6 cause.Length))
+missing_beside_discarded : faults_noted (hex (codes "0000 0011 40010100 40020602010000fbf0 40060100 18c63364")) ≡ at_fault (Some (fault 3 cause.Missing)) (Some (fault 6 cause.Length))
 unfolding all_types
 missing_beside_discarded = refl
 
-none_missing : told (hex (codes "0000 0014") ++ u1 ++ hex (codes "18c63364")) ≡ at_fault None None
+none_missing : faults_noted (hex (codes "0000 0014") ++ u1 ++ hex (codes "18c63364")) ≡ at_fault None None
 unfolding all_types
 none_missing = refl
 
-withdrawn_alone_told : told (hex (codes "0004 18c63364 0000")) ≡ at_fault None None
+withdrawn_alone_noted : faults_noted (hex (codes "0004 18c63364 0000")) ≡ at_fault None None
 unfolding all_types
-withdrawn_alone_told = refl
+withdrawn_alone_noted = refl
 
-no_nlri_told : told (hex (codes "0000 0004 40010100")) ≡ at_fault None None
+no_nlri_noted : faults_noted (hex (codes "0000 0004 40010100")) ≡ at_fault None None
 unfolding all_types
-no_nlri_told = refl
+no_nlri_noted = refl
 
 -- ---- the UPDATEs of traces
 

@@ -130,8 +130,8 @@ with_missing faulted missing = record {
 }
 
 -- what is wrong with the attributes that came, and which one is missing
-abbrev pub told_of : Fields → Mode → Faulted
-told_of fields mode = with_missing (faulted_of fields.attributes mode) (missing_for fields (read_of fields.attributes mode).attributes)
+abbrev pub faulted_in : Fields → Mode → Faulted
+faulted_in fields mode = with_missing (faulted_of fields.attributes mode) (missing_for fields (read_of fields.attributes mode).attributes)
 
 -- ---- the meaning of a list of UPDATEs
 

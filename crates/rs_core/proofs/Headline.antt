@@ -1,17 +1,17 @@
 -- The claim of the whole, by what each drive adds to a course.
 use Rattle.std.proofs.Common.{[], ◌∷◌, refl}
 use Rattle.rs_policy.specs.Configuration.{Configuration}
-use Rattle.rs_core.specs.Moves.{Ruled}
-use Rattle.rs_core.specs.Links.{Step}
-use Rattle.rs_core.specs.Courses.{Course, course}
-use Rattle.rs_core.specs.Answers.{Drove, Never, Again}
-use Rattle.rs_core.specs.Agreeing.{Agrees}
-use Rattle.rs_core.specs.Serving.{start}
+use Rattle.rs_core.specs.Run.Moves.{Ruled}
+use Rattle.rs_core.specs.Link.Steps.{Step}
+use Rattle.rs_core.specs.Link.Courses.{Course, course}
+use Rattle.rs_core.specs.Link.Answers.{Drove, Never, Again}
+use Rattle.rs_core.specs.Run.Agreeing.{Agrees}
+use Rattle.rs_core.specs.Link.Serving.{start}
 use Rattle.rs_core.specs.Headline.{New, Driven, HasCome, DrainedClientsHaveWhatIsDue}
 use Rattle.rs_core.specs.declared.route_server.Core.{Core}
-use Rattle.rs_core.proofs.Taking.{serves}
-use Rattle.rs_core.proofs.Draining.{drained_served}
-use Rattle.rs_core.proofs.Senders.{due_routes_are_the_senders}
+use Rattle.rs_core.proofs.Link.Taking.{serves}
+use Rattle.rs_core.proofs.Owed.Draining.{drained_served}
+use Rattle.rs_core.proofs.Told.Senders.{due_routes_are_the_senders}
 
 pub has_come : (config : Configuration) (new : Core) (agrees : Agrees new (Ruled config ∷ [])) (x : Course) → Drove (start config new agrees) x → HasCome config x
 has_come config new agrees x drove = record {

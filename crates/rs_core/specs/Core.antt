@@ -7,10 +7,10 @@ use Rattle.rs_attrs.specs.Meaning.{Attribute}
 use Rattle.rs_outlet.specs.declared.answers.Last.{Last}
 use Rattle.rs_outlet.specs.declared.answers.Last.TheVariants as lasts
 use Rattle.rs_outlet.specs.Views.{View, Prefixes}
-use Rattle.rs_core.specs.Conversations.{Outgoing, outgoing_of}
-use Rattle.rs_core.specs.Owing.{owed_by, is_decided_for}
+use Rattle.rs_core.specs.Session.Conversations.{Outgoing, outgoing_of}
+use Rattle.rs_core.specs.Owed.Owing.{owed_by, is_decided_for}
 use Rattle.rs_core.specs.Ribs.{lent_by}
-use Rattle.rs_core.specs.Turns.{refused_in}
+use Rattle.rs_core.specs.Touched.Turns.{refused_in}
 use Rattle.rs_core.specs.declared.route_server.Core.{Core}
 
 unfoldable pub client_count : Core → ℕ
@@ -21,7 +21,7 @@ unfoldable pub lent_octets : Core → ℕ → List ℕ
 lent_octets core c = lent_by core.ribs c
 
 abbrev pub outgoing_in : Option View → Outgoing
-outgoing_in None = record { flight = []; note = None; beat = false }
+outgoing_in None = record { flight = []; note = None; keepalive_due = false }
 outgoing_in (Some o) = outgoing_of o
 
 -- what is still to be said to a client

@@ -6,15 +6,15 @@ use Rattle.std.specs.Prelude.{◌≡◌, ℕ, List, [], ◌∷◌, Some}
 use Rattle.rs_octets.specs.Prefixes.{Prefix}
 use Rattle.rs_attrs.specs.Meaning.{Attribute}
 use Rattle.rs_policy.specs.Configuration.{Configuration}
-use Rattle.rs_core.specs.Moves.{Ruled}
-use Rattle.rs_core.specs.Agreeing.{Agrees}
-use Rattle.rs_core.specs.Links.{Step}
-use Rattle.rs_core.specs.Courses.{Course, Continues, Reaches}
-use Rattle.rs_core.specs.Answers.{Drives, Drove}
-use Rattle.rs_core.specs.Serving.{start, IsServedBy}
-use Rattle.rs_core.specs.Runs.{due}
-use Rattle.rs_core.specs.Senders.{IsSendersRoute}
-use Rattle.rs_core.specs.Draining.{IsDrained}
+use Rattle.rs_core.specs.Run.Moves.{Ruled}
+use Rattle.rs_core.specs.Run.Agreeing.{Agrees}
+use Rattle.rs_core.specs.Link.Steps.{Step}
+use Rattle.rs_core.specs.Link.Courses.{Course, Continues, Reaches}
+use Rattle.rs_core.specs.Link.Answers.{Drives, Drove}
+use Rattle.rs_core.specs.Link.Serving.{start, IsServedBy}
+use Rattle.rs_core.specs.Run.Meaning.{due}
+use Rattle.rs_core.specs.Told.Senders.{IsSendersRoute}
+use Rattle.rs_core.specs.Owed.Draining.{IsDrained}
 use Rattle.rs_core.specs.declared.route_server.Core.{Core}
 
 -- A new route server of this configuration and a link were driven any number of times, by one thread or by workers; now they are

@@ -5,10 +5,10 @@ use Rattle.rs_octets.specs.Prefixes.{Prefix}
 use Rattle.rs_attrs.specs.Meaning.{Attribute}
 use Rattle.rs_adjin.specs.AdjIns.{held_of}
 use Rattle.rs_outlet.specs.declared.answers.Speech.{Speech}
-use Rattle.rs_outlet.specs.Due.{due_to}
-use Rattle.rs_outlet.specs.HeldBy.{tables_of}
+use Rattle.rs_outlet.specs.Turn.Due.{due_to}
+use Rattle.rs_outlet.specs.Turn.HeldBy.{tables_of}
 use Rattle.rs_outlet.specs.Views.{View, AreNumbered, is_touched}
-use Rattle.rs_core.specs.Touches.{IsTouchedAt, IsTouchedBetween, IsTouchedWhere}
+use Rattle.rs_core.specs.Touched.Touches.{IsTouchedAt, IsTouchedBetween, IsTouchedWhere}
 use Rattle.rs_core.specs.declared.ribs.Ribs.{Ribs}
 
 abbrev pub outlet_count : Ribs → ℕ
@@ -85,13 +85,13 @@ pub record TouchesChange (c : ℕ) (p : Prefix) (old new : Ribs) : Type 0 where
   pub unchanged : held_of new.tables c p ≡ held_of old.tables c p → new.outlets ≡ old.outlets
 
 -- the outlets of all clients but c were touched at just the prefixes where this holds
-pub record StirsWhere (Holds : Prefix → Type 0) (c : ℕ) (old new : Ribs) : Type 0 where
+pub record TouchesOthersJustWhere (Holds : Prefix → Type 0) (c : ℕ) (old new : Ribs) : Type 0 where
   pub others : (d : ℕ) (none : View) → d < old.count → d ≢ c → IsTouchedWhere Holds (outlet_in old d none) (outlet_in new d none)
 
 -- at just those where client c holds another value than before
-abbrev pub Stirs : ℕ → Ribs → Ribs → Type 0
-Stirs c old new = StirsWhere (λ p. held_of new.tables c p ≢ held_of old.tables c p) c old new
+abbrev pub TouchesOthersAtChange : ℕ → Ribs → Ribs → Type 0
+TouchesOthersAtChange c old new = TouchesOthersJustWhere (λ p. held_of new.tables c p ≢ held_of old.tables c p) c old new
 
 -- the outlets of all clients but c were touched at each of those, and at none but where this holds
-pub record StirsWithin (Most : Prefix → Type 0) (c : ℕ) (old new : Ribs) : Type 0 where
+pub record TouchesOthersWithin (Most : Prefix → Type 0) (c : ℕ) (old new : Ribs) : Type 0 where
   pub others : (d : ℕ) (none : View) → d < old.count → d ≢ c → IsTouchedBetween (λ p. held_of new.tables c p ≢ held_of old.tables c p) Most (outlet_in old d none) (outlet_in new d none)

@@ -25,17 +25,17 @@ fn server_open(config: &Config) -> ServerOpen
 ghost use Rattle.std.specs.Prelude.{◌≢◌, ℕ, List, [], ◌∷◌, Some, slice_get, OnOk, OnErr};
 ghost use Rattle.std.specs.Global.{Vec};
 ghost use Rattle.rs_session.specs.Sessions.{is_live};
-ghost use Rattle.rs_core.specs.Moves.{Move, Came, Left, config_in};
-ghost use Rattle.rs_core.specs.Hearing.{Hearing, state_in, leaves};
-ghost use Rattle.rs_core.specs.Runs.{hearing};
-ghost use Rattle.rs_core.specs.Agreeing.{Agrees, AgreesAt, Knows, IsCutShort, Spares};
-ghost use Rattle.rs_core.specs.Paying.{LeavesOwed};
+ghost use Rattle.rs_core.specs.Run.Moves.{Move, Came, Left, config_in};
+ghost use Rattle.rs_core.specs.Session.Hearing.{Hearing, state_in, leaves};
+ghost use Rattle.rs_core.specs.Run.Meaning.{hearing};
+ghost use Rattle.rs_core.specs.Run.Agreeing.{Agrees, AgreesAt, Knows, IsCutShort, Spares};
+ghost use Rattle.rs_core.specs.Owed.Sending.{LeavesOwed};
 ghost use Rattle.rs_outlet.specs.Views.{View};
-ghost use Rattle.rs_core.specs.Ribs.{KeepsAnswers, Stirs, outlet_in};
-ghost use Rattle.rs_core.specs.Stirring.{IsChangedBy, KeepsTouched, TouchesOthersWhere};
-ghost use Rattle.rs_core.specs.Conversations.{own_open};
-ghost use Rattle.rs_core.specs.Voices.{IsGreeting, KeepsVoices};
-ghost use Rattle.rs_core.specs.Watching.{IsWatched};
+ghost use Rattle.rs_core.specs.Ribs.{KeepsAnswers, TouchesOthersAtChange, outlet_in};
+ghost use Rattle.rs_core.specs.Touched.ByRun.{IsChangedBy, KeepsTouched, TouchesOthersWhere};
+ghost use Rattle.rs_core.specs.Session.Conversations.{own_open};
+ghost use Rattle.rs_core.specs.Told.Outlets.{IsGreeting, LeavesOthersAlone};
+ghost use Rattle.rs_core.specs.Session.OperatorRecords.{IsWatched};
 ghost use Rattle.rs_policy.specs.Configuration.{Configuration};
 
 /// Whether a session in this state lasts.
@@ -83,7 +83,7 @@ impl Core {
         ensures emptied { (x : Vec ℕ) → slice_get self.new.buffers.items c ≡ Some x → x.items ≡ [] }
         ensures others { (d : ℕ) → d ≢ c → slice_get self.new.buffers.items d ≡ slice_get self.old.buffers.items d }
         ensures watched { self.new.watched ≡ self.old.watched }
-        ensures voices { KeepsVoices c self.old.ribs self.new.ribs }
+        ensures others_alone { LeavesOthersAlone c self.old.ribs self.new.ribs }
         ensures own { (none : View) → IsGreeting (own_open self.old.ribs.config) (outlet_in self.new.ribs c none) }
         ensures apart { (d : ℕ) (none : View) → d ≢ c → outlet_in self.new.ribs d none ≡ outlet_in self.old.ribs d none }
         ensures answers { KeepsAnswers self.old.ribs self.new.ribs }
@@ -132,11 +132,11 @@ impl Core {
         ensures spares { Spares c self.old self.new }
         ensures forgotten { (s : Configuration) (h : Hearing) (why : Ending) → IsCutShort self.old s c h
             → IsWatched self.old.watched.items c (leaves s c why h).endings (leaves s c why h).faults → AgreesAt self.new s c (leaves s c why h) }
-        ensures stirs { Stirs c self.old.ribs self.new.ribs }
+        ensures others_touched { TouchesOthersAtChange c self.old.ribs self.new.ribs }
     {
         self.sessions[c].lost();
         self.pass_over(c);
-        self.ribs.unlearn(c);
+        self.ribs.forget_routes(c);
         self.ribs.clear(c);
     }
 

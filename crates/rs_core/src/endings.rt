@@ -2,8 +2,8 @@
 
 ghost use Rattle.std.specs.Prelude.{◌≡◌, List};
 ghost use Rattle.std.specs.List.{cons_option};
-ghost use Rattle.rs_core.specs.Watching as watching;
-ghost use Rattle.rs_core.specs.Watching.{watched_by, with_faults};
+ghost use Rattle.rs_core.specs.Session.OperatorRecords as watching;
+ghost use Rattle.rs_core.specs.Session.OperatorRecords.{watched_by, with_faults};
 
 use rs_attrs::Faulted;
 use rs_open::Short;

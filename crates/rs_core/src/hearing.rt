@@ -42,21 +42,21 @@ fn fill_up<'a>(
     Ok(rest)
 }
 
-ghost use Rattle.rs_core.specs.Hearing.{allowed_in};
-ghost use Rattle.rs_core.specs.Steps.{FillsUp};
+ghost use Rattle.rs_core.specs.Session.Hearing.{allowed_in};
+ghost use Rattle.rs_core.specs.Run.Parts.{FillsUp};
 
 impl Core {
     ghost use Rattle.rs_core.specs.Core.{client_count};
-    ghost use Rattle.rs_core.specs.Moves as moves;
-    ghost use Rattle.rs_core.specs.Moves.{Move, Saw, Dropped, config_in};
-    ghost use Rattle.rs_core.specs.Hearing.{Hearing, hears, sees, state_in};
-    ghost use Rattle.rs_core.specs.Runs.{hearing};
-    ghost use Rattle.rs_core.specs.Agreeing.{Agrees, AgreesAt, IsCutShort, Knows, Spares, Waits};
-    ghost use Rattle.rs_core.specs.Altering.{IsAlteredBy};
-    ghost use Rattle.rs_core.specs.Ribs.{Stirs, StirsWhere, StirsWithin, outlet_in};
-    ghost use Rattle.rs_core.specs.Stirring.{IsChangedBy, MayBeChangedBy, TouchesChanges, TouchesItself, TouchesOthersBetween, TouchesOthersWhere};
-    ghost use Rattle.rs_core.specs.Touches.{KeepsTouches};
-    ghost use Rattle.rs_core.specs.Steps.{HasHeardFront, IsBetween, KeepsOwnTouches};
+    ghost use Rattle.rs_core.specs.Run.Moves as moves;
+    ghost use Rattle.rs_core.specs.Run.Moves.{Move, Saw, Dropped, config_in};
+    ghost use Rattle.rs_core.specs.Session.Hearing.{Hearing, hears, sees, state_in};
+    ghost use Rattle.rs_core.specs.Run.Meaning.{hearing};
+    ghost use Rattle.rs_core.specs.Run.Agreeing.{Agrees, AgreesAt, IsCutShort, Knows, Spares, Waits};
+    ghost use Rattle.rs_core.specs.Touched.Altering.{IsAlteredBy};
+    ghost use Rattle.rs_core.specs.Ribs.{TouchesOthersAtChange, TouchesOthersJustWhere, TouchesOthersWithin, outlet_in};
+    ghost use Rattle.rs_core.specs.Touched.ByRun.{IsChangedBy, MayBeChangedBy, TouchesChanges, TouchesItself, TouchesOthersBetween, TouchesOthersWhere};
+    ghost use Rattle.rs_core.specs.Touched.Touches.{KeepsTouches};
+    ghost use Rattle.rs_core.specs.Run.Parts.{HasHeardFront, IsBetween, KeepsOwnTouches};
     ghost use Rattle.rs_outlet.specs.Views.{View};
     ghost use Rattle.rs_session.specs.Sessions.{is_live};
     ghost use Rattle.rs_policy.specs.Configuration.{Configuration};
@@ -96,8 +96,8 @@ impl Core {
         ensures spares { Spares c self.old self.new }
         ensures heard { OnOk result ((s : Configuration) (h : Hearing) → self.old.ribs.config ≡ s → AgreesAt self.old s c h → AgreesAt self.new s c (hears s c piece.now h)) }
         ensures refused { OnErr result ((s : Configuration) (h : Hearing) → self.old.ribs.config ≡ s → AgreesAt self.old s c h → IsCutShort self.new s c h) }
-        ensures stirs { OnOk result ((s : Configuration) (h : Hearing) → self.old.ribs.config ≡ s → AgreesAt self.old s c h → StirsWhere (IsAlteredBy s c piece.now h) c self.old.ribs self.new.ribs) }
-        ensures cut { OnErr result ((s : Configuration) (h : Hearing) → self.old.ribs.config ≡ s → AgreesAt self.old s c h → StirsWithin (IsAlteredBy s c piece.now h) c self.old.ribs self.new.ribs) }
+        ensures others_touched { OnOk result ((s : Configuration) (h : Hearing) → self.old.ribs.config ≡ s → AgreesAt self.old s c h → TouchesOthersJustWhere (IsAlteredBy s c piece.now h) c self.old.ribs self.new.ribs) }
+        ensures cut { OnErr result ((s : Configuration) (h : Hearing) → self.old.ribs.config ≡ s → AgreesAt self.old s c h → TouchesOthersWithin (IsAlteredBy s c piece.now h) c self.old.ribs self.new.ribs) }
         ensures keeps { OnOk result ((s : Configuration) (h : Hearing) → self.old.ribs.config ≡ s → AgreesAt self.old s c h → (none : View) → KeepsTouches (outlet_in self.old.ribs c none) (outlet_in self.new.ribs c none)) }
         ensures unheard { (s : Configuration) (h : Hearing) → Knows self.old s c h → is_live (state_in s c h) ≡ false → (result ≡ Ok tt) × (self.new ≡ self.old) }
     {
@@ -133,8 +133,8 @@ impl Core {
         ensures refused { OnErr result ((s : Configuration) (h : Hearing) → self.old.ribs.config ≡ s → is_live (state_in s c h) ≡ true → Knows self.old s c h
             → Waits s c buffer.old.items h → IsCutShort self.new s c h) }
         ensures cut { OnErr result ((s : Configuration) (h : Hearing) → self.old.ribs.config ≡ s → is_live (state_in s c h) ≡ true → Knows self.old s c h
-            → Waits s c buffer.old.items h → StirsWithin (IsAlteredBy s c piece.now h) c self.old.ribs self.new.ribs) }
-        ensures stirs { Stirs c self.old.ribs self.new.ribs }
+            → Waits s c buffer.old.items h → TouchesOthersWithin (IsAlteredBy s c piece.now h) c self.old.ribs self.new.ribs) }
+        ensures others_touched { TouchesOthersAtChange c self.old.ribs self.new.ribs }
         ensures keeps { KeepsOwnTouches c self.old self.new }
     {
         let allowed = allowed(&self.ribs.config);
@@ -142,7 +142,7 @@ impl Core {
         match read_front(buffer, allowed) {
             Front::Wants(_) => {}
             Front::Fault(fault) => {
-                self.say(c, Heard::Header(fault));
+                self.session_hears(c, Heard::Header(fault));
                 buffer.clear();
             }
             Front::Message { kind, body, .. } => {
@@ -160,8 +160,8 @@ impl Core {
         ensures spares { Spares c self.old self.new }
         ensures heard { OnOk result ((s : Configuration) (h : Hearing) → self.old.ribs.config ≡ s → IsBetween self.old s c h → AgreesAt self.new s c (hears s c piece.now h)) }
         ensures refused { OnErr result ((s : Configuration) (h : Hearing) → self.old.ribs.config ≡ s → IsBetween self.old s c h → IsCutShort self.new s c h) }
-        ensures stirs { OnOk result ((s : Configuration) (h : Hearing) → self.old.ribs.config ≡ s → IsBetween self.old s c h → StirsWhere (IsAlteredBy s c piece.now h) c self.old.ribs self.new.ribs) }
-        ensures cut { OnErr result ((s : Configuration) (h : Hearing) → self.old.ribs.config ≡ s → IsBetween self.old s c h → StirsWithin (IsAlteredBy s c piece.now h) c self.old.ribs self.new.ribs) }
+        ensures others_touched { OnOk result ((s : Configuration) (h : Hearing) → self.old.ribs.config ≡ s → IsBetween self.old s c h → TouchesOthersJustWhere (IsAlteredBy s c piece.now h) c self.old.ribs self.new.ribs) }
+        ensures cut { OnErr result ((s : Configuration) (h : Hearing) → self.old.ribs.config ≡ s → IsBetween self.old s c h → TouchesOthersWithin (IsAlteredBy s c piece.now h) c self.old.ribs self.new.ribs) }
         ensures keeps { OnOk result ((s : Configuration) (h : Hearing) → self.old.ribs.config ≡ s → IsBetween self.old s c h → (none : View) → KeepsTouches (outlet_in self.old.ribs c none) (outlet_in self.new.ribs c none)) }
     {
         let allowed = allowed(&self.ribs.config);
@@ -175,7 +175,7 @@ impl Core {
                     return self.wait(c, octets);
                 }
                 Front::Fault(fault) => {
-                    self.say(c, Heard::Header(fault));
+                    self.session_hears(c, Heard::Header(fault));
                     return Ok(());
                 }
                 Front::Message { kind, body, rest } => {
@@ -247,7 +247,7 @@ impl Core {
         requires { c < client_count self.old }
         ensures spares { Spares c self.old self.new }
         ensures seen { (s : Configuration) (h : Hearing) → AgreesAt self.old s c h → AgreesAt self.new s c (sees s c t h) }
-        ensures stirs { Stirs c self.old.ribs self.new.ribs }
+        ensures others_touched { TouchesOthersAtChange c self.old.ribs self.new.ribs }
         ensures keeps { KeepsOwnTouches c self.old self.new }
     {
         let act = self.sessions[c].moment(t);

@@ -1,14 +1,14 @@
 //! Laws of what a route server does over a run, and together with its link.
 
 ghost use Rattle.rs_core.specs.Headline.{DrainedClientsHaveWhatIsDue};
-ghost use Rattle.rs_core.specs.InTurn.{HasWhatWasDue, TellsInTurn};
-ghost use Rattle.rs_core.specs.Conversed.{SendsInOrder, SendsNoneLonger};
-ghost use Rattle.rs_core.specs.Paying.{SendsAllOwed};
-ghost use Rattle.rs_core.specs.Draining.{RoomDrains};
-ghost use Rattle.rs_core.specs.Serving.{ServesByOffers};
-ghost use Rattle.rs_core.specs.Decided.{AnswersByWhatWasAltered, TouchesWhatWasAltered};
-ghost use Rattle.rs_core.specs.LastTurns.{AnswersByTheLastTurn};
-ghost use Rattle.rs_core.specs.Senders.{DueRoutesAreTheSenders, ToldRoutesAreTheSenders};
+ghost use Rattle.rs_core.specs.Told.InTurn.{HasWhatWasDue, TellsInTurn};
+ghost use Rattle.rs_core.specs.Session.Conversed.{SendsInOrder, SendsNoneLonger};
+ghost use Rattle.rs_core.specs.Owed.Sending.{SendsAllOwed};
+ghost use Rattle.rs_core.specs.Owed.Draining.{RoomDrains};
+ghost use Rattle.rs_core.specs.Link.Serving.{ServesByOffers};
+ghost use Rattle.rs_core.specs.Touched.SinceLastTurn.{AnswersByWhatWasAltered, TouchesWhatWasAltered};
+ghost use Rattle.rs_core.specs.Touched.LastTurns.{AnswersByTheLastTurn};
+ghost use Rattle.rs_core.specs.Told.Senders.{DueRoutesAreTheSenders, ToldRoutesAreTheSenders};
 
 use crate::links::Link;
 
@@ -23,14 +23,14 @@ pub fn drained_clients_have_what_is_due<L: Link>()
 /// From the start on, behind any number of drives: where a client is served by the run, its link took
 /// whole messages of the offers since it last began, as the client reads them, and their UPDATEs mean
 /// just the table that is due to it.
-#[tactic(auto, using(crate::proofs::Taking::serves))]
+#[tactic(auto, using(crate::proofs::Link::Taking::serves))]
 pub fn serves_by_offers()
     ensures { ServesByOffers }
 {}
 
 /// At each point of each run the Loc-RIB of a client that is Established is what was due to it at its
 /// last turn since it is so, and empty before the first.
-#[tactic(auto, using(crate::proofs::InTurn::has_what_was_due))]
+#[tactic(auto, using(crate::proofs::Told::InTurn::has_what_was_due))]
 pub fn loc_rib_is_what_was_due()
     ensures { HasWhatWasDue }
 {}
@@ -61,7 +61,7 @@ pub fn no_message_is_too_long()
 /// Where a turn has decided all for a client that is Established, what is owed to it then is enough: with
 /// no more octets than that it is drained, if nothing happens but that messages begin and octets are
 /// taken.
-#[tactic(auto, using(crate::proofs::Sent::sends_all_owed))]
+#[tactic(auto, using(crate::proofs::Owed::Sent::sends_all_owed))]
 pub fn sends_all_owed()
     ensures { SendsAllOwed }
 {}
@@ -78,7 +78,7 @@ pub fn room_behind_a_turn_drains()
 /// which another client was given another value since, and all where they are more than 4,096. Where memory
 /// was refused for octets since, prefixes may be among them at which a message in these octets would have
 /// given its sender another value, and no others.
-#[tactic(auto, using(crate::proofs::Since::touches_what_was_altered))]
+#[tactic(auto, using(crate::proofs::Touched::Since::touches_what_was_altered))]
 pub fn touches_what_was_altered()
     ensures { TouchesWhatWasAltered }
 {}
@@ -95,7 +95,7 @@ pub fn answers_by_what_was_altered()
 /// where it was, and the client was Established then; for one that was not, that nothing was decided; else
 /// what was altered before that turn, as said above. Before the first turn it is `Never`. Neither the end
 /// of a session nor a new one changes it.
-#[tactic(auto, using(crate::proofs::LastTurns::answers_by_the_last_turn))]
+#[tactic(auto, using(crate::proofs::Touched::LastTurns::answers_by_the_last_turn))]
 pub fn answers_by_the_last_turn()
     ensures { AnswersByTheLastTurn }
 {}
@@ -103,7 +103,7 @@ pub fn answers_by_the_last_turn()
 /// Each route that is due to a client is another client's that the rules pass, with its sender's AS_PATH,
 /// NEXT_HOP and MULTI_EXIT_DISC and all other attributes as they were announced, or with none where the
 /// sender gave none (RFC 7947, 2.2). Only communities that the rules take away are missing.
-#[tactic(auto, using(crate::proofs::Senders::due_routes_are_the_senders))]
+#[tactic(auto, using(crate::proofs::Told::Senders::due_routes_are_the_senders))]
 pub fn due_routes_are_the_senders()
     ensures { DueRoutesAreTheSenders }
 {}

@@ -9,26 +9,26 @@
 //! - `route_server` has the parts of the `Core`, `making` the first one, `ribs` the RIBs of all
 //!   clients.
 //! - Octets: `connections` are opened and lost; `hearing` cuts what comes; `sessions` hear
-//!   messages and `updates` the UPDATEs; `learning` puts routes into the Adj-RIBs-In and touches
+//!   messages and `updates` the UPDATEs; `adj_rib_in` puts routes into the Adj-RIBs-In and touches
 //!   the outlets.
 //! - Turns: `turning` decides what is touched, and `sweeping` gives up numbers that nobody uses.
 //! - Out: `sayings` begins messages, `sending` lends octets and hears how many were taken;
 //!   `endings` say why a session ended.
-//! - `rules` puts another configuration in; `asking` is what a caller can ask.
+//! - `rules` puts another configuration in; `queries` is what a caller can ask.
 //! - `driving` drives all this by a link of `links`, and `offering` offers it what is lent; `laws`
 //!   are contracts of functions that do nothing.
 #![tactic(auto, unfolding(crate::specs::Core::client_count, crate::specs::Core::lent_octets))]
 
-mod asking;
+mod adj_rib_in;
 mod connections;
 mod driving;
 mod endings;
 mod hearing;
 pub mod laws;
-mod learning;
 mod links;
 mod making;
 mod offering;
+mod queries;
 mod ribs;
 mod route_server;
 mod rules;

@@ -1,7 +1,7 @@
 //! What lies between a route server and its clients: where events come from, and where octets go.
 
 ghost use Rattle.std.specs.Prelude.{◌≡◌, ◌≤◌, ℕ, List, length, IfSome};
-ghost use Rattle.rs_core.specs.Links.{Step, octets_of, Told, Begin, Busy, Offer, Memory, End, Replaced};
+ghost use Rattle.rs_core.specs.Link.Steps.{Step, octets_of, Happened, Begin, Busy, Offer, Memory, End, Replaced};
 
 use rs_policy::RulesFault;
 
@@ -38,7 +38,7 @@ pub trait Link {
 pub trait Source: Link {
     /// The next event; octets are laid at the front of the piece.
     fn next(&mut self, piece: &mut [u8; 4096]) -> Event
-        ensures { Self.happens self.old (Told result (octets_of result piece.new (Self.text self.new))) self.new };
+        ensures { Self.happens self.old (Happened result (octets_of result piece.new (Self.text self.new))) self.new };
 
     /// The text of the rules that came last.
     fn rules(&self) -> &[u8]

@@ -1,7 +1,7 @@
 //! A route server of which nothing has come.
 
 ghost use Rattle.std.specs.Prelude.{◌≡◌, [], ◌∷◌, length, IfOk};
-ghost use Rattle.rs_core.specs.Steps.{HaveHeardNothing};
+ghost use Rattle.rs_core.specs.Run.Parts.{HaveHeardNothing};
 
 use crate::endings::Watched;
 use crate::ribs::Ribs;
@@ -41,8 +41,8 @@ fn buffers(alloc: Global, config: &Config) -> Result<Vec<Vec<u8>>, AllocError>
 
 impl Core {
     ghost use Rattle.rs_core.specs.Core.{client_count};
-    ghost use Rattle.rs_core.specs.Moves.{Ruled};
-    ghost use Rattle.rs_core.specs.Agreeing.{Agrees};
+    ghost use Rattle.rs_core.specs.Run.Moves.{Ruled};
+    ghost use Rattle.rs_core.specs.Run.Agreeing.{Agrees};
 
     /// A route server with this configuration, whose clients are all Idle.
     pub fn new(alloc: Global, config: Config) -> Result<Core, AllocError>

@@ -2,15 +2,15 @@
 
 ghost use Rattle.std.specs.Prelude.{◌≡◌, ◌<◌, ◌≤◌, []};
 ghost use Rattle.rs_core.specs.Core.{client_count};
-ghost use Rattle.rs_core.specs.Links.{HasLed};
-ghost use Rattle.rs_core.specs.Courses.{Continues};
-ghost use Rattle.rs_core.specs.Answers.{Answers, Gives, Offers};
+ghost use Rattle.rs_core.specs.Link.Steps.{HasLed};
+ghost use Rattle.rs_core.specs.Link.Courses.{Continues};
+ghost use Rattle.rs_core.specs.Link.Answers.{Answers, Gives, Offers};
 
 use crate::links::{Event, Sink};
 use crate::route_server::Core;
 
 /// The link of a client has room for so many octets.
-pub(crate) fn fill<L: Sink>(core: &mut Core, link: &mut L, c: usize, room: u64)
+pub(crate) fn use_room<L: Sink>(core: &mut Core, link: &mut L, c: usize, room: u64)
     ensures count { client_count core.new ≡ client_count core.old }
     ensures led { HasLed L.happens link.old link.new }
     ensures answers { Continues L.happens core.old link.old core.new link.new (Answers [] (Event.Room c room)) }

@@ -6,7 +6,7 @@
 ghost use Rattle.std.specs.Prelude.{◌≡◌, ℕ, None, length, IfOk};
 ghost use Rattle.rs_octets.specs.Prefixes.{Prefix};
 ghost use Rattle.rs_adjin.specs.AdjIns as adj_ins;
-ghost use Rattle.rs_core.specs.Keeping.{AreKept, AreBare};
+ghost use Rattle.rs_core.specs.Run.Keeping.{AreKept, AreBare};
 
 use rs_adjin::AdjIns;
 use rs_outlet::Outlet;

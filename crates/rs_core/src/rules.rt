@@ -8,9 +8,9 @@ use rs_policy::RulesFault;
 impl Core {
     ghost use Rattle.rs_core.specs.Core.{client_count};
     ghost use Rattle.rs_policy.specs.Replacing.{Refuses};
-    ghost use Rattle.rs_core.specs.Moves.{Move, config_in};
-    ghost use Rattle.rs_core.specs.Agreeing.{Agrees, IsRuled};
-    ghost use Rattle.rs_core.specs.Stirring.{TouchesAll};
+    ghost use Rattle.rs_core.specs.Run.Moves.{Move, config_in};
+    ghost use Rattle.rs_core.specs.Run.Agreeing.{Agrees, IsRuled};
+    ghost use Rattle.rs_core.specs.Touched.ByRun.{TouchesAll};
 
     /// Replaces the configuration by this text, or answers why it can't, and then nothing changes. All
     /// is decided anew at the next turn; no session ends.

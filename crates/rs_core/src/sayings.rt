@@ -3,8 +3,8 @@
 ghost use Rattle.std.specs.Prelude.{◌≡◌, ◌<◌, ◌≤◌, true, length, drop};
 ghost use Rattle.rs_open.specs.Writing.{server_open};
 ghost use Rattle.rs_outlet.specs.Views.{cleared, finished};
-ghost use Rattle.rs_core.specs.Touches.{IsAskedAgain};
-ghost use Rattle.rs_outlet.specs.Begun.{HasBegun};
+ghost use Rattle.rs_core.specs.Touched.Touches.{IsAskedAgain};
+ghost use Rattle.rs_outlet.specs.Message.Begun.{HasBegun};
 
 use crate::ribs::Ribs;
 use rs_open::{ServerOpen, Short};
@@ -53,7 +53,7 @@ impl Ribs {
         requires { c < outlet_count self.old }
         ensures settings { KeepsSettings self.old self.new }
         ensures tables { self.new.tables ≡ self.old.tables }
-        ensures outlet { ChangesOwn c (λ v w. w ≡ record v { beat = true }) self.old self.new }
+        ensures outlet { ChangesOwn c (λ v w. w ≡ record v { keepalive_due = true }) self.old self.new }
         ensures kept { KeepsFresh self.old self.new }
     {
         let outlet = &mut self.outlets[c];

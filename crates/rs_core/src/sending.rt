@@ -8,9 +8,9 @@ use crate::route_server::Core;
 
 impl Core {
     ghost use Rattle.rs_core.specs.Core.{client_count, lent_octets};
-    ghost use Rattle.rs_core.specs.Moves.{Move, Began, Took};
-    ghost use Rattle.rs_core.specs.Agreeing.{Agrees};
-    ghost use Rattle.rs_core.specs.Paying.{HasLent, OwesLess, OwesNoMore};
+    ghost use Rattle.rs_core.specs.Run.Moves.{Move, Began, Took};
+    ghost use Rattle.rs_core.specs.Run.Agreeing.{Agrees};
+    ghost use Rattle.rs_core.specs.Owed.Sending.{HasLent, OwesLess, OwesNoMore};
     ghost use Rattle.rs_core.specs.contracts.route_server.Core.{the_row};
 
     /// Begins the next message to a client where none is in flight.

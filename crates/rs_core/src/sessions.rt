@@ -14,12 +14,12 @@ impl Core {
     ghost use Rattle.rs_core.specs.Core.{client_count};
     ghost use Rattle.rs_adjin.specs.AdjIns.{Begins};
     ghost use Rattle.rs_policy.specs.Configuration.{Configuration};
-    ghost use Rattle.rs_core.specs.Hearing.{Hearing, takes_in, without_change};
-    ghost use Rattle.rs_core.specs.Agreeing.{Knows, Spares};
+    ghost use Rattle.rs_core.specs.Session.Hearing.{Hearing, takes_in, without_change};
+    ghost use Rattle.rs_core.specs.Run.Agreeing.{Knows, Spares};
     ghost use Rattle.rs_outlet.specs.Views.{View};
-    ghost use Rattle.rs_core.specs.Ribs.{KeepsAnswers, Stirs, outlet_in};
-    ghost use Rattle.rs_core.specs.Voices.{IsFinished, KeepsVoices, Voices};
-    ghost use Rattle.rs_core.specs.Steps.{AltersWithin, CutsShort, Follows, Hears, IsSpared, ActsOn, KeepsOwnTouches};
+    ghost use Rattle.rs_core.specs.Ribs.{KeepsAnswers, TouchesOthersAtChange, outlet_in};
+    ghost use Rattle.rs_core.specs.Told.Outlets.{IsFinished, LeavesOthersAlone, ActsOnOutlet};
+    ghost use Rattle.rs_core.specs.Run.Parts.{AltersWithin, CutsShort, Follows, Hears, IsSpared, ActsOn, KeepsOwnTouches};
 
     /// Hears a whole message.
     pub(crate) fn hear_message(
@@ -35,14 +35,14 @@ impl Core {
         ensures heard { OnOk result (Hears kind body.now c self.old self.new) }
         ensures refused { OnErr result (CutsShort c self.old self.new) }
         ensures part { OnErr result (AltersWithin kind body.now c self.old self.new) }
-        ensures stirs { Stirs c self.old.ribs self.new.ribs }
+        ensures others_touched { TouchesOthersAtChange c self.old.ribs self.new.ribs }
         ensures keeps { KeepsOwnTouches c self.old self.new }
     {
         match kind {
             Kind::Open => self.hear_open(c, body),
             Kind::Update => return self.hear_update(c, body),
             Kind::Note => self.hear_note(c, body),
-            Kind::Keepalive => self.say(c, Heard::Keepalive),
+            Kind::Keepalive => self.session_hears(c, Heard::Keepalive),
             Kind::Refresh => self.hear_refresh(c, body),
         }
         Ok(())
@@ -55,10 +55,10 @@ impl Core {
         ensures spares { Spares c self.old self.new }
         ensures buffers { self.new.buffers ≡ self.old.buffers }
         ensures heard { Hears Kind.Open body.now c self.old self.new }
-        ensures stirs { Stirs c self.old.ribs self.new.ribs }
+        ensures others_touched { TouchesOthersAtChange c self.old.ribs self.new.ribs }
         ensures keeps { KeepsOwnTouches c self.old self.new }
     {
-        self.say(c, Heard::Open(read_open(body)));
+        self.session_hears(c, Heard::Open(read_open(body)));
     }
 
     /// A NOTIFICATION (RFC 4271, 4.5).
@@ -67,10 +67,10 @@ impl Core {
         ensures spares { Spares c self.old self.new }
         ensures buffers { self.new.buffers ≡ self.old.buffers }
         ensures heard { Hears Kind.Note body.now c self.old self.new }
-        ensures stirs { Stirs c self.old.ribs self.new.ribs }
+        ensures others_touched { TouchesOthersAtChange c self.old.ribs self.new.ribs }
         ensures keeps { KeepsOwnTouches c self.old self.new }
     {
-        self.hear_said(c, Heard::Note, body);
+        self.session_hears_with(c, Heard::Note, body);
     }
 
     /// A ROUTE-REFRESH (RFC 2918, 3).
@@ -80,34 +80,34 @@ impl Core {
         ensures spares { Spares c self.old self.new }
         ensures buffers { self.new.buffers ≡ self.old.buffers }
         ensures heard { Hears Kind.Refresh body.now c self.old self.new }
-        ensures stirs { Stirs c self.old.ribs self.new.ribs }
+        ensures others_touched { TouchesOthersAtChange c self.old.ribs self.new.ribs }
         ensures keeps { KeepsOwnTouches c self.old self.new }
     {
         let AddressFamily { afi, safi } = read_refresh(body);
-        self.say(c, Heard::Refresh { afi, safi });
+        self.session_hears(c, Heard::Refresh { afi, safi });
     }
 
     /// The session hears this, and what it asks for is done.
-    pub(crate) fn say(&mut self, c: usize, heard: Heard)
+    pub(crate) fn session_hears(&mut self, c: usize, heard: Heard)
         requires { c < client_count self.old }
         ensures spares { Spares c self.old self.new }
         ensures buffers { self.new.buffers ≡ self.old.buffers }
         ensures alone { (s : Configuration) (h : Hearing) → Knows self.old s c h → Knows self.new s c (takes_in s c (without_change heard) h) }
         ensures heard { (s : Configuration) (h next : Hearing) → Follows s c heard [] h next → Knows self.old s c h → Knows self.new s c next }
-        ensures stirs { Stirs c self.old.ribs self.new.ribs }
+        ensures others_touched { TouchesOthersAtChange c self.old.ribs self.new.ribs }
         ensures keeps { KeepsOwnTouches c self.old self.new }
     {
-        self.hear_said(c, heard, &[]);
+        self.session_hears_with(c, heard, &[]);
     }
 
     /// The session hears this, which has this body where it is a NOTIFICATION, and what it asks for is
     /// done.
-    fn hear_said(&mut self, c: usize, heard: Heard, body: &[u8])
+    fn session_hears_with(&mut self, c: usize, heard: Heard, body: &[u8])
         requires { c < client_count self.old }
         ensures spares { Spares c self.old self.new }
         ensures buffers { self.new.buffers ≡ self.old.buffers }
         ensures heard { (s : Configuration) (h next : Hearing) → Follows s c heard body.now h next → Knows self.old s c h → Knows self.new s c next }
-        ensures stirs { Stirs c self.old.ribs self.new.ribs }
+        ensures others_touched { TouchesOthersAtChange c self.old.ribs self.new.ribs }
         ensures keeps { KeepsOwnTouches c self.old self.new }
     {
         let act = self.sessions[c].message(heard);
@@ -125,9 +125,9 @@ impl Core {
         ensures config { self.new.ribs.config ≡ self.old.ribs.config }
         ensures others { IsSpared c self.old.ribs.tables self.new.ribs.tables }
         ensures tables { ActsOn act c self.old.sessions.items self.old.ribs.tables self.new.ribs.tables }
-        ensures voices { KeepsVoices c self.old.ribs self.new.ribs }
-        ensures own { (none : View) → Voices act self.old.ribs.extended c self.old.sessions.items (outlet_in self.old.ribs c none) (outlet_in self.new.ribs c none) }
-        ensures stirs { Stirs c self.old.ribs self.new.ribs }
+        ensures others_alone { LeavesOthersAlone c self.old.ribs self.new.ribs }
+        ensures own { (none : View) → ActsOnOutlet act self.old.ribs.extended c self.old.sessions.items (outlet_in self.old.ribs c none) (outlet_in self.new.ribs c none) }
+        ensures others_touched { TouchesOthersAtChange c self.old.ribs self.new.ribs }
         ensures answers { KeepsAnswers self.old.ribs self.new.ribs }
     {
         match act {
@@ -149,9 +149,9 @@ impl Core {
         ensures config { self.new.ribs.config ≡ self.old.ribs.config }
         ensures others { IsSpared c self.old.ribs.tables self.new.ribs.tables }
         ensures tables { ActsOn Act.Up c self.old.sessions.items self.old.ribs.tables self.new.ribs.tables }
-        ensures voices { KeepsVoices c self.old.ribs self.new.ribs }
-        ensures own { (none : View) → Voices Act.Up self.old.ribs.extended c self.old.sessions.items (outlet_in self.old.ribs c none) (outlet_in self.new.ribs c none) }
-        ensures stirs { Stirs c self.old.ribs self.new.ribs }
+        ensures others_alone { LeavesOthersAlone c self.old.ribs self.new.ribs }
+        ensures own { (none : View) → ActsOnOutlet Act.Up self.old.ribs.extended c self.old.sessions.items (outlet_in self.old.ribs c none) (outlet_in self.new.ribs c none) }
+        ensures others_touched { TouchesOthersAtChange c self.old.ribs self.new.ribs }
         ensures answers { KeepsAnswers self.old.ribs self.new.ribs }
     {
         let session = &self.sessions[c];
@@ -171,12 +171,12 @@ impl Core {
         ensures watched { self.new.watched ≡ self.old.watched }
         ensures config { self.new.ribs.config ≡ self.old.ribs.config }
         ensures held { Begins self.old.ribs.tables self.new.ribs.tables c 0 }
-        ensures voices { KeepsVoices c self.old.ribs self.new.ribs }
+        ensures others_alone { LeavesOthersAlone c self.old.ribs self.new.ribs }
         ensures own { (none : View) → IsFinished note (outlet_in self.old.ribs c none) (outlet_in self.new.ribs c none) }
-        ensures stirs { Stirs c self.old.ribs self.new.ribs }
+        ensures others_touched { TouchesOthersAtChange c self.old.ribs self.new.ribs }
         ensures answers { KeepsAnswers self.old.ribs self.new.ribs }
     {
-        self.ribs.unlearn(c);
+        self.ribs.forget_routes(c);
         self.ribs.finish(c, note);
     }
 }

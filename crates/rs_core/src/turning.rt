@@ -1,7 +1,7 @@
 //! Turns: what is touched is decided, for each client.
 
 ghost use Rattle.std.specs.Prelude.{◌≡◌, ◌<◌, ◌≤◌, ◌+◌, ℕ, true, false, List, ◌∷◌, length};
-ghost use Rattle.rs_core.specs.Turns.{IsMarked, IsTurn, refused_in};
+ghost use Rattle.rs_core.specs.Touched.Turns.{IsMarked, IsTurn, refused_in};
 ghost use Rattle.rs_workers.specs.Turned.{AllTurnedAlone};
 
 use crate::ribs::Ribs;
@@ -21,10 +21,10 @@ pub struct Turns {
 
 impl Core {
     ghost use Rattle.rs_core.specs.Core.{client_count, is_decided, is_refused, refused_below, refused_clients, touched_for};
-    ghost use Rattle.rs_core.specs.Moves.{Move, Turned};
-    ghost use Rattle.rs_core.specs.Agreeing.{Agrees};
-    ghost use Rattle.rs_core.specs.Runs.{is_established};
-    ghost use Rattle.rs_core.specs.Stirring.{DecidesTouched};
+    ghost use Rattle.rs_core.specs.Run.Moves.{Move, Turned};
+    ghost use Rattle.rs_core.specs.Run.Agreeing.{Agrees};
+    ghost use Rattle.rs_core.specs.Run.Meaning.{is_established};
+    ghost use Rattle.rs_core.specs.Touched.ByRun.{DecidesTouched};
 
     /// A turn of all clients, one after the other. Memory is refused only for those that are
     /// Established.

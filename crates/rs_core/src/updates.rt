@@ -18,10 +18,10 @@ use std::sync::Arc;
 impl Core {
     ghost use Rattle.rs_core.specs.Core.{client_count};
     ghost use Rattle.rs_policy.specs.Configuration.{Configuration, client_of};
-    ghost use Rattle.rs_core.specs.Hearing.{Hearing, state_in, is_up, reset_beyond};
-    ghost use Rattle.rs_core.specs.Agreeing.{Knows, Spares};
-    ghost use Rattle.rs_core.specs.Ribs.{Stirs};
-    ghost use Rattle.rs_core.specs.Steps.{AltersWithin, Changes, ChangesRoutes, ChangesWithin, CutsShort, HasOverlaid, HasOverlaidSome, Hears, IsAnnouncing, KeepsOwnTouches};
+    ghost use Rattle.rs_core.specs.Session.Hearing.{Hearing, state_in, is_up, reset_beyond};
+    ghost use Rattle.rs_core.specs.Run.Agreeing.{Knows, Spares};
+    ghost use Rattle.rs_core.specs.Ribs.{TouchesOthersAtChange};
+    ghost use Rattle.rs_core.specs.Run.Parts.{AltersWithin, Changes, ChangesRoutes, ChangesWithin, CutsShort, HasOverlaid, HasOverlaidSome, Hears, IsAnnouncing, KeepsOwnTouches};
 
     /// Hears the UPDATE with this body.
     pub(crate) fn hear_update(&mut self, c: usize, body: &[u8]) -> Result<(), AllocError>
@@ -31,16 +31,16 @@ impl Core {
         ensures heard { OnOk result (Hears Kind.Update body.now c self.old self.new) }
         ensures refused { OnErr result (CutsShort c self.old self.new) }
         ensures part { OnErr result (AltersWithin Kind.Update body.now c self.old self.new) }
-        ensures stirs { Stirs c self.old.ribs self.new.ribs }
+        ensures others_touched { TouchesOthersAtChange c self.old.ribs self.new.ribs }
         ensures keeps { KeepsOwnTouches c self.old self.new }
     {
         let Some(mode) = self.mode_heard(c) else {
-            self.say(c, Heard::Update(None));
+            self.session_hears(c, Heard::Update(None));
             return Ok(());
         };
         match effect(self.alloc, body, mode)? {
             Outcome::Reset(code, sub) => {
-                self.say(c, Heard::Update(Some((code, sub))));
+                self.session_hears(c, Heard::Update(Some((code, sub))));
                 Ok(())
             }
             Outcome::Change {
@@ -53,7 +53,7 @@ impl Core {
                 if self.is_beyond(c, &withdrawn, &announced) {
                     // RFC 4486, 4
                     let reset = Notification::MaximumPrefixesReached;
-                    self.say(c, Heard::Update(Some((reset.code(), reset.sub()))));
+                    self.session_hears(c, Heard::Update(Some((reset.code(), reset.sub()))));
                     return Ok(());
                 }
                 self.change(c, &withdrawn, &announced, attrs)
@@ -92,7 +92,7 @@ impl Core {
         ensures heard { OnOk result (Changes c withdrawn.now announced.now (option_map arc_value attrs) self.old self.new) }
         ensures refused { OnErr result (CutsShort c self.old self.new) }
         ensures part { OnErr result (((p : Prefix) → has_prefix p withdrawn.now ≡ true → has_prefix p announced.now ≡ false) → ChangesWithin c withdrawn.now announced.now (option_map arc_value attrs) self.old self.new) }
-        ensures stirs { ((p : Prefix) → has_prefix p withdrawn.now ≡ true → has_prefix p announced.now ≡ false) → Stirs c self.old.ribs self.new.ribs }
+        ensures others_touched { ((p : Prefix) → has_prefix p withdrawn.now ≡ true → has_prefix p announced.now ≡ false) → TouchesOthersAtChange c self.old.ribs self.new.ribs }
         ensures keeps { KeepsOwnTouches c self.old self.new }
     {
         match self.sessions[c].message(Heard::Update(None)) {

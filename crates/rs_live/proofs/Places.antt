@@ -2,23 +2,23 @@
 use Rattle.std.proofs.Common.{◌≡◌, ◌≤◌, ◌<◌, ℕ, zero, suc, List, [], ◌∷◌, ◌++◌, length, set, Option, Some, refl, sym, subst, ap, ◌∙◌, arith}
 use Rattle.std.proofs.lemmas.List.{length-set}
 use Rattle.std.specs.Prelude.{slice_get}
-use Rattle.rs_live.specs.declared.seats.Seat.{Seat}
+use Rattle.rs_live.specs.declared.connections.ClientConnections.{ClientConnections}
 use Rattle.rs_live.specs.Keeping.{Held, change, held_by, held_in, held_of, nothing}
 
 abbrev pub holds : Option ℕ → List ℕ → Option ℕ → List ℕ → Held
 holds key waiting rest_key rest = record { key = key; waiting = waiting; rest_key = rest_key; rest = rest }
 
 -- it is written with what it had
-pub held_same : (seats : List Seat) (c : ℕ) (was seat : Seat) → slice_get seats c ≡ Some was → held_in seat ≡ held_in was → held_of (set seats c seat) ≡ held_of seats
-held_same [] c was seat e same = refl
-held_same (s ∷ seats) zero was seat e same = let i : s ≡ was = cc in ap (λ k. k ∷ held_of seats) (same ∙ ap held_in (sym i))
-held_same (s ∷ seats) (suc c) was seat e same = ap (λ ks. held_in s ∷ ks) (held_same seats c was seat e same)
+pub held_same : (connections : List ClientConnections) (c : ℕ) (was own : ClientConnections) → slice_get connections c ≡ Some was → held_in own ≡ held_in was → held_of (set connections c own) ≡ held_of connections
+held_same [] c was own e same = refl
+held_same (s ∷ connections) zero was own e same = let i : s ≡ was = cc in ap (λ k. k ∷ held_of connections) (same ∙ ap held_in (sym i))
+held_same (s ∷ connections) (suc c) was own e same = ap (λ ks. held_in s ∷ ks) (held_same connections c was own e same)
 
 -- it is written with something else
-pub held_changed : (f : Held → Held) (seats : List Seat) (c : ℕ) (was seat : Seat) → slice_get seats c ≡ Some was → held_in seat ≡ f (held_in was) → held_of (set seats c seat) ≡ change c f (held_of seats)
-held_changed f [] c was seat e to = refl
-held_changed f (s ∷ seats) zero was seat e to = let i : s ≡ was = cc in ap (λ k. k ∷ held_of seats) (to ∙ ap (λ t. f (held_in t)) (sym i))
-held_changed f (s ∷ seats) (suc c) was seat e to = ap (λ ks. held_in s ∷ ks) (held_changed f seats c was seat e to)
+pub held_changed : (f : Held → Held) (connections : List ClientConnections) (c : ℕ) (was own : ClientConnections) → slice_get connections c ≡ Some was → held_in own ≡ f (held_in was) → held_of (set connections c own) ≡ change c f (held_of connections)
+held_changed f [] c was own e to = refl
+held_changed f (s ∷ connections) zero was own e to = let i : s ≡ was = cc in ap (λ k. k ∷ held_of connections) (to ∙ ap (λ t. f (held_in t)) (sym i))
+held_changed f (s ∷ connections) (suc c) was own e to = ap (λ ks. held_in s ∷ ks) (held_changed f connections c was own e to)
 
 -- it is not there
 pub unchanged_past : (f : Held → Held) (held : List Held) (c : ℕ) → length held ≤ c → change c f held ≡ held
@@ -48,35 +48,35 @@ at_place f (k ∷ held) (suc c) below = at_place f held c (omega arith)
 pub below_change : (f : Held → Held) (held : List Held) (c : ℕ) → c < length held → c < length (change c f held)
 below_change f held c below = subst (λ n. c < n) (sym (length-set held c (f (held_by c held)))) below
 
-pub below_held : (seats : List Seat) (c : ℕ) → c < length seats → c < length (held_of seats)
+pub below_held : (connections : List ClientConnections) (c : ℕ) → c < length connections → c < length (held_of connections)
 below_held [] c below = absurd (omega arith)
-below_held (s ∷ seats) zero below = omega arith
-below_held (s ∷ seats) (suc c) below = omega (arith, below_held seats c (omega arith))
+below_held (s ∷ connections) zero below = omega arith
+below_held (s ∷ connections) (suc c) below = omega (arith, below_held connections c (omega arith))
 
 -- what the client of a place has
-pub held_there : (seats : List Seat) (c : ℕ) (seat : Seat) → slice_get seats c ≡ Some seat → held_by c (held_of seats) ≡ held_in seat
-held_there [] c seat e = cc
-held_there (s ∷ seats) zero seat e = let i : s ≡ seat = cc in ap held_in i
-held_there (s ∷ seats) (suc c) seat e = held_there seats c seat e
+pub held_there : (connections : List ClientConnections) (c : ℕ) (own : ClientConnections) → slice_get connections c ≡ Some own → held_by c (held_of connections) ≡ held_in own
+held_there [] c own e = cc
+held_there (s ∷ connections) zero own e = let i : s ≡ own = cc in ap held_in i
+held_there (s ∷ connections) (suc c) own e = held_there connections c own e
 
 -- there is none behind the last
-pub held_past : (seats : List Seat) (c : ℕ) → length seats ≤ c → held_by c (held_of seats) ≡ nothing
+pub held_past : (connections : List ClientConnections) (c : ℕ) → length connections ≤ c → held_by c (held_of connections) ≡ nothing
 held_past [] zero past = refl
 held_past [] (suc c) past = refl
-held_past (s ∷ seats) zero past = absurd (omega arith)
-held_past (s ∷ seats) (suc c) past = held_past seats c (omega arith)
+held_past (s ∷ connections) zero past = absurd (omega arith)
+held_past (s ∷ connections) (suc c) past = held_past connections c (omega arith)
 
 -- each part is the same
 pub parts : {k l : Option ℕ} {w v : List ℕ} {r s : Option ℕ} {o p : List ℕ} → k ≡ l → w ≡ v → r ≡ s → o ≡ p → holds k w r o ≡ holds l v s p
 parts {k} {l} {w} {v} {r} {s} {o} {p} a b c d = ap (λ x. holds x w r o) a ∙ ap (λ x. holds l x r o) b ∙ ap (λ x. holds l v x o) c ∙ ap (λ x. holds l v s x) d
 
 -- nobody has anything, where one place more has nothing
-pub none_more : (seats : List Seat) (seat : Seat) → held_in seat ≡ nothing → ((c : ℕ) → held_by c (held_of seats) ≡ nothing) → (c : ℕ) → held_by c (held_of (seats ++ seat ∷ [])) ≡ nothing
-none_more [] seat e none zero = e
-none_more [] seat e none (suc c) = nobody c
+pub none_more : (connections : List ClientConnections) (own : ClientConnections) → held_in own ≡ nothing → ((c : ℕ) → held_by c (held_of connections) ≡ nothing) → (c : ℕ) → held_by c (held_of (connections ++ own ∷ [])) ≡ nothing
+none_more [] own e none zero = e
+none_more [] own e none (suc c) = nobody c
   where
     nobody : (c : ℕ) → held_by c [] ≡ nothing
     nobody zero = refl
     nobody (suc c) = refl
-none_more (s ∷ seats) seat e none zero = none zero
-none_more (s ∷ seats) seat e none (suc c) = none_more seats seat e (λ d. none (suc d)) c
+none_more (s ∷ connections) own e none zero = none zero
+none_more (s ∷ connections) own e none (suc c) = none_more connections own e (λ d. none (suc d)) c

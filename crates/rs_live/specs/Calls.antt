@@ -1,19 +1,19 @@
 -- What the server asks of its ports, each call with its answer.
 use Rattle.std.specs.Prelude.{◌≡◌, ℕ, List, Option, Some, None, Result, Ok, Err, IsErr, ⊤}
 use Rattle.rs_live.specs.declared.ports.PortFault.{PortFault}
-use Rattle.rs_live.specs.declared.ports.Caller.{Caller}
+use Rattle.rs_live.specs.declared.ports.Incoming.{Incoming}
 use Rattle.rs_live.specs.declared.ports.Line.{Line}
 use Rattle.rs_live.specs.declared.reports.Report.{Report}
 
 pub data Call : Type 0 where
   Waited : (answer : Result (Unit {0}) PortFault) → Call
-  Accepted : (answer : Result (Option Caller) PortFault) → Call
+  Accepted : (answer : Result (Option Incoming) PortFault) → Call
   Read : (key : ℕ) (piece : List ℕ) (answer : Result (Option ℕ) PortFault) → Call
   Wrote : (key : ℕ) (octets : List ℕ) (answer : Result (Option ℕ) PortFault) → Call
   Closed : (key : ℕ) → Call
   Timed : (seconds : ℕ) → Call
   Fetched : (text : List ℕ) (answer : Result (Unit {0}) PortFault) → Call
-  Said : (line : Line) → Call
+  Printed : (line : Line) → Call
   Logged : (report : Report) → Call
 
 -- a read with this answer is the last of its connection: it failed, or it read 0 octets, the end of the input
@@ -32,7 +32,7 @@ IsGood (Wrote key octets answer) = ⊥
 IsGood (Closed key) = ⊥
 IsGood (Timed seconds) = ⊤
 IsGood (Fetched text answer) = ⊤
-IsGood (Said line) = ⊤
+IsGood (Printed line) = ⊤
 IsGood (Logged report) = ⊤
 
 abbrev pub IsFailedWait : Call → Type 0
@@ -43,7 +43,7 @@ IsFailedWait (Wrote key octets answer) = ⊥
 IsFailedWait (Closed key) = ⊥
 IsFailedWait (Timed seconds) = ⊥
 IsFailedWait (Fetched text answer) = ⊥
-IsFailedWait (Said line) = ⊥
+IsFailedWait (Printed line) = ⊥
 IsFailedWait (Logged report) = ⊥
 
 abbrev pub IsFailedAccept : Call → Type 0
@@ -54,7 +54,7 @@ IsFailedAccept (Wrote key octets answer) = ⊥
 IsFailedAccept (Closed key) = ⊥
 IsFailedAccept (Timed seconds) = ⊥
 IsFailedAccept (Fetched text answer) = ⊥
-IsFailedAccept (Said line) = ⊥
+IsFailedAccept (Printed line) = ⊥
 IsFailedAccept (Logged report) = ⊥
 
 -- by this call the connection with this key is found to be lost: a read that is its last
@@ -66,5 +66,5 @@ FindsLost key (Wrote k octets answer) = ⊥
 FindsLost key (Closed k) = ⊥
 FindsLost key (Timed seconds) = ⊥
 FindsLost key (Fetched text answer) = ⊥
-FindsLost key (Said line) = ⊥
+FindsLost key (Printed line) = ⊥
 FindsLost key (Logged report) = ⊥

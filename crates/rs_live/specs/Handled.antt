@@ -2,16 +2,16 @@
 use Rattle.std.specs.Prelude.{◌≡◌, ◌≢◌, ℕ, List, [], ◌∷◌, take, drop, Bool, true, false, Option, Some, None, Result, Ok, Err, IsOk, ⊤}
 use Rattle.rs_core.specs.declared.links.Event.{Event}
 use Rattle.rs_core.specs.declared.links.Event.TheVariants.{Opened, Octets, Moment, Turn, Room, Lost, Rules, Stop}
-use Rattle.rs_core.specs.Links.{Step, Told, Begin, Busy, Offer, Memory, End, Replaced, octets_of}
-use Rattle.rs_live.specs.declared.ports.Caller.{Caller}
+use Rattle.rs_core.specs.Link.Steps.{Step, Happened, Begin, Busy, Offer, Memory, End, Replaced, octets_of}
+use Rattle.rs_live.specs.declared.ports.Incoming.{Incoming}
 use Rattle.rs_live.specs.declared.ports.PortFault.{PortFault}
 use Rattle.rs_live.specs.declared.serve.ServeFault.{ServeFault}
 use Rattle.rs_live.specs.declared.serve.ServeFault.TheVariants as faults
 use Rattle.rs_live.specs.declared.ports.Line.TheVariants as lines
-use Rattle.rs_live.specs.declared.link.Link.{Link}
-use Rattle.rs_live.specs.declared.link.Phase.{Phase}
-use Rattle.rs_live.specs.Calls.{Call, Waited, Accepted, Read, Closed, Timed, Said, IsGood, FindsLost, IsFailedWait, IsFailedAccept}
-use Rattle.rs_live.specs.Deeds.{Deed, Asked, WroteTo, WroteRest, ClosedRest, Did, calls}
+use Rattle.rs_live.specs.declared.live_link.LiveLink.{LiveLink}
+use Rattle.rs_live.specs.declared.live_link.Phase.{Phase}
+use Rattle.rs_live.specs.Calls.{Call, Waited, Accepted, Read, Closed, Timed, Printed, IsGood, FindsLost, IsFailedWait, IsFailedAccept}
+use Rattle.rs_live.specs.Operations.{Operation, Asked, WroteTo, WroteRest, ClosedRest, Did, calls}
 use Rattle.rs_live.specs.Keys.{come, key_of}
 use Rattle.rs_live.specs.Waiting.{waiting, rest_key, rest}
 use Rattle.rs_live.specs.Rounds.{IsSettled}
@@ -19,7 +19,7 @@ use Rattle.rs_live.specs.Keeping.{Held, Agrees, held_of}
 
 -- by this step the core gets to know that the client's connection is lost
 abbrev pub IsLossOf : ℕ → Step → Type 0
-IsLossOf c (Told event octets) = event ≡ Lost c
+IsLossOf c (Happened event octets) = event ≡ Lost c
 IsLossOf c (Begin d) = ⊥
 IsLossOf c (Busy d) = ⊥
 IsLossOf c (Offer d octets answer) = (d ≡ c) × (answer ≡ None)
@@ -41,7 +41,7 @@ IsOther Stop = ⊤
 -- by this step the core gets to know of no loss, and of nothing that the ports have just answered; it refuses nothing, and
 -- hands on nothing
 abbrev pub IsNoLoss : Step → Type 0
-IsNoLoss (Told event octets) = IsOther event
+IsNoLoss (Happened event octets) = IsOther event
 IsNoLoss (Begin d) = ⊤
 IsNoLoss (Busy d) = ⊥
 IsNoLoss (Offer d octets answer) = ⊥
@@ -59,74 +59,74 @@ IsNoLoss (Replaced answer) = ⊤
 -- Each write is of all that waits for a client, under the key of its connection; or of all the rest, under the key of the
 -- connection that it had when its session ended, which is closed at once where such a write fails. An offer to a client that has no
 -- connection takes nothing. No connection is closed but where this is said.
-pub data AreHandled : List Deed → Type 0 where
+pub data AreHandled : List Operation → Type 0 where
   Begun : AreHandled []
-  Waits : (deeds : List Deed) → IsSettled deeds → AreHandled deeds → AreHandled (Asked (Waited (Ok tt)) ∷ deeds)
-  Asks : (call : Call) (deeds : List Deed) → IsGood call → AreHandled deeds → AreHandled (Asked call ∷ deeds)
-  Does : (step : Step) (deeds : List Deed) → IsNoLoss step → AreHandled deeds → AreHandled (Did step ∷ deeds)
-  Opens : (c : ℕ) (octets : List ℕ) (caller : Caller) (deeds : List Deed) → AreHandled deeds → AreHandled (Did (Told (Opened c) octets) ∷ Asked (Accepted (Ok (Some caller))) ∷ deeds)
-  Refuses : (caller : Caller) (deeds : List Deed) → AreHandled deeds → AreHandled (Asked (Closed caller.key) ∷ Asked (Said lines.Stranger) ∷ Asked (Accepted (Ok (Some caller))) ∷ deeds)
-  TurnsAway : (c key : ℕ) (deeds : List Deed) → come c deeds ≡ Some key → AreHandled deeds → AreHandled (Did (Busy c) ∷ Asked (Closed key) ∷ Asked (Said (lines.Busy c)) ∷ deeds)
-  TurnsNoneAway : (c : ℕ) (deeds : List Deed) → come c deeds ≡ None → AreHandled deeds → AreHandled (Did (Busy c) ∷ deeds)
-  Hears : (c key count : ℕ) (piece : List ℕ) (deeds : List Deed) → key_of c deeds ≡ Some key → count ≢ 0 → AreHandled deeds → AreHandled (Did (Told (Octets c count) (take count piece)) ∷ Asked (Read key piece (Ok (Some count))) ∷ deeds)
-  Times : (seconds : ℕ) (octets : List ℕ) (deeds : List Deed) → AreHandled deeds → AreHandled (Did (Told (Moment seconds) octets) ∷ Asked (Timed seconds) ∷ deeds)
-  Loses : (c key : ℕ) (step : Step) (deeds : List Deed) → key_of c deeds ≡ Some key → IsLossOf c step → AreHandled deeds → AreHandled (Did step ∷ Asked (Closed key) ∷ Asked (Said (lines.Lost c)) ∷ deeds)
-  Fails : (c key : ℕ) (call : Call) (step : Step) (deeds : List Deed) → key_of c deeds ≡ Some key → FindsLost key call → IsLossOf c step → AreHandled deeds → AreHandled (Did step ∷ Asked (Closed key) ∷ Asked (Said (lines.Lost c)) ∷ Asked call ∷ deeds)
-  Takes : (c n : ℕ) (octets : List ℕ) (deeds : List Deed) → (key_of c deeds ≡ None → n ≡ 0) → AreHandled deeds → AreHandled (Did (Offer c octets (Some n)) ∷ deeds)
-  Sends : (c key : ℕ) (answer : Result (Option ℕ) PortFault) (deeds : List Deed) → key_of c deeds ≡ Some key → IsOk answer → AreHandled deeds → AreHandled (WroteTo c key (waiting c deeds) answer ∷ deeds)
-  Breaks : (c key : ℕ) (fault : PortFault) (step : Step) (deeds : List Deed) → key_of c deeds ≡ Some key → IsLossOf c step → AreHandled deeds → AreHandled (Did step ∷ Asked (Closed key) ∷ Asked (Said (lines.Lost c)) ∷ WroteTo c key (waiting c deeds) (Err fault) ∷ deeds)
-  SendsRest : (c key : ℕ) (answer : Result (Option ℕ) PortFault) (deeds : List Deed) → rest_key c deeds ≡ Some key → IsOk answer → AreHandled deeds → AreHandled (WroteRest c key (rest c deeds) answer ∷ deeds)
-  Drops : (c key : ℕ) (fault : PortFault) (deeds : List Deed) → rest_key c deeds ≡ Some key → AreHandled deeds → AreHandled (ClosedRest c key ∷ WroteRest c key (rest c deeds) (Err fault) ∷ deeds)
-  Closes : (c key : ℕ) (deeds : List Deed) → rest_key c deeds ≡ Some key → AreHandled deeds → AreHandled (ClosedRest c key ∷ deeds)
-  PassesOver : (c key : ℕ) (deeds : List Deed) → come c deeds ≡ Some key → AreHandled deeds → AreHandled (Asked (Closed key) ∷ Asked (Said lines.Stranger) ∷ deeds)
+  Waits : (operations : List Operation) → IsSettled operations → AreHandled operations → AreHandled (Asked (Waited (Ok tt)) ∷ operations)
+  Asks : (call : Call) (operations : List Operation) → IsGood call → AreHandled operations → AreHandled (Asked call ∷ operations)
+  Does : (step : Step) (operations : List Operation) → IsNoLoss step → AreHandled operations → AreHandled (Did step ∷ operations)
+  Opens : (c : ℕ) (octets : List ℕ) (incoming : Incoming) (operations : List Operation) → AreHandled operations → AreHandled (Did (Happened (Opened c) octets) ∷ Asked (Accepted (Ok (Some incoming))) ∷ operations)
+  Refuses : (incoming : Incoming) (operations : List Operation) → AreHandled operations → AreHandled (Asked (Closed incoming.key) ∷ Asked (Printed lines.Stranger) ∷ Asked (Accepted (Ok (Some incoming))) ∷ operations)
+  TurnsAway : (c key : ℕ) (operations : List Operation) → come c operations ≡ Some key → AreHandled operations → AreHandled (Did (Busy c) ∷ Asked (Closed key) ∷ Asked (Printed (lines.Busy c)) ∷ operations)
+  TurnsNoneAway : (c : ℕ) (operations : List Operation) → come c operations ≡ None → AreHandled operations → AreHandled (Did (Busy c) ∷ operations)
+  Hears : (c key count : ℕ) (piece : List ℕ) (operations : List Operation) → key_of c operations ≡ Some key → count ≢ 0 → AreHandled operations → AreHandled (Did (Happened (Octets c count) (take count piece)) ∷ Asked (Read key piece (Ok (Some count))) ∷ operations)
+  Times : (seconds : ℕ) (octets : List ℕ) (operations : List Operation) → AreHandled operations → AreHandled (Did (Happened (Moment seconds) octets) ∷ Asked (Timed seconds) ∷ operations)
+  Loses : (c key : ℕ) (step : Step) (operations : List Operation) → key_of c operations ≡ Some key → IsLossOf c step → AreHandled operations → AreHandled (Did step ∷ Asked (Closed key) ∷ Asked (Printed (lines.Lost c)) ∷ operations)
+  Fails : (c key : ℕ) (call : Call) (step : Step) (operations : List Operation) → key_of c operations ≡ Some key → FindsLost key call → IsLossOf c step → AreHandled operations → AreHandled (Did step ∷ Asked (Closed key) ∷ Asked (Printed (lines.Lost c)) ∷ Asked call ∷ operations)
+  Takes : (c n : ℕ) (octets : List ℕ) (operations : List Operation) → (key_of c operations ≡ None → n ≡ 0) → AreHandled operations → AreHandled (Did (Offer c octets (Some n)) ∷ operations)
+  Sends : (c key : ℕ) (answer : Result (Option ℕ) PortFault) (operations : List Operation) → key_of c operations ≡ Some key → IsOk answer → AreHandled operations → AreHandled (WroteTo c key (waiting c operations) answer ∷ operations)
+  Breaks : (c key : ℕ) (fault : PortFault) (step : Step) (operations : List Operation) → key_of c operations ≡ Some key → IsLossOf c step → AreHandled operations → AreHandled (Did step ∷ Asked (Closed key) ∷ Asked (Printed (lines.Lost c)) ∷ WroteTo c key (waiting c operations) (Err fault) ∷ operations)
+  SendsRest : (c key : ℕ) (answer : Result (Option ℕ) PortFault) (operations : List Operation) → rest_key c operations ≡ Some key → IsOk answer → AreHandled operations → AreHandled (WroteRest c key (rest c operations) answer ∷ operations)
+  Drops : (c key : ℕ) (fault : PortFault) (operations : List Operation) → rest_key c operations ≡ Some key → AreHandled operations → AreHandled (ClosedRest c key ∷ WroteRest c key (rest c operations) (Err fault) ∷ operations)
+  Closes : (c key : ℕ) (operations : List Operation) → rest_key c operations ≡ Some key → AreHandled operations → AreHandled (ClosedRest c key ∷ operations)
+  PassesOver : (c key : ℕ) (operations : List Operation) → come c operations ≡ Some key → AreHandled operations → AreHandled (Asked (Closed key) ∷ Asked (Printed lines.Stranger) ∷ operations)
 
 -- the last of these deeds is such a call, and all before are handled
-pub data EndBy (Is : Call → Type 0) : List Deed → Type 0 where
-  By : (call : Call) (deeds : List Deed) → Is call → AreHandled deeds → EndBy Is (Asked call ∷ deeds)
+pub data EndBy (Is : Call → Type 0) : List Operation → Type 0 where
+  By : (call : Call) (operations : List Operation) → Is call → AreHandled operations → EndBy Is (Asked call ∷ operations)
 
 -- the last of these deeds is a write of what waits for this client that failed, under the key of its connection
-pub data EndByWrite (c key : ℕ) : List Deed → Type 0 where
-  ByWrite : (fault : PortFault) (deeds : List Deed) → key_of c deeds ≡ Some key → AreHandled deeds → EndByWrite c key (WroteTo c key (waiting c deeds) (Err fault) ∷ deeds)
+pub data EndByWrite (c key : ℕ) : List Operation → Type 0 where
+  ByWrite : (fault : PortFault) (operations : List Operation) → key_of c operations ≡ Some key → AreHandled operations → EndByWrite c key (WroteTo c key (waiting c operations) (Err fault) ∷ operations)
 
 -- the last of these deeds is a wait that failed, where the round before might end
-abbrev pub EndByWait : List Deed → Type 0
-EndByWait deeds = EndBy IsFailedWait deeds × IsSettled (drop 1 deeds)
+abbrev pub EndByWait : List Operation → Type 0
+EndByWait operations = EndBy IsFailedWait operations × IsSettled (drop 1 operations)
 
 -- what a server did that ended with this answer
-abbrev pub IsServed : Result (Unit {0}) ServeFault → List Deed → Type 0
-IsServed (Ok done) deeds = AreHandled deeds × IsSettled deeds
-IsServed (Err faults.Poll) deeds = EndByWait deeds
-IsServed (Err faults.Listener) deeds = EndBy IsFailedAccept deeds
-IsServed (Err faults.Memory) deeds = deeds ≡ []
+abbrev pub IsServed : Result (Unit {0}) ServeFault → List Operation → Type 0
+IsServed (Ok done) operations = AreHandled operations × IsSettled operations
+IsServed (Err faults.Poll) operations = EndByWait operations
+IsServed (Err faults.Listener) operations = EndBy IsFailedAccept operations
+IsServed (Err faults.Memory) operations = operations ≡ []
 
 -- the ports were asked just the calls among such deeds
-pub record Has {P : Type 0} (asked : P → List Call → Type 0) (ports : P) (Is : List Deed → Type 0) : Type 0 where
-  pub deeds : List Deed
-  pub are : Is deeds
-  pub were : asked ports (calls deeds)
+pub record Has {P : Type 0} (asked : P → List Call → Type 0) (ports : P) (Is : List Operation → Type 0) : Type 0 where
+  pub operations : List Operation
+  pub are : Is operations
+  pub were : asked ports (calls operations)
 
 -- the deeds are handled, and what the link keeps agrees with them
-abbrev pub AreKept : List Held → Phase → List Deed → Type 0
-AreKept held phase deeds = AreHandled deeds × Agrees held phase deeds
+abbrev pub AreKept : List Held → Phase → List Operation → Type 0
+AreKept held phase operations = AreHandled operations × Agrees held phase operations
 
 -- the last of these deeds is such a write, and what the link keeps agrees with them
-abbrev pub AreBroken : ℕ → ℕ → List Held → Phase → List Deed → Type 0
-AreBroken c key held phase deeds = EndByWrite c key deeds × Agrees held phase deeds
+abbrev pub AreBroken : ℕ → ℕ → List Held → Phase → List Operation → Type 0
+AreBroken c key held phase operations = EndByWrite c key operations × Agrees held phase operations
 
 -- so of a link
-abbrev pub Keeps : {P : Type 0} → (P → List Call → Type 0) → Link P → Type 0
-Keeps asked link = Has asked link.ports.now (AreKept (held_of link.seats.now.items) link.phase)
+abbrev pub Keeps : {P : Type 0} → (P → List Call → Type 0) → LiveLink P → Type 0
+Keeps asked link = Has asked link.ports.now (AreKept (held_of link.connections.now.items) link.phase)
 
 -- a step of the core's link was done; or it was the last, since an accept failed
-pub data Follows {P : Type 0} (asked : P → List Call → Type 0) (step : Step) (link : Link P) : Bool → Type 0 where
-  On : Has asked link.ports.now (λ deeds. AreKept (held_of link.seats.now.items) link.phase (Did step ∷ deeds)) → Follows asked step link false
-  Halts : (octets : List ℕ) → step ≡ Told Stop octets → Has asked link.ports.now (EndBy IsFailedAccept) → Follows asked step link true
+pub data Follows {P : Type 0} (asked : P → List Call → Type 0) (step : Step) (link : LiveLink P) : Bool → Type 0 where
+  On : Has asked link.ports.now (λ operations. AreKept (held_of link.connections.now.items) link.phase (Did step ∷ operations)) → Follows asked step link false
+  Halts : (octets : List ℕ) → step ≡ Happened Stop octets → Has asked link.ports.now (EndBy IsFailedAccept) → Follows asked step link true
 
 -- the core was told this event, or is about to be, with this in the piece
-abbrev pub Tells : {P : Type 0} → (P → List Call → Type 0) → Event → List ℕ → Link P → Type 0
-Tells asked event piece link = (text : List ℕ) → Follows asked (Told event (octets_of event piece text)) link link.has_failed
+abbrev pub Tells : {P : Type 0} → (P → List Call → Type 0) → Event → List ℕ → LiveLink P → Type 0
+Tells asked event piece link = (text : List ℕ) → Follows asked (Happened event (octets_of event piece text)) link link.has_failed
 
 -- it, or nothing, where no accept failed
-abbrev pub Answers : {P : Type 0} → (P → List Call → Type 0) → Option Event → List ℕ → Link P → Type 0
+abbrev pub Answers : {P : Type 0} → (P → List Call → Type 0) → Option Event → List ℕ → LiveLink P → Type 0
 Answers asked None piece link = (link.has_failed ≡ false) × Keeps asked link
 Answers asked (Some event) piece link = Tells asked event piece link

@@ -1,5 +1,5 @@
 pub mod Calls
-pub mod Deeds
+pub mod Operations
 pub mod Handled
 pub mod Keeping
 pub mod Keys

@@ -1,37 +1,37 @@
 -- What stands at the end of each round, that is, from one wait to the next. What was done last stands first.
 use Rattle.std.specs.Prelude.{◌≡◌, ◌⊎◌, ℕ, List, [], ◌∷◌, None, IsSome, ⊤}
 use Rattle.rs_core.specs.declared.links.Event.TheVariants.{Octets, Moment, Turn, Room}
-use Rattle.rs_core.specs.Links.{Told}
+use Rattle.rs_core.specs.Link.Steps.{Happened}
 use Rattle.rs_live.specs.Calls.{Waited}
-use Rattle.rs_live.specs.Deeds.{Deed, Asked, Did}
+use Rattle.rs_live.specs.Operations.{Operation, Asked, Did}
 use Rattle.rs_live.specs.Keys.{come, key_of}
 
 -- in this round a moment was told, and no octets behind it
-abbrev pub IsTimed : List Deed → Type 0
+abbrev pub IsTimed : List Operation → Type 0
 IsTimed [] = ⊥
-IsTimed (Asked (Waited answer) ∷ deeds) = ⊥
-IsTimed (Did (Told (Octets c count) octets) ∷ deeds) = ⊥
-IsTimed (Did (Told (Moment seconds) octets) ∷ deeds) = ⊤
-IsTimed (deed ∷ deeds) = IsTimed deeds
+IsTimed (Asked (Waited answer) ∷ operations) = ⊥
+IsTimed (Did (Happened (Octets c count) octets) ∷ operations) = ⊥
+IsTimed (Did (Happened (Moment seconds) octets) ∷ operations) = ⊤
+IsTimed (operation ∷ operations) = IsTimed operations
 
 -- in this round a turn was told behind such a moment, and no octets behind it; or nothing was done at all
-abbrev pub IsTurned : List Deed → Type 0
+abbrev pub IsTurned : List Operation → Type 0
 IsTurned [] = ⊤
-IsTurned (Asked (Waited answer) ∷ deeds) = ⊥
-IsTurned (Did (Told (Octets c count) octets) ∷ deeds) = ⊥
-IsTurned (Did (Told Turn octets) ∷ deeds) = IsTimed deeds
-IsTurned (deed ∷ deeds) = IsTurned deeds
+IsTurned (Asked (Waited answer) ∷ operations) = ⊥
+IsTurned (Did (Happened (Octets c count) octets) ∷ operations) = ⊥
+IsTurned (Did (Happened Turn octets) ∷ operations) = IsTimed operations
+IsTurned (operation ∷ operations) = IsTurned operations
 
 -- behind the last turn this client was given room, as much as can be told
-abbrev pub HasRoom : ℕ → List Deed → Type 0
+abbrev pub HasRoom : ℕ → List Operation → Type 0
 HasRoom c [] = ⊥
-HasRoom c (Did (Told Turn octets) ∷ deeds) = ⊥
-HasRoom c (Did (Told (Room d room) octets) ∷ deeds) = ((c ≡ d) × (room ≡ 18446744073709551615)) ⊎ HasRoom c deeds
-HasRoom c (deed ∷ deeds) = HasRoom c deeds
+HasRoom c (Did (Happened Turn octets) ∷ operations) = ⊥
+HasRoom c (Did (Happened (Room d room) octets) ∷ operations) = ((c ≡ d) × (room ≡ 18446744073709551615)) ⊎ HasRoom c operations
+HasRoom c (operation ∷ operations) = HasRoom c operations
 
 -- A round may end: behind the last octets that were told in it came a moment and then a turn, and behind that turn each client
 -- that has a connection was given room; and of no client is the connection that came last unanswered.
-pub record IsSettled (deeds : List Deed) : Type 0 where
-  pub turned : IsTurned deeds
-  pub rooms : (c : ℕ) → IsSome (key_of c deeds) → HasRoom c deeds
-  pub answered : (c : ℕ) → come c deeds ≡ None
+pub record IsSettled (operations : List Operation) : Type 0 where
+  pub turned : IsTurned operations
+  pub rooms : (c : ℕ) → IsSome (key_of c operations) → HasRoom c operations
+  pub answered : (c : ℕ) → come c operations ≡ None

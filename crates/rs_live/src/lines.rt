@@ -3,14 +3,14 @@
 
 use crate::names::Names;
 use crate::ports::Line;
-use crate::rations::{Due, Ration};
+use crate::rate_limits::{Due, RateLimit};
 use std::alloc::{AllocError, Global};
 
 /// What was printed of each client, and of strangers behind the last client; and what waits.
 #[derive(Drop)]
 pub struct Lines<'a> {
     names: &'a Names,
-    rations: Vec<Ration<Line>>,
+    rate_limits: Vec<RateLimit<Line>>,
 }
 
 impl<'a> Lines<'a> {
@@ -19,33 +19,33 @@ impl<'a> Lines<'a> {
         let count = names.count().saturating_add(1);
         Ok(Lines {
             names,
-            rations: vec![in alloc; Ration::new(); count]?,
+            rate_limits: vec![in alloc; RateLimit::new(); count]?,
         })
     }
 
     /// Prints a line, now or in a later second; one of rules now.
-    pub fn say<R: Print>(&mut self, rt: &R, second: u64, line: &Line) {
+    pub fn print<R: Print>(&mut self, rt: &R, second: u64, line: &Line) {
         let Some(place) = self.place(line) else {
             print_line(rt, self.names, line);
             return;
         };
-        if let Some(ration) = self.rations.get_mut(place) {
-            ration.put(*line);
+        if let Some(rate_limit) = self.rate_limits.get_mut(place) {
+            rate_limit.put(*line);
         }
-        self.say_waiting_at(rt, second, place);
+        self.print_waiting_at(rt, second, place);
     }
 
     /// Prints what waits for this second. In the greatest, which never comes, it is all that waits.
-    pub fn say_waiting<R: Print>(&mut self, rt: &R, second: u64) {
-        for place in 0..self.rations.len() {
-            self.say_waiting_at(rt, second, place);
+    pub fn print_waiting<R: Print>(&mut self, rt: &R, second: u64) {
+        for place in 0..self.rate_limits.len() {
+            self.print_waiting_at(rt, second, place);
         }
     }
 
     /// Prints what waits for this second at one place.
-    fn say_waiting_at<R: Print>(&mut self, rt: &R, second: u64, place: usize) {
-        if let Some(ration) = self.rations.get_mut(place)
-            && let Some(due) = ration.take(second)
+    fn print_waiting_at<R: Print>(&mut self, rt: &R, second: u64, place: usize) {
+        if let Some(rate_limit) = self.rate_limits.get_mut(place)
+            && let Some(due) = rate_limit.take(second)
         {
             print_due(rt, self.names, &due);
         }

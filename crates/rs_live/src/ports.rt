@@ -2,7 +2,7 @@
 //! print. Nothing else of the crate but its sockets reaches further.
 
 ghost use Rattle.std.specs.Prelude.{◌≤◌, ◌∷◌, ℕ, List, IfOk, IfSome, length};
-ghost use Rattle.rs_live.specs.Calls.{Call, Waited, Accepted, Read, Wrote, Closed, Timed, Fetched, Said, Logged};
+ghost use Rattle.rs_live.specs.Calls.{Call, Waited, Accepted, Read, Wrote, Closed, Timed, Fetched, Printed, Logged};
 
 use crate::reports::Report;
 use rs_policy::RulesFault;
@@ -14,7 +14,7 @@ pub struct PortFault;
 /// A connection that was accepted: at which of the distinct `listen` addresses, in the order of the
 /// configuration and counted from 0; the address that it came from; and a key that the ports chose.
 #[derive(Clone, Copy, Debug, PartialEq, Eq)]
-pub struct Caller {
+pub struct Incoming {
     pub listener: usize,
     pub address: u32,
     pub key: usize,
@@ -49,7 +49,7 @@ pub trait Ports {
         ensures { (calls : List Call) → asked self.old calls → asked self.new (Waited result ∷ calls) };
 
     /// The next connection that has come; `None` where none has.
-    fn accept(&mut self) -> Result<Option<Caller>, PortFault>
+    fn accept(&mut self) -> Result<Option<Incoming>, PortFault>
         ensures { (calls : List Call) → asked self.old calls → asked self.new (Accepted result ∷ calls) };
 
     /// Reads a piece of a connection. `None` where nothing is there, 0 at the end of input.
@@ -75,8 +75,8 @@ pub trait Ports {
         ensures { (calls : List Call) → asked self.old calls → asked self.new (Fetched text.new.items result ∷ calls) };
 
     /// Prints a line, now or later, or counts it among those that are left out.
-    fn say(&mut self, line: &Line)
-        ensures { (calls : List Call) → asked self.old calls → asked self.new (Said line.now ∷ calls) };
+    fn print(&mut self, line: &Line)
+        ensures { (calls : List Call) → asked self.old calls → asked self.new (Printed line.now ∷ calls) };
 
     /// Tells an operator what happened and why.
     fn log(&mut self, report: &Report)

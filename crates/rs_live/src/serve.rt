@@ -4,9 +4,9 @@ ghost use Rattle.std.specs.Prelude.{◌≡◌, ◌≤◌, ◌<◌, [], false, tr
 ghost use Rattle.rs_live.specs.Calls.{IsFailedAccept};
 ghost use Rattle.rs_live.specs.Handled.{Has, EndBy, IsServed, Keeps};
 
-use crate::link::{Link, Phase};
+use crate::connections::connections;
+use crate::live_link::{LiveLink, Phase};
 use crate::ports::Ports;
-use crate::seats::seats;
 use crate::watch::Watch;
 use rs_core::{Core, drive, drive_with};
 use rs_policy::Config;
@@ -58,7 +58,7 @@ pub fn serve<R: Threads + Wait + Sync, P: Ports>(
     ensures served { P.asked ports.old [] → Has P.asked ports.new (IsServed result) }
     ensures ended { IsOk result → IsSome limits.sessions }
 {
-    let Ok(mut seats) = seats(alloc, &config) else {
+    let Ok(mut connections) = connections(alloc, &config) else {
         return Err(ServeFault::Memory);
     };
     let Ok(mut watch) = Watch::new(alloc, config.clients()) else {
@@ -69,7 +69,7 @@ pub fn serve<R: Threads + Wait + Sync, P: Ports>(
     };
     let mut text = Vec::new(alloc);
     let mut read = Vec::new(alloc);
-    let mut link = Link::new(ports, &mut seats, &mut text, &mut read);
+    let mut link = LiveLink::new(ports, &mut connections, &mut text, &mut read);
     serve_on(rt, limits, &mut watch, &mut core, &mut link)
 }
 
@@ -79,7 +79,7 @@ fn serve_on<R: Threads + Wait + Sync, P: Ports>(
     limits: Limits,
     watch: &mut Watch,
     core: &mut Core,
-    link: &mut Link<'_, P>,
+    link: &mut LiveLink<'_, P>,
 ) -> Result<(), ServeFault>
     requires workers { (0 < limits.workers) × (limits.workers ≤ 16) }
     ensures same_ports { link.new.ports.ghost_name ≡ link.old.ports.ghost_name }
@@ -105,7 +105,7 @@ fn serve_on<R: Threads + Wait + Sync, P: Ports>(
 
 /// Reads the file of rules in a round in which it is to be read, and answers the number of the round
 /// since the last such one.
-fn reload<P: Ports>(rounds: u16, every: Option<u16>, link: &mut Link<'_, P>) -> u16
+fn reload<P: Ports>(rounds: u16, every: Option<u16>, link: &mut LiveLink<'_, P>) -> u16
     ensures same_ports { link.new.ports.ghost_name ≡ link.old.ports.ghost_name }
     ensures failed { link.new.has_failed ≡ link.old.has_failed }
     ensures handled { link.old.phase ≡ Phase.Accept → Keeps P.asked link.old → Keeps P.asked link.new }
@@ -118,7 +118,7 @@ fn reload<P: Ports>(rounds: u16, every: Option<u16>, link: &mut Link<'_, P>) -> 
 }
 
 /// As many sessions have ended as were asked for, and their connections are closed.
-fn is_done<P: Ports>(sessions: Option<u64>, link: &Link<'_, P>) -> bool
+fn is_done<P: Ports>(sessions: Option<u64>, link: &LiveLink<'_, P>) -> bool
     ensures { IsTrue result → IsSome sessions }
 {
     match sessions {
@@ -132,7 +132,7 @@ fn play_round<R: Threads + Wait + Sync, P: Ports>(
     rt: &R,
     workers: usize,
     core: &mut Core,
-    link: &mut Link<'_, P>,
+    link: &mut LiveLink<'_, P>,
 ) -> Result<(), ServeFault>
     requires workers { (0 < workers) × (workers ≤ 16) }
     ensures same_ports { link.new.ports.ghost_name ≡ link.old.ports.ghost_name }
@@ -157,7 +157,7 @@ fn drive_on<R: Threads + Wait + Sync, P: Ports>(
     rt: &R,
     workers: usize,
     core: &mut Core,
-    link: &mut Link<'_, P>,
+    link: &mut LiveLink<'_, P>,
 )
     requires workers { (0 < workers) × (workers ≤ 16) }
     ensures same_ports { link.new.ports.ghost_name ≡ link.old.ports.ghost_name }

@@ -2,10 +2,10 @@
 //! standard streams.
 
 use crate::configuration::read_file;
-use crate::doors::{Accepted, Doors};
 use crate::lines::Lines;
+use crate::listeners::{Accepted, Listeners};
 use crate::names::Names;
-use crate::ports::{Caller, Line, PortFault, Ports};
+use crate::ports::{Incoming, Line, PortFault, Ports};
 use crate::reports::Report;
 use mio::net::{TcpListener, TcpStream};
 use mio::{Events, Interest, Poll, Token};
@@ -42,13 +42,13 @@ pub struct Sockets<'a, R> {
     is_logging: bool,
     poll: Poll,
     events: Events,
-    doors: Doors,
+    listeners: Listeners,
     streams: Slab<Stream>,
     start: Instant,
 }
 
 /// Listens at an address and says so, a line. The poll knows the listener by its place.
-fn open_door<R: Net + Print>(
+fn open_listener<R: Net + Print>(
     rt: &R,
     poll: &Poll,
     place: usize,
@@ -64,17 +64,17 @@ fn open_door<R: Net + Print>(
 }
 
 /// Listens at these addresses.
-fn open_doors<R: Net + Print>(
+fn open_listeners<R: Net + Print>(
     rt: &R,
     alloc: Global,
     poll: &Poll,
     addresses: &[(u32, u16)],
-) -> io::Result<Doors> {
-    let mut doors = Doors::new(alloc);
+) -> io::Result<Listeners> {
+    let mut listeners = Listeners::new(alloc);
     for (place, address) in addresses.iter().enumerate() {
-        doors.add(open_door(rt, poll, place, *address)?)?;
+        listeners.add(open_listener(rt, poll, place, *address)?)?;
     }
-    Ok(doors)
+    Ok(listeners)
 }
 
 impl<'a, R: Net + Clock + Files + Print + Eprint> Sockets<'a, R> {
@@ -89,7 +89,7 @@ impl<'a, R: Net + Clock + Files + Print + Eprint> Sockets<'a, R> {
     ) -> io::Result<Sockets<'a, R>> {
         let poll = Poll::new(rt)?;
         let events = Events::with_capacity(alloc, 1024)?;
-        let doors = open_doors(rt, alloc, &poll, addresses)?;
+        let listeners = open_listeners(rt, alloc, &poll, addresses)?;
         let mut streams = Slab::new(alloc);
         streams.reserve(names.count().saturating_mul(2).saturating_add(1))?;
         Ok(Sockets {
@@ -100,7 +100,7 @@ impl<'a, R: Net + Clock + Files + Print + Eprint> Sockets<'a, R> {
             is_logging,
             poll,
             events,
-            doors,
+            listeners,
             streams,
             start: Instant::now(rt)?,
         })
@@ -108,11 +108,11 @@ impl<'a, R: Net + Clock + Files + Print + Eprint> Sockets<'a, R> {
 
     /// Prints all lines that wait.
     pub fn finish(&mut self) {
-        self.lines.say_waiting(self.rt, u64::MAX);
+        self.lines.print_waiting(self.rt, u64::MAX);
     }
 
     /// Keeps an accepted connection, and tells its caller.
-    fn keep(&mut self, accepted: Accepted) -> Option<Caller> {
+    fn keep(&mut self, accepted: Accepted) -> Option<Incoming> {
         let Accepted {
             listener,
             mut stream,
@@ -135,7 +135,7 @@ impl<'a, R: Net + Clock + Files + Print + Eprint> Sockets<'a, R> {
                 is_ready: true,
             })
             .ok()?;
-        Some(Caller {
+        Some(Incoming {
             listener,
             address: u32::from(address),
             key,
@@ -158,24 +158,24 @@ impl<'a, R: Net + Clock + Files + Print + Eprint> Ports for Sockets<'a, R> {
         for event in self.events.iter() {
             let token = event.token().0;
             if token >= FIRST_LISTENER {
-                self.doors.knock(token - FIRST_LISTENER);
+                self.listeners.mark_ready(token - FIRST_LISTENER);
             } else if let Some(stream) = self.streams.get_mut(token) {
                 stream.is_ready = true;
             }
         }
-        self.doors.ask_all();
+        self.listeners.ask_all();
         let second = self.seconds();
-        self.lines.say_waiting(self.rt, second);
+        self.lines.print_waiting(self.rt, second);
         Ok(())
     }
 
-    fn accept(&mut self) -> Result<Option<Caller>, PortFault> {
+    fn accept(&mut self) -> Result<Option<Incoming>, PortFault> {
         for _ in 0..UNKEPT {
-            let Some(accepted) = self.doors.accept()? else {
+            let Some(accepted) = self.listeners.accept()? else {
                 return Ok(None);
             };
-            if let Some(caller) = self.keep(accepted) {
-                return Ok(Some(caller));
+            if let Some(incoming) = self.keep(accepted) {
+                return Ok(Some(incoming));
             }
         }
         Ok(None)
@@ -231,9 +231,9 @@ impl<'a, R: Net + Clock + Files + Print + Eprint> Ports for Sockets<'a, R> {
         }
     }
 
-    fn say(&mut self, line: &Line) {
+    fn print(&mut self, line: &Line) {
         let second = self.seconds();
-        self.lines.say(self.rt, second, line);
+        self.lines.print(self.rt, second, line);
     }
 
     fn log(&mut self, report: &Report) {

@@ -4,27 +4,27 @@
 ghost use Rattle.std.specs.Prelude.{◌≡◌};
 ghost use Rattle.rs_live.specs.Handled.{Keeps};
 
-use crate::link::Link;
+use crate::live_link::LiveLink;
 use crate::ports::Ports;
-use crate::rations::Ration;
+use crate::rate_limits::RateLimit;
 use crate::reports::Report;
 use rs_core::Core;
 use std::alloc::{AllocError, Global};
 
 /// What was told of a client.
 #[derive(Clone, Copy)]
-struct Told {
+struct Reported {
     /// Its session was Established.
     is_up: bool,
     /// How many of its UPDATEs were at fault.
     faulted: u64,
-    reports: Ration<Report>,
+    reports: RateLimit<Report>,
 }
 
 /// What was told of each client.
 #[derive(Drop)]
 pub struct Watch {
-    all: Vec<Told>,
+    all: Vec<Reported>,
     strangers: Option<u64>,
 }
 
@@ -52,7 +52,7 @@ fn down(core: &Core, client: usize) -> Report {
 }
 
 /// Tells how many reports of a client were left out, where there are some.
-fn tell_left_out<P: Ports>(link: &mut Link<'_, P>, client: usize, count: u64)
+fn tell_left_out<P: Ports>(link: &mut LiveLink<'_, P>, client: usize, count: u64)
     ensures same_ports { link.new.ports.ghost_name ≡ link.old.ports.ghost_name }
     ensures failed { link.new.has_failed ≡ link.old.has_failed }
     ensures phase { link.new.phase ≡ link.old.phase }
@@ -63,9 +63,9 @@ fn tell_left_out<P: Ports>(link: &mut Link<'_, P>, client: usize, count: u64)
     }
 }
 
-impl Told {
+impl Reported {
     /// Tells a report, now or in a later second.
-    fn tell<P: Ports>(&mut self, link: &mut Link<'_, P>, client: usize, report: &Report)
+    fn tell<P: Ports>(&mut self, link: &mut LiveLink<'_, P>, client: usize, report: &Report)
         ensures same_ports { link.new.ports.ghost_name ≡ link.old.ports.ghost_name }
         ensures failed { link.new.has_failed ≡ link.old.has_failed }
         ensures phase { link.new.phase ≡ link.old.phase }
@@ -76,7 +76,7 @@ impl Told {
     }
 
     /// Tells the report that waits for this second, behind the count of those that were left out.
-    fn tell_waiting<P: Ports>(&mut self, link: &mut Link<'_, P>, client: usize)
+    fn tell_waiting<P: Ports>(&mut self, link: &mut LiveLink<'_, P>, client: usize)
         ensures same_ports { link.new.ports.ghost_name ≡ link.old.ports.ghost_name }
         ensures failed { link.new.has_failed ≡ link.old.has_failed }
         ensures phase { link.new.phase ≡ link.old.phase }
@@ -89,7 +89,7 @@ impl Told {
     }
 
     /// Tells the end of a client's session, where one ended.
-    fn tell_end<P: Ports>(&mut self, core: &Core, link: &mut Link<'_, P>, client: usize)
+    fn tell_end<P: Ports>(&mut self, core: &Core, link: &mut LiveLink<'_, P>, client: usize)
         ensures same_ports { link.new.ports.ghost_name ≡ link.old.ports.ghost_name }
         ensures failed { link.new.has_failed ≡ link.old.has_failed }
         ensures phase { link.new.phase ≡ link.old.phase }
@@ -102,7 +102,7 @@ impl Told {
     }
 
     /// Tells the begin of a client's session, where one is Established.
-    fn tell_begin<P: Ports>(&mut self, core: &Core, link: &mut Link<'_, P>, client: usize)
+    fn tell_begin<P: Ports>(&mut self, core: &Core, link: &mut LiveLink<'_, P>, client: usize)
         ensures same_ports { link.new.ports.ghost_name ≡ link.old.ports.ghost_name }
         ensures failed { link.new.has_failed ≡ link.old.has_failed }
         ensures phase { link.new.phase ≡ link.old.phase }
@@ -119,7 +119,7 @@ impl Told {
 
     /// Tells of the UPDATEs that were not taken as they came, where there are more than were told and
     /// there was no report in this second.
-    fn tell_faulted<P: Ports>(&mut self, core: &Core, link: &mut Link<'_, P>, client: usize)
+    fn tell_faulted<P: Ports>(&mut self, core: &Core, link: &mut LiveLink<'_, P>, client: usize)
         ensures same_ports { link.new.ports.ghost_name ≡ link.old.ports.ghost_name }
         ensures failed { link.new.has_failed ≡ link.old.has_failed }
         ensures phase { link.new.phase ≡ link.old.phase }
@@ -149,10 +149,10 @@ impl Told {
 impl Watch {
     /// Nothing was told of so many clients.
     pub fn new(alloc: Global, count: usize) -> Result<Watch, AllocError> {
-        let nothing = Told {
+        let nothing = Reported {
             is_up: false,
             faulted: 0,
-            reports: Ration::new(),
+            reports: RateLimit::new(),
         };
         Ok(Watch {
             all: vec![in alloc; nothing; count]?,
@@ -161,23 +161,23 @@ impl Watch {
     }
 
     /// Tells what has changed since the last call.
-    pub fn tell<P: Ports>(&mut self, core: &Core, link: &mut Link<'_, P>)
+    pub fn tell<P: Ports>(&mut self, core: &Core, link: &mut LiveLink<'_, P>)
         ensures same_ports { link.new.ports.ghost_name ≡ link.old.ports.ghost_name }
         ensures failed { link.new.has_failed ≡ link.old.has_failed }
         ensures phase { link.new.phase ≡ link.old.phase }
         ensures handled { Keeps P.asked link.old → Keeps P.asked link.new }
     {
         self.tell_strangers(link);
-        for (client, told) in self.all.iter_mut().enumerate() {
-            told.tell_waiting(link, client);
-            told.tell_end(core, link, client);
-            told.tell_begin(core, link, client);
-            told.tell_faulted(core, link, client);
+        for (client, reported) in self.all.iter_mut().enumerate() {
+            reported.tell_waiting(link, client);
+            reported.tell_end(core, link, client);
+            reported.tell_begin(core, link, client);
+            reported.tell_faulted(core, link, client);
         }
     }
 
     /// Tells of connections of strangers, at most once in a second.
-    fn tell_strangers<P: Ports>(&mut self, link: &mut Link<'_, P>)
+    fn tell_strangers<P: Ports>(&mut self, link: &mut LiveLink<'_, P>)
         ensures same_ports { link.new.ports.ghost_name ≡ link.old.ports.ghost_name }
         ensures failed { link.new.has_failed ≡ link.old.has_failed }
         ensures phase { link.new.phase ≡ link.old.phase }

@@ -1,38 +1,5 @@
-mod Limits
-mod Listings
-mod Deduped
-mod LocByNumber
-mod Decisions
+pub mod Message
+pub mod Turn
+pub mod Waiting
 mod OneOf
-mod TurnedLoc
-mod Numbering
 mod Orders
-mod Touches
-mod TouchedNumbers
-mod TouchedList
-mod Ranges
-mod Ranks
-mod Links
-mod Fullest
-mod AllWaiting
-mod OthersAlone
-mod Places
-mod Withdrawals
-mod Finding
-mod Adding
-mod TwoRuns
-mod PutAmong
-mod MarkedAgain
-mod MarkedAll
-mod Owing
-mod Carrying
-mod Backing
-mod Rising
-mod Unchanged
-mod Counting
-mod Draining
-mod Chosen
-mod Standing
-mod AskedAgain
-mod Beginning
-mod Exact

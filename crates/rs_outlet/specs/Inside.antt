@@ -17,14 +17,14 @@ use Rattle.rs_outlet.specs.declared.changes.Change.{Change}
 use Rattle.rs_adjin.specs.declared.adj_ins.AdjIns.{AdjIns}
 use Rattle.rs_adjin.specs.AdjIns.{number_of}
 use Rattle.rs_outlet.specs.declared.outlet.Outlet.TheInside.{Inside}
-use Rattle.rs_outlet.specs.Touching.{touched_of}
+use Rattle.rs_outlet.specs.Turn.Touching.{touched_of}
 use Rattle.rs_outlet.specs.Views.{View, Table, Prefixes, Waiting}
 use Rattle.rs_open.specs.Notes.{limit_octets}
 use Rattle.rs_packer.specs.Packed.{announcement}
 use Rattle.rs_outlet.specs.declared.waiting.Due.{Due}
 use Rattle.rs_outlet.specs.declared.waiting.Due.TheVariants as due
-use Rattle.rs_outlet.specs.Hashing.{attributes_hash}
-use Rattle.rs_outlet.specs.Places.{open_at, told_of, marked_told, is_withdrawal, withdrawn_count}
+use Rattle.rs_outlet.specs.Waiting.Hashing.{attributes_hash}
+use Rattle.rs_outlet.specs.Waiting.Slots.{open_at, told_of, marked_told, is_withdrawal, withdrawn_count}
 
 -- ---- rows
 
@@ -125,9 +125,9 @@ abbrev pub waits_of : List Wait → Waiting
 waits_of [] = fin.empty
 waits_of (w ∷ ws) = if w.open then fin.insert (waits_of ws) w.prefix (is_withdrawal w.due) else waits_of ws
 
--- ---- each place to be announced has its row, and each row fits
+-- ---- each slot to be announced has its row, and each row fits
 
--- the row of what is due at a place
+-- the row of what is due at a slot
 abbrev pub row_by : List (Option Row) → Due → Option Row
 row_by rows due.Withdrawn = None
 row_by rows (due.Announced number hash) = row_at rows number
@@ -139,7 +139,7 @@ prefix_and_hash r = (r.prefix, attributes_hash (arc_value r.attrs))
 abbrev pub IsRowOf : List (Option Row) → ℕ → Prefix → ℕ → Type 0
 IsRowOf rows n p hash = option_map prefix_and_hash (row_at rows n) ≡ Some (p, hash)
 
--- a place of this prefix that is to be announced has the row of the prefix
+-- a slot of this prefix that is to be announced has the row of the prefix
 abbrev pub IsBacked : List (Option Row) → Prefix → Due → Type 0
 IsBacked rows p due.Withdrawn = Unit {0}
 IsBacked rows p (due.Announced number hash) = IsRowOf rows number p hash
@@ -167,20 +167,20 @@ AreOwn cs rows = AllByRecursion (λ c. IsOwn (row_at rows c.number) c.prefix) cs
 
 -- ---- all of it
 
--- the places of what waits, and behind them those of the turn at hand
+-- the slots of what waits, and behind them those of the turn at hand
 abbrev pub view_of : Inside → View
 view_of a = record {
   client = a.client;
   extended = a.extended;
   speech = a.speech;
   loc = loc_of a.rows.rows.items;
-  told = told_over (loc_of a.rows.rows.items) a.waits.places.items;
+  told = told_over (loc_of a.rows.rows.items) a.waits.slots.items;
   flight = slice_range a.octets.items a.start a.end;
-  beat = a.beat;
+  keepalive_due = a.keepalive_due;
   note = a.note;
   touched = touched_of a.touched.all a.touched.prefixes.items;
-  marked = marked_of (loc_of a.rows.rows.items) a.waits.places.items;
-  waits = waits_of a.waits.places.items;
+  marked = marked_of (loc_of a.rows.rows.items) a.waits.slots.items;
+  waits = waits_of a.waits.slots.items;
   numbers = numbers_from 0 a.rows.rows.items ++ a.touched.prefixes.items;
   last = a.last;
 }
@@ -195,7 +195,7 @@ pub record IsKept (a : Inside) : Type 0 where
   pub ended : a.end ≤ longest_where a.extended
   pub front : batch_of a.extended ≤ vec_capacity a.front
   pub chosen : batch_of a.extended ≤ vec_capacity a.chosen
-  pub places : a.rows.used + withdrawn_count a.waits.places.items ≤ vec_capacity a.waits.places
+  pub slots : a.rows.used + withdrawn_count a.waits.slots.items ≤ vec_capacity a.waits.slots
   pub extended : (speech : Speech) → a.speech ≡ Some speech → speech.limit ≡ limits.Long → a.extended ≡ true
-  pub backed : AreBacked a.rows.rows.items a.waits.places.items
+  pub backed : AreBacked a.rows.rows.items a.waits.slots.items
   pub fit : (speech : Speech) → a.speech ≡ Some speech → RowsFit speech a.rows.rows.items

@@ -27,7 +27,7 @@ abbrev pub Waiting : Type 0
 Waiting = FinMap prefix_order Bool
 
 -- `loc`: the Loc-RIB, due at the last turn. `told`: what the messages begun so far leave with the client. `flight`: the
--- octets still to lend. `beat`: a KEEPALIVE is due. `note`: a NOTIFICATION waits. `touched`: the prefixes to decide at the
+-- octets still to lend. `keepalive_due`: a KEEPALIVE is due. `note`: a NOTIFICATION waits. `touched`: the prefixes to decide at the
 -- next turn, and with None all. `marked`: those told that are to be told again. `waits`: the prefixes that wait for a
 -- message, each with whether it is to be withdrawn. `numbers`: the prefixes that are due or touched by themselves, each with
 -- the number that it was touched with.
@@ -38,7 +38,7 @@ pub record View : Type 0 where
   pub loc : Table
   pub told : Table
   pub flight : List ℕ
-  pub beat : Bool
+  pub keepalive_due : Bool
   pub note : Option Short
   pub touched : Option Prefixes
   pub marked : Prefixes
@@ -48,7 +48,7 @@ pub record View : Type 0 where
 
 -- nothing is there but what it was made with and the answer of the last turn
 abbrev pub bare : ℕ → Bool → Last → View
-bare client extended last = record { client = client; extended = extended; speech = None; loc = map.empty; told = map.empty; flight = []; beat = false; note = None; touched = Some set.empty; marked = set.empty; waits = map.empty; numbers = []; last = last }
+bare client extended last = record { client = client; extended = extended; speech = None; loc = map.empty; told = map.empty; flight = []; keepalive_due = false; note = None; touched = Some set.empty; marked = set.empty; waits = map.empty; numbers = []; last = last }
 
 abbrev pub cleared : View → View
 cleared v = bare v.client v.extended v.last
@@ -151,7 +151,7 @@ pub record IsDrained (v : View) : Type 0 where
   pub unmarked : v.marked ≡ set.empty
   pub told : v.told ≡ v.loc
   pub flight : v.flight ≡ []
-  pub beat : v.beat ≡ false
+  pub keepalive_due : v.keepalive_due ≡ false
 
 -- ---- codes, which a Model asks for
 

@@ -11,11 +11,11 @@ ghost use Rattle.rs_adjin.specs.declared.adj_ins.AdjIns.{AdjIns};
 ghost use Rattle.rs_adjin.specs.AdjIns.{number_of};
 ghost use Rattle.rs_outlet.specs.Views.{HaveNumbers};
 ghost use Rattle.std.specs.Vec.{vec_capacity};
-ghost use Rattle.rs_outlet.specs.Places.{open_at, open_count, withdrawn_count};
-ghost use Rattle.rs_outlet.specs.Owed.{IsBeside, IsCarriedOut, IsOpenAt, IsOwed, Keeps, listed, prefixes_of};
+ghost use Rattle.rs_outlet.specs.Waiting.Slots.{open_at, open_count, withdrawn_count};
+ghost use Rattle.rs_outlet.specs.Waiting.Owed.{IsBeside, IsCarriedOut, IsOpenAt, IsOwed, Keeps, listed, prefixes_of};
 ghost use Rattle.rs_outlet.specs.declared.answers.Speech.{Speech};
 ghost use Rattle.rs_outlet.specs.declared.waiting.Due.{Due};
-ghost use Rattle.rs_outlet.specs.Hashing.{attributes_hash};
+ghost use Rattle.rs_outlet.specs.Waiting.Hashing.{attributes_hash};
 ghost use Rattle.rs_outlet.specs.Inside.{AreBacked, AreDue, AreOwn, ArePlaced, ChangesFit, FitsAlone, HaveRows, IsOwn, RowsFit, attributes_at, is_changed, numbers_of, row_at, loc_of, numbers_from};
 
 use crate::table::Rows;
@@ -38,7 +38,7 @@ pub(crate) struct Change {
 fn withdrawn_wait(prefix: Prefix, told: Option<Arc<Attrs>>, marked: bool) -> Option<Wait>
     ensures owed { IsOwed result None (option_map arc_value told) marked }
     ensures due { IfSome result (λ w. w.due ≡ Due.Withdrawn) }
-    ensures place { IfSome result (IsOpenAt prefix) }
+    ensures slot { IfSome result (IsOpenAt prefix) }
 {
     let told = told?;
     Some(Wait {
@@ -78,7 +78,7 @@ fn announced_wait(
 ) -> Option<Wait>
     ensures owed { IsOwed result (Some (arc_value due.now)) (option_map arc_value told) marked }
     ensures due { IfSome result (λ w. w.due ≡ Due.Announced number (attributes_hash (arc_value due.now))) }
-    ensures place { IfSome result (IsOpenAt prefix) }
+    ensures slot { IfSome result (IsOpenAt prefix) }
 {
     let told = told_beside(due, told, marked)?;
     let hash = hash_of(due);
@@ -112,10 +112,10 @@ fn carry_out(rows: &mut Rows, waits: &mut Waits, fresh: &mut Vec<Wait>, change: 
     ensures numbered { (ins : AdjIns) → number_of ins change.prefix ≡ Some change.number → HaveNumbers (numbers_from 0 rows.old.rows.items) ins → HaveNumbers (numbers_from 0 rows.new.rows.items) ins }
     ensures others { (n : ℕ) → n ≢ change.number → row_at rows.new.rows.items n ≡ row_at rows.old.rows.items n }
     ensures fit { (speech : Speech) → IfSome change.due (λ attrs. FitsAlone speech change.prefix (arc_value attrs)) → RowsFit speech rows.old.rows.items → RowsFit speech rows.new.rows.items }
-    ensures waits { IsCarriedOut change (attributes_at rows.old.rows.items change.number) rows.new.rows.items waits.old.places.items fresh.old.items waits.new.places.items fresh.new.items }
-    ensures count { open_count waits.new.places.items ≤ open_count waits.old.places.items }
-    ensures most { rows.new.used + (withdrawn_count waits.new.places.items + withdrawn_count fresh.new.items) ≤ rows.old.used + (withdrawn_count waits.old.places.items + withdrawn_count fresh.old.items) + 1 }
-    ensures capacity { vec_capacity waits.new.places ≡ vec_capacity waits.old.places }
+    ensures waits { IsCarriedOut change (attributes_at rows.old.rows.items change.number) rows.new.rows.items waits.old.slots.items fresh.old.items waits.new.slots.items fresh.new.items }
+    ensures count { open_count waits.new.slots.items ≤ open_count waits.old.slots.items }
+    ensures most { rows.new.used + (withdrawn_count waits.new.slots.items + withdrawn_count fresh.new.items) ≤ rows.old.used + (withdrawn_count waits.old.slots.items + withdrawn_count fresh.old.items) + 1 }
+    ensures capacity { vec_capacity waits.new.slots ≡ vec_capacity waits.old.slots }
     ensures fresh { vec_capacity fresh.new ≡ vec_capacity fresh.old }
 {
     let Change {
@@ -167,14 +167,14 @@ pub(crate) fn make_room(
     ensures rows { (n : ℕ) → row_at rows.new.rows.items n ≡ row_at rows.old.rows.items n }
     ensures loc { loc_of rows.new.rows.items ≡ loc_of rows.old.rows.items }
     ensures numbers { numbers_from 0 rows.new.rows.items ≡ numbers_from 0 rows.old.rows.items }
-    ensures waits { waits.new.places.items ≡ waits.old.places.items }
+    ensures waits { waits.new.slots.items ≡ waits.old.slots.items }
     ensures room { OnOk result (numbers ≤ vec_len rows.new.rows) }
     ensures none { IfOk result (λ fresh. fresh.items ≡ []) }
     ensures fresh { IfOk result (λ fresh. changes ≤ vec_capacity fresh) }
-    ensures more { OnOk result (open_count waits.old.places.items + changes ≤ vec_capacity waits.new.places) }
-    ensures all { OnOk result (rows.new.used + withdrawn_count waits.new.places.items + changes ≤ vec_capacity waits.new.places) }
+    ensures more { OnOk result (open_count waits.old.slots.items + changes ≤ vec_capacity waits.new.slots) }
+    ensures all { OnOk result (rows.new.used + withdrawn_count waits.new.slots.items + changes ≤ vec_capacity waits.new.slots) }
     ensures used { rows.new.used ≡ rows.old.used }
-    ensures capacity { vec_capacity waits.old.places ≤ vec_capacity waits.new.places }
+    ensures capacity { vec_capacity waits.old.slots ≤ vec_capacity waits.new.slots }
 {
     let fresh = Vec::with_capacity(alloc, changes)?;
     rows.grow(numbers)?;
@@ -196,14 +196,14 @@ pub(crate) fn commit(rows: &mut Rows, waits: &mut Waits, changes: Vec<Change>, m
     requires own { AreOwn changes.items rows.old.rows.items }
     requires none { fresh.items ≡ [] }
     requires fresh { vec_len changes ≤ vec_capacity fresh }
-    requires waits { open_count waits.old.places.items + vec_len changes ≤ vec_capacity waits.old.places }
-    requires all { rows.old.used + withdrawn_count waits.old.places.items + vec_len changes ≤ vec_capacity waits.old.places }
-    ensures all { rows.new.used + withdrawn_count waits.new.places.items ≤ vec_capacity waits.new.places }
+    requires waits { open_count waits.old.slots.items + vec_len changes ≤ vec_capacity waits.old.slots }
+    requires all { rows.old.used + withdrawn_count waits.old.slots.items + vec_len changes ≤ vec_capacity waits.old.slots }
+    ensures all { rows.new.used + withdrawn_count waits.new.slots.items ≤ vec_capacity waits.new.slots }
     ensures loc { (ins : AdjIns) (due : Prefix → Option (List Attribute)) → ArePlaced changes.items ins → AreDue due changes.items → HaveNumbers (numbers_from 0 rows.old.rows.items) ins → (q : Prefix) → fin.get (loc_of rows.new.rows.items) q ≡ (if is_changed changes.items q then due q else fin.get (loc_of rows.old.rows.items) q) }
     ensures numbered { (ins : AdjIns) → ArePlaced changes.items ins → HaveNumbers (numbers_from 0 rows.old.rows.items) ins → HaveNumbers (numbers_from 0 rows.new.rows.items) ins }
-    ensures backed { AreBacked rows.old.rows.items waits.old.places.items → AreBacked rows.new.rows.items waits.new.places.items }
+    ensures backed { AreBacked rows.old.rows.items waits.old.slots.items → AreBacked rows.new.rows.items waits.new.slots.items }
     ensures fit { (speech : Speech) → ChangesFit speech changes.items → RowsFit speech rows.old.rows.items → RowsFit speech rows.new.rows.items }
-    ensures keeps { (ins : AdjIns) → ArePlaced changes.items ins → HaveNumbers (numbers_from 0 rows.old.rows.items) ins → (q : Prefix) → Keeps (open_at q waits.old.places.items) (fin.get (loc_of rows.old.rows.items) q) (open_at q waits.new.places.items) (fin.get (loc_of rows.new.rows.items) q) }
+    ensures keeps { (ins : AdjIns) → ArePlaced changes.items ins → HaveNumbers (numbers_from 0 rows.old.rows.items) ins → (q : Prefix) → Keeps (open_at q waits.old.slots.items) (fin.get (loc_of rows.old.rows.items) q) (open_at q waits.new.slots.items) (fin.get (loc_of rows.new.rows.items) q) }
 {
     for change in changes {
         carry_out(rows, waits, &mut fresh, change);

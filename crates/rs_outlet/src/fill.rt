@@ -3,7 +3,7 @@
 ghost use Rattle.std.specs.Prelude.{◌≡◌};
 ghost use Rattle.std.specs.Borrow.{sem};
 ghost use Rattle.std.specs.Io.BufRead.{Rests};
-ghost use Rattle.rs_outlet.specs.Begun.{HasBegun};
+ghost use Rattle.rs_outlet.specs.Message.Begun.{HasBegun};
 ghost use Rattle.rs_outlet.specs.contracts.outlet.Outlet.{the_row};
 
 use crate::outlet::Outlet;

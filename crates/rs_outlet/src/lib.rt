@@ -5,31 +5,26 @@
 //! turns, which read the Adj-RIBs-In and the configuration; out go the octets of the next message,
 //! as far as the link takes them, and the routes of the client's Loc-RIB.
 //!
-//! - `outlet` has the calls that change an `Outlet`, `asking` those that ask it; `answers` is what it
+//! - `outlet` has the calls that change an `Outlet`, `queries` those that ask it; `answers` is what it
 //!   is told of its client, and what a turn answers; `sizes` says how much room a message has.
 //! - `touched` is what the next turn decides; `turn` decides it, by `deciding`, which says what is
 //!   due at one prefix; `changes` puts that into `rows`, the Loc-RIB by number, which keeps them in a
-//!   `table`, and into `waiting`, what is to be sent: places in two runs (`runs`), of which `merging`
+//!   `table`, and into `waiting`, what is to be sent: slots in two runs (`parts`), of which `merging`
 //!   makes one. `marking` makes all that was told wait again.
-//! - `choosing` says which places the next UPDATE is about, by the links that `linking` makes between
+//! - `choosing` says which slots the next UPDATE is about, by the links that `chains` makes between
 //!   them; `sending` and `fill` begin the next message.
 //! - `routes` shows the Loc-RIB; `laws` are contracts of functions that do nothing.
 #![tactic(auto)]
 
 mod answers;
-mod asking;
 mod changes;
-mod choosing;
 mod deciding;
 mod fill;
 pub mod laws;
-mod linking;
-mod marking;
-mod merging;
 mod outlet;
+mod queries;
 mod routes;
 mod rows;
-mod runs;
 mod sending;
 mod sizes;
 mod table;

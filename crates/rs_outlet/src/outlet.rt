@@ -5,17 +5,17 @@ ghost use Rattle.std.specs.FinMap as map;
 ghost use Rattle.std.specs.FinSet as set;
 ghost use Rattle.rs_octets.specs.Prefixes.{Prefix};
 ghost use Rattle.rs_outlet.specs.declared.answers.Speech.{Speech};
-ghost use Rattle.rs_outlet.specs.Due.{due_to};
-ghost use Rattle.rs_outlet.specs.HeldBy.{tables_of};
+ghost use Rattle.rs_outlet.specs.Turn.Due.{due_to};
+ghost use Rattle.rs_outlet.specs.Turn.HeldBy.{tables_of};
 ghost use Rattle.rs_adjin.specs.declared.adj_ins.AdjIns.{AdjIns};
 ghost use Rattle.rs_adjin.specs.AdjIns.{client_count, number_of};
 ghost use Rattle.rs_open.specs.Writing.{server_open, keepalive};
 ghost use Rattle.rs_open.specs.declared.short.Short.{Short};
-ghost use Rattle.rs_outlet.specs.Next.{note_octets};
+ghost use Rattle.rs_outlet.specs.Message.Next.{note_octets};
 ghost use Rattle.rs_open.specs.declared.short.Limit.TheVariants as limits;
 ghost use Rattle.rs_outlet.specs.Views.{AreNumbered, IsOneOf, WaitsAreExact, bare, begun, cleared, finished, if_up, touched_at};
-ghost use Rattle.rs_outlet.specs.Turns.{HasTurned};
-ghost use Rattle.rs_outlet.specs.Begins.{BeginsUpdate};
+ghost use Rattle.rs_outlet.specs.Turn.Turns.{HasTurned};
+ghost use Rattle.rs_outlet.specs.Message.Begins.{BeginsUpdate};
 ghost use Rattle.rs_outlet.specs.Inside.{IsNoNumberOf};
 
 use crate::answers::{Last, Speech, Turned};
@@ -49,12 +49,12 @@ pub struct Outlet {
     pub(crate) start: usize,
     pub(crate) end: usize,
     /// A KEEPALIVE is due.
-    pub(crate) beat: bool,
+    pub(crate) keepalive_due: bool,
     /// A NOTIFICATION waits.
     pub(crate) note: Option<Short>,
     pub(crate) touched: Touched,
     pub(crate) last: Last,
-    /// The prefixes of the next message, and the places where they wait.
+    /// The prefixes of the next message, and the slots where they wait.
     pub(crate) front: Vec<Prefix>,
     pub(crate) chosen: Vec<usize>,
 }
@@ -102,7 +102,7 @@ impl Outlet {
             octets: vec![in alloc; 0; room(extended)]?,
             start: 0,
             end: 0,
-            beat: false,
+            keepalive_due: false,
             note: None,
             touched: Touched::new(alloc)?,
             last: Last::Never,
@@ -131,7 +131,7 @@ impl Outlet {
         self.waits.clear();
         self.start = 0;
         self.end = 0;
-        self.beat = false;
+        self.keepalive_due = false;
         self.note = None;
         self.touched.clear();
     }
@@ -143,7 +143,7 @@ impl Outlet {
         self.speech = None;
         self.rows.clear();
         self.waits.clear();
-        self.beat = false;
+        self.keepalive_due = false;
         self.touched.clear();
         self.note = note;
     }
@@ -169,9 +169,9 @@ impl Outlet {
 
     /// A KEEPALIVE is due.
     pub fn say_keepalive(&mut self)
-        ensures { self.new ≡ record self.old { beat = true } }
+        ensures { self.new ≡ record self.old { keepalive_due = true } }
     {
-        self.beat = true;
+        self.keepalive_due = true;
     }
 
     /// What is due at this prefix, which has this number, is decided anew at the next turn. Where
@@ -255,13 +255,13 @@ impl Outlet {
     pub fn begin(&mut self)
         ensures client { self.new.client ≡ self.old.client }
         ensures extended { self.new.extended ≡ self.old.extended }
-        ensures rest { self.new ≡ record self.old { told = self.new.told; flight = self.new.flight; beat = self.new.beat; note = self.new.note; marked = self.new.marked; waits = self.new.waits } }
+        ensures rest { self.new ≡ record self.old { told = self.new.told; flight = self.new.flight; keepalive_due = self.new.keepalive_due; note = self.new.note; marked = self.new.marked; waits = self.new.waits } }
         ensures kept { self.old.flight ≢ [] → self.new ≡ self.old }
         ensures note { (note : Short) → self.old.flight ≡ [] → self.old.note ≡ Some note → self.new ≡ record self.old { flight = note_octets note; note = None } }
-        ensures keepalive { self.old.flight ≡ [] → self.old.note ≡ None → self.old.beat ≡ true → self.new ≡ record self.old { flight = keepalive; beat = false } }
-        ensures update { self.old.flight ≡ [] → self.old.note ≡ None → self.old.beat ≡ false → (self.new.note ≡ None) × (self.new.beat ≡ false) }
-        ensures begins { (speech : Speech) → self.old.flight ≡ [] → self.old.note ≡ None → self.old.beat ≡ false → self.old.speech ≡ Some speech → BeginsUpdate speech self.old self.new }
-        ensures down { self.old.flight ≡ [] → self.old.note ≡ None → self.old.beat ≡ false → self.old.speech ≡ None → self.new ≡ self.old }
+        ensures keepalive { self.old.flight ≡ [] → self.old.note ≡ None → self.old.keepalive_due ≡ true → self.new ≡ record self.old { flight = keepalive; keepalive_due = false } }
+        ensures update { self.old.flight ≡ [] → self.old.note ≡ None → self.old.keepalive_due ≡ false → (self.new.note ≡ None) × (self.new.keepalive_due ≡ false) }
+        ensures begins { (speech : Speech) → self.old.flight ≡ [] → self.old.note ≡ None → self.old.keepalive_due ≡ false → self.old.speech ≡ Some speech → BeginsUpdate speech self.old self.new }
+        ensures down { self.old.flight ≡ [] → self.old.note ≡ None → self.old.keepalive_due ≡ false → self.old.speech ≡ None → self.new ≡ self.old }
         ensures exact { WaitsAreExact self.old → WaitsAreExact self.new }
     {
         if self.start < self.end {

@@ -6,16 +6,16 @@ ghost use Rattle.std.specs.Prelude.{◌≡◌, ◌+◌, ◌≤◌, ◌<◌, List
 ghost use Rattle.rs_open.specs.Writing.{keepalive};
 ghost use Rattle.rs_open.specs.declared.short.Short.{Short};
 ghost use Rattle.rs_packer.specs.Packed.{IsLongestFront, announcement, withdrawal};
-ghost use Rattle.rs_outlet.specs.Next.{note_octets};
-ghost use Rattle.rs_outlet.specs.Begins.{BeginsUpdate};
+ghost use Rattle.rs_outlet.specs.Message.Next.{note_octets};
+ghost use Rattle.rs_outlet.specs.Message.Begins.{BeginsUpdate};
 ghost use Rattle.rs_outlet.specs.Views.{WaitsAreExact};
-ghost use Rattle.rs_outlet.specs.Choosing.{HaveRoom, MayUpdate, NoneWithdrawn, WaitsFor};
+ghost use Rattle.rs_outlet.specs.Waiting.Choosing.{HaveRoom, MayUpdate, NoneWithdrawn, WaitsFor};
 ghost use Rattle.rs_outlet.specs.Inside.{AreBacked, RowsFit};
 ghost use Rattle.rs_outlet.specs.declared.answers.Speech.{Speech};
 ghost use Rattle.rs_outlet.specs.declared.rows.Row.{Row};
 ghost use Rattle.std.specs.List.{AllWithin, HoldsAt};
 ghost use Rattle.std.specs.Vec.{vec_capacity};
-ghost use Rattle.rs_outlet.specs.Places.{is_announced, is_withdrawn};
+ghost use Rattle.rs_outlet.specs.Waiting.Slots.{is_announced, is_withdrawn};
 ghost use Rattle.rs_open.specs.Notes.{limit_octets};
 
 use crate::answers::Speech;
@@ -118,7 +118,7 @@ fn put_announcement(attrs: &Attrs, speech: Speech, prefixes: &[Prefix], out: &mu
     pack_news(attrs, speech.mode, prefixes, speech.limit.octets(), out)
 }
 
-/// Writes the withdrawal of what waits for one from a place on, and lists the places.
+/// Writes the withdrawal of what waits for one from a slot on, and lists the slots.
 fn put_gone(
     waits: &Waits,
     first: usize,
@@ -128,8 +128,8 @@ fn put_gone(
     out: &mut Vec<u8>,
 ) -> Packed
     requires room { limit_octets speech.limit ≤ vec_len out.old }
-    requires some { (first < vec_len waits.now.places) × HoldsAt (λ w. is_withdrawn w ≡ true) waits.now.places.items first }
-    requires before { AllWithin (λ w. is_withdrawn w ≡ false) waits.now.places.items 0 first }
+    requires some { (first < vec_len waits.now.slots) × HoldsAt (λ w. is_withdrawn w ≡ true) waits.now.slots.items first }
+    requires before { AllWithin (λ w. is_withdrawn w ≡ false) waits.now.slots.items 0 first }
     requires empty { HaveRoom chosen.old front.old }
     requires batch { (limit_octets speech.limit ≤ 23 + vec_capacity chosen.old) × (limit_octets speech.limit ≤ 23 + vec_capacity front.old) }
     requires none { (chosen.old.items ≡ []) × (front.old.items ≡ []) }
@@ -137,7 +137,7 @@ fn put_gone(
     ensures room { vec_len out.new ≡ vec_len out.old }
     ensures chosen { vec_capacity chosen.new ≡ vec_capacity chosen.old }
     ensures front { vec_capacity front.new ≡ vec_capacity front.old }
-    ensures update { (rows : List (Option Row)) → MayUpdate speech rows waits.now.places.items chosen.new.items front.new.items out.new.items result }
+    ensures update { (rows : List (Option Row)) → MayUpdate speech rows waits.now.slots.items chosen.new.items front.new.items out.new.items result }
 {
     let room = chosen.capacity().min(front.capacity());
     waits.collect_withdrawn(first, room, chosen, front);
@@ -147,8 +147,8 @@ fn put_gone(
     put_withdrawal(front, speech.limit, out)
 }
 
-/// Writes the announcement of what waits for the attributes of a row from a place on, and lists the
-/// places.
+/// Writes the announcement of what waits for the attributes of a row from a slot on, and lists the
+/// slots.
 fn put_news(
     rows: &Rows,
     waits: &Waits,
@@ -160,10 +160,10 @@ fn put_news(
     out: &mut Vec<u8>,
 ) -> Packed
     requires room { limit_octets speech.limit ≤ vec_len out.old }
-    requires in_turn { NoneWithdrawn waits.now.places.items }
-    requires some { (first < vec_len waits.now.places) × HoldsAt (WaitsFor rows.now.rows.items attrs.now) waits.now.places.items first }
-    requires before { AllWithin (λ w. is_announced w ≡ false) waits.now.places.items 0 first }
-    requires backed { AreBacked rows.now.rows.items waits.now.places.items }
+    requires in_turn { NoneWithdrawn waits.now.slots.items }
+    requires some { (first < vec_len waits.now.slots) × HoldsAt (WaitsFor rows.now.rows.items attrs.now) waits.now.slots.items first }
+    requires before { AllWithin (λ w. is_announced w ≡ false) waits.now.slots.items 0 first }
+    requires backed { AreBacked rows.now.rows.items waits.now.slots.items }
     requires fit { RowsFit speech rows.now.rows.items }
     requires empty { HaveRoom chosen.old front.old }
     requires batch { (limit_octets speech.limit ≤ 23 + vec_capacity chosen.old) × (limit_octets speech.limit ≤ 23 + vec_capacity front.old) }
@@ -172,7 +172,7 @@ fn put_news(
     ensures room { vec_len out.new ≡ vec_len out.old }
     ensures chosen { vec_capacity chosen.new ≡ vec_capacity chosen.old }
     ensures front { vec_capacity front.new ≡ vec_capacity front.old }
-    ensures update { MayUpdate speech rows.now.rows.items waits.now.places.items chosen.new.items front.new.items out.new.items result }
+    ensures update { MayUpdate speech rows.now.rows.items waits.now.slots.items chosen.new.items front.new.items out.new.items result }
 {
     let room = chosen.capacity().min(front.capacity());
     waits.collect_announced(rows, first, attrs, room, chosen, front);
@@ -180,7 +180,7 @@ fn put_news(
     put_announcement(attrs, speech, front, out)
 }
 
-/// Writes the next UPDATE, if something waits, and lists the places of what it tells.
+/// Writes the next UPDATE, if something waits, and lists the slots of what it tells.
 fn put_update(
     rows: &Rows,
     waits: &mut Waits,
@@ -190,7 +190,7 @@ fn put_update(
     out: &mut Vec<u8>,
 ) -> Packed
     requires room { limit_octets speech.limit ≤ vec_len out.old }
-    requires backed { AreBacked rows.now.rows.items waits.old.places.items }
+    requires backed { AreBacked rows.now.rows.items waits.old.slots.items }
     requires fit { RowsFit speech rows.now.rows.items }
     requires empty { HaveRoom chosen.old front.old }
     requires batch { (limit_octets speech.limit ≤ 23 + vec_capacity chosen.old) × (limit_octets speech.limit ≤ 23 + vec_capacity front.old) }
@@ -199,9 +199,9 @@ fn put_update(
     ensures room { vec_len out.new ≡ vec_len out.old }
     ensures chosen { vec_capacity chosen.new ≡ vec_capacity chosen.old }
     ensures front { vec_capacity front.new ≡ vec_capacity front.old }
-    ensures places { waits.new.places.items ≡ waits.old.places.items }
-    ensures capacity { vec_capacity waits.new.places ≡ vec_capacity waits.old.places }
-    ensures update { MayUpdate speech rows.now.rows.items waits.old.places.items chosen.new.items front.new.items out.new.items result }
+    ensures slots { waits.new.slots.items ≡ waits.old.slots.items }
+    ensures capacity { vec_capacity waits.new.slots ≡ vec_capacity waits.old.slots }
+    ensures update { MayUpdate speech rows.now.rows.items waits.old.slots.items chosen.new.items front.new.items out.new.items result }
 {
     if let Some(first) = waits.first_withdrawn() {
         return put_gone(waits, first, speech, chosen, front, out);
@@ -218,17 +218,17 @@ fn put_update(
 impl Outlet {
     /// Begins the next message, if there is one. None is in flight.
     pub(crate) fn begin_next(&mut self)
-        ensures rest { self.new ≡ record self.old { told = self.new.told; flight = self.new.flight; beat = self.new.beat; note = self.new.note; marked = self.new.marked; waits = self.new.waits } }
+        ensures rest { self.new ≡ record self.old { told = self.new.told; flight = self.new.flight; keepalive_due = self.new.keepalive_due; note = self.new.note; marked = self.new.marked; waits = self.new.waits } }
         ensures note { (note : Short) → self.old.note ≡ Some note → self.new ≡ record self.old { flight = note_octets note; note = None } }
-        ensures keepalive { self.old.note ≡ None → self.old.beat ≡ true → self.new ≡ record self.old { flight = keepalive; beat = false } }
-        ensures update { self.old.note ≡ None → self.old.beat ≡ false → (self.new.note ≡ None) × (self.new.beat ≡ false) }
-        ensures begins { (speech : Speech) → self.old.note ≡ None → self.old.beat ≡ false → self.old.speech ≡ Some speech → BeginsUpdate speech self.old self.new }
+        ensures keepalive { self.old.note ≡ None → self.old.keepalive_due ≡ true → self.new ≡ record self.old { flight = keepalive; keepalive_due = false } }
+        ensures update { self.old.note ≡ None → self.old.keepalive_due ≡ false → (self.new.note ≡ None) × (self.new.keepalive_due ≡ false) }
+        ensures begins { (speech : Speech) → self.old.note ≡ None → self.old.keepalive_due ≡ false → self.old.speech ≡ Some speech → BeginsUpdate speech self.old self.new }
         ensures exact { WaitsAreExact self.old → WaitsAreExact self.new }
-        ensures down { self.old.note ≡ None → self.old.beat ≡ false → self.old.speech ≡ None → self.new ≡ self.old }
+        ensures down { self.old.note ≡ None → self.old.keepalive_due ≡ false → self.old.speech ≡ None → self.new ≡ self.old }
     {
         if let Some(note) = self.note {
             self.begin_note(&note);
-        } else if self.beat {
+        } else if self.keepalive_due {
             self.begin_keepalive();
         } else if let Some(speech) = self.speech {
             self.begin_update(speech);
@@ -244,9 +244,9 @@ impl Outlet {
     }
 
     fn begin_keepalive(&mut self)
-        ensures { self.new ≡ record self.old { flight = keepalive; beat = false } }
+        ensures { self.new ≡ record self.old { flight = keepalive; keepalive_due = false } }
     {
-        self.beat = false;
+        self.keepalive_due = false;
         self.start = 0;
         self.end = put_keepalive(&mut self.octets);
     }

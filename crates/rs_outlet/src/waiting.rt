@@ -2,7 +2,7 @@
 //! asked for again. They stand in two runs in rising order (`runs`), so that a turn does not go over
 //! all that waits for a client that takes nothing.
 //!
-//! Before a message begins, one run is made of both, and each place that is to be announced gets a link
+//! Before a message begins, one run is made of both, and each slot that is to be announced gets a link
 //! to the next one whose hash falls into the same bucket (`linking`). A message is read off along the
 //! links, which leave none out that has the same attributes, and nothing is looked for in the Loc-RIB.
 
@@ -15,11 +15,17 @@ ghost use Rattle.std.proofs.Props.{props};
 ghost use Rattle.std.specs.Vec.{vec_capacity};
 ghost use Rattle.rs_octets.specs.Prefixes.{Prefix, prefix_order};
 ghost use Rattle.rs_outlet.specs.declared.waiting.Wait.{Wait};
-ghost use Rattle.rs_outlet.specs.Hashing.{attributes_hash};
-ghost use Rattle.rs_outlet.specs.Linking.{AreLinked, dues_at};
-ghost use Rattle.rs_outlet.specs.Places.{AreFresh, IsOpenPlace, prefixes_at, open_count, withdrawn_count, is_withdrawn, is_announced, open_at, told_of, told_by, marked_by};
+ghost use Rattle.rs_outlet.specs.Waiting.Hashing.{attributes_hash};
+ghost use Rattle.rs_outlet.specs.Waiting.Chains.{AreChained, dues_at};
+ghost use Rattle.rs_outlet.specs.Waiting.Slots.{AreFresh, IsOpenSlot, prefixes_at, open_count, withdrawn_count, is_withdrawn, is_announced, open_at, told_of, told_by, marked_by};
 
-use crate::runs::{place_of, sort_from};
+mod chains;
+mod choosing;
+mod marking;
+mod merging;
+mod parts;
+
+use crate::waiting::parts::{slot_of, sort_from};
 use rs_attrs::Attrs;
 use rs_octets::Prefix;
 use std::alloc::{AllocError, Global};
@@ -55,46 +61,46 @@ pub(crate) struct Wait {
     pub(crate) open: bool,
 }
 
-/// What waits, in two runs by rising prefix. A prefix has one place.
+/// What waits, in two runs by rising prefix. A prefix has one slot.
 #[derive(Drop)]
 pub(crate) struct Waits {
     pub(crate) alloc: Global,
-    pub(crate) places: Vec<Wait>,
-    /// How many places are in the first run.
+    pub(crate) slots: Vec<Wait>,
+    /// How many slots are in the first run.
     pub(crate) sorted: usize,
     /// There is one run, and its links are made.
     pub(crate) ready: bool,
-    /// No place between a place and the one that its link leads to falls into its bucket.
-    pub(crate) links: Vec<u32>,
-    /// While links are made: the first place of each bucket behind the one at hand.
+    /// No slot between a slot and the one that its link leads to falls into its bucket.
+    pub(crate) chains: Vec<u32>,
+    /// While links are made: the first slot of each bucket behind the one at hand.
     pub(crate) heads: Vec<u32>,
-    /// No place before it is to be withdrawn.
+    /// No slot before it is to be withdrawn.
     pub(crate) gone: usize,
-    /// No place before it is to be announced.
+    /// No slot before it is to be announced.
     pub(crate) news: usize,
     /// How many are open.
     pub(crate) waiting: usize,
-    ghost counted: { open_count places.items ≡ waiting },
-    ghost withdrawn: { AllWithin (λ w. is_withdrawn w ≡ false) places.items 0 gone },
-    ghost announced: { AllWithin (λ w. is_announced w ≡ false) places.items 0 news },
-    ghost chains: { AreLinked (dues_at places.items) links.items },
-    ghost within: { sorted ≤ vec_len places },
-    ghost first: { IsStrictlySortedBy prefix_order (take sorted (prefixes_at places.items)) } by { Prim.hlevel props },
-    ghost late: { IsStrictlySortedBy prefix_order (drop sorted (prefixes_at places.items)) } by { Prim.hlevel props },
-    ghost apart: { IsDistinct (eq_by_cmp prefix_order) (prefixes_at places.items) } by { Prim.hlevel props },
-    ghost one_run: { ready ≡ true → sorted ≡ vec_len places },
+    ghost counted: { open_count slots.items ≡ waiting },
+    ghost withdrawn: { AllWithin (λ w. is_withdrawn w ≡ false) slots.items 0 gone },
+    ghost announced: { AllWithin (λ w. is_announced w ≡ false) slots.items 0 news },
+    ghost chains: { AreChained (dues_at slots.items) chains.items },
+    ghost within: { sorted ≤ vec_len slots },
+    ghost first: { IsStrictlySortedBy prefix_order (take sorted (prefixes_at slots.items)) } by { Prim.hlevel props },
+    ghost late: { IsStrictlySortedBy prefix_order (drop sorted (prefixes_at slots.items)) } by { Prim.hlevel props },
+    ghost apart: { IsDistinct (eq_by_cmp prefix_order) (prefixes_at slots.items) } by { Prim.hlevel props },
+    ghost one_part: { ready ≡ true → sorted ≡ vec_len slots },
 }
 
 impl Waits {
     pub(crate) fn new(alloc: Global) -> Waits
-        ensures { result.places.items ≡ [] }
+        ensures { result.slots.items ≡ [] }
     {
         Waits {
             alloc,
-            places: Vec::new(alloc),
+            slots: Vec::new(alloc),
             sorted: 0,
             ready: false,
-            links: Vec::new(alloc),
+            chains: Vec::new(alloc),
             heads: Vec::new(alloc),
             gone: 0,
             news: 0,
@@ -103,12 +109,12 @@ impl Waits {
     }
 
     pub(crate) fn clear(&mut self)
-        ensures { self.new.places.items ≡ [] }
+        ensures { self.new.slots.items ≡ [] }
     {
-        self.places.clear();
+        self.slots.clear();
         self.sorted = 0;
         self.ready = false;
-        self.links.clear();
+        self.chains.clear();
         self.heads.clear();
         self.gone = 0;
         self.news = 0;
@@ -117,35 +123,35 @@ impl Waits {
 
     /// How many prefixes wait.
     pub(crate) fn len(&self) -> usize
-        ensures { result ≡ open_count self.now.places.items }
+        ensures { result ≡ open_count self.now.slots.items }
     {
         self.waiting
     }
 
-    /// Makes room for so many places.
+    /// Makes room for so many slots.
     pub(crate) fn reserve(&mut self, count: usize) -> Result<(), AllocError>
-        ensures items { self.new.places.items ≡ self.old.places.items }
-        ensures room { OnOk result (count ≤ vec_capacity self.new.places) }
-        ensures kept { vec_capacity self.old.places ≤ vec_capacity self.new.places }
+        ensures items { self.new.slots.items ≡ self.old.slots.items }
+        ensures room { OnOk result (count ≤ vec_capacity self.new.slots) }
+        ensures kept { vec_capacity self.old.slots ≤ vec_capacity self.new.slots }
     {
         let more = count.saturating_sub(self.heads.len());
         self.heads.reserve(more)?;
-        let more = count.saturating_sub(self.links.len());
-        self.links.reserve(more)?;
-        let more = count.saturating_sub(self.places.len());
-        self.places.reserve(more)
+        let more = count.saturating_sub(self.chains.len());
+        self.chains.reserve(more)?;
+        let more = count.saturating_sub(self.slots.len());
+        self.slots.reserve(more)
     }
 
-    /// The place where a prefix waits.
+    /// The slot where a prefix waits.
     pub(crate) fn find(&self, prefix: &Prefix) -> Option<usize>
-        ensures found { IfSome result (λ place. IsOpenPlace prefix.now self.now.places.items place) }
-        ensures absent { result ≡ None → open_at prefix.now self.now.places.items ≡ None }
+        ensures found { IfSome result (λ slot. IsOpenSlot prefix.now self.now.slots.items slot) }
+        ensures absent { result ≡ None → open_at prefix.now self.now.slots.items ≡ None }
     {
-        match place_of(&self.places, self.sorted, prefix) {
+        match slot_of(&self.slots, self.sorted, prefix) {
             None => None,
-            Some(place) => {
-                if self.places[place].open {
-                    Some(place)
+            Some(slot) => {
+                if self.slots[slot].open {
+                    Some(slot)
                 } else {
                     None
                 }
@@ -153,17 +159,17 @@ impl Waits {
         }
     }
 
-    /// A place waits no more. Answers what was told there, and whether it was to be told again.
-    pub(crate) fn close(&mut self, place: usize) -> (Told, bool)
-        requires { place < vec_len self.old.places }
-        ensures prefixes { prefixes_at self.new.places.items ≡ prefixes_at self.old.places.items }
-        ensures places { (p : Prefix) → slice_get (prefixes_at self.old.places.items) place ≡ Some p → (q : Prefix) → open_at q self.new.places.items ≡ (if eq_by_cmp prefix_order q p then None else open_at q self.old.places.items) }
-        ensures told { (w : Wait) → slice_get self.old.places.items place ≡ Some w → (result.0 ≡ w.told) × (result.1 ≡ w.marked) }
-        ensures count { open_count self.new.places.items ≤ open_count self.old.places.items }
-        ensures withdrawn { withdrawn_count self.new.places.items ≤ withdrawn_count self.old.places.items }
-        ensures capacity { vec_capacity self.new.places ≡ vec_capacity self.old.places }
+    /// A slot waits no more. Answers what was told there, and whether it was to be told again.
+    pub(crate) fn close(&mut self, slot: usize) -> (Told, bool)
+        requires { slot < vec_len self.old.slots }
+        ensures prefixes { prefixes_at self.new.slots.items ≡ prefixes_at self.old.slots.items }
+        ensures slots { (p : Prefix) → slice_get (prefixes_at self.old.slots.items) slot ≡ Some p → (q : Prefix) → open_at q self.new.slots.items ≡ (if eq_by_cmp prefix_order q p then None else open_at q self.old.slots.items) }
+        ensures told { (w : Wait) → slice_get self.old.slots.items slot ≡ Some w → (result.0 ≡ w.told) × (result.1 ≡ w.marked) }
+        ensures count { open_count self.new.slots.items ≤ open_count self.old.slots.items }
+        ensures withdrawn { withdrawn_count self.new.slots.items ≤ withdrawn_count self.old.slots.items }
+        ensures capacity { vec_capacity self.new.slots ≡ vec_capacity self.old.slots }
     {
-        let wait = &mut self.places[place];
+        let wait = &mut self.slots[slot];
         let waited = wait.open;
         wait.open = false;
         let told = std::mem::replace(&mut wait.told, Told::Nothing);
@@ -179,17 +185,17 @@ impl Waits {
         prefix: &Prefix,
         was_due: Option<Arc<Attrs>>,
     ) -> (Option<Arc<Attrs>>, bool)
-        ensures told { option_map arc_value result.0 ≡ told_by (open_at prefix.now self.old.places.items) (option_map arc_value was_due) }
-        ensures marked { result.1 ≡ marked_by (open_at prefix.now self.old.places.items) }
-        ensures places { (q : Prefix) → open_at q self.new.places.items ≡ (if eq_by_cmp prefix_order q prefix.now then None else open_at q self.old.places.items) }
-        ensures count { open_count self.new.places.items ≤ open_count self.old.places.items }
-        ensures withdrawn { withdrawn_count self.new.places.items ≤ withdrawn_count self.old.places.items }
-        ensures capacity { vec_capacity self.new.places ≡ vec_capacity self.old.places }
+        ensures told { option_map arc_value result.0 ≡ told_by (open_at prefix.now self.old.slots.items) (option_map arc_value was_due) }
+        ensures marked { result.1 ≡ marked_by (open_at prefix.now self.old.slots.items) }
+        ensures slots { (q : Prefix) → open_at q self.new.slots.items ≡ (if eq_by_cmp prefix_order q prefix.now then None else open_at q self.old.slots.items) }
+        ensures count { open_count self.new.slots.items ≤ open_count self.old.slots.items }
+        ensures withdrawn { withdrawn_count self.new.slots.items ≤ withdrawn_count self.old.slots.items }
+        ensures capacity { vec_capacity self.new.slots ≡ vec_capacity self.old.slots }
     {
         match self.find(prefix) {
             None => (was_due, false),
-            Some(place) => {
-                let (told, marked) = self.close(place);
+            Some(slot) => {
+                let (told, marked) = self.close(slot);
                 (told.or_due(was_due), marked)
             }
         }
@@ -213,7 +219,7 @@ impl Wait {
 }
 
 impl Told {
-    /// What was told at a place, where this is due.
+    /// What was told at a slot, where this is due.
     fn or_due(self, due: Option<Arc<Attrs>>) -> Option<Arc<Attrs>>
         ensures { option_map arc_value result ≡ told_of self (option_map arc_value due) }
     {
@@ -225,23 +231,23 @@ impl Told {
     }
 }
 
-/// How many places wait.
-pub(crate) fn count_open(places: &[Wait]) -> usize
-    ensures { result ≡ open_count places.now }
+/// How many slots wait.
+pub(crate) fn count_open(slots: &[Wait]) -> usize
+    ensures { result ≡ open_count slots.now }
 {
-    places.iter().filter(|wait| wait.open).count()
+    slots.iter().filter(|wait| wait.open).count()
 }
 
-/// Puts the places in order. A prefix has one place. It takes no memory.
-pub(crate) fn put_in_order(places: &mut Vec<Wait>)
-    ensures rises { IsStrictlySortedBy prefix_order (prefixes_at places.new.items) }
-    ensures from { (w : Wait) → Contains places.new.items w → Contains places.old.items w }
-    ensures all { (q : Prefix) → list_any (eq_by_cmp prefix_order q) (prefixes_at places.new.items) ≡ list_any (eq_by_cmp prefix_order q) (prefixes_at places.old.items) }
-    ensures withdrawn { withdrawn_count places.new.items ≤ withdrawn_count places.old.items }
-    ensures capacity { vec_capacity places.new ≡ vec_capacity places.old }
+/// Puts the slots in order. A prefix has one slot. It takes no memory.
+pub(crate) fn put_in_order(slots: &mut Vec<Wait>)
+    ensures rises { IsStrictlySortedBy prefix_order (prefixes_at slots.new.items) }
+    ensures from { (w : Wait) → Contains slots.new.items w → Contains slots.old.items w }
+    ensures all { (q : Prefix) → list_any (eq_by_cmp prefix_order q) (prefixes_at slots.new.items) ≡ list_any (eq_by_cmp prefix_order q) (prefixes_at slots.old.items) }
+    ensures withdrawn { withdrawn_count slots.new.items ≤ withdrawn_count slots.old.items }
+    ensures capacity { vec_capacity slots.new ≡ vec_capacity slots.old }
 {
-    sort_from(None, places, 0);
-    places.dedup_by_key(|wait| wait.prefix);
+    sort_from(None, slots, 0);
+    slots.dedup_by_key(|wait| wait.prefix);
 }
 
 /// A hash of attributes.

@@ -6,8 +6,8 @@ use anyhow::Result;
 use rs_command::Asked;
 use rs_command::serve::{Options, read_command};
 use rs_live::configuration::{Refused, read_configuration};
+use rs_live::connections::listen_addresses;
 use rs_live::names::Names;
-use rs_live::seats::listeners;
 use rs_live::serve::{Limits, serve};
 use rs_live::sockets::Sockets;
 use rs_policy::Config;
@@ -26,7 +26,7 @@ fn run<R: Threads + Wait + Sync + Net + Clock + Files + Print + Eprint>(
     config: Config,
 ) -> Result<u8> {
     let names = Names::of(alloc, &config)?;
-    let addresses = listeners(alloc, &config)?;
+    let addresses = listen_addresses(alloc, &config)?;
     let mut ports = match Sockets::listen(
         rt,
         alloc,

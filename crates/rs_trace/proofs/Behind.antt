@@ -1,10 +1,10 @@
 -- What a link and a route server do together they do too where other steps were before.
 use Rattle.std.proofs.Common.{◌≡◌, ℕ, zero, suc, List, [], ◌∷◌, ◌++◌, refl, ap, subst}
-use Rattle.rs_core.specs.Moves.{Turned}
+use Rattle.rs_core.specs.Run.Moves.{Turned}
 use Rattle.rs_core.specs.Core.{client_count}
-use Rattle.rs_core.specs.Links.{Step, Told, Memory}
-use Rattle.rs_core.specs.Courses.{Course, course, called, memories}
-use Rattle.rs_core.specs.Answers.{Offers, Nothing, Fails, Takes, Gives, Used, Stopped, Goes_on, Answers, Passes, Begins, Declines, Hears, Drops, Sees, Turns, Fills, Loses, Rules, Keeps, Ended, Lasts, Owes, Closes, Ends, Rounds, Start, Round, Drives}
+use Rattle.rs_core.specs.Link.Steps.{Step, Happened, Memory}
+use Rattle.rs_core.specs.Link.Courses.{Course, course, called, memories}
+use Rattle.rs_core.specs.Link.Answers.{Offers, Nothing, Fails, Takes, Gives, Used, Stopped, Goes_on, Answers, Passes, Begins, Declines, Hears, Drops, Sees, Turns, Fills, Loses, Rules, Keeps, Ended, Lasts, Owes, Closes, Ends, Rounds, Start, Round, Drives}
 use Rattle.rs_core.specs.declared.links.Event.{Event}
 use Rattle.rs_core.specs.declared.links.Event.TheVariants as events
 
@@ -55,7 +55,7 @@ rounds_behind : (older : List Step) (x y : Course) → Rounds x y → Rounds (be
 rounds_behind older x y Start = Start
 rounds_behind older x y (Round event octets u v w rounds goes_on answers ends) =
     Round event octets (behind older u) (behind older v) (behind older w) (rounds_behind older x u rounds) goes_on
-    (answers_behind older octets event (called (Told event octets) u) v answers) (ends_behind older (client_count v.core) v w ends)
+    (answers_behind older octets event (called (Happened event octets) u) v answers) (ends_behind older (client_count v.core) v w ends)
 
 pub drives_behind : (older : List Step) (x y : Course) → Drives x y → Drives (behind older x) (behind older y)
 drives_behind older x y drives = record {

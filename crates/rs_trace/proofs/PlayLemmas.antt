@@ -7,10 +7,10 @@ use Rattle.rs_trace.specs.declared.fault.Stop.{Stop}
 use Rattle.rs_trace.specs.declared.names.Names.{Names}
 use Rattle.rs_trace.specs.declared.fault.Stop.TheVariants.{End, Table, Fault}
 use Rattle.rs_trace.specs.Lines as lines
-use Rattle.rs_trace.specs.Trace.{Saying, Listed}
-use Rattle.rs_trace.specs.Played.{SaysFirst, Stands, PutsFront, Puts, failed, failures_read, failures_written, GoesOn}
-use Rattle.rs_trace.specs.Replays.{Adds, Plays, TellsAs, FailsOn, ReadsOn, place_in}
-use Rattle.rs_trace.proofs.ReplayLemmas.{says_first_now, says_all, says_less}
+use Rattle.rs_trace.specs.Trace.{LineMeaning, Listed}
+use Rattle.rs_trace.specs.Played.{MeansFirst, Stands, PutsFront, Puts, failed, failures_read, failures_written, GoesOn}
+use Rattle.rs_trace.specs.Replays.{Adds, Plays, PassesOn, FailsOn, ReadsOn, place_in}
+use Rattle.rs_trace.proofs.ReplayLemmas.{means_first_now, means_all, means_less}
 
 module _ (put : List ℕ → Type 0) (octets : List ℕ) where
   -- what goes on has put all
@@ -73,44 +73,44 @@ none_written (Some (Fault Memory)) n h = let bad : true ≡ false = h in cc
 none_written (Some (Fault Reading)) n h = let bad : true ≡ false = h in cc
 none_written (Some (Fault Writing)) n h = let bad : true ≡ false = h in cc
 
-module _ (place : List ℕ → Option ℕ) (text : List ℕ) (over : Type 0) (s : List Saying) (n : ℕ) (r : lines.Reading) where
+module _ (place : List ℕ → Option ℕ) (text : List ℕ) (over : Type 0) (s : List LineMeaning) (n : ℕ) (r : lines.Reading) where
   -- wherever it stands, what was said is what the text says first
-  pub stands_first : (stop : Option Stop) → Stands place text over s n r stop → SaysFirst place text s
-  stands_first None h = says_first_now place text s n r h.0
-  stands_first (Some End) h = says_all place text s None h.0
-  stands_first (Some (Table c)) h = says_less place text s (Listed c ∷ []) (says_first_now place text (s ++ (Listed c ∷ [])) n r h.0)
-  stands_first (Some (Fault (Line m fault))) h = says_all place text s (Some (m, fault)) h.0
+  pub stands_first : (stop : Option Stop) → Stands place text over s n r stop → MeansFirst place text s
+  stands_first None h = means_first_now place text s n r h.0
+  stands_first (Some End) h = means_all place text s None h.0
+  stands_first (Some (Table c)) h = means_less place text s (Listed c ∷ []) (means_first_now place text (s ++ (Listed c ∷ [])) n r h.0)
+  stands_first (Some (Fault (Line m fault))) h = means_all place text s (Some (m, fault)) h.0
   stands_first (Some (Fault Memory)) h = h
   stands_first (Some (Fault Reading)) h = h
   stands_first (Some (Fault Writing)) h = h
 
   -- what was read was told
-  pub stands_told : (read told : List Saying) (stop : Option Stop) → GoesOn place text over (s ++ read) n r → TellsAs read told stop → Stands place text over (s ++ told) n r stop
-  stands_told read told None h t = subst (λ xs. GoesOn place text over (s ++ xs) n r) (sym t) h
-  stands_told read told (Some End) h t = absurd t
-  stands_told read told (Some (Table c)) h t =
-      let same : s ++ read ≡ (s ++ told) ++ (Listed c ∷ []) = ap (λ xs. s ++ xs) t.1 ∙ ap (λ xs. xs ++ (Listed c ∷ [])) (sym (append-nil s) ∙ ap (λ xs. s ++ xs) (sym t.0)) in
+  pub stands_listed : (read listed_lines : List LineMeaning) (stop : Option Stop) → GoesOn place text over (s ++ read) n r → PassesOn read listed_lines stop → Stands place text over (s ++ listed_lines) n r stop
+  stands_listed read listed_lines None h t = subst (λ xs. GoesOn place text over (s ++ xs) n r) (sym t) h
+  stands_listed read listed_lines (Some End) h t = absurd t
+  stands_listed read listed_lines (Some (Table c)) h t =
+      let same : s ++ read ≡ (s ++ listed_lines) ++ (Listed c ∷ []) = ap (λ xs. s ++ xs) t.1 ∙ ap (λ xs. xs ++ (Listed c ∷ [])) (sym (append-nil s) ∙ ap (λ xs. s ++ xs) (sym t.0)) in
       subst (λ xs. GoesOn place text over xs n r) same h
-  stands_told read told (Some (Fault (Line m fault))) h t = absurd t
-  stands_told read told (Some (Fault Memory)) h t =
-      subst (λ xs. SaysFirst place text xs) (sym (append-nil s) ∙ ap (λ xs. s ++ xs) (sym t)) (says_less place text s read (says_first_now place text (s ++ read) n r h.0))
-  stands_told read told (Some (Fault Reading)) h t = absurd t
-  stands_told read told (Some (Fault Writing)) h t = absurd t
+  stands_listed read listed_lines (Some (Fault (Line m fault))) h t = absurd t
+  stands_listed read listed_lines (Some (Fault Memory)) h t =
+      subst (λ xs. MeansFirst place text xs) (sym (append-nil s) ∙ ap (λ xs. s ++ xs) (sym t)) (means_less place text s read (means_first_now place text (s ++ read) n r h.0))
+  stands_listed read listed_lines (Some (Fault Reading)) h t = absurd t
+  stands_listed read listed_lines (Some (Fault Writing)) h t = absurd t
 
 -- a line of output is written
 pub sank : {R W : Type 0} (takes : R → List ℕ → R → Type 0) (at_end : R → Type 0) (fails : R → ℕ) (puts : W → List ℕ → W → Type 0) (loses : W → ℕ)
-    (place : List ℕ → Option ℕ) (first : R) (to : W) (sayings : List Saying) (octets line : List ℕ) (reader : R) (writer written : W) (r : lines.Reading) (n : ℕ) (stop after : Option Stop)
-    → Plays takes at_end fails puts loses place first to sayings octets reader writer r n stop
+    (place : List ℕ → Option ℕ) (first : R) (to : W) (meanings : List LineMeaning) (octets line : List ℕ) (reader : R) (writer written : W) (r : lines.Reading) (n : ℕ) (stop after : Option Stop)
+    → Plays takes at_end fails puts loses place first to meanings octets reader writer r n stop
     → (Puts (λ xs. puts to xs writer) octets stop → Puts (λ xs. puts to xs written) (octets ++ line) after)
-    → ((text : List ℕ) → Stands place text (at_end reader) sayings n r stop → Stands place text (at_end reader) sayings n r after)
+    → ((text : List ℕ) → Stands place text (at_end reader) meanings n r stop → Stands place text (at_end reader) meanings n r after)
     → ((k : ℕ) → failures_read after k ≡ failures_read stop k)
     → ((k : ℕ) → loses writer ≡ failures_written stop k → loses written ≡ failures_written after k)
-    → Plays takes at_end fails puts loses place first to (sayings ++ []) (octets ++ line) reader written r n after
-sank takes at_end fails puts loses place first to sayings octets line reader writer written r n stop after p put stands reads writes =
+    → Plays takes at_end fails puts loses place first to (meanings ++ []) (octets ++ line) reader written r n after
+sank takes at_end fails puts loses place first to meanings octets line reader writer written r n stop after p put stands reads writes =
     record {
       text = p.text;
       taken = p.taken;
-      stands = subst (λ xs. Stands place p.text (at_end reader) xs n r after) (sym (append-nil sayings)) (stands p.text p.stands);
+      stands = subst (λ xs. Stands place p.text (at_end reader) xs n r after) (sym (append-nil meanings)) (stands p.text p.stands);
       put = put p.put;
       reads = p.reads ∙ sym (reads (fails first));
       writes = writes (loses to) p.writes;
@@ -118,18 +118,18 @@ sank takes at_end fails puts loses place first to sayings octets line reader wri
 
 -- nothing happens
 pub stays : {R W : Type 0} (takes : R → List ℕ → R → Type 0) (at_end : R → Type 0) (fails : R → ℕ) (puts : W → List ℕ → W → Type 0) (loses : W → ℕ)
-    (place : List ℕ → Option ℕ) (first : R) (to : W) (sayings : List Saying) (octets : List ℕ) (reader : R) (writer : W) (r : lines.Reading) (n : ℕ) (stop : Option Stop)
-    → Plays takes at_end fails puts loses place first to sayings octets reader writer r n stop → Plays takes at_end fails puts loses place first to (sayings ++ []) (octets ++ []) reader writer r n stop
-stays takes at_end fails puts loses place first to sayings octets reader writer r n stop p =
-    subst (λ xs. Plays takes at_end fails puts loses place first to xs (octets ++ []) reader writer r n stop) (sym (append-nil sayings))
-    (subst (λ xs. Plays takes at_end fails puts loses place first to sayings xs reader writer r n stop) (sym (append-nil octets)) p)
+    (place : List ℕ → Option ℕ) (first : R) (to : W) (meanings : List LineMeaning) (octets : List ℕ) (reader : R) (writer : W) (r : lines.Reading) (n : ℕ) (stop : Option Stop)
+    → Plays takes at_end fails puts loses place first to meanings octets reader writer r n stop → Plays takes at_end fails puts loses place first to (meanings ++ []) (octets ++ []) reader writer r n stop
+stays takes at_end fails puts loses place first to meanings octets reader writer r n stop p =
+    subst (λ xs. Plays takes at_end fails puts loses place first to xs (octets ++ []) reader writer r n stop) (sym (append-nil meanings))
+    (subst (λ xs. Plays takes at_end fails puts loses place first to meanings xs reader writer r n stop) (sym (append-nil octets)) p)
 
 -- what was said first stays so with nothing more
-pub still_first : (place : List ℕ → Option ℕ) (text : List ℕ) (s : List Saying) → SaysFirst place text s → SaysFirst place text (s ++ [])
-still_first place text s h = subst (λ xs. SaysFirst place text xs) (sym (append-nil s)) h
+pub still_first : (place : List ℕ → Option ℕ) (text : List ℕ) (s : List LineMeaning) → MeansFirst place text s → MeansFirst place text (s ++ [])
+still_first place text s h = subst (λ xs. MeansFirst place text xs) (sym (append-nil s)) h
 
 -- where it stands behind a line of output
-pub stands_after : (place : List ℕ → Option ℕ) (text : List ℕ) (over : Type 0) (s : List Saying) (n : ℕ) (r : lines.Reading) (stop after : Option Stop) → FailsOn stop after → Stands place text over s n r stop → Stands place text over s n r after
+pub stands_after : (place : List ℕ → Option ℕ) (text : List ℕ) (over : Type 0) (s : List LineMeaning) (n : ℕ) (r : lines.Reading) (stop after : Option Stop) → FailsOn stop after → Stands place text over s n r stop → Stands place text over s n r after
 stands_after place text over s n r stop after (inl e) h = subst (λ x. Stands place text over s n r x) (sym e) h
 stands_after place text over s n r stop after (inr (inl e)) h = subst (λ x. Stands place text over s n r x) (sym e.1) (stands_first place text over s n r stop h)
 stands_after place text over s n r stop after (inr (inr e)) h = subst (λ x. Stands place text over s n r x) (sym e.1) (stands_first place text over s n r stop h)
@@ -167,7 +167,7 @@ reads_nothing takes at_end place reader n r none text s h = (
 
 -- first what says nothing is read, and then more
 pub reads_twice : {R : Type 0} (takes : R → List ℕ → R → Type 0) (at_end : R → Type 0) (place : List ℕ → Option ℕ) → ((a b c : R) (xs ys : List ℕ) → takes a xs b → takes b ys c → takes a (xs ++ ys) c)
-    → (one two three : R) (n m k : ℕ) (r q p : lines.Reading) (more : List Saying) (stop : Option Stop) → ReadsOn takes at_end place one n r two m q [] None → ReadsOn takes at_end place two m q three k p more stop
+    → (one two three : R) (n m k : ℕ) (r q p : lines.Reading) (more : List LineMeaning) (stop : Option Stop) → ReadsOn takes at_end place one n r two m q [] None → ReadsOn takes at_end place two m q three k p more stop
     → ReadsOn takes at_end place one n r three k p more stop
 reads_twice takes at_end place on one two three n m k r q p more stop first then_so text s h =
     let a = first text s h in
@@ -197,50 +197,50 @@ any_puts put octets (Some (Fault Memory)) p = (octets, [], refl, p)
 any_puts put octets (Some (Fault Reading)) p = (octets, [], refl, p)
 any_puts put octets (Some (Fault Writing)) p = (octets, [], refl, p)
 
-told_reads : (read told : List Saying) (stop : Option Stop) (n : ℕ) → TellsAs read told stop → n ≡ failures_read stop n
-told_reads read told None n t = refl
-told_reads read told (Some End) n t = refl
-told_reads read told (Some (Table c)) n t = refl
-told_reads read told (Some (Fault (Line m fault))) n t = refl
-told_reads read told (Some (Fault Memory)) n t = refl
-told_reads read told (Some (Fault Reading)) n t = absurd t
-told_reads read told (Some (Fault Writing)) n t = refl
+listed_reads : (read listed_lines : List LineMeaning) (stop : Option Stop) (n : ℕ) → PassesOn read listed_lines stop → n ≡ failures_read stop n
+listed_reads read listed_lines None n t = refl
+listed_reads read listed_lines (Some End) n t = refl
+listed_reads read listed_lines (Some (Table c)) n t = refl
+listed_reads read listed_lines (Some (Fault (Line m fault))) n t = refl
+listed_reads read listed_lines (Some (Fault Memory)) n t = refl
+listed_reads read listed_lines (Some (Fault Reading)) n t = absurd t
+listed_reads read listed_lines (Some (Fault Writing)) n t = refl
 
-told_writes : (read told : List Saying) (stop : Option Stop) (n : ℕ) → TellsAs read told stop → n ≡ failures_written stop n
-told_writes read told None n t = refl
-told_writes read told (Some End) n t = refl
-told_writes read told (Some (Table c)) n t = refl
-told_writes read told (Some (Fault (Line m fault))) n t = refl
-told_writes read told (Some (Fault Memory)) n t = refl
-told_writes read told (Some (Fault Reading)) n t = refl
-told_writes read told (Some (Fault Writing)) n t = absurd t
+listed_writes : (read listed_lines : List LineMeaning) (stop : Option Stop) (n : ℕ) → PassesOn read listed_lines stop → n ≡ failures_written stop n
+listed_writes read listed_lines None n t = refl
+listed_writes read listed_lines (Some End) n t = refl
+listed_writes read listed_lines (Some (Table c)) n t = refl
+listed_writes read listed_lines (Some (Fault (Line m fault))) n t = refl
+listed_writes read listed_lines (Some (Fault Memory)) n t = refl
+listed_writes read listed_lines (Some (Fault Reading)) n t = refl
+listed_writes read listed_lines (Some (Fault Writing)) n t = absurd t
 
 module _ {R W : Type 0} (takes : R → List ℕ → R → Type 0) (at_end : R → Type 0) (fails : R → ℕ) (puts : W → List ℕ → W → Type 0) (loses : W → ℕ)
     (place : List ℕ → Option ℕ) (on : (a b c : R) (xs ys : List ℕ) → takes a xs b → takes b ys c → takes a (xs ++ ys) c)
-    (first : R) (to : W) (sayings : List Saying) (octets : List ℕ) (reader later : R) (writer : W) (r q : lines.Reading) (n m : ℕ) (stop after : Option Stop) where
+    (first : R) (to : W) (meanings : List LineMeaning) (octets : List ℕ) (reader later : R) (writer : W) (r q : lines.Reading) (n m : ℕ) (stop after : Option Stop) where
   -- a line was read, and the core is told of it
-  pub told_on : (read told : List Saying) → Plays takes at_end fails puts loses place first to sayings octets reader writer r n stop → stop ≡ None
-      → ReadsOn takes at_end place reader n r later m q read None → fails later ≡ fails reader → TellsAs read told after
-      → Plays takes at_end fails puts loses place first to (sayings ++ told) (octets ++ []) later writer q m after
-  told_on read told p none reads count tells =
-      let goes = subst (λ x. Stands place p.text (at_end reader) sayings n r x) none p.stands in
-      let so = reads p.text sayings goes in
+  pub listed_on : (read listed_lines : List LineMeaning) → Plays takes at_end fails puts loses place first to meanings octets reader writer r n stop → stop ≡ None
+      → ReadsOn takes at_end place reader n r later m q read None → fails later ≡ fails reader → PassesOn read listed_lines after
+      → Plays takes at_end fails puts loses place first to (meanings ++ listed_lines) (octets ++ []) later writer q m after
+  listed_on read listed_lines p none reads count tells =
+      let goes = subst (λ x. Stands place p.text (at_end reader) meanings n r x) none p.stands in
+      let so = reads p.text meanings goes in
       record {
         text = p.text ++ so.0;
         taken = on first reader later p.text so.0 p.taken so.1;
-        stands = stands_told place (p.text ++ so.0) (at_end later) sayings m q read told after so.2 tells;
+        stands = stands_listed place (p.text ++ so.0) (at_end later) meanings m q read listed_lines after so.2 tells;
         put = any_puts (λ xs. puts to xs writer) octets after (subst (λ x. Puts (λ xs. puts to xs writer) octets x) none p.put);
-        reads = count ∙ (subst (λ x. fails reader ≡ failures_read x (fails first)) none p.reads) ∙ told_reads read told after (fails first) tells;
-        writes = (subst (λ x. loses writer ≡ failures_written x (loses to)) none p.writes) ∙ told_writes read told after (loses to) tells;
+        reads = count ∙ (subst (λ x. fails reader ≡ failures_read x (fails first)) none p.reads) ∙ listed_reads read listed_lines after (fails first) tells;
+        writes = (subst (λ x. loses writer ≡ failures_written x (loses to)) none p.writes) ∙ listed_writes read listed_lines after (loses to) tells;
       }
 
   -- no further line tells anything
-  pub stopped_on : Plays takes at_end fails puts loses place first to sayings octets reader writer r n stop → stop ≡ None
+  pub stopped_on : Plays takes at_end fails puts loses place first to meanings octets reader writer r n stop → stop ≡ None
       → ReadsOn takes at_end place reader n r later m q [] after → fails later ≡ failures_read after (fails reader) → ((k : ℕ) → k ≡ failures_written after k)
-      → Plays takes at_end fails puts loses place first to (sayings ++ []) (octets ++ []) later writer q m after
+      → Plays takes at_end fails puts loses place first to (meanings ++ []) (octets ++ []) later writer q m after
   stopped_on p none reads count unwritten =
-      let goes = subst (λ x. Stands place p.text (at_end reader) sayings n r x) none p.stands in
-      let so = reads p.text sayings goes in
+      let goes = subst (λ x. Stands place p.text (at_end reader) meanings n r x) none p.stands in
+      let so = reads p.text meanings goes in
       record {
         text = p.text ++ so.0;
         taken = on first reader later p.text so.0 p.taken so.1;

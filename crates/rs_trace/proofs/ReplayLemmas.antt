@@ -7,12 +7,12 @@ use Rattle.rs_trace.specs.declared.trace.LineFault.{LineFault}
 use Rattle.rs_trace.specs.declared.trace.LineFault.TheVariants.{TooLong}
 use Rattle.rs_trace.specs.Words.{lengthen}
 use Rattle.rs_trace.specs.Lines.{Reading, IsEnded, IsLast, IsTooLong, IsFirstLine, IsStep}
-use Rattle.rs_trace.specs.Trace.{Saying, line_of}
+use Rattle.rs_trace.specs.Trace.{LineMeaning, line_of}
 use Rattle.rs_trace.specs.declared.trace.Entry.{Entry}
-use Rattle.rs_trace.specs.Entries.{saying_in, line_as_saying}
-use Rattle.rs_trace.specs.Replays.{sayings_in}
+use Rattle.rs_trace.specs.Entries.{meaning_in, line_as_meaning}
+use Rattle.rs_trace.specs.Replays.{meanings_in}
 use Rattle.rs_trace.specs.Text.{lines_of, whole_lines, outcome, Outcome, tells, behind, on_line, IsRead}
-use Rattle.rs_trace.specs.Played.{FollowsOn, AreWhole, GoesOn, SaysFirst}
+use Rattle.rs_trace.specs.Played.{FollowsOn, AreWhole, GoesOn, MeansFirst}
 use Rattle.rs_trace.proofs.LineLemmas.{ends}
 
 no_end : (x : ℕ) (xs : List ℕ) → list_any ends (x ∷ xs) ≡ false → (ends x ≡ false) × (list_any ends xs ≡ false)
@@ -64,9 +64,9 @@ too_long_line place line h =
     rw e refl
 
 -- what a line says, as a list
-abbrev pub listed : Option Saying → List Saying
+abbrev pub listed : Option LineMeaning → List LineMeaning
 listed None = []
-listed (Some saying) = saying ∷ []
+listed (Some meant) = meant ∷ []
 
 pub follows_start : (place : List ℕ → Option ℕ) (r : Reading) → r.rest ≡ [] → FollowsOn place [] [] 0 r
 follows_start place r e more h = rw e refl
@@ -75,7 +75,7 @@ both_none : (xs ys : List ℕ) → xs ≡ [] → ys ≡ [] → xs ++ ys ≡ []
 both_none xs ys e f = rw e (rw f refl)
 
 -- the outcome of the text from the line that the reader came to
-here : (place : List ℕ → Option ℕ) (text taken more : List ℕ) (s : List Saying) (n : ℕ) (is_line : Bool) (old new : Reading) → FollowsOn place text s n old → IsStep is_line old new taken → (new.is_over ≡ true → more ≡ [])
+here : (place : List ℕ → Option ℕ) (text taken more : List ℕ) (s : List LineMeaning) (n : ℕ) (is_line : Bool) (old new : Reading) → FollowsOn place text s n old → IsStep is_line old new taken → (new.is_over ≡ true → more ≡ [])
     → outcome place 1 (lines_of ((text ++ taken) ++ more)) ≡ behind s (outcome place (n + 1) (lines_of ((old.rest ++ taken) ++ more)))
 here place text taken more s n is_line old new follows step h =
     ap (λ xs. outcome place 1 (lines_of xs)) (append_assoc text taken more)
@@ -97,7 +97,7 @@ fault_at place n octets r fault first h = cases first.kind
         rw e.parts (rw front.is (rw long (ap (λ f. tells [] (Some (n, f))) fault_is)))
 
 -- and else what it says comes before what the lines behind it say
-goes_on : (place : List ℕ → Option ℕ) (n : ℕ) (octets more : List ℕ) (r : Reading) (event : Option Saying) → IsFirstLine octets r → line_of place r.line ≡ Ok event → (r.is_over ≡ true → more ≡ [])
+goes_on : (place : List ℕ → Option ℕ) (n : ℕ) (octets more : List ℕ) (r : Reading) (event : Option LineMeaning) → IsFirstLine octets r → line_of place r.line ≡ Ok event → (r.is_over ≡ true → more ≡ [])
     → outcome place n (lines_of (octets ++ more)) ≡ on_line (Ok event) n (outcome place (n + 1) (lines_of (r.rest ++ more)))
 goes_on place n octets more r event first h none = cases first.kind
   where
@@ -114,25 +114,25 @@ goes_on place n octets more r event first h none = cases first.kind
         let bad : line_of place r.line ≡ Err TooLong = too_long_line place r.line (omega (arith, e.too_long)) in
         cc
 
-behind_on : (s : List Saying) (event : Option Saying) (n : ℕ) (later : Outcome) → behind s (on_line (Ok event) n later) ≡ behind (s ++ listed event) later
-behind_on s None n later = ap (λ xs. tells (xs ++ later.sayings) later.fault) (sym (append-nil s))
-behind_on s (Some saying) n later = ap (λ xs. tells xs later.fault) (sym (append_assoc s (saying ∷ []) later.sayings))
+behind_on : (s : List LineMeaning) (event : Option LineMeaning) (n : ℕ) (later : Outcome) → behind s (on_line (Ok event) n later) ≡ behind (s ++ listed event) later
+behind_on s None n later = ap (λ xs. tells (xs ++ later.meanings) later.fault) (sym (append-nil s))
+behind_on s (Some meant) n later = ap (λ xs. tells xs later.fault) (sym (append_assoc s (meant ∷ []) later.meanings))
 
-pub follows_line : (place : List ℕ → Option ℕ) (text taken : List ℕ) (s : List Saying) (n : ℕ) (event : Option Saying) (old new : Reading) → FollowsOn place text s n old → IsStep true old new taken → line_of place new.line ≡ Ok event
+pub follows_line : (place : List ℕ → Option ℕ) (text taken : List ℕ) (s : List LineMeaning) (n : ℕ) (event : Option LineMeaning) (old new : Reading) → FollowsOn place text s n old → IsStep true old new taken → line_of place new.line ≡ Ok event
     → FollowsOn place (text ++ taken) (s ++ listed event) (n + 1) new
 follows_line place text taken s n event old new follows step h more none =
     here place text taken more s n true old new follows step none
     ∙ ap (behind s) (goes_on place (n + 1) (old.rest ++ taken) more new event step.steps h none)
     ∙ behind_on s event (n + 1) (outcome place (n + 1 + 1) (lines_of (new.rest ++ more)))
 
-pub follows_end : (place : List ℕ → Option ℕ) (text taken : List ℕ) (s : List Saying) (n : ℕ) (old new : Reading) → FollowsOn place text s n old → IsStep false old new taken → outcome place 1 (lines_of (text ++ taken)) ≡ tells s None
+pub follows_end : (place : List ℕ → Option ℕ) (text taken : List ℕ) (s : List LineMeaning) (n : ℕ) (old new : Reading) → FollowsOn place text s n old → IsStep false old new taken → outcome place 1 (lines_of (text ++ taken)) ≡ tells s None
 follows_end place text taken s n old new follows step =
     ap (λ xs. outcome place 1 (lines_of xs)) (sym (append-nil (text ++ taken)))
     ∙ here place text taken [] s n false old new follows step (λ over. refl)
     ∙ ap (λ xs. behind s (outcome place (n + 1) (lines_of (xs ++ [])))) step.steps.none
     ∙ ap (λ xs. tells xs None) (append-nil s)
 
-pub follows_fault : (place : List ℕ → Option ℕ) (text taken : List ℕ) (s : List Saying) (n : ℕ) (fault : LineFault) (old new : Reading) → FollowsOn place text s n old → IsStep true old new taken → line_of place new.line ≡ Err fault
+pub follows_fault : (place : List ℕ → Option ℕ) (text taken : List ℕ) (s : List LineMeaning) (n : ℕ) (fault : LineFault) (old new : Reading) → FollowsOn place text s n old → IsStep true old new taken → line_of place new.line ≡ Err fault
     → outcome place 1 (lines_of (text ++ taken)) ≡ tells s (Some (n + 1, fault))
 follows_fault place text taken s n fault old new follows step h =
     ap (λ xs. outcome place 1 (lines_of xs)) (sym (append-nil (text ++ taken)))
@@ -142,17 +142,17 @@ follows_fault place text taken s n fault old new follows step h =
     ∙ ap (λ xs. tells xs (Some (n + 1, fault))) (append-nil s)
 
 -- what was said so far is what the text says first, also where more was taken
-pub says_first : (place : List ℕ → Option ℕ) (text taken : List ℕ) (s : List Saying) (n : ℕ) (r : Reading) → FollowsOn place text s n r → (r.is_over ≡ true → taken ≡ []) → SaysFirst place (text ++ taken) s
-says_first place text taken s n r follows none = ((outcome place (n + 1) (lines_of (r.rest ++ taken))).sayings, ap (λ o. o.sayings) (follows taken none))
+pub means_first : (place : List ℕ → Option ℕ) (text taken : List ℕ) (s : List LineMeaning) (n : ℕ) (r : Reading) → FollowsOn place text s n r → (r.is_over ≡ true → taken ≡ []) → MeansFirst place (text ++ taken) s
+means_first place text taken s n r follows none = ((outcome place (n + 1) (lines_of (r.rest ++ taken))).meanings, ap (λ o. o.meanings) (follows taken none))
 
-pub says_first_now : (place : List ℕ → Option ℕ) (text : List ℕ) (s : List Saying) (n : ℕ) (r : Reading) → FollowsOn place text s n r → SaysFirst place text s
-says_first_now place text s n r follows = subst (λ (xs : List ℕ). SaysFirst place xs s) (append-nil text) (says_first place text [] s n r follows (λ over. refl))
+pub means_first_now : (place : List ℕ → Option ℕ) (text : List ℕ) (s : List LineMeaning) (n : ℕ) (r : Reading) → FollowsOn place text s n r → MeansFirst place text s
+means_first_now place text s n r follows = subst (λ (xs : List ℕ). MeansFirst place xs s) (append-nil text) (means_first place text [] s n r follows (λ over. refl))
 
-pub says_all : (place : List ℕ → Option ℕ) (text : List ℕ) (s : List Saying) (fault : Option (ℕ × LineFault)) → outcome place 1 (lines_of text) ≡ tells s fault → SaysFirst place text s
-says_all place text s fault e = ([], ap (λ o. o.sayings) e ∙ sym (append-nil s))
+pub means_all : (place : List ℕ → Option ℕ) (text : List ℕ) (s : List LineMeaning) (fault : Option (ℕ × LineFault)) → outcome place 1 (lines_of text) ≡ tells s fault → MeansFirst place text s
+means_all place text s fault e = ([], ap (λ o. o.meanings) e ∙ sym (append-nil s))
 
-pub says_less : (place : List ℕ → Option ℕ) (text : List ℕ) (s more : List Saying) → SaysFirst place text (s ++ more) → SaysFirst place text s
-says_less place text s more h = (more ++ h.0, h.1 ∙ append_assoc s more h.0)
+pub means_less : (place : List ℕ → Option ℕ) (text : List ℕ) (s more : List LineMeaning) → MeansFirst place text (s ++ more) → MeansFirst place text s
+means_less place text s more h = (more ++ h.0, h.1 ∙ append_assoc s more h.0)
 
 -- lines that have their end, of one text behind the other
 pub whole_append : (xs ys : List ℕ) → whole_lines (xs ++ ys) ≡ whole_lines xs + whole_lines ys
@@ -186,7 +186,7 @@ whole_step text taken n old new whole step = cases whole step.steps.kind
     cases (inl count) (inr (inl e)) = inl e.over
     cases (inl count) (inr (inr e)) = inr (inl e.too_long)
 
-pub goes_on_line : (place : List ℕ → Option ℕ) (text taken : List ℕ) (before over : Type 0) (s : List Saying) (n : ℕ) (event : Option Saying) (old new : Reading) → GoesOn place text before s n old → IsStep true old new taken → ((old.is_over ≡ true → before) → new.is_over ≡ true → over)
+pub goes_on_line : (place : List ℕ → Option ℕ) (text taken : List ℕ) (before over : Type 0) (s : List LineMeaning) (n : ℕ) (event : Option LineMeaning) (old new : Reading) → GoesOn place text before s n old → IsStep true old new taken → ((old.is_over ≡ true → before) → new.is_over ≡ true → over)
     → line_of place new.line ≡ Ok event → GoesOn place (text ++ taken) over (s ++ listed event) (n + 1) new
 goes_on_line place text taken before over s n event old new goes step ended h =
     (follows_line place text taken s n event old new goes.0 step h, ended goes.1, counted (whole_step text taken n old new goes.2 step))
@@ -198,7 +198,7 @@ goes_on_line place text taken before over s n event old new goes step ended h =
         cc
     counted (inr (inr e)) = inl e
 
-pub reads_fault : (place : List ℕ → Option ℕ) (text taken : List ℕ) (before over : Type 0) (s : List Saying) (n : ℕ) (fault : LineFault) (old new : Reading) → GoesOn place text before s n old → IsStep true old new taken → ((old.is_over ≡ true → before) → new.is_over ≡ true → over)
+pub reads_fault : (place : List ℕ → Option ℕ) (text taken : List ℕ) (before over : Type 0) (s : List LineMeaning) (n : ℕ) (fault : LineFault) (old new : Reading) → GoesOn place text before s n old → IsStep true old new taken → ((old.is_over ≡ true → before) → new.is_over ≡ true → over)
     → line_of place new.line ≡ Err fault → IsRead (text ++ taken) (n + 1) fault over
 reads_fault place text taken before over s n fault old new goes step ended h = counted (whole_step text taken n old new goes.2 step)
   where
@@ -211,10 +211,10 @@ reads_fault place text taken before over s n fault old new goes step ended h = c
     counted (inr (inr e)) = inl (omega (arith, e))
 
 -- a line that is read says something, or nothing, and has no fault
-pub line_faulty : (piece : List ℕ) (fault : LineFault) (r : Result (Option Entry) LineFault) (said : Result (Option Saying) LineFault) → r ≡ Err fault → line_as_saying piece r ≡ said → said ≡ Err fault
-line_faulty piece fault r said is e = sym e ∙ rw is refl
+pub line_faulty : (piece : List ℕ) (fault : LineFault) (r : Result (Option Entry) LineFault) (lines_done : Result (Option LineMeaning) LineFault) → r ≡ Err fault → line_as_meaning piece r ≡ lines_done → lines_done ≡ Err fault
+line_faulty piece fault r lines_done is e = sym e ∙ rw is refl
 
-pub line_said : (piece : List ℕ) (entry : Option Entry) (r : Result (Option Entry) LineFault) (said : Result (Option Saying) LineFault) → r ≡ Ok entry → line_as_saying piece r ≡ said
-    → (event : Option Saying) × (said ≡ Ok event) × (listed event ≡ sayings_in piece (Ok entry))
-line_said piece None r said is e = (None, sym e ∙ rw is refl, refl)
-line_said piece (Some entry) r said is e = (Some (saying_in piece entry), sym e ∙ rw is refl, refl)
+pub line_meant : (piece : List ℕ) (entry : Option Entry) (r : Result (Option Entry) LineFault) (lines_done : Result (Option LineMeaning) LineFault) → r ≡ Ok entry → line_as_meaning piece r ≡ lines_done
+    → (event : Option LineMeaning) × (lines_done ≡ Ok event) × (listed event ≡ meanings_in piece (Ok entry))
+line_meant piece None r lines_done is e = (None, sym e ∙ rw is refl, refl)
+line_meant piece (Some entry) r lines_done is e = (Some (meaning_in piece entry), sym e ∙ rw is refl, refl)

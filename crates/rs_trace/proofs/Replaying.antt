@@ -2,15 +2,15 @@
 use Rattle.std.proofs.Common.{◌≡◌, ℕ, ◌+◌, length, List, [], ◌∷◌, ◌++◌, refl, sym, ◌∙◌, ap, inl, inr, Option, Some, None, subst}
 use Rattle.std.specs.Prelude.{Result, Ok, Err}
 use Rattle.std.proofs.lemmas.List.{append-nil}
-use Rattle.rs_core.specs.Links as links
-use Rattle.rs_core.specs.Links.{HasStopped, Leads}
+use Rattle.rs_core.specs.Link.Steps as links
+use Rattle.rs_core.specs.Link.Steps.{HasStopped, Leads}
 use Rattle.rs_core.specs.declared.links.Event.TheVariants as events
 use Rattle.rs_core.specs.declared.route_server.Core.{Core}
 use Rattle.rs_core.specs.Core.{client_count}
-use Rattle.rs_core.specs.Moves.{Move}
-use Rattle.rs_core.specs.Agreeing.{Agrees}
-use Rattle.rs_core.specs.Courses.{course, Continues}
-use Rattle.rs_core.specs.Answers.{Drives}
+use Rattle.rs_core.specs.Run.Moves.{Move}
+use Rattle.rs_core.specs.Run.Agreeing.{Agrees}
+use Rattle.rs_core.specs.Link.Courses.{course, Continues}
+use Rattle.rs_core.specs.Link.Answers.{Drives}
 use Rattle.rs_policy.specs.Configuration.{Configuration}
 use Rattle.rs_trace.specs.declared.trace.LineFault.{LineFault}
 use Rattle.rs_trace.specs.declared.names.Names.{Names}
@@ -20,8 +20,8 @@ use Rattle.rs_trace.specs.declared.fault.Stop.{Stop}
 use Rattle.rs_trace.specs.declared.fault.Stop.TheVariants.{End, Table, Fault}
 use Rattle.rs_trace.specs.Lines as lines
 use Rattle.rs_trace.specs.Output.{fault_line}
-use Rattle.rs_trace.specs.Trace.{Saying, Listed}
-use Rattle.rs_trace.specs.Played.{Act, Did, ToldRoutes, said, written, Puts, SaysFirst, TookAll, line_at, saying_at}
+use Rattle.rs_trace.specs.Trace.{LineMeaning, Listed}
+use Rattle.rs_trace.specs.Played.{Act, Did, ListedRoutes, lines_done, written, Puts, MeansFirst, TookAll, line_at, meaning_at}
 use Rattle.rs_trace.specs.Replays.{Plays, Happens, HasRun, Drove, steps_done, Adds, HasDone, IsAtFirst, IsOver, FailsOn, IsPlayed, PlaysOut, AreNamesOf, place_in, name_in}
 use Rattle.rs_trace.specs.Text.{whole_lines}
 use Rattle.rs_trace.proofs.Behind.{drives_behind}
@@ -51,22 +51,22 @@ module _ {R W G : Type 0} (takes : R → List ℕ → R → Type 0) (at_end : R 
         same_writer = h.same_writer ∙ d.same_writer;
         took = (d.took, h.took);
         plays =
-            (subst (λ ns. Plays takes at_end fails puts loses (place_in ns) first to (said acts) (written (name_in names) acts) reader1 writer1 r1 n1 stop1
-            → Plays takes at_end fails puts loses (place_in ns) first to (said (Did step ∷ acts)) (written (name_in names) acts ++ line_at (name_in ns) step) reader2 writer2 r2 n2 stop2)
-            d.same_names (h.goes first to (said acts) (written (name_in names) acts))) d.plays;
+            (subst (λ ns. Plays takes at_end fails puts loses (place_in ns) first to (lines_done acts) (written (name_in names) acts) reader1 writer1 r1 n1 stop1
+            → Plays takes at_end fails puts loses (place_in ns) first to (lines_done (Did step ∷ acts)) (written (name_in names) acts ++ line_at (name_in ns) step) reader2 writer2 r2 n2 stop2)
+            d.same_names (h.goes first to (lines_done acts) (written (name_in names) acts))) d.plays;
       }
 
   -- routes were told behind a line that asks for them
-  pub told : (names : Names) (reads writes : G) (first : R) (to : W) (acts : List Act) (c : ℕ) (line : List ℕ)
+  pub listed_lines : (names : Names) (reads writes : G) (first : R) (to : W) (acts : List Act) (c : ℕ) (line : List ℕ)
       (names1 : Names) (reads1 writes1 : G) (reader1 : R) (writer1 : W) (r1 : lines.Reading) (n1 : ℕ) (stop1 : Option Stop)
       (names2 : Names) (reads2 writes2 : G) (reader2 : R) (writer2 : W) (r2 : lines.Reading) (n2 : ℕ) (stop2 : Option Stop)
       → stop1 ≡ Some (Table c)
       → Adds takes at_end fails puts loses names1 reads1 writes1 reader1 writer1 r1 n1 None line names2 reads2 writes2 reader2 writer2 r2 n2 stop2
       → HasDone takes at_end fails puts loses names reads writes first to acts names1 reads1 writes1 reader1 writer1 r1 n1 stop1
-      → HasDone takes at_end fails puts loses names reads writes first to (ToldRoutes c line ∷ acts) names2 reads2 writes2 reader2 writer2 r2 n2 stop2
-  told names reads writes first to acts c line names1 reads1 writes1 reader1 writer1 r1 n1 stop1 names2 reads2 writes2 reader2 writer2 r2 n2 stop2 at h d =
-      let p = subst (λ x. Plays takes at_end fails puts loses (place_in names) first to (said acts) (written (name_in names) acts) reader1 writer1 r1 n1 x) at d.plays in
-      let resumed : Plays takes at_end fails puts loses (place_in names) first to (said acts ++ (Listed c ∷ [])) (written (name_in names) acts) reader1 writer1 r1 n1 None =
+      → HasDone takes at_end fails puts loses names reads writes first to (ListedRoutes c line ∷ acts) names2 reads2 writes2 reader2 writer2 r2 n2 stop2
+  listed_lines names reads writes first to acts c line names1 reads1 writes1 reader1 writer1 r1 n1 stop1 names2 reads2 writes2 reader2 writer2 r2 n2 stop2 at h d =
+      let p = subst (λ x. Plays takes at_end fails puts loses (place_in names) first to (lines_done acts) (written (name_in names) acts) reader1 writer1 r1 n1 x) at d.plays in
+      let resumed : Plays takes at_end fails puts loses (place_in names) first to (lines_done acts ++ (Listed c ∷ [])) (written (name_in names) acts) reader1 writer1 r1 n1 None =
       record { text = p.text; taken = p.taken; stands = p.stands; put = p.put; reads = p.reads; writes = p.writes } in
       record {
         same_names = h.same_names ∙ d.same_names;
@@ -74,16 +74,16 @@ module _ {R W G : Type 0} (takes : R → List ℕ → R → Type 0) (at_end : R 
         same_writer = h.same_writer ∙ d.same_writer;
         took = d.took;
         plays =
-            (subst (λ ns. Plays takes at_end fails puts loses (place_in ns) first to (said acts ++ (Listed c ∷ [])) (written (name_in names) acts) reader1 writer1 r1 n1 None
-            → Plays takes at_end fails puts loses (place_in ns) first to (said acts ++ (Listed c ∷ [])) (written (name_in names) acts ++ line) reader2 writer2 r2 n2 stop2)
-            d.same_names (h.goes first to (said acts ++ (Listed c ∷ [])) (written (name_in names) acts))) resumed;
+            (subst (λ ns. Plays takes at_end fails puts loses (place_in ns) first to (lines_done acts ++ (Listed c ∷ [])) (written (name_in names) acts) reader1 writer1 r1 n1 None
+            → Plays takes at_end fails puts loses (place_in ns) first to (lines_done acts ++ (Listed c ∷ [])) (written (name_in names) acts ++ line) reader2 writer2 r2 n2 stop2)
+            d.same_names (h.goes first to (lines_done acts ++ (Listed c ∷ [])) (written (name_in names) acts))) resumed;
       }
 
 -- the line that a step is told by was written, and the step says nothing
 pub added_by : {R W G : Type 0} {takes : R → List ℕ → R → Type 0} {at_end : R → Type 0} {fails : R → ℕ} {puts : W → List ℕ → W → Type 0} {loses : W → ℕ}
     {names : Names} {reads writes : G} {reader : R} {writer : W} {r : lines.Reading} {n : ℕ} {stop : Option Stop}
     {names2 : Names} {reads2 writes2 : G} {reader2 : R} {writer2 : W} {r2 : lines.Reading} {n2 : ℕ} {stop2 : Option Stop}
-    (step : links.Step) → TookAll step → saying_at step ≡ []
+    (step : links.Step) → TookAll step → meaning_at step ≡ []
     → Adds takes at_end fails puts loses names reads writes reader writer r n stop (line_at (name_in names) step) names2 reads2 writes2 reader2 writer2 r2 n2 stop2
     → Happens takes at_end fails puts loses names reads writes reader writer r n stop step names2 reads2 writes2 reader2 writer2 r2 n2 stop2
 added_by {takes = takes} {at_end} {fails} {puts} {loses} {names = names} {reader2 = reader2} {writer2} {r2} {n2} {stop2} step took silent h = record {
@@ -100,8 +100,8 @@ pub led_to_stop : {L : Type 0} (happens : L → links.Step → L → Type 0) (P 
     → ((old new : L) (s : links.Step) (acts : List Act) → happens old s new → P old acts → P new (Did s ∷ acts))
     → (old new : L) (acts : List Act) → HasStopped happens old new → P old acts → (all : List Act) × P new all
 led_to_stop happens P step old new acts h p = (
-  Did (links.Told events.Stop h.octets) ∷ steps_done h.led.run acts,
-  step h.before new (links.Told events.Stop h.octets) (steps_done h.led.run acts) h.stops (led_on happens P step h.led.run old h.before acts h.led.leads p),
+  Did (links.Happened events.Stop h.octets) ∷ steps_done h.led.run acts,
+  step h.before new (links.Happened events.Stop h.octets) (steps_done h.led.run acts) h.stops (led_on happens P step h.led.run old h.before acts h.led.leads p),
 )
 
 -- What was done led to this route server and this link.
@@ -158,13 +158,13 @@ fault_in (Some (Table c)) = Memory
 fault_in (Some (Fault fault)) = fault
 
 module _ {R W : Type 0} (takes : R → List ℕ → R → Type 0) (at_end : R → Type 0) (fails : R → ℕ) (puts : W → List ℕ → W → Type 0) (loses : W → ℕ)
-    (place : List ℕ → Option ℕ) (first : R) (to : W) (sayings : List Saying) (octets : List ℕ) (reader : R) (writer : W) (r : lines.Reading) (n : ℕ) where
-  pub over_at_end : Plays takes at_end fails puts loses place first to sayings octets reader writer r n (Some End) → IsOver takes at_end puts place first to sayings octets reader writer (Ok tt)
+    (place : List ℕ → Option ℕ) (first : R) (to : W) (meanings : List LineMeaning) (octets : List ℕ) (reader : R) (writer : W) (r : lines.Reading) (n : ℕ) where
+  pub over_at_end : Plays takes at_end fails puts loses place first to meanings octets reader writer r n (Some End) → IsOver takes at_end puts place first to meanings octets reader writer (Ok tt)
   over_at_end p = record { text = p.text; taken = p.taken; ends = p.stands; gives = p.put }
 
   -- behind a failure
   pub over_failed : (fault : ReplayFault) → ((m : ℕ) (f : LineFault) → fault ≡ Line m f → ⊥)
-      → Plays takes at_end fails puts loses place first to sayings octets reader writer r n (Some (Fault fault)) → IsOver takes at_end puts place first to sayings octets reader writer (Err fault)
+      → Plays takes at_end fails puts loses place first to meanings octets reader writer r n (Some (Fault fault)) → IsOver takes at_end puts place first to meanings octets reader writer (Err fault)
   over_failed (Line m f) other p = absurd (other m f refl)
   over_failed Memory other p = record { text = p.text; taken = p.taken; ends = p.stands; gives = inl p.put }
   over_failed Reading other p = record { text = p.text; taken = p.taken; ends = p.stands; gives = p.put }
@@ -172,31 +172,31 @@ module _ {R W : Type 0} (takes : R → List ℕ → R → Type 0) (at_end : R �
 
   -- with the line of a line's fault as the last, or with a front of it
   pub over_line : (m : ℕ) (fault : LineFault) (last : W) (after : Option Stop)
-      → Plays takes at_end fails puts loses place first to sayings octets reader writer r n (Some (Fault (Line m fault)))
+      → Plays takes at_end fails puts loses place first to meanings octets reader writer r n (Some (Fault (Line m fault)))
       → (Puts (λ xs. puts to xs writer) octets (Some (Fault (Line m fault))) → Puts (λ xs. puts to xs last) (octets ++ fault_line m fault) after)
       → FailsOn (Some (Fault (Line m fault))) after
-      → (answer : ReplayFault) → after ≡ Some (Fault answer) → IsOver takes at_end puts place first to sayings octets reader last (Err answer)
+      → (answer : ReplayFault) → after ≡ Some (Fault answer) → IsOver takes at_end puts place first to meanings octets reader last (Err answer)
   over_line m fault last after p put fails answer at = over_by fails where
     puts_it : ReplayFault → Type 0
     puts_it f = Puts (λ xs. puts to xs last) (octets ++ fault_line m fault) (Some (Fault f))
 
     is_over : ReplayFault → Type 0
-    is_over f = IsOver takes at_end puts place first to sayings octets reader last (Err f)
+    is_over f = IsOver takes at_end puts place first to meanings octets reader last (Err f)
 
     q : puts_it answer
     q = subst (λ x. Puts (λ xs. puts to xs last) (octets ++ fault_line m fault) x) at (put p.put)
 
-    first_said : SaysFirst place p.text sayings
-    first_said = stands_first place p.text (at_end reader) sayings n r (Some (Fault (Line m fault))) p.stands
+    first_meant : MeansFirst place p.text meanings
+    first_meant = stands_first place p.text (at_end reader) meanings n r (Some (Fault (Line m fault))) p.stands
 
     as_it_was : puts_it (Line m fault) → is_over (Line m fault)
     as_it_was h = record { text = p.text; taken = p.taken; ends = p.stands; gives = h }
 
     at_memory : puts_it Memory → is_over Memory
-    at_memory h = record { text = p.text; taken = p.taken; ends = first_said; gives = inr (m, fault, p.stands, h) }
+    at_memory h = record { text = p.text; taken = p.taken; ends = first_meant; gives = inr (m, fault, p.stands, h) }
 
     at_writing : puts_it Writing → is_over Writing
-    at_writing h = record { text = p.text; taken = p.taken; ends = first_said; gives = inr (m, fault, p.stands, h) }
+    at_writing h = record { text = p.text; taken = p.taken; ends = first_meant; gives = inr (m, fault, p.stands, h) }
 
     moved : (f : ReplayFault) → (puts_it f → is_over f) → answer ≡ f → is_over answer
     moved f h e = subst (λ x. puts_it x → is_over x) (sym e) h q

@@ -3,21 +3,21 @@ use Rattle.std.proofs.Common.{◌≡◌, ◌==◌, ℕ, zero, suc, List, [], ◌
 use Rattle.std.specs.Prelude.{Option, Some, None, ⊤, if◌then◌else◌}
 use Rattle.std.proofs.lemmas.List.{take_all}
 use Rattle.rs_policy.specs.Configuration.{Configuration}
-use Rattle.rs_core.specs.Moves.{Ruled}
+use Rattle.rs_core.specs.Run.Moves.{Ruled}
 use Rattle.rs_core.specs.Core.{client_count, lent_octets}
-use Rattle.rs_core.specs.Agreeing.{Agrees}
-use Rattle.rs_core.specs.Links.{Step, Told, Begin, Busy, Offer, Memory, End, Replaced}
-use Rattle.rs_core.specs.Courses.{Course, called}
-use Rattle.rs_core.specs.Answers.{Offers, Nothing, Fails, Takes, Gives, Used, Stopped, Goes_on, Ended, Lasts, Owes, Closes, Ends, Never, Again}
-use Rattle.rs_core.specs.Answers as answers
-use Rattle.rs_core.specs.Serving.{start, taken_by}
-use Rattle.rs_core.specs.Draining.{IsDrained, TakesWhole, TakesAll, Rooms, RoomFor}
-use Rattle.rs_core.specs.Draining as draining
+use Rattle.rs_core.specs.Run.Agreeing.{Agrees}
+use Rattle.rs_core.specs.Link.Steps.{Step, Happened, Begin, Busy, Offer, Memory, End, Replaced}
+use Rattle.rs_core.specs.Link.Courses.{Course, called}
+use Rattle.rs_core.specs.Link.Answers.{Offers, Nothing, Fails, Takes, Gives, Used, Stopped, Goes_on, Ended, Lasts, Owes, Closes, Ends, Never, Again}
+use Rattle.rs_core.specs.Link.Answers as answers
+use Rattle.rs_core.specs.Link.Serving.{start, taken_by}
+use Rattle.rs_core.specs.Owed.Draining.{IsDrained, TakesWhole, TakesAll, Rooms, RoomFor}
+use Rattle.rs_core.specs.Owed.Draining as draining
 use Rattle.rs_core.specs.declared.links.Event.TheVariants as events
 use Rattle.rs_core.specs.declared.route_server.Core.{Core}
-use Rattle.rs_core.proofs.Draining.{room_drains}
+use Rattle.rs_core.proofs.Owed.Draining.{room_drains}
 use Rattle.rs_core.proofs.Headline.{has_come}
-use Rattle.rs_trace.specs.Played.{Act, Did, ToldRoutes, TookAll, AllTookAll, steps_of}
+use Rattle.rs_trace.specs.Played.{Act, Did, ListedRoutes, TookAll, AllTookAll, steps_of}
 use Rattle.rs_trace.specs.Replays.{HasRun, Begins, Drove, Tells, steps_done}
 use Rattle.rs_trace.specs.Serving.{ReplaysAreCourses, sent_to, ReplaysServe, GivesRoom, GivesRooms, NoRoom, MoreRoom, ReplaysDrain}
 
@@ -39,7 +39,7 @@ driven settings name acts x (Begins core agrees count) = record { new = core; ag
 driven settings name acts x (Drove more before u v ran drives is) =
     let d = driven settings name before u ran in
     record { new = d.new; agrees = d.agrees; drove = Again u v d.drove drives; steps = is ∙ ap (λ steps. more ++ steps) d.steps ∙ sym (steps_done_of more before) }
-driven settings name acts x (Tells c told before u ran lists) =
+driven settings name acts x (Tells c listed_lines before u ran lists) =
     let d = driven settings name before u ran in
     record { new = d.new; agrees = d.agrees; drove = d.drove; steps = d.steps }
 
@@ -55,8 +55,8 @@ offered c d octets answer steps whole =
 
 taken_is_sent : (c : ℕ) (acts : List Act) → AllTookAll acts → taken_by c (steps_of acts) ≡ sent_to c acts
 taken_is_sent c [] all = refl
-taken_is_sent c (ToldRoutes d told ∷ acts) all = taken_is_sent c acts all
-taken_is_sent c (Did (Told event octets) ∷ acts) all = taken_is_sent c acts all.0
+taken_is_sent c (ListedRoutes d listed_lines ∷ acts) all = taken_is_sent c acts all
+taken_is_sent c (Did (Happened event octets) ∷ acts) all = taken_is_sent c acts all.0
 taken_is_sent c (Did (Begin d) ∷ acts) all = ap (λ l. if d == c then [] else l) (taken_is_sent c acts all.0)
 taken_is_sent c (Did (Busy d) ∷ acts) all = taken_is_sent c acts all.0
 taken_is_sent c (Did (Offer d octets answer) ∷ acts) all =
@@ -79,7 +79,7 @@ AllTook (s ∷ steps) = AllTook steps × TookAll s
 by_steps : (acts : List Act) → AllTookAll acts → AllTook (steps_of acts)
 by_steps [] all = tt
 by_steps (Did step ∷ acts) all = (by_steps acts all.0, all.1)
-by_steps (ToldRoutes c told ∷ acts) all = by_steps acts all
+by_steps (ListedRoutes c listed_lines ∷ acts) all = by_steps acts all
 
 -- what was before too
 before_offers : (c room k : ℕ) (x y : Course) → Offers c room k x y → AllTook y.steps → AllTook x.steps
@@ -103,7 +103,7 @@ before_ends (suc k) x y ends all = before_ends k x ends.0 ends.1 (before_ended k
 
 before_room : (d room : ℕ) (x y : Course) → GivesRoom d room x y → AllTook y.steps → AllTook x.steps
 before_room d room x y r all =
-    (before_gives d room (called (Told (events.Room d room) r.octets) x) r.given r.gives (before_ends (client_count r.given.core) r.given y r.ends all)).0
+    (before_gives d room (called (Happened (events.Room d room) r.octets) x) r.given r.gives (before_ends (client_count r.given.core) r.given y r.ends all)).0
 
 -- ---- so room is used, or nothing is owed
 
@@ -126,7 +126,7 @@ room_for d room x y r all = record {
   octets = r.octets;
   given = r.given;
   gives = r.gives;
-  takes = takes_all d room (called (Told (events.Room d room) r.octets) x) r.given r.gives (before_ends (client_count r.given.core) r.given y r.ends all);
+  takes = takes_all d room (called (Happened (events.Room d room) r.octets) x) r.given r.gives (before_ends (client_count r.given.core) r.given y r.ends all);
   ends = r.ends;
 }
 
@@ -136,7 +136,7 @@ rooms x y (MoreRoom d room u v before one) all = draining.MoreRoom d room u v (r
 
 pub drain : ReplaysDrain
 drain settings name acts x ran all c e = record { drained = drained; served = serve settings name acts x ran all c drained } where
-  stopped : AllTook (called (Told events.Stop e.octets) e.after).steps
+  stopped : AllTook (called (Happened events.Stop e.octets) e.after).steps
   stopped = subst (λ (z : Course). AllTook z.steps) e.stop (subst AllTook (sym (are_courses settings name acts x ran).steps) (by_steps acts all))
 
   leaves : IsDrained e.after c

@@ -6,13 +6,13 @@ use Rattle.std.specs.FinMap.{find, is_sorted}
 use Rattle.rs_octets.specs.Prefixes.{Prefix, prefix_order}
 use Rattle.rs_attrs.specs.declared.mode.Mode.{Mode}
 use Rattle.rs_attrs.specs.Meaning.{Attribute}
-use Rattle.rs_core.specs.Agreeing.{Agrees}
+use Rattle.rs_core.specs.Run.Agreeing.{Agrees}
 use Rattle.rs_core.specs.Core.{client_count, loc_rib}
-use Rattle.rs_core.specs.Hearing.{is_up, mode_in, state_in}
-use Rattle.rs_core.specs.Moves.{Move, config_in}
-use Rattle.rs_core.specs.Runs.{hearing, is_established}
+use Rattle.rs_core.specs.Session.Hearing.{is_up, mode_in, state_in}
+use Rattle.rs_core.specs.Run.Moves.{Move, config_in}
+use Rattle.rs_core.specs.Run.Meaning.{hearing, is_established}
 use Rattle.rs_core.specs.declared.route_server.Core.{Core}
-use Rattle.rs_core.proofs.InTurn.{has_what_was_due}
+use Rattle.rs_core.proofs.Told.InTurn.{has_what_was_due}
 use Rattle.rs_trace.specs.Tables.{ListsAs, ListsLocRib, ListsOf, line_of_route}
 
 -- what a route server lists of a client

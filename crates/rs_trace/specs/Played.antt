@@ -4,46 +4,46 @@ use Rattle.rs_policy.specs.declared.faults.RulesFault.{RulesFault}
 use Rattle.rs_policy.specs.FaultTexts.{rules_fault_text}
 use Rattle.rs_core.specs.declared.links.Event.{Event}
 use Rattle.rs_core.specs.declared.links.Event.TheVariants as events
-use Rattle.rs_core.specs.Links as links
+use Rattle.rs_core.specs.Link.Steps as links
 use Rattle.rs_trace.specs.declared.fault.ReplayFault.TheVariants.{Line, Memory, Reading, Writing}
 use Rattle.rs_trace.specs.declared.fault.Stop.{Stop}
 use Rattle.rs_trace.specs.declared.fault.Stop.TheVariants.{End, Table, Fault}
 use Rattle.rs_trace.specs.Lines as lines
 use Rattle.rs_trace.specs.Output.{client_line, sent_line, accepted_line, refused_line}
-use Rattle.rs_trace.specs.Trace.{Saying, Opened, Heard, Offered, Passed, Turned, Left, Replaced, Listed}
+use Rattle.rs_trace.specs.Trace.{LineMeaning, Opened, Heard, Offered, Passed, Turned, Left, Replaced, Listed}
 use Rattle.rs_trace.specs.Text.{lines_of, whole_lines, outcome, tells, behind, IsRead}
 
 pub data Act : Type 0 where
   -- the core's link did a step
   Did : (step : links.Step) → Act
   -- the routes of a client were told, in these lines
-  ToldRoutes : (c : ℕ) (told : List ℕ) → Act
+  ListedRoutes : (c : ℕ) (listed_lines : List ℕ) → Act
 
 -- the line of the trace that an event comes from; a stop comes from none
-abbrev pub saying_told : Event → List ℕ → List Saying
-saying_told (events.Opened c) octets = Opened c ∷ []
-saying_told (events.Octets c n) octets = Heard c octets ∷ []
-saying_told (events.Moment t) octets = Passed t ∷ []
-saying_told events.Turn octets = Turned ∷ []
-saying_told (events.Room c n) octets = Offered c n ∷ []
-saying_told (events.Lost c) octets = Left c ∷ []
-saying_told events.Rules octets = Replaced octets ∷ []
-saying_told events.Stop octets = []
+abbrev pub meaning_of_event : Event → List ℕ → List LineMeaning
+meaning_of_event (events.Opened c) octets = Opened c ∷ []
+meaning_of_event (events.Octets c n) octets = Heard c octets ∷ []
+meaning_of_event (events.Moment t) octets = Passed t ∷ []
+meaning_of_event events.Turn octets = Turned ∷ []
+meaning_of_event (events.Room c n) octets = Offered c n ∷ []
+meaning_of_event (events.Lost c) octets = Left c ∷ []
+meaning_of_event events.Rules octets = Replaced octets ∷ []
+meaning_of_event events.Stop octets = []
 
-abbrev pub saying_at : links.Step → List Saying
-saying_at (links.Told event octets) = saying_told event octets
-saying_at (links.Begin c) = []
-saying_at (links.Busy c) = []
-saying_at (links.Offer c octets answer) = []
-saying_at (links.Memory c) = []
-saying_at (links.End c) = []
-saying_at (links.Replaced answer) = []
+abbrev pub meaning_at : links.Step → List LineMeaning
+meaning_at (links.Happened event octets) = meaning_of_event event octets
+meaning_at (links.Begin c) = []
+meaning_at (links.Busy c) = []
+meaning_at (links.Offer c octets answer) = []
+meaning_at (links.Memory c) = []
+meaning_at (links.End c) = []
+meaning_at (links.Replaced answer) = []
 
 -- the lines of the trace that were done, in their order
-abbrev pub said : List Act → List Saying
-said [] = []
-said (Did step ∷ acts) = said acts ++ saying_at step
-said (ToldRoutes c told ∷ acts) = said acts ++ (Listed c ∷ [])
+abbrev pub lines_done : List Act → List LineMeaning
+lines_done [] = []
+lines_done (Did step ∷ acts) = lines_done acts ++ meaning_at step
+lines_done (ListedRoutes c listed_lines ∷ acts) = lines_done acts ++ (Listed c ∷ [])
 
 abbrev pub rules_line : Result (Unit {0}) RulesFault → List ℕ
 rules_line (Ok done) = accepted_line
@@ -51,7 +51,7 @@ rules_line (Err fault) = refused_line (rules_fault_text fault)
 
 -- the line of output that a step is told by
 abbrev pub line_at : (ℕ → List ℕ) → links.Step → List ℕ
-line_at name (links.Told event octets) = []
+line_at name (links.Happened event octets) = []
 line_at name (links.Begin c) = []
 line_at name (links.Busy c) = client_line (codes "busy") (name c)
 line_at name (links.Offer c octets answer) = sent_line (name c) octets
@@ -63,11 +63,11 @@ line_at name (links.Replaced answer) = rules_line answer
 abbrev pub written : (ℕ → List ℕ) → List Act → List ℕ
 written name [] = []
 written name (Did step ∷ acts) = written name acts ++ line_at name step
-written name (ToldRoutes c told ∷ acts) = written name acts ++ told
+written name (ListedRoutes c listed_lines ∷ acts) = written name acts ++ listed_lines
 
 -- of an offer all was taken
 abbrev pub TookAll : links.Step → Type 0
-TookAll (links.Told event octets) = ⊤
+TookAll (links.Happened event octets) = ⊤
 TookAll (links.Begin c) = ⊤
 TookAll (links.Busy c) = ⊤
 TookAll (links.Offer c octets answer) = answer ≡ Some (length octets)
@@ -78,41 +78,41 @@ TookAll (links.Replaced answer) = ⊤
 abbrev pub AllTookAll : List Act → Type 0
 AllTookAll [] = ⊤
 AllTookAll (Did step ∷ acts) = AllTookAll acts × TookAll step
-AllTookAll (ToldRoutes c told ∷ acts) = AllTookAll acts
+AllTookAll (ListedRoutes c listed_lines ∷ acts) = AllTookAll acts
 
 -- the steps of the core's link among acts
 abbrev pub steps_of : List Act → List links.Step
 steps_of [] = []
 steps_of (Did step ∷ acts) = step ∷ steps_of acts
-steps_of (ToldRoutes c told ∷ acts) = steps_of acts
+steps_of (ListedRoutes c listed_lines ∷ acts) = steps_of acts
 
 -- What a reader of lines has still to give, with whatever may come, is what the text says behind what was said. n lines were read.
-abbrev pub FollowsOn : (List ℕ → Option ℕ) → List ℕ → List Saying → ℕ → lines.Reading → Type 0
-FollowsOn place text sayings n r =
-    (more : List ℕ) → (r.is_over ≡ true → more ≡ []) → outcome place 1 (lines_of (text ++ more)) ≡ behind sayings (outcome place (n + 1) (lines_of (r.rest ++ more)))
+abbrev pub FollowsOn : (List ℕ → Option ℕ) → List ℕ → List LineMeaning → ℕ → lines.Reading → Type 0
+FollowsOn place text meanings n r =
+    (more : List ℕ) → (r.is_over ≡ true → more ≡ []) → outcome place 1 (lines_of (text ++ more)) ≡ behind meanings (outcome place (n + 1) (lines_of (r.rest ++ more)))
 
 -- the lines that were read are those that are whole, unless the last was not
 abbrev pub AreWhole : List ℕ → ℕ → lines.Reading → Type 0
 AreWhole text n r = (whole_lines text ≡ n + whole_lines r.rest) ⊎ (r.is_over ≡ true)
 
 -- the text says these first
-abbrev pub SaysFirst : (List ℕ → Option ℕ) → List ℕ → List Saying → Type 0
-SaysFirst place text sayings = (others : List Saying) × ((outcome place 1 (lines_of text)).sayings ≡ sayings ++ others)
+abbrev pub MeansFirst : (List ℕ → Option ℕ) → List ℕ → List LineMeaning → Type 0
+MeansFirst place text meanings = (others : List LineMeaning) × ((outcome place 1 (lines_of text)).meanings ≡ meanings ++ others)
 
 -- so far no line had a fault
-abbrev pub GoesOn : (List ℕ → Option ℕ) → List ℕ → Type 0 → List Saying → ℕ → lines.Reading → Type 0
-GoesOn place text over sayings n r = FollowsOn place text sayings n r × (r.is_over ≡ true → over) × AreWhole text n r
+abbrev pub GoesOn : (List ℕ → Option ℕ) → List ℕ → Type 0 → List LineMeaning → ℕ → lines.Reading → Type 0
+GoesOn place text over meanings n r = FollowsOn place text meanings n r × (r.is_over ≡ true → over) × AreWhole text n r
 
 -- The text was read so far: what was said of it, and where the reading stands. `over` says that nothing more comes.
-abbrev pub Stands : (List ℕ → Option ℕ) → List ℕ → Type 0 → List Saying → ℕ → lines.Reading → Option Stop → Type 0
-Stands place text over sayings n r None = GoesOn place text over sayings n r
-Stands place text over sayings n r (Some End) = (outcome place 1 (lines_of text) ≡ tells sayings None) × over
-Stands place text over sayings n r (Some (Table c)) = GoesOn place text over (sayings ++ (Listed c ∷ [])) n r
-Stands place text over sayings n r (Some (Fault (Line m fault))) =
-    (outcome place 1 (lines_of text) ≡ tells sayings (Some (m, fault))) × IsRead text m fault over
-Stands place text over sayings n r (Some (Fault Memory)) = SaysFirst place text sayings
-Stands place text over sayings n r (Some (Fault Reading)) = SaysFirst place text sayings
-Stands place text over sayings n r (Some (Fault Writing)) = SaysFirst place text sayings
+abbrev pub Stands : (List ℕ → Option ℕ) → List ℕ → Type 0 → List LineMeaning → ℕ → lines.Reading → Option Stop → Type 0
+Stands place text over meanings n r None = GoesOn place text over meanings n r
+Stands place text over meanings n r (Some End) = (outcome place 1 (lines_of text) ≡ tells meanings None) × over
+Stands place text over meanings n r (Some (Table c)) = GoesOn place text over (meanings ++ (Listed c ∷ [])) n r
+Stands place text over meanings n r (Some (Fault (Line m fault))) =
+    (outcome place 1 (lines_of text) ≡ tells meanings (Some (m, fault))) × IsRead text m fault over
+Stands place text over meanings n r (Some (Fault Memory)) = MeansFirst place text meanings
+Stands place text over meanings n r (Some (Fault Reading)) = MeansFirst place text meanings
+Stands place text over meanings n r (Some (Fault Writing)) = MeansFirst place text meanings
 
 -- a front of these octets was put
 abbrev pub PutsFront : (List ℕ → Type 0) → List ℕ → Type 0

@@ -1,13 +1,13 @@
 -- From what a reader gives to what a writer is given.
 use Rattle.std.specs.Prelude.{◌≡◌, ◌⊎◌, ℕ, List, [], ◌∷◌, ◌++◌, length, map, false, Option, Some, None, Result, Ok, Err, position, bytes_eq, slice_get}
 use Rattle.rs_policy.specs.Configuration.{Configuration}
-use Rattle.rs_core.specs.Links as links
-use Rattle.rs_core.specs.Moves.{Ruled}
+use Rattle.rs_core.specs.Link.Steps as links
+use Rattle.rs_core.specs.Run.Moves.{Ruled}
 use Rattle.rs_core.specs.Core.{client_count}
-use Rattle.rs_core.specs.Agreeing.{Agrees}
-use Rattle.rs_core.specs.Courses.{Course}
-use Rattle.rs_core.specs.Answers.{Drives}
-use Rattle.rs_core.specs.Serving.{start}
+use Rattle.rs_core.specs.Run.Agreeing.{Agrees}
+use Rattle.rs_core.specs.Link.Courses.{Course}
+use Rattle.rs_core.specs.Link.Answers.{Drives}
+use Rattle.rs_core.specs.Link.Serving.{start}
 use Rattle.rs_core.specs.declared.route_server.Core.{Core}
 use Rattle.rs_trace.specs.declared.trace.LineFault.{LineFault}
 use Rattle.rs_trace.specs.declared.trace.Entry.{Entry}
@@ -18,11 +18,11 @@ use Rattle.rs_trace.specs.declared.fault.Stop.{Stop}
 use Rattle.rs_trace.specs.declared.fault.Stop.TheVariants.{End, Table, Fault}
 use Rattle.rs_trace.specs.Lines as lines
 use Rattle.rs_trace.specs.Output.{fault_line}
-use Rattle.rs_trace.specs.Trace.{Saying, Listed}
-use Rattle.rs_trace.specs.Entries.{saying_in}
+use Rattle.rs_trace.specs.Trace.{LineMeaning, Listed}
+use Rattle.rs_trace.specs.Entries.{meaning_in}
 use Rattle.rs_trace.specs.Tables.{ListsOf}
 use Rattle.rs_trace.specs.Text.{lines_of, outcome, tells, IsRead}
-use Rattle.rs_trace.specs.Played.{Act, Did, ToldRoutes, said, written, saying_at, line_at, TookAll, AllTookAll, SaysFirst, Stands, PutsFront, Puts, failed, failures_read, failures_written}
+use Rattle.rs_trace.specs.Played.{Act, Did, ListedRoutes, lines_done, written, meaning_at, line_at, TookAll, AllTookAll, MeansFirst, Stands, PutsFront, Puts, failed, failures_read, failures_written}
 
 -- the client of a name, and the name of a client
 abbrev pub place_in : Names → List ℕ → Option ℕ
@@ -40,41 +40,41 @@ stop_of (Ok value) = None
 stop_of (Err stop) = Some stop
 
 -- what an entry says, where there is one
-abbrev pub sayings_in : List ℕ → Result (Option Entry) Stop → List Saying
-sayings_in piece (Ok None) = []
-sayings_in piece (Ok (Some entry)) = saying_in piece entry ∷ []
-sayings_in piece (Err stop) = []
+abbrev pub meanings_in : List ℕ → Result (Option Entry) Stop → List LineMeaning
+meanings_in piece (Ok None) = []
+meanings_in piece (Ok (Some entry)) = meaning_in piece entry ∷ []
+meanings_in piece (Err stop) = []
 
-abbrev pub saying_read : List ℕ → Result Entry Stop → List Saying
-saying_read piece (Ok entry) = saying_in piece entry ∷ []
-saying_read piece (Err stop) = []
+abbrev pub meaning_read : List ℕ → Result Entry Stop → List LineMeaning
+meaning_read piece (Ok entry) = meaning_in piece entry ∷ []
+meaning_read piece (Err stop) = []
 
 -- More octets were taken, and what they say so far is these sayings more.
-abbrev pub ReadsOn : {R : Type 0} → (R → List ℕ → R → Type 0) → (R → Type 0) → (List ℕ → Option ℕ) → R → ℕ → lines.Reading → R → ℕ → lines.Reading → List Saying → Option Stop → Type 0
+abbrev pub ReadsOn : {R : Type 0} → (R → List ℕ → R → Type 0) → (R → Type 0) → (List ℕ → Option ℕ) → R → ℕ → lines.Reading → R → ℕ → lines.Reading → List LineMeaning → Option Stop → Type 0
 ReadsOn takes at_end place old n r new m q more stop =
-    (text : List ℕ) (sayings : List Saying) → Stands place text (at_end old) sayings n r None →
-    (taken : List ℕ) × takes old taken new × Stands place (text ++ taken) (at_end new) (sayings ++ more) m q stop
+    (text : List ℕ) (meanings : List LineMeaning) → Stands place text (at_end old) meanings n r None →
+    (taken : List ℕ) × takes old taken new × Stands place (text ++ taken) (at_end new) (meanings ++ more) m q stop
 
 -- nothing failed, or what had failed before is the last failure, or writing failed now
 abbrev pub FailsOn : Option Stop → Option Stop → Type 0
 FailsOn stop after = (after ≡ stop) ⊎ ((failed stop ≡ false) × (after ≡ Some (Fault Memory))) ⊎ ((failed stop ≡ false) × (after ≡ Some (Fault Writing)))
 
 -- What the core is told of what was read, and whether it is stopped.
-abbrev pub TellsAs : List Saying → List Saying → Option Stop → Type 0
-TellsAs read told None = told ≡ read
-TellsAs read told (Some End) = ⊥
-TellsAs read told (Some (Table c)) = (told ≡ []) × (read ≡ Listed c ∷ [])
-TellsAs read told (Some (Fault (Line m fault))) = ⊥
-TellsAs read told (Some (Fault Memory)) = told ≡ []
-TellsAs read told (Some (Fault Reading)) = ⊥
-TellsAs read told (Some (Fault Writing)) = ⊥
+abbrev pub PassesOn : List LineMeaning → List LineMeaning → Option Stop → Type 0
+PassesOn read listed_lines None = listed_lines ≡ read
+PassesOn read listed_lines (Some End) = ⊥
+PassesOn read listed_lines (Some (Table c)) = (listed_lines ≡ []) × (read ≡ Listed c ∷ [])
+PassesOn read listed_lines (Some (Fault (Line m fault))) = ⊥
+PassesOn read listed_lines (Some (Fault Memory)) = listed_lines ≡ []
+PassesOn read listed_lines (Some (Fault Reading)) = ⊥
+PassesOn read listed_lines (Some (Fault Writing)) = ⊥
 
 -- Since the first reader and writer these sayings were done and this output came of it, and now all stands so.
 pub record Plays {R W : Type 0} (takes : R → List ℕ → R → Type 0) (at_end : R → Type 0) (fails : R → ℕ) (puts : W → List ℕ → W → Type 0) (loses : W → ℕ)
-    (place : List ℕ → Option ℕ) (first : R) (to : W) (sayings : List Saying) (octets : List ℕ) (reader : R) (writer : W) (r : lines.Reading) (n : ℕ) (stop : Option Stop) : Type 0 where
+    (place : List ℕ → Option ℕ) (first : R) (to : W) (meanings : List LineMeaning) (octets : List ℕ) (reader : R) (writer : W) (r : lines.Reading) (n : ℕ) (stop : Option Stop) : Type 0 where
   pub text : List ℕ
   pub taken : takes first text reader
-  pub stands : Stands place text (at_end reader) sayings n r stop
+  pub stands : Stands place text (at_end reader) meanings n r stop
   pub put : Puts (λ xs. puts to xs writer) octets stop
   pub reads : fails reader ≡ failures_read stop (fails first)
   pub writes : loses writer ≡ failures_written stop (loses to)
@@ -85,16 +85,16 @@ end_of (Ok done) = Some End
 end_of (Err fault) = Some (Fault fault)
 
 -- what was done is what the text says up to its first fault: this one, of a line that was read
-abbrev pub EndsAt : (List ℕ → Option ℕ) → List ℕ → Type 0 → List Saying → ℕ → LineFault → Type 0
-EndsAt place text over sayings m fault = (outcome place 1 (lines_of text) ≡ tells sayings (Some (m, fault))) × IsRead text m fault over
+abbrev pub EndsAt : (List ℕ → Option ℕ) → List ℕ → Type 0 → List LineMeaning → ℕ → LineFault → Type 0
+EndsAt place text over meanings m fault = (outcome place 1 (lines_of text) ≡ tells meanings (Some (m, fault))) × IsRead text m fault over
 
 -- how the text ends in the answer of a replay
-abbrev pub Ends : (List ℕ → Option ℕ) → List ℕ → Type 0 → List Saying → Result (Unit {0}) ReplayFault → Type 0
-Ends place text over sayings (Ok done) = (outcome place 1 (lines_of text) ≡ tells sayings None) × over
-Ends place text over sayings (Err (Line m fault)) = EndsAt place text over sayings m fault
-Ends place text over sayings (Err Memory) = SaysFirst place text sayings
-Ends place text over sayings (Err Reading) = SaysFirst place text sayings
-Ends place text over sayings (Err Writing) = SaysFirst place text sayings
+abbrev pub Ends : (List ℕ → Option ℕ) → List ℕ → Type 0 → List LineMeaning → Result (Unit {0}) ReplayFault → Type 0
+Ends place text over meanings (Ok done) = (outcome place 1 (lines_of text) ≡ tells meanings None) × over
+Ends place text over meanings (Err (Line m fault)) = EndsAt place text over meanings m fault
+Ends place text over meanings (Err Memory) = MeansFirst place text meanings
+Ends place text over meanings (Err Reading) = MeansFirst place text meanings
+Ends place text over meanings (Err Writing) = MeansFirst place text meanings
 
 -- a front of these octets was put; or the text ends at a fault, and the front goes on into that fault's line
 abbrev pub BreaksOff : (ℕ → LineFault → Type 0) → (List ℕ → Type 0) → List ℕ → Type 0
@@ -124,8 +124,8 @@ pub data HasRun (settings : Configuration) (name : ℕ → List ℕ) : List Act 
   Begins : (core : Core) (agrees : Agrees core (Ruled settings ∷ [])) → client_count core ≡ length settings.clients → HasRun settings name [] (start settings core agrees)
   Drove : (more : List links.Step) (acts : List Act) (x y : Course) → HasRun settings name acts x → Drives x y → y.steps ≡ more ++ x.steps
       → HasRun settings name (steps_done more acts) y
-  Tells : (c : ℕ) (told : List ℕ) (acts : List Act) (x : Course) → HasRun settings name acts x
-      → ListsOf (length settings.clients) x.run c (name c) told → HasRun settings name (ToldRoutes c told ∷ acts) x
+  Tells : (c : ℕ) (listed_lines : List ℕ) (acts : List Act) (x : Course) → HasRun settings name acts x
+      → ListsOf (length settings.clients) x.run c (name c) listed_lines → HasRun settings name (ListedRoutes c listed_lines ∷ acts) x
 
 -- The octets that were taken say what was done, in that order, and the octets that were put are its output. What was done led to
 -- this course of the link and the route server, and each offer took all.
@@ -135,8 +135,8 @@ pub record IsPlayed (settings : Configuration) (takes : List ℕ → Type 0) (ov
   pub acts : List Act
   pub text : List ℕ
   pub taken : takes text
-  pub ends : Ends (place_in names) text over (said acts) result
-  pub gives : Gives (EndsAt (place_in names) text over (said acts)) put (written (name_in names) acts) result
+  pub ends : Ends (place_in names) text over (lines_done acts) result
+  pub gives : Gives (EndsAt (place_in names) text over (lines_done acts)) put (written (name_in names) acts) result
   pub took : AllTookAll acts
   pub course : Course
   pub ran : HasRun settings (name_in names) acts course
@@ -161,8 +161,8 @@ pub record Happens {R W G : Type 0} (takes : R → List ℕ → R → Type 0) (a
   pub same_reader : reads2 ≡ reads
   pub same_writer : writes2 ≡ writes
   pub took : TookAll step
-  pub goes : (first : R) (to : W) (sayings : List Saying) (octets : List ℕ) → Plays takes at_end fails puts loses (place_in names) first to sayings octets reader writer r n stop →
-      Plays takes at_end fails puts loses (place_in names) first to (sayings ++ saying_at step) (octets ++ line_at (name_in names) step) reader2 writer2 r2 n2 stop2
+  pub goes : (first : R) (to : W) (meanings : List LineMeaning) (octets : List ℕ) → Plays takes at_end fails puts loses (place_in names) first to meanings octets reader writer r n stop →
+      Plays takes at_end fails puts loses (place_in names) first to (meanings ++ meaning_at step) (octets ++ line_at (name_in names) step) reader2 writer2 r2 n2 stop2
 
 -- A recording goes on by a line of output that no step of the core's link asks for: what was said stays, and the line comes behind what was written.
 pub record Adds {R W G : Type 0} (takes : R → List ℕ → R → Type 0) (at_end : R → Type 0) (fails : R → ℕ) (puts : W → List ℕ → W → Type 0) (loses : W → ℕ)
@@ -171,16 +171,16 @@ pub record Adds {R W G : Type 0} (takes : R → List ℕ → R → Type 0) (at_e
   pub same_names : names2 ≡ names
   pub same_reader : reads2 ≡ reads
   pub same_writer : writes2 ≡ writes
-  pub goes : (first : R) (to : W) (sayings : List Saying) (octets : List ℕ) → Plays takes at_end fails puts loses (place_in names) first to sayings octets reader writer r n stop →
-      Plays takes at_end fails puts loses (place_in names) first to sayings (octets ++ line) reader2 writer2 r2 n2 stop2
+  pub goes : (first : R) (to : W) (meanings : List LineMeaning) (octets : List ℕ) → Plays takes at_end fails puts loses (place_in names) first to meanings octets reader writer r n stop →
+      Plays takes at_end fails puts loses (place_in names) first to meanings (octets ++ line) reader2 writer2 r2 n2 stop2
 
 -- What was read up to here says what was done, and the replay ends with this answer.
 pub record IsOver {R W : Type 0} (takes : R → List ℕ → R → Type 0) (at_end : R → Type 0) (puts : W → List ℕ → W → Type 0)
-    (place : List ℕ → Option ℕ) (first : R) (to : W) (sayings : List Saying) (octets : List ℕ) (reader : R) (writer : W) (answer : Result (Unit {0}) ReplayFault) : Type 0 where
+    (place : List ℕ → Option ℕ) (first : R) (to : W) (meanings : List LineMeaning) (octets : List ℕ) (reader : R) (writer : W) (answer : Result (Unit {0}) ReplayFault) : Type 0 where
   pub text : List ℕ
   pub taken : takes first text reader
-  pub ends : Ends place text (at_end reader) sayings answer
-  pub gives : Gives (EndsAt place text (at_end reader) sayings) (λ xs. puts to xs writer) octets answer
+  pub ends : Ends place text (at_end reader) meanings answer
+  pub gives : Gives (EndsAt place text (at_end reader) meanings) (λ xs. puts to xs writer) octets answer
 
 -- Some acts were done since the first reader and writer, and then the replay ended with this answer. Each offer took all.
 pub record PlaysOut {R W : Type 0} (settings : Configuration) (takes : R → List ℕ → R → Type 0) (at_end : R → Type 0) (puts : W → List ℕ → W → Type 0)
@@ -189,7 +189,7 @@ pub record PlaysOut {R W : Type 0} (settings : Configuration) (takes : R → Lis
   pub course : Course
   pub ran : HasRun settings (name_in names) acts course
   pub took : AllTookAll acts
-  pub over : IsOver takes at_end puts (place_in names) first to (said acts) (written (name_in names) acts) reader writer answer
+  pub over : IsOver takes at_end puts (place_in names) first to (lines_done acts) (written (name_in names) acts) reader writer answer
 
 -- Since the first reader and writer these acts were done, by a recording with these names, and now all stands so.
 pub record HasDone {R W G : Type 0} (takes : R → List ℕ → R → Type 0) (at_end : R → Type 0) (fails : R → ℕ) (puts : W → List ℕ → W → Type 0) (loses : W → ℕ)
@@ -199,4 +199,4 @@ pub record HasDone {R W G : Type 0} (takes : R → List ℕ → R → Type 0) (a
   pub same_reader : reads2 ≡ reads
   pub same_writer : writes2 ≡ writes
   pub took : AllTookAll acts
-  pub plays : Plays takes at_end fails puts loses (place_in names) first to (said acts) (written (name_in names) acts) reader writer r n stop
+  pub plays : Plays takes at_end fails puts loses (place_in names) first to (lines_done acts) (written (name_in names) acts) reader writer r n stop

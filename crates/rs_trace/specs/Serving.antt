@@ -1,16 +1,16 @@
 -- What the clients of a route server were told in a replay.
 use Rattle.std.specs.Prelude.{◌≡◌, ◌==◌, ◌<◌, ◌≤◌, ℕ, true, List, [], ◌∷◌, ◌++◌, if◌then◌else◌}
 use Rattle.rs_policy.specs.Configuration.{Configuration}
-use Rattle.rs_core.specs.Runs.{is_established}
+use Rattle.rs_core.specs.Run.Meaning.{is_established}
 use Rattle.rs_core.specs.Core.{client_count, owed}
-use Rattle.rs_core.specs.Links.{Told, Begin, Busy, Offer, Memory, End, Replaced}
-use Rattle.rs_core.specs.Courses.{Course, called}
-use Rattle.rs_core.specs.Answers.{Gives, EndsAll}
-use Rattle.rs_core.specs.Serving.{taken_by}
-use Rattle.rs_core.specs.Draining.{IsDrained, TurnsFor}
+use Rattle.rs_core.specs.Link.Steps.{Happened, Begin, Busy, Offer, Memory, End, Replaced}
+use Rattle.rs_core.specs.Link.Courses.{Course, called}
+use Rattle.rs_core.specs.Link.Answers.{Gives, EndsAll}
+use Rattle.rs_core.specs.Link.Serving.{taken_by}
+use Rattle.rs_core.specs.Owed.Draining.{IsDrained, TurnsFor}
 use Rattle.rs_core.specs.Headline.{HasWhatIsDue, HasCome}
 use Rattle.rs_core.specs.declared.links.Event.TheVariants as events
-use Rattle.rs_trace.specs.Played.{Act, Did, ToldRoutes, AllTookAll, steps_of}
+use Rattle.rs_trace.specs.Played.{Act, Did, ListedRoutes, AllTookAll, steps_of}
 use Rattle.rs_trace.specs.Replays.{HasRun}
 
 -- ---- a replay is one course
@@ -28,8 +28,8 @@ ReplaysAreCourses = (settings : Configuration) (name : ℕ → List ℕ) (acts :
 -- the octets of a client's `sent` lines, since its connection was last begun
 abbrev pub sent_to : ℕ → List Act → List ℕ
 sent_to c [] = []
-sent_to c (ToldRoutes d told ∷ acts) = sent_to c acts
-sent_to c (Did (Told event octets) ∷ acts) = sent_to c acts
+sent_to c (ListedRoutes d listed_lines ∷ acts) = sent_to c acts
+sent_to c (Did (Happened event octets) ∷ acts) = sent_to c acts
 sent_to c (Did (Begin d) ∷ acts) = if d == c then [] else sent_to c acts
 sent_to c (Did (Busy d) ∷ acts) = sent_to c acts
 sent_to c (Did (Offer d octets answer) ∷ acts) = if d == c then sent_to c acts ++ octets else sent_to c acts
@@ -52,7 +52,7 @@ ReplaysServe = (settings : Configuration) (name : ℕ → List ℕ) (acts : List
 pub record GivesRoom (d room : ℕ) (x y : Course) : Type 0 where
   pub octets : List ℕ
   pub given : Course
-  pub gives : Gives d room (called (Told (events.Room d room) octets) x) given
+  pub gives : Gives d room (called (Happened (events.Room d room) octets) x) given
   pub ends : EndsAll given y
 
 -- so for any clients, one after the other
@@ -75,7 +75,7 @@ pub record EndsInRoom (c : ℕ) (x : Course) : Type 0 where
   pub rooms : GivesRooms turned given
   pub enough : owed given.core c ≤ room
   pub own : GivesRoom c room given after
-  pub stop : x ≡ called (Told events.Stop octets) after
+  pub stop : x ≡ called (Happened events.Stop octets) after
 
 -- where a replay comes to that, the client is drained, and so it has what is due to it
 pub record LeavesServed (acts : List Act) (x : Course) (c : ℕ) : Type 0 where

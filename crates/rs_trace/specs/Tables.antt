@@ -6,10 +6,10 @@ use Rattle.rs_octets.specs.Prefixes.{Prefix, prefix_order}
 use Rattle.rs_attrs.specs.declared.mode.Mode.{Mode}
 use Rattle.rs_attrs.specs.Meaning.{Attribute}
 use Rattle.rs_attrs.specs.Writing.{spelt}
-use Rattle.rs_core.specs.Moves.{Move, config_in}
-use Rattle.rs_core.specs.Hearing.{mode_in}
-use Rattle.rs_core.specs.Points.{latest}
-use Rattle.rs_core.specs.Runs.{hearing, dues}
+use Rattle.rs_core.specs.Run.Moves.{Move, config_in}
+use Rattle.rs_core.specs.Session.Hearing.{mode_in}
+use Rattle.rs_core.specs.Told.Points.{latest}
+use Rattle.rs_core.specs.Run.Meaning.{hearing, dues}
 use Rattle.rs_trace.specs.Output.{route_line}
 
 -- A client's Loc-RIB behind a run (RFC 4271, 3.2; RFC 7947, 2.3): what was due to it at its last turn since it is Established, by
@@ -23,13 +23,13 @@ abbrev pub line_of_route : List ℕ → Mode → Prefix × List Attribute → Li
 line_of_route name mode route = route_line name route.0 (spelt route.1 mode)
 
 abbrev pub ListsAs : List Move → ℕ → List ℕ → List ℕ → Option Mode → Type 0
-ListsAs run c name told None = told ≡ []
-ListsAs run c name told (Some mode) = (routes : List (Prefix × List Attribute)) × IsLocRib run c routes × (told ≡ flat_map (line_of_route name mode) routes)
+ListsAs run c name listed_lines None = listed_lines ≡ []
+ListsAs run c name listed_lines (Some mode) = (routes : List (Prefix × List Attribute)) × IsLocRib run c routes × (listed_lines ≡ flat_map (line_of_route name mode) routes)
 
 -- the lines of a client's Loc-RIB behind a run, its attributes spelt as in the client's UPDATEs; none while it isn't Established
 abbrev pub ListsLocRib : List Move → ℕ → List ℕ → List ℕ → Type 0
-ListsLocRib run c name told = ListsAs run c name told (mode_in (config_in run) c (hearing c run))
+ListsLocRib run c name listed_lines = ListsAs run c name listed_lines (mode_in (config_in run) c (hearing c run))
 
 -- the same of one of the first n clients
 abbrev pub ListsOf : ℕ → List Move → ℕ → List ℕ → List ℕ → Type 0
-ListsOf n run c name told = c < n → ListsLocRib run c name told
+ListsOf n run c name listed_lines = c < n → ListsLocRib run c name listed_lines

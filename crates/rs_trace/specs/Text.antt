@@ -3,7 +3,7 @@ use Rattle.std.specs.Prelude.{◌≡◌, ℕ, ◌+◌, ◌≤◌, ◌==◌, ◌�
 use Rattle.rs_trace.specs.declared.trace.LineFault.{LineFault}
 use Rattle.rs_trace.specs.declared.trace.LineFault.TheVariants.{TooLong}
 use Rattle.rs_trace.specs.Words.{lengthen}
-use Rattle.rs_trace.specs.Trace.{Saying, line_of}
+use Rattle.rs_trace.specs.Trace.{LineMeaning, line_of}
 
 -- what stands before each end of a line, and what stands behind the last, if anything
 abbrev pub lines_of : List ℕ → List (List ℕ)
@@ -17,20 +17,20 @@ whole_lines (octet ∷ octets) = if octet == 10 then 1 + whole_lines octets else
 
 -- what lines say up to the first that has a fault, and the number of that line and its fault
 pub record Outcome : Type 0 where
-  pub sayings : List Saying
+  pub meanings : List LineMeaning
   pub fault : Option (ℕ × LineFault)
 
-abbrev pub tells : List Saying → Option (ℕ × LineFault) → Outcome
-tells sayings fault = record { sayings = sayings; fault = fault }
+abbrev pub tells : List LineMeaning → Option (ℕ × LineFault) → Outcome
+tells meanings fault = record { meanings = meanings; fault = fault }
 
 -- behind these sayings
-abbrev pub behind : List Saying → Outcome → Outcome
-behind sayings later = tells (sayings ++ later.sayings) later.fault
+abbrev pub behind : List LineMeaning → Outcome → Outcome
+behind meanings later = tells (meanings ++ later.meanings) later.fault
 
 -- what a line makes of the outcome of the lines behind it
-abbrev pub on_line : Result (Option Saying) LineFault → ℕ → Outcome → Outcome
+abbrev pub on_line : Result (Option LineMeaning) LineFault → ℕ → Outcome → Outcome
 on_line (Ok None) n later = later
-on_line (Ok (Some saying)) n later = tells (saying ∷ later.sayings) later.fault
+on_line (Ok (Some meant)) n later = tells (meant ∷ later.meanings) later.fault
 on_line (Err fault) n later = tells [] (Some (n, fault))
 
 -- the outcome of lines, of which the first has the number n

@@ -10,23 +10,23 @@ use Rattle.rs_trace.specs.Words.{words_of}
 use Rattle.rs_trace.specs.Numbers.{number_of}
 
 -- what a line says; a client is its place in the configuration
-pub data Saying : Type 0 where
+pub data LineMeaning : Type 0 where
   -- a connection to the client is there
-  Opened : ℕ → Saying
+  Opened : ℕ → LineMeaning
   -- the client sends octets
-  Heard : ℕ → List ℕ → Saying
+  Heard : ℕ → List ℕ → LineMeaning
   -- the client's connection takes up to so many octets
-  Offered : ℕ → ℕ → Saying
+  Offered : ℕ → ℕ → LineMeaning
   -- the clock has come to this second
-  Passed : ℕ → Saying
+  Passed : ℕ → LineMeaning
   -- what is due is worked out anew
-  Turned : Saying
+  Turned : LineMeaning
   -- the client's connection is lost
-  Left : ℕ → Saying
+  Left : ℕ → LineMeaning
   -- the configuration is to be replaced by this text
-  Replaced : List ℕ → Saying
+  Replaced : List ℕ → LineMeaning
   -- the routes of the client's Loc-RIB are asked for
-  Listed : ℕ → Saying
+  Listed : ℕ → LineMeaning
 
 -- the words that a line may begin with
 abbrev pub word_of : List ℕ → Option Word
@@ -56,36 +56,36 @@ text_of [] = None
 text_of (digit ∷ digits) = octets_of (digit ∷ digits)
 
 -- what each word makes of the words behind it
-abbrev pub saying_of : (List ℕ → Option ℕ) → Word → List (List ℕ) → Result Saying LineFault
-saying_of place Open (name ∷ []) = with_value (place name) UnknownClient (λ c. Ok (Opened c))
-saying_of place Octets (name ∷ []) = with_value (place name) UnknownClient (λ c. Ok (Heard c []))
-saying_of place Octets (name ∷ digits ∷ []) =
+abbrev pub meaning_of : (List ℕ → Option ℕ) → Word → List (List ℕ) → Result LineMeaning LineFault
+meaning_of place Open (name ∷ []) = with_value (place name) UnknownClient (λ c. Ok (Opened c))
+meaning_of place Octets (name ∷ []) = with_value (place name) UnknownClient (λ c. Ok (Heard c []))
+meaning_of place Octets (name ∷ digits ∷ []) =
     with_value (place name) UnknownClient (λ c. with_value (octets_of digits) BadHex (λ octets. Ok (Heard c octets)))
-saying_of place Room (name ∷ number ∷ []) =
+meaning_of place Room (name ∷ number ∷ []) =
     with_value (place name) UnknownClient (λ c. with_value (number_of number) BadNumber (λ n. Ok (Offered c n)))
-saying_of place Moment (number ∷ []) = with_value (number_of number) BadNumber (λ t. Ok (Passed t))
-saying_of place Turn [] = Ok Turned
-saying_of place Lost (name ∷ []) = with_value (place name) UnknownClient (λ c. Ok (Left c))
-saying_of place Rules (digits ∷ []) = with_value (text_of digits) BadHex (λ text. Ok (Replaced text))
-saying_of place Table (name ∷ []) = with_value (place name) UnknownClient (λ c. Ok (Listed c))
-saying_of place _ _ = Err WordCount
+meaning_of place Moment (number ∷ []) = with_value (number_of number) BadNumber (λ t. Ok (Passed t))
+meaning_of place Turn [] = Ok Turned
+meaning_of place Lost (name ∷ []) = with_value (place name) UnknownClient (λ c. Ok (Left c))
+meaning_of place Rules (digits ∷ []) = with_value (text_of digits) BadHex (λ text. Ok (Replaced text))
+meaning_of place Table (name ∷ []) = with_value (place name) UnknownClient (λ c. Ok (Listed c))
+meaning_of place _ _ = Err WordCount
 
-abbrev pub saying_by_words : (List ℕ → Option ℕ) → List (List ℕ) → Result Saying LineFault
-saying_by_words place [] = Err UnknownWord
-saying_by_words place (word ∷ operands) = with_value (word_of word) UnknownWord (λ w. saying_of place w operands)
+abbrev pub meaning_by_words : (List ℕ → Option ℕ) → List (List ℕ) → Result LineMeaning LineFault
+meaning_by_words place [] = Err UnknownWord
+meaning_by_words place (word ∷ operands) = with_value (word_of word) UnknownWord (λ w. meaning_of place w operands)
 
 -- an empty line, or a comment
 abbrev pub is_passed_over : List ℕ → Bool
 is_passed_over [] = true
 is_passed_over (octet ∷ octets) = octet == 35
 
-abbrev pub result_some : Result Saying LineFault → Result (Option Saying) LineFault
-result_some (Ok saying) = Ok (Some saying)
+abbrev pub result_some : Result LineMeaning LineFault → Result (Option LineMeaning) LineFault
+result_some (Ok meant) = Ok (Some meant)
 result_some (Err fault) = Err fault
 
 -- what a line says, or its first fault; nothing where it is passed over. `place` finds a client by its name.
-abbrev pub line_of : (List ℕ → Option ℕ) → List ℕ → Result (Option Saying) LineFault
+abbrev pub line_of : (List ℕ → Option ℕ) → List ℕ → Result (Option LineMeaning) LineFault
 line_of place line =
     if nat_lt 8240 (length line) then Err TooLong
     else if is_passed_over line then Ok None
-    else result_some (saying_by_words place (words_of line))
+    else result_some (meaning_by_words place (words_of line))

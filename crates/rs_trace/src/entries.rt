@@ -1,10 +1,10 @@
 //! What a trace asks for, one entry after the other, as events for the core. It reads by `TextIn` alone.
 
 ghost use Rattle.std.specs.Prelude.{◌≡◌, ◌∷◌, ℕ, OnOk, [], suc};
-ghost use Rattle.rs_core.specs.Links as links;
-ghost use Rattle.rs_trace.specs.Entries.{saying_in};
-ghost use Rattle.rs_trace.specs.Played.{failures_read, failures_written, saying_told};
-ghost use Rattle.rs_trace.specs.Replays.{ReadsOn, TellsAs, place_in, saying_read, sayings_in, stop_of};
+ghost use Rattle.rs_core.specs.Link.Steps as links;
+ghost use Rattle.rs_trace.specs.Entries.{meaning_in};
+ghost use Rattle.rs_trace.specs.Played.{failures_read, failures_written, meaning_of_event};
+ghost use Rattle.rs_trace.specs.Replays.{ReadsOn, PassesOn, place_in, meaning_read, meanings_in, stop_of};
 
 use crate::fault::{ReplayFault, Stop};
 use crate::lines::Lines;
@@ -23,7 +23,7 @@ fn read_entry<R: TextIn, P: Watch>(
     watch: &mut P,
     piece: &mut [u8; 4096],
 ) -> Result<Option<Entry>, Stop>
-    ensures on { ReadsOn R.takes R.at_end (place_in names.now) reader.old number.old lines.old reader.new number.new lines.new (sayings_in piece.new result) (stop_of result) }
+    ensures on { ReadsOn R.takes R.at_end (place_in names.now) reader.old number.old lines.old reader.new number.new lines.new (meanings_in piece.new result) (stop_of result) }
     ensures reads { R.failures reader.new ≡ failures_read (stop_of result) (R.failures reader.old) }
     ensures unwritten { (n : ℕ) → n ≡ failures_written (stop_of result) n }
     ensures line { OnOk result (number.new ≡ suc number.old) }
@@ -56,7 +56,7 @@ pub fn next_entry<R: TextIn, P: Watch>(
     watch: &mut P,
     piece: &mut [u8; 4096],
 ) -> Result<Entry, Stop>
-    ensures on { ReadsOn R.takes R.at_end (place_in names.now) reader.old number.old lines.old reader.new number.new lines.new (saying_read piece.new result) (stop_of result) }
+    ensures on { ReadsOn R.takes R.at_end (place_in names.now) reader.old number.old lines.old reader.new number.new lines.new (meaning_read piece.new result) (stop_of result) }
     ensures reads { R.failures reader.new ≡ failures_read (stop_of result) (R.failures reader.old) }
     ensures unwritten { (n : ℕ) → n ≡ failures_written (stop_of result) n }
 {
@@ -73,7 +73,7 @@ pub fn next_entry<R: TextIn, P: Watch>(
 /// The event that an entry asks for, and why the core is stopped in its place. The text of the rules
 /// is kept.
 pub fn event_of(rules: &mut Vec<u8>, entry: Entry, piece: &[u8; 4096]) -> (Event, Option<Stop>)
-    ensures { TellsAs (saying_in piece.now entry ∷ []) (saying_told result.0 (links.octets_of result.0 piece.now rules.new.items)) result.1 }
+    ensures { PassesOn (meaning_in piece.now entry ∷ []) (meaning_of_event result.0 (links.octets_of result.0 piece.now rules.new.items)) result.1 }
 {
     match entry {
         Entry::Open(c) => (Event::Opened(c), None),

@@ -123,7 +123,7 @@ impl Lines {
     }
 
     /// Reads more behind what waits.
-    fn fill<R: TextIn>(&mut self, reader: &mut R) -> Result<(), Failed>
+    fn read_more<R: TextIn>(&mut self, reader: &mut R) -> Result<(), Failed>
         requires { length self.old.rest ≤ 8240 }
         ensures ok { OnOk result ((taken : List ℕ) × R.takes reader.old taken reader.new × Fills self.old self.new taken) }
         ensures ended { OnOk result (self.new.is_over ≡ true → R.at_end reader.new) }
@@ -157,7 +157,7 @@ impl Lines {
             if self.is_over {
                 return Ok(false);
             }
-            self.fill(reader)?;
+            self.read_more(reader)?;
         }
         Ok(true)
     }

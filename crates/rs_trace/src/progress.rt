@@ -91,7 +91,7 @@ pub struct Progress<'a, R> {
     messages: Vec<Message>,
     updates: u64,
     /// The line at which it was told last, and the second that it is.
-    told_at: u64,
+    reported_at: u64,
     second: Option<u64>,
 }
 
@@ -102,7 +102,7 @@ impl<'a, R: Eprint> Progress<'a, R> {
             rt,
             messages: Vec::from_elem(alloc, Message::new(), clients)?,
             updates: 0,
-            told_at: 0,
+            reported_at: 0,
             second: None,
         })
     }
@@ -116,9 +116,9 @@ impl<'a, R: Eprint> Progress<'a, R> {
 
     /// The line at which it was told last is `LINES` lines ago, or more.
     fn is_due(&self, number: u64) -> bool
-        ensures { IsTrue result ↔ self.now.told_at + 65536 ≤ number }
+        ensures { IsTrue result ↔ self.now.reported_at + 65536 ≤ number }
     {
-        self.told_at
+        self.reported_at
             .checked_add(LINES)
             .is_some_and(|next| next <= number)
     }
@@ -135,7 +135,7 @@ impl<'a, R: Eprint> Progress<'a, R> {
 
     /// Tells how far the replay is.
     fn tell(&mut self, number: u64) {
-        self.told_at = number;
+        self.reported_at = number;
         // Where standard error is closed there is nobody to tell.
         let _ = eprintln!(self.rt; "{number} lines read, {} UPDATEs heard", self.updates);
     }

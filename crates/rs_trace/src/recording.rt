@@ -4,7 +4,7 @@
 
 ghost use Rattle.std.specs.Prelude.{◌≡◌, ◌≤◌, ◌++◌, ◌∷◌, ℕ, List, [], Some, None, false, length, take, codes, Err, IfOk, IfSome, OnOk, Option};
 ghost use Rattle.rs_trace.specs.Output.{fault_line};
-ghost use Rattle.rs_trace.specs.Trace.{Saying};
+ghost use Rattle.rs_trace.specs.Trace.{LineMeaning};
 ghost use Rattle.rs_trace.specs.Played.{Puts, failed, failures_read, failures_written};
 ghost use Rattle.rs_trace.specs.Replays.{Adds, AreNamesOf, FailsOn, IsOver, Plays, name_in, place_in};
 ghost use Rattle.rs_trace.specs.declared.fault.Stop.TheVariants as stops;
@@ -161,8 +161,8 @@ impl<'a, R: TextIn, W: TextOut, P: Watch> Recording<'a, R, W, P> {
     }
 
     /// Tells a client's routes, in these lines, where there was memory for them.
-    pub fn tell_routes(&mut self, lines: &Result<Vec<u8>, AllocError>)
-        ensures { (told : List ℕ) → IfOk lines.now (λ made. made.items ≡ told) → Adds R.takes R.at_end R.failures W.puts W.failures self.old.names.now self.old.reader.ghost_name self.old.writer.ghost_name self.old.reader.now self.old.writer.now self.old.lines.now self.old.number self.old.stop told self.new.names.now self.new.reader.ghost_name self.new.writer.ghost_name self.new.reader.now self.new.writer.now self.new.lines.now self.new.number self.new.stop }
+    pub fn list_routes(&mut self, lines: &Result<Vec<u8>, AllocError>)
+        ensures { (listed_lines : List ℕ) → IfOk lines.now (λ made. made.items ≡ listed_lines) → Adds R.takes R.at_end R.failures W.puts W.failures self.old.names.now self.old.reader.ghost_name self.old.writer.ghost_name self.old.reader.now self.old.writer.now self.old.lines.now self.old.number self.old.stop listed_lines self.new.names.now self.new.reader.ghost_name self.new.writer.ghost_name self.new.reader.now self.new.writer.now self.new.lines.now self.new.number self.new.stop }
     {
         match lines {
             Ok(lines) => self.stop = write_line(self.writer, self.stop, Ok(()), lines),
@@ -175,7 +175,7 @@ impl<'a, R: TextIn, W: TextOut, P: Watch> Recording<'a, R, W, P> {
         requires { self.old.stop ≡ Some (stops.Fault fault) }
         ensures reader { self.new.reader.ghost_name ≡ self.old.reader.ghost_name }
         ensures writer { self.new.writer.ghost_name ≡ self.old.writer.ghost_name }
-        ensures over { (first : R) (to : W) (sayings : List Saying) (octets : List ℕ) → Plays R.takes R.at_end R.failures W.puts W.failures (place_in self.old.names.now) first to sayings octets self.old.reader.now self.old.writer.now self.old.lines.now self.old.number self.old.stop → IsOver R.takes R.at_end W.puts (place_in self.old.names.now) first to sayings octets self.new.reader.now self.new.writer.now (Err result) }
+        ensures over { (first : R) (to : W) (meanings : List LineMeaning) (octets : List ℕ) → Plays R.takes R.at_end R.failures W.puts W.failures (place_in self.old.names.now) first to meanings octets self.old.reader.now self.old.writer.now self.old.lines.now self.old.number self.old.stop → IsOver R.takes R.at_end W.puts (place_in self.old.names.now) first to meanings octets self.new.reader.now self.new.writer.now (Err result) }
         ensures reads { (n : ℕ) → R.failures self.old.reader.now ≡ failures_read self.old.stop n → R.failures self.new.reader.now ≡ failures_read (Some (stops.Fault result)) n }
         ensures writes { (n : ℕ) → W.failures self.old.writer.now ≡ failures_written self.old.stop n → W.failures self.new.writer.now ≡ failures_written (Some (stops.Fault result)) n }
     {
@@ -192,7 +192,7 @@ impl<'a, R: TextIn, W: TextOut, P: Watch> Recording<'a, R, W, P> {
         requires { self.old.stop ≡ Some (stops.Fault (faults.Line number fault)) }
         ensures reader { self.new.reader.ghost_name ≡ self.old.reader.ghost_name }
         ensures writer { self.new.writer.ghost_name ≡ self.old.writer.ghost_name }
-        ensures over { (first : R) (to : W) (sayings : List Saying) (octets : List ℕ) → Plays R.takes R.at_end R.failures W.puts W.failures (place_in self.old.names.now) first to sayings octets self.old.reader.now self.old.writer.now self.old.lines.now self.old.number self.old.stop → IsOver R.takes R.at_end W.puts (place_in self.old.names.now) first to sayings octets self.new.reader.now self.new.writer.now (Err result) }
+        ensures over { (first : R) (to : W) (meanings : List LineMeaning) (octets : List ℕ) → Plays R.takes R.at_end R.failures W.puts W.failures (place_in self.old.names.now) first to meanings octets self.old.reader.now self.old.writer.now self.old.lines.now self.old.number self.old.stop → IsOver R.takes R.at_end W.puts (place_in self.old.names.now) first to meanings octets self.new.reader.now self.new.writer.now (Err result) }
         ensures reads { (n : ℕ) → R.failures self.old.reader.now ≡ failures_read self.old.stop n → R.failures self.new.reader.now ≡ failures_read (Some (stops.Fault result)) n }
         ensures writes { (n : ℕ) → W.failures self.old.writer.now ≡ failures_written self.old.stop n → W.failures self.new.writer.now ≡ failures_written (Some (stops.Fault result)) n }
     {

@@ -3,8 +3,8 @@
 ghost use Rattle.std.specs.Prelude.{◌≡◌, ◌<◌, ◌≤◌, [], ◌∷◌, length};
 ghost use Rattle.rs_policy.specs.Configuration.{Configuration};
 ghost use Rattle.rs_core.specs.Core.{client_count};
-ghost use Rattle.rs_core.specs.Moves.{Ruled};
-ghost use Rattle.rs_core.specs.Agreeing.{Agrees};
+ghost use Rattle.rs_core.specs.Run.Moves.{Ruled};
+ghost use Rattle.rs_core.specs.Run.Agreeing.{Agrees};
 ghost use Rattle.rs_trace.specs.Played.{failures_read, failures_written};
 ghost use Rattle.rs_trace.specs.Replays.{HasPlayed, IsAtFirst, PlaysOut, end_of};
 
@@ -69,7 +69,7 @@ fn play_on<T: Threads + Wait + Sync, R: TextIn, W: TextOut, P: Watch>(
             Some(Stop::Table(c)) => {
                 recording.resume();
                 let lines = route_lines(alloc, core, c, recording.name(c));
-                recording.tell_routes(&lines);
+                recording.list_routes(&lines);
             }
             Some(Stop::End) => return Ok(()),
             Some(Stop::Fault(fault)) => return Err(recording.end_at(fault)),

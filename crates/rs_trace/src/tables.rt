@@ -2,9 +2,9 @@
 
 ghost use Rattle.std.specs.Prelude.{◌≡◌, List, ℕ, IfOk};
 ghost use Rattle.rs_attrs.specs.Writing.{spelt};
-ghost use Rattle.rs_core.specs.Agreeing.{Agrees};
+ghost use Rattle.rs_core.specs.Run.Agreeing.{Agrees};
 ghost use Rattle.rs_core.specs.Core.{client_count};
-ghost use Rattle.rs_core.specs.Moves.{Move};
+ghost use Rattle.rs_core.specs.Run.Moves.{Move};
 ghost use Rattle.rs_trace.specs.Tables.{ListsOf};
 
 use crate::output;
@@ -32,7 +32,7 @@ fn spelling(alloc: Global, attrs: &Attrs, mode: Mode) -> Result<Vec<u8>, AllocEr
 /// The lines of a client's routes, by rising prefix: none where it is not Established, and before the
 /// first turn of its session.
 pub fn route_lines(alloc: Global, core: &Core, c: usize, name: &[u8]) -> Result<Vec<u8>, AllocError>
-    ensures { (run : List Move) → Agrees core.now run → (told : List ℕ) × ListsOf (client_count core.now) run c name.now told × IfOk result (λ lines. lines.items ≡ told) }
+    ensures { (run : List Move) → Agrees core.now run → (listed_lines : List ℕ) × ListsOf (client_count core.now) run c name.now listed_lines × IfOk result (λ lines. lines.items ≡ listed_lines) }
 {
     let mut lines = Vec::new(alloc);
     if c >= core.clients() {

@@ -4,8 +4,8 @@
 ghost use Rattle.std.specs.Prelude.{◌≡◌, ℕ, List, Option, take, ok_or, option_map};
 ghost use Rattle.rs_trace.specs.Words.{AreOperands};
 ghost use Rattle.rs_trace.specs.Output.{fault_text};
-ghost use Rattle.rs_trace.specs.Trace.{word_of, octets_of, text_of, saying_of, line_of};
-ghost use Rattle.rs_trace.specs.Entries.{entry_as_saying, line_as_saying};
+ghost use Rattle.rs_trace.specs.Trace.{word_of, octets_of, text_of, meaning_of, line_of};
+ghost use Rattle.rs_trace.specs.Entries.{entry_as_meaning, line_as_meaning};
 
 use crate::number::read_number;
 use crate::words::{Operands, split_words};
@@ -148,7 +148,7 @@ fn entry_of<P: Places>(
     operands: Operands<'_>,
     piece: &mut [u8; 4096],
 ) -> Result<Entry, LineFault>
-    ensures { (ws : List (List ℕ)) → AreOperands operands.entry ws → entry_as_saying piece.new result ≡ saying_of (P.place_of names.now) word ws }
+    ensures { (ws : List (List ℕ)) → AreOperands operands.entry ws → entry_as_meaning piece.new result ≡ meaning_of (P.place_of names.now) word ws }
 {
     match (word, operands) {
         (Word::Octets, Operands::Two(name, digits)) => {
@@ -183,7 +183,7 @@ pub fn read_line<P: Places>(
     line: &[u8],
     piece: &mut [u8; 4096],
 ) -> Result<Option<Entry>, LineFault>
-    ensures meaning { line_as_saying piece.new result ≡ line_of (P.place_of names.now) line.now }
+    ensures meaning { line_as_meaning piece.new result ≡ line_of (P.place_of names.now) line.now }
 {
     if line.len() > LONGEST_LINE {
         return Err(LineFault::TooLong);

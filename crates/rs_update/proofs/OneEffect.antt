@@ -15,7 +15,7 @@ use Rattle.rs_attrs.specs.declared.faults.Faults.{Faults}
 use Rattle.rs_attrs.specs.Flaws.{faulted_of}
 use Rattle.rs_attrs.specs.Spellings.{AreOctets}
 use Rattle.rs_attrs.specs.Meaning.{Attribute, Reading, Reads, read_of}
-use Rattle.rs_attrs.specs.Effects.{Fields, IsBody, Effect, Reset, Changes, Change, IsChange, IsEffect, HasEffect, reset_named, reset_of, announced_by, prefixes_in, has_prefix, same_prefix, is_empty, mentions, attributes_after, once, fields_of, change_of, effect_by, effect_in, effect_of, table_since, behind_its_length, missing_for, told_of, with_missing}
+use Rattle.rs_attrs.specs.Effects.{Fields, IsBody, Effect, Reset, Changes, Change, IsChange, IsEffect, HasEffect, reset_named, reset_of, announced_by, prefixes_in, has_prefix, same_prefix, is_empty, mentions, attributes_after, once, fields_of, change_of, effect_by, effect_in, effect_of, table_since, behind_its_length, missing_for, faulted_in, with_missing}
 use Rattle.rs_attrs.proofs.EachOnce.{once_distinct, once_has, distinct_filtered, filtered_has, same_itself}
 use Rattle.rs_attrs.proofs.Overlaying.{newest_overlays}
 use Rattle.rs_attrs.proofs.OneMeaning.{same_fields, same_meaning, fit_all, fields_are_read}
@@ -115,11 +115,11 @@ have_one_effect body mode x y (inr (fields, are, m, faults, reads, is)) (inr (ot
 -- of the fields that were found, with their meaning
 pub tells : (body : List ℕ) (mode : Mode) (found fields : Fields) (m : List Attribute) (faults : Faults) (faulted : Faulted) (missing : Option ℕ) → AreOctets body
     → IsBody body found → IsBody body fields → Reads found.attributes mode m faults → faulted ≡ faulted_of found.attributes mode → missing ≡ missing_for found m
-    → with_missing faulted missing ≡ told_of fields mode
+    → with_missing faulted missing ≡ faulted_in fields mode
 tells body mode found fields m faults faulted missing are is other reads at_fault lacks =
     let read = read_of found.attributes mode in
     let meant = same_meaning found.attributes mode m read.attributes faults read.faults reads (fields_are_read found.attributes mode (attribute_octets body found are is)) in
-    (λ i. with_missing (at_fault i) ((lacks ∙ ap (missing_for found) meant.0) i)) ∙ ap (λ (fields : Fields). told_of fields mode) (same_fields body found fields is other)
+    (λ i. with_missing (at_fault i) ((lacks ∙ ap (missing_for found) meant.0) i)) ∙ ap (λ (fields : Fields). faulted_in fields mode) (same_fields body found fields is other)
 
 -- ---- tables
 

@@ -7,7 +7,7 @@ use Rattle.rs_attrs.specs.declared.mode.Mode.{Mode}
 use Rattle.rs_attrs.specs.declared.faults.Faults.{Faults}
 use Rattle.rs_attrs.specs.Spellings.{AreOctets}
 use Rattle.rs_attrs.specs.Meaning.{Attribute, Reads}
-use Rattle.rs_attrs.specs.Effects.{Fields, Effect, Reset, Changes, Change, HasEffect, MeansTable, has_prefix, effect_of, table_since, table_of, told_of, treat_as_withdraw}
+use Rattle.rs_attrs.specs.Effects.{Fields, Effect, Reset, Changes, Change, HasEffect, MeansTable, has_prefix, effect_of, table_since, table_of, faulted_in, treat_as_withdraw}
 
 -- both withdraw the same prefixes and announce the same ones with the same attributes
 pub record IsSameChange (x y : Change) : Type 0 where
@@ -46,6 +46,6 @@ abbrev pub SameChangesOverlayAlike : Type 0
 SameChangesOverlayAlike = (x y : Change) (changes : List Change) (p : Prefix) → IsSameChange x y → table_since (x ∷ changes) p ≡ table_since (y ∷ changes) p
 
 -- what is told of an UPDATE names an attribute for which it is treated as withdraw exactly where it is
-abbrev pub UpdatesTellWhy : Type 0
-UpdatesTellWhy = (fields : Fields) (mode : Mode) (m : List Attribute) (faults : Faults) → AreOctets fields.attributes → Reads fields.attributes mode m faults
-    → is_some (told_of fields mode).withdraw ≡ treat_as_withdraw fields m faults
+abbrev pub UpdatesNameTheirFaults : Type 0
+UpdatesNameTheirFaults = (fields : Fields) (mode : Mode) (m : List Attribute) (faults : Faults) → AreOctets fields.attributes → Reads fields.attributes mode m faults
+    → is_some (faulted_in fields mode).withdraw ≡ treat_as_withdraw fields m faults

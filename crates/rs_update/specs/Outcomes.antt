@@ -6,7 +6,7 @@ use Rattle.std.specs.List.Sorted.{IsStrictlySortedBy}
 use Rattle.rs_octets.specs.Prefixes.{Prefix, prefix_order}
 use Rattle.rs_attrs.specs.Meaning.{Attribute}
 use Rattle.rs_attrs.specs.declared.mode.Mode.{Mode}
-use Rattle.rs_attrs.specs.Effects.{Fields, IsBody, Effect, Reset, Changes, Change, has_prefix, same_prefix, is_empty, HasMandatory, told_of}
+use Rattle.rs_attrs.specs.Effects.{Fields, IsBody, Effect, Reset, Changes, Change, has_prefix, same_prefix, is_empty, HasMandatory, faulted_in}
 use Rattle.rs_update.specs.Changes.{SameMembers}
 use Rattle.rs_update.specs.declared.outcome.Routes.{Routes}
 use Rattle.rs_update.specs.declared.outcome.Outcome.{Outcome}
@@ -45,9 +45,9 @@ HasItsMandatory (outcome.Reset code subcode) = Unit {0}
 HasItsMandatory (outcome.Change withdrawn announced attrs faulted) = MatchOption attrs (Unit {0}) (λ m. HasMandatory (arc_value m))
 
 -- what is told is what is wrong with the fields that make up the body (RFC 7606, 2 to 4 and 7)
-abbrev pub TellsFaults : List ℕ → Mode → Outcome → Type 0
-TellsFaults body mode (outcome.Reset code subcode) = Unit {0}
-TellsFaults body mode (outcome.Change withdrawn announced attrs faulted) = (fields : Fields) → IsBody body fields → faulted ≡ told_of fields mode
+abbrev pub NamesFaults : List ℕ → Mode → Outcome → Type 0
+NamesFaults body mode (outcome.Reset code subcode) = Unit {0}
+NamesFaults body mode (outcome.Change withdrawn announced attrs faulted) = (fields : Fields) → IsBody body fields → faulted ≡ faulted_in fields mode
 
 -- both are withdrawn, and nothing is announced
 pub record IsWithdrawn (withdrawn nlri : List Prefix) (change : Change) : Type 0 where

@@ -1,6 +1,6 @@
 //! Laws of the definition that `effect` meets: each is the contract of a function that does nothing.
 
-ghost use Rattle.rs_update.specs.Laws.{BodiesHaveEffects, BodiesHaveOneEffect, BodiesMeanTables, BodiesMeanOneTable, SameChangesOverlayAlike, UpdatesTellWhy};
+ghost use Rattle.rs_update.specs.Laws.{BodiesHaveEffects, BodiesHaveOneEffect, BodiesMeanTables, BodiesMeanOneTable, SameChangesOverlayAlike, UpdatesNameTheirFaults};
 
 /// The body of an UPDATE has an effect, and no second one but for the order in which prefixes are
 /// listed (RFC 4271, 4.3; RFC 7606, 2 to 5).
@@ -21,6 +21,6 @@ pub fn same_changes_overlay_alike()
 {}
 
 /// An UPDATE whose NLRI counts as withdrawn tells why, and no other does (RFC 7606, 2 and 3, d).
-pub fn updates_tell_why()
-    ensures { UpdatesTellWhy }
+pub fn updates_name_their_faults()
+    ensures { UpdatesNameTheirFaults }
 {}

@@ -5,7 +5,7 @@ ghost use Rattle.rs_octets.specs.Names.{code_of, sub_of};
 ghost use Rattle.rs_attrs.specs.Effects.{HasEffect, effect_of, is_empty, is_faulty, lacks_mandatory, missing_for, reset_of, with_missing};
 ghost use Rattle.rs_update.specs.Changes.{fields_in};
 ghost use Rattle.rs_update.specs.Laws.{IsSameEffect};
-ghost use Rattle.rs_update.specs.Outcomes.{effect_seen, change_seen, IsRising, AreDistinct, AreApart, HasItsAttributes, HasItsMandatory, TellsFaults, IsWithdrawn, IsAnnounced};
+ghost use Rattle.rs_update.specs.Outcomes.{effect_seen, change_seen, IsRising, AreDistinct, AreApart, HasItsAttributes, HasItsMandatory, NamesFaults, IsWithdrawn, IsAnnounced};
 ghost use Rattle.rs_update.specs.declared.outcome.Outcome.TheVariants.{Reset};
 
 use crate::fields::{Fields, cut_body};
@@ -89,7 +89,7 @@ fn treats_as_withdraw(faults: &Faults, missing: Option<u8>) -> bool
 }
 
 /// What is told of attributes at fault, and of one that is missing.
-fn told(faulted: Faulted, missing: Option<u8>) -> Faulted
+fn faults_noted(faulted: Faulted, missing: Option<u8>) -> Faulted
     ensures { result ≡ with_missing faulted missing }
 {
     let missing = missing.map(|kind| AttributeFault {
@@ -161,7 +161,7 @@ pub fn effect(alloc: Global, body: &[u8], mode: Mode) -> Result<Outcome, AllocEr
     ensures apart { IfOk result AreApart }
     ensures attributes { IfOk result HasItsAttributes }
     ensures mandatory { IfOk result HasItsMandatory }
-    ensures told { IfOk result (TellsFaults body.now mode) }
+    ensures faults_noted { IfOk result (NamesFaults body.now mode) }
 {
     let Some(fields) = cut_body(body) else {
         return Ok(reset(MalformedAttributeList));
@@ -177,7 +177,7 @@ pub fn effect(alloc: Global, body: &[u8], mode: Mode) -> Result<Outcome, AllocEr
         return Ok(reset(name));
     }
     let missing = missing(&parsed.attrs, &fields);
-    let faulted = told(parsed.faulted, missing);
+    let faulted = faults_noted(parsed.faulted, missing);
     let Routes {
         withdrawn,
         announced,

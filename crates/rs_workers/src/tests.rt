@@ -4,7 +4,7 @@ ghost use Rattle.std.specs.Prelude.{IfOk};
 ghost use Rattle.rs_workers.specs.Turned.{ArePlaced};
 
 use crate::gate::{Free, Gate};
-use crate::turning::{turn_all, turn_run};
+use crate::turning::{turn_all, turn_part};
 use rs_adjin::AdjIns;
 use rs_attrs::{Attrs, Mode, read};
 use rs_octets::Prefix;
@@ -189,7 +189,7 @@ impl Exchange {
     fn turned_alone(&self, rt: &impl Abort) -> Vec<Outlet> {
         assert!(rt; self.tables.clients() == self.config.clients());
         let mut all = outlets(self.alloc, &self.config).expect(rt, "outlets");
-        turn_run(&Free, 0, &self.tables, &self.config, all.as_mut_slice());
+        turn_part(&Free, 0, &self.tables, &self.config, all.as_mut_slice());
         all
     }
 }
@@ -235,7 +235,7 @@ fn are_alike(one: &mut Outlet, other: &mut Outlet) -> bool {
 }
 
 #[test]
-fn both_shares_run(rt: HostRuntime) {
+fn both_parts_run(rt: HostRuntime) {
     let gate = Both::new();
     let exchange = Exchange::new(&rt, rt.alloc(), 2, 10);
     let all = exchange.turned(&rt, 2, &gate);
@@ -244,7 +244,7 @@ fn both_shares_run(rt: HostRuntime) {
 }
 
 /// The outlets of so many members are turned by so many workers in so many runs.
-fn has_runs<R: Threads + Wait + Sync + Abort>(
+fn has_parts<R: Threads + Wait + Sync + Abort>(
     rt: &R,
     alloc: Global,
     members: u8,
@@ -262,13 +262,13 @@ fn has_runs<R: Threads + Wait + Sync + Abort>(
 }
 
 #[test]
-fn runs_are_as_long_as_said(rt: HostRuntime) {
+fn parts_are_as_long_as_said(rt: HostRuntime) {
     // members, workers, runs
-    has_runs(&rt, rt.alloc(), 1, 16, 1);
-    has_runs(&rt, rt.alloc(), 5, 4, 3);
-    has_runs(&rt, rt.alloc(), 16, 16, 16);
-    has_runs(&rt, rt.alloc(), 7, 2, 2);
-    has_runs(&rt, rt.alloc(), 6, 1, 1);
+    has_parts(&rt, rt.alloc(), 1, 16, 1);
+    has_parts(&rt, rt.alloc(), 5, 4, 3);
+    has_parts(&rt, rt.alloc(), 16, 16, 16);
+    has_parts(&rt, rt.alloc(), 7, 2, 2);
+    has_parts(&rt, rt.alloc(), 6, 1, 1);
 }
 
 /// Turns by so many workers leave all seven outlets as turns one after the other do.

@@ -32,28 +32,28 @@ pub fn turn_all<R: Threads + Wait + Sync, G: Gate>(
         return;
     }
     let size = outlets.len().div_ceil(workers);
-    let turn = |start: usize, run: &mut [Outlet]|
-        requires { (0 < size) × (client_count tables.now ≡ length config.now.clients) × ArePlaced config.now run.now }
-        ensures { AllTurnedAlone config.entry.now tables.entry.now run.entry.now run.exit.now }
-    { turn_run(gate, start / size, tables, config, run) };
+    let turn = |start: usize, part: &mut [Outlet]|
+        requires { (0 < size) × (client_count tables.now ≡ length config.now.clients) × ArePlaced config.now part.now }
+        ensures { AllTurnedAlone config.entry.now tables.entry.now part.entry.now part.exit.now }
+    { turn_part(gate, start / size, tables, config, part) };
     thread::for_each_chunk_mut(rt, outlets, size, &turn);
 }
 
 /// Turns the outlets of one run, one after the other.
-pub(crate) fn turn_run<G: Gate>(
+pub(crate) fn turn_part<G: Gate>(
     gate: &G,
     share: usize,
     tables: &AdjIns,
     config: &Config,
-    run: &mut [Outlet],
+    part: &mut [Outlet],
 )
     requires clients { client_count tables.now ≡ length config.now.clients }
-    requires places { ArePlaced config.now run.old }
-    ensures { AllTurnedAlone config.now tables.now run.old run.new }
+    requires places { ArePlaced config.now part.old }
+    ensures { AllTurnedAlone config.now tables.now part.old part.new }
 {
     gate.enter(share);
-    for k in 0..run.len() {
-        turn_one(&mut run[k], tables, config);
+    for k in 0..part.len() {
+        turn_one(&mut part[k], tables, config);
     }
 }
 

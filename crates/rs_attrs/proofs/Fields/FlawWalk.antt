@@ -50,7 +50,7 @@ firsts_more flaws (Some f) = λ i. record { withdraw = first_more is_withdraw fl
 -- ---- the walk
 
 -- what is noted when this is left of the field
-pub record Telling (mode : Mode) (field : List ℕ) (seen : List Bool) (faulted : Faulted) (done : List Spelling) (rest : List ℕ) : Type 0 where
+pub record FlawsSoFar (mode : Mode) (field : List ℕ) (seen : List Bool) (faulted : Faulted) (done : List Spelling) (rest : List ℕ) : Type 0 where
   pub size : length seen ≡ 256
   pub whole : spellings_of field ≡ done ++ spellings_of rest
   pub behind : rest_of field ≡ rest_of rest
@@ -62,8 +62,8 @@ none_seen zero kind = refl
 none_seen (suc n) zero = refl
 none_seen (suc n) (suc kind) = none_seen n kind
 
-pub telling_start : (mode : Mode) (field : List ℕ) → Telling mode field (replicate 256 false) (record { withdraw = None; discard = None }) [] field
-telling_start mode field = record {
+pub so_far_start : (mode : Mode) (field : List ℕ) → FlawsSoFar mode field (replicate 256 false) (record { withdraw = None; discard = None }) [] field
+so_far_start mode field = record {
   size = length-replicate 256 false;
   whole = refl;
   behind = refl;
@@ -93,9 +93,9 @@ came_more seen done s kind within had = by_test (nat_eq s.kind kind) refl ∙ sy
         get_or-set_other seen s.kind kind true false other ∙ had
         ∙ same (that_counts kind done) ∙ ap (λ b. is_some (or_else (that_counts kind done) (cond b (Some s) None))) (sym e)
 
-pub telling_more : (mode : Mode) (field : List ℕ) (seen : List Bool) (faulted more : Faulted) (done : List Spelling) (rest after : List ℕ) (s : Spelling) (flaw : Option Flaw) → Telling mode field seen faulted done rest → Steps rest s after
-    → s.kind < 256 → flaw ≡ flaw_by mode (get_or seen s.kind false) s → more ≡ with_flaw faulted flaw → Telling mode field (set seen s.kind true) more (done ++ s ∷ []) after
-telling_more mode field seen faulted more done rest after s flaw had steps byte flaw_is more_is = record {
+pub so_far_more : (mode : Mode) (field : List ℕ) (seen : List Bool) (faulted more : Faulted) (done : List Spelling) (rest after : List ℕ) (s : Spelling) (flaw : Option Flaw) → FlawsSoFar mode field seen faulted done rest → Steps rest s after
+    → s.kind < 256 → flaw ≡ flaw_by mode (get_or seen s.kind false) s → more ≡ with_flaw faulted flaw → FlawsSoFar mode field (set seen s.kind true) more (done ++ s ∷ []) after
+so_far_more mode field seen faulted more done rest after s flaw had steps byte flaw_is more_is = record {
   size = length-set seen s.kind true ∙ had.size;
   whole = had.whole ∙ ap (λ ss. done ++ ss) steps.0 ∙ sym (append_assoc done (s ∷ []) (spellings_of after));
   behind = had.behind ∙ steps.1;
@@ -105,12 +105,12 @@ telling_more mode field seen faulted more done rest after s flaw had steps byte 
       ∙ ap firsts_of (sym (flaws_more mode [] done s));
 }
 
-pub telling_all : (mode : Mode) (field : List ℕ) (seen : List Bool) (faulted : Faulted) (done : List Spelling) (rest : List ℕ) → Telling mode field seen faulted done rest → Stops rest → done ≡ spellings_of field
-telling_all mode field seen faulted done rest had stops = sym (had.whole ∙ ap (λ ss. done ++ ss) stops.0 ∙ append-nil done)
+pub so_far_all : (mode : Mode) (field : List ℕ) (seen : List Bool) (faulted : Faulted) (done : List Spelling) (rest : List ℕ) → FlawsSoFar mode field seen faulted done rest → Stops rest → done ≡ spellings_of field
+so_far_all mode field seen faulted done rest had stops = sym (had.whole ∙ ap (λ ss. done ++ ss) stops.0 ∙ append-nil done)
 
-pub telling_end : (mode : Mode) (field : List ℕ) (seen : List Bool) (faulted : Faulted) (done : List Spelling) (rest : List ℕ) → Telling mode field seen faulted done rest → Stops rest → with_flaw faulted (cut_off rest) ≡ faulted_of field mode
-telling_end mode field seen faulted done rest had stops =
-    let all : done ≡ spellings_of field = telling_all mode field seen faulted done rest had stops in
+pub so_far_end : (mode : Mode) (field : List ℕ) (seen : List Bool) (faulted : Faulted) (done : List Spelling) (rest : List ℕ) → FlawsSoFar mode field seen faulted done rest → Stops rest → with_flaw faulted (cut_off rest) ≡ faulted_of field mode
+so_far_end mode field seen faulted done rest had stops =
+    let all : done ≡ spellings_of field = so_far_all mode field seen faulted done rest had stops in
     let left : rest ≡ rest_of field = sym (had.behind ∙ stops.1) in
     (λ i. with_flaw ((had.firsts ∙ ap (λ ss. firsts_of (flaws_behind mode [] ss)) all) i) (cut_off (left i)))
     ∙ sym (firsts_more (flaws_behind mode [] (spellings_of field)) (cut_off (rest_of field)))

@@ -77,15 +77,15 @@ by_row mode s None has = by_flag (has_flag 0x80 s.flags)
     by_flag false = refl
 by_row mode s (Some r) has = by_tests s (fits_class r.class s.flags) (is_well_formed mode r.shape s.value) r.otherwise (value_cause r.shape s.value) (caused r.shape s.value (is_withdraw r.otherwise) (has r refl))
 
-one_told : (mode : Mode) (came : Bool) (s : Spelling) → withdraws (cons_option (flaw_by mode came s) []) ≡ (not came && is_withdraw (outcome_of mode s))
-one_told mode true s = refl
-one_told mode false s = by_row mode s (row_of mode s.kind) (λ r e. (is_found {P = λ r. has_cause r ≡ true} {test = λ r. r.kind == s.kind} (rows mode) r (each_passes has_cause (rows mode) (rows_have mode)) e).has)
+one_noted : (mode : Mode) (came : Bool) (s : Spelling) → withdraws (cons_option (flaw_by mode came s) []) ≡ (not came && is_withdraw (outcome_of mode s))
+one_noted mode true s = refl
+one_noted mode false s = by_row mode s (row_of mode s.kind) (λ r e. (is_found {P = λ r. has_cause r ≡ true} {test = λ r. r.kind == s.kind} (rows mode) r (each_passes has_cause (rows mode) (rows_have mode)) e).has)
 
 -- ---- a field
 
-first_told : (o : Option Flaw) (flaws : List Flaw) → withdraws (cons_option o flaws) ≡ (withdraws (cons_option o []) || withdraws flaws)
-first_told None flaws = refl
-first_told (Some f) flaws = by_test (is_withdraw f.outcome)
+first_noted : (o : Option Flaw) (flaws : List Flaw) → withdraws (cons_option o flaws) ≡ (withdraws (cons_option o []) || withdraws flaws)
+first_noted None flaws = refl
+first_noted (Some f) flaws = by_test (is_withdraw f.outcome)
   where
     by_test : (b : Bool) → is_some (option_map (λ (flaw : Flaw). flaw.fault) (cond b (Some f) (find (λ flaw. is_withdraw flaw.outcome) flaws)))
         ≡ (is_some (option_map (λ (flaw : Flaw). flaw.fault) (cond b (Some f) None)) || withdraws flaws)
@@ -100,34 +100,34 @@ or_false : (x : Bool) → (x || false) ≡ x
 or_false true = refl
 or_false false = refl
 
-both_told : (flaws more : List Flaw) → withdraws (flaws ++ more) ≡ (withdraws flaws || withdraws more)
-both_told [] more = refl
-both_told (f ∷ flaws) more =
-    first_told (Some f) (flaws ++ more) ∙ ap (λ b. withdraws (f ∷ []) || b) (both_told flaws more) ∙ or_assoc (withdraws (f ∷ [])) (withdraws flaws) (withdraws more)
-    ∙ ap (λ b. b || withdraws more) (sym (first_told (Some f) flaws))
+both_noted : (flaws more : List Flaw) → withdraws (flaws ++ more) ≡ (withdraws flaws || withdraws more)
+both_noted [] more = refl
+both_noted (f ∷ flaws) more =
+    first_noted (Some f) (flaws ++ more) ∙ ap (λ b. withdraws (f ∷ []) || b) (both_noted flaws more) ∙ or_assoc (withdraws (f ∷ [])) (withdraws flaws) (withdraws more)
+    ∙ ap (λ b. b || withdraws more) (sym (first_noted (Some f) flaws))
 
-told_behind : (mode : Mode) (earlier spellings : List Spelling) → AllByRecursion IsSpelling spellings
+noted_after : (mode : Mode) (earlier spellings : List Spelling) → AllByRecursion IsSpelling spellings
     → (some_comes_to is_withdraw mode earlier || withdraws (flaws_behind mode earlier spellings)) ≡ some_comes_to is_withdraw mode (earlier ++ spellings)
-told_behind mode earlier [] all = or_false (some_comes_to is_withdraw mode earlier) ∙ ap (some_comes_to is_withdraw mode) (sym (append-nil earlier))
-told_behind mode earlier (s ∷ spellings) all =
+noted_after mode earlier [] all = or_false (some_comes_to is_withdraw mode earlier) ∙ ap (some_comes_to is_withdraw mode) (sym (append-nil earlier))
+noted_after mode earlier (s ∷ spellings) all =
     let before = some_comes_to is_withdraw mode earlier in
     let later = withdraws (flaws_behind mode (earlier ++ s ∷ []) spellings) in
     let here = not (comes_among s.kind earlier) && is_withdraw (outcome_of mode s) in
-    ap (λ b. before || b) (first_told (flaw_by mode (comes_among s.kind earlier) s) (flaws_behind mode (earlier ++ s ∷ []) spellings) ∙ ap (λ b. b || later) (one_told mode (comes_among s.kind earlier) s))
+    ap (λ b. before || b) (first_noted (flaw_by mode (comes_among s.kind earlier) s) (flaws_behind mode (earlier ++ s ∷ []) spellings) ∙ ap (λ b. b || later) (one_noted mode (comes_among s.kind earlier) s))
     ∙ or_assoc before here later
     ∙ ap (λ b. b || later) (sym (comes_more is_withdraw mode earlier s all.0.kind))
-    ∙ told_behind mode (earlier ++ s ∷ []) spellings all.1
+    ∙ noted_after mode (earlier ++ s ∷ []) spellings all.1
     ∙ ap (some_comes_to is_withdraw mode) (append_assoc earlier (s ∷ []) spellings)
 
-rest_told : (rest : List ℕ) → withdraws (cons_option (cut_off rest) []) ≡ nat_lt 0 (length rest)
-rest_told [] = refl
-rest_told (flags ∷ []) = refl
-rest_told (flags ∷ kind ∷ octets) = sym (lt-ltb 0 (length (flags ∷ kind ∷ octets)) (omega arith))
+rest_noted : (rest : List ℕ) → withdraws (cons_option (cut_off rest) []) ≡ nat_lt 0 (length rest)
+rest_noted [] = refl
+rest_noted (flags ∷ []) = refl
+rest_noted (flags ∷ kind ∷ octets) = sym (lt-ltb 0 (length (flags ∷ kind ∷ octets)) (omega arith))
 
-pub field_told : (octets : List ℕ) (mode : Mode) → FitOctets octets → is_some (faulted_of octets mode).withdraw ≡ (read_of octets mode).faults.withdraw
-field_told octets mode fit =
+pub field_noted : (octets : List ℕ) (mode : Mode) → FitOctets octets → is_some (faulted_of octets mode).withdraw ≡ (read_of octets mode).faults.withdraw
+field_noted octets mode fit =
     let spellings = spellings_of octets in
     let among = flaws_behind mode [] spellings in
     let none = any_of (λ kind. comes_to is_withdraw mode (that_counts kind [])) (λ kind. refl) all_types in
-    both_told among (cons_option (cut_off (rest_of octets)) [])
-    ∙ (λ i. (ap (λ b. b || withdraws among) (sym none) ∙ told_behind mode [] spellings (splits_of octets fit).each) i || rest_told (rest_of octets) i)
+    both_noted among (cons_option (cut_off (rest_of octets)) [])
+    ∙ (λ i. (ap (λ b. b || withdraws among) (sym none) ∙ noted_after mode [] spellings (splits_of octets fit).each) i || rest_noted (rest_of octets) i)

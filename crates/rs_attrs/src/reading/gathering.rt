@@ -7,7 +7,7 @@ ghost use Rattle.rs_attrs.specs.Table.{is_kept};
 ghost use Rattle.rs_attrs.specs.Meaning.{faults_of};
 ghost use Rattle.rs_attrs.specs.Types as types;
 ghost use Rattle.rs_attrs.specs.Flaws.{faulted_of};
-ghost use Rattle.rs_attrs.specs.Walking.{spelling_in, noted, noted_with, told_with, AreRising, IsPlaceOf, Keeps};
+ghost use Rattle.rs_attrs.specs.Walking.{spelling_in, noted, noted_with, noted_more, AreRising, IsPlaceOf, Keeps};
 
 use crate::faults::{Faulted, Faults, flaw_of, flaw_of_rest, noting};
 use crate::mode::Mode;
@@ -23,12 +23,12 @@ pub(crate) type Kept<'a> = SmallVec<Found<'a>, 12>;
 
 /// What is wrong with the attributes of a field.
 #[derive(Clone, Copy, Debug)]
-pub(crate) struct Told {
+pub(crate) struct Noted {
     pub(crate) faults: Faults,
     pub(crate) faulted: Faulted,
 }
 
-const NOTHING_WRONG: Told = Told {
+const NOTHING_WRONG: Noted = Noted {
     faults: Faults {
         mp_twice: false,
         withdraw: false,
@@ -49,20 +49,20 @@ fn is_mp(kind: u8) -> bool
 }
 
 /// Notes what is wrong with an attribute, where one of its type came before or not.
-fn take_note(told: &mut Told, mode: Mode, came_before: bool, found: &Found<'_>)
-    ensures { told.new ≡ told_with mode told.old came_before (spelling_in found.now) }
+fn take_note(faults_noted: &mut Noted, mode: Mode, came_before: bool, found: &Found<'_>)
+    ensures { faults_noted.new ≡ noted_more mode faults_noted.old came_before (spelling_in found.now) }
 {
     if came_before {
-        told.faults.mp_twice = told.faults.mp_twice || is_mp(found.kind);
+        faults_noted.faults.mp_twice = faults_noted.faults.mp_twice || is_mp(found.kind);
     } else {
         match outcome_of(mode, found) {
             Outcome::Kept => {}
-            Outcome::Withdraw => told.faults.withdraw = true,
-            Outcome::Discard => told.faults.discard = true,
-            Outcome::Unknown => told.faults.unknown = true,
+            Outcome::Withdraw => faults_noted.faults.withdraw = true,
+            Outcome::Discard => faults_noted.faults.discard = true,
+            Outcome::Unknown => faults_noted.faults.unknown = true,
         }
     }
-    told.faulted = noting(told.faulted, flaw_of(mode, came_before, found));
+    faults_noted.faulted = noting(faults_noted.faulted, flaw_of(mode, came_before, found));
 }
 
 /// Of a type that stands more than once the first attribute counts.
@@ -103,28 +103,28 @@ pub(crate) fn gather<'a>(
     kept: &mut Kept<'a>,
     field: &'a [u8],
     mode: Mode,
-) -> Result<Told, AllocError>
+) -> Result<Noted, AllocError>
     requires { kept.old.items ≡ [] }
     ensures kept { OnOk result (Keeps mode kept.new.items (spellings_of field.now)) }
-    ensures faults { IfOk result (λ told. told.faults ≡ faults_of mode (spellings_of field.now) (rest_of field.now)) }
-    ensures faulted { IfOk result (λ told. told.faulted ≡ faulted_of field.now mode) }
+    ensures faults { IfOk result (λ faults_noted. faults_noted.faults ≡ faults_of mode (spellings_of field.now) (rest_of field.now)) }
+    ensures faulted { IfOk result (λ faults_noted. faults_noted.faulted ≡ faulted_of field.now mode) }
 {
     let mut came = [false; 256];
-    let mut told = NOTHING_WRONG;
+    let mut faults_noted = NOTHING_WRONG;
     let mut rest = field;
     while let Some((found, after)) = next_spelling(rest) {
         let place = usize::from(found.kind);
         if counts(mode, came[place], &found) {
             keep(kept, found)?;
         } else {
-            take_note(&mut told, mode, came[place], &found);
+            take_note(&mut faults_noted, mode, came[place], &found);
         }
         came[place] = true;
         rest = after;
     }
     if !rest.is_empty() {
-        told.faults.withdraw = true;
-        told.faulted = noting(told.faulted, flaw_of_rest(rest));
+        faults_noted.faults.withdraw = true;
+        faults_noted.faulted = noting(faults_noted.faulted, flaw_of_rest(rest));
     }
-    Ok(told)
+    Ok(faults_noted)
 }

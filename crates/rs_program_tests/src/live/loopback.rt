@@ -1,8 +1,8 @@
 //! The server over sockets on loopback.
 
 use crate::live::rounds::{COMING_UP, KEEPALIVE, OPEN_A, OPEN_B, UPDATE, until};
+use rs_live::connections::listen_addresses;
 use rs_live::names::Names;
-use rs_live::seats::listeners;
 use rs_live::serve::serve;
 use rs_live::sockets::Sockets;
 use rs_policy::Config;
@@ -41,7 +41,7 @@ fn a_route_goes_over_sockets(rt: HostRuntime) -> Result<(), Fail> {
     let alloc = rt.alloc();
     let config = Config::read(alloc, TWO)?;
     let names = Names::of(alloc, &config)?;
-    let addresses = listeners(alloc, &config)?;
+    let addresses = listen_addresses(alloc, &config)?;
     let mut ports = Sockets::listen(&rt, alloc, "", &names, false, &addresses)?;
     let (served, heard) = thread::join(
         &rt,

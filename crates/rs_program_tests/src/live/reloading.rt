@@ -44,9 +44,9 @@ fn a_text_is_handed_over_at_first_and_when_it_changes(rt: HostRuntime) {
         reload: Some(2),
     };
     served(&rt, rt.alloc(), &mut ports, limits);
-    let told = COMING_UP + UPDATE.len();
-    sent(&rt, ports.heard(1).get(COMING_UP..told), UPDATE);
-    sent(&rt, ports.heard(1).get(told..), WITHDRAWAL);
+    let answers = COMING_UP + UPDATE.len();
+    sent(&rt, ports.heard(1).get(COMING_UP..answers), UPDATE);
+    sent(&rt, ports.heard(1).get(answers..), WITHDRAWAL);
     // The first reading, and the one behind the change; b was sent the withdrawal while a was there.
     assert_eq!(rt; accepted(&ports.said), 2);
     assert!(rt; ports.said.ends_with(&[Line::Lost(1), Line::Lost(0)]));

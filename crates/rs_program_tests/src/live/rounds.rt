@@ -271,7 +271,7 @@ fn a_route_without_next_hop_is_reported(rt: HostRuntime) {
     let [open, keepalive] = comes_up(OPEN_A);
     let bad = behind(NO_NEXT_HOP);
     let ports = hears_of_a(&rt, rt.alloc(), &[open, keepalive, bad]);
-    let told = Report::Faulted {
+    let answers = Report::Faulted {
         client: 0,
         count: 1,
         last: Faulted {
@@ -282,7 +282,7 @@ fn a_route_without_next_hop_is_reported(rt: HostRuntime) {
             discard: None,
         },
     };
-    assert!(rt; ports.reports.contains(&told));
+    assert!(rt; ports.reports.contains(&answers));
     ports.let_go();
 }
 

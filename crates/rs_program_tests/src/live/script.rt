@@ -1,12 +1,12 @@
 //! Ports in memory: members that say what a script has, and a call that fails where it is wanted.
 
-use rs_live::ports::{Caller, Line, PortFault, Ports};
+use rs_live::ports::{Incoming, Line, PortFault, Ports};
 use rs_live::reports::Report;
 use std::alloc::Global;
 use std::process::Abort;
 
 /// A connection from an address that is nobody's.
-const STRANGER: Caller = Caller {
+const STRANGER: Incoming = Incoming {
     listener: 0,
     address: 0xcb00_7101,
     key: usize::MAX,
@@ -22,7 +22,7 @@ pub struct Said {
 /// A connection of a member.
 #[derive(Drop)]
 pub struct Wire {
-    caller: Caller,
+    incoming: Incoming,
     says: Vec<Said>,
     given: usize,
     /// The member closes once it has said all and was sent so many octets, and not before this round.
@@ -104,7 +104,7 @@ impl Script {
     ) {
         let key = self.wires.len();
         let wire = Wire {
-            caller: Caller {
+            incoming: Incoming {
                 listener,
                 address,
                 key,
@@ -184,21 +184,21 @@ impl Ports for Script {
         Ok(())
     }
 
-    fn accept(&mut self) -> Result<Option<Caller>, PortFault> {
+    fn accept(&mut self) -> Result<Option<Incoming>, PortFault> {
         if self.fails(Broken::Accept) {
             return Err(PortFault);
         }
-        let caller = match self.wires.get_mut(self.accepted) {
+        let incoming = match self.wires.get_mut(self.accepted) {
             None if self.is_flooded => STRANGER,
             None => return Ok(None),
             Some(wire) => {
                 self.accepted = self.accepted.saturating_add(1);
                 wire.is_open = true;
-                wire.caller
+                wire.incoming
             }
         };
         self.count_accept();
-        Ok(Some(caller))
+        Ok(Some(incoming))
     }
 
     fn read(&mut self, key: usize, piece: &mut [u8; 4096]) -> Result<Option<usize>, PortFault> {
@@ -262,7 +262,7 @@ impl Ports for Script {
         }
     }
 
-    fn say(&mut self, line: &Line) {
+    fn print(&mut self, line: &Line) {
         let _ = self.said.push(*line);
     }
 

@@ -1,10 +1,10 @@
 use Rattle.std.proofs.Common.{◌≡◌, ◌∷◌, true, false, sym, ◌∙◌, ap}
-use Rattle.rs_core.specs.Links.{stops}
-use Rattle.rs_core.specs.Moves.{Saw}
-use Rattle.rs_core.specs.Courses.{course}
-use Rattle.rs_core.specs.Answers.{Answers, Sees}
+use Rattle.rs_core.specs.Link.Steps.{stops}
+use Rattle.rs_core.specs.Run.Moves.{Saw}
+use Rattle.rs_core.specs.Link.Courses.{course}
+use Rattle.rs_core.specs.Link.Answers.{Answers, Sees}
 use Rattle.rs_core.specs.declared.links.Event.TheVariants as events
-use Rattle.rs_core.proofs.Continuing.{goes, as_event}
+use Rattle.rs_core.proofs.Link.Continuing.{goes, as_event}
 use Rattle.rs_core.proofs.driving.handle.Goals as goal
 
 pub returns-in-Opened-clause-answers : goal.returns-in-Opened-clause-answers
@@ -22,7 +22,7 @@ pub returns-in-Turn : goal.returns-in-Turn
 returns-in-Turn g c = absurd (c.requires.turn c.in-Turn.is)
 
 pub returns-in-Room-clause-answers : goal.returns-in-Room-clause-answers
-returns-in-Room-clause-answers g c = as_event g.L.Link.happens _ _ _ _ c.args.event _ c.args.piece.now (g.L.Link.text c.args.link.now) c.in-Room.is c.fill.ensures.answers
+returns-in-Room-clause-answers g c = as_event g.L.Link.happens _ _ _ _ c.args.event _ c.args.piece.now (g.L.Link.text c.args.link.now) c.in-Room.is c.use_room.ensures.answers
 
 pub returns-in-Lost-clause-answers : goal.returns-in-Lost-clause-answers
 returns-in-Lost-clause-answers g c = as_event g.L.Link.happens _ _ _ _ c.args.event _ c.args.piece.now (g.L.Link.text c.args.link.now) c.in-Lost.is c.lose.ensures.answers

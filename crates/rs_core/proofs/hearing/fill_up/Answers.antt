@@ -1,7 +1,7 @@
 use Rattle.std.proofs.Common.{inl, inr, sym, ◌∙◌, subst}
 use Rattle.rs_octets.specs.Fronts.{IsFront}
-use Rattle.rs_core.proofs.Filling.{not_wanted}
-use Rattle.rs_core.proofs.Lists.{none_are}
+use Rattle.rs_core.proofs.Session.Filling.{not_wanted}
+use Rattle.rs_core.proofs.Run.Lists.{none_are}
 use Rattle.rs_core.proofs.hearing.fill_up.Goals as goal
 
 pub returns-in_default : goal.returns-in_default

@@ -1,5 +1,5 @@
 use Rattle.std.proofs.Common.{◌≡◌, ◌⊎◌, ℕ, List, [], ◌++◌, length}
-use Rattle.rs_core.specs.Steps.{IsWanted}
+use Rattle.rs_core.specs.Run.Parts.{IsWanted}
 use Rattle.rs_core.proofs.hearing.fill_up.Given as goal
 
 abbrev pub invariant-loop-allowed : goal.invariant-loop-allowed

@@ -1,4 +1,4 @@
-use Rattle.rs_core.proofs.Conversed.{sends_in_order}
+use Rattle.rs_core.proofs.Session.Conversed.{sends_in_order}
 use Rattle.rs_core.proofs.laws.messages_go_in_order.Goals as goal
 
 pub returns : goal.returns

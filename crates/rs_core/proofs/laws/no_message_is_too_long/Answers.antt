@@ -1,4 +1,4 @@
-use Rattle.rs_core.proofs.Conversed.{sends_none_longer}
+use Rattle.rs_core.proofs.Session.Conversed.{sends_none_longer}
 use Rattle.rs_core.proofs.laws.no_message_is_too_long.Goals as goal
 
 pub returns : goal.returns

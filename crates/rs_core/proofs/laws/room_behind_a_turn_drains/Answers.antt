@@ -1,4 +1,4 @@
-use Rattle.rs_core.proofs.Draining.{room_drains}
+use Rattle.rs_core.proofs.Owed.Draining.{room_drains}
 use Rattle.rs_core.proofs.laws.room_behind_a_turn_drains.Goals as goal
 
 pub returns : goal.returns

@@ -1,5 +1,5 @@
 use Rattle.std.proofs.Common.{◌≡◌, length}
-use Rattle.rs_core.specs.Steps.{HaveHeardNothing}
+use Rattle.rs_core.specs.Run.Parts.{HaveHeardNothing}
 use Rattle.rs_core.proofs.making.sessions.Given as goal
 
 abbrev pub invariant-loop-c : goal.invariant-loop-c

@@ -1,17 +1,17 @@
 use Rattle.std.proofs.Common.{◌≡◌, ◌≤◌, ◌≢◌, ℕ, List, [], ◌∷◌, length, take, refl, sym, ◌∙◌, ap, subst}
 use Rattle.std.specs.Prelude.{Some, None}
 use Rattle.rs_core.specs.Core.{client_count, lent_octets}
-use Rattle.rs_core.specs.Agreeing.{Agrees}
-use Rattle.rs_core.specs.Moves.{Move, Left, Began, Took}
-use Rattle.rs_core.specs.Links.{Offer}
-use Rattle.rs_core.specs.Paying.{HasLent, HasTaken, OwesNoMore}
-use Rattle.rs_core.specs.Courses.{course}
+use Rattle.rs_core.specs.Run.Agreeing.{Agrees}
+use Rattle.rs_core.specs.Run.Moves.{Move, Left, Began, Took}
+use Rattle.rs_core.specs.Link.Steps.{Offer}
+use Rattle.rs_core.specs.Owed.Sending.{HasLent, HasTaken, OwesNoMore}
+use Rattle.rs_core.specs.Link.Courses.{course}
 use Rattle.rs_core.specs.declared.route_server.Core.{Core}
-use Rattle.rs_core.specs.Answers.{Offers, Nothing, Fails, Takes}
-use Rattle.rs_core.proofs.Leading.{led_same, led_once}
-use Rattle.rs_core.proofs.Continuing.{goes, some_are, within_take}
+use Rattle.rs_core.specs.Link.Answers.{Offers, Nothing, Fails, Takes}
+use Rattle.rs_core.proofs.Link.Leading.{led_same, led_once}
+use Rattle.rs_core.proofs.Link.Continuing.{goes, some_are, within_take}
 use Rattle.rs_core.proofs.offering.offer.Goals as goal
-use Rattle.rs_core.proofs.Lists.{none_are}
+use Rattle.rs_core.proofs.Run.Lists.{none_are}
 
 pub returns-then-is_empty-clause-led : goal.returns-then-is_empty-clause-led
 returns-then-is_empty-clause-led g c = led_same g.L.Link.happens _

@@ -1,7 +1,7 @@
 use Rattle.std.proofs.Common.{◌≡◌, ◌+◌, length, ◌∙◌, ap, subst}
 use Rattle.rs_outlet.specs.Views.{bare}
 use Rattle.rs_outlet.specs.declared.answers.Last.TheVariants as lasts
-use Rattle.rs_core.proofs.Keeping.{push_length, push_bare, bare_kept}
+use Rattle.rs_core.proofs.Run.Keeping.{push_length, push_bare, bare_kept}
 use Rattle.rs_core.proofs.ribs.outlets.Goals as goal
 
 pub loop-c-preserved : goal.loop-c-preserved

@@ -1,5 +1,5 @@
 use Rattle.std.proofs.Common.{◌≡◌, length}
-use Rattle.rs_core.specs.Keeping.{AreBare}
+use Rattle.rs_core.specs.Run.Keeping.{AreBare}
 use Rattle.rs_core.proofs.ribs.outlets.Given as goal
 
 abbrev pub invariant-loop-c : goal.invariant-loop-c

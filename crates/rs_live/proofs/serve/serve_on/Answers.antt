@@ -1,5 +1,5 @@
 use Rattle.std.proofs.Common.{◌∙◌, refl, Ok}
-use Rattle.rs_live.specs.declared.link.Phase.TheVariants as phases
+use Rattle.rs_live.specs.declared.live_link.Phase.TheVariants as phases
 use Rattle.rs_live.specs.Handled.{AreKept, IsServed}
 use Rattle.rs_live.specs.Keeping.{held_of}
 use Rattle.rs_live.proofs.Agreeing.{settled}
@@ -25,4 +25,4 @@ returns-then-is_done-clause-served g c p f h =
     let i = c.loop.invariant.handled p f h in
     let read = c.reload-rounds.ensures.handled c.begin_round.ensures.phase (c.if-not-begin_round.ensures.ready refl (c.loop.invariant.phase p) i.1) in
     let played = c.in-Ok.ensures.ok refl (c.reload-rounds.ensures.failed ∙ c.begin_round.ensures.failed ∙ i.0) read in
-    so g.P.Ports.asked (AreKept (held_of c.tell.new.link.seats.now.items) phases.Over) (IsServed (Ok tt)) _ (λ deeds k. (k.0, settled _ deeds k.1)) (at_phase g.P.Ports.asked c.tell.new.link phases.Over (c.tell.ensures.phase ∙ c.in-Ok.ensures.over refl) (c.tell.ensures.handled played.1))
+    so g.P.Ports.asked (AreKept (held_of c.tell.new.link.connections.now.items) phases.Over) (IsServed (Ok tt)) _ (λ operations k. (k.0, settled _ operations k.1)) (at_phase g.P.Ports.asked c.tell.new.link phases.Over (c.tell.ensures.phase ∙ c.in-Ok.ensures.over refl) (c.tell.ensures.handled played.1))

@@ -1,5 +1,5 @@
 use Rattle.std.proofs.Common.{◌≡◌, false}
-use Rattle.rs_live.specs.declared.link.Phase.TheVariants.{Over}
+use Rattle.rs_live.specs.declared.live_link.Phase.TheVariants.{Over}
 use Rattle.rs_live.specs.Handled.{Keeps}
 use Rattle.rs_live.proofs.serve.serve_on.Given as goal
 

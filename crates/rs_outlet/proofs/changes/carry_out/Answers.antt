@@ -4,13 +4,13 @@ use Rattle.std.specs.Arc.{arc_value}
 use Rattle.std.proofs.lemmas.Option.{same_Some}
 use Rattle.rs_outlet.specs.Views.{HaveNumbers}
 use Rattle.rs_outlet.specs.Inside.{FitsAlone, RowsFit, numbers_from, loc_of, prefix_and_hash, row_at}
-use Rattle.rs_outlet.proofs.Backing.{announced_backed, fit_set, other_row, this_row}
-use Rattle.rs_outlet.proofs.Numbering.{numbers_write, numbers_erase}
-use Rattle.rs_outlet.proofs.LocByNumber.{same, numbered, loc_set}
+use Rattle.rs_outlet.proofs.Waiting.Backing.{announced_backed, fit_set, other_row, this_row}
+use Rattle.rs_outlet.proofs.Turn.Numbering.{numbers_write, numbers_erase}
+use Rattle.rs_outlet.proofs.Turn.LocByNumber.{same, numbered, loc_set}
 use Rattle.rs_outlet.proofs.OneOf.{cond_twice}
 use Rattle.rs_adjin.specs.AdjIns.{number_of}
 use Rattle.rs_outlet.specs.declared.rows.Row.{Row}
-use Rattle.rs_outlet.proofs.Withdrawals.{announced_listed, free_row, withdrawn_listed}
+use Rattle.rs_outlet.proofs.Waiting.Withdrawals.{announced_listed, free_row, withdrawn_listed}
 use Rattle.rs_outlet.proofs.changes.carry_out.Goals as goal
 
 pub returns-in-None-clause-loc : goal.returns-in-None-clause-loc
@@ -96,9 +96,9 @@ returns-in-Some-clause-waits c =
     record {
       wait = c.announced_wait.result;
       owed = search rules;
-      place = c.announced_wait.ensures.place;
-      backed = announced_backed _ c.announced_wait.result c.args.change.prefix n _ c.announced_wait.ensures.place c.announced_wait.ensures.due
+      slot = c.announced_wait.ensures.slot;
+      backed = announced_backed _ c.announced_wait.result c.args.change.prefix n _ c.announced_wait.ensures.slot c.announced_wait.ensures.due
           (ap (λ xs. option_map prefix_and_hash (row_at xs n)) c.put.ensures.rows ∙ ap (option_map prefix_and_hash) (this_row mid n _ again));
       added = c.list_wait-in-Some.ensures.items;
-      closed = c.take_told-told.ensures.places;
+      closed = c.take_told-told.ensures.slots;
     }

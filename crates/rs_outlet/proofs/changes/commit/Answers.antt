@@ -5,13 +5,13 @@ use Rattle.std.specs.Vec.Iter.{into_iter_items}
 use Rattle.std.proofs.lemmas.Map.Keys.{IsDistinct-head, IsDistinct-tail}
 use Rattle.rs_adjin.specs.AdjIns.{number_of}
 use Rattle.rs_outlet.specs.Inside.{AreDue, AreOwn, ArePlaced, ChangesFit, HaveRows, is_changed, loc_of, numbers_of}
-use Rattle.rs_outlet.proofs.Backing.{are_backed_same, backed_step, own_rest}
-use Rattle.rs_outlet.specs.Places.{prefixes_at, withdrawn_count}
-use Rattle.rs_outlet.specs.Owed.{prefixes_of}
-use Rattle.rs_outlet.proofs.Carrying.{fresh_step, keeps_both, keeps_same, keeps_step, length_step, none_fresh, none_more, none_unlisted, unlisted_rest, unlisted_step}
-use Rattle.rs_outlet.proofs.LocByNumber.{same, same_is, by_number, numbered}
-use Rattle.rs_outlet.proofs.Numbering.{all_nil, no_elements}
-use Rattle.rs_outlet.proofs.TurnedLoc.{change_done}
+use Rattle.rs_outlet.proofs.Waiting.Backing.{are_backed_same, backed_step, own_rest}
+use Rattle.rs_outlet.specs.Waiting.Slots.{prefixes_at, withdrawn_count}
+use Rattle.rs_outlet.specs.Waiting.Owed.{prefixes_of}
+use Rattle.rs_outlet.proofs.Waiting.Carrying.{fresh_step, keeps_both, keeps_same, keeps_step, length_step, none_fresh, none_more, none_unlisted, unlisted_rest, unlisted_step}
+use Rattle.rs_outlet.proofs.Turn.LocByNumber.{same, same_is, by_number, numbered}
+use Rattle.rs_outlet.proofs.Turn.Numbering.{all_nil, no_elements}
+use Rattle.rs_outlet.proofs.Turn.TurnedLoc.{change_done}
 use Rattle.rs_outlet.proofs.changes.commit.Goals as goal
 
 pub loop-change-init : goal.loop-change-init
@@ -30,15 +30,15 @@ loop-change-init c =
       count = omega arith;
       all = omega (arith, c.requires.all, ap length are, ap withdrawn_count none, c.args.changes.ok);
       capacity = refl;
-      fresh = none_fresh c.args.waits.now.places.items c.args.fresh.items none;
+      fresh = none_fresh c.args.waits.now.slots.items c.args.fresh.items none;
       once = subst (λ cs. IsDistinct same (prefixes_of cs)) (sym are) c.requires.once;
       numbers = subst (λ cs. IsDistinct nat_eq (numbers_of cs)) (sym are) c.requires.numbers;
       own = subst (λ cs. AreOwn cs c.args.rows.now.rows.items) (sym are) c.requires.own;
-      backed = λ backed. are_backed_same _ _ _ _ (λ n. refl) (ap (λ fs. c.args.waits.now.places.items ++ fs) none ∙ all_nil c.args.waits.now.places.items) backed;
+      backed = λ backed. are_backed_same _ _ _ _ (λ n. refl) (ap (λ fs. c.args.waits.now.slots.items ++ fs) none ∙ all_nil c.args.waits.now.slots.items) backed;
       fits = λ speech fits. subst (ChangesFit speech) (sym are) fits;
       fit = λ speech fits fit. fit;
       unlisted = none_unlisted c.args.fresh.items _ none;
-      keeps = λ ins p h q. keeps_same _ _ _ _ (none_more q c.args.waits.now.places.items c.args.fresh.items none) refl;
+      keeps = λ ins p h q. keeps_same _ _ _ _ (none_more q c.args.waits.now.slots.items c.args.fresh.items none) refl;
     }
 
 pub loop-change-preserved : goal.loop-change-preserved
@@ -97,10 +97,10 @@ returns-clause-loc c = λ ins due p d h q.
 
 pub returns-clause-keeps : goal.returns-clause-keeps
 returns-clause-keeps c = λ ins p h q.
-    keeps_both _ _ _ _ _ _ (c.loop-change.invariant.keeps ins p h q) (keeps_same _ _ _ _ (c.add.ensures.places q) refl)
+    keeps_both _ _ _ _ _ _ (c.loop-change.invariant.keeps ins p h q) (keeps_same _ _ _ _ (c.add.ensures.slots q) refl)
 
 pub returns-clause-all : goal.returns-clause-all
 returns-clause-all c = omega (arith, c.loop-change.invariant.all, c.loop-change.invariant.capacity, c.add.ensures.withdrawn, c.add.ensures.capacity)
 
 pub returns-clause-backed : goal.returns-clause-backed
-returns-clause-backed c = λ backed q w is. c.loop-change.invariant.backed backed q w (sym (c.add.ensures.places q) ∙ is)
+returns-clause-backed c = λ backed q w is. c.loop-change.invariant.backed backed q w (sym (c.add.ensures.slots q) ∙ is)

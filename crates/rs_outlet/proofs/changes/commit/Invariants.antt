@@ -7,11 +7,11 @@ use Rattle.rs_octets.specs.Prefixes.{Prefix}
 use Rattle.rs_attrs.specs.Meaning.{Attribute}
 use Rattle.rs_adjin.specs.declared.adj_ins.AdjIns.{AdjIns}
 use Rattle.rs_outlet.specs.Views.{HaveNumbers}
-use Rattle.rs_outlet.specs.Places.{AreFresh, open_at, open_count, prefixes_at, withdrawn_count}
-use Rattle.rs_outlet.specs.Owed.{Keeps, prefixes_of}
+use Rattle.rs_outlet.specs.Waiting.Slots.{AreFresh, open_at, open_count, prefixes_at, withdrawn_count}
+use Rattle.rs_outlet.specs.Waiting.Owed.{Keeps, prefixes_of}
 use Rattle.rs_outlet.specs.declared.answers.Speech.{Speech}
 use Rattle.rs_outlet.specs.Inside.{AreBacked, AreDue, AreOwn, ArePlaced, ChangesFit, HaveRows, RowsFit, is_changed, numbers_from, numbers_of, loc_of}
-use Rattle.rs_outlet.proofs.LocByNumber.{same}
+use Rattle.rs_outlet.proofs.Turn.LocByNumber.{same}
 use Rattle.rs_outlet.proofs.changes.commit.Given as goal
 
 abbrev pub invariant-loop-change : goal.invariant-loop-change
@@ -25,17 +25,17 @@ invariant-loop-change l = record {
   numbered : (ins : AdjIns) → ArePlaced l.fn.changes.items ins → HaveNumbers (numbers_from 0 l.fn.rows.rows.items) ins → HaveNumbers (numbers_from 0 l.rows.rows.items) ins;
   more : vec_len l.fresh + length (into_iter_items l.change-iterator) ≤ vec_len l.fn.changes;
   spare : vec_len l.fn.changes ≤ vec_capacity l.fresh;
-  count : open_count l.waits.places.items ≤ open_count l.fn.waits.places.items;
-  all : l.rows.used + (withdrawn_count l.waits.places.items + withdrawn_count l.fresh.items) + length (into_iter_items l.change-iterator) ≤ vec_capacity l.fn.waits.places;
-  capacity : vec_capacity l.waits.places ≡ vec_capacity l.fn.waits.places;
-  fresh : AreFresh l.waits.places.items l.fresh.items;
+  count : open_count l.waits.slots.items ≤ open_count l.fn.waits.slots.items;
+  all : l.rows.used + (withdrawn_count l.waits.slots.items + withdrawn_count l.fresh.items) + length (into_iter_items l.change-iterator) ≤ vec_capacity l.fn.waits.slots;
+  capacity : vec_capacity l.waits.slots ≡ vec_capacity l.fn.waits.slots;
+  fresh : AreFresh l.waits.slots.items l.fresh.items;
   once : IsDistinct same (prefixes_of (into_iter_items l.change-iterator));
   numbers : IsDistinct nat_eq (numbers_of (into_iter_items l.change-iterator));
   own : AreOwn (into_iter_items l.change-iterator) l.rows.rows.items;
-  backed : AreBacked l.fn.rows.rows.items l.fn.waits.places.items → AreBacked l.rows.rows.items (l.waits.places.items ++ l.fresh.items);
+  backed : AreBacked l.fn.rows.rows.items l.fn.waits.slots.items → AreBacked l.rows.rows.items (l.waits.slots.items ++ l.fresh.items);
   fits : (speech : Speech) → ChangesFit speech l.fn.changes.items → ChangesFit speech (into_iter_items l.change-iterator);
   fit : (speech : Speech) → ChangesFit speech l.fn.changes.items → RowsFit speech l.fn.rows.rows.items → RowsFit speech l.rows.rows.items;
   unlisted : AllByRecursion (λ q. list_any (same q) (prefixes_at l.fresh.items) ≡ false) (prefixes_of (into_iter_items l.change-iterator));
   keeps : (ins : AdjIns) → ArePlaced l.fn.changes.items ins → HaveNumbers (numbers_from 0 l.fn.rows.rows.items) ins → (q : Prefix)
-      → Keeps (open_at q l.fn.waits.places.items) (fin.get (loc_of l.fn.rows.rows.items) q) (open_at q (l.waits.places.items ++ l.fresh.items)) (fin.get (loc_of l.rows.rows.items) q);
+      → Keeps (open_at q l.fn.waits.slots.items) (fin.get (loc_of l.fn.rows.rows.items) q) (open_at q (l.waits.slots.items ++ l.fresh.items)) (fin.get (loc_of l.rows.rows.items) q);
 }

@@ -1,9 +1,9 @@
 use Rattle.std.proofs.Common.{ap, arith}
-use Rattle.rs_outlet.specs.Places.{withdrawn_count}
-use Rattle.rs_outlet.proofs.Withdrawals.{withdrawn_open}
+use Rattle.rs_outlet.specs.Waiting.Slots.{withdrawn_count}
+use Rattle.rs_outlet.proofs.Waiting.Withdrawals.{withdrawn_open}
 use Rattle.rs_outlet.proofs.changes.make_room.Goals as goal
 
 pub returns-clause-all : goal.returns-clause-all
 returns-clause-all c =
-    let ws = c.args.waits.now.places.items in
+    let ws = c.args.waits.now.slots.items in
     omega (arith, withdrawn_open ws, c.used.ensures, c.in-Some.ensures, c.len.ensures, c.in-Some-checked_add.ensures, ap withdrawn_count c.reserve.ensures.items, c.in_ok-reserve.ensures.room)

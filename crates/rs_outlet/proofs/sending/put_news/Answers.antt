@@ -4,11 +4,11 @@ use Rattle.rs_packer.specs.Packed.{IsLongestFront, announcement}
 use Rattle.std.specs.List.{AllWithin}
 use Rattle.std.proofs.lemmas.Option.{same_Some}
 use Rattle.rs_outlet.specs.declared.waiting.Wait.{Wait}
-use Rattle.rs_outlet.specs.Places.{is_announced}
-use Rattle.rs_outlet.specs.Choosing.{passing, shares}
-use Rattle.rs_outlet.proofs.AllWaiting.{not_shared}
-use Rattle.rs_outlet.proofs.Chosen.{first_fits, none_chosen}
-use Rattle.rs_outlet.proofs.Fullest.{announcements_take, longest_of_all, passing_behind}
+use Rattle.rs_outlet.specs.Waiting.Slots.{is_announced}
+use Rattle.rs_outlet.specs.Waiting.Choosing.{passing, shares}
+use Rattle.rs_outlet.proofs.Message.AllWaiting.{not_shared}
+use Rattle.rs_outlet.proofs.Message.Chosen.{first_fits, none_chosen}
+use Rattle.rs_outlet.proofs.Message.Fullest.{announcements_take, longest_of_all, passing_behind}
 use Rattle.rs_open.specs.Notes.{limit_octets}
 use Rattle.rs_outlet.proofs.sending.put_news.Goals as goal
 
@@ -17,13 +17,13 @@ returns-clause-update c = inr (record {
   said = Some c.args.attrs.now;
   legal = c.attributes_are_legal.ensures;
   in_turn = c.requires.in_turn;
-  chosen = c.collect_announced.ensures.are (none_chosen c.args.rows.now.rows.items c.args.waits.now.places.items (Some c.args.attrs.now) _ _ c.requires.none.0 c.requires.none.1);
+  chosen = c.collect_announced.ensures.are (none_chosen c.args.rows.now.rows.items c.args.waits.now.slots.items (Some c.args.attrs.now) _ _ c.requires.none.0 c.requires.none.1);
   rise = c.collect_announced.ensures.rise c.requires.none.0;
-  first = λ n at. subst (AllWithin (λ (w : Wait). is_announced w ≡ false) c.args.waits.now.places.items 0) (same_Some c.args.first n (sym (c.collect_announced.ensures.first c.requires.some.0 c.requires.some.1 (search rules) c.requires.empty c.requires.none.0) ∙ at)) c.requires.before;
+  first = λ n at. subst (AllWithin (λ (w : Wait). is_announced w ≡ false) c.args.waits.now.slots.items 0) (same_Some c.args.first n (sym (c.collect_announced.ensures.first c.requires.some.0 c.requires.some.1 (search rules) c.requires.empty c.requires.none.0) ∙ at)) c.requires.before;
   written = record { some = c.put_announcement.ensures.some; within = subst (λ (xs : List Prefix). c.put_announcement.result.prefixes ≤ length xs) c.deref.ensures.value c.put_announcement.ensures.within; says = c.put_announcement.ensures.octets ∙ ap (λ xs. announcement c.args.attrs.now c.args.speech.mode (take c.put_announcement.result.prefixes xs)) c.deref.ensures.value };
   all =
       let rows = c.args.rows.now.rows.items in
-      let ws = c.args.waits.now.places.items in
+      let ws = c.args.waits.now.slots.items in
       let m = c.args.attrs.now in
       longest_of_all (announcement m c.args.speech.mode) (limit_octets c.args.speech.limit) _ (passing (shares rows m) ws) c.collect_announced.new.front.items c.put_announcement.result.prefixes (announcements_take m c.args.speech.mode)
       (omega (arith, c.min-room.ensures, c.capacity.ensures, c.requires.batch.0, c.requires.batch.1))
@@ -34,8 +34,8 @@ returns-clause-update c = inr (record {
 
 pub put_announcement-requires-clause-fits : goal.put_announcement-requires-clause-fits
 put_announcement-requires-clause-fits c =
-    let are = c.collect_announced.ensures.are (none_chosen c.args.rows.now.rows.items c.args.waits.now.places.items (Some c.args.attrs.now) _ _ c.requires.none.0 c.requires.none.1) in
+    let are = c.collect_announced.ensures.are (none_chosen c.args.rows.now.rows.items c.args.waits.now.slots.items (Some c.args.attrs.now) _ _ c.requires.none.0 c.requires.none.1) in
     let ps = c.collect_announced.new.front.items in
     let some : 0 < length ps = omega (arith, c.collect_announced.ensures.some c.requires.some.0 c.requires.some.1 (search rules) c.requires.empty, c.collect_announced.new.front.ok) in
     subst (λ (qs : List Prefix). length (announcement c.args.attrs.now c.args.speech.mode (take 1 qs)) ≤ limit_octets c.args.speech.limit) (sym c.deref.ensures.value)
-    (first_fits c.args.speech c.args.rows.now.rows.items c.args.waits.now.places.items c.args.attrs.now c.collect_announced.new.chosen.items ps c.requires.fit are some)
+    (first_fits c.args.speech c.args.rows.now.rows.items c.args.waits.now.slots.items c.args.attrs.now c.collect_announced.new.chosen.items ps c.requires.fit are some)

@@ -5,12 +5,12 @@ use Rattle.std.proofs.lemmas.Fn.{dedup_same}
 use Rattle.std.proofs.lemmas.List.Kept.{Contains-from_dedup, IsStrictlySortedBy-dedup}
 use Rattle.std.proofs.lemmas.List.Sorted.{Contains-permutation, IsPermutation-map, IsPermutation-sym, list_any-IsPermutation}
 use Rattle.rs_outlet.specs.declared.waiting.Wait.{Wait}
-use Rattle.rs_outlet.specs.Places.{prefixes_at}
-use Rattle.rs_outlet.proofs.LocByNumber.{same}
-use Rattle.rs_outlet.proofs.MarkedAgain.{deduped}
-use Rattle.rs_outlet.proofs.Places.{by_prefix, places_total, prefixes_rise}
-use Rattle.rs_outlet.proofs.Touches.{prefix_eq, prefix_eq-cmp}
-use Rattle.rs_outlet.proofs.Withdrawals.{withdrawn_ordered}
+use Rattle.rs_outlet.specs.Waiting.Slots.{prefixes_at}
+use Rattle.rs_outlet.proofs.Turn.LocByNumber.{same}
+use Rattle.rs_outlet.proofs.Waiting.MarkedAgain.{deduped}
+use Rattle.rs_outlet.proofs.Waiting.Slots.{by_prefix, slots_total, prefixes_rise}
+use Rattle.rs_outlet.proofs.Turn.Touches.{prefix_eq, prefix_eq-cmp}
+use Rattle.rs_outlet.proofs.Waiting.Withdrawals.{withdrawn_ordered}
 use Rattle.rs_outlet.proofs.waiting.put_in_order.Goals as goal
 
 pub returns : goal.returns
@@ -19,7 +19,7 @@ returns c =
     let kept = dedup_same _ (λ v w. prefix_eq v.prefix w.prefix) _ (λ x y b f' x' y' k. search rules) _ _ c.dedup_by_key.ensures.filtered in
     let moved = c.sort_from.ensures.permutation in
     record {
-      rises = prefixes_rise _ (subst (IsStrictlySortedBy by_prefix) (sym kept) (IsStrictlySortedBy-dedup places_total (λ v w. sym (prefix_eq-cmp v.prefix w.prefix)) _ up));
+      rises = prefixes_rise _ (subst (IsStrictlySortedBy by_prefix) (sym kept) (IsStrictlySortedBy-dedup slots_total (λ v w. sym (prefix_eq-cmp v.prefix w.prefix)) _ up));
       from = λ w here. Contains-permutation _ _ w (IsPermutation-sym _ _ moved) (Contains-from_dedup (λ v w. prefix_eq v.prefix w.prefix) _ w (subst (λ (xs : List Wait). Contains xs w) kept here));
       all = λ q.
           ap (λ xs. list_any (same q) (prefixes_at xs)) kept

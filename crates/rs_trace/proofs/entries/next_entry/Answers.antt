@@ -2,28 +2,28 @@ use Rattle.std.proofs.Common.{◌≡◌, [], ◌∷◌, ◌++◌, ◌∙◌, Opt
 use Rattle.std.specs.Prelude.{Result, Ok}
 use Rattle.rs_trace.specs.declared.trace.Entry.{Entry}
 use Rattle.rs_trace.specs.declared.fault.Stop.{Stop}
-use Rattle.rs_trace.specs.Entries.{saying_in}
+use Rattle.rs_trace.specs.Entries.{meaning_in}
 use Rattle.rs_trace.specs.Played.{failures_read}
-use Rattle.rs_trace.specs.Replays.{place_in, stop_of, sayings_in, ReadsOn}
+use Rattle.rs_trace.specs.Replays.{place_in, stop_of, meanings_in, ReadsOn}
 use Rattle.rs_trace.proofs.PlayLemmas.{reads_twice, stands_first}
 use Rattle.rs_trace.proofs.entries.next_entry.Goals as goal
 
 pub returns-in-Ok-Some-clause-on : goal.returns-in-Ok-Some-clause-on
 returns-in-Ok-Some-clause-on g c =
-    reads_twice g.R.TextIn.takes g.R.TextIn.at_end (place_in c.args.names.now) g.met.R.TextIn.takes_on c.args.reader.now c.loop.reader c.read_entry.new.reader c.args.number.now c.loop.number c.read_entry.new.number c.args.lines.now c.loop.lines c.read_entry.new.lines (saying_in c.read_entry.new.piece c.in-Ok-Some.entry ∷ []) None c.loop.invariant.0
-    (subst (λ (x : Option Entry). ReadsOn g.R.TextIn.takes g.R.TextIn.at_end (place_in c.args.names.now) c.loop.reader c.loop.number c.loop.lines c.read_entry.new.reader c.read_entry.new.number c.read_entry.new.lines (sayings_in c.read_entry.new.piece (Ok x)) None) c.in-Ok-Some.field-0-is
-    (subst (λ (x : Result (Option Entry) Stop). ReadsOn g.R.TextIn.takes g.R.TextIn.at_end (place_in c.args.names.now) c.loop.reader c.loop.number c.loop.lines c.read_entry.new.reader c.read_entry.new.number c.read_entry.new.lines (sayings_in c.read_entry.new.piece x) (stop_of x)) c.in-Ok-Some.is c.read_entry.ensures.on))
+    reads_twice g.R.TextIn.takes g.R.TextIn.at_end (place_in c.args.names.now) g.met.R.TextIn.takes_on c.args.reader.now c.loop.reader c.read_entry.new.reader c.args.number.now c.loop.number c.read_entry.new.number c.args.lines.now c.loop.lines c.read_entry.new.lines (meaning_in c.read_entry.new.piece c.in-Ok-Some.entry ∷ []) None c.loop.invariant.0
+    (subst (λ (x : Option Entry). ReadsOn g.R.TextIn.takes g.R.TextIn.at_end (place_in c.args.names.now) c.loop.reader c.loop.number c.loop.lines c.read_entry.new.reader c.read_entry.new.number c.read_entry.new.lines (meanings_in c.read_entry.new.piece (Ok x)) None) c.in-Ok-Some.field-0-is
+    (subst (λ (x : Result (Option Entry) Stop). ReadsOn g.R.TextIn.takes g.R.TextIn.at_end (place_in c.args.names.now) c.loop.reader c.loop.number c.loop.lines c.read_entry.new.reader c.read_entry.new.number c.read_entry.new.lines (meanings_in c.read_entry.new.piece x) (stop_of x)) c.in-Ok-Some.is c.read_entry.ensures.on))
 
 pub returns-in-Err-clause-on : goal.returns-in-Err-clause-on
 returns-in-Err-clause-on g c =
     reads_twice g.R.TextIn.takes g.R.TextIn.at_end (place_in c.args.names.now) g.met.R.TextIn.takes_on c.args.reader.now c.loop.reader c.read_entry.new.reader c.args.number.now c.loop.number c.read_entry.new.number c.args.lines.now c.loop.lines c.read_entry.new.lines [] (Some c.in-Err.stop) c.loop.invariant.0
-    (subst (λ (x : Result (Option Entry) Stop). ReadsOn g.R.TextIn.takes g.R.TextIn.at_end (place_in c.args.names.now) c.loop.reader c.loop.number c.loop.lines c.read_entry.new.reader c.read_entry.new.number c.read_entry.new.lines (sayings_in c.read_entry.new.piece x) (stop_of x)) c.in-Err.is c.read_entry.ensures.on)
+    (subst (λ (x : Result (Option Entry) Stop). ReadsOn g.R.TextIn.takes g.R.TextIn.at_end (place_in c.args.names.now) c.loop.reader c.loop.number c.loop.lines c.read_entry.new.reader c.read_entry.new.number c.read_entry.new.lines (meanings_in c.read_entry.new.piece x) (stop_of x)) c.in-Err.is c.read_entry.ensures.on)
 
 pub loop-preserved : goal.loop-preserved
 loop-preserved g c = (
   reads_twice g.R.TextIn.takes g.R.TextIn.at_end (place_in c.args.names.now) g.met.R.TextIn.takes_on c.args.reader.now c.loop.reader c.read_entry.new.reader c.args.number.now c.loop.number c.read_entry.new.number c.args.lines.now c.loop.lines c.read_entry.new.lines [] None c.loop.invariant.0
-      (subst (λ (x : Option Entry). ReadsOn g.R.TextIn.takes g.R.TextIn.at_end (place_in c.args.names.now) c.loop.reader c.loop.number c.loop.lines c.read_entry.new.reader c.read_entry.new.number c.read_entry.new.lines (sayings_in c.read_entry.new.piece (Ok x)) None) c.in-Ok-None.field-0-is
-      (subst (λ (x : Result (Option Entry) Stop). ReadsOn g.R.TextIn.takes g.R.TextIn.at_end (place_in c.args.names.now) c.loop.reader c.loop.number c.loop.lines c.read_entry.new.reader c.read_entry.new.number c.read_entry.new.lines (sayings_in c.read_entry.new.piece x) (stop_of x)) c.in-Ok-None.is c.read_entry.ensures.on)),
+      (subst (λ (x : Option Entry). ReadsOn g.R.TextIn.takes g.R.TextIn.at_end (place_in c.args.names.now) c.loop.reader c.loop.number c.loop.lines c.read_entry.new.reader c.read_entry.new.number c.read_entry.new.lines (meanings_in c.read_entry.new.piece (Ok x)) None) c.in-Ok-None.field-0-is
+      (subst (λ (x : Result (Option Entry) Stop). ReadsOn g.R.TextIn.takes g.R.TextIn.at_end (place_in c.args.names.now) c.loop.reader c.loop.number c.loop.lines c.read_entry.new.reader c.read_entry.new.number c.read_entry.new.lines (meanings_in c.read_entry.new.piece x) (stop_of x)) c.in-Ok-None.is c.read_entry.ensures.on)),
   subst (λ (x : Result (Option Entry) Stop). g.R.TextIn.failures c.read_entry.new.reader ≡ failures_read (stop_of x) (g.R.TextIn.failures c.loop.reader)) c.in-Ok-None.is c.read_entry.ensures.reads ∙ c.loop.invariant.1,
 )
 

@@ -3,22 +3,22 @@ use Rattle.std.specs.Prelude.{Result, Ok, Err, IfOk}
 use Rattle.std.specs.Global.{Vec}
 use Rattle.std.specs.declared.alloc.AllocError.{AllocError}
 use Rattle.rs_policy.specs.Configuration.{Configuration}
-use Rattle.rs_core.specs.Links as links
-use Rattle.rs_core.specs.Links.{HasStopped}
-use Rattle.rs_core.specs.Agreeing.{Agrees}
+use Rattle.rs_core.specs.Link.Steps as links
+use Rattle.rs_core.specs.Link.Steps.{HasStopped}
+use Rattle.rs_core.specs.Run.Agreeing.{Agrees}
 use Rattle.rs_core.specs.Core.{client_count}
-use Rattle.rs_core.specs.Moves.{Move, Ruled}
-use Rattle.rs_core.specs.Courses.{course, Continues}
-use Rattle.rs_core.specs.Answers.{Drives}
+use Rattle.rs_core.specs.Run.Moves.{Move, Ruled}
+use Rattle.rs_core.specs.Link.Courses.{course, Continues}
+use Rattle.rs_core.specs.Link.Answers.{Drives}
 use Rattle.rs_core.specs.declared.route_server.Core.{Core}
 use Rattle.rs_trace.specs.declared.recording.Recording.{Recording}
 use Rattle.rs_trace.specs.declared.fault.Stop.{Stop}
 use Rattle.rs_trace.specs.declared.fault.Stop.TheVariants.{End, Table}
 use Rattle.rs_trace.specs.declared.fault.ReplayFault.{ReplayFault}
-use Rattle.rs_trace.specs.Played.{Act, Did, ToldRoutes, said, written, failures_read, failures_written}
+use Rattle.rs_trace.specs.Played.{Act, Did, ListedRoutes, lines_done, written, failures_read, failures_written}
 use Rattle.rs_trace.specs.Replays.{Adds, Begins, Happens, IsOver, Plays, PlaysOut, Tells, place_in, name_in}
 use Rattle.rs_trace.specs.Tables.{ListsOf}
-use Rattle.rs_trace.proofs.Replaying.{HasGone, did, told, done_first, gone_on, led_to_stop, over_at_end}
+use Rattle.rs_trace.proofs.Replaying.{HasGone, did, listed_lines, done_first, gone_on, led_to_stop, over_at_end}
 use Rattle.rs_trace.proofs.replay.play_on.Given as given
 use Rattle.rs_trace.proofs.replay.play_on.Invariants.{Does}
 use Rattle.rs_trace.proofs.replay.play_on.Goals as goal
@@ -46,13 +46,13 @@ gone : (g : given.Over) (first old new : Recording g.row.R.Denot g.row.W.Denot g
 gone g first old new settings before after count c h = gone_on (Stepped g) (λ link acts. Does g first acts link) (step g first) settings (name_in first.names.now) before old after new count c h
 
 -- routes were told
-told_one : (g : given.Over) (first old resumed new : Recording g.row.R.Denot g.row.W.Denot g.row.P.Denot) (c : ℕ) (line : List ℕ) (acts : List Act)
+listed_one : (g : given.Over) (first old resumed new : Recording g.row.R.Denot g.row.W.Denot g.row.P.Denot) (c : ℕ) (line : List ℕ) (acts : List Act)
     → old.stop ≡ Some (Table c) → resumed ≡ record old { stop = None }
     → Adds g.R.TextIn.takes g.R.TextIn.at_end g.R.TextIn.failures g.W.TextOut.puts g.W.TextOut.failures
     resumed.names.now resumed.reader.ghost_name resumed.writer.ghost_name resumed.reader.now resumed.writer.now resumed.lines.now resumed.number resumed.stop line
     new.names.now new.reader.ghost_name new.writer.ghost_name new.reader.now new.writer.now new.lines.now new.number new.stop
-    → Does g first acts old → Does g first (ToldRoutes c line ∷ acts) new
-told_one g first old resumed new c line acts stop is adds done = told g.R.TextIn.takes g.R.TextIn.at_end g.R.TextIn.failures g.W.TextOut.puts g.W.TextOut.failures
+    → Does g first acts old → Does g first (ListedRoutes c line ∷ acts) new
+listed_one g first old resumed new c line acts stop is adds done = listed_lines g.R.TextIn.takes g.R.TextIn.at_end g.R.TextIn.failures g.W.TextOut.puts g.W.TextOut.failures
     first.names.now first.reader.ghost_name first.writer.ghost_name first.reader.now first.writer.now acts c line
     old.names.now old.reader.ghost_name old.writer.ghost_name old.reader.now old.writer.now old.lines.now old.number old.stop
     new.names.now new.reader.ghost_name new.writer.ghost_name new.reader.now new.writer.now new.lines.now new.number new.stop
@@ -63,18 +63,18 @@ told_one g first old resumed new c line acts stop is adds done = told g.R.TextIn
     done
 
 -- what lines are told: none where memory was refused
-some_told : (lines : Result (Vec ℕ) AllocError) → (told : List ℕ) × IfOk lines (λ made. made.items ≡ told)
-some_told (Ok made) = (made.items, refl)
-some_told (Err refused) = ([], tt)
+some_listed : (lines : Result (Vec ℕ) AllocError) → (listed_lines : List ℕ) × IfOk lines (λ made. made.items ≡ listed_lines)
+some_listed (Ok made) = (made.items, refl)
+some_listed (Err refused) = ([], tt)
 
-told_gone : (g : given.Over) (first old new : Recording g.row.R.Denot g.row.W.Denot g.row.P.Denot) (c : ℕ) (lines : Result (Vec ℕ) AllocError) (settings : Configuration) (core : Core)
-    → ((told : List ℕ) → IfOk lines (λ made. made.items ≡ told) → (acts : List Act) → Does g first acts old → Does g first (ToldRoutes c told ∷ acts) new)
-    → ((run : List Move) → Agrees core run → (told : List ℕ) × ListsOf (client_count core) run c (name_in first.names.now c) told × IfOk lines (λ made. made.items ≡ told))
+listed_gone : (g : given.Over) (first old new : Recording g.row.R.Denot g.row.W.Denot g.row.P.Denot) (c : ℕ) (lines : Result (Vec ℕ) AllocError) (settings : Configuration) (core : Core)
+    → ((listed_lines : List ℕ) → IfOk lines (λ made. made.items ≡ listed_lines) → (acts : List Act) → Does g first acts old → Does g first (ListedRoutes c listed_lines ∷ acts) new)
+    → ((run : List Move) → Agrees core run → (listed_lines : List ℕ) × ListsOf (client_count core) run c (name_in first.names.now c) listed_lines × IfOk lines (λ made. made.items ≡ listed_lines))
     → HasGone (λ link acts. Does g first acts link) settings (name_in first.names.now) core old → HasGone (λ link acts. Does g first acts link) settings (name_in first.names.now) core new
-told_gone g first old new c lines settings core one lists h =
+listed_gone g first old new c lines settings core one lists h =
     let found = lists h.run h.agrees in
     record {
-      acts = ToldRoutes c found.0 ∷ h.acts;
+      acts = ListedRoutes c found.0 ∷ h.acts;
       steps = h.steps;
       run = h.run;
       agrees = h.agrees;
@@ -86,18 +86,18 @@ told_gone g first old new c lines settings core one lists h =
 -- the replay is over, at this stop
 played_to : (g : given.Over) (first last : Recording g.row.R.Denot g.row.W.Denot g.row.P.Denot) (settings : Configuration) (core : Core) (stop : Stop) (answer : Result (Unit {0}) ReplayFault) (reader : g.row.R.Denot) (writer : g.row.W.Denot)
     → HasGone (λ link acts. Does g first acts link) settings (name_in first.names.now) core last → last.stop ≡ Some stop
-    → ((acts : List Act) → Plays g.R.TextIn.takes g.R.TextIn.at_end g.R.TextIn.failures g.W.TextOut.puts g.W.TextOut.failures (place_in last.names.now) first.reader.now first.writer.now (said acts) (written (name_in first.names.now) acts) last.reader.now last.writer.now last.lines.now last.number (Some stop)
-    → IsOver g.R.TextIn.takes g.R.TextIn.at_end g.W.TextOut.puts (place_in last.names.now) first.reader.now first.writer.now (said acts) (written (name_in first.names.now) acts) reader writer answer)
+    → ((acts : List Act) → Plays g.R.TextIn.takes g.R.TextIn.at_end g.R.TextIn.failures g.W.TextOut.puts g.W.TextOut.failures (place_in last.names.now) first.reader.now first.writer.now (lines_done acts) (written (name_in first.names.now) acts) last.reader.now last.writer.now last.lines.now last.number (Some stop)
+    → IsOver g.R.TextIn.takes g.R.TextIn.at_end g.W.TextOut.puts (place_in last.names.now) first.reader.now first.writer.now (lines_done acts) (written (name_in first.names.now) acts) reader writer answer)
     → PlaysOut settings g.R.TextIn.takes g.R.TextIn.at_end g.W.TextOut.puts first.names.now first.reader.now first.writer.now reader writer answer
 played_to g first last settings core stop answer reader writer h at over = record {
   acts = h.acts;
   course = course core h.steps h.run h.agrees;
   ran = h.ran;
   took = h.done.took;
-  over = subst (λ ns. Plays g.R.TextIn.takes g.R.TextIn.at_end g.R.TextIn.failures g.W.TextOut.puts g.W.TextOut.failures (place_in ns) first.reader.now first.writer.now (said h.acts) (written (name_in first.names.now) h.acts) last.reader.now last.writer.now last.lines.now last.number (Some stop)
-      → IsOver g.R.TextIn.takes g.R.TextIn.at_end g.W.TextOut.puts (place_in ns) first.reader.now first.writer.now (said h.acts) (written (name_in first.names.now) h.acts) reader writer answer)
+  over = subst (λ ns. Plays g.R.TextIn.takes g.R.TextIn.at_end g.R.TextIn.failures g.W.TextOut.puts g.W.TextOut.failures (place_in ns) first.reader.now first.writer.now (lines_done h.acts) (written (name_in first.names.now) h.acts) last.reader.now last.writer.now last.lines.now last.number (Some stop)
+      → IsOver g.R.TextIn.takes g.R.TextIn.at_end g.W.TextOut.puts (place_in ns) first.reader.now first.writer.now (lines_done h.acts) (written (name_in first.names.now) h.acts) reader writer answer)
       h.done.same_names (over h.acts)
-      (subst (λ x. Plays g.R.TextIn.takes g.R.TextIn.at_end g.R.TextIn.failures g.W.TextOut.puts g.W.TextOut.failures (place_in first.names.now) first.reader.now first.writer.now (said h.acts) (written (name_in first.names.now) h.acts) last.reader.now last.writer.now last.lines.now last.number x) at h.done.plays);
+      (subst (λ x. Plays g.R.TextIn.takes g.R.TextIn.at_end g.R.TextIn.failures g.W.TextOut.puts g.W.TextOut.failures (place_in first.names.now) first.reader.now first.writer.now (lines_done h.acts) (written (name_in first.names.now) h.acts) last.reader.now last.writer.now last.lines.now last.number x) at h.done.plays);
 }
 
 pub loop-init : goal.loop-init
@@ -123,12 +123,12 @@ loop-preserved-in-Some-Table g c =
     let before = led g first c.loop.recording last c.loop.invariant.0 c.drive_with.ensures.led in
     let name : c.name.result.now ≡ name_in first.names.now at =
     c.name.ensures ∙ ap (λ (r : Recording g.row.R.Denot g.row.W.Denot g.row.P.Denot). name_in r.names.now at) c.resume.ensures ∙ ap (λ ns. name_in ns at) before.1.same_names in
-    let one : (told : List ℕ) → IfOk lines (λ made. made.items ≡ told) → (acts : List Act) → Does g first acts last → Does g first (ToldRoutes at told ∷ acts) c.tell_routes.new.self =
-    λ told is acts done. told_one g first last c.resume.new.self c.tell_routes.new.self at told acts stop c.resume.ensures (c.tell_routes.ensures told is) done in
-    let some = some_told lines in (
+    let one : (listed_lines : List ℕ) → IfOk lines (λ made. made.items ≡ listed_lines) → (acts : List Act) → Does g first acts last → Does g first (ListedRoutes at listed_lines ∷ acts) c.list_routes.new.self =
+    λ listed_lines is acts done. listed_one g first last c.resume.new.self c.list_routes.new.self at listed_lines acts stop c.resume.ensures (c.list_routes.ensures listed_lines is) done in
+    let some = some_listed lines in (
       (_, one some.0 some.1 before.0 before.1),
-      λ settings clients agrees. told_gone g first last c.tell_routes.new.self at lines settings c.drive_with.new.core one
-          (subst (λ n. (run : List Move) → Agrees c.drive_with.new.core run → (told : List ℕ) × ListsOf (client_count c.drive_with.new.core) run at n told × IfOk lines (λ made. made.items ≡ told)) name c.route_lines-lines.ensures)
+      λ settings clients agrees. listed_gone g first last c.list_routes.new.self at lines settings c.drive_with.new.core one
+          (subst (λ n. (run : List Move) → Agrees c.drive_with.new.core run → (listed_lines : List ℕ) × ListsOf (client_count c.drive_with.new.core) run at n listed_lines × IfOk lines (λ made. made.items ≡ listed_lines)) name c.route_lines-lines.ensures)
           (gone g first c.loop.recording last settings c.loop.core c.drive_with.new.core c.drive_with.ensures.count c.drive_with.ensures.drives (c.loop.invariant.1 settings clients agrees)),
     )
 
@@ -142,12 +142,12 @@ loop-preserved g c =
     let before = led g first c.loop.recording last c.loop.invariant.0 c.drive_with.ensures.led in
     let name : c.name.result.now ≡ name_in first.names.now at =
     c.name.ensures ∙ ap (λ (r : Recording g.row.R.Denot g.row.W.Denot g.row.P.Denot). name_in r.names.now at) c.resume.ensures ∙ ap (λ ns. name_in ns at) before.1.same_names in
-    let one : (told : List ℕ) → IfOk lines (λ made. made.items ≡ told) → (acts : List Act) → Does g first acts last → Does g first (ToldRoutes at told ∷ acts) c.tell_routes.new.self =
-    λ told is acts done. told_one g first last c.resume.new.self c.tell_routes.new.self at told acts stop c.resume.ensures (c.tell_routes.ensures told is) done in
-    let some = some_told lines in (
+    let one : (listed_lines : List ℕ) → IfOk lines (λ made. made.items ≡ listed_lines) → (acts : List Act) → Does g first acts last → Does g first (ListedRoutes at listed_lines ∷ acts) c.list_routes.new.self =
+    λ listed_lines is acts done. listed_one g first last c.resume.new.self c.list_routes.new.self at listed_lines acts stop c.resume.ensures (c.list_routes.ensures listed_lines is) done in
+    let some = some_listed lines in (
       (_, one some.0 some.1 before.0 before.1),
-      λ settings clients agrees. told_gone g first last c.tell_routes.new.self at lines settings c.drive_with.new.core one
-          (subst (λ n. (run : List Move) → Agrees c.drive_with.new.core run → (told : List ℕ) × ListsOf (client_count c.drive_with.new.core) run at n told × IfOk lines (λ made. made.items ≡ told)) name c.route_lines-lines.ensures)
+      λ settings clients agrees. listed_gone g first last c.list_routes.new.self at lines settings c.drive_with.new.core one
+          (subst (λ n. (run : List Move) → Agrees c.drive_with.new.core run → (listed_lines : List ℕ) × ListsOf (client_count c.drive_with.new.core) run at n listed_lines × IfOk lines (λ made. made.items ≡ listed_lines)) name c.route_lines-lines.ensures)
           (gone g first c.loop.recording last settings c.loop.core c.drive_with.new.core c.drive_with.ensures.count c.drive_with.ensures.drives (c.loop.invariant.1 settings clients agrees)),
     )
 
@@ -164,7 +164,7 @@ returns-in-Some-End-clause-played g c = λ settings clients agrees.
     played_to g first last settings c.drive_with.new.core End (Ok tt) last.reader.now last.writer.now
     (gone g first c.loop.recording last settings c.loop.core c.drive_with.new.core c.drive_with.ensures.count c.drive_with.ensures.drives (c.loop.invariant.1 settings clients agrees))
     (sym c.stop.ensures ∙ c.in-Some-End.is ∙ ap Some c.in-Some-End.field-0-is)
-    (λ acts p. over_at_end g.R.TextIn.takes g.R.TextIn.at_end g.R.TextIn.failures g.W.TextOut.puts g.W.TextOut.failures (place_in last.names.now) first.reader.now first.writer.now (said acts) (written (name_in first.names.now) acts) last.reader.now last.writer.now last.lines.now last.number p)
+    (λ acts p. over_at_end g.R.TextIn.takes g.R.TextIn.at_end g.R.TextIn.failures g.W.TextOut.puts g.W.TextOut.failures (place_in last.names.now) first.reader.now first.writer.now (lines_done acts) (written (name_in first.names.now) acts) last.reader.now last.writer.now last.lines.now last.number p)
 
 pub returns-in-Some-Fault-clause-reader : goal.returns-in-Some-Fault-clause-reader
 returns-in-Some-Fault-clause-reader g c = c.end_at.ensures.reader ∙ (led g c.args.recording.now c.loop.recording c.drive_with.new.link c.loop.invariant.0 c.drive_with.ensures.led).1.same_reader
@@ -179,8 +179,8 @@ returns-in-Some-Fault-clause-played g c = λ settings clients agrees.
     let at = sym c.stop.ensures ∙ c.in-Some-Fault.is in
     played_to g first last settings c.drive_with.new.core c.in-Some-Fault.field-0 (Err c.end_at.result) c.end_at.new.self.reader.now c.end_at.new.self.writer.now
     (gone g first c.loop.recording last settings c.loop.core c.drive_with.new.core c.drive_with.ensures.count c.drive_with.ensures.drives (c.loop.invariant.1 settings clients agrees)) at
-    (λ acts p. c.end_at.ensures.over first.reader.now first.writer.now (said acts) (written (name_in first.names.now) acts)
-    (subst (λ x. Plays g.R.TextIn.takes g.R.TextIn.at_end g.R.TextIn.failures g.W.TextOut.puts g.W.TextOut.failures (place_in last.names.now) first.reader.now first.writer.now (said acts) (written (name_in first.names.now) acts) last.reader.now last.writer.now last.lines.now last.number x) (sym at) p))
+    (λ acts p. c.end_at.ensures.over first.reader.now first.writer.now (lines_done acts) (written (name_in first.names.now) acts)
+    (subst (λ x. Plays g.R.TextIn.takes g.R.TextIn.at_end g.R.TextIn.failures g.W.TextOut.puts g.W.TextOut.failures (place_in last.names.now) first.reader.now first.writer.now (lines_done acts) (written (name_in first.names.now) acts) last.reader.now last.writer.now last.lines.now last.number x) (sym at) p))
 
 pub returns-in-Some-End-clause-reads : goal.returns-in-Some-End-clause-reads
 returns-in-Some-End-clause-reads g c =

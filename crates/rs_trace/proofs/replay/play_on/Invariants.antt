@@ -2,8 +2,8 @@
 use Rattle.std.proofs.Common.{◌≡◌, List, [], ◌∷◌, length}
 use Rattle.rs_policy.specs.Configuration.{Configuration}
 use Rattle.rs_core.specs.Core.{client_count}
-use Rattle.rs_core.specs.Moves.{Ruled}
-use Rattle.rs_core.specs.Agreeing.{Agrees}
+use Rattle.rs_core.specs.Run.Moves.{Ruled}
+use Rattle.rs_core.specs.Run.Agreeing.{Agrees}
 use Rattle.rs_trace.specs.declared.recording.Recording.{Recording}
 use Rattle.rs_trace.specs.Played.{Act}
 use Rattle.rs_trace.specs.Replays.{HasDone, name_in}

@@ -107,9 +107,9 @@ pub returns-clause-mandatory : goal.returns-clause-mandatory
 returns-clause-mandatory c =
     seen_complete c.if-treats_as_withdraw.withdrawn.attrs (has_mandatory c.args.body.now c.args.mode (change_seen c.if-treats_as_withdraw.withdrawn) (returns-clause-effect c))
 
-pub returns-clause-told : goal.returns-clause-told
-returns-clause-told c = λ fields is. (
+pub returns-clause-faults_noted : goal.returns-clause-faults_noted
+returns-clause-faults_noted c = λ fields is. (
     let found = fields_in c.in-Some.fields in
     let are = body_of_fields c.args.body.now found (λ i. omega (arith, c.type_inv.body i)) (sym c.cut_body.ensures ∙ ap (option_map fields_in) c.in-Some.is) in
-    c.told-faulted.ensures ∙ tells c.args.body.now c.args.mode found fields c.in_ok-parsed.parsed.attrs c.in_ok-parsed.parsed.faults c.in_ok-parsed.parsed.faulted _
-    (are_octets c.args.body.now (λ i. omega (arith, c.type_inv.body i))) are is c.in_ok-parsed.ensures.reads c.in_ok-parsed.ensures.told c.missing-missing.ensures.first)
+    c.faults_noted-faulted.ensures ∙ tells c.args.body.now c.args.mode found fields c.in_ok-parsed.parsed.attrs c.in_ok-parsed.parsed.faults c.in_ok-parsed.parsed.faulted _
+    (are_octets c.args.body.now (λ i. omega (arith, c.type_inv.body i))) are is c.in_ok-parsed.ensures.reads c.in_ok-parsed.ensures.faults_noted c.missing-missing.ensures.first)

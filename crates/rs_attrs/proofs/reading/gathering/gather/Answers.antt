@@ -3,7 +3,7 @@ use Rattle.rs_attrs.specs.declared.reading.field.Found.{Found}
 use Rattle.rs_attrs.specs.Flaws.{with_flaw}
 use Rattle.rs_attrs.specs.Walking.{spelling_in}
 use Rattle.smallvec.specs.SmallVec.{SmallVec}
-use Rattle.rs_attrs.proofs.Fields.GatherWalk.{gathering_start, gathering_kept, kept_new, gathering_told, rest_faulted}
+use Rattle.rs_attrs.proofs.Fields.GatherWalk.{gathering_start, gathering_kept, kept_new, gathering_noted, rest_faulted}
 use Rattle.rs_attrs.proofs.reading.gathering.gather.Goals as goal
 use Rattle.rs_attrs.proofs.reading.gathering.gather.Goals.{then-counts+in_ok-keep, else-counts}
 
@@ -17,16 +17,16 @@ pub loop-found-preserved : goal.loop-found-preserved
 loop-found-preserved c = elim c.if-counts.branch [
   | then-counts+in_ok-keep w ↦
       gathering_kept _ _ _ _ _ _ _ _ _ _ (spelling_in c.in-Some.found) c.from-place.result c.counts.result c.loop-found.invariant c.in-Some.ensures.step (omega (arith, c.in-Some.ensures.byte)) c.from-place.ensures c.counts.ensures w.if-counts.true
-      w.told-is
+      w.faults_noted-is
       (ap (λ (v : SmallVec Found). v.items) w.kept-is)
       w.in_ok-keep.ensures.rising
       w.in_ok-keep.ensures.noted
   | else-counts w ↦
-      gathering_told _ _ _ _ _ _ _ _ _ (spelling_in c.in-Some.found) c.from-place.result c.counts.result c.loop-found.invariant c.in-Some.ensures.step (omega (arith, c.in-Some.ensures.byte)) c.from-place.ensures c.counts.ensures w.if-counts.false
+      gathering_noted _ _ _ _ _ _ _ _ _ (spelling_in c.in-Some.found) c.from-place.result c.counts.result c.loop-found.invariant c.in-Some.ensures.step (omega (arith, c.in-Some.ensures.byte)) c.from-place.ensures c.counts.ensures w.if-counts.false
       (ap (λ (v : SmallVec Found). v.items) w.kept-is)
-      (w.told-is ∙ w.take_note.ensures)
+      (w.faults_noted-is ∙ w.take_note.ensures)
 ]
 
 pub returns-then-not-is_empty-clause-faulted : goal.returns-then-not-is_empty-clause-faulted
 returns-then-not-is_empty-clause-faulted c =
-    c.noting-told.ensures ∙ ap (with_flaw c.loop-found.told.faulted) c.flaw_of_rest.ensures ∙ rest_faulted _ _ _ _ _ _ c.loop-found.invariant c.in_default.ensures.step
+    c.noting-faults_noted.ensures ∙ ap (with_flaw c.loop-found.faults_noted.faulted) c.flaw_of_rest.ensures ∙ rest_faulted _ _ _ _ _ _ c.loop-found.invariant c.in_default.ensures.step

@@ -1,4 +1,4 @@
-use Rattle.rs_core.proofs.Noticing.{noticed}
+use Rattle.rs_core.proofs.Session.Noticing.{noticed}
 use Rattle.rs_core.proofs.endings.Notice.with.Goals as goal
 
 pub returns : goal.returns

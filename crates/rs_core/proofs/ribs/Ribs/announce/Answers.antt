@@ -1,8 +1,8 @@
 use Rattle.std.proofs.Common.{Some, ◌∙◌, refl}
 use Rattle.std.specs.Arc.{arc_value}
 use Rattle.rs_adjin.specs.AdjIns.{held_of}
-use Rattle.rs_core.proofs.Numbers.{same_kept, kept_on}
-use Rattle.rs_core.proofs.Changing.{changed_is, unchanged_is, same_on, sets_on, sets_nothing, told_others, told_nobody}
+use Rattle.rs_core.proofs.Run.Numbers.{same_kept, kept_on}
+use Rattle.rs_core.proofs.Run.Changing.{changed_is, unchanged_is, same_on, sets_on, sets_nothing, told_others, told_nobody}
 use Rattle.rs_core.proofs.ribs.Ribs.announce.Goals as goal
 
 pub returns-in_err-number-clause-kept : goal.returns-in_err-number-clause-kept

@@ -1,6 +1,6 @@
 use Rattle.std.proofs.Common.{refl}
-use Rattle.rs_core.proofs.Numbers.{numbered_left}
-use Rattle.rs_core.proofs.Freshness.{same_fresh}
+use Rattle.rs_core.proofs.Run.Numbers.{numbered_left}
+use Rattle.rs_core.proofs.Run.Freshness.{same_fresh}
 use Rattle.rs_core.proofs.ribs.Ribs.give_up.Goals as goal
 
 pub returns-then-is_unused-clause-kept : goal.returns-then-is_unused-clause-kept

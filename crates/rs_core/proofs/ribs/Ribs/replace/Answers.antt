@@ -1,7 +1,7 @@
 use Rattle.std.proofs.Common.{subst}
-use Rattle.rs_core.specs.Turns.{IsMarked}
-use Rattle.rs_core.proofs.Walks.{walk_on, walk_ends, all_changed, all_numbered}
-use Rattle.rs_core.proofs.Freshness.{marked_fresh}
+use Rattle.rs_core.specs.Touched.Turns.{IsMarked}
+use Rattle.rs_core.proofs.Run.Loops.{walk_on, walk_ends, all_changed, all_numbered}
+use Rattle.rs_core.proofs.Run.Freshness.{marked_fresh}
 use Rattle.rs_core.proofs.ribs.Ribs.replace.Goals as goal
 
 pub loop-c-preserved : goal.loop-c-preserved

@@ -1,5 +1,5 @@
-use Rattle.rs_core.specs.Turns.{IsMarked}
-use Rattle.rs_core.proofs.Walks.{IsWalked}
+use Rattle.rs_core.specs.Touched.Turns.{IsMarked}
+use Rattle.rs_core.proofs.Run.Loops.{IsWalked}
 use Rattle.rs_core.proofs.ribs.Ribs.replace.Given as goal
 
 abbrev pub invariant-loop-c : goal.invariant-loop-c

@@ -1,4 +1,4 @@
-use Rattle.rs_core.proofs.Changing.{sweep_begins, sweep_on}
+use Rattle.rs_core.proofs.Run.Changing.{sweep_begins, sweep_on}
 use Rattle.rs_core.proofs.ribs.Ribs.sweep.Goals as goal
 
 pub loop-step-init : goal.loop-step-init

@@ -1,4 +1,4 @@
-use Rattle.rs_core.proofs.Changing.{IsSwept}
+use Rattle.rs_core.proofs.Run.Changing.{IsSwept}
 use Rattle.rs_core.proofs.ribs.Ribs.sweep.Given as goal
 
 abbrev pub invariant-loop-step : goal.invariant-loop-step

@@ -1,6 +1,6 @@
 use Rattle.std.proofs.Common.{refl}
-use Rattle.rs_core.specs.Turns.{IsMarked}
-use Rattle.rs_core.proofs.Walks.{own_set}
+use Rattle.rs_core.specs.Touched.Turns.{IsMarked}
+use Rattle.rs_core.proofs.Run.Loops.{own_set}
 use Rattle.rs_core.proofs.ribs.Ribs.touch_all.Goals as goal
 
 pub returns-clause-outlet : goal.returns-clause-outlet

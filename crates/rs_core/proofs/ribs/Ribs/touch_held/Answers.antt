@@ -1,7 +1,7 @@
 use Rattle.std.proofs.Common.{subst, sym, ◌+◌}
 use Rattle.rs_outlet.specs.Views.{AreNumbered}
-use Rattle.rs_core.specs.Touches.{IsTouchedWhereHeld}
-use Rattle.rs_core.proofs.Walks.{IsWalked, IsOtherThan, walk_begins, walk_on, walk_past, own_same, other_stirred, others_changed, others_numbered, walk_ends}
+use Rattle.rs_core.specs.Touched.Touches.{IsTouchedWhereHeld}
+use Rattle.rs_core.proofs.Run.Loops.{IsWalked, IsOtherThan, walk_begins, walk_on, walk_past, own_same, other_touched, others_changed, others_numbered, walk_ends}
 use Rattle.rs_core.proofs.ribs.Ribs.touch_held.Goals as goal
 use Rattle.rs_core.proofs.ribs.Ribs.touch_held.Goals.{then-d-c, else-d-c}
 
@@ -12,7 +12,7 @@ pub loop-d-preserved : goal.loop-d-preserved
 loop-d-preserved c = elim c.if-d-c.branch [
   | then-d-c w ↦ subst (λ r. IsWalked (IsOtherThan c.args.c c.args.self.now.tables (IsTouchedWhereHeld c.args.self.now.tables c.args.c)) (c.loop-d.d + 1) c.args.self.now r) (sym w.self-is)
       (walk_on _ _ c.loop-d.d c.args.self.now c.loop-d.self w.touch_held_for.new.self c.loop-d-test.true c.loop-d.invariant w.touch_held_for.ensures.settings w.touch_held_for.ensures.tables w.touch_held_for.ensures.outlet
-      (λ v x by. other_stirred c.args.c c.args.self.now.tables (IsTouchedWhereHeld c.args.self.now.tables c.args.c) c.loop-d.d v x w.if-d-c.true
+      (λ v x by. other_touched c.args.c c.args.self.now.tables (IsTouchedWhereHeld c.args.self.now.tables c.args.c) c.loop-d.d v x w.if-d-c.true
       (subst (λ ins. AreNumbered v ins → IsTouchedWhereHeld ins c.args.c v x × AreNumbered x ins) c.loop-d.invariant.tables by)))
   | else-d-c w ↦ subst (λ r. IsWalked (IsOtherThan c.args.c c.args.self.now.tables (IsTouchedWhereHeld c.args.self.now.tables c.args.c)) (c.loop-d.d + 1) c.args.self.now r) (sym w.self-is)
       (walk_past _ c.loop-d.d c.args.self.now c.loop-d.self c.loop-d.invariant (λ v. own_same c.args.c c.args.self.now.tables (IsTouchedWhereHeld c.args.self.now.tables c.args.c) c.loop-d.d v w.if-d-c.false))

@@ -1,5 +1,5 @@
-use Rattle.rs_core.specs.Touches.{IsTouchedWhereHeld}
-use Rattle.rs_core.proofs.Walks.{IsWalked, IsOtherThan}
+use Rattle.rs_core.specs.Touched.Touches.{IsTouchedWhereHeld}
+use Rattle.rs_core.proofs.Run.Loops.{IsWalked, IsOtherThan}
 use Rattle.rs_core.proofs.ribs.Ribs.touch_held.Given as goal
 
 abbrev pub invariant-loop-d : goal.invariant-loop-d

@@ -1,6 +1,6 @@
 use Rattle.std.proofs.Common.{[], ◌∷◌}
-use Rattle.rs_core.specs.Touches.{IsTouchedAt}
-use Rattle.rs_core.proofs.Walks.{IsWalked, IsOtherThan}
+use Rattle.rs_core.specs.Touched.Touches.{IsTouchedAt}
+use Rattle.rs_core.proofs.Run.Loops.{IsWalked, IsOtherThan}
 use Rattle.rs_core.proofs.ribs.Ribs.touch_others.Given as goal
 
 abbrev pub invariant-loop-d : goal.invariant-loop-d

@@ -1,7 +1,7 @@
 use Rattle.std.proofs.Common.{subst}
-use Rattle.rs_core.specs.Turns.{IsTurn}
-use Rattle.rs_core.proofs.Walks.{walk_begins, walk_on, walk_ends, all_changed, all_numbered}
-use Rattle.rs_core.proofs.Turned.{turn_numbered, turned_fresh}
+use Rattle.rs_core.specs.Touched.Turns.{IsTurn}
+use Rattle.rs_core.proofs.Run.Loops.{walk_begins, walk_on, walk_ends, all_changed, all_numbered}
+use Rattle.rs_core.proofs.Touched.Turned.{turn_numbered, turned_fresh}
 use Rattle.rs_core.proofs.ribs.Ribs.turn.Goals as goal
 
 pub loop-c-init : goal.loop-c-init

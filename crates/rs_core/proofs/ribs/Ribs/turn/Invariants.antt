@@ -1,5 +1,5 @@
-use Rattle.rs_core.specs.Turns.{IsTurn}
-use Rattle.rs_core.proofs.Walks.{IsWalked}
+use Rattle.rs_core.specs.Touched.Turns.{IsTurn}
+use Rattle.rs_core.proofs.Run.Loops.{IsWalked}
 use Rattle.rs_core.proofs.ribs.Ribs.turn.Given as goal
 
 abbrev pub invariant-loop-c : goal.invariant-loop-c

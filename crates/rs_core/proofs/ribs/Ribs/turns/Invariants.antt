@@ -1,5 +1,5 @@
 use Rattle.std.proofs.Common.{◌≡◌, ◌+◌, drop}
-use Rattle.rs_core.specs.Turns.{refused_in}
+use Rattle.rs_core.specs.Touched.Turns.{refused_in}
 use Rattle.rs_core.proofs.ribs.Ribs.turns.Given as goal
 
 abbrev pub invariant-loop-outlet : goal.invariant-loop-outlet

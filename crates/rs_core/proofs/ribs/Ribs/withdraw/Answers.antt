@@ -1,8 +1,8 @@
 use Rattle.std.proofs.Common.{◌≡◌, false, true, None, ap, sym, ◌∙◌, refl}
 use Rattle.std.specs.Prelude.{is_some}
 use Rattle.rs_adjin.specs.AdjIns.{held_of}
-use Rattle.rs_core.proofs.Numbers.{same_kept}
-use Rattle.rs_core.proofs.Changing.{none_of, sets_nothing, told_others, told_nobody}
+use Rattle.rs_core.proofs.Run.Numbers.{same_kept}
+use Rattle.rs_core.proofs.Run.Changing.{none_of, sets_nothing, told_others, told_nobody}
 use Rattle.rs_core.proofs.ribs.Ribs.withdraw.Goals as goal
 
 pub returns-then-withdraw-clause-touched : goal.returns-then-withdraw-clause-touched

@@ -1,6 +1,6 @@
 use Rattle.std.specs.Prelude.{take, Some}
 use Rattle.std.specs.Arc.{arc_value}
-use Rattle.rs_core.specs.Steps.{ChangesRoutes, HasOverlaid}
+use Rattle.rs_core.specs.Run.Parts.{ChangesRoutes, HasOverlaid}
 use Rattle.rs_core.proofs.route_server.Core.announce_all.Given as goal
 
 abbrev pub invariant-loop-prefix : goal.invariant-loop-prefix

@@ -1,10 +1,10 @@
 use Rattle.std.proofs.Common.{refl}
-use Rattle.rs_outlet.specs.Begun.{HasBegun}
+use Rattle.rs_outlet.specs.Message.Begun.{HasBegun}
 use Rattle.rs_core.specs.Core.{client_count}
-use Rattle.rs_core.proofs.Growing.{began_agrees}
-use Rattle.rs_core.proofs.KeptAnswers.{own_answers}
-use Rattle.rs_core.proofs.Outgoing.{begun_agrees, begun_last}
-use Rattle.rs_core.proofs.Paying.{begun_owes_no_more}
+use Rattle.rs_core.proofs.Touched.Growing.{began_agrees}
+use Rattle.rs_core.proofs.Touched.KeptAnswers.{own_answers}
+use Rattle.rs_core.proofs.Run.Outgoing.{begun_agrees, begun_last}
+use Rattle.rs_core.proofs.Owed.Sending.{begun_owes_no_more}
 use Rattle.rs_core.proofs.route_server.Core.begin.Goals as goal
 
 pub returns-clause-owes : goal.returns-clause-owes

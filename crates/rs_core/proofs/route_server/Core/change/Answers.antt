@@ -11,19 +11,19 @@ use Rattle.rs_session.specs.declared.heard.Heard.TheVariants as heard
 use Rattle.rs_session.specs.declared.act.Act.TheVariants as acts
 use Rattle.rs_session.specs.Items.{Message}
 use Rattle.rs_core.specs.Core.{client_count}
-use Rattle.rs_core.specs.Hearing.{session_in, changing, takes_in}
-use Rattle.rs_core.specs.Watching.{ending_by, no_faults}
+use Rattle.rs_core.specs.Session.Hearing.{session_in, changing, takes_in}
+use Rattle.rs_core.specs.Session.OperatorRecords.{ending_by, no_faults}
 use Rattle.rs_core.specs.declared.endings.Watched.{Watched}
-use Rattle.rs_core.proofs.Lists.{on_err, map_ok}
-use Rattle.rs_core.proofs.Watching.{noted_by, others_kept}
-use Rattle.rs_core.proofs.Acting.{acted, acted_spares, asked_by_message}
-use Rattle.rs_core.proofs.Voicing.{never_open_by_message}
-use Rattle.rs_core.proofs.Around.{voices_on}
-use Rattle.rs_core.proofs.KeptAnswers.{answers_on, routes_answers}
-use Rattle.rs_core.proofs.Stirring.{stirs_withdrawn}
-use Rattle.rs_core.proofs.Updating.{changed, changed_within, cut_after, none_there, not_taken}
+use Rattle.rs_core.proofs.Run.Lists.{on_err, map_ok}
+use Rattle.rs_core.proofs.Session.OperatorRecords.{noted_by, others_kept}
+use Rattle.rs_core.proofs.Run.Acting.{acted, acted_spares, asked_by_message}
+use Rattle.rs_core.proofs.Told.BySession.{never_open_by_message}
+use Rattle.rs_core.proofs.Run.Around.{others_alone_on}
+use Rattle.rs_core.proofs.Touched.KeptAnswers.{answers_on, routes_answers}
+use Rattle.rs_core.proofs.Touched.ChangedPrefixes.{touches_withdrawn}
+use Rattle.rs_core.proofs.Session.Updating.{changed, changed_within, cut_after, none_there, not_taken}
 use Rattle.rs_outlet.specs.Views.{View}
-use Rattle.rs_core.proofs.Raising.{item_keeps, keeps_same}
+use Rattle.rs_core.proofs.Touched.OwnSession.{item_keeps, keeps_same}
 use Rattle.rs_core.proofs.route_server.Core.change.Goals as goal
 
 pub returns-in-Some-clause-refused : goal.returns-in-Some-clause-refused
@@ -45,7 +45,7 @@ returns-in_default c =
     let was = slice_get_read _ _ _ _ (sym c.args.self.now.watched_len) c.requires.client c.index_mut-in_default.ensures.value in
     let noting = ap (λ (v : Vec Watched). v.items) c.act.ensures.watched in
     record {
-      spares = acted_spares c.args.self.now c.act.new.self c.args.c c.message.new.self c.act.ensures.count c.act.ensures.config lt set c.act.ensures.buffers c.act.ensures.others c.act.ensures.voices
+      spares = acted_spares c.args.self.now c.act.new.self c.args.c c.message.new.self c.act.ensures.count c.act.ensures.config lt set c.act.ensures.buffers c.act.ensures.others c.act.ensures.others_alone
           (others_kept kept c.act.new.self.watched.items c.args.c c.end.new.self there noting) c.act.ensures.answers;
       buffers = c.act.ensures.buffers;
       heard = λ s h change live knows same. acted c.args.self.now c.act.new.self c.message.result (Message (heard.Update None)) c.index_mut.result.now c.message.new.self s c.args.c h
@@ -55,7 +55,7 @@ returns-in_default c =
           (ending_by []) (noted_by kept c.act.new.self.watched.items c.args.c c.index_mut-in_default.result.now c.end.new.self c.ending_by.result (ending_by [] c.message.result) was there noting c.ending_by.ensures c.end.ensures) refl refl knows;
       refused = tt;
       part = tt;
-      stirs = λ apart. c.act.ensures.stirs;
+      others_touched = λ apart. c.act.ensures.others_touched;
       keeps = λ s h config knows none. item_keeps c.args.self.now c.act.new.self c.message.result (Message (heard.Update None)) c.index_mut.result.now c.message.new.self s c.args.c h read lt c.message.ensures.hears c.act.ensures.own config knows none;
     }
 
@@ -81,7 +81,7 @@ returns-in-Some-clause-spares c =
       held = λ d p ne. c.announce_all.ensures.alone.others.held d p ne ∙ c.withdraw_all.ensures.alone.others.held d p ne;
       identifiers = λ d ne. c.announce_all.ensures.alone.others.identifiers d ne ∙ c.withdraw_all.ensures.alone.others.identifiers d ne;
     })
-    (voices_on c.args.c c.args.self.now.ribs c.withdraw_all.new.self.ribs c.announce_all.new.self.ribs (c.withdraw_all.new.self.ribs_len ∙ c.withdraw_all.ensures.alone.count ∙ sym c.args.self.now.ribs_len)
+    (others_alone_on c.args.c c.args.self.now.ribs c.withdraw_all.new.self.ribs c.announce_all.new.self.ribs (c.withdraw_all.new.self.ribs_len ∙ c.withdraw_all.ensures.alone.count ∙ sym c.args.self.now.ribs_len)
     c.withdraw_all.ensures.alone.touched.others c.announce_all.ensures.alone.touched.others)
     (λ d ne. ap (λ (v : Vec Watched). slice_get v.items d) (c.announce_all.ensures.alone.watched ∙ c.withdraw_all.ensures.alone.watched))
     (answers_on c.args.self.now.ribs c.withdraw_all.new.self.ribs c.announce_all.new.self.ribs (c.withdraw_all.new.self.ribs_len ∙ c.withdraw_all.ensures.alone.count ∙ sym c.args.self.now.ribs_len)
@@ -106,14 +106,14 @@ returns-in-Some-clause-part c = on_err c.announce_all.result (λ apart s h chang
     (slice_get_read _ _ _ _ (sym c.args.self.now.sessions_len) c.requires.client c.index_mut.ensures.value) c.in-None.ensures.hears c.in-None.ensures.takes c.withdraw_all.ensures.held c.announce_all.ensures.part apart live
     (subst (λ o. IsSameChange (record { withdrawn = c.args.withdrawn.now; announced = c.args.announced.now; attributes = option_map arc_value o }) change) c.in-Some.is same) knows p differs)
 
-pub returns-in-None-attrs-clause-stirs : goal.returns-in-None-attrs-clause-stirs
-returns-in-None-attrs-clause-stirs c = λ apart. c.withdraw_all.ensures.alone.stirs
+pub returns-in-None-attrs-clause-others_touched : goal.returns-in-None-attrs-clause-others_touched
+returns-in-None-attrs-clause-others_touched c = λ apart. c.withdraw_all.ensures.alone.others_touched
 
-pub returns-in-Some-clause-stirs : goal.returns-in-Some-clause-stirs
+pub returns-in-Some-clause-others_touched : goal.returns-in-Some-clause-others_touched
 unfolding client_count
-returns-in-Some-clause-stirs c = λ apart.
-    stirs_withdrawn c.args.c c.args.withdrawn.now c.args.announced.now (Some (arc_value c.in-Some.attrs)) c.args.self.now.ribs c.withdraw_all.new.self.ribs c.announce_all.new.self.ribs (c.withdraw_all.new.self.ribs_len ∙ c.withdraw_all.ensures.alone.count ∙ sym c.args.self.now.ribs_len)
-    c.withdraw_all.ensures.held c.announce_all.ensures.part apart c.withdraw_all.ensures.alone.stirs c.announce_all.ensures.alone.stirs
+returns-in-Some-clause-others_touched c = λ apart.
+    touches_withdrawn c.args.c c.args.withdrawn.now c.args.announced.now (Some (arc_value c.in-Some.attrs)) c.args.self.now.ribs c.withdraw_all.new.self.ribs c.announce_all.new.self.ribs (c.withdraw_all.new.self.ribs_len ∙ c.withdraw_all.ensures.alone.count ∙ sym c.args.self.now.ribs_len)
+    c.withdraw_all.ensures.held c.announce_all.ensures.part apart c.withdraw_all.ensures.alone.others_touched c.announce_all.ensures.alone.others_touched
 
 pub returns-in-None-attrs-clause-keeps : goal.returns-in-None-attrs-clause-keeps
 returns-in-None-attrs-clause-keeps c = λ s h config knows none.

@@ -4,18 +4,18 @@ use Rattle.rs_session.specs.Sessions.{agreed_of}
 use Rattle.rs_session.specs.Hearing.{HasHeard}
 use Rattle.rs_core.specs.Core.{client_count}
 use Rattle.rs_core.specs.Ribs.{outlet_in}
-use Rattle.rs_core.specs.Voices.{IsRaised}
+use Rattle.rs_core.specs.Told.Outlets.{HasComeUp}
 use Rattle.rs_outlet.specs.Views.{View}
-use Rattle.rs_core.proofs.Around.{around_voices}
-use Rattle.rs_core.proofs.KeptAnswers.{around_answers, same_answers}
-use Rattle.rs_core.proofs.Stirring.{around_stirs, stirs_same}
-use Rattle.rs_core.proofs.Lists.{some_is}
-use Rattle.rs_core.proofs.Alike.{begun_raised}
-use Rattle.rs_core.proofs.Voicing.{raised_is}
+use Rattle.rs_core.proofs.Run.Around.{around_others_alone}
+use Rattle.rs_core.proofs.Touched.KeptAnswers.{around_answers, same_answers}
+use Rattle.rs_core.proofs.Touched.ChangedPrefixes.{around_touches, touches_others_same}
+use Rattle.rs_core.proofs.Run.Lists.{some_is}
+use Rattle.rs_core.proofs.Told.Alike.{begun_come_up}
+use Rattle.rs_core.proofs.Told.BySession.{come_up_is}
 use Rattle.rs_core.proofs.route_server.Core.come_up.Goals as goal
 
-pub returns-in-Some-clause-voices : goal.returns-in-Some-clause-voices
-returns-in-Some-clause-voices c = around_voices c.args.c _ c.args.self.now.ribs.tables c.args.self.now.ribs c.come_up.new.self (c.come_up.ensures.outlet c.args.self.now.numbered)
+pub returns-in-Some-clause-others_alone : goal.returns-in-Some-clause-others_alone
+returns-in-Some-clause-others_alone c = around_others_alone c.args.c _ c.args.self.now.ribs.tables c.args.self.now.ribs c.come_up.new.self (c.come_up.ensures.outlet c.args.self.now.numbered)
 
 pub returns-in-Some-clause-own : goal.returns-in-Some-clause-own
 unfolding client_count
@@ -23,13 +23,13 @@ returns-in-Some-clause-own c = λ none x read settings items has _.
     let ribs = c.args.self.now.ribs in
     let here = slice_get_read _ _ _ _ (sym c.args.self.now.sessions_len) c.requires c.index-session.ensures in
     let heard = subst (λ y. HasHeard y settings items) (some_is x c.index-session.result.now (sym read ∙ here)) has in
-    subst (λ o. IsRaised o (outlet_in ribs c.args.c none) (outlet_in c.come_up.new.self c.args.c none))
-    (raised_is (agreed_of settings items) ribs.extended settings c.in-Some.mode c.limit-limit.result (sym c.in-Some.is ∙ c.mode.ensures.mode settings items heard) (c.limit-limit.ensures.limit settings items heard))
-    (begun_raised _ (outlet_in ribs c.args.c none) (outlet_in c.come_up.new.self c.args.c none)
+    subst (λ o. HasComeUp o (outlet_in ribs c.args.c none) (outlet_in c.come_up.new.self c.args.c none))
+    (come_up_is (agreed_of settings items) ribs.extended settings c.in-Some.mode c.limit-limit.result (sym c.in-Some.is ∙ c.mode.ensures.mode settings items heard) (c.limit-limit.ensures.limit settings items heard))
+    (begun_come_up _ (outlet_in ribs c.args.c none) (outlet_in c.come_up.new.self c.args.c none)
     ((c.come_up.ensures.outlet c.args.self.now.numbered).own none (subst (λ n. c.args.c < n) (sym c.args.self.now.ribs_len) c.requires)))
 
-pub returns-in-Some-clause-stirs : goal.returns-in-Some-clause-stirs
-returns-in-Some-clause-stirs c = around_stirs c.args.c _ _ c.args.self.now.ribs c.come_up.new.self c.come_up.ensures.held (c.come_up.ensures.outlet c.args.self.now.numbered)
+pub returns-in-Some-clause-others_touched : goal.returns-in-Some-clause-others_touched
+returns-in-Some-clause-others_touched c = around_touches c.args.c _ _ c.args.self.now.ribs c.come_up.new.self c.come_up.ensures.held (c.come_up.ensures.outlet c.args.self.now.numbered)
 
 pub returns-in-Some-clause-answers : goal.returns-in-Some-clause-answers
 returns-in-Some-clause-answers c =
@@ -38,5 +38,5 @@ returns-in-Some-clause-answers c =
 pub returns-in_default-clause-answers : goal.returns-in_default-clause-answers
 returns-in_default-clause-answers c = same_answers c.args.self.now.ribs c.args.self.now.ribs refl
 
-pub returns-in_default-clause-stirs : goal.returns-in_default-clause-stirs
-returns-in_default-clause-stirs c = stirs_same c.args.c c.args.self.now.ribs c.args.self.now.ribs refl
+pub returns-in_default-clause-others_touched : goal.returns-in_default-clause-others_touched
+returns-in_default-clause-others_touched c = touches_others_same c.args.c c.args.self.now.ribs c.args.self.now.ribs refl

@@ -1,8 +1,8 @@
 use Rattle.std.proofs.Common.{◌<◌, length, refl, sym, subst}
 use Rattle.std.proofs.lemmas.Option.{slice_get_read}
 use Rattle.rs_core.specs.Core.{client_count}
-use Rattle.rs_core.specs.Runs.{hearing}
-use Rattle.rs_core.proofs.Watching.{ending_read}
+use Rattle.rs_core.specs.Run.Meaning.{hearing}
+use Rattle.rs_core.proofs.Session.OperatorRecords.{ending_read}
 use Rattle.rs_core.proofs.route_server.Core.ending.Goals as goal
 
 pub returns : goal.returns

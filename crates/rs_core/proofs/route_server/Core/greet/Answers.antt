@@ -2,18 +2,18 @@ use Rattle.std.proofs.Common.{◌<◌, sym, ◌∙◌, ap, subst}
 use Rattle.rs_core.specs.Core.{client_count}
 use Rattle.rs_outlet.specs.Views.{View}
 use Rattle.rs_core.specs.Ribs.{KeepsAnswers, outlet_in}
-use Rattle.rs_core.specs.Voices.{IsGreeting, KeepsVoices}
+use Rattle.rs_core.specs.Told.Outlets.{IsGreeting, LeavesOthersAlone}
 use Rattle.rs_core.specs.declared.ribs.Ribs.{Ribs}
-use Rattle.rs_core.proofs.Around.{own_voices, voices_on}
-use Rattle.rs_core.proofs.KeptAnswers.{answers_on, own_answers}
-use Rattle.rs_core.proofs.Alike.{greets}
+use Rattle.rs_core.proofs.Run.Around.{own_acts_on_outlet, others_alone_on}
+use Rattle.rs_core.proofs.Touched.KeptAnswers.{answers_on, own_answers}
+use Rattle.rs_core.proofs.Told.Alike.{greets}
 use Rattle.rs_core.proofs.route_server.Core.greet.Goals as goal
 
-pub returns-clause-voices : goal.returns-clause-voices
-returns-clause-voices c = subst (λ r. KeepsVoices c.args.c r c.say_open.new.self) c.pass_over.ensures.ribs
-    (voices_on c.args.c c.pass_over.new.self.ribs c.clear.new.self c.say_open.new.self c.clear.ensures.settings.count
-    (own_voices c.args.c _ c.pass_over.new.self.ribs c.clear.new.self c.clear.ensures.outlet)
-    (own_voices c.args.c _ c.clear.new.self c.say_open.new.self c.say_open.ensures.outlet))
+pub returns-clause-others_alone : goal.returns-clause-others_alone
+returns-clause-others_alone c = subst (λ r. LeavesOthersAlone c.args.c r c.say_open.new.self) c.pass_over.ensures.ribs
+    (others_alone_on c.args.c c.pass_over.new.self.ribs c.clear.new.self c.say_open.new.self c.clear.ensures.settings.count
+    (own_acts_on_outlet c.args.c _ c.pass_over.new.self.ribs c.clear.new.self c.clear.ensures.outlet)
+    (own_acts_on_outlet c.args.c _ c.clear.new.self c.say_open.new.self c.say_open.ensures.outlet))
 
 pub returns-clause-answers : goal.returns-clause-answers
 returns-clause-answers c = subst (λ r. KeepsAnswers r c.say_open.new.self) c.pass_over.ensures.ribs

@@ -1,22 +1,22 @@
 use Rattle.std.proofs.Common.{◌≡◌, ◌++◌, append-nil, refl, sym, ◌∙◌, ap, subst}
 use Rattle.std.proofs.lemmas.Bool.{false≢true}
 use Rattle.rs_core.specs.Core.{client_count}
-use Rattle.rs_core.specs.Hearing.{hears}
+use Rattle.rs_core.specs.Session.Hearing.{hears}
 use Rattle.rs_core.specs.declared.ribs.Ribs.{Ribs}
-use Rattle.rs_core.proofs.Lists.{map_ok, map_err, none_are, on_err}
-use Rattle.rs_core.proofs.Ruling.{unmoved}
-use Rattle.rs_core.proofs.Cutting.{deaf_agrees, none_waits, cut_before, agrees_joined}
-use Rattle.rs_core.proofs.Filling.{front_agrees, front_between}
-use Rattle.rs_core.specs.Altering.{IsAlteredBy}
-use Rattle.rs_core.specs.Ribs.{StirsWhere}
-use Rattle.rs_core.proofs.Altering.{front_stirs, piece_deaf, stirs_behind, stirs_once}
-use Rattle.rs_core.proofs.Stirring.{stirs_nowhere}
-use Rattle.rs_core.specs.Touches.{KeepsTouches}
+use Rattle.rs_core.proofs.Run.Lists.{map_ok, map_err, none_are, on_err}
+use Rattle.rs_core.proofs.Run.OtherRules.{unmoved}
+use Rattle.rs_core.proofs.Session.Cutting.{deaf_agrees, none_waits, cut_before, agrees_joined}
+use Rattle.rs_core.proofs.Session.Filling.{front_agrees, front_between}
+use Rattle.rs_core.specs.Touched.Altering.{IsAlteredBy}
+use Rattle.rs_core.specs.Ribs.{TouchesOthersJustWhere}
+use Rattle.rs_core.proofs.Touched.Altering.{front_touches, piece_deaf, touches_after, touches_once}
+use Rattle.rs_core.proofs.Touched.ChangedPrefixes.{touches_nowhere}
+use Rattle.rs_core.specs.Touched.Touches.{KeepsTouches}
 use Rattle.rs_core.specs.Ribs.{outlet_in}
-use Rattle.rs_core.proofs.Altering.{both_ok}
-use Rattle.rs_core.proofs.Raising.{keeps_behind, keeps_same}
-use Rattle.rs_core.proofs.Stirring.{within_between}
-use Rattle.rs_core.proofs.CutShort.{rest_within}
+use Rattle.rs_core.proofs.Touched.Altering.{both_ok}
+use Rattle.rs_core.proofs.Touched.OwnSession.{keeps_behind, keeps_same}
+use Rattle.rs_core.proofs.Touched.ChangedPrefixes.{within_between}
+use Rattle.rs_core.proofs.Touched.CutShort.{rest_within}
 use Rattle.rs_core.proofs.route_server.Core.hear.Goals as goal
 
 pub returns-then-not-is_live-clause-heard : goal.returns-then-not-is_live-clause-heard
@@ -92,19 +92,19 @@ pub returns-clause-unheard : goal.returns-clause-unheard
 unfolding client_count
 returns-clause-unheard c = λ s h knows dead. absurd (false≢true (sym dead ∙ sym (c.is_live.ensures s h knows) ∙ c.if-not-is_live.false))
 
-pub returns-then-not-is_live-clause-stirs : goal.returns-then-not-is_live-clause-stirs
+pub returns-then-not-is_live-clause-others_touched : goal.returns-then-not-is_live-clause-others_touched
 unfolding client_count
-returns-then-not-is_live-clause-stirs c = λ s h config at.
-    stirs_nowhere _ c.args.c c.args.self.now.ribs c.args.self.now.ribs (λ d none ne. refl) (λ p x. piece_deaf s c.args.c c.args.piece.now h p (sym (c.is_live.ensures s h at.knows) ∙ c.if-not-is_live.true) x)
+returns-then-not-is_live-clause-others_touched c = λ s h config at.
+    touches_nowhere _ c.args.c c.args.self.now.ribs c.args.self.now.ribs (λ d none ne. refl) (λ p x. piece_deaf s c.args.c c.args.piece.now h p (sym (c.is_live.ensures s h at.knows) ∙ c.if-not-is_live.true) x)
 
-pub returns-then-is_empty-clause-stirs : goal.returns-then-is_empty-clause-stirs
+pub returns-then-is_empty-clause-others_touched : goal.returns-then-is_empty-clause-others_touched
 unfolding client_count
-returns-then-is_empty-clause-stirs c = map_ok c.hear_piece.result c.hear_piece.ensures.stirs (λ stirs s h config at.
-    stirs s h config (none_waits c.args.self.now s c.args.c h c.index.result.now c.requires c.index.ensures (sym c.is_empty.ensures ∙ c.if-is_empty.true) at))
+returns-then-is_empty-clause-others_touched c = map_ok c.hear_piece.result c.hear_piece.ensures.others_touched (λ others_touched s h config at.
+    others_touched s h config (none_waits c.args.self.now s c.args.c h c.index.result.now c.requires c.index.ensures (sym c.is_empty.ensures ∙ c.if-is_empty.true) at))
 
-pub returns-then-is_empty-2-clause-stirs : goal.returns-then-is_empty-2-clause-stirs
+pub returns-then-is_empty-2-clause-others_touched : goal.returns-then-is_empty-2-clause-others_touched
 unfolding client_count
-returns-then-is_empty-2-clause-stirs c = λ s h config at.
+returns-then-is_empty-2-clause-others_touched c = λ s h config at.
     let i = c.args.c in
     let taken = c.take_buffer-buffer in
     let heard = c.hear_waiting-heard in
@@ -112,11 +112,11 @@ returns-then-is_empty-2-clause-stirs c = λ s h config at.
     let was = unmoved c.args.self.now taken.new.self s i h taken.ensures.sessions taken.ensures.ribs taken.ensures.watched at.knows in
     let front = c.in_ok-rest.ensures.heard s h (ap (λ (r : Ribs). r.config) taken.ensures.ribs ∙ config) live was (at.waits taken.result taken.ensures.taken) in
     let whole : front.front ≡ c.args.piece.now = sym (front.whole ∙ ap (λ r. front.front ++ r) (none_are c.in_ok-rest.rest.now (sym c.is_empty-2.ensures ∙ c.if-is_empty-2.true)) ∙ append-nil front.front) in
-    front_stirs s i h front.front c.args.piece.now c.args.self.now taken.new.self heard.new.self c.put_buffer.new.self taken.ensures.ribs c.put_buffer.ensures.ribs whole (stirs_once s i front.front h taken.new.self heard.new.self front.once heard.ensures.stirs was front.knows)
+    front_touches s i h front.front c.args.piece.now c.args.self.now taken.new.self heard.new.self c.put_buffer.new.self taken.ensures.ribs c.put_buffer.ensures.ribs whole (touches_once s i front.front h taken.new.self heard.new.self front.once heard.ensures.others_touched was front.knows)
 
-pub returns-clause-stirs : goal.returns-clause-stirs
+pub returns-clause-others_touched : goal.returns-clause-others_touched
 unfolding client_count
-returns-clause-stirs c = map_ok c.hear_piece-2.result c.hear_piece-2.ensures.stirs (λ on s h config at.
+returns-clause-others_touched c = map_ok c.hear_piece-2.result c.hear_piece-2.ensures.others_touched (λ on s h config at.
     let i = c.args.c in
     let taken = c.take_buffer-buffer in
     let heard = c.hear_waiting-heard in
@@ -124,10 +124,10 @@ returns-clause-stirs c = map_ok c.hear_piece-2.result c.hear_piece-2.ensures.sti
     let first = ap (λ (r : Ribs). r.config) taken.ensures.ribs ∙ config in
     let was = unmoved c.args.self.now taken.new.self s i h taken.ensures.sessions taken.ensures.ribs taken.ensures.watched at.knows in
     let front = c.in_ok-rest.ensures.heard s h first live was (at.waits taken.result taken.ensures.taken) in
-    subst (λ o. StirsWhere (IsAlteredBy s i o h) i c.args.self.now.ribs c.hear_piece-2.new.self.ribs) (sym front.whole)
-    (stirs_behind s i front.front c.in_ok-rest.rest.now h c.args.self.now.ribs c.put_buffer.new.self.ribs c.hear_piece-2.new.self.ribs
+    subst (λ o. TouchesOthersJustWhere (IsAlteredBy s i o h) i c.args.self.now.ribs c.hear_piece-2.new.self.ribs) (sym front.whole)
+    (touches_after s i front.front c.in_ok-rest.rest.now h c.args.self.now.ribs c.put_buffer.new.self.ribs c.hear_piece-2.new.self.ribs
     (ap (λ (r : Ribs). r.count) c.put_buffer.ensures.ribs ∙ heard.new.self.ribs_len ∙ heard.ensures.spares.count ∙ taken.ensures.count ∙ sym c.args.self.now.ribs_len)
-    (front_stirs s i h front.front front.front c.args.self.now taken.new.self heard.new.self c.put_buffer.new.self taken.ensures.ribs c.put_buffer.ensures.ribs refl (stirs_once s i front.front h taken.new.self heard.new.self front.once heard.ensures.stirs was front.knows))
+    (front_touches s i h front.front front.front c.args.self.now taken.new.self heard.new.self c.put_buffer.new.self taken.ensures.ribs c.put_buffer.ensures.ribs refl (touches_once s i front.front h taken.new.self heard.new.self front.once heard.ensures.others_touched was front.knows))
     (on s (hears s i front.front h) (ap (λ (r : Ribs). r.config) c.put_buffer.ensures.ribs ∙ heard.ensures.spares.config ∙ first)
     (front_between heard.new.self c.put_buffer.new.self s i h c.args.piece.now heard.new.buffer.items c.in_ok-rest.rest.now c.put_buffer.ensures.sessions c.put_buffer.ensures.ribs c.put_buffer.ensures.watched c.put_buffer.ensures.put
     (sym c.is_empty-2.ensures ∙ c.if-is_empty-2.false) front))))
@@ -197,5 +197,5 @@ returns-clause-cut c = map_err c.hear_piece-2.result c.hear_piece-2.ensures.cut 
     (sym c.is_empty-2.ensures ∙ c.if-is_empty-2.false) front in
     rest_within s i h c.args.piece.now front.front c.in_ok-rest.rest.now c.args.self.now c.put_buffer.new.self c.hear_piece-2.new.self.ribs front.whole
     (ap (λ (r : Ribs). r.count) c.put_buffer.ensures.ribs ∙ heard.new.self.ribs_len ∙ heard.ensures.spares.count ∙ taken.ensures.count ∙ sym c.args.self.now.ribs_len) at.knows between.knows
-    (front_stirs s i h front.front front.front c.args.self.now taken.new.self heard.new.self c.put_buffer.new.self taken.ensures.ribs c.put_buffer.ensures.ribs refl (stirs_once s i front.front h taken.new.self heard.new.self front.once heard.ensures.stirs was front.knows))
+    (front_touches s i h front.front front.front c.args.self.now taken.new.self heard.new.self c.put_buffer.new.self taken.ensures.ribs c.put_buffer.ensures.ribs refl (touches_once s i front.front h taken.new.self heard.new.self front.once heard.ensures.others_touched was front.knows))
     (cut s (hears s i front.front h) (ap (λ (r : Ribs). r.config) c.put_buffer.ensures.ribs ∙ heard.ensures.spares.config ∙ first) between))

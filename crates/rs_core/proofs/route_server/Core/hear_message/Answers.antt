@@ -1,6 +1,6 @@
 use Rattle.std.proofs.Common.{sym, subst}
 use Rattle.rs_core.specs.Core.{client_count}
-use Rattle.rs_core.specs.Steps.{Hears}
+use Rattle.rs_core.specs.Run.Parts.{Hears}
 use Rattle.rs_core.proofs.route_server.Core.hear_message.Goals as goal
 
 pub returns-in-Open-clause-heard : goal.returns-in-Open-clause-heard

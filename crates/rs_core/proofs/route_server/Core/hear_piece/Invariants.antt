@@ -1,12 +1,12 @@
 use Rattle.std.proofs.Common.{◌≡◌, ℕ, List, ◌++◌, length}
 use Rattle.rs_policy.specs.Configuration.{Configuration}
-use Rattle.rs_core.specs.Hearing.{Hearing, hears}
-use Rattle.rs_core.specs.Altering.{IsAlteredBy}
+use Rattle.rs_core.specs.Session.Hearing.{Hearing, hears}
+use Rattle.rs_core.specs.Touched.Altering.{IsAlteredBy}
 use Rattle.rs_outlet.specs.Views.{View}
-use Rattle.rs_core.specs.Touches.{KeepsTouches}
-use Rattle.rs_core.specs.Ribs.{StirsWhere, outlet_in}
-use Rattle.rs_core.specs.Steps.{IsBetween}
-use Rattle.rs_core.specs.Agreeing.{Spares}
+use Rattle.rs_core.specs.Touched.Touches.{KeepsTouches}
+use Rattle.rs_core.specs.Ribs.{TouchesOthersJustWhere, outlet_in}
+use Rattle.rs_core.specs.Run.Parts.{IsBetween}
+use Rattle.rs_core.specs.Run.Agreeing.{Spares}
 use Rattle.rs_core.proofs.route_server.Core.hear_piece.Given as goal
 
 abbrev pub invariant-loop-octets : goal.invariant-loop-octets
@@ -15,7 +15,7 @@ invariant-loop-octets l = record {
   buffers : l.self.buffers ≡ l.fn.self.buffers;
   heard : (before : List ℕ) × (l.piece ≡ before ++ l.octets)
       × ((s : Configuration) (h : Hearing) → l.fn.self.ribs.config ≡ s → IsBetween l.fn.self s l.c h → IsBetween l.self s l.c (hears s l.c before h))
-      × ((s : Configuration) (h : Hearing) → l.fn.self.ribs.config ≡ s → IsBetween l.fn.self s l.c h → StirsWhere (IsAlteredBy s l.c before h) l.c l.fn.self.ribs l.self.ribs)
+      × ((s : Configuration) (h : Hearing) → l.fn.self.ribs.config ≡ s → IsBetween l.fn.self s l.c h → TouchesOthersJustWhere (IsAlteredBy s l.c before h) l.c l.fn.self.ribs l.self.ribs)
       × ((s : Configuration) (h : Hearing) → l.fn.self.ribs.config ≡ s → IsBetween l.fn.self s l.c h → (none : View) → KeepsTouches (outlet_in l.fn.self.ribs l.c none) (outlet_in l.self.ribs l.c none));
 }
 

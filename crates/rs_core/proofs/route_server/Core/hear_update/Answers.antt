@@ -4,20 +4,20 @@ use Rattle.std.specs.Arc.{arc_value}
 use Rattle.std.proofs.lemmas.Option.{slice_get_read}
 use Rattle.rs_attrs.specs.Effects.{HasEffect, effect_of, has_prefix}
 use Rattle.rs_update.specs.Laws.{IsSameChange, IsSameEffect}
-use Rattle.rs_update.specs.Outcomes.{effect_seen, HasItsAttributes, TellsFaults, AreApart}
+use Rattle.rs_update.specs.Outcomes.{effect_seen, HasItsAttributes, NamesFaults, AreApart}
 use Rattle.rs_policy.specs.Configuration.{client_of}
 use Rattle.rs_core.specs.Core.{client_count}
-use Rattle.rs_core.specs.Hearing.{changing, takes_in}
-use Rattle.rs_core.specs.Steps.{IsAnnouncing}
-use Rattle.rs_core.specs.Watching.{no_faults}
-use Rattle.rs_core.proofs.Lists.{on_err, map_ok, map_err}
-use Rattle.rs_core.proofs.Agreeing.{cut_short}
-use Rattle.rs_core.proofs.Faulting.{found, found_knows, cut_found}
-use Rattle.rs_core.proofs.Updating.{is_change}
-use Rattle.rs_core.proofs.Saying.{update_reset, update_changes, at_fault, moded_up, is_reset_beyond, is_none_beyond, reset_follows, announcing, update_within}
-use Rattle.rs_core.proofs.Stirring.{stirs_same}
-use Rattle.rs_core.proofs.Raising.{keeps_same}
-use Rattle.rs_core.proofs.Spared.{kept_spares}
+use Rattle.rs_core.specs.Session.Hearing.{changing, takes_in}
+use Rattle.rs_core.specs.Run.Parts.{IsAnnouncing}
+use Rattle.rs_core.specs.Session.OperatorRecords.{no_faults}
+use Rattle.rs_core.proofs.Run.Lists.{on_err, map_ok, map_err}
+use Rattle.rs_core.proofs.Run.Agreeing.{cut_short}
+use Rattle.rs_core.proofs.Session.Faulting.{found, found_knows, cut_found}
+use Rattle.rs_core.proofs.Session.Updating.{is_change}
+use Rattle.rs_core.proofs.Session.Updates.{update_reset, update_changes, at_fault, moded_up, is_reset_beyond, is_none_beyond, reset_follows, announcing, update_within}
+use Rattle.rs_core.proofs.Touched.ChangedPrefixes.{touches_others_same}
+use Rattle.rs_core.proofs.Touched.OwnSession.{keeps_same}
+use Rattle.rs_core.proofs.Run.Spared.{kept_spares}
 use Rattle.rs_core.proofs.route_server.Core.hear_update.Goals as goal
 
 pub returns-in_err-code-clause-refused : goal.returns-in_err-code-clause-refused
@@ -27,7 +27,7 @@ returns-in_err-code-clause-refused c = on_err c.from_residual.result (λ s h kno
 pub returns-in-Reset-clause-heard : goal.returns-in-Reset-clause-heard
 unfolding client_count
 returns-in-Reset-clause-heard c = λ s h config live knows.
-    update_reset c.say-in-Reset.new.self s c.args.c h c.args.body.now c.in-Some.mode c.in-Reset.code c.in-Reset.sub (sym (c.in-Some.ensures s h knows)) (subst (λ o. IsSameEffect (effect_seen o) (effect_of c.args.body.now c.in-Some.mode)) c.in-Reset.is c.in_ok-code.ensures.computed) (c.say-in-Reset.ensures.alone s h knows)
+    update_reset c.session_hears-in-Reset.new.self s c.args.c h c.args.body.now c.in-Some.mode c.in-Reset.code c.in-Reset.sub (sym (c.in-Some.ensures s h knows)) (subst (λ o. IsSameEffect (effect_seen o) (effect_of c.args.body.now c.in-Some.mode)) c.in-Reset.is c.in_ok-code.ensures.computed) (c.session_hears-in-Reset.ensures.alone s h knows)
 
 pub returns-then-is_beyond-clause-heard : goal.returns-then-is_beyond-clause-heard
 unfolding client_count
@@ -39,13 +39,13 @@ returns-then-is_beyond-clause-heard c = λ s h config live knows.
     let as_noted = found_knows c.args.self.now _ s c.args.c h c.index_mut.result.now c.note.new.self c.in-Change.faulted refl refl was there refl c.note.ensures knows in
     let next = found c.in-Change.faulted h in
     let has = subst (λ o. HasEffect c.args.body.now c.in-Some.mode (effect_seen o)) c.in-Change.is c.in_ok-code.ensures.effect in
-    let told = at_fault c.args.body.now c.in-Some.mode _ c.in-Change.faulted has (subst (λ o. TellsFaults c.args.body.now c.in-Some.mode o) c.in-Change.is c.in_ok-code.ensures.told) in
+    let noted = at_fault c.args.body.now c.in-Some.mode _ c.in-Change.faulted has (subst (λ o. NamesFaults c.args.body.now c.in-Some.mode o) c.in-Change.is c.in_ok-code.ensures.faults_noted) in
     let says = c.is_beyond.ensures s next it.change config (moded_up s c.args.c h c.in-Some.mode mode) as_noted
     (subst (λ a. IsAnnouncing c.deref.result.now a it.change) (sym c.deref-in-Change.ensures.value) (subst (λ w. IsAnnouncing w c.in-Change.announced.items it.change) (sym c.deref.ensures.value) (announcing arc_value c.in-Change.attrs c.in-Change.withdrawn.items c.in-Change.announced.items it.change (subst HasItsAttributes c.in-Change.is c.in_ok-code.ensures.attributes) it.same))) in
     let reset : ℕ × ℕ = (c.code.result, c.sub.result) in
     let beyond = is_reset_beyond (client_of s c.args.c).limit (it.change ∷ h.changes) (sym says ∙ c.if-is_beyond.true) in
-    update_changes c.say-then-is_beyond.new.self s c.args.c h c.args.body.now c.in-Some.mode it.change (Some reset) c.in-Change.faulted mode it.is (beyond ∙ (λ i. Some (sym c.code.ensures i, sym c.sub.ensures i))) told
-    (c.say-then-is_beyond.ensures.heard s next (takes_in s c.args.c (changing (Some reset) it.change no_faults) next) (reset_follows s c.args.c next reset it.change) as_noted)
+    update_changes c.session_hears-then-is_beyond.new.self s c.args.c h c.args.body.now c.in-Some.mode it.change (Some reset) c.in-Change.faulted mode it.is (beyond ∙ (λ i. Some (sym c.code.ensures i, sym c.sub.ensures i))) noted
+    (c.session_hears-then-is_beyond.ensures.heard s next (takes_in s c.args.c (changing (Some reset) it.change no_faults) next) (reset_follows s c.args.c next reset it.change) as_noted)
 
 pub returns-else-is_beyond-clause-heard : goal.returns-else-is_beyond-clause-heard
 unfolding client_count
@@ -57,11 +57,11 @@ returns-else-is_beyond-clause-heard c = map_ok c.change.result c.change.ensures.
     let as_noted = found_knows c.args.self.now _ s c.args.c h c.index_mut.result.now c.note.new.self c.in-Change.faulted refl refl was there refl c.note.ensures knows in
     let next = found c.in-Change.faulted h in
     let has = subst (λ o. HasEffect c.args.body.now c.in-Some.mode (effect_seen o)) c.in-Change.is c.in_ok-code.ensures.effect in
-    let told = at_fault c.args.body.now c.in-Some.mode _ c.in-Change.faulted has (subst (λ o. TellsFaults c.args.body.now c.in-Some.mode o) c.in-Change.is c.in_ok-code.ensures.told) in
+    let noted = at_fault c.args.body.now c.in-Some.mode _ c.in-Change.faulted has (subst (λ o. NamesFaults c.args.body.now c.in-Some.mode o) c.in-Change.is c.in_ok-code.ensures.faults_noted) in
     let says = c.is_beyond.ensures s next it.change config (moded_up s c.args.c h c.in-Some.mode mode) as_noted
     (subst (λ a. IsAnnouncing c.deref.result.now a it.change) (sym c.deref-in-Change.ensures.value) (subst (λ w. IsAnnouncing w c.in-Change.announced.items it.change) (sym c.deref.ensures.value) (announcing arc_value c.in-Change.attrs c.in-Change.withdrawn.items c.in-Change.announced.items it.change (subst HasItsAttributes c.in-Change.is c.in_ok-code.ensures.attributes) it.same))) in
     update_changes c.change.new.self s c.args.c h c.args.body.now c.in-Some.mode it.change None c.in-Change.faulted mode it.is
-    (is_none_beyond (client_of s c.args.c).limit (it.change ∷ h.changes) (sym says ∙ c.if-is_beyond.false)) told
+    (is_none_beyond (client_of s c.args.c).limit (it.change ∷ h.changes) (sym says ∙ c.if-is_beyond.false)) noted
     (changes s next it.change live as_noted
     (subst (λ a. IsSameChange (record { withdrawn = c.deref-in-Change-2.result.now; announced = a; attributes = option_map arc_value c.in-Change.attrs }) it.change) (sym c.deref-in-Change-3.ensures.value)
     (subst (λ w. IsSameChange (record { withdrawn = w; announced = c.in-Change.announced.items; attributes = option_map arc_value c.in-Change.attrs }) it.change) (sym c.deref-in-Change-2.ensures.value) it.same))))
@@ -93,11 +93,11 @@ returns-else-is_beyond-clause-part c = map_err c.change.result c.change.ensures.
     (subst (λ a. IsSameChange (record { withdrawn = c.deref-in-Change-2.result.now; announced = a; attributes = option_map arc_value c.in-Change.attrs }) it.change) (sym c.deref-in-Change-3.ensures.value)
     (subst (λ w. IsSameChange (record { withdrawn = w; announced = c.in-Change.announced.items; attributes = option_map arc_value c.in-Change.attrs }) it.change) (sym c.deref-in-Change-2.ensures.value) it.same)) p differs))
 
-pub returns-in_err-code-clause-stirs : goal.returns-in_err-code-clause-stirs
-returns-in_err-code-clause-stirs c = stirs_same c.args.c c.args.self.now.ribs c.args.self.now.ribs refl
+pub returns-in_err-code-clause-others_touched : goal.returns-in_err-code-clause-others_touched
+returns-in_err-code-clause-others_touched c = touches_others_same c.args.c c.args.self.now.ribs c.args.self.now.ribs refl
 
-pub returns-else-is_beyond-clause-stirs : goal.returns-else-is_beyond-clause-stirs
-returns-else-is_beyond-clause-stirs c = c.change.ensures.stirs (λ p has.
+pub returns-else-is_beyond-clause-others_touched : goal.returns-else-is_beyond-clause-others_touched
+returns-else-is_beyond-clause-others_touched c = c.change.ensures.others_touched (λ p has.
     ap (has_prefix p) c.deref-in-Change-3.ensures.value
     ∙ subst AreApart c.in-Change.is c.in_ok-code.ensures.apart p (ap (has_prefix p) (sym c.deref-in-Change-2.ensures.value) ∙ has))
 
@@ -109,7 +109,7 @@ unfolding client_count
 returns-then-is_beyond-clause-keeps c = λ s h config knows none.
     let there : c.args.c < length c.args.self.now.watched.items = subst (λ k. c.args.c < k) (sym c.args.self.now.watched_len) c.requires in
     let was = slice_get_read _ _ _ _ (sym c.args.self.now.watched_len) c.requires c.index_mut.ensures.value in
-    c.say-then-is_beyond.ensures.keeps s (found c.in-Change.faulted h) config (found_knows c.args.self.now _ s c.args.c h c.index_mut.result.now c.note.new.self c.in-Change.faulted refl refl was there refl c.note.ensures knows) none
+    c.session_hears-then-is_beyond.ensures.keeps s (found c.in-Change.faulted h) config (found_knows c.args.self.now _ s c.args.c h c.index_mut.result.now c.note.new.self c.in-Change.faulted refl refl was there refl c.note.ensures knows) none
 
 pub returns-else-is_beyond-clause-keeps : goal.returns-else-is_beyond-clause-keeps
 unfolding client_count

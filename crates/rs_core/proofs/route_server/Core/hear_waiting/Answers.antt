@@ -2,19 +2,19 @@ use Rattle.std.proofs.Common.{ℕ, refl, sym, ◌∙◌, ap, subst}
 use Rattle.std.specs.Global.{Vec}
 use Rattle.rs_octets.specs.Fronts.{BeginsWith, BeginsFaulty, Wants}
 use Rattle.rs_core.specs.Core.{client_count}
-use Rattle.rs_core.specs.Hearing.{allowed_in}
-use Rattle.rs_core.specs.Ribs.{Stirs, outlet_in}
+use Rattle.rs_core.specs.Session.Hearing.{allowed_in}
+use Rattle.rs_core.specs.Ribs.{TouchesOthersAtChange, outlet_in}
 use Rattle.rs_core.specs.declared.route_server.Core.{Core}
-use Rattle.rs_core.specs.Steps.{FillsUp, HasHeardFront}
-use Rattle.rs_core.specs.Agreeing.{Spares}
-use Rattle.rs_core.proofs.Lists.{on_err}
-use Rattle.rs_core.proofs.Agreeing.{cut_short}
-use Rattle.rs_core.proofs.Cutting.{same_spares}
-use Rattle.rs_core.proofs.Stirring.{stirs_same, within_changed}
-use Rattle.rs_core.proofs.CutShort.{waiting_within}
-use Rattle.rs_core.proofs.Filling.{waiting_on, waiting_fault, waiting_message}
-use Rattle.rs_core.specs.Touches.{KeepsTouches}
-use Rattle.rs_core.proofs.Raising.{keeps_same}
+use Rattle.rs_core.specs.Run.Parts.{FillsUp, HasHeardFront}
+use Rattle.rs_core.specs.Run.Agreeing.{Spares}
+use Rattle.rs_core.proofs.Run.Lists.{on_err}
+use Rattle.rs_core.proofs.Run.Agreeing.{cut_short}
+use Rattle.rs_core.proofs.Session.Cutting.{same_spares}
+use Rattle.rs_core.proofs.Touched.ChangedPrefixes.{touches_others_same, within_changed}
+use Rattle.rs_core.proofs.Touched.CutShort.{waiting_within}
+use Rattle.rs_core.proofs.Session.Filling.{waiting_on, waiting_fault, waiting_message}
+use Rattle.rs_core.specs.Touched.Touches.{KeepsTouches}
+use Rattle.rs_core.proofs.Touched.OwnSession.{keeps_same}
 use Rattle.rs_core.proofs.route_server.Core.hear_waiting.Goals as goal
 use Rattle.rs_core.proofs.route_server.Core.hear_waiting.Goals.{in-Wants, in-Fault, in-Message+in_ok-hear_message-in-Message}
 
@@ -26,7 +26,7 @@ pub returns-clause-spares : goal.returns-clause-spares
 unfolding client_count
 returns-clause-spares c = elim c.match-read_front.branch [
   | in-Wants w ↦ subst (λ k. Spares c.args.c c.args.self.now k) (sym w.self-is) (same_spares c.args.self.now c.args.c)
-  | in-Fault w ↦ subst (λ k. Spares c.args.c c.args.self.now k) (sym w.self-is) w.say.ensures.spares
+  | in-Fault w ↦ subst (λ k. Spares c.args.c c.args.self.now k) (sym w.self-is) w.session_hears.ensures.spares
   | in-Message+in_ok-hear_message-in-Message w ↦ subst (λ k. Spares c.args.c c.args.self.now k) (sym w.self-is) w.hear_message.ensures.spares
 ]
 
@@ -51,8 +51,8 @@ returns-clause-heard c = λ s h config live knows waits.
           let fault = w.in-Fault.fault in
           let faulty = subst (λ o. BeginsFaulty (allowed_in s) o fault) c.deref.ensures.value (subst (λ a. BeginsFaulty a c.deref.result.now fault) allowed_is w.in-Fault.ensures.front) in
           subst (λ k. HasHeardFront k s i h piece c.match-read_front.buffer.items rest) (sym w.self-is)
-          (subst (λ l. HasHeardFront w.say.new.self s i h piece l rest) (sym (ap (λ (b : Vec ℕ). b.items) w.buffer-is ∙ w.clear.ensures.items))
-          (waiting_fault w.say.new.self s i h was new piece rest fault live waits fills faulty (w.say.ensures.alone s h knows)))
+          (subst (λ l. HasHeardFront w.session_hears.new.self s i h piece l rest) (sym (ap (λ (b : Vec ℕ). b.items) w.buffer-is ∙ w.clear.ensures.items))
+          (waiting_fault w.session_hears.new.self s i h was new piece rest fault live waits fills faulty (w.session_hears.ensures.alone s h knows)))
       | in-Message+in_ok-hear_message-in-Message w ↦
           let kind = w.in-Message.kind in
           let body = w.in-Message.body.now in
@@ -65,7 +65,7 @@ returns-clause-heard c = λ s h config live knows waits.
 
 pub returns-in_err-rest-clause-cut : goal.returns-in_err-rest-clause-cut
 returns-in_err-rest-clause-cut c = on_err c.from_residual.result (λ s h config live knows waits.
-    within_changed _ c.args.c c.args.self.now.ribs c.args.self.now.ribs (λ p differs. absurd (differs refl)) (stirs_same c.args.c c.args.self.now.ribs c.args.self.now.ribs refl))
+    within_changed _ c.args.c c.args.self.now.ribs c.args.self.now.ribs (λ p differs. absurd (differs refl)) (touches_others_same c.args.c c.args.self.now.ribs c.args.self.now.ribs refl))
 
 pub returns-in_err-hear_message-in-Message-clause-cut : goal.returns-in_err-hear_message-in-Message-clause-cut
 unfolding client_count
@@ -78,22 +78,22 @@ returns-in_err-hear_message-in-Message-clause-cut c = on_err c.from_residual-in_
     let begins = subst (λ o. BeginsWith (allowed_in s) o kind body behind) c.deref.ensures.value (subst (λ a. BeginsWith a c.deref.result.now kind body behind) allowed_is c.in-Message.ensures.front) in
     waiting_within s c.args.c h c.args.buffer.now.items new c.args.piece.now c.in_ok-rest.rest.now kind body behind c.args.self.now.ribs c.hear_message.new.self.ribs live waits
     (subst (λ a. FillsUp a c.args.buffer.now.items c.args.piece.now new c.in_ok-rest.rest.now) allowed_is c.in_ok-rest.ensures) begins
-    (c.in_err-hear_message-in-Message.ensures.part s h config live knows) c.hear_message.ensures.stirs)
+    (c.in_err-hear_message-in-Message.ensures.part s h config live knows) c.hear_message.ensures.others_touched)
 
-pub returns-clause-stirs : goal.returns-clause-stirs
-returns-clause-stirs c = elim c.match-read_front.branch [
-  | in-Wants w ↦ stirs_same c.args.c c.args.self.now.ribs _ (ap (λ (k : Core). k.ribs) w.self-is)
-  | in-Fault w ↦ subst (λ (k : Core). Stirs c.args.c c.args.self.now.ribs k.ribs) (sym w.self-is) w.say.ensures.stirs
-  | in-Message+in_ok-hear_message-in-Message w ↦ subst (λ (k : Core). Stirs c.args.c c.args.self.now.ribs k.ribs) (sym w.self-is) w.hear_message.ensures.stirs
+pub returns-clause-others_touched : goal.returns-clause-others_touched
+returns-clause-others_touched c = elim c.match-read_front.branch [
+  | in-Wants w ↦ touches_others_same c.args.c c.args.self.now.ribs _ (ap (λ (k : Core). k.ribs) w.self-is)
+  | in-Fault w ↦ subst (λ (k : Core). TouchesOthersAtChange c.args.c c.args.self.now.ribs k.ribs) (sym w.self-is) w.session_hears.ensures.others_touched
+  | in-Message+in_ok-hear_message-in-Message w ↦ subst (λ (k : Core). TouchesOthersAtChange c.args.c c.args.self.now.ribs k.ribs) (sym w.self-is) w.hear_message.ensures.others_touched
 ]
 
-pub returns-in_err-rest-clause-stirs : goal.returns-in_err-rest-clause-stirs
-returns-in_err-rest-clause-stirs c = stirs_same c.args.c c.args.self.now.ribs c.args.self.now.ribs refl
+pub returns-in_err-rest-clause-others_touched : goal.returns-in_err-rest-clause-others_touched
+returns-in_err-rest-clause-others_touched c = touches_others_same c.args.c c.args.self.now.ribs c.args.self.now.ribs refl
 
 pub returns-clause-keeps : goal.returns-clause-keeps
 returns-clause-keeps c = λ s h config knows none. elim c.match-read_front.branch [
   | in-Wants w ↦ subst (λ (k : Core). KeepsTouches (outlet_in c.args.self.now.ribs c.args.c none) (outlet_in k.ribs c.args.c none)) (sym w.self-is) (keeps_same _ _ refl refl)
-  | in-Fault w ↦ subst (λ (k : Core). KeepsTouches (outlet_in c.args.self.now.ribs c.args.c none) (outlet_in k.ribs c.args.c none)) (sym w.self-is) (w.say.ensures.keeps s h config knows none)
+  | in-Fault w ↦ subst (λ (k : Core). KeepsTouches (outlet_in c.args.self.now.ribs c.args.c none) (outlet_in k.ribs c.args.c none)) (sym w.self-is) (w.session_hears.ensures.keeps s h config knows none)
   | in-Message+in_ok-hear_message-in-Message w ↦ subst (λ (k : Core). KeepsTouches (outlet_in c.args.self.now.ribs c.args.c none) (outlet_in k.ribs c.args.c none)) (sym w.self-is) (w.hear_message.ensures.keeps s h config knows none)
 ]
 

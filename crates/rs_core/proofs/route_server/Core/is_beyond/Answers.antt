@@ -1,9 +1,9 @@
 use Rattle.std.proofs.Common.{◌∷◌, sym, ◌∙◌, ap}
 use Rattle.std.specs.Prelude.{is_some}
 use Rattle.rs_policy.specs.Configuration.{client_of}
-use Rattle.rs_core.specs.Hearing.{reset_beyond}
-use Rattle.rs_core.proofs.Holding.{up_table}
-use Rattle.rs_core.proofs.Limits.{count_is, reset_by_limit}
+use Rattle.rs_core.specs.Session.Hearing.{reset_beyond}
+use Rattle.rs_core.proofs.Run.Holding.{up_table}
+use Rattle.rs_core.proofs.Session.Limits.{count_is, reset_by_limit}
 use Rattle.rs_core.proofs.route_server.Core.is_beyond.Goals as goal
 
 pub returns-in-Some : goal.returns-in-Some

@@ -1,13 +1,13 @@
 use Rattle.std.proofs.Common.{◌<◌, length, ◌∙◌, subst, arith}
 use Rattle.std.specs.Prelude.{◌↔◌, IsTrue}
-use Rattle.rs_outlet.specs.Left.{HasNothingLeft}
+use Rattle.rs_outlet.specs.Waiting.Left.{HasNothingLeft}
 use Rattle.rs_outlet.specs.Views.{IsDrained}
 use Rattle.rs_core.specs.Core.{client_count}
-use Rattle.rs_core.proofs.Serving.{drained_is_served}
-use Rattle.rs_core.proofs.Answered.{drained_is_answered}
-use Rattle.rs_core.proofs.Drained.{drained_exactly}
-use Rattle.rs_core.proofs.Paying.{nobody}
-use Rattle.rs_core.proofs.Walks.{default_same}
+use Rattle.rs_core.proofs.Told.Serving.{drained_is_served}
+use Rattle.rs_core.proofs.Told.Answered.{drained_is_answered}
+use Rattle.rs_core.proofs.Owed.Drained.{drained_exactly}
+use Rattle.rs_core.proofs.Owed.Sending.{nobody}
+use Rattle.rs_core.proofs.Run.Loops.{default_same}
 use Rattle.rs_core.proofs.route_server.Core.is_drained.Goals as goal
 
 pub returns : goal.returns

@@ -2,21 +2,21 @@ use Rattle.std.proofs.Common.{◌≡◌, ◌≢◌, ◌<◌, ℕ, List, ◌∷�
 use Rattle.std.proofs.lemmas.Bool.{false≢true}
 use Rattle.std.proofs.lemmas.Option.{slice_get_read}
 use Rattle.rs_session.specs.declared.act.State.TheVariants as states
-use Rattle.rs_core.specs.Moves.{Move, Left, config_in}
-use Rattle.rs_core.specs.Hearing.{is_up, state_in, leaves}
-use Rattle.rs_core.specs.Runs.{hearing}
-use Rattle.rs_core.specs.Watching.{ended_if}
-use Rattle.rs_core.specs.Agreeing.{Agrees, AgreesAt}
+use Rattle.rs_core.specs.Run.Moves.{Move, Left, config_in}
+use Rattle.rs_core.specs.Session.Hearing.{is_up, state_in, leaves}
+use Rattle.rs_core.specs.Run.Meaning.{hearing}
+use Rattle.rs_core.specs.Session.OperatorRecords.{ended_if}
+use Rattle.rs_core.specs.Run.Agreeing.{Agrees, AgreesAt}
 use Rattle.rs_core.specs.Core.{client_count}
 use Rattle.rs_core.specs.declared.endings.Ending.TheVariants as reasons
-use Rattle.rs_core.proofs.Lists.{own, other}
-use Rattle.rs_core.proofs.Agreeing.{grown, on_clients}
-use Rattle.rs_core.proofs.Growing.{left_agrees}
-use Rattle.rs_core.proofs.Paying.{others_owed}
-use Rattle.rs_core.proofs.Spared.{noted_spares}
-use Rattle.rs_core.proofs.Watching.{noted_by}
-use Rattle.rs_core.proofs.Touched.{touches_changes}
-use Rattle.rs_core.proofs.Idling.{idle_left, idle_touches}
+use Rattle.rs_core.proofs.Run.Lists.{own, other}
+use Rattle.rs_core.proofs.Run.Agreeing.{grown, on_clients}
+use Rattle.rs_core.proofs.Touched.Growing.{left_agrees}
+use Rattle.rs_core.proofs.Owed.Sending.{others_owed}
+use Rattle.rs_core.proofs.Run.Spared.{noted_spares}
+use Rattle.rs_core.proofs.Session.OperatorRecords.{noted_by}
+use Rattle.rs_core.proofs.Touched.Calls.{touches_changes}
+use Rattle.rs_core.proofs.Run.Idling.{idle_left, idle_touches}
 use Rattle.rs_core.proofs.route_server.Core.lost.Goals as goal
 use Rattle.rs_core.proofs.route_server.Core.lost.Goals.{in-Idle, in_default}
 
@@ -36,14 +36,14 @@ returns-clause-left c = λ run h.
     (subst (λ k. AgreesAt c.forget.new.self (config_in run) c.args.c k) (sym (own c.args.c (leaves (config_in run) c.args.c reasons.Lost it) it))
     (c.forget.ensures.forgotten (config_in run) it reasons.Lost (record { items = it.items; moment = refl; session = at.knows.session }) (notes.own it.endings it.faults at.knows.watched))) in
     left_agrees c.args.c c.args.self.now c.forget.new.self run c.forget.ensures.spares.count others (ap (λ k. is_up (state_in (config_in run) c.args.c k)) (own c.args.c (leaves (config_in run) c.args.c reasons.Lost it) it))
-    (touches_changes c.args.c (Left c.args.c) c.args.self.now c.forget.new.self run c.requires (on_clients c.args.self.now run h) on c.forget.ensures.spares.count c.forget.ensures.stirs) c.forget.ensures.spares.answers h on
+    (touches_changes c.args.c (Left c.args.c) c.args.self.now c.forget.new.self run c.requires (on_clients c.args.self.now run h) on c.forget.ensures.spares.count c.forget.ensures.others_touched) c.forget.ensures.spares.answers h on
 
 pub returns-clause-touched : goal.returns-clause-touched
 unfolding client_count
-returns-clause-touched c = λ run h. touches_changes c.args.c (Left c.args.c) c.args.self.now c.forget.new.self run c.requires (on_clients c.args.self.now run h) (on_clients c.forget.new.self (Left c.args.c ∷ run) (returns-clause-left c run h)) c.forget.ensures.spares.count c.forget.ensures.stirs
+returns-clause-touched c = λ run h. touches_changes c.args.c (Left c.args.c) c.args.self.now c.forget.new.self run c.requires (on_clients c.args.self.now run h) (on_clients c.forget.new.self (Left c.args.c ∷ run) (returns-clause-left c run h)) c.forget.ensures.spares.count c.forget.ensures.others_touched
 
 pub returns-clause-owes : goal.returns-clause-owes
-returns-clause-owes c = others_owed c.args.c c.args.self.now c.forget.new.self c.forget.ensures.spares.count c.forget.ensures.spares.voices
+returns-clause-owes c = others_owed c.args.c c.args.self.now c.forget.new.self c.forget.ensures.spares.count c.forget.ensures.spares.others_alone
 
 was_idle : (c : goal.Then-matches) (run : List Move) → Agrees c.args.self.now run → state_in (config_in run) c.args.c (hearing c.args.c run) ≡ states.Idle
 unfolding client_count

@@ -1,9 +1,9 @@
 use Rattle.std.proofs.Common.{refl, sym, ◌∙◌, arith}
 use Rattle.rs_core.specs.Core.{client_count}
-use Rattle.rs_core.proofs.Agreeing.{none_seen, one_seen, all_seen}
-use Rattle.rs_core.proofs.Growing.{saw_agrees}
-use Rattle.rs_core.proofs.KeptAnswers.{answers_on}
-use Rattle.rs_core.proofs.Moments.{all_touched_then, none_touched_yet, one_touched_more}
+use Rattle.rs_core.proofs.Run.Agreeing.{none_seen, one_seen, all_seen}
+use Rattle.rs_core.proofs.Touched.Growing.{saw_agrees}
+use Rattle.rs_core.proofs.Touched.KeptAnswers.{answers_on}
+use Rattle.rs_core.proofs.Touched.Moments.{all_touched_then, none_touched_yet, one_touched_more}
 use Rattle.rs_core.proofs.route_server.Core.moment.Goals as goal
 
 pub loop-c-init : goal.loop-c-init
@@ -15,7 +15,7 @@ unfolding client_count
 loop-c-preserved c = record {
   count = c.see.ensures.spares.count ∙ c.loop-c.invariant.count;
   seen = λ run h. one_seen c.args.t c.loop-c.c _ c.loop-c.self c.see.new.self run (omega arith) (omega arith) c.see.ensures.spares c.see.ensures.seen (c.loop-c.invariant.seen run h);
-  touched = λ run h. one_touched_more c.args.t c.loop-c.c _ c.args.self.now c.loop-c.self c.see.new.self run (omega arith) (omega arith) c.loop-c.invariant.count (c.loop-c.invariant.seen run h) c.see.ensures.spares.config c.see.ensures.seen c.see.ensures.stirs c.see.ensures.keeps
+  touched = λ run h. one_touched_more c.args.t c.loop-c.c _ c.args.self.now c.loop-c.self c.see.new.self run (omega arith) (omega arith) c.loop-c.invariant.count (c.loop-c.invariant.seen run h) c.see.ensures.spares.config c.see.ensures.seen c.see.ensures.others_touched c.see.ensures.keeps
       (c.loop-c.invariant.touched run h);
   answers = answers_on c.args.self.now.ribs c.loop-c.self.ribs c.see.new.self.ribs (c.loop-c.self.ribs_len ∙ c.loop-c.invariant.count ∙ sym c.args.self.now.ribs_len) c.loop-c.invariant.answers c.see.ensures.spares.answers;
 }

@@ -1,10 +1,10 @@
 use Rattle.std.proofs.Common.{◌≡◌, List}
 use Rattle.rs_core.specs.Core.{client_count}
-use Rattle.rs_core.specs.Moves.{Move}
-use Rattle.rs_core.specs.Agreeing.{Agrees}
+use Rattle.rs_core.specs.Run.Moves.{Move}
+use Rattle.rs_core.specs.Run.Agreeing.{Agrees}
 use Rattle.rs_core.specs.Ribs.{KeepsAnswers}
-use Rattle.rs_core.proofs.Agreeing.{HaveSeen}
-use Rattle.rs_core.proofs.Moments.{HaveTouched}
+use Rattle.rs_core.proofs.Run.Agreeing.{HaveSeen}
+use Rattle.rs_core.proofs.Touched.Moments.{HaveTouched}
 use Rattle.rs_core.proofs.route_server.Core.moment.Given as goal
 
 abbrev pub invariant-loop-c : goal.invariant-loop-c

@@ -1,8 +1,8 @@
 use Rattle.std.proofs.Common.{sym, ◌∙◌, ap}
 use Rattle.std.specs.Prelude.{slice_get}
-use Rattle.rs_core.proofs.Growing.{start_agrees}
-use Rattle.rs_core.proofs.Ruling.{begun}
-use Rattle.rs_core.proofs.Watching.{none_watched}
+use Rattle.rs_core.proofs.Touched.Growing.{start_agrees}
+use Rattle.rs_core.proofs.Run.OtherRules.{begun}
+use Rattle.rs_core.proofs.Session.OperatorRecords.{none_watched}
 use Rattle.rs_core.proofs.route_server.Core.new.Goals as goal
 
 pub returns-clause-agrees : goal.returns-clause-agrees

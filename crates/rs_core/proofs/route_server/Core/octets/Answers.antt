@@ -2,19 +2,19 @@ use Rattle.std.proofs.Common.{◌≡◌, ◌≢◌, ◌<◌, ℕ, Bool, true, fa
 use Rattle.std.specs.List.{cons_option}
 use Rattle.std.proofs.lemmas.Option.{slice_get_read}
 use Rattle.rs_session.specs.Sessions.{is_live}
-use Rattle.rs_core.specs.Moves.{Heard, Dropped, config_in}
-use Rattle.rs_core.specs.Hearing.{is_up, state_in, hears, leaves}
-use Rattle.rs_core.specs.Runs.{hearing}
-use Rattle.rs_core.specs.Agreeing.{AgreesAt}
+use Rattle.rs_core.specs.Run.Moves.{Heard, Dropped, config_in}
+use Rattle.rs_core.specs.Session.Hearing.{is_up, state_in, hears, leaves}
+use Rattle.rs_core.specs.Run.Meaning.{hearing}
+use Rattle.rs_core.specs.Run.Agreeing.{AgreesAt}
 use Rattle.rs_core.specs.Core.{client_count}
-use Rattle.rs_core.specs.Watching.{ended_if, watched_by}
+use Rattle.rs_core.specs.Session.OperatorRecords.{ended_if, watched_by}
 use Rattle.rs_core.specs.declared.endings.Ending.TheVariants as reasons
-use Rattle.rs_core.proofs.Lists.{own, other, set_at}
-use Rattle.rs_core.proofs.Cutting.{cut_unmoved}
-use Rattle.rs_core.proofs.Spared.{put_spares}
-use Rattle.rs_core.proofs.Agreeing.{grown, on_clients, spares_both}
-use Rattle.rs_core.proofs.Growing.{dropped_agrees, heard_agrees}
-use Rattle.rs_core.proofs.Touched.{touches_dropped, touches_itself, touches_others}
+use Rattle.rs_core.proofs.Run.Lists.{own, other, set_at}
+use Rattle.rs_core.proofs.Session.Cutting.{cut_unmoved}
+use Rattle.rs_core.proofs.Run.Spared.{put_spares}
+use Rattle.rs_core.proofs.Run.Agreeing.{grown, on_clients, spares_both}
+use Rattle.rs_core.proofs.Touched.Growing.{dropped_agrees, heard_agrees}
+use Rattle.rs_core.proofs.Touched.Calls.{touches_dropped, touches_itself, touches_others}
 use Rattle.rs_core.proofs.route_server.Core.octets.Goals as goal
 
 live_by : (b : Bool) → (b ≡ false → b ≡ true) → b ≡ true
@@ -32,7 +32,7 @@ returns-in-Ok-clause-heard c = λ run h.
     let on = grown old c.hear.new.self c.args.c run (Heard c.args.c piece ∷ run) refl others h c.hear.ensures.spares
     (subst (λ k. AgreesAt c.hear.new.self (config_in run) c.args.c k) (sym (own c.args.c (hears (config_in run) c.args.c piece it) it)) (c.in-Ok.ensures.heard (config_in run) it h.config at)) in
     heard_agrees c.args.c piece old c.hear.new.self run c.hear.ensures.spares.count others
-    (touches_others _ c.args.c old c.hear.new.self run (on_clients old run h) c.hear.ensures.spares.count (c.in-Ok.ensures.stirs (config_in run) it h.config at))
+    (touches_others _ c.args.c old c.hear.new.self run (on_clients old run h) c.hear.ensures.spares.count (c.in-Ok.ensures.others_touched (config_in run) it h.config at))
     (touches_itself (Heard c.args.c piece) c.args.c old c.hear.new.self run c.requires (on_clients old run h) on c.hear.ensures.spares.count (c.in-Ok.ensures.keeps (config_in run) it h.config at)) c.hear.ensures.spares.answers h on
 
 pub returns-in-Err-clause-refused : goal.returns-in-Err-clause-refused
@@ -55,7 +55,7 @@ returns-in-Err-clause-refused c = λ run h.
     dropped_agrees c.args.c c.args.piece.now c.args.self.now c.forget.new.self run (c.forget.ensures.spares.count ∙ c.hear.ensures.spares.count) others
     (ap (λ k. is_up (state_in (config_in run) c.args.c k)) (own c.args.c (leaves (config_in run) c.args.c reasons.Memory it) it))
     (touches_dropped c.args.c c.args.piece.now c.args.self.now c.hear.new.self c.forget.new.self run c.requires (on_clients c.args.self.now run h) on c.hear.ensures.spares.count c.forget.ensures.spares.count
-    (c.in-Err.ensures.cut (config_in run) it h.config at) c.forget.ensures.stirs) spared.answers h on
+    (c.in-Err.ensures.cut (config_in run) it h.config at) c.forget.ensures.others_touched) spared.answers h on
 
 pub returns-in-Ok-clause-unheard : goal.returns-in-Ok-clause-unheard
 unfolding client_count
@@ -68,7 +68,7 @@ returns-in-Err-clause-unheard c = λ run h dead. let it = c.in-Err.ensures.unhea
 pub returns-in-Ok-clause-touched : goal.returns-in-Ok-clause-touched
 unfolding client_count
 returns-in-Ok-clause-touched c = λ run h. touches_others _ c.args.c c.args.self.now c.hear.new.self run (on_clients c.args.self.now run h) c.hear.ensures.spares.count
-    (c.in-Ok.ensures.stirs (config_in run) (hearing c.args.c run) h.config (h.clients c.args.c c.requires))
+    (c.in-Ok.ensures.others_touched (config_in run) (hearing c.args.c run) h.config (h.clients c.args.c c.requires))
 
 pub returns-in-Ok-clause-itself : goal.returns-in-Ok-clause-itself
 unfolding client_count
@@ -80,4 +80,4 @@ pub returns-in-Err-clause-dropped : goal.returns-in-Err-clause-dropped
 unfolding client_count
 returns-in-Err-clause-dropped c = λ run h. touches_dropped c.args.c c.args.piece.now c.args.self.now c.hear.new.self c.forget.new.self run c.requires (on_clients c.args.self.now run h)
     (on_clients c.forget.new.self (Dropped c.args.c c.args.piece.now ∷ run) (returns-in-Err-clause-refused c run h)) c.hear.ensures.spares.count c.forget.ensures.spares.count
-    (c.in-Err.ensures.cut (config_in run) (hearing c.args.c run) h.config (h.clients c.args.c c.requires)) c.forget.ensures.stirs
+    (c.in-Err.ensures.cut (config_in run) (hearing c.args.c run) h.config (h.clients c.args.c c.requires)) c.forget.ensures.others_touched

@@ -4,21 +4,21 @@ use Rattle.std.specs.Global.{Vec}
 use Rattle.std.proofs.lemmas.Option.{slice_get_read}
 use Rattle.rs_session.specs.declared.session.Session.{Session}
 use Rattle.rs_adjin.specs.AdjIns.{held_of, identifier_of}
-use Rattle.rs_core.specs.Moves.{Came, config_in}
-use Rattle.rs_core.specs.Hearing.{session_in, state_in, is_up, begins}
-use Rattle.rs_core.specs.Runs.{hearing}
-use Rattle.rs_core.specs.Agreeing.{AgreesAt}
+use Rattle.rs_core.specs.Run.Moves.{Came, config_in}
+use Rattle.rs_core.specs.Session.Hearing.{session_in, state_in, is_up, begins}
+use Rattle.rs_core.specs.Run.Meaning.{hearing}
+use Rattle.rs_core.specs.Run.Agreeing.{AgreesAt}
 use Rattle.rs_core.specs.Core.{client_count, lent_octets}
 use Rattle.rs_core.specs.declared.endings.Watched.{Watched}
-use Rattle.rs_core.proofs.Lists.{own, other, set_at}
-use Rattle.rs_core.proofs.Agreeing.{grown}
-use Rattle.rs_core.proofs.Growing.{came_agrees}
+use Rattle.rs_core.proofs.Run.Lists.{own, other, set_at}
+use Rattle.rs_core.proofs.Run.Agreeing.{grown}
+use Rattle.rs_core.proofs.Touched.Growing.{came_agrees}
 use Rattle.rs_open.specs.Writing.{server_open}
-use Rattle.rs_core.specs.Conversations.{own_open}
-use Rattle.rs_core.proofs.Outgoing.{lent_is}
-use Rattle.rs_core.proofs.Conversed.{any_view}
-use Rattle.rs_core.proofs.Acting.{came, opens_from}
-use Rattle.rs_core.proofs.Touched.{keeps_touched}
+use Rattle.rs_core.specs.Session.Conversations.{own_open}
+use Rattle.rs_core.proofs.Run.Outgoing.{lent_is}
+use Rattle.rs_core.proofs.Session.Conversed.{any_view}
+use Rattle.rs_core.proofs.Run.Acting.{came, opens_from}
+use Rattle.rs_core.proofs.Touched.Calls.{keeps_touched}
 use Rattle.rs_core.proofs.route_server.Core.opened.Goals as goal
 
 pub returns-in-Ok-clause-idle : goal.returns-in-Ok-clause-idle
@@ -49,7 +49,7 @@ returns-in-Ok-clause-came c = λ run h.
       buffers = c.greet.ensures.others;
       held = λ d p ne. ap (λ ins. held_of ins d p) c.greet.ensures.tables;
       identifiers = λ d ne. ap (λ ins. identifier_of ins d) c.greet.ensures.tables;
-      voices = c.greet.ensures.voices;
+      others_alone = c.greet.ensures.others_alone;
       watched = λ d ne. ap (λ (v : Vec Watched). slice_get v.items d) c.greet.ensures.watched;
       answers = c.greet.ensures.answers;
     })

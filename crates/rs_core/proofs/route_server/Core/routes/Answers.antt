@@ -5,7 +5,7 @@ use Rattle.std.proofs.lemmas.Option.{slice_get_read}
 use Rattle.rs_octets.specs.Prefixes.{prefix_order}
 use Rattle.rs_outlet.specs.Views.{View, AreNumbered}
 use Rattle.rs_core.specs.Core.{client_count, loc_in, loc_rib}
-use Rattle.rs_core.proofs.InTurn.{loc_empty}
+use Rattle.rs_core.proofs.Told.InTurn.{loc_empty}
 use Rattle.rs_core.proofs.route_server.Core.routes.Goals as goal
 
 none_sorted : {X : Type 0} → fin.entries (fin.from_sorted {X = X} {R = prefix_order} []) ≡ []

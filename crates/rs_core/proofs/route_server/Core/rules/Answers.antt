@@ -1,11 +1,11 @@
 use Rattle.std.proofs.Common.{refl, subst}
 use Rattle.rs_policy.specs.Replacing.{Replaces}
 use Rattle.rs_core.specs.Core.{client_count}
-use Rattle.rs_core.proofs.Agreeing.{on_clients}
-use Rattle.rs_core.proofs.Growing.{ruled_agrees}
-use Rattle.rs_core.proofs.KeptAnswers.{marked_answers}
-use Rattle.rs_core.proofs.Ruling.{ruled}
-use Rattle.rs_core.proofs.Touched.{touches_all}
+use Rattle.rs_core.proofs.Run.Agreeing.{on_clients}
+use Rattle.rs_core.proofs.Touched.Growing.{ruled_agrees}
+use Rattle.rs_core.proofs.Touched.KeptAnswers.{marked_answers}
+use Rattle.rs_core.proofs.Run.OtherRules.{ruled}
+use Rattle.rs_core.proofs.Touched.Calls.{touches_all}
 use Rattle.rs_core.proofs.route_server.Core.rules.Goals as goal
 
 pub returns-clause-accepted : goal.returns-clause-accepted

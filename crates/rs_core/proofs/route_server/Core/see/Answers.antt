@@ -3,12 +3,12 @@ use Rattle.std.specs.Global.{Vec}
 use Rattle.std.proofs.lemmas.Option.{slice_get_read}
 use Rattle.rs_session.specs.declared.session.Session.{Session}
 use Rattle.rs_core.specs.Core.{client_count}
-use Rattle.rs_core.specs.Watching.{expiry_by}
+use Rattle.rs_core.specs.Session.OperatorRecords.{expiry_by}
 use Rattle.rs_core.specs.declared.endings.Watched.{Watched}
-use Rattle.rs_core.proofs.Acting.{seen, acted_spares}
-use Rattle.rs_core.proofs.Watching.{noted_by, others_kept}
+use Rattle.rs_core.proofs.Run.Acting.{seen, acted_spares}
+use Rattle.rs_core.proofs.Session.OperatorRecords.{noted_by, others_kept}
 use Rattle.rs_session.specs.Items.{Moment}
-use Rattle.rs_core.proofs.Raising.{item_keeps}
+use Rattle.rs_core.proofs.Touched.OwnSession.{item_keeps}
 use Rattle.rs_core.proofs.route_server.Core.see.Goals as goal
 
 pub returns-clause-spares : goal.returns-clause-spares
@@ -18,7 +18,7 @@ returns-clause-spares c =
     let kept = c.args.self.now.watched.items in
     let there : c.args.c < length kept = subst (λ k. c.args.c < k) (sym c.args.self.now.watched_len) c.requires in
     let set = ap (λ (v : Vec Watched). v.items) c.act.ensures.watched in
-    acted_spares c.args.self.now c.act.new.self c.args.c c.moment-act.new.self c.act.ensures.count c.act.ensures.config lt (ap (λ (v : Vec Session). v.items) c.act.ensures.sessions) c.act.ensures.buffers c.act.ensures.others c.act.ensures.voices
+    acted_spares c.args.self.now c.act.new.self c.args.c c.moment-act.new.self c.act.ensures.count c.act.ensures.config lt (ap (λ (v : Vec Session). v.items) c.act.ensures.sessions) c.act.ensures.buffers c.act.ensures.others c.act.ensures.others_alone
     (others_kept kept c.act.new.self.watched.items c.args.c c.end.new.self there set) c.act.ensures.answers
 
 pub returns-clause-seen : goal.returns-clause-seen
@@ -41,5 +41,5 @@ returns-clause-keeps c = λ s h config knows none.
     let read = slice_get_read _ _ _ _ (sym c.args.self.now.sessions_len) c.requires c.index_mut.ensures.value in
     item_keeps c.args.self.now c.act.new.self c.moment-act.result (Moment c.args.t) c.index_mut.result.now c.moment-act.new.self s c.args.c h read lt c.moment-act.ensures.hears c.act.ensures.own config knows none
 
-pub returns-clause-stirs : goal.returns-clause-stirs
-returns-clause-stirs c = c.act.ensures.stirs
+pub returns-clause-others_touched : goal.returns-clause-others_touched
+returns-clause-others_touched c = c.act.ensures.others_touched

@@ -1,10 +1,10 @@
 use Rattle.std.proofs.Common.{refl, take, ap}
 use Rattle.rs_core.specs.Core.{client_count, lent_octets}
 use Rattle.rs_core.specs.Ribs.{lent_by}
-use Rattle.rs_core.proofs.Growing.{taken_agrees}
-use Rattle.rs_core.proofs.KeptAnswers.{own_answers}
-use Rattle.rs_core.proofs.Outgoing.{IsTakenFrom, lent_is, taken_last, took_agrees}
-use Rattle.rs_core.proofs.Paying.{took_owes_less}
+use Rattle.rs_core.proofs.Touched.Growing.{taken_agrees}
+use Rattle.rs_core.proofs.Touched.KeptAnswers.{own_answers}
+use Rattle.rs_core.proofs.Run.Outgoing.{IsTakenFrom, lent_is, taken_last, took_agrees}
+use Rattle.rs_core.proofs.Owed.Sending.{took_owes_less}
 use Rattle.rs_core.proofs.route_server.Core.took.Goals as goal
 
 pub returns-clause-owes : goal.returns-clause-owes

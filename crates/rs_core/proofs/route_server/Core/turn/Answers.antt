@@ -1,11 +1,11 @@
 use Rattle.std.proofs.Common.{refl}
 use Rattle.rs_core.specs.Core.{client_count}
-use Rattle.rs_core.proofs.Drained.{turned_decided}
-use Rattle.rs_core.proofs.Touched.{decides_touched, refusal_keeps}
-use Rattle.rs_core.proofs.Growing.{turned_by}
-use Rattle.rs_core.proofs.Outgoing.{turned_agrees}
-use Rattle.rs_core.proofs.Refusing.{listed_is, refused_listed}
-use Rattle.rs_core.proofs.TurnAnswers.{answers_turn, refused_up}
+use Rattle.rs_core.proofs.Owed.Drained.{turned_decided}
+use Rattle.rs_core.proofs.Touched.Calls.{decides_touched, refusal_keeps}
+use Rattle.rs_core.proofs.Touched.Growing.{turned_by}
+use Rattle.rs_core.proofs.Run.Outgoing.{turned_agrees}
+use Rattle.rs_core.proofs.Touched.Refusing.{listed_is, refused_listed}
+use Rattle.rs_core.proofs.Touched.TurnAnswers.{answers_turn, refused_up}
 use Rattle.rs_core.proofs.route_server.Core.turn.Goals as goal
 
 pub returns-clause-turned : goal.returns-clause-turned

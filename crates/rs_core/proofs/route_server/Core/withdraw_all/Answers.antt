@@ -1,9 +1,9 @@
 use Rattle.std.proofs.Common.{refl, ◌∙◌, subst, arith, sym, take}
 use Rattle.std.specs.Prelude.{None}
 use Rattle.std.proofs.lemmas.List.{take_all}
-use Rattle.rs_core.specs.Steps.{HasOverlaid}
-use Rattle.rs_core.proofs.Stirring.{stirs_more}
-use Rattle.rs_core.proofs.Updating.{none_overlaid, one_overlaid, one_spared, routes_none, routes_on}
+use Rattle.rs_core.specs.Run.Parts.{HasOverlaid}
+use Rattle.rs_core.proofs.Touched.ChangedPrefixes.{touches_others_more}
+use Rattle.rs_core.proofs.Session.Updating.{none_overlaid, one_overlaid, one_spared, routes_none, routes_on}
 use Rattle.rs_core.proofs.route_server.Core.withdraw_all.Goals as goal
 
 pub loop-prefix-init : goal.loop-prefix-init
@@ -19,7 +19,7 @@ loop-prefix-preserved c =
     record {
       alone = routes_on c.args.c c.prefix-item.result c.args.self.now c.loop-prefix.self _ refl refl refl refl c.withdraw.ensures.settings.config
           (one_spared c.args.c c.prefix-item.result None old.tables mid.tables new.tables c.withdraw.ensures.held was.alone.others) touches
-          (stirs_more c.args.c c.prefix-item.result (take c.loop-prefix.prefix-index c.args.prefixes.now) None old mid new (c.loop-prefix.self.ribs_len ∙ was.alone.count ∙ sym c.args.self.now.ribs_len) was.held c.withdraw.ensures.held touches was.alone.stirs) was.alone;
+          (touches_others_more c.args.c c.prefix-item.result (take c.loop-prefix.prefix-index c.args.prefixes.now) None old mid new (c.loop-prefix.self.ribs_len ∙ was.alone.count ∙ sym c.args.self.now.ribs_len) was.held c.withdraw.ensures.held touches was.alone.others_touched) was.alone;
       held = one_overlaid c.args.c c.loop-prefix.prefix-index _ c.args.prefixes.now c.prefix-item.result None old.tables mid.tables new.tables (omega arith) c.loop-prefix-test.true c.prefix-item.is c.withdraw.ensures.held was.held;
     }
 

@@ -1,5 +1,5 @@
 use Rattle.std.specs.Prelude.{take, None}
-use Rattle.rs_core.specs.Steps.{ChangesRoutes, HasOverlaid}
+use Rattle.rs_core.specs.Run.Parts.{ChangesRoutes, HasOverlaid}
 use Rattle.rs_core.proofs.route_server.Core.withdraw_all.Given as goal
 
 abbrev pub invariant-loop-prefix : goal.invariant-loop-prefix

@@ -2,24 +2,24 @@ use Rattle.std.proofs.Common.{◌∙◌, ap, arith, is_some}
 use Rattle.std.specs.FinMap as fin
 use Rattle.rs_outlet.specs.Views.{View}
 use Rattle.rs_outlet.specs.Inside.{loc_of}
-use Rattle.rs_outlet.proofs.AskedAgain.{exact_again, marked_all, told_again}
+use Rattle.rs_outlet.proofs.Waiting.AskedAgain.{exact_again, marked_all, told_again}
 use Rattle.rs_outlet.proofs.outlet.Outlet.again.Goals as goal
 
 pub returns-clause-told : goal.returns-clause-told
 returns-clause-told c =
     let a = c.self.inside in
-    told_again (loc_of a.rows.rows.items) a.waits.places.items c.mark_all.new.self.places.items c.mark_all.ensures.again ∙ ap (λ (v : View). v.told) c.self.view_is
+    told_again (loc_of a.rows.rows.items) a.waits.slots.items c.mark_all.new.self.slots.items c.mark_all.ensures.again ∙ ap (λ (v : View). v.told) c.self.view_is
 
 pub returns-clause-marked : goal.returns-clause-marked
 returns-clause-marked c = λ p.
     let a = c.self.inside in
-    marked_all (loc_of a.rows.rows.items) a.waits.places.items c.mark_all.new.self.places.items c.mark_all.ensures.again (c.mark_all.ensures.all c.self.invariant.backed) p
+    marked_all (loc_of a.rows.rows.items) a.waits.slots.items c.mark_all.new.self.slots.items c.mark_all.ensures.again (c.mark_all.ensures.all c.self.invariant.backed) p
     ∙ ap (λ (v : View). is_some (fin.get v.told p)) c.self.view_is
 
 pub returns-clause-exact : goal.returns-clause-exact
 returns-clause-exact c = λ exact.
     let a = c.self.inside in
-    exact_again (loc_of a.rows.rows.items) a.waits.places.items c.mark_all.new.self.places.items c.mark_all.ensures.again c.args.self.now
+    exact_again (loc_of a.rows.rows.items) a.waits.slots.items c.mark_all.new.self.slots.items c.mark_all.ensures.again c.args.self.now
     (ap (λ (v : View). v.loc) c.self.view_is) (ap (λ (v : View). v.told) c.self.view_is) (ap (λ (v : View). v.marked) c.self.view_is) (ap (λ (v : View). v.waits) c.self.view_is) exact
 
 pub invariant_of-self : goal.invariant_of-self
@@ -31,7 +31,7 @@ invariant_of-self c =
       ended = kept.ended;
       front = kept.front;
       chosen = kept.chosen;
-      places = omega (arith, kept.places, c.mark_all.ensures.withdrawn, c.mark_all.ensures.capacity);
+      slots = omega (arith, kept.slots, c.mark_all.ensures.withdrawn, c.mark_all.ensures.capacity);
       extended = kept.extended;
       backed = c.mark_all.ensures.backed kept.backed;
       fit = kept.fit;

@@ -1,25 +1,25 @@
 use Rattle.std.proofs.Common.{◌≡◌, ◌∙◌, ◌++◌, cond, ap, ℕ, List, Some, refl, sym, subst}
 use Rattle.std.specs.FinMap as fin
-use Rattle.rs_outlet.specs.Due.{any_holds, due_to}
-use Rattle.rs_outlet.specs.HeldBy.{held_by}
+use Rattle.rs_outlet.specs.Turn.Due.{any_holds, due_to}
+use Rattle.rs_outlet.specs.Turn.HeldBy.{held_by}
 use Rattle.std.specs.List.{AllByRecursion}
 use Rattle.rs_octets.specs.Prefixes.{Prefix}
 use Rattle.rs_adjin.specs.AdjIns.{number_of}
 use Rattle.rs_adjin.specs.declared.adj_ins.AdjIns.{AdjIns}
 use Rattle.rs_outlet.specs.declared.waiting.Wait.{Wait}
-use Rattle.rs_outlet.specs.Places.{open_at}
-use Rattle.rs_outlet.specs.Owed.{Keeps}
+use Rattle.rs_outlet.specs.Waiting.Slots.{open_at}
+use Rattle.rs_outlet.specs.Waiting.Owed.{Keeps}
 use Rattle.rs_outlet.specs.Views.{View, Table, AreNumbered, IsCount, HaveNumbers, WaitsAreExact, is_touched, is_whole}
-use Rattle.rs_outlet.proofs.Backing.{are_backed_same, changes_fit, fit_same, fit_spoken, own_same}
+use Rattle.rs_outlet.proofs.Waiting.Backing.{are_backed_same, changes_fit, fit_same, fit_spoken, own_same}
 use Rattle.rs_outlet.specs.Inside.{AreOwn, numbers_from, loc_of, is_changed, view_of}
-use Rattle.rs_outlet.specs.Touching.{touched_of}
-use Rattle.rs_outlet.proofs.Numbering.{all_front, all_behind, all_both, have_rows}
-use Rattle.rs_outlet.proofs.Carrying.{distinct_prefixes, keeps_both, keeps_same}
-use Rattle.rs_outlet.proofs.Unchanged.{told_kept, marked_kept, exact_kept}
-use Rattle.rs_outlet.proofs.Ranks.{due_unnumbered, none_holds}
-use Rattle.rs_outlet.proofs.Counting.{count_touched, counted_by_prefix}
-use Rattle.rs_outlet.proofs.LocByNumber.{numbered}
-use Rattle.rs_outlet.proofs.TurnedLoc.{turned_at}
+use Rattle.rs_outlet.specs.Turn.Touching.{touched_of}
+use Rattle.rs_outlet.proofs.Turn.Numbering.{all_front, all_behind, all_both, have_rows}
+use Rattle.rs_outlet.proofs.Waiting.Carrying.{distinct_prefixes, keeps_both, keeps_same}
+use Rattle.rs_outlet.proofs.Waiting.Unchanged.{told_kept, marked_kept, exact_kept}
+use Rattle.rs_outlet.proofs.Turn.Ranks.{due_unnumbered, none_holds}
+use Rattle.rs_outlet.proofs.Turn.Counting.{count_touched, counted_by_prefix}
+use Rattle.rs_outlet.proofs.Turn.LocByNumber.{numbered}
+use Rattle.rs_outlet.proofs.Turn.TurnedLoc.{turned_at}
 use Rattle.rs_outlet.proofs.outlet.Outlet.turn_up.Goals as goal
 
 pub commit-requires-clause-rows : goal.commit-requires-clause-rows
@@ -97,11 +97,11 @@ returns-clause-told c = λ are.
     let ins = c.args.sources.now.ins.now in
     let a = c.self.inside in
     let loc = loc_of a.rows.rows.items in
-    let ws = a.waits.places.items in
+    let ws = a.waits.slots.items in
     let with_numbers = there ins (view_of a) c.args.self.now (numbers_from 0 a.rows.rows.items) a.touched.prefixes.items _ c.self.view_is refl c.make_room.ensures.numbers are in
     let kept = c.commit.ensures.keeps ins c.in_ok-changes.ensures.changes.placed with_numbers in
-    told_kept loc (loc_of c.commit.new.rows.rows.items) ws c.commit.new.waits.places.items
-    (keeps loc (loc_of c.make_room.new.rows.rows.items) (loc_of c.commit.new.rows.rows.items) ws c.make_room.new.waits.places.items c.commit.new.waits.places.items c.make_room.ensures.loc c.make_room.ensures.waits kept)
+    told_kept loc (loc_of c.commit.new.rows.rows.items) ws c.commit.new.waits.slots.items
+    (keeps loc (loc_of c.make_room.new.rows.rows.items) (loc_of c.commit.new.rows.rows.items) ws c.make_room.new.waits.slots.items c.commit.new.waits.slots.items c.make_room.ensures.loc c.make_room.ensures.waits kept)
     ∙ ap (λ (v : View). v.told) c.self.view_is
 
 pub returns-clause-marked : goal.returns-clause-marked
@@ -109,11 +109,11 @@ returns-clause-marked c = λ are.
     let ins = c.args.sources.now.ins.now in
     let a = c.self.inside in
     let loc = loc_of a.rows.rows.items in
-    let ws = a.waits.places.items in
+    let ws = a.waits.slots.items in
     let with_numbers = there ins (view_of a) c.args.self.now (numbers_from 0 a.rows.rows.items) a.touched.prefixes.items _ c.self.view_is refl c.make_room.ensures.numbers are in
     let kept = c.commit.ensures.keeps ins c.in_ok-changes.ensures.changes.placed with_numbers in
-    marked_kept loc (loc_of c.commit.new.rows.rows.items) ws c.commit.new.waits.places.items
-    (keeps loc (loc_of c.make_room.new.rows.rows.items) (loc_of c.commit.new.rows.rows.items) ws c.make_room.new.waits.places.items c.commit.new.waits.places.items c.make_room.ensures.loc c.make_room.ensures.waits kept)
+    marked_kept loc (loc_of c.commit.new.rows.rows.items) ws c.commit.new.waits.slots.items
+    (keeps loc (loc_of c.make_room.new.rows.rows.items) (loc_of c.commit.new.rows.rows.items) ws c.make_room.new.waits.slots.items c.commit.new.waits.slots.items c.make_room.ensures.loc c.make_room.ensures.waits kept)
     ∙ ap (λ (v : View). v.marked) c.self.view_is
 
 pub returns-clause-exact : goal.returns-clause-exact
@@ -121,11 +121,11 @@ returns-clause-exact c = λ are exact.
     let ins = c.args.sources.now.ins.now in
     let a = c.self.inside in
     let loc = loc_of a.rows.rows.items in
-    let ws = a.waits.places.items in
+    let ws = a.waits.slots.items in
     let with_numbers = there ins (view_of a) c.args.self.now (numbers_from 0 a.rows.rows.items) a.touched.prefixes.items _ c.self.view_is refl c.make_room.ensures.numbers are in
     let kept = c.commit.ensures.keeps ins c.in_ok-changes.ensures.changes.placed with_numbers in
-    exact_kept loc (loc_of c.commit.new.rows.rows.items) ws c.commit.new.waits.places.items
-    (keeps loc (loc_of c.make_room.new.rows.rows.items) (loc_of c.commit.new.rows.rows.items) ws c.make_room.new.waits.places.items c.commit.new.waits.places.items c.make_room.ensures.loc c.make_room.ensures.waits kept)
+    exact_kept loc (loc_of c.commit.new.rows.rows.items) ws c.commit.new.waits.slots.items
+    (keeps loc (loc_of c.make_room.new.rows.rows.items) (loc_of c.commit.new.rows.rows.items) ws c.make_room.new.waits.slots.items c.commit.new.waits.slots.items c.make_room.ensures.loc c.make_room.ensures.waits kept)
     (subst WaitsAreExact (sym c.self.view_is) exact)
 
 pub commit-requires-clause-own : goal.commit-requires-clause-own
@@ -144,9 +144,9 @@ invariant_of-self-2 c =
       ended = kept.ended;
       front = kept.front;
       chosen = kept.chosen;
-      places = c.commit.ensures.all;
+      slots = c.commit.ensures.all;
       extended = kept.extended;
-      backed = c.commit.ensures.backed (are_backed_same a.rows.rows.items c.make_room.new.rows.rows.items a.waits.places.items c.make_room.new.waits.places.items c.make_room.ensures.rows c.make_room.ensures.waits kept.backed);
+      backed = c.commit.ensures.backed (are_backed_same a.rows.rows.items c.make_room.new.rows.rows.items a.waits.slots.items c.make_room.new.waits.slots.items c.make_room.ensures.rows c.make_room.ensures.waits kept.backed);
       fit = fit_spoken c.commit.new.rows.rows.items a.speech c.args.speech is
           (c.commit.ensures.fit c.args.speech
           (changes_fit (held_by c.args.sources.now) c.args.sources.now.client c.args.speech c.in_ok-changes.field-0.changes.items c.in_ok-changes.ensures.changes.due)

@@ -7,59 +7,59 @@ use Rattle.std.specs.List.Sorted.{IsStrictlySortedBy}
 use Rattle.std.specs.Ordering.{eq_by_cmp}
 use Rattle.rs_octets.specs.Prefixes.{prefix_order}
 use Rattle.rs_outlet.specs.declared.waiting.Wait.{Wait}
-use Rattle.rs_outlet.specs.Places.{is_withdrawn, is_announced}
-use Rattle.rs_outlet.specs.Linking.{AreLinked}
-use Rattle.rs_outlet.proofs.Links.{same_dues}
-use Rattle.rs_outlet.proofs.Places.{count_shut, count_one, count_less, same_prefixes, closed_at}
-use Rattle.rs_outlet.proofs.Withdrawals.{withdrawn_less}
+use Rattle.rs_outlet.specs.Waiting.Slots.{is_withdrawn, is_announced}
+use Rattle.rs_outlet.specs.Waiting.Chains.{AreChained}
+use Rattle.rs_outlet.proofs.Waiting.Chains.{same_dues}
+use Rattle.rs_outlet.proofs.Waiting.Slots.{count_shut, count_one, count_less, same_prefixes, closed_at}
+use Rattle.rs_outlet.proofs.Waiting.Withdrawals.{withdrawn_less}
 use Rattle.rs_outlet.proofs.waiting.Waits.close.Goals as goal
 
 pub overflow_sub-self : goal.overflow_sub-self
-overflow_sub-self c = count_one c.args.self.now.places.items c.args.place c.index_mut-wait.result.now c.index_mut-wait.result.now.open _ _ (search rules) (ap (λ (w : Wait). w.open) (sym c.index_mut-wait.ensures.value)) c.args.self.now.counted (search rules)
+overflow_sub-self c = count_one c.args.self.now.slots.items c.args.slot c.index_mut-wait.result.now c.index_mut-wait.result.now.open _ _ (search rules) (ap (λ (w : Wait). w.open) (sym c.index_mut-wait.ensures.value)) c.args.self.now.counted (search rules)
 
 pub invariant_of-self-clause-counted : goal.invariant_of-self-clause-counted
-invariant_of-self-clause-counted c = count_shut c.args.self.now.places.items c.args.place _ c.index_mut-wait.result.now c.index_mut-wait.result.now.open _ _ (search rules) (ap (λ (w : Wait). w.open) (sym c.index_mut-wait.ensures.value)) refl c.args.self.now.counted (search rules)
+invariant_of-self-clause-counted c = count_shut c.args.self.now.slots.items c.args.slot _ c.index_mut-wait.result.now c.index_mut-wait.result.now.open _ _ (search rules) (ap (λ (w : Wait). w.open) (sym c.index_mut-wait.ensures.value)) refl c.args.self.now.counted (search rules)
 
 pub invariant_of-self-clause-first : goal.invariant_of-self-clause-first
 invariant_of-self-clause-first c =
     subst (λ ps. IsStrictlySortedBy prefix_order (take c.args.self.now.sorted ps))
-    (sym (same_prefixes c.args.self.now.places.items c.args.place _ c.index_mut-wait.result.now (ap (λ (w : Wait). w.prefix) c.index_mut-wait.ensures.value)))
+    (sym (same_prefixes c.args.self.now.slots.items c.args.slot _ c.index_mut-wait.result.now (ap (λ (w : Wait). w.prefix) c.index_mut-wait.ensures.value)))
     c.args.self.now.first
 
 pub invariant_of-self-clause-late : goal.invariant_of-self-clause-late
 invariant_of-self-clause-late c =
     subst (λ ps. IsStrictlySortedBy prefix_order (drop c.args.self.now.sorted ps))
-    (sym (same_prefixes c.args.self.now.places.items c.args.place _ c.index_mut-wait.result.now (ap (λ (w : Wait). w.prefix) c.index_mut-wait.ensures.value)))
+    (sym (same_prefixes c.args.self.now.slots.items c.args.slot _ c.index_mut-wait.result.now (ap (λ (w : Wait). w.prefix) c.index_mut-wait.ensures.value)))
     c.args.self.now.late
 
 pub invariant_of-self-clause-apart : goal.invariant_of-self-clause-apart
 invariant_of-self-clause-apart c =
     subst (IsDistinct (eq_by_cmp prefix_order))
-    (sym (same_prefixes c.args.self.now.places.items c.args.place _ c.index_mut-wait.result.now (ap (λ (w : Wait). w.prefix) c.index_mut-wait.ensures.value)))
+    (sym (same_prefixes c.args.self.now.slots.items c.args.slot _ c.index_mut-wait.result.now (ap (λ (w : Wait). w.prefix) c.index_mut-wait.ensures.value)))
     c.args.self.now.apart
 
 pub invariant_of-self-clause-withdrawn : goal.invariant_of-self-clause-withdrawn
-invariant_of-self-clause-withdrawn c = AllWithin-set (λ w. is_withdrawn w ≡ false) c.args.self.now.places.items 0 c.args.self.now.gone c.args.place _ (search rules) refl c.args.self.now.withdrawn
+invariant_of-self-clause-withdrawn c = AllWithin-set (λ w. is_withdrawn w ≡ false) c.args.self.now.slots.items 0 c.args.self.now.gone c.args.slot _ (search rules) refl c.args.self.now.withdrawn
 
 pub invariant_of-self-clause-announced : goal.invariant_of-self-clause-announced
-invariant_of-self-clause-announced c = AllWithin-set (λ w. is_announced w ≡ false) c.args.self.now.places.items 0 c.args.self.now.news c.args.place _ (search rules) refl c.args.self.now.announced
+invariant_of-self-clause-announced c = AllWithin-set (λ w. is_announced w ≡ false) c.args.self.now.slots.items 0 c.args.self.now.news c.args.slot _ (search rules) refl c.args.self.now.announced
 
 pub invariant_of-self-clause-chains : goal.invariant_of-self-clause-chains
 invariant_of-self-clause-chains c =
-    subst (λ ds. AreLinked ds c.args.self.now.links.items)
-    (sym (same_dues c.args.self.now.places.items c.args.place _ c.index_mut-wait.result.now (ap (λ (w : Wait). w.due) c.index_mut-wait.ensures.value)))
+    subst (λ ds. AreChained ds c.args.self.now.chains.items)
+    (sym (same_dues c.args.self.now.slots.items c.args.slot _ c.index_mut-wait.result.now (ap (λ (w : Wait). w.due) c.index_mut-wait.ensures.value)))
     c.args.self.now.chains
 
 pub returns : goal.returns
 returns c =
-    let ws = c.args.self.now.places.items in
+    let ws = c.args.self.now.slots.items in
     let was = c.index_mut-wait.result.now in
-    let is : (w : Wait) → slice_get ws c.args.place ≡ Some w → was ≡ w = λ w at. c.index_mut-wait.ensures.value ∙ get_or_from_slice_get ws c.args.place w was at in
+    let is : (w : Wait) → slice_get ws c.args.slot ≡ Some w → was ≡ w = λ w at. c.index_mut-wait.ensures.value ∙ get_or_from_slice_get ws c.args.slot w was at in
     record {
-      prefixes = same_prefixes ws c.args.place _ was (ap (λ (w : Wait). w.prefix) c.index_mut-wait.ensures.value);
-      places = λ p at q. closed_at ws c.args.place p _ c.args.self.now.apart at refl q;
+      prefixes = same_prefixes ws c.args.slot _ was (ap (λ (w : Wait). w.prefix) c.index_mut-wait.ensures.value);
+      slots = λ p at q. closed_at ws c.args.slot p _ c.args.self.now.apart at refl q;
       told = λ w at. (c.replace-told.ensures.value ∙ ap (λ (w : Wait). w.told) (is w at), ap (λ (w : Wait). w.marked) (is w at));
-      count = count_less ws c.args.place _ was (search rules) refl;
-      withdrawn = withdrawn_less ws c.args.place _ was (search rules) refl;
+      count = count_less ws c.args.slot _ was (search rules) refl;
+      withdrawn = withdrawn_less ws c.args.slot _ was (search rules) refl;
       capacity = refl;
     }

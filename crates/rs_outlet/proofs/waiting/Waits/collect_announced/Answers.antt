@@ -1,11 +1,11 @@
 use Rattle.std.proofs.Common.{◌≡◌, ◌+◌, ◌<◌, ◌∙◌, ℕ, zero, suc, Some, length, ap, arith, inl, inr, refl, rules, sym, subst, vec_len}
 use Rattle.std.specs.Prelude.{◌⊎◌}
 use Rattle.std.specs.List.{HoldsAt}
-use Rattle.rs_outlet.specs.Choosing.{WaitsFor, shares}
-use Rattle.rs_outlet.proofs.AllWaiting.{none_share}
-use Rattle.rs_outlet.proofs.Chosen.{as_many, none_chosen, there_backed}
-use Rattle.rs_outlet.proofs.Fullest.{listed_all, listed_later, listed_none, listed_one}
-use Rattle.rs_outlet.proofs.Rising.{head_first, head_more, none_listed, rise_more}
+use Rattle.rs_outlet.specs.Waiting.Choosing.{WaitsFor, shares}
+use Rattle.rs_outlet.proofs.Message.AllWaiting.{none_share}
+use Rattle.rs_outlet.proofs.Message.Chosen.{as_many, none_chosen, there_backed}
+use Rattle.rs_outlet.proofs.Message.Fullest.{listed_all, listed_later, listed_none, listed_one}
+use Rattle.rs_outlet.proofs.Message.Rising.{head_first, head_more, none_listed, rise_more}
 use Rattle.rs_outlet.proofs.waiting.Waits.collect_announced.Goals as goal
 
 none_or_some : (n : ℕ) → (n ≡ 0) ⊎ (0 < n)
@@ -23,7 +23,7 @@ loop-preserved c =
       some = λ _ at below room. elim (none_or_some c.loop.counter) [
         | inl start ↦
             let was = inv.first start in
-            c.list_announced.ensures.listed (subst (HoldsAt (WaitsFor c.args.rows.now.rows.items c.args.attrs.now) c.args.self.now.places.items) (sym was.0) at) inv.hash
+            c.list_announced.ensures.listed (subst (HoldsAt (WaitsFor c.args.rows.now.rows.items c.args.attrs.now) c.args.self.now.slots.items) (sym was.0) at) inv.hash
             (omega (arith, room.0, was.2, inv.chosen), omega (arith, room.1, was.1, inv.front))
         | inr more ↦
             let some : 0 < vec_len c.loop.front = inv.some more at below room in
@@ -33,28 +33,28 @@ loop-preserved c =
       head = λ _ at below room none. elim (none_or_some c.loop.counter) [
         | inl start ↦
             let was = inv.first start in
-            let there = c.list_announced.ensures.there (subst (HoldsAt (WaitsFor c.args.rows.now.rows.items c.args.attrs.now) c.args.self.now.places.items) (sym was.0) at) inv.hash
+            let there = c.list_announced.ensures.there (subst (HoldsAt (WaitsFor c.args.rows.now.rows.items c.args.attrs.now) c.args.self.now.slots.items) (sym was.0) at) inv.hash
             (omega (arith, room.0, was.2, inv.chosen), omega (arith, room.1, was.1, inv.front)) in
-            head_first c.loop.place c.loop.chosen.items c.list_announced.new.chosen.items (inv.same start ∙ none) there ∙ ap (λ n. Some n) was.0
-        | inr more ↦ head_more c.args.first c.loop.place c.loop.chosen.items c.list_announced.new.chosen.items c.list_announced.ensures.places (inv.head more at below room none)
+            head_first c.loop.slot c.loop.chosen.items c.list_announced.new.chosen.items (inv.same start ∙ none) there ∙ ap (λ n. Some n) was.0
+        | inr more ↦ head_more c.args.first c.loop.slot c.loop.chosen.items c.list_announced.new.chosen.items c.list_announced.ensures.slots (inv.head more at below room none)
       ];
-      rise = λ none. rise_more c.loop.place _ c.loop.chosen.items c.list_announced.new.chosen.items c.list_announced.ensures.places (search rules) (inv.rise none).0 (inv.rise none).1;
-      far = omega (arith, inv.far, c.next_place-place.ensures.later);
+      rise = λ none. rise_more c.loop.slot _ c.loop.chosen.items c.list_announced.new.chosen.items c.list_announced.ensures.slots (search rules) (inv.rise none).0 (inv.rise none).1;
+      far = omega (arith, inv.far, c.next_slot-slot.ensures.later);
       all = λ backed wide long none none_front.
           let rows = c.args.rows.now.rows.items in
-          let ws = c.args.self.now.places.items in
+          let ws = c.args.self.now.slots.items in
           let m = c.args.attrs.now in
           let even = as_many rows ws (Some m) c.loop.chosen.items c.loop.front.items (inv.are (none_chosen rows ws (Some m) _ _ none none_front)) in
           let more : vec_len c.loop.front < c.args.room = search rules in
-          let below : c.loop.place < length ws = search rules in
-          listed_later (shares rows m) ws c.args.room c.args.first (c.loop.place + 1) c.next_place-place.result c.list_announced.new.front.items (omega (arith, c.next_place-place.ensures.later))
-          (none_share rows ws m c.hash_of-hash.result c.loop.place c.next_place-place.result inv.hash c.args.self.now.apart backed c.next_place-place.ensures.between)
-          (listed_one (shares rows m) ws c.args.room c.args.first c.loop.place c.loop.front.items c.list_announced.new.front.items below
+          let below : c.loop.slot < length ws = search rules in
+          listed_later (shares rows m) ws c.args.room c.args.first (c.loop.slot + 1) c.next_slot-slot.result c.list_announced.new.front.items (omega (arith, c.next_slot-slot.ensures.later))
+          (none_share rows ws m c.hash_of-hash.result c.loop.slot c.next_slot-slot.result inv.hash c.args.self.now.apart backed c.next_slot-slot.ensures.between)
+          (listed_one (shares rows m) ws c.args.room c.args.first c.loop.slot c.loop.front.items c.list_announced.new.front.items below
           (omega (arith, more, c.loop.front.ok))
           (λ d.
           c.list_announced.ensures.all
           (omega (arith, more, even, wide, inv.chosen, c.loop.front.ok, c.loop.chosen.ok), omega (arith, more, long, inv.front)) inv.hash d
-          (there_backed rows ws c.loop.place d c.args.self.now.apart backed below))
+          (there_backed rows ws c.loop.slot d c.args.self.now.apart backed below))
           (inv.all backed wide long none none_front));
       are = λ are. c.list_announced.ensures.are (inv.are are);
     }
@@ -70,11 +70,11 @@ loop-init c = record {
   head = λ never. absurd (omega (arith, never));
   rise = none_listed c.args.first c.args.chosen.now.items;
   far = omega arith;
-  all = λ _ _ _ _ none. listed_none (shares c.args.rows.now.rows.items c.args.attrs.now) c.args.self.now.places.items c.args.room c.args.first c.args.front.now.items none;
+  all = λ _ _ _ _ none. listed_none (shares c.args.rows.now.rows.items c.args.attrs.now) c.args.self.now.slots.items c.args.room c.args.first c.args.front.now.items none;
   are = λ are. are;
 }
 
 pub returns-clause-all : goal.returns-clause-all
 returns-clause-all c = λ backed wide long none none_front.
-    listed_all (shares c.args.rows.now.rows.items c.args.attrs.now) c.args.self.now.places.items c.args.room c.args.first c.loop.place c.loop.front.items
+    listed_all (shares c.args.rows.now.rows.items c.args.attrs.now) c.args.self.now.slots.items c.args.room c.args.first c.loop.slot c.loop.front.items
     (search rules) (c.loop.invariant.all backed wide long none none_front)

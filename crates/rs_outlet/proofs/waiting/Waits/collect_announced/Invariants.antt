@@ -1,12 +1,12 @@
 use Rattle.std.proofs.Common.{◌≡◌, ◌+◌, ◌<◌, ◌≤◌, [], Some, vec_len}
 use Rattle.std.specs.List.{HoldsAt}
 use Rattle.std.specs.Vec.{vec_capacity}
-use Rattle.rs_outlet.specs.Hashing.{attributes_hash}
-use Rattle.rs_outlet.specs.Choosing.{AreChosen, HaveRoom, Rise, WaitsFor, shares}
+use Rattle.rs_outlet.specs.Waiting.Hashing.{attributes_hash}
+use Rattle.rs_outlet.specs.Waiting.Choosing.{AreChosen, HaveRoom, Rise, WaitsFor, shares}
 use Rattle.rs_outlet.specs.Inside.{AreBacked}
 use Rattle.std.specs.Prelude.{slice_get}
-use Rattle.rs_outlet.proofs.Fullest.{AreListedTo}
-use Rattle.rs_outlet.proofs.Rising.{AreBelow}
+use Rattle.rs_outlet.proofs.Message.Fullest.{AreListedTo}
+use Rattle.rs_outlet.proofs.Message.Rising.{AreBelow}
 use Rattle.rs_outlet.proofs.waiting.Waits.collect_announced.Given as goal
 
 abbrev pub invariant-loop : goal.invariant-loop
@@ -14,12 +14,12 @@ invariant-loop l = record {
   chosen : vec_capacity l.chosen ≡ vec_capacity l.fn.chosen;
   front : vec_capacity l.front ≡ vec_capacity l.fn.front;
   hash : l.hash ≡ attributes_hash l.attrs;
-  first : l.counter ≡ 0 → (l.place ≡ l.first) × (vec_len l.front ≡ vec_len l.fn.front) × (vec_len l.chosen ≡ vec_len l.fn.chosen);
-  some : 0 < l.counter → HoldsAt (WaitsFor l.rows.rows.items l.attrs) l.self.places.items l.first → vec_len l.fn.front < l.room → HaveRoom l.fn.chosen l.fn.front → 0 < vec_len l.front;
+  first : l.counter ≡ 0 → (l.slot ≡ l.first) × (vec_len l.front ≡ vec_len l.fn.front) × (vec_len l.chosen ≡ vec_len l.fn.chosen);
+  some : 0 < l.counter → HoldsAt (WaitsFor l.rows.rows.items l.attrs) l.self.slots.items l.first → vec_len l.fn.front < l.room → HaveRoom l.fn.chosen l.fn.front → 0 < vec_len l.front;
   same : l.counter ≡ 0 → l.chosen.items ≡ l.fn.chosen.items;
-  head : 0 < l.counter → HoldsAt (WaitsFor l.rows.rows.items l.attrs) l.self.places.items l.first → vec_len l.fn.front < l.room → HaveRoom l.fn.chosen l.fn.front → l.fn.chosen.items ≡ [] → slice_get l.chosen.items 0 ≡ Some l.first;
-  rise : l.fn.chosen.items ≡ [] → Rise l.chosen.items × AreBelow l.place l.chosen.items;
-  far : l.first + l.counter ≤ l.place;
-  all : AreBacked l.rows.rows.items l.self.places.items → l.room ≤ vec_capacity l.fn.chosen → l.room ≤ vec_capacity l.fn.front → l.fn.chosen.items ≡ [] → l.fn.front.items ≡ [] → AreListedTo (shares l.rows.rows.items l.attrs) l.self.places.items l.room l.first l.place l.front.items;
-  are : AreChosen l.rows.rows.items l.self.places.items (Some l.attrs) l.fn.chosen.items l.fn.front.items → AreChosen l.rows.rows.items l.self.places.items (Some l.attrs) l.chosen.items l.front.items;
+  head : 0 < l.counter → HoldsAt (WaitsFor l.rows.rows.items l.attrs) l.self.slots.items l.first → vec_len l.fn.front < l.room → HaveRoom l.fn.chosen l.fn.front → l.fn.chosen.items ≡ [] → slice_get l.chosen.items 0 ≡ Some l.first;
+  rise : l.fn.chosen.items ≡ [] → Rise l.chosen.items × AreBelow l.slot l.chosen.items;
+  far : l.first + l.counter ≤ l.slot;
+  all : AreBacked l.rows.rows.items l.self.slots.items → l.room ≤ vec_capacity l.fn.chosen → l.room ≤ vec_capacity l.fn.front → l.fn.chosen.items ≡ [] → l.fn.front.items ≡ [] → AreListedTo (shares l.rows.rows.items l.attrs) l.self.slots.items l.room l.first l.slot l.front.items;
+  are : AreChosen l.rows.rows.items l.self.slots.items (Some l.attrs) l.fn.chosen.items l.fn.front.items → AreChosen l.rows.rows.items l.self.slots.items (Some l.attrs) l.chosen.items l.front.items;
 }

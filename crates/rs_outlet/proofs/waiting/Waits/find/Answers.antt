@@ -3,33 +3,33 @@ use Rattle.std.specs.List.{list_any}
 use Rattle.std.specs.Prelude.{slice_get}
 use Rattle.std.proofs.lemmas.List.{length-map}
 use Rattle.rs_outlet.specs.declared.waiting.Wait.{Wait}
-use Rattle.rs_outlet.specs.Places.{prefixes_at}
-use Rattle.rs_outlet.specs.Runs.{AreRuns}
-use Rattle.rs_outlet.proofs.Adding.{not_listed}
-use Rattle.rs_outlet.proofs.Finding.{open_place, shut_place}
-use Rattle.rs_outlet.proofs.LocByNumber.{same}
+use Rattle.rs_outlet.specs.Waiting.Slots.{prefixes_at}
+use Rattle.rs_outlet.specs.Waiting.Parts.{AreParts}
+use Rattle.rs_outlet.proofs.Waiting.Adding.{not_listed}
+use Rattle.rs_outlet.proofs.Waiting.Finding.{open_slot, shut_slot}
+use Rattle.rs_outlet.proofs.Turn.LocByNumber.{same}
 use Rattle.rs_outlet.proofs.waiting.Waits.find.Goals as goal
 
-pub place_of-requires : goal.place_of-requires
-place_of-requires c =
-    let ws = c.args.self.now.places.items in
-    subst (λ (zs : List Wait). AreRuns c.args.self.now.sorted (prefixes_at zs)) (sym c.deref.ensures.value)
-    (record { within = omega (arith, c.args.self.now.within, length-map ws (λ (w : Wait). w.prefix), c.args.self.now.places.ok); first = c.args.self.now.first; late = c.args.self.now.late })
+pub slot_of-requires : goal.slot_of-requires
+slot_of-requires c =
+    let ws = c.args.self.now.slots.items in
+    subst (λ (zs : List Wait). AreParts c.args.self.now.sorted (prefixes_at zs)) (sym c.deref.ensures.value)
+    (record { within = omega (arith, c.args.self.now.within, length-map ws (λ (w : Wait). w.prefix), c.args.self.now.slots.ok); first = c.args.self.now.first; late = c.args.self.now.late })
 
 pub returns-in-None-clause-absent : goal.returns-in-None-clause-absent
 returns-in-None-clause-absent c = λ _.
-    not_listed c.args.prefix.now c.args.self.now.places.items
-    (ap (λ (zs : List Wait). list_any (same c.args.prefix.now) (prefixes_at zs)) (sym c.deref.ensures.value) ∙ c.place_of.ensures.absent c.in-None.is)
+    not_listed c.args.prefix.now c.args.self.now.slots.items
+    (ap (λ (zs : List Wait). list_any (same c.args.prefix.now) (prefixes_at zs)) (sym c.deref.ensures.value) ∙ c.slot_of.ensures.absent c.in-None.is)
 
 pub index-requires : goal.index-requires
-index-requires c = omega (arith, c.in-Some.ensures.within, ap (λ (ws : List Wait). length ws) c.deref.ensures.value, c.args.self.now.places.ok)
+index-requires c = omega (arith, c.in-Some.ensures.within, ap (λ (ws : List Wait). length ws) c.deref.ensures.value, c.args.self.now.slots.ok)
 
 pub returns-then-index-clause-found : goal.returns-then-index-clause-found
 returns-then-index-clause-found c =
-    open_place c.args.prefix.now c.args.self.now.places.items c.in-Some.place c.index.result.now c.args.self.now.apart
-    (ap (λ (zs : List Wait). slice_get (prefixes_at zs) c.in-Some.place) (sym c.deref.ensures.value) ∙ c.in-Some.ensures.there) c.index.ensures c.if-index.true
+    open_slot c.args.prefix.now c.args.self.now.slots.items c.in-Some.slot c.index.result.now c.args.self.now.apart
+    (ap (λ (zs : List Wait). slice_get (prefixes_at zs) c.in-Some.slot) (sym c.deref.ensures.value) ∙ c.in-Some.ensures.there) c.index.ensures c.if-index.true
 
 pub returns-else-index-clause-absent : goal.returns-else-index-clause-absent
 returns-else-index-clause-absent c = λ _.
-    shut_place c.args.prefix.now c.args.self.now.places.items c.in-Some.place c.index.result.now c.args.self.now.apart
-    (ap (λ (zs : List Wait). slice_get (prefixes_at zs) c.in-Some.place) (sym c.deref.ensures.value) ∙ c.in-Some.ensures.there) c.index.ensures c.if-index.false
+    shut_slot c.args.prefix.now c.args.self.now.slots.items c.in-Some.slot c.index.result.now c.args.self.now.apart
+    (ap (λ (zs : List Wait). slice_get (prefixes_at zs) c.in-Some.slot) (sym c.deref.ensures.value) ∙ c.in-Some.ensures.there) c.index.ensures c.if-index.false

@@ -1,10 +1,10 @@
 use Rattle.std.proofs.Common.{rules}
-use Rattle.rs_outlet.proofs.Links.{none_linked}
-use Rattle.rs_outlet.proofs.Places.{no_run, none_distinct, none_rise}
+use Rattle.rs_outlet.proofs.Waiting.Chains.{none_chained}
+use Rattle.rs_outlet.proofs.Waiting.Slots.{no_part, none_distinct, none_rise}
 use Rattle.rs_outlet.proofs.waiting.Waits.new.Goals as goal
 
 pub invariant_of-result-clause-first : goal.invariant_of-result-clause-first
-invariant_of-result-clause-first c = no_run
+invariant_of-result-clause-first c = no_part
 
 pub invariant_of-result-clause-late : goal.invariant_of-result-clause-late
 invariant_of-result-clause-late c = search (rules, none_rise)
@@ -13,4 +13,4 @@ pub invariant_of-result-clause-apart : goal.invariant_of-result-clause-apart
 invariant_of-result-clause-apart c = search (rules, none_distinct)
 
 pub invariant_of-result-clause-chains : goal.invariant_of-result-clause-chains
-invariant_of-result-clause-chains c = none_linked _ _ (search rules)
+invariant_of-result-clause-chains c = none_chained _ _ (search rules)

@@ -5,8 +5,8 @@ use Rattle.std.specs.List.Sorted.{IsStrictlySortedBy}
 use Rattle.std.specs.Ordering.{eq_by_cmp}
 use Rattle.rs_octets.specs.Prefixes.{prefix_order}
 use Rattle.rs_outlet.specs.declared.waiting.Wait.{Wait}
-use Rattle.rs_outlet.specs.Places.{is_announced, is_withdrawn, open_count, prefixes_at}
-use Rattle.rs_outlet.proofs.Links.{same_linked}
+use Rattle.rs_outlet.specs.Waiting.Slots.{is_announced, is_withdrawn, open_count, prefixes_at}
+use Rattle.rs_outlet.proofs.Waiting.Chains.{same_chained}
 use Rattle.rs_outlet.proofs.waiting.Waits.reserve.Goals as goal
 
 pub invariant_of-self-in-Break-branch-2 : goal.invariant_of-self-in-Break-branch-2
@@ -16,27 +16,27 @@ invariant_of-self-in-Break-branch-2 c =
       counted = old.counted;
       withdrawn = old.withdrawn;
       announced = old.announced;
-      chains = same_linked old.places.items old.places.items old.links.items c.reserve-2.new.self.items refl c.reserve-2.ensures.items old.chains;
+      chains = same_chained old.slots.items old.slots.items old.chains.items c.reserve-2.new.self.items refl c.reserve-2.ensures.items old.chains;
       within = old.within;
       first = old.first;
       late = old.late;
       apart = old.apart;
-      one_run = old.one_run;
+      one_part = old.one_part;
     }
 
 pub invariant_of-self-2 : goal.invariant_of-self-2
 invariant_of-self-2 c =
     let old = c.args.self.now in
-    let places = c.reserve-3.new.self in
-    let same : places.items ≡ old.places.items = c.reserve-3.ensures.items in
+    let slots = c.reserve-3.new.self in
+    let same : slots.items ≡ old.slots.items = c.reserve-3.ensures.items in
     record {
       counted = ap open_count same ∙ old.counted;
       withdrawn = subst (λ (ws : List Wait). AllWithin (λ (w : Wait). is_withdrawn w ≡ false) ws 0 old.gone) (sym same) old.withdrawn;
       announced = subst (λ (ws : List Wait). AllWithin (λ (w : Wait). is_announced w ≡ false) ws 0 old.news) (sym same) old.announced;
-      chains = same_linked old.places.items places.items old.links.items c.reserve-2.new.self.items same c.reserve-2.ensures.items old.chains;
-      within = omega (arith, old.within, ap length same, old.places.ok, places.ok);
+      chains = same_chained old.slots.items slots.items old.chains.items c.reserve-2.new.self.items same c.reserve-2.ensures.items old.chains;
+      within = omega (arith, old.within, ap length same, old.slots.ok, slots.ok);
       first = subst (λ (ws : List Wait). IsStrictlySortedBy prefix_order (take old.sorted (prefixes_at ws))) (sym same) old.first;
       late = subst (λ (ws : List Wait). IsStrictlySortedBy prefix_order (drop old.sorted (prefixes_at ws))) (sym same) old.late;
       apart = subst (λ (ws : List Wait). IsDistinct (eq_by_cmp prefix_order) (prefixes_at ws)) (sym same) old.apart;
-      one_run = λ ready. omega (arith, old.one_run ready, ap length same, old.places.ok, places.ok);
+      one_part = λ ready. omega (arith, old.one_part ready, ap length same, old.slots.ok, slots.ok);
     }

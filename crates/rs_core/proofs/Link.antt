@@ -1,0 +1,4 @@
+-- Steps of a link and of a route server, one behind the other.
+pub mod Leading
+pub mod Taking
+pub mod Continuing

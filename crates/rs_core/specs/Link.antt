@@ -1,0 +1,5 @@
+-- What passes between a route server and the link that drives it.
+pub mod Steps
+pub mod Courses
+pub mod Answers
+pub mod Serving

@@ -1,6 +1,0 @@
-use Rattle.std.proofs.Common.{sym, ◌∙◌}
-use Rattle.rs_live.proofs.Handling.{ends_none}
-use Rattle.rs_live.proofs.link.Link.end_session.Goals as goal
-
-pub returns-in_default-clause-ended : goal.returns-in_default-clause-ended
-returns-in_default-clause-ended g c h = ends_none g.P.Ports.asked _ _ c.args.c _ (sym c.live_key.ensures ∙ c.in_default.is) h

@@ -1,5 +1,0 @@
-use Rattle.rs_live.proofs.Handling.{asks}
-use Rattle.rs_live.proofs.link.Link.log.Goals as goal
-
-pub returns-clause-handled : goal.returns-clause-handled
-returns-clause-handled g c h = asks g.P.Ports.asked _ _ _ _ _ c.log.ensures tt tt h

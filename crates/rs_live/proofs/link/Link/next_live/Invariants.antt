@@ -1,6 +1,0 @@
-use Rattle.std.proofs.Common.{◌≡◌, ◌<◌, ◌≤◌, ℕ, None}
-use Rattle.rs_live.specs.Keeping.{held_by, held_of}
-use Rattle.rs_live.proofs.link.Link.next_live.Given as goal
-
-abbrev pub invariant-loop-c : goal.invariant-loop-c
-invariant-loop-c g l = (d : ℕ) → l.from ≤ d → d < l.c → (held_by d (held_of l.self.seats.now.items)).key ≡ None

@@ -1,0 +1,15 @@
+use Rattle.std.proofs.Common.{[], refl, ap, ◌∙◌, arith}
+use Rattle.rs_core.specs.declared.links.Event.TheVariants.{Lost}
+use Rattle.rs_core.specs.Link.Steps.{Happened}
+use Rattle.rs_live.specs.declared.live_link.Phase.TheVariants as phases
+use Rattle.rs_live.proofs.Handling.{at_phase, breaks_down, follows, leaves}
+use Rattle.rs_live.proofs.live_link.LiveLink.handed.Goals as goal
+
+pub returns-in-Err-clause-answers : goal.returns-in-Err-clause-answers
+returns-in-Err-clause-answers g c p f h piece text = follows g.P.Ports.asked (Happened (Lost _) []) _ _ _ _ (c.lose.ensures.failed ∙ c.write_on.ensures.failed ∙ f) c.lose.ensures.held c.lose.ensures.phase
+    (breaks_down g.P.Ports.asked _ _ c.args.c _ (Happened (Lost _) []) _ _ c.lose.ensures.asked refl
+    (c.in-Err.ensures.broke (leaves g.P.Ports.asked _ c.args.c _ _ (omega (arith, c.saturating_add.ensures)) (at_phase g.P.Ports.asked c.args.self.now (phases.Handed c.args.c) p h))))
+
+pub returns-in-Ok-clause-answers : goal.returns-in-Ok-clause-answers
+returns-in-Ok-clause-answers g c p f h = c.written.ensures.answers (c.write_on.ensures.phase ∙ ap (λ n. phases.Room n) c.saturating_add.ensures) (c.write_on.ensures.failed ∙ f)
+    (c.in-Ok.ensures.ok refl (leaves g.P.Ports.asked _ c.args.c _ _ (omega (arith, c.saturating_add.ensures)) (at_phase g.P.Ports.asked c.args.self.now (phases.Handed c.args.c) p h)))

@@ -1,0 +1,12 @@
+use Rattle.std.proofs.Common.{[], refl}
+use Rattle.rs_core.specs.declared.links.Event.TheVariants.{Turn, Stop}
+use Rattle.rs_core.specs.Link.Steps.{Happened}
+use Rattle.rs_live.specs.declared.live_link.Phase.TheVariants as phases
+use Rattle.rs_live.proofs.Handling.{at_phase, does, follows, turns}
+use Rattle.rs_live.proofs.live_link.LiveLink.turn.Goals as goal
+
+pub returns-then-is_wide-self-clause-answers : goal.returns-then-is_wide-self-clause-answers
+returns-then-is_wide-self-clause-answers g c p f h piece text = follows g.P.Ports.asked (Happened Stop []) _ _ _ _ f refl refl (does g.P.Ports.asked _ _ (Happened Stop []) _ tt tt h)
+
+pub returns-clause-answers : goal.returns-clause-answers
+returns-clause-answers g c p f h piece text = follows g.P.Ports.asked (Happened Turn []) _ _ _ _ f refl refl (turns g.P.Ports.asked _ _ (at_phase g.P.Ports.asked c.args.self.now phases.Turn p h))

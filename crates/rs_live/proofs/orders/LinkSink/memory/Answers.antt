@@ -1,7 +1,0 @@
-use Rattle.std.proofs.Common.{refl, ◌∙◌}
-use Rattle.rs_core.specs.Links.{Memory}
-use Rattle.rs_live.proofs.Handling.{does, follows}
-use Rattle.rs_live.proofs.orders.LinkSink.memory.Goals as goal
-
-pub returns : goal.returns
-returns g c = (c.say.ensures.same_ports, λ f h. follows g.P.Ports.asked (Memory _) _ _ _ _ (c.say.ensures.failed ∙ f) refl refl (does g.P.Ports.asked _ _ (Memory _) _ tt tt (c.say.ensures.handled tt h)))

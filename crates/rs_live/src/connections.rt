@@ -1,0 +1,265 @@
+//! A place for each client: where its connection comes from, the one that it has, and an earlier one
+//! that the server is closing.
+
+ghost use Rattle.std.specs.Prelude.{◌≡◌, ◌≤◌, ◌<◌, ◌++◌, ◌↔◌, ℕ, List, [], length, take, drop, IfOk, IfErr, IsOk, IsSome, IsTrue};
+ghost use Rattle.rs_live.specs.Calls.{Call};
+ghost use Rattle.rs_live.specs.declared.live_link.Phase.{Phase};
+ghost use Rattle.rs_live.specs.Handled.{Has, AreKept};
+ghost use Rattle.rs_live.specs.Keeping.{Held, change, held_by, held_of, nothing, with_rest};
+ghost use Rattle.rs_live.specs.Sending.{Broke, Sent};
+
+use crate::outbox::Outbox;
+use crate::ports::Ports;
+use rs_policy::Config;
+use std::alloc::{AllocError, Global};
+use std::mem;
+
+/// For how many seconds octets may wait before a connection counts as lost, where its socket takes
+/// none of them: the send hold timer (RFC 9687).
+pub const SEND_HOLD: u64 = 480;
+
+/// How many seconds a connection that the server closes has for what waits still.
+pub const CLOSING: u64 = 1;
+
+/// A connection, or the place of one.
+#[derive(Drop)]
+pub struct Connection {
+    /// Its key in the ports; `None` where there is none.
+    key: Option<usize>,
+    out: Outbox,
+    /// Since when what waits has waited, or since when the connection is being closed.
+    since: u64,
+    is_closing: bool,
+}
+
+impl Connection {
+    fn new(alloc: Global) -> Result<Connection, AllocError>
+        ensures { IfOk result (λ it. (it.key ≡ None) × (it.out ≡ [])) }
+    {
+        Ok(Connection {
+            key: None,
+            out: Outbox::new(alloc)?,
+            since: 0,
+            is_closing: false,
+        })
+    }
+
+    /// A connection begins here.
+    pub fn begin(&mut self, key: usize)
+        ensures key { self.new.key ≡ Some key }
+        ensures empty { self.new.out ≡ [] }
+    {
+        self.key = Some(key);
+        self.out.clear();
+        self.is_closing = false;
+    }
+
+    pub fn key(&self) -> Option<usize>
+        ensures { result ≡ self.now.key }
+    {
+        self.key
+    }
+
+    /// There is a connection.
+    pub fn is_open(&self) -> bool
+        ensures { IsTrue result ↔ IsSome self.now.key }
+    {
+        self.key.is_some()
+    }
+
+    /// Nothing waits for its socket.
+    pub fn is_empty(&self) -> bool {
+        self.out.is_empty()
+    }
+
+    /// There is no room left.
+    pub fn is_full(&self) -> bool {
+        self.out.is_full()
+    }
+
+    /// It is to be closed once nothing waits.
+    pub fn close_from(&mut self, now: u64)
+        ensures key { self.new.key ≡ self.old.key }
+        ensures out { self.new.out ≡ self.old.out }
+    {
+        self.since = now;
+        self.is_closing = true;
+    }
+
+    /// Its time is up: its octets have waited too long, or it was closed long enough ago.
+    pub fn is_over(&self, now: u64) -> bool {
+        let waited = now.saturating_sub(self.since);
+        if self.is_closing {
+            self.out.is_empty() || waited >= CLOSING
+        } else {
+            !self.out.is_empty() && waited >= SEND_HOLD
+        }
+    }
+
+    /// Hands octets to the connection, as much as there is room for, and answers how many: they wait
+    /// behind what waits. Where there is no room, what waits is written first; where that fails the
+    /// error is the key.
+    pub fn offer<P: Ports>(
+        &mut self,
+        ports: &mut P,
+        octets: &[u8],
+        now: u64,
+    ) -> Result<usize, usize>
+        ensures count { IfOk result (λ n. n ≤ length octets.now) }
+        ensures key { self.new.key ≡ self.old.key }
+        ensures taken { IfOk result (λ n. (calls : List Call) → P.asked ports.old calls → Sent P.asked self.old.key calls self.old.out ports.new (λ waiting. self.new.out ≡ waiting ++ take n octets.now)) }
+        ensures broke { IfErr result (λ key. (calls : List Call) → P.asked ports.old calls → Broke P.asked key self.old.key calls self.old.out ports.new self.new.out) }
+    {
+        self.make_room(ports, now)?;
+        if self.out.is_empty() {
+            self.since = now;
+        }
+        Ok(self.out.put(octets))
+    }
+
+    /// Writes what waits where there is no room; where that fails the error is the key.
+    fn make_room<P: Ports>(&mut self, ports: &mut P, now: u64) -> Result<(), usize>
+        ensures key { self.new.key ≡ self.old.key }
+        ensures sent { IsOk result → (calls : List Call) → P.asked ports.old calls → Sent P.asked self.old.key calls self.old.out ports.new (λ waiting. self.new.out ≡ waiting) }
+        ensures broke { IfErr result (λ key. (calls : List Call) → P.asked ports.old calls → Broke P.asked key self.old.key calls self.old.out ports.new self.new.out) }
+    {
+        if !self.out.is_full() {
+            return Ok(());
+        }
+        self.write(ports, now)?;
+        self.out.make_room();
+        Ok(())
+    }
+
+    /// Writes what waits, until the socket takes no more; where that fails the error is the key.
+    pub fn write<P: Ports>(&mut self, ports: &mut P, now: u64) -> Result<(), usize>
+        ensures key { self.new.key ≡ self.old.key }
+        ensures sent { IsOk result → (calls : List Call) → P.asked ports.old calls → Sent P.asked self.old.key calls self.old.out ports.new (λ waiting. self.new.out ≡ waiting) }
+        ensures broke { IfErr result (λ key. (calls : List Call) → P.asked ports.old calls → Broke P.asked key self.old.key calls self.old.out ports.new self.new.out) }
+    {
+        let Some(key) = self.key else {
+            return Ok(());
+        };
+        for _ in 0..u16::MAX {
+            if self.out.is_empty() {
+                return Ok(());
+            }
+            match ports.write(key, self.out.waiting()) {
+                Ok(None) => return Ok(()),
+                Ok(Some(count)) => self.took(count, now),
+                Err(_) => return Err(key),
+            }
+        }
+        Ok(())
+    }
+
+    /// The socket took so many of the octets that wait.
+    fn took(&mut self, count: usize, now: u64)
+        ensures key { self.new.key ≡ self.old.key }
+        ensures rest { self.new.out ≡ drop count self.old.out }
+    {
+        if !self.is_closing {
+            self.since = now;
+        }
+        self.out.took(count);
+    }
+
+    /// Forgets the connection, and answers its key, if there is one.
+    pub fn forget(&mut self) -> Option<usize>
+        ensures was { result ≡ self.old.key }
+        ensures now { self.new.key ≡ None }
+        ensures empty { self.new.out ≡ [] }
+    {
+        self.out.clear();
+        self.key.take()
+    }
+
+    /// Closes the connection, if there is one.
+    pub fn close<P: Ports>(&mut self, ports: &mut P)
+        ensures key { self.new.key ≡ None }
+        ensures kept { (c : ℕ) (held : List Held) (phase : Phase) → c < length held → (held_by c held).rest_key ≡ self.old.key → (held_by c held).rest ≡ self.old.out → Has P.asked ports.old (AreKept held phase) → Has P.asked ports.new (AreKept (change c (with_rest self.new.key self.new.out) held) phase) }
+    {
+        if let Some(key) = self.key {
+            self.forget();
+            ports.close(key);
+        }
+    }
+
+    /// Goes on with a connection that is being closed: what waits is written, and it is closed where
+    /// nothing waits any more, where its time is up, and where a write fails.
+    pub fn finish<P: Ports>(&mut self, ports: &mut P, now: u64)
+        ensures kept { (c : ℕ) (held : List Held) (phase : Phase) → c < length held → (held_by c held).rest_key ≡ self.old.key → (held_by c held).rest ≡ self.old.out → Has P.asked ports.old (AreKept held phase) → Has P.asked ports.new (AreKept (change c (with_rest self.new.key self.new.out) held) phase) }
+    {
+        match self.write(ports, now) {
+            Err(key) => {
+                self.forget();
+                ports.close(key);
+            }
+            Ok(()) if self.is_over(now) => self.close(ports),
+            Ok(()) => {}
+        }
+    }
+}
+
+/// The place of a client.
+#[derive(Drop)]
+pub struct ClientConnections {
+    /// Which of the distinct `listen` addresses is its own, counted from 0.
+    pub listener: usize,
+    /// The address that its connections come from.
+    pub peer: u32,
+    pub live: Connection,
+    pub closing: Connection,
+    /// A session of the client has ended, and nobody has asked yet.
+    pub has_ended: bool,
+}
+
+impl ClientConnections {
+    /// The connection, if there is one, is to be closed: it goes where one that is being closed has its
+    /// place.
+    pub(crate) fn retire(&mut self, now: u64)
+        ensures key { self.new.live.key ≡ None }
+        ensures empty { self.new.live.out ≡ [] }
+        ensures rest_key { self.new.closing.key ≡ self.old.live.key }
+        ensures rest { self.new.closing.out ≡ self.old.live.out }
+    {
+        mem::swap(&mut self.live, &mut self.closing);
+        self.live.forget();
+        self.closing.close_from(now);
+    }
+}
+
+/// The distinct `listen` addresses, in the order of the configuration.
+pub fn listen_addresses(alloc: Global, config: &Config) -> Result<Vec<(u32, u16)>, AllocError> {
+    let mut all = Vec::new(alloc);
+    for c in 0..config.clients() {
+        let listen = config.listen(c);
+        if !all.contains(&listen) {
+            all.push(listen)?;
+        }
+    }
+    Ok(all)
+}
+
+/// A place for each client of the configuration.
+pub fn connections(alloc: Global, config: &Config) -> Result<Vec<ClientConnections>, AllocError>
+    ensures { IfOk result (λ all. (c : ℕ) → held_by c (held_of all.items) ≡ nothing) }
+{
+    let listen_addresses = listen_addresses(alloc, config)?;
+    let mut all = Vec::with_capacity(alloc, config.clients())?;
+    for c in 0..config.clients() {
+        let listen = config.listen(c);
+        let listener = listen_addresses
+            .iter()
+            .position(|it| *it == listen)
+            .unwrap_or(0);
+        all.push(ClientConnections {
+            listener,
+            peer: config.peer(c),
+            live: Connection::new(alloc)?,
+            closing: Connection::new(alloc)?,
+            has_ended: false,
+        })?;
+    }
+    Ok(all)
+}

@@ -1,0 +1,358 @@
+//! The events of a round, one at a time. A round accepts the connections that have come, then reads
+//! each connection. After every few pieces read, and once at the end, come a moment, a turn, and room
+//! for each connection. Turns so stay small: an outlet that was touched at more than 4,096 prefixes
+//! would decide its whole table.
+
+ghost use Rattle.std.specs.Prelude.{◌≡◌, ◌+◌, ◌<◌, ◌≤◌, ◌∷◌, ℕ, List, min, length, None, IfSome, IfErr, IsOk, IsNone, false};
+ghost use Rattle.rs_live.specs.Calls.{Call, Closed, Printed};
+ghost use Rattle.rs_live.specs.Handled.{Has, AreBroken, Keeps, Follows, Answers};
+ghost use Rattle.rs_live.specs.Keeping.{held_by, held_of};
+
+use crate::live_link::{LiveLink, Phase};
+use crate::ports::{Incoming, Line, Ports};
+use rs_core::{Event, LiveLink as Link, Source};
+
+/// How many connections a round accepts. More wait for the next round, which comes at once: so nobody
+/// who connects over and over keeps the server from those that are connected.
+const ACCEPTED: u32 = 64;
+
+/// How many pieces of one connection a round reads.
+const PIECES: u32 = 16;
+
+/// How many pieces are read before a turn: three of 4,096 octets name some 3,000 prefixes of 24 bits.
+const PIECES_A_TURN: u32 = 3;
+
+/// How many times in a row one connection is given room behind a turn.
+const ROOMS: u32 = 16;
+
+/// From so many octets heard since the last turn on, all workers turn; else one does, since to start
+/// threads costs more than a short turn saves. `bench/turns.py` measures from where on.
+const MUCH: usize = 4096;
+
+impl<'a, P: Ports> LiveLink<'a, P> {
+    /// The client whose connection this is.
+    fn client_of(&self, incoming: &Incoming) -> Option<usize>
+        ensures { IfSome result (λ c. c < length (held_of self.entry.now.connections.now.items)) }
+    {
+        self.connections.iter().position(|own| own.listener == incoming.listener
+            && own.peer == incoming.address)
+    }
+
+    /// Closes a connection that has come and is nobody's.
+    fn refuse(&mut self, incoming: &Incoming)
+        ensures same_ports { self.new.ports.ghost_name ≡ self.old.ports.ghost_name }
+        ensures failed { self.new.has_failed ≡ self.old.has_failed }
+        ensures held { held_of self.new.connections.now.items ≡ held_of self.old.connections.now.items }
+        ensures phase { self.new.phase ≡ self.old.phase }
+        ensures asked { (calls : List Call) → P.asked self.old.ports.now calls → P.asked self.new.ports.now (Closed incoming.now.key ∷ Printed Line.Stranger ∷ calls) }
+    {
+        self.ports.print(&Line::Stranger);
+        self.ports.close(incoming.key);
+        let (address, count) = self.strangers.unwrap_or((incoming.address, 0));
+        self.strangers = Some((address, count.saturating_add(1)));
+    }
+
+    /// Accepts until a client's connection comes, none is left, or the round has accepted enough.
+    fn accepted(&mut self) -> Option<Event>
+        ensures same_ports { self.new.ports.ghost_name ≡ self.old.ports.ghost_name }
+        ensures answers { self.old.phase ≡ Phase.Accept → self.old.has_failed ≡ false → Keeps P.asked self.old → (piece : List ℕ) → Answers P.asked result piece self.new }
+    {
+        for _ in self.accepted..ACCEPTED {
+            match self.ports.accept() {
+                Err(_) => {
+                    self.has_failed = true;
+                    return Some(Event::Stop);
+                }
+                Ok(None) => {
+                    self.phase = Phase::Read;
+                    return None;
+                }
+                Ok(Some(incoming)) => {
+                    self.accepted = self.accepted.saturating_add(1);
+                    if let Some(c) = self.client_of(&incoming) {
+                        self.phase = Phase::Come(c, incoming);
+                        return Some(Event::Opened(c));
+                    }
+                    self.refuse(&incoming);
+                }
+            }
+        }
+        self.has_more = true;
+        self.phase = Phase::Read;
+        None
+    }
+
+    /// Reads a piece of the client whose turn it is; `None` where nothing is there. At the end of its
+    /// input the connection is lost, as where the read fails.
+    fn piece(&mut self, piece: &mut [u8; 4096]) -> Option<Event>
+        ensures same_ports { self.new.ports.ghost_name ≡ self.old.ports.ghost_name }
+        ensures phase { self.new.phase ≡ self.old.phase }
+        ensures answers { self.old.phase ≡ Phase.Read → self.old.has_failed ≡ false → Keeps P.asked self.old → Answers P.asked result piece.new self.new }
+    {
+        let c = self.reading;
+        let Some(key) = self.live_key(c) else {
+            return None;
+        };
+        if self.pieces >= PIECES {
+            self.has_more = true;
+            return None;
+        }
+        match self.ports.read(key, piece) {
+            Ok(None) => None,
+            Ok(Some(count)) => {
+                if count == 0 {
+                    self.lose(c, key);
+                    return Some(Event::Lost(c));
+                }
+                self.heard(count);
+                Some(Event::Octets(c, count))
+            }
+            Err(_) => {
+                self.lose(c, key);
+                Some(Event::Lost(c))
+            }
+        }
+    }
+
+    /// Counts octets that were read.
+    fn heard(&mut self, count: usize)
+        ensures same_ports { self.new.ports.ghost_name ≡ self.old.ports.ghost_name }
+        ensures failed { self.new.has_failed ≡ self.old.has_failed }
+        ensures held { held_of self.new.connections.now.items ≡ held_of self.old.connections.now.items }
+        ensures phase { self.new.phase ≡ self.old.phase }
+        ensures unasked { self.new.ports.now ≡ self.old.ports.now }
+    {
+        self.pieces = self.pieces.saturating_add(1);
+        self.pieces_heard = self.pieces_heard.saturating_add(1);
+        self.octets_heard = self.octets_heard.saturating_add(count);
+    }
+
+    /// Reads on, until enough was heard for a turn or nothing is left.
+    fn read_on(&mut self, piece: &mut [u8; 4096]) -> Option<Event>
+        ensures same_ports { self.new.ports.ghost_name ≡ self.old.ports.ghost_name }
+        ensures answers { self.old.phase ≡ Phase.Read → self.old.has_failed ≡ false → Keeps P.asked self.old → Answers P.asked result piece.new self.new }
+    {
+        if self.pieces_heard < PIECES_A_TURN {
+            for _ in 0..self.connections.len() {
+                if self.reading >= self.connections.len() {
+                    break;
+                }
+                match self.piece(piece) {
+                    Some(event) => return Some(event),
+                    None => {
+                        self.reading = self.reading.saturating_add(1);
+                        self.pieces = 0;
+                    }
+                }
+            }
+        }
+        self.phase = Phase::Moment;
+        None
+    }
+
+    fn moment(&mut self) -> Option<Event>
+        ensures same_ports { self.new.ports.ghost_name ≡ self.old.ports.ghost_name }
+        ensures answers { self.old.phase ≡ Phase.Moment → self.old.has_failed ≡ false → Keeps P.asked self.old → (piece : List ℕ) → Answers P.asked result piece self.new }
+    {
+        self.phase = Phase::Turn;
+        self.now = self.ports.seconds();
+        Some(Event::Moment(self.now))
+    }
+
+    /// A turn; or a stop before it, where other workers are to do it.
+    fn turn(&mut self) -> Option<Event>
+        ensures same_ports { self.new.ports.ghost_name ≡ self.old.ports.ghost_name }
+        ensures answers { self.old.phase ≡ Phase.Turn → self.old.has_failed ≡ false → Keeps P.asked self.old → (piece : List ℕ) → Answers P.asked result piece self.new }
+    {
+        let is_wide = self.octets_heard >= MUCH;
+        if is_wide != self.is_wide {
+            self.is_wide = is_wide;
+            return Some(Event::Stop);
+        }
+        self.pieces_heard = 0;
+        self.octets_heard = 0;
+        self.phase = Phase::Room(0);
+        Some(Event::Turn)
+    }
+
+    /// The next client from this one on that has a connection.
+    fn next_live(&self, from: usize) -> Option<usize>
+        ensures found { IfSome result (λ c. (from ≤ c) × ((d : ℕ) → from ≤ d → d < c → (held_by d (held_of self.entry.now.connections.now.items)).key ≡ None)) }
+        ensures none { IsNone result → (d : ℕ) → from ≤ d → (held_by d (held_of self.entry.now.connections.now.items)).key ≡ None }
+    {
+        for c in from..self.connections.len() {
+            if self.live_key(c).is_some() {
+                return Some(c);
+            }
+        }
+        None
+    }
+
+    /// Gives room to the next connection from this client's on.
+    fn room(&mut self, from: usize) -> Option<Event>
+        ensures same_ports { self.new.ports.ghost_name ≡ self.old.ports.ghost_name }
+        ensures answers { self.old.phase ≡ Phase.Room from → self.old.has_failed ≡ false → Keeps P.asked self.old → (piece : List ℕ) → Answers P.asked result piece self.new }
+    {
+        match self.next_live(from) {
+            Some(c) => {
+                self.rooms = 0;
+                self.phase = Phase::Handed(c);
+                Some(Event::Room(c, u64::MAX))
+            }
+            None if self.reading < self.connections.len() => {
+                self.phase = Phase::Read;
+                None
+            }
+            None => {
+                self.phase = Phase::Over;
+                self.finish_closing();
+                None
+            }
+        }
+    }
+
+    /// Writes what a client's connection was handed, and answers whether it was full and no longer is;
+    /// where a write fails the error is the key.
+    fn write_on(&mut self, c: usize) -> Result<bool, usize>
+        ensures same_ports { self.new.ports.ghost_name ≡ self.old.ports.ghost_name }
+        ensures failed { self.new.has_failed ≡ self.old.has_failed }
+        ensures phase { self.new.phase ≡ self.old.phase }
+        ensures ok { IsOk result → Keeps P.asked self.old → Keeps P.asked self.new }
+        ensures broke { IfErr result (λ key. Keeps P.asked self.old → Has P.asked self.new.ports.now (AreBroken c key (held_of self.new.connections.now.items) self.new.phase)) }
+    {
+        let Some(own) = self.connections.get_mut(c) else {
+            return Ok(false);
+        };
+        let was_full = own.live.is_full();
+        match own.live.write(self.ports, self.now) {
+            Ok(()) => Ok(was_full && own.live.is_empty()),
+            Err(key) => Err(key),
+        }
+    }
+
+    /// The key of a client's connection whose octets have waited too long.
+    fn overdue(&self, c: usize) -> Option<usize>
+        ensures { IfSome result (λ key. (held_by c (held_of self.entry.now.connections.now.items)).key ≡ Some key) }
+    {
+        let own = self.connections.get(c)?;
+        if !own.live.is_over(self.now) {
+            return None;
+        }
+        own.live.key()
+    }
+
+    /// Writes what a connection was handed; gives it room again where it was full and no longer is.
+    fn handed(&mut self, c: usize) -> Option<Event>
+        ensures same_ports { self.new.ports.ghost_name ≡ self.old.ports.ghost_name }
+        ensures answers { self.old.phase ≡ Phase.Handed c → self.old.has_failed ≡ false → Keeps P.asked self.old → (piece : List ℕ) → Answers P.asked result piece self.new }
+    {
+        self.phase = Phase::Room(c.saturating_add(1));
+        match self.write_on(c) {
+            Err(key) => {
+                self.lose(c, key);
+                Some(Event::Lost(c))
+            }
+            Ok(is_free) => self.written(c, is_free),
+        }
+    }
+
+    /// A client's connection was written; it is given room again where it was full and no longer is.
+    fn written(&mut self, c: usize, is_free: bool) -> Option<Event>
+        ensures same_ports { self.new.ports.ghost_name ≡ self.old.ports.ghost_name }
+        ensures answers { self.old.phase ≡ Phase.Room (min (c + 1) usize.MAX) → self.old.has_failed ≡ false → Keeps P.asked self.old → (piece : List ℕ) → Answers P.asked result piece self.new }
+    {
+        if let Some(key) = self.overdue(c) {
+            self.lose(c, key);
+            return Some(Event::Lost(c));
+        }
+        if !is_free {
+            return None;
+        }
+        self.room_again(c)
+    }
+
+    /// Room for a connection once more, unless it had much behind this turn.
+    fn room_again(&mut self, c: usize) -> Option<Event>
+        ensures same_ports { self.new.ports.ghost_name ≡ self.old.ports.ghost_name }
+        ensures answers { self.old.phase ≡ Phase.Room (min (c + 1) usize.MAX) → self.old.has_failed ≡ false → Keeps P.asked self.old → (piece : List ℕ) → Answers P.asked result piece self.new }
+    {
+        if self.rooms >= ROOMS {
+            self.has_more = true;
+            return None;
+        }
+        self.rooms = self.rooms.saturating_add(1);
+        self.phase = Phase::Handed(c);
+        Some(Event::Room(c, u64::MAX))
+    }
+
+    /// Goes on with the connections that are being closed.
+    fn finish_closing(&mut self)
+        ensures same_ports { self.new.ports.ghost_name ≡ self.old.ports.ghost_name }
+        ensures failed { self.new.has_failed ≡ self.old.has_failed }
+        ensures phase { self.new.phase ≡ self.old.phase }
+        ensures handled { Keeps P.asked self.old → Keeps P.asked self.new }
+    {
+        for c in 0..self.connections.len() {
+            self.finish(c);
+        }
+    }
+
+    /// Goes on with a client's connection that is being closed.
+    fn finish(&mut self, c: usize)
+        ensures same_ports { self.new.ports.ghost_name ≡ self.old.ports.ghost_name }
+        ensures failed { self.new.has_failed ≡ self.old.has_failed }
+        ensures phase { self.new.phase ≡ self.old.phase }
+        ensures handled { Keeps P.asked self.old → Keeps P.asked self.new }
+    {
+        if let Some(own) = self.connections.get_mut(c) {
+            own.closing.finish(self.ports, self.now);
+        }
+    }
+
+    /// What the round does next, and the event that comes of it.
+    fn step(&mut self, piece: &mut [u8; 4096]) -> Option<Event>
+        ensures same_ports { self.new.ports.ghost_name ≡ self.old.ports.ghost_name }
+        ensures answers { self.old.has_failed ≡ false → Keeps P.asked self.old → Answers P.asked result piece.new self.new }
+    {
+        match self.phase {
+            Phase::Rules => {
+                self.phase = Phase::Accept;
+                Some(Event::Rules)
+            }
+            Phase::Accept => self.accepted(),
+            Phase::Come(_, incoming) => {
+                self.refuse(&incoming);
+                self.phase = Phase::Accept;
+                None
+            }
+            Phase::Read => self.read_on(piece),
+            Phase::Moment => self.moment(),
+            Phase::Turn => self.turn(),
+            Phase::Room(from) => self.room(from),
+            Phase::Handed(c) => self.handed(c),
+            Phase::Over => Some(Event::Stop),
+        }
+    }
+}
+
+impl<'a, P: Ports> Link for LiveLink<'a, P> {
+    ghost happens = { λ old step new. (new.ports.ghost_name ≡ old.ports.ghost_name) × (old.has_failed ≡ false → Keeps P.asked old → Follows P.asked step new new.has_failed) };
+
+    ghost text = { λ link. link.text.now.items };
+}
+
+impl<'a, P: Ports> Source for LiveLink<'a, P> {
+    fn next(&mut self, piece: &mut [u8; 4096]) -> Event {
+        for _ in 0..8 {
+            match self.step(piece) {
+                Some(event) => return event,
+                None => {}
+            }
+        }
+        Event::Stop
+    }
+
+    fn rules(&self) -> &[u8] {
+        self.text.as_slice()
+    }
+}

@@ -1,0 +1,19 @@
+-- What waits to be sent: the list of it, how it is found and how it changes.
+mod Deduped
+mod Chains
+mod Slots
+mod Withdrawals
+mod Finding
+mod Adding
+mod TwoParts
+mod PutAmong
+mod MarkedAgain
+mod MarkedAll
+mod Owing
+mod Carrying
+mod Backing
+mod Unchanged
+mod Draining
+mod Standing
+mod AskedAgain
+mod Exact

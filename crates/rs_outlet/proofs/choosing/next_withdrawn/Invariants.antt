@@ -1,7 +1,0 @@
-use Rattle.std.proofs.Common.{◌≡◌, false}
-use Rattle.std.specs.List.{AllWithin}
-use Rattle.rs_outlet.specs.Places.{is_withdrawn}
-use Rattle.rs_outlet.proofs.choosing.next_withdrawn.Given as goal
-
-abbrev pub invariant-loop-place : goal.invariant-loop-place
-invariant-loop-place l = AllWithin (λ w. is_withdrawn w ≡ false) l.places l.fn.from l.place

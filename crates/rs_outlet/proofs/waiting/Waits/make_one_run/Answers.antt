@@ -1,6 +1,0 @@
-use Rattle.std.proofs.Common.{arith}
-use Rattle.rs_outlet.proofs.TwoRuns.{first_whole}
-use Rattle.rs_outlet.proofs.waiting.Waits.make_one_run.Goals as goal
-
-pub returns-then-self-len-clause-rises : goal.returns-then-self-len-clause-rises
-returns-then-self-len-clause-rises c = first_whole c.args.self.now.sorted c.args.self.now.places.items (omega (arith, c.if-self-len.true, c.args.self.now.places.ok)) c.args.self.now.first

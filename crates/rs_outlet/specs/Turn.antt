@@ -1,0 +1,8 @@
+-- What a turn decides, and what is due to a client.
+pub mod Touching
+pub mod Due
+pub mod Alike
+pub mod HeldBy
+pub mod Passing
+pub mod Turns
+pub mod Counted

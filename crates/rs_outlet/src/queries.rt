@@ -1,0 +1,79 @@
+//! What is asked of an outlet. None of these calls changes it.
+
+ghost use Rattle.std.specs.Prelude.{◌≡◌, ◌↔◌, option_map, IsTrue};
+ghost use Rattle.std.specs.Arc.{arc_value};
+ghost use Rattle.std.specs.FinMap as map;
+ghost use Rattle.rs_outlet.specs.Views.{AreNumbered, IsDrained, WaitsAreExact};
+ghost use Rattle.rs_outlet.specs.Waiting.Left.{HasNothingLeft};
+
+use crate::answers::Last;
+use crate::outlet::Outlet;
+use crate::routes::Routes;
+use rs_adjin::AdjIns;
+use rs_attrs::Attrs;
+use rs_octets::Prefix;
+use std::sync::Arc;
+
+impl Outlet {
+    /// The place of its client among those of the configuration.
+    pub fn client(&self) -> usize
+        ensures { result ≡ self.now.client }
+    {
+        self.client
+    }
+
+    /// The answer of the last turn.
+    pub fn last(&self) -> Last
+        ensures { result ≡ self.now.last }
+    {
+        self.last
+    }
+
+    /// What is left of the message in flight.
+    pub fn lent(&self) -> &[u8]
+        ensures { result.now ≡ self.now.flight }
+    {
+        &self.octets[self.start..self.end]
+    }
+
+    /// Whether nothing is left to do.
+    pub fn is_drained(&self) -> bool
+        ensures drained { IsTrue result → IsDrained self.now }
+        ensures exact { WaitsAreExact self.now → (IsTrue result ↔ IsDrained self.now) }
+        ensures left { IsTrue result ↔ HasNothingLeft self.now }
+    {
+        if self.speech.is_none() {
+            return false;
+        }
+        if !self.touched.is_empty() {
+            return false;
+        }
+        if self.start < self.end {
+            return false;
+        }
+        if self.keepalive_due {
+            return false;
+        }
+        self.waits.len() == 0
+    }
+
+    /// The route of the Loc-RIB for a prefix.
+    pub fn route(&self, prefix: &Prefix, ins: &AdjIns) -> Option<&Arc<Attrs>>
+        ensures { AreNumbered self.now ins.now → option_map (λ attrs. arc_value attrs.now) result ≡ map.get self.now.loc prefix.now }
+    {
+        match ins.number(*prefix) {
+            None => None,
+            Some(number) => match self.rows.get(number) {
+                None => None,
+                Some(row) => Some(&row.attrs),
+            },
+        }
+    }
+
+    /// The routes of the Loc-RIB, by rising prefix.
+    pub fn routes<'a>(&'a self, ins: &'a AdjIns) -> Routes<'a>
+        ensures { AreNumbered self.now ins.now → result ≡ map.entries self.now.loc }
+    {
+        Routes::new(ins.iter(), &self.rows)
+    }
+}

@@ -1,0 +1,261 @@
+//! Which slots the next UPDATE is about, and that they wait no more once it is begun.
+
+ghost use Rattle.std.specs.Prelude.{◌≡◌, ◌≤◌, ◌<◌, ◌++◌, ◌∷◌, [], ℕ, length, drop, take, true, List, Option, None, Some, false, IsTrue, vec_len, option_copied, slice_get, if◌then◌else◌};
+ghost use Rattle.std.specs.List.{AllWithin, HoldsAt, list_any};
+ghost use Rattle.std.specs.Ordering.{eq_by_cmp};
+ghost use Rattle.std.specs.Vec.{vec_capacity};
+ghost use Rattle.rs_octets.specs.Prefixes.{Prefix, prefix_order};
+ghost use Rattle.rs_attrs.specs.Meaning.{Attribute};
+ghost use Rattle.rs_outlet.specs.declared.rows.Row.{Row};
+ghost use Rattle.rs_outlet.specs.declared.waiting.Wait.{Wait};
+ghost use Rattle.rs_outlet.specs.Waiting.Slots.{prefixes_at, open_at, is_withdrawal, is_withdrawn, is_announced, withdrawn_count};
+ghost use Rattle.rs_outlet.specs.Waiting.Choosing.{HasRow, HaveRoom, IsFound, IsChosen, AreChosen, MayList, Rise, WaitsFor, passing, shares};
+ghost use Rattle.rs_outlet.specs.Waiting.Hashing.{attributes_hash};
+ghost use Rattle.rs_outlet.specs.Inside.{AreBacked, IsBacked, row_by, shown};
+ghost use Rattle.rs_outlet.specs.Message.Next.{has_attributes};
+
+use crate::rows::Row;
+use crate::table::Rows;
+use crate::waiting::{Due, Wait, Waits, hash_of};
+use rs_attrs::Attrs;
+use rs_octets::Prefix;
+
+impl Waits {
+    /// The first slot that is to be withdrawn.
+    pub(crate) fn first_withdrawn(&mut self) -> Option<usize>
+        ensures slots { self.new.slots.items ≡ self.old.slots.items }
+        ensures capacity { vec_capacity self.new.slots ≡ vec_capacity self.old.slots }
+        ensures first { IsFound is_withdrawn self.old.slots.items result }
+    {
+        self.gone = next_withdrawn(&self.slots, self.gone);
+        if self.gone < self.slots.len() {
+            Some(self.gone)
+        } else {
+            None
+        }
+    }
+
+    /// The first slot that is to be announced.
+    pub(crate) fn first_announced(&mut self) -> Option<usize>
+        ensures slots { self.new.slots.items ≡ self.old.slots.items }
+        ensures capacity { vec_capacity self.new.slots ≡ vec_capacity self.old.slots }
+        ensures first { IsFound is_announced self.old.slots.items result }
+    {
+        self.news = next_announced(&self.slots, self.news);
+        if self.news < self.slots.len() {
+            Some(self.news)
+        } else {
+            None
+        }
+    }
+
+    /// Lists what is to be withdrawn, from this slot on, as much as there is room for.
+    pub(crate) fn collect_withdrawn(
+        &self,
+        first: usize,
+        room: usize,
+        chosen: &mut Vec<usize>,
+        front: &mut Vec<Prefix>,
+    )
+        ensures chosen { vec_capacity chosen.new ≡ vec_capacity chosen.old }
+        ensures front { vec_capacity front.new ≡ vec_capacity front.old }
+        ensures some { first < vec_len self.now.slots → HoldsAt (λ w. is_withdrawn w ≡ true) self.now.slots.items first → vec_len front.old < room → HaveRoom chosen.old front.old → 0 < vec_len front.new }
+        ensures first { first < vec_len self.now.slots → HoldsAt (λ w. is_withdrawn w ≡ true) self.now.slots.items first → vec_len front.old < room → HaveRoom chosen.old front.old → chosen.old.items ≡ [] → slice_get chosen.new.items 0 ≡ Some first }
+        ensures rise { chosen.old.items ≡ [] → Rise chosen.new.items }
+        ensures are { (rows : List (Option Row)) → AreChosen rows self.now.slots.items None chosen.old.items front.old.items → AreChosen rows self.now.slots.items None chosen.new.items front.new.items }
+        ensures all { room ≤ vec_capacity chosen.old → room ≤ vec_capacity front.old → chosen.old.items ≡ [] → front.old.items ≡ [] → front.new.items ≡ take room (passing is_withdrawn (drop first self.now.slots.items)) }
+    {
+        for slot in first..self.slots.len() {
+            if room <= front.len() {
+                return;
+            }
+            self.list_withdrawn(slot, chosen, front);
+        }
+    }
+
+    /// Lists the prefix of a slot, if it is to be withdrawn.
+    fn list_withdrawn(&self, slot: usize, chosen: &mut Vec<usize>, front: &mut Vec<Prefix>)
+        requires { slot < vec_len self.now.slots }
+        ensures chosen { vec_capacity chosen.new ≡ vec_capacity chosen.old }
+        ensures front { vec_capacity front.new ≡ vec_capacity front.old }
+        ensures grows { vec_len front.old ≤ vec_len front.new }
+        ensures listed { HoldsAt (λ w. is_withdrawn w ≡ true) self.now.slots.items slot → HaveRoom chosen.old front.old → 0 < vec_len front.new }
+        ensures slots { MayList slot chosen.old.items chosen.new.items }
+        ensures there { HoldsAt (λ w. is_withdrawn w ≡ true) self.now.slots.items slot → HaveRoom chosen.old front.old → chosen.new.items ≡ chosen.old.items ++ slot ∷ [] }
+        ensures are { (rows : List (Option Row)) → AreChosen rows self.now.slots.items None chosen.old.items front.old.items → AreChosen rows self.now.slots.items None chosen.new.items front.new.items }
+        ensures all { HaveRoom chosen.old front.old → HoldsAt (λ w. front.new.items ≡ front.old.items ++ passing is_withdrawn (w ∷ [])) self.now.slots.items slot }
+    {
+        let wait = &self.slots[slot];
+        if wait.is_withdrawn() {
+            let _len = wait.prefix.len();
+            list_slot(slot, wait.prefix, chosen, front);
+        }
+    }
+
+    /// The row of what is due at a slot.
+    pub(crate) fn row_for<'a>(&self, rows: &'a Rows, slot: usize) -> Option<&'a Row>
+        requires { slot < vec_len self.now.slots }
+        ensures { HoldsAt (λ w. option_copied result ≡ row_by rows.now.rows.items w.due) self.now.slots.items slot }
+    {
+        match self.slots[slot].due {
+            Due::Withdrawn => None,
+            Due::Announced { number, .. } => rows.get(number),
+        }
+    }
+
+    /// Lists the prefixes from this slot on that wait for these attributes, as many as there is room
+    /// for.
+    pub(crate) fn collect_announced(
+        &self,
+        rows: &Rows,
+        first: usize,
+        attrs: &Attrs,
+        room: usize,
+        chosen: &mut Vec<usize>,
+        front: &mut Vec<Prefix>,
+    )
+        ensures chosen { vec_capacity chosen.new ≡ vec_capacity chosen.old }
+        ensures front { vec_capacity front.new ≡ vec_capacity front.old }
+        ensures some { first < vec_len self.now.slots → HoldsAt (WaitsFor rows.now.rows.items attrs.now) self.now.slots.items first → vec_len front.old < room → HaveRoom chosen.old front.old → 0 < vec_len front.new }
+        ensures first { first < vec_len self.now.slots → HoldsAt (WaitsFor rows.now.rows.items attrs.now) self.now.slots.items first → vec_len front.old < room → HaveRoom chosen.old front.old → chosen.old.items ≡ [] → slice_get chosen.new.items 0 ≡ Some first }
+        ensures rise { chosen.old.items ≡ [] → Rise chosen.new.items }
+        ensures are { AreChosen rows.now.rows.items self.now.slots.items (Some attrs.now) chosen.old.items front.old.items → AreChosen rows.now.rows.items self.now.slots.items (Some attrs.now) chosen.new.items front.new.items }
+        ensures all { AreBacked rows.now.rows.items self.now.slots.items → room ≤ vec_capacity chosen.old → room ≤ vec_capacity front.old → chosen.old.items ≡ [] → front.old.items ≡ [] → front.new.items ≡ take room (passing (shares rows.now.rows.items attrs.now) (drop first self.now.slots.items)) }
+    {
+        let hash = hash_of(attrs);
+        let mut slot = first;
+        for _ in 0..self.slots.len() {
+            if room <= front.len() {
+                return;
+            }
+            if self.slots.len() <= slot {
+                return;
+            }
+            self.list_announced(rows, slot, hash, attrs, chosen, front);
+            slot = self.next_slot(slot, hash);
+        }
+    }
+
+    /// Lists the prefix of a slot, if it waits for these attributes, which have this hash.
+    fn list_announced(
+        &self,
+        rows: &Rows,
+        slot: usize,
+        hash: u32,
+        attrs: &Attrs,
+        chosen: &mut Vec<usize>,
+        front: &mut Vec<Prefix>,
+    )
+        requires { slot < vec_len self.now.slots }
+        ensures chosen { vec_capacity chosen.new ≡ vec_capacity chosen.old }
+        ensures front { vec_capacity front.new ≡ vec_capacity front.old }
+        ensures grows { vec_len front.old ≤ vec_len front.new }
+        ensures listed { HoldsAt (WaitsFor rows.now.rows.items attrs.now) self.now.slots.items slot → hash ≡ attributes_hash attrs.now → HaveRoom chosen.old front.old → 0 < vec_len front.new }
+        ensures slots { MayList slot chosen.old.items chosen.new.items }
+        ensures there { HoldsAt (WaitsFor rows.now.rows.items attrs.now) self.now.slots.items slot → hash ≡ attributes_hash attrs.now → HaveRoom chosen.old front.old → chosen.new.items ≡ chosen.old.items ++ slot ∷ [] }
+        ensures are { AreChosen rows.now.rows.items self.now.slots.items (Some attrs.now) chosen.old.items front.old.items → AreChosen rows.now.rows.items self.now.slots.items (Some attrs.now) chosen.new.items front.new.items }
+        ensures all { HaveRoom chosen.old front.old → hash ≡ attributes_hash attrs.now → HoldsAt (λ w. (w.open ≡ true → IsBacked rows.now.rows.items w.prefix w.due) → front.new.items ≡ front.old.items ++ passing (shares rows.now.rows.items attrs.now) (w ∷ [])) self.now.slots.items slot }
+    {
+        let wait = &self.slots[slot];
+        if wait.open && waits_for(rows, wait, hash, attrs) {
+            let _len = wait.prefix.len();
+            list_slot(slot, wait.prefix, chosen, front);
+        }
+    }
+
+    /// These slots wait no more.
+    pub(crate) fn give_up(&mut self, chosen: &[usize])
+        ensures withdrawn { withdrawn_count self.new.slots.items ≤ withdrawn_count self.old.slots.items }
+        ensures capacity { vec_capacity self.new.slots ≡ vec_capacity self.old.slots }
+        ensures slots { (rows : List (Option Row)) (said : Option (List Attribute)) (ps : List Prefix) → AreChosen rows self.old.slots.items said chosen.now ps → (q : Prefix) → open_at q self.new.slots.items ≡ (if list_any (eq_by_cmp prefix_order q) ps then None else open_at q self.old.slots.items) }
+    {
+        for slot in chosen {
+            self.give_up_one(*slot);
+        }
+    }
+
+    /// A slot waits no more.
+    fn give_up_one(&mut self, slot: usize)
+        ensures prefixes { prefixes_at self.new.slots.items ≡ prefixes_at self.old.slots.items }
+        ensures withdrawn { withdrawn_count self.new.slots.items ≤ withdrawn_count self.old.slots.items }
+        ensures capacity { vec_capacity self.new.slots ≡ vec_capacity self.old.slots }
+        ensures slots { (p : Prefix) → slice_get (prefixes_at self.old.slots.items) slot ≡ Some p → (q : Prefix) → open_at q self.new.slots.items ≡ (if eq_by_cmp prefix_order q p then None else open_at q self.old.slots.items) }
+    {
+        if slot < self.slots.len() {
+            let _ = self.close(slot);
+        }
+    }
+}
+
+/// The first slot from here on that is to be withdrawn; where there is none, the end of the slots.
+fn next_withdrawn(slots: &[Wait], from: usize) -> usize
+    ensures before { AllWithin (λ w. is_withdrawn w ≡ false) slots.now from result }
+    ensures there { result < length slots.now → HoldsAt (λ w. is_withdrawn w ≡ true) slots.now result }
+{
+    for slot in from..slots.len() {
+        if slots[slot].is_withdrawn() {
+            return slot;
+        }
+    }
+    slots.len()
+}
+
+/// The first slot from here on that is to be announced; where there is none, the end of the slots.
+fn next_announced(slots: &[Wait], from: usize) -> usize
+    ensures before { AllWithin (λ w. is_announced w ≡ false) slots.now from result }
+    ensures there { result < length slots.now → HoldsAt (λ w. is_announced w ≡ true) slots.now result }
+{
+    for slot in from..slots.len() {
+        if slots[slot].is_announced() {
+            return slot;
+        }
+    }
+    slots.len()
+}
+
+/// Lists a slot and its prefix, if there is room for both.
+fn list_slot(slot: usize, prefix: Prefix, chosen: &mut Vec<usize>, front: &mut Vec<Prefix>)
+    ensures chosen { vec_capacity chosen.new ≡ vec_capacity chosen.old }
+    ensures front { vec_capacity front.new ≡ vec_capacity front.old }
+    ensures grows { vec_len front.old ≤ vec_len front.new }
+    ensures listed { HaveRoom chosen.old front.old → 0 < vec_len front.new }
+    ensures slots { MayList slot chosen.old.items chosen.new.items }
+    ensures there { HaveRoom chosen.old front.old → chosen.new.items ≡ chosen.old.items ++ slot ∷ [] }
+    ensures prefix { HaveRoom chosen.old front.old → front.new.items ≡ front.old.items ++ prefix ∷ [] }
+    ensures are { (rows : List (Option Row)) (ws : List Wait) (said : Option (List Attribute)) → AreChosen rows ws said chosen.old.items front.old.items → IsChosen rows ws said slot prefix → AreChosen rows ws said chosen.new.items front.new.items }
+{
+    if chosen.capacity() <= chosen.len() {
+        return;
+    }
+    if front.capacity() <= front.len() {
+        return;
+    }
+    chosen.push_reserved(slot);
+    front.push_reserved(prefix);
+}
+
+/// Whether a slot waits for these attributes, which have this hash.
+fn waits_for(rows: &Rows, wait: &Wait, hash: u32, attrs: &Attrs) -> bool
+    ensures said { IsTrue result → is_withdrawal wait.now.due ≡ false }
+    ensures row { IsTrue result → HasRow rows.now.rows.items wait.now.prefix attrs.now }
+    ensures all { WaitsFor rows.now.rows.items attrs.now wait.now → hash ≡ attributes_hash attrs.now → result ≡ true }
+    ensures just { IsBacked rows.now.rows.items wait.now.prefix wait.now.due → hash ≡ attributes_hash attrs.now → result ≡ has_attributes (shown (row_by rows.now.rows.items wait.now.due)) attrs.now }
+{
+    let Due::Announced {
+        number,
+        hash: other,
+    } = wait.due
+    else {
+        return false;
+    };
+    if hash != other {
+        return false;
+    }
+    let Some(row) = rows.get(number) else {
+        return false;
+    };
+    if row.prefix != wait.prefix {
+        return false;
+    }
+    *row.attrs == *attrs
+}

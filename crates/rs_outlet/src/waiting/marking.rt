@@ -1,0 +1,118 @@
+//! A client asks for everything again: what was told waits to be told again (RFC 2918, 4).
+
+ghost use Rattle.std.specs.Prelude.{◌≡◌, ◌≤◌, ◌<◌, ◌+◌, None, IsSome, true, false, map, take, vec_len};
+ghost use Rattle.std.specs.FinMap as fin;
+ghost use Rattle.std.specs.List.{list_any};
+ghost use Rattle.std.specs.List.Sorted.{IsStrictlySortedBy};
+ghost use Rattle.std.specs.Ordering.{eq_by_cmp};
+ghost use Rattle.std.specs.Vec.{vec_capacity};
+ghost use Rattle.rs_octets.specs.Prefixes.{Prefix, prefix_order};
+ghost use Rattle.rs_outlet.specs.Waiting.Slots.{open_at, prefixes_at, withdrawn_count};
+ghost use Rattle.rs_outlet.specs.Inside.{AreBacked, loc_of};
+ghost use Rattle.rs_outlet.specs.Waiting.Marking.{MayAddRow, MayWaitAgain, is_told, remarked};
+
+use crate::rows::Row;
+use crate::table::Rows;
+use crate::waiting::parts::drop_shut;
+use crate::waiting::{Due, Told, Wait, Waits, count_open, hash_of, put_in_order};
+use rs_octets::Prefix;
+
+impl Waits {
+    /// Everything that was told waits to be told again: each row, and what waits already. It takes no
+    /// memory.
+    pub(crate) fn mark_all(&mut self, rows: &Rows)
+        requires { rows.now.used + withdrawn_count self.old.slots.items ≤ vec_capacity self.old.slots }
+        ensures again { (q : Prefix) → MayWaitAgain (fin.get (loc_of rows.now.rows.items) q) (open_at q self.old.slots.items) (open_at q self.new.slots.items) }
+        ensures all { AreBacked rows.now.rows.items self.old.slots.items → (q : Prefix) → IsSome (fin.get (loc_of rows.now.rows.items) q) → IsSome (open_at q self.new.slots.items) }
+        ensures withdrawn { withdrawn_count self.new.slots.items ≤ withdrawn_count self.old.slots.items }
+        ensures capacity { vec_capacity self.new.slots ≡ vec_capacity self.old.slots }
+        ensures backed { AreBacked rows.now.rows.items self.old.slots.items → AreBacked rows.now.rows.items self.new.slots.items }
+    {
+        self.make_one_part(None);
+        add_rows(&mut self.slots, rows);
+        self.waiting = count_open(&self.slots);
+        self.sorted = self.slots.len();
+        self.ready = false;
+        self.chains.clear();
+        self.gone = 0;
+        self.news = 0;
+    }
+}
+
+impl Told {
+    fn is_told(&self) -> bool
+        ensures { result ≡ is_told self.now }
+    {
+        !matches!(self, Told::Nothing)
+    }
+}
+
+/// Drops the slots that wait no more, marks those at which something was told, and adds the rows at
+/// which nothing waits. There is room for these: each slot that is left is to be withdrawn, or has a row.
+fn add_rows(slots: &mut Vec<Wait>, rows: &Rows)
+    requires rises { IsStrictlySortedBy prefix_order (prefixes_at slots.old.items) }
+    requires room { rows.now.used + withdrawn_count slots.old.items ≤ vec_capacity slots.old }
+    ensures rises { IsStrictlySortedBy prefix_order (prefixes_at slots.new.items) }
+    ensures again { (q : Prefix) → MayWaitAgain (fin.get (loc_of rows.now.rows.items) q) (open_at q slots.old.items) (open_at q slots.new.items) }
+    ensures all { AreBacked rows.now.rows.items slots.old.items → (q : Prefix) → IsSome (fin.get (loc_of rows.now.rows.items) q) → IsSome (open_at q slots.new.items) }
+    ensures withdrawn { withdrawn_count slots.new.items ≤ withdrawn_count slots.old.items }
+    ensures capacity { vec_capacity slots.new ≡ vec_capacity slots.old }
+    ensures backed { AreBacked rows.now.rows.items slots.old.items → AreBacked rows.now.rows.items slots.new.items }
+{
+    drop_shut(slots);
+    mark_told(slots);
+    let waited = slots.len();
+    for slot in 0..rows.count() {
+        if let Some(row) = rows.at(slot) {
+            add_row(slots, waited, slot as u32, row);
+        }
+    }
+    put_in_order(slots);
+}
+
+/// Marks the slots at which something was told.
+fn mark_told(slots: &mut Vec<Wait>)
+    ensures items { slots.new.items ≡ map remarked slots.old.items }
+    ensures capacity { vec_capacity slots.new ≡ vec_capacity slots.old }
+{
+    for wait in places.iter_mut() {
+        wait.marked = wait.told.is_told();
+    }
+}
+
+/// Adds a slot for the row of a number, where its prefix stands at none of the first slots.
+fn add_row(slots: &mut Vec<Wait>, waited: usize, number: u32, row: &Row)
+    requires waited { waited ≤ vec_len slots.old }
+    requires rises { IsStrictlySortedBy prefix_order (prefixes_at (take waited slots.old.items)) }
+    ensures again { MayAddRow (take waited slots.old.items) number row.now slots.old.items slots.new.items }
+    ensures listed { vec_len slots.old < vec_capacity slots.old → list_any (eq_by_cmp prefix_order row.now.prefix) (prefixes_at slots.new.items) ≡ true }
+    ensures capacity { vec_capacity slots.new ≡ vec_capacity slots.old }
+{
+    if slots.capacity() <= slots.len() {
+        return;
+    }
+    if has_prefix(&slots[..waited], &row.prefix) {
+        return;
+    }
+    slots.push_reserved(Wait {
+        prefix: row.prefix,
+        due: Due::Announced {
+            number,
+            hash: hash_of(&row.attrs),
+        },
+        told: Told::Same,
+        marked: true,
+        open: true,
+    });
+}
+
+/// Whether one of the slots has a prefix.
+fn has_prefix(slots: &[Wait], prefix: &Prefix) -> bool
+    requires { IsStrictlySortedBy prefix_order (prefixes_at slots.now) }
+    ensures absent { result ≡ false → open_at prefix.now slots.now ≡ None }
+    ensures listed { result ≡ true → list_any (eq_by_cmp prefix_order prefix.now) (prefixes_at slots.now) ≡ true }
+{
+    slots
+        .binary_search_by_key(prefix, |wait| wait.prefix)
+        .is_ok()
+}

@@ -1,0 +1,130 @@
+//! Places are added to what waits, and both of its runs become one: now and then as slots are added,
+//! always where the client takes messages meanwhile, and at the latest before a message begins.
+
+ghost use Rattle.std.specs.Prelude.{◌≡◌, ◌≤◌, ◌+◌, ◌++◌, false, vec_len};
+ghost use Rattle.std.specs.List.Sorted.{IsStrictlySortedBy};
+ghost use Rattle.std.specs.Vec.{vec_capacity};
+ghost use Rattle.rs_octets.specs.Prefixes.{Prefix, prefix_order};
+ghost use Rattle.rs_outlet.specs.Waiting.Slots.{AreFresh, open_at, open_count, prefixes_at, withdrawn_count};
+
+use crate::waiting::parts::{drop_shut, put_slots, sort_from};
+use crate::waiting::{Wait, Waits};
+use std::alloc::Global;
+
+/// Both runs become one where the late one's length squared is over so many times the first one's. So a
+/// slot that is added costs a share of the merge that falls as the root of what waits.
+const LATE: usize = 1000;
+
+impl Waits {
+    /// Adds slots, for which there is room once those that wait no more are dropped. Where a message
+    /// began since others were added, the next one may begin soon, and one run is made for it here:
+    /// when it begins no buffer can be asked for.
+    pub(crate) fn add(&mut self, more: Vec<Wait>)
+        requires room { open_count self.old.slots.items + vec_len more ≤ vec_capacity self.old.slots }
+        requires fresh { AreFresh self.old.slots.items more.items }
+        ensures slots { (q : Prefix) → open_at q self.new.slots.items ≡ open_at q (self.old.slots.items ++ more.items) }
+        ensures withdrawn { withdrawn_count self.new.slots.items ≤ withdrawn_count self.old.slots.items + withdrawn_count more.items }
+        ensures capacity { vec_capacity self.new.slots ≡ vec_capacity self.old.slots }
+    {
+        let has_begun = self.ready;
+        self.make_room(more.len());
+        self.add_late(more);
+        if has_begun {
+            self.make_one_part(Some(self.alloc));
+        }
+    }
+
+    /// Makes room for so many slots behind the others, and keeps the late run short.
+    fn make_room(&mut self, more: usize)
+        requires room { open_count self.old.slots.items + more ≤ vec_capacity self.old.slots }
+        ensures room { vec_len self.new.slots + more ≤ vec_capacity self.new.slots }
+        ensures slots { (q : Prefix) → open_at q self.new.slots.items ≡ open_at q self.old.slots.items }
+        ensures withdrawn { withdrawn_count self.new.slots.items ≡ withdrawn_count self.old.slots.items }
+        ensures capacity { vec_capacity self.new.slots ≡ vec_capacity self.old.slots }
+    {
+        if !self.is_crowded(more) {
+            return;
+        }
+        self.merge(Some(self.alloc));
+    }
+
+    /// Whether one run is to be made before so many slots are added: there is no room behind the
+    /// slots, nothing waits, or the late run is long beside the first.
+    fn is_crowded(&self, more: usize) -> bool
+        ensures { result ≡ false → vec_len self.now.slots + more ≤ vec_capacity self.now.slots }
+    {
+        if self.slots.capacity() - self.slots.len() < more {
+            return true;
+        }
+        let late = self.slots.len() - self.sorted;
+        self.waiting == 0 || self.sorted.saturating_mul(LATE) < late.saturating_mul(late)
+    }
+
+    /// Adds slots to the late run, for which there is room.
+    fn add_late(&mut self, more: Vec<Wait>)
+        requires room { vec_len self.old.slots + vec_len more ≤ vec_capacity self.old.slots }
+        requires fresh { AreFresh self.old.slots.items more.items }
+        ensures slots { (q : Prefix) → open_at q self.new.slots.items ≡ open_at q (self.old.slots.items ++ more.items) }
+        ensures withdrawn { withdrawn_count self.new.slots.items ≤ withdrawn_count self.old.slots.items + withdrawn_count more.items }
+        ensures capacity { vec_capacity self.new.slots ≡ vec_capacity self.old.slots }
+    {
+        let count = more.len();
+        put_slots(&mut self.slots, self.sorted, more);
+        sort_from(Some(self.alloc), &mut self.slots, self.sorted);
+        self.waiting += count;
+        self.ready = false;
+        self.chains.clear();
+        self.gone = 0;
+        self.news = 0;
+    }
+
+    /// Makes one run of both, without the slots that wait no more. A buffer for it is asked for where
+    /// there is an allocator.
+    fn merge(&mut self, buffers: Option<Global>)
+        ensures slots { (q : Prefix) → open_at q self.new.slots.items ≡ open_at q self.old.slots.items }
+        ensures rises { IsStrictlySortedBy prefix_order (prefixes_at self.new.slots.items) }
+        ensures one { self.new.sorted ≡ vec_len self.new.slots }
+        ensures len { vec_len self.new.slots ≡ open_count self.old.slots.items }
+        ensures withdrawn { withdrawn_count self.new.slots.items ≡ withdrawn_count self.old.slots.items }
+        ensures capacity { vec_capacity self.new.slots ≡ vec_capacity self.old.slots }
+    {
+        drop_shut(&mut self.slots);
+        sort_from(buffers, &mut self.slots, 0);
+        self.sorted = self.slots.len();
+        self.ready = false;
+        self.chains.clear();
+        self.gone = 0;
+        self.news = 0;
+    }
+
+    /// Makes one run of both, if there is a late one. A buffer for it is asked for where there is an
+    /// allocator.
+    pub(crate) fn make_one_part(&mut self, buffers: Option<Global>)
+        ensures slots { (q : Prefix) → open_at q self.new.slots.items ≡ open_at q self.old.slots.items }
+        ensures rises { IsStrictlySortedBy prefix_order (prefixes_at self.new.slots.items) }
+        ensures one { self.new.sorted ≡ vec_len self.new.slots }
+        ensures withdrawn { withdrawn_count self.new.slots.items ≡ withdrawn_count self.old.slots.items }
+        ensures capacity { vec_capacity self.new.slots ≡ vec_capacity self.old.slots }
+    {
+        if self.sorted == self.slots.len() {
+            return;
+        }
+        self.merge(buffers);
+    }
+
+    /// Makes the slots ready for a message: they are one run, and linked. They stay so till others
+    /// are added. It takes no memory.
+    pub(crate) fn prepare(&mut self)
+        ensures slots { (q : Prefix) → open_at q self.new.slots.items ≡ open_at q self.old.slots.items }
+        ensures rises { IsStrictlySortedBy prefix_order (prefixes_at self.new.slots.items) }
+        ensures withdrawn { withdrawn_count self.new.slots.items ≡ withdrawn_count self.old.slots.items }
+        ensures capacity { vec_capacity self.new.slots ≡ vec_capacity self.old.slots }
+    {
+        if self.ready {
+            return;
+        }
+        self.make_one_part(None);
+        self.chain();
+        self.ready = true;
+    }
+}
