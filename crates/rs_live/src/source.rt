@@ -10,7 +10,7 @@ ghost use Rattle.rs_live.specs.Keeping.{held_by, held_of};
 
 use crate::live_link::{LiveLink, Phase};
 use crate::ports::{Incoming, Line, Ports};
-use rs_core::{Event, LiveLink as Link, Source};
+use rs_core::{Event, Link, Source};
 
 /// How many connections a round accepts. More wait for the next round, which comes at once: so nobody
 /// who connects over and over keeps the server from those that are connected.

@@ -83,7 +83,7 @@ pub(crate) struct Waits {
     ghost counted: { open_count slots.items ≡ waiting },
     ghost withdrawn: { AllWithin (λ w. is_withdrawn w ≡ false) slots.items 0 gone },
     ghost announced: { AllWithin (λ w. is_announced w ≡ false) slots.items 0 news },
-    ghost chains: { AreChained (dues_at slots.items) chains.items },
+    ghost chained: { AreChained (dues_at slots.items) chains.items },
     ghost within: { sorted ≤ vec_len slots },
     ghost first: { IsStrictlySortedBy prefix_order (take sorted (prefixes_at slots.items)) } by { Prim.hlevel props },
     ghost late: { IsStrictlySortedBy prefix_order (drop sorted (prefixes_at slots.items)) } by { Prim.hlevel props },

@@ -75,7 +75,7 @@ fn mark_told(slots: &mut Vec<Wait>)
     ensures items { slots.new.items ≡ map remarked slots.old.items }
     ensures capacity { vec_capacity slots.new ≡ vec_capacity slots.old }
 {
-    for wait in places.iter_mut() {
+    for wait in slots.iter_mut() {
         wait.marked = wait.told.is_told();
     }
 }

@@ -44,5 +44,5 @@ returns-clause-withdrawn c =
     let moved = sum_by-IsPermutation (λ (w : Wait). one_if (is_withdrawn w)) c.put_slots.new.slots.items c.sort_from.new.slots.items c.sort_from.ensures.permutation in
     omega (arith, moved, c.put_slots.ensures.withdrawn)
 
-pub invariant_of-self-clause-chains : goal.invariant_of-self-clause-chains
-invariant_of-self-clause-chains c = none_chained _ _ (search rules)
+pub invariant_of-self-clause-chained : goal.invariant_of-self-clause-chained
+invariant_of-self-clause-chained c = none_chained _ _ (search rules)

@@ -3,8 +3,8 @@ use Rattle.rs_outlet.specs.Waiting.Chains.{AreHeads, dues_at}
 use Rattle.rs_outlet.proofs.Waiting.Chains.{as_many_dues, heads_past, chained_any}
 use Rattle.rs_outlet.proofs.waiting.Waits.chain.Goals as goal
 
-pub invariant_of-self-in-loop-clause-chains : goal.invariant_of-self-in-loop-clause-chains
-invariant_of-self-in-loop-clause-chains c = chained_any (dues_at c.loop.self.slots.items) c.loop.self.chains.items _ _ c.put_chain.ensures.items c.loop.self.chains
+pub invariant_of-self-in-loop-clause-chained : goal.invariant_of-self-in-loop-clause-chained
+invariant_of-self-in-loop-clause-chained c = chained_any (dues_at c.loop.self.slots.items) c.loop.self.chains.items _ _ c.put_chain.ensures.items c.loop.self.chained
 
 pub loop-passed-init : goal.loop-passed-init
 loop-passed-init c = record {

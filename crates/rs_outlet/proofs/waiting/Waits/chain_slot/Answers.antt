@@ -37,8 +37,8 @@ returns-in_default-get_mut-2-clause-heads c =
     (due_read ws c.args.slot c.index.result.now (due.Announced c.in-Announced.number c.in-Announced.hash) (search rules) c.index.ensures c.in-Announced.is)
     (slice_get_read hs (length hs) _ c.in-Some.head.now refl c.in-Some.ensures.item.3.0 c.in-Some.ensures.item.1) (omega (arith, c.min.ensures)) c.requires.heads
 
-pub invariant_of-self-in-Some-get_mut-clause-chains : goal.invariant_of-self-in-Some-get_mut-clause-chains
-invariant_of-self-in-Some-get_mut-clause-chains c =
+pub invariant_of-self-in-Some-get_mut-clause-chained : goal.invariant_of-self-in-Some-get_mut-clause-chained
+invariant_of-self-in-Some-get_mut-clause-chained c =
     let ws = c.args.self.now.slots.items in
     let hs = c.args.self.now.heads.items in
     let ls = c.args.self.now.chains.items in
@@ -47,4 +47,4 @@ invariant_of-self-in-Some-get_mut-clause-chains c =
     (due_read ws c.args.slot c.index.result.now (due.Announced c.in-Announced.number c.in-Announced.hash) (search rules) c.index.ensures c.in-Announced.is)
     (slice_get_read hs (length hs) _ c.in-Some.head.now refl c.in-Some.ensures.item.3.0 c.in-Some.ensures.item.1)
     (slice_get_read ls (length ls) _ c.in-Some-get_mut.chain.now refl c.in-Some-get_mut.ensures.item.3.0 c.in-Some-get_mut.ensures.item.1)
-    c.requires.heads c.args.self.now.chains
+    c.requires.heads c.args.self.now.chained

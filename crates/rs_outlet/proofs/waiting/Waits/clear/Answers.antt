@@ -12,5 +12,5 @@ invariant_of-self-clause-late c = search (rules, none_rise)
 pub invariant_of-self-clause-apart : goal.invariant_of-self-clause-apart
 invariant_of-self-clause-apart c = search (rules, none_distinct)
 
-pub invariant_of-self-clause-chains : goal.invariant_of-self-clause-chains
-invariant_of-self-clause-chains c = none_chained _ _ (search rules)
+pub invariant_of-self-clause-chained : goal.invariant_of-self-clause-chained
+invariant_of-self-clause-chained c = none_chained _ _ (search rules)

@@ -44,11 +44,11 @@ invariant_of-self-clause-withdrawn c = AllWithin-set (λ w. is_withdrawn w ≡ f
 pub invariant_of-self-clause-announced : goal.invariant_of-self-clause-announced
 invariant_of-self-clause-announced c = AllWithin-set (λ w. is_announced w ≡ false) c.args.self.now.slots.items 0 c.args.self.now.news c.args.slot _ (search rules) refl c.args.self.now.announced
 
-pub invariant_of-self-clause-chains : goal.invariant_of-self-clause-chains
-invariant_of-self-clause-chains c =
+pub invariant_of-self-clause-chained : goal.invariant_of-self-clause-chained
+invariant_of-self-clause-chained c =
     subst (λ ds. AreChained ds c.args.self.now.chains.items)
     (sym (same_dues c.args.self.now.slots.items c.args.slot _ c.index_mut-wait.result.now (ap (λ (w : Wait). w.due) c.index_mut-wait.ensures.value)))
-    c.args.self.now.chains
+    c.args.self.now.chained
 
 pub returns : goal.returns
 returns c =

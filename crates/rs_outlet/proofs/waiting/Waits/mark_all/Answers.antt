@@ -36,5 +36,5 @@ returns c =
       backed = λ backed. c.add_rows.ensures.backed (backed_same rows ws one is backed);
     }
 
-pub invariant_of-self-clause-chains : goal.invariant_of-self-clause-chains
-invariant_of-self-clause-chains c = none_chained _ _ (search rules)
+pub invariant_of-self-clause-chained : goal.invariant_of-self-clause-chained
+invariant_of-self-clause-chained c = none_chained _ _ (search rules)

@@ -33,5 +33,5 @@ returns c =
       capacity = c.sort_from.ensures.capacity ∙ c.drop_shut.ensures.capacity;
     }
 
-pub invariant_of-self-clause-chains : goal.invariant_of-self-clause-chains
-invariant_of-self-clause-chains c = none_chained _ _ (search rules)
+pub invariant_of-self-clause-chained : goal.invariant_of-self-clause-chained
+invariant_of-self-clause-chained c = none_chained _ _ (search rules)

@@ -12,5 +12,5 @@ invariant_of-result-clause-late c = search (rules, none_rise)
 pub invariant_of-result-clause-apart : goal.invariant_of-result-clause-apart
 invariant_of-result-clause-apart c = search (rules, none_distinct)
 
-pub invariant_of-result-clause-chains : goal.invariant_of-result-clause-chains
-invariant_of-result-clause-chains c = none_chained _ _ (search rules)
+pub invariant_of-result-clause-chained : goal.invariant_of-result-clause-chained
+invariant_of-result-clause-chained c = none_chained _ _ (search rules)
