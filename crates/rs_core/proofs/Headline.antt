@@ -2,14 +2,14 @@
 use Rattle.std.proofs.Common.{[], ◌∷◌, refl}
 use Rattle.rs_policy.specs.Configuration.{Configuration}
 use Rattle.rs_core.specs.Run.Moves.{Ruled}
-use Rattle.rs_core.specs.Link.Steps.{Step}
-use Rattle.rs_core.specs.Link.Courses.{Course, course}
-use Rattle.rs_core.specs.Link.Answers.{Drove, Never, Again}
+use Rattle.rs_core.specs.Drives.Steps.{Step}
+use Rattle.rs_core.specs.Drives.Courses.{Course, course}
+use Rattle.rs_core.specs.Drives.Answers.{Drove, Never, Again}
 use Rattle.rs_core.specs.Run.Agreeing.{Agrees}
-use Rattle.rs_core.specs.Link.Serving.{start}
+use Rattle.rs_core.specs.Drives.Serving.{start}
 use Rattle.rs_core.specs.Headline.{New, Driven, HasCome, DrainedClientsHaveWhatIsDue}
 use Rattle.rs_core.specs.declared.route_server.Core.{Core}
-use Rattle.rs_core.proofs.Link.Taking.{serves}
+use Rattle.rs_core.proofs.Drives.Taking.{serves}
 use Rattle.rs_core.proofs.Owed.Draining.{drained_served}
 use Rattle.rs_core.proofs.Told.Senders.{due_routes_are_the_senders}
 

@@ -2,7 +2,7 @@ pub mod Run
 pub mod Session
 pub mod Headline
 pub mod Examples
-pub mod Link
+pub mod Drives
 pub mod Touched
 pub mod Told
 pub mod Owed

@@ -8,10 +8,10 @@ use Rattle.rs_attrs.specs.Meaning.{Attribute}
 use Rattle.rs_policy.specs.Configuration.{Configuration}
 use Rattle.rs_core.specs.Run.Moves.{Ruled}
 use Rattle.rs_core.specs.Run.Agreeing.{Agrees}
-use Rattle.rs_core.specs.Link.Steps.{Step}
-use Rattle.rs_core.specs.Link.Courses.{Course, Continues, Reaches}
-use Rattle.rs_core.specs.Link.Answers.{Drives, Drove}
-use Rattle.rs_core.specs.Link.Serving.{start, IsServedBy}
+use Rattle.rs_core.specs.Drives.Steps.{Step}
+use Rattle.rs_core.specs.Drives.Courses.{Course, Continues, Reaches}
+use Rattle.rs_core.specs.Drives.Answers.{Drives, Drove}
+use Rattle.rs_core.specs.Drives.Serving.{start, IsServedBy}
 use Rattle.rs_core.specs.Run.Meaning.{due}
 use Rattle.rs_core.specs.Told.Senders.{IsSendersRoute}
 use Rattle.rs_core.specs.Owed.Draining.{IsDrained}

@@ -1,4 +1,4 @@
-pub mod Link
+pub mod Drives
 pub mod Session
 pub mod Run
 pub mod Touched

@@ -5,8 +5,8 @@ use Rattle.rs_octets.specs.Prefixes.{Prefix}
 use Rattle.rs_attrs.specs.Meaning.{Attribute}
 use Rattle.rs_adjin.specs.AdjIns.{held_of}
 use Rattle.rs_outlet.specs.declared.answers.Speech.{Speech}
-use Rattle.rs_outlet.specs.Turn.Due.{due_to}
-use Rattle.rs_outlet.specs.Turn.HeldBy.{tables_of}
+use Rattle.rs_outlet.specs.Decided.Due.{due_to}
+use Rattle.rs_outlet.specs.Decided.HeldBy.{tables_of}
 use Rattle.rs_outlet.specs.Views.{View, AreNumbered, is_touched}
 use Rattle.rs_core.specs.Touched.Touches.{IsTouchedAt, IsTouchedBetween, IsTouchedWhere}
 use Rattle.rs_core.specs.declared.ribs.Ribs.{Ribs}

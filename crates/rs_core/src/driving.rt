@@ -2,9 +2,9 @@
 
 ghost use Rattle.std.specs.Prelude.{◌≡◌, ◌≢◌, ◌<◌, ◌≤◌, true, false, List, [], take};
 ghost use Rattle.rs_core.specs.Core.{client_count, is_refused, refused_below};
-ghost use Rattle.rs_core.specs.Link.Steps.{HasLed, HasStopped, Leads, Memory, Step, octets_of, stops};
-ghost use Rattle.rs_core.specs.Link.Courses.{Continues, memories};
-ghost use Rattle.rs_core.specs.Link.Answers.{Answers, Drives, Ended, EndsAll};
+ghost use Rattle.rs_core.specs.Drives.Steps.{HasLed, HasStopped, Leads, Memory, Step, octets_of, stops};
+ghost use Rattle.rs_core.specs.Drives.Courses.{Continues, memories};
+ghost use Rattle.rs_core.specs.Drives.Answers.{Answers, Drives, Ended, EndsAll};
 
 use crate::links::{Event, Sink, Source};
 use crate::offering::use_room;
@@ -137,7 +137,7 @@ fn turn_with<R: Threads + Wait + Sync, G: Gate, L: Sink>(
 
 /// Answers an event that is neither a turn nor a stop. An event of a client that is not there, or of
 /// more octets than a piece has, is passed over.
-#[tactic(auto, unfolding(crate::specs::Core::client_count, crate::specs::Core::lent_octets), using(crate::proofs::Link::Leading::led_same))]
+#[tactic(auto, unfolding(crate::specs::Core::client_count, crate::specs::Core::lent_octets), using(crate::proofs::Drives::Leading::led_same))]
 fn handle<L: Source + Sink>(core: &mut Core, link: &mut L, event: Event, piece: &[u8; 4096])
     requires turn { event ≢ Event.Turn }
     requires stop { stops event ≡ false }

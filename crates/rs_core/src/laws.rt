@@ -5,7 +5,7 @@ ghost use Rattle.rs_core.specs.Told.InTurn.{HasWhatWasDue, TellsInTurn};
 ghost use Rattle.rs_core.specs.Session.Conversed.{SendsInOrder, SendsNoneLonger};
 ghost use Rattle.rs_core.specs.Owed.Sending.{SendsAllOwed};
 ghost use Rattle.rs_core.specs.Owed.Draining.{RoomDrains};
-ghost use Rattle.rs_core.specs.Link.Serving.{ServesByOffers};
+ghost use Rattle.rs_core.specs.Drives.Serving.{ServesByOffers};
 ghost use Rattle.rs_core.specs.Touched.SinceLastTurn.{AnswersByWhatWasAltered, TouchesWhatWasAltered};
 ghost use Rattle.rs_core.specs.Touched.LastTurns.{AnswersByTheLastTurn};
 ghost use Rattle.rs_core.specs.Told.Senders.{DueRoutesAreTheSenders, ToldRoutesAreTheSenders};
@@ -23,7 +23,7 @@ pub fn drained_clients_have_what_is_due<L: Link>()
 /// From the start on, behind any number of drives: where a client is served by the run, its link took
 /// whole messages of the offers since it last began, as the client reads them, and their UPDATEs mean
 /// just the table that is due to it.
-#[tactic(auto, using(crate::proofs::Link::Taking::serves))]
+#[tactic(auto, using(crate::proofs::Drives::Taking::serves))]
 pub fn serves_by_offers()
     ensures { ServesByOffers }
 {}

@@ -1,7 +1,7 @@
 //! What lies between a route server and its clients: where events come from, and where octets go.
 
 ghost use Rattle.std.specs.Prelude.{◌≡◌, ◌≤◌, ℕ, List, length, IfSome};
-ghost use Rattle.rs_core.specs.Link.Steps.{Step, octets_of, Happened, Begin, Busy, Offer, Memory, End, Replaced};
+ghost use Rattle.rs_core.specs.Drives.Steps.{Step, octets_of, Happened, Begin, Busy, Offer, Memory, End, Replaced};
 
 use rs_policy::RulesFault;
 

@@ -2,9 +2,9 @@
 
 ghost use Rattle.std.specs.Prelude.{◌≡◌, ◌<◌, ◌≤◌, []};
 ghost use Rattle.rs_core.specs.Core.{client_count};
-ghost use Rattle.rs_core.specs.Link.Steps.{HasLed};
-ghost use Rattle.rs_core.specs.Link.Courses.{Continues};
-ghost use Rattle.rs_core.specs.Link.Answers.{Answers, Gives, Offers};
+ghost use Rattle.rs_core.specs.Drives.Steps.{HasLed};
+ghost use Rattle.rs_core.specs.Drives.Courses.{Continues};
+ghost use Rattle.rs_core.specs.Drives.Answers.{Answers, Gives, Offers};
 
 use crate::links::{Event, Sink};
 use crate::route_server::Core;

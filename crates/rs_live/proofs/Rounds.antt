@@ -1,7 +1,7 @@
 -- All that a link does between two calls of the core.
 use Rattle.std.proofs.Common.{◌≡◌, Bool, true, false, List, [], ◌∷◌, refl, ◌∙◌, subst}
 use Rattle.rs_core.specs.declared.links.Event.TheVariants.{Stop}
-use Rattle.rs_core.specs.Link.Steps.{Step, Happened, Leads, GoesOn, AllGoOn, HasStopped}
+use Rattle.rs_core.specs.Drives.Steps.{Step, Happened, Leads, GoesOn, AllGoOn, HasStopped}
 use Rattle.rs_live.specs.declared.live_link.LiveLink.{LiveLink}
 use Rattle.rs_live.specs.Calls.{Call, IsFailedAccept}
 use Rattle.rs_live.specs.Operations.{Did}

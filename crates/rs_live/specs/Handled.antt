@@ -2,7 +2,7 @@
 use Rattle.std.specs.Prelude.{◌≡◌, ◌≢◌, ℕ, List, [], ◌∷◌, take, drop, Bool, true, false, Option, Some, None, Result, Ok, Err, IsOk, ⊤}
 use Rattle.rs_core.specs.declared.links.Event.{Event}
 use Rattle.rs_core.specs.declared.links.Event.TheVariants.{Opened, Octets, Moment, Turn, Room, Lost, Rules, Stop}
-use Rattle.rs_core.specs.Link.Steps.{Step, Happened, Begin, Busy, Offer, Memory, End, Replaced, octets_of}
+use Rattle.rs_core.specs.Drives.Steps.{Step, Happened, Begin, Busy, Offer, Memory, End, Replaced, octets_of}
 use Rattle.rs_live.specs.declared.ports.Incoming.{Incoming}
 use Rattle.rs_live.specs.declared.ports.PortFault.{PortFault}
 use Rattle.rs_live.specs.declared.serve.ServeFault.{ServeFault}

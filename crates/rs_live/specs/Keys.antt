@@ -1,7 +1,7 @@
 -- Which connection is whose, by the key that `accept` gave. What was done last stands first.
 use Rattle.std.specs.Prelude.{ℕ, ◌==◌, List, [], ◌∷◌, Option, Some, None, Ok, if◌then◌else◌}
 use Rattle.rs_core.specs.declared.links.Event.TheVariants.{Opened, Lost}
-use Rattle.rs_core.specs.Link.Steps.{Happened, Begin, Busy, Offer, End}
+use Rattle.rs_core.specs.Drives.Steps.{Happened, Begin, Busy, Offer, End}
 use Rattle.rs_live.specs.declared.ports.Line.TheVariants as lines
 use Rattle.rs_live.specs.Calls.{Accepted, Printed}
 use Rattle.rs_live.specs.Operations.{Operation, Asked, Did}

@@ -1,6 +1,6 @@
 -- What the server does, one deed after the other. What was done last stands first.
 use Rattle.std.specs.Prelude.{ℕ, List, [], ◌∷◌, Option, Result}
-use Rattle.rs_core.specs.Link.Steps.{Step}
+use Rattle.rs_core.specs.Drives.Steps.{Step}
 use Rattle.rs_live.specs.declared.ports.PortFault.{PortFault}
 use Rattle.rs_live.specs.Calls.{Call, Wrote, Closed}
 

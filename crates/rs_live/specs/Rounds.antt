@@ -1,7 +1,7 @@
 -- What stands at the end of each round, that is, from one wait to the next. What was done last stands first.
 use Rattle.std.specs.Prelude.{◌≡◌, ◌⊎◌, ℕ, List, [], ◌∷◌, None, IsSome, ⊤}
 use Rattle.rs_core.specs.declared.links.Event.TheVariants.{Octets, Moment, Turn, Room}
-use Rattle.rs_core.specs.Link.Steps.{Happened}
+use Rattle.rs_core.specs.Drives.Steps.{Happened}
 use Rattle.rs_live.specs.Calls.{Waited}
 use Rattle.rs_live.specs.Operations.{Operation, Asked, Did}
 use Rattle.rs_live.specs.Keys.{come, key_of}

@@ -1,7 +1,7 @@
 -- Which octets wait for whose connection. What was done last stands first.
 use Rattle.std.specs.Prelude.{ℕ, ◌==◌, List, [], ◌∷◌, ◌++◌, take, drop, Option, Some, None, if◌then◌else◌}
 use Rattle.rs_core.specs.declared.links.Event.TheVariants.{Lost}
-use Rattle.rs_core.specs.Link.Steps.{Happened, Begin, Offer, End}
+use Rattle.rs_core.specs.Drives.Steps.{Happened, Begin, Offer, End}
 use Rattle.rs_live.specs.Operations.{Operation, WroteTo, WroteRest, ClosedRest, Did}
 use Rattle.rs_live.specs.Keys.{come, key_of, or_else}
 use Rattle.rs_live.specs.Sending.{taken}

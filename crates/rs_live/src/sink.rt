@@ -1,7 +1,7 @@
 //! What the core says, as calls on the ports.
 
 ghost use Rattle.std.specs.Prelude.{◌≡◌, ◌≤◌, ◌∷◌, Some, None, length, IfOk, IfErr, IsSome, IsNone};
-ghost use Rattle.rs_core.specs.Link.Steps.{Begin, Offer, End};
+ghost use Rattle.rs_core.specs.Drives.Steps.{Begin, Offer, End};
 ghost use Rattle.rs_live.specs.declared.ports.Incoming.{Incoming};
 ghost use Rattle.rs_live.specs.Operations.{Did};
 ghost use Rattle.rs_live.specs.Handled.{Has, AreBroken, AreKept, Keeps};

@@ -1,5 +1,5 @@
 pub mod Message
-pub mod Turn
-pub mod Waiting
+pub mod Decided
+pub mod Pending
 mod OneOf
 mod Orders

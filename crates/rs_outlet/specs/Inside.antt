@@ -17,14 +17,14 @@ use Rattle.rs_outlet.specs.declared.changes.Change.{Change}
 use Rattle.rs_adjin.specs.declared.adj_ins.AdjIns.{AdjIns}
 use Rattle.rs_adjin.specs.AdjIns.{number_of}
 use Rattle.rs_outlet.specs.declared.outlet.Outlet.TheInside.{Inside}
-use Rattle.rs_outlet.specs.Turn.Touching.{touched_of}
+use Rattle.rs_outlet.specs.Decided.Touching.{touched_of}
 use Rattle.rs_outlet.specs.Views.{View, Table, Prefixes, Waiting}
 use Rattle.rs_open.specs.Notes.{limit_octets}
 use Rattle.rs_packer.specs.Packed.{announcement}
 use Rattle.rs_outlet.specs.declared.waiting.Due.{Due}
 use Rattle.rs_outlet.specs.declared.waiting.Due.TheVariants as due
-use Rattle.rs_outlet.specs.Waiting.Hashing.{attributes_hash}
-use Rattle.rs_outlet.specs.Waiting.Slots.{open_at, told_of, marked_told, is_withdrawal, withdrawn_count}
+use Rattle.rs_outlet.specs.Pending.Hashing.{attributes_hash}
+use Rattle.rs_outlet.specs.Pending.Slots.{open_at, told_of, marked_told, is_withdrawal, withdrawn_count}
 
 -- ---- rows
 

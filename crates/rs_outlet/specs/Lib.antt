@@ -1,6 +1,6 @@
 pub mod Views
-pub mod Turn
-pub mod Waiting
+pub mod Decided
+pub mod Pending
 pub mod Message
 pub mod Inside
 pub mod Listing

@@ -11,11 +11,11 @@ ghost use Rattle.rs_adjin.specs.declared.adj_ins.AdjIns.{AdjIns};
 ghost use Rattle.rs_adjin.specs.AdjIns.{number_of};
 ghost use Rattle.rs_outlet.specs.Views.{HaveNumbers};
 ghost use Rattle.std.specs.Vec.{vec_capacity};
-ghost use Rattle.rs_outlet.specs.Waiting.Slots.{open_at, open_count, withdrawn_count};
-ghost use Rattle.rs_outlet.specs.Waiting.Owed.{IsBeside, IsCarriedOut, IsOpenAt, IsOwed, Keeps, listed, prefixes_of};
+ghost use Rattle.rs_outlet.specs.Pending.Slots.{open_at, open_count, withdrawn_count};
+ghost use Rattle.rs_outlet.specs.Pending.Owed.{IsBeside, IsCarriedOut, IsOpenAt, IsOwed, Keeps, listed, prefixes_of};
 ghost use Rattle.rs_outlet.specs.declared.answers.Speech.{Speech};
 ghost use Rattle.rs_outlet.specs.declared.waiting.Due.{Due};
-ghost use Rattle.rs_outlet.specs.Waiting.Hashing.{attributes_hash};
+ghost use Rattle.rs_outlet.specs.Pending.Hashing.{attributes_hash};
 ghost use Rattle.rs_outlet.specs.Inside.{AreBacked, AreDue, AreOwn, ArePlaced, ChangesFit, FitsAlone, HaveRows, IsOwn, RowsFit, attributes_at, is_changed, numbers_of, row_at, loc_of, numbers_from};
 
 use crate::table::Rows;

@@ -7,9 +7,9 @@ ghost use Rattle.rs_adjin.specs.AdjIns.{client_count, held_of, identifier_of, nu
 ghost use Rattle.rs_policy.specs.Judged.{judged};
 ghost use Rattle.rs_policy.specs.Verdicts.{verdict};
 ghost use Rattle.rs_decision.specs.Best.{HasDistinctPlaces};
-ghost use Rattle.rs_outlet.specs.Turn.Due.{Held, rank_of, rank_to, ranks_among, passed_on, if_fits, route_from, due_to};
-ghost use Rattle.rs_outlet.specs.Turn.HeldBy.{held_by};
-ghost use Rattle.rs_outlet.specs.Turn.Passing.{attributes_passed, due_alone, is_kept_back, passed_fitting};
+ghost use Rattle.rs_outlet.specs.Decided.Due.{Held, rank_of, rank_to, ranks_among, passed_on, if_fits, route_from, due_to};
+ghost use Rattle.rs_outlet.specs.Decided.HeldBy.{held_by};
+ghost use Rattle.rs_outlet.specs.Decided.Passing.{attributes_passed, due_alone, is_kept_back, passed_fitting};
 
 use crate::answers::Speech;
 use rs_adjin::{AdjIns, Holder, Holders};

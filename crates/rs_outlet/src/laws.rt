@@ -4,7 +4,7 @@ ghost use Rattle.std.specs.Prelude.{ℕ, Bool, Option};
 ghost use Rattle.rs_open.specs.declared.short.Short.{Short};
 ghost use Rattle.rs_outlet.specs.declared.answers.Last.{Last};
 ghost use Rattle.rs_outlet.specs.declared.answers.Speech.{Speech};
-ghost use Rattle.rs_outlet.specs.Turn.Alike.{DueIsAlike};
+ghost use Rattle.rs_outlet.specs.Decided.Alike.{DueIsAlike};
 ghost use Rattle.rs_outlet.specs.Views.{View, WaitsAreExact, bare, begun, cleared, finished};
 
 /// What is due to a client doesn't depend on what that client holds, nor on the BGP Identifier of its

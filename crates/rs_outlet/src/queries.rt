@@ -4,7 +4,7 @@ ghost use Rattle.std.specs.Prelude.{◌≡◌, ◌↔◌, option_map, IsTrue};
 ghost use Rattle.std.specs.Arc.{arc_value};
 ghost use Rattle.std.specs.FinMap as map;
 ghost use Rattle.rs_outlet.specs.Views.{AreNumbered, IsDrained, WaitsAreExact};
-ghost use Rattle.rs_outlet.specs.Waiting.Left.{HasNothingLeft};
+ghost use Rattle.rs_outlet.specs.Pending.Left.{HasNothingLeft};
 
 use crate::answers::Last;
 use crate::outlet::Outlet;

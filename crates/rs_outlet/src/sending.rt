@@ -9,13 +9,13 @@ ghost use Rattle.rs_packer.specs.Packed.{IsLongestFront, announcement, withdrawa
 ghost use Rattle.rs_outlet.specs.Message.Next.{note_octets};
 ghost use Rattle.rs_outlet.specs.Message.Begins.{BeginsUpdate};
 ghost use Rattle.rs_outlet.specs.Views.{WaitsAreExact};
-ghost use Rattle.rs_outlet.specs.Waiting.Choosing.{HaveRoom, MayUpdate, NoneWithdrawn, WaitsFor};
+ghost use Rattle.rs_outlet.specs.Pending.Choosing.{HaveRoom, MayUpdate, NoneWithdrawn, WaitsFor};
 ghost use Rattle.rs_outlet.specs.Inside.{AreBacked, RowsFit};
 ghost use Rattle.rs_outlet.specs.declared.answers.Speech.{Speech};
 ghost use Rattle.rs_outlet.specs.declared.rows.Row.{Row};
 ghost use Rattle.std.specs.List.{AllWithin, HoldsAt};
 ghost use Rattle.std.specs.Vec.{vec_capacity};
-ghost use Rattle.rs_outlet.specs.Waiting.Slots.{is_announced, is_withdrawn};
+ghost use Rattle.rs_outlet.specs.Pending.Slots.{is_announced, is_withdrawn};
 ghost use Rattle.rs_open.specs.Notes.{limit_octets};
 
 use crate::answers::Speech;

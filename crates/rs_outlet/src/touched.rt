@@ -11,7 +11,7 @@ ghost use Rattle.std.specs.Vec.{vec_capacity};
 ghost use Rattle.rs_adjin.specs.declared.adj_ins.AdjIns.{AdjIns};
 ghost use Rattle.rs_adjin.specs.AdjIns.{number_of};
 ghost use Rattle.rs_outlet.specs.Views.{HaveNumbers, Prefixes, is_whole, with_touch};
-ghost use Rattle.rs_outlet.specs.Turn.Touching.{AreOnce, touched_of};
+ghost use Rattle.rs_outlet.specs.Decided.Touching.{AreOnce, touched_of};
 
 use rs_octets::Prefix;
 use std::alloc::{AllocError, Global};

@@ -8,12 +8,12 @@ ghost use Rattle.std.specs.FinSet as set;
 ghost use Rattle.rs_octets.specs.Prefixes.{Prefix};
 ghost use Rattle.rs_adjin.specs.AdjIns.{client_count, number_of, prefix_of};
 ghost use Rattle.rs_outlet.specs.Views.{AreNumbered, HaveNumbers, IsCount, IsNumberOf, Prefixes, WaitsAreExact, is_touched, is_whole};
-ghost use Rattle.rs_outlet.specs.Turn.Due.{any_holds, due_to};
-ghost use Rattle.rs_outlet.specs.Turn.Counted.{is_counted, is_standing};
-ghost use Rattle.rs_outlet.specs.Turn.HeldBy.{held_by};
+ghost use Rattle.rs_outlet.specs.Decided.Due.{any_holds, due_to};
+ghost use Rattle.rs_outlet.specs.Decided.Counted.{is_counted, is_standing};
+ghost use Rattle.rs_outlet.specs.Decided.HeldBy.{held_by};
 ghost use Rattle.rs_outlet.specs.Inside.{AreDecided, IsDecidedAt, attributes_at, shown};
-ghost use Rattle.rs_outlet.specs.Turn.Touching.{is_number_touched, is_numbered_in, touched_of};
-ghost use Rattle.rs_outlet.specs.Turn.Passing.{attributes_passed};
+ghost use Rattle.rs_outlet.specs.Decided.Touching.{is_number_touched, is_numbered_in, touched_of};
+ghost use Rattle.rs_outlet.specs.Decided.Passing.{attributes_passed};
 
 use crate::answers::{Last, Speech, Turned};
 use crate::changes::{Change, are_own, commit, make_room};

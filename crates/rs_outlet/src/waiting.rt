@@ -15,9 +15,9 @@ ghost use Rattle.std.proofs.Props.{props};
 ghost use Rattle.std.specs.Vec.{vec_capacity};
 ghost use Rattle.rs_octets.specs.Prefixes.{Prefix, prefix_order};
 ghost use Rattle.rs_outlet.specs.declared.waiting.Wait.{Wait};
-ghost use Rattle.rs_outlet.specs.Waiting.Hashing.{attributes_hash};
-ghost use Rattle.rs_outlet.specs.Waiting.Chains.{AreChained, dues_at};
-ghost use Rattle.rs_outlet.specs.Waiting.Slots.{AreFresh, IsOpenSlot, prefixes_at, open_count, withdrawn_count, is_withdrawn, is_announced, open_at, told_of, told_by, marked_by};
+ghost use Rattle.rs_outlet.specs.Pending.Hashing.{attributes_hash};
+ghost use Rattle.rs_outlet.specs.Pending.Chains.{AreChained, dues_at};
+ghost use Rattle.rs_outlet.specs.Pending.Slots.{AreFresh, IsOpenSlot, prefixes_at, open_count, withdrawn_count, is_withdrawn, is_announced, open_at, told_of, told_by, marked_by};
 
 mod chains;
 mod choosing;

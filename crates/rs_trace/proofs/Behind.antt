@@ -2,9 +2,9 @@
 use Rattle.std.proofs.Common.{◌≡◌, ℕ, zero, suc, List, [], ◌∷◌, ◌++◌, refl, ap, subst}
 use Rattle.rs_core.specs.Run.Moves.{Turned}
 use Rattle.rs_core.specs.Core.{client_count}
-use Rattle.rs_core.specs.Link.Steps.{Step, Happened, Memory}
-use Rattle.rs_core.specs.Link.Courses.{Course, course, called, memories}
-use Rattle.rs_core.specs.Link.Answers.{Offers, Nothing, Fails, Takes, Gives, Used, Stopped, Goes_on, Answers, Passes, Begins, Declines, Hears, Drops, Sees, Turns, Fills, Loses, Rules, Keeps, Ended, Lasts, Owes, Closes, Ends, Rounds, Start, Round, Drives}
+use Rattle.rs_core.specs.Drives.Steps.{Step, Happened, Memory}
+use Rattle.rs_core.specs.Drives.Courses.{Course, course, called, memories}
+use Rattle.rs_core.specs.Drives.Answers.{Offers, Nothing, Fails, Takes, Gives, Used, Stopped, Goes_on, Answers, Passes, Begins, Declines, Hears, Drops, Sees, Turns, Fills, Loses, Rules, Keeps, Ended, Lasts, Owes, Closes, Ends, Rounds, Start, Round, Drives}
 use Rattle.rs_core.specs.declared.links.Event.{Event}
 use Rattle.rs_core.specs.declared.links.Event.TheVariants as events
 

@@ -2,15 +2,15 @@
 use Rattle.std.proofs.Common.{◌≡◌, ℕ, ◌+◌, length, List, [], ◌∷◌, ◌++◌, refl, sym, ◌∙◌, ap, inl, inr, Option, Some, None, subst}
 use Rattle.std.specs.Prelude.{Result, Ok, Err}
 use Rattle.std.proofs.lemmas.List.{append-nil}
-use Rattle.rs_core.specs.Link.Steps as links
-use Rattle.rs_core.specs.Link.Steps.{HasStopped, Leads}
+use Rattle.rs_core.specs.Drives.Steps as links
+use Rattle.rs_core.specs.Drives.Steps.{HasStopped, Leads}
 use Rattle.rs_core.specs.declared.links.Event.TheVariants as events
 use Rattle.rs_core.specs.declared.route_server.Core.{Core}
 use Rattle.rs_core.specs.Core.{client_count}
 use Rattle.rs_core.specs.Run.Moves.{Move}
 use Rattle.rs_core.specs.Run.Agreeing.{Agrees}
-use Rattle.rs_core.specs.Link.Courses.{course, Continues}
-use Rattle.rs_core.specs.Link.Answers.{Drives}
+use Rattle.rs_core.specs.Drives.Courses.{course, Continues}
+use Rattle.rs_core.specs.Drives.Answers.{Drives}
 use Rattle.rs_policy.specs.Configuration.{Configuration}
 use Rattle.rs_trace.specs.declared.trace.LineFault.{LineFault}
 use Rattle.rs_trace.specs.declared.names.Names.{Names}

@@ -6,11 +6,11 @@ use Rattle.rs_policy.specs.Configuration.{Configuration}
 use Rattle.rs_core.specs.Run.Moves.{Ruled}
 use Rattle.rs_core.specs.Core.{client_count, lent_octets}
 use Rattle.rs_core.specs.Run.Agreeing.{Agrees}
-use Rattle.rs_core.specs.Link.Steps.{Step, Happened, Begin, Busy, Offer, Memory, End, Replaced}
-use Rattle.rs_core.specs.Link.Courses.{Course, called}
-use Rattle.rs_core.specs.Link.Answers.{Offers, Nothing, Fails, Takes, Gives, Used, Stopped, Goes_on, Ended, Lasts, Owes, Closes, Ends, Never, Again}
-use Rattle.rs_core.specs.Link.Answers as answers
-use Rattle.rs_core.specs.Link.Serving.{start, taken_by}
+use Rattle.rs_core.specs.Drives.Steps.{Step, Happened, Begin, Busy, Offer, Memory, End, Replaced}
+use Rattle.rs_core.specs.Drives.Courses.{Course, called}
+use Rattle.rs_core.specs.Drives.Answers.{Offers, Nothing, Fails, Takes, Gives, Used, Stopped, Goes_on, Ended, Lasts, Owes, Closes, Ends, Never, Again}
+use Rattle.rs_core.specs.Drives.Answers as answers
+use Rattle.rs_core.specs.Drives.Serving.{start, taken_by}
 use Rattle.rs_core.specs.Owed.Draining.{IsDrained, TakesWhole, TakesAll, Rooms, RoomFor}
 use Rattle.rs_core.specs.Owed.Draining as draining
 use Rattle.rs_core.specs.declared.links.Event.TheVariants as events

@@ -4,7 +4,7 @@ use Rattle.rs_policy.specs.declared.faults.RulesFault.{RulesFault}
 use Rattle.rs_policy.specs.FaultTexts.{rules_fault_text}
 use Rattle.rs_core.specs.declared.links.Event.{Event}
 use Rattle.rs_core.specs.declared.links.Event.TheVariants as events
-use Rattle.rs_core.specs.Link.Steps as links
+use Rattle.rs_core.specs.Drives.Steps as links
 use Rattle.rs_trace.specs.declared.fault.ReplayFault.TheVariants.{Line, Memory, Reading, Writing}
 use Rattle.rs_trace.specs.declared.fault.Stop.{Stop}
 use Rattle.rs_trace.specs.declared.fault.Stop.TheVariants.{End, Table, Fault}

@@ -1,13 +1,13 @@
 -- From what a reader gives to what a writer is given.
 use Rattle.std.specs.Prelude.{◌≡◌, ◌⊎◌, ℕ, List, [], ◌∷◌, ◌++◌, length, map, false, Option, Some, None, Result, Ok, Err, position, bytes_eq, slice_get}
 use Rattle.rs_policy.specs.Configuration.{Configuration}
-use Rattle.rs_core.specs.Link.Steps as links
+use Rattle.rs_core.specs.Drives.Steps as links
 use Rattle.rs_core.specs.Run.Moves.{Ruled}
 use Rattle.rs_core.specs.Core.{client_count}
 use Rattle.rs_core.specs.Run.Agreeing.{Agrees}
-use Rattle.rs_core.specs.Link.Courses.{Course}
-use Rattle.rs_core.specs.Link.Answers.{Drives}
-use Rattle.rs_core.specs.Link.Serving.{start}
+use Rattle.rs_core.specs.Drives.Courses.{Course}
+use Rattle.rs_core.specs.Drives.Answers.{Drives}
+use Rattle.rs_core.specs.Drives.Serving.{start}
 use Rattle.rs_core.specs.declared.route_server.Core.{Core}
 use Rattle.rs_trace.specs.declared.trace.LineFault.{LineFault}
 use Rattle.rs_trace.specs.declared.trace.Entry.{Entry}

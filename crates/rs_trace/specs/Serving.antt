@@ -3,10 +3,10 @@ use Rattle.std.specs.Prelude.{◌≡◌, ◌==◌, ◌<◌, ◌≤◌, ℕ, true
 use Rattle.rs_policy.specs.Configuration.{Configuration}
 use Rattle.rs_core.specs.Run.Meaning.{is_established}
 use Rattle.rs_core.specs.Core.{client_count, owed}
-use Rattle.rs_core.specs.Link.Steps.{Happened, Begin, Busy, Offer, Memory, End, Replaced}
-use Rattle.rs_core.specs.Link.Courses.{Course, called}
-use Rattle.rs_core.specs.Link.Answers.{Gives, EndsAll}
-use Rattle.rs_core.specs.Link.Serving.{taken_by}
+use Rattle.rs_core.specs.Drives.Steps.{Happened, Begin, Busy, Offer, Memory, End, Replaced}
+use Rattle.rs_core.specs.Drives.Courses.{Course, called}
+use Rattle.rs_core.specs.Drives.Answers.{Gives, EndsAll}
+use Rattle.rs_core.specs.Drives.Serving.{taken_by}
 use Rattle.rs_core.specs.Owed.Draining.{IsDrained, TurnsFor}
 use Rattle.rs_core.specs.Headline.{HasWhatIsDue, HasCome}
 use Rattle.rs_core.specs.declared.links.Event.TheVariants as events

@@ -1,7 +1,7 @@
 //! What a trace asks for, one entry after the other, as events for the core. It reads by `TextIn` alone.
 
 ghost use Rattle.std.specs.Prelude.{◌≡◌, ◌∷◌, ℕ, OnOk, [], suc};
-ghost use Rattle.rs_core.specs.Link.Steps as links;
+ghost use Rattle.rs_core.specs.Drives.Steps as links;
 ghost use Rattle.rs_trace.specs.Entries.{meaning_in};
 ghost use Rattle.rs_trace.specs.Played.{failures_read, failures_written, meaning_of_event};
 ghost use Rattle.rs_trace.specs.Replays.{ReadsOn, PassesOn, place_in, meaning_read, meanings_in, stop_of};

@@ -6,7 +6,7 @@ use Rattle.rs_policy.specs.Configuration.{Configuration}
 use Rattle.rs_outlet.specs.declared.answers.Last.TheVariants.{Refused}
 use Rattle.rs_outlet.specs.declared.answers.Turned.{Turned}
 use Rattle.rs_outlet.specs.Views.{View, AreNumbered}
-use Rattle.rs_outlet.specs.Turn.Turns.{HasTurned}
+use Rattle.rs_outlet.specs.Decided.Turns.{HasTurned}
 use Rattle.rs_workers.specs.Turned.{IsAnswered}
 
 pub answered : {E : Type 0} (config : Configuration) (tables : AdjIns) (old new : View) (result : Result Turned E) → (AreNumbered old tables → IfOk result (HasTurned config tables old new))

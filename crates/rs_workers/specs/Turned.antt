@@ -4,7 +4,7 @@ use Rattle.rs_adjin.specs.declared.adj_ins.AdjIns.{AdjIns}
 use Rattle.rs_policy.specs.Configuration.{Configuration}
 use Rattle.rs_outlet.specs.declared.answers.Turned.{Turned}
 use Rattle.rs_outlet.specs.Views.{View, AreNumbered, WaitsAreExact}
-use Rattle.rs_outlet.specs.Turn.Turns.{HasTurned, IsRefused}
+use Rattle.rs_outlet.specs.Decided.Turns.{HasTurned, IsRefused}
 
 -- each outlet's client is one of the configuration's
 abbrev pub ArePlaced : Configuration → List View → Type 0

@@ -6,10 +6,10 @@ use Rattle.std.proofs.lemmas.Bool.Decides.{nat_tests}
 use Rattle.std.proofs.lemmas.List.{append_assoc, length-append}
 use Rattle.rs_session.specs.declared.act.State.{State}
 use Rattle.rs_session.specs.declared.act.State.TheVariants as states
-use Rattle.rs_core.specs.Link.Answers.{Offers, Nothing, Fails, Takes, Gives, Used, Stopped, Goes_on, Answers, Passes, Begins, Declines, Hears, Drops, Sees, Turns, Fills, Loses, Rules, Keeps, AreEstablished, IsIdle, is_passed_over}
+use Rattle.rs_core.specs.Drives.Answers.{Offers, Nothing, Fails, Takes, Gives, Used, Stopped, Goes_on, Answers, Passes, Begins, Declines, Hears, Drops, Sees, Turns, Fills, Loses, Rules, Keeps, AreEstablished, IsIdle, is_passed_over}
 use Rattle.rs_core.specs.Core.{client_count, lent_octets, owed}
-use Rattle.rs_core.specs.Link.Courses.{Course, called, memories}
-use Rattle.rs_core.specs.Link.Steps.{Step, Begin, Busy, Offer, Memory, End}
+use Rattle.rs_core.specs.Drives.Courses.{Course, called, memories}
+use Rattle.rs_core.specs.Drives.Steps.{Step, Begin, Busy, Offer, Memory, End}
 use Rattle.rs_core.specs.Run.Moves.{Move, Ruled, Came, Heard, Saw, Left, Dropped, Turned}
 use Rattle.rs_core.specs.Owed.Sending.{HasLent}
 use Rattle.rs_core.specs.declared.links.Event.{Event}

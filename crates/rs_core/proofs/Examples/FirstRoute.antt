@@ -15,10 +15,10 @@ use Rattle.rs_policy.specs.Verdicts.{matches, outcome, verdict}
 use Rattle.rs_decision.specs.Choice.{unbeaten}
 use Rattle.rs_outlet.specs.declared.answers.Speech.{Speech}
 use Rattle.rs_core.specs.Session.Hearing.{identifier_in, table_in}
-use Rattle.rs_core.specs.Link.Steps.{Step, Happened, Offer}
+use Rattle.rs_core.specs.Drives.Steps.{Step, Happened, Offer}
 use Rattle.rs_core.specs.Run.Moves.{Move, Ruled, Heard, Turned, Began, Took}
 use Rattle.rs_core.specs.Run.Meaning.{hearing, due, IsServed}
-use Rattle.rs_core.specs.Link.Serving.{taken_by}
+use Rattle.rs_core.specs.Drives.Serving.{taken_by}
 use Rattle.rs_core.specs.Told.Telling.{Speaks}
 use Rattle.rs_core.specs.declared.links.Event.TheVariants.{Octets, Turn, Room}
 use Rattle.rs_core.proofs.Run.Dues.{IsSameSent, due_below}

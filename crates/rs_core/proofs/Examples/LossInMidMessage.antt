@@ -9,10 +9,10 @@ use Rattle.rs_open.specs.declared.short.Limit.TheVariants as limits
 use Rattle.rs_session.specs.Items.{is_connected}
 use Rattle.rs_policy.specs.Verdicts.{matches, outcome, verdict}
 use Rattle.rs_decision.specs.Choice.{unbeaten}
-use Rattle.rs_core.specs.Link.Steps.{Step, Happened, Begin, Offer}
+use Rattle.rs_core.specs.Drives.Steps.{Step, Happened, Begin, Offer}
 use Rattle.rs_core.specs.Run.Moves.{Move, Left, Turned, Began, Took}
 use Rattle.rs_core.specs.Run.Meaning.{hearing, dues}
-use Rattle.rs_core.specs.Link.Serving.{taken_by}
+use Rattle.rs_core.specs.Drives.Serving.{taken_by}
 use Rattle.rs_core.specs.Told.Telling.{allowed_to}
 use Rattle.rs_core.specs.declared.links.Event.TheVariants.{Lost, Opened, Room, Turn}
 use Rattle.rs_core.proofs.Examples.DueRoutes.{n24, open_b, up}

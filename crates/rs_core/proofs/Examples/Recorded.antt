@@ -12,7 +12,7 @@ use Rattle.rs_attrs.proofs.Rows.{u1_attributes}
 use Rattle.rs_update.proofs.OneEffect.{have_effects}
 use Rattle.rs_open.specs.declared.short.Limit.TheVariants as limits
 use Rattle.rs_outlet.specs.declared.answers.Speech.{Speech}
-use Rattle.rs_core.specs.Link.Steps.{Step, Happened, Begin, Offer}
+use Rattle.rs_core.specs.Drives.Steps.{Step, Happened, Begin, Offer}
 use Rattle.rs_core.specs.Run.Moves.{Move, Began, Took}
 use Rattle.rs_core.specs.Told.Order.{TellsAt, TellsInOrder, TellsOneMore, told_by}
 use Rattle.rs_core.specs.Told.Points.{Point, Offered, Value, dues_at, latest}

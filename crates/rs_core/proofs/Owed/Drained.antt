@@ -10,7 +10,7 @@ use Rattle.rs_open.specs.Notes.{limit_octets}
 use Rattle.rs_session.proofs.Lasting.{brings_up}
 use Rattle.rs_outlet.specs.declared.answers.Last.TheVariants as lasts
 use Rattle.rs_outlet.specs.declared.answers.Speech.{Speech}
-use Rattle.rs_outlet.specs.Waiting.Left.{HasNothingLeft}
+use Rattle.rs_outlet.specs.Pending.Left.{HasNothingLeft}
 use Rattle.rs_outlet.specs.Views.{View, Prefixes}
 use Rattle.rs_core.specs.Run.Moves.{Move, config_in}
 use Rattle.rs_policy.specs.Configuration.{Configuration}

@@ -20,10 +20,10 @@ use Rattle.rs_core.specs.Touched.ByRun.{TouchesWhere, with_touches}
 use Rattle.rs_core.specs.Touched.ByMoves.{Alters, IsTouchedBehind, TouchesBehind}
 use Rattle.rs_core.specs.Run.Agreeing.{Agrees}
 use Rattle.rs_core.specs.Ribs.{outlet_in}
-use Rattle.rs_core.specs.Link.Steps.{Step, Happened, Offer}
+use Rattle.rs_core.specs.Drives.Steps.{Step, Happened, Offer}
 use Rattle.rs_core.specs.Owed.Sending.{HasLent, HasTaken}
-use Rattle.rs_core.specs.Link.Courses.{Course, called, began, took}
-use Rattle.rs_core.specs.Link.Answers.{is_passed_over, closes, Offers, Nothing, Fails, Takes, Gives, Used, Stopped, Goes_on, Answers, Passes, Begins, Declines, Hears, Drops, Sees, Turns, Fills, Loses, Rules, Keeps, Ended, Lasts, Owes, Closes, Ends}
+use Rattle.rs_core.specs.Drives.Courses.{Course, called, began, took}
+use Rattle.rs_core.specs.Drives.Answers.{is_passed_over, closes, Offers, Nothing, Fails, Takes, Gives, Used, Stopped, Goes_on, Answers, Passes, Begins, Declines, Hears, Drops, Sees, Turns, Fills, Loses, Rules, Keeps, Ended, Lasts, Owes, Closes, Ends}
 use Rattle.rs_core.specs.Owed.Draining.{IsDrained, TakesWhole, TakesAll, TurnsFor, RoomFor, Rooms, NoRoom, MoreRoom, RoomDrains}
 use Rattle.rs_core.specs.declared.links.Event.{Event}
 use Rattle.rs_core.specs.declared.links.Event.TheVariants as events

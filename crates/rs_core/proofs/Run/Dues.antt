@@ -11,7 +11,7 @@ use Rattle.rs_policy.specs.Verdicts.{Judgement, dropped, passed, verdict}
 use Rattle.rs_decision.specs.Choice.{best_of, by_place, unbeaten, by_preference, by_path, by_origin, by_med, by_identifier, by_address}
 use Rattle.rs_decision.specs.declared.rank.Rank.{Rank}
 use Rattle.rs_outlet.specs.declared.answers.Speech.{Speech}
-use Rattle.rs_outlet.specs.Turn.Due.{Held, rank_to, rank_by, ranks_among, route_from, due_to}
+use Rattle.rs_outlet.specs.Decided.Due.{Held, rank_to, rank_by, ranks_among, route_from, due_to}
 use Rattle.rs_core.proofs.Run.Clients.{equal_or, is_own}
 
 abbrev pub held_as : Configuration → ℕ → (ℕ → Prefix → Option (List Attribute)) → (ℕ → ℕ) → Held

@@ -11,7 +11,7 @@ use Rattle.rs_adjin.specs.declared.adj_ins.AdjIns.{AdjIns}
 use Rattle.rs_adjin.specs.AdjIns.{client_count, held_of, identifier_of, Begins, Same, Sets}
 use Rattle.rs_policy.specs.Configuration.{Configuration}
 use Rattle.rs_outlet.specs.declared.answers.Speech.{Speech}
-use Rattle.rs_outlet.specs.Turn.Due.{due_to}
+use Rattle.rs_outlet.specs.Decided.Due.{due_to}
 use Rattle.rs_outlet.specs.Views.{View, if_up, is_touched}
 use Rattle.rs_core.specs.Touched.Touches.{IsTouchedAt, IsTouchedWhereHeld}
 use Rattle.rs_core.specs.Touched.Turns.{IsMarked}

@@ -15,8 +15,8 @@ use Rattle.rs_decision.specs.declared.rank.Rank.{Rank}
 use Rattle.rs_decision.specs.Choice.{best_of}
 use Rattle.rs_packer.specs.Packed.{announcement}
 use Rattle.rs_outlet.specs.declared.answers.Speech.{Speech}
-use Rattle.rs_outlet.specs.Turn.Due.{due_to, route_from, passed_on, if_fits, ranks_among, holders_at}
-use Rattle.rs_outlet.specs.Turn.HeldBy.{tables_of}
+use Rattle.rs_outlet.specs.Decided.Due.{due_to, route_from, passed_on, if_fits, ranks_among, holders_at}
+use Rattle.rs_outlet.specs.Decided.HeldBy.{tables_of}
 
 none_some : (m : List Attribute) → ◌≡◌ {A = Option (List Attribute)} None (Some m) → ⊥
 none_some m e = cc

@@ -5,7 +5,7 @@ use Rattle.std.proofs.lemmas.List.{drop-replicate}
 use Rattle.std.proofs.Math.Nat.{min-eq_left, min-eq_right}
 use Rattle.rs_core.specs.Session.OperatorRecords.{notice_with}
 use Rattle.rs_core.specs.declared.endings.Notice.{Notice}
-use Rattle.rs_core.proofs.Link.Continuing.{within_take}
+use Rattle.rs_core.proofs.Drives.Continuing.{within_take}
 
 -- the first octets of the data, and zeros behind them
 data_is : (said : List ℕ) (n : ℕ) → n ≡ min (length said) 64 → take n said ++ drop n (replicate 64 0) ≡ take 64 said ++ replicate (64 - length said) 0

@@ -16,8 +16,8 @@ use Rattle.rs_open.specs.Notes.{limit_octets}
 use Rattle.rs_open.specs.Writing.{keepalive}
 use Rattle.rs_packer.specs.Packed.{announcement, withdrawal}
 use Rattle.rs_outlet.specs.Message.Begins.{BeginsUpdate}
-use Rattle.rs_outlet.specs.Turn.Due.{due_to}
-use Rattle.rs_outlet.specs.Turn.HeldBy.{tables_of}
+use Rattle.rs_outlet.specs.Decided.Due.{due_to}
+use Rattle.rs_outlet.specs.Decided.HeldBy.{tables_of}
 use Rattle.rs_outlet.specs.Views.{View, AreNumbered, is_touched}
 use Rattle.rs_adjin.specs.declared.adj_ins.AdjIns.{AdjIns}
 use Rattle.rs_outlet.specs.Message.Begun.{HasBegun}

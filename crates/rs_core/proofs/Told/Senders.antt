@@ -18,7 +18,7 @@ use Rattle.rs_decision.specs.Choice.{best_of, by_place}
 use Rattle.rs_decision.specs.declared.rank.Rank.{Rank}
 use Rattle.rs_packer.specs.Packed.{announcement}
 use Rattle.rs_outlet.specs.declared.answers.Speech.{Speech}
-use Rattle.rs_outlet.specs.Turn.Due.{holders_at, if_fits, passed_on, ranks_among, route_from}
+use Rattle.rs_outlet.specs.Decided.Due.{holders_at, if_fits, passed_on, ranks_among, route_from}
 use Rattle.rs_core.specs.Run.Moves.{Move, config_in}
 use Rattle.rs_core.specs.Run.Meaning.{due_by, held_in, hearing, speech_in, table}
 use Rattle.rs_core.specs.Told.Senders.{ArePassedOn, DueRoutesAreTheSenders, IsSendersRoute, ToldRoutesAreTheSenders, communities_left}

@@ -8,7 +8,7 @@ use Rattle.rs_octets.specs.Prefixes.{Prefix, prefix_order}
 use Rattle.rs_adjin.specs.AdjIns.{client_count, held_of, identifier_of}
 use Rattle.rs_policy.specs.Configuration.{Configuration}
 use Rattle.rs_outlet.specs.declared.answers.Speech.{Speech}
-use Rattle.rs_outlet.specs.Turn.Due.{due_to}
+use Rattle.rs_outlet.specs.Decided.Due.{due_to}
 use Rattle.rs_outlet.specs.Views.{View, IsDrained, is_touched}
 use Rattle.rs_core.specs.Run.Moves.{Move, config_in}
 use Rattle.rs_core.specs.Run.Meaning.{hearing, speech_in, held_in, due, due_by, IsServed}

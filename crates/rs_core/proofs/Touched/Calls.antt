@@ -12,9 +12,9 @@ use Rattle.rs_adjin.specs.Listing.{holders_from, with_holder}
 use Rattle.rs_policy.specs.Configuration.{Configuration}
 use Rattle.rs_outlet.specs.declared.answers.Last.TheVariants as lasts
 use Rattle.rs_outlet.specs.declared.answers.Speech.{Speech}
-use Rattle.rs_outlet.specs.Turn.Due.{any_holds, due_to}
-use Rattle.rs_outlet.specs.Turn.HeldBy.{tables_of}
-use Rattle.rs_outlet.specs.Turn.Turns.{HasTurned}
+use Rattle.rs_outlet.specs.Decided.Due.{any_holds, due_to}
+use Rattle.rs_outlet.specs.Decided.HeldBy.{tables_of}
+use Rattle.rs_outlet.specs.Decided.Turns.{HasTurned}
 use Rattle.rs_outlet.specs.Views.{View, IsCount, Prefixes, Table, if_up, is_touched, is_whole, touched_at, with_touch}
 use Rattle.rs_core.specs.Told.Points.{latest}
 use Rattle.rs_core.specs.Run.Moves.{Move, Dropped, config_in}

@@ -9,9 +9,9 @@ use Rattle.rs_policy.specs.Configuration.{Configuration}
 use Rattle.rs_outlet.specs.declared.answers.Last.TheVariants as lasts
 use Rattle.rs_outlet.specs.declared.answers.Speech.{Speech}
 use Rattle.rs_outlet.specs.declared.answers.Turned.{Turned}
-use Rattle.rs_outlet.specs.Turn.Due.{due_to}
-use Rattle.rs_outlet.specs.Turn.HeldBy.{tables_of}
-use Rattle.rs_outlet.specs.Turn.Turns.{HasTurned}
+use Rattle.rs_outlet.specs.Decided.Due.{due_to}
+use Rattle.rs_outlet.specs.Decided.HeldBy.{tables_of}
+use Rattle.rs_outlet.specs.Decided.Turns.{HasTurned}
 use Rattle.rs_outlet.specs.Views.{View, AreNumbered, HaveNumbers, is_touched}
 use Rattle.rs_core.specs.Touched.Turns.{IsTurn}
 use Rattle.rs_core.specs.Ribs.{outlet_in, IsDecidedBy, IsFresh, IsNumbered}

@@ -2,9 +2,9 @@
 use Rattle.std.specs.Prelude.{◌≡◌, ◌<◌, ◌≤◌, ◌-◌, ℕ, true, false, List, length, take, ⊤}
 use Rattle.rs_core.specs.Run.Meaning.{is_established, IsServed}
 use Rattle.rs_core.specs.Core.{client_count, is_decided, is_refused, lent_octets, owed}
-use Rattle.rs_core.specs.Link.Steps.{Happened}
-use Rattle.rs_core.specs.Link.Courses.{Course, called}
-use Rattle.rs_core.specs.Link.Answers.{Offers, Nothing, Fails, Takes, Gives, Used, Stopped, Goes_on, Answers, EndsAll}
+use Rattle.rs_core.specs.Drives.Steps.{Happened}
+use Rattle.rs_core.specs.Drives.Courses.{Course, called}
+use Rattle.rs_core.specs.Drives.Answers.{Offers, Nothing, Fails, Takes, Gives, Used, Stopped, Goes_on, Answers, EndsAll}
 use Rattle.rs_core.specs.declared.links.Event.TheVariants as events
 
 -- a client is Established, nothing is touched for it, and nothing is owed to it: just then `is_drained` answers yes

@@ -8,7 +8,7 @@ use Rattle.rs_session.specs.Sessions.{agreed_of, limit_by}
 use Rattle.rs_session.specs.Sessions as sessions
 use Rattle.rs_policy.specs.Configuration.{Configuration}
 use Rattle.rs_outlet.specs.declared.answers.Speech.{Speech}
-use Rattle.rs_outlet.specs.Turn.Due.{Held, due_to}
+use Rattle.rs_outlet.specs.Decided.Due.{Held, due_to}
 use Rattle.rs_core.specs.Run.Moves.{Move, Ruled, Came, Heard, Saw, Left, Dropped, Turned, Began, Took, config_in}
 use Rattle.rs_core.specs.Told.Telling.{Speaks}
 use Rattle.rs_core.specs.declared.endings.Ending.TheVariants as reasons

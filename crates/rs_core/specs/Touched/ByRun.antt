@@ -5,7 +5,7 @@ use Rattle.std.specs.FinSet as set
 use Rattle.rs_octets.specs.Prefixes.{Prefix}
 use Rattle.rs_outlet.specs.declared.answers.Last.TheVariants.{Done}
 use Rattle.rs_outlet.specs.declared.answers.Turned.{Turned}
-use Rattle.rs_outlet.specs.Turn.Due.{any_holds}
+use Rattle.rs_outlet.specs.Decided.Due.{any_holds}
 use Rattle.rs_outlet.specs.Views.{IsNumberOf, Prefixes, is_touched, is_whole, with_touch}
 use Rattle.rs_core.specs.Told.Points.{latest}
 use Rattle.rs_core.specs.Run.Moves.{Move, Dropped, config_in}

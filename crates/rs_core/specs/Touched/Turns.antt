@@ -5,7 +5,7 @@ use Rattle.rs_policy.specs.Configuration.{Configuration}
 use Rattle.rs_outlet.specs.declared.answers.Last.{Last}
 use Rattle.rs_outlet.specs.declared.answers.Last.TheVariants as lasts
 use Rattle.rs_outlet.specs.declared.answers.Turned.{Turned}
-use Rattle.rs_outlet.specs.Turn.Turns.{HasTurned, IsRefused}
+use Rattle.rs_outlet.specs.Decided.Turns.{HasTurned, IsRefused}
 use Rattle.rs_outlet.specs.Views.{View, AreNumbered, WaitsAreExact, if_up}
 
 -- what a turn that was not refused made of an outlet: where each prefix stands at its number, what is touched was

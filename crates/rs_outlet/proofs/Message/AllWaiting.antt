@@ -23,17 +23,17 @@ use Rattle.rs_outlet.specs.declared.waiting.Due.{Due}
 use Rattle.rs_outlet.specs.declared.waiting.Due.TheVariants as due
 use Rattle.rs_outlet.specs.declared.waiting.Wait.{Wait}
 use Rattle.rs_outlet.specs.Views.{View, HaveNumbers}
-use Rattle.rs_outlet.specs.Waiting.Slots.{prefixes_at, still_open, is_announced, is_withdrawal, is_withdrawn}
+use Rattle.rs_outlet.specs.Pending.Slots.{prefixes_at, still_open, is_announced, is_withdrawal, is_withdrawn}
 use Rattle.rs_outlet.specs.Inside.{AreBacked, IsBacked, loc_of, numbers_from, prefix_and_hash, row_at, row_by, shown, waits_of}
-use Rattle.rs_outlet.specs.Waiting.Choosing.{passing, shares}
+use Rattle.rs_outlet.specs.Pending.Choosing.{passing, shares}
 use Rattle.rs_outlet.specs.Message.Next.{has_attributes, to_announce, to_withdraw}
-use Rattle.rs_outlet.specs.Waiting.Hashing.{attributes_hash}
-use Rattle.rs_outlet.specs.Waiting.Chains.{dues_at, has_hash}
+use Rattle.rs_outlet.specs.Pending.Hashing.{attributes_hash}
+use Rattle.rs_outlet.specs.Pending.Chains.{dues_at, has_hash}
 use Rattle.rs_outlet.proofs.Message.Chosen.{there_backed}
 use Rattle.rs_outlet.proofs.Message.Fullest.{NonePass}
-use Rattle.rs_outlet.proofs.Waiting.Chains.{due_read}
-use Rattle.rs_outlet.proofs.Waiting.Slots.{found_at}
-use Rattle.rs_outlet.proofs.Turn.LocByNumber.{by_number, numbered, same, same_itself}
+use Rattle.rs_outlet.proofs.Pending.Chains.{due_read}
+use Rattle.rs_outlet.proofs.Pending.Slots.{found_at}
+use Rattle.rs_outlet.proofs.Decided.LocByNumber.{by_number, numbered, same, same_itself}
 use Rattle.rs_outlet.proofs.Orders.{prefixes_total}
 
 -- ---- the entries of what waits

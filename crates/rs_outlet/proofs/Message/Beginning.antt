@@ -18,19 +18,19 @@ use Rattle.rs_outlet.specs.declared.answers.Speech.{Speech}
 use Rattle.rs_outlet.specs.declared.rows.Row.{Row}
 use Rattle.rs_outlet.specs.declared.waiting.Wait.{Wait}
 use Rattle.rs_outlet.specs.Views.{View, AreNumbered, HaveNumbers}
-use Rattle.rs_outlet.specs.Waiting.Slots.{open_at, prefixes_at, told_by, marked_told, is_withdrawal, is_withdrawn}
+use Rattle.rs_outlet.specs.Pending.Slots.{open_at, prefixes_at, told_by, marked_told, is_withdrawal, is_withdrawn}
 use Rattle.rs_outlet.specs.Inside.{AreBacked, told_over, marked_of, waits_of, loc_of, numbers_from, shown}
 use Rattle.std.specs.List.Sorted.{IsStrictlySortedBy}
 use Rattle.std.proofs.lemmas.Option.{same_Some}
 use Rattle.rs_outlet.proofs.Message.Rising.{least_chosen, prefixes_rise, rise_take}
 use Rattle.rs_packer.specs.Packed.{announcement, withdrawal}
 use Rattle.rs_outlet.specs.Message.Next.{AreAsManyAsFit}
-use Rattle.rs_outlet.specs.Waiting.Choosing.{AreChosen, IsFirst, IsInTurn, Rise, IsLegalSaid, NoneWithdrawn, is_said_there, message_of, MayUpdate, passing}
+use Rattle.rs_outlet.specs.Pending.Choosing.{AreChosen, IsFirst, IsInTurn, Rise, IsLegalSaid, NoneWithdrawn, is_said_there, message_of, MayUpdate, passing}
 use Rattle.rs_outlet.specs.Message.Begins.{AreLeastFirst, NoneGone, Settles, Withdraws, Announces, BeginsUpdate}
-use Rattle.rs_outlet.proofs.Turn.LocByNumber.{same, numbered, by_number}
+use Rattle.rs_outlet.proofs.Decided.LocByNumber.{same, numbered, by_number}
 use Rattle.rs_outlet.proofs.Message.Chosen.{first_chosen}
 use Rattle.rs_outlet.proofs.Message.AllWaiting.{all_sharing, all_withdrawn}
-use Rattle.rs_outlet.proofs.Waiting.Standing.{told_at, marked_at, waits_at}
+use Rattle.rs_outlet.proofs.Pending.Standing.{told_at, marked_at, waits_at}
 
 told_cond : (b : Bool) (o : Option Wait) (due : Option (List Attribute)) → told_by (cond b None o) due ≡ cond b due (told_by o due)
 told_cond true o due = refl

@@ -17,10 +17,10 @@ use Rattle.rs_outlet.specs.declared.rows.Row.{Row}
 use Rattle.rs_outlet.specs.declared.waiting.Due.{Due}
 use Rattle.rs_outlet.specs.declared.waiting.Due.TheVariants as due
 use Rattle.rs_outlet.specs.declared.waiting.Wait.{Wait}
-use Rattle.rs_outlet.specs.Waiting.Slots.{prefixes_at, open_at, is_announced, is_withdrawn, is_withdrawal}
-use Rattle.rs_outlet.specs.Waiting.Choosing.{HasRow, IsChosen, IsFound, AreChosen, NoneOpen, WaitsFor}
-use Rattle.rs_outlet.proofs.Turn.LocByNumber.{same}
-use Rattle.rs_outlet.proofs.Waiting.Slots.{prefix_at, found_at}
+use Rattle.rs_outlet.specs.Pending.Slots.{prefixes_at, open_at, is_announced, is_withdrawn, is_withdrawal}
+use Rattle.rs_outlet.specs.Pending.Choosing.{HasRow, IsChosen, IsFound, AreChosen, NoneOpen, WaitsFor}
+use Rattle.rs_outlet.proofs.Decided.LocByNumber.{same}
+use Rattle.rs_outlet.proofs.Pending.Slots.{prefix_at, found_at}
 
 none_both : {A : Type 0} (b : Bool) → ◌≡◌ {A = Option A} (cond b None None) None
 none_both true = refl

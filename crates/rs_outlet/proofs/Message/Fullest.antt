@@ -15,8 +15,8 @@ use Rattle.rs_packer.specs.Packed.{announcement, withdrawal, prefixes_octets, Is
 use Rattle.rs_packer.proofs.Announcing.{update_length}
 use Rattle.rs_packer.proofs.Withdrawing.{withdrawal_length}
 use Rattle.rs_outlet.specs.declared.waiting.Wait.{Wait}
-use Rattle.rs_outlet.specs.Waiting.Slots.{prefixes_at}
-use Rattle.rs_outlet.specs.Waiting.Choosing.{passing}
+use Rattle.rs_outlet.specs.Pending.Slots.{prefixes_at}
+use Rattle.rs_outlet.specs.Pending.Choosing.{passing}
 use Rattle.rs_outlet.specs.Message.Next.{AreAsManyAsFit}
 use Rattle.rs_outlet.proofs.Message.Chosen.{element, same_element, take_past}
 use Rattle.rs_outlet.proofs.Message.Ranges.{drop_all}

@@ -12,10 +12,10 @@ use Rattle.rs_octets.specs.Prefixes.{Prefix, prefix_order}
 use Rattle.rs_attrs.specs.Meaning.{Attribute}
 use Rattle.rs_outlet.specs.declared.rows.Row.{Row}
 use Rattle.rs_outlet.specs.declared.waiting.Wait.{Wait}
-use Rattle.rs_outlet.specs.Waiting.Choosing.{AreChosen, IsFirst, MayList, Rise, is_said}
-use Rattle.rs_outlet.specs.Waiting.Slots.{is_withdrawal, open_at, prefixes_at}
-use Rattle.rs_outlet.proofs.Turn.LocByNumber.{same, same_is}
-use Rattle.rs_outlet.proofs.Waiting.Backing.{open_is}
+use Rattle.rs_outlet.specs.Pending.Choosing.{AreChosen, IsFirst, MayList, Rise, is_said}
+use Rattle.rs_outlet.specs.Pending.Slots.{is_withdrawal, open_at, prefixes_at}
+use Rattle.rs_outlet.proofs.Decided.LocByNumber.{same, same_is}
+use Rattle.rs_outlet.proofs.Pending.Backing.{open_is}
 use Rattle.rs_outlet.proofs.Orders.{prefixes_total}
 
 -- ---- numbers listed

@@ -6,7 +6,7 @@ ghost use Rattle.std.specs.Prelude.{◌≡◌, ◌<◌, ◌+◌, ◌%◌, ◌++�
 ghost use Rattle.std.specs.List.{HoldsAt};
 ghost use Rattle.std.specs.Vec.{vec_capacity};
 ghost use Rattle.rs_outlet.specs.declared.waiting.Due.{Due};
-ghost use Rattle.rs_outlet.specs.Waiting.Chains.{AreHeads, dues_at, has_hash, is_in_bucket};
+ghost use Rattle.rs_outlet.specs.Pending.Chains.{AreHeads, dues_at, has_hash, is_in_bucket};
 
 use crate::waiting::{Due, Waits};
 

@@ -8,9 +8,9 @@ ghost use Rattle.rs_octets.specs.Prefixes.{Prefix, prefix_order};
 ghost use Rattle.rs_attrs.specs.Meaning.{Attribute};
 ghost use Rattle.rs_outlet.specs.declared.rows.Row.{Row};
 ghost use Rattle.rs_outlet.specs.declared.waiting.Wait.{Wait};
-ghost use Rattle.rs_outlet.specs.Waiting.Slots.{prefixes_at, open_at, is_withdrawal, is_withdrawn, is_announced, withdrawn_count};
-ghost use Rattle.rs_outlet.specs.Waiting.Choosing.{HasRow, HaveRoom, IsFound, IsChosen, AreChosen, MayList, Rise, WaitsFor, passing, shares};
-ghost use Rattle.rs_outlet.specs.Waiting.Hashing.{attributes_hash};
+ghost use Rattle.rs_outlet.specs.Pending.Slots.{prefixes_at, open_at, is_withdrawal, is_withdrawn, is_announced, withdrawn_count};
+ghost use Rattle.rs_outlet.specs.Pending.Choosing.{HasRow, HaveRoom, IsFound, IsChosen, AreChosen, MayList, Rise, WaitsFor, passing, shares};
+ghost use Rattle.rs_outlet.specs.Pending.Hashing.{attributes_hash};
 ghost use Rattle.rs_outlet.specs.Inside.{AreBacked, IsBacked, row_by, shown};
 ghost use Rattle.rs_outlet.specs.Message.Next.{has_attributes};
 

@@ -7,9 +7,9 @@ ghost use Rattle.std.specs.List.Sorted.{IsStrictlySortedBy};
 ghost use Rattle.std.specs.Ordering.{eq_by_cmp};
 ghost use Rattle.std.specs.Vec.{vec_capacity};
 ghost use Rattle.rs_octets.specs.Prefixes.{Prefix, prefix_order};
-ghost use Rattle.rs_outlet.specs.Waiting.Slots.{open_at, prefixes_at, withdrawn_count};
+ghost use Rattle.rs_outlet.specs.Pending.Slots.{open_at, prefixes_at, withdrawn_count};
 ghost use Rattle.rs_outlet.specs.Inside.{AreBacked, loc_of};
-ghost use Rattle.rs_outlet.specs.Waiting.Marking.{MayAddRow, MayWaitAgain, is_told, remarked};
+ghost use Rattle.rs_outlet.specs.Pending.Marking.{MayAddRow, MayWaitAgain, is_told, remarked};
 
 use crate::rows::Row;
 use crate::table::Rows;

@@ -5,7 +5,7 @@ ghost use Rattle.std.specs.Prelude.{◌≡◌, ◌≤◌, ◌+◌, ◌++◌, fal
 ghost use Rattle.std.specs.List.Sorted.{IsStrictlySortedBy};
 ghost use Rattle.std.specs.Vec.{vec_capacity};
 ghost use Rattle.rs_octets.specs.Prefixes.{Prefix, prefix_order};
-ghost use Rattle.rs_outlet.specs.Waiting.Slots.{AreFresh, open_at, open_count, prefixes_at, withdrawn_count};
+ghost use Rattle.rs_outlet.specs.Pending.Slots.{AreFresh, open_at, open_count, prefixes_at, withdrawn_count};
 
 use crate::waiting::parts::{drop_shut, put_slots, sort_from};
 use crate::waiting::{Wait, Waits};

@@ -1,4 +1,4 @@
-use Rattle.rs_core.proofs.Link.Continuing.{as_event}
+use Rattle.rs_core.proofs.Drives.Continuing.{as_event}
 use Rattle.rs_core.proofs.driving.answer_with.Goals as goal
 
 pub returns-in-Turn-clause-answers : goal.returns-in-Turn-clause-answers

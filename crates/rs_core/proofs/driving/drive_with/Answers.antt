@@ -1,6 +1,6 @@
 use Rattle.std.proofs.Common.{sym, ◌∙◌}
-use Rattle.rs_core.proofs.Link.Leading.{led_to_stop}
-use Rattle.rs_core.proofs.Link.Continuing.{driven_on, not_driven, stopped}
+use Rattle.rs_core.proofs.Drives.Leading.{led_to_stop}
+use Rattle.rs_core.proofs.Drives.Continuing.{driven_on, not_driven, stopped}
 use Rattle.rs_core.proofs.driving.drive_with.Goals as goal
 
 pub loop-init : goal.loop-init

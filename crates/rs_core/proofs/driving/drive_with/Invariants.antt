@@ -1,4 +1,4 @@
-use Rattle.rs_core.proofs.Link.Continuing.{IsDriven}
+use Rattle.rs_core.proofs.Drives.Continuing.{IsDriven}
 use Rattle.rs_core.proofs.driving.drive_with.Given as goal
 
 abbrev pub invariant-loop : goal.invariant-loop

@@ -1,9 +1,9 @@
 use Rattle.std.proofs.Common.{◌≡◌, ◌+◌, suc, refl, ◌∙◌, subst, arith}
 use Rattle.rs_core.specs.Core.{client_count}
-use Rattle.rs_core.specs.Link.Courses.{course}
-use Rattle.rs_core.specs.Link.Answers.{Ended, Ends, EndsAll}
-use Rattle.rs_core.proofs.Link.Leading.{led_same, led_on}
-use Rattle.rs_core.proofs.Link.Continuing.{stays, joined, also}
+use Rattle.rs_core.specs.Drives.Courses.{course}
+use Rattle.rs_core.specs.Drives.Answers.{Ended, Ends, EndsAll}
+use Rattle.rs_core.proofs.Drives.Leading.{led_same, led_on}
+use Rattle.rs_core.proofs.Drives.Continuing.{stays, joined, also}
 use Rattle.rs_core.proofs.driving.end_closed.Goals as goal
 
 pub loop-c-init : goal.loop-c-init

@@ -1,8 +1,8 @@
 use Rattle.std.proofs.Common.{◌≡◌}
 use Rattle.rs_core.specs.Core.{client_count}
-use Rattle.rs_core.specs.Link.Steps.{HasLed}
-use Rattle.rs_core.specs.Link.Courses.{Continues}
-use Rattle.rs_core.specs.Link.Answers.{Ends}
+use Rattle.rs_core.specs.Drives.Steps.{HasLed}
+use Rattle.rs_core.specs.Drives.Courses.{Continues}
+use Rattle.rs_core.specs.Drives.Answers.{Ends}
 use Rattle.rs_core.proofs.driving.end_closed.Given as goal
 
 abbrev pub invariant-loop-c : goal.invariant-loop-c

@@ -1,5 +1,5 @@
-use Rattle.rs_core.proofs.Link.Leading.{led_same, led_once}
-use Rattle.rs_core.proofs.Link.Continuing.{kept, closed}
+use Rattle.rs_core.proofs.Drives.Leading.{led_same, led_once}
+use Rattle.rs_core.proofs.Drives.Continuing.{kept, closed}
 use Rattle.rs_core.proofs.driving.end_if_wanted.Goals as goal
 
 pub returns-then-wants_close-clause-led : goal.returns-then-wants_close-clause-led

@@ -1,10 +1,10 @@
 use Rattle.std.proofs.Common.{◌≡◌, ◌∷◌, true, false, sym, ◌∙◌, ap}
-use Rattle.rs_core.specs.Link.Steps.{stops}
+use Rattle.rs_core.specs.Drives.Steps.{stops}
 use Rattle.rs_core.specs.Run.Moves.{Saw}
-use Rattle.rs_core.specs.Link.Courses.{course}
-use Rattle.rs_core.specs.Link.Answers.{Answers, Sees}
+use Rattle.rs_core.specs.Drives.Courses.{course}
+use Rattle.rs_core.specs.Drives.Answers.{Answers, Sees}
 use Rattle.rs_core.specs.declared.links.Event.TheVariants as events
-use Rattle.rs_core.proofs.Link.Continuing.{goes, as_event}
+use Rattle.rs_core.proofs.Drives.Continuing.{goes, as_event}
 use Rattle.rs_core.proofs.driving.handle.Goals as goal
 
 pub returns-in-Opened-clause-answers : goal.returns-in-Opened-clause-answers

@@ -1,12 +1,12 @@
 use Rattle.std.proofs.Common.{◌<◌, ◌≤◌, ◌∷◌, arith}
 use Rattle.rs_core.specs.Core.{client_count}
 use Rattle.rs_core.specs.Run.Moves.{Heard, Dropped}
-use Rattle.rs_core.specs.Link.Steps.{Memory, End}
-use Rattle.rs_core.specs.Link.Courses.{course}
-use Rattle.rs_core.specs.Link.Answers.{Answers, Hears, Drops}
+use Rattle.rs_core.specs.Drives.Steps.{Memory, End}
+use Rattle.rs_core.specs.Drives.Courses.{course}
+use Rattle.rs_core.specs.Drives.Answers.{Answers, Hears, Drops}
 use Rattle.rs_core.specs.declared.links.Event.TheVariants as events
-use Rattle.rs_core.proofs.Link.Leading.{led_same, led_once, led_by}
-use Rattle.rs_core.proofs.Link.Continuing.{goes, passes, over_piece, over_length}
+use Rattle.rs_core.proofs.Drives.Leading.{led_same, led_once, led_by}
+use Rattle.rs_core.proofs.Drives.Continuing.{goes, passes, over_piece, over_length}
 use Rattle.rs_core.proofs.driving.hear.Goals as goal
 
 pub returns-then-c-clients-clause-led : goal.returns-then-c-clients-clause-led

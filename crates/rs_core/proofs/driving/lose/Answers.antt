@@ -1,11 +1,11 @@
 use Rattle.std.proofs.Common.{◌<◌, ◌≤◌, ◌∷◌, arith}
 use Rattle.rs_core.specs.Core.{client_count}
 use Rattle.rs_core.specs.Run.Moves.{Left}
-use Rattle.rs_core.specs.Link.Courses.{course}
-use Rattle.rs_core.specs.Link.Answers.{Answers, Loses}
+use Rattle.rs_core.specs.Drives.Courses.{course}
+use Rattle.rs_core.specs.Drives.Answers.{Answers, Loses}
 use Rattle.rs_core.specs.declared.links.Event.TheVariants as events
-use Rattle.rs_core.proofs.Link.Leading.{led_same}
-use Rattle.rs_core.proofs.Link.Continuing.{goes, passes, over_client}
+use Rattle.rs_core.proofs.Drives.Leading.{led_same}
+use Rattle.rs_core.proofs.Drives.Continuing.{goes, passes, over_client}
 use Rattle.rs_core.proofs.driving.lose.Goals as goal
 
 pub returns-then-c-clients-clause-led : goal.returns-then-c-clients-clause-led

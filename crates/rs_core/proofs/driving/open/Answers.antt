@@ -3,12 +3,12 @@ use Rattle.rs_core.specs.Core.{client_count}
 use Rattle.rs_core.specs.Run.Agreeing.{Agrees}
 use Rattle.rs_core.specs.declared.route_server.Core.{Core}
 use Rattle.rs_core.specs.Run.Moves.{Came}
-use Rattle.rs_core.specs.Link.Steps.{Begin, Busy}
-use Rattle.rs_core.specs.Link.Courses.{course}
-use Rattle.rs_core.specs.Link.Answers.{Answers, Begins, Declines}
+use Rattle.rs_core.specs.Drives.Steps.{Begin, Busy}
+use Rattle.rs_core.specs.Drives.Courses.{course}
+use Rattle.rs_core.specs.Drives.Answers.{Answers, Begins, Declines}
 use Rattle.rs_core.specs.declared.links.Event.TheVariants as events
-use Rattle.rs_core.proofs.Link.Leading.{led_same, led_once}
-use Rattle.rs_core.proofs.Link.Continuing.{goes, answers_by, passes, over_client}
+use Rattle.rs_core.proofs.Drives.Leading.{led_same, led_once}
+use Rattle.rs_core.proofs.Drives.Continuing.{goes, answers_by, passes, over_client}
 use Rattle.rs_core.proofs.driving.open.Goals as goal
 
 pub returns-then-c-clients-clause-led : goal.returns-then-c-clients-clause-led

@@ -1,5 +1,5 @@
-use Rattle.rs_core.proofs.Link.Leading.{led_once}
-use Rattle.rs_core.proofs.Link.Continuing.{rules_by}
+use Rattle.rs_core.proofs.Drives.Leading.{led_once}
+use Rattle.rs_core.proofs.Drives.Continuing.{rules_by}
 use Rattle.rs_core.proofs.driving.rule.Goals as goal
 
 pub returns-clause-led : goal.returns-clause-led

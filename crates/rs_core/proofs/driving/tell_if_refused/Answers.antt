@@ -1,6 +1,6 @@
 use Rattle.std.proofs.Common.{◌≡◌, true, false, refl, sym, ◌∙◌, ap}
 use Rattle.rs_core.specs.Core.{is_refusal}
-use Rattle.rs_core.proofs.Link.Leading.{led_same, led_once}
+use Rattle.rs_core.proofs.Drives.Leading.{led_same, led_once}
 use Rattle.rs_core.proofs.driving.tell_if_refused.Goals as goal
 
 pub returns-in-Refused : goal.returns-in-Refused

@@ -1,9 +1,9 @@
 use Rattle.std.proofs.Common.{◌≡◌, ◌+◌, suc, subst, arith}
 use Rattle.rs_core.specs.Core.{client_count, refused_below}
-use Rattle.rs_core.specs.Link.Steps.{Leads}
-use Rattle.rs_core.specs.Link.Courses.{memories}
-use Rattle.rs_core.proofs.Link.Leading.{led_same, led_on}
-use Rattle.rs_core.proofs.Link.Continuing.{told_more}
+use Rattle.rs_core.specs.Drives.Steps.{Leads}
+use Rattle.rs_core.specs.Drives.Courses.{memories}
+use Rattle.rs_core.proofs.Drives.Leading.{led_same, led_on}
+use Rattle.rs_core.proofs.Drives.Continuing.{told_more}
 use Rattle.rs_core.proofs.driving.tell_refused.Goals as goal
 
 pub loop-c-init : goal.loop-c-init

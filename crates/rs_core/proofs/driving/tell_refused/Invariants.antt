@@ -1,7 +1,7 @@
 use Rattle.std.proofs.Common.{List}
 use Rattle.rs_core.specs.Core.{refused_below}
-use Rattle.rs_core.specs.Link.Steps.{Step, Leads, HasLed}
-use Rattle.rs_core.specs.Link.Courses.{memories}
+use Rattle.rs_core.specs.Drives.Steps.{Step, Leads, HasLed}
+use Rattle.rs_core.specs.Drives.Courses.{memories}
 use Rattle.rs_core.proofs.driving.tell_refused.Given as goal
 
 abbrev pub invariant-loop-c : goal.invariant-loop-c

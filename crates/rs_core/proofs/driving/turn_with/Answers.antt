@@ -1,4 +1,4 @@
-use Rattle.rs_core.proofs.Link.Continuing.{turned}
+use Rattle.rs_core.proofs.Drives.Continuing.{turned}
 use Rattle.rs_core.proofs.driving.turn_with.Goals as goal
 
 pub returns-clause-answers : goal.returns-clause-answers

@@ -1,7 +1,7 @@
 use Rattle.std.proofs.Common.{◌≡◌, ◌≢◌, ◌<◌, ◌-◌, refl, sym, ◌∙◌, subst, arith}
-use Rattle.rs_core.specs.Link.Answers.{Gives, Used, Stopped, Offers}
-use Rattle.rs_core.proofs.Link.Leading.{led_same, led_on}
-use Rattle.rs_core.proofs.Link.Continuing.{stays, joined, also, GivesOn, gives_more}
+use Rattle.rs_core.specs.Drives.Answers.{Gives, Used, Stopped, Offers}
+use Rattle.rs_core.proofs.Drives.Leading.{led_same, led_on}
+use Rattle.rs_core.proofs.Drives.Continuing.{stays, joined, also, GivesOn, gives_more}
 use Rattle.rs_core.proofs.offering.give.Goals as goal
 
 pub loop-left-init : goal.loop-left-init

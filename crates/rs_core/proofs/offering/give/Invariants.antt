@@ -1,8 +1,8 @@
 use Rattle.std.proofs.Common.{◌≡◌}
 use Rattle.rs_core.specs.Core.{client_count}
-use Rattle.rs_core.specs.Link.Steps.{HasLed}
-use Rattle.rs_core.specs.Link.Courses.{Continues}
-use Rattle.rs_core.proofs.Link.Continuing.{GivesOn}
+use Rattle.rs_core.specs.Drives.Steps.{HasLed}
+use Rattle.rs_core.specs.Drives.Courses.{Continues}
+use Rattle.rs_core.proofs.Drives.Continuing.{GivesOn}
 use Rattle.rs_core.proofs.offering.give.Given as goal
 
 abbrev pub invariant-loop-left : goal.invariant-loop-left

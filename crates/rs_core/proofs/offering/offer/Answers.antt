@@ -3,13 +3,13 @@ use Rattle.std.specs.Prelude.{Some, None}
 use Rattle.rs_core.specs.Core.{client_count, lent_octets}
 use Rattle.rs_core.specs.Run.Agreeing.{Agrees}
 use Rattle.rs_core.specs.Run.Moves.{Move, Left, Began, Took}
-use Rattle.rs_core.specs.Link.Steps.{Offer}
+use Rattle.rs_core.specs.Drives.Steps.{Offer}
 use Rattle.rs_core.specs.Owed.Sending.{HasLent, HasTaken, OwesNoMore}
-use Rattle.rs_core.specs.Link.Courses.{course}
+use Rattle.rs_core.specs.Drives.Courses.{course}
 use Rattle.rs_core.specs.declared.route_server.Core.{Core}
-use Rattle.rs_core.specs.Link.Answers.{Offers, Nothing, Fails, Takes}
-use Rattle.rs_core.proofs.Link.Leading.{led_same, led_once}
-use Rattle.rs_core.proofs.Link.Continuing.{goes, some_are, within_take}
+use Rattle.rs_core.specs.Drives.Answers.{Offers, Nothing, Fails, Takes}
+use Rattle.rs_core.proofs.Drives.Leading.{led_same, led_once}
+use Rattle.rs_core.proofs.Drives.Continuing.{goes, some_are, within_take}
 use Rattle.rs_core.proofs.offering.offer.Goals as goal
 use Rattle.rs_core.proofs.Run.Lists.{none_are}
 

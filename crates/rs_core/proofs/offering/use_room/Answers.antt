@@ -1,10 +1,10 @@
 use Rattle.std.proofs.Common.{◌<◌, ◌≤◌, arith}
 use Rattle.rs_core.specs.Core.{client_count}
-use Rattle.rs_core.specs.Link.Courses.{course}
-use Rattle.rs_core.specs.Link.Answers.{Answers, Gives, Fills}
+use Rattle.rs_core.specs.Drives.Courses.{course}
+use Rattle.rs_core.specs.Drives.Answers.{Answers, Gives, Fills}
 use Rattle.rs_core.specs.declared.links.Event.TheVariants as events
-use Rattle.rs_core.proofs.Link.Leading.{led_same}
-use Rattle.rs_core.proofs.Link.Continuing.{also, passes, over_client}
+use Rattle.rs_core.proofs.Drives.Leading.{led_same}
+use Rattle.rs_core.proofs.Drives.Continuing.{also, passes, over_client}
 use Rattle.rs_core.proofs.offering.use_room.Goals as goal
 
 pub returns-else-c-clients-clause-led : goal.returns-else-c-clients-clause-led

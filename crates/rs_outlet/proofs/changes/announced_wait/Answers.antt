@@ -1,7 +1,7 @@
 use Rattle.std.proofs.Common.{Some, option_map, sym, subst}
 use Rattle.std.specs.Arc.{arc_value}
-use Rattle.rs_outlet.specs.Waiting.Owed.{IsOwed}
-use Rattle.rs_outlet.proofs.Waiting.Owing.{owed_nothing}
+use Rattle.rs_outlet.specs.Pending.Owed.{IsOwed}
+use Rattle.rs_outlet.proofs.Pending.Owing.{owed_nothing}
 use Rattle.rs_outlet.proofs.changes.announced_wait.Goals as goal
 
 pub returns-in_err-told-clause-owed : goal.returns-in_err-told-clause-owed

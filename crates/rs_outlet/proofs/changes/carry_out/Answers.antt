@@ -4,13 +4,13 @@ use Rattle.std.specs.Arc.{arc_value}
 use Rattle.std.proofs.lemmas.Option.{same_Some}
 use Rattle.rs_outlet.specs.Views.{HaveNumbers}
 use Rattle.rs_outlet.specs.Inside.{FitsAlone, RowsFit, numbers_from, loc_of, prefix_and_hash, row_at}
-use Rattle.rs_outlet.proofs.Waiting.Backing.{announced_backed, fit_set, other_row, this_row}
-use Rattle.rs_outlet.proofs.Turn.Numbering.{numbers_write, numbers_erase}
-use Rattle.rs_outlet.proofs.Turn.LocByNumber.{same, numbered, loc_set}
+use Rattle.rs_outlet.proofs.Pending.Backing.{announced_backed, fit_set, other_row, this_row}
+use Rattle.rs_outlet.proofs.Decided.Numbering.{numbers_write, numbers_erase}
+use Rattle.rs_outlet.proofs.Decided.LocByNumber.{same, numbered, loc_set}
 use Rattle.rs_outlet.proofs.OneOf.{cond_twice}
 use Rattle.rs_adjin.specs.AdjIns.{number_of}
 use Rattle.rs_outlet.specs.declared.rows.Row.{Row}
-use Rattle.rs_outlet.proofs.Waiting.Withdrawals.{announced_listed, free_row, withdrawn_listed}
+use Rattle.rs_outlet.proofs.Pending.Withdrawals.{announced_listed, free_row, withdrawn_listed}
 use Rattle.rs_outlet.proofs.changes.carry_out.Goals as goal
 
 pub returns-in-None-clause-loc : goal.returns-in-None-clause-loc

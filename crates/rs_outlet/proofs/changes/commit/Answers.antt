@@ -5,13 +5,13 @@ use Rattle.std.specs.Vec.Iter.{into_iter_items}
 use Rattle.std.proofs.lemmas.Map.Keys.{IsDistinct-head, IsDistinct-tail}
 use Rattle.rs_adjin.specs.AdjIns.{number_of}
 use Rattle.rs_outlet.specs.Inside.{AreDue, AreOwn, ArePlaced, ChangesFit, HaveRows, is_changed, loc_of, numbers_of}
-use Rattle.rs_outlet.proofs.Waiting.Backing.{are_backed_same, backed_step, own_rest}
-use Rattle.rs_outlet.specs.Waiting.Slots.{prefixes_at, withdrawn_count}
-use Rattle.rs_outlet.specs.Waiting.Owed.{prefixes_of}
-use Rattle.rs_outlet.proofs.Waiting.Carrying.{fresh_step, keeps_both, keeps_same, keeps_step, length_step, none_fresh, none_more, none_unlisted, unlisted_rest, unlisted_step}
-use Rattle.rs_outlet.proofs.Turn.LocByNumber.{same, same_is, by_number, numbered}
-use Rattle.rs_outlet.proofs.Turn.Numbering.{all_nil, no_elements}
-use Rattle.rs_outlet.proofs.Turn.TurnedLoc.{change_done}
+use Rattle.rs_outlet.proofs.Pending.Backing.{are_backed_same, backed_step, own_rest}
+use Rattle.rs_outlet.specs.Pending.Slots.{prefixes_at, withdrawn_count}
+use Rattle.rs_outlet.specs.Pending.Owed.{prefixes_of}
+use Rattle.rs_outlet.proofs.Pending.Carrying.{fresh_step, keeps_both, keeps_same, keeps_step, length_step, none_fresh, none_more, none_unlisted, unlisted_rest, unlisted_step}
+use Rattle.rs_outlet.proofs.Decided.LocByNumber.{same, same_is, by_number, numbered}
+use Rattle.rs_outlet.proofs.Decided.Numbering.{all_nil, no_elements}
+use Rattle.rs_outlet.proofs.Decided.TurnedLoc.{change_done}
 use Rattle.rs_outlet.proofs.changes.commit.Goals as goal
 
 pub loop-change-init : goal.loop-change-init

@@ -7,11 +7,11 @@ use Rattle.rs_octets.specs.Prefixes.{Prefix}
 use Rattle.rs_attrs.specs.Meaning.{Attribute}
 use Rattle.rs_adjin.specs.declared.adj_ins.AdjIns.{AdjIns}
 use Rattle.rs_outlet.specs.Views.{HaveNumbers}
-use Rattle.rs_outlet.specs.Waiting.Slots.{AreFresh, open_at, open_count, prefixes_at, withdrawn_count}
-use Rattle.rs_outlet.specs.Waiting.Owed.{Keeps, prefixes_of}
+use Rattle.rs_outlet.specs.Pending.Slots.{AreFresh, open_at, open_count, prefixes_at, withdrawn_count}
+use Rattle.rs_outlet.specs.Pending.Owed.{Keeps, prefixes_of}
 use Rattle.rs_outlet.specs.declared.answers.Speech.{Speech}
 use Rattle.rs_outlet.specs.Inside.{AreBacked, AreDue, AreOwn, ArePlaced, ChangesFit, HaveRows, RowsFit, is_changed, numbers_from, numbers_of, loc_of}
-use Rattle.rs_outlet.proofs.Turn.LocByNumber.{same}
+use Rattle.rs_outlet.proofs.Decided.LocByNumber.{same}
 use Rattle.rs_outlet.proofs.changes.commit.Given as goal
 
 abbrev pub invariant-loop-change : goal.invariant-loop-change

@@ -1,6 +1,6 @@
 use Rattle.std.proofs.Common.{ap, arith}
-use Rattle.rs_outlet.specs.Waiting.Slots.{withdrawn_count}
-use Rattle.rs_outlet.proofs.Waiting.Withdrawals.{withdrawn_open}
+use Rattle.rs_outlet.specs.Pending.Slots.{withdrawn_count}
+use Rattle.rs_outlet.proofs.Pending.Withdrawals.{withdrawn_open}
 use Rattle.rs_outlet.proofs.changes.make_room.Goals as goal
 
 pub returns-clause-all : goal.returns-clause-all

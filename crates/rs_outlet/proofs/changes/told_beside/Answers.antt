@@ -1,7 +1,7 @@
 use Rattle.std.proofs.Common.{ap}
 use Rattle.std.specs.Prelude.{option_map}
 use Rattle.std.specs.Arc.{arc_value}
-use Rattle.rs_outlet.proofs.Waiting.Owing.{beside_other, beside_marked, beside_same}
+use Rattle.rs_outlet.proofs.Pending.Owing.{beside_other, beside_marked, beside_same}
 use Rattle.rs_outlet.proofs.changes.told_beside.Goals as goal
 
 pub returns-then-ne : goal.returns-then-ne

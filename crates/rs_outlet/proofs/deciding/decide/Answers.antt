@@ -2,9 +2,9 @@ use Rattle.std.proofs.Common.{ℕ, ◌≡◌, List, ◌∷◌, [], IfOk, option_
 use Rattle.std.specs.Arc.{arc_value}
 use Rattle.rs_attrs.specs.Meaning.{Attribute}
 use Rattle.rs_adjin.specs.AdjIns.{ListsHolders}
-use Rattle.rs_outlet.specs.Turn.HeldBy.{held_by}
-use Rattle.rs_outlet.specs.Turn.Passing.{attributes_passed}
-use Rattle.rs_outlet.proofs.Turn.Ranks.{alone_is_due, held_alone, one_alone}
+use Rattle.rs_outlet.specs.Decided.HeldBy.{held_by}
+use Rattle.rs_outlet.specs.Decided.Passing.{attributes_passed}
+use Rattle.rs_outlet.proofs.Decided.Ranks.{alone_is_due, held_alone, one_alone}
 use Rattle.rs_outlet.proofs.deciding.decide.Goals as goal
 
 pub returns-in-Some : goal.returns-in-Some

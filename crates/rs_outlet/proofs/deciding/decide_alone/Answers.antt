@@ -1,7 +1,7 @@
 use Rattle.std.proofs.Common.{◌≡◌, ◌∙◌, None, IfOk, option_map, sym, subst, if◌then◌else◌}
 use Rattle.std.specs.Arc.{arc_value}
-use Rattle.rs_outlet.specs.Turn.HeldBy.{held_by}
-use Rattle.rs_outlet.specs.Turn.Passing.{attributes_passed, passed_fitting}
+use Rattle.rs_outlet.specs.Decided.HeldBy.{held_by}
+use Rattle.rs_outlet.specs.Decided.Passing.{attributes_passed, passed_fitting}
 use Rattle.rs_outlet.proofs.deciding.decide_alone.Goals as goal
 
 pub returns : goal.returns

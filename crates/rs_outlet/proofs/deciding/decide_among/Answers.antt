@@ -3,10 +3,10 @@ use Rattle.std.specs.Arc.{arc_value}
 use Rattle.rs_adjin.specs.AdjIns.{ListsHolders}
 use Rattle.rs_decision.specs.Best.{HasDistinctPlaces}
 use Rattle.rs_decision.specs.Choice.{best_of}
-use Rattle.rs_outlet.specs.Turn.Due.{ranks_among}
-use Rattle.rs_outlet.specs.Turn.HeldBy.{held_by}
-use Rattle.rs_outlet.specs.Turn.Passing.{attributes_passed}
-use Rattle.rs_outlet.proofs.Turn.Ranks.{distinct_places, known_place, ranked_at, due_none, due_some, past}
+use Rattle.rs_outlet.specs.Decided.Due.{ranks_among}
+use Rattle.rs_outlet.specs.Decided.HeldBy.{held_by}
+use Rattle.rs_outlet.specs.Decided.Passing.{attributes_passed}
+use Rattle.rs_outlet.proofs.Decided.Ranks.{distinct_places, known_place, ranked_at, due_none, due_some, past}
 use Rattle.rs_outlet.proofs.deciding.decide_among.Goals as goal
 
 pub best-requires : goal.best-requires

@@ -1,8 +1,8 @@
 use Rattle.std.proofs.Common.{◌<◌, length, ◌∙◌, sym}
 use Rattle.std.specs.Arc.{arc_value}
 use Rattle.std.proofs.lemmas.List.Elements.{All-rest}
-use Rattle.rs_outlet.specs.Turn.HeldBy.{held_by}
-use Rattle.rs_outlet.proofs.Turn.Ranks.{taken_some, taken_none}
+use Rattle.rs_outlet.specs.Decided.HeldBy.{held_by}
+use Rattle.rs_outlet.proofs.Decided.Ranks.{taken_some, taken_none}
 use Rattle.rs_outlet.proofs.deciding.rank_all.Goals as goal
 
 pub loop-holder-preserved-in-Continue-1 : goal.loop-holder-preserved-in-Continue-1

@@ -1,4 +1,4 @@
-use Rattle.rs_outlet.proofs.Turn.OthersAlone.{due_is_alike}
+use Rattle.rs_outlet.proofs.Decided.OthersAlone.{due_is_alike}
 use Rattle.rs_outlet.proofs.laws.due_alike.Goals as goal
 
 pub returns : goal.returns

@@ -1,6 +1,6 @@
 use Rattle.std.proofs.Common.{refl}
 use Rattle.rs_outlet.specs.Views.{bare, begun, cleared, finished}
-use Rattle.rs_outlet.proofs.Waiting.Exact.{exact_empty}
+use Rattle.rs_outlet.proofs.Pending.Exact.{exact_empty}
 use Rattle.rs_outlet.proofs.laws.first_waits_are_exact.Goals as goal
 
 pub returns : goal.returns

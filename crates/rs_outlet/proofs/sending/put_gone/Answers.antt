@@ -5,8 +5,8 @@ use Rattle.rs_packer.specs.Packed.{IsLongestFront, withdrawal}
 use Rattle.std.specs.List.{AllWithin}
 use Rattle.std.proofs.lemmas.Option.{same_Some}
 use Rattle.rs_outlet.specs.declared.waiting.Wait.{Wait}
-use Rattle.rs_outlet.specs.Waiting.Slots.{is_withdrawn}
-use Rattle.rs_outlet.specs.Waiting.Choosing.{passing}
+use Rattle.rs_outlet.specs.Pending.Slots.{is_withdrawn}
+use Rattle.rs_outlet.specs.Pending.Choosing.{passing}
 use Rattle.rs_outlet.proofs.Message.Chosen.{none_chosen}
 use Rattle.rs_outlet.proofs.Message.Fullest.{longest_of_all, passing_behind, withdrawals_take}
 use Rattle.rs_outlet.proofs.sending.put_gone.Goals as goal

@@ -4,8 +4,8 @@ use Rattle.rs_packer.specs.Packed.{IsLongestFront, announcement}
 use Rattle.std.specs.List.{AllWithin}
 use Rattle.std.proofs.lemmas.Option.{same_Some}
 use Rattle.rs_outlet.specs.declared.waiting.Wait.{Wait}
-use Rattle.rs_outlet.specs.Waiting.Slots.{is_announced}
-use Rattle.rs_outlet.specs.Waiting.Choosing.{passing, shares}
+use Rattle.rs_outlet.specs.Pending.Slots.{is_announced}
+use Rattle.rs_outlet.specs.Pending.Choosing.{passing, shares}
 use Rattle.rs_outlet.proofs.Message.AllWaiting.{not_shared}
 use Rattle.rs_outlet.proofs.Message.Chosen.{first_fits, none_chosen}
 use Rattle.rs_outlet.proofs.Message.Fullest.{announcements_take, longest_of_all, passing_behind}

@@ -5,9 +5,9 @@ use Rattle.std.specs.Arc.{arc_value}
 use Rattle.std.specs.List.{HoldsAt}
 use Rattle.rs_outlet.specs.declared.rows.Row.{Row}
 use Rattle.rs_outlet.specs.declared.waiting.Wait.{Wait}
-use Rattle.rs_outlet.specs.Waiting.Choosing.{IsFound, WaitsFor}
+use Rattle.rs_outlet.specs.Pending.Choosing.{IsFound, WaitsFor}
 use Rattle.rs_outlet.specs.Inside.{row_by}
-use Rattle.rs_outlet.specs.Waiting.Slots.{is_announced}
+use Rattle.rs_outlet.specs.Pending.Slots.{is_announced}
 use Rattle.rs_outlet.proofs.Message.Chosen.{first_row, first_waits, nothing_waits}
 use Rattle.rs_outlet.proofs.sending.put_update.Goals as goal
 

@@ -2,10 +2,10 @@ use Rattle.std.proofs.Common.{◌≡◌, ◌<◌, ◌≤◌, ℕ, Bool, true, fa
 use Rattle.rs_octets.specs.Prefixes.{Prefix}
 use Rattle.rs_adjin.specs.AdjIns.{number_of}
 use Rattle.std.proofs.lemmas.Bool.Decides.{nat_tests}
-use Rattle.rs_outlet.specs.Turn.Due.{any_holds, due_to}
-use Rattle.rs_outlet.specs.Turn.HeldBy.{held_by}
-use Rattle.rs_outlet.proofs.Turn.Counting.{none_counted, next_counted, all_counted}
-use Rattle.rs_outlet.proofs.Turn.Decisions.{none_decided, next_decided, all_decided}
+use Rattle.rs_outlet.specs.Decided.Due.{any_holds, due_to}
+use Rattle.rs_outlet.specs.Decided.HeldBy.{held_by}
+use Rattle.rs_outlet.proofs.Decided.Counting.{none_counted, next_counted, all_counted}
+use Rattle.rs_outlet.proofs.Decided.Decisions.{none_decided, next_decided, all_decided}
 use Rattle.rs_outlet.proofs.turn.decide_all.Goals as goal
 
 at_most_one : (b : Bool) → cond b 1 0 ≤ 1

@@ -1,9 +1,9 @@
 use Rattle.std.proofs.Common.{◌≤◌, nat_lt}
-use Rattle.rs_outlet.specs.Turn.Due.{any_holds, due_to}
-use Rattle.rs_outlet.specs.Turn.HeldBy.{held_by}
+use Rattle.rs_outlet.specs.Decided.Due.{any_holds, due_to}
+use Rattle.rs_outlet.specs.Decided.HeldBy.{held_by}
 use Rattle.rs_outlet.specs.Views.{IsNumberOf}
 use Rattle.rs_outlet.specs.Inside.{AreDecided}
-use Rattle.rs_outlet.specs.Turn.Counted.{is_counted_below}
+use Rattle.rs_outlet.specs.Decided.Counted.{is_counted_below}
 use Rattle.rs_outlet.proofs.turn.decide_all.Given as goal
 
 abbrev pub invariant-loop-number : goal.invariant-loop-number

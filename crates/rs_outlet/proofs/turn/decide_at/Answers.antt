@@ -1,5 +1,5 @@
 use Rattle.std.proofs.Common.{◌≡◌, None, Some, inl, refl, sym, ◌∙◌}
-use Rattle.rs_outlet.proofs.Turn.Numbering.{number_back, number_there}
+use Rattle.rs_outlet.proofs.Decided.Numbering.{number_back, number_there}
 use Rattle.rs_outlet.proofs.turn.decide_at.Goals as goal
 
 pub decide_one-requires-clause-number : goal.decide_one-requires-clause-number

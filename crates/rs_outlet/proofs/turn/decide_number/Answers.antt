@@ -4,12 +4,12 @@ use Rattle.std.specs.Prelude.{option_copied}
 use Rattle.std.specs.Borrow.{Bor}
 use Rattle.std.specs.List.{list_any}
 use Rattle.std.proofs.lemmas.Bool.Decides.{nat_tests}
-use Rattle.rs_outlet.specs.Turn.Due.{any_holds}
-use Rattle.rs_outlet.specs.Turn.HeldBy.{held_by}
+use Rattle.rs_outlet.specs.Decided.Due.{any_holds}
+use Rattle.rs_outlet.specs.Decided.HeldBy.{held_by}
 use Rattle.rs_outlet.specs.Inside.{attributes_at, shown}
 use Rattle.rs_outlet.specs.declared.rows.Row.{Row}
-use Rattle.rs_outlet.proofs.Turn.Numbering.{no_elements, number_back, number_there}
-use Rattle.rs_outlet.proofs.Turn.Ranks.{due_unheld}
+use Rattle.rs_outlet.proofs.Decided.Numbering.{no_elements, number_back, number_there}
+use Rattle.rs_outlet.proofs.Decided.Ranks.{due_unheld}
 use Rattle.rs_outlet.proofs.turn.decide_number.Goals as goal
 use Rattle.rs_outlet.proofs.turn.decide_number.Goals.{else-is_empty-via-then-is_empty+else-is_none, else-is_empty-via-else-is_empty}
 

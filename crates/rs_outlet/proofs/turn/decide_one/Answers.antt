@@ -1,12 +1,12 @@
 use Rattle.std.proofs.Common.{◌≡◌, ◌∙◌, Option, None, Some, refl, sym, ap}
 use Rattle.std.specs.Prelude.{option_map, option_copied}
 use Rattle.std.specs.Borrow.{Bor}
-use Rattle.rs_outlet.specs.Turn.Due.{due_to}
-use Rattle.rs_outlet.specs.Turn.HeldBy.{held_by}
-use Rattle.rs_outlet.specs.Turn.Passing.{attributes_passed}
+use Rattle.rs_outlet.specs.Decided.Due.{due_to}
+use Rattle.rs_outlet.specs.Decided.HeldBy.{held_by}
+use Rattle.rs_outlet.specs.Decided.Passing.{attributes_passed}
 use Rattle.rs_outlet.specs.Inside.{attributes_at, shown}
-use Rattle.rs_outlet.proofs.Turn.Decisions.{decided_there}
-use Rattle.rs_outlet.proofs.Turn.Numbering.{number_once}
+use Rattle.rs_outlet.proofs.Decided.Decisions.{decided_there}
+use Rattle.rs_outlet.proofs.Decided.Numbering.{number_once}
 use Rattle.rs_outlet.proofs.turn.decide_one.Goals as goal
 
 map_copied : {X Y : Type 0} (f : X → Y) (r : Option (Bor X)) → option_map (λ x. f x.now) r ≡ option_map f (option_copied r)

@@ -1,8 +1,8 @@
 use Rattle.std.proofs.Common.{◌<◌, ◌+◌, length, take, arith, refl}
-use Rattle.rs_outlet.specs.Turn.Due.{due_to}
-use Rattle.rs_outlet.specs.Turn.HeldBy.{held_by}
-use Rattle.rs_outlet.specs.Turn.Touching.{is_numbered_in}
-use Rattle.rs_outlet.proofs.Turn.Decisions.{none_decided, one_more_decided, entry_new, entry_more}
+use Rattle.rs_outlet.specs.Decided.Due.{due_to}
+use Rattle.rs_outlet.specs.Decided.HeldBy.{held_by}
+use Rattle.rs_outlet.specs.Decided.Touching.{is_numbered_in}
+use Rattle.rs_outlet.proofs.Decided.Decisions.{none_decided, one_more_decided, entry_new, entry_more}
 use Rattle.rs_outlet.proofs.turn.decide_touched.Goals as goal
 
 pub loop-number-init : goal.loop-number-init

@@ -1,8 +1,8 @@
 use Rattle.std.proofs.Common.{take}
-use Rattle.rs_outlet.specs.Turn.Due.{due_to}
-use Rattle.rs_outlet.specs.Turn.HeldBy.{held_by}
+use Rattle.rs_outlet.specs.Decided.Due.{due_to}
+use Rattle.rs_outlet.specs.Decided.HeldBy.{held_by}
 use Rattle.rs_outlet.specs.Inside.{AreDecided}
-use Rattle.rs_outlet.specs.Turn.Touching.{is_numbered_in}
+use Rattle.rs_outlet.specs.Decided.Touching.{is_numbered_in}
 use Rattle.rs_outlet.proofs.turn.decide_touched.Given as goal
 
 abbrev pub invariant-loop-number : goal.invariant-loop-number

@@ -4,7 +4,7 @@ use Rattle.std.specs.Arc.{arc_value}
 use Rattle.rs_attrs.specs.Comparing.{same_attributes}
 use Rattle.rs_attrs.specs.ComparisonLaws.{attributes_decides}
 use Rattle.rs_outlet.specs.Inside.{shown}
-use Rattle.rs_outlet.specs.Turn.Passing.{attributes_passed}
+use Rattle.rs_outlet.specs.Decided.Passing.{attributes_passed}
 use Rattle.rs_outlet.proofs.turn.is_due.Goals as goal
 
 pub returns-in-Some-Some : goal.returns-in-Some-Some

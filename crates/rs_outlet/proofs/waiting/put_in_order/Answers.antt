@@ -5,12 +5,12 @@ use Rattle.std.proofs.lemmas.Fn.{dedup_same}
 use Rattle.std.proofs.lemmas.List.Kept.{Contains-from_dedup, IsStrictlySortedBy-dedup}
 use Rattle.std.proofs.lemmas.List.Sorted.{Contains-permutation, IsPermutation-map, IsPermutation-sym, list_any-IsPermutation}
 use Rattle.rs_outlet.specs.declared.waiting.Wait.{Wait}
-use Rattle.rs_outlet.specs.Waiting.Slots.{prefixes_at}
-use Rattle.rs_outlet.proofs.Turn.LocByNumber.{same}
-use Rattle.rs_outlet.proofs.Waiting.MarkedAgain.{deduped}
-use Rattle.rs_outlet.proofs.Waiting.Slots.{by_prefix, slots_total, prefixes_rise}
-use Rattle.rs_outlet.proofs.Turn.Touches.{prefix_eq, prefix_eq-cmp}
-use Rattle.rs_outlet.proofs.Waiting.Withdrawals.{withdrawn_ordered}
+use Rattle.rs_outlet.specs.Pending.Slots.{prefixes_at}
+use Rattle.rs_outlet.proofs.Decided.LocByNumber.{same}
+use Rattle.rs_outlet.proofs.Pending.MarkedAgain.{deduped}
+use Rattle.rs_outlet.proofs.Pending.Slots.{by_prefix, slots_total, prefixes_rise}
+use Rattle.rs_outlet.proofs.Decided.Touches.{prefix_eq, prefix_eq-cmp}
+use Rattle.rs_outlet.proofs.Pending.Withdrawals.{withdrawn_ordered}
 use Rattle.rs_outlet.proofs.waiting.put_in_order.Goals as goal
 
 pub returns : goal.returns

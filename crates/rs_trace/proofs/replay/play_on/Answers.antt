@@ -3,13 +3,13 @@ use Rattle.std.specs.Prelude.{Result, Ok, Err, IfOk}
 use Rattle.std.specs.Global.{Vec}
 use Rattle.std.specs.declared.alloc.AllocError.{AllocError}
 use Rattle.rs_policy.specs.Configuration.{Configuration}
-use Rattle.rs_core.specs.Link.Steps as links
-use Rattle.rs_core.specs.Link.Steps.{HasStopped}
+use Rattle.rs_core.specs.Drives.Steps as links
+use Rattle.rs_core.specs.Drives.Steps.{HasStopped}
 use Rattle.rs_core.specs.Run.Agreeing.{Agrees}
 use Rattle.rs_core.specs.Core.{client_count}
 use Rattle.rs_core.specs.Run.Moves.{Move, Ruled}
-use Rattle.rs_core.specs.Link.Courses.{course, Continues}
-use Rattle.rs_core.specs.Link.Answers.{Drives}
+use Rattle.rs_core.specs.Drives.Courses.{course, Continues}
+use Rattle.rs_core.specs.Drives.Answers.{Drives}
 use Rattle.rs_core.specs.declared.route_server.Core.{Core}
 use Rattle.rs_trace.specs.declared.recording.Recording.{Recording}
 use Rattle.rs_trace.specs.declared.fault.Stop.{Stop}

@@ -1,6 +1,6 @@
 use Rattle.std.proofs.Common.{◌<◌, length, ◌∙◌, subst, arith}
 use Rattle.std.specs.Prelude.{◌↔◌, IsTrue}
-use Rattle.rs_outlet.specs.Waiting.Left.{HasNothingLeft}
+use Rattle.rs_outlet.specs.Pending.Left.{HasNothingLeft}
 use Rattle.rs_outlet.specs.Views.{IsDrained}
 use Rattle.rs_core.specs.Core.{client_count}
 use Rattle.rs_core.proofs.Told.Serving.{drained_is_served}

@@ -1,6 +1,6 @@
 use Rattle.std.proofs.Common.{[], Ok, refl, sym, subst, ◌∙◌}
 use Rattle.rs_core.specs.declared.links.Event.TheVariants.{Opened}
-use Rattle.rs_core.specs.Link.Steps.{Happened}
+use Rattle.rs_core.specs.Drives.Steps.{Happened}
 use Rattle.rs_live.specs.declared.live_link.Phase.TheVariants as phases
 use Rattle.rs_live.specs.Calls.{Accepted, IsGood, IsFailedAccept}
 use Rattle.rs_live.specs.Keeping.{held_of}

@@ -1,6 +1,6 @@
 use Rattle.std.proofs.Common.{◌∷◌, ap, refl, sym, subst, Some}
 use Rattle.std.proofs.lemmas.Option.{slice_get_read}
-use Rattle.rs_core.specs.Link.Steps.{Offer}
+use Rattle.rs_core.specs.Drives.Steps.{Offer}
 use Rattle.rs_live.specs.Operations.{Did}
 use Rattle.rs_live.specs.Handled.{Has, AreBroken, AreKept}
 use Rattle.rs_live.specs.Keeping.{with_live}

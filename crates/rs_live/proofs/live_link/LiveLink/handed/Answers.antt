@@ -1,6 +1,6 @@
 use Rattle.std.proofs.Common.{[], refl, ap, ◌∙◌, arith}
 use Rattle.rs_core.specs.declared.links.Event.TheVariants.{Lost}
-use Rattle.rs_core.specs.Link.Steps.{Happened}
+use Rattle.rs_core.specs.Drives.Steps.{Happened}
 use Rattle.rs_live.specs.declared.live_link.Phase.TheVariants as phases
 use Rattle.rs_live.proofs.Handling.{at_phase, breaks_down, follows, leaves}
 use Rattle.rs_live.proofs.live_link.LiveLink.handed.Goals as goal

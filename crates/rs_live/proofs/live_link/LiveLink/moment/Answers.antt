@@ -1,6 +1,6 @@
 use Rattle.std.proofs.Common.{[], refl}
 use Rattle.rs_core.specs.declared.links.Event.TheVariants.{Moment}
-use Rattle.rs_core.specs.Link.Steps.{Happened}
+use Rattle.rs_core.specs.Drives.Steps.{Happened}
 use Rattle.rs_live.specs.declared.live_link.Phase.TheVariants as phases
 use Rattle.rs_live.proofs.Handling.{at_phase, follows, times}
 use Rattle.rs_live.proofs.live_link.LiveLink.moment.Goals as goal

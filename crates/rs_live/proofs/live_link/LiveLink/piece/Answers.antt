@@ -1,6 +1,6 @@
 use Rattle.std.proofs.Common.{◌≢◌, Ok, [], take, refl, sym, subst, ◌∙◌}
 use Rattle.rs_core.specs.declared.links.Event.TheVariants.{Octets, Lost}
-use Rattle.rs_core.specs.Link.Steps.{Happened}
+use Rattle.rs_core.specs.Drives.Steps.{Happened}
 use Rattle.rs_live.specs.declared.live_link.Phase.TheVariants as phases
 use Rattle.rs_live.specs.Calls.{Read, IsGood, FindsLost}
 use Rattle.rs_live.proofs.Handling.{asks, at_phase, ends, fails, follows, follows_at, hears, is_last}

@@ -1,7 +1,7 @@
 use Rattle.std.proofs.Common.{◌∷◌, ap, refl, sym, subst, ◌∙◌}
 use Rattle.std.specs.Prelude.{IsSome}
 use Rattle.std.proofs.lemmas.Option.{slice_get_read}
-use Rattle.rs_core.specs.Link.Steps.{End}
+use Rattle.rs_core.specs.Drives.Steps.{End}
 use Rattle.rs_live.specs.Operations.{Did}
 use Rattle.rs_live.specs.Handled.{Has, AreKept}
 use Rattle.rs_live.specs.Keeping.{Held, change, with_rest}

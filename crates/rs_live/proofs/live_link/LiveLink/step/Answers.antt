@@ -1,6 +1,6 @@
 use Rattle.std.proofs.Common.{[], refl, sym, subst, ◌∙◌}
 use Rattle.rs_core.specs.declared.links.Event.TheVariants.{Rules, Stop}
-use Rattle.rs_core.specs.Link.Steps.{Happened}
+use Rattle.rs_core.specs.Drives.Steps.{Happened}
 use Rattle.rs_live.specs.declared.live_link.Phase.TheVariants as phases
 use Rattle.rs_live.specs.Handled.{Has, AreKept}
 use Rattle.rs_live.proofs.Handling.{at_phase, come_at, does, follows, goes_on, passes_over}

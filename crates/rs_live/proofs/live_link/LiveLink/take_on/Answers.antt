@@ -1,6 +1,6 @@
 use Rattle.std.proofs.Common.{[], Some, ◌∷◌, ap, refl, sym, subst, ◌∙◌}
 use Rattle.std.proofs.lemmas.Option.{slice_get_read}
-use Rattle.rs_core.specs.Link.Steps.{Begin}
+use Rattle.rs_core.specs.Drives.Steps.{Begin}
 use Rattle.rs_live.specs.declared.live_link.Phase.TheVariants as phases
 use Rattle.rs_live.specs.Operations.{Did}
 use Rattle.rs_live.specs.Handled.{Has, AreKept}

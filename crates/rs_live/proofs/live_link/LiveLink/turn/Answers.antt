@@ -1,6 +1,6 @@
 use Rattle.std.proofs.Common.{[], refl}
 use Rattle.rs_core.specs.declared.links.Event.TheVariants.{Turn, Stop}
-use Rattle.rs_core.specs.Link.Steps.{Happened}
+use Rattle.rs_core.specs.Drives.Steps.{Happened}
 use Rattle.rs_live.specs.declared.live_link.Phase.TheVariants as phases
 use Rattle.rs_live.proofs.Handling.{at_phase, does, follows, turns}
 use Rattle.rs_live.proofs.live_link.LiveLink.turn.Goals as goal

@@ -1,5 +1,5 @@
 use Rattle.std.proofs.Common.{refl, ◌∙◌, sym}
-use Rattle.rs_core.specs.Link.Steps.{Begin}
+use Rattle.rs_core.specs.Drives.Steps.{Begin}
 use Rattle.rs_live.specs.declared.live_link.Phase.TheVariants as phases
 use Rattle.rs_live.proofs.Agreeing.{come_is}
 use Rattle.rs_live.proofs.Handling.{begins_none, follows, follows_at, kept_at}

@@ -1,5 +1,5 @@
 use Rattle.std.proofs.Common.{refl, ◌∙◌, ◌∷◌, sym, ap, subst}
-use Rattle.rs_core.specs.Link.Steps.{Busy}
+use Rattle.rs_core.specs.Drives.Steps.{Busy}
 use Rattle.rs_live.specs.declared.live_link.Phase.TheVariants as phases
 use Rattle.rs_live.specs.declared.ports.Line.TheVariants as lines
 use Rattle.rs_live.specs.Calls.{Printed}

@@ -1,5 +1,5 @@
 use Rattle.std.proofs.Common.{refl, ◌∙◌}
-use Rattle.rs_core.specs.Link.Steps.{End}
+use Rattle.rs_core.specs.Drives.Steps.{End}
 use Rattle.rs_live.proofs.Handling.{follows}
 use Rattle.rs_live.proofs.sink.LiveLinkSink.end.Goals as goal
 

@@ -1,5 +1,5 @@
 use Rattle.std.proofs.Common.{refl, ◌∙◌}
-use Rattle.rs_core.specs.Link.Steps.{Memory}
+use Rattle.rs_core.specs.Drives.Steps.{Memory}
 use Rattle.rs_live.proofs.Handling.{does, follows}
 use Rattle.rs_live.proofs.sink.LiveLinkSink.memory.Goals as goal
 

@@ -1,5 +1,5 @@
 use Rattle.std.proofs.Common.{refl, ◌∙◌, Some, None}
-use Rattle.rs_core.specs.Link.Steps.{Offer}
+use Rattle.rs_core.specs.Drives.Steps.{Offer}
 use Rattle.rs_live.proofs.Handling.{breaks_down, follows}
 use Rattle.rs_live.proofs.sink.LiveLinkSink.offer.Goals as goal
 

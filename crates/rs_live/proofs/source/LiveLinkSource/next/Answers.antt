@@ -1,6 +1,6 @@
 use Rattle.std.proofs.Common.{[], refl, ◌∙◌}
 use Rattle.rs_core.specs.declared.links.Event.TheVariants.{Stop}
-use Rattle.rs_core.specs.Link.Steps.{Happened}
+use Rattle.rs_core.specs.Drives.Steps.{Happened}
 use Rattle.rs_live.proofs.Handling.{does, follows}
 use Rattle.rs_live.proofs.source.LiveLinkSource.next.Goals as goal
 

@@ -2,7 +2,7 @@ use Rattle.std.proofs.Common.{◌∙◌, ap, arith, is_some}
 use Rattle.std.specs.FinMap as fin
 use Rattle.rs_outlet.specs.Views.{View}
 use Rattle.rs_outlet.specs.Inside.{loc_of}
-use Rattle.rs_outlet.proofs.Waiting.AskedAgain.{exact_again, marked_all, told_again}
+use Rattle.rs_outlet.proofs.Pending.AskedAgain.{exact_again, marked_all, told_again}
 use Rattle.rs_outlet.proofs.outlet.Outlet.again.Goals as goal
 
 pub returns-clause-told : goal.returns-clause-told

@@ -1,6 +1,6 @@
 use Rattle.std.proofs.Common.{ap, rules}
 use Rattle.rs_outlet.specs.Views.{View}
-use Rattle.rs_outlet.proofs.Waiting.Exact.{update_exact}
+use Rattle.rs_outlet.proofs.Pending.Exact.{update_exact}
 use Rattle.rs_outlet.proofs.outlet.Outlet.begin_next.Goals as goal
 
 pub returns-in-Some-speech-clause-exact : goal.returns-in-Some-speech-clause-exact

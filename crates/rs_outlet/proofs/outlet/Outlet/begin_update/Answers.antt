@@ -2,14 +2,14 @@ use Rattle.std.proofs.Common.{◌≡◌, ◌∙◌, ℕ, Some, None, cond, refl,
 use Rattle.std.specs.List.{list_any}
 use Rattle.rs_octets.specs.Prefixes.{Prefix}
 use Rattle.rs_adjin.specs.AdjIns.{number_of}
-use Rattle.rs_outlet.specs.Waiting.Slots.{open_at, withdrawn_count}
+use Rattle.rs_outlet.specs.Pending.Slots.{open_at, withdrawn_count}
 use Rattle.rs_outlet.specs.Inside.{loc_of, numbers_from, view_of}
-use Rattle.rs_outlet.specs.Waiting.Choosing.{AreChosen}
-use Rattle.rs_outlet.proofs.Turn.LocByNumber.{same}
-use Rattle.rs_outlet.proofs.Turn.Numbering.{all_front}
+use Rattle.rs_outlet.specs.Pending.Choosing.{AreChosen}
+use Rattle.rs_outlet.proofs.Decided.LocByNumber.{same}
+use Rattle.rs_outlet.proofs.Decided.Numbering.{all_front}
 use Rattle.rs_outlet.proofs.Message.Ranges.{from_start}
 use Rattle.rs_outlet.proofs.Message.Beginning.{backed_left, update_seen}
-use Rattle.rs_outlet.proofs.Waiting.Unchanged.{backed_same, marked_same, told_same, waits_same}
+use Rattle.rs_outlet.proofs.Pending.Unchanged.{backed_same, marked_same, told_same, waits_same}
 use Rattle.rs_outlet.proofs.outlet.Outlet.begin_update.Goals as goal
 
 pub returns-clause-begins : goal.returns-clause-begins

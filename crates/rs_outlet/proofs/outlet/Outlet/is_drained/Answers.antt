@@ -2,9 +2,9 @@ use Rattle.std.proofs.Common.{◌≡◌, ℕ, true, nat_eq, arith, refl, sym, ap
 use Rattle.std.proofs.lemmas.Bool.Decides.{nat_tests}
 use Rattle.rs_outlet.specs.Views.{View, IsDrained}
 use Rattle.rs_outlet.specs.Inside.{loc_of}
-use Rattle.rs_outlet.specs.Waiting.Left.{HasNothingLeft}
-use Rattle.rs_outlet.specs.Waiting.Slots.{open_count}
-use Rattle.rs_outlet.proofs.Waiting.Draining.{told_drained, marked_drained, waits_drained, drained_open, empty_open}
+use Rattle.rs_outlet.specs.Pending.Left.{HasNothingLeft}
+use Rattle.rs_outlet.specs.Pending.Slots.{open_count}
+use Rattle.rs_outlet.proofs.Pending.Draining.{told_drained, marked_drained, waits_drained, drained_open, empty_open}
 use Rattle.rs_outlet.proofs.Message.Ranges.{empty_range}
 use Rattle.rs_outlet.proofs.outlet.Outlet.is_drained.Goals as goal
 

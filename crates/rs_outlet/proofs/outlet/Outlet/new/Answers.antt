@@ -1,5 +1,5 @@
 use Rattle.std.proofs.Common.{◌≡◌, Some, None, arith, sym, ap, ◌∙◌}
-use Rattle.rs_outlet.specs.Waiting.Slots.{open_at, withdrawn_count}
+use Rattle.rs_outlet.specs.Pending.Slots.{open_at, withdrawn_count}
 use Rattle.rs_outlet.proofs.outlet.Outlet.new.Goals as goal
 
 pub invariant_of-result : goal.invariant_of-result

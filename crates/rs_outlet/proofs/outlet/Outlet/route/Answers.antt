@@ -5,8 +5,8 @@ use Rattle.rs_octets.specs.Prefixes.{Prefix}
 use Rattle.rs_adjin.specs.AdjIns.{number_of}
 use Rattle.rs_outlet.specs.Views.{View, AreNumbered, HaveNumbers}
 use Rattle.rs_outlet.specs.Inside.{numbers_from, shown}
-use Rattle.rs_outlet.proofs.Turn.Numbering.{all_front}
-use Rattle.rs_outlet.proofs.Turn.LocByNumber.{numbered, by_number}
+use Rattle.rs_outlet.proofs.Decided.Numbering.{all_front}
+use Rattle.rs_outlet.proofs.Decided.LocByNumber.{numbered, by_number}
 use Rattle.rs_outlet.proofs.outlet.Outlet.route.Goals as goal
 
 pub returns-in-None : goal.returns-in-None

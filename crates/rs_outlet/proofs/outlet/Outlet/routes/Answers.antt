@@ -4,9 +4,9 @@ use Rattle.rs_octets.specs.Prefixes.{Prefix}
 use Rattle.rs_adjin.specs.AdjIns.{number_of}
 use Rattle.rs_outlet.specs.Views.{View, AreNumbered}
 use Rattle.rs_outlet.specs.Inside.{numbers_from}
-use Rattle.rs_outlet.proofs.Turn.LocByNumber.{numbered}
-use Rattle.rs_outlet.proofs.Turn.Numbering.{all_front}
-use Rattle.rs_outlet.proofs.Turn.Listings.{routes_listed}
+use Rattle.rs_outlet.proofs.Decided.LocByNumber.{numbered}
+use Rattle.rs_outlet.proofs.Decided.Numbering.{all_front}
+use Rattle.rs_outlet.proofs.Decided.Listings.{routes_listed}
 use Rattle.rs_outlet.proofs.outlet.Outlet.routes.Goals as goal
 
 pub returns : goal.returns

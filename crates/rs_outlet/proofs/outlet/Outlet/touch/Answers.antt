@@ -3,8 +3,8 @@ use Rattle.rs_octets.specs.Prefixes.{Prefix}
 use Rattle.rs_adjin.specs.AdjIns.{number_of}
 use Rattle.rs_outlet.specs.Views.{View, AreNumbered}
 use Rattle.rs_outlet.specs.Inside.{view_of, numbers_from}
-use Rattle.rs_outlet.proofs.Turn.Numbering.{all_front, all_behind, all_both}
-use Rattle.rs_outlet.proofs.Turn.TouchedNumbers.{touch_up}
+use Rattle.rs_outlet.proofs.Decided.Numbering.{all_front, all_behind, all_both}
+use Rattle.rs_outlet.proofs.Decided.TouchedNumbers.{touch_up}
 use Rattle.rs_outlet.proofs.outlet.Outlet.touch.Goals as goal
 
 pub returns-then-is_some-clause-touched : goal.returns-then-is_some-clause-touched

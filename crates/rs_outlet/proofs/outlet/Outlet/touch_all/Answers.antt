@@ -4,7 +4,7 @@ use Rattle.std.specs.List.{AllByRecursion}
 use Rattle.rs_adjin.specs.AdjIns.{number_of}
 use Rattle.rs_outlet.specs.Views.{View, AreNumbered}
 use Rattle.rs_outlet.specs.Inside.{numbers_from}
-use Rattle.rs_outlet.proofs.Turn.Numbering.{all_front, all_both}
+use Rattle.rs_outlet.proofs.Decided.Numbering.{all_front, all_both}
 use Rattle.rs_outlet.proofs.outlet.Outlet.touch_all.Goals as goal
 
 pub returns-then-is_some-clause-numbered : goal.returns-then-is_some-clause-numbered

@@ -10,11 +10,11 @@ use Rattle.rs_policy.specs.Configuration.{Configuration}
 use Rattle.rs_outlet.specs.declared.answers.Turned.{Turned}
 use Rattle.rs_outlet.specs.declared.answers.Last.TheVariants.{Done}
 use Rattle.rs_outlet.specs.Inside.{view_of}
-use Rattle.rs_outlet.specs.Turn.Due.{Held, due_to}
-use Rattle.rs_outlet.specs.Turn.HeldBy.{tables_of}
-use Rattle.rs_outlet.specs.Turn.Turns.{HasTurned}
+use Rattle.rs_outlet.specs.Decided.Due.{Held, due_to}
+use Rattle.rs_outlet.specs.Decided.HeldBy.{tables_of}
+use Rattle.rs_outlet.specs.Decided.Turns.{HasTurned}
 use Rattle.rs_outlet.specs.Views.{View, is_touched}
-use Rattle.rs_outlet.proofs.Turn.TurnedLoc.{one_of}
+use Rattle.rs_outlet.proofs.Decided.TurnedLoc.{one_of}
 use Rattle.rs_outlet.proofs.outlet.Outlet.turn.Goals as goal
 
 abbrev nothing : Turned

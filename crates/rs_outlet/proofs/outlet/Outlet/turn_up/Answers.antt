@@ -1,25 +1,25 @@
 use Rattle.std.proofs.Common.{◌≡◌, ◌∙◌, ◌++◌, cond, ap, ℕ, List, Some, refl, sym, subst}
 use Rattle.std.specs.FinMap as fin
-use Rattle.rs_outlet.specs.Turn.Due.{any_holds, due_to}
-use Rattle.rs_outlet.specs.Turn.HeldBy.{held_by}
+use Rattle.rs_outlet.specs.Decided.Due.{any_holds, due_to}
+use Rattle.rs_outlet.specs.Decided.HeldBy.{held_by}
 use Rattle.std.specs.List.{AllByRecursion}
 use Rattle.rs_octets.specs.Prefixes.{Prefix}
 use Rattle.rs_adjin.specs.AdjIns.{number_of}
 use Rattle.rs_adjin.specs.declared.adj_ins.AdjIns.{AdjIns}
 use Rattle.rs_outlet.specs.declared.waiting.Wait.{Wait}
-use Rattle.rs_outlet.specs.Waiting.Slots.{open_at}
-use Rattle.rs_outlet.specs.Waiting.Owed.{Keeps}
+use Rattle.rs_outlet.specs.Pending.Slots.{open_at}
+use Rattle.rs_outlet.specs.Pending.Owed.{Keeps}
 use Rattle.rs_outlet.specs.Views.{View, Table, AreNumbered, IsCount, HaveNumbers, WaitsAreExact, is_touched, is_whole}
-use Rattle.rs_outlet.proofs.Waiting.Backing.{are_backed_same, changes_fit, fit_same, fit_spoken, own_same}
+use Rattle.rs_outlet.proofs.Pending.Backing.{are_backed_same, changes_fit, fit_same, fit_spoken, own_same}
 use Rattle.rs_outlet.specs.Inside.{AreOwn, numbers_from, loc_of, is_changed, view_of}
-use Rattle.rs_outlet.specs.Turn.Touching.{touched_of}
-use Rattle.rs_outlet.proofs.Turn.Numbering.{all_front, all_behind, all_both, have_rows}
-use Rattle.rs_outlet.proofs.Waiting.Carrying.{distinct_prefixes, keeps_both, keeps_same}
-use Rattle.rs_outlet.proofs.Waiting.Unchanged.{told_kept, marked_kept, exact_kept}
-use Rattle.rs_outlet.proofs.Turn.Ranks.{due_unnumbered, none_holds}
-use Rattle.rs_outlet.proofs.Turn.Counting.{count_touched, counted_by_prefix}
-use Rattle.rs_outlet.proofs.Turn.LocByNumber.{numbered}
-use Rattle.rs_outlet.proofs.Turn.TurnedLoc.{turned_at}
+use Rattle.rs_outlet.specs.Decided.Touching.{touched_of}
+use Rattle.rs_outlet.proofs.Decided.Numbering.{all_front, all_behind, all_both, have_rows}
+use Rattle.rs_outlet.proofs.Pending.Carrying.{distinct_prefixes, keeps_both, keeps_same}
+use Rattle.rs_outlet.proofs.Pending.Unchanged.{told_kept, marked_kept, exact_kept}
+use Rattle.rs_outlet.proofs.Decided.Ranks.{due_unnumbered, none_holds}
+use Rattle.rs_outlet.proofs.Decided.Counting.{count_touched, counted_by_prefix}
+use Rattle.rs_outlet.proofs.Decided.LocByNumber.{numbered}
+use Rattle.rs_outlet.proofs.Decided.TurnedLoc.{turned_at}
 use Rattle.rs_outlet.proofs.outlet.Outlet.turn_up.Goals as goal
 
 pub commit-requires-clause-rows : goal.commit-requires-clause-rows

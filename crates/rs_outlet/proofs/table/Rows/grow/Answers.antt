@@ -1,6 +1,6 @@
 use Rattle.std.proofs.Common.{ap, ◌∙◌, arith}
 use Rattle.rs_outlet.specs.Inside.{row_at, loc_of, numbers_from}
-use Rattle.rs_outlet.proofs.Turn.Numbering.{push_row, push_loc, push_numbers}
+use Rattle.rs_outlet.proofs.Decided.Numbering.{push_row, push_loc, push_numbers}
 use Rattle.rs_outlet.proofs.table.Rows.grow.Goals as goal
 
 pub loop-preserved : goal.loop-preserved

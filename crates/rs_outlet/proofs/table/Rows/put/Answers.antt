@@ -1,5 +1,5 @@
 use Rattle.std.proofs.Common.{◌∙◌, ap, ◌+◌, rules}
-use Rattle.rs_outlet.proofs.Waiting.Withdrawals.{one_more_row}
+use Rattle.rs_outlet.proofs.Pending.Withdrawals.{one_more_row}
 use Rattle.rs_outlet.proofs.table.Rows.put.Goals as goal
 
 pub invariant_of-self : goal.invariant_of-self

@@ -1,10 +1,10 @@
 use Rattle.std.proofs.Common.{◌≡◌, ◌∙◌, ℕ, None, Some, ap, subst, sym}
 use Rattle.rs_octets.specs.Prefixes.{Prefix}
 use Rattle.rs_adjin.specs.AdjIns.{number_of}
-use Rattle.rs_outlet.specs.Turn.Touching.{touched_by, touched_of}
+use Rattle.rs_outlet.specs.Decided.Touching.{touched_by, touched_of}
 use Rattle.rs_outlet.specs.Views.{HaveNumbers, with_touch}
-use Rattle.rs_outlet.proofs.Turn.Numbering.{all_both}
-use Rattle.rs_outlet.proofs.Turn.TouchedList.{touched_push}
+use Rattle.rs_outlet.proofs.Decided.Numbering.{all_both}
+use Rattle.rs_outlet.proofs.Decided.TouchedList.{touched_push}
 use Rattle.rs_outlet.proofs.touched.Touched.add.Goals as goal
 
 pub returns-then-self-clause-touched : goal.returns-then-self-clause-touched

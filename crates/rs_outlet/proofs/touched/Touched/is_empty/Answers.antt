@@ -1,6 +1,6 @@
 use Rattle.std.proofs.Common.{◌∙◌, ap, arith, sym, vec_len}
-use Rattle.rs_outlet.specs.Turn.Touching.{touched_of}
-use Rattle.rs_outlet.proofs.Turn.TouchedList.{emptied}
+use Rattle.rs_outlet.specs.Decided.Touching.{touched_of}
+use Rattle.rs_outlet.proofs.Decided.TouchedList.{emptied}
 use Rattle.rs_outlet.proofs.touched.Touched.is_empty.Goals as goal
 
 pub returns : goal.returns

@@ -1,7 +1,7 @@
 use Rattle.std.proofs.Common.{◌<◌, ◌≤◌, ◌∙◌, length, ap, arith, subst, sym}
-use Rattle.rs_outlet.specs.Turn.Touching.{AreOnce, touched_of}
+use Rattle.rs_outlet.specs.Decided.Touching.{AreOnce, touched_of}
 use Rattle.rs_outlet.specs.Views.{is_whole}
-use Rattle.rs_outlet.proofs.Turn.TouchedList.{as_many, not_many, too_many}
+use Rattle.rs_outlet.proofs.Decided.TouchedList.{as_many, not_many, too_many}
 use Rattle.rs_outlet.proofs.touched.Touched.list.Goals as goal
 
 pub returns-then-len-gt-TOUCHED_MAX-clause-whole :

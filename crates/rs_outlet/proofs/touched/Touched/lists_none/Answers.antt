@@ -1,5 +1,5 @@
 use Rattle.std.proofs.Common.{vec_len, arith}
-use Rattle.rs_outlet.proofs.Turn.TouchedList.{no_entries}
+use Rattle.rs_outlet.proofs.Decided.TouchedList.{no_entries}
 use Rattle.rs_outlet.proofs.touched.Touched.lists_none.Goals as goal
 
 pub returns : goal.returns

@@ -1,6 +1,6 @@
 use Rattle.std.proofs.Common.{◌<◌, length, ap, ◌∙◌, arith}
-use Rattle.rs_outlet.specs.Turn.Touching.{touched_of}
-use Rattle.rs_outlet.proofs.Turn.TouchedList.{all_touched, same_touched}
+use Rattle.rs_outlet.specs.Decided.Touching.{touched_of}
+use Rattle.rs_outlet.proofs.Decided.TouchedList.{all_touched, same_touched}
 use Rattle.rs_outlet.proofs.touched.Touched.make_room.Goals as goal
 
 pub returns-then-len-gt-TOUCHED_MAX-clause-touched :

@@ -1,5 +1,5 @@
 use Rattle.std.proofs.Common.{◌∙◌}
-use Rattle.rs_outlet.proofs.Waiting.TwoParts.{added_same}
+use Rattle.rs_outlet.proofs.Pending.TwoParts.{added_same}
 use Rattle.rs_outlet.proofs.waiting.Waits.add.Goals as goal
 
 pub returns-then-has_begun-clause-slots : goal.returns-then-has_begun-clause-slots

@@ -2,11 +2,11 @@ use Rattle.std.proofs.Common.{rules, ◌∙◌, arith, cond}
 use Rattle.std.proofs.lemmas.List.{length-map}
 use Rattle.std.proofs.lemmas.List.Sorted.{length_permutation, sum_by-IsPermutation}
 use Rattle.rs_outlet.specs.declared.waiting.Wait.{Wait}
-use Rattle.rs_outlet.specs.Waiting.Slots.{is_withdrawn}
-use Rattle.rs_outlet.proofs.Waiting.Adding.{moved_apart, same_open}
-use Rattle.rs_outlet.proofs.Waiting.TwoParts.{first_same, late_rise, open_within}
-use Rattle.rs_outlet.proofs.Waiting.Withdrawals.{one_if}
-use Rattle.rs_outlet.proofs.Waiting.Chains.{none_chained}
+use Rattle.rs_outlet.specs.Pending.Slots.{is_withdrawn}
+use Rattle.rs_outlet.proofs.Pending.Adding.{moved_apart, same_open}
+use Rattle.rs_outlet.proofs.Pending.TwoParts.{first_same, late_rise, open_within}
+use Rattle.rs_outlet.proofs.Pending.Withdrawals.{one_if}
+use Rattle.rs_outlet.proofs.Pending.Chains.{none_chained}
 use Rattle.rs_outlet.proofs.waiting.Waits.add_late.Goals as goal
 
 pub put_slots-requires-clause-runs : goal.put_slots-requires-clause-runs

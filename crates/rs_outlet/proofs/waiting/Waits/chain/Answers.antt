@@ -1,6 +1,6 @@
 use Rattle.std.proofs.Common.{◌≡◌, ◌+◌, ◌-◌, ◌∙◌, subst, arith}
-use Rattle.rs_outlet.specs.Waiting.Chains.{AreHeads, dues_at}
-use Rattle.rs_outlet.proofs.Waiting.Chains.{as_many_dues, heads_past, chained_any}
+use Rattle.rs_outlet.specs.Pending.Chains.{AreHeads, dues_at}
+use Rattle.rs_outlet.proofs.Pending.Chains.{as_many_dues, heads_past, chained_any}
 use Rattle.rs_outlet.proofs.waiting.Waits.chain.Goals as goal
 
 pub invariant_of-self-in-loop-clause-chained : goal.invariant_of-self-in-loop-clause-chained

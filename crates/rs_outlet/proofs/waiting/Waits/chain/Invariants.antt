@@ -1,6 +1,6 @@
 use Rattle.std.proofs.Common.{◌≡◌, ◌-◌}
 use Rattle.std.specs.Vec.{vec_capacity}
-use Rattle.rs_outlet.specs.Waiting.Chains.{AreHeads, dues_at}
+use Rattle.rs_outlet.specs.Pending.Chains.{AreHeads, dues_at}
 use Rattle.rs_outlet.proofs.waiting.Waits.chain.Given as goal
 
 abbrev pub invariant-loop : goal.invariant-loop

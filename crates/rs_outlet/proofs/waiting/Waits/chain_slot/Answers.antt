@@ -1,8 +1,8 @@
 use Rattle.std.proofs.Common.{rules, ◌≡◌, ◌%◌, length, ap, arith, refl}
 use Rattle.std.proofs.lemmas.Option.{slice_get_read}
 use Rattle.rs_outlet.specs.declared.waiting.Due.TheVariants as due
-use Rattle.rs_outlet.specs.Waiting.Chains.{dues_at}
-use Rattle.rs_outlet.proofs.Waiting.Chains.{as_many_dues, due_read, heads_more, heads_none, heads_withdrawn, chained_more}
+use Rattle.rs_outlet.specs.Pending.Chains.{dues_at}
+use Rattle.rs_outlet.proofs.Pending.Chains.{as_many_dues, due_read, heads_more, heads_none, heads_withdrawn, chained_more}
 use Rattle.rs_outlet.proofs.waiting.Waits.chain_slot.Goals as goal
 
 pub returns-in_default-clause-heads : goal.returns-in_default-clause-heads

@@ -1,6 +1,6 @@
 use Rattle.std.proofs.Common.{rules}
-use Rattle.rs_outlet.proofs.Waiting.Chains.{none_chained}
-use Rattle.rs_outlet.proofs.Waiting.Slots.{no_part, none_distinct, none_rise}
+use Rattle.rs_outlet.proofs.Pending.Chains.{none_chained}
+use Rattle.rs_outlet.proofs.Pending.Slots.{no_part, none_distinct, none_rise}
 use Rattle.rs_outlet.proofs.waiting.Waits.clear.Goals as goal
 
 pub invariant_of-self-clause-first : goal.invariant_of-self-clause-first

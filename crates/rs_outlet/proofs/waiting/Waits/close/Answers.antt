@@ -7,11 +7,11 @@ use Rattle.std.specs.List.Sorted.{IsStrictlySortedBy}
 use Rattle.std.specs.Ordering.{eq_by_cmp}
 use Rattle.rs_octets.specs.Prefixes.{prefix_order}
 use Rattle.rs_outlet.specs.declared.waiting.Wait.{Wait}
-use Rattle.rs_outlet.specs.Waiting.Slots.{is_withdrawn, is_announced}
-use Rattle.rs_outlet.specs.Waiting.Chains.{AreChained}
-use Rattle.rs_outlet.proofs.Waiting.Chains.{same_dues}
-use Rattle.rs_outlet.proofs.Waiting.Slots.{count_shut, count_one, count_less, same_prefixes, closed_at}
-use Rattle.rs_outlet.proofs.Waiting.Withdrawals.{withdrawn_less}
+use Rattle.rs_outlet.specs.Pending.Slots.{is_withdrawn, is_announced}
+use Rattle.rs_outlet.specs.Pending.Chains.{AreChained}
+use Rattle.rs_outlet.proofs.Pending.Chains.{same_dues}
+use Rattle.rs_outlet.proofs.Pending.Slots.{count_shut, count_one, count_less, same_prefixes, closed_at}
+use Rattle.rs_outlet.proofs.Pending.Withdrawals.{withdrawn_less}
 use Rattle.rs_outlet.proofs.waiting.Waits.close.Goals as goal
 
 pub overflow_sub-self : goal.overflow_sub-self

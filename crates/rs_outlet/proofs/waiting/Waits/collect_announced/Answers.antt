@@ -1,7 +1,7 @@
 use Rattle.std.proofs.Common.{◌≡◌, ◌+◌, ◌<◌, ◌∙◌, ℕ, zero, suc, Some, length, ap, arith, inl, inr, refl, rules, sym, subst, vec_len}
 use Rattle.std.specs.Prelude.{◌⊎◌}
 use Rattle.std.specs.List.{HoldsAt}
-use Rattle.rs_outlet.specs.Waiting.Choosing.{WaitsFor, shares}
+use Rattle.rs_outlet.specs.Pending.Choosing.{WaitsFor, shares}
 use Rattle.rs_outlet.proofs.Message.AllWaiting.{none_share}
 use Rattle.rs_outlet.proofs.Message.Chosen.{as_many, none_chosen, there_backed}
 use Rattle.rs_outlet.proofs.Message.Fullest.{listed_all, listed_later, listed_none, listed_one}

@@ -1,8 +1,8 @@
 use Rattle.std.proofs.Common.{◌≡◌, ◌+◌, ◌<◌, ◌≤◌, [], Some, vec_len}
 use Rattle.std.specs.List.{HoldsAt}
 use Rattle.std.specs.Vec.{vec_capacity}
-use Rattle.rs_outlet.specs.Waiting.Hashing.{attributes_hash}
-use Rattle.rs_outlet.specs.Waiting.Choosing.{AreChosen, HaveRoom, Rise, WaitsFor, shares}
+use Rattle.rs_outlet.specs.Pending.Hashing.{attributes_hash}
+use Rattle.rs_outlet.specs.Pending.Choosing.{AreChosen, HaveRoom, Rise, WaitsFor, shares}
 use Rattle.rs_outlet.specs.Inside.{AreBacked}
 use Rattle.std.specs.Prelude.{slice_get}
 use Rattle.rs_outlet.proofs.Message.Fullest.{AreListedTo}

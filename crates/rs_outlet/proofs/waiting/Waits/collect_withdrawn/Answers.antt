@@ -2,7 +2,7 @@ use Rattle.std.proofs.Common.{◌≡◌, ◌<◌, ◌∙◌, [], None, Some, ap,
 use Rattle.std.specs.Prelude.{true}
 use Rattle.std.specs.List.{HoldsAt}
 use Rattle.std.proofs.lemmas.Bool.{cases_eq}
-use Rattle.rs_outlet.specs.Waiting.Slots.{is_withdrawn}
+use Rattle.rs_outlet.specs.Pending.Slots.{is_withdrawn}
 use Rattle.rs_outlet.proofs.Message.Chosen.{as_many, none_chosen}
 use Rattle.rs_outlet.proofs.Message.Fullest.{listed_all, listed_none, listed_one}
 use Rattle.rs_outlet.proofs.Message.Rising.{head_first, head_more, none_listed, rise_more}

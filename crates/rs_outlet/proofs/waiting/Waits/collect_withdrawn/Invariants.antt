@@ -1,9 +1,9 @@
 use Rattle.std.proofs.Common.{◌≡◌, ◌<◌, ◌≤◌, [], true, List, Option, None, Some, vec_len}
 use Rattle.std.specs.List.{HoldsAt}
-use Rattle.rs_outlet.specs.Waiting.Slots.{is_withdrawn}
+use Rattle.rs_outlet.specs.Pending.Slots.{is_withdrawn}
 use Rattle.std.specs.Vec.{vec_capacity}
 use Rattle.rs_outlet.specs.declared.rows.Row.{Row}
-use Rattle.rs_outlet.specs.Waiting.Choosing.{AreChosen, HaveRoom, Rise}
+use Rattle.rs_outlet.specs.Pending.Choosing.{AreChosen, HaveRoom, Rise}
 use Rattle.std.specs.Prelude.{slice_get}
 use Rattle.rs_outlet.proofs.Message.Fullest.{AreListedTo}
 use Rattle.rs_outlet.proofs.Message.Rising.{AreBelow}

@@ -3,11 +3,11 @@ use Rattle.std.specs.List.{list_any}
 use Rattle.std.specs.Prelude.{slice_get}
 use Rattle.std.proofs.lemmas.List.{length-map}
 use Rattle.rs_outlet.specs.declared.waiting.Wait.{Wait}
-use Rattle.rs_outlet.specs.Waiting.Slots.{prefixes_at}
-use Rattle.rs_outlet.specs.Waiting.Parts.{AreParts}
-use Rattle.rs_outlet.proofs.Waiting.Adding.{not_listed}
-use Rattle.rs_outlet.proofs.Waiting.Finding.{open_slot, shut_slot}
-use Rattle.rs_outlet.proofs.Turn.LocByNumber.{same}
+use Rattle.rs_outlet.specs.Pending.Slots.{prefixes_at}
+use Rattle.rs_outlet.specs.Pending.Parts.{AreParts}
+use Rattle.rs_outlet.proofs.Pending.Adding.{not_listed}
+use Rattle.rs_outlet.proofs.Pending.Finding.{open_slot, shut_slot}
+use Rattle.rs_outlet.proofs.Decided.LocByNumber.{same}
 use Rattle.rs_outlet.proofs.waiting.Waits.find.Goals as goal
 
 pub slot_of-requires : goal.slot_of-requires

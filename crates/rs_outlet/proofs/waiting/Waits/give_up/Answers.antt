@@ -1,8 +1,8 @@
 use Rattle.std.proofs.Common.{◌≤◌, ◌∙◌, None, cond, length, get_or, ap, arith}
 use Rattle.std.specs.Prelude.{slice_get}
 use Rattle.std.specs.List.{list_any}
-use Rattle.rs_outlet.specs.Waiting.Slots.{open_at}
-use Rattle.rs_outlet.proofs.Turn.LocByNumber.{same}
+use Rattle.rs_outlet.specs.Pending.Slots.{open_at}
+use Rattle.rs_outlet.proofs.Decided.LocByNumber.{same}
 use Rattle.rs_outlet.proofs.Message.Chosen.{next_chosen, given_up_more, as_many, take_past}
 use Rattle.rs_outlet.proofs.waiting.Waits.give_up.Goals as goal
 

@@ -4,9 +4,9 @@ use Rattle.std.specs.Vec.{vec_capacity}
 use Rattle.rs_octets.specs.Prefixes.{Prefix}
 use Rattle.rs_attrs.specs.Meaning.{Attribute}
 use Rattle.rs_outlet.specs.declared.rows.Row.{Row}
-use Rattle.rs_outlet.specs.Waiting.Slots.{prefixes_at, open_at, withdrawn_count}
-use Rattle.rs_outlet.specs.Waiting.Choosing.{AreChosen}
-use Rattle.rs_outlet.proofs.Turn.LocByNumber.{same}
+use Rattle.rs_outlet.specs.Pending.Slots.{prefixes_at, open_at, withdrawn_count}
+use Rattle.rs_outlet.specs.Pending.Choosing.{AreChosen}
+use Rattle.rs_outlet.proofs.Decided.LocByNumber.{same}
 use Rattle.rs_outlet.proofs.waiting.Waits.give_up.Given as goal
 
 abbrev pub invariant-loop-slot : goal.invariant-loop-slot

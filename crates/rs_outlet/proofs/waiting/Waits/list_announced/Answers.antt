@@ -1,7 +1,7 @@
 use Rattle.std.proofs.Common.{◌≡◌, ◌∙◌, ◌++◌, ◌∷◌, [], Some, List, true, false, ◌&&◌, rules, sym, ap, append-nil}
 use Rattle.rs_octets.specs.Prefixes.{Prefix}
 use Rattle.rs_outlet.specs.declared.waiting.Wait.{Wait}
-use Rattle.rs_outlet.specs.Waiting.Choosing.{passing, shares}
+use Rattle.rs_outlet.specs.Pending.Choosing.{passing, shares}
 use Rattle.rs_outlet.specs.Inside.{IsBacked, row_by, shown}
 use Rattle.rs_outlet.specs.Message.Next.{has_attributes}
 use Rattle.rs_outlet.proofs.Message.Chosen.{chosen_announced}

@@ -1,8 +1,8 @@
 use Rattle.std.proofs.Common.{◌≡◌, ◌∙◌, ◌++◌, ◌∷◌, [], None, List, rules, sym, ap, append-nil}
 use Rattle.rs_octets.specs.Prefixes.{Prefix}
 use Rattle.rs_outlet.specs.declared.waiting.Wait.{Wait}
-use Rattle.rs_outlet.specs.Waiting.Choosing.{passing}
-use Rattle.rs_outlet.specs.Waiting.Slots.{is_withdrawn}
+use Rattle.rs_outlet.specs.Pending.Choosing.{passing}
+use Rattle.rs_outlet.specs.Pending.Slots.{is_withdrawn}
 use Rattle.rs_outlet.proofs.Message.Chosen.{chosen_withdrawn}
 use Rattle.rs_outlet.proofs.Message.Fullest.{at_slot, passing_none, passing_one}
 use Rattle.rs_outlet.proofs.waiting.Waits.list_withdrawn.Goals as goal

@@ -1,5 +1,5 @@
 use Rattle.std.proofs.Common.{arith}
-use Rattle.rs_outlet.proofs.Waiting.TwoParts.{first_whole}
+use Rattle.rs_outlet.proofs.Pending.TwoParts.{first_whole}
 use Rattle.rs_outlet.proofs.waiting.Waits.make_one_part.Goals as goal
 
 pub returns-then-self-len-clause-rises : goal.returns-then-self-len-clause-rises

@@ -3,11 +3,11 @@ use Rattle.std.specs.FinMap as fin
 use Rattle.std.proofs.lemmas.Map.Keys.{IsDistinct-from_sorted}
 use Rattle.rs_octets.specs.Prefixes.{prefix_order}
 use Rattle.rs_outlet.specs.Inside.{loc_of}
-use Rattle.rs_outlet.specs.Waiting.Marking.{MayWaitAgain}
-use Rattle.rs_outlet.specs.Waiting.Slots.{open_at, prefixes_at}
-use Rattle.rs_outlet.proofs.Waiting.TwoParts.{whole_first, whole_late}
-use Rattle.rs_outlet.proofs.Waiting.Unchanged.{backed_same}
-use Rattle.rs_outlet.proofs.Waiting.Chains.{none_chained}
+use Rattle.rs_outlet.specs.Pending.Marking.{MayWaitAgain}
+use Rattle.rs_outlet.specs.Pending.Slots.{open_at, prefixes_at}
+use Rattle.rs_outlet.proofs.Pending.TwoParts.{whole_first, whole_late}
+use Rattle.rs_outlet.proofs.Pending.Unchanged.{backed_same}
+use Rattle.rs_outlet.proofs.Pending.Chains.{none_chained}
 use Rattle.rs_outlet.proofs.waiting.Waits.mark_all.Goals as goal
 
 pub add_rows-requires-clause-room : goal.add_rows-requires-clause-room

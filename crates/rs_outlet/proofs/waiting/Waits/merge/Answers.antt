@@ -1,6 +1,6 @@
 use Rattle.std.proofs.Common.{rules, ◌∙◌, arith}
-use Rattle.rs_outlet.proofs.Waiting.TwoParts.{are_merged, whole_first, whole_late}
-use Rattle.rs_outlet.proofs.Waiting.Chains.{none_chained}
+use Rattle.rs_outlet.proofs.Pending.TwoParts.{are_merged, whole_first, whole_late}
+use Rattle.rs_outlet.proofs.Pending.Chains.{none_chained}
 use Rattle.rs_outlet.proofs.waiting.Waits.merge.Goals as goal
 
 pub invariant_of-self-clause-counted : goal.invariant_of-self-clause-counted

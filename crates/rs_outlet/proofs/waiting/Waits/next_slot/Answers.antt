@@ -1,8 +1,8 @@
 use Rattle.std.proofs.Common.{rules, ◌≡◌, ◌<◌, ◌∙◌, ◌%◌, true, length, slice_get, vec_len, get_or, sym, ap, subst, arith, refl}
 use Rattle.std.proofs.lemmas.Option.{slice_get_read}
-use Rattle.rs_outlet.specs.Waiting.Chains.{dues_at, is_in_bucket}
+use Rattle.rs_outlet.specs.Pending.Chains.{dues_at, is_in_bucket}
 use Rattle.rs_outlet.proofs.Message.Chosen.{element}
-use Rattle.rs_outlet.proofs.Waiting.Chains.{as_many_dues, due_at, none_between}
+use Rattle.rs_outlet.proofs.Pending.Chains.{as_many_dues, due_at, none_between}
 use Rattle.rs_outlet.proofs.waiting.Waits.next_slot.Goals as goal
 
 pub returns-in-Some-clause-between : goal.returns-in-Some-clause-between

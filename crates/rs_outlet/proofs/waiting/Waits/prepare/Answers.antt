@@ -1,8 +1,8 @@
 use Rattle.std.proofs.Common.{◌∙◌, ap, arith, subst, sym}
 use Rattle.std.specs.List.Sorted.{IsStrictlySortedBy}
 use Rattle.rs_octets.specs.Prefixes.{prefix_order}
-use Rattle.rs_outlet.specs.Waiting.Slots.{open_at, prefixes_at, withdrawn_count}
-use Rattle.rs_outlet.proofs.Waiting.TwoParts.{first_whole}
+use Rattle.rs_outlet.specs.Pending.Slots.{open_at, prefixes_at, withdrawn_count}
+use Rattle.rs_outlet.proofs.Pending.TwoParts.{first_whole}
 use Rattle.rs_outlet.proofs.waiting.Waits.prepare.Goals as goal
 
 pub returns-then-self-clause-rises : goal.returns-then-self-clause-rises

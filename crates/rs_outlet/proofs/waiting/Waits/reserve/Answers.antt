@@ -5,8 +5,8 @@ use Rattle.std.specs.List.Sorted.{IsStrictlySortedBy}
 use Rattle.std.specs.Ordering.{eq_by_cmp}
 use Rattle.rs_octets.specs.Prefixes.{prefix_order}
 use Rattle.rs_outlet.specs.declared.waiting.Wait.{Wait}
-use Rattle.rs_outlet.specs.Waiting.Slots.{is_announced, is_withdrawn, open_count, prefixes_at}
-use Rattle.rs_outlet.proofs.Waiting.Chains.{same_chained}
+use Rattle.rs_outlet.specs.Pending.Slots.{is_announced, is_withdrawn, open_count, prefixes_at}
+use Rattle.rs_outlet.proofs.Pending.Chains.{same_chained}
 use Rattle.rs_outlet.proofs.waiting.Waits.reserve.Goals as goal
 
 pub invariant_of-self-in-Break-branch-2 : goal.invariant_of-self-in-Break-branch-2

@@ -1,5 +1,5 @@
 use Rattle.std.proofs.Common.{◌∙◌, ap}
-use Rattle.rs_outlet.specs.Waiting.Chains.{has_hash}
+use Rattle.rs_outlet.specs.Pending.Chains.{has_hash}
 use Rattle.rs_outlet.proofs.Message.AllWaiting.{just_not, other_hash}
 use Rattle.rs_outlet.proofs.waiting.choosing.waits_for.Goals as goal
 

@@ -1,6 +1,6 @@
 use Rattle.std.proofs.Common.{List, ◌∙◌, ap, sym, take}
 use Rattle.rs_outlet.specs.declared.waiting.Wait.{Wait}
-use Rattle.rs_outlet.proofs.Waiting.MarkedAll.{in_whole, is_in}
+use Rattle.rs_outlet.proofs.Pending.MarkedAll.{in_whole, is_in}
 use Rattle.rs_outlet.proofs.waiting.marking.add_row.Goals as goal
 
 pub returns-then-has_prefix-clause-listed : goal.returns-then-has_prefix-clause-listed

@@ -5,12 +5,12 @@ use Rattle.std.specs.List.Sorted.{IsStrictlySortedBy}
 use Rattle.std.specs.Vec.{vec_capacity}
 use Rattle.rs_octets.specs.Prefixes.{prefix_order}
 use Rattle.rs_outlet.specs.declared.waiting.Wait.{Wait}
-use Rattle.rs_outlet.specs.Waiting.Slots.{prefixes_at, withdrawn_count}
+use Rattle.rs_outlet.specs.Pending.Slots.{prefixes_at, withdrawn_count}
 use Rattle.rs_outlet.specs.Inside.{IsBacked, loc_of}
-use Rattle.rs_outlet.specs.Waiting.Marking.{IsPutAgain, MayAddRow, remarked}
+use Rattle.rs_outlet.specs.Pending.Marking.{IsPutAgain, MayAddRow, remarked}
 use Rattle.rs_outlet.proofs.Message.Chosen.{take_past}
-use Rattle.rs_outlet.proofs.Waiting.MarkedAgain.{backed_again, backed_first, marked_again, marked_first, marking_more, remarked_rise, AreMarking}
-use Rattle.rs_outlet.proofs.Waiting.MarkedAll.{all_listed, all_opened, none_listed_yet, none_more_listed, one_more_listed, still_opened, withdrawn_added, withdrawn_still, AreListed}
+use Rattle.rs_outlet.proofs.Pending.MarkedAgain.{backed_again, backed_first, marked_again, marked_first, marking_more, remarked_rise, AreMarking}
+use Rattle.rs_outlet.proofs.Pending.MarkedAll.{all_listed, all_opened, none_listed_yet, none_more_listed, one_more_listed, still_opened, withdrawn_added, withdrawn_still, AreListed}
 use Rattle.rs_outlet.proofs.waiting.marking.add_rows.Goals as goal
 use Rattle.rs_outlet.proofs.waiting.marking.add_rows.Goals.{in-Some, in_default}
 

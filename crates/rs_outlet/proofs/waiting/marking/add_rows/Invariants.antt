@@ -1,9 +1,9 @@
 use Rattle.std.proofs.Common.{◌≡◌, ◌≤◌}
 use Rattle.std.specs.Vec.{vec_capacity}
 use Rattle.rs_outlet.specs.Inside.{AreBacked}
-use Rattle.rs_outlet.specs.Waiting.Slots.{withdrawn_count}
-use Rattle.rs_outlet.proofs.Waiting.MarkedAgain.{AreMarking}
-use Rattle.rs_outlet.proofs.Waiting.MarkedAll.{AreListed}
+use Rattle.rs_outlet.specs.Pending.Slots.{withdrawn_count}
+use Rattle.rs_outlet.proofs.Pending.MarkedAgain.{AreMarking}
+use Rattle.rs_outlet.proofs.Pending.MarkedAll.{AreListed}
 use Rattle.rs_outlet.proofs.waiting.marking.add_rows.Given as goal
 
 abbrev pub invariant-loop-slot : goal.invariant-loop-slot

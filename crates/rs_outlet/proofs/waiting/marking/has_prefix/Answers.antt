@@ -1,6 +1,6 @@
 use Rattle.std.proofs.Common.{◌∙◌, sym, rules}
 use Rattle.std.proofs.lemmas.List.Sorted.{answers_always}
-use Rattle.rs_outlet.proofs.Waiting.MarkedAgain.{found_listed, not_found}
+use Rattle.rs_outlet.proofs.Pending.MarkedAgain.{found_listed, not_found}
 use Rattle.rs_outlet.proofs.waiting.marking.has_prefix.Goals as goal
 
 pub returns-clause-absent : goal.returns-clause-absent

@@ -2,7 +2,7 @@ use Rattle.std.proofs.Common.{◌≡◌, ◌+◌, ◌<◌, ◌≤◌, ◌++◌, 
 use Rattle.std.proofs.lemmas.List.{take-append-le}
 use Rattle.std.proofs.lemmas.List.Edits.{map_over_more}
 use Rattle.rs_outlet.specs.declared.waiting.Wait.{Wait}
-use Rattle.rs_outlet.specs.Waiting.Marking.{is_told, remarked}
+use Rattle.rs_outlet.specs.Pending.Marking.{is_told, remarked}
 use Rattle.rs_outlet.proofs.Message.Chosen.{take_past}
 use Rattle.rs_outlet.proofs.Message.Ranges.{drop_all}
 use Rattle.rs_outlet.proofs.waiting.marking.mark_told.Goals as goal

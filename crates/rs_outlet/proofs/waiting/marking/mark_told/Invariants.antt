@@ -1,5 +1,5 @@
 use Rattle.std.proofs.Common.{◌≡◌, ◌++◌, map, take, drop}
-use Rattle.rs_outlet.specs.Waiting.Marking.{remarked}
+use Rattle.rs_outlet.specs.Pending.Marking.{remarked}
 use Rattle.rs_outlet.proofs.waiting.marking.mark_told.Given as goal
 
 abbrev pub invariant-loop-wait : goal.invariant-loop-wait

@@ -1,5 +1,5 @@
 use Rattle.std.proofs.Common.{ap, ◌∙◌, length, refl, Some}
-use Rattle.rs_core.specs.Link.Steps as links
+use Rattle.rs_core.specs.Drives.Steps as links
 use Rattle.rs_trace.specs.Output.{sent_line}
 use Rattle.rs_trace.proofs.PlayLemmas.{on_ok}
 use Rattle.rs_trace.proofs.Replaying.{added_by}

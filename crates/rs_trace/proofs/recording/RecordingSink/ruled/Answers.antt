@@ -1,5 +1,5 @@
 use Rattle.std.proofs.Common.{refl}
-use Rattle.rs_core.specs.Link.Steps as links
+use Rattle.rs_core.specs.Drives.Steps as links
 use Rattle.rs_trace.proofs.Replaying.{added_by}
 use Rattle.rs_trace.proofs.recording.RecordingSink.ruled.Goals as goal
 

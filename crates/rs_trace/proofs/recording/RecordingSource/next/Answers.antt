@@ -1,6 +1,6 @@
 use Rattle.std.proofs.Common.{◌≡◌, refl, [], ◌∷◌, Some, None, subst, rules}
 use Rattle.std.specs.Prelude.{Result}
-use Rattle.rs_core.specs.Link.Steps as links
+use Rattle.rs_core.specs.Drives.Steps as links
 use Rattle.rs_trace.specs.declared.trace.Entry.{Entry}
 use Rattle.rs_trace.specs.declared.fault.Stop.{Stop}
 use Rattle.rs_trace.specs.Entries.{meaning_in}

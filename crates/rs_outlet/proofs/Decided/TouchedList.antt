@@ -1,0 +1,210 @@
+-- The list of touched prefixes: what it says, what a touch more makes of it, and what is left once it is in order.
+use Rattle.std.proofs.Common.{◌≡◌, ◌∙◌, ◌↔◌, ◌<◌, ◌≤◌, ℕ, Bool, true, false, cond, not, ◌||◌, nat_eq, nat_lt, Option, None, Some, List, [], ◌∷◌, ◌++◌, length, ◌+◌, refl, sym, ap, subst, arith}
+use mathlib.Core.Bool.{true≢false}
+use Rattle.std.specs.List.{AllByRecursion, IsDistinct, dedup, dedup_from, list_any}
+use Rattle.std.specs.List.Sorted.{IsPermutation, IsSorted, IsStrictlySortedBy}
+use Rattle.std.specs.Map.{keys_of}
+use Rattle.std.specs.Cmp.{IsTotalOrder, nat_cmp_total}
+use Rattle.std.specs.FinSet as set
+use Rattle.std.specs.Ordering.{eq_by_cmp, is_eq, nat_cmp}
+use Rattle.std.specs.declared.cmp.Ordering.{Ordering}
+use Rattle.std.specs.declared.cmp.Ordering.TheVariants.{Less}
+use Rattle.std.proofs.lemmas.Bool.Decides.{nat_tests}
+use Rattle.std.proofs.lemmas.Cmp.{on_total, tied_itself}
+use Rattle.std.proofs.lemmas.List.Kept.{IsStrictlySortedBy-dedup}
+use Rattle.std.proofs.lemmas.List.Sorted.{IsPermutation-map, list_any-IsPermutation}
+use Rattle.std.proofs.lemmas.Bool.{eqb-true}
+use Rattle.std.proofs.lemmas.Option.{same_Some}
+use Rattle.rs_octets.specs.Prefixes.{Prefix, prefix_order}
+use Rattle.rs_adjin.specs.declared.adj_ins.AdjIns.{AdjIns}
+use Rattle.rs_adjin.specs.AdjIns.{number_of}
+use Rattle.rs_outlet.specs.Views.{HaveNumbers, Prefixes, with_touch}
+use Rattle.rs_outlet.specs.Decided.Touching.{AreOnce, is_numbered_in, prefixes_in, touched_by, touched_of}
+use Rattle.rs_outlet.proofs.Pending.Deduped.{any_deduped}
+use Rattle.rs_outlet.proofs.Orders.{exact_prefixes, prefixes_total}
+use Rattle.rs_outlet.proofs.Decided.Touches.{contains-from_list, prefix_eq, prefix_eq-cmp, prefix_eq-is, unsigned}
+use Rattle.rs_outlet.proofs.Decided.TouchedNumbers.{any_none, any_number, moved_numbers, touched_count}
+
+abbrev Entry : Type 0
+Entry = ℕ × Prefix
+
+-- ---- what it says: its prefixes, or all where they are more than 4,096
+
+abbrev few : Prefixes → Option Prefixes
+few s = cond (nat_lt 4096 (set.len s)) None (Some s)
+
+same_insert : (s : Prefixes) (p : Prefix) → set.contains s p ≡ true → set.insert s p ≡ s
+same_insert s p here = set.same_set prefixes_total exact_prefixes _ _ (λ q. set.contains-insert prefixes_total s p q ∙ by_same q (eq_by_cmp prefix_order q p) refl)
+  where
+    by_same : (q : Prefix) (b : Bool) → eq_by_cmp prefix_order q p ≡ b → (b || set.contains s q) ≡ set.contains s q
+    by_same q true e = sym (ap (set.contains s) (prefix_eq-is q p (sym (prefix_eq-cmp q p) ∙ e)) ∙ here)
+    by_same q false e = refl
+
+still_many : (n m : ℕ) (b : Bool) → m ≡ cond b n (n + 1) → nat_lt 4096 n ≡ true → true ≡ nat_lt 4096 m
+still_many n m true is h = grind (arith, nat_tests, is, h)
+still_many n m false is h = grind (arith, nat_tests, is, h)
+
+one_more : (n m : ℕ) → m ≡ n + 1 → not (nat_lt n 4096) ≡ nat_lt 4096 m
+one_more n m is = grind (arith, nat_tests, is)
+
+turned_round : {A : Type 0} (b : Bool) (x y : A) → cond b x y ≡ cond (not b) y x
+turned_round true x y = refl
+turned_round false x y = refl
+
+-- a touch more
+touch_few : (s : Prefixes) (p : Prefix) → with_touch (few s) p ≡ few (set.insert s p)
+touch_few s p = by_size (nat_lt 4096 (set.len s)) refl (set.contains s p) refl
+  where
+    more : set.len (set.insert s p) ≡ cond (set.contains s p) (set.len s) (set.len s + 1)
+    more = set.len-insert prefixes_total s p
+
+    by_size : (many : Bool) → nat_lt 4096 (set.len s) ≡ many → (b : Bool) → set.contains s p ≡ b → with_touch (cond many None (Some s)) p ≡ few (set.insert s p)
+    by_size true m b h = ap (λ b. cond b None (Some (set.insert s p))) (still_many (set.len s) (set.len (set.insert s p)) (set.contains s p) more m)
+    by_size false m true h =
+        ap (λ b. cond b (Some s) (cond (nat_lt (set.len s) 4096) (Some (set.insert s p)) None)) h
+        ∙ ap (λ b. cond b None (Some s)) (sym m)
+        ∙ ap few (sym (same_insert s p h))
+    by_size false m false h =
+        ap (λ b. cond b (Some s) (cond (nat_lt (set.len s) 4096) (Some (set.insert s p)) None)) h
+        ∙ turned_round (nat_lt (set.len s) 4096) (Some (set.insert s p)) None
+        ∙ ap (λ b. cond b None (Some (set.insert s p))) (one_more (set.len s) (set.len (set.insert s p)) (more ∙ ap (λ b. cond b (set.len s) (set.len s + 1)) h))
+
+pub listed : (es : List Entry) → touched_by es ≡ few (set.from_list (prefixes_in es))
+listed [] = ap (λ n. cond (nat_lt 4096 n) None (Some (set.empty {R = prefix_order}))) (sym (set.len-empty prefix_order))
+listed (e ∷ es) = ap (λ o. with_touch o e.1) (listed es) ∙ touch_few (set.from_list (prefixes_in es)) e.1
+
+prefixes_push : (es : List Entry) (e : Entry) → prefixes_in (es ++ e ∷ []) ≡ prefixes_in es ++ e.1 ∷ []
+prefixes_push [] e = refl
+prefixes_push (d ∷ es) e = ap (λ ps. d.1 ∷ ps) (prefixes_push es e)
+
+pub touched_push : (es : List Entry) (e : Entry) → touched_by (es ++ e ∷ []) ≡ with_touch (touched_by es) e.1
+touched_push es e =
+    listed (es ++ e ∷ [])
+    ∙ ap few (ap set.from_list (prefixes_push es e) ∙ set.from_list_push prefixes_total exact_prefixes (prefixes_in es) e.1)
+    ∙ sym (touch_few (set.from_list (prefixes_in es)) e.1)
+    ∙ ap (λ o. with_touch o e.1) (sym (listed es))
+
+in_empty : (s : Prefixes) (p : Prefix) → set.contains s p ≡ true → s ≡ set.empty → ⊥
+in_empty s p here e = true≢false (sym here ∙ ap (λ t. set.contains t p) e ∙ set.contains-empty prefix_order p)
+
+put_in : (s : Prefixes) (p : Prefix) → set.contains (set.insert s p) p ≡ true
+put_in s p = set.contains-insert prefixes_total s p p ∙ ap (λ b. b || set.contains s p) (ap is_eq (tied_itself prefixes_total p))
+
+-- something is touched behind a touch
+not_empty : (o : Option Prefixes) (p : Prefix) → with_touch o p ≡ Some set.empty → ⊥
+not_empty None p h = absurd (let f : ◌≡◌ {A = Option Prefixes} None (Some set.empty) = h in (cc))
+not_empty (Some s) p h =
+    elim (set.contains s p) as (λ b. set.contains s p ≡ b → cond b (Some s) (cond (nat_lt (set.len s) 4096) (Some (set.insert s p)) None) ≡ Some set.empty → ⊥) [
+      | true ↦ λ here e. in_empty s p here (same_Some s set.empty e)
+      | false ↦ λ _. elim (nat_lt (set.len s) 4096) as (λ c. cond c (Some (set.insert s p)) None ≡ Some set.empty → ⊥) [
+        | true ↦ λ e. in_empty (set.insert s p) p (put_in s p) (same_Some (set.insert s p) set.empty e)
+        | false ↦ λ e. absurd (cc)
+      ]
+    ] refl h
+
+none_touched : (es : List Entry) → touched_by es ≡ Some set.empty → length es ≡ 0
+none_touched [] h = refl
+none_touched (e ∷ es) h = absurd (not_empty (touched_by es) e.1 h)
+
+empty_touched : (es : List Entry) → length es ≡ 0 → touched_by es ≡ Some set.empty
+empty_touched [] h = refl
+empty_touched (e ∷ es) h = absurd (omega (arith, h))
+
+zero_is : (n : ℕ) → nat_eq n 0 ≡ true → n ≡ 0
+zero_is n h = grind (arith, nat_tests, h)
+
+is_zero : (n : ℕ) → n ≡ 0 → nat_eq n 0 ≡ true
+is_zero n h = grind (arith, nat_tests, h)
+
+nil_by_length : (es : List Entry) → length es ≡ 0 → es ≡ []
+nil_by_length [] h = refl
+nil_by_length (e ∷ es) h = absurd (omega (arith, h))
+
+pub no_entries : (es : List Entry) (n : ℕ) (b : Bool) → n ≡ length es → b ≡ nat_eq n 0 → (b ≡ true) ↔ (es ≡ [])
+no_entries es n b len is = (λ t. nil_by_length es (sym len ∙ zero_is n (sym is ∙ t)), λ e. is ∙ is_zero n (len ∙ ap length e))
+
+-- where nothing is touched, no touch is listed
+pub none_listed : (all : Bool) (es : List Entry) → touched_of all es ≡ Some set.empty → es ≡ []
+none_listed true es h = absurd (let f : ◌≡◌ {A = Option Prefixes} None (Some set.empty) = h in cc)
+none_listed false es h = nil_by_length es (none_touched es h)
+
+pub emptied : (es : List Entry) (n : ℕ) (b : Bool) → n ≡ length es → b ≡ nat_eq n 0 → (b ≡ true) ↔ (touched_by es ≡ Some set.empty)
+emptied es n b len is = (λ t. empty_touched es (sym len ∙ zero_is n (sym is ∙ t)), λ e. is ∙ is_zero n (len ∙ none_touched es e))
+
+-- ---- in order
+
+abbrev pub by_number : Entry → Entry → Ordering
+by_number e f = nat_cmp e.0 f.0
+
+abbrev pub same_number : Entry → Entry → Bool
+same_number e f = nat_eq e.0 f.0
+
+numbers_total : IsTotalOrder by_number
+numbers_total = on_total (λ (e : Entry). e.0) nat_cmp_total
+
+all_apart : (n : ℕ) (es : List Entry) → AllByRecursion (λ f. nat_cmp n f.0 ≡ Less) es → AllByRecursion (λ m. nat_eq n m ≡ false) (keys_of es)
+all_apart n [] h = tt
+all_apart n (e ∷ es) h = (sym (unsigned n e.0) ∙ ap is_eq h.0, all_apart n es h.1)
+
+rising_once : (es : List Entry) → IsStrictlySortedBy by_number es → IsDistinct nat_eq (keys_of es)
+unfolding IsStrictlySortedBy IsDistinct
+rising_once [] h = tt
+rising_once (e ∷ es) h = (all_apart e.0 es h.0, rising_once es h.1)
+
+numbered_once : (n : ℕ) (es : List Entry) → is_numbered_in (dedup same_number es) n ≡ is_numbered_in es n
+numbered_once n es = any_deduped (λ (e : Entry). e.0) same_number (λ e f t. eqb-true e.0 f.0 t) (nat_eq n) es
+
+all_from : (P : Entry → Type 0) (k : Entry) (es : List Entry) → P k → AllByRecursion P es → AllByRecursion P (dedup_from same_number k es)
+all_from P k [] is h = (is, tt)
+all_from P k (e ∷ es) is h =
+    elim (nat_eq e.0 k.0) as (λ b. AllByRecursion P (cond b (dedup_from same_number k es) (k ∷ dedup_from same_number e es))) [
+      | true ↦ all_from P k es is h.1
+      | false ↦ (is, all_from P e es h.0 h.1)
+    ]
+
+all_once : (P : Entry → Type 0) (es : List Entry) → AllByRecursion P es → AllByRecursion P (dedup same_number es)
+all_once P [] h = tt
+all_once P (e ∷ es) h = all_from P e es h.0 h.1
+
+-- sorted by number, and each number left once
+pub ordered : (es ms fs : List Entry) → IsPermutation es ms → IsSorted by_number ms → fs ≡ dedup same_number ms → AreOnce es fs
+ordered es ms fs moved up is = subst (AreOnce es) (sym is) (record {
+  once = rising_once (dedup same_number ms) (IsStrictlySortedBy-dedup numbers_total (λ e f. sym (unsigned e.0 f.0)) ms up);
+  same = λ n. numbered_once n ms ∙ sym (list_any-IsPermutation (nat_eq n) _ _ (IsPermutation-map (λ (e : Entry). e.0) es ms moved));
+  numbered = λ ins h. all_once (λ e. number_of ins e.1 ≡ Some e.0) ms (moved_numbers ins es ms moved h);
+})
+
+more_than : (n m : ℕ) → n ≡ m → 4096 < n → nat_lt 4096 m ≡ true
+more_than n m is h = grind (arith, nat_tests, is, h)
+
+no_more_than : (n m : ℕ) → n ≡ m → n ≤ 4096 → nat_lt 4096 m ≡ false
+no_more_than n m is h = grind (arith, nat_tests, is, h)
+
+module _ (ins : AdjIns) (es fs : List Entry) (o : AreOnce es fs) (h : HaveNumbers es ins) where
+  same_prefixes : set.from_list {R = prefix_order} (prefixes_in fs) ≡ set.from_list (prefixes_in es)
+  same_prefixes = set.same_set prefixes_total exact_prefixes _ _ (λ q. contains-from_list q (prefixes_in fs) ∙ at q (number_of ins q) refl ∙ sym (contains-from_list q (prefixes_in es)))
+    where
+      at : (q : Prefix) (n : Option ℕ) → number_of ins q ≡ n → list_any (prefix_eq q) (prefixes_in fs) ≡ list_any (prefix_eq q) (prefixes_in es)
+      at q None is = any_none ins fs q (o.numbered ins h) is ∙ sym (any_none ins es q h is)
+      at q (Some n) is = any_number ins fs q n (o.numbered ins h) is ∙ o.same n ∙ sym (any_number ins es q n h is)
+
+  count : length fs ≡ set.len (set.from_list {R = prefix_order} (prefixes_in es))
+  count = touched_count ins fs (o.numbered ins h) o.once ∙ ap set.len same_prefixes
+
+  pub too_many : 4096 < length fs → touched_by es ≡ None
+  too_many many = listed es ∙ ap (λ b. cond b None (Some (set.from_list (prefixes_in es)))) (more_than (length fs) (set.len (set.from_list (prefixes_in es))) count many)
+
+  pub not_many : length fs ≤ 4096 → touched_by es ≡ Some (set.from_list (prefixes_in es))
+  not_many few_are = listed es ∙ ap (λ b. cond b None (Some (set.from_list (prefixes_in es)))) (no_more_than (length fs) (set.len (set.from_list (prefixes_in es))) count few_are)
+
+  -- as many as are touched
+  pub as_many : (prefixes : Prefixes) → length fs ≤ 4096 → touched_by es ≡ Some prefixes → length fs ≡ set.len prefixes
+  as_many prefixes few_are is = count ∙ ap set.len (same_Some (set.from_list (prefixes_in es)) prefixes (sym (not_many few_are) ∙ is))
+
+  pub same_touched : (all : Bool) → touched_of all fs ≡ touched_of all es
+  same_touched true = refl
+  same_touched false = listed fs ∙ ap few same_prefixes ∙ sym (listed es)
+
+  pub all_touched : (all : Bool) → 4096 < length fs → None ≡ touched_of all es
+  all_touched true many = refl
+  all_touched false many = sym (too_many many)

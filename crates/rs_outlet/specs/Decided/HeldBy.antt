@@ -1,0 +1,12 @@
+-- The tables that the code decides by.
+use Rattle.rs_adjin.specs.AdjIns.{client_count, held_of, identifier_of}
+use Rattle.rs_adjin.specs.declared.adj_ins.AdjIns.{AdjIns}
+use Rattle.rs_policy.specs.Configuration.{Configuration}
+use Rattle.rs_outlet.specs.Decided.Due.{Held}
+use Rattle.rs_outlet.specs.declared.deciding.Sources.{Sources}
+
+abbrev pub tables_of : Configuration → AdjIns → Held
+tables_of config ins = record { settings = config; count = client_count ins; held = held_of ins; identifier = identifier_of ins }
+
+abbrev pub held_by : Sources → Held
+held_by s = tables_of s.config.now s.ins.now

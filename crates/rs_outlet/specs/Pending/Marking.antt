@@ -1,0 +1,51 @@
+-- What waits once a client asked for everything again.
+use Rattle.std.specs.Prelude.{◌≡◌, ◌⊎◌, ℕ, Bool, true, false, Option, None, Some, IsSome, List, [], ◌∷◌, ◌++◌}
+use Rattle.std.specs.FinMap as fin
+use Rattle.rs_attrs.specs.Meaning.{Attribute}
+use Rattle.rs_outlet.specs.declared.rows.Row.{Row}
+use Rattle.std.specs.Arc.{arc_value}
+use Rattle.rs_outlet.specs.Pending.Hashing.{attributes_hash}
+use Rattle.rs_outlet.specs.declared.waiting.Due.TheVariants as due
+use Rattle.rs_outlet.specs.declared.waiting.Told.{Told}
+use Rattle.rs_outlet.specs.declared.waiting.Told.TheVariants as told
+use Rattle.rs_outlet.specs.declared.waiting.Wait.{Wait}
+use Rattle.rs_outlet.specs.Views.{Table}
+use Rattle.rs_outlet.specs.Pending.Slots.{open_at, is_withdrawal}
+
+-- whether anything was told at a slot
+abbrev pub is_told : Told → Bool
+is_told told.Nothing = false
+is_told told.Same = true
+is_told (told.Other attrs) = true
+
+abbrev pub remarked : Wait → Wait
+remarked w = record w { marked = is_told w.told }
+
+-- a slot as it is then, where this is due and this waited: marked where something was told, which is as it was
+abbrev pub WaitsAgain : Option (List Attribute) → Option Wait → Wait → Type 0
+WaitsAgain due None z = IsSome due × (is_withdrawal z.due ≡ false) × (z.told ≡ told.Same) × (z.marked ≡ true)
+WaitsAgain due (Some w) z = (z.due ≡ w.due) × (z.told ≡ w.told) × (z.marked ≡ is_told w.told)
+
+-- what waited waits still
+abbrev pub MayWaitAgain : Option (List Attribute) → Option Wait → Option Wait → Type 0
+MayWaitAgain due was None = was ≡ None
+MayWaitAgain due was (Some z) = WaitsAgain due was z
+
+-- a slot among others that waits so, where this is due and these waited
+pub record IsPutAgain (loc : Table) (ws : List Wait) (z : Wait) : Type 0 where
+  pub opened : z.open ≡ true
+  pub again : WaitsAgain (fin.get loc z.prefix) (open_at z.prefix ws) z
+
+-- a slot for the row of a number, whose prefix stands at none of these slots
+pub record IsRowAdded (base : List Wait) (number : ℕ) (row : Row) (old new : List Wait) : Type 0 where
+  pub wait : Wait
+  pub prefix : wait.prefix ≡ row.prefix
+  pub opened : wait.open ≡ true
+  pub due : wait.due ≡ due.Announced number (attributes_hash (arc_value row.attrs))
+  pub told : wait.told ≡ told.Same
+  pub marked : wait.marked ≡ true
+  pub alone : open_at row.prefix base ≡ None
+  pub added : new ≡ old ++ wait ∷ []
+
+abbrev pub MayAddRow : List Wait → ℕ → Row → List Wait → List Wait → Type 0
+MayAddRow base number row old new = (new ≡ old) ⊎ IsRowAdded base number row old new
