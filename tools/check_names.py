@@ -1,0 +1,167 @@
+#!/usr/bin/env python3
+"""Checks that what the pages name is there.
+
+It reads each page (README.md, CONTRIBUTING.md and the others at the top, docs, the READMEs of crates, .github) and looks at
+what stands in backticks, and at links. By its shape a word there is
+- a file or a folder (`specs/Due.antt`, `must-fail/`): one of the repository has this path, or ends with it. In a crate's README
+  one in src, specs, proofs or must-fail is that crate's, or of a crate that the same line names;
+- a crate (`rs_core`);
+- a target of the Makefile (`make test`);
+- an option (`--reload`): a program of ours, a tool or a benchmark has it;
+- a name (`Core::new`, `due_to`, `IsTold`, `strip`): it stands as a word in the code, the definitions, the proofs, the tools or
+  the examples, but not in a comment alone. The parts of `Core::new` stand in one file.
+Words of other shapes (numbers, octets, texts, commands of others) are passed over, but for files and crates in them.
+"""
+import pathlib
+import re
+import sys
+
+from results import end, tell
+
+TOP = pathlib.Path(__file__).resolve().parent.parent
+PAGES = ("*.md", "docs/*.md", "crates/*/README.md", ".github/**/*.md", ".github/**/*.yml")
+CODE = ("crates/*/src/**/*.rt", "crates/*/specs/**/*.antt", "crates/*/proofs/**/*.antt")
+OTHERS = ("tools/**/*.py", "tools/**/*.c", "tools/demo", "bench/**/*.py", "bench/**/*.rs", "examples/*", "Makefile", "crates.txt")
+BUILT = {"out", "target", ".git", "__pycache__"}
+
+FILE = re.compile(r"[\w.*/-]*\.(?:rt|antt|py|md|toml|trace|out|conf|service|txt|rs|c|yml)")
+FOLDER = re.compile(r"[\w.*-]+(?:/[\w.*-]+)*/")
+CRATE = re.compile(r"rs_[a-z_]+")
+OPTION = re.compile(r"--[a-z][a-z-]*")
+NAME = re.compile(r"[A-Za-z_]\w*(?:::[A-Za-z_]\w*)*")
+ARGUMENTS = re.compile(r"(?:<[^>]*>)?(?:\([^()]*\))?$")
+LINK = re.compile(r"\[[^\]]+\]\(([^)\s]+)\)")
+
+# Words of the shapes above that name nothing of ours, by page ('' is each page), with what they are.
+STRANGERS = {
+    "": {
+        "dpkt": "a library for captures", "bird": "a daemon", "nohup": "a command of the system", "ulimit": "a command of the shell",
+        "logrotate": "a program", "diff": "a command", "git": "a command", "systemctl": "a command", "journalctl": "a command",
+        "bin/": "a folder of the toolchain", "out/": "where programs are built", "--help": "clap gives it to each program",
+    },
+    "docs/REPLAY.md": dict.fromkeys(
+        ("exchange.pcap", "exchange.toml", "exchange.trace", "exchange.sent", "exchange.due"), "a file that the reader makes"
+    ),
+}
+
+
+def tree():
+    """The files of the repository, but for what is built: their paths as texts."""
+    return [
+        it.relative_to(TOP).as_posix() for it in TOP.rglob("*")
+        if it.is_file() and not BUILT & set(it.relative_to(TOP).parts[:-1])
+    ]
+
+
+def without_comments(file):
+    """A file's text without what stands behind a mark of a comment."""
+    mark = {".rt": r"//.*", ".antt": r"--(?: .*|$)", ".rs": r"//.*"}.get(file.suffix, r"^\s*#.*")
+    return re.sub(mark, "", file.read_text(errors="replace"), flags=re.MULTILINE)
+
+
+class Tree:
+    """What there is to be named."""
+
+    def __init__(self):
+        self.files = tree()
+        self.folders = {"/".join(it.split("/")[:n]) + "/" for it in self.files for n in range(1, it.count("/") + 1)}
+        self.crates = {it.name for it in (TOP / "crates").iterdir() if it.is_dir()}
+        self.targets = set(re.findall(r"^([a-z]+):", (TOP / "Makefile").read_text(), re.MULTILINE))
+        found = {it for pattern in CODE + OTHERS for it in TOP.glob(pattern)}
+        read = sorted(it for it in found if it.is_file() and it != pathlib.Path(__file__).resolve())
+        self.words = [{it.stem, *re.findall(r"\w+", without_comments(it))} for it in read]
+        self.words.append({pathlib.PurePosixPath(it).stem for it in self.files})
+        self.words.append({part for it in self.folders for part in it.split("/")})
+        self.known = set().union(*self.words)
+        self.options = "\n".join(it.read_text() for it in read if it.suffix == ".py" or "rs_command" in it.parts)
+
+    def has_path(self, path, crate, line):
+        """Whether this is a file or a folder, by its whole path or its end."""
+        ends = re.compile(r"(?:.*/)?" + re.escape(path).replace(r"\*", "[^/]*"))
+        found = [it for it in (self.folders if path.endswith("/") else self.files) if ends.fullmatch(it)]
+        if crate and re.match(r"(src|specs|proofs|must-fail)/", path):
+            named = {crate, *CRATE.findall(line)}
+            found = [it for it in found if it.split("/")[1:2] and it.split("/")[1] in named]
+        return bool(found)
+
+    def has_option(self, word):
+        """Whether one of our programs has this option. Those of rs_command are words without their hyphens."""
+        return word in self.options or f'"{word[2:]}"' in self.options
+
+    def has_name(self, name):
+        """Whether this is a name of the code, or several that stand in one file."""
+        parts = name.split("::")
+        return parts[0] in self.known if len(parts) == 1 else any(set(parts) <= it for it in self.words)
+
+
+def wrong_with(there, text, crate, line):
+    """What of this text is not there: the words; and whether anything of it could be looked up."""
+    words = text.split()
+    if len(words) > 1 and words[0] == "make":
+        return [] if words[1] in there.targets or not words[1].isalpha() else [text]
+    missing = []
+    for word in words:
+        word = word.strip(",;:\"'()[]{}")
+        if word.startswith(("/", "-")) and not word.startswith("--") or "://" in word:
+            continue
+        if FILE.fullmatch(word) and not word.startswith(".") or FOLDER.fullmatch(word):
+            if not there.has_path(word, crate, line):
+                missing.append(word)
+        elif CRATE.fullmatch(word):
+            if word not in there.crates and not there.has_name(word):
+                missing.append(word)
+        elif OPTION.fullmatch(word) and words[0] in (word, *STRANGERS[""]):
+            if not there.has_option(word):
+                missing.append(word)
+        elif len(words) == 1 and NAME.fullmatch(ARGUMENTS.sub("", word)) and not word.isupper():
+            if not there.has_name(ARGUMENTS.sub("", word)):
+                missing.append(word)
+        elif "_" in word and re.fullmatch(r"[a-z]+(?:_[a-z0-9]+)+", word) and not there.has_name(word):
+            missing.append(word)
+    return missing
+
+
+def anchors(text):
+    """The headings of a page as links name them."""
+    return {re.sub(r"[^\w\- ]", "", it.lower()).strip().replace(" ", "-") for it in re.findall(r"^#+ (.*)", text, re.MULTILINE)}
+
+
+def is_linked(page, text, target):
+    """Whether a link's target is there: a heading of this page, or a file beside it."""
+    if target.startswith("#"):
+        return target[1:] in anchors(text)
+    return "://" in target or (page.parent / target.partition("#")[0]).exists()
+
+
+def misses(there, page):
+    """How many names a page has, and those that aren't there, each with its line."""
+    name, text = page.relative_to(TOP).as_posix(), page.read_text()
+    crate = page.parent.name if page.parent.parent.name == "crates" else None
+    strangers = {**STRANGERS[""], **STRANGERS.get(name, {})}
+    count, missing, fenced = 0, [], False
+    for number, line in enumerate(text.splitlines(), 1):
+        fenced ^= line.lstrip().startswith("```")
+        if fenced or line.startswith("    "):
+            continue
+        named = re.findall(r"`([^`]+)`", line)
+        targets = LINK.findall(re.sub(r"`[^`]*`", "", line))
+        count += len(named) + len(targets)
+        missing += [(number, it) for words in named for it in wrong_with(there, words, crate, line) if it not in strangers]
+        missing += [(number, it) for it in targets if not is_linked(page, text, it)]
+    return count, missing
+
+
+def check_pages():
+    """Each page with what it names, or each name of it that isn't there."""
+    there = Tree()
+    for page in sorted({it for pattern in PAGES for it in TOP.glob(pattern)}):
+        count, missing = misses(there, page)
+        name = page.relative_to(TOP).as_posix()
+        if not missing:
+            yield f"{name}, {count} names", None
+        for line, word in missing:
+            yield f"{name}, line {line}, {word}", "nothing in the repository has this name"
+
+
+if __name__ == "__main__":
+    end(*tell(check_pages()))
