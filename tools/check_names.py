@@ -7,9 +7,9 @@ what stands in backticks, and at links. By its shape a word there is
   one in src, specs, proofs or must-fail is that crate's, or of a crate that the same line names;
 - a crate (`rs_core`);
 - a target of the Makefile (`make test`);
-- an option (`--reload`): a program of ours, a tool or a benchmark has it;
-- a name (`Core::new`, `due_to`, `IsTold`, `strip`): it stands as a word in the code, the definitions, the proofs, the tools or
-  the examples, but not in a comment alone. The parts of `Core::new` stand in one file.
+- an option (`--reload`, `out/rs_served --reload`): a program of ours, a tool or a benchmark has it;
+- a name (`due_to`, `IsTold`, `strip`): it stands as a word in the code, the definitions, the proofs, the tools or the examples,
+  and not in a comment alone. Of `Core::new` or `laws::bests_are_unbeaten` a file that is of the first has the second.
 Words of other shapes (numbers, octets, texts, commands of others) are passed over, but for files and crates in them.
 """
 import pathlib
@@ -69,14 +69,15 @@ class Tree:
         self.targets = set(re.findall(r"^([a-z]+):", (TOP / "Makefile").read_text(), re.MULTILINE))
         found = {it for pattern in CODE + OTHERS for it in TOP.glob(pattern)}
         read = sorted(it for it in found if it.is_file() and it != pathlib.Path(__file__).resolve())
-        self.words = [{it.stem, *re.findall(r"\w+", without_comments(it))} for it in read]
-        self.words.append({pathlib.PurePosixPath(it).stem for it in self.files})
-        self.words.append({part for it in self.folders for part in it.split("/")})
-        self.known = set().union(*self.words)
+        texts = {it: without_comments(it) for it in read}
+        self.code = {it: text for it, text in texts.items() if it.suffix == ".rt"}
+        self.known = {word for text in texts.values() for word in re.findall(r"\w+", text)}
+        self.known |= {part.partition(".")[0] for it in self.files for part in it.split("/")}
         self.options = "\n".join(it.read_text() for it in read if it.suffix == ".py" or "rs_command" in it.parts)
 
     def has_path(self, path, crate, line):
         """Whether this is a file or a folder, by its whole path or its end."""
+        path = re.sub(r"\b(?:NAME|CRATE|FILE)\b", "*", path)
         ends = re.compile(r"(?:.*/)?" + re.escape(path).replace(r"\*", "[^/]*"))
         found = [it for it in (self.folders if path.endswith("/") else self.files) if ends.fullmatch(it)]
         if crate and re.match(r"(src|specs|proofs|must-fail)/", path):
@@ -89,9 +90,15 @@ class Tree:
         return word in self.options or f'"{word[2:]}"' in self.options
 
     def has_name(self, name):
-        """Whether this is a name of the code, or several that stand in one file."""
-        parts = name.split("::")
-        return parts[0] in self.known if len(parts) == 1 else any(set(parts) <= it for it in self.words)
+        """Whether this is a name of the code; of two, the second stands in a file that is of the first or declares it."""
+        *_, owner, last = ["", *name.split("::")]
+        if not owner:
+            return last in self.known
+        declares = re.compile(rf"\b(?:struct|enum|trait|type|impl)\b[^;{{]*\b{owner}\b")
+        has = re.compile(rf"\b{last}\b" if last[0].isupper() else rf"\b(?:fn|mod|const) {last}\b")
+        return any(
+            has.search(text) and (owner in (it.stem, it.parts[-3]) or declares.search(text)) for it, text in self.code.items()
+        )
 
 
 def wrong_with(there, text, crate, line):
@@ -100,6 +107,8 @@ def wrong_with(there, text, crate, line):
     if len(words) > 1 and words[0] == "make":
         return [] if words[1] in there.targets or not words[1].isalpha() else [text]
     missing = []
+    if len(words) == 1:
+        words = [ARGUMENTS.sub("", words[0])]
     for word in words:
         word = word.strip(",;:\"'()[]{}")
         if word.startswith(("/", "-")) and not word.startswith("--") or "://" in word:
@@ -110,11 +119,11 @@ def wrong_with(there, text, crate, line):
         elif CRATE.fullmatch(word):
             if word not in there.crates and not there.has_name(word):
                 missing.append(word)
-        elif OPTION.fullmatch(word) and words[0] in (word, *STRANGERS[""]):
+        elif OPTION.fullmatch(word) and (words[0] == word or words[0].startswith(("out/", "tools/", "bench/", "rs_"))):
             if not there.has_option(word):
                 missing.append(word)
-        elif len(words) == 1 and NAME.fullmatch(ARGUMENTS.sub("", word)) and not word.isupper():
-            if not there.has_name(ARGUMENTS.sub("", word)):
+        elif len(words) == 1 and NAME.fullmatch(word) and not word.isupper():
+            if not there.has_name(word):
                 missing.append(word)
         elif "_" in word and re.fullmatch(r"[a-z]+(?:_[a-z0-9]+)+", word) and not there.has_name(word):
             missing.append(word)
