@@ -135,11 +135,11 @@ def anchors(text):
     return {re.sub(r"[^\w\- ]", "", it.lower()).strip().replace(" ", "-") for it in re.findall(r"^#+ (.*)", text, re.MULTILINE)}
 
 
-def is_linked(page, text, target):
-    """Whether a link's target is there: a heading of this page, or a file beside it."""
-    if target.startswith("#"):
-        return target[1:] in anchors(text)
-    return "://" in target or (page.parent / target.partition("#")[0]).exists()
+def is_linked(page, target):
+    """Whether a link's target is there: a file beside this page or the page itself, and the heading in it."""
+    file, _, heading = target.partition("#")
+    other = page.parent / file if file else page
+    return "://" in target or other.exists() and (not heading or heading in anchors(other.read_text()))
 
 
 def misses(there, page):
@@ -156,7 +156,7 @@ def misses(there, page):
         targets = LINK.findall(re.sub(r"`[^`]*`", "", line))
         count += len(named) + len(targets)
         missing += [(number, it) for words in named for it in wrong_with(there, words, crate, line) if it not in strangers]
-        missing += [(number, it) for it in targets if not is_linked(page, text, it)]
+        missing += [(number, it) for it in targets if not is_linked(page, it)]
     return count, missing
 
 
