@@ -12,9 +12,9 @@ what stands in backticks, and at links. By its shape a word there is
   and not in a comment alone. Of `Core::new` or `laws::bests_are_unbeaten` a file that is of the first has the second.
 Words of other shapes (numbers, octets, texts, commands of others) are passed over, but for files and crates in them.
 """
+import os
 import pathlib
 import re
-import sys
 
 from results import end, tell
 
@@ -47,10 +47,11 @@ STRANGERS = {
 
 def tree():
     """The files of the repository, but for what is built: their paths as texts."""
-    return [
-        it.relative_to(TOP).as_posix() for it in TOP.rglob("*")
-        if it.is_file() and not BUILT & set(it.relative_to(TOP).parts[:-1])
-    ]
+    files = []
+    for folder, below, names in os.walk(TOP):
+        below[:] = [it for it in below if it not in BUILT]
+        files += [pathlib.Path(folder, it).relative_to(TOP).as_posix() for it in names]
+    return files
 
 
 def without_comments(file):
@@ -87,7 +88,7 @@ class Tree:
 
     def has_option(self, word):
         """Whether one of our programs has this option. Those of rs_command are words without their hyphens."""
-        return word in self.options or f'"{word[2:]}"' in self.options
+        return re.search(rf'{word}(?![\w-])|"{word[2:]}"', self.options)
 
     def has_name(self, name):
         """Whether this is a name of the code; of two, the second stands in a file that is of the first or declares it."""
@@ -102,7 +103,7 @@ class Tree:
 
 
 def wrong_with(there, text, crate, line):
-    """What of this text is not there: the words; and whether anything of it could be looked up."""
+    """The words of this text that name something that is not there."""
     words = text.split()
     if len(words) > 1 and words[0] == "make":
         return [] if words[1] in there.targets or not words[1].isalpha() else [text]
