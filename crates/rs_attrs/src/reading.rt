@@ -104,7 +104,7 @@ pub struct Parsed {
     pub attrs: Attrs,
     /// What comes of the attributes that aren't.
     pub faults: Faults,
-    /// The first attributes at fault, to be told.
+    /// The first attributes at fault, for the log.
     pub faulted: Faulted,
 }
 

@@ -1,4 +1,4 @@
--- A field gone over once, from left to right: what is kept, and what is told of the others.
+-- A field gone over once, from left to right: what is kept, and what is noted of the others.
 use Rattle.std.proofs.Common.{◌≡◌, ℕ, ◌<◌, ◌&&◌, ◌||◌, Bool, true, false, cond, List, [], ◌∷◌, ◌++◌, length, get_or, set, replicate, Option, Some, None, refl, sym, ap, ◌∙◌, subst, nat_eq, nat_lt}
 use Rattle.std.specs.Prelude.{is_some, not, option_map}
 use Rattle.std.proofs.lemmas.Bool.{eqb-true, lt-ltb}
@@ -119,7 +119,7 @@ gathering_at mode field came kept more faults_noted new rest after s place had s
     → ((kind : ℕ) → noted more kind ≡ noted_by (not (get_or came place false) && is_kept (outcome_of mode s)) s (noted kept) kind) → Gathering mode field (set came place true) more new after in
     subst P (sym e) (λ new_is more_is. gathering_more mode field came kept more faults_noted new rest after s had steps byte new_is rising more_is) new_is more_is
 
--- what is kept leaves nothing to tell
+-- what is kept leaves nothing to note
 flaw_kept : (mode : Mode) (s : Spelling) → is_kept (outcome_of mode s) ≡ true → flaw_by mode false s ≡ None
 flaw_kept mode s good = ap (λ b. cond b None (option_map (λ why. record { outcome = outcome_of mode s; fault = fault s.kind why }) (cause_in mode s))) good
 

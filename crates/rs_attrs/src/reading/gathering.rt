@@ -98,7 +98,7 @@ fn keep<'a>(kept: &mut Kept<'a>, found: Found<'a>) -> Result<(), AllocError>
     Ok(())
 }
 
-/// Keeps what counts of a field, and tells what is wrong with the rest of it.
+/// Keeps what counts of a field, and notes what is wrong with the rest of it.
 pub(crate) fn gather<'a>(
     kept: &mut Kept<'a>,
     field: &'a [u8],
