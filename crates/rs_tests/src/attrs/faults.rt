@@ -150,7 +150,7 @@ const TEXTS: [(&str, &str); 9] = [
         "AGGREGATOR (7) discarded: wrong length",
     ),
     (
-        "c0100800000000000000 40060100",
+        "40010100 c0100800000000000000",
         "EXTENDED COMMUNITIES (16) treated as withdraw: cut off",
     ),
     (
