@@ -15,7 +15,7 @@ use crate::attrs::Attrs;
 use crate::faults::{Faulted, Faults};
 use crate::mode::Mode;
 use crate::reading::field::Found;
-use crate::reading::gathering::{Noted, gather};
+use crate::reading::gathering::gather;
 use crate::reading::two::push_value_by_two;
 use crate::reading::values::head_of;
 use crate::types::{AGGREGATOR, AS_PATH, AS4_AGGREGATOR, AS4_PATH};
@@ -119,7 +119,7 @@ pub fn read(alloc: Global, field: &[u8], mode: Mode) -> Result<Parsed, AllocErro
     ensures faults_noted { IfOk result (λ p. p.faulted ≡ faulted_of field.now mode) }
 {
     let mut kept = SmallVec::new(alloc);
-    let Noted { faults, faulted } = gather(&mut kept, field, mode)?;
+    let (faults, faulted) = gather(&mut kept, field, mode)?;
     let attrs = attributes_of(alloc, mode, kept.as_slice())?;
     Ok(Parsed {
         attrs,
