@@ -31,5 +31,3 @@ mod policy;
 mod route_server;
 #[cfg(test)]
 mod session;
-#[cfg(test)]
-mod update;
