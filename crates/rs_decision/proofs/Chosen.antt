@@ -28,7 +28,7 @@ address r = r.address
 abbrev place : Rank → ℕ
 place r = r.place
 
--- ---- in front of MULTI_EXIT_DISC
+-- ---- before MULTI_EXIT_DISC
 
 to_path : (ranks : List Rank) (b : Rank) → Has (by_origin ranks) b → Has (by_path ranks) b
 to_path ranks b h = lowest_in origin (by_path ranks) b h

@@ -1,4 +1,4 @@
--- What the definitions choose, by computation: each filter decides once, where all in front of it leave the routes level.
+-- What the definitions choose, by computation: each filter decides once, where all before it leave the routes level.
 use Rattle.std.specs.Prelude.{◌≡◌, ℕ, [], ◌∷◌, refl, Option, Some, None}
 use Rattle.rs_decision.specs.declared.rank.Rank.{Rank}
 use Rattle.rs_decision.specs.Choice.{unbeaten, best_of}
@@ -20,7 +20,7 @@ no_route : best_of [] ≡ None
 unfolding unbeaten
 no_route = refl
 
--- the first of each two is worse in all that comes behind the filter
+-- the first of each two is worse by all filters after the one that decides
 
 higher_preference : best_of (rank 200 9 2 (Some 9) 64496 9 9 1 ∷ rank 100 1 0 (Some 0) 64496 1 1 0 ∷ []) ≡ Some (rank 200 9 2 (Some 9) 64496 9 9 1)
 unfolding unbeaten
@@ -42,7 +42,7 @@ missing_med : best_of (rank 100 2 0 None 64496 9 9 1 ∷ rank 100 2 0 (Some 1) 6
 unfolding unbeaten
 missing_med = refl
 
--- of two neighbouring AS, MULTI_EXIT_DISC says nothing
+-- MULTI_EXIT_DISC is not compared between two neighbouring AS
 med_of_two_neighbours : best_of (rank 100 2 0 (Some 9) 64496 1 9 1 ∷ rank 100 2 0 (Some 0) 64497 2 1 0 ∷ []) ≡ Some (rank 100 2 0 (Some 9) 64496 1 9 1)
 unfolding unbeaten
 med_of_two_neighbours = refl

@@ -13,7 +13,7 @@ HasDistinctPlaces ranks = AllPairs (λ a b. a.place ≢ b.place) ranks
 abbrev pub IsOnlyOneLeft : List Rank → ℕ → Type 0
 IsOnlyOneLeft ranks i = (best : Rank) × (slice_get ranks i ≡ Some best) × (by_place ranks ≡ best ∷ [])
 
--- what comes in front of MULTI_EXIT_DISC does not tell them apart
+-- the steps before MULTI_EXIT_DISC do not tell them apart
 pub record IsLevel (a b : Rank) : Type 0 where
   pub preference : a.preference ≡ b.preference
   pub path : a.path_len ≡ b.path_len

@@ -24,7 +24,7 @@ both_true : (a b : Bool) → a && b ≡ true → a ≡ true
 both_true true b h = refl
 both_true false b h = cc
 
--- a good header says a length of 19 or more
+-- a good header has a length of 19 or more
 pub header_long : (allowed : Allowed) (header : List ℕ) (head : Head) → header_of allowed header ≡ Ok head → 19 ≤ head.length
 header_long allowed header head e =
     by_tests (list_all (λ b. b == 255) (take 16 header)) (is_in_range 19 (longest allowed) len) (kind_numbered allowed number) refl e
@@ -128,7 +128,7 @@ cuts_behind allowed (octet ∷ octets) zero = by_length (cuts_behind allowed oct
 pub cuts_of : (allowed : Allowed) (octets : List ℕ) → Cuts allowed octets (messages_of allowed octets) (rest_of allowed octets)
 cuts_of allowed octets = cuts_behind allowed octets 0
 
--- a message is no front of another, since its header says how long it is
+-- a message is no front of another, since its header has its length
 messages_apart : (allowed : Allowed) → IsPrefixFree {A = List ℕ} (λ message. message) (IsMessage allowed)
 messages_apart allowed a b x y is other e =
     same_fronts a b x y (sym (found allowed a x is) ∙ ap (message_length allowed) e ∙ found allowed b y other) e

@@ -83,7 +83,7 @@ reads_behind (len ∷ octets) zero = by_tests (reads_behind octets (octet_count 
 pub reads_of : (field : List ℕ) → ReadsPrefixes field (prefixes_of field)
 reads_of field = reads_behind field 0
 
--- a prefix is no front of another, since its length says how many octets it has
+-- a prefix is no front of another, since its length gives the number of its octets
 prefixes_apart : IsPrefixFree spelt_octets IsSpeltPrefix
 prefixes_apart a b x y is other e =
     let len : a.len ≡ b.len = cc in

@@ -16,7 +16,7 @@ use Rattle.rs_octets.proofs.Cut.{pieces_join, cuts_of, cuts_only, none_found, st
 abbrev Heard : Type 0
 Heard = List (Result (List ℕ) HeaderFault)
 
--- what comes later is heard of the rest and it, behind the messages before
+-- what comes later is heard of the rest and it, after the messages before
 pub heard_behind : (a : Allowed) (octets more : List ℕ) → heard_of a (octets ++ more) ≡ map Ok (messages_of a octets) ++ heard_of a (rest_of a octets ++ more)
 heard_behind a octets more =
     let joined = pieces_join a octets more in
@@ -67,7 +67,7 @@ faulty_heard a octets fault e bad =
     let is = faulty_is a octets fault e bad in
     (λ i. map Ok (is.0 i) ++ header_fault_of a (is.1 i)) ∙ is.2
 
--- behind it nothing is heard
+-- after it nothing is heard
 heard_again : (a : Allowed) (octets more : List ℕ) → Faulty a (rest_of a octets) → heard_of a (octets ++ more) ≡ heard_of a octets
 heard_again a octets more (Bad fault e bad) =
     let rest : List ℕ = rest_of a octets in
@@ -89,7 +89,7 @@ nothing_behind_a_fault a octets more fault is = elim (good_or_faulty a (rest_of 
 
 -- ---- pieces
 
--- what was heard stays heard: what is new is heard behind it
+-- what was heard stays heard: what is new is heard after it
 pub heard_grows : (a : Allowed) (octets more : List ℕ) → heard_of a (octets ++ more) ≡ heard_of a octets ++ newly_heard a octets more
 heard_grows a octets more = elim (good_or_faulty a (rest_of a octets)) [
   | inl good ↦
@@ -108,7 +108,7 @@ newly_joined a before first later =
     ∙ ap (drop n) (heard_grows a (before ++ first) later)
     ∙ drop-append-le n (heard_of a (before ++ first)) (newly_heard a (before ++ first) later) short
 
--- messages one behind the other are heard one by one
+-- messages one after the other are heard one by one
 pub heard_one_by_one : (a : Allowed) (messages : List (List ℕ)) (more : List ℕ) → AllByRecursion (IsMessage a) messages
     → heard_of a (flat_map (λ message. message) messages ++ more) ≡ map Ok messages ++ heard_of a more
 heard_one_by_one a messages more each =

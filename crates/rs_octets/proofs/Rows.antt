@@ -123,7 +123,7 @@ cut = refl
 cut_rest : rest_of plain (a_keepalive ++ an_update ++ replicate 10 255) ≡ replicate 10 255
 cut_rest = refl
 
--- nothing is heard behind a fault
+-- nothing is heard after a fault
 heard_fault : heard_of plain (an_update ++ m (codes "0013 05") ++ an_update) ≡ Ok an_update ∷ Err (faults.Kind 5) ∷ []
 heard_fault = refl
 
@@ -143,7 +143,7 @@ heard_part = refl
 heard_at_its_end : newly_heard plain (a_keepalive ++ take 46 an_update) (0x64 ∷ []) ≡ Ok an_update ∷ []
 heard_at_its_end = refl
 
--- nothing is heard behind a fault
+-- nothing is heard after a fault
 heard_behind_a_fault : newly_heard plain (an_update ++ m (codes "0013 05")) an_update ≡ []
 heard_behind_a_fault = refl
 

@@ -66,7 +66,7 @@ length_field header = from_be_bytes w16 (slice_index header 16 ∷ slice_index h
 abbrev pub type_field : List ℕ → ℕ
 type_field header = slice_index header 18
 
--- what a header of 19 octets says, or the first check that it fails
+-- what stands in a header of 19 octets, or the first check that it fails
 abbrev pub header_of : Allowed → List ℕ → Result Head HeaderFault
 header_of allowed header =
     if list_all (λ b. b == 255) (take 16 header)

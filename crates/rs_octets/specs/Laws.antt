@@ -42,7 +42,7 @@ abbrev pub IsOnlyHeard : Type 0
 IsOnlyHeard =
     (allowed : Allowed) (octets : List ℕ) (heard : List (Result (List ℕ) HeaderFault)) → Hears allowed octets heard → heard ≡ heard_of allowed octets
 
--- ---- messages alone, and one behind the other
+-- ---- messages alone, and one after the other
 
 -- a whole message is one of a type, and what is one of a type is a whole message
 abbrev pub HasType : Type 0
@@ -57,7 +57,7 @@ IsHeardAlone =
     (allowed : Allowed) (message : List ℕ) → IsMessage allowed message
     → (heard_of allowed message ≡ Ok message ∷ []) × (messages_of allowed message ≡ message ∷ []) × (rest_of allowed message ≡ [])
 
--- messages one behind the other are heard one by one
+-- messages one after the other are heard one by one
 abbrev pub AreHeardOneByOne : Type 0
 AreHeardOneByOne =
     (allowed : Allowed) (messages : List (List ℕ)) (more : List ℕ) → AllByRecursion (IsMessage allowed) messages
@@ -65,7 +65,7 @@ AreHeardOneByOne =
 
 -- ---- octets that come later
 
--- what was heard stays heard: what is new is heard behind it
+-- what was heard stays heard: what is new is heard after it
 abbrev pub HeardStays : Type 0
 HeardStays = (allowed : Allowed) (octets more : List ℕ) → heard_of allowed (octets ++ more) ≡ heard_of allowed octets ++ newly_heard allowed octets more
 
@@ -75,7 +75,7 @@ NewIsOfTheRest =
     (allowed : Allowed) (octets more : List ℕ) → header_fault_of allowed (rest_of allowed octets) ≡ []
     → newly_heard allowed octets more ≡ heard_of allowed (rest_of allowed octets ++ more)
 
--- behind a fault nothing more is heard
+-- after a fault nothing more is heard
 abbrev pub NothingBehindAFault : Type 0
 NothingBehindAFault =
     (allowed : Allowed) (octets more : List ℕ) (fault : HeaderFault) → header_fault_of allowed (rest_of allowed octets) ≡ Err fault ∷ []

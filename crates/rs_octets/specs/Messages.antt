@@ -7,7 +7,7 @@ use Rattle.rs_octets.specs.declared.heads.HeaderFault.{HeaderFault}
 use Rattle.rs_octets.specs.Headers.{header_of, header_octets}
 use Rattle.rs_octets.specs.Parts.{BeginsNone, Splits}
 
--- a whole message: its header is good and says its length
+-- a whole message: its header is good and has its length
 abbrev pub IsMessage : Allowed → List ℕ → Type 0
 IsMessage allowed octets =
     (19 ≤ length octets) × IsOkAnd (header_of allowed (take 19 octets)) (λ head. head.length ≡ length octets)
@@ -86,6 +86,6 @@ rest_of allowed octets = rest_behind allowed 0 octets
 abbrev pub heard_of : Allowed → List ℕ → List (Result (List ℕ) HeaderFault)
 heard_of allowed octets = map Ok (messages_of allowed octets) ++ header_fault_of allowed (rest_of allowed octets)
 
--- what octets say that those before them did not
+-- what is heard of later octets, beyond what was heard of those before them
 abbrev pub newly_heard : Allowed → List ℕ → List ℕ → List (Result (List ℕ) HeaderFault)
 newly_heard allowed before octets = drop (length (heard_of allowed before)) (heard_of allowed (before ++ octets))

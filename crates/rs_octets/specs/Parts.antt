@@ -1,4 +1,4 @@
--- Octets as parts, one behind the other, and a rest: the messages of a connection (RFC 4271, 4.1), the prefixes of a field
+-- Octets as parts, one after the other, and a rest: the messages of a connection (RFC 4271, 4.1), the prefixes of a field
 -- (4.3), the parameters of an OPEN (4.2).
 use Rattle.std.specs.Prelude.{◌≡◌, ℕ, List, ◌++◌}
 use Rattle.std.specs.List.{flat_map, AllByRecursion}

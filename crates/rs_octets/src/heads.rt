@@ -26,7 +26,7 @@ pub enum Kind {
     Refresh,
 }
 
-/// What a good header says: the length of the whole message in octets, and its type.
+/// What stands in a good header: the length of the whole message in octets, and its type.
 #[derive(Clone, Copy, Debug, PartialEq, Eq)]
 pub struct Head {
     pub length: u16,

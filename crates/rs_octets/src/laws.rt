@@ -39,15 +39,15 @@ pub fn a_message_has_a_type()
     ensures is { OfTypeIsMessage }
 {}
 
-/// Messages are heard one by one: one alone with nothing left, and several behind each other in
+/// Messages are heard one by one: one alone with nothing left, and several one after the other in
 /// their order.
 pub fn messages_are_heard()
     ensures alone { IsHeardAlone }
     ensures one_by_one { AreHeardOneByOne }
 {}
 
-/// What octets say that those before them did not: it is heard behind what was heard, it does not
-/// matter in which pieces they come, and behind a fault there is nothing.
+/// What later octets add to those before them: it is heard after what was heard, it does not matter
+/// in which pieces they come, and after a fault nothing is heard.
 pub fn later_octets_are_heard_behind()
     ensures stays { HeardStays }
     ensures new { NewIsOfTheRest }

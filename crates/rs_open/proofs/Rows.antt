@@ -1,5 +1,5 @@
 -- What the definitions answer, by computation: bodies of OPENs as read, and our messages as written.
-use Rattle.std.specs.Prelude.{◌≡◌, ℕ, ◌+◌, List, ◌++◌, refl, codes, replicate, Bool, true, false, Some, None, Ok, Err}
+use Rattle.std.specs.Prelude.{◌≡◌, ℕ, List, ◌++◌, refl, codes, replicate, Bool, true, false, Some, None, Ok, Err}
 use Rattle.rs_octets.proofs.Rows.{hex}
 use Rattle.rs_open.specs.declared.open.OpenFault.TheVariants.{Version, Malformed, Parameter, Hold, Identifier}
 use Rattle.rs_open.specs.declared.short.Short.TheVariants.{Keepalive}

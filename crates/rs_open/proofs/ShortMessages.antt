@@ -1,11 +1,9 @@
 -- A message of ours is one whole message of its type.
 use Rattle.std.proofs.Common.{◌≡◌, ℕ, ◌+◌, ◌≤◌, Bool, true, false, List, [], ◌∷◌, length, take, refl, arith}
-use Rattle.std.specs.Prelude.{Ok}
 use Rattle.rs_octets.specs.declared.heads.Allowed.{Allowed}
 use Rattle.rs_octets.specs.declared.heads.Kind.TheVariants as kinds
-use Rattle.rs_octets.specs.Messages.{IsMessageOf, body_of, heard_of}
-use Rattle.rs_octets.proofs.Cut.{heard_alone}
-use Rattle.rs_octets.proofs.GoodHeaders.{longest_least, written_is_message, of_type_is}
+use Rattle.rs_octets.specs.Messages.{IsMessageOf, body_of}
+use Rattle.rs_octets.proofs.GoodHeaders.{longest_least, written_is_message}
 use Rattle.rs_open.specs.declared.short.Short.{Short}
 use Rattle.rs_open.specs.declared.short.Short.TheVariants as shorts
 use Rattle.rs_open.specs.declared.writing.ServerOpen.{ServerOpen}
@@ -42,12 +40,6 @@ short_is_message allowed said shorts.Open is =
 short_is_message allowed said shorts.Keepalive is = written_is_message allowed kinds.Keepalive [] refl (omega arith) (omega arith)
 short_is_message allowed said (shorts.Note code sub extra count) is =
     written_is_message allowed kinds.Note (code ∷ sub ∷ take count extra) refl (omega arith) (omega (arith, is))
-
--- so it is heard
-pub heard_alone_short : (allowed : Allowed) (said : ServerOpen) (short : Short) → Fits allowed short
-    → heard_of allowed (short_octets said short) ≡ Ok (short_octets said short) ∷ []
-heard_alone_short allowed said short is =
-    heard_alone allowed (short_octets said short) (of_type_is allowed (kind_of short) (short_octets said short) (short_is_message allowed said short is))
 
 pub body_stands_behind : (said : ServerOpen) → body_of (server_open said) ≡ body_said said
 body_stands_behind said = refl

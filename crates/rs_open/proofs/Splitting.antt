@@ -3,7 +3,7 @@ use Rattle.std.proofs.Common.{get_or, ◌≡◌, ℕ, zero, suc, ◌-◌, ◌≤
 use Rattle.std.specs.List.{AllByRecursion}
 use Rattle.rs_octets.specs.Parts.{BeginsNone, IsPrefixFree}
 use Rattle.rs_octets.proofs.OneWay.{one_way, one_more, same_fronts}
-use Rattle.std.proofs.lemmas.Bool.{ltb-true, ltb-false, lt-ltb, le-ltb}
+use Rattle.std.proofs.lemmas.Bool.{ltb-true, ltb-false, le-ltb}
 use Rattle.std.proofs.lemmas.List.{take-append-drop, length-take-le}
 use Rattle.std.proofs.Math.Seq.{take-length}
 use Rattle.rs_open.specs.Triples.{Triple, Row, triple_octets, IsTriple, IsRow, no_triple, with_first, row_behind, row_of}
@@ -26,10 +26,6 @@ pub row_at : (kind len : ℕ) (octets : List ℕ) → len ≤ length octets
 row_at kind len octets h =
     ap (λ b. row_by b kind len octets) (le-ltb (length octets) len h)
     ∙ ap (λ row. with_first (record { kind = kind; value = take len octets }) row) (skip len octets)
-
--- one that doesn't
-pub row_cut : (kind len : ℕ) (octets : List ℕ) → suc (length octets) ≤ len → row_of (kind ∷ len ∷ octets) ≡ no_triple (kind ∷ len ∷ octets)
-row_cut kind len octets h = ap (λ b. row_by b kind len octets) (lt-ltb (length octets) len h)
 
 -- ---- no triple at the front
 
@@ -80,7 +76,7 @@ row_is_only octets row is =
     let only = one_way triple_octets IsTriple triples_apart octets row.triples (row_of octets).triples row.rest (row_of octets).rest is (row_is octets) in
     λ i. record { triples = only.0 i; rest = only.1 i }
 
--- triples one behind the other are a row with nothing left
+-- triples one after the other are a row with nothing left
 pub each_is_triple : (triples : List Triple) → AllByRecursion IsTriple triples
 each_is_triple [] = tt
 each_is_triple (t ∷ triples) = (tt, each_is_triple triples)

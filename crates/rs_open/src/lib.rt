@@ -4,7 +4,7 @@
 //! body of a ROUTE-REFRESH. What a session says by itself comes in, and out go the octets of our
 //! OPEN, KEEPALIVE or NOTIFICATION.
 //!
-//! - `open` says what an OPEN is and what can be wrong with one; `reading` reads it by `triples`,
+//! - `open` has what an OPEN says and what can be wrong with one; `reading` reads it by `triples`,
 //!   of which parameters and capabilities are made; `codes` has their numbers.
 //! - `refresh` reads a ROUTE-REFRESH.
 //! - `short` has the messages that a session says by itself, `writing` their octets.

@@ -19,7 +19,7 @@ pub struct Open {
 
 /// The first thing that is wrong with an OPEN.
 ///
-/// The AS number is not judged here. It would be judged behind the parameters and before the Hold
+/// The AS number is not judged here. It would be judged after the parameters and before the Hold
 /// Time, so the two faults that come later bring what is needed for it.
 #[derive(Clone, Copy, Debug, PartialEq, Eq, Error)]
 pub enum OpenFault {

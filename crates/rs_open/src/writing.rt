@@ -136,6 +136,9 @@ pub fn short_size(short: &Short, said: &ServerOpen) -> usize
 }
 
 /// Writes a message that a session says, and answers its octets.
+///
+/// The outlet knows at each place which kind it writes, and so calls [`write_open`],
+/// [`write_keepalive`] or [`write_note`]; only tests call this.
 pub fn write_short(short: &Short, said: &ServerOpen, out: &mut [u8]) -> usize
     requires { length (short_octets said.now short.now) ≤ length out.old }
     ensures end { result ≡ length (short_octets said.now short.now) }

@@ -92,7 +92,8 @@ pub fn pack_announced(attrs: &Attrs, mode: Mode, prefixes: &[Prefix], out: &mut 
 
 /// As [`pack_announced`], for whoever doesn't know that the first prefix fits: there is an answer
 /// just where there is one and it does, and without one nothing is written. The size of the
-/// attributes is computed once.
+/// attributes is computed once. The outlet has asked [`fits`] before a route is due, so only tests
+/// call this.
 pub fn try_pack_announced(
     attrs: &Attrs,
     mode: Mode,

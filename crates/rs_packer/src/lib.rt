@@ -5,7 +5,7 @@
 //! are. No call takes memory.
 //!
 //! - `announced` and `withdrawn` have the calls, `packed` is their answer.
-//! - `fields` writes the fields of prefixes, and says how many fit.
+//! - `fields` writes the fields of prefixes, and answers how many fit.
 //! - `laws` are contracts of functions that do nothing: what is written is one message, and
 //!   denotes just these prefixes with these attributes.
 //! - `tests` have UPDATEs octet for octet, and the numbers at which they are full.

@@ -133,9 +133,6 @@ came s (Message m ∷ items) c e =
     earlier_goes (fate s items) _ e in
     one_came (message_count items) s (messages_heard items) (open_heard items) m (came s items c f.0) f.1
 
-established_live : (st : State) → st ≡ states.Established → is_live st ≡ true
-established_live st e = ap is_live e
-
 pub brings_up : BringsUp
 brings_up s items e =
     let l : Lasts s items = live_lasts s items (ap is_live e) in

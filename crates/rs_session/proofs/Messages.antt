@@ -114,7 +114,7 @@ agreed_stands : (b : Bool) (s : Settings) (items : List Item) (peer : Peer) (m :
 agreed_stands false s items peer m e w k = second_stands s items peer m w k
 agreed_stands true s items peer m e w k = later_stands s items peer m k.0 w e k.1
 
--- the phase behind a message
+-- the phase after a message
 message_stands : (phase : Phase) (s : Settings) (items : List Item) (m : Heard) → Stands phase s items
     → Stands (message_step phase s.peer_as (greatest items) m).0 s (Message m ∷ items)
 message_stands phases.Idle s items m h = h

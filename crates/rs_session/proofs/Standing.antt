@@ -32,7 +32,7 @@ pub still_act : (st : State) (act none : Act) → is_live st ≡ false
     → (if is_live st then act else none) ≡ none
 still_act st act none e = ap (λ b. if b then act else none) e
 
--- a phase behind a step, where the item has this fate
+-- a phase after a step, where the item has this fate
 pub stands_by : (f : Fate) (phase : Phase) (act : Act) (s : Settings) (items : List Item)
     → is_connected items ≡ true → fate s items ≡ f → (f ≡ GoesOn → Stands phase s items)
     → Stands (step f phase act).0 s items

@@ -77,7 +77,7 @@ later_fate (heard.Update (Some reset)) = Ends (Some (note reset.0 reset.1))
 later_fate (heard.Refresh afi safi) = GoesOn
 later_fate heard.Keepalive = GoesOn
 
--- a message behind so many others
+-- a message after so many others
 abbrev pub message_fate : ℕ → ℕ → Heard → Fate
 message_fate peer_as zero message = first_fate peer_as message
 message_fate peer_as (suc zero) message = second_fate message

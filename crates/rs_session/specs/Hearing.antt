@@ -135,7 +135,7 @@ pub record RespondsAt (new : Session) (item : Item) (act : Act) (settings : Sett
 abbrev pub RespondsTo : Session → Session → Item → Act → Type 0
 RespondsTo old new item act = Whenever old (RespondsAt new item act)
 
--- a session that lasts has nothing to do behind a message only where it is Established, and so takes what the message says
+-- a session that lasts has nothing to do after a message only where it is Established, and so takes what the message says
 abbrev pub TakesAt : Act → Settings → List Item → Type 0
 TakesAt act settings items =
     act ≡ acts.None → is_live (state_of settings items) ≡ true → state_of settings items ≡ states.Established

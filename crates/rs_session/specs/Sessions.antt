@@ -18,7 +18,7 @@ use Rattle.rs_session.specs.Endings.{Fate, GoesOn, Ends, IsBriefEnd, message_fat
 
 -- ---- the end
 
--- what an item does to a session that stands at the items behind it
+-- what an item does to a session that heard the items before it
 abbrev pub item_fate : Settings → Item → List Item → Fate
 item_fate settings Came items = GoesOn
 item_fate settings (Message message) items = message_fate settings.peer_as (message_count items) message
@@ -122,8 +122,8 @@ falls_by (Ends said) hold sent since now = false
 falls_by GoesOn hold None since now = false
 falls_by GoesOn hold (Some sent) since now = is_third_past (hold_time hold (Some sent)) since now
 
--- a KEEPALIVE falls due at the newest item: none has ended the session, and a third or more of the Hold Time lies behind
--- the last one's falling due
+-- a KEEPALIVE falls due at the newest item: none has ended the session, and a third or more of the Hold Time has passed
+-- since the last one fell due
 abbrev pub falls_behind : Settings → List Item → ℕ → Bool
 falls_behind settings items since = falls_by (fate settings items) settings.hold (open_heard items) since (greatest items)
 
@@ -165,7 +165,7 @@ abbrev pub moment_act : Fate → Bool → Act
 moment_act (Ends note) falls = acts.Down note
 moment_act GoesOn falls = if falls then acts.Say short.Keepalive else acts.None
 
--- what is to be done at an item behind others; nothing where there is no session that lasts
+-- what is to be done at an item after others; nothing where there is no session that lasts
 abbrev pub act_of : Settings → Item → List Item → Act
 act_of settings Came items = acts.Say short.Open
 act_of settings (Message message) items =

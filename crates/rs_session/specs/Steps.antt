@@ -52,7 +52,7 @@ message_step phases.Closing peer_as now message = (phases.Closing, acts.None)
 abbrev pub wait : ℕ → ℕ → Phase × Act
 wait since now = step (moment_fate open_wait since now) (phases.OpenSent since) acts.None
 
--- the two timers at a moment, behind it
+-- the two timers after a moment
 abbrev pub tick : ℕ → Peer → ℕ → Phase × Act
 tick hold peer now = step (moment_fate hold peer.hold_timer_since now)
     (phases.Agreed (record peer {

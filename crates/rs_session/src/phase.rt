@@ -23,7 +23,7 @@ const UNICAST: u8 = 1;
 pub struct Peer {
     /// The OPEN that it sent.
     pub sent: Open,
-    /// A KEEPALIVE came behind the OPEN.
+    /// A KEEPALIVE came after the OPEN.
     pub confirmed: bool,
     /// When the hold timer was last restarted.
     pub hold_timer_since: u64,

@@ -38,7 +38,7 @@ impl Session {
         }
     }
 
-    /// What was configured of it.
+    /// What was configured of the client. Only tests call this.
     #[tactic(auto, using(crate::proofs::Phases::settings_heard), unfolding(crate::specs::Hearing::configured))]
     pub fn settings(&self) -> Settings
         ensures configured { result ≡ configured self.now }
