@@ -10,30 +10,29 @@ server. All NEXT_HOPs are data alone.
 | Work | Means |
 |---|---|
 | `packed AxB` | A clients announce B prefixes each, 500 to a set of attributes |
-| `internet AxB` | 1 to 5 prefixes to a set of attributes; AS_PATH of 2 to 6 four-octet numbers; MED, communities, large communities, AGGREGATOR on a part of them; a fifth of the clients in a four-octet AS |
-| `overlap AxB` | as `internet`, but each prefix is announced by three clients, so that a choice is made, and paths that are hidden by it show |
-| `deaf AxB` | as `internet`, with one client more that comes up and then reads nothing; what stands in the row is the others' |
+| `internet AxB` | 1 to 5 prefixes to a set; AS_PATH of 2 to 6 four-octet numbers; MED, communities, large communities, AGGREGATOR on some; a fifth of the clients in a four-octet AS |
+| `overlap AxB` | as `internet`, but three clients announce each prefix, so that a choice is made, and paths that it hides show |
+| `deaf AxB` | as `internet`, with one client more that reads nothing once it is up; the row has the others' figures |
 
-Behind the start (all clients up, then all announce at once) come single changes (one announcement or withdrawal at a time beside the
-full table), a flap (client 0 closes its connection, comes back and announces again) and a client that comes late, without routes.
+After the start (all are up, then all announce at once) come single changes, one at a time beside the full table; a flap (client 0
+closes its connection, comes back and announces again); and a late client without routes.
 
 ## Columns
 
-- **converged**: from the first UPDATE sent until the last client holds exactly its table. `-`: it never did; the cause stands under the table.
+- **converged**: from the first UPDATE sent until the last client holds exactly its table; `-`: it never did.
 - **CPU**, **CPU in all**: processor seconds of the server and its descendants until then, and over the whole run.
-- **us/route**: CPU by routes told. **octets/route**: the greatest memory by routes that are due to all clients together; **peak MB** is that memory (VmHWM of all processes, shared pages counted twice).
-- **wrong**: what clients hold, against what the choice of the best route of the others makes (RFC 4271, 9.1.2.2; RFC 7947, 2.3.2): missing routes, routes that aren't due, other routes than the best, altered attributes (compared octet by octet, but for their order and the form of their lengths), and routes sent back to their sender. A router drops these last for its own AS in the path.
-- **one**, **gone**: milliseconds until the last client has a single announcement, or withdrawal: the middle and the 99th of a hundred.
-- **flap gone**, **back**: from the drop until nobody has a route of it, from its first UPDATE behind the return until all have them again. **late**: from Established until the late client has all.
+- **us/route**: CPU by routes told. **octets/route**: **peak MB** (VmHWM of all processes, shared pages counted twice) by routes due to all clients together.
+- **wrong**: what clients hold, against the best of the others' routes (RFC 4271, 9.1.2.2; RFC 7947, 2.3.2): missing, not due, not the best, altered (octet by octet, but for the order of attributes and the form of their lengths), or sent back to their sender, whose router drops them for its own AS.
+- **one**, **gone**: until the last client has a single announcement, or withdrawal: the middle and the 99th of a hundred.
+- **flap gone**, **back**: from the drop until nobody has a route of it, from its first UPDATE after the return until all have them again. **late**: from Established until the late client has all.
 
-## What each server is told
+## How each server is set
 
-- `bird`: one table; a client whose own route is the best is told none, so paths are hidden. `bird-tables`: a table for each client, joined by pipes, where its own routes have less preference.
-- `openbgpd`: `transparent-as yes`, `set nexthop no-modify`, `rde evaluate all`, and for each client a rule against its own routes, so that no path is hidden.
-- `frr`: `route-server-client`, one choice for all; it sends routes back to their sender. `gobgp`: `route-server-client`, `external-compare-router-id`.
+- `bird`: one table; a client whose own route is the best is told none (hidden paths). `bird-tables`: a table for each client, joined by pipes, where its own routes have less preference.
+- `openbgpd`: `transparent-as yes`, `set nexthop no-modify`, `rde evaluate all`, and a rule against each client's own routes, so that no path is hidden.
+- `frr`: `route-server-client`, one choice for all. `gobgp`: `route-server-client`, `external-compare-router-id`.
 
-Times depend on what else runs on the machine: compare rows of one run alone. rsload is Rust and has no dependency: `cargo` builds it,
-without a network.
+Times depend on what else runs on the machine: compare rows of one run alone. `cargo` builds rsload without a network.
 """
 
 
@@ -156,16 +155,16 @@ def page(rows, judged, met, seen, machine, versions, missing):
     """The whole page."""
     today = datetime.date.today()
     text = ["# Among other route servers", ""]
-    text += [f"Made by `make bench` on {today.day} {today:%B %Y}: {machine}. One server after the other; the load average before each run stands in its row.", ""]
+    text += [f"Made by `make bench` on {today.day} {today:%B %Y}: {machine}. One server after the other; each row has the load average before its run.", ""]
     text += ["Servers: " + ", ".join(f"{name} ({version()})" if callable(version) else f"{name} ({version})" for name, version in versions) + "."]
     text += [f"Skipped: {name} {why}." for name, why in missing]
     if met:
-        text += ["", "## Goals", "", f"As ratios in one run, of `{judged}`, the least of each server's runs.", "", "| Goal | ours | other | ratio | |", "|---|---:|---:|---:|---|"]
+        text += ["", "## Goals", "", f"Of `{judged}`, the least of each server's runs.", "", "| Goal | ours | other | ratio | |", "|---|---:|---:|---:|---|"]
         for words, _, ours, theirs, is_met in met:
             state = "met" if is_met else "not known" if is_met is None else "**missed**"
             text.append(f"| {words} | {shown(ours)} | {shown(theirs)} | {shown(ratio(ours, theirs), 2)} | {state} |")
     for phase, lines in (seen or {}).items():
-        text += ["", f"Where ours spends its processor time in that work, phase `{phase}`, by `perf` (clock samples), in parts of a hundred:", ""]
+        text += ["", f"Where ours spends its processor time there, phase `{phase}`, by `perf` (clock samples):", ""]
         text += [f"    {it}" for it in lines.splitlines()]
     text += ["", "## From nothing until all hold their tables", "", *start_rows(rows)]
     if later := list(later_rows(rows)):

@@ -33,14 +33,13 @@ def write_page(page, members, plays, missing):
     today = datetime.date.today()
     text = ["# Members that were tried", ""]
     text += [
-        "What common BGP daemons see as members of this server: all at once beside a plain member of our own, each with",
+        "What common BGP daemons see as members of this server, all at once beside a plain member of our own: each has",
         "1,000 routes of four kinds (as they are; with communities; prepended, with a MED; with others' AS numbers in the",
-        "path, a MED and a community), on loopback, `multiprotocol = true` and `refresh = true` in the server's",
-        "configuration. This page is made by `make interop`.",
+        "path, a MED and a community). On loopback, `multiprotocol` and `refresh` set. Made by `make interop`.",
         "",
         f"{today.day} {today:%B %Y}, {platform.system()} {platform.release()}, {os.cpu_count()} processors.",
         "",
-        "| Member | Version | What it needs beyond its neighbour, its routes and that it may take and send all |",
+        "| Member | Version | Settings beyond its neighbour, its routes and that it may take and send all |",
         "|---|---|---|",
     ]
     text += [f"| {it.name} | {it.version()} | {it.settings} |" for it in members]
