@@ -3,13 +3,14 @@
 use clap::{Arg, ArgAction, value_parser};
 use std::alloc::Global;
 
-/// `--NAME FILE`, which has to be there.
-pub(crate) fn file<'a>(alloc: Global, name: &'a str, help: &'a str) -> Arg<'a> {
-    Arg::new(alloc, name)
-        .long(name)
+/// `--config FILE` or `-c FILE`, which has to be there.
+pub(crate) fn config<'a>(alloc: Global) -> Arg<'a> {
+    Arg::new(alloc, "config")
+        .short('c')
+        .long("config")
         .value_name("FILE")
         .required(true)
-        .help(help)
+        .help("the configuration, a TOML file")
 }
 
 /// `--NAME N`, where N is 1 to `greatest`.

@@ -1,14 +1,19 @@
-//! The command lines of both programs: words come in; what they ask for goes out, or the status to
-//! end with where help or what is wrong with them was told.
+//! How both programs start and end: the words of a command line come in, and the file of the
+//! configuration; the options, the configuration, or the status to end with go out.
 //!
 //! `replay` has the command line of rs_replay and `serve` that of rs_served; `arguments` are the kinds
-//! of arguments that both have, and `asked` is what comes of a command line. Nothing else of the
-//! repository knows `clap`.
+//! of arguments that both have, `version` is what both print of themselves, and `asked` is what comes of
+//! a command line. `configuration` reads the file of the configuration, and `status` has the statuses.
+//! Nothing else of the repository knows `clap`.
 #![tactic(auto)]
 
 mod arguments;
 mod asked;
+pub mod configuration;
 pub mod replay;
 pub mod serve;
+mod status;
+mod version;
 
 pub use asked::Asked;
+pub use status::Status;

@@ -1,7 +1,8 @@
 //! The command line of rs_replay.
 
 use crate::Asked;
-use crate::arguments::{file, flag, number};
+use crate::arguments::{config, flag, number};
+use crate::version::VERSION;
 use clap::{ArgMatches, Command, Error};
 use std::alloc::{AllocError, Global};
 use std::io;
@@ -13,12 +14,12 @@ pub struct Options {
     pub config: String,
     /// How many workers share the work of a turn, 1 to 16.
     pub workers: usize,
-    /// How far the replay is, is told on standard error where that is a terminal.
+    /// How far the replay is, is printed on standard error where that is a terminal.
     pub progress: bool,
 }
 
-/// Reads the command line, and tells help on standard output, or what is wrong with it on standard
-/// error. An error is refused memory, or telling that failed.
+/// Reads the command line, and prints help or the version on standard output, or what is wrong with it
+/// on standard error. An error is refused memory, or printing that failed.
 pub fn read_command<R: Print + Eprint>(
     rt: &R,
     alloc: Global,
@@ -43,10 +44,11 @@ fn options_of(alloc: Global, matches: &ArgMatches<'_>) -> Result<Options, AllocE
 /// The command line that is understood.
 fn command<'a>(alloc: Global) -> Result<Command<'a>, AllocError> {
     Command::new(alloc, "rs_replay")
+        .version(VERSION)
         .about(
             "Plays a recorded session from standard input to a route server and writes what its clients are sent",
         )
-        .arg(file(alloc, "config", "the configuration, in TOML"))?
+        .arg(config(alloc))?
         .arg(number(
             alloc,
             "workers",
@@ -57,6 +59,6 @@ fn command<'a>(alloc: Global) -> Result<Command<'a>, AllocError> {
         .arg(flag(
             alloc,
             "progress",
-            "tell on standard error, where it is a terminal, how many lines were read and UPDATEs heard",
+            "print on standard error, where it is a terminal, how many lines were read and UPDATEs heard",
         ))
 }

@@ -1,7 +1,8 @@
 //! The command line of rs_served.
 
 use crate::Asked;
-use crate::arguments::{file, flag, number};
+use crate::arguments::{config, flag, number};
+use crate::version::VERSION;
 use clap::{ArgMatches, Command, Error};
 use std::alloc::{AllocError, Global};
 use std::io;
@@ -17,14 +18,14 @@ pub struct Options {
     pub sessions: Option<u64>,
     /// After how many rounds the configuration is read again, from 1; never where there is none.
     pub reload: Option<u16>,
-    /// Reports are told on standard error.
+    /// Reports are printed on standard error.
     pub log: bool,
     /// The configuration is only to be read.
     pub check: bool,
 }
 
-/// Reads the command line, and tells help on standard output, or what is wrong with it on standard
-/// error. An error is refused memory, or telling that failed.
+/// Reads the command line, and prints help or the version on standard output, or what is wrong with it
+/// on standard error. An error is refused memory, or printing that failed.
 pub fn read_command<R: Print + Eprint>(
     rt: &R,
     alloc: Global,
@@ -52,8 +53,9 @@ fn options_of(alloc: Global, matches: &ArgMatches<'_>) -> Result<Options, AllocE
 /// The command line that is understood.
 fn command<'a>(alloc: Global) -> Result<Command<'a>, AllocError> {
     Command::new(alloc, "rs_served")
+        .version(VERSION)
         .about("A BGP-4 route server for internet exchanges")
-        .arg(file(alloc, "config", "the configuration, a TOML file"))?
+        .arg(config(alloc))?
         .arg(number(
             alloc,
             "workers",
@@ -72,7 +74,11 @@ fn command<'a>(alloc: Global) -> Result<Command<'a>, AllocError> {
             u32::from(u16::MAX),
             "read the configuration again every N rounds, and use its rules where they are good",
         ))?
-        .arg(flag(alloc, "log", "tell on standard error what happens, and why"))?
+        .arg(flag(
+            alloc,
+            "log",
+            "print on standard error what happens, and why",
+        ))?
         .arg(flag(
             alloc,
             "check",

@@ -1,13 +1,13 @@
 //! The program that plays a recorded session: standard input to standard output.
 #![tactic(auto)]
 
-use rs_command::Asked;
+use rs_command::configuration::read_configuration;
 use rs_command::replay::{Options, read_command};
+use rs_command::{Asked, Status};
 use rs_policy::Config;
 use rs_trace::fault::ReplayFault;
 use rs_trace::progress::{Progress, Unwatched, Watch};
 use rs_trace::replay::replay;
-use rs_trace::settings::{read_settings, tell_settings_fault};
 use rs_trace::text::{OverRead, OverWrite};
 use std::io;
 use std::io::{BufWriter, ErrorKind, IsTerminal};
@@ -16,23 +16,23 @@ use std::rt::{Env, Files};
 use std::sync::Wait;
 use std::thread::Threads;
 
-/// Reads the words of the command line, and tells help or what is wrong with them.
+/// Reads the words of the command line, and prints help, the version or what is wrong with them.
 fn ask<R: Env + Print + Eprint + AllocGlobal>(rt: &R) -> io::Result<Asked<Options>> {
     let alloc = rt.alloc();
     let words: Vec<String> = std::env::args(rt)?.collect(alloc)?;
     read_command(rt, alloc, &words)
 }
 
-/// Tells on standard error why the command line was not read, or its help not told; answers the status
-/// to end with.
-fn tell_asking_fault<R: Eprint>(rt: &R, error: &io::Error) -> u8 {
+/// Prints on standard error why the command line was not read, or nothing could be printed of it; answers
+/// the status to end with.
+fn report_asking_fault<R: Eprint>(rt: &R, error: &io::Error) -> Status {
     let fault = match error.kind() {
         ErrorKind::OutOfMemory => ReplayFault::Memory,
         _ => ReplayFault::Writing,
     };
-    // Where standard error is closed there is nobody to tell.
+    // Where standard error is closed nobody can read it.
     let _ = eprintln!(rt; "{fault}");
-    3
+    Status::Failed
 }
 
 /// Plays standard input to standard output.
@@ -57,7 +57,7 @@ fn play<R: Input + Print + AllocGlobal + Threads + Wait + Sync, P: Watch>(
     }
 }
 
-/// Plays standard input to standard output, and tells on standard error how far it is.
+/// Plays standard input to standard output, and prints on standard error how far it is.
 fn play_watched<R: Input + Print + Eprint + AllocGlobal + Threads + Wait + Sync>(
     rt: &R,
     config: Config,
@@ -69,35 +69,44 @@ fn play_watched<R: Input + Print + Eprint + AllocGlobal + Threads + Wait + Sync>
     }
 }
 
-fn status_of(played: Result<(), ReplayFault>) -> u8 {
+fn status_of(played: Result<(), ReplayFault>) -> Status {
     match played {
-        Ok(()) => 0,
-        Err(ReplayFault::Line(_, _)) => 1,
-        Err(_) => 3,
+        Ok(()) => Status::Done,
+        Err(ReplayFault::Line(_, _)) => Status::BadTrace,
+        Err(_) => Status::Failed,
     }
 }
 
-fn main(rt: HostRuntime) -> ExitCode {
-    let options = match ask(&rt) {
+/// Does what the command line asks for, and answers the status to end with. How far a replay is, is printed
+/// on a terminal alone.
+fn start<R: Env + Files + Input + Print + Eprint + AllocGlobal + Threads + Wait + Sync>(
+    rt: &R,
+    is_on_terminal: bool,
+) -> Status {
+    let options = match ask(rt) {
         Ok(Asked::Run(options)) => options,
-        Ok(Asked::End(status)) => return ExitCode::from(status),
-        Err(error) => return ExitCode::from(tell_asking_fault(&rt, &error)),
+        Ok(Asked::End(status)) => return status,
+        Err(error) => return report_asking_fault(rt, &error),
     };
-    let config = match read_settings(&rt, options.config.as_str()) {
+    let config = match read_configuration(rt, rt.alloc(), &options.config) {
         Ok(config) => config,
-        Err(fault) => {
-            return ExitCode::from(tell_settings_fault(&rt, &fault));
-        }
+        Err(fault) => return fault.report(rt),
     };
-    let played = if options.progress && rt.stderr().is_terminal() {
-        play_watched(&rt, config, options.workers)
+    let played = if options.progress && is_on_terminal {
+        play_watched(rt, config, options.workers)
     } else {
-        play(&rt, &mut Unwatched, config, options.workers)
+        play(rt, &mut Unwatched, config, options.workers)
     };
+    let status = status_of(played);
     if let Err(fault) = played
-        && status_of(played) == 3
+        && status == Status::Failed
     {
         let _ = eprintln!(rt; "{fault}");
     }
-    ExitCode::from(status_of(played))
+    status
+}
+
+fn main(rt: HostRuntime) -> ExitCode {
+    let is_on_terminal = rt.stderr().is_terminal();
+    ExitCode::from(start(&rt, is_on_terminal).number())
 }

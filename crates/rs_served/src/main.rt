@@ -3,9 +3,9 @@
 #![tactic(auto)]
 
 use anyhow::Result;
-use rs_command::Asked;
+use rs_command::configuration::read_configuration;
 use rs_command::serve::{Options, read_command};
-use rs_live::configuration::{Refused, read_configuration};
+use rs_command::{Asked, Status};
 use rs_live::connections::listen_addresses;
 use rs_live::names::Names;
 use rs_live::serve::{Limits, serve};
@@ -24,7 +24,7 @@ fn run<R: Threads + Wait + Sync + Net + Clock + Files + Print + Eprint>(
     alloc: Global,
     options: &Options,
     config: Config,
-) -> Result<u8> {
+) -> Result<Status> {
     let names = Names::of(alloc, &config)?;
     let addresses = listen_addresses(alloc, &config)?;
     let mut ports = match Sockets::listen(
@@ -38,7 +38,7 @@ fn run<R: Threads + Wait + Sync + Net + Clock + Files + Print + Eprint>(
         Ok(ports) => ports,
         Err(fault) => {
             eprintln!(rt; "listening failed: {fault}")?;
-            return Ok(3);
+            return Ok(Status::Failed);
         }
     };
     let limits = Limits {
@@ -49,10 +49,10 @@ fn run<R: Threads + Wait + Sync + Net + Clock + Files + Print + Eprint>(
     let served = serve(rt, alloc, &mut ports, config, limits);
     ports.finish();
     match served {
-        Ok(()) => Ok(0),
+        Ok(()) => Ok(Status::Done),
         Err(fault) => {
             eprintln!(rt; "{fault}")?;
-            Ok(3)
+            Ok(Status::Failed)
         }
     }
 }
@@ -60,7 +60,7 @@ fn run<R: Threads + Wait + Sync + Net + Clock + Files + Print + Eprint>(
 /// Does what the command line asks for, and answers the status to end with.
 fn start<R: Threads + Wait + Sync + Net + Clock + Env + Files + Print + Eprint + AllocGlobal>(
     rt: &R,
-) -> Result<u8> {
+) -> Result<Status> {
     let alloc = rt.alloc();
     let words: Vec<String> = std::env::args(rt)?.collect(alloc)?;
     let options = match read_command(rt, alloc, &words)? {
@@ -69,29 +69,23 @@ fn start<R: Threads + Wait + Sync + Net + Clock + Env + Files + Print + Eprint +
     };
     let config = match read_configuration(rt, alloc, &options.config) {
         Ok(config) => config,
-        Err(Refused::Memory) => {
-            eprintln!(rt; "out of memory")?;
-            return Ok(3);
-        }
-        Err(Refused::Fault(fault)) => {
-            eprintln!(rt; "configuration: {fault}")?;
-            return Ok(2);
-        }
+        Err(fault) => return Ok(fault.report(rt)),
     };
     if options.check {
         println!(rt; "configuration: good, {} clients", config.clients())?;
-        return Ok(0);
+        return Ok(Status::Done);
     }
     run(rt, alloc, &options, config)
 }
 
 fn main(rt: HostRuntime) -> ExitCode {
-    match start(&rt) {
-        Ok(status) => ExitCode::from(status),
+    let status = match start(&rt) {
+        Ok(status) => status,
         Err(error) => {
-            // Where standard error is closed there is nobody to tell.
+            // Where standard error is closed nobody can read it.
             let _ = eprintln!(rt; "{error}");
-            ExitCode::from(3)
+            Status::Failed
         }
-    }
+    };
+    ExitCode::from(status.number())
 }

@@ -1,6 +1,8 @@
-//! What command lines ask for, and what is told of those that ask for nothing.
+//! What command lines ask for, what is printed for those that ask for nothing, and the statuses.
 
-use rs_command::{Asked, replay, serve};
+mod configuration;
+
+use rs_command::{Asked, Status, replay, serve};
 use std::alloc::{AllocError, Global};
 use std::cell::RefCell;
 use std::fmt::{Display, Write};
@@ -9,17 +11,18 @@ use std::io::ErrorKind;
 use std::process::Abort;
 use std::test::Fail;
 
-/// What `clap` tells by the texts of the two command lines.
+/// What `clap` prints by the texts of the two command lines.
 const HELP_TO_PLAY: &str =
     "Plays a recorded session from standard input to a route server and writes what its clients are sent
 
 Usage: rs_replay [OPTIONS] --config <FILE>
 
 Options:
-      --config <FILE>  the configuration, in TOML
+  -c, --config <FILE>  the configuration, a TOML file
       --workers <N>    how many workers share the work of a turn, 1 to 16 [default: 1]
-      --progress       tell on standard error, where it is a terminal, how many lines were read and UPDATEs heard
+      --progress       print on standard error, where it is a terminal, how many lines were read and UPDATEs heard
   -h, --help           Print help
+  -V, --version        Print version
 ";
 
 const HELP_TO_SERVE: &str = "A BGP-4 route server for internet exchanges
@@ -27,19 +30,24 @@ const HELP_TO_SERVE: &str = "A BGP-4 route server for internet exchanges
 Usage: rs_served [OPTIONS] --config <FILE>
 
 Options:
-      --config <FILE>  the configuration, a TOML file
+  -c, --config <FILE>  the configuration, a TOML file
       --workers <N>    how many threads decide where much has changed, 1 to 16 (1 if missing)
       --sessions <N>   end once so many sessions have ended
       --reload <N>     read the configuration again every N rounds, and use its rules where they are good
-      --log            tell on standard error what happens, and why
+      --log            print on standard error what happens, and why
       --check          only read the configuration, and say whether it is good
   -h, --help           Print help
+  -V, --version        Print version
 ";
 
 const FAULT: &str = "error: invalid value '17' for '--workers <N>': 17 is not in 1..=16
 
 For more information, try '--help'.
 ";
+
+const PLAYS: &str = "rs_replay 0.1.0 (rattle-kit-13f logic dac8208d650f15bf)\n";
+
+const SERVES: &str = "rs_served 0.1.0 (rattle-kit-13f logic dac8208d650f15bf)\n";
 
 /// Standard output and standard error, kept.
 #[derive(Drop)]
@@ -57,7 +65,7 @@ impl Streams {
     }
 }
 
-/// Writes behind what is kept.
+/// Writes after what is kept.
 fn keep<D: Display + Drop>(kept: &RefCell<String>, value: D, end: &str) -> io::Result<()> {
     let Ok(mut text) = kept.try_borrow_mut() else {
         return Err(ErrorKind::ResourceBusy.into());
@@ -102,7 +110,7 @@ fn words_of(alloc: Global, line: &str) -> Result<Vec<String>, AllocError> {
     Ok(words)
 }
 
-/// By this line rs_replay plays, and nothing is told.
+/// By this line rs_replay plays, and nothing is printed.
 fn is_played<R: Abort>(
     rt: &R,
     alloc: Global,
@@ -117,10 +125,10 @@ fn is_played<R: Abort>(
         Asked::End(_) => None,
     };
     assert_eq!(rt; options, Some(wanted), "{line}");
-    is_told(rt, &streams, "", "")
+    is_printed(rt, &streams, "", "")
 }
 
-/// By this line rs_served serves, and nothing is told.
+/// By this line rs_served serves, and nothing is printed.
 fn is_served<R: Abort>(
     rt: &R,
     alloc: Global,
@@ -142,22 +150,22 @@ fn is_served<R: Abort>(
         Asked::End(_) => None,
     };
     assert_eq!(rt; options, Some(wanted), "{line}");
-    is_told(rt, &streams, "", "")
+    is_printed(rt, &streams, "", "")
 }
 
-/// This was told on standard output and on standard error.
-fn is_told<R: Abort>(rt: &R, streams: &Streams, output: &str, errors: &str) -> Result<(), Fail> {
+/// This was printed on standard output and on standard error.
+fn is_printed<R: Abort>(rt: &R, streams: &Streams, output: &str, errors: &str) -> Result<(), Fail> {
     assert_eq!(rt; streams.output.try_borrow()?.as_str(), output);
     assert_eq!(rt; streams.errors.try_borrow()?.as_str(), errors);
     Ok(())
 }
 
-/// By this line rs_served ends with status 2, and nothing is told on standard output.
+/// By this line rs_served ends with status 2, and nothing is printed on standard output.
 fn is_refused<R: Abort>(rt: &R, alloc: Global, line: &str) -> Result<(), Fail> {
     let streams = Streams::new(alloc);
     let words = words_of(alloc, line)?;
     let asked = serve::read_command(&streams, alloc, &words)?;
-    assert!(rt; matches!(asked, Asked::End(2)), "{line}");
+    assert!(rt; matches!(asked, Asked::End(Status::BadCommand)), "{line}");
     assert!(rt; streams.output.try_borrow()?.is_empty(), "{line}");
     Ok(())
 }
@@ -171,7 +179,8 @@ fn options_to_play_by(rt: HostRuntime) -> Result<(), Fail> {
         alloc,
         "rs_replay --progress --workers 16 --config=a",
         ("a", 16, true),
-    )
+    )?;
+    is_played(&rt, alloc, "rs_replay -c a", ("a", 1, false))
 }
 
 #[test]
@@ -194,6 +203,12 @@ fn options_to_serve_by(rt: HostRuntime) -> Result<(), Fail> {
         alloc,
         "rs_served --check --reload 1 --sessions 1 --config a",
         ("a", 1, Some(1), Some(1), false, true),
+    )?;
+    is_served(
+        &rt,
+        alloc,
+        "rs_served --check -ca",
+        ("a", 1, None, None, false, true),
     )
 }
 
@@ -204,6 +219,8 @@ fn faults_end_with_2(rt: HostRuntime) -> Result<(), Fail> {
     is_refused(&rt, alloc, "rs_served --config")?;
     is_refused(&rt, alloc, "rs_served --config a b")?;
     is_refused(&rt, alloc, "rs_served --config a --config b")?;
+    is_refused(&rt, alloc, "rs_served --config a -c b")?;
+    is_refused(&rt, alloc, "rs_served -c")?;
     is_refused(&rt, alloc, "rs_served --config a --unknown")?;
     is_refused(&rt, alloc, "rs_served --config a --workers two")?;
     is_refused(&rt, alloc, "rs_served --config a --workers 0")?;
@@ -211,29 +228,85 @@ fn faults_end_with_2(rt: HostRuntime) -> Result<(), Fail> {
     is_refused(&rt, alloc, "rs_served --config a --reload 65536")
 }
 
-#[test]
-fn a_fault_is_told(rt: HostRuntime) -> Result<(), Fail> {
-    let streams = Streams::new(rt.alloc());
-    let words = words_of(rt.alloc(), "rs_replay --config a --workers 17")?;
-    let asked = replay::read_command(&streams, rt.alloc(), &words)?;
-    assert!(rt; matches!(asked, Asked::End(2)));
-    is_told(&rt, &streams, "", FAULT)
+/// By this line rs_replay ends with this status, and this was printed.
+fn ends_to_play<R: Abort>(
+    rt: &R,
+    alloc: Global,
+    line: &str,
+    wanted: Status,
+    output: &str,
+    errors: &str,
+) -> Result<(), Fail> {
+    let streams = Streams::new(alloc);
+    let words = words_of(alloc, line)?;
+    let asked = replay::read_command(&streams, alloc, &words)?;
+    assert!(rt;
+        matches!(&asked, Asked::End(status) if *status == wanted),
+        "{line}"
+    );
+    is_printed(rt, &streams, output, errors)
+}
+
+/// By this line rs_served ends with status 0, and this was printed on standard output.
+fn ends_to_serve<R: Abort>(rt: &R, alloc: Global, line: &str, output: &str) -> Result<(), Fail> {
+    let streams = Streams::new(alloc);
+    let words = words_of(alloc, line)?;
+    let asked = serve::read_command(&streams, alloc, &words)?;
+    assert!(rt; matches!(&asked, Asked::End(Status::Done)), "{line}");
+    is_printed(rt, &streams, output, "")
 }
 
 #[test]
-fn help_to_play_is_told(rt: HostRuntime) -> Result<(), Fail> {
-    let streams = Streams::new(rt.alloc());
-    let words = words_of(rt.alloc(), "rs_replay --help")?;
-    let asked = replay::read_command(&streams, rt.alloc(), &words)?;
-    assert!(rt; matches!(asked, Asked::End(0)));
-    is_told(&rt, &streams, HELP_TO_PLAY, "")
+fn a_fault_is_printed(rt: HostRuntime) -> Result<(), Fail> {
+    let line = "rs_replay --config a --workers 17";
+    ends_to_play(&rt, rt.alloc(), line, Status::BadCommand, "", FAULT)
 }
 
 #[test]
-fn help_to_serve_is_told(rt: HostRuntime) -> Result<(), Fail> {
-    let streams = Streams::new(rt.alloc());
-    let words = words_of(rt.alloc(), "rs_served -h")?;
-    let asked = serve::read_command(&streams, rt.alloc(), &words)?;
-    assert!(rt; matches!(asked, Asked::End(0)));
-    is_told(&rt, &streams, HELP_TO_SERVE, "")
+fn help_to_play_is_printed(rt: HostRuntime) -> Result<(), Fail> {
+    ends_to_play(
+        &rt,
+        rt.alloc(),
+        "rs_replay --help",
+        Status::Done,
+        HELP_TO_PLAY,
+        "",
+    )?;
+    ends_to_play(
+        &rt,
+        rt.alloc(),
+        "rs_replay -h",
+        Status::Done,
+        HELP_TO_PLAY,
+        "",
+    )
+}
+
+#[test]
+fn help_to_serve_is_printed(rt: HostRuntime) -> Result<(), Fail> {
+    ends_to_serve(&rt, rt.alloc(), "rs_served --help", HELP_TO_SERVE)?;
+    ends_to_serve(&rt, rt.alloc(), "rs_served -h", HELP_TO_SERVE)
+}
+
+#[test]
+fn versions_are_printed(rt: HostRuntime) -> Result<(), Fail> {
+    ends_to_play(
+        &rt,
+        rt.alloc(),
+        "rs_replay --version",
+        Status::Done,
+        PLAYS,
+        "",
+    )?;
+    ends_to_play(&rt, rt.alloc(), "rs_replay -V", Status::Done, PLAYS, "")?;
+    ends_to_serve(&rt, rt.alloc(), "rs_served --version", SERVES)?;
+    ends_to_serve(&rt, rt.alloc(), "rs_served -V", SERVES)
+}
+
+#[test]
+fn statuses_have_these_numbers(rt: HostRuntime) {
+    assert_eq!(rt; Status::Done.number(), 0);
+    assert_eq!(rt; Status::BadTrace.number(), 1);
+    assert_eq!(rt; Status::BadCommand.number(), 2);
+    assert_eq!(rt; Status::Failed.number(), 3);
 }

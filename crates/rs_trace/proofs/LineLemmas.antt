@@ -18,7 +18,7 @@ take_on xs m n =
 abbrev pub ends : ℕ → Bool
 ends octet = octet == 10
 
--- what waits behind the first n octets of what waits
+-- what waits after the first n octets of what waits
 pub rest_behind : (xs : List ℕ) (a b n : ℕ) → a + n ≤ b → slice_range xs (a + n) b ≡ drop n (slice_range xs a b)
 rest_behind xs a b n h =
     let m : ℕ = b - (a + n) in
@@ -102,12 +102,12 @@ pub length_of_rest : (xs rest : List ℕ) (a b : ℕ) → slice_range xs a b ≡
 length_of_rest xs rest a b e h =
     omega (arith, ap length e, length-take (b - a) (drop a xs), length-drop a xs)
 
--- what waits behind the next n octets
+-- what waits after the next n octets
 pub behind_of_rest : (xs rest : List ℕ) (a b n : ℕ) → slice_range xs a b ≡ rest → a ≤ b → n ≤ length rest → slice_range xs (a + n) b ≡ drop n rest
 behind_of_rest xs rest a b n e order h =
     rest_behind xs a b n (omega (arith, ap length e, length-take (b - a) (drop a xs))) ∙ ap (λ ys. drop n ys) e
 
--- what waits after a reading behind it
+-- what waits once more was read to the octets after it
 pub rest_read : (old moved new rest : List ℕ) (a b n : ℕ) → slice_range old a b ≡ rest → take (b - a) moved ≡ slice_range old a b → take (b - a) new ≡ take (b - a) moved
     → slice_range new 0 ((b - a) + n) ≡ rest ++ slice_range new (b - a) ((b - a) + n)
 rest_read old moved new rest a b n waits moves keeps =

@@ -13,7 +13,7 @@ front_put octets done rest e P p =
     let front : take (length done) octets ≡ done = ap (λ xs. take (length done) xs) e ∙ take-append-le (length done) done rest (omega arith) ∙ take_all (length done) done (omega arith) in
     (length done, omega (arith, ap length e, length-append done rest), subst P (append-nil done ∙ sym front) p)
 
--- what is left behind n octets more
+-- what is left after n octets more
 pub more_put : (octets done rest : List ℕ) (n : ℕ) → octets ≡ done ++ rest → octets ≡ (done ++ take n rest) ++ take (length rest - n) (drop n rest)
 more_put octets done rest n e =
     let all : take (length rest - n) (drop n rest) ≡ drop n rest = take_all (length rest - n) (drop n rest) (omega (arith, length-drop n rest)) in

@@ -1,4 +1,4 @@
--- What was written, and where a replay stands, behind a line of output or a line of the trace.
+-- What was written, and where a replay stands, after a line of output or a line of the trace.
 use Rattle.std.proofs.Common.{◌≡◌, ℕ, List, [], ◌∷◌, ◌++◌, take, drop, refl, sym, ◌∙◌, ap, true, false, inl, inr, Option, Some, None, append_assoc, subst}
 use Rattle.std.specs.Prelude.{Result, Ok, Err, OnOk, is_ok}
 use Rattle.std.proofs.lemmas.List.{append-nil, take-append-drop}
@@ -35,7 +35,7 @@ module _ (put : List ℕ → Type 0) (octets : List ℕ) where
   more_front : (wanted : List ℕ) → PutsFront put octets → PutsFront put (octets ++ wanted)
   more_front wanted p = (p.0, p.1 ++ wanted, ap (λ xs. xs ++ wanted) p.2 ∙ append_assoc p.0 p.1 wanted, p.3)
 
-  -- behind a failure a front stays one
+  -- after a failure a front stays one
   pub puts_no_more : (wanted : List ℕ) (stop : Option Stop) → failed stop ≡ true → Puts put octets stop → Puts put (octets ++ wanted) stop
   puts_no_more wanted None h p = let bad : false ≡ true = h in cc
   puts_no_more wanted (Some End) h p = let bad : false ≡ true = h in cc
@@ -49,7 +49,7 @@ module _ (put : List ℕ → Type 0) (octets : List ℕ) where
   pub front_of_more : (wanted : List ℕ) → put octets → PutsFront put (octets ++ wanted)
   front_of_more wanted p = (octets, wanted, refl, p)
 
-  -- and so is a part of what comes behind it
+  -- and so it is with a part of what comes after it
   pub front_of_part : (wanted : List ℕ) (n : ℕ) → put (octets ++ take n wanted) → PutsFront put (octets ++ wanted)
   front_of_part wanted n p =
       (octets ++ take n wanted, drop n wanted, ap (λ xs. octets ++ xs) (sym (take-append-drop n wanted)) ∙ sym (append_assoc octets (take n wanted) (drop n wanted)), p)
@@ -74,7 +74,7 @@ none_written (Some (Fault Reading)) n h = let bad : true ≡ false = h in cc
 none_written (Some (Fault Writing)) n h = let bad : true ≡ false = h in cc
 
 module _ (place : List ℕ → Option ℕ) (text : List ℕ) (over : Type 0) (s : List LineMeaning) (n : ℕ) (r : lines.Reading) where
-  -- wherever it stands, what was said is what the text says first
+  -- wherever it stands, these meanings are what the text says first
   pub stands_first : (stop : Option Stop) → Stands place text over s n r stop → MeansFirst place text s
   stands_first None h = means_first_now place text s n r h.0
   stands_first (Some End) h = means_all place text s None h.0
@@ -84,7 +84,7 @@ module _ (place : List ℕ → Option ℕ) (text : List ℕ) (over : Type 0) (s 
   stands_first (Some (Fault Reading)) h = h
   stands_first (Some (Fault Writing)) h = h
 
-  -- what was read was told
+  -- what was read was handed on
   pub stands_listed : (read listed_lines : List LineMeaning) (stop : Option Stop) → GoesOn place text over (s ++ read) n r → PassesOn read listed_lines stop → Stands place text over (s ++ listed_lines) n r stop
   stands_listed read listed_lines None h t = subst (λ xs. GoesOn place text over (s ++ xs) n r) (sym t) h
   stands_listed read listed_lines (Some End) h t = absurd t
@@ -124,11 +124,11 @@ stays takes at_end fails puts loses place first to meanings octets reader writer
     subst (λ xs. Plays takes at_end fails puts loses place first to xs (octets ++ []) reader writer r n stop) (sym (append-nil meanings))
     (subst (λ xs. Plays takes at_end fails puts loses place first to meanings xs reader writer r n stop) (sym (append-nil octets)) p)
 
--- what was said first stays so with nothing more
+-- what the text says first stays so with nothing more
 pub still_first : (place : List ℕ → Option ℕ) (text : List ℕ) (s : List LineMeaning) → MeansFirst place text s → MeansFirst place text (s ++ [])
 still_first place text s h = subst (λ xs. MeansFirst place text xs) (sym (append-nil s)) h
 
--- where it stands behind a line of output
+-- where it stands after a line of output
 pub stands_after : (place : List ℕ → Option ℕ) (text : List ℕ) (over : Type 0) (s : List LineMeaning) (n : ℕ) (r : lines.Reading) (stop after : Option Stop) → FailsOn stop after → Stands place text over s n r stop → Stands place text over s n r after
 stands_after place text over s n r stop after (inl e) h = subst (λ x. Stands place text over s n r x) (sym e) h
 stands_after place text over s n r stop after (inr (inl e)) h = subst (λ x. Stands place text over s n r x) (sym e.1) (stands_first place text over s n r stop h)
@@ -218,7 +218,7 @@ listed_writes read listed_lines (Some (Fault Writing)) n t = absurd t
 module _ {R W : Type 0} (takes : R → List ℕ → R → Type 0) (at_end : R → Type 0) (fails : R → ℕ) (puts : W → List ℕ → W → Type 0) (loses : W → ℕ)
     (place : List ℕ → Option ℕ) (on : (a b c : R) (xs ys : List ℕ) → takes a xs b → takes b ys c → takes a (xs ++ ys) c)
     (first : R) (to : W) (meanings : List LineMeaning) (octets : List ℕ) (reader later : R) (writer : W) (r q : lines.Reading) (n m : ℕ) (stop after : Option Stop) where
-  -- a line was read, and the core is told of it
+  -- a line was read, and the core is given it
   pub listed_on : (read listed_lines : List LineMeaning) → Plays takes at_end fails puts loses place first to meanings octets reader writer r n stop → stop ≡ None
       → ReadsOn takes at_end place reader n r later m q read None → fails later ≡ fails reader → PassesOn read listed_lines after
       → Plays takes at_end fails puts loses place first to (meanings ++ listed_lines) (octets ++ []) later writer q m after
@@ -234,7 +234,7 @@ module _ {R W : Type 0} (takes : R → List ℕ → R → Type 0) (at_end : R �
         writes = (subst (λ x. loses writer ≡ failures_written x (loses to)) none p.writes) ∙ listed_writes read listed_lines after (loses to) tells;
       }
 
-  -- no further line tells anything
+  -- no further line asks for anything
   pub stopped_on : Plays takes at_end fails puts loses place first to meanings octets reader writer r n stop → stop ≡ None
       → ReadsOn takes at_end place reader n r later m q [] after → fails later ≡ failures_read after (fails reader) → ((k : ℕ) → k ≡ failures_written after k)
       → Plays takes at_end fails puts loses place first to (meanings ++ []) (octets ++ []) later writer q m after

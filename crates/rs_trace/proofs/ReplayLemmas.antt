@@ -96,7 +96,7 @@ fault_at place n octets r fault first h = cases first.kind
         let fault_is : TooLong ≡ fault = cc in
         rw e.parts (rw front.is (rw long (ap (λ f. tells [] (Some (n, f))) fault_is)))
 
--- and else what it says comes before what the lines behind it say
+-- and else what it says comes before what the lines after it say
 goes_on : (place : List ℕ → Option ℕ) (n : ℕ) (octets more : List ℕ) (r : Reading) (event : Option LineMeaning) → IsFirstLine octets r → line_of place r.line ≡ Ok event → (r.is_over ≡ true → more ≡ [])
     → outcome place n (lines_of (octets ++ more)) ≡ on_line (Ok event) n (outcome place (n + 1) (lines_of (r.rest ++ more)))
 goes_on place n octets more r event first h none = cases first.kind
@@ -141,7 +141,7 @@ follows_fault place text taken s n fault old new follows step h =
     ∙ ap (behind s) (fault_at place (n + 1) (old.rest ++ taken) new fault step.steps h)
     ∙ ap (λ xs. tells xs (Some (n + 1, fault))) (append-nil s)
 
--- what was said so far is what the text says first, also where more was taken
+-- the meanings so far are what the text says first, also where more was taken
 pub means_first : (place : List ℕ → Option ℕ) (text taken : List ℕ) (s : List LineMeaning) (n : ℕ) (r : Reading) → FollowsOn place text s n r → (r.is_over ≡ true → taken ≡ []) → MeansFirst place (text ++ taken) s
 means_first place text taken s n r follows none = ((outcome place (n + 1) (lines_of (r.rest ++ taken))).meanings, ap (λ o. o.meanings) (follows taken none))
 
@@ -154,7 +154,7 @@ means_all place text s fault e = ([], ap (λ o. o.meanings) e ∙ sym (append-ni
 pub means_less : (place : List ℕ → Option ℕ) (text : List ℕ) (s more : List LineMeaning) → MeansFirst place text (s ++ more) → MeansFirst place text s
 means_less place text s more h = (more ++ h.0, h.1 ∙ append_assoc s more h.0)
 
--- lines that have their end, of one text behind the other
+-- lines that have their end, of one text after the other
 pub whole_append : (xs ys : List ℕ) → whole_lines (xs ++ ys) ≡ whole_lines xs + whole_lines ys
 whole_append [] ys = omega arith
 whole_append (x ∷ xs) ys = elim (x == 10) as (λ b. (if b then 1 + whole_lines (xs ++ ys) else whole_lines (xs ++ ys)) ≡ (if b then 1 + whole_lines xs else whole_lines xs) + whole_lines ys) [
@@ -174,7 +174,7 @@ whole_ended line rest h =
     whole_end : (rest : List ℕ) → whole_lines (10 ∷ rest) ≡ 1 + whole_lines rest
     whole_end rest = refl
 
--- the count of whole lines behind a step to a line
+-- the count of whole lines after a step to a line
 pub whole_step : (text taken : List ℕ) (n : ℕ) (old new : Reading) → AreWhole text n old → IsStep true old new taken → new.is_over ≡ true ⊎ length new.line ≡ 8241 ⊎ whole_lines (text ++ taken) ≡ (n + 1) + whole_lines new.rest
 whole_step text taken n old new whole step = cases whole step.steps.kind
   where

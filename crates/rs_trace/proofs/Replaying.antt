@@ -1,4 +1,4 @@
--- A replay as the steps of the core's link and the routes that were told between them.
+-- A replay as the steps of the core's link and the routes that were listed between them.
 use Rattle.std.proofs.Common.{◌≡◌, ℕ, ◌+◌, length, List, [], ◌∷◌, ◌++◌, refl, sym, ◌∙◌, ap, inl, inr, Option, Some, None, subst}
 use Rattle.std.specs.Prelude.{Result, Ok, Err}
 use Rattle.std.proofs.lemmas.List.{append-nil}
@@ -56,7 +56,7 @@ module _ {R W G : Type 0} (takes : R → List ℕ → R → Type 0) (at_end : R 
             d.same_names (h.goes first to (lines_done acts) (written (name_in names) acts))) d.plays;
       }
 
-  -- routes were told behind a line that asks for them
+  -- routes were listed after a line that asks for them
   pub listed_lines : (names : Names) (reads writes : G) (first : R) (to : W) (acts : List Act) (c : ℕ) (line : List ℕ)
       (names1 : Names) (reads1 writes1 : G) (reader1 : R) (writer1 : W) (r1 : lines.Reading) (n1 : ℕ) (stop1 : Option Stop)
       (names2 : Names) (reads2 writes2 : G) (reader2 : R) (writer2 : W) (r2 : lines.Reading) (n2 : ℕ) (stop2 : Option Stop)
@@ -79,7 +79,7 @@ module _ {R W G : Type 0} (takes : R → List ℕ → R → Type 0) (at_end : R 
             d.same_names (h.goes first to (lines_done acts ++ (Listed c ∷ [])) (written (name_in names) acts))) resumed;
       }
 
--- the line that a step is told by was written, and the step says nothing
+-- the step's line of output was written, and the step comes from no line of the trace
 pub added_by : {R W G : Type 0} {takes : R → List ℕ → R → Type 0} {at_end : R → Type 0} {fails : R → ℕ} {puts : W → List ℕ → W → Type 0} {loses : W → ℕ}
     {names : Names} {reads writes : G} {reader : R} {writer : W} {r : lines.Reading} {n : ℕ} {stop : Option Stop}
     {names2 : Names} {reads2 writes2 : G} {reader2 : R} {writer2 : W} {r2 : lines.Reading} {n2 : ℕ} {stop2 : Option Stop}
@@ -162,7 +162,7 @@ module _ {R W : Type 0} (takes : R → List ℕ → R → Type 0) (at_end : R �
   pub over_at_end : Plays takes at_end fails puts loses place first to meanings octets reader writer r n (Some End) → IsOver takes at_end puts place first to meanings octets reader writer (Ok tt)
   over_at_end p = record { text = p.text; taken = p.taken; ends = p.stands; gives = p.put }
 
-  -- behind a failure
+  -- after a failure
   pub over_failed : (fault : ReplayFault) → ((m : ℕ) (f : LineFault) → fault ≡ Line m f → ⊥)
       → Plays takes at_end fails puts loses place first to meanings octets reader writer r n (Some (Fault fault)) → IsOver takes at_end puts place first to meanings octets reader writer (Err fault)
   over_failed (Line m f) other p = absurd (other m f refl)

@@ -31,14 +31,14 @@ only_up true o mode h = refl
 only_up false o mode h = let bad : None ≡ Some mode = h in cc
 
 module _ (core : Core) (c : ℕ) (name : List ℕ) (mode : Mode) (routes : List (Prefix × List Attribute)) (lt : c < client_count core) (are : AreRoutes core c routes) where
-  -- they are the lines of its Loc-RIB behind a run
+  -- they are the lines of its Loc-RIB after a run
   pub lists : (run : List Move) → Agrees core run → mode_in (config_in run) c (hearing c run) ≡ Some mode → ListsLocRib run c name (flat_map (line_of_route name mode) routes)
   lists run agrees spoken =
       let up : is_established run c ≡ true = only_up (is_up (state_in (config_in run) c (hearing c run))) _ mode spoken in
       subst (λ o. ListsAs run c name (flat_map (line_of_route name mode) routes) o) (sym spoken)
       (routes, record { rising = are.rising; due = λ p. are.each p ∙ has_what_was_due core run c p lt agrees up }, refl)
 
-  -- and behind each run that the route server agrees with
+  -- and after each run that the route server agrees with
   pub listed : (spoken : Option Mode) → ((run : List Move) → Agrees core run → spoken ≡ mode_in (config_in run) c (hearing c run)) → spoken ≡ Some mode
       → (run : List Move) → Agrees core run → ListsOf (client_count core) run c name (flat_map (line_of_route name mode) routes)
   listed spoken says is run agrees below = lists run agrees (sym (says run agrees) ∙ is)

@@ -10,7 +10,7 @@ use Rattle.rs_trace.specs.Words.{words_of, lengthen}
 abbrev pub space : ℕ → Bool
 space octet = octet == 32
 
--- the words where there is a space: what stands before it, and the words behind it
+-- the words where there is a space: what stands before it, and the words after it
 abbrev pub split_words_at : List ℕ → ℕ → List (List ℕ)
 split_words_at text at = take at text ∷ words_of (drop (at + 1) text)
 

@@ -2,7 +2,7 @@
 use Rattle.std.specs.Prelude.{◌≡◌, ℕ, ◌<◌, ◌≤◌, ◌==◌, ◌⊎◌, Bool, true, false, List, [], ◌∷◌, ◌++◌, length}
 use Rattle.std.specs.List.{list_any}
 
--- a reader of lines: the line that it came to, what waits behind that line, whether the text's end was told
+-- a reader of lines: the line that it came to, what waits after that line, and whether the text's end was found
 pub record Reading : Type 0 where
   pub line : List ℕ
   pub rest : List ℕ
@@ -42,13 +42,13 @@ abbrev pub StepsOver : Bool → List ℕ → Reading → Type 0
 StepsOver true octets r = IsFirstLine octets r
 StepsOver false octets r = IsEnd octets r
 
--- a step to the next line, for which these octets were taken: none once the text's end was told
+-- a step to the next line, for which these octets were taken: none once the text's end was found
 pub record IsStep (is_line : Bool) (old new : Reading) (taken : List ℕ) : Type 0 where
   pub steps : StepsOver is_line (old.rest ++ taken) new
   pub none_after_end : old.is_over ≡ true → taken ≡ []
   pub stays_over : old.is_over ≡ true → new.is_over ≡ true
 
--- more waits, unless the text's end was told
+-- more waits, unless the text's end was found
 pub record Fills (old new : Reading) (taken : List ℕ) : Type 0 where
   pub rest : new.rest ≡ old.rest ++ taken
   pub over : new.is_over ≡ (length taken == 0)

@@ -16,7 +16,7 @@ use Rattle.rs_trace.specs.Text.{lines_of, whole_lines, outcome, tells, behind, I
 pub data Act : Type 0 where
   -- the core's link did a step
   Did : (step : links.Step) → Act
-  -- the routes of a client were told, in these lines
+  -- the routes of a client were written, in these lines
   ListedRoutes : (c : ℕ) (listed_lines : List ℕ) → Act
 
 -- the line of the trace that an event comes from; a stop comes from none
@@ -49,7 +49,7 @@ abbrev pub rules_line : Result (Unit {0}) RulesFault → List ℕ
 rules_line (Ok done) = accepted_line
 rules_line (Err fault) = refused_line (rules_fault_text fault)
 
--- the line of output that a step is told by
+-- the line of output that a step writes, if any
 abbrev pub line_at : (ℕ → List ℕ) → links.Step → List ℕ
 line_at name (links.Happened event octets) = []
 line_at name (links.Begin c) = []
@@ -86,7 +86,7 @@ steps_of [] = []
 steps_of (Did step ∷ acts) = step ∷ steps_of acts
 steps_of (ListedRoutes c listed_lines ∷ acts) = steps_of acts
 
--- What a reader of lines has still to give, with whatever may come, is what the text says behind what was said. n lines were read.
+-- What a reader of lines has still to give, with whatever may come, is what the text says after these meanings. n lines were read.
 abbrev pub FollowsOn : (List ℕ → Option ℕ) → List ℕ → List LineMeaning → ℕ → lines.Reading → Type 0
 FollowsOn place text meanings n r =
     (more : List ℕ) → (r.is_over ≡ true → more ≡ []) → outcome place 1 (lines_of (text ++ more)) ≡ behind meanings (outcome place (n + 1) (lines_of (r.rest ++ more)))
@@ -103,7 +103,7 @@ MeansFirst place text meanings = (others : List LineMeaning) × ((outcome place 
 abbrev pub GoesOn : (List ℕ → Option ℕ) → List ℕ → Type 0 → List LineMeaning → ℕ → lines.Reading → Type 0
 GoesOn place text over meanings n r = FollowsOn place text meanings n r × (r.is_over ≡ true → over) × AreWhole text n r
 
--- The text was read so far: what was said of it, and where the reading stands. `over` says that nothing more comes.
+-- The text was read so far: what its lines have meant, and where the reading stands. `over` says that nothing more comes.
 abbrev pub Stands : (List ℕ → Option ℕ) → List ℕ → Type 0 → List LineMeaning → ℕ → lines.Reading → Option Stop → Type 0
 Stands place text over meanings n r None = GoesOn place text over meanings n r
 Stands place text over meanings n r (Some End) = (outcome place 1 (lines_of text) ≡ tells meanings None) × over
@@ -118,7 +118,7 @@ Stands place text over meanings n r (Some (Fault Writing)) = MeansFirst place te
 abbrev pub PutsFront : (List ℕ → Type 0) → List ℕ → Type 0
 PutsFront put octets = (front rest : List ℕ) × (octets ≡ front ++ rest) × put front
 
--- These octets were put: all of them, but behind a failure.
+-- These octets were put: all of them, or after a failure a front.
 abbrev pub Puts : (List ℕ → Type 0) → List ℕ → Option Stop → Type 0
 Puts put octets None = put octets
 Puts put octets (Some End) = put octets

@@ -49,7 +49,7 @@ abbrev pub meaning_read : List ℕ → Result Entry Stop → List LineMeaning
 meaning_read piece (Ok entry) = meaning_in piece entry ∷ []
 meaning_read piece (Err stop) = []
 
--- More octets were taken, and what they say so far is these sayings more.
+-- More octets were taken, and with them the text says this much more.
 abbrev pub ReadsOn : {R : Type 0} → (R → List ℕ → R → Type 0) → (R → Type 0) → (List ℕ → Option ℕ) → R → ℕ → lines.Reading → R → ℕ → lines.Reading → List LineMeaning → Option Stop → Type 0
 ReadsOn takes at_end place old n r new m q more stop =
     (text : List ℕ) (meanings : List LineMeaning) → Stands place text (at_end old) meanings n r None →
@@ -59,7 +59,7 @@ ReadsOn takes at_end place old n r new m q more stop =
 abbrev pub FailsOn : Option Stop → Option Stop → Type 0
 FailsOn stop after = (after ≡ stop) ⊎ ((failed stop ≡ false) × (after ≡ Some (Fault Memory))) ⊎ ((failed stop ≡ false) × (after ≡ Some (Fault Writing)))
 
--- What the core is told of what was read, and whether it is stopped.
+-- What the core is given of what was read, and whether it is stopped.
 abbrev pub PassesOn : List LineMeaning → List LineMeaning → Option Stop → Type 0
 PassesOn read listed_lines None = listed_lines ≡ read
 PassesOn read listed_lines (Some End) = ⊥
@@ -69,7 +69,7 @@ PassesOn read listed_lines (Some (Fault Memory)) = listed_lines ≡ []
 PassesOn read listed_lines (Some (Fault Reading)) = ⊥
 PassesOn read listed_lines (Some (Fault Writing)) = ⊥
 
--- Since the first reader and writer these sayings were done and this output came of it, and now all stands so.
+-- Since the first reader and writer these lines were done and this output came of them, and now all stands so.
 pub record Plays {R W : Type 0} (takes : R → List ℕ → R → Type 0) (at_end : R → Type 0) (fails : R → ℕ) (puts : W → List ℕ → W → Type 0) (loses : W → ℕ)
     (place : List ℕ → Option ℕ) (first : R) (to : W) (meanings : List LineMeaning) (octets : List ℕ) (reader : R) (writer : W) (r : lines.Reading) (n : ℕ) (stop : Option Stop) : Type 0 where
   pub text : List ℕ
@@ -117,8 +117,8 @@ abbrev pub steps_done : List links.Step → List Act → List Act
 steps_done [] acts = acts
 steps_done (s ∷ run) acts = Did s ∷ steps_done run acts
 
--- What was done is what a link and a route server do together in drives, one behind the other, and between them the lines of a
--- client's Loc-RIB, as it is then, were told. By it they came to this course: all the steps of the link, the run that these make,
+-- What was done is what a link and a route server do together in drives, one after the other, and between them the lines of a
+-- client's Loc-RIB, as it is then, were written. By it they came to this course: all the steps of the link, the run that these make,
 -- and the route server at hand.
 pub data HasRun (settings : Configuration) (name : ℕ → List ℕ) : List Act → Course → Type 0 where
   Begins : (core : Core) (agrees : Agrees core (Ruled settings ∷ [])) → client_count core ≡ length settings.clients → HasRun settings name [] (start settings core agrees)
@@ -152,8 +152,9 @@ pub record IsAtFirst (r : lines.Reading) (n : ℕ) (stop : Option Stop) : Type 0
 abbrev pub HasPlayed : Configuration → (List ℕ → Type 0) → Type 0 → (List ℕ → Type 0) → Result (Unit {0}) ReplayFault → Type 0
 HasPlayed settings takes over put result = IsPlayed settings takes over put result ⊎ ((result ≡ Err Memory) × takes [] × put [])
 
--- A recording goes on from an old state to a new one by a step of the core's link: it has the same names, reader and writer; of an offer all
--- is taken; and whatever was done and written before, what the step is told of and the step's line come behind it.
+-- A recording goes on from an old state to a new one by a step of the core's link: it has the same names, reader and writer; of an
+-- offer all is taken; and what was done and written before is followed by the line of the trace that the step comes from, if any, and
+-- by the step's line of output.
 pub record Happens {R W G : Type 0} (takes : R → List ℕ → R → Type 0) (at_end : R → Type 0) (fails : R → ℕ) (puts : W → List ℕ → W → Type 0) (loses : W → ℕ)
     (names : Names) (reads writes : G) (reader : R) (writer : W) (r : lines.Reading) (n : ℕ) (stop : Option Stop) (step : links.Step)
     (names2 : Names) (reads2 writes2 : G) (reader2 : R) (writer2 : W) (r2 : lines.Reading) (n2 : ℕ) (stop2 : Option Stop) : Type 0 where
@@ -164,7 +165,8 @@ pub record Happens {R W G : Type 0} (takes : R → List ℕ → R → Type 0) (a
   pub goes : (first : R) (to : W) (meanings : List LineMeaning) (octets : List ℕ) → Plays takes at_end fails puts loses (place_in names) first to meanings octets reader writer r n stop →
       Plays takes at_end fails puts loses (place_in names) first to (meanings ++ meaning_at step) (octets ++ line_at (name_in names) step) reader2 writer2 r2 n2 stop2
 
--- A recording goes on by a line of output that no step of the core's link asks for: what was said stays, and the line comes behind what was written.
+-- A recording goes on by a line of output that no step of the core's link asks for: what was done stays, and the line comes after what
+-- was written.
 pub record Adds {R W G : Type 0} (takes : R → List ℕ → R → Type 0) (at_end : R → Type 0) (fails : R → ℕ) (puts : W → List ℕ → W → Type 0) (loses : W → ℕ)
     (names : Names) (reads writes : G) (reader : R) (writer : W) (r : lines.Reading) (n : ℕ) (stop : Option Stop) (line : List ℕ)
     (names2 : Names) (reads2 writes2 : G) (reader2 : R) (writer2 : W) (r2 : lines.Reading) (n2 : ℕ) (stop2 : Option Stop) : Type 0 where

@@ -1,4 +1,4 @@
--- What the clients of a route server were told in a replay.
+-- What the clients of a route server are sent in a replay.
 use Rattle.std.specs.Prelude.{◌≡◌, ◌==◌, ◌<◌, ◌≤◌, ℕ, true, List, [], ◌∷◌, ◌++◌, if◌then◌else◌}
 use Rattle.rs_policy.specs.Configuration.{Configuration}
 use Rattle.rs_core.specs.Run.Meaning.{is_established}
@@ -15,7 +15,7 @@ use Rattle.rs_trace.specs.Replays.{HasRun}
 
 -- ---- a replay is one course
 
--- from the start on a route server and a link came to this course in drives, one behind the other, by just the steps that were done
+-- from the start on a route server and a link came to this course in drives, one after the other, by just the steps that were done
 pub record IsCourseOf (settings : Configuration) (acts : List Act) (x : Course) : Type 0 where
   pub come : HasCome settings x
   pub steps : x.steps ≡ steps_of acts
@@ -48,7 +48,7 @@ ReplaysServe = (settings : Configuration) (name : ℕ → List ℕ) (acts : List
 
 -- ---- a turn, and room
 
--- room for so many octets to client d, and the ends behind it
+-- room for so many octets to client d, and the ends after it
 pub record GivesRoom (d room : ℕ) (x y : Course) : Type 0 where
   pub octets : List ℕ
   pub given : Course

@@ -12,7 +12,7 @@ use Rattle.rs_core.specs.Told.Points.{latest}
 use Rattle.rs_core.specs.Run.Meaning.{hearing, dues}
 use Rattle.rs_trace.specs.Output.{route_line}
 
--- A client's Loc-RIB behind a run (RFC 4271, 3.2; RFC 7947, 2.3): what was due to it at its last turn since it is Established, by
+-- A client's Loc-RIB after a run (RFC 4271, 3.2; RFC 7947, 2.3): what was due to it at its last turn since it is Established, by
 -- rising prefix; nothing before the first.
 pub record IsLocRib (run : List Move) (c : ℕ) (routes : List (Prefix × List Attribute)) : Type 0 where
   pub rising : T (is_sorted prefix_order routes)
@@ -26,7 +26,7 @@ abbrev pub ListsAs : List Move → ℕ → List ℕ → List ℕ → Option Mode
 ListsAs run c name listed_lines None = listed_lines ≡ []
 ListsAs run c name listed_lines (Some mode) = (routes : List (Prefix × List Attribute)) × IsLocRib run c routes × (listed_lines ≡ flat_map (line_of_route name mode) routes)
 
--- the lines of a client's Loc-RIB behind a run, its attributes spelt as in the client's UPDATEs; none while it isn't Established
+-- the lines of a client's Loc-RIB after a run, its attributes spelt as in the client's UPDATEs; none while it isn't Established
 abbrev pub ListsLocRib : List Move → ℕ → List ℕ → List ℕ → Type 0
 ListsLocRib run c name listed_lines = ListsAs run c name listed_lines (mode_in (config_in run) c (hearing c run))
 

@@ -5,7 +5,7 @@ use Rattle.rs_trace.specs.declared.trace.LineFault.TheVariants.{TooLong}
 use Rattle.rs_trace.specs.Words.{lengthen}
 use Rattle.rs_trace.specs.Trace.{LineMeaning, line_of}
 
--- what stands before each end of a line, and what stands behind the last, if anything
+-- what stands before each end of a line, and what stands after the last, if anything
 abbrev pub lines_of : List ℕ → List (List ℕ)
 lines_of [] = []
 lines_of (octet ∷ octets) = if octet == 10 then [] ∷ lines_of octets else lengthen octet (lines_of octets)
@@ -23,11 +23,11 @@ pub record Outcome : Type 0 where
 abbrev pub tells : List LineMeaning → Option (ℕ × LineFault) → Outcome
 tells meanings fault = record { meanings = meanings; fault = fault }
 
--- behind these sayings
+-- after these meanings
 abbrev pub behind : List LineMeaning → Outcome → Outcome
 behind meanings later = tells (meanings ++ later.meanings) later.fault
 
--- what a line makes of the outcome of the lines behind it
+-- what a line makes of the outcome of the lines after it
 abbrev pub on_line : Result (Option LineMeaning) LineFault → ℕ → Outcome → Outcome
 on_line (Ok None) n later = later
 on_line (Ok (Some meant)) n later = tells (meant ∷ later.meanings) later.fault

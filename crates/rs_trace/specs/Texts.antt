@@ -11,7 +11,7 @@ no_front : (xs ys : List ℕ) → xs ++ ys ≡ [] → xs ≡ []
 no_front [] ys h = refl
 no_front (x ∷ xs) ys h = let bad : x ∷ (xs ++ ys) ≡ [] = h in cc
 
--- behind the end nothing is taken
+-- after the end nothing is taken
 pub none_left : (a b : Option (List ℕ)) (xs : List ℕ) → IsKnown a → IsAtEnd a → Consumes a b xs → xs ≡ []
 none_left None b xs known end taken = absurd known
 none_left (Some octets) None xs known end taken = absurd taken

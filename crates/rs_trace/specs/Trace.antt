@@ -55,7 +55,7 @@ abbrev pub text_of : List ℕ → Option (List ℕ)
 text_of [] = None
 text_of (digit ∷ digits) = octets_of (digit ∷ digits)
 
--- what each word makes of the words behind it
+-- what each word makes of the words after it
 abbrev pub meaning_of : (List ℕ → Option ℕ) → Word → List (List ℕ) → Result LineMeaning LineFault
 meaning_of place Open (name ∷ []) = with_value (place name) UnknownClient (λ c. Ok (Opened c))
 meaning_of place Octets (name ∷ []) = with_value (place name) UnknownClient (λ c. Ok (Heard c []))

@@ -1,4 +1,4 @@
--- The words of a line: what stands before, between and behind its spaces.
+-- The words of a line: what stands before, between and after its spaces.
 use Rattle.std.specs.Prelude.{◌≡◌, ℕ, ◌<◌, ◌==◌, if◌then◌else◌, List, [], ◌∷◌, length}
 use Rattle.rs_trace.specs.declared.words.Operands.{Operands}
 use Rattle.rs_trace.specs.declared.words.Operands.TheVariants.{Nothing, One, Two, More}
@@ -13,7 +13,7 @@ abbrev pub words_of : List ℕ → List (List ℕ)
 words_of [] = [] ∷ []
 words_of (octet ∷ octets) = if octet == 32 then [] ∷ words_of octets else lengthen octet (words_of octets)
 
--- these are a line's words behind its first
+-- these are a line's words after its first
 abbrev pub AreOperands : Operands → List (List ℕ) → Type 0
 AreOperands Nothing ws = ws ≡ []
 AreOperands (One a) ws = ws ≡ a.now ∷ []

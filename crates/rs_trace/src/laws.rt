@@ -3,7 +3,7 @@
 ghost use Rattle.rs_trace.specs.Serving.{ReplaysAreCourses, ReplaysDrain, ReplaysServe};
 
 /// At each point of a replay the route server and the link have come, from the start on, in drives of
-/// `rs_core`, one behind the other, by just the steps of the link that were done to a course: all that is
+/// `rs_core`, one after the other, by just the steps of the link that were done to a course: all that is
 /// proved there of drives holds of a replay.
 pub fn replays_are_courses()
     ensures { ReplaysAreCourses }

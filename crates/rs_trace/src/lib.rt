@@ -1,10 +1,11 @@
-//! Plays recorded sessions to a route server and writes what its clients are sent.
+//! The library of `rs_replay`: plays recorded sessions to a route server and writes what its clients are
+//! sent.
 //!
 //! A trace comes in by `text` and `lines`; `words`, `number` and `trace` say what each of its lines
 //! means; `entries` reads one after the other, `recording` hands that to the core as a link, and
 //! `replay` lets the core run, to the end or to a `fault`; `tables` lists a client's Loc-RIB, and
-//! `output` says what lines go out, with clients by their `names`. `settings` reads the file of the
-//! configuration, and `progress` tells on a terminal how far a long replay is.
+//! `output` says what lines go out, with clients by their `names`. `progress` prints on a terminal how
+//! far a long replay is.
 #![tactic(auto)]
 
 pub mod entries;
@@ -17,7 +18,6 @@ pub mod output;
 pub mod progress;
 pub mod recording;
 pub mod replay;
-pub mod settings;
 pub mod tables;
 pub mod text;
 pub mod trace;

@@ -15,7 +15,7 @@ use std::marker::Model;
 /// The octets that are held: a line that is too long, and about as much again to read into.
 const ROOM: usize = 16384;
 
-/// Reads lines: it shows the one that it came to, and holds what it has read behind it.
+/// Reads lines: it shows the one that it came to, and holds what it has read after it.
 #[derive(Drop)]
 pub struct Lines {
     buffer: Vec<u8>,
@@ -47,7 +47,7 @@ fn move_to_front(octets: &mut [u8], start: usize, end: usize)
     octets.copy_within(start..end, 0);
 }
 
-/// Reads behind a front, which stays, and answers how many octets that took.
+/// Reads to the octets after a front, which stays, and answers how many octets that took.
 fn read_behind<R: TextIn>(reader: &mut R, octets: &mut [u8], front: usize) -> Result<usize, Failed>
     requires { front ≤ length octets.old }
     ensures within { IfOk result (λ n. front + n ≤ length octets.old) }
@@ -84,7 +84,7 @@ impl Lines {
         &self.buffer[self.line_start..self.line_end]
     }
 
-    /// Makes the next `size` octets the line, and leaves out as many behind them as its end has.
+    /// Makes the next `size` octets the line, and leaves out as many after them as its end has.
     fn take_line(&mut self, size: usize, end: usize)
         requires { size + end ≤ length self.old.rest }
         ensures line { self.new.line ≡ take size self.old.rest }
@@ -122,7 +122,7 @@ impl Lines {
         false
     }
 
-    /// Reads more behind what waits.
+    /// Reads more, which is put after what waits.
     fn read_more<R: TextIn>(&mut self, reader: &mut R) -> Result<(), Failed>
         requires { length self.old.rest ≤ 8240 }
         ensures ok { OnOk result ((taken : List ℕ) × R.takes reader.old taken reader.new × Fills self.old self.new taken) }

@@ -96,14 +96,14 @@ pub fn ruled(line: &mut Vec<u8>, answer: &Result<(), RulesFault>) -> Result<(), 
     }
 }
 
-/// Puts a number behind a line, in decimal digits.
+/// Puts a number at the end of a line, in decimal digits.
 fn put_number(alloc: Global, line: &mut Vec<u8>, number: u32) -> Result<(), AllocError>
     ensures { OnOk result (line.new.items ≡ line.old.items ++ decimal number) }
 {
     line.extend_from_slice(format!(in alloc; "{number}")?.as_bytes())
 }
 
-/// Puts a prefix behind a line, as `198.51.100.0/24`.
+/// Puts a prefix at the end of a line, as `198.51.100.0/24`.
 fn put_prefix(alloc: Global, line: &mut Vec<u8>, prefix: &Prefix) -> Result<(), AllocError>
     ensures { OnOk result (line.new.items ≡ line.old.items ++ prefix_text prefix.now) }
 {

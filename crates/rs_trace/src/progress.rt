@@ -1,4 +1,4 @@
-//! What is told of a long replay while it runs: how many lines were read, and how many UPDATEs were
+//! What is printed of a long replay while it runs: how many lines were read, and how many UPDATEs were
 //! heard. It sees each line that was read, and has no part in what is read and written.
 
 ghost use Rattle.std.specs.Prelude.{◌≡◌, ◌≢◌, ◌≤◌, ◌↔◌, ◌+◌, ◌⊎◌, Some, IsTrue};
@@ -6,10 +6,10 @@ ghost use Rattle.std.specs.Prelude.{◌≡◌, ◌≢◌, ◌≤◌, ◌↔◌, 
 use crate::trace::Entry;
 use std::alloc::{AllocError, Global};
 
-/// Once in so many lines it is told how far a replay is.
+/// How far a replay is, is printed once in so many lines.
 const LINES: u64 = 65536;
 
-/// Who is told of what a replay reads.
+/// Who sees what a replay reads.
 pub trait Watch {
     /// The line of this number was read. Octets that it gives stand at the front of the piece.
     fn line_read(&mut self, number: u64, entry: Option<Entry>, piece: &[u8; 4096]);
@@ -82,7 +82,7 @@ impl Message {
     }
 }
 
-/// Tells on standard error how far a replay is: at the first moment of each second, and once in
+/// Prints on standard error how far a replay is: at the first moment of each second, and once in
 /// `LINES` lines.
 #[derive(Drop)]
 pub struct Progress<'a, R> {
@@ -90,7 +90,7 @@ pub struct Progress<'a, R> {
     /// The message that each client is in.
     messages: Vec<Message>,
     updates: u64,
-    /// The line at which it was told last, and the second that it is.
+    /// The line at which that was printed last, and the second that it is.
     reported_at: u64,
     second: Option<u64>,
 }
@@ -114,7 +114,7 @@ impl<'a, R: Eprint> Progress<'a, R> {
         }
     }
 
-    /// The line at which it was told last is `LINES` lines ago, or more.
+    /// How far the replay is, was printed last `LINES` lines ago, or more.
     fn is_due(&self, number: u64) -> bool
         ensures { IsTrue result ↔ self.now.reported_at + 65536 ≤ number }
     {
@@ -133,10 +133,10 @@ impl<'a, R: Eprint> Progress<'a, R> {
         is_other
     }
 
-    /// Tells how far the replay is.
-    fn tell(&mut self, number: u64) {
+    /// Prints how far the replay is.
+    fn report(&mut self, number: u64) {
         self.reported_at = number;
-        // Where standard error is closed there is nobody to tell.
+        // Where standard error is closed nobody can read it.
         let _ = eprintln!(self.rt; "{number} lines read, {} UPDATEs heard", self.updates);
     }
 }
@@ -152,7 +152,7 @@ impl<R: Eprint> Watch for Progress<'_, R> {
             _ => false,
         };
         if is_another_second || self.is_due(number) {
-            self.tell(number);
+            self.report(number);
         }
     }
 

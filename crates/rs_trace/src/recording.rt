@@ -139,7 +139,7 @@ impl<'a, R: TextIn, W: TextOut, P: Watch> Recording<'a, R, W, P> {
         self.stop
     }
 
-    /// Goes on behind a stop.
+    /// Goes on after a stop.
     pub fn resume(&mut self)
         ensures { self.new ≡ record self.old { stop = None } }
     {
@@ -160,7 +160,7 @@ impl<'a, R: TextIn, W: TextOut, P: Watch> Recording<'a, R, W, P> {
         self.stop = write_line(self.writer, self.stop, made, self.line);
     }
 
-    /// Tells a client's routes, in these lines, where there was memory for them.
+    /// Writes a client's routes, in these lines, where there was memory for them.
     pub fn list_routes(&mut self, lines: &Result<Vec<u8>, AllocError>)
         ensures { (listed_lines : List ℕ) → IfOk lines.now (λ made. made.items ≡ listed_lines) → Adds R.takes R.at_end R.failures W.puts W.failures self.old.names.now self.old.reader.ghost_name self.old.writer.ghost_name self.old.reader.now self.old.writer.now self.old.lines.now self.old.number self.old.stop listed_lines self.new.names.now self.new.reader.ghost_name self.new.writer.ghost_name self.new.reader.now self.new.writer.now self.new.lines.now self.new.number self.new.stop }
     {
@@ -170,7 +170,7 @@ impl<'a, R: TextIn, W: TextOut, P: Watch> Recording<'a, R, W, P> {
         }
     }
 
-    /// The replay is over by a fault: that of a line is told as the last. Answers why it is over then.
+    /// The replay is over by a fault: that of a line is written as the last line. Answers why it is over then.
     pub fn end_at(&mut self, fault: ReplayFault) -> ReplayFault
         requires { self.old.stop ≡ Some (stops.Fault fault) }
         ensures reader { self.new.reader.ghost_name ≡ self.old.reader.ghost_name }
@@ -187,7 +187,7 @@ impl<'a, R: TextIn, W: TextOut, P: Watch> Recording<'a, R, W, P> {
         }
     }
 
-    /// Tells the fault of a line as the last, and answers why the replay is over.
+    /// Writes the fault of a line as the last line, and answers why the replay is over.
     fn end_at_line(&mut self, number: u64, fault: LineFault) -> ReplayFault
         requires { self.old.stop ≡ Some (stops.Fault (faults.Line number fault)) }
         ensures reader { self.new.reader.ghost_name ≡ self.old.reader.ghost_name }

@@ -46,7 +46,7 @@ pub fn replay<T: Threads + Wait + Sync, R: TextIn, W: TextOut, P: Watch>(
     play_on(rt, alloc, workers, &mut core, &mut recording)
 }
 
-/// Lets the core run until the recording is over, and tells routes where it stops for them.
+/// Lets the core run until the recording is over, and lists routes where it stops for them.
 fn play_on<T: Threads + Wait + Sync, R: TextIn, W: TextOut, P: Watch>(
     rt: &T,
     alloc: Global,

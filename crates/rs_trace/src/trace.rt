@@ -30,7 +30,7 @@ pub enum LineFault {
 }
 
 impl LineFault {
-    /// What is told of it.
+    /// Its text, as it is written.
     pub fn text(&self) -> &'static str
         ensures { result.now ≡ fault_text self.now }
     {
@@ -75,7 +75,7 @@ pub enum Entry {
     Lost(usize),
     /// The configuration is replaced by a text of so many octets, which stand at the front of a piece.
     Rules(usize),
-    /// The routes of the client's Loc-RIB are to be told.
+    /// The routes of the client's Loc-RIB are to be listed.
     Table(usize),
 }
 

@@ -19,7 +19,7 @@ pub fn first_place(octet: u8, text: &[u8]) -> Option<usize>
     text.iter().position(|x| *x == octet)
 }
 
-/// What stands before the first space, and what stands behind it where there is one.
+/// What stands before the first space, and what stands after it where there is one.
 fn split_word(text: &[u8]) -> (&[u8], Option<&[u8]>)
     ensures { MatchOption result.1 (words_of text.now ≡ result.0.now ∷ []) (λ rest. words_of text.now ≡ result.0.now ∷ words_of rest.now) }
 {

@@ -45,7 +45,7 @@ gone : (g : given.Over) (first old new : Recording g.row.R.Denot g.row.W.Denot g
     → HasGone (λ link acts. Does g first acts link) settings (name_in first.names.now) before old → HasGone (λ link acts. Does g first acts link) settings (name_in first.names.now) after new
 gone g first old new settings before after count c h = gone_on (Stepped g) (λ link acts. Does g first acts link) (step g first) settings (name_in first.names.now) before old after new count c h
 
--- routes were told
+-- routes were listed
 listed_one : (g : given.Over) (first old resumed new : Recording g.row.R.Denot g.row.W.Denot g.row.P.Denot) (c : ℕ) (line : List ℕ) (acts : List Act)
     → old.stop ≡ Some (Table c) → resumed ≡ record old { stop = None }
     → Adds g.R.TextIn.takes g.R.TextIn.at_end g.R.TextIn.failures g.W.TextOut.puts g.W.TextOut.failures
@@ -62,7 +62,7 @@ listed_one g first old resumed new c line acts stop is adds done = listed_lines 
     new.names.now new.reader.ghost_name new.writer.ghost_name new.reader.now new.writer.now new.lines.now new.number new.stop) is adds)
     done
 
--- what lines are told: none where memory was refused
+-- the lines that are written: none where memory was refused
 some_listed : (lines : Result (Vec ℕ) AllocError) → (listed_lines : List ℕ) × IfOk lines (λ made. made.items ≡ listed_lines)
 some_listed (Ok made) = (made.items, refl)
 some_listed (Err refused) = ([], tt)

@@ -1,4 +1,4 @@
--- What was done so far is what the steps of the link were, and the routes that were told between them.
+-- What was done so far is what the steps of the link were, and the routes that were listed between them.
 use Rattle.std.proofs.Common.{◌≡◌, List, [], ◌∷◌, length}
 use Rattle.rs_policy.specs.Configuration.{Configuration}
 use Rattle.rs_core.specs.Core.{client_count}

@@ -1,0 +1,91 @@
+//! The file of the configuration, which both programs read before they begin.
+
+ghost use Rattle.std.specs.Prelude.{◌≡◌, ◌≢◌};
+ghost use Rattle.rs_command.specs.declared.configuration.ConfigurationFault.TheVariants as faults;
+ghost use Rattle.rs_command.specs.declared.status.Status.TheVariants as statuses;
+
+use crate::Status;
+use rs_policy::{Config, ConfigFault};
+use std::alloc::Global;
+use std::io::{ErrorKind, Read};
+use std::rt::Files;
+use std::{fs, io};
+use thiserror::Error;
+
+/// Why a file gives no configuration. Its text is the line that is printed on standard error.
+#[derive(Clone, Copy, Debug, Drop, Error, PartialEq, Eq)]
+pub enum ConfigurationFault {
+    /// The file can't be read, or isn't UTF-8.
+    #[error("configuration: unreadable")]
+    Unreadable,
+    /// The text is no configuration; this is its first fault.
+    #[error("configuration: {0}")]
+    Text(ConfigFault),
+    /// Memory was refused, which is no fault of the file.
+    #[error("out of memory")]
+    Memory,
+}
+
+impl ConfigurationFault {
+    /// The status that the program ends with.
+    pub fn status(&self) -> Status
+        ensures memory { self.now ≡ faults.Memory → result ≡ statuses.Failed }
+        ensures file { self.now ≢ faults.Memory → result ≡ statuses.BadCommand }
+    {
+        match self {
+            ConfigurationFault::Memory => Status::Failed,
+            _ => Status::BadCommand,
+        }
+    }
+
+    /// Prints the fault on standard error, and answers the status to end with.
+    pub fn report<R: Eprint>(&self, rt: &R) -> Status
+        ensures memory { self.now ≡ faults.Memory → result ≡ statuses.Failed }
+        ensures file { self.now ≢ faults.Memory → result ≡ statuses.BadCommand }
+    {
+        // Where standard error is closed nobody can read it.
+        let _ = eprintln!(rt; "{self}");
+        self.status()
+    }
+}
+
+impl From<io::Error> for ConfigurationFault {
+    fn from(error: io::Error) -> ConfigurationFault {
+        match error.kind() {
+            ErrorKind::OutOfMemory => ConfigurationFault::Memory,
+            _ => ConfigurationFault::Unreadable,
+        }
+    }
+}
+
+/// Reads the configuration of the file at this path.
+pub fn read_configuration<R: Files>(
+    rt: &R,
+    alloc: Global,
+    path: &str,
+) -> Result<Config, ConfigurationFault> {
+    let mut file = fs::open(rt, path)?;
+    read_configuration_from(alloc, &mut file)
+}
+
+/// Reads the configuration that a reader gives, up to its end.
+pub fn read_configuration_from<F: Read>(
+    alloc: Global,
+    reader: &mut F,
+) -> Result<Config, ConfigurationFault> {
+    let mut octets = Vec::new(alloc);
+    reader.read_to_end(&mut octets)?;
+    configuration_of(alloc, &octets)
+}
+
+/// The configuration whose text these octets are.
+fn configuration_of(alloc: Global, octets: &[u8]) -> Result<Config, ConfigurationFault> {
+    let Ok(text) = str::from_utf8(octets) else {
+        return Err(ConfigurationFault::Unreadable);
+    };
+    match Config::read(alloc, text) {
+        Ok(config) => Ok(config),
+        Err(ConfigFault::OutOfMemory) => Err(ConfigurationFault::Memory),
+        Err(fault) => Err(ConfigurationFault::Text(fault)),
+    }
+}
