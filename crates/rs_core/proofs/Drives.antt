@@ -1,4 +1,4 @@
--- Steps of a link and of a route server, one behind the other.
+-- Steps of a link and of a route server, one after the other.
 pub mod Leading
 pub mod Taking
 pub mod Continuing

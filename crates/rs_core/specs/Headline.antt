@@ -18,7 +18,7 @@ use Rattle.rs_core.specs.Owed.Draining.{IsDrained}
 use Rattle.rs_core.specs.declared.route_server.Core.{Core}
 
 -- A new route server of this configuration and a link were driven any number of times, by one thread or by workers; now they are
--- these. A source may stop behind any event, so each point between two events is one of these.
+-- these. A source may stop after any event, so each point between two events is one of these.
 pub data WereDriven {L : Type 0} (happens : L → Step → L → Type 0) (config : Configuration) (first : L) : Core → L → Type 0 where
   New : (core : Core) → Agrees core (Ruled config ∷ []) → WereDriven happens config first core first
   Driven : (old new : Core) (before after : L) → WereDriven happens config first old before → Continues happens old before new after Drives
@@ -30,7 +30,7 @@ pub record HasWhatIsDue (x : Course) (c : ℕ) : Type 0 where
   pub served : IsServedBy x c
   pub senders : (p : Prefix) (route : List Attribute) → due x.run c p ≡ Some route → IsSendersRoute x.run c p route
 
--- what the link told and took is a course of drives from the start on, and in it each drained client has what is due to it
+-- the steps of the link are those of a course of drives from the start on, and in it each drained client has what is due to it
 pub record HasCome (config : Configuration) (x : Course) : Type 0 where
   pub new : Core
   pub agrees : Agrees new (Ruled config ∷ [])

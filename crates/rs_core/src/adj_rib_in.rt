@@ -37,7 +37,9 @@ impl Ribs {
 
     // ---- what a client announces
 
-    /// A client announces a route. Where that changes what it has, the others are touched.
+    /// A client announces a route. Where that changes what it has, the others are touched. Where memory
+    /// is refused, the number that the prefix may have got is given up at once, but not while an outlet
+    /// has a row of it or prefixes that are touched by themselves: then the sweep gives it up.
     pub(crate) fn announce(
         &mut self,
         c: usize,
@@ -53,10 +55,18 @@ impl Ribs {
         ensures kept { KeepsFresh self.old self.new }
     {
         let number = self.tables.add(prefix)?;
-        if self.tables.put_at(c, number, attrs)? {
-            self.touch_others(c, number, prefix);
+        match self.tables.put_at(c, number, attrs) {
+            Ok(changed) => {
+                if changed {
+                    self.touch_others(c, number, prefix);
+                }
+                Ok(())
+            }
+            Err(refused) => {
+                self.give_up(number);
+                Err(refused)
+            }
         }
-        Ok(())
     }
 
     /// A client withdraws its route. Where it had one, the others are touched.

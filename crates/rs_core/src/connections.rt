@@ -108,8 +108,8 @@ impl Core {
         buffer.clear();
     }
 
-    /// A connection of a client is lost. All that was learnt by it goes at once. Where the client has
-    /// none, nothing changes.
+    /// A connection of a client is lost. The client's routes go at once. Where it has no connection,
+    /// nothing changes.
     pub fn lost(&mut self, c: usize)
         requires { c < client_count self.old }
         ensures count { client_count self.new ≡ client_count self.old }
@@ -126,7 +126,7 @@ impl Core {
         self.forget(c);
     }
 
-    /// Forgets a client's session, of which all may be in disorder but what is kept for the operator.
+    /// Resets a client whose state may be inconsistent; keeps only its operator record.
     pub(crate) fn forget(&mut self, c: usize)
         requires { c < client_count self.old }
         ensures spares { Spares c self.old self.new }

@@ -15,8 +15,19 @@ use rs_workers::Gate;
 use std::sync::Wait;
 use std::thread::Threads;
 
+/// What is left to do for an event that has come.
+#[derive(Clone, Copy, Debug, PartialEq, Eq)]
+enum Todo {
+    /// Nothing: it was answered.
+    Nothing,
+    /// A turn of all clients.
+    Turn,
+    /// The drive ends.
+    Stop,
+}
+
 /// Drives a route server by a link until its source stops, on one thread. It may be called again.
-/// The source's stop is the last that the link tells or is told.
+/// The source's stop is the last step of the link.
 pub fn drive<L: Source + Sink>(rt: &impl Wait, core: &mut Core, link: &mut L)
     ensures count { client_count core.new ≡ client_count core.old }
     ensures led { HasStopped L.happens link.old link.new }
@@ -25,11 +36,14 @@ pub fn drive<L: Source + Sink>(rt: &impl Wait, core: &mut Core, link: &mut L)
     let mut piece = [0; 4096];
     for _ in rt.forever() {
         let event = link.next(&mut piece);
-        if is_stop(event) {
-            return;
+        match answer(core, link, event, &piece) {
+            Todo::Nothing => end_closed(core, link),
+            Todo::Turn => {
+                turn(core, link);
+                end_closed(core, link);
+            }
+            Todo::Stop => return,
         }
-        answer(core, link, event, &piece);
-        end_closed(core, link);
     }
 }
 
@@ -49,63 +63,39 @@ pub fn drive_with<R: Threads + Wait + Sync, G: Gate, L: Source + Sink>(
     let mut piece = [0; 4096];
     for _ in rt.forever() {
         let event = link.next(&mut piece);
-        if is_stop(event) {
-            return;
+        match answer(core, link, event, &piece) {
+            Todo::Nothing => end_closed(core, link),
+            Todo::Turn => {
+                turn_with(rt, workers, gate, core, link);
+                end_closed(core, link);
+            }
+            Todo::Stop => return,
         }
-        answer_with(rt, workers, gate, core, link, event, &piece);
-        end_closed(core, link);
     }
 }
 
-/// Whether an event is a stop.
-fn is_stop(event: Event) -> bool
-    ensures { result ≡ stops event }
-{
-    match event {
-        Event::Stop => true,
-        Event::Opened(_) => false,
-        Event::Octets(_, _) => false,
-        Event::Moment(_) => false,
-        Event::Turn => false,
-        Event::Room(_, _) => false,
-        Event::Lost(_) => false,
-        Event::Rules => false,
-    }
-}
-
-/// Answers an event that is no stop.
-fn answer<L: Source + Sink>(core: &mut Core, link: &mut L, event: Event, piece: &[u8; 4096])
-    requires { stops event ≡ false }
+/// Answers an event, but for a turn and a stop, which are left to do and change nothing yet. An event of a
+/// client that is not there, or of more octets than a piece has, is passed over.
+fn answer<L: Source + Sink>(core: &mut Core, link: &mut L, event: Event, piece: &[u8; 4096]) -> Todo
+    ensures stop { result ≡ Todo.Stop → event ≡ Event.Stop }
+    ensures turn { result ≡ Todo.Turn → event ≡ Event.Turn }
+    ensures goes_on { result ≡ Todo.Nothing → stops event ≡ false }
     ensures count { client_count core.new ≡ client_count core.old }
     ensures led { HasLed L.happens link.old link.new }
-    ensures answers { Continues L.happens core.old link.old core.new link.new (Answers (octets_of event piece.now (L.text link.old)) event) }
+    ensures unchanged { result ≢ Todo.Nothing → (core.new ≡ core.old) × (link.new ≡ link.old) }
+    ensures answers { result ≡ Todo.Nothing → Continues L.happens core.old link.old core.new link.new (Answers (octets_of event piece.now (L.text link.old)) event) }
 {
     match event {
-        Event::Turn => turn(core, link),
-        _ => handle(core, link, event, piece),
+        Event::Opened(c) => open(core, link, c),
+        Event::Octets(c, len) => hear(core, link, c, len, piece),
+        Event::Moment(t) => core.moment(t),
+        Event::Turn => return Todo::Turn,
+        Event::Room(c, room) => use_room(core, link, c, room),
+        Event::Lost(c) => lose(core, link, c),
+        Event::Rules => rule(core, link),
+        Event::Stop => return Todo::Stop,
     }
-}
-
-/// The same, where a turn is by workers.
-fn answer_with<R: Threads + Wait + Sync, G: Gate, L: Source + Sink>(
-    rt: &R,
-    workers: usize,
-    gate: &G,
-    core: &mut Core,
-    link: &mut L,
-    event: Event,
-    piece: &[u8; 4096],
-)
-    requires workers { (0 < workers) × (workers ≤ 16) }
-    requires event { stops event ≡ false }
-    ensures count { client_count core.new ≡ client_count core.old }
-    ensures led { HasLed L.happens link.old link.new }
-    ensures answers { Continues L.happens core.old link.old core.new link.new (Answers (octets_of event piece.now (L.text link.old)) event) }
-{
-    match event {
-        Event::Turn => turn_with(rt, workers, gate, core, link),
-        _ => handle(core, link, event, piece),
-    }
+    Todo::Nothing
 }
 
 /// A turn of all clients.
@@ -133,28 +123,6 @@ fn turn_with<R: Threads + Wait + Sync, G: Gate, L: Sink>(
 {
     core.turn_with(rt, workers, gate);
     tell_refused(core, link);
-}
-
-/// Answers an event that is neither a turn nor a stop. An event of a client that is not there, or of
-/// more octets than a piece has, is passed over.
-#[tactic(auto, unfolding(crate::specs::Core::client_count, crate::specs::Core::lent_octets), using(crate::proofs::Drives::Leading::led_same))]
-fn handle<L: Source + Sink>(core: &mut Core, link: &mut L, event: Event, piece: &[u8; 4096])
-    requires turn { event ≢ Event.Turn }
-    requires stop { stops event ≡ false }
-    ensures count { client_count core.new ≡ client_count core.old }
-    ensures led { HasLed L.happens link.old link.new }
-    ensures answers { Continues L.happens core.old link.old core.new link.new (Answers (octets_of event piece.now (L.text link.old)) event) }
-{
-    match event {
-        Event::Opened(c) => open(core, link, c),
-        Event::Octets(c, len) => hear(core, link, c, len, piece),
-        Event::Moment(t) => core.moment(t),
-        Event::Turn => {}
-        Event::Room(c, room) => use_room(core, link, c, room),
-        Event::Lost(c) => lose(core, link, c),
-        Event::Rules => rule(core, link),
-        Event::Stop => {}
-    }
 }
 
 /// A connection of a client has come.
@@ -214,7 +182,7 @@ fn rule<L: Source + Sink>(core: &mut Core, link: &mut L)
     link.ruled(&answer);
 }
 
-/// Tells of each client for which memory was refused at its turn.
+/// Reports each client for which memory was refused at its turn.
 fn tell_refused<L: Sink>(core: &Core, link: &mut L)
     ensures led { HasLed L.happens link.old link.new }
     ensures told { (first : L) (steps : List Step) → Leads L.happens first steps link.old → Leads L.happens first (memories (refused_below core.now (client_count core.now)) steps) link.new }
@@ -224,7 +192,7 @@ fn tell_refused<L: Sink>(core: &Core, link: &mut L)
     }
 }
 
-/// Tells of a client if memory was refused for it at its turn.
+/// Reports a client if memory was refused for it at its turn.
 fn tell_if_refused<L: Sink>(core: &Core, link: &mut L, c: usize)
     requires { c < client_count core.now }
     ensures led { HasLed L.happens link.old link.new }

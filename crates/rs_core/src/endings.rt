@@ -65,7 +65,7 @@ pub enum Ending {
 }
 
 /// Why a session ends that asks for this at a message with this body: by a NOTIFICATION of ours, or
-/// by the client's, which the message is then.
+/// by the client's, which is then that message.
 pub(crate) fn ending_by(body: &[u8], act: Act) -> Option<Ending>
     ensures { result ≡ watching.ending_by body.now act }
 {
@@ -86,7 +86,7 @@ pub(crate) fn expiry_by(act: Act) -> Option<Ending>
     }
 }
 
-/// Why a session ends whose connection is cut off, if it lasts.
+/// Why a session ends whose connection is cut off; none where it had ended before.
 pub(crate) fn ended_if(lasts: bool, why: Ending) -> Option<Ending>
     ensures { result ≡ watching.ended_if lasts why }
 {

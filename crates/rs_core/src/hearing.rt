@@ -90,7 +90,7 @@ impl Core {
         }
     }
 
-    /// Hears octets behind those that wait in the buffer.
+    /// Hears octets that follow those in the buffer.
     fn hear(&mut self, c: usize, piece: &[u8]) -> Result<(), AllocError>
         requires { c < client_count self.old }
         ensures spares { Spares c self.old self.new }

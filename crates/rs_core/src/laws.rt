@@ -12,7 +12,7 @@ ghost use Rattle.rs_core.specs.Told.Senders.{DueRoutesAreTheSenders, ToldRoutesA
 
 use crate::links::Link;
 
-/// The claim of the whole. From `Core::new` on, behind any number of calls of `drive` and `drive_with` with
+/// The claim of the whole. From `Core::new` on, after any number of calls of `drive` and `drive_with` with
 /// a link: wherever a client is drained, as `is_drained` says, it is Established, and the UPDATEs that its
 /// link took of the offers since its connection last began mean just the table that is due to it, each
 /// route of which is its sender's.
@@ -20,7 +20,7 @@ pub fn drained_clients_have_what_is_due<L: Link>()
     ensures { DrainedClientsHaveWhatIsDue L.happens }
 {}
 
-/// From the start on, behind any number of drives: where a client is served by the run, its link took
+/// From the start on, after any number of drives: where a client is served by the run, its link took
 /// whole messages of the offers since it last began, as the client reads them, and their UPDATEs mean
 /// just the table that is due to it.
 #[tactic(auto, using(crate::proofs::Drives::Taking::serves))]
@@ -36,9 +36,9 @@ pub fn loc_rib_is_what_was_due()
 {}
 
 /// At each point of each run a client that is Established finds no header at fault in what its link
-/// took. The UPDATEs in it tell each prefix what was due at the turns, in order; each value is what was
+/// took. The UPDATEs in it tell it what was due at each prefix at the turns, in order; each value is what was
 /// due at the last turn before its message began; and no value comes twice in a row, but where the
-/// client asked for all routes between.
+/// client asked for all routes in between.
 pub fn clients_are_told_in_turn()
     ensures { TellsInTurn }
 {}
@@ -66,7 +66,7 @@ pub fn sends_all_owed()
     ensures { SendsAllOwed }
 {}
 
-/// Behind a turn at which memory was not refused for a client that is Established, room for at least what
+/// After a turn at which memory was not refused for a client that is Established, room for at least what
 /// is owed to it, of which its link takes whole what it is offered, leaves it drained, whatever room other
 /// clients had between the two: it was told just what is due to it.
 pub fn room_behind_a_turn_drains()
@@ -93,7 +93,7 @@ pub fn answers_by_what_was_altered()
 
 /// At each point of each run `last` is what the last turn answered for a client: that memory was refused,
 /// where it was, and the client was Established then; for one that was not, that nothing was decided; else
-/// what was altered before that turn, as said above. Before the first turn it is `Never`. Neither the end
+/// what was altered before that turn, as `answers_by_what_was_altered` has it. Before the first turn it is `Never`. Neither the end
 /// of a session nor a new one changes it.
 #[tactic(auto, using(crate::proofs::Touched::LastTurns::answers_by_the_last_turn))]
 pub fn answers_by_the_last_turn()

@@ -12,8 +12,8 @@
 //!   messages and `updates` the UPDATEs; `adj_rib_in` puts routes into the Adj-RIBs-In and touches
 //!   the outlets.
 //! - Turns: `turning` decides what is touched, and `sweeping` gives up numbers that nobody uses.
-//! - Out: `sayings` begins messages, `sending` lends octets and hears how many were taken;
-//!   `endings` say why a session ended.
+//! - Out: `outlets` has the calls of one client's outlet, `sending` begins messages, lends octets and
+//!   counts those taken; `endings` say why a session ended.
 //! - `rules` puts another configuration in; `queries` is what a caller can ask.
 //! - `driving` drives all this by a link of `links`, and `offering` offers it what is lent; `laws`
 //!   are contracts of functions that do nothing.
@@ -28,11 +28,11 @@ pub mod laws;
 mod links;
 mod making;
 mod offering;
+mod outlets;
 mod queries;
 mod ribs;
 mod route_server;
 mod rules;
-mod sayings;
 mod sending;
 mod sessions;
 mod sweeping;

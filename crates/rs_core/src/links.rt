@@ -5,7 +5,7 @@ ghost use Rattle.rs_core.specs.Drives.Steps.{Step, octets_of, Happened, Begin, B
 
 use rs_policy::RulesFault;
 
-/// What a source tells.
+/// An event that comes from a source.
 #[derive(Clone, Copy, Debug, PartialEq, Eq)]
 pub enum Event {
     /// A connection of a client has come.
@@ -26,7 +26,7 @@ pub enum Event {
     Stop,
 }
 
-/// What a link tells and is told.
+/// What stands between a route server and its clients, by the steps that it takes.
 pub trait Link {
     /// From one link by a step to the next. Where it always holds, nothing is known.
     ghost happens: { Self → Step → Self → Type 0 };

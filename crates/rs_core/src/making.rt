@@ -1,4 +1,4 @@
-//! A route server of which nothing has come.
+//! Building a `Core`.
 
 ghost use Rattle.std.specs.Prelude.{◌≡◌, [], ◌∷◌, length, IfOk};
 ghost use Rattle.rs_core.specs.Run.Parts.{HaveHeardNothing};

@@ -1,4 +1,4 @@
-//! What a route server is asked.
+//! What a caller can ask of a route server.
 
 ghost use Rattle.std.specs.Prelude.{ℕ, Some, ◌≡◌, ◌==◌, ◌&&◌, ◌<◌, T, true, false, List, [], ◌∷◌, length, IfSome, IsTrue};
 ghost use Rattle.std.specs.FinMap.{find, is_sorted};
@@ -137,7 +137,8 @@ impl Core {
         self.watched[c].faulted
     }
 
-    /// How many rows the tables of prefixes have: a number above each that a prefix has.
+    /// How many rows the tables of prefixes have: a number above each that a prefix has. No program calls
+    /// it: it is for whoever measures how far tables grow, as the test of a member that cycles prefixes.
     pub fn rows(&self) -> usize
         ensures { (p : Prefix) (n : ℕ) → number_of self.now.ribs.tables p ≡ Some n → n < result }
     {

@@ -48,7 +48,7 @@ fn outlets(alloc: Global, config: &Config) -> Result<Vec<Outlet>, AllocError>
 impl Ribs {
     ghost use Rattle.rs_core.specs.Ribs.{IsFresh, IsNumbered, outlet_count};
 
-    /// The RIBs of clients of which none is Established.
+    /// The RIBs of clients none of which is Established yet.
     pub(crate) fn new(alloc: Global, config: Config) -> Result<Ribs, AllocError>
         ensures count { IfOk result (λ ribs. outlet_count ribs ≡ length config.clients) }
         ensures config { IfOk result (λ ribs. ribs.config ≡ config) }

@@ -28,7 +28,8 @@ impl Core {
         requires { c < client_count self.now }
         ensures { result.now ≡ lent_octets self.now c }
     {
-        self.ribs.lent(c)
+        let outlet = &self.ribs.outlets[c];
+        outlet.lent()
     }
 
     /// Begins the next message to a client where none is in flight, and lends what is left of it.

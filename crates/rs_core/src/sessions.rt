@@ -1,4 +1,4 @@
-//! What a message says to a client's session, and what the session asks for.
+//! Messages of a client: what its session hears, and what it asks for.
 
 ghost use Rattle.std.specs.Prelude.{◌≡◌, ◌<◌, ◌≤◌, ◌+◌, [], length, OnOk, OnErr};
 ghost use Rattle.rs_octets.specs.Headers.{least_length};
@@ -162,7 +162,7 @@ impl Core {
         }
     }
 
-    /// The session of a client has ended: all that was learnt by it goes at once.
+    /// The session of a client has ended: the client's routes go at once.
     fn end(&mut self, c: usize, note: Option<Short>)
         requires { c < client_count self.old }
         ensures count { client_count self.new ≡ client_count self.old }

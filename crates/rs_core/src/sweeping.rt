@@ -1,4 +1,4 @@
-//! Numbers of prefixes that nobody holds or has in a row are given up, some behind each turn, so that
+//! Numbers of prefixes that nobody holds or has in a row are given up, some after each turn, so that
 //! a client that cycles prefixes makes no table grow for ever.
 
 ghost use Rattle.std.specs.Prelude.{◌≡◌, ◌<◌, ℕ, IsTrue};
@@ -8,7 +8,7 @@ ghost use Rattle.rs_outlet.specs.Inside.{IsNoNumberOf};
 
 use crate::ribs::Ribs;
 
-/// How many numbers of prefixes are swept behind a turn.
+/// How many numbers of prefixes are swept after a turn.
 const SWEEP: usize = 4096;
 
 impl Ribs {
@@ -26,7 +26,7 @@ impl Ribs {
         }
     }
 
-    /// Sweeps the number that is next, and behind the greatest begins again.
+    /// Sweeps the next number; after the greatest it begins again.
     fn sweep_next(&mut self)
         ensures settings { KeepsSettings self.old self.new }
         ensures tables { adj_ins.Same self.old.tables self.new.tables }
@@ -43,7 +43,7 @@ impl Ribs {
     }
 
     /// Gives up the number of a prefix that nobody holds or has in a row.
-    fn give_up(&mut self, number: u32)
+    pub(crate) fn give_up(&mut self, number: u32)
         ensures settings { KeepsSettings self.old self.new }
         ensures tables { adj_ins.Same self.old.tables self.new.tables }
         ensures outlets { self.new.outlets ≡ self.old.outlets }

@@ -10,13 +10,13 @@ use Rattle.rs_core.specs.Owed.Sending.{HasLent, LeavesOwed}
 use Rattle.rs_core.specs.Run.Moves.{Move, Ruled, Left, Turned, Began, config_in}
 use Rattle.rs_core.specs.Run.Meaning.{is_established}
 use Rattle.rs_core.specs.Run.Agreeing.{Agrees, IsRuled}
-use Rattle.rs_core.specs.Drives.Steps.{Step, Happened, Memory, End, Replaced, HasLed, Leads, octets_of, stops}
+use Rattle.rs_core.specs.Drives.Steps.{Step, Happened, Memory, End, Replaced, HasLed, HasStopped, Leads, octets_of, stops}
 use Rattle.rs_core.specs.Drives.Courses.{Course, course, called, memories, Reaches, Continues}
 use Rattle.rs_core.specs.Drives.Answers.{is_passed_over, closes, AreEstablished, Answers, Passes, Turns, Rules, Keeps, EndsAll, Ended, Lasts, Owes, Closes, Gives, Goes_on, Offers, Rounds, Start, Round, Drives}
 use Rattle.rs_core.specs.declared.links.Event.{Event}
 use Rattle.rs_core.specs.declared.links.Event.TheVariants as events
 use Rattle.rs_core.specs.declared.route_server.Core.{Core}
-use Rattle.rs_core.proofs.Drives.Leading.{led_by, led_on, led_same, stop_is}
+use Rattle.rs_core.proofs.Drives.Leading.{led_by, led_on, led_same, led_to_stop, stop_is}
 
 -- to what follows, by these steps and moves
 pub goes : {L : Type 0} (happens : L → Step → L → Type 0) (old : Core) (before : L) (new : Core) (after : L) (By : Course → Course → Type 0) (next : List Step → List Step) (grown : List Move → List Move)
@@ -86,7 +86,7 @@ round happens a x b before told c mid d after event octets goes_on step rounds a
 }
 
 -- and then a stop
-pub stopped : {L : Type 0} (happens : L → Step → L → Type 0) (a : Core) (x : L) (b : Core) (before after : L) (event : Event) (octets : List ℕ)
+stopped : {L : Type 0} (happens : L → Step → L → Type 0) (a : Core) (x : L) (b : Core) (before after : L) (event : Event) (octets : List ℕ)
     → stops event ≡ true → happens before (Happened event octets) after → Continues happens a x b before Rounds → Continues happens a x b after Drives
 stopped happens a x b before after event octets is step rounds = record {
   on = λ first steps run h l.
@@ -101,7 +101,7 @@ stopped happens a x b before after event octets is step rounds = record {
       };
 }
 
--- driven so far: by rounds, none of which stopped
+-- driven so far: by rounds, none of them a stop
 pub record IsDriven {L : Type 0} (happens : L → Step → L → Type 0) (old : Core) (before : L) (new : Core) (after : L) : Type 0 where
   pub count : client_count new ≡ client_count old
   pub led : HasLed happens before after
@@ -115,7 +115,25 @@ not_driven happens core link = record {
   rounds = stays happens core link Rounds (λ x. Start);
 }
 
--- a part of a round: an answer to an event, or the ends behind it
+-- driven to the stop
+pub record IsDrivenToStop {L : Type 0} (happens : L → Step → L → Type 0) (old : Core) (before : L) (new : Core) (after : L) : Type 0 where
+  pub count : client_count new ≡ client_count old
+  pub led : HasStopped happens before after
+  pub drives : Continues happens old before new after Drives
+
+-- the event that came is a stop, by which nothing changed
+pub driven_to_stop : {L : Type 0} (happens : L → Step → L → Type 0) (a : Core) (x : L) (b : Core) (before told : L) (new : Core) (after : L) (event : Event) (octets : List ℕ)
+    → stops event ≡ true → happens before (Happened event octets) told → IsDriven happens a x b before → (new ≡ b) × (after ≡ told) → IsDrivenToStop happens a x new after
+driven_to_stop happens a x b before told new after event octets is step driven same =
+    subst (λ l. IsDrivenToStop happens a x new l) (sym same.1)
+    (subst (λ (k : Core). IsDrivenToStop happens a x k told) (sym same.0)
+    (record {
+      count = driven.count;
+      led = led_to_stop happens x before told event octets driven.led step is;
+      drives = stopped happens a x b before told event octets is step driven.rounds;
+    }))
+
+-- a part of a round: an answer to an event, or the ends after it
 pub record HasContinued {L : Type 0} (happens : L → Step → L → Type 0) (old : Core) (before : L) (new : Core) (after : L) (By : Course → Course → Type 0) : Type 0 where
   pub count : client_count new ≡ client_count old
   pub led : HasLed happens before after
@@ -131,6 +149,15 @@ driven_on happens a x b before told c mid d after event octets goes_on step driv
   led = led_on happens x mid after (led_on happens x told mid (led_by happens x before told (Happened event octets) driven.led step goes_on) answered.led) ended.led;
   rounds = round happens a x b before told c mid d after event octets goes_on step driven.rounds answered.continues ended.continues;
 }
+
+-- an answer that left a turn to do changed nothing, and then the turn was done
+pub turned_then : {L : Type 0} (happens : L → Step → L → Type 0) (b : Core) (told : L) (asked : Core) (there : L) (c : Core) (mid : L) (event : Event) (piece text : List ℕ)
+    → event ≡ events.Turn → (asked ≡ b) × (there ≡ told) → HasContinued happens asked there c mid (Answers [] events.Turn)
+    → HasContinued happens b told c mid (Answers (octets_of event piece text) event)
+turned_then happens b told asked there c mid event piece text is same turned =
+    subst (λ (e : Event). HasContinued happens b told c mid (Answers (octets_of e piece text) e)) (sym is)
+    (subst (λ l. HasContinued happens b l c mid (Answers [] events.Turn)) same.1
+    (subst (λ (k : Core). HasContinued happens k there c mid (Answers [] events.Turn)) same.0 turned))
 
 -- ---- an event that is passed over
 
@@ -150,7 +177,7 @@ over_length n c len lt = grind (arith, nat_tests)
 
 -- ---- an event that changes nothing
 
--- the link is told something, and the route server stays what it was
+-- the sink is called, and the route server stays what it was
 pub answers_by : {L : Type 0} (happens : L → Step → L → Type 0) (old : Core) (before : L) (new : Core) (after : L) (octets : List ℕ) (event : Event) (step : Step)
     → new ≡ old → happens before step after → ((x : Course) → x.core ≡ old → Answers octets event x (called step x)) → Continues happens old before new after (Answers octets event)
 answers_by happens old before new after octets event step same there by =

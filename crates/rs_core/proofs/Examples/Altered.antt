@@ -73,7 +73,7 @@ nothing_for_c = record {
   up = λ _ up. absurd (let f : false ≡ true = up in cc);
 }
 
--- b is lost behind a turn at which memory was refused for it
+-- b is lost after a turn at which memory was refused for it
 refused_for_b : IsLastBehind (Came 1 ∷ Left 1 ∷ Turned (1 ∷ []) ∷ announced) 1 lasts.Refused
 refused_for_b = record {
   refusal = λ _. (refl, refl);

@@ -36,7 +36,7 @@ base = record {
   policies = replicate 4 no_policy;
 }
 
--- the octets of a message behind its marker
+-- the octets of a message after its marker
 abbrev pub m : List ℕ → List ℕ
 m text = replicate 16 255 ++ hex text
 

@@ -128,7 +128,7 @@ turned x y four run answers =
     let t = answered [] events.Turn x y refl answers in
     (t.0, of_two t.0 (subst (λ n. AreEstablished (Heard 0 u1 ∷ both_up) n t.0) four (subst (λ r. AreEstablished r (client_count x.core) t.0) run t.1)), t.2, t.3)
 
--- the sink is told of a first, and then of b
+-- a is reported to the sink first, and then b
 by_rising_place : (steps : List Step) → memories (1 ∷ 0 ∷ []) steps ≡ Memory 1 ∷ Memory 0 ∷ steps
 by_rising_place steps = refl
 

@@ -35,7 +35,7 @@ no_update = refl
 two_updates : bodies (hearing 1 both_told).taken ≡ body_of route ∷ body_of route_5 ∷ []
 two_updates = refl
 
--- and none begins behind it, whatever is due there
+-- and none begins after it, whatever is due there
 none_begins : (values : List Value) (asked : Bool) → OneMore (hearing 1 half).points (hearing 1 half).taken values asked → ⊥
 none_begins values asked more = let f : take 20 route ≡ [] = more.whole in cc
 

@@ -24,7 +24,7 @@ Beaten run octets due = AreKeepalives (own_open base) limits.Short (hearing 1 ru
 long_enough : 19 ≤ 47
 long_enough = omega arith
 
--- the OPEN, the KEEPALIVE that the client's OPEN asks for, and behind a beginning with nothing to say the UPDATE
+-- the OPEN, the KEEPALIVE that the client's OPEN asks for, and after a beginning with nothing to say the UPDATE
 goes_out : Beaten first_route (said ++ keepalive_sent ++ route) false
 goes_out = (
   said ++ keepalive_sent ++ route,

@@ -98,7 +98,7 @@ none_yet = refl
 by_steps : taken_by 1 (Offer 1 route (Some 47) ∷ Happened (Room 1 5000) [] ∷ Happened Turn [] ∷ greets 1 open_b steps_lost) ≡ (hearing 1 back).taken
 by_steps = refl
 
--- an offer that fails took nothing, and one of which a part was taken just that
+-- an offer that fails took nothing, and one that was taken in part took just that part
 failed : taken_by 1 (Offer 1 route None ∷ steps_before) ≡ said ++ keepalive_sent
 failed = refl
 

@@ -1,4 +1,4 @@
--- A withdrawal behind an announcement that was never sent, by computation: the client is told nothing, and nothing else is in order.
+-- A withdrawal after an announcement that was never sent, by computation: the client is told nothing, and nothing else is in order.
 use Rattle.std.proofs.Common.{◌≡◌, Bool, false, List, [], ◌∷◌, ◌++◌, refl, inl}
 use Rattle.std.specs.Prelude.{Some, None}
 use Rattle.rs_attrs.specs.Meaning.{all_types}
@@ -46,7 +46,7 @@ nothing_alone = nothing_more (hearing 1 gone).points (hearing 1 gone).taken refl
 no_announcement : (asked : Bool) → InOrder (hearing 1 never_sent).points (Some u1_attributes ∷ []) asked → ⊥
 no_announcement asked order = let f : ◌≡◌ {A = List Value} (Some u1_attributes ∷ []) [] = (nothing_alone _ asked order).0 in cc
 
--- nor is it with the withdrawal behind it, nor the withdrawal alone
+-- nor is it with the withdrawal after it, nor the withdrawal alone
 no_announcement_and_withdrawal : (asked : Bool) → InOrder (hearing 1 never_sent).points (None ∷ Some u1_attributes ∷ []) asked → ⊥
 no_announcement_and_withdrawal asked order = let f : ◌≡◌ {A = List Value} (None ∷ Some u1_attributes ∷ []) [] = (nothing_alone _ asked order).0 in cc
 

@@ -61,7 +61,7 @@ four = record { mode = modes.Four; limit = limits.Short }
 abbrev pub bodies : List ℕ → List (List ℕ)
 bodies octets = updates_in limits.Short octets
 
--- the UPDATEs among octets tell 198.51.100.0/24 these values, the newest first
+-- by the UPDATEs among octets these values are told at 198.51.100.0/24, the newest first
 abbrev pub Tells : List ℕ → List Value → Type 0
 Tells octets values = TellsAt four octets n24 values
 
@@ -69,7 +69,7 @@ Tells octets values = TellsAt four octets n24 values
 abbrev pub InOrder : List Point → List Value → Bool → Type 0
 InOrder points values asked = TellsInOrder four points n24 values asked
 
--- the newest of these values was told by a message that began behind these octets and these points
+-- the newest of these values was told by a message that began after these octets and these points
 abbrev pub OneMore : List Point → List ℕ → List Value → Bool → Type 0
 OneMore points taken values asked = TellsOneMore four points taken n24 (λ earlier was. InOrder points earlier was) values asked
 
@@ -103,7 +103,7 @@ effects_are (body ∷ all) (change ∷ changes) small are = (
 pub means : (all : List (List ℕ)) (changes : List Change) → all_octets all ≡ true → AreChanges all changes → MeansTable all modes.Four (table_of changes)
 means all changes small are = (changes, effects_are all changes small are, λ p. refl)
 
--- and tell 198.51.100.0/24 what these changes do
+-- and tell at 198.51.100.0/24 what these changes do
 pub tells : (octets : List ℕ) (changes : List Change) → all_octets (bodies octets) ≡ true → AreChanges (bodies octets) changes → Tells octets (told_by (reverse changes) n24)
 tells octets changes small are = record { changes = changes; have = effects_are (bodies octets) changes small are; are = refl }
 

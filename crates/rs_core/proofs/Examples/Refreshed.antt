@@ -32,11 +32,11 @@ other_request = m (codes "0017 05 0002 00 01")
 abbrev decided : List Move
 decided = Turned [] ∷ Heard 0 u1 ∷ greeted 1 said (up 1 open_b (greeted 0 said (up 0 open_a (Ruled with_refresh ∷ []))))
 
--- the route is told, behind a run
+-- the route is told, after a run
 abbrev told : List Move → List Move
 told run = Began 1 ∷ Took 1 route ∷ Began 1 ∷ run
 
--- ---- once, and again behind the request
+-- ---- once, and again after the request
 
 once : InOrder (hearing 1 (told decided)).points (Some u1_attributes ∷ []) false
 unfolding all_types matches outcome verdict unbeaten

@@ -8,7 +8,7 @@ use Rattle.rs_policy.specs.Verdicts.{matches, outcome, verdict}
 use Rattle.rs_core.specs.Told.Senders.{ArePassedOn, IsSendersRoute, communities_left}
 use Rattle.rs_core.proofs.Examples.DueRoutes.{announced, n24}
 
--- ---- COMMUNITIES of which one is taken away, and both, and all
+-- ---- COMMUNITIES without one of two, without both, and without all
 
 abbrev both : Attribute
 both = record { kind = 8; optional = true; transitive = true; partial = true; value = hex (codes "fbf00001fbf00002") }

@@ -120,7 +120,7 @@ drained_exactly core run c b lt exact h = iff b _ whole part where
       let heard = established_spoken run c each.0 in
       exact.1 (owed_left v heard.0 (quiet each.0) (speaks ∙ heard.1) (touched_none v.touched (sym (decided_is core c lt) ∙ each.1)) (sym (owed_is core c lt) ∙ test_zero (owed core c) each.2))
 
--- ---- behind a turn
+-- ---- after a turn
 
 -- nothing is touched any more for an Established client, unless its turn was refused
 pub turned_decided : (c : ℕ) (old new : Core) (mid : Ribs) (run : List Move) → c < old.count → new.count ≡ old.count → ChangesAll (λ d. IsTurn old.ribs.config old.ribs.tables) old.ribs mid → new.ribs.outlets ≡ mid.outlets

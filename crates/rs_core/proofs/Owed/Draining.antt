@@ -1,4 +1,4 @@
--- A turn and the room behind it lead to where nothing is touched and nothing is owed, and there a client was told what is due to it.
+-- A turn and the room after it lead to where nothing is touched and nothing is owed, and there a client was told what is due to it.
 use Rattle.std.proofs.Common.{◌≡◌, ◌≢◌, ◌<◌, ◌≤◌, ◌-◌, ◌&&◌, not, ℕ, zero, suc, Bool, true, false, List, [], ◌∷◌, length, take, refl, sym, ◌∙◌, ap, subst, arith, inl, inr, ◌⊎◌}
 use Rattle.std.specs.Prelude.{Option, Some, None, slice_get, if◌then◌else◌}
 use Rattle.std.specs.FinMap as fin
@@ -70,7 +70,7 @@ drained_served x c drained = none_owed_served x.core x.run c x.agrees drained.cl
 
 -- ---- nothing touched, by the run
 
--- whatever is touched for client c behind this run, it is nothing
+-- whatever is touched for client c after this run, it is nothing
 abbrev pub Settled : List Move → ℕ → Type 0
 Settled run c = (touched : Option Prefixes) → IsTouchedBehind run c touched → touched ≡ Some set.empty
 

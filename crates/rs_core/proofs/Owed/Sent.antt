@@ -1,4 +1,4 @@
--- What is owed behind a turn is sent, by what is lent and taken alone.
+-- What is owed after a turn is sent, by what is lent and taken alone.
 use Rattle.std.proofs.Common.{◌≡◌, ◌≢◌, inl, inr, ◌⊎◌, ℕ, ◌<◌, ◌≤◌, ◌+◌, ◌==◌, Bool, true, false, List, ◌∷◌, take, refl, sym, ◌∙◌, ap, subst, arith}
 use Rattle.std.specs.Prelude.{if◌then◌else◌}
 use Rattle.rs_core.specs.Run.Moves.{Move, Began, Took, config_in}

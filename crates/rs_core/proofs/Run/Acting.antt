@@ -159,7 +159,7 @@ live_by true (Ends _) more n e = e
 live_by true GoesOn (Ends _) n e = absurd (cc)
 live_by true GoesOn GoesOn n e = e
 
--- a session that lasts behind a moment lasted before it
+-- a session that lasts after a moment lasted before it
 live_before : (settings : Settings) (t : ℕ) (items : List Item) → is_live (state_of settings (Moment t ∷ items)) ≡ true → is_live (state_of settings items) ≡ true
 live_before settings t items e = live_by (is_connected items) (fate settings items) (item_fate settings (Moment t) items) (message_count items) e
 

@@ -87,7 +87,7 @@ pub record AgreesOnClients (core : Core) (run : List Move) : Type 0 where
 pub on_clients : (core : Core) (run : List Move) → Agrees core run → AgreesOnClients core run
 on_clients core run h = record { config = h.config; clients = h.clients }
 
--- what is common to all, told of one client
+-- what holds of all, said of one client
 pub grown : (old new : Core) (c : ℕ) (run more : List Move) → config_in more ≡ config_in run → ((d : ℕ) → d ≢ c → hearing d more ≡ hearing d run)
     → Agrees old run → Spares c old new → AgreesAt new (config_in run) c (hearing c more) → AgreesOnClients new more
 grown old new c run more config others h it at = record {

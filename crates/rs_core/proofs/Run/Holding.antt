@@ -1,4 +1,4 @@
--- What a client's Adj-RIB-In has and what the client is known by, behind what its session asked for.
+-- What a client's Adj-RIB-In has and what the client is known by, after what its session asked for.
 use Rattle.std.proofs.Common.{◌≡◌, inl, inr, ℕ, true, false, List, [], refl, sym, ◌∙◌, ap}
 use Rattle.std.specs.Prelude.{Some, None, slice_get, if◌then◌else◌}
 use Rattle.std.proofs.lemmas.Bool.{cases_Bool}

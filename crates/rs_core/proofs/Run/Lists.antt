@@ -33,7 +33,7 @@ own c x y = ap (λ b. if b then x else y) (is_own c)
 pub other : {A : Type 0} (c d : ℕ) (x y : A) → d ≢ c → (if c == d then x else y) ≡ y
 other c d x y ne = ap (λ b. if b then x else y) (is_other c d (λ e. ne (sym e)))
 
--- one was put behind the others
+-- one was appended to the others
 pub got_push : {X : Type 0} (P : ℕ → X → Type 0) (xs : List X) (v : X) → ((i : ℕ) (x : X) → slice_get xs i ≡ Some x → P i x) → P (length xs) v
     → (i : ℕ) (x : X) → slice_get (xs ++ v ∷ []) i ≡ Some x → P i x
 got_push P [] v each own zero x e = subst (P 0) (some_is v x e) own

@@ -89,7 +89,7 @@ others_from c Is old mid new count items h = record {
 
 -- ---- a walk past client c
 
--- what the outlet of d is after it was stirred, where it is not c's
+-- what the outlet of d is after it was touched, where it is not c's
 pub record IsOtherThan (c : ℕ) (ins : AdjIns) (Is : View → View → Type 0) (d : ℕ) (v w : View) : Type 0 where
   pub own : d ≡ c → w ≡ v
   pub other : d ≢ c → AreNumbered v ins → Is v w × AreNumbered w ins

@@ -71,7 +71,7 @@ newly_between a octets more none = newly_is a octets more (ap (header_fault_of a
 rest_between : (a : Allowed) (octets more : List ℕ) → rest_of a octets ≡ [] → rest_of a (octets ++ more) ≡ rest_of a more
 rest_between a octets more none = (pieces_join a octets more).1 ∙ ap (λ r. rest_of a (r ++ more)) none
 
--- octets of which just this is heard
+-- octets in which just this is heard
 pub hears_as : (s : Configuration) (c : ℕ) (octets : List ℕ) (ms : Heards) (h : Hearing) → newly_heard (allowed_in s) h.octets octets ≡ ms
     → hears s c octets h ≡ with_octets (h.octets ++ octets) (listens_to s c ms h)
 hears_as s c octets ms h e = ap (λ l. with_octets (h.octets ++ octets) (listens_to s c l h)) e
@@ -169,7 +169,7 @@ got [] i h = absurd (omega arith)
 got (x ∷ xs) zero h = (x, refl)
 got (x ∷ xs) (suc i) h = got xs i (omega arith)
 
--- what went behind nothing
+-- what was appended to nothing
 pub alone_waits : (old new : Core) (s : Configuration) (c : ℕ) (h : Hearing) (octets : List ℕ) → c < length old.buffers.items → is_live (state_in s c h) ≡ true → IsBetween old s c h
     → ((x y : Vec ℕ) → slice_get old.buffers.items c ≡ Some x → slice_get new.buffers.items c ≡ Some y → y.items ≡ x.items ++ octets)
     → (y : Vec ℕ) → slice_get new.buffers.items c ≡ Some y → y.items ≡ octets
@@ -219,7 +219,7 @@ cut_before core s c before h cut = record { items = cut.items; moment = cut.mome
 pub cut_unmoved : (old new : Core) (s : Configuration) (c : ℕ) (h : Hearing) → new.sessions ≡ old.sessions → IsCutShort old s c h → IsCutShort new s c h
 cut_unmoved old new s c h sessions cut = record { items = cut.items; moment = cut.moment; session = λ x e. cut.session x (ap (λ v. slice_get v.items c) (sym sessions) ∙ e) }
 
--- ---- one piece behind another
+-- ---- one piece after another
 
 pub agrees_joined : (core : Core) (s : Configuration) (c : ℕ) (piece first later : List ℕ) (h : Hearing) → piece ≡ first ++ later
     → AgreesAt core s c (hears s c later (hears s c first h)) → AgreesAt core s c (hears s c piece h)

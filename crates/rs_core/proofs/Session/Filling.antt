@@ -1,4 +1,4 @@
--- A message that comes in several pieces, and is filled up from the front of the last.
+-- A message that comes in several pieces, and is made whole by the front of the last.
 use Rattle.std.proofs.Common.{◌≡◌, ◌<◌, ◌≤◌, ◌-◌, ◌+◌, ◌==◌, ◌⊎◌, inl, inr, ℕ, Bool, true, false, List, [], ◌∷◌, ◌++◌, length, drop, take, refl, sym, ◌∙◌, ap, subst, arith, length-append}
 use Rattle.std.specs.Prelude.{Some, Result, Ok, Err, nat_lt, slice_get, if◌then◌else◌}
 use Rattle.std.specs.Global.{Vec}
@@ -107,7 +107,7 @@ pub rest_waiting : (s : Configuration) (c : ℕ) (buffer front : List ℕ) (h : 
     → rest_of (allowed_in s) (h.octets ++ front) ≡ rest_of (allowed_in s) (buffer ++ front)
 rest_waiting s c buffer front h live w = (pieces_join (allowed_in s) h.octets front).1 ∙ ap (λ r. rest_of (allowed_in s) (r ++ front)) (sym (w.rest live))
 
--- a message or a fault stands in the buffer only where something went behind what waited
+-- a message or a fault stands in the buffer only where something was appended to what waited
 pub was_filled : (s : Configuration) (c : ℕ) (buffer new : List ℕ) (h : Hearing) (front : List ℕ) → is_live (state_in s c h) ≡ true → Waits s c buffer h → new ≡ buffer ++ front
     → (front ≡ []) ⊎ IsWanted (allowed_in s) new → (heard_of (allowed_in s) new ≡ [] → ⊥) → IsWanted (allowed_in s) new
 was_filled s c buffer new h front live w behind (inl none) some =
@@ -181,7 +181,7 @@ waiting_message core s c h buffer new piece rest kind body behind live w fills a
 
 -- ---- the buffer is put back
 
--- what waits of a piece of which nothing is left
+-- what waits of a piece where nothing of it is left
 pub front_agrees : (mid new : Core) (s : Configuration) (c : ℕ) (h : Hearing) (piece buffer rest : List ℕ) → new.sessions ≡ mid.sessions → new.ribs ≡ mid.ribs → new.watched ≡ mid.watched
     → ((x : Vec ℕ) → slice_get new.buffers.items c ≡ Some x → x.items ≡ buffer) → rest ≡ [] → HasHeardFront mid s c h piece buffer rest → AgreesAt new s c (hears s c piece h)
 front_agrees mid new s c h piece buffer rest sessions ribs watched put none was =

@@ -1,4 +1,4 @@
--- When a KEEPALIVE is due to a client, behind each thing that befalls it.
+-- When a KEEPALIVE is due to a client, after each thing that befalls it.
 use Rattle.std.proofs.Common.{◌≡◌, ◌≢◌, inl, inr, ℕ, Bool, true, false, List, [], ◌∷◌, ◌++◌, refl, sym, ◌∙◌, ap, subst}
 use Rattle.std.specs.Prelude.{Option, Some, slice_get}
 use Rattle.std.proofs.lemmas.Bool.{false≢true}

@@ -1,4 +1,4 @@
--- How many prefixes a client holds behind a change.
+-- How many prefixes a client holds after a change.
 use Rattle.std.proofs.Common.{◌≡◌, ◌&&◌, ◌||◌, not, ℕ, Bool, true, false, cond, List, [], ◌∷◌, ◌++◌, length, refl, sym, ◌∙◌, ap}
 use Rattle.std.specs.Prelude.{Option, Some, None, IsSome, is_some, filter, nat_lt, if◌then◌else◌}
 use Rattle.std.specs.List.{flat_map}

@@ -1,4 +1,4 @@
--- Which messages go to a client, behind connections that come and are lost, octets that are taken and messages that begin.
+-- Which messages go to a client, after connections that come and are lost, octets that are taken and messages that begin.
 use Rattle.std.proofs.Common.{◌≡◌, inl, inr, ℕ, zero, suc, Bool, true, false, List, [], ◌∷◌, ◌++◌, refl, sym, ◌∙◌, ap, subst, take, drop, append_assoc}
 use Rattle.std.specs.Prelude.{Option, Some, None}
 use Rattle.std.proofs.lemmas.Bool.{false≢true}

@@ -62,7 +62,7 @@ update_within s c h body mode change faulted p m is beyond differs = λ same.
     ap (λ o. update_said o limit h.changes body) m ∙ ap (effect_said limit h.changes at_fault_by) is ∙ ap (λ r. changing r change at_fault_by) beyond in
     differs (ap (λ x. table_in s c (takes_in s c x h) p) (sym said) ∙ same)
 
--- what is told of it is read off its fields
+-- what the operator is shown of it is read off its fields
 pub at_fault : (body : List ℕ) (mode : Mode) (x : Change) (faulted : Faulted) → HasEffect body mode (Changes x)
     → ((fields : Fields) → IsBody body fields → faulted ≡ faulted_in fields mode) → faulted ≡ faulted_by_fields mode (fields_of body)
 at_fault body mode x faulted has told = elim has [

@@ -146,7 +146,7 @@ unasked : (b : Bool) (points : List Point) → asked_if (b && false) points ≡ 
 unasked true points = refl
 unasked false points = refl
 
--- the table of a client behind an UPDATE that its session takes
+-- the table of a client after an UPDATE that its session takes
 taken_table : (core : Core) (x t : Session) (s : Configuration) (c : ℕ) (h : Hearing) (W A : List Prefix) (m : Option (List Attribute)) (change : Change)
     → slice_get core.sessions.items c ≡ Some x → RespondsTo x t (Message (heard.Update None)) acts.None → Takes x acts.None → is_live (state_in s c h) ≡ true
     → IsSameChange (record { withdrawn = W; announced = A; attributes = m }) change → Knows core s c h
@@ -234,7 +234,7 @@ is_change x (Changes y) same = record { change = y; is = refl; same = same }
 
 -- ---- a change that isn't taken, or not wholly
 
--- a session of which memory was refused has heard one message more, at the same moment
+-- a session for which memory was refused has heard one message more, at the same moment
 pub cut_after : (old new : Core) (x t : Session) (s : Configuration) (c : ℕ) (h : Hearing) (message : Heard) (act : Act) → slice_get old.sessions.items c ≡ Some x → c < length old.sessions.items
     → new.sessions.items ≡ slice_set old.sessions.items c t → RespondsTo x t (Message message) act → Knows old s c h → IsCutShort new s c h
 cut_after old new x t s c h message act read lt sessions responds knows =

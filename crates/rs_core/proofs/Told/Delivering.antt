@@ -1,4 +1,4 @@
--- What an outlet says to its client, behind octets that are taken, a message that begins, and a turn.
+-- What an outlet says to its client, after octets that are taken, a message that begins, and a turn.
 use Rattle.std.proofs.Common.{◌≡◌, inl, inr, ℕ, Bool, true, false, List, [], ◌∷◌, ◌++◌, ◌≤◌, length, refl, sym, ◌∙◌, ap, subst, take, drop, arith, append_assoc}
 use Rattle.std.proofs.lemmas.List.{append-nil, take-append-drop}
 use Rattle.std.specs.Prelude.{Option, Some, None, if◌then◌else◌}
@@ -75,7 +75,7 @@ said_next s c h v w empty quiet note speech order down up talk at = record {
   bare_octets : h.taken ++ v.flight ≡ h.taken
   bare_octets = ap (λ l. h.taken ++ l) empty ∙ append-nil h.taken
 
--- a NOTIFICATION waits only behind the end of a session
+-- a NOTIFICATION waits only after the end of a session
 noted : (s : Configuration) (c : ℕ) (h : Hearing) (v w : View) (note : Short) → v.note ≡ Some note → w.speech ≡ v.speech → IsInOrder w → Talks s c (offers true h) w → SpeaksTo s c h v → SpeaksTo s c (offers true h) w
 noted s c h v w note waits speech order talk at = record {
   talk = talk;

@@ -1,4 +1,4 @@
--- The order of what a client is told, behind each thing that befalls it but the beginning of a message.
+-- The order of what a client is told, after each thing that befalls it but the beginning of a message.
 use Rattle.std.proofs.Common.{◌≡◌, inl, inr, ℕ, Bool, true, false, not, ◌&&◌, List, [], ◌∷◌, ◌++◌, take, drop, refl, sym, ◌∙◌, ap, subst, append_assoc}
 use Rattle.std.specs.Prelude.{Option, Some, None, slice_get}
 use Rattle.std.specs.List.{AllZip}
@@ -213,7 +213,7 @@ done_ordered s c h due config ins v w numbered says done loc true up at =
 done_ordered s c h due config ins v w numbered says done loc false up at =
     not_decided s c h due v w (last_same v w _ (((done.decided numbered).down (says.speech ∙ down_speech s c h up)).1)) at
 
--- a turn of all; a client of which memory was refused is listed
+-- a turn of all; a client for which memory was refused is listed
 pub turned_ordered : (s : Configuration) (c : ℕ) (h : Hearing) (due : Prefix → Value) (config : Configuration) (ins : AdjIns) (v w : View) (listed : Bool) → AreNumbered v ins → SpeaksTo s c h v → listed ≡ is_refusal w.last
     → ((done : IsDone config ins v w) (speech : Speech) → w.speech ≡ Some speech → (p : Prefix) → fin.get w.loc p ≡ due p) → IsTurn config ins v w → IsOrdered s c h v
     → IsOrdered s c (decides (is_up (state_in s c h) && not listed) due h) w

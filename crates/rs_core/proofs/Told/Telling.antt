@@ -1,4 +1,4 @@
--- Octets that mean a table, and one message more behind them.
+-- Octets that mean a table, and one message more after them.
 use Rattle.std.proofs.Common.{◌≡◌, ◌≤◌, ℕ, Bool, true, false, List, [], ◌∷◌, ◌++◌, length, take, refl, sym, ◌∙◌, ap, subst}
 use Rattle.std.specs.Prelude.{Option, reverse}
 use Rattle.std.specs.List.{AllZip}

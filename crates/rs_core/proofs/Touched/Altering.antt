@@ -119,13 +119,13 @@ touches_once s c octets h old new le others_touched before now = others_touched_
     let once = piece_once s c octets h p le in
     (λ differs. once.0 (λ e. differs (now.table p ∙ e ∙ sym (before.table p))), λ x e. once.1 x (sym (now.table p) ∙ e ∙ before.table p))) others_touched
 
--- octets behind others
+-- octets that follow others
 pub touches_after : (s : Configuration) (c : ℕ) (first later : List ℕ) (h : Hearing) (old mid new : Ribs) → mid.count ≡ old.count → TouchesOthersJustWhere (IsAlteredBy s c first h) c old mid
     → TouchesOthersJustWhere (IsAlteredBy s c later (hears s c first h)) c mid new → TouchesOthersJustWhere (IsAlteredBy s c (first ++ later) h) c old new
 touches_after s c first later h old mid new count a b =
     touches_others_join _ _ _ c old mid new count (λ p x. (piece_joined s c first later h p).1 (inl x)) (λ p x. (piece_joined s c first later h p).1 (inr x)) (λ p x. (piece_joined s c first later h p).0 x) a b
 
--- octets behind others that alter nothing
+-- octets that follow others that alter nothing
 pub touches_no_more : (s : Configuration) (c : ℕ) (first later : List ℕ) (h : Hearing) (old new : Ribs) → ((p : Prefix) → IsAlteredBy s c later (hears s c first h) p → ⊥)
     → TouchesOthersJustWhere (IsAlteredBy s c first h) c old new → TouchesOthersJustWhere (IsAlteredBy s c (first ++ later) h) c old new
 touches_no_more s c first later h old new none a = others_touched_as _ (IsAlteredBy s c (first ++ later) h) c old new (λ p. (
@@ -148,7 +148,7 @@ beginning_silent core s c h octets n live between wants = newly_between (allowed
 pub one_fault : (a : Heards) (fault : HeaderFault) → a ≡ Err fault ∷ [] → length a ≤ 1
 one_fault a fault e = subst (λ (ms : Heards). length ms ≤ 1) (sym e) (omega arith)
 
--- the buffer was taken before and put back behind
+-- the buffer was taken before and put back after
 pub front_touches : (s : Configuration) (c : ℕ) (h : Hearing) (front piece : List ℕ) (old taken heard new : Core) → taken.ribs ≡ old.ribs → new.ribs ≡ heard.ribs → front ≡ piece
     → TouchesOthersJustWhere (IsAlteredBy s c front h) c taken.ribs heard.ribs → TouchesOthersJustWhere (IsAlteredBy s c piece h) c old.ribs new.ribs
 front_touches s c h front piece old taken heard new before behind whole others_touched =

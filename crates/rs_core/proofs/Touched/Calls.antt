@@ -73,7 +73,7 @@ touches_others Holds c old new run h count others_touched = record {
       (outlet_touched Holds (outlet_in old.ribs d nobody) (outlet_in new.ribs d nobody) heard.0 heard.1 (others_touched.others d nobody (within old d there) ne)));
 }
 
--- where its value is another one behind a move
+-- where its value is another one after a move
 pub touches_changes : (c : ℕ) (move : Move) (old new : Core) (run : List Move) → c < old.count → AgreesOnClients old run → AgreesOnClients new (move ∷ run) → new.count ≡ old.count → TouchesOthersAtChange c old.ribs new.ribs
     → TouchesOthersWhere (IsChangedBy move run c) c run old new
 touches_changes c move old new run lt h after count others_touched =

@@ -21,7 +21,7 @@ use Rattle.rs_core.proofs.Run.Agreeing.{begun_held}
 use Rattle.rs_core.proofs.Run.Changing.{set_here, sets_nothing}
 use Rattle.rs_core.proofs.Run.Clients.{is_own}
 
--- ---- prefixes that are touched, one list behind another
+-- ---- prefixes that are touched, one list after another
 
 touched_join : (ps qs : List Prefix) (v : View) → touched_with (ps ++ qs) v ≡ touched_with qs (touched_with ps v)
 touched_join [] qs v = refl
@@ -107,7 +107,7 @@ touches_others_same c old new e = touches_none c old new (λ p. ap (λ (r : Ribs
 pub own_touches_others : (c : ℕ) (Is : View → View → Type 0) (old new : Ribs) → new.tables ≡ old.tables → ChangesOwn c Is old new → TouchesOthersAtChange c old new
 own_touches_others c Is old new tables changes = touches_none c old new (λ p. ap (λ t. held_of t c p) tables) (λ d none ne. changes.others d none ne)
 
--- one behind the other, where no prefix is changed by both
+-- one after the other, where no prefix is changed by both
 pub others_touched_on : (c : ℕ) (old mid new : Ribs) → mid.count ≡ old.count → ((p : Prefix) → (held_of mid.tables c p ≡ held_of old.tables c p) ⊎ (held_of new.tables c p ≡ held_of mid.tables c p)) → TouchesOthersAtChange c old mid → TouchesOthersAtChange c mid new → TouchesOthersAtChange c old new
 others_touched_on c old mid new count apart a b = touches_others_join _ _ _ c old mid new count
     (λ p differs. elim (apart p) [ inl was ↦ absurd (differs was) | inr stays ↦ λ e. differs (sym stays ∙ e) ])
@@ -221,7 +221,7 @@ within_of Holds Most c old new changed within h = record {
 pub within_changed : (Most : Prefix → Type 0) (c : ℕ) (old new : Ribs) → ((p : Prefix) → held_of new.tables c p ≢ held_of old.tables c p → Most p) → TouchesOthersAtChange c old new → TouchesOthersWithin Most c old new
 within_changed Most c old new within h = within_of (λ p. held_of new.tables c p ≢ held_of old.tables c p) Most c old new (λ p differs. differs) within h
 
--- one behind the other; the second need only be within the bound where the first has left the value
+-- one after the other; the second need only be within the bound where the first has left the value
 pub within_on : (P Q R : Prefix → Type 0) (c : ℕ) (old mid new : Ribs) → mid.count ≡ old.count → ((p : Prefix) → P p → R p) → ((p : Prefix) → Q p → held_of mid.tables c p ≡ held_of old.tables c p → R p)
     → TouchesOthersWithin P c old mid → TouchesOthersWithin Q c mid new → TouchesOthersWithin R c old new
 within_on P Q R c old mid new count first second a b = record {
@@ -251,6 +251,6 @@ within_gone Most c old mid new count a b =
     within_on Most (λ p. held_of new.tables c p ≢ held_of mid.tables c p) (λ p. (held_of new.tables c p ≢ held_of old.tables c p) ⊎ Most p) c old mid new count
     (λ p x. inr x) (λ p differs same. inl (λ e. differs (e ∙ sym same))) a (within_changed (λ p. held_of new.tables c p ≢ held_of mid.tables c p) c mid new (λ p differs. differs) b)
 
--- a step before and one behind that leave the RIBs as they are
+-- a step before and one after that leave the RIBs as they are
 pub within_between : (Most : Prefix → Type 0) (c : ℕ) (old mid heard new : Ribs) → mid ≡ old → new ≡ heard → TouchesOthersWithin Most c mid heard → TouchesOthersWithin Most c old new
 within_between Most c old mid heard new before behind h = subst (λ r. TouchesOthersWithin Most c old r) (sym behind) (subst (λ r. TouchesOthersWithin Most c r heard) before h)

@@ -1,4 +1,4 @@
--- What octets touch for which memory was refused: at most what one of their messages alters.
+-- What octets touch where memory was refused for them: at most what one of their messages alters.
 use Rattle.std.proofs.Common.{◌≡◌, ◌≢◌, inl, inr, ℕ, true, List, [], ◌∷◌, ◌++◌, refl, sym, ◌∙◌, ap, subst}
 use Rattle.std.specs.Prelude.{Ok}
 use Rattle.rs_octets.specs.declared.heads.Kind.{Kind}
@@ -50,13 +50,13 @@ one_alters s c h kind body octets message is body_is live new p differs =
 front_alters : (s : Configuration) (c : ℕ) (piece first later : List ℕ) (h : Hearing) (p : Prefix) → piece ≡ first ++ later → IsAlteredBy s c first h p → IsAlteredBy s c piece h p
 front_alters s c piece first later h p whole x = subst (λ o. IsAlteredBy s c o h p) (sym whole) ((piece_joined s c first later h p).1 (inl x))
 
--- and those behind them
+-- and those that follow them
 rest_alters : (s : Configuration) (c : ℕ) (piece first later : List ℕ) (h : Hearing) (p : Prefix) → piece ≡ first ++ later → IsAlteredBy s c later (hears s c first h) p → IsAlteredBy s c piece h p
 rest_alters s c piece first later h p whole x = subst (λ o. IsAlteredBy s c o h p) (sym whole) ((piece_joined s c first later h p).1 (inr x))
 
 -- ---- memory was refused
 
--- in the midst of a message that the front of a piece filled up
+-- in the midst of a message that the front of a piece made whole
 pub waiting_within : (s : Configuration) (c : ℕ) (h : Hearing) (buffer filled piece rest : List ℕ) (kind : Kind) (body behind : List ℕ) (old new : Ribs) → is_live (state_in s c h) ≡ true → Waits s c buffer h
     → FillsUp (allowed_in s) buffer piece filled rest → BeginsWith (allowed_in s) filled kind body behind
     → ((p : Prefix) → held_of new.tables c p ≢ held_of old.tables c p → table_in s c (takes_in s c (body_said s c h kind body) h) p ≢ table_in s c h p)
@@ -66,7 +66,7 @@ waiting_within s c h buffer filled piece rest kind body behind old new live w fi
     within_changed (IsAlteredBy s c piece h) c old new
     (λ p differs. front_alters s c piece fills.front rest h p fills.whole (one_alters s c h kind body fills.front at.message at.is at.body_is live new_is p (part p differs))) others_touched
 
--- in the midst of a message of a piece, behind others
+-- in the midst of a message of a piece, after others
 pub piece_within : (s : Configuration) (c : ℕ) (h : Hearing) (piece before octets : List ℕ) (kind : Kind) (body rest : List ℕ) (old mid new : Core) → piece ≡ before ++ octets → mid.ribs.count ≡ old.ribs.count
     → is_live (state_in s c (hears s c before h)) ≡ true → BeginsWith (allowed_in s) octets kind body rest → Knows old s c h → IsBetween mid s c (hears s c before h)
     → ((p : Prefix) → held_of new.ribs.tables c p ≢ held_of mid.ribs.tables c p → table_in s c (takes_in s c (body_said s c (hears s c before h) kind body) (hears s c before h)) p ≢ table_in s c (hears s c before h) p)
@@ -81,7 +81,7 @@ piece_within s c h piece before octets kind body rest old mid new whole count li
     (within_changed (IsAlteredBy s c octets it) c mid.ribs new.ribs
     (λ p differs. front_alters s c octets at.message rest it p at.whole (one_alters s c it kind body at.message at.message at.is at.body_is live new_is p (part p differs))) later)
 
--- in the rest of a piece, of which the front was heard
+-- in the rest of a piece whose front was heard
 pub rest_within : (s : Configuration) (c : ℕ) (h : Hearing) (piece first rest : List ℕ) (old mid : Core) (new : Ribs) → piece ≡ first ++ rest → mid.ribs.count ≡ old.ribs.count → Knows old s c h → Knows mid s c (hears s c first h)
     → TouchesOthersJustWhere (IsAlteredBy s c first h) c old.ribs mid.ribs → TouchesOthersWithin (IsAlteredBy s c rest (hears s c first h)) c mid.ribs new → TouchesOthersWithin (IsAlteredBy s c piece h) c old.ribs new
 rest_within s c h piece first rest old mid new whole count knows now others_touched later =

@@ -1,4 +1,4 @@
--- A run grows by a move: what is touched for each client behind it, and what its last turn answered.
+-- A run grows by a move: what is touched for each client after it, and what its last turn answered.
 use Rattle.std.proofs.Common.{◌≡◌, ◌≢◌, inl, inr, ◌<◌, ◌==◌, ℕ, Bool, true, false, List, [], ◌∷◌, length, refl, sym, ◌∙◌, ap, subst, arith}
 use Rattle.std.specs.Prelude.{Option, Some, None, if◌then◌else◌}
 use Rattle.std.specs.FinSet as set
@@ -29,7 +29,7 @@ use Rattle.rs_core.proofs.Run.Outgoing.{within}
 use Rattle.rs_core.proofs.Owed.Sending.{last_is, nobody}
 use Rattle.rs_core.proofs.Run.OtherRules.{session_fixed}
 
--- what a move touches for each client that is Established behind it
+-- what a move touches for each client that is Established after it
 record TouchesEach (move : Move) (run : List Move) (old new : Core) : Type 0 where
   pub came_up : (c : ℕ) → c < old.count → is_established run c ≡ false → is_established (move ∷ run) c ≡ true → touched_for new c ≡ None
   pub kept : (c : ℕ) → c < old.count → is_established run c ≡ true → is_established (move ∷ run) c ≡ true → TouchesBehind move run c (touched_for old c) (touched_for new c)
@@ -53,7 +53,7 @@ grown_by move old new run count h on by last = record {
 
 -- ---- a move of one client
 
--- the others are Established behind it where they were before
+-- the others are Established after it where they were before
 still_up : (move : Move) (d : ℕ) (run : List Move) → config_in (move ∷ run) ≡ config_in run → hearing d (move ∷ run) ≡ hearing d run → is_established (move ∷ run) d ≡ is_established run d
 still_up move d run config same = (λ i. is_up (state_in (config i) d (same i)))
 
@@ -73,7 +73,7 @@ of_one move c old new run config same others nothing itself = record {
   ];
 }
 
--- behind it the client is not Established
+-- after it the client is not Established
 down_itself : (move : Move) (c : ℕ) (run : List Move) (old new : Core) → is_established (move ∷ run) c ≡ false → TouchesItself move c run old new
 down_itself move c run old new down = record { came_up = λ _ up. absurd (false≢true (sym down ∙ up)); kept = λ _ up. absurd (false≢true (sym down ∙ up)) }
 

@@ -22,7 +22,7 @@ no_turn refused before h = by_later h.later h.whole where
   by_later [] whole = cc
   by_later (m ∷ later) whole = cc
 
--- behind a move that is no turn it is the one before
+-- after a move that is no turn it is the one before
 earlier : (move : Move) (run : List Move) (refused : List ℕ) (before : List Move) → ((clients : List ℕ) → move ≡ moves.Turned clients → ⊥) → IsLastTurn (move ∷ run) refused before → IsLastTurn run refused before
 earlier move run refused before other h = by_later h.later h.whole h.none where
   by_later : (later : List Move) → move ∷ run ≡ later ++ moves.Turned refused ∷ before → HasNoTurn later → IsLastTurn run refused before

@@ -25,7 +25,7 @@ use Rattle.rs_core.proofs.Owed.Sending.{nobody, touched_is}
 use Rattle.rs_core.proofs.Touched.ChangedPrefixes.{where_as}
 use Rattle.rs_core.proofs.Touched.Calls.{outlet_touched}
 
--- ---- touches one behind the other
+-- ---- touches one after the other
 
 touched_join : (ps qs : List Prefix) (o : Option Prefixes) → with_touches (ps ++ qs) o ≡ with_touches qs (with_touches ps o)
 touched_join [] qs o = refl

@@ -86,7 +86,7 @@ all_lasts s c (m ∷ ms) h up live = by_test (is_live (state_in s c next)) refl 
   by_test true e more = more (now_up e)
   by_test false e more = absurd (false≢true (sym e ∙ ap (λ k. is_live (state_in s c k)) (sym (deaf s c ms next e)) ∙ live))
 
--- who is Established before and behind octets was so between them
+-- who is Established before and after octets was so between them
 middle_up : (s : Configuration) (c : ℕ) (first later : List ℕ) (h : Hearing) → is_up (state_in s c h) ≡ true → is_up (state_in s c (hears s c later (hears s c first h))) ≡ true → is_up (state_in s c (hears s c first h)) ≡ true
 middle_up s c first later h up now = by_test (is_live (state_in s c mid)) refl where
   mid : Hearing
@@ -97,7 +97,7 @@ middle_up s c first later h up now = by_test (is_live (state_in s c mid)) refl w
   by_test false e =
       absurd (false≢true (sym e ∙ ap (λ k. is_live (state_in s c k)) (sym (deaf s c (newly_heard (allowed_in s) mid.octets later) mid e)) ∙ up_live s c (hears s c later mid) now))
 
--- ---- octets behind others
+-- ---- octets that follow others
 
 keeps_both : (u v w : View) → KeepsTouches u v → KeepsTouches v w → (IsSome u.speech → IsSome w.speech → IsSome v.speech) → KeepsTouches u w
 keeps_both u v w a b between = record { came_up = λ none some. by_middle v.speech refl none some; kept = λ was some. let mid = between was some in b.kept mid some ∙ a.kept was mid } where

@@ -15,7 +15,7 @@ use Rattle.rs_core.specs.declared.links.Event.{Event}
 use Rattle.rs_core.specs.declared.links.Event.TheVariants as events
 use Rattle.rs_core.specs.declared.route_server.Core.{Core}
 
--- ---- a client, behind a run
+-- ---- a client, after a run
 
 -- it has no connection
 abbrev pub IsIdle : List Move → ℕ → Type 0
@@ -58,12 +58,12 @@ is_passed_over n (events.Lost c) = nat_le n c
 is_passed_over n events.Rules = false
 is_passed_over n events.Stop = false
 
--- clients below n that are Established behind this run, each once, the greatest first
+-- clients below n that are Established after this run, each once, the greatest first
 abbrev pub AreEstablished : List Move → ℕ → List ℕ → Type 0
 AreEstablished run n [] = ⊤
 AreEstablished run n (c ∷ cs) = (c < n) × (is_established run c ≡ true) × AreEstablished run c cs
 
--- with these octets, where it is told with any
+-- with these octets, where the event came with any
 pub data Answers (octets : List ℕ) : Event → Course → Course → Type 0 where
   Passes : (event : Event) (x : Course) → is_passed_over (client_count x.core) event ≡ true → Answers octets event x x
   Begins : (c : ℕ) (x : Course) (core : Core) (came : Becomes (Came c) x.run x.core core) → c < client_count x.core → IsIdle x.run c
@@ -75,7 +75,7 @@ pub data Answers (octets : List ℕ) : Event → Course → Course → Type 0 wh
   Drops : (c len : ℕ) (x : Course) (core : Core) (dropped : Becomes (Dropped c octets) x.run x.core core) → c < client_count x.core → len ≤ 4096
       → Answers octets (events.Octets c len) x (moved (Dropped c octets) (called (End c) (called (Memory c) x)) core dropped)
   Sees : (t : ℕ) (x : Course) (core : Core) (saw : Becomes (Saw t) x.run x.core core) → Answers octets (events.Moment t) x (moved (Saw t) x core saw)
-  -- memory was refused for some of those that are Established; the sink is told of each once, by rising place
+  -- memory was refused for some of those that are Established; each is reported to the sink once, by rising place
   Turns : (refused : List ℕ) (x : Course) (core : Core) (turned : Becomes (Turned refused) x.run x.core core) → AreEstablished x.run (client_count x.core) refused
       → Answers octets events.Turn x (moved (Turned refused) (remembered refused x) core turned)
   Fills : (c room : ℕ) (x y : Course) → c < client_count x.core → Gives c room x y → Answers octets (events.Room c room) x y
@@ -84,7 +84,7 @@ pub data Answers (octets : List ℕ) : Event → Course → Course → Type 0 wh
       → Answers octets events.Rules x (moved (Ruled config) (called (Replaced (Ok tt)) x) core ruled)
   Keeps : (fault : RulesFault) (x : Course) → Refuses (config_in x.run) octets fault → Answers octets events.Rules x (called (Replaced (Err fault)) x)
 
--- ---- the ends behind it
+-- ---- the ends after it
 
 -- a client whose session has ended is ended where nothing is owed to it
 pub data Ended (c : ℕ) : Course → Course → Type 0 where
@@ -104,7 +104,7 @@ EndsAll x y = Ends (client_count x.core) x y
 
 -- ---- rounds
 
--- event for event: it is told, answered, and those that are closing are ended
+-- event for event: it comes, it is answered, and those that are closing are ended
 pub data Rounds (x : Course) : Course → Type 0 where
   Start : Rounds x x
   Round : (event : Event) (octets : List ℕ) (y z w : Course) → Rounds x y → stops event ≡ false → Answers octets event (called (Happened event octets) y) z → EndsAll z w → Rounds x w
@@ -116,7 +116,7 @@ pub record Drives (x y : Course) : Type 0 where
   pub rounds : Rounds x before
   pub stop : y ≡ called (Happened events.Stop octets) before
 
--- any number of drives, one behind the other
+-- any number of drives, one after the other
 pub data Drove (x : Course) : Course → Type 0 where
   Never : Drove x x
   Again : (y z : Course) → Drove x y → Drives y z → Drove x z

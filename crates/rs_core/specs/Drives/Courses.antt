@@ -7,8 +7,8 @@ use Rattle.rs_core.specs.Run.Agreeing.{Agrees}
 use Rattle.rs_core.specs.Owed.Sending.{HasLent, HasTaken, LeavesOwed}
 use Rattle.rs_core.specs.declared.route_server.Core.{Core}
 
--- what a link told and was told, and the run that this makes, each the newest first; and the route server at hand, which agrees
--- with that run
+-- the steps of a link, and the run that they make, each the newest first; and the route server at hand, which agrees with that
+-- run
 pub record Course : Type 0 where
   pub steps : List Step
   pub run : List Move
@@ -24,7 +24,7 @@ course core steps run agrees = record { steps = steps; run = run; core = core; a
 abbrev pub called : Step → Course → Course
 called step x = record { steps = step ∷ x.steps; run = x.run; core = x.core; agrees = x.agrees }
 
--- memory was refused for these clients: the sink was told of one after the other
+-- memory was refused for these clients, which were reported to the sink one after the other
 abbrev pub memories : List ℕ → List Step → List Step
 memories [] steps = steps
 memories (c ∷ cs) steps = Memory c ∷ memories cs steps
@@ -57,7 +57,7 @@ took c k x core taken = moved (Took c (take k (lent_octets x.core c))) x core (r
 
 -- ---- how the two go on
 
--- from the first link on, steps led to this link, and a course with this route server of which this holds was run
+-- steps led from the first link to this one, and made a course with this route server for which this holds
 pub record Reaches {L : Type 0} (happens : L → Step → L → Type 0) (first : L) (core : Core) (link : L) (Is : Course → Type 0) : Type 0 where
   pub steps : List Step
   pub run : List Move

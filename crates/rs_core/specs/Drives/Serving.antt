@@ -37,6 +37,6 @@ pub record IsServedBy (x : Course) (c : ℕ) : Type 0 where
 abbrev pub IsTakenBy : ℕ → Course → Type 0
 IsTakenBy c x = is_connected (hearing c x.run).items ≡ true → (hearing c x.run).taken ≡ taken_by c x.steps
 
--- behind any number of drives a client that is served was told so by the offers
+-- after any number of drives a client that is served was told its table by the offers
 abbrev pub ServesByOffers : Type 0
 ServesByOffers = (c : ℕ) (config : Configuration) (core : Core) (agrees : Agrees core (Ruled config ∷ [])) (x : Course) → Drove (start config core agrees) x → IsServed x.run c → IsServedBy x c

@@ -1,4 +1,4 @@
--- What a link tells and is told, the newest step first.
+-- The steps of a link, the newest first: events that came from the source, and calls on the sink.
 use Rattle.std.specs.Prelude.{◌≡◌, ℕ, Bool, true, false, List, [], ◌∷◌, take, Option, Result, ⊤}
 use Rattle.rs_policy.specs.declared.faults.RulesFault.{RulesFault}
 use Rattle.rs_core.specs.declared.links.Event.{Event}
@@ -16,7 +16,7 @@ octets_of Rules piece text = text
 octets_of Stop piece text = []
 
 pub data Step : Type 0 where
-  -- the source told an event, with its octets
+  -- an event came from the source, with its octets
   Happened : (event : Event) (octets : List ℕ) → Step
   -- the calls on the sink, and what an offer answered
   Begin : (c : ℕ) → Step
@@ -42,7 +42,7 @@ stops (Lost c) = false
 stops Rules = false
 stops Stop = true
 
--- the source did not tell that there are no more events
+-- it is not the event that there are no more
 abbrev pub GoesOn : Step → Type 0
 GoesOn (Happened event octets) = stops event ≡ false
 GoesOn (Begin c) = ⊤

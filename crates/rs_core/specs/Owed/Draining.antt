@@ -1,4 +1,4 @@
--- What is owed to a client is sent where its link has room: a turn decides what is due to it, and the room behind it drains it.
+-- What is owed to a client is sent where its link has room: a turn decides what is due to it, and room after the turn drains it.
 use Rattle.std.specs.Prelude.{◌≡◌, ◌<◌, ◌≤◌, ◌-◌, ℕ, true, false, List, length, take, ⊤}
 use Rattle.rs_core.specs.Run.Meaning.{is_established, IsServed}
 use Rattle.rs_core.specs.Core.{client_count, is_decided, is_refused, lent_octets, owed}
@@ -28,7 +28,7 @@ TakesAll c room x y (Goes_on r k u v w some within offers rest) = TakesWhole c r
 
 -- ---- rounds
 
--- a turn, and the ends behind it; memory was not refused for client c
+-- a turn, and the ends after it; memory was not refused for client c
 pub record TurnsFor (c : ℕ) (x y : Course) : Type 0 where
   pub octets : List ℕ
   pub turned : Course
@@ -36,7 +36,7 @@ pub record TurnsFor (c : ℕ) (x y : Course) : Type 0 where
   pub done : is_refused turned.core c ≡ false
   pub ends : EndsAll turned y
 
--- room for so many octets to client d, all of what was offered was taken, and the ends behind it
+-- room for so many octets to client d, all of what was offered was taken, and the ends after it
 pub record RoomFor (d room : ℕ) (x y : Course) : Type 0 where
   pub octets : List ℕ
   pub given : Course
@@ -49,8 +49,8 @@ pub data Rooms (x : Course) : Course → Type 0 where
   NoRoom : Rooms x x
   MoreRoom : (d room : ℕ) (y z : Course) → Rooms x y → RoomFor d room y z → Rooms x z
 
--- Behind a turn that was not refused for an Established client, whatever room other clients had before: room of at least what is
--- owed to it, of which its link takes whole what it is offered, leaves it drained, and so it was told exactly what is due to it.
+-- After a turn that was not refused for an Established client, whatever room other clients had before: room of at least what is
+-- owed to it, where its link takes whole what it is offered, leaves it drained, and so it was told exactly what is due to it.
 pub record LeavesDrained (y : Course) (c : ℕ) : Type 0 where
   pub drained : IsDrained y c
   pub served : IsServed y.run c

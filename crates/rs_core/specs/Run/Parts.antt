@@ -66,7 +66,7 @@ ActsOn acts.Up c sessions old new =
 ActsOn (acts.Down _) c sessions old new = Begins old new c 0
 ActsOn acts.Again c sessions old new = new ≡ old
 
--- the sessions of clients that are configured so, of which nothing has come
+-- the sessions of clients with this configuration, before anything came from them
 abbrev pub HaveHeardNothing : Configuration → List Session → Type 0
 HaveHeardNothing s sessions = (c : ℕ) (x : Session) → slice_get sessions c ≡ Some x → HasHeard x (session_in s c) []
 
@@ -135,7 +135,7 @@ ChangesWithin c withdrawn announced attributes old new =
 
 -- ---- pieces
 
--- the last octets that went behind others were wanted there
+-- the last octets that were appended to others were wanted there
 pub record IsWanted (allowed : Allowed) (octets : List ℕ) : Type 0 where
   pub before : List ℕ
   pub last : List ℕ
@@ -144,7 +144,7 @@ pub record IsWanted (allowed : Allowed) (octets : List ℕ) : Type 0 where
   pub wants : Wants allowed before n
   pub within : length last ≤ n
 
--- the front of a piece went behind what waited, as far as it was wanted and as there was of it
+-- the front of a piece was appended to what waited: as much as was wanted, or all of the piece
 pub record FillsUp (allowed : Allowed) (old piece new rest : List ℕ) : Type 0 where
   pub front : List ℕ
   pub whole : piece ≡ front ++ rest
@@ -158,8 +158,8 @@ pub record IsBetween (core : Core) (s : Configuration) (c : ℕ) (h : Hearing) :
   pub rest : is_live (state_in s c h) ≡ true → rest_of (allowed_in s) h.octets ≡ []
   pub empty : is_live (state_in s c h) ≡ true → (x : Vec ℕ) → slice_get core.buffers.items c ≡ Some x → x.items ≡ []
 
--- the front of a piece was heard, of which one message is whole at most, and this waits now, which is nothing where the piece
--- has more
+-- The front of the piece was processed; it contains at most one whole message; `rest` is what remains of the piece, and `buffer`
+-- what waits now: nothing where the piece has more.
 pub record HasHeardFront (core : Core) (s : Configuration) (c : ℕ) (h : Hearing) (piece buffer rest : List ℕ) : Type 0 where
   pub front : List ℕ
   pub whole : piece ≡ front ++ rest

@@ -47,7 +47,7 @@ session_in s c = record { peer_as = (client_of s c).client_as; hold = s.top.hold
 
 -- the octets since its connection came; what befell its session, the newest first; what its UPDATEs changed since it is
 -- Established, the newest first; the octets that its link took of us since its connection came; what befell it since then that
--- decides what it is told, the newest first, and what decides when it is sent KEEPALIVEs; and of all its connections, the newest
+-- decides what it is told, the newest first, and what decides when it is sent KEEPALIVEs; and over all its connections, the newest
 -- first, why its sessions ended, and what was wrong with those of its UPDATEs that were not taken as they came
 pub record Hearing : Type 0 where
   pub octets : List ℕ
@@ -200,7 +200,7 @@ listens_to s c (message ∷ messages) h = listens_to s c messages (listens s c m
 abbrev pub with_octets : List ℕ → Hearing → Hearing
 with_octets octets h = record { octets = octets; items = h.items; changes = h.changes; taken = h.taken; points = h.points; keepalives = h.keepalives; endings = h.endings; faults = h.faults }
 
--- octets come: what they say that those before them did not is heard
+-- octets come: what they add to those before them is heard
 abbrev pub hears : Configuration → ℕ → List ℕ → Hearing → Hearing
 hears s c octets h = with_octets (h.octets ++ octets) (listens_to s c (newly_heard (allowed_in s) h.octets octets) h)
 

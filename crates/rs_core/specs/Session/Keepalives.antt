@@ -39,7 +39,7 @@ pub record IsBegunAt (limit : Limit) (taken before : List ℕ) (was : Bool) (oct
   pub whole : octets ≡ before ++ message
   pub is : ((before ≢ taken) × (message ≡ []) × (due ≡ was)) ⊎ ((before ≡ taken) × IsNext limit was message × (due ≡ false))
 
--- While a session lasts, this was put on the connection, behind the OPEN, by what befell the client, the newest first, and a
+-- While a session lasts, this was put on the connection, after the OPEN, by what befell the client, the newest first, and a
 -- KEEPALIVE is due or not: it is, exactly where one fell due since the last message began.
 abbrev pub AreKeepalives : ServerOpen → Limit → List KeepaliveMove → List ℕ → Bool → Type 0
 AreKeepalives said limit [] octets due = (octets ≡ server_open said) × (due ≡ false)

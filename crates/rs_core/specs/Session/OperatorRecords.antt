@@ -53,7 +53,7 @@ no_faults = record { withdraw = None; discard = None }
 abbrev pub is_faulted : Faulted → Bool
 is_faulted faulted = is_some faulted.withdraw || is_some faulted.discard
 
--- an UPDATE was taken with these faults, behind others; one without any does not count
+-- an UPDATE was taken with these faults, after others; one without any does not count
 abbrev pub with_faults : Faulted → List Faulted → List Faulted
 with_faults faulted earlier = if is_faulted faulted then faulted ∷ earlier else earlier
 

@@ -39,7 +39,7 @@ has_asked (Decided due ∷ points) = has_asked points
 has_asked (Asked ∷ points) = true
 has_asked (Offered taken ∷ points) = has_asked points
 
--- the UPDATEs in these octets told a prefix this value last, in order, and the client has not asked since
+-- by the UPDATEs in these octets the client was told this value at a prefix last, in order, and it has not asked since
 pub record HasBeenAnswered (speech : Speech) (points : List Point) (octets : List ℕ) (p : Prefix) (value : Value) : Type 0 where
   pub readable : IsReadable speech.limit octets
   pub values : List Value
@@ -49,9 +49,9 @@ pub record HasBeenAnswered (speech : Speech) (points : List Point) (octets : Lis
 
 -- ---- laws
 
--- In these octets no header is at fault. What their UPDATEs tell a prefix, behind none at first, was due at the turns, behind none at first, in this
--- order. Each value was the one due at the last turn before its message began, and it was another one than that told before
--- it, but where the client had asked since.
+-- In these octets no header is at fault. The values that their UPDATEs tell the client at a prefix, after none at first, were due at
+-- the turns, after none at first, in this order. Each value was the one due at the last turn before its message began, and it was
+-- another one than that told before it, but where the client had asked since.
 pub record IsToldInTurn (speech : Speech) (points : List Point) (octets : List ℕ) (p : Prefix) : Type 0 where
   pub readable : IsReadable speech.limit octets
   pub values : List Value
@@ -73,6 +73,6 @@ HasWhatWasDue =
     (core : Core) (run : List Move) (c : ℕ) (p : Prefix) → c < client_count core → Agrees core run
     → is_established run c ≡ true → loc_rib core c p ≡ latest (dues run c p)
 
--- what is due to a client at each prefix that has a route it was told last, by an UPDATE that began behind its last request
+-- what is due to a client at each prefix that has a route it was told last, by an UPDATE that began after its last request
 pub record IsAnswered (run : List Move) (c : ℕ) : Type 0 where
   pub told : (speech : Speech) (p : Prefix) → speech_in (config_in run) c (hearing c run) ≡ Some speech → is_some (due run c p) ≡ true → HasBeenAnswered speech (hearing c run).points (hearing c run).taken p (due run c p)

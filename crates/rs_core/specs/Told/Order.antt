@@ -16,12 +16,12 @@ use Rattle.rs_core.specs.Session.Hearing.{Hearing, state_in, is_up}
 use Rattle.rs_core.specs.Told.Telling.{allowed_to, updates_in}
 use Rattle.rs_octets.specs.Messages.{rest_of}
 
--- what these changes tell a prefix, one value for each that mentions it; the newest stand first
+-- what these changes say of a prefix, one value for each that mentions it; the newest stand first
 abbrev pub told_by : List Change → Prefix → List Value
 told_by [] p = []
 told_by (change ∷ changes) p = if mentions p change then attributes_after p (Some change) ∷ told_by changes p else told_by changes p
 
--- the UPDATEs in these octets, as a client reads them that is spoken to like this, tell a prefix these values, the newest first
+-- by the UPDATEs in these octets a client that is spoken to like this is told these values at a prefix, the newest first
 pub record TellsAt (speech : Speech) (octets : List ℕ) (p : Prefix) (values : List Value) : Type 0 where
   pub changes : List Change
   pub have : AllZip (λ body change. HasEffect body speech.mode (Changes change)) (updates_in speech.limit octets) changes
@@ -51,7 +51,7 @@ TellsInOrder speech (Offered taken ∷ points) p values asked =
 
 -- ---- an outlet
 
--- these octets tell a prefix what the outlet has as told, in order; what was told is marked exactly where the client asked since
+-- at a prefix these octets tell what the outlet has as told, in order; what was told is marked exactly where the client asked since
 pub record IsToldInOrder (speech : Speech) (points : List Point) (octets : List ℕ) (v : View) (p : Prefix) : Type 0 where
   pub values : List Value
   pub asked : Bool

@@ -1,4 +1,4 @@
--- What the last turn of a client answered, behind a run.
+-- What the last turn of a client answered, after a run.
 use Rattle.std.specs.Prelude.{◌≡◌, ℕ, true, false, List, [], ◌∷◌, Option}
 use Rattle.rs_outlet.specs.declared.answers.Last.{Last}
 use Rattle.rs_outlet.specs.declared.answers.Last.TheVariants as lasts
@@ -10,7 +10,7 @@ use Rattle.rs_core.specs.Run.Meaning.{is_established, is_listed}
 use Rattle.rs_core.specs.Touched.ByRun.{IsCountOf, stands}
 use Rattle.rs_core.specs.Touched.ByMoves.{IsTouchedBehind}
 
--- A turn behind this run decides what the run touches for the client: the answer says whether that is all, and how many prefixes
+-- A turn after this run decides what the run touches for the client: the answer says whether that is all, and how many prefixes
 -- it is; where it is all, those that stand.
 pub record CountsTouched (run : List Move) (c : ℕ) (turned : Turned) : Type 0 where
   pub touched : Option Prefixes
@@ -18,7 +18,7 @@ pub record CountsTouched (run : List Move) (c : ℕ) (turned : Turned) : Type 0 
   pub whole : turned.whole ≡ is_whole touched
   pub count : IsCountOf (stands run c) touched turned.decided
 
--- What a turn behind this run answers for client c, which is of all but those for which memory was refused. Each of these is
+-- What a turn after this run answers for client c; it is of all clients but those for which memory was refused. Each of these is
 -- Established; nothing is decided for a client that isn't.
 pub record IsTurnAnswer (refused : List ℕ) (run : List Move) (c : ℕ) (last : Last) : Type 0 where
   pub refusal : is_listed c refused ≡ true → (is_established run c ≡ true) × (last ≡ lasts.Refused)

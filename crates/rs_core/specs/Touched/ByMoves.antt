@@ -1,4 +1,4 @@
--- What is touched for a client behind a run: what the moves of the others altered since its last turn, or all.
+-- What is touched for a client after a run: what the moves of the others altered since its last turn, or all.
 use Rattle.std.specs.Prelude.{◌≡◌, ◌≢◌, ◌⊎◌, ℕ, true, false, List, [], ◌∷◌, length, Option, Some, None, if◌then◌else◌}
 use Rattle.std.specs.FinSet as set
 use Rattle.rs_octets.specs.Prefixes.{Prefix}
@@ -32,9 +32,9 @@ WouldAlter move run c p = (d : ℕ) × (octets : List ℕ) × (move ≡ Dropped 
 abbrev pub MayAlter : Move → List Move → ℕ → Prefix → Type 0
 MayAlter move run c p = Alters move run c p ⊎ WouldAlter move run c p
 
--- ---- what is touched behind it
+-- ---- what is touched after it
 
--- What a move makes of what was touched for a client that is Established before it and behind it: another configuration touches
+-- What a move makes of what was touched for a client that is Established before it and after it: another configuration touches
 -- all, a turn leaves nothing where memory was not refused for the client, and any other move touches just what it alters. Where
 -- memory was refused for octets, messages before that may have announced what is lost again at once; this is touched too, and the
 -- run doesn't show how many were heard: it is what the loss alters, and nothing but that and what one of the messages would have.
@@ -49,7 +49,7 @@ TouchesBehind (Turned refused) run c old new = new ≡ (if is_listed c refused t
 TouchesBehind (Began d) run c old new = TouchesWhere (Alters (Began d) run c) old new
 TouchesBehind (Took d octets) run c old new = TouchesWhere (Alters (Took d octets) run c) old new
 
--- What is touched for client c where it is Established behind a run. Where it came up by the last move, all is.
+-- What is touched for client c where it is Established after a run. Where it came up by the last move, all is.
 abbrev pub IsTouchedBehind : List Move → ℕ → Option Prefixes → Type 0
 IsTouchedBehind [] c touched = ⊥
 IsTouchedBehind (move ∷ run) c touched =

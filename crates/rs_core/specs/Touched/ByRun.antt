@@ -34,7 +34,7 @@ pub record TouchesBetween (Least Most : Prefix → Type 0) (old new : Option Pre
   pub most : (p : Prefix) → Contains prefixes p → Most p
   pub are : new ≡ with_touches prefixes old
 
--- client c has another value at p behind a move than before it
+-- client c has another value at p after a move than before it
 abbrev pub IsChangedBy : Move → List Move → ℕ → Prefix → Type 0
 IsChangedBy move run c p = table (move ∷ run) c p ≢ table run c p
 
@@ -51,7 +51,7 @@ pub record TouchesOthersWhere (Holds : Prefix → Type 0) (c : ℕ) (run : List 
 pub record TouchesOthersBetween (Least Most : Prefix → Type 0) (c : ℕ) (run : List Move) (old new : Core) : Type 0 where
   pub others : (d : ℕ) → d < client_count old → d ≢ c → is_established run d ≡ true → TouchesBetween Least Most (touched_for old d) (touched_for new d)
 
--- one of the first n clients, and not c, has another value at p behind a move than before it
+-- one of the first n clients, and not c, has another value at p after a move than before it
 abbrev pub IsChangedElsewhere : ℕ → Move → List Move → ℕ → Prefix → Type 0
 IsChangedElsewhere n move run c p = (d : ℕ) × (d < n) × (d ≢ c) × IsChangedBy move run d p
 

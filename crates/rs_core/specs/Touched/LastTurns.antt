@@ -15,7 +15,7 @@ use Rattle.rs_core.specs.declared.route_server.Core.{Core}
 abbrev pub HasNoTurn : List Move → Type 0
 HasNoTurn run = (refused : List ℕ) → Contains run (moves.Turned refused) → ⊥
 
--- the last turn of a run was of all clients but these, behind this run
+-- the last turn of a run was of all clients but these, after this run
 pub record IsLastTurn (run : List Move) (refused : List ℕ) (before : List Move) : Type 0 where
   pub later : List Move
   pub whole : run ≡ later ++ moves.Turned refused ∷ before

@@ -18,7 +18,7 @@ use Rattle.rs_core.specs.declared.route_server.Core.{Core}
 
 -- ---- since the last turn
 
--- Since the last turn that was done for client c there was a move, on the run before it, of which this holds: at each turn since,
+-- Since the last turn that was done for client c there was a move for which this holds on the run before it: at each turn since,
 -- memory was refused for the client.
 pub record Since (Holds : Move → List Move → Type 0) (c : ℕ) (run : List Move) : Type 0 where
   pub later : List Move

@@ -1,23 +1,33 @@
-use Rattle.std.proofs.Common.{sym, ◌∙◌}
-use Rattle.rs_core.proofs.Drives.Leading.{led_to_stop}
-use Rattle.rs_core.proofs.Drives.Continuing.{driven_on, not_driven, stopped}
+use Rattle.std.proofs.Common.{◌≡◌, ap, sym, ◌∙◌}
+use Rattle.rs_core.specs.Drives.Steps.{stops}
+use Rattle.rs_core.specs.declared.driving.Todo.TheVariants as todos
+use Rattle.rs_core.proofs.Drives.Continuing.{driven_on, driven_to_stop, not_driven, turned_then}
 use Rattle.rs_core.proofs.driving.drive_with.Goals as goal
 
 pub loop-init : goal.loop-init
 loop-init g c = record { driven = not_driven g.L.Link.happens _ _ }
 
-pub loop-preserved : goal.loop-preserved
-loop-preserved g c = record {
-  driven = driven_on g.L.Link.happens _ _ _ _ _ _ _ _ _ c.next-event.result _ (sym c.is_stop.ensures ∙ c.if-is_stop.false) c.next-event.ensures c.loop.invariant.driven
-      (record { count = c.answer_with.ensures.count; led = c.answer_with.ensures.led; continues = c.answer_with.ensures.answers })
+pub loop-preserved-in-Nothing : goal.loop-preserved-in-Nothing
+loop-preserved-in-Nothing g c = record {
+  driven = driven_on g.L.Link.happens _ _ _ _ _ _ _ _ _ c.next-event.result _ (c.answer.ensures.goes_on c.in-Nothing.is) c.next-event.ensures c.loop.invariant.driven
+      (record { count = c.answer.ensures.count; led = c.answer.ensures.led; continues = c.answer.ensures.answers c.in-Nothing.is })
       (record { count = c.end_closed.ensures.count; led = c.end_closed.ensures.led; continues = c.end_closed.ensures.ends });
 }
 
-pub returns-then-is_stop-clause-count : goal.returns-then-is_stop-clause-count
-returns-then-is_stop-clause-count g c = c.loop.invariant.driven.count
+pub loop-preserved : goal.loop-preserved
+loop-preserved g c =
+    let turn = c.answer.ensures.turn c.in-Turn.is in
+    let same = c.answer.ensures.unchanged (λ e. let f : todos.Turn ≡ todos.Nothing = sym c.in-Turn.is ∙ e in cc) in
+    record {
+      driven = driven_on g.L.Link.happens _ _ _ _ _ _ _ _ _ c.next-event.result _ (ap stops turn) c.next-event.ensures c.loop.invariant.driven
+          (turned_then g.L.Link.happens _ _ _ _ _ _ c.next-event.result c.next-event.new.piece (g.L.Link.text c.next-event.new.self) turn same
+          (record { count = c.turn_with.ensures.count; led = c.turn_with.ensures.led; continues = c.turn_with.ensures.answers }))
+          (record { count = c.end_closed-in-Turn.ensures.count; led = c.end_closed-in-Turn.ensures.led; continues = c.end_closed-in-Turn.ensures.ends });
+    }
 
-pub returns-then-is_stop-clause-led : goal.returns-then-is_stop-clause-led
-returns-then-is_stop-clause-led g c = led_to_stop g.L.Link.happens _ _ _ _ _ c.loop.invariant.driven.led c.next-event.ensures (sym c.is_stop.ensures ∙ c.if-is_stop.true)
-
-pub returns-then-is_stop-clause-drives : goal.returns-then-is_stop-clause-drives
-returns-then-is_stop-clause-drives g c = stopped g.L.Link.happens _ _ _ _ _ c.next-event.result _ (sym c.is_stop.ensures ∙ c.if-is_stop.true) c.next-event.ensures c.loop.invariant.driven.rounds
+pub returns-in-Stop : goal.returns-in-Stop
+returns-in-Stop g c =
+    let stop = ap stops (c.answer.ensures.stop c.in-Stop.is) in
+    let same = c.answer.ensures.unchanged (λ e. let f : todos.Stop ≡ todos.Nothing = sym c.in-Stop.is ∙ e in cc) in
+    let driven = driven_to_stop g.L.Link.happens _ _ _ _ _ c.answer.new.core c.answer.new.link c.next-event.result _ stop c.next-event.ensures c.loop.invariant.driven same in
+    record { count = driven.count; led = driven.led; drives = driven.drives }

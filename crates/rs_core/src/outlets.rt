@@ -1,4 +1,5 @@
-//! What goes out to one client: its outlet's messages, with no word of any other client.
+//! The outlet of one client, and what the others keep: each call is one of the client's outlet, and
+//! changes nothing else.
 
 ghost use Rattle.std.specs.Prelude.{◌≡◌, ◌<◌, ◌≤◌, true, length, drop};
 ghost use Rattle.rs_open.specs.Writing.{server_open};
@@ -82,15 +83,6 @@ impl Ribs {
     {
         let outlet = &mut self.outlets[c];
         outlet.begin();
-    }
-
-    /// What is left of the message in flight.
-    pub(crate) fn lent(&self, c: usize) -> &[u8]
-        requires { c < outlet_count self.now }
-        ensures { result.now ≡ lent_by self.now c }
-    {
-        let outlet = &self.outlets[c];
-        outlet.lent()
     }
 
     /// The link of a client took the first octets of what is lent.
