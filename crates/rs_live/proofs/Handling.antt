@@ -16,8 +16,9 @@ use Rattle.rs_live.specs.Keys.{come, key_of}
 use Rattle.rs_live.specs.Waiting.{waiting, rest_key, rest}
 use Rattle.rs_live.specs.Sending.{taken, Writes, NoWrite, OneMore, Sent, Broke}
 use Rattle.rs_live.specs.Keeping.{Held, Agrees, IsInPhase, IsPlain, change, held_by, held_of, key_come, nothing, with_live, with_rest}
-use Rattle.rs_live.specs.Handled.{IsLossOf, IsNoLoss, AreHandled, Begun, Waits, Asks, Does, Opens, Refuses, TurnsAway, TurnsNoneAway, Hears, Times, Loses, Fails, Takes, Sends, Breaks, SendsRest, Drops, Closes, PassesOver, EndBy, By, EndByWrite, ByWrite, EndByWait, Has, AreKept, AreBroken, Keeps, Follows, On, Halts, Tells}
-use Rattle.rs_live.proofs.Agreeing.{at_same, agrees_asked, agrees_lost, agrees_end, ended, ended_same, no_some, agrees_offer, handed_more, agrees_wrote, taken_from, agrees_wrote_rest, taken_from_rest, agrees_closed, IsStill, agrees_still, agrees_phase, agrees_begin, agrees_begin_none, agrees_busy, agrees_busy_none, agrees_opened, agrees_stranger, agrees_octets, agrees_moment, agrees_turn, agrees_room, agrees_handed, agrees_over, settled, agrees_waited, agrees_begun, come_is}
+use Rattle.rs_live.specs.Handled.{IsLossOf, IsNoLoss, AreHandled, Begun, Waits, Asks, Does, Opens, Refuses, TurnsAway, TurnsNoneAway, Hears, Times, Loses, Fails, Takes, Sends, Breaks, SendsRest, Drops, Closes, PassesOver, EndBy, By, EndByWrite, ByWrite, EndByWait, Has, AreKept, AreBroken, Keeps, Follows, On, Halts, Gives}
+use Rattle.rs_live.proofs.Changing.{at_same, ended, ended_same, no_some}
+use Rattle.rs_live.proofs.Agreeing.{agrees_asked, agrees_lost, agrees_end, agrees_offer, handed_more, agrees_wrote, taken_from, agrees_wrote_rest, taken_from_rest, agrees_closed, IsStill, agrees_still, agrees_phase, agrees_begin, agrees_begin_none, agrees_busy, agrees_busy_none, agrees_opened, agrees_stranger, agrees_octets, agrees_moment, agrees_turn, agrees_room, agrees_handed, agrees_over, settled, agrees_waited, agrees_begun, come_is}
 use Rattle.rs_live.proofs.Places.{at_place, below_change, change_again, unchanged}
 
 -- the ports were asked one call more
@@ -28,7 +29,7 @@ AsksMore asked a call b = (cs : List Call) → asked a cs → asked b (call ∷ 
 abbrev pub AsksTwo : {P : Type 0} → (P → List Call → Type 0) → P → Call → Call → P → Type 0
 AsksTwo asked a first second b = (cs : List Call) → asked a cs → asked b (second ∷ first ∷ cs)
 
--- what is known of the deeds is said otherwise
+-- what is known of the operations, in other words
 pub so : {P : Type 0} (asked : P → List Call → Type 0) (Is So : List Operation → Type 0) (p : P) → ((operations : List Operation) → Is operations → So operations) → Has asked p Is → Has asked p So
 so asked Is So p f h = record { operations = h.operations; are = f h.operations h.are; were = h.were }
 
@@ -48,7 +49,7 @@ two_more asked Is So a b first second m f h = record { operations = Asked second
 pub asks : {P : Type 0} (asked : P → List Call → Type 0) (held : List Held) (phase : Phase) (a b : P) (call : Call) → AsksMore asked a call b → IsGood call → IsPlain call → Has asked a (AreKept held phase) → Has asked b (AreKept held phase)
 asks asked held phase a b call m good plain h = more asked (AreKept held phase) (AreKept held phase) a b call m (λ operations k. (Asks call operations good k.0, agrees_asked held phase call operations plain k.1)) h
 
--- the last of these deeds is such a call, and what the link keeps agrees with them
+-- the last of these operations is such a call, and what the link keeps agrees with them
 abbrev pub AreEndedBy : (Call → Type 0) → List Held → Phase → List Operation → Type 0
 AreEndedBy Is held phase operations = EndBy Is operations × Agrees held phase operations
 
@@ -72,7 +73,7 @@ lost_so : (held : List Held) (phase : Phase) (c key : ℕ) (step : Step) (operat
 lost_so held phase c key step operations is h = agrees_lost held phase c step (Asked (Closed key) ∷ Asked (Printed (lines.Lost c)) ∷ operations) is
     (agrees_asked held phase (Closed key) (Asked (Printed (lines.Lost c)) ∷ operations) tt (agrees_asked held phase (Printed (lines.Lost c)) operations tt h))
 
--- a client's loss is said, its connection closed, and the core told
+-- a client's connection is lost: a line says so, it is closed, and the core hears of it
 pub loses : {P : Type 0} (asked : P → List Call → Type 0) (held : List Held) (phase : Phase) (c key : ℕ) (step : Step) (a b : P) → AsksTwo asked a (Printed (lines.Lost c)) (Closed key) b → (held_by c held).key ≡ Some key → IsLossOf c step → Has asked a (AreKept held phase) → Has asked b (λ operations. AreKept (change c (with_live None []) held) phase (Did step ∷ operations))
 loses asked held phase c key step a b m of is h = two_more asked (AreKept held phase) (λ operations. AreKept (change c (with_live None []) held) phase (Did step ∷ operations)) a b (Printed (lines.Lost c)) (Closed key) m
     (λ operations k. (Loses c key step operations (ap (λ h. h.key) (k.1.same c) ∙ of) is k.0, lost_so held phase c key step operations is k.1)) h
@@ -120,7 +121,7 @@ pub hears : {P : Type 0} (asked : P → List Call → Type 0) (held : List Held)
 hears asked held c key count answer piece a b of some is m h = more asked (AreKept held phases.Read) (λ operations. AreKept held phases.Read (Did (Happened (Octets c count) (take count piece)) ∷ operations)) a b (Read key piece (Ok (Some count))) (subst (λ r. AsksMore asked a (Read key piece (Ok r)) b) is m)
     (λ operations k. (Hears c key count piece operations (ap (λ h. h.key) (k.1.same c) ∙ of) some k.0, agrees_octets held c count (take count piece) (Asked (Read key piece (Ok (Some count))) ∷ operations) (agrees_asked held phases.Read (Read key piece (Ok (Some count))) operations tt k.1))) h
 
--- what holds where a result is an error, said otherwise
+-- what holds where a result is an error, in other words
 pub so_err : {T E : Type 0} (Is So : E → Type 0) (result : Result T E) → ((fault : E) → Is fault → So fault) → IfErr result Is → IfErr result So
 so_err Is So (Ok value) f h = h
 so_err Is So (Err fault) f h = f fault h
@@ -164,13 +165,13 @@ pub takes : {P : Type 0} (asked : P → List Call → Type 0) (held : List Held)
 takes asked held phase c n octets p past none h = did asked (AreKept held phase) (AreKept (change c (handed_more (take n octets)) held) phase) p (Offer c octets (Some n))
     (λ operations k. (Takes c n octets operations (λ e. none (sym (ap (λ x. x.key) (k.1.same c)) ∙ e)) k.0, agrees_offer held phase c n octets operations past k.1)) h
 
--- deeds after which this waits, whose calls are these
+-- operations after which this waits, whose calls are these
 pub record Done (cs : List Call) (Is : List Operation → Type 0) : Type 0 where
   pub operations : List Operation
   pub same : calls operations ≡ cs
   pub are : Is operations
 
--- each write of a connection is a deed for its client
+-- each write of a connection is an operation for its client
 carried : (D : ℕ → List ℕ → Result (Option ℕ) PortFault → List Operation → List Operation) → ((k : ℕ) (octets : List ℕ) (answer : Result (Option ℕ) PortFault) (operations : List Operation) → calls (D k octets answer operations) ≡ Wrote k octets answer ∷ calls operations) →
     (Is : List ℕ → List Operation → Type 0) (key : Option ℕ) (before : List Call) (first : List ℕ) → ((k : ℕ) (answer : Result (Option ℕ) PortFault) (operations : List Operation) (waits : List ℕ) → key ≡ Some k → IsOk answer → Is waits operations → Is (drop (taken answer) waits) (D k waits answer operations)) →
     (cs : List Call) (waits : List ℕ) → Writes key before first cs waits → Done before (Is first) → Done cs (Is waits)
@@ -247,7 +248,7 @@ sends_rest asked held phase c key first a b Is e o sent h =
 breaking : (c key : ℕ) (step : Step) (operations : List Operation) → IsLossOf c step → EndByWrite c key operations → AreHandled (Did step ∷ Asked (Closed key) ∷ Asked (Printed (lines.Lost c)) ∷ operations)
 breaking c key step _ is (ByWrite fault operations of handled) = Breaks c key fault step operations of is handled
 
--- a client's loss is told where a write of what waits for it failed
+-- the core hears of a client's loss where a write of what waits for it failed
 pub breaks_down : {P : Type 0} (asked : P → List Call → Type 0) (held : List Held) (phase : Phase) (c key : ℕ) (step : Step) (a b : P) → AsksTwo asked a (Printed (lines.Lost c)) (Closed key) b → IsLossOf c step → Has asked a (AreBroken c key held phase) → Has asked b (λ operations. AreKept (change c (with_live None []) held) phase (Did step ∷ operations))
 breaks_down asked held phase c key step a b m is h = two_more asked (AreBroken c key held phase) (λ operations. AreKept (change c (with_live None []) held) phase (Did step ∷ operations)) a b (Printed (lines.Lost c)) (Closed key) m
     (λ operations k. (breaking c key step operations is k.0, lost_so held phase c key step operations is k.1)) h
@@ -295,7 +296,7 @@ waits_written asked held phase c key now_key first now a b e o same sent h =
     let at : with_live (held_by c held).key w.0 (held_by c held) ≡ with_live now_key now (held_by c held) = ap (λ k. with_live k w.0 (held_by c held)) (e ∙ sym same) ∙ ap (λ x. with_live now_key x (held_by c held)) (sym w.1.0) in
     so asked (AreKept (change c (waits_so w.0) held) phase) (AreKept (change c (with_live now_key now) held) phase) b (λ operations k. subst (λ x. AreKept (set held c x) phase operations) at k) w.1.1
 
--- what waited was written, and more waits behind it
+-- what waited was written, and more waits now
 pub takes_all : {P : Type 0} (asked : P → List Call → Type 0) (held : List Held) (phase : Phase) (c n : ℕ) (octets : List ℕ) (key now_key : Option ℕ) (first now : List ℕ) (a b : P) → c < length held → (held_by c held).key ≡ key → (held_by c held).waiting ≡ first → now_key ≡ key → IsSome key → ((cs : List Call) → asked a cs → Sent asked key cs first b (λ w. now ≡ w ++ take n octets)) → Has asked a (AreKept held phase) → Has asked b (λ operations. AreKept (change c (with_live now_key now) held) phase (Did (Offer c octets (Some n)) ∷ operations))
 takes_all asked held phase c n octets key now_key first now a b below e o same some sent h =
     let w = sends_all asked held phase c key first a b (λ w. now ≡ w ++ take n octets) e o sent h in
@@ -320,7 +321,7 @@ ends_none asked held phase c p none h =
     let same : change c ended held ≡ held = unchanged ended held c (ended_same (held_by c held) none) in
     so asked (λ operations. AreKept (change c ended held) phase (Did (End c) ∷ operations)) (λ operations. AreKept held phase (Did (End c) ∷ operations)) p (λ operations k. subst (λ hs. AreKept hs phase (Did (End c) ∷ operations)) same k) (ends_session asked held phase c p h)
 
--- what holds of a good result, said otherwise
+-- what holds of a good result, in other words
 pub so_ok : {T E : Type 0} (Is So : T → Type 0) (result : Result T E) → ((value : T) → Is value → So value) → IfOk result Is → IfOk result So
 so_ok Is So (Ok value) f h = f value h
 so_ok Is So (Err fault) f h = h
@@ -359,13 +360,13 @@ begun asked held p none h = record { operations = []; are = (Begun, agrees_begun
 pub at_phase : {P : Type 0} (asked : P → List Call → Type 0) (link : LiveLink P) (phase : Phase) → link.phase ≡ phase → Keeps asked link → Has asked link.ports.now (AreKept (held_of link.connections.now.items) phase)
 at_phase asked link phase e h = subst (λ p. Has asked link.ports.now (AreKept (held_of link.connections.now.items) p)) e h
 
--- a step is told of a link that has not failed, with these held, in this phase
+-- a step of a link that has not failed, with these held, in this phase
 pub follows : {P : Type 0} (asked : P → List Call → Type 0) (step : Step) (link : LiveLink P) (has_failed : Bool) (held : List Held) (phase : Phase) → has_failed ≡ false → held_of link.connections.now.items ≡ held → link.phase ≡ phase → Has asked link.ports.now (λ operations. AreKept held phase (Did step ∷ operations)) → Follows asked step link has_failed
 follows asked step link has_failed held phase fine same at h =
     subst (λ b. Follows asked step link b) (sym fine) (On (subst (λ ks. Has asked link.ports.now (λ operations. AreKept ks link.phase (Did step ∷ operations))) (sym same) (subst (λ p. Has asked link.ports.now (λ operations. AreKept held p (Did step ∷ operations))) (sym at) h)))
 
 -- no connection can be accepted any more
-pub halts : {P : Type 0} (asked : P → List Call → Type 0) (piece : List ℕ) (link : LiveLink P) → link.has_failed ≡ true → Has asked link.ports.now (EndBy IsFailedAccept) → Tells asked Stop piece link
+pub halts : {P : Type 0} (asked : P → List Call → Type 0) (piece : List ℕ) (link : LiveLink P) → link.has_failed ≡ true → Has asked link.ports.now (EndBy IsFailedAccept) → Gives asked Stop piece link
 halts asked piece link e h text = subst (λ b. Follows asked (Happened Stop []) link b) (sym e) (Halts [] refl h)
 
 -- with these held too
@@ -376,7 +377,7 @@ kept_at asked link held phase p same at where_to h = subst (λ q. Has asked q (A
 pub keeps_at : {P : Type 0} (asked : P → List Call → Type 0) (link : LiveLink P) (held : List Held) (phase : Phase) (p : P) → held_of link.connections.now.items ≡ held → link.phase ≡ phase → link.ports.now ≡ p → Has asked p (AreKept held phase) → Keeps asked link
 keeps_at asked link held phase p same at where_to h = subst (λ ks. Has asked link.ports.now (AreKept ks link.phase)) (sym same) (subst (λ q. Has asked link.ports.now (AreKept held q)) (sym at) (subst (λ q. Has asked q (AreKept held phase)) (sym where_to) h))
 
--- a step is told of ports that were asked no more
+-- a step of a link whose ports were asked no more
 pub follows_at : {P : Type 0} (asked : P → List Call → Type 0) (step : Step) (link : LiveLink P) (has_failed : Bool) (held : List Held) (phase : Phase) (p : P) → has_failed ≡ false → held_of link.connections.now.items ≡ held → link.phase ≡ phase → link.ports.now ≡ p → Has asked p (λ operations. AreKept held phase (Did step ∷ operations)) → Follows asked step link has_failed
 follows_at asked step link has_failed held phase p fine same at where_to h = follows asked step link has_failed held phase fine same at (subst (λ q. Has asked q (λ operations. AreKept held phase (Did step ∷ operations))) (sym where_to) h)
 

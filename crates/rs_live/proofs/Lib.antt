@@ -1,4 +1,5 @@
 pub mod Agreeing
+pub mod Changing
 pub mod Handling
 pub mod Places
 pub mod Rounds

@@ -1,9 +1,9 @@
 -- What each client has, where one place is written.
-use Rattle.std.proofs.Common.{◌≡◌, ◌≤◌, ◌<◌, ℕ, zero, suc, List, [], ◌∷◌, ◌++◌, length, set, Option, Some, refl, sym, subst, ap, ◌∙◌, arith}
+use Rattle.std.proofs.Common.{◌≡◌, ◌≤◌, ◌<◌, ℕ, zero, suc, List, [], ◌∷◌, length, set, Option, Some, refl, sym, subst, ap, ◌∙◌, arith}
 use Rattle.std.proofs.lemmas.List.{length-set}
 use Rattle.std.specs.Prelude.{slice_get}
 use Rattle.rs_live.specs.declared.connections.ClientConnections.{ClientConnections}
-use Rattle.rs_live.specs.Keeping.{Held, change, held_by, held_in, held_of, nothing}
+use Rattle.rs_live.specs.Keeping.{Held, change, held_by, held_in, held_of}
 
 abbrev pub holds : Option ℕ → List ℕ → Option ℕ → List ℕ → Held
 holds key waiting rest_key rest = record { key = key; waiting = waiting; rest_key = rest_key; rest = rest }
@@ -59,24 +59,6 @@ held_there [] c own e = cc
 held_there (s ∷ connections) zero own e = let i : s ≡ own = cc in ap held_in i
 held_there (s ∷ connections) (suc c) own e = held_there connections c own e
 
--- there is none behind the last
-pub held_past : (connections : List ClientConnections) (c : ℕ) → length connections ≤ c → held_by c (held_of connections) ≡ nothing
-held_past [] zero past = refl
-held_past [] (suc c) past = refl
-held_past (s ∷ connections) zero past = absurd (omega arith)
-held_past (s ∷ connections) (suc c) past = held_past connections c (omega arith)
-
 -- each part is the same
 pub parts : {k l : Option ℕ} {w v : List ℕ} {r s : Option ℕ} {o p : List ℕ} → k ≡ l → w ≡ v → r ≡ s → o ≡ p → holds k w r o ≡ holds l v s p
 parts {k} {l} {w} {v} {r} {s} {o} {p} a b c d = ap (λ x. holds x w r o) a ∙ ap (λ x. holds l x r o) b ∙ ap (λ x. holds l v x o) c ∙ ap (λ x. holds l v s x) d
-
--- nobody has anything, where one place more has nothing
-pub none_more : (connections : List ClientConnections) (own : ClientConnections) → held_in own ≡ nothing → ((c : ℕ) → held_by c (held_of connections) ≡ nothing) → (c : ℕ) → held_by c (held_of (connections ++ own ∷ [])) ≡ nothing
-none_more [] own e none zero = e
-none_more [] own e none (suc c) = nobody c
-  where
-    nobody : (c : ℕ) → held_by c [] ≡ nothing
-    nobody zero = refl
-    nobody (suc c) = refl
-none_more (s ∷ connections) own e none zero = none zero
-none_more (s ∷ connections) own e none (suc c) = none_more connections own e (λ d. none (suc d)) c

@@ -23,7 +23,3 @@ sends asked key before first a b k octets answer was now e ok all more rest h = 
 -- or that failed
 pub breaks_off : {P : Type 0} (asked : P → List Call → Type 0) (key : Option ℕ) (before : List Call) (first : List ℕ) (a b : P) (k : ℕ) (octets : List ℕ) (fault : PortFault) (was : List ℕ) → key ≡ Some k → octets ≡ was → AsksMore asked a (Wrote k octets (Err fault)) b → Sent asked key before first a (λ waiting. was ≡ waiting) → Broke asked k key before first b was
 breaks_off asked key before first a b k octets fault was e all more h = (e, (fault, record { calls = h.calls; waiting = h.waiting; writes = h.writes; were = subst (λ w. asked b (Wrote k w (Err fault) ∷ h.calls)) all (more h.calls h.were); is = h.is }))
-
--- what waits is said otherwise
-pub says_sent : {P : Type 0} (asked : P → List Call → Type 0) (key : Option ℕ) (before : List Call) (first : List ℕ) (p : P) (Is So : List ℕ → Type 0) → ((waiting : List ℕ) → Is waiting → So waiting) → Sent asked key before first p Is → Sent asked key before first p So
-says_sent asked key before first p Is So so h = record { calls = h.calls; waiting = h.waiting; writes = h.writes; were = h.were; is = so h.waiting h.is }

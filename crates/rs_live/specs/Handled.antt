@@ -15,9 +15,9 @@ use Rattle.rs_live.specs.Operations.{Operation, Asked, WroteTo, WroteRest, Close
 use Rattle.rs_live.specs.Keys.{come, key_of}
 use Rattle.rs_live.specs.Waiting.{waiting, rest_key, rest}
 use Rattle.rs_live.specs.Rounds.{IsSettled}
-use Rattle.rs_live.specs.Keeping.{Held, Agrees, held_of}
+use Rattle.rs_live.specs.Keeping.{Held, Agrees, all_held}
 
--- by this step the core gets to know that the client's connection is lost
+-- by this step the core hears that the client's connection is lost
 abbrev pub IsLossOf : ℕ → Step → Type 0
 IsLossOf c (Happened event octets) = event ≡ Lost c
 IsLossOf c (Begin d) = ⊥
@@ -38,8 +38,8 @@ IsOther (Lost c) = ⊥
 IsOther Rules = ⊤
 IsOther Stop = ⊤
 
--- by this step the core gets to know of no loss, and of nothing that the ports have just answered; it refuses nothing, and
--- hands on nothing
+-- by this step the core hears of no loss, and of nothing that the ports have just answered; it refuses nothing, and offers
+-- nothing
 abbrev pub IsNoLoss : Step → Type 0
 IsNoLoss (Happened event octets) = IsOther event
 IsNoLoss (Begin d) = ⊤
@@ -50,15 +50,16 @@ IsNoLoss (End d) = ⊤
 IsNoLoss (Replaced answer) = ⊤
 
 -- No wait and no accept failed, and each wait came where the round before might end. Where a read or a write of a client's
--- connection did fail, and where a read found the end of its input, that client's loss was told at once, the connection was
--- closed, and the core was told. The core is told of no loss else but of a client whose connection is closed. Each connection that
--- was accepted was told to the core at once, or closed as a stranger's, as is one that the core passes over; where the core refuses
--- it as a client's second one, that was said and it was closed. What a read gave was told at once, all of it, of the client whose
--- connection was read; and a moment is what the clock answered just before. Nothing else is told as such.
+-- connection did fail, and where a read found the end of its input, the line `lost` was printed at once, the connection was
+-- closed, and the core heard of the loss. The core hears of no other loss but after such a line and the close of that client's
+-- connection. Of each connection that was accepted the core heard at once, or it was closed as a stranger's, as is one that the core
+-- passes over; where the core refuses it as a client's second one, the line `busy` was printed and it was closed. What a read gave
+-- the core heard at once, all of it, as octets of the client whose connection was read; and a moment is what the clock answered
+-- just before. No such event comes otherwise.
 --
 -- Each write is of all that waits for a client, under the key of its connection; or of all the rest, under the key of the
 -- connection that it had when its session ended, which is closed at once where such a write fails. An offer to a client that has no
--- connection takes nothing. No connection is closed but where this is said.
+-- connection takes nothing. No connection is closed but as these sentences say.
 pub data AreHandled : List Operation → Type 0 where
   Begun : AreHandled []
   Waits : (operations : List Operation) → IsSettled operations → AreHandled operations → AreHandled (Asked (Waited (Ok tt)) ∷ operations)
@@ -80,15 +81,15 @@ pub data AreHandled : List Operation → Type 0 where
   Closes : (c key : ℕ) (operations : List Operation) → rest_key c operations ≡ Some key → AreHandled operations → AreHandled (ClosedRest c key ∷ operations)
   PassesOver : (c key : ℕ) (operations : List Operation) → come c operations ≡ Some key → AreHandled operations → AreHandled (Asked (Closed key) ∷ Asked (Printed lines.Stranger) ∷ operations)
 
--- the last of these deeds is such a call, and all before are handled
+-- the last of these operations is such a call, and all before are handled
 pub data EndBy (Is : Call → Type 0) : List Operation → Type 0 where
   By : (call : Call) (operations : List Operation) → Is call → AreHandled operations → EndBy Is (Asked call ∷ operations)
 
--- the last of these deeds is a write of what waits for this client that failed, under the key of its connection
+-- the last of these operations is a write of what waits for this client that failed, under the key of its connection
 pub data EndByWrite (c key : ℕ) : List Operation → Type 0 where
   ByWrite : (fault : PortFault) (operations : List Operation) → key_of c operations ≡ Some key → AreHandled operations → EndByWrite c key (WroteTo c key (waiting c operations) (Err fault) ∷ operations)
 
--- the last of these deeds is a wait that failed, where the round before might end
+-- the last of these operations is a wait that failed, where the round before might end
 abbrev pub EndByWait : List Operation → Type 0
 EndByWait operations = EndBy IsFailedWait operations × IsSettled (drop 1 operations)
 
@@ -99,34 +100,50 @@ IsServed (Err faults.Poll) operations = EndByWait operations
 IsServed (Err faults.Listener) operations = EndBy IsFailedAccept operations
 IsServed (Err faults.Memory) operations = operations ≡ []
 
--- the ports were asked just the calls among such deeds
+-- the ports were asked just the calls among such operations
 pub record Has {P : Type 0} (asked : P → List Call → Type 0) (ports : P) (Is : List Operation → Type 0) : Type 0 where
   pub operations : List Operation
   pub are : Is operations
   pub were : asked ports (calls operations)
 
--- the deeds are handled, and what the link keeps agrees with them
+-- the operations are handled, and what the link keeps agrees with them
 abbrev pub AreKept : List Held → Phase → List Operation → Type 0
 AreKept held phase operations = AreHandled operations × Agrees held phase operations
 
--- the last of these deeds is such a write, and what the link keeps agrees with them
+-- the last of these operations is such a write, and what the link keeps agrees with them
 abbrev pub AreBroken : ℕ → ℕ → List Held → Phase → List Operation → Type 0
 AreBroken c key held phase operations = EndByWrite c key operations × Agrees held phase operations
 
 -- so of a link
 abbrev pub Keeps : {P : Type 0} → (P → List Call → Type 0) → LiveLink P → Type 0
-Keeps asked link = Has asked link.ports.now (AreKept (held_of link.connections.now.items) link.phase)
+Keeps asked link = Has asked link.ports.now (AreKept (all_held link) link.phase)
+
+-- and no accept has failed
+abbrev pub IsRunning : {P : Type 0} → (P → List Call → Type 0) → LiveLink P → Type 0
+IsRunning asked link = (link.has_failed ≡ false) × Keeps asked link
+
+-- it keeps what was done, where this step was the last
+abbrev pub KeepsAfter : {P : Type 0} → (P → List Call → Type 0) → Step → LiveLink P → Type 0
+KeepsAfter asked step link = Has asked link.ports.now (λ operations. AreKept (all_held link) link.phase (Did step ∷ operations))
+
+-- or where such a write was
+abbrev pub IsBroken : {P : Type 0} → (P → List Call → Type 0) → ℕ → ℕ → LiveLink P → Type 0
+IsBroken asked c key link = Has asked link.ports.now (AreBroken c key (all_held link) link.phase)
 
 -- a step of the core's link was done; or it was the last, since an accept failed
 pub data Follows {P : Type 0} (asked : P → List Call → Type 0) (step : Step) (link : LiveLink P) : Bool → Type 0 where
-  On : Has asked link.ports.now (λ operations. AreKept (held_of link.connections.now.items) link.phase (Did step ∷ operations)) → Follows asked step link false
+  On : KeepsAfter asked step link → Follows asked step link false
   Halts : (octets : List ℕ) → step ≡ Happened Stop octets → Has asked link.ports.now (EndBy IsFailedAccept) → Follows asked step link true
 
--- the core was told this event, or is about to be, with this in the piece
-abbrev pub Tells : {P : Type 0} → (P → List Call → Type 0) → Event → List ℕ → LiveLink P → Type 0
-Tells asked event piece link = (text : List ℕ) → Follows asked (Happened event (octets_of event piece text)) link link.has_failed
+-- the core was given this event, or is about to be, with this in the piece
+abbrev pub Gives : {P : Type 0} → (P → List Call → Type 0) → Event → List ℕ → LiveLink P → Type 0
+Gives asked event piece link = (text : List ℕ) → Follows asked (Happened event (octets_of event piece text)) link link.has_failed
 
 -- it, or nothing, where no accept failed
 abbrev pub Answers : {P : Type 0} → (P → List Call → Type 0) → Option Event → List ℕ → LiveLink P → Type 0
-Answers asked None piece link = (link.has_failed ≡ false) × Keeps asked link
-Answers asked (Some event) piece link = Tells asked event piece link
+Answers asked None piece link = IsRunning asked link
+Answers asked (Some event) piece link = Gives asked event piece link
+
+-- so from a link that was running, in this phase
+abbrev pub AnswersFrom : {P : Type 0} → (P → List Call → Type 0) → Phase → Option Event → List ℕ → LiveLink P → LiveLink P → Type 0
+AnswersFrom asked phase event piece old new = old.phase ≡ phase → IsRunning asked old → Answers asked event piece new

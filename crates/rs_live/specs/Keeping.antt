@@ -1,5 +1,6 @@
 -- What the link keeps, against what was done.
 use Rattle.std.specs.Prelude.{◌≡◌, ◌<◌, ℕ, suc, ◌==◌, List, [], map, length, get_or, set, Option, Some, None, IsSome, ⊤, if◌then◌else◌}
+use Rattle.rs_live.specs.declared.live_link.LiveLink.{LiveLink}
 use Rattle.rs_live.specs.declared.live_link.Phase.{Phase}
 use Rattle.rs_live.specs.declared.live_link.Phase.TheVariants.{Come, Turn, Room, Handed, Over}
 use Rattle.rs_live.specs.declared.connections.ClientConnections.{ClientConnections}
@@ -25,9 +26,13 @@ nothing = record { key = None; waiting = []; rest_key = None; rest = [] }
 abbrev pub held_in : ClientConnections → Held
 held_in own = record { key = own.live.key; waiting = own.live.out; rest_key = own.closing.key; rest = own.closing.out }
 
--- what each client has, by the seats
+-- what each client has, by its connections
 abbrev pub held_of : List ClientConnections → List Held
 held_of connections = map held_in connections
+
+-- what each client has, by a link
+abbrev pub all_held : {P : Type 0} → LiveLink P → List Held
+all_held link = held_of link.connections.now.items
 
 abbrev pub held_by : ℕ → List Held → Held
 held_by c held = get_or held c nothing
@@ -52,7 +57,7 @@ abbrev pub key_come : ℕ → Phase → Option ℕ
 key_come c (Come d incoming) = if c == d then Some incoming.key else None
 key_come c phase = None
 
--- behind the last turn each client below this one that has a connection was given room
+-- after the last turn each client below this one that has a connection was given room
 abbrev pub HaveRoom : ℕ → List Held → List Operation → Type 0
 HaveRoom below held operations = (c : ℕ) → c < below → IsSome (held_by c held).key → HasRoom c operations
 

@@ -6,7 +6,7 @@ use Rattle.rs_live.specs.declared.ports.Line.TheVariants as lines
 use Rattle.rs_live.specs.Calls.{Accepted, Printed}
 use Rattle.rs_live.specs.Operations.{Operation, Asked, Did}
 
--- the key of the connection that was accepted by the last of these deeds
+-- the key of the connection that was accepted by the last of these operations
 abbrev pub accepted : List Operation → Option ℕ
 accepted (Asked (Accepted (Ok (Some incoming))) ∷ operations) = Some incoming.key
 accepted operations = None

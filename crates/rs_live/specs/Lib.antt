@@ -3,6 +3,7 @@ pub mod Operations
 pub mod Handled
 pub mod Keeping
 pub mod Keys
+pub mod Leaving
 pub mod Rounds
 pub mod Sending
 pub mod Waiting

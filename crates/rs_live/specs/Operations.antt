@@ -1,4 +1,4 @@
--- What the server does, one deed after the other. What was done last stands first.
+-- What the server does, one operation after the other. What was done last stands first.
 use Rattle.std.specs.Prelude.{ℕ, List, [], ◌∷◌, Option, Result}
 use Rattle.rs_core.specs.Drives.Steps.{Step}
 use Rattle.rs_live.specs.declared.ports.PortFault.{PortFault}
@@ -13,7 +13,7 @@ pub data Operation : Type 0 where
   WroteRest : (c key : ℕ) (octets : List ℕ) (answer : Result (Option ℕ) PortFault) → Operation
   -- that one was closed
   ClosedRest : (c key : ℕ) → Operation
-  -- the core was told, or told the server
+  -- a step between the core and its link: the core was given an event, or called
   Did : (step : Step) → Operation
 
 abbrev pub calls : List Operation → List Call

@@ -6,7 +6,7 @@ use Rattle.rs_live.specs.Calls.{Waited}
 use Rattle.rs_live.specs.Operations.{Operation, Asked, Did}
 use Rattle.rs_live.specs.Keys.{come, key_of}
 
--- in this round a moment was told, and no octets behind it
+-- in this round the core was given a moment, and no octets after it
 abbrev pub IsTimed : List Operation → Type 0
 IsTimed [] = ⊥
 IsTimed (Asked (Waited answer) ∷ operations) = ⊥
@@ -14,7 +14,7 @@ IsTimed (Did (Happened (Octets c count) octets) ∷ operations) = ⊥
 IsTimed (Did (Happened (Moment seconds) octets) ∷ operations) = ⊤
 IsTimed (operation ∷ operations) = IsTimed operations
 
--- in this round a turn was told behind such a moment, and no octets behind it; or nothing was done at all
+-- in this round it was given a turn after such a moment, and no octets after that; or nothing was done at all
 abbrev pub IsTurned : List Operation → Type 0
 IsTurned [] = ⊤
 IsTurned (Asked (Waited answer) ∷ operations) = ⊥
@@ -22,15 +22,15 @@ IsTurned (Did (Happened (Octets c count) octets) ∷ operations) = ⊥
 IsTurned (Did (Happened Turn octets) ∷ operations) = IsTimed operations
 IsTurned (operation ∷ operations) = IsTurned operations
 
--- behind the last turn this client was given room, as much as can be told
+-- after the last turn this client was given room, as much as an event can give
 abbrev pub HasRoom : ℕ → List Operation → Type 0
 HasRoom c [] = ⊥
 HasRoom c (Did (Happened Turn octets) ∷ operations) = ⊥
 HasRoom c (Did (Happened (Room d room) octets) ∷ operations) = ((c ≡ d) × (room ≡ 18446744073709551615)) ⊎ HasRoom c operations
 HasRoom c (operation ∷ operations) = HasRoom c operations
 
--- A round may end: behind the last octets that were told in it came a moment and then a turn, and behind that turn each client
--- that has a connection was given room; and of no client is the connection that came last unanswered.
+-- A round may end: after the last octets that the core was given in it came a moment and then a turn, and after that turn each
+-- client that has a connection was given room; and of no client is the connection that came last unanswered.
 pub record IsSettled (operations : List Operation) : Type 0 where
   pub turned : IsTurned operations
   pub rooms : (c : ℕ) → IsSome (key_of c operations) → HasRoom c operations

@@ -97,8 +97,8 @@ impl Connection {
     }
 
     /// Hands octets to the connection, as much as there is room for, and answers how many: they wait
-    /// behind what waits. Where there is no room, what waits is written first; where that fails the
-    /// error is the key.
+    /// until all before them is written. Where there is no room, what waits is written first; where that
+    /// fails the error is the key.
     pub fn offer<P: Ports>(
         &mut self,
         ports: &mut P,

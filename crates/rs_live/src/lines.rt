@@ -6,7 +6,7 @@ use crate::ports::Line;
 use crate::rate_limits::{Due, RateLimit};
 use std::alloc::{AllocError, Global};
 
-/// What was printed of each client, and of strangers behind the last client; and what waits.
+/// What was printed of each client and, at the place after the last client, of strangers; and what waits.
 #[derive(Drop)]
 pub struct Lines<'a> {
     names: &'a Names,
@@ -51,7 +51,7 @@ impl<'a> Lines<'a> {
         }
     }
 
-    /// Where the ration of a line is; `None` for those of rules, which have none.
+    /// Where the rate limit of a line is; `None` for those of rules, which have none.
     fn place(&self, line: &Line) -> Option<usize> {
         match line {
             Line::Rules(_) => None,
@@ -71,7 +71,7 @@ fn client_of(line: &Line) -> Option<usize> {
     }
 }
 
-/// Prints a line, behind the count of those that were left out before it.
+/// Prints a line, after the count of those that were left out before it.
 fn print_due<R: Print>(rt: &R, names: &Names, due: &Due<Line>) {
     if due.left_out > 0 {
         print_count(rt, names, due);

@@ -1,11 +1,12 @@
-//! The ports as a link of the core: what the ports tell becomes events, one at a time (`events`), and
-//! what the core says goes to the ports (`orders`). Where a connection fails the core is told of its
-//! loss at once.
+//! The ports as a link of the core: what the ports answer becomes events, one at a time (`source`), and
+//! what the core calls goes to the ports (`sink`). Where a connection fails the core hears of its loss at
+//! once.
 
 ghost use Rattle.std.specs.Prelude.{◌≡◌, ◌∷◌, false, List, [], None, IsTrue, IsFalse};
 ghost use Rattle.rs_live.specs.Calls.{Call, Closed, Printed};
 ghost use Rattle.rs_live.specs.Handled.{Has, EndByWait, Keeps};
-ghost use Rattle.rs_live.specs.Keeping.{IsPlain, change, held_by, held_of, with_live};
+ghost use Rattle.rs_live.specs.Keeping.{IsPlain, all_held, change, held_by, with_live};
+ghost use Rattle.rs_live.specs.Leaving.{LeavesClients, LeavesPorts, LeavesRound, SamePorts};
 
 use crate::connections::ClientConnections;
 use crate::ports::{Incoming, Line, Ports};
@@ -16,7 +17,7 @@ use std::mem;
 /// What a round does next.
 #[derive(Clone, Copy, Debug, PartialEq, Eq)]
 pub(crate) enum Phase {
-    /// Tells of the text of rules that was read.
+    /// Gives the core the text of rules that was read.
     Rules,
     Accept,
     /// A connection of this client has come, and the core is to answer.
@@ -45,7 +46,7 @@ pub struct LiveLink<'a, P> {
     /// What was read since the last turn.
     pub(crate) pieces_heard: u32,
     pub(crate) octets_heard: usize,
-    /// How often this connection was given room behind this turn.
+    /// How often this connection was given room after this turn.
     pub(crate) rooms: u32,
     /// All workers turn.
     pub(crate) is_wide: bool,
@@ -61,7 +62,7 @@ pub struct LiveLink<'a, P> {
     pub(crate) has_text: bool,
     /// The file could not be read at the last reading.
     pub(crate) is_unreadable: bool,
-    /// The address of the first stranger that nobody was told of, and how many there were.
+    /// The address of the first stranger that was not reported yet, and how many there were.
     pub(crate) strangers: Option<(u32, u64)>,
 }
 
@@ -104,7 +105,7 @@ impl<'a, P: Ports> LiveLink<'a, P> {
 
     /// Waits for the ports, and begins a round. Answers whether the wait succeeded.
     pub fn begin_round(&mut self) -> bool
-        ensures same_ports { self.new.ports.ghost_name ≡ self.old.ports.ghost_name }
+        ensures same_ports { SamePorts self.old self.new }
         ensures failed { self.new.has_failed ≡ self.old.has_failed }
         ensures phase { self.new.phase ≡ Phase.Accept }
         ensures ready { IsTrue result → self.old.phase ≡ Phase.Over → Keeps P.asked self.old → Keeps P.asked self.new }
@@ -121,10 +122,10 @@ impl<'a, P: Ports> LiveLink<'a, P> {
         }
     }
 
-    /// Reads the file of rules, and tells of it in this round where it is another than before. A file
-    /// that can't be read is told once.
+    /// Reads the file of rules; where it is another than before, the core is given it in this round. A file
+    /// that can't be read is reported once.
     pub fn read_rules(&mut self)
-        ensures same_ports { self.new.ports.ghost_name ≡ self.old.ports.ghost_name }
+        ensures same_ports { SamePorts self.old self.new }
         ensures failed { self.new.has_failed ≡ self.old.has_failed }
         ensures handled { self.old.phase ≡ Phase.Accept → Keeps P.asked self.old → Keeps P.asked self.new }
     {
@@ -145,21 +146,15 @@ impl<'a, P: Ports> LiveLink<'a, P> {
 
     /// Reads the file of rules, and answers whether it could be read.
     fn fetch(&mut self) -> bool
-        ensures same_ports { self.new.ports.ghost_name ≡ self.old.ports.ghost_name }
-        ensures failed { self.new.has_failed ≡ self.old.has_failed }
-        ensures held { held_of self.new.connections.now.items ≡ held_of self.old.connections.now.items }
-        ensures phase { self.new.phase ≡ self.old.phase }
+        ensures leaves { LeavesClients self.old self.new }
         ensures handled { Keeps P.asked self.old → Keeps P.asked self.new }
     {
         self.ports.text(self.read).is_ok()
     }
 
-    /// Says that rules were accepted, or why they weren't.
+    /// Prints and reports that rules were accepted, or why they weren't.
     pub(crate) fn report_rules(&mut self, answer: Result<(), RulesFault>)
-        ensures same_ports { self.new.ports.ghost_name ≡ self.old.ports.ghost_name }
-        ensures failed { self.new.has_failed ≡ self.old.has_failed }
-        ensures held { held_of self.new.connections.now.items ≡ held_of self.old.connections.now.items }
-        ensures phase { self.new.phase ≡ self.old.phase }
+        ensures leaves { LeavesClients self.old self.new }
         ensures handled { Keeps P.asked self.old → Keeps P.asked self.new }
     {
         self.print(Line::Rules(answer));
@@ -173,7 +168,10 @@ impl<'a, P: Ports> LiveLink<'a, P> {
         matches!(self.phase, Phase::Over)
     }
 
-    /// The turn that comes next is one for all workers.
+    /// The turn that comes next is one for all workers. The core's loop turns with as many workers as it
+    /// was called with, and how much was heard is known only before the turn. So the link stops the loop
+    /// there, and `serve` goes on with another one: to drive with all workers always would start threads
+    /// for each small turn.
     pub fn is_wide(&self) -> bool {
         self.is_wide
     }
@@ -197,22 +195,14 @@ impl<'a, P: Ports> LiveLink<'a, P> {
 
     /// The address of the first stranger since the last call, and how many there were.
     pub fn take_strangers(&mut self) -> Option<(u32, u64)>
-        ensures same_ports { self.new.ports.ghost_name ≡ self.old.ports.ghost_name }
-        ensures failed { self.new.has_failed ≡ self.old.has_failed }
-        ensures held { held_of self.new.connections.now.items ≡ held_of self.old.connections.now.items }
-        ensures phase { self.new.phase ≡ self.old.phase }
-        ensures unasked { self.new.ports.now ≡ self.old.ports.now }
+        ensures { LeavesPorts self.old self.new }
     {
         self.strangers.take()
     }
 
     /// Whether a session of the client has ended since the last call.
     pub fn take_ended(&mut self, c: usize) -> bool
-        ensures same_ports { self.new.ports.ghost_name ≡ self.old.ports.ghost_name }
-        ensures failed { self.new.has_failed ≡ self.old.has_failed }
-        ensures held { held_of self.new.connections.now.items ≡ held_of self.old.connections.now.items }
-        ensures phase { self.new.phase ≡ self.old.phase }
-        ensures unasked { self.new.ports.now ≡ self.old.ports.now }
+        ensures { LeavesPorts self.old self.new }
     {
         match self.connections.get_mut(c) {
             Some(own) => mem::replace(&mut own.has_ended, false),
@@ -220,17 +210,14 @@ impl<'a, P: Ports> LiveLink<'a, P> {
         }
     }
 
-    /// The seconds since the start, at the last moment that was told.
+    /// The seconds since the start, at the last moment that the core was given.
     pub fn now(&self) -> u64 {
         self.now
     }
 
-    /// Tells an operator something.
+    /// Shows an operator a report.
     pub fn log(&mut self, report: &Report)
-        ensures same_ports { self.new.ports.ghost_name ≡ self.old.ports.ghost_name }
-        ensures failed { self.new.has_failed ≡ self.old.has_failed }
-        ensures held { held_of self.new.connections.now.items ≡ held_of self.old.connections.now.items }
-        ensures phase { self.new.phase ≡ self.old.phase }
+        ensures leaves { LeavesClients self.old self.new }
         ensures handled { Keeps P.asked self.old → Keeps P.asked self.new }
     {
         self.ports.log(report);
@@ -238,10 +225,7 @@ impl<'a, P: Ports> LiveLink<'a, P> {
 
     /// Prints a line.
     pub(crate) fn print(&mut self, line: Line)
-        ensures same_ports { self.new.ports.ghost_name ≡ self.old.ports.ghost_name }
-        ensures failed { self.new.has_failed ≡ self.old.has_failed }
-        ensures held { held_of self.new.connections.now.items ≡ held_of self.old.connections.now.items }
-        ensures phase { self.new.phase ≡ self.old.phase }
+        ensures leaves { LeavesClients self.old self.new }
         ensures asked { (calls : List Call) → P.asked self.old.ports.now calls → P.asked self.new.ports.now (Printed line ∷ calls) }
         ensures handled { IsPlain (Printed line) → Keeps P.asked self.old → Keeps P.asked self.new }
     {
@@ -250,11 +234,7 @@ impl<'a, P: Ports> LiveLink<'a, P> {
 
     /// A session of a client has ended.
     pub(crate) fn note_end(&mut self, c: usize)
-        ensures same_ports { self.new.ports.ghost_name ≡ self.old.ports.ghost_name }
-        ensures failed { self.new.has_failed ≡ self.old.has_failed }
-        ensures held { held_of self.new.connections.now.items ≡ held_of self.old.connections.now.items }
-        ensures phase { self.new.phase ≡ self.old.phase }
-        ensures unasked { self.new.ports.now ≡ self.old.ports.now }
+        ensures { LeavesPorts self.old self.new }
     {
         self.ended = self.ended.saturating_add(1);
         if let Some(own) = self.connections.get_mut(c) {
@@ -262,13 +242,11 @@ impl<'a, P: Ports> LiveLink<'a, P> {
         }
     }
 
-    /// The connection of a client with this key is lost: that is said, and it is closed. The core is
-    /// to be told next.
+    /// The connection of a client with this key is lost: a line says so, and it is closed. The core is to
+    /// hear of it next.
     pub(crate) fn lose(&mut self, c: usize, key: usize)
-        ensures same_ports { self.new.ports.ghost_name ≡ self.old.ports.ghost_name }
-        ensures failed { self.new.has_failed ≡ self.old.has_failed }
-        ensures held { held_of self.new.connections.now.items ≡ change c (with_live None []) (held_of self.old.connections.now.items) }
-        ensures phase { self.new.phase ≡ self.old.phase }
+        ensures leaves { LeavesRound self.old self.new }
+        ensures held { all_held self.new ≡ change c (with_live None []) (all_held self.old) }
         ensures asked { (calls : List Call) → P.asked self.old.ports.now calls → P.asked self.new.ports.now (Closed key ∷ Printed (Line.Lost c) ∷ calls) }
     {
         self.ports.print(&Line::Lost(c));
@@ -279,17 +257,15 @@ impl<'a, P: Ports> LiveLink<'a, P> {
 
     /// The key of a client's connection.
     pub(crate) fn live_key(&self, c: usize) -> Option<usize>
-        ensures { result ≡ (held_by c (held_of self.entry.now.connections.now.items)).key }
+        ensures { result ≡ (held_by c (all_held self.entry.now)).key }
     {
         self.connections.get(c)?.live.key()
     }
 
     /// Forgets the connection of a client.
     fn forget(&mut self, c: usize)
-        ensures same_ports { self.new.ports.ghost_name ≡ self.old.ports.ghost_name }
-        ensures failed { self.new.has_failed ≡ self.old.has_failed }
-        ensures held { held_of self.new.connections.now.items ≡ change c (with_live None []) (held_of self.old.connections.now.items) }
-        ensures phase { self.new.phase ≡ self.old.phase }
+        ensures leaves { LeavesRound self.old self.new }
+        ensures held { all_held self.new ≡ change c (with_live None []) (all_held self.old) }
         ensures unasked { self.new.ports.now ≡ self.old.ports.now }
     {
         if let Some(own) = self.connections.get_mut(c) {

@@ -78,7 +78,7 @@ pub trait Ports {
     fn print(&mut self, line: &Line)
         ensures { (calls : List Call) → asked self.old calls → asked self.new (Printed line.now ∷ calls) };
 
-    /// Tells an operator what happened and why.
+    /// Shows an operator what happened and why.
     fn log(&mut self, report: &Report)
         ensures { (calls : List Call) → asked self.old calls → asked self.new (Logged report.now ∷ calls) };
 }

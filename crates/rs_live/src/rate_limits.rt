@@ -1,28 +1,28 @@
-//! At most one item told in a second: the last that came waits for the next second, and those before it
+//! At most one item given in a second: the last that came waits for the next second, and those before it
 //! are left out and counted. So nobody can fill a disk by what he does.
 
 ghost use Rattle.std.specs.Prelude.{◌≡◌, ◌≢◌, ◌↔◌, ◌+◌, ◌<◌, ◌-◌, ◌^◌, Some, None, IsSome, IsNone, IsTrue, IfSome};
 
 use std::mem;
 
-/// An item that is to be told now, and how many were left out since the last that was.
+/// An item that is given now, and how many were left out since the last that was.
 #[derive(Clone, Copy, Debug, PartialEq, Eq)]
 pub struct Due<T> {
     pub left_out: u64,
     pub item: T,
 }
 
-/// What was told of someone, and what waits to be told.
+/// When an item of someone was given last, and what waits to be given.
 #[derive(Clone, Copy, Debug, PartialEq, Eq)]
 pub struct RateLimit<T> {
-    /// In which second an item was told last.
+    /// In which second an item was given last.
     second: Option<u64>,
     waits: Option<T>,
     left_out: u64,
 }
 
 impl<T: Copy> RateLimit<T> {
-    /// Nothing was told yet, and nothing waits.
+    /// Nothing was given yet, and nothing waits.
     pub fn new() -> RateLimit<T>
         ensures second { result.second ≡ None }
         ensures waits { result.waits ≡ None }
@@ -48,14 +48,14 @@ impl<T: Copy> RateLimit<T> {
         self.waits = Some(item);
     }
 
-    /// No item was told in this second.
+    /// No item was given in this second.
     pub fn is_free(&self, second: u64) -> bool
         ensures { IsTrue result ↔ self.now.second ≢ Some second }
     {
         self.second != Some(second)
     }
 
-    /// The item that is to be told in this second: the one that waits, unless one was told in it already.
+    /// The item that this second gives: the one that waits, unless one was given in it already.
     pub fn take(&mut self, second: u64) -> Option<Due<T>>
         ensures once { IsSome result → (self.old.second ≢ Some second) × (self.new.second ≡ Some second) }
         ensures waited { IfSome result (λ due. (self.old.waits ≡ Some due.item) × (due.left_out ≡ self.old.left_out)) }

@@ -2,7 +2,8 @@
 
 ghost use Rattle.std.specs.Prelude.{◌≡◌, ◌≤◌, ◌<◌, [], false, true, IsOk, IsErr, IsSome, IsTrue};
 ghost use Rattle.rs_live.specs.Calls.{IsFailedAccept};
-ghost use Rattle.rs_live.specs.Handled.{Has, EndBy, IsServed, Keeps};
+ghost use Rattle.rs_live.specs.Handled.{Has, EndBy, IsRunning, IsServed, Keeps};
+ghost use Rattle.rs_live.specs.Leaving.{SamePorts};
 
 use crate::connections::connections;
 use crate::live_link::{LiveLink, Phase};
@@ -27,7 +28,7 @@ pub enum ServeFault {
     Memory,
 }
 
-/// What a server is told beside its configuration.
+/// What a server is given beside its configuration.
 #[derive(Clone, Copy, Debug, PartialEq, Eq)]
 pub struct Limits {
     /// How many workers turn where much was heard: 1 to 16.
@@ -82,8 +83,8 @@ fn serve_on<R: Threads + Wait + Sync, P: Ports>(
     link: &mut LiveLink<'_, P>,
 ) -> Result<(), ServeFault>
     requires workers { (0 < limits.workers) × (limits.workers ≤ 16) }
-    ensures same_ports { link.new.ports.ghost_name ≡ link.old.ports.ghost_name }
-    ensures served { link.old.phase ≡ Phase.Over → link.old.has_failed ≡ false → Keeps P.asked link.old → Has P.asked link.new.ports.now (IsServed result) }
+    ensures same_ports { SamePorts link.old link.new }
+    ensures served { link.old.phase ≡ Phase.Over → IsRunning P.asked link.old → Has P.asked link.new.ports.now (IsServed result) }
     ensures ended { IsOk result → IsSome limits.sessions }
 {
     let mut rounds = 0;
@@ -93,7 +94,7 @@ fn serve_on<R: Threads + Wait + Sync, P: Ports>(
         }
         rounds = reload(rounds, limits.reload, link);
         match play_round(rt, limits.workers, core, link) {
-            Ok(()) => watch.tell(core, link),
+            Ok(()) => watch.report(core, link),
             Err(_) => return Err(ServeFault::Listener),
         }
         if is_done(limits.sessions, link) {
@@ -106,7 +107,7 @@ fn serve_on<R: Threads + Wait + Sync, P: Ports>(
 /// Reads the file of rules in a round in which it is to be read, and answers the number of the round
 /// since the last such one.
 fn reload<P: Ports>(rounds: u16, every: Option<u16>, link: &mut LiveLink<'_, P>) -> u16
-    ensures same_ports { link.new.ports.ghost_name ≡ link.old.ports.ghost_name }
+    ensures same_ports { SamePorts link.old link.new }
     ensures failed { link.new.has_failed ≡ link.old.has_failed }
     ensures handled { link.old.phase ≡ Phase.Accept → Keeps P.asked link.old → Keeps P.asked link.new }
 {
@@ -135,10 +136,10 @@ fn play_round<R: Threads + Wait + Sync, P: Ports>(
     link: &mut LiveLink<'_, P>,
 ) -> Result<(), ServeFault>
     requires workers { (0 < workers) × (workers ≤ 16) }
-    ensures same_ports { link.new.ports.ghost_name ≡ link.old.ports.ghost_name }
+    ensures same_ports { SamePorts link.old link.new }
     ensures over { IsOk result → link.new.phase ≡ Phase.Over }
-    ensures ok { IsOk result → link.old.has_failed ≡ false → Keeps P.asked link.old → (link.new.has_failed ≡ false) × Keeps P.asked link.new }
-    ensures err { IsErr result → link.old.has_failed ≡ false → Keeps P.asked link.old → Has P.asked link.new.ports.now (EndBy IsFailedAccept) }
+    ensures ok { IsOk result → IsRunning P.asked link.old → IsRunning P.asked link.new }
+    ensures err { IsErr result → IsRunning P.asked link.old → Has P.asked link.new.ports.now (EndBy IsFailedAccept) }
 {
     for _ in rt.forever() {
         drive_on(rt, workers, core, link);
@@ -160,9 +161,9 @@ fn drive_on<R: Threads + Wait + Sync, P: Ports>(
     link: &mut LiveLink<'_, P>,
 )
     requires workers { (0 < workers) × (workers ≤ 16) }
-    ensures same_ports { link.new.ports.ghost_name ≡ link.old.ports.ghost_name }
-    ensures handled { link.old.has_failed ≡ false → Keeps P.asked link.old → link.new.has_failed ≡ false → Keeps P.asked link.new }
-    ensures halted { link.old.has_failed ≡ false → Keeps P.asked link.old → link.new.has_failed ≡ true → Has P.asked link.new.ports.now (EndBy IsFailedAccept) }
+    ensures same_ports { SamePorts link.old link.new }
+    ensures handled { IsRunning P.asked link.old → link.new.has_failed ≡ false → Keeps P.asked link.new }
+    ensures halted { IsRunning P.asked link.old → link.new.has_failed ≡ true → Has P.asked link.new.ports.now (EndBy IsFailedAccept) }
 {
     if link.is_wide() {
         drive_with(rt, workers, &Free, core, link);

@@ -1,11 +1,12 @@
-//! What the core says, as calls on the ports.
+//! What the core calls, as calls of the ports.
 
 ghost use Rattle.std.specs.Prelude.{◌≡◌, ◌≤◌, ◌∷◌, Some, None, length, IfOk, IfErr, IsSome, IsNone};
 ghost use Rattle.rs_core.specs.Drives.Steps.{Begin, Offer, End};
 ghost use Rattle.rs_live.specs.declared.ports.Incoming.{Incoming};
 ghost use Rattle.rs_live.specs.Operations.{Did};
-ghost use Rattle.rs_live.specs.Handled.{Has, AreBroken, AreKept, Keeps};
-ghost use Rattle.rs_live.specs.Keeping.{held_by, held_of, key_come};
+ghost use Rattle.rs_live.specs.Handled.{Has, AreKept, IsBroken, Keeps, KeepsAfter};
+ghost use Rattle.rs_live.specs.Keeping.{all_held, held_by, key_come};
+ghost use Rattle.rs_live.specs.Leaving.{LeavesRound, SamePorts};
 
 use crate::live_link::{LiveLink, Phase};
 use crate::ports::{Line, Ports};
@@ -15,10 +16,10 @@ use rs_policy::RulesFault;
 impl<'a, P: Ports> LiveLink<'a, P> {
     /// The key of the connection of this client that has come, to which the core answers now.
     fn take_come(&mut self, c: usize) -> Option<usize>
-        ensures same_ports { self.new.ports.ghost_name ≡ self.old.ports.ghost_name }
+        ensures same_ports { SamePorts self.old self.new }
         ensures failed { self.new.has_failed ≡ self.old.has_failed }
         ensures unasked { self.new.ports.now ≡ self.old.ports.now }
-        ensures held { held_of self.new.connections.now.items ≡ held_of self.old.connections.now.items }
+        ensures held { all_held self.new ≡ all_held self.old }
         ensures come { result ≡ key_come c self.old.phase }
         ensures answered { IsSome result → self.new.phase ≡ Phase.Accept }
         ensures same { IsNone result → self.new.phase ≡ self.old.phase }
@@ -35,10 +36,8 @@ impl<'a, P: Ports> LiveLink<'a, P> {
 
     /// The connection with this key is the client's; one that is being closed still is closed now.
     fn take_on(&mut self, c: usize, key: usize)
-        ensures same_ports { self.new.ports.ghost_name ≡ self.old.ports.ghost_name }
-        ensures failed { self.new.has_failed ≡ self.old.has_failed }
-        ensures phase { self.new.phase ≡ self.old.phase }
-        ensures begun { (incoming : Incoming) → incoming.key ≡ key → Has P.asked self.old.ports.now (AreKept (held_of self.old.connections.now.items) (Phase.Come c incoming)) → Has P.asked self.new.ports.now (λ operations. AreKept (held_of self.new.connections.now.items) Phase.Accept (Did (Begin c) ∷ operations)) }
+        ensures leaves { LeavesRound self.old self.new }
+        ensures begun { (incoming : Incoming) → incoming.key ≡ key → Has P.asked self.old.ports.now (AreKept (all_held self.old) (Phase.Come c incoming)) → Has P.asked self.new.ports.now (λ operations. AreKept (all_held self.new) Phase.Accept (Did (Begin c) ∷ operations)) }
     {
         if let Some(own) = self.connections.get_mut(c) {
             own.closing.close(self.ports);
@@ -49,12 +48,10 @@ impl<'a, P: Ports> LiveLink<'a, P> {
     /// Hands octets to a client's connection, and answers how many there was room for; where a write
     /// fails the error is the key.
     fn hand(&mut self, c: usize, octets: &[u8]) -> Result<usize, usize>
-        ensures same_ports { self.new.ports.ghost_name ≡ self.old.ports.ghost_name }
-        ensures failed { self.new.has_failed ≡ self.old.has_failed }
+        ensures leaves { LeavesRound self.old self.new }
         ensures count { IfOk result (λ n. n ≤ length octets.now) }
-        ensures phase { self.new.phase ≡ self.old.phase }
-        ensures ok { IfOk result (λ n. Keeps P.asked self.old → Has P.asked self.new.ports.now (λ operations. AreKept (held_of self.new.connections.now.items) self.new.phase (Did (Offer c octets.now (Some n)) ∷ operations))) }
-        ensures broke { IfErr result (λ key. Keeps P.asked self.old → Has P.asked self.new.ports.now (AreBroken c key (held_of self.new.connections.now.items) self.new.phase)) }
+        ensures ok { IfOk result (λ n. Keeps P.asked self.old → KeepsAfter P.asked (Offer c octets.now (Some n)) self.new) }
+        ensures broke { IfErr result (λ key. Keeps P.asked self.old → IsBroken P.asked c key self.new) }
     {
         match self.connections.get_mut(c) {
             Some(own) if own.live.is_open() => own.live.offer(self.ports, octets, self.now),
@@ -65,10 +62,8 @@ impl<'a, P: Ports> LiveLink<'a, P> {
     /// The connection of a client goes where one that is being closed has its place; an earlier one
     /// there is closed now.
     fn retire(&mut self, c: usize)
-        ensures same_ports { self.new.ports.ghost_name ≡ self.old.ports.ghost_name }
-        ensures failed { self.new.has_failed ≡ self.old.has_failed }
-        ensures phase { self.new.phase ≡ self.old.phase }
-        ensures ended { IsSome (held_by c (held_of self.old.connections.now.items)).key → Keeps P.asked self.old → Has P.asked self.new.ports.now (λ operations. AreKept (held_of self.new.connections.now.items) self.new.phase (Did (End c) ∷ operations)) }
+        ensures leaves { LeavesRound self.old self.new }
+        ensures ended { IsSome (held_by c (all_held self.old)).key → Keeps P.asked self.old → KeepsAfter P.asked (End c) self.new }
     {
         if let Some(own) = self.connections.get_mut(c) {
             own.closing.close(self.ports);
@@ -78,10 +73,8 @@ impl<'a, P: Ports> LiveLink<'a, P> {
 
     /// The session of a client has ended: its connection, if there is one, is to be closed.
     fn end_session(&mut self, c: usize)
-        ensures same_ports { self.new.ports.ghost_name ≡ self.old.ports.ghost_name }
-        ensures failed { self.new.has_failed ≡ self.old.has_failed }
-        ensures phase { self.new.phase ≡ self.old.phase }
-        ensures ended { Keeps P.asked self.old → Has P.asked self.new.ports.now (λ operations. AreKept (held_of self.new.connections.now.items) self.new.phase (Did (End c) ∷ operations)) }
+        ensures leaves { LeavesRound self.old self.new }
+        ensures ended { Keeps P.asked self.old → KeepsAfter P.asked (End c) self.new }
     {
         let Some(_) = self.live_key(c) else {
             return;

@@ -38,7 +38,7 @@ pub struct Sockets<'a, R> {
     path: &'a str,
     names: &'a Names,
     lines: Lines<'a>,
-    /// Reports are told on standard error.
+    /// Reports are printed on standard error.
     is_logging: bool,
     poll: Poll,
     events: Events,
@@ -111,7 +111,7 @@ impl<'a, R: Net + Clock + Files + Print + Eprint> Sockets<'a, R> {
         self.lines.print_waiting(self.rt, u64::MAX);
     }
 
-    /// Keeps an accepted connection, and tells its caller.
+    /// Keeps an accepted connection, under a key; `None` where it can't be kept.
     fn keep(&mut self, accepted: Accepted) -> Option<Incoming> {
         let Accepted {
             listener,

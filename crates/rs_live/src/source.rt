@@ -5,8 +5,9 @@
 
 ghost use Rattle.std.specs.Prelude.{◌≡◌, ◌+◌, ◌<◌, ◌≤◌, ◌∷◌, ℕ, List, min, length, None, IfSome, IfErr, IsOk, IsNone, false};
 ghost use Rattle.rs_live.specs.Calls.{Call, Closed, Printed};
-ghost use Rattle.rs_live.specs.Handled.{Has, AreBroken, Keeps, Follows, Answers};
-ghost use Rattle.rs_live.specs.Keeping.{held_by, held_of};
+ghost use Rattle.rs_live.specs.Handled.{IsBroken, IsRunning, Keeps, Follows, Answers, AnswersFrom};
+ghost use Rattle.rs_live.specs.Keeping.{all_held, held_by};
+ghost use Rattle.rs_live.specs.Leaving.{KeepsOn, LeavesClients, LeavesPorts, LeavesRound, SamePorts};
 
 use crate::live_link::{LiveLink, Phase};
 use crate::ports::{Incoming, Line, Ports};
@@ -22,7 +23,7 @@ const PIECES: u32 = 16;
 /// How many pieces are read before a turn: three of 4,096 octets name some 3,000 prefixes of 24 bits.
 const PIECES_A_TURN: u32 = 3;
 
-/// How many times in a row one connection is given room behind a turn.
+/// How many times in a row one connection is given room after a turn.
 const ROOMS: u32 = 16;
 
 /// From so many octets heard since the last turn on, all workers turn; else one does, since to start
@@ -32,7 +33,7 @@ const MUCH: usize = 4096;
 impl<'a, P: Ports> LiveLink<'a, P> {
     /// The client whose connection this is.
     fn client_of(&self, incoming: &Incoming) -> Option<usize>
-        ensures { IfSome result (λ c. c < length (held_of self.entry.now.connections.now.items)) }
+        ensures { IfSome result (λ c. c < length (all_held self.entry.now)) }
     {
         self.connections.iter().position(|own| own.listener == incoming.listener
             && own.peer == incoming.address)
@@ -40,10 +41,7 @@ impl<'a, P: Ports> LiveLink<'a, P> {
 
     /// Closes a connection that has come and is nobody's.
     fn refuse(&mut self, incoming: &Incoming)
-        ensures same_ports { self.new.ports.ghost_name ≡ self.old.ports.ghost_name }
-        ensures failed { self.new.has_failed ≡ self.old.has_failed }
-        ensures held { held_of self.new.connections.now.items ≡ held_of self.old.connections.now.items }
-        ensures phase { self.new.phase ≡ self.old.phase }
+        ensures leaves { LeavesClients self.old self.new }
         ensures asked { (calls : List Call) → P.asked self.old.ports.now calls → P.asked self.new.ports.now (Closed incoming.now.key ∷ Printed Line.Stranger ∷ calls) }
     {
         self.ports.print(&Line::Stranger);
@@ -54,8 +52,8 @@ impl<'a, P: Ports> LiveLink<'a, P> {
 
     /// Accepts until a client's connection comes, none is left, or the round has accepted enough.
     fn accepted(&mut self) -> Option<Event>
-        ensures same_ports { self.new.ports.ghost_name ≡ self.old.ports.ghost_name }
-        ensures answers { self.old.phase ≡ Phase.Accept → self.old.has_failed ≡ false → Keeps P.asked self.old → (piece : List ℕ) → Answers P.asked result piece self.new }
+        ensures same_ports { SamePorts self.old self.new }
+        ensures answers { (piece : List ℕ) → AnswersFrom P.asked Phase.Accept result piece self.old self.new }
     {
         for _ in self.accepted..ACCEPTED {
             match self.ports.accept() {
@@ -85,9 +83,9 @@ impl<'a, P: Ports> LiveLink<'a, P> {
     /// Reads a piece of the client whose turn it is; `None` where nothing is there. At the end of its
     /// input the connection is lost, as where the read fails.
     fn piece(&mut self, piece: &mut [u8; 4096]) -> Option<Event>
-        ensures same_ports { self.new.ports.ghost_name ≡ self.old.ports.ghost_name }
+        ensures same_ports { SamePorts self.old self.new }
         ensures phase { self.new.phase ≡ self.old.phase }
-        ensures answers { self.old.phase ≡ Phase.Read → self.old.has_failed ≡ false → Keeps P.asked self.old → Answers P.asked result piece.new self.new }
+        ensures answers { AnswersFrom P.asked Phase.Read result piece.new self.old self.new }
     {
         let c = self.reading;
         let Some(key) = self.live_key(c) else {
@@ -116,11 +114,7 @@ impl<'a, P: Ports> LiveLink<'a, P> {
 
     /// Counts octets that were read.
     fn heard(&mut self, count: usize)
-        ensures same_ports { self.new.ports.ghost_name ≡ self.old.ports.ghost_name }
-        ensures failed { self.new.has_failed ≡ self.old.has_failed }
-        ensures held { held_of self.new.connections.now.items ≡ held_of self.old.connections.now.items }
-        ensures phase { self.new.phase ≡ self.old.phase }
-        ensures unasked { self.new.ports.now ≡ self.old.ports.now }
+        ensures { LeavesPorts self.old self.new }
     {
         self.pieces = self.pieces.saturating_add(1);
         self.pieces_heard = self.pieces_heard.saturating_add(1);
@@ -129,8 +123,8 @@ impl<'a, P: Ports> LiveLink<'a, P> {
 
     /// Reads on, until enough was heard for a turn or nothing is left.
     fn read_on(&mut self, piece: &mut [u8; 4096]) -> Option<Event>
-        ensures same_ports { self.new.ports.ghost_name ≡ self.old.ports.ghost_name }
-        ensures answers { self.old.phase ≡ Phase.Read → self.old.has_failed ≡ false → Keeps P.asked self.old → Answers P.asked result piece.new self.new }
+        ensures same_ports { SamePorts self.old self.new }
+        ensures answers { AnswersFrom P.asked Phase.Read result piece.new self.old self.new }
     {
         if self.pieces_heard < PIECES_A_TURN {
             for _ in 0..self.connections.len() {
@@ -151,8 +145,8 @@ impl<'a, P: Ports> LiveLink<'a, P> {
     }
 
     fn moment(&mut self) -> Option<Event>
-        ensures same_ports { self.new.ports.ghost_name ≡ self.old.ports.ghost_name }
-        ensures answers { self.old.phase ≡ Phase.Moment → self.old.has_failed ≡ false → Keeps P.asked self.old → (piece : List ℕ) → Answers P.asked result piece self.new }
+        ensures same_ports { SamePorts self.old self.new }
+        ensures answers { (piece : List ℕ) → AnswersFrom P.asked Phase.Moment result piece self.old self.new }
     {
         self.phase = Phase::Turn;
         self.now = self.ports.seconds();
@@ -161,8 +155,8 @@ impl<'a, P: Ports> LiveLink<'a, P> {
 
     /// A turn; or a stop before it, where other workers are to do it.
     fn turn(&mut self) -> Option<Event>
-        ensures same_ports { self.new.ports.ghost_name ≡ self.old.ports.ghost_name }
-        ensures answers { self.old.phase ≡ Phase.Turn → self.old.has_failed ≡ false → Keeps P.asked self.old → (piece : List ℕ) → Answers P.asked result piece self.new }
+        ensures same_ports { SamePorts self.old self.new }
+        ensures answers { (piece : List ℕ) → AnswersFrom P.asked Phase.Turn result piece self.old self.new }
     {
         let is_wide = self.octets_heard >= MUCH;
         if is_wide != self.is_wide {
@@ -177,8 +171,8 @@ impl<'a, P: Ports> LiveLink<'a, P> {
 
     /// The next client from this one on that has a connection.
     fn next_live(&self, from: usize) -> Option<usize>
-        ensures found { IfSome result (λ c. (from ≤ c) × ((d : ℕ) → from ≤ d → d < c → (held_by d (held_of self.entry.now.connections.now.items)).key ≡ None)) }
-        ensures none { IsNone result → (d : ℕ) → from ≤ d → (held_by d (held_of self.entry.now.connections.now.items)).key ≡ None }
+        ensures found { IfSome result (λ c. (from ≤ c) × ((d : ℕ) → from ≤ d → d < c → (held_by d (all_held self.entry.now)).key ≡ None)) }
+        ensures none { IsNone result → (d : ℕ) → from ≤ d → (held_by d (all_held self.entry.now)).key ≡ None }
     {
         for c in from..self.connections.len() {
             if self.live_key(c).is_some() {
@@ -190,8 +184,8 @@ impl<'a, P: Ports> LiveLink<'a, P> {
 
     /// Gives room to the next connection from this client's on.
     fn room(&mut self, from: usize) -> Option<Event>
-        ensures same_ports { self.new.ports.ghost_name ≡ self.old.ports.ghost_name }
-        ensures answers { self.old.phase ≡ Phase.Room from → self.old.has_failed ≡ false → Keeps P.asked self.old → (piece : List ℕ) → Answers P.asked result piece self.new }
+        ensures same_ports { SamePorts self.old self.new }
+        ensures answers { (piece : List ℕ) → AnswersFrom P.asked (Phase.Room from) result piece self.old self.new }
     {
         match self.next_live(from) {
             Some(c) => {
@@ -214,11 +208,9 @@ impl<'a, P: Ports> LiveLink<'a, P> {
     /// Writes what a client's connection was handed, and answers whether it was full and no longer is;
     /// where a write fails the error is the key.
     fn write_on(&mut self, c: usize) -> Result<bool, usize>
-        ensures same_ports { self.new.ports.ghost_name ≡ self.old.ports.ghost_name }
-        ensures failed { self.new.has_failed ≡ self.old.has_failed }
-        ensures phase { self.new.phase ≡ self.old.phase }
+        ensures leaves { LeavesRound self.old self.new }
         ensures ok { IsOk result → Keeps P.asked self.old → Keeps P.asked self.new }
-        ensures broke { IfErr result (λ key. Keeps P.asked self.old → Has P.asked self.new.ports.now (AreBroken c key (held_of self.new.connections.now.items) self.new.phase)) }
+        ensures broke { IfErr result (λ key. Keeps P.asked self.old → IsBroken P.asked c key self.new) }
     {
         let Some(own) = self.connections.get_mut(c) else {
             return Ok(false);
@@ -232,7 +224,7 @@ impl<'a, P: Ports> LiveLink<'a, P> {
 
     /// The key of a client's connection whose octets have waited too long.
     fn overdue(&self, c: usize) -> Option<usize>
-        ensures { IfSome result (λ key. (held_by c (held_of self.entry.now.connections.now.items)).key ≡ Some key) }
+        ensures { IfSome result (λ key. (held_by c (all_held self.entry.now)).key ≡ Some key) }
     {
         let own = self.connections.get(c)?;
         if !own.live.is_over(self.now) {
@@ -243,8 +235,8 @@ impl<'a, P: Ports> LiveLink<'a, P> {
 
     /// Writes what a connection was handed; gives it room again where it was full and no longer is.
     fn handed(&mut self, c: usize) -> Option<Event>
-        ensures same_ports { self.new.ports.ghost_name ≡ self.old.ports.ghost_name }
-        ensures answers { self.old.phase ≡ Phase.Handed c → self.old.has_failed ≡ false → Keeps P.asked self.old → (piece : List ℕ) → Answers P.asked result piece self.new }
+        ensures same_ports { SamePorts self.old self.new }
+        ensures answers { (piece : List ℕ) → AnswersFrom P.asked (Phase.Handed c) result piece self.old self.new }
     {
         self.phase = Phase::Room(c.saturating_add(1));
         match self.write_on(c) {
@@ -258,8 +250,8 @@ impl<'a, P: Ports> LiveLink<'a, P> {
 
     /// A client's connection was written; it is given room again where it was full and no longer is.
     fn written(&mut self, c: usize, is_free: bool) -> Option<Event>
-        ensures same_ports { self.new.ports.ghost_name ≡ self.old.ports.ghost_name }
-        ensures answers { self.old.phase ≡ Phase.Room (min (c + 1) usize.MAX) → self.old.has_failed ≡ false → Keeps P.asked self.old → (piece : List ℕ) → Answers P.asked result piece self.new }
+        ensures same_ports { SamePorts self.old self.new }
+        ensures answers { (piece : List ℕ) → AnswersFrom P.asked (Phase.Room (min (c + 1) usize.MAX)) result piece self.old self.new }
     {
         if let Some(key) = self.overdue(c) {
             self.lose(c, key);
@@ -271,10 +263,10 @@ impl<'a, P: Ports> LiveLink<'a, P> {
         self.room_again(c)
     }
 
-    /// Room for a connection once more, unless it had much behind this turn.
+    /// Room for a connection once more, unless it had much after this turn.
     fn room_again(&mut self, c: usize) -> Option<Event>
-        ensures same_ports { self.new.ports.ghost_name ≡ self.old.ports.ghost_name }
-        ensures answers { self.old.phase ≡ Phase.Room (min (c + 1) usize.MAX) → self.old.has_failed ≡ false → Keeps P.asked self.old → (piece : List ℕ) → Answers P.asked result piece self.new }
+        ensures same_ports { SamePorts self.old self.new }
+        ensures answers { (piece : List ℕ) → AnswersFrom P.asked (Phase.Room (min (c + 1) usize.MAX)) result piece self.old self.new }
     {
         if self.rooms >= ROOMS {
             self.has_more = true;
@@ -287,10 +279,7 @@ impl<'a, P: Ports> LiveLink<'a, P> {
 
     /// Goes on with the connections that are being closed.
     fn finish_closing(&mut self)
-        ensures same_ports { self.new.ports.ghost_name ≡ self.old.ports.ghost_name }
-        ensures failed { self.new.has_failed ≡ self.old.has_failed }
-        ensures phase { self.new.phase ≡ self.old.phase }
-        ensures handled { Keeps P.asked self.old → Keeps P.asked self.new }
+        ensures { KeepsOn P.asked self.old self.new }
     {
         for c in 0..self.connections.len() {
             self.finish(c);
@@ -299,10 +288,7 @@ impl<'a, P: Ports> LiveLink<'a, P> {
 
     /// Goes on with a client's connection that is being closed.
     fn finish(&mut self, c: usize)
-        ensures same_ports { self.new.ports.ghost_name ≡ self.old.ports.ghost_name }
-        ensures failed { self.new.has_failed ≡ self.old.has_failed }
-        ensures phase { self.new.phase ≡ self.old.phase }
-        ensures handled { Keeps P.asked self.old → Keeps P.asked self.new }
+        ensures { KeepsOn P.asked self.old self.new }
     {
         if let Some(own) = self.connections.get_mut(c) {
             own.closing.finish(self.ports, self.now);
@@ -311,8 +297,8 @@ impl<'a, P: Ports> LiveLink<'a, P> {
 
     /// What the round does next, and the event that comes of it.
     fn step(&mut self, piece: &mut [u8; 4096]) -> Option<Event>
-        ensures same_ports { self.new.ports.ghost_name ≡ self.old.ports.ghost_name }
-        ensures answers { self.old.has_failed ≡ false → Keeps P.asked self.old → Answers P.asked result piece.new self.new }
+        ensures same_ports { SamePorts self.old self.new }
+        ensures answers { IsRunning P.asked self.old → Answers P.asked result piece.new self.new }
     {
         match self.phase {
             Phase::Rules => {

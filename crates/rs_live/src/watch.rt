@@ -1,8 +1,7 @@
-//! What has become of each client between two rounds, told in reports: at most one of each client in a
-//! second, so that no member can fill a disk.
+//! Reports of what has become of each client between two rounds: at most one of each client in a second,
+//! so that no member can fill a disk.
 
-ghost use Rattle.std.specs.Prelude.{◌≡◌};
-ghost use Rattle.rs_live.specs.Handled.{Keeps};
+ghost use Rattle.rs_live.specs.Leaving.{KeepsOn};
 
 use crate::live_link::LiveLink;
 use crate::ports::Ports;
@@ -11,7 +10,7 @@ use crate::reports::Report;
 use rs_core::Core;
 use std::alloc::{AllocError, Global};
 
-/// What was told of a client.
+/// What was reported of a client.
 #[derive(Clone, Copy)]
 struct Reported {
     /// Its session was Established.
@@ -21,7 +20,7 @@ struct Reported {
     reports: RateLimit<Report>,
 }
 
-/// What was told of each client.
+/// What was reported of each client.
 #[derive(Drop)]
 pub struct Watch {
     all: Vec<Reported>,
@@ -51,12 +50,9 @@ fn down(core: &Core, client: usize) -> Report {
     Report::Down { client, ending }
 }
 
-/// Tells how many reports of a client were left out, where there are some.
-fn tell_left_out<P: Ports>(link: &mut LiveLink<'_, P>, client: usize, count: u64)
-    ensures same_ports { link.new.ports.ghost_name ≡ link.old.ports.ghost_name }
-    ensures failed { link.new.has_failed ≡ link.old.has_failed }
-    ensures phase { link.new.phase ≡ link.old.phase }
-    ensures handled { Keeps P.asked link.old → Keeps P.asked link.new }
+/// Reports how many reports of a client were left out, where there are some.
+fn report_left_out<P: Ports>(link: &mut LiveLink<'_, P>, client: usize, count: u64)
+    ensures { KeepsOn P.asked link.old link.new }
 {
     if count > 0 {
         link.log(&Report::LeftOut { client, count });
@@ -64,66 +60,51 @@ fn tell_left_out<P: Ports>(link: &mut LiveLink<'_, P>, client: usize, count: u64
 }
 
 impl Reported {
-    /// Tells a report, now or in a later second.
-    fn tell<P: Ports>(&mut self, link: &mut LiveLink<'_, P>, client: usize, report: &Report)
-        ensures same_ports { link.new.ports.ghost_name ≡ link.old.ports.ghost_name }
-        ensures failed { link.new.has_failed ≡ link.old.has_failed }
-        ensures phase { link.new.phase ≡ link.old.phase }
-        ensures handled { Keeps P.asked link.old → Keeps P.asked link.new }
+    /// Makes a report, now or in a later second.
+    fn report<P: Ports>(&mut self, link: &mut LiveLink<'_, P>, client: usize, report: &Report)
+        ensures { KeepsOn P.asked link.old link.new }
     {
         self.reports.put(*report);
-        self.tell_waiting(link, client);
+        self.report_waiting(link, client);
     }
 
-    /// Tells the report that waits for this second, behind the count of those that were left out.
-    fn tell_waiting<P: Ports>(&mut self, link: &mut LiveLink<'_, P>, client: usize)
-        ensures same_ports { link.new.ports.ghost_name ≡ link.old.ports.ghost_name }
-        ensures failed { link.new.has_failed ≡ link.old.has_failed }
-        ensures phase { link.new.phase ≡ link.old.phase }
-        ensures handled { Keeps P.asked link.old → Keeps P.asked link.new }
+    /// Makes the report that waits for this second, after the count of those that were left out.
+    fn report_waiting<P: Ports>(&mut self, link: &mut LiveLink<'_, P>, client: usize)
+        ensures { KeepsOn P.asked link.old link.new }
     {
         if let Some(due) = self.reports.take(link.now()) {
-            tell_left_out(link, client, due.left_out);
+            report_left_out(link, client, due.left_out);
             link.log(&due.item);
         }
     }
 
-    /// Tells the end of a client's session, where one ended.
-    fn tell_end<P: Ports>(&mut self, core: &Core, link: &mut LiveLink<'_, P>, client: usize)
-        ensures same_ports { link.new.ports.ghost_name ≡ link.old.ports.ghost_name }
-        ensures failed { link.new.has_failed ≡ link.old.has_failed }
-        ensures phase { link.new.phase ≡ link.old.phase }
-        ensures handled { Keeps P.asked link.old → Keeps P.asked link.new }
+    /// Reports the end of a client's session, where one ended.
+    fn report_end<P: Ports>(&mut self, core: &Core, link: &mut LiveLink<'_, P>, client: usize)
+        ensures { KeepsOn P.asked link.old link.new }
     {
         if link.take_ended(client) {
             self.is_up = false;
-            self.tell(link, client, &down(core, client));
+            self.report(link, client, &down(core, client));
         }
     }
 
-    /// Tells the begin of a client's session, where one is Established.
-    fn tell_begin<P: Ports>(&mut self, core: &Core, link: &mut LiveLink<'_, P>, client: usize)
-        ensures same_ports { link.new.ports.ghost_name ≡ link.old.ports.ghost_name }
-        ensures failed { link.new.has_failed ≡ link.old.has_failed }
-        ensures phase { link.new.phase ≡ link.old.phase }
-        ensures handled { Keeps P.asked link.old → Keeps P.asked link.new }
+    /// Reports the begin of a client's session, where one is Established.
+    fn report_begin<P: Ports>(&mut self, core: &Core, link: &mut LiveLink<'_, P>, client: usize)
+        ensures { KeepsOn P.asked link.old link.new }
     {
         if self.is_up {
             return;
         }
         if let Some(report) = up(core, client) {
             self.is_up = true;
-            self.tell(link, client, &report);
+            self.report(link, client, &report);
         }
     }
 
-    /// Tells of the UPDATEs that were not taken as they came, where there are more than were told and
+    /// Reports the UPDATEs that were not taken as they came, where there are more than were reported and
     /// there was no report in this second.
-    fn tell_faulted<P: Ports>(&mut self, core: &Core, link: &mut LiveLink<'_, P>, client: usize)
-        ensures same_ports { link.new.ports.ghost_name ≡ link.old.ports.ghost_name }
-        ensures failed { link.new.has_failed ≡ link.old.has_failed }
-        ensures phase { link.new.phase ≡ link.old.phase }
-        ensures handled { Keeps P.asked link.old → Keeps P.asked link.new }
+    fn report_faulted<P: Ports>(&mut self, core: &Core, link: &mut LiveLink<'_, P>, client: usize)
+        ensures { KeepsOn P.asked link.old link.new }
     {
         if client >= core.clients() || !self.reports.is_free(link.now()) {
             return;
@@ -133,7 +114,7 @@ impl Reported {
         if count > 0 {
             self.faulted = faulted.count;
             let last = faulted.last;
-            self.tell(
+            self.report(
                 link,
                 client,
                 &Report::Faulted {
@@ -147,7 +128,7 @@ impl Reported {
 }
 
 impl Watch {
-    /// Nothing was told of so many clients.
+    /// Nothing was reported yet of so many clients.
     pub fn new(alloc: Global, count: usize) -> Result<Watch, AllocError> {
         let nothing = Reported {
             is_up: false,
@@ -160,28 +141,22 @@ impl Watch {
         })
     }
 
-    /// Tells what has changed since the last call.
-    pub fn tell<P: Ports>(&mut self, core: &Core, link: &mut LiveLink<'_, P>)
-        ensures same_ports { link.new.ports.ghost_name ≡ link.old.ports.ghost_name }
-        ensures failed { link.new.has_failed ≡ link.old.has_failed }
-        ensures phase { link.new.phase ≡ link.old.phase }
-        ensures handled { Keeps P.asked link.old → Keeps P.asked link.new }
+    /// Reports what has changed since the last call.
+    pub fn report<P: Ports>(&mut self, core: &Core, link: &mut LiveLink<'_, P>)
+        ensures { KeepsOn P.asked link.old link.new }
     {
-        self.tell_strangers(link);
+        self.report_strangers(link);
         for (client, reported) in self.all.iter_mut().enumerate() {
-            reported.tell_waiting(link, client);
-            reported.tell_end(core, link, client);
-            reported.tell_begin(core, link, client);
-            reported.tell_faulted(core, link, client);
+            reported.report_waiting(link, client);
+            reported.report_end(core, link, client);
+            reported.report_begin(core, link, client);
+            reported.report_faulted(core, link, client);
         }
     }
 
-    /// Tells of connections of strangers, at most once in a second.
-    fn tell_strangers<P: Ports>(&mut self, link: &mut LiveLink<'_, P>)
-        ensures same_ports { link.new.ports.ghost_name ≡ link.old.ports.ghost_name }
-        ensures failed { link.new.has_failed ≡ link.old.has_failed }
-        ensures phase { link.new.phase ≡ link.old.phase }
-        ensures handled { Keeps P.asked link.old → Keeps P.asked link.new }
+    /// Reports connections of strangers, at most once in a second.
+    fn report_strangers<P: Ports>(&mut self, link: &mut LiveLink<'_, P>)
+        ensures { KeepsOn P.asked link.old link.new }
     {
         if self.strangers == Some(link.now()) {
             return;

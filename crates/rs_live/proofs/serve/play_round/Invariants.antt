@@ -1,9 +1,9 @@
-use Rattle.std.proofs.Common.{◌≡◌, false}
-use Rattle.rs_live.specs.Handled.{Keeps}
+use Rattle.rs_live.specs.Handled.{IsRunning}
+use Rattle.rs_live.specs.Leaving.{SamePorts}
 use Rattle.rs_live.proofs.serve.play_round.Given as goal
 
 abbrev pub invariant-loop : goal.invariant-loop
 invariant-loop g l = record {
-  same_ports : l.link.ports.ghost_name ≡ l.fn.link.ports.ghost_name;
-  handled : l.fn.link.has_failed ≡ false → Keeps g.P.Ports.asked l.fn.link → (l.link.has_failed ≡ false) × Keeps g.P.Ports.asked l.link;
+  same_ports : SamePorts l.fn.link l.link;
+  handled : IsRunning g.P.Ports.asked l.fn.link → IsRunning g.P.Ports.asked l.link;
 }

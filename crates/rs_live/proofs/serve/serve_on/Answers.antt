@@ -8,21 +8,21 @@ use Rattle.rs_live.proofs.serve.serve_on.Goals as goal
 
 pub loop-preserved : goal.loop-preserved
 loop-preserved g c = record {
-  same_ports = c.tell.ensures.same_ports ∙ c.play_round.ensures.same_ports ∙ c.reload-rounds.ensures.same_ports ∙ c.begin_round.ensures.same_ports ∙ c.loop.invariant.same_ports;
-  phase = λ p. c.tell.ensures.phase ∙ c.in-Ok.ensures.over refl;
-  handled = λ p f h.
-      let i = c.loop.invariant.handled p f h in
+  same_ports = c.report.ensures.same_ports ∙ c.play_round.ensures.same_ports ∙ c.reload-rounds.ensures.same_ports ∙ c.begin_round.ensures.same_ports ∙ c.loop.invariant.same_ports;
+  phase = λ p. c.report.ensures.phase ∙ c.in-Ok.ensures.over refl;
+  handled = λ p r.
+      let i = c.loop.invariant.handled p r in
       let read = c.reload-rounds.ensures.handled c.begin_round.ensures.phase (c.if-not-begin_round.ensures.ready refl (c.loop.invariant.phase p) i.1) in
-      let played = c.in-Ok.ensures.ok refl (c.reload-rounds.ensures.failed ∙ c.begin_round.ensures.failed ∙ i.0) read in
-      (c.tell.ensures.failed ∙ played.0, c.tell.ensures.handled played.1);
+      let played = c.in-Ok.ensures.ok refl (c.reload-rounds.ensures.failed ∙ c.begin_round.ensures.failed ∙ i.0, read) in
+      (c.report.ensures.failed ∙ played.0, c.report.ensures.handled played.1);
 }
 
 pub returns-then-not-begin_round-clause-served : goal.returns-then-not-begin_round-clause-served
-returns-then-not-begin_round-clause-served g c p f h = let i = c.loop.invariant.handled p f h in c.if-not-begin_round.ensures.broken refl (c.loop.invariant.phase p) i.1
+returns-then-not-begin_round-clause-served g c p r = let i = c.loop.invariant.handled p r in c.if-not-begin_round.ensures.broken refl (c.loop.invariant.phase p) i.1
 
 pub returns-then-is_done-clause-served : goal.returns-then-is_done-clause-served
-returns-then-is_done-clause-served g c p f h =
-    let i = c.loop.invariant.handled p f h in
+returns-then-is_done-clause-served g c p r =
+    let i = c.loop.invariant.handled p r in
     let read = c.reload-rounds.ensures.handled c.begin_round.ensures.phase (c.if-not-begin_round.ensures.ready refl (c.loop.invariant.phase p) i.1) in
-    let played = c.in-Ok.ensures.ok refl (c.reload-rounds.ensures.failed ∙ c.begin_round.ensures.failed ∙ i.0) read in
-    so g.P.Ports.asked (AreKept (held_of c.tell.new.link.connections.now.items) phases.Over) (IsServed (Ok tt)) _ (λ operations k. (k.0, settled _ operations k.1)) (at_phase g.P.Ports.asked c.tell.new.link phases.Over (c.tell.ensures.phase ∙ c.in-Ok.ensures.over refl) (c.tell.ensures.handled played.1))
+    let played = c.in-Ok.ensures.ok refl (c.reload-rounds.ensures.failed ∙ c.begin_round.ensures.failed ∙ i.0, read) in
+    so g.P.Ports.asked (AreKept (held_of c.report.new.link.connections.now.items) phases.Over) (IsServed (Ok tt)) _ (λ operations k. (k.0, settled _ operations k.1)) (at_phase g.P.Ports.asked c.report.new.link phases.Over (c.report.ensures.phase ∙ c.in-Ok.ensures.over refl) (c.report.ensures.handled played.1))

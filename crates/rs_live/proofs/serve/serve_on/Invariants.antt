@@ -1,11 +1,12 @@
-use Rattle.std.proofs.Common.{◌≡◌, false}
+use Rattle.std.proofs.Common.{◌≡◌}
 use Rattle.rs_live.specs.declared.live_link.Phase.TheVariants.{Over}
-use Rattle.rs_live.specs.Handled.{Keeps}
+use Rattle.rs_live.specs.Handled.{IsRunning}
+use Rattle.rs_live.specs.Leaving.{SamePorts}
 use Rattle.rs_live.proofs.serve.serve_on.Given as goal
 
 abbrev pub invariant-loop : goal.invariant-loop
 invariant-loop g l = record {
-  same_ports : l.link.ports.ghost_name ≡ l.fn.link.ports.ghost_name;
+  same_ports : SamePorts l.fn.link l.link;
   phase : l.fn.link.phase ≡ Over → l.link.phase ≡ Over;
-  handled : l.fn.link.phase ≡ Over → l.fn.link.has_failed ≡ false → Keeps g.P.Ports.asked l.fn.link → (l.link.has_failed ≡ false) × Keeps g.P.Ports.asked l.link;
+  handled : l.fn.link.phase ≡ Over → IsRunning g.P.Ports.asked l.fn.link → IsRunning g.P.Ports.asked l.link;
 }

@@ -6,10 +6,12 @@ use Rattle.rs_live.proofs.Handling.{at_phase, breaks_down, follows, leaves}
 use Rattle.rs_live.proofs.live_link.LiveLink.handed.Goals as goal
 
 pub returns-in-Err-clause-answers : goal.returns-in-Err-clause-answers
-returns-in-Err-clause-answers g c p f h piece text = follows g.P.Ports.asked (Happened (Lost _) []) _ _ _ _ (c.lose.ensures.failed ∙ c.write_on.ensures.failed ∙ f) c.lose.ensures.held c.lose.ensures.phase
+returns-in-Err-clause-answers g c piece p r text = follows g.P.Ports.asked (Happened (Lost _) []) _ _ _ _ (c.lose.ensures.leaves.failed ∙ c.write_on.ensures.leaves.failed ∙ r.0) c.lose.ensures.held c.lose.ensures.leaves.phase
     (breaks_down g.P.Ports.asked _ _ c.args.c _ (Happened (Lost _) []) _ _ c.lose.ensures.asked refl
-    (c.in-Err.ensures.broke (leaves g.P.Ports.asked _ c.args.c _ _ (omega (arith, c.saturating_add.ensures)) (at_phase g.P.Ports.asked c.args.self.now (phases.Handed c.args.c) p h))))
+    (c.in-Err.ensures.broke (leaves g.P.Ports.asked _ c.args.c _ _ (omega (arith, c.saturating_add.ensures)) (at_phase g.P.Ports.asked c.args.self.now (phases.Handed c.args.c) p r.1))))
 
 pub returns-in-Ok-clause-answers : goal.returns-in-Ok-clause-answers
-returns-in-Ok-clause-answers g c p f h = c.written.ensures.answers (c.write_on.ensures.phase ∙ ap (λ n. phases.Room n) c.saturating_add.ensures) (c.write_on.ensures.failed ∙ f)
-    (c.in-Ok.ensures.ok refl (leaves g.P.Ports.asked _ c.args.c _ _ (omega (arith, c.saturating_add.ensures)) (at_phase g.P.Ports.asked c.args.self.now (phases.Handed c.args.c) p h)))
+returns-in-Ok-clause-answers g c piece p r = c.written.ensures.answers piece (c.write_on.ensures.leaves.phase ∙ ap (λ n. phases.Room n) c.saturating_add.ensures) (
+  c.write_on.ensures.leaves.failed ∙ r.0,
+  c.in-Ok.ensures.ok refl (leaves g.P.Ports.asked _ c.args.c _ _ (omega (arith, c.saturating_add.ensures)) (at_phase g.P.Ports.asked c.args.self.now (phases.Handed c.args.c) p r.1)),
+)

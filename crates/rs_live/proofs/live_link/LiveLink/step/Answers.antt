@@ -7,10 +7,10 @@ use Rattle.rs_live.proofs.Handling.{at_phase, come_at, does, follows, goes_on, p
 use Rattle.rs_live.proofs.live_link.LiveLink.step.Goals as goal
 
 pub returns-in-Rules-clause-answers : goal.returns-in-Rules-clause-answers
-returns-in-Rules-clause-answers g c f h text = follows g.P.Ports.asked (Happened Rules text) _ _ _ _ f refl refl (does g.P.Ports.asked _ _ (Happened Rules text) _ tt tt (goes_on g.P.Ports.asked _ phases.Rules phases.Accept _ (λ k. refl) (λ operations x. tt) (at_phase g.P.Ports.asked c.args.self.now phases.Rules c.in-Rules.is h)))
+returns-in-Rules-clause-answers g c r text = follows g.P.Ports.asked (Happened Rules text) _ _ _ _ r.0 refl refl (does g.P.Ports.asked _ _ (Happened Rules text) _ tt tt (goes_on g.P.Ports.asked _ phases.Rules phases.Accept _ (λ k. refl) (λ operations x. tt) (at_phase g.P.Ports.asked c.args.self.now phases.Rules c.in-Rules.is r.1)))
 
 pub returns-in-Come-clause-answers : goal.returns-in-Come-clause-answers
-returns-in-Come-clause-answers g c f h = (c.refuse.ensures.failed ∙ f, subst (λ keys. Has g.P.Ports.asked c.refuse.new.self.ports.now (AreKept keys phases.Accept)) (sym c.refuse.ensures.held) (passes_over g.P.Ports.asked _ _ _ _ _ _ (come_at c.args.self.now.phase _ _ c.in-Come.is) c.refuse.ensures.asked h))
+returns-in-Come-clause-answers g c r = (c.refuse.ensures.leaves.failed ∙ r.0, subst (λ keys. Has g.P.Ports.asked c.refuse.new.self.ports.now (AreKept keys phases.Accept)) (sym c.refuse.ensures.leaves.held) (passes_over g.P.Ports.asked _ _ _ _ _ _ (come_at c.args.self.now.phase _ _ c.in-Come.is) c.refuse.ensures.asked r.1))
 
 pub returns-in-Over-clause-answers : goal.returns-in-Over-clause-answers
-returns-in-Over-clause-answers g c f h text = follows g.P.Ports.asked (Happened Stop []) _ _ _ _ f refl refl (does g.P.Ports.asked _ _ (Happened Stop []) _ tt tt h)
+returns-in-Over-clause-answers g c r text = follows g.P.Ports.asked (Happened Stop []) _ _ _ _ r.0 refl refl (does g.P.Ports.asked _ _ (Happened Stop []) _ tt tt r.1)

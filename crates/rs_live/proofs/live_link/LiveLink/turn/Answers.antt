@@ -6,7 +6,7 @@ use Rattle.rs_live.proofs.Handling.{at_phase, does, follows, turns}
 use Rattle.rs_live.proofs.live_link.LiveLink.turn.Goals as goal
 
 pub returns-then-is_wide-self-clause-answers : goal.returns-then-is_wide-self-clause-answers
-returns-then-is_wide-self-clause-answers g c p f h piece text = follows g.P.Ports.asked (Happened Stop []) _ _ _ _ f refl refl (does g.P.Ports.asked _ _ (Happened Stop []) _ tt tt h)
+returns-then-is_wide-self-clause-answers g c piece p r text = follows g.P.Ports.asked (Happened Stop []) _ _ _ _ r.0 refl refl (does g.P.Ports.asked _ _ (Happened Stop []) _ tt tt r.1)
 
 pub returns-clause-answers : goal.returns-clause-answers
-returns-clause-answers g c p f h piece text = follows g.P.Ports.asked (Happened Turn []) _ _ _ _ f refl refl (turns g.P.Ports.asked _ _ (at_phase g.P.Ports.asked c.args.self.now phases.Turn p h))
+returns-clause-answers g c piece p r text = follows g.P.Ports.asked (Happened Turn []) _ _ _ _ r.0 refl refl (turns g.P.Ports.asked _ _ (at_phase g.P.Ports.asked c.args.self.now phases.Turn p r.1))

@@ -4,11 +4,11 @@ use Rattle.rs_live.proofs.Handling.{breaks_down, follows}
 use Rattle.rs_live.proofs.sink.LiveLinkSink.offer.Goals as goal
 
 pub returns-in-Ok-clause-step : goal.returns-in-Ok-clause-step
-returns-in-Ok-clause-step g c = (c.hand.ensures.same_ports, λ f h. follows g.P.Ports.asked (Offer _ _ (Some c.in-Ok.n)) _ _ _ _ (c.hand.ensures.failed ∙ f) refl refl (c.in-Ok.ensures.ok h))
+returns-in-Ok-clause-step g c = (c.hand.ensures.leaves.same_ports, λ f h. follows g.P.Ports.asked (Offer _ _ (Some c.in-Ok.n)) _ _ _ _ (c.hand.ensures.leaves.failed ∙ f) refl refl (c.in-Ok.ensures.ok h))
 
 pub returns-in-Err-clause-step : goal.returns-in-Err-clause-step
 returns-in-Err-clause-step g c = (
-  c.lose.ensures.same_ports ∙ c.hand.ensures.same_ports,
-  λ f h. follows g.P.Ports.asked (Offer _ _ None) _ _ _ _ (c.lose.ensures.failed ∙ c.hand.ensures.failed ∙ f) c.lose.ensures.held c.lose.ensures.phase
+  c.lose.ensures.leaves.same_ports ∙ c.hand.ensures.leaves.same_ports,
+  λ f h. follows g.P.Ports.asked (Offer _ _ None) _ _ _ _ (c.lose.ensures.leaves.failed ∙ c.hand.ensures.leaves.failed ∙ f) c.lose.ensures.held c.lose.ensures.leaves.phase
       (breaks_down g.P.Ports.asked _ _ c.args.c _ (Offer _ _ None) _ _ c.lose.ensures.asked (refl, refl) (c.in-Err.ensures.broke h)),
 )

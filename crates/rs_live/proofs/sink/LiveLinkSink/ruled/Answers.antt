@@ -4,4 +4,4 @@ use Rattle.rs_live.proofs.Handling.{does, follows}
 use Rattle.rs_live.proofs.sink.LiveLinkSink.ruled.Goals as goal
 
 pub returns : goal.returns
-returns g c = (c.report_rules.ensures.same_ports, λ f h. follows g.P.Ports.asked (Replaced _) _ _ _ _ (c.report_rules.ensures.failed ∙ f) refl refl (does g.P.Ports.asked _ _ (Replaced _) _ tt tt (c.report_rules.ensures.handled h)))
+returns g c = (c.report_rules.ensures.leaves.same_ports, λ f h. follows g.P.Ports.asked (Replaced _) _ _ _ _ (c.report_rules.ensures.leaves.failed ∙ f) refl refl (does g.P.Ports.asked _ _ (Replaced _) _ tt tt (c.report_rules.ensures.handled h)))

@@ -1,0 +1,240 @@
+-- What each client has, and how far the round has come, one operation later.
+use Rattle.std.proofs.Common.{◌≡◌, ◌≢◌, ◌<◌, ◌≤◌, ◌==◌, inl, inr, ℕ, suc, zero, Bool, true, false, List, [], ◌∷◌, length, set, Option, Some, None, refl, sym, subst, ap, ◌∙◌, arith}
+use Rattle.std.specs.Prelude.{IsSome, ⊤, if◌then◌else◌}
+use Rattle.std.proofs.lemmas.Bool.{cases_eq, cases_lt, false≢true}
+use Rattle.std.proofs.lemmas.Bool.Decides.{nat_tests}
+use Rattle.std.proofs.lemmas.List.{get_or-set_same, get_or-set_other, length-set}
+use Rattle.rs_core.specs.declared.links.Event.TheVariants.{Opened, Octets, Moment, Turn, Room, Lost, Rules, Stop}
+use Rattle.rs_core.specs.Drives.Steps.{Step, Happened, Begin, Busy, Offer, Memory, End, Replaced}
+use Rattle.rs_live.specs.declared.ports.Line.TheVariants as lines
+use Rattle.rs_live.specs.declared.live_link.Phase.{Phase}
+use Rattle.rs_live.specs.declared.live_link.Phase.TheVariants as phases
+use Rattle.rs_live.specs.Calls.{Call, Waited, Accepted, Read, Wrote, Closed, Timed, Fetched, Printed, Logged}
+use Rattle.rs_live.specs.Operations.{Operation, Asked, Did}
+use Rattle.rs_live.specs.Keys.{come, or_else}
+use Rattle.rs_live.specs.Waiting.{where_one}
+use Rattle.rs_live.specs.Rounds.{IsTimed, IsTurned, HasRoom}
+use Rattle.rs_live.specs.Keeping.{Held, IsInPhase, IsPlain, change, had_by, held_by, nothing, with_live, with_rest}
+use Rattle.rs_live.proofs.Places.{holds, unchanged_past}
+
+-- a choice by two clients, where they are one
+pub at_same : {X : Type 0} (d c : ℕ) (x y : X) → d ≡ c → (if d == c then x else y) ≡ x
+at_same d c x y e = let is : (d == c) ≡ true = grind (arith, nat_tests, e) in ap (λ t. if t then x else y) is
+
+-- and where they are two
+pub at_other : {X : Type 0} (d c : ℕ) (x y : X) → d ≢ c → (if d == c then x else y) ≡ y
+at_other d c x y ne = let is : (d == c) ≡ false = grind (arith, nat_tests, ne) in ap (λ t. if t then x else y) is
+
+pub no_some : (key : Option ℕ) → key ≡ None → IsSome key → ⊥
+no_some key none some = false≢true (subst (λ k. IsSome k) none some)
+
+-- past the last client nothing is held
+past : (held : List Held) (c : ℕ) → length held ≤ c → held_by c held ≡ nothing
+past [] zero ge = refl
+past [] (suc c) ge = refl
+past (h ∷ held) zero ge = absurd (omega arith)
+past (h ∷ held) (suc c) ge = past held c (omega arith)
+
+-- what each client has after one's was changed
+pub held_set : (f : Held → Held) (held : List Held) (c d : ℕ) → (length held ≤ c → f nothing ≡ nothing) → held_by d (change c f held) ≡ (if d == c then f (held_by d held) else held_by d held)
+held_set f held c d none = elim (cases_eq d c) [
+  | inl e ↦ subst (λ k. held_by k (change c f held) ≡ f (held_by k held)) (sym e) changed ∙ sym (at_same d c (f (held_by d held)) (held_by d held) e)
+  | inr ne ↦ get_or-set_other held c d (f (held_by c held)) nothing ne ∙ sym (at_other d c (f (held_by d held)) (held_by d held) ne)
+]
+  where
+    changed : held_by c (change c f held) ≡ f (held_by c held)
+    changed = elim (cases_lt c (length held)) [
+      | inl lt ↦ get_or-set_same held c (f (held_by c held)) nothing lt
+      | inr ge ↦ ap (λ hs. held_by c hs) (unchanged_past f held c ge) ∙ past held c ge ∙ sym (none ge) ∙ ap f (sym (past held c ge))
+    ]
+
+-- by these operations one client has it so, and the others have what they had
+abbrev pub Changes : (f : Held → Held) → ℕ → List Operation → List Operation → Type 0
+Changes f c operations after = (d : ℕ) → had_by d after ≡ (if d == c then f (had_by d operations) else had_by d operations)
+
+pub same_changed : (f : Held → Held) (held : List Held) (c : ℕ) (operations after : List Operation) → (length held ≤ c → f nothing ≡ nothing) → Changes f c operations after → ((d : ℕ) → had_by d operations ≡ held_by d held) → (d : ℕ) → had_by d after ≡ held_by d (change c f held)
+same_changed f held c operations after none h same d = h d ∙ ap (λ x. if d == c then f x else x) (same d) ∙ sym (held_set f held c d none)
+
+-- no more clients have a connection
+abbrev pub KeepsNone : (Held → Held) → Type 0
+KeepsNone f = (h : Held) → IsSome (f h).key → IsSome h.key
+
+had : (f : Held → Held) (held : List Held) (c d : ℕ) → (length held ≤ c → f nothing ≡ nothing) → KeepsNone f → IsSome (held_by d (change c f held)).key → IsSome (held_by d held).key
+had f held c d none keeps h = elim (cases_eq d c) [
+  | inl e ↦ keeps (held_by d held) (subst (λ x. IsSome x.key) (held_set f held c d none ∙ at_same d c (f (held_by d held)) (held_by d held) e) h)
+  | inr ne ↦ subst (λ x. IsSome x.key) (held_set f held c d none ∙ at_other d c (f (held_by d held)) (held_by d held) ne) h
+]
+
+pub come_asked : (c : ℕ) (call : Call) (operations : List Operation) → IsPlain call → come c (Asked call ∷ operations) ≡ come c operations
+come_asked c (Waited answer) operations is = absurd is
+come_asked c (Accepted answer) operations is = refl
+come_asked c (Read key piece answer) operations is = refl
+come_asked c (Wrote key octets answer) operations is = refl
+come_asked c (Closed key) operations is = refl
+come_asked c (Timed seconds) operations is = refl
+come_asked c (Fetched text answer) operations is = refl
+come_asked c (Printed (lines.Begin d)) operations is = refl
+come_asked c (Printed (lines.Busy d)) operations is = refl
+come_asked c (Printed lines.Stranger) operations is = absurd is
+come_asked c (Printed (lines.Close d)) operations is = refl
+come_asked c (Printed (lines.Lost d)) operations is = refl
+come_asked c (Printed (lines.Memory d)) operations is = refl
+come_asked c (Printed (lines.Rules answer)) operations is = refl
+come_asked c (Logged report) operations is = refl
+
+timed_asked : (call : Call) (operations : List Operation) → IsPlain call → IsTimed operations → IsTimed (Asked call ∷ operations)
+timed_asked (Waited answer) operations is h = absurd is
+timed_asked (Accepted answer) operations is h = h
+timed_asked (Read key piece answer) operations is h = h
+timed_asked (Wrote key octets answer) operations is h = h
+timed_asked (Closed key) operations is h = h
+timed_asked (Timed seconds) operations is h = h
+timed_asked (Fetched text answer) operations is h = h
+timed_asked (Printed line) operations is h = h
+timed_asked (Logged report) operations is h = h
+
+turned_asked : (call : Call) (operations : List Operation) → IsPlain call → IsTurned operations → IsTurned (Asked call ∷ operations)
+turned_asked (Waited answer) operations is h = absurd is
+turned_asked (Accepted answer) operations is h = h
+turned_asked (Read key piece answer) operations is h = h
+turned_asked (Wrote key octets answer) operations is h = h
+turned_asked (Closed key) operations is h = h
+turned_asked (Timed seconds) operations is h = h
+turned_asked (Fetched text answer) operations is h = h
+turned_asked (Printed line) operations is h = h
+turned_asked (Logged report) operations is h = h
+
+pub phase_asked : (held : List Held) (phase : Phase) (call : Call) (operations : List Operation) → IsPlain call → IsInPhase held phase operations → IsInPhase held phase (Asked call ∷ operations)
+phase_asked held phases.Rules call operations is h = h
+phase_asked held phases.Accept call operations is h = h
+phase_asked held (phases.Come c incoming) call operations is h = h
+phase_asked held phases.Read call operations is h = h
+phase_asked held phases.Moment call operations is h = h
+phase_asked held phases.Turn call operations is h = timed_asked call operations is h
+phase_asked held (phases.Room from) call operations is h = (turned_asked call operations is h.0, h.1)
+phase_asked held (phases.Handed c) call operations is h = (turned_asked call operations is h.0, h.1)
+phase_asked held phases.Over call operations is h = (turned_asked call operations is h.0, h.1)
+
+-- by this step the core is given no octets, no moment, no turn and no room
+abbrev pub IsQuiet : Step → Type 0
+IsQuiet (Happened (Octets c n) octets) = ⊥
+IsQuiet (Happened (Moment t) octets) = ⊥
+IsQuiet (Happened Turn octets) = ⊥
+IsQuiet (Happened (Room c n) octets) = ⊥
+IsQuiet step = ⊤
+
+timed_did : (step : Step) (operations : List Operation) → IsQuiet step → IsTimed operations → IsTimed (Did step ∷ operations)
+timed_did (Happened (Opened c) octets) operations is h = h
+timed_did (Happened (Octets c n) octets) operations is h = absurd is
+timed_did (Happened (Moment t) octets) operations is h = absurd is
+timed_did (Happened Turn octets) operations is h = absurd is
+timed_did (Happened (Room c n) octets) operations is h = absurd is
+timed_did (Happened (Lost c) octets) operations is h = h
+timed_did (Happened Rules octets) operations is h = h
+timed_did (Happened Stop octets) operations is h = h
+timed_did (Begin c) operations is h = h
+timed_did (Busy c) operations is h = h
+timed_did (Offer c octets answer) operations is h = h
+timed_did (Memory c) operations is h = h
+timed_did (End c) operations is h = h
+timed_did (Replaced answer) operations is h = h
+
+turned_did : (step : Step) (operations : List Operation) → IsQuiet step → IsTurned operations → IsTurned (Did step ∷ operations)
+turned_did (Happened (Opened c) octets) operations is h = h
+turned_did (Happened (Octets c n) octets) operations is h = absurd is
+turned_did (Happened (Moment t) octets) operations is h = absurd is
+turned_did (Happened Turn octets) operations is h = absurd is
+turned_did (Happened (Room c n) octets) operations is h = absurd is
+turned_did (Happened (Lost c) octets) operations is h = h
+turned_did (Happened Rules octets) operations is h = h
+turned_did (Happened Stop octets) operations is h = h
+turned_did (Begin c) operations is h = h
+turned_did (Busy c) operations is h = h
+turned_did (Offer c octets answer) operations is h = h
+turned_did (Memory c) operations is h = h
+turned_did (End c) operations is h = h
+turned_did (Replaced answer) operations is h = h
+
+room_did : (d : ℕ) (step : Step) (operations : List Operation) → IsQuiet step → HasRoom d operations → HasRoom d (Did step ∷ operations)
+room_did d (Happened (Opened c) octets) operations is h = h
+room_did d (Happened (Octets c n) octets) operations is h = absurd is
+room_did d (Happened (Moment t) octets) operations is h = absurd is
+room_did d (Happened Turn octets) operations is h = absurd is
+room_did d (Happened (Room c n) octets) operations is h = absurd is
+room_did d (Happened (Lost c) octets) operations is h = h
+room_did d (Happened Rules octets) operations is h = h
+room_did d (Happened Stop octets) operations is h = h
+room_did d (Begin c) operations is h = h
+room_did d (Busy c) operations is h = h
+room_did d (Offer c octets answer) operations is h = h
+room_did d (Memory c) operations is h = h
+room_did d (End c) operations is h = h
+room_did d (Replaced answer) operations is h = h
+
+pub phase_did : (held : List Held) (phase : Phase) (step : Step) (operations : List Operation) → IsQuiet step → IsInPhase held phase operations → IsInPhase held phase (Did step ∷ operations)
+phase_did held phases.Rules step operations is h = h
+phase_did held phases.Accept step operations is h = h
+phase_did held (phases.Come c incoming) step operations is h = h
+phase_did held phases.Read step operations is h = h
+phase_did held phases.Moment step operations is h = h
+phase_did held phases.Turn step operations is h = timed_did step operations is h
+phase_did held (phases.Room from) step operations is h = (turned_did step operations is h.0, λ c below some. room_did c step operations is (h.1 c below some))
+phase_did held (phases.Handed c) step operations is h = (turned_did step operations is h.0, λ c below some. room_did c step operations is (h.1 c below some))
+phase_did held phases.Over step operations is h = (turned_did step operations is h.0, λ c some. room_did c step operations is (h.1 c some))
+
+pub phase_changed : (f : Held → Held) (held : List Held) (c : ℕ) (phase : Phase) (operations : List Operation) → (length held ≤ c → f nothing ≡ nothing) → KeepsNone f → IsInPhase held phase operations → IsInPhase (change c f held) phase operations
+phase_changed f held c phases.Rules operations none keeps h = h
+phase_changed f held c phases.Accept operations none keeps h = h
+phase_changed f held c (phases.Come d incoming) operations none keeps h = subst (λ n. d < n) (sym (length-set held c (f (held_by c held)))) h
+phase_changed f held c phases.Read operations none keeps h = h
+phase_changed f held c phases.Moment operations none keeps h = h
+phase_changed f held c phases.Turn operations none keeps h = h
+phase_changed f held c (phases.Room from) operations none keeps h = (h.0, λ d below some. h.1 d below (had f held c d none keeps some))
+phase_changed f held c (phases.Handed e) operations none keeps h = (h.0, λ d below some. h.1 d below (had f held c d none keeps some))
+phase_changed f held c phases.Over operations none keeps h = (h.0, λ d some. h.1 d (had f held c d none keeps some))
+
+-- these operations change what one client has, and nothing else
+abbrev pub IsChange : (Held → Held) → ℕ → List Operation → List Operation → Type 0
+IsChange f c operations after = Changes f c operations after × ((d : ℕ) → come d after ≡ come d operations)
+
+-- a choice of each part, as one of the whole
+pub if_lost : (b : Bool) (h : Held) → holds (if b then None else h.key) (if b then [] else h.waiting) (h.rest_key) (h.rest) ≡ (if b then with_live None [] h else h)
+if_lost true h = refl
+if_lost false h = refl
+
+pub if_waits : (b : Bool) (o : List ℕ) (h : Held) → holds (h.key) (if b then o else h.waiting) (h.rest_key) (h.rest) ≡ (if b then with_live h.key o h else h)
+if_waits true o h = refl
+if_waits false o h = refl
+
+pub if_rests : (b : Bool) (o : List ℕ) (h : Held) → holds (h.key) (h.waiting) (h.rest_key) (if b then o else h.rest) ≡ (if b then with_rest h.rest_key o h else h)
+if_rests true o h = refl
+if_rests false o h = refl
+
+pub if_closed : (b : Bool) (h : Held) → holds (h.key) (h.waiting) (if b then None else h.rest_key) (if b then [] else h.rest) ≡ (if b then with_rest None [] h else h)
+if_closed true h = refl
+if_closed false h = refl
+
+-- what is left where a session has ended
+abbrev pub ended : Held → Held
+ended h = record { key = None; waiting = where_one h.key [] h.waiting; rest_key = or_else h.key h.rest_key; rest = where_one h.key h.waiting h.rest }
+
+-- where there was one, the rest is what waited
+pub ended_some : (key : Option ℕ) (octets : List ℕ) (other : Option ℕ) (others : List ℕ) → IsSome key → holds None [] key octets ≡ ended (holds key octets other others)
+ended_some (Some key) octets other others some = refl
+ended_some None octets other others some = absurd (no_some None refl some)
+
+-- where there was none, nothing changes
+pub ended_same : (h : Held) → h.key ≡ None → ended h ≡ h
+ended_same h none = ap (λ k. holds None (where_one k [] h.waiting) (or_else k h.rest_key) (where_one k h.waiting h.rest)) none ∙ ap (λ k. holds k h.waiting h.rest_key h.rest) (sym none)
+
+pub if_ended : (b : Bool) (h : Held) → holds (if b then None else h.key) (if b then where_one h.key [] h.waiting else h.waiting) (if b then or_else h.key h.rest_key else h.rest_key) (if b then where_one h.key h.waiting h.rest else h.rest) ≡ (if b then ended h else h)
+if_ended true h = refl
+if_ended false h = refl
+
+-- where a connection has come, it is begun
+abbrev pub begun_with : Option ℕ → Held → Held
+begun_with key h = record { key = or_else key h.key; waiting = where_one key [] h.waiting; rest_key = h.rest_key; rest = h.rest }
+
+pub if_begun : (b : Bool) (key : Option ℕ) (h : Held) → holds (if b then or_else key h.key else h.key) (if b then where_one key [] h.waiting else h.waiting) (h.rest_key) (h.rest) ≡ (if b then begun_with key h else h)
+if_begun true key h = refl
+if_begun false key h = refl
