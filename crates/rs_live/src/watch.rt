@@ -1,5 +1,4 @@
-//! What has become of each client between two rounds, told in reports: at most one of each client in a
-//! second, so that no member can fill a disk.
+//! What has become of each client between two rounds, in reports: at most one of each client in a second, so that no member can fill a disk.
 
 ghost use Rattle.std.specs.Prelude.{◌≡◌};
 ghost use Rattle.rs_live.specs.Handled.{Keeps};
@@ -11,17 +10,17 @@ use crate::reports::Report;
 use rs_core::Core;
 use std::alloc::{AllocError, Global};
 
-/// What was told of a client.
+/// What was reported of a client.
 #[derive(Clone, Copy)]
 struct Reported {
-    /// Its session was Established.
+    /// That its session is Established.
     is_up: bool,
-    /// How many of its UPDATEs were at fault.
+    /// How many of its UPDATEs at fault.
     faulted: u64,
     reports: RateLimit<Report>,
 }
 
-/// What was told of each client.
+/// What was reported of each client.
 #[derive(Drop)]
 pub struct Watch {
     all: Vec<Reported>,
@@ -51,7 +50,7 @@ fn down(core: &Core, client: usize) -> Report {
     Report::Down { client, ending }
 }
 
-/// Tells how many reports of a client were left out, where there are some.
+/// Reports how many reports of a client were left out, where there are some.
 fn tell_left_out<P: Ports>(link: &mut LiveLink<'_, P>, client: usize, count: u64)
     ensures same_ports { link.new.ports.ghost_name ≡ link.old.ports.ghost_name }
     ensures failed { link.new.has_failed ≡ link.old.has_failed }
@@ -64,7 +63,7 @@ fn tell_left_out<P: Ports>(link: &mut LiveLink<'_, P>, client: usize, count: u64
 }
 
 impl Reported {
-    /// Tells a report, now or in a later second.
+    /// Puts a report into the log, now or in a later second.
     fn tell<P: Ports>(&mut self, link: &mut LiveLink<'_, P>, client: usize, report: &Report)
         ensures same_ports { link.new.ports.ghost_name ≡ link.old.ports.ghost_name }
         ensures failed { link.new.has_failed ≡ link.old.has_failed }
@@ -75,7 +74,7 @@ impl Reported {
         self.tell_waiting(link, client);
     }
 
-    /// Tells the report that waits for this second, behind the count of those that were left out.
+    /// Puts the report that waits for this second into the log, after the count of those that were left out.
     fn tell_waiting<P: Ports>(&mut self, link: &mut LiveLink<'_, P>, client: usize)
         ensures same_ports { link.new.ports.ghost_name ≡ link.old.ports.ghost_name }
         ensures failed { link.new.has_failed ≡ link.old.has_failed }
@@ -88,7 +87,7 @@ impl Reported {
         }
     }
 
-    /// Tells the end of a client's session, where one ended.
+    /// Reports the end of a client's session, where one ended.
     fn tell_end<P: Ports>(&mut self, core: &Core, link: &mut LiveLink<'_, P>, client: usize)
         ensures same_ports { link.new.ports.ghost_name ≡ link.old.ports.ghost_name }
         ensures failed { link.new.has_failed ≡ link.old.has_failed }
@@ -101,7 +100,7 @@ impl Reported {
         }
     }
 
-    /// Tells the begin of a client's session, where one is Established.
+    /// Reports the begin of a client's session, where one is Established.
     fn tell_begin<P: Ports>(&mut self, core: &Core, link: &mut LiveLink<'_, P>, client: usize)
         ensures same_ports { link.new.ports.ghost_name ≡ link.old.ports.ghost_name }
         ensures failed { link.new.has_failed ≡ link.old.has_failed }
@@ -117,7 +116,7 @@ impl Reported {
         }
     }
 
-    /// Tells of the UPDATEs that were not taken as they came, where there are more than were told and
+    /// Reports the UPDATEs that were not taken as they came, where there are more than were reported and
     /// there was no report in this second.
     fn tell_faulted<P: Ports>(&mut self, core: &Core, link: &mut LiveLink<'_, P>, client: usize)
         ensures same_ports { link.new.ports.ghost_name ≡ link.old.ports.ghost_name }
@@ -147,7 +146,7 @@ impl Reported {
 }
 
 impl Watch {
-    /// Nothing was told of so many clients.
+    /// Nothing was reported of so many clients.
     pub fn new(alloc: Global, count: usize) -> Result<Watch, AllocError> {
         let nothing = Reported {
             is_up: false,
@@ -160,7 +159,7 @@ impl Watch {
         })
     }
 
-    /// Tells what has changed since the last call.
+    /// Reports what has changed since the last call.
     pub fn tell<P: Ports>(&mut self, core: &Core, link: &mut LiveLink<'_, P>)
         ensures same_ports { link.new.ports.ghost_name ≡ link.old.ports.ghost_name }
         ensures failed { link.new.has_failed ≡ link.old.has_failed }
@@ -176,7 +175,7 @@ impl Watch {
         }
     }
 
-    /// Tells of connections of strangers, at most once in a second.
+    /// Reports connections of strangers, at most once in a second.
     fn tell_strangers<P: Ports>(&mut self, link: &mut LiveLink<'_, P>)
         ensures same_ports { link.new.ports.ghost_name ≡ link.old.ports.ghost_name }
         ensures failed { link.new.has_failed ≡ link.old.has_failed }

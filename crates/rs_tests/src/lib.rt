@@ -4,7 +4,7 @@
 //! A file has the tests of one crate, and its folder those that are many: `octets` those of `rs_octets`,
 //! and so on; `route_server` those of `rs_core`. `common` has what several of them need. Nothing but tests
 //! stands here, and they see what any caller sees. A crate that has tests is proved again with them: so the
-//! crates below stand without.
+//! crates below stand without, but for `rs_update` and `rs_workers`.
 #![tactic(auto)]
 
 #[cfg(test)]
