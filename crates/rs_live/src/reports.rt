@@ -1,12 +1,8 @@
-//! What an operator is told on standard error: what happened and why, so that nobody needs a capture
-//! of packets to see it.
+//! What is reported to an operator, on standard error: what happened and why, so that nobody needs a
+//! capture of packets to see it.
 
 use crate::names::Names;
-use rs_attrs::{
-    AGGREGATOR, AS_PATH, AS4_AGGREGATOR, AS4_PATH, ATOMIC_AGGREGATE, AttributeFault, CLUSTER_LIST,
-    COMMUNITIES, Cause, EXTENDED_COMMUNITIES, Faulted, LARGE_COMMUNITY, LOCAL_PREF, MP_REACH_NLRI,
-    MP_UNREACH_NLRI, MULTI_EXIT_DISC, Mode, NEXT_HOP, ORIGIN, ORIGINATOR_ID,
-};
+use rs_attrs::{Faulted, Mode};
 use rs_core::{Ending, Notice};
 use rs_octets::Notification;
 use rs_open::{Limit, Short};
@@ -63,7 +59,7 @@ impl fmt::Display for Called {
     }
 }
 
-/// Octets in hexadecimal, behind a word.
+/// Octets in hexadecimal, after a word.
 #[derive(Drop)]
 struct Data<'a>(&'a [u8]);
 
@@ -150,60 +146,6 @@ impl fmt::Display for Why<'_> {
     }
 }
 
-/// The name of a type of path attribute (RFC 4271, 5; RFC 1997; RFC 4360; RFC 4456; RFC 4760;
-/// RFC 6793; RFC 8092).
-fn attribute_name(kind: u8) -> &'static str {
-    match kind {
-        ORIGIN => "ORIGIN",
-        AS_PATH => "AS_PATH",
-        NEXT_HOP => "NEXT_HOP",
-        MULTI_EXIT_DISC => "MULTI_EXIT_DISC",
-        LOCAL_PREF => "LOCAL_PREF",
-        ATOMIC_AGGREGATE => "ATOMIC_AGGREGATE",
-        AGGREGATOR => "AGGREGATOR",
-        COMMUNITIES => "COMMUNITIES",
-        ORIGINATOR_ID => "ORIGINATOR_ID",
-        CLUSTER_LIST => "CLUSTER_LIST",
-        MP_REACH_NLRI => "MP_REACH_NLRI",
-        MP_UNREACH_NLRI => "MP_UNREACH_NLRI",
-        EXTENDED_COMMUNITIES => "EXTENDED COMMUNITIES",
-        AS4_PATH => "AS4_PATH",
-        AS4_AGGREGATOR => "AS4_AGGREGATOR",
-        LARGE_COMMUNITY => "LARGE_COMMUNITY",
-        _ => "an attribute",
-    }
-}
-
-fn cause_text(cause: Cause) -> &'static str {
-    match cause {
-        Cause::Flags => "wrong flags",
-        Cause::Length => "wrong length",
-        Cause::Value => "malformed value",
-        Cause::Position => "cut off",
-        Cause::Twice => "there twice",
-        Cause::Missing => "missing",
-    }
-}
-
-/// An attribute at fault, behind a comma and what came of it; nothing where there is none.
-#[derive(Drop)]
-struct AtFault(&'static str, Option<AttributeFault>);
-
-impl fmt::Display for AtFault {
-    fn fmt<W: fmt::Write>(&self, f: &mut fmt::Formatter<W>) -> fmt::Result {
-        match self.1 {
-            None => Ok(()),
-            Some(AttributeFault { kind, cause }) => write!(
-                f,
-                ", {} by {} (type {kind}): {}",
-                self.0,
-                attribute_name(kind),
-                cause_text(cause)
-            ),
-        }
-    }
-}
-
 fn mode_text(mode: Mode) -> &'static str {
     match mode {
         Mode::Two => "two-octet",
@@ -227,36 +169,26 @@ impl fmt::Display for Agreed {
     }
 }
 
-/// UPDATEs at fault: how many, and what was wrong with the last.
-#[derive(Drop)]
-struct Faults<'a>(u64, &'a Faulted);
-
-impl fmt::Display for Faults<'_> {
-    fn fmt<W: fmt::Write>(&self, f: &mut fmt::Formatter<W>) -> fmt::Result {
-        write!(
-            f,
-            "{} UPDATEs at fault, the last{}{}",
-            self.0,
-            AtFault("treated as withdraw", self.1.withdraw),
-            AtFault("with less", self.1.discard)
-        )
-    }
+/// The words for one, or those for several.
+fn one_or_several(count: u64, one: &'static str, several: &'static str) -> &'static str {
+    if count == 1 { one } else { several }
 }
 
-/// A report, with the names of the clients.
+/// A report in words, with the names of the clients: a line of the log but for its second.
 #[derive(Drop)]
-struct Worded<'a>(&'a Report, &'a Names);
+pub struct Worded<'a>(pub &'a Report, pub &'a Names);
 
 impl fmt::Display for Worded<'_> {
     fn fmt<W: fmt::Write>(&self, f: &mut fmt::Formatter<W>) -> fmt::Result {
         let Worded(report, names) = *self;
         match report {
             Report::Strangers { address, count } => {
-                let first = Ipv4Addr::from(*address);
-                write!(
-                    f,
-                    "{count} connections of strangers, the first from {first}"
-                )
+                let which = one_or_several(
+                    *count,
+                    "connection of a stranger,",
+                    "connections of strangers, the first",
+                );
+                write!(f, "{count} {which} from {}", Ipv4Addr::from(*address))
             }
             Report::Up {
                 client,
@@ -278,18 +210,22 @@ impl fmt::Display for Worded<'_> {
                 client,
                 count,
                 last,
-            } => write!(f, "{}: {}", names.name(*client), Faults(*count, last)),
+            } => {
+                let which = one_or_several(*count, "UPDATE at fault", "UPDATEs at fault, the last");
+                write!(f, "{}: {count} {which}: {last}", names.name(*client))
+            }
             Report::Rules(Ok(())) => write!(f, "rules accepted"),
             Report::Rules(Err(fault)) => write!(f, "rules refused: {fault}"),
             Report::LeftOut { client, count } => {
-                write!(f, "{}: {count} reports left out", names.name(*client))
+                let reports = one_or_several(*count, "report", "reports");
+                write!(f, "{}: {count} {reports} left out", names.name(*client))
             }
         }
     }
 }
 
 impl Report {
-    /// Prints a report as a line, behind the seconds since the start.
+    /// Prints a report as a line, after the seconds since the start.
     pub fn print<R: Eprint>(&self, rt: &R, seconds: u64, names: &Names) -> io::Result<()> {
         rt.eprintln(format_args!("{seconds} {}", Worded(self, names)))
     }

@@ -3,5 +3,6 @@
 mod loopback;
 mod rate_limits;
 mod reloading;
+mod reports;
 mod rounds;
 mod script;

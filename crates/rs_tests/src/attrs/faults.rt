@@ -144,7 +144,10 @@ fn attributes_of_two_octet_peers_are_noted(rt: HostRuntime) {
 
 const TEXTS: [(&str, &str); 9] = [
     ("40010100", ""),
-    ("40010103", "ORIGIN (1) treated as withdraw: malformed value"),
+    (
+        "40010103",
+        "ORIGIN (1) treated as withdraw: malformed value",
+    ),
     (
         "c00706fbf0c0000201",
         "AGGREGATOR (7) discarded: wrong length",
@@ -219,10 +222,7 @@ const NAMES: [(u8, &str); 16] = [
 #[test]
 fn each_type_by_name(rt: HostRuntime) {
     for kind in 0..=255 {
-        let name = NAMES
-            .iter()
-            .find(|row| row.0 == kind)
-            .map(|row| row.1);
+        let name = NAMES.iter().find(|row| row.0 == kind).map(|row| row.1);
         assert_eq!(rt; attribute_name(kind), name, "type {kind}");
     }
 }
