@@ -1,4 +1,4 @@
--- The answer of some checks and of others behind them.
+-- The answer of some checks and of others after them.
 use Rattle.std.proofs.Common.{◌≡◌, List, [], ◌∷◌, ◌++◌, Option, Some, None, ℕ, ◌+◌, append_assoc, Result, Ok, Err, ◌≢◌, Vec, Global, refl, sym, ap, ◌∙◌}
 use Rattle.std.proofs.lemmas.List.{append-nil}
 use Rattle.std.specs.Result.{IsErrAnd}
@@ -36,7 +36,7 @@ pub answer-value : {A : Type 0} (xs : List (Option ConfigFault)) (a v : A) → a
 unfolding answer
 answer-value xs a v e = value_of_ok a v (first_failing xs) e
 
--- checks behind others that pass
+-- checks after others that pass
 pub answer-append-ok : {A B : Type 0} (xs ys : List (Option ConfigFault)) (a v : A) (b : B) → answer xs a ≡ Ok v → answer (xs ++ ys) b ≡ answer ys b
 unfolding answer
 answer-append-ok xs ys a v b e = ap (or_fault b) (first_failing-append-none xs ys (none_of_ok a v (first_failing xs) e))

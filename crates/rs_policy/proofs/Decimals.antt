@@ -40,7 +40,7 @@ key_text_short K.Other = lit≤ tt
 pub length-decimal-step : (n : ℕ) → 10 ≤ n → n < 2 ^ 64 → length (decimal n) ≡ length (decimal (n / 10)) + 1
 length-decimal-step n large h = ap length (decimal_step n large h) ∙ length-append (decimal (n / 10)) ((48 + n % 10) ∷ [])
 
--- a number's digits behind a text: those but the last, and the last
+-- a number's digits after a text: those but the last, and the last
 pub onto_decimal : (text : List ℕ) (n : ℕ) → 10 ≤ n → n < 2 ^ 64 → (text ++ decimal (n / 10)) ++ (48 + n % 10) ∷ [] ≡ text ++ decimal n
 onto_decimal text n large h = append_assoc text (decimal (n / 10)) ((48 + n % 10) ∷ []) ∙ ap (λ d. text ++ d) (sym (decimal_step n large h))
 

@@ -2,10 +2,8 @@
 use Rattle.std.proofs.Common.{◌≡◌, ℕ, ◌+◌, ◌-◌, ◌*◌, ◌<◌, ◌≤◌, List, [], ◌∷◌, length, get_or, drop, refl, sym, ◌∙◌, ap, arith}
 use Rattle.std.proofs.Common.{Bool, true, false, nat_le, ◌&&◌, Some, None, cond}
 use Rattle.std.proofs.lemmas.Bool.Decides.{nat_tests}
-use Rattle.std.specs.List.{list_all}
-use Rattle.std.proofs.lemmas.Bool.{and_parts}
 use Rattle.std.proofs.lemmas.List.{drop_more}
-use Rattle.rs_policy.specs.Texts.{is_digit, is_decimal, number_after, number_to}
+use Rattle.rs_policy.specs.Texts.{is_decimal, number_after, number_to}
 
 -- a number is no less than its first digits
 pub number_after-grows : (n : ℕ) (cs : List ℕ) → n ≤ number_after n cs
@@ -14,9 +12,6 @@ number_after-grows n (c ∷ cs) = omega (arith, number_after-grows (10 * n + (c 
 
 pub number_after-digit : (n i : ℕ) (text : List ℕ) → i < length text → number_after n (drop i text) ≡ number_after (10 * n + (get_or text i 0 - 48)) (drop (i + 1) text)
 number_after-digit n i text h = ap (number_after n) (drop_more text i 0 h)
-
-pub digit_at : (i : ℕ) (text : List ℕ) → i < length text → list_all is_digit (drop i text) ≡ true → (is_digit (get_or text i 0) ≡ true) × (list_all is_digit (drop (i + 1) text) ≡ true)
-digit_at i text h all = and_parts (is_digit (get_or text i 0)) (list_all is_digit (drop (i + 1) text)) (sym (ap (list_all is_digit) (drop_more text i 0 h)) ∙ all)
 
 if_none : {A : Type 0} (b : Bool) (x : A) → cond (b && false) (Some x) None ≡ None
 if_none true x = refl

@@ -1,4 +1,4 @@
--- What checks that pass say: each key was read.
+-- What follows where checks pass: each key was read.
 use Rattle.std.proofs.Common.{◌≡◌, ℕ, zero, suc, ◌+◌, ◌-◌, ◌<◌, ◌||◌, Bool, true, false, List, [], ◌∷◌, ◌++◌, length, take, get_or, Option, Some, None, Result, Ok, Err, refl, sym, ap, subst, ◌∙◌, arith, if◌then◌else◌}
 use Rattle.std.specs.Prelude.{⊤}
 use Rattle.std.specs.List.{list_any, AllPairs}
@@ -163,7 +163,7 @@ each_says f g R says n (d ∷ ds) e = (
   each_says f g R says (n + 1) ds (back_passes (g n d) (checks_from g (n + 1) ds) e),
 )
 
--- what the table at a place says
+-- what the table at a place sets
 pub each_at : {A : Type 0} (R : ℕ → Data → A → Type 0) (n : ℕ) (ds : List Data) (xs : List A) → SaysEach R n ds xs
     → (i : ℕ) (x : A) → i < length xs → (d : Data) × R (n + i) d (get_or xs i x)
 each_at R n [] [] h i x l = absurd (omega arith)

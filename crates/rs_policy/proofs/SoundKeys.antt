@@ -13,7 +13,6 @@ use Rattle.rs_policy.specs.declared.faults.Key.{Key}
 use Rattle.rs_policy.specs.declared.faults.Place.{Place}
 use Rattle.rs_policy.specs.declared.faults.ConfigFault.{ConfigFault}
 use Rattle.rs_policy.specs.declared.faults.ConfigFault.TheVariants.{BadValue, TooMany}
-use Rattle.rs_policy.specs.declared.rules.Action.TheVariants as A
 
 -- ---- what is at a key
 

@@ -1,15 +1,11 @@
 -- How the parts of a configuration make the whole.
-use Rattle.std.proofs.Common.{◌≡◌, ℕ, ◌+◌, ◌-◌, List, ◌++◌, length, take, Some, Ok, BTreeMap, String, Global, sym, ap, ◌∙◌, arith}
+use Rattle.std.proofs.Common.{◌≡◌, ℕ, ◌+◌, ◌-◌, List, ◌++◌, length, take, Ok, sym, ap, ◌∙◌, arith}
 use Rattle.toml.specs.Data.{Data}
-use Rattle.toml.specs.Parse.{parse_document}
-use Rattle.toml.specs.View.{view, table_view}
-use Rattle.toml.specs.declared.value.Value.{Value, Table}
-use Rattle.toml.proofs.Views.{view-Table}
 use Rattle.std.proofs.Math.Seq.{take-append_seam}
 use Rattle.rs_policy.specs.Keys.{top_keys}
 use Rattle.rs_policy.specs.Values.{answer, stranger}
 use Rattle.rs_policy.specs.Configuration.{Client, Policy}
-use Rattle.rs_policy.specs.Documents.{top_checks, top_of, the_top, clients_at, clients_checks, clients_from, rules_at, rules_checks, rules_from, list_checks, list_of_rules, policies_checks, policies_from, document_checks, configuration_of, config_of}
+use Rattle.rs_policy.specs.Documents.{top_checks, top_of, the_top, clients_at, clients_checks, clients_from, rules_at, rules_checks, rules_from, list_checks, list_of_rules, policies_checks, policies_from, document_checks, configuration_of}
 use Rattle.rs_policy.specs.declared.faults.List.{List as RuleList}
 use Rattle.rs_policy.specs.declared.config.top.Top.{Top}
 use Rattle.rs_policy.proofs.Checks.{passes, passes_one, answer-value, answer-append-ok, answer-ok_for}
@@ -25,10 +21,6 @@ pub list_passes : (clients : List Client) (n : ℕ) (list : RuleList) (d : Data)
     → answer (list_checks clients n list d) (list_of_rules clients n list d) ≡ answer (rules_checks clients n list ds) (rules_from clients n list ds)
 unfolding answer
 list_passes clients n list d ds e = rw (← e)
-
-pub config_of_document : (text : List ℕ) (t : BTreeMap (String Global) Value) → parse_document text ≡ Some (table_view t) → config_of text ≡ answer (document_checks (view (Table t))) (configuration_of (view (Table t)))
-unfolding config_of
-config_of_document text t e = rw (e, view-Table t)
 
 -- the top passes
 pub top_passes : {A : Type 0} (d : Data) (top : Top) (ds : List Data) (a : A) → Ok top ≡ answer (top_checks d) (top_of d) → Ok ds ≡ clients_at d → Ok tt ≡ stranger top_keys the_top d

@@ -1,4 +1,4 @@
--- What a configuration says.
+-- What a configuration sets.
 use Rattle.std.specs.Prelude.{ℕ, List, [], slice_index_or, Option, None}
 use Rattle.rs_policy.specs.declared.rules.Rule.{Rule}
 use Rattle.rs_policy.specs.declared.config.top.Top.{Top}

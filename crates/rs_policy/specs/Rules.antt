@@ -1,4 +1,4 @@
--- A rule as a table says it: its keys, their checks in order, and the rule where none fails.
+-- A rule as a table spells it: its keys, their checks in order, and the rule where none fails.
 use Rattle.std.specs.Prelude.{ℕ, Bool, nat_lt, List, [], ◌∷◌, ◌++◌, length, codes, bytes_eq, false, position, Option, Some, None, Result, Ok, Err, option_map, option_and_then, if◌then◌else◌}
 use Rattle.toml.specs.Data.{Data, as_array, as_str, as_bool, get}
 use Rattle.rs_octets.specs.Prefixes.{Prefix}

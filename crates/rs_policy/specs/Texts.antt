@@ -8,7 +8,7 @@ use Rattle.rs_octets.specs.Prefixes.{Prefix, masked}
 abbrev pub is_digit : ℕ → Bool
 is_digit c = nat_le 48 c && nat_le c 57
 
--- the number that some digits are behind those of n
+-- the number that some digits make after those of n
 abbrev pub number_after : ℕ → List ℕ → ℕ
 number_after n [] = n
 number_after n (c ∷ cs) = number_after (10 * n + (c - 48)) cs
@@ -21,7 +21,7 @@ is_decimal text = (nat_lt 0 (length text) && list_all is_digit text) && (nat_le 
 unfoldable pub number_to : ℕ → List ℕ → Option ℕ
 number_to high text = if is_decimal text && nat_le (number_after 0 text) high then Some (number_after 0 text) else None
 
--- the octets before the first such one, and those behind it
+-- the octets before the first such one, and those after it
 unfoldable pub parted : ℕ → List ℕ → Option (List ℕ × List ℕ)
 parted mark text = option_map (λ i. (take i text, drop (i + 1) text)) (position (λ c. c == mark) text)
 

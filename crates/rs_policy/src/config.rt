@@ -124,7 +124,7 @@ impl Config {
         self.top.multiprotocol
     }
 
-    /// How many clients there are: 1 to 512. What every configuration has is told here.
+    /// How many clients there are: 1 to 512. What every configuration has is stated here.
     pub fn clients(&self) -> usize
         ensures count { result ≡ length self.now.clients }
         ensures sound { IsSound self.now }

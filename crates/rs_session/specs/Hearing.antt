@@ -1,4 +1,4 @@
--- What a session has heard, and what its answers tell.
+-- What a session has heard, and what follows from its answers.
 use Rattle.std.specs.Prelude.{◌≡◌, ℕ, suc, Bool, true, false, List, ◌∷◌, Option, Some, None, ◌⊎◌}
 use Rattle.rs_open.specs.declared.open.Open.{Open}
 use Rattle.rs_open.specs.declared.short.Short.{Short}
@@ -73,7 +73,7 @@ Whenever session P =
 abbrev pub Shows : {X : Type 0} → Session → (Settings → List Item → X) → X → Type 0
 Shows session f x = Whenever session (λ settings items. x ≡ f settings items)
 
--- ---- what an answer tells of the items before and after
+-- ---- what follows from an answer for the items before and after
 
 -- the state stays, and so does what the OPEN says
 pub record Stays (settings : Settings) (old new : List Item) : Type 0 where

@@ -80,7 +80,7 @@ impl Client {
         others.iter().any(|other| self.is_same(other))
     }
 
-    /// What the table of a client says, but for its rules, or its first fault.
+    /// What the table of a client sets, but for its rules, or its first fault.
     #[tactic(auto, unfolding(crate::specs::Values::answer, crate::specs::Documents::client_checks, crate::specs::Documents::client_from))]
     fn read(
         alloc: Global,

@@ -1,4 +1,4 @@
-//! Rules as the tables of a configuration say them.
+//! Rules as the tables of a configuration spell them.
 
 ghost use Rattle.std.specs.Prelude.{◌≡◌, IfOk, option_map, position, bytes_eq};
 ghost use Rattle.toml.specs.View.{view};
@@ -167,7 +167,7 @@ fn read_action(alloc: Global, table: &Value, here: Place) -> Result<Action, Conf
     }
 }
 
-/// A rule as its table says it, or the table's first fault.
+/// A rule as its table spells it, or the table's first fault.
 pub(crate) fn read_rule(
     alloc: Global,
     table: &Value,

@@ -46,7 +46,7 @@ fn place_of(text: &[u8], mark: u8) -> Option<usize>
     text.iter().position(|octet| *octet == mark)
 }
 
-/// The octets before the first such one, and those behind it.
+/// The octets before the first such one, and those after it.
 #[tactic(auto, unfolding(crate::specs::Texts::parted))]
 fn parted(text: &[u8], mark: u8) -> Option<(&[u8], &[u8])>
     ensures { option_map (λ p. (p.0.now, p.1.now)) result ≡ parted mark text.now }

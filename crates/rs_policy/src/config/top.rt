@@ -13,7 +13,7 @@ use crate::faults::{ConfigFault, Key, Place};
 use crate::rules::Disposition;
 use toml::value::Value;
 
-/// What the top says, but for the clients.
+/// What the top sets, but for the clients.
 #[derive(Clone, Copy, Debug, PartialEq, Eq)]
 pub(crate) struct Top {
     pub(crate) server_as: u32,
@@ -46,7 +46,7 @@ pub(crate) const TOP: Place = Place {
 impl Top {
     ghost use Rattle.rs_policy.specs.Documents.{top_checks, top_of};
 
-    /// What the top of a document says but for the clients, or its first fault.
+    /// What the top of a document sets, but for the clients, or its first fault.
     #[tactic(auto, unfolding(crate::specs::Values::answer, crate::specs::Documents::top_checks, crate::specs::Documents::top_of))]
     pub(crate) fn read(document: &Value) -> Result<Top, ConfigFault>
         ensures { result ≡ answer (top_checks (view document.now)) (top_of (view document.now)) }

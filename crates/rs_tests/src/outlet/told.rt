@@ -32,7 +32,7 @@ const OF_B: [u8; 20] = [
 /// COMMUNITIES with 64500:1 alone.
 const TAGGED: [u8; 7] = [0xc0, 8, 4, 0xfb, 0xf4, 0, 1];
 
-/// Four members, with these lines behind what is said of a and of c.
+/// Four members, with these lines after what is said of a and of c.
 fn members(rt: &impl Abort, alloc: Global, of_a: &str, of_c: &str) -> String {
     let text = format!(in alloc;
         "as = 64500\nidentifier = \"192.0.2.1\"\n\

@@ -10,7 +10,7 @@ const AT_THE_TOP: [(&str, &str); 18] = [
     ("as = ", "syntax"),
     ("as = 1\nas = 1\n", "syntax"),
     ("as = 9223372036854775808\n", "syntax"),
-    // each key in its turn, whatever comes behind it
+    // each key in its turn, whatever comes after it
     ("", "missing as"),
     ("as = \"64500\"\n", "bad value as"),
     ("as = 0\n", "bad value as"),
@@ -152,7 +152,7 @@ fn faults_come_in_order(rt: HostRuntime) {
     for (rest, want) in &IN_ORDER {
         more_is_answered(&rt, rt.alloc(), rest, want);
     }
-    // a fault of a client before an unknown key at the top is told behind it
+    // a fault of a client before an unknown key at the top is answered after it
     behind_is_answered(&rt, rt.alloc(), "colour = 1\n[[client]]\n", "bad value ?");
 }
 

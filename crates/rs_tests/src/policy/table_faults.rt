@@ -251,7 +251,7 @@ fn faults_in_a_client(rt: HostRuntime) {
     }
 }
 
-/// A configuration with this rule in one of its lists, behind a good rule, and before the faults of a later client.
+/// A configuration with this rule in one of its lists, after a good rule, and before the faults of a later client.
 fn with_rule(rt: &impl Abort, alloc: Global, list: &str, rule: &str) -> String {
     let text = format!(in alloc;
         "{TOP}{CLIENT}{list} = [{{ action = \"drop\" }}, {{ {rule} }}]\n{OTHER}import = 1\n"
