@@ -1,5 +1,5 @@
 -- Bits of words.
-use Rattle.std.proofs.Common.{Bool, true, false, ◌≡◌, ◌≢◌, ◌<◌, ◌≤◌, ◌==◌, ◌+◌, ◌-◌, ◌*◌, ◌/◌, ◌%◌, ◌^◌, ℕ, zero, suc, List, [], ◌∷◌, length, refl, sym, ◌∙◌, ap, arith, w64, inl, inr}
+use Rattle.std.proofs.Common.{Bool, true, false, ◌≡◌, ◌≢◌, ◌<◌, ◌≤◌, ◌==◌, ◌+◌, ◌-◌, ◌/◌, ◌%◌, ◌^◌, ℕ, zero, suc, List, [], ◌∷◌, length, refl, sym, ◌∙◌, ap, arith, w64, inl, inr}
 use Rattle.std.specs.Prelude.{slice_index, slice_index_or, slice_set, if◌then◌else◌}
 use Rattle.std.specs.Int.{bit_at, trailing_zeros}
 use Rattle.std.proofs.lemmas.Bool.{cases_eq, cases_lt}
@@ -82,16 +82,3 @@ written words n word b below here others m = elim (cases_eq (m / 64) (n / 64)) [
       let not : (m == n) ≡ false = grind (arith, nat_tests, ne) in
       ap (λ w. bit_at w (m % 64) == 1) (index_apart words (n / 64) word (m / 64) ne) ∙ sym (ap (λ t. if t then b else bit_of words m) not)
 ]
-
--- ---- bit i of word k
-
-pub bit_there : (words : List ℕ) (k i : ℕ) → i < 64 → bit_of words (k * 64 + i) ≡ (bit_at (slice_index words k) i == 1)
-bit_there words k i small =
-    let word : (k * 64 + i) / 64 ≡ k = omega (arith, small) in
-    let bit : (k * 64 + i) % 64 ≡ i = omega (arith, small) in
-    ap (λ j. bit_at (slice_index words j) ((k * 64 + i) % 64) == 1) word ∙ ap (λ j. bit_at (slice_index words k) j == 1) bit
-
-pub none_there : (words : List ℕ) (k bit m : ℕ) → ((i : ℕ) → bit ≤ i → i < 64 → bit_at (slice_index words k) i ≡ 0) → k * 64 + bit ≤ m → m < k * 64 + 64 → bit_of words m ≡ false
-none_there words k bit m none low high =
-    let word : m / 64 ≡ k = omega (arith, low, high) in
-    ap (λ j. bit_at (slice_index words j) (m % 64) == 1) word ∙ ap (λ x. x == 1) (none (m % 64) (omega (arith, low, high)) (omega arith))
