@@ -4,8 +4,9 @@
 play_sessions.py PROGRAM FOLDER [NAME..]
 
 A session NAME is FOLDER/NAME.trace, given on standard input, with the configuration NAME.toml (no such
-file: four_members.toml above the folder), what the program must write in NAME.out, and the exit status that
-it must end with in NAME.status (no such file: 0). Each is played by 1, 2, 3 and 16 workers.
+file: four_members.toml above the folder), what the program must write in NAME.out and on standard error in NAME.err
+(no such file: nothing), and the exit status that it must end with in NAME.status (no such file: 0). Each is played by
+1, 2, 3 and 16 workers.
 
 Where no NAME is given, one trace more is played with --progress: with a terminal on standard error it must be told there
 how far the replay is, and without one nothing; what is written is the same.
@@ -39,6 +40,10 @@ def differs(program, folder, name, workers):
         return f"status {run.returncode}, not {wanted_status}: {run.stderr.decode(errors='replace').strip()}"
     if run.stdout != wanted:
         return f"wrote\n{run.stdout.decode(errors='replace')}and not\n{wanted.decode(errors='replace')}"
+    errors = folder / f"{name}.err"
+    wanted_errors = errors.read_bytes() if errors.exists() else b""
+    if run.stderr != wanted_errors:
+        return f"wrote {run.stderr} on standard error, and not {wanted_errors}"
     return None
 
 

@@ -1,12 +1,12 @@
 -- What a turn decides: candidates, touched prefixes and the Loc-RIB.
-mod Listings
-mod LocByNumber
-mod Decisions
-mod TurnedLoc
-mod Numbering
-mod Touches
-mod TouchedNumbers
-mod TouchedList
-mod Ranks
-mod OthersAlone
-mod Counting
+pub mod Listings
+pub mod LocByNumber
+pub mod Decisions
+pub mod TurnedLoc
+pub mod Numbering
+pub mod Touches
+pub mod TouchedNumbers
+pub mod TouchedList
+pub mod Ranks
+pub mod OthersAlone
+pub mod Counting

@@ -1,8 +1,8 @@
 -- The next message: which prefixes it is about, and what it leaves.
-mod Limits
-mod Ranges
-mod Fullest
-mod AllWaiting
-mod Rising
-mod Chosen
-mod Beginning
+pub mod Limits
+pub mod Ranges
+pub mod Fullest
+pub mod AllWaiting
+pub mod Rising
+pub mod Chosen
+pub mod Beginning

@@ -1,19 +1,19 @@
 -- What waits to be sent: the list of it, how it is found and how it changes.
-mod Deduped
-mod Chains
-mod Slots
-mod Withdrawals
-mod Finding
-mod Adding
-mod TwoParts
-mod PutAmong
-mod MarkedAgain
-mod MarkedAll
-mod Owing
-mod Carrying
-mod Backing
-mod Unchanged
-mod Draining
-mod Standing
-mod AskedAgain
-mod Exact
+pub mod Deduped
+pub mod Chains
+pub mod Slots
+pub mod Withdrawals
+pub mod Finding
+pub mod Adding
+pub mod TwoParts
+pub mod PutAmong
+pub mod MarkedAgain
+pub mod MarkedAll
+pub mod Owing
+pub mod Carrying
+pub mod Backing
+pub mod Unchanged
+pub mod Draining
+pub mod Standing
+pub mod AskedAgain
+pub mod Exact
