@@ -130,7 +130,7 @@ where_it_fits speech p m (Some n) is =
 due_fits : (t : Held) (c : ℕ) (speech : Speech) (p : Prefix) (m : List Attribute) → due_to t c speech p ≡ Some m → FitsAlone speech p m
 due_fits t c speech p m is = go (best_of (ranks_among t c p (holders_at t p))) is
   where
-    go : (o : Option Rank) → option_and_then (λ (best : Rank). route_from t c speech p best.slot) o ≡ Some m → FitsAlone speech p m
+    go : (o : Option Rank) → option_and_then (λ (best : Rank). route_from t c speech p best.place) o ≡ Some m → FitsAlone speech p m
     go None e = absurd (let f : ◌≡◌ {A = Option (List Attribute)} None (Some m) = e in cc)
     go (Some best) e = where_it_fits speech p m _ e
 
