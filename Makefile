@@ -2,7 +2,7 @@
 # It stands on `rt`, the command of the Rattle toolchain, and on Python 3.
 
 .DEFAULT_GOAL := help
-.PHONY: help demo build serve test interop bench attack examples clean
+.PHONY: help demo try build serve test interop bench attack examples clean
 
 PROGRAMS := rs_replay rs_served
 
@@ -11,6 +11,9 @@ help: ## list what can be done
 
 demo: ## play a recorded session: one route from one member to another (builds without proofs)
 	@tools/demo
+
+try: ## run the live server between two members (BIRDs where installed), built without proofs: minutes, and it ends by itself
+	@python3 tools/try_live.py
 
 build: ## prove what the programs stand on, and leave them in out/
 	@mkdir -p out

@@ -22,6 +22,7 @@ import threading
 import time
 
 from page import goals, page
+from plot import drawing
 from servers import HOST, PORT, servers
 
 HERE = pathlib.Path(__file__).resolve().parent
@@ -143,6 +144,8 @@ def main():
     text = page(rows, judged, met, seen, machine, [(it.name, it.version()) for it in there], [(it.name, it.missing) for it in wanted if it.missing])
     if options.page:
         options.page.write_text(text)
+        if made := drawing(text):
+            options.page.with_name("bench.svg").write_text(made)
     print(text)
 
 

@@ -5,8 +5,8 @@ Runs `rt ci` at the top of the repository and passes on what it prints. Meanwhil
 second, at the processes of the prover and of the compilers; from that it prints how long each crate's
 proofs, tests and edits took. Then it plays each session of examples/sessions to the built rs_replay and two
 members to the built rs_served, runs tests of rs_workers where no thread can be started, tests of calls that take no
-memory where requests are counted and a test of outlets where memory is refused, and compares the example configurations
-with those that are tested. The last line is 'N passed, M failed' over all of it; the exit status is 0 where nothing failed.
+memory where requests are counted and a test of outlets where memory is refused, compares the example configurations
+with those that are tested, and looks whether what the pages name is there. The last line is 'N passed, M failed' over all of it; the exit status is 0 where nothing failed.
 
 It reads the repository, and writes nothing but what `rt ci` itself writes.
 """
@@ -23,6 +23,7 @@ import threading
 import time
 
 from check_examples import check
+from check_names import check_pages
 from play_server import play_members
 from play_sessions import play
 from play_without_memory import play_memory
@@ -144,7 +145,7 @@ def main():
     members = play_members(TOP / "crates/rs_served/out/rs_served")
     alone = play_alone(TOP / "crates/rs_workers/out/rs_workers_tests")
     memory = play_memory(TOP / "crates/rs_tests/out/rs_tests_tests")
-    held, differ = tell(itertools.chain(sessions, members, alone, memory, check()))
+    held, differ = tell(itertools.chain(sessions, members, alone, memory, check(), check_pages()))
     passed, failed = passed + held, failed + differ
     print(f"{passed} passed, {failed} failed")
     return 1 if failed else 0

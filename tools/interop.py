@@ -4,7 +4,7 @@
 interop.py PROGRAM [--member NAME] [--page FILE]
 
 All that are installed are members at once, beside a plain member of our own, on loopback addresses. The play runs twice:
-with four-octet AS numbers in all sessions, then with two-octet sessions where a daemon can be told so. What is not
+with four-octet AS numbers in all sessions, then with two-octet sessions where a daemon can be set so. What is not
 installed is skipped with a word, and a skip is not counted as passed. FILE is made anew with the tables of what was seen.
 """
 import argparse
@@ -40,7 +40,7 @@ def write_page(page, members, plays, missing):
         "",
         f"{today.day} {today:%B %Y}, {platform.system()} {platform.release()}, {os.cpu_count()} processors.",
         "",
-        "| Member | Version | What it is told beyond its neighbour, its routes and that it may take and send all |",
+        "| Member | Version | What it needs beyond its neighbour, its routes and that it may take and send all |",
         "|---|---|---|",
     ]
     text += [f"| {it.name} | {it.version()} | {it.settings} |" for it in members]

@@ -18,12 +18,12 @@ PATIENCE = 60
 CHECKS = (
     ("comes up", "the session is Established, as the daemon says, and is the first one that it had"),
     ("hears all others", "its own show command lists just the 1,000 routes of each other member"),
-    ("as they were sent", "each of these with the AS_PATH, NEXT_HOP, MED and communities that its sender was told to send (OpenBGPD shows a MED of 0 where there is none)"),
+    ("as they were sent", "each of these with the AS_PATH, NEXT_HOP, MED and communities that its sender was set to send (OpenBGPD shows a MED of 0 where there is none)"),
     ("is heard", "the plain member was told all of its 1,000 routes, so"),
     ("withdrawal arrives", "the plain member withdraws a route, and it is gone from the daemon's table"),
     ("withdraws", "it withdraws a route by its own command, and the plain member is told"),
     ("faulty route stays out", "the plain member announces a route with a faulty ORIGIN, new or in place of one: neither is in the daemon's table, and its session lasts"),
-    ("asks again", "by its own command for ROUTE-REFRESH all routes come again, as its own count of what it heard tells, its table is as before, and the plain member hears nothing"),
+    ("asks again", "by its own command for ROUTE-REFRESH all routes come again, by its own count of what it heard, its table is as before, and the plain member hears nothing"),
     ("the server's stop", "the server is ended by SIGTERM: the session is down, and no route of it is left in the table"),
 )
 

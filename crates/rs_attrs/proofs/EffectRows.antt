@@ -80,7 +80,7 @@ host_bits : effect_of (hex (codes "0000 0014") ++ u1 ++ hex (codes "19c63364ff")
 unfolding all_types
 host_bits = refl
 
--- ---- what is told of an UPDATE with this body
+-- ---- what is noted of an UPDATE with this body
 
 abbrev faults_noted : List ℕ → Option Faulted
 faults_noted body = option_map (λ fields. faulted_in fields Four) (fields_of body)

@@ -116,7 +116,7 @@ HasEffect body mode effect =
     (((fields : Fields) → IsBody body fields → ⊥) × (effect ≡ reset_named names.MalformedAttributeList))
     ⊎ ((fields : Fields) × IsBody body fields × (m : List Attribute) × (faults : Faults) × Reads fields.attributes mode m faults × IsEffect fields m faults effect)
 
--- ---- what is told of an UPDATE that is taken, but not as it came (RFC 7606, 2 and 3, d)
+-- ---- what is noted of an UPDATE that is taken, but not as it came (RFC 7606, 2 and 3, d)
 
 -- where there is NLRI, the first of ORIGIN, AS_PATH and NEXT_HOP that isn't
 abbrev pub missing_for : Fields → List Attribute → Option ℕ

@@ -1,4 +1,4 @@
--- What is wrong with the attributes of a field, as a server tells it: by type and cause, in the order of the field
+-- What is wrong with the attributes of a field, as it is noted: by type and cause, in the order of the field
 -- (RFC 7606, 2 to 4 and 7).
 use Rattle.std.specs.Prelude.{ℕ, ◌==◌, Bool, true, false, List, [], ◌∷◌, ◌++◌, length, Option, Some, None, option_map, is_some, if◌then◌else◌}
 use Rattle.std.specs.List.{find, cons_option}
@@ -7,14 +7,13 @@ use Rattle.rs_attrs.specs.declared.table.Outcome.{Outcome}
 use Rattle.rs_attrs.specs.declared.table.Outcome.TheVariants as outcome
 use Rattle.rs_attrs.specs.declared.table.Shape.{Shape}
 use Rattle.rs_attrs.specs.declared.table.Shape.TheVariants as shape
-use Rattle.rs_attrs.specs.declared.table.TypeRow.{TypeRow}
 use Rattle.rs_attrs.specs.declared.faults.Cause.{Cause}
 use Rattle.rs_attrs.specs.declared.faults.Cause.TheVariants as cause
 use Rattle.rs_attrs.specs.declared.faults.AttributeFault.{AttributeFault}
 use Rattle.rs_attrs.specs.declared.faults.Faulted.{Faulted}
 use Rattle.rs_attrs.specs.declared.faults.Flaw.{Flaw}
 use Rattle.rs_attrs.specs.Spellings.{Spelling, spellings_of, rest_of}
-use Rattle.rs_attrs.specs.Table.{row_of, fits_class, outcome_of, is_kept, is_withdraw, is_discard}
+use Rattle.rs_attrs.specs.Table.{Row, row_of, fits_class, outcome_of, is_kept, is_withdraw, is_discard}
 use Rattle.rs_attrs.specs.Meaning.{that_counts}
 
 -- Why a value that isn't well formed is not: ORIGIN of one octet has a bad value, and a path bad segments; else the
@@ -31,7 +30,7 @@ value_cause shape.LargeCommunities value = Some cause.Length
 value_cause shape.Never value = None
 
 -- the flags are looked at before the value; an unrecognized type has none of these faults
-abbrev pub cause_by : Option TypeRow → Spelling → Option Cause
+abbrev pub cause_by : Option Row → Spelling → Option Cause
 cause_by None s = None
 cause_by (Some r) s = if fits_class r.class s.flags then value_cause r.shape s.value else Some cause.Flags
 

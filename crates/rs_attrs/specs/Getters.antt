@@ -5,8 +5,7 @@ use Rattle.std.specs.Int.{w32, from_be_bytes}
 use Rattle.rs_attrs.specs.Meaning.{Attribute, get}
 use Rattle.rs_attrs.specs.Paths.{Segment, quads, path_length, path_has, origin_as}
 use Rattle.rs_attrs.specs.Writing.{path_in}
-use Rattle.rs_attrs.specs.Table.{row_of, is_kept, is_well_formed}
-use Rattle.rs_attrs.specs.declared.table.TypeRow.{TypeRow}
+use Rattle.rs_attrs.specs.Table.{Row, row_of, is_kept, is_well_formed}
 use Rattle.rs_attrs.specs.declared.mode.Mode.TheVariants.{Four}
 use Rattle.rs_attrs.specs.declared.getters.AttributeRef.{AttributeRef}
 use Rattle.rs_attrs.specs.Types as types
@@ -55,4 +54,4 @@ attribute_at a = record { kind = a.kind; optional = a.optional; transitive = a.t
 
 -- the value is as the row of its type asks
 pub record IsWellFormedAs (kind : ℕ) (value : List ℕ) : Type 0 where
-  pub form : (r : TypeRow) → row_of Four kind ≡ Some r → is_kept r.otherwise ≡ false → is_well_formed Four r.shape value ≡ true
+  pub form : (r : Row) → row_of Four kind ≡ Some r → is_kept r.otherwise ≡ false → is_well_formed Four r.shape value ≡ true

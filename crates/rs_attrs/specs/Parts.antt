@@ -1,4 +1,4 @@
--- What is to be written of attributes, one part behind the other, by rising type. For a two-octet peer these are those
+-- What is to be written of attributes, one part after the other, by rising type. For a two-octet peer these are those
 -- below AS4_PATH, with AS numbers in two octets, then AS4_PATH and AS4_AGGREGATOR where they are needed, and those above.
 use Rattle.std.specs.Prelude.{◌≡◌, ℕ, ◌+◌, ◌++◌, Bool, true, false, map, filter, drop, List, [], ◌∷◌, nat_lt, length, if◌then◌else◌}
 use Rattle.std.specs.List.{flat_map}

@@ -1,4 +1,4 @@
--- The types of path attributes that are known, by name.
+-- The numbers of the types of path attributes that are known.
 use Rattle.std.specs.Prelude.{ℕ}
 
 -- RFC 4271, 5.1

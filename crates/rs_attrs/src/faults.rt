@@ -1,6 +1,6 @@
-//! What is wrong with a field of path attributes: what comes of it (RFC 7606, 2), and what a server
-//! tells its operator of it, the first attribute for which the UPDATE is treated as withdraw and the
-//! first that is discarded. Whether one is missing is asked of `Attrs`.
+//! What is wrong with a field of path attributes: what comes of it (RFC 7606, 2), and what goes into
+//! the log of it, the first attribute for which the UPDATE is treated as withdraw and the first that
+//! is discarded. Whether one is missing is asked of `Attrs`.
 
 ghost use Rattle.std.specs.Prelude.{◌≡◌, option_map};
 ghost use Rattle.rs_attrs.specs.Flaws.{value_cause, cause_in, flaw_by, cut_off, with_flaw};
@@ -9,7 +9,8 @@ ghost use Rattle.rs_attrs.specs.Walking.{spelling_in};
 use crate::mode::Mode;
 use crate::reading::field::Found;
 use crate::reading::values::{fits_class, outcome_of};
-use crate::table::{Outcome, Shape, row_of};
+use crate::table::{Outcome, Shape, attribute_name, row_of};
+use std::fmt;
 
 /// What is wrong with a field of path attributes, of which each type's first attribute counts
 /// (RFC 7606, 2 and 3).
@@ -61,6 +62,49 @@ pub struct Faulted {
     pub withdraw: Option<AttributeFault>,
     /// That is discarded.
     pub discard: Option<AttributeFault>,
+}
+
+impl Cause {
+    /// How the log words it.
+    fn text(self) -> &'static str {
+        match self {
+            Cause::Flags => "wrong flags",
+            Cause::Length => "wrong length",
+            Cause::Value => "malformed value",
+            Cause::Position => "cut off",
+            Cause::Twice => "there twice",
+            Cause::Missing => "missing",
+        }
+    }
+}
+
+impl AttributeFault {
+    /// Puts the attribute, what came of it and why.
+    fn put<W: fmt::Write>(&self, f: &mut fmt::Formatter<W>, outcome: &str) -> fmt::Result {
+        let AttributeFault { kind, cause } = *self;
+        match attribute_name(kind) {
+            Some(name) => write!(f, "{name} ({kind})")?,
+            None => write!(f, "attribute {kind}")?,
+        }
+        write!(f, " {outcome}: {}", cause.text())
+    }
+}
+
+/// As in `ORIGIN (1) treated as withdraw: missing; AGGREGATOR (7) discarded: wrong length`. A type
+/// without a name is written as in `attribute 99`.
+impl fmt::Display for Faulted {
+    fn fmt<W: fmt::Write>(&self, f: &mut fmt::Formatter<W>) -> fmt::Result {
+        if let Some(fault) = self.withdraw {
+            fault.put(f, "treated as withdraw")?;
+            if self.discard.is_some() {
+                write!(f, "; ")?;
+            }
+        }
+        if let Some(fault) = self.discard {
+            fault.put(f, "discarded")?;
+        }
+        Ok(())
+    }
 }
 
 /// An attribute at fault, and what comes of it.
@@ -142,7 +186,7 @@ pub(crate) fn flaw_of_rest(rest: &[u8]) -> Option<Flaw>
     })
 }
 
-/// With a flaw more, behind those that were noted.
+/// With a flaw more, after those that were noted.
 pub(crate) fn noting(faulted: Faulted, flaw: Option<Flaw>) -> Faulted
     ensures { result ≡ with_flaw faulted flaw }
 {

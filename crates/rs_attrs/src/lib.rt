@@ -4,11 +4,11 @@
 //! always legal, with what is wrong with the field. An `Attrs` is asked by its getters, compared,
 //! ordered, hashed and stripped; `size` and `write_into` spell it for a peer of either kind.
 //!
-//! - `types` names the types, `table` says of each which flags and values it has and what comes of
-//!   one that isn't well formed; `mode` says how a peer spells AS numbers.
+//! - `types` has the numbers of the types, `table` a row for each: its number, its name, its flags and
+//!   values, and what comes of one that isn't well formed; `mode` says how a peer spells AS numbers.
 //! - `reading` and its folder: `field` takes a field apart, `values` judges each attribute by the
 //!   table, `gathering` keeps what counts, `two` puts AS4_PATH and AS4_AGGREGATOR in their places.
-//! - `faults` says what is wrong with a field, for the UPDATE and for the operator.
+//! - `faults` says what is wrong with a field, for the UPDATE and for the log.
 //! - `attrs` says how attributes lie in memory; `getters` and `stripping` ask and change them.
 //! - `segments` takes a path apart, for AS numbers in two octets and in four.
 //! - `writing` and its folder: `parts` is the list of what is to be written, by rising type, which
@@ -41,6 +41,7 @@ pub use laws::{
 pub use mode::Mode;
 pub use reading::{Parsed, read};
 pub use stripping::{Strip, stripped};
+pub use table::attribute_name;
 pub use types::{
     AGGREGATOR, AS_PATH, AS4_AGGREGATOR, AS4_PATH, ATOMIC_AGGREGATE, CLUSTER_LIST, COMMUNITIES,
     EXTENDED_COMMUNITIES, LARGE_COMMUNITY, LOCAL_PREF, MP_REACH_NLRI, MP_UNREACH_NLRI,

@@ -15,7 +15,7 @@ use crate::attrs::Attrs;
 use crate::faults::{Faulted, Faults};
 use crate::mode::Mode;
 use crate::reading::field::Found;
-use crate::reading::gathering::{Noted, gather};
+use crate::reading::gathering::gather;
 use crate::reading::two::push_value_by_two;
 use crate::reading::values::head_of;
 use crate::types::{AGGREGATOR, AS_PATH, AS4_AGGREGATOR, AS4_PATH};
@@ -104,7 +104,7 @@ pub struct Parsed {
     pub attrs: Attrs,
     /// What comes of the attributes that aren't.
     pub faults: Faults,
-    /// The first attributes at fault, to be told.
+    /// The first attributes at fault, for the log.
     pub faulted: Faulted,
 }
 
@@ -119,7 +119,7 @@ pub fn read(alloc: Global, field: &[u8], mode: Mode) -> Result<Parsed, AllocErro
     ensures faults_noted { IfOk result (λ p. p.faulted ≡ faulted_of field.now mode) }
 {
     let mut kept = SmallVec::new(alloc);
-    let Noted { faults, faulted } = gather(&mut kept, field, mode)?;
+    let (faults, faulted) = gather(&mut kept, field, mode)?;
     let attrs = attributes_of(alloc, mode, kept.as_slice())?;
     Ok(Parsed {
         attrs,

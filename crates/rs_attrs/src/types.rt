@@ -1,4 +1,4 @@
-//! The types of path attributes that are known, and those of a path's segments, by name.
+//! The numbers of the types of path attributes that are known, and of those of a path's segments.
 
 /// The type of ORIGIN (RFC 4271, 5.1.1).
 pub const ORIGIN: u8 = 1;

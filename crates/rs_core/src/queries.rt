@@ -37,7 +37,7 @@ ghost use Rattle.rs_core.specs.Session.Hearing.{is_up, is_closing};
 impl Core {
     ghost use Rattle.rs_core.specs.Core.{client_count, loc_rib, is_refusal, is_refused, last_of, lent_octets, owed, is_decided};
     ghost use Rattle.rs_core.specs.Run.Moves.{Move, config_in};
-    ghost use Rattle.rs_core.specs.Session.Hearing.{Hearing, state_in, hold_in, mode_in, limit_in, ending_in, faulted_in};
+    ghost use Rattle.rs_core.specs.Session.Hearing.{Hearing, state_in, hold_in, mode_in, limit_in, ending_in, faulted_updates_in};
     ghost use Rattle.rs_core.specs.Run.Meaning.{hearing, is_established, IsServed};
     ghost use Rattle.rs_core.specs.Run.Agreeing.{Agrees, Knows};
     ghost use Rattle.rs_core.specs.Told.InTurn.{IsAnswered};
@@ -132,7 +132,7 @@ impl Core {
     /// The UPDATEs of a client that were not taken as they came.
     pub fn faulted(&self, c: usize) -> FaultedUpdates
         requires { c < client_count self.now }
-        ensures { (run : List Move) → Agrees self.now run → result ≡ faulted_in (hearing c run) }
+        ensures { (run : List Move) → Agrees self.now run → result ≡ faulted_updates_in (hearing c run) }
     {
         self.watched[c].faulted
     }

@@ -4,15 +4,19 @@
 //! in that list. Nothing is kept between two calls, and no call takes memory.
 //!
 //! - `rank` is what the choice looks at in a route.
-//! - `choice` has the call, `best`: filters over the whole list, in the order of the standard's
-//!   steps.
+//! - `choice` has the call, `best`. It is defined by filters over the whole list, one for each of
+//!   the standard's steps (`specs/Choice.antt`). The code asks for the first rank by all steps but
+//!   c, MULTI_EXIT_DISC, and for the next one as long as that rank loses by c.
 //! - `laws` are contracts of functions that do nothing: the best is unbeaten, and the order of the
 //!   list doesn't matter.
+//! - `tests` have choices worked out by the standard's rules.
 #![tactic(auto)]
 
 mod choice;
 mod laws;
 mod rank;
+#[cfg(test)]
+mod tests;
 
 pub use choice::best;
 pub use laws::{best_ignores_order, best_is_unbeaten};

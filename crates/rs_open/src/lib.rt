@@ -9,6 +9,7 @@
 //! - `refresh` reads a ROUTE-REFRESH.
 //! - `short` has the messages that a session says by itself, `writing` their octets.
 //! - `laws` are contracts of functions that do nothing.
+//! - `tests` and its folder have OPENs of other implementations and of the RFCs, and texts.
 #![tactic(auto)]
 
 mod codes;
@@ -17,6 +18,8 @@ mod open;
 mod reading;
 mod refresh;
 mod short;
+#[cfg(test)]
+mod tests;
 mod triples;
 mod writing;
 

@@ -9,7 +9,8 @@
 //!
 //! `session.rt` has the calls, `phase.rt` what a message or a moment makes of a session, `faults.rt`
 //! the NOTIFICATIONs that end one, `laws.rt` what the definitions come to; `heard.rt`, `act.rt` and
-//! `settings.rt` are what goes in, what comes out and what is configured. Contracts see a session as
+//! `settings.rt` are what goes in, what comes out and what is configured. `tests.rt` and its folder have
+//! sessions by hand. Contracts see a session as
 //! the list of what befell it (`specs/Items.antt`), and nothing above this crate looks inside one.
 //!
 //! No call takes memory, and none fails but `opened`, by `Busy`.
@@ -22,6 +23,8 @@ pub mod laws;
 mod phase;
 mod session;
 mod settings;
+#[cfg(test)]
+mod tests;
 
 pub use act::{Act, Busy, State};
 pub use heard::Heard;

@@ -110,13 +110,13 @@ have_one_effect body mode x y (inr (fields, are, m, faults, reads, is)) (inr (ot
     same_effect fields m faults x y is
     (subst (λ faults. P fields m faults) meant.1 (subst (λ m. P fields m flaws) meant.0 (subst (λ fields. P fields n flaws) same has)))
 
--- ---- what is told
+-- ---- what is noted
 
 -- of the fields that were found, with their meaning
-pub tells : (body : List ℕ) (mode : Mode) (found fields : Fields) (m : List Attribute) (faults : Faults) (faulted : Faulted) (missing : Option ℕ) → AreOctets body
+pub names_faults : (body : List ℕ) (mode : Mode) (found fields : Fields) (m : List Attribute) (faults : Faults) (faulted : Faulted) (missing : Option ℕ) → AreOctets body
     → IsBody body found → IsBody body fields → Reads found.attributes mode m faults → faulted ≡ faulted_of found.attributes mode → missing ≡ missing_for found m
     → with_missing faulted missing ≡ faulted_in fields mode
-tells body mode found fields m faults faulted missing are is other reads at_fault lacks =
+names_faults body mode found fields m faults faulted missing are is other reads at_fault lacks =
     let read = read_of found.attributes mode in
     let meant = same_meaning found.attributes mode m read.attributes faults read.faults reads (fields_are_read found.attributes mode (attribute_octets body found are is)) in
     (λ i. with_missing (at_fault i) ((lacks ∙ ap (missing_for found) meant.0) i)) ∙ ap (λ (fields : Fields). faulted_in fields mode) (same_fields body found fields is other)

@@ -1,4 +1,4 @@
--- What is told of an UPDATE names an attribute for which it is treated as withdraw exactly where it is.
+-- What is noted of an UPDATE names an attribute for which it is treated as withdraw exactly where it is.
 use Rattle.std.proofs.Common.{◌≡◌, ℕ, ◌&&◌, ◌||◌, Bool, true, false, cond, not, List, [], ◌∷◌, Option, Some, None, refl, ap, ◌∙◌}
 use Rattle.std.specs.Prelude.{is_some, is_none, option_map}
 use Rattle.std.specs.Option.{option_or}

@@ -1,5 +1,5 @@
 -- Laws of the definition: octets have an effect and no second one, so that a list of UPDATEs means one table; and where NLRI
--- counts as withdrawn for its attributes, one of them is told.
+-- counts as withdrawn for its attributes, one of them is noted.
 use Rattle.std.specs.Prelude.{◌≡◌, ℕ, List, ◌∷◌, Option, is_some}
 use Rattle.std.specs.List.{AllByRecursion, AllZip}
 use Rattle.rs_octets.specs.Prefixes.{Prefix}
@@ -45,7 +45,7 @@ BodiesMeanOneTable =
 abbrev pub SameChangesOverlayAlike : Type 0
 SameChangesOverlayAlike = (x y : Change) (changes : List Change) (p : Prefix) → IsSameChange x y → table_since (x ∷ changes) p ≡ table_since (y ∷ changes) p
 
--- what is told of an UPDATE names an attribute for which it is treated as withdraw exactly where it is
+-- what is noted of an UPDATE names an attribute for which it is treated as withdraw exactly where it is
 abbrev pub UpdatesNameTheirFaults : Type 0
 UpdatesNameTheirFaults = (fields : Fields) (mode : Mode) (m : List Attribute) (faults : Faults) → AreOctets fields.attributes → Reads fields.attributes mode m faults
     → is_some (faulted_in fields mode).withdraw ≡ treat_as_withdraw fields m faults

@@ -44,7 +44,7 @@ abbrev pub HasItsMandatory : Outcome → Type 0
 HasItsMandatory (outcome.Reset code subcode) = Unit {0}
 HasItsMandatory (outcome.Change withdrawn announced attrs faulted) = MatchOption attrs (Unit {0}) (λ m. HasMandatory (arc_value m))
 
--- what is told is what is wrong with the fields that make up the body (RFC 7606, 2 to 4 and 7)
+-- what is noted is what is wrong with the fields that make up the body (RFC 7606, 2 to 4 and 7)
 abbrev pub NamesFaults : List ℕ → Mode → Outcome → Type 0
 NamesFaults body mode (outcome.Reset code subcode) = Unit {0}
 NamesFaults body mode (outcome.Change withdrawn announced attrs faulted) = (fields : Fields) → IsBody body fields → faulted ≡ faulted_in fields mode

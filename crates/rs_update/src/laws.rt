@@ -9,7 +9,7 @@ pub fn bodies_have_one_effect()
     ensures no_other { BodiesHaveOneEffect }
 {}
 
-/// UPDATEs of which none resets the session mean a table of routes, and no second one.
+/// UPDATEs without a reset determine exactly one table.
 pub fn bodies_mean_one_table()
     ensures there_is { BodiesMeanTables }
     ensures no_other { BodiesMeanOneTable }
@@ -20,7 +20,8 @@ pub fn same_changes_overlay_alike()
     ensures { SameChangesOverlayAlike }
 {}
 
-/// An UPDATE whose NLRI counts as withdrawn tells why, and no other does (RFC 7606, 2 and 3, d).
+/// An UPDATE whose NLRI counts as withdrawn names the attribute for which it does, and no other UPDATE
+/// names one (RFC 7606, 2 and 3, d).
 pub fn updates_name_their_faults()
     ensures { UpdatesNameTheirFaults }
 {}

@@ -14,5 +14,7 @@ mod fields;
 pub mod laws;
 mod outcome;
 mod prefixes;
+#[cfg(test)]
+mod tests;
 
 pub use outcome::{Outcome, effect};

@@ -29,7 +29,7 @@ pub enum Outcome {
         withdrawn: Vec<Prefix>,
         announced: Vec<Prefix>,
         attrs: Option<Arc<Attrs>>,
-        /// What is told: the first attributes at fault, or the one that is missing.
+        /// For the log: the first attributes at fault, or the one that is missing.
         faulted: Faulted,
     },
 }
@@ -88,7 +88,7 @@ fn treats_as_withdraw(faults: &Faults, missing: Option<u8>) -> bool
     faults.withdraw || missing.is_some()
 }
 
-/// What is told of attributes at fault, and of one that is missing.
+/// What is noted of attributes at fault, and of one that is missing.
 fn faults_noted(faulted: Faulted, missing: Option<u8>) -> Faulted
     ensures { result ≡ with_missing faulted missing }
 {

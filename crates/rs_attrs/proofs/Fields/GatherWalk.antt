@@ -1,4 +1,4 @@
--- A field gone over once, from left to right: what is kept, and what is told of the others.
+-- A field gone over once, from left to right: what is kept, and what is noted of the others.
 use Rattle.std.proofs.Common.{◌≡◌, ℕ, ◌<◌, ◌&&◌, ◌||◌, Bool, true, false, cond, List, [], ◌∷◌, ◌++◌, length, get_or, set, replicate, Option, Some, None, refl, sym, ap, ◌∙◌, subst, nat_eq, nat_lt}
 use Rattle.std.specs.Prelude.{is_some, not, option_map}
 use Rattle.std.proofs.lemmas.Bool.{eqb-true, lt-ltb}
@@ -6,7 +6,7 @@ use Rattle.rs_attrs.specs.declared.mode.Mode.{Mode}
 use Rattle.rs_attrs.specs.declared.faults.Faults.{Faults}
 use Rattle.rs_attrs.specs.declared.table.Outcome.{Outcome}
 use Rattle.rs_attrs.specs.declared.reading.field.Found.{Found}
-use Rattle.rs_attrs.specs.declared.reading.gathering.Noted.{Noted}
+use Rattle.rs_attrs.specs.declared.faults.Faulted.{Faulted}
 use Rattle.rs_attrs.specs.Spellings.{Spelling, spellings_of, rest_of}
 use Rattle.rs_attrs.specs.Table.{outcome_of, is_kept, is_withdraw, is_unknown, is_discard}
 use Rattle.rs_attrs.specs.Meaning.{that_counts, if_kept, kept_spelling, stands_twice, comes_to, some_comes_to, faults_of, all_types}
@@ -26,12 +26,12 @@ faults_among mode done = record {
 }
 
 -- what stands when this is left of the field
-pub record Gathering (mode : Mode) (field : List ℕ) (came : List Bool) (kept : List Found) (faults_noted : Noted) (rest : List ℕ) : Type 0 where
+pub record Gathering (mode : Mode) (field : List ℕ) (came : List Bool) (kept : List Found) (faults_noted : Faults × Faulted) (rest : List ℕ) : Type 0 where
   pub done : List Spelling
-  pub flaws_so_far : FlawsSoFar mode field came faults_noted.faulted done rest
+  pub flaws_so_far : FlawsSoFar mode field came faults_noted.1 done rest
   pub rising : AreRising kept
   pub same : (kind : ℕ) → noted kept kind ≡ kept_spelling mode done kind
-  pub faults : faults_noted.faults ≡ faults_among mode done
+  pub faults : faults_noted.0 ≡ faults_among mode done
 
 -- ---- one more
 
@@ -95,7 +95,7 @@ same_more mode done s used same kind = by_test (comes_among s.kind done) refl (i
     by_test true came k e = same kind ∙ ap (if_kept mode) (sym (counts_same kind done s came))
     by_test false none k e = put k e (nat_eq s.kind kind) refl none ∙ ap (if_kept mode) (sym (counts_new kind done s none))
 
-gathering_more : (mode : Mode) (field : List ℕ) (came : List Bool) (kept more : List Found) (faults_noted new : Noted) (rest after : List ℕ) (s : Spelling) → Gathering mode field came kept faults_noted rest → Steps rest s after
+gathering_more : (mode : Mode) (field : List ℕ) (came : List Bool) (kept more : List Found) (faults_noted new : Faults × Faulted) (rest after : List ℕ) (s : Spelling) → Gathering mode field came kept faults_noted rest → Steps rest s after
     → s.kind < 256 → new ≡ noted_more mode faults_noted (get_or came s.kind false) s → AreRising more
     → ((kind : ℕ) → noted more kind ≡ noted_by (not (get_or came s.kind false) && is_kept (outcome_of mode s)) s (noted kept) kind)
     → Gathering mode field (set came s.kind true) more new after
@@ -103,14 +103,14 @@ gathering_more mode field came kept more faults_noted new rest after s had steps
     let before : get_or came s.kind false ≡ comes_among s.kind had.done = had.flaws_so_far.came s.kind in
     record {
       done = had.done ++ s ∷ [];
-      flaws_so_far = so_far_more mode field came faults_noted.faulted new.faulted had.done rest after s (flaw_by mode (get_or came s.kind false) s) had.flaws_so_far steps byte refl (ap (λ (t : Noted). t.faulted) new_is);
+      flaws_so_far = so_far_more mode field came faults_noted.1 new.1 had.done rest after s (flaw_by mode (get_or came s.kind false) s) had.flaws_so_far steps byte refl (ap (λ (t : Faults × Faulted). t.1) new_is);
       rising = rising;
       same = λ kind. more_is kind ∙ ap (λ b. noted_by (not b && is_kept (outcome_of mode s)) s (noted kept) kind) before ∙ same_more mode had.done s (noted kept) had.same kind;
-      faults = ap (λ (t : Noted). t.faults) new_is ∙ (λ i. faults_with mode (had.faults i) (before i) s) ∙ sym (faults_more mode had.done s byte);
+      faults = ap (λ (t : Faults × Faulted). t.0) new_is ∙ (λ i. faults_with mode (had.faults i) (before i) s) ∙ sym (faults_more mode had.done s byte);
     }
 
 -- the same, at the place that the code looks at
-gathering_at : (mode : Mode) (field : List ℕ) (came : List Bool) (kept more : List Found) (faults_noted new : Noted) (rest after : List ℕ) (s : Spelling) (place : ℕ) → Gathering mode field came kept faults_noted rest → Steps rest s after
+gathering_at : (mode : Mode) (field : List ℕ) (came : List Bool) (kept more : List Found) (faults_noted new : Faults × Faulted) (rest after : List ℕ) (s : Spelling) (place : ℕ) → Gathering mode field came kept faults_noted rest → Steps rest s after
     → s.kind < 256 → place ≡ s.kind → new ≡ noted_more mode faults_noted (get_or came place false) s → AreRising more
     → ((kind : ℕ) → noted more kind ≡ noted_by (not (get_or came place false) && is_kept (outcome_of mode s)) s (noted kept) kind)
     → Gathering mode field (set came place true) more new after
@@ -119,20 +119,20 @@ gathering_at mode field came kept more faults_noted new rest after s place had s
     → ((kind : ℕ) → noted more kind ≡ noted_by (not (get_or came place false) && is_kept (outcome_of mode s)) s (noted kept) kind) → Gathering mode field (set came place true) more new after in
     subst P (sym e) (λ new_is more_is. gathering_more mode field came kept more faults_noted new rest after s had steps byte new_is rising more_is) new_is more_is
 
--- what is kept leaves nothing to tell
+-- what is kept leaves nothing to note
 flaw_kept : (mode : Mode) (s : Spelling) → is_kept (outcome_of mode s) ≡ true → flaw_by mode false s ≡ None
 flaw_kept mode s good = ap (λ b. cond b None (option_map (λ why. record { outcome = outcome_of mode s; fault = fault s.kind why }) (cause_in mode s))) good
 
-pub noted_kept : (mode : Mode) (faults_noted : Noted) (s : Spelling) → is_kept (outcome_of mode s) ≡ true → faults_noted ≡ noted_more mode faults_noted false s
-noted_kept mode faults_noted s good = λ i. record {
-  faults = record {
-    mp_twice = or_none faults_noted.faults.mp_twice false refl i;
-    withdraw = or_none faults_noted.faults.withdraw (is_withdraw (outcome_of mode s)) (not_withdraw (outcome_of mode s) good) i;
-    unknown = or_none faults_noted.faults.unknown (is_unknown (outcome_of mode s)) (not_unknown (outcome_of mode s) good) i;
-    discard = or_none faults_noted.faults.discard (is_discard (outcome_of mode s)) (not_discard (outcome_of mode s) good) i;
-  };
-  faulted = with_flaw faults_noted.faulted (sym (flaw_kept mode s good) i);
-}
+pub noted_kept : (mode : Mode) (faults_noted : Faults × Faulted) (s : Spelling) → is_kept (outcome_of mode s) ≡ true → faults_noted ≡ noted_more mode faults_noted false s
+noted_kept mode faults_noted s good = λ i. (
+  record {
+    mp_twice = or_none faults_noted.0.mp_twice false refl i;
+    withdraw = or_none faults_noted.0.withdraw (is_withdraw (outcome_of mode s)) (not_withdraw (outcome_of mode s) good) i;
+    unknown = or_none faults_noted.0.unknown (is_unknown (outcome_of mode s)) (not_unknown (outcome_of mode s) good) i;
+    discard = or_none faults_noted.0.discard (is_discard (outcome_of mode s)) (not_discard (outcome_of mode s) good) i;
+  },
+  with_flaw faults_noted.1 (sym (flaw_kept mode s good) i),
+)
   where
     or_none : (a b : Bool) → b ≡ false → a ≡ (a || b)
     or_none true b e = refl
@@ -143,7 +143,7 @@ counted true good e = cc
 counted false good e = (refl, e)
 
 -- one that counts and is kept
-pub gathering_kept : (mode : Mode) (field : List ℕ) (came : List Bool) (kept put more : List Found) (faults_noted new : Noted) (rest after : List ℕ) (s : Spelling) (place : ℕ) (counts : Bool) → Gathering mode field came kept faults_noted rest → Steps rest s after
+pub gathering_kept : (mode : Mode) (field : List ℕ) (came : List Bool) (kept put more : List Found) (faults_noted new : Faults × Faulted) (rest after : List ℕ) (s : Spelling) (place : ℕ) (counts : Bool) → Gathering mode field came kept faults_noted rest → Steps rest s after
     → s.kind < 256 → place ≡ s.kind → counts ≡ (not (get_or came place false) && is_kept (outcome_of mode s)) → counts ≡ true → new ≡ faults_noted
     → more ≡ put → AreRising put → ((kind : ℕ) → noted put kind ≡ noted_with s (noted kept) kind) → Gathering mode field (set came place true) more new after
 gathering_kept mode field came kept put more faults_noted new rest after s place counts had steps byte e counts_is counts_true new_is same rising put_is =
@@ -156,7 +156,7 @@ gathering_kept mode field came kept put more faults_noted new rest after s place
     (λ kind. put_is kind ∙ ap (λ b. noted_by b s (noted kept) kind) (sym (sym counts_is ∙ counts_true))))
 
 -- its type isn't among the kept
-pub kept_new : (mode : Mode) (field : List ℕ) (came : List Bool) (kept : List Found) (faults_noted : Noted) (rest : List ℕ) (s : Spelling) (place : ℕ) (counts : Bool) → Gathering mode field came kept faults_noted rest
+pub kept_new : (mode : Mode) (field : List ℕ) (came : List Bool) (kept : List Found) (faults_noted : Faults × Faulted) (rest : List ℕ) (s : Spelling) (place : ℕ) (counts : Bool) → Gathering mode field came kept faults_noted rest
     → place ≡ s.kind → counts ≡ (not (get_or came place false) && is_kept (outcome_of mode s)) → counts ≡ true → noted kept s.kind ≡ None
 kept_new mode field came kept faults_noted rest s place counts had e counts_is counts_true =
     let both = counted (get_or came place false) (is_kept (outcome_of mode s)) (sym counts_is ∙ counts_true) in
@@ -168,7 +168,7 @@ kept_new mode field came kept faults_noted rest s place counts had e counts_is c
     empty (Some t) e = cc
 
 -- another
-pub gathering_noted : (mode : Mode) (field : List ℕ) (came : List Bool) (kept more : List Found) (faults_noted new : Noted) (rest after : List ℕ) (s : Spelling) (place : ℕ) (counts : Bool) → Gathering mode field came kept faults_noted rest → Steps rest s after
+pub gathering_noted : (mode : Mode) (field : List ℕ) (came : List Bool) (kept more : List Found) (faults_noted new : Faults × Faulted) (rest after : List ℕ) (s : Spelling) (place : ℕ) (counts : Bool) → Gathering mode field came kept faults_noted rest → Steps rest s after
     → s.kind < 256 → place ≡ s.kind → counts ≡ (not (get_or came place false) && is_kept (outcome_of mode s)) → counts ≡ false → more ≡ kept
     → new ≡ noted_more mode faults_noted (get_or came place false) s → Gathering mode field (set came place true) more new after
 gathering_noted mode field came kept more faults_noted new rest after s place counts had steps byte e counts_is counts_false more_is new_is =
@@ -179,11 +179,8 @@ gathering_noted mode field came kept more faults_noted new rest after s place co
 
 -- ---- the first and the last
 
-abbrev pub nothing_wrong : Noted
-nothing_wrong = record {
-  faults = record { mp_twice = false; withdraw = false; unknown = false; discard = false };
-  faulted = record { withdraw = None; discard = None };
-}
+abbrev pub nothing_wrong : Faults × Faulted
+nothing_wrong = (record { mp_twice = false; withdraw = false; unknown = false; discard = false }, record { withdraw = None; discard = None })
 
 pub gathering_start : (mode : Mode) (field : List ℕ) (kept : List Found) → kept ≡ [] → Gathering mode field (replicate 256 false) kept nothing_wrong field
 gathering_start mode field kept e =
@@ -199,18 +196,18 @@ gathering_start mode field kept e =
     none_comes_to : (is_it : Outcome → Bool) → some_comes_to is_it mode [] ≡ false
     none_comes_to is_it = any_of (λ kind. comes_to is_it mode None) (λ kind. refl) all_types
 
-all_done : (mode : Mode) (field : List ℕ) (came : List Bool) (kept : List Found) (faults_noted : Noted) (rest : List ℕ) (had : Gathering mode field came kept faults_noted rest) → Stops rest → had.done ≡ spellings_of field
-all_done mode field came kept faults_noted rest had stops = so_far_all mode field came faults_noted.faulted had.done rest had.flaws_so_far stops
+all_done : (mode : Mode) (field : List ℕ) (came : List Bool) (kept : List Found) (faults_noted : Faults × Faulted) (rest : List ℕ) (had : Gathering mode field came kept faults_noted rest) → Stops rest → had.done ≡ spellings_of field
+all_done mode field came kept faults_noted rest had stops = so_far_all mode field came faults_noted.1 had.done rest had.flaws_so_far stops
 
-pub gathering_keeps : (mode : Mode) (field : List ℕ) (came : List Bool) (kept : List Found) (faults_noted : Noted) (rest : List ℕ) → Gathering mode field came kept faults_noted rest → Stops rest → Keeps mode kept (spellings_of field)
+pub gathering_keeps : (mode : Mode) (field : List ℕ) (came : List Bool) (kept : List Found) (faults_noted : Faults × Faulted) (rest : List ℕ) → Gathering mode field came kept faults_noted rest → Stops rest → Keeps mode kept (spellings_of field)
 gathering_keeps mode field came kept faults_noted rest had stops = record {
   rising = had.rising;
   same = λ kind. had.same kind ∙ ap (λ ss. kept_spelling mode ss kind) (all_done mode field came kept faults_noted rest had stops);
 }
 
 -- with the rest that is left
-pub rest_faults : (mode : Mode) (field : List ℕ) (came : List Bool) (kept : List Found) (faults_noted : Noted) (rest : List ℕ) → Gathering mode field came kept faults_noted rest → Stops rest
-    → record faults_noted.faults { withdraw = faults_noted.faults.withdraw || nat_lt 0 (length rest) } ≡ faults_of mode (spellings_of field) (rest_of field)
+pub rest_faults : (mode : Mode) (field : List ℕ) (came : List Bool) (kept : List Found) (faults_noted : Faults × Faulted) (rest : List ℕ) → Gathering mode field came kept faults_noted rest → Stops rest
+    → record faults_noted.0 { withdraw = faults_noted.0.withdraw || nat_lt 0 (length rest) } ≡ faults_of mode (spellings_of field) (rest_of field)
 rest_faults mode field came kept faults_noted rest had stops =
     let faults = had.faults ∙ ap (faults_among mode) (all_done mode field came kept faults_noted rest had stops) in
     let left : rest ≡ rest_of field = sym (had.flaws_so_far.behind ∙ stops.1) in
@@ -230,6 +227,6 @@ no_rest faults rest e = λ i. record faults { withdraw = (never faults.withdraw 
     never true = refl
     never false = refl
 
-pub rest_faulted : (mode : Mode) (field : List ℕ) (came : List Bool) (kept : List Found) (faults_noted : Noted) (rest : List ℕ) → Gathering mode field came kept faults_noted rest → Stops rest
-    → with_flaw faults_noted.faulted (cut_off rest) ≡ faulted_of field mode
-rest_faulted mode field came kept faults_noted rest had stops = so_far_end mode field came faults_noted.faulted had.done rest had.flaws_so_far stops
+pub rest_faulted : (mode : Mode) (field : List ℕ) (came : List Bool) (kept : List Found) (faults_noted : Faults × Faulted) (rest : List ℕ) → Gathering mode field came kept faults_noted rest → Stops rest
+    → with_flaw faults_noted.1 (cut_off rest) ≡ faulted_of field mode
+rest_faulted mode field came kept faults_noted rest had stops = so_far_end mode field came faults_noted.1 had.done rest had.flaws_so_far stops

@@ -6,9 +6,8 @@ use Rattle.rs_attrs.specs.declared.mode.Mode.TheVariants.{Four}
 use Rattle.rs_attrs.specs.declared.table.Class.{Class}
 use Rattle.rs_attrs.specs.declared.table.Class.TheVariants.{WellKnown, OptionalTransitive, OptionalNonTransitive, Any}
 use Rattle.rs_attrs.specs.declared.table.Outcome.TheVariants.{Kept, Withdraw, Unknown}
-use Rattle.rs_attrs.specs.declared.table.TypeRow.{TypeRow}
 use Rattle.rs_attrs.specs.Spellings.{Spelling, spelling_octets, length_octets, has_flag, is_long, IsSpelling, AreOctets}
-use Rattle.rs_attrs.specs.Table.{fits_class, is_well_formed, outcome_by, outcome_of, row_of, is_kept}
+use Rattle.rs_attrs.specs.Table.{Row, fits_class, is_well_formed, outcome_by, outcome_of, row_of, is_kept}
 use Rattle.rs_attrs.specs.Meaning.{Attribute, attribute_with, is_never_partial, is_known_optional, kept, meaning_of, all_types}
 use Rattle.rs_attrs.specs.Writing.{flags_of, is_legal_partial, IsLegal, IsLegalAttribute}
 use Rattle.rs_attrs.proofs.Fields.Walk.{FitOctets, fit_behind}
@@ -28,7 +27,7 @@ pub outcome_same : (mode : Mode) (kind f g : ℕ) (value : List ℕ) → has_fla
     → outcome_of mode (record { flags = f; kind = kind; value = value }) ≡ outcome_of mode (record { flags = g; kind = kind; value = value })
 outcome_same mode kind f g value o t = by_row (row_of mode kind)
   where
-    by_row : (r : Option TypeRow) → outcome_by mode r (record { flags = f; kind = kind; value = value }) ≡ outcome_by mode r (record { flags = g; kind = kind; value = value })
+    by_row : (r : Option Row) → outcome_by mode r (record { flags = f; kind = kind; value = value }) ≡ outcome_by mode r (record { flags = g; kind = kind; value = value })
     by_row None = ap (λ b. cond b Kept Unknown) o
     by_row (Some r) = ap (λ b. cond b (cond (is_well_formed mode r.shape value) Kept r.otherwise) Withdraw) (class_same r.class f g o t)
 

@@ -1,6 +1,6 @@
 -- What is read from a two-octet peer is legal.
 use Rattle.std.proofs.Common.{◌≡◌, ℕ, ◌<◌, Bool, true, false, cond, List, [], ◌∷◌, ◌++◌, length, Option, Some, None, refl, sym, ap, subst, ◌∙◌, arith, nat_eq, ◌⊎◌, inl, inr}
-use Rattle.std.specs.Prelude.{is_some, option_map, ◌==◌}
+use Rattle.std.specs.Prelude.{codes, is_some, option_map, ◌==◌}
 use Rattle.std.specs.List.{find, AllByRecursion}
 use Rattle.std.proofs.lemmas.Bool.{eqb-true, eq-eqb}
 use Rattle.rs_attrs.specs.declared.mode.Mode.TheVariants.{Two, Four}
@@ -8,10 +8,9 @@ use Rattle.rs_attrs.specs.declared.table.Outcome.TheVariants.{Kept, Withdraw, Di
 use Rattle.rs_attrs.specs.declared.table.Class.TheVariants.{WellKnown, OptionalTransitive, Any}
 use Rattle.rs_attrs.specs.declared.table.Shape.TheVariants.{As4Path, Length, Never}
 use Rattle.rs_attrs.specs.declared.table.Partial.TheVariants as partial
-use Rattle.rs_attrs.specs.declared.table.TypeRow.{TypeRow}
 use Rattle.rs_attrs.specs.Spellings.{Spelling, AreOctets, IsSpelling}
 use Rattle.rs_attrs.specs.Paths.{Segment, two_octets, four_octets, path_octets, is_set_or_sequence}
-use Rattle.rs_attrs.specs.Table.{row, outcome_of, outcome_by, is_kept, is_path, fits_class, is_well_formed, common_rows, as4_rows}
+use Rattle.rs_attrs.specs.Table.{Row, row, outcome_of, outcome_by, is_kept, is_path, fits_class, is_well_formed, common_rows, as4_rows}
 use Rattle.rs_attrs.specs.Meaning.{merged_with, Attribute, attribute_with, ignores_as4, aggregator_by, value_by_two, kept, kept_spelling, that_counts, is_as4, meaning_of}
 use Rattle.rs_attrs.specs.Writing.{IsLegal, IsLegalAttribute}
 use Rattle.rs_attrs.specs.Merging.{segments_in, plain, as4_value}
@@ -26,10 +25,10 @@ use Rattle.rs_attrs.proofs.Paths.PathFour.{IsFour, fours, plain_fours, merged_fo
 -- ---- the outcome for a four-octet peer
 
 -- the row doesn't tell the two kinds of peer apart, or is of another type
-abbrev IsCommon : ℕ → TypeRow → Type 0
+abbrev IsCommon : ℕ → Row → Type 0
 IsCommon kind r = r.kind == kind ≡ true → (value : List ℕ) → is_well_formed Two r.shape value ≡ is_well_formed Four r.shape value
 
-same_rows : (s : Spelling) (rs : List TypeRow) → is_as4 s.kind ≡ false → AllByRecursion (IsCommon s.kind) rs
+same_rows : (s : Spelling) (rs : List Row) → is_as4 s.kind ≡ false → AllByRecursion (IsCommon s.kind) rs
     → outcome_by Two (find (λ r. r.kind == s.kind) (rs ++ as4_rows Two)) s ≡ outcome_by Four (find (λ r. r.kind == s.kind) (rs ++ as4_rows Four)) s
 same_rows s [] other common = by_tests (nat_eq 17 s.kind) (nat_eq 18 s.kind) refl refl
   where
@@ -38,8 +37,8 @@ same_rows s [] other common = by_tests (nat_eq 17 s.kind) (nat_eq 18 s.kind) ref
     by_tests true b p q = absurd (let is : 17 ≡ s.kind = eqb-true 17 s.kind p in let no : is_as4 17 ≡ false = ap is_as4 is ∙ other in cc)
     by_tests false true p q = absurd (let is : 18 ≡ s.kind = eqb-true 18 s.kind q in let no : is_as4 18 ≡ false = ap is_as4 is ∙ other in cc)
     by_tests false false p q =
-        ap (λ o. outcome_by Two o s) (λ i. cond (p i) (Some (row 17 OptionalTransitive As4Path Discard partial.Never)) (cond (q i) (Some (row 18 OptionalTransitive (Length 8) Discard partial.Never)) None))
-        ∙ sym (ap (λ o. outcome_by Four o s) (λ i. cond (p i) (Some (row 17 Any Never Discard partial.Never)) (cond (q i) (Some (row 18 Any Never Discard partial.Never)) None)))
+        ap (λ o. outcome_by Two o s) (λ i. cond (p i) (Some (row 17 (codes "AS4_PATH") OptionalTransitive As4Path Discard partial.Never)) (cond (q i) (Some (row 18 (codes "AS4_AGGREGATOR") OptionalTransitive (Length 8) Discard partial.Never)) None))
+        ∙ sym (ap (λ o. outcome_by Four o s) (λ i. cond (p i) (Some (row 17 (codes "AS4_PATH") Any Never Discard partial.Never)) (cond (q i) (Some (row 18 (codes "AS4_AGGREGATOR") Any Never Discard partial.Never)) None)))
 same_rows s (r ∷ rs) other common = by_test (nat_eq r.kind s.kind) refl (same_rows s rs other common.1)
   where
     by_test : (b : Bool) → nat_eq r.kind s.kind ≡ b → outcome_by Two (find (λ r. r.kind == s.kind) (rs ++ as4_rows Two)) s ≡ outcome_by Four (find (λ r. r.kind == s.kind) (rs ++ as4_rows Four)) s

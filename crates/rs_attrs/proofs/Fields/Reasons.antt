@@ -1,4 +1,4 @@
--- An attribute is told as treated as withdraw exactly where one is.
+-- An attribute is noted as treated as withdraw exactly where one is.
 use Rattle.std.proofs.Common.{◌≡◌, ℕ, ◌&&◌, ◌||◌, Bool, true, false, cond, not, List, [], ◌∷◌, ◌++◌, length, Option, Some, None, refl, sym, ap, ◌∙◌, arith, nat_lt, append_assoc}
 use Rattle.std.specs.Prelude.{◌==◌, is_some, option_map}
 use Rattle.std.specs.Cmp.{first_so, second_so}
@@ -14,9 +14,8 @@ use Rattle.rs_attrs.specs.declared.table.Outcome.{Outcome}
 use Rattle.rs_attrs.specs.declared.table.Outcome.TheVariants.{Kept, Withdraw, Discard, Unknown}
 use Rattle.rs_attrs.specs.declared.table.Shape.{Shape}
 use Rattle.rs_attrs.specs.declared.table.Shape.TheVariants as shapes
-use Rattle.rs_attrs.specs.declared.table.TypeRow.{TypeRow}
 use Rattle.rs_attrs.specs.Spellings.{Spelling, IsSpelling, has_flag, spellings_of, rest_of}
-use Rattle.rs_attrs.specs.Table.{rows, row_of, outcome_by, outcome_of, fits_class, is_well_formed, is_kept, is_withdraw}
+use Rattle.rs_attrs.specs.Table.{Row, rows, row_of, outcome_by, outcome_of, fits_class, is_well_formed, is_kept, is_withdraw}
 use Rattle.rs_attrs.specs.Meaning.{read_of, that_counts, comes_to, some_comes_to, all_types}
 use Rattle.rs_attrs.specs.Flaws.{value_cause, cause_by, fault, flaw_by, comes_among, flaws_behind, cut_off, first_by, faulted_of}
 use Rattle.rs_attrs.proofs.Fields.FirstOfType.{any_of}
@@ -27,14 +26,14 @@ use Rattle.rs_attrs.proofs.WellFormed.{is_found}
 -- ---- one attribute
 
 -- a type whose bad values are treated as withdraw has a cause for each of them
-abbrev has_cause : TypeRow → Bool
+abbrev has_cause : Row → Bool
 has_cause r = not (is_withdraw r.otherwise) || is_some (value_cause r.shape [])
 
 rows_have : (mode : Mode) → list_all has_cause (rows mode) ≡ true
 rows_have Two = refl
 rows_have Four = refl
 
-each_passes : (test : TypeRow → Bool) (rs : List TypeRow) → list_all test rs ≡ true → AllByRecursion (λ r. test r ≡ true) rs
+each_passes : (test : Row → Bool) (rs : List Row) → list_all test rs ≡ true → AllByRecursion (λ r. test r ≡ true) rs
 each_passes test [] all = tt
 each_passes test (r ∷ rs) all = (first_so (test r) (list_all test rs) all, each_passes test rs (second_so (test r) (list_all test rs) all))
 
@@ -68,7 +67,7 @@ by_tests s true false Discard (Some why) has = refl
 by_tests s true false Unknown None has = refl
 by_tests s true false Unknown (Some why) has = refl
 
-by_row : (mode : Mode) (s : Spelling) (o : Option TypeRow) → ((r : TypeRow) → o ≡ Some r → has_cause r ≡ true)
+by_row : (mode : Mode) (s : Spelling) (o : Option Row) → ((r : Row) → o ≡ Some r → has_cause r ≡ true)
     → withdraws (cons_option (flaw_with s (outcome_by mode o s) (cause_by o s)) []) ≡ is_withdraw (outcome_by mode o s)
 by_row mode s None has = by_flag (has_flag 0x80 s.flags)
   where

@@ -8,13 +8,12 @@ use Rattle.rs_attrs.specs.declared.mode.Mode.{Mode}
 use Rattle.rs_attrs.specs.declared.mode.Mode.TheVariants.{Two, Four}
 use Rattle.rs_attrs.specs.declared.table.Outcome.{Outcome}
 use Rattle.rs_attrs.specs.declared.table.Outcome.TheVariants.{Kept, Withdraw}
-use Rattle.rs_attrs.specs.declared.table.TypeRow.{TypeRow}
 use Rattle.rs_attrs.specs.declared.table.Class.{Class}
 use Rattle.rs_attrs.specs.declared.table.Class.TheVariants.{WellKnown, OptionalTransitive, OptionalNonTransitive, Any}
 use Rattle.rs_attrs.proofs.Written.ReadBack.{FlagsBack, flags_of_back}
 use Rattle.rs_attrs.specs.Spellings.{Spelling}
 use Rattle.rs_attrs.specs.Paths.{two_octets, path_octets}
-use Rattle.rs_attrs.specs.Table.{fits_class, rows, outcome_by, outcome_of, is_well_formed}
+use Rattle.rs_attrs.specs.Table.{Row, fits_class, rows, outcome_by, outcome_of, is_well_formed}
 use Rattle.rs_attrs.specs.Meaning.{Attribute}
 use Rattle.rs_attrs.specs.Writing.{flags_of, as_trans_or, narrowed_segment, path_in, aggregator_in, with_value, narrowed, as4_attribute}
 
@@ -57,29 +56,29 @@ as4_class kind value = let back = flags_of_back (as4_attribute kind value) in λ
 
 -- ---- a type whose value is the same for both kinds of peer
 
-abbrev outcome_in : Mode → List TypeRow → Spelling → Outcome
+abbrev outcome_in : Mode → List Row → Spelling → Outcome
 outcome_in mode rows s = outcome_by mode (find (λ r. r.kind == s.kind) rows) s
 
 -- two rows in the same place: one and the same, with the same values, or of another type
-data RowPair (s : Spelling) (two four : TypeRow) : Type 0 where
+data RowPair (s : Spelling) (two four : Row) : Type 0 where
   One : two ≡ four → ((value : List ℕ) → is_well_formed Two two.shape value ≡ is_well_formed Four two.shape value) → RowPair s two four
   Other : nat_eq two.kind s.kind ≡ false → nat_eq four.kind s.kind ≡ false → RowPair s two four
 
-abbrev RowPairs : Spelling → List TypeRow → List TypeRow → Type 0
+abbrev RowPairs : Spelling → List Row → List Row → Type 0
 RowPairs s [] [] = Unit {0}
 RowPairs s (two ∷ twos) (four ∷ fours) = RowPair s two four × RowPairs s twos fours
 RowPairs s _ _ = ⊥
 
-same_by : (s : Spelling) (two four : List TypeRow) → RowPairs s two four → outcome_in Two two s ≡ outcome_in Four four s
+same_by : (s : Spelling) (two four : List Row) → RowPairs s two four → outcome_in Two two s ≡ outcome_in Four four s
 same_by s [] [] pairs = refl
 same_by s [] (four ∷ fours) pairs = absurd pairs
 same_by s (two ∷ twos) [] pairs = absurd pairs
 same_by s (two ∷ twos) (four ∷ fours) pairs = by_pair pairs.0 (same_by s twos fours pairs.1)
   where
-    rest : List TypeRow → Option TypeRow
+    rest : List Row → Option Row
     rest rows = find (λ r. r.kind == s.kind) rows
 
-    by_test : (r : TypeRow) → ((value : List ℕ) → is_well_formed Two r.shape value ≡ is_well_formed Four r.shape value) → outcome_by Two (rest twos) s ≡ outcome_by Four (rest fours) s
+    by_test : (r : Row) → ((value : List ℕ) → is_well_formed Two r.shape value ≡ is_well_formed Four r.shape value) → outcome_by Two (rest twos) s ≡ outcome_by Four (rest fours) s
         → (b : Bool) → outcome_by Two (cond b (Some r) (rest twos)) s ≡ outcome_by Four (cond b (Some r) (rest fours)) s
     by_test r same later true = ap (λ well. cond (fits_class r.class s.flags) (cond well Kept r.otherwise) Withdraw) (same s.value)
     by_test r same later false = later
@@ -87,7 +86,7 @@ same_by s (two ∷ twos) (four ∷ fours) pairs = by_pair pairs.0 (same_by s two
     by_pair : RowPair s two four → outcome_by Two (rest twos) s ≡ outcome_by Four (rest fours) s
         → outcome_by Two (cond (nat_eq two.kind s.kind) (Some two) (rest twos)) s ≡ outcome_by Four (cond (nat_eq four.kind s.kind) (Some four) (rest fours)) s
     by_pair (One is same) later =
-        by_test two same later (nat_eq two.kind s.kind) ∙ ap (λ (r : TypeRow). outcome_by Four (cond (nat_eq r.kind s.kind) (Some r) (rest fours)) s) is
+        by_test two same later (nat_eq two.kind s.kind) ∙ ap (λ (r : Row). outcome_by Four (cond (nat_eq r.kind s.kind) (Some r) (rest fours)) s) is
     by_pair (Other p q) later =
         ap (λ b. outcome_by Two (cond b (Some two) (rest twos)) s) p ∙ later
         ∙ sym (ap (λ b. outcome_by Four (cond b (Some four) (rest fours)) s) q)

@@ -6,8 +6,8 @@ ghost use Rattle.rs_attrs.specs.Table;
 ghost use Rattle.rs_attrs.specs.Table.{is_kept};
 ghost use Rattle.rs_attrs.specs.Meaning.{faults_of};
 ghost use Rattle.rs_attrs.specs.Types as types;
-ghost use Rattle.rs_attrs.specs.Flaws.{faulted_of};
-ghost use Rattle.rs_attrs.specs.Walking.{spelling_in, noted, noted_with, noted_more, AreRising, IsPlaceOf, Keeps};
+ghost use Rattle.rs_attrs.specs.Flaws.{faulted_of, flaw_by, with_flaw};
+ghost use Rattle.rs_attrs.specs.Walking.{spelling_in, noted, noted_with, faults_with, AreRising, IsPlaceOf, Keeps};
 
 use crate::faults::{Faulted, Faults, flaw_of, flaw_of_rest, noting};
 use crate::mode::Mode;
@@ -21,24 +21,16 @@ use std::alloc::AllocError;
 /// The attributes that are kept, by rising type. Those of a usual route take no memory.
 pub(crate) type Kept<'a> = SmallVec<Found<'a>, 12>;
 
-/// What is wrong with the attributes of a field.
-#[derive(Clone, Copy, Debug)]
-pub(crate) struct Noted {
-    pub(crate) faults: Faults,
-    pub(crate) faulted: Faulted,
-}
+const NO_FAULTS: Faults = Faults {
+    mp_twice: false,
+    withdraw: false,
+    unknown: false,
+    discard: false,
+};
 
-const NOTHING_WRONG: Noted = Noted {
-    faults: Faults {
-        mp_twice: false,
-        withdraw: false,
-        unknown: false,
-        discard: false,
-    },
-    faulted: Faulted {
-        withdraw: None,
-        discard: None,
-    },
+const NOTHING_NOTED: Faulted = Faulted {
+    withdraw: None,
+    discard: None,
 };
 
 /// MP_REACH_NLRI or MP_UNREACH_NLRI.
@@ -48,21 +40,27 @@ fn is_mp(kind: u8) -> bool
     kind == MP_REACH_NLRI || kind == MP_UNREACH_NLRI
 }
 
-/// Notes what is wrong with an attribute, where one of its type came before or not.
-fn take_note(faults_noted: &mut Noted, mode: Mode, came_before: bool, found: &Found<'_>)
-    ensures { faults_noted.new ≡ noted_more mode faults_noted.old came_before (spelling_in found.now) }
+/// Notes what comes of an attribute, where one of its type came before or not.
+fn take_note(faults: &mut Faults, mode: Mode, came_before: bool, found: &Found<'_>)
+    ensures { faults.new ≡ faults_with mode faults.old came_before (spelling_in found.now) }
 {
     if came_before {
-        faults_noted.faults.mp_twice = faults_noted.faults.mp_twice || is_mp(found.kind);
+        faults.mp_twice = faults.mp_twice || is_mp(found.kind);
     } else {
         match outcome_of(mode, found) {
             Outcome::Kept => {}
-            Outcome::Withdraw => faults_noted.faults.withdraw = true,
-            Outcome::Discard => faults_noted.faults.discard = true,
-            Outcome::Unknown => faults_noted.faults.unknown = true,
+            Outcome::Withdraw => faults.withdraw = true,
+            Outcome::Discard => faults.discard = true,
+            Outcome::Unknown => faults.unknown = true,
         }
     }
-    faults_noted.faulted = noting(faults_noted.faulted, flaw_of(mode, came_before, found));
+}
+
+/// What was noted, and what is wrong with an attribute, where one of its type came before or not.
+fn noting_found(faulted: Faulted, mode: Mode, came_before: bool, found: &Found<'_>) -> Faulted
+    ensures { result ≡ with_flaw faulted (flaw_by mode came_before (spelling_in found.now)) }
+{
+    noting(faulted, flaw_of(mode, came_before, found))
 }
 
 /// Of a type that stands more than once the first attribute counts.
@@ -98,33 +96,35 @@ fn keep<'a>(kept: &mut Kept<'a>, found: Found<'a>) -> Result<(), AllocError>
     Ok(())
 }
 
-/// Keeps what counts of a field, and tells what is wrong with the rest of it.
+/// Keeps what counts of a field, and notes what is wrong with the rest of it.
 pub(crate) fn gather<'a>(
     kept: &mut Kept<'a>,
     field: &'a [u8],
     mode: Mode,
-) -> Result<Noted, AllocError>
+) -> Result<(Faults, Faulted), AllocError>
     requires { kept.old.items ≡ [] }
     ensures kept { OnOk result (Keeps mode kept.new.items (spellings_of field.now)) }
-    ensures faults { IfOk result (λ faults_noted. faults_noted.faults ≡ faults_of mode (spellings_of field.now) (rest_of field.now)) }
-    ensures faulted { IfOk result (λ faults_noted. faults_noted.faulted ≡ faulted_of field.now mode) }
+    ensures faults { IfOk result (λ noted. noted.0 ≡ faults_of mode (spellings_of field.now) (rest_of field.now)) }
+    ensures faulted { IfOk result (λ noted. noted.1 ≡ faulted_of field.now mode) }
 {
     let mut came = [false; 256];
-    let mut faults_noted = NOTHING_WRONG;
+    let mut faults = NO_FAULTS;
+    let mut faulted = NOTHING_NOTED;
     let mut rest = field;
     while let Some((found, after)) = next_spelling(rest) {
         let place = usize::from(found.kind);
         if counts(mode, came[place], &found) {
             keep(kept, found)?;
         } else {
-            take_note(&mut faults_noted, mode, came[place], &found);
+            take_note(&mut faults, mode, came[place], &found);
+            faulted = noting_found(faulted, mode, came[place], &found);
         }
         came[place] = true;
         rest = after;
     }
     if !rest.is_empty() {
-        faults_noted.faults.withdraw = true;
-        faults_noted.faulted = noting(faults_noted.faulted, flaw_of_rest(rest));
+        faults.withdraw = true;
+        faulted = noting(faulted, flaw_of_rest(rest));
     }
-    Ok(faults_noted)
+    Ok((faults, faulted))
 }

@@ -19,7 +19,7 @@ use Rattle.rs_policy.specs.declared.rules.Action.TheVariants as actions
 use Rattle.rs_policy.specs.declared.rules.Disposition.TheVariants as dispositions
 use Rattle.rs_decision.specs.Choice.{unbeaten}
 use Rattle.rs_core.specs.Run.Moves.{Move, Ruled, Came, Heard, Saw, Left, Dropped, Turned}
-use Rattle.rs_core.specs.Session.Hearing.{session_in, state_in, ending_in, faulted_in}
+use Rattle.rs_core.specs.Session.Hearing.{session_in, state_in, ending_in, faulted_updates_in}
 use Rattle.rs_core.specs.Run.Meaning.{hearing, is_established, due, dues}
 use Rattle.rs_core.specs.Session.OperatorRecords.{notice_with, faulted_by}
 use Rattle.rs_core.specs.declared.endings.Ending.TheVariants as reasons
@@ -283,9 +283,9 @@ ended_by_server = refl
 
 -- ---- an UPDATE at fault counts, and no other does
 
-one_at_fault : faulted_in (hearing 0 (Heard 0 u1 ∷ at_fault)) ≡ record { count = 1; last = record { withdraw = Some (record { kind = 1; cause = causes.Value }); discard = None } }
+one_at_fault : faulted_updates_in (hearing 0 (Heard 0 u1 ∷ at_fault)) ≡ record { count = 1; last = record { withdraw = Some (record { kind = 1; cause = causes.Value }); discard = None } }
 unfolding all_types
 one_at_fault = refl
 
-none_at_fault : faulted_in (hearing 1 at_fault) ≡ faulted_by []
+none_at_fault : faulted_updates_in (hearing 1 at_fault) ≡ faulted_by []
 none_at_fault = refl

@@ -104,8 +104,8 @@ abbrev pub ending_in : Hearing → Option Ending
 ending_in h = newest_ending h.endings
 
 -- how many of its UPDATEs were not taken as they came, and what was wrong with the last one
-abbrev pub faulted_in : Hearing → FaultedUpdates
-faulted_in h = faulted_by h.faults
+abbrev pub faulted_updates_in : Hearing → FaultedUpdates
+faulted_updates_in h = faulted_by h.faults
 
 -- ---- what a message says
 

@@ -1,11 +1,12 @@
-//! What is told of fields that are not well formed.
+//! What is noted of fields that are not well formed.
 
 use super::octets;
-use rs_attrs::{AttributeFault, Cause, Faulted, Mode, read};
+use rs_attrs::{AttributeFault, Cause, Faulted, Mode, attribute_name, read};
 use std::alloc::{AllocError, Global};
 use std::process::Abort;
+use std::test::Fail;
 
-// Each row: what it shows, a field, and the two faults that are told.
+// Each row: what it shows, a field, and the two faults that are noted.
 
 const ROWS: [(&str, &str, &str); 22] = [
     ("nothing", "", "none; none"),
@@ -99,7 +100,7 @@ const OF_TWO_OCTET_PEERS: [(&str, &str, &str); 4] = [
     ),
 ];
 
-fn told(alloc: Global, fault: Option<AttributeFault>) -> Result<String, AllocError> {
+fn in_words(alloc: Global, fault: Option<AttributeFault>) -> Result<String, AllocError> {
     let Some(AttributeFault { kind, cause }) = fault else {
         return String::from_str(alloc, "none");
     };
@@ -114,27 +115,114 @@ fn told(alloc: Global, fault: Option<AttributeFault>) -> Result<String, AllocErr
     format!(in alloc; "{kind} {cause}")
 }
 
-/// The two faults of a field that are told.
-fn tells(rt: &impl Abort, alloc: Global, mode: Mode, row: &(&str, &str, &str)) {
+/// The two faults of a field that are noted.
+fn holds(rt: &impl Abort, alloc: Global, mode: Mode, row: &(&str, &str, &str)) {
     let (shows, field, answer) = row;
     let field = octets(alloc, field).expect(rt, "octets");
     let Faulted { withdraw, discard } = read(alloc, &field, mode).expect(rt, "attributes").faulted;
-    let withdraw = told(alloc, withdraw).expect(rt, "a text");
-    let discard = told(alloc, discard).expect(rt, "a text");
+    let withdraw = in_words(alloc, withdraw).expect(rt, "a text");
+    let discard = in_words(alloc, discard).expect(rt, "a text");
     let both = format!(in alloc; "{withdraw}; {discard}").expect(rt, "a text");
     assert_eq!(rt; both.as_str(), *answer, "{shows}");
 }
 
 #[test]
-fn the_first_attributes_at_fault_are_told(rt: HostRuntime) {
+fn the_first_attributes_at_fault_are_noted(rt: HostRuntime) {
     for row in &ROWS {
-        tells(&rt, rt.alloc(), Mode::Four, row);
+        holds(&rt, rt.alloc(), Mode::Four, row);
     }
 }
 
 #[test]
-fn attributes_of_two_octet_peers_are_told(rt: HostRuntime) {
+fn attributes_of_two_octet_peers_are_noted(rt: HostRuntime) {
     for row in &OF_TWO_OCTET_PEERS {
-        tells(&rt, rt.alloc(), Mode::Two, row);
+        holds(&rt, rt.alloc(), Mode::Two, row);
+    }
+}
+
+// Each row: a field, and the text of what is noted of it.
+
+const TEXTS: [(&str, &str); 9] = [
+    ("40010100", ""),
+    ("40010103", "ORIGIN (1) treated as withdraw: malformed value"),
+    (
+        "c00706fbf0c0000201",
+        "AGGREGATOR (7) discarded: wrong length",
+    ),
+    (
+        "40010100 c0100800000000000000",
+        "EXTENDED COMMUNITIES (16) treated as withdraw: cut off",
+    ),
+    (
+        "c01000 40060100",
+        "EXTENDED COMMUNITIES (16) treated as withdraw: wrong length; ATOMIC_AGGREGATE (6) discarded: wrong length",
+    ),
+    (
+        "80200c000000000000000000000000",
+        "LARGE_COMMUNITY (32) treated as withdraw: wrong flags",
+    ),
+    (
+        "80040400000005 80040400000006",
+        "MULTI_EXIT_DISC (4) discarded: there twice",
+    ),
+    ("c06300 c06300", "attribute 99 discarded: there twice"),
+    ("40", "attribute 0 treated as withdraw: cut off"),
+];
+
+#[test]
+fn what_is_noted_as_text(rt: HostRuntime) -> Result<(), Fail> {
+    let alloc = rt.alloc();
+    for (field, text) in TEXTS {
+        let octets = octets(alloc, field)?;
+        let faulted = read(alloc, &octets, Mode::Four)?.faulted;
+        let shown = format!(in alloc; "{faulted}")?;
+        assert_eq!(rt; shown.as_str(), text, "{field}");
+    }
+    Ok(())
+}
+
+#[test]
+fn a_missing_attribute_as_text(rt: HostRuntime) -> Result<(), Fail> {
+    let missing = Faulted {
+        withdraw: Some(AttributeFault {
+            kind: 3,
+            cause: Cause::Missing,
+        }),
+        discard: None,
+    };
+    let shown = format!(in rt.alloc(); "{missing}")?;
+    assert_eq!(rt; shown.as_str(), "NEXT_HOP (3) treated as withdraw: missing");
+    Ok(())
+}
+
+// The types by number, as RFC 4271, RFC 1997, RFC 4456, RFC 4760, RFC 4360, RFC 6793 and RFC 8092 call them.
+
+const NAMES: [(u8, &str); 16] = [
+    (1, "ORIGIN"),
+    (2, "AS_PATH"),
+    (3, "NEXT_HOP"),
+    (4, "MULTI_EXIT_DISC"),
+    (5, "LOCAL_PREF"),
+    (6, "ATOMIC_AGGREGATE"),
+    (7, "AGGREGATOR"),
+    (8, "COMMUNITIES"),
+    (9, "ORIGINATOR_ID"),
+    (10, "CLUSTER_LIST"),
+    (14, "MP_REACH_NLRI"),
+    (15, "MP_UNREACH_NLRI"),
+    (16, "EXTENDED COMMUNITIES"),
+    (17, "AS4_PATH"),
+    (18, "AS4_AGGREGATOR"),
+    (32, "LARGE_COMMUNITY"),
+];
+
+#[test]
+fn each_type_by_name(rt: HostRuntime) {
+    for kind in 0..=255 {
+        let name = NAMES
+            .iter()
+            .find(|row| row.0 == kind)
+            .map(|row| row.1);
+        assert_eq!(rt; attribute_name(kind), name, "type {kind}");
     }
 }

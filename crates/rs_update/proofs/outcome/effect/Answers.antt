@@ -9,7 +9,7 @@ use Rattle.rs_update.specs.Changes.{fields_in}
 use Rattle.rs_update.specs.Outcomes.{change_seen}
 use Rattle.rs_update.proofs.Effecting.{no_fields, by_reading, is_reset, withdrawn_faulty, nlri_faulty, by_reset, is_withdrawn, is_announced, same_withdrawn, same_announced, rising_distinct, BothRise, withdrawn_rise, announced_rise}
 use Rattle.rs_update.proofs.Mandatory.{has_mandatory, seen_complete}
-use Rattle.rs_update.proofs.OneEffect.{effect_is, tells}
+use Rattle.rs_update.proofs.OneEffect.{effect_is, names_faults}
 use Rattle.rs_update.proofs.outcome.effect.Goals as goal
 use Rattle.rs_update.proofs.outcome.effect.Goals.{then-treats_as_withdraw+in_ok-withdraw_all, else-treats_as_withdraw+in_ok-withdrawn-2}
 
@@ -111,5 +111,5 @@ pub returns-clause-faults_noted : goal.returns-clause-faults_noted
 returns-clause-faults_noted c = λ fields is. (
     let found = fields_in c.in-Some.fields in
     let are = body_of_fields c.args.body.now found (λ i. omega (arith, c.type_inv.body i)) (sym c.cut_body.ensures ∙ ap (option_map fields_in) c.in-Some.is) in
-    c.faults_noted-faulted.ensures ∙ tells c.args.body.now c.args.mode found fields c.in_ok-parsed.parsed.attrs c.in_ok-parsed.parsed.faults c.in_ok-parsed.parsed.faulted _
+    c.faults_noted-faulted.ensures ∙ names_faults c.args.body.now c.args.mode found fields c.in_ok-parsed.parsed.attrs c.in_ok-parsed.parsed.faults c.in_ok-parsed.parsed.faulted _
     (are_octets c.args.body.now (λ i. omega (arith, c.type_inv.body i))) are is c.in_ok-parsed.ensures.reads c.in_ok-parsed.ensures.faults_noted c.missing-missing.ensures.first)

@@ -17,16 +17,16 @@ pub loop-found-preserved : goal.loop-found-preserved
 loop-found-preserved c = elim c.if-counts.branch [
   | then-counts+in_ok-keep w ↦
       gathering_kept _ _ _ _ _ _ _ _ _ _ (spelling_in c.in-Some.found) c.from-place.result c.counts.result c.loop-found.invariant c.in-Some.ensures.step (omega (arith, c.in-Some.ensures.byte)) c.from-place.ensures c.counts.ensures w.if-counts.true
-      w.faults_noted-is
+      (λ i. (w.faults-is i, w.faulted-is i))
       (ap (λ (v : SmallVec Found). v.items) w.kept-is)
       w.in_ok-keep.ensures.rising
       w.in_ok-keep.ensures.noted
   | else-counts w ↦
       gathering_noted _ _ _ _ _ _ _ _ _ (spelling_in c.in-Some.found) c.from-place.result c.counts.result c.loop-found.invariant c.in-Some.ensures.step (omega (arith, c.in-Some.ensures.byte)) c.from-place.ensures c.counts.ensures w.if-counts.false
       (ap (λ (v : SmallVec Found). v.items) w.kept-is)
-      (w.faults_noted-is ∙ w.take_note.ensures)
+      (λ i. ((w.faults-is ∙ w.take_note.ensures) i, (w.faulted-is ∙ w.noting_found-faulted.ensures) i))
 ]
 
 pub returns-then-not-is_empty-clause-faulted : goal.returns-then-not-is_empty-clause-faulted
 returns-then-not-is_empty-clause-faulted c =
-    c.noting-faults_noted.ensures ∙ ap (with_flaw c.loop-found.faults_noted.faulted) c.flaw_of_rest.ensures ∙ rest_faulted _ _ _ _ _ _ c.loop-found.invariant c.in_default.ensures.step
+    c.noting-faulted.ensures ∙ ap (with_flaw c.loop-found.faulted) c.flaw_of_rest.ensures ∙ rest_faulted _ _ _ _ _ _ c.loop-found.invariant c.in_default.ensures.step

@@ -1,6 +1,6 @@
-//! Tests of `rs_decision`: worked choices, whose values come from the standard's rules and not from the program.
+//! Worked choices, whose values come from the standard's rules and not from the program.
 
-use rs_decision::{Rank, best};
+use crate::{Rank, best};
 use std::process::Abort;
 
 const EQUAL: Rank = Rank {

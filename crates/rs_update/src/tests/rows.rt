@@ -1,9 +1,9 @@
 //! Rows of a table: a body, and what an UPDATE with it does, in words.
 
-use crate::common::octets;
+use super::octets;
+use crate::outcome::{Outcome, effect};
 use rs_attrs::{Attrs, Mode};
 use rs_octets::Prefix;
-use rs_update::{Outcome, effect};
 use std::alloc::{AllocError, Global};
 use std::process::Abort;
 use std::test::Fail;
@@ -11,23 +11,23 @@ use std::test::Fail;
 /// What the row shows, a body in hex and the answer.
 pub(super) type Row = (&'static str, &'static str, &'static str);
 
-fn prefixes_told(alloc: Global, prefixes: &[Prefix]) -> Result<String, AllocError> {
-    let mut told = String::new(alloc);
+fn prefixes_in_words(alloc: Global, prefixes: &[Prefix]) -> Result<String, AllocError> {
+    let mut text = String::new(alloc);
     for prefix in prefixes {
         let [a, b, c, d] = prefix.bits().to_be_bytes();
         let len = prefix.len();
-        let text = format!(in alloc; " {a}.{b}.{c}.{d}/{len}")?;
-        told.push_str(&text)?;
+        let item = format!(in alloc; " {a}.{b}.{c}.{d}/{len}")?;
+        text.push_str(&item)?;
     }
-    if told.is_empty() {
-        told.push_str(" nothing")?;
+    if text.is_empty() {
+        text.push_str(" nothing")?;
     }
-    Ok(told)
+    Ok(text)
 }
 
 /// The attributes as they are spelt with AS numbers of four octets, where each is short.
-fn attributes_told(alloc: Global, attrs: &Attrs) -> Result<String, AllocError> {
-    let mut told = String::new(alloc);
+fn attributes_in_hex(alloc: Global, attrs: &Attrs) -> Result<String, AllocError> {
+    let mut text = String::new(alloc);
     for kind in 0..=255 {
         if let Some(attribute) = attrs.get(kind) {
             let mut flags = 0u8;
@@ -42,17 +42,17 @@ fn attributes_told(alloc: Global, attrs: &Attrs) -> Result<String, AllocError> {
             }
             let len = attribute.value.len();
             let head = format!(in alloc; "{flags:02x}{kind:02x}{len:02x}")?;
-            told.push_str(&head)?;
+            text.push_str(&head)?;
             for octet in attribute.value {
-                let text = format!(in alloc; "{octet:02x}")?;
-                told.push_str(&text)?;
+                let item = format!(in alloc; "{octet:02x}")?;
+                text.push_str(&item)?;
             }
         }
     }
-    Ok(told)
+    Ok(text)
 }
 
-pub(super) fn told(alloc: Global, outcome: &Outcome) -> Result<String, AllocError> {
+pub(super) fn in_words(alloc: Global, outcome: &Outcome) -> Result<String, AllocError> {
     match outcome {
         Outcome::Reset(code, subcode) => format!(in alloc; "Reset({code}, {subcode})"),
         Outcome::Change {
@@ -61,12 +61,12 @@ pub(super) fn told(alloc: Global, outcome: &Outcome) -> Result<String, AllocErro
             attrs,
             ..
         } => {
-            let withdrawn = prefixes_told(alloc, withdrawn)?;
-            let announced = prefixes_told(alloc, announced)?;
+            let withdrawn = prefixes_in_words(alloc, withdrawn)?;
+            let announced = prefixes_in_words(alloc, announced)?;
             let Some(attrs) = attrs else {
                 return format!(in alloc; "withdrawn{withdrawn}; announced{announced}");
             };
-            let attributes = attributes_told(alloc, attrs)?;
+            let attributes = attributes_in_hex(alloc, attrs)?;
             format!(in alloc; "withdrawn{withdrawn}; announced{announced}; attributes {attributes}")
         }
     }
@@ -77,7 +77,7 @@ pub(super) fn hold(rt: &impl Abort, alloc: Global, mode: Mode, rows: &[Row]) -> 
     for (shows, body, answer) in rows {
         let body = octets(alloc, body)?;
         let outcome = effect(alloc, &body, mode)?;
-        assert_eq!(rt; told(alloc, &outcome)?.as_str(), *answer, "{shows}");
+        assert_eq!(rt; in_words(alloc, &outcome)?.as_str(), *answer, "{shows}");
     }
     Ok(())
 }

@@ -217,7 +217,7 @@ fn the_longest_field_of_the_shortest_prefixes(rt: HostRuntime) -> Result<(), Fai
     body.extend_from_slice(&[0, 0])?;
     let outcome = effect(alloc, &body, Mode::Four)?;
     assert_eq!(rt;
-        told(alloc, &outcome)?.as_str(),
+        in_words(alloc, &outcome)?.as_str(),
         "withdrawn 0.0.0.0/0; announced nothing"
     );
     Ok(())

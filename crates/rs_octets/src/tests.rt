@@ -1,8 +1,8 @@
-//! Tests of `rs_octets`: octets of BGP messages, taken apart by hand.
+//! Octets of BGP messages, taken apart by hand.
 
 mod naming;
 
-use rs_octets::{
+use crate::{
     AS_TRANS, Allowed, FieldFault, Front, Head, HeaderFault, Kind, Prefix, header, laws, put,
     put_header, put_prefix, read_front, read_prefixes,
 };

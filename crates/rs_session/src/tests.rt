@@ -1,14 +1,14 @@
-//! Tests of `rs_session`: sessions by hand, what comes in and what is to be done, with values from the
+//! Sessions by hand: what comes in and what is to be done, with values from the
 //! RFCs and from recorded sessions.
 
 mod opens;
 mod states;
 mod timers;
 
+use crate::{Act, Busy, Heard, Session, Settings, State};
 use rs_attrs::Mode;
 use rs_octets::HeaderFault;
 use rs_open::{Limit, Short, read_open};
-use rs_session::{Act, Busy, Heard, Session, Settings, State};
 use std::process::Abort;
 
 /// A client of AS 64496, and a Hold Time of 90.

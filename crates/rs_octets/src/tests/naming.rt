@@ -1,6 +1,6 @@
 //! Names of error codes and subcodes, and their texts.
 
-use rs_octets::Notification;
+use crate::Notification;
 use std::alloc::Global;
 use std::process::Abort;
 use std::test::Fail;

@@ -1,11 +1,26 @@
-//! Tests of `rs_packer`: messages and their numbers from outside.
+//! Messages and their numbers from outside.
 
-use crate::common::{ROUTE, attrs, prefix};
-use rs_attrs::{Attrs, Mode};
+use crate::{Packed, fits, pack_announced, pack_withdrawn, try_pack_announced};
+use rs_attrs::{Attrs, Mode, read};
 use rs_octets::Prefix;
-use rs_packer::{Packed, fits, pack_announced, pack_withdrawn, try_pack_announced};
 use std::alloc::{AllocError, Global};
+use std::process::Abort;
 use std::test::Fail;
+
+/// ORIGIN IGP, AS_PATH 64496, NEXT_HOP 192.0.2.11, as a four-octet peer spells them.
+const ROUTE: [u8; 20] = [
+    0x40, 1, 1, 0, 0x40, 2, 6, 2, 1, 0, 0, 0xfb, 0xf0, 0x40, 3, 4, 192, 0, 2, 11,
+];
+
+/// The prefix of this length, 0 to 32, with these bits.
+fn prefix(rt: &impl Abort, bits: u32, len: u8) -> Prefix {
+    Prefix::new(bits, len).expect(rt, "a length of at most 32")
+}
+
+/// The attributes that a four-octet peer spells so.
+fn attrs(alloc: Global, field: &[u8]) -> Result<Attrs, AllocError> {
+    Ok(read(alloc, field, Mode::Four)?.attrs)
+}
 
 /// So many prefixes of length 24, from 10.0.0.0/24 on.
 fn prefixes(alloc: Global, count: u32) -> Result<Vec<Prefix>, AllocError> {

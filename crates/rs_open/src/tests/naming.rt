@@ -1,10 +1,10 @@
 //! Names and texts.
 
-use rs_octets::Notification;
-use rs_open::{
+use crate::{
     Limit, OpenFault, Short, an_open_is_taken_where_it_is_good, an_open_of_ours_is_good,
     octets_are_one_row_of_triples, short_is_a_message,
 };
+use rs_octets::Notification;
 use std::test::Fail;
 
 #[test]

@@ -1,7 +1,7 @@
 //! Bodies of OPENs and of ROUTE-REFRESHes, and what is read from them.
 
-use crate::common::octets;
-use rs_open::{AddressFamily, Open, OpenFault, read_open, read_refresh};
+use super::octets;
+use crate::{AddressFamily, Open, OpenFault, read_open, read_refresh};
 use std::alloc::Global;
 use std::process::Abort;
 use std::test::Fail;

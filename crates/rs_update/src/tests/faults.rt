@@ -1,4 +1,4 @@
-//! What is told of UPDATEs that are taken, but not as they came.
+//! What is noted of UPDATEs that are taken, but not as they came.
 
 use super::*;
 use rs_attrs::{AttributeFault, Cause, Faulted};
@@ -95,13 +95,13 @@ fn an_attribute_is_missing_beside_one_that_is_discarded(rt: HostRuntime) -> Resu
     let Outcome::Change { faulted, .. } = effect(alloc, &body, Mode::Four)? else {
         return Err(Fail::from("a reset"));
     };
-    let told = Faulted {
+    let noted = Faulted {
         discard: Some(AttributeFault {
             kind: 6,
             cause: Cause::Length,
         }),
         ..withdraws(3, Cause::Missing)
     };
-    assert_eq!(rt; faulted, told);
+    assert_eq!(rt; faulted, noted);
     Ok(())
 }

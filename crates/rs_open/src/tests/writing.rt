@@ -1,10 +1,8 @@
 //! Messages and their octets.
 
-use crate::common::octets;
+use super::octets;
+use crate::{ServerOpen, Short, short_size, write_keepalive, write_note, write_open, write_short};
 use rs_octets::Notification;
-use rs_open::{
-    ServerOpen, Short, short_size, write_keepalive, write_note, write_open, write_short,
-};
 use std::test::Fail;
 
 /// What stands in a slice before it is written.

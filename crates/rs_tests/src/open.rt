@@ -1,5 +1,0 @@
-//! Tests of `rs_open`: octets of other implementations and of the RFCs, and texts, which no contract has.
-
-mod naming;
-mod reading;
-mod writing;
