@@ -154,8 +154,8 @@ fn drain(rt: &impl Abort, alloc: Global, outlet: &mut Outlet) -> Vec<u8> {
     taken
 }
 
-/// The first so many prefixes are touched, each twice; what the turn behind them decides.
-fn decides_behind(
+/// The first so many prefixes are touched, each twice; what the turn after them decides.
+fn decides_after(
     rt: &impl Abort,
     exchange: &Exchange,
     outlet: &mut Outlet,
@@ -172,9 +172,9 @@ fn more_than_4096_touched_are_all(rt: HostRuntime) {
     let exchange = Exchange::with_routes(&rt, rt.alloc(), 5_000);
     let mut outlet = exchange.outlet(&rt, CLIENT);
     exchange.decides(&rt, &mut outlet, all(5_000));
-    decides_behind(&rt, &exchange, &mut outlet, 1, some(1));
-    decides_behind(&rt, &exchange, &mut outlet, 4_096, some(4_096));
-    decides_behind(&rt, &exchange, &mut outlet, 4_097, all(5_000));
+    decides_after(&rt, &exchange, &mut outlet, 1, some(1));
+    decides_after(&rt, &exchange, &mut outlet, 4_096, some(4_096));
+    decides_after(&rt, &exchange, &mut outlet, 4_097, all(5_000));
     assert_eq!(rt; outlet.last(), Last::Done(all(5_000)));
     let_go(exchange, outlet);
 }
