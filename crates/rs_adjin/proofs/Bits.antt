@@ -1,11 +1,13 @@
 -- Bits of words.
-use Rattle.std.proofs.Common.{Bool, true, false, ◌≡◌, ◌≢◌, ◌<◌, ◌≤◌, ◌==◌, ◌+◌, ◌-◌, ◌*◌, ◌/◌, ◌%◌, ◌^◌, ℕ, zero, suc, List, [], ◌∷◌, length, refl, sym, ◌∙◌, ap, arith, w64, inl, inr}
-use Rattle.std.specs.Prelude.{slice_index, slice_index_or, slice_set, if◌then◌else◌}
+use Rattle.std.proofs.Common.{Bool, true, false, ◌≡◌, ◌≢◌, ◌<◌, ◌≤◌, ◌==◌, ◌+◌, ◌-◌, ◌/◌, ◌%◌, ◌^◌, ℕ, List, length, sym, ◌∙◌, ap, arith, w64, inl, inr}
+use Rattle.std.specs.Prelude.{slice_index, slice_set, if◌then◌else◌}
 use Rattle.std.specs.Int.{bit_at, trailing_zeros}
 use Rattle.std.proofs.lemmas.Bool.{cases_eq, cases_lt}
 use Rattle.std.proofs.lemmas.Bool.Decides.{nat_tests}
 use Rattle.std.proofs.lemmas.Nat.{shr-shr}
 use Rattle.std.proofs.lemmas.Nat.Bits.{bit_at-zero, bit_at_above, bit_at-trailing_zeros}
+use Rattle.std.proofs.lemmas.List.{get_or-set_same, get_or-set_other}
+use Rattle.std.proofs.Math.ListN.{get_or-eq_default}
 use Rattle.rs_adjin.specs.Held.{bit_of}
 
 -- ---- a word behind its first bits
@@ -30,31 +32,9 @@ lowest word k small rest some =
 
 -- ---- one word written
 
-pub index_default : (xs : List ℕ) (k d e : ℕ) → k < length xs → slice_index_or xs k d ≡ slice_index_or xs k e
-index_default [] k d e below = absurd (omega (arith, below))
-index_default (x ∷ xs) zero d e below = refl
-index_default (x ∷ xs) (suc k) d e below = index_default xs k d e (omega (arith, below))
-
-index_here : (xs : List ℕ) (k w : ℕ) → k < length xs → slice_index (slice_set xs k w) k ≡ w
-index_here [] k w below = absurd (omega (arith, below))
-index_here (x ∷ xs) zero w below = refl
-index_here (x ∷ xs) (suc k) w below = index_here xs k w (omega (arith, below))
-
-index_apart : (xs : List ℕ) (k w m : ℕ) → m ≢ k → slice_index (slice_set xs k w) m ≡ slice_index xs m
-index_apart [] k w m ne = refl
-index_apart (x ∷ xs) zero w zero ne = absurd (ne refl)
-index_apart (x ∷ xs) zero w (suc m) ne = refl
-index_apart (x ∷ xs) (suc k) w zero ne = refl
-index_apart (x ∷ xs) (suc k) w (suc m) ne = index_apart xs k w m (λ e. ne (ap (λ j. suc j) e))
-
-index_beyond : (xs : List ℕ) (k : ℕ) → length xs ≤ k → slice_index xs k ≡ 0
-index_beyond [] k above = refl
-index_beyond (x ∷ xs) zero above = absurd (omega (arith, above))
-index_beyond (x ∷ xs) (suc k) above = index_beyond xs k (omega (arith, above))
-
 pub beyond : (words : List ℕ) (n : ℕ) → length words ≤ n / 64 → bit_of words n ≡ false
 beyond words n above =
-    let none : bit_at (slice_index words (n / 64)) (n % 64) ≡ 0 = ap (λ x. bit_at x (n % 64)) (index_beyond words (n / 64) above) ∙ bit_at-zero (n % 64) in
+    let none : bit_at (slice_index words (n / 64)) (n % 64) ≡ 0 = ap (λ x. bit_at x (n % 64)) (get_or-eq_default words 0 above) ∙ bit_at-zero (n % 64) in
     ap (λ b. b == 1) none
 
 pub within : (words : List ℕ) (n : ℕ) → bit_of words n ≡ true → n / 64 < length words
@@ -71,27 +51,14 @@ written words n word b below here others m = elim (cases_eq (m / 64) (n / 64)) [
     | inl at ↦
         let e : m ≡ n = omega (arith, same, at) in
         let is : (m == n) ≡ true = grind (arith, nat_tests, e) in
-        ap (λ k. bit_at (slice_index (slice_set words (n / 64) word) k) (m % 64) == 1) same ∙ (ap (λ w. bit_at w (m % 64) == 1) (index_here words (n / 64) word below)
+        ap (λ k. bit_at (slice_index (slice_set words (n / 64) word) k) (m % 64) == 1) same ∙ (ap (λ w. bit_at w (m % 64) == 1) (get_or-set_same words (n / 64) word 0 below)
         ∙ (ap (λ i. bit_at word i == 1) at ∙ (here ∙ sym (ap (λ t. if t then b else bit_of words m) is))))
     | inr ne ↦
         let not : (m == n) ≡ false = grind (arith, nat_tests, ne) in
-        ap (λ k. bit_at (slice_index (slice_set words (n / 64) word) k) (m % 64) == 1) same ∙ (ap (λ w. bit_at w (m % 64) == 1) (index_here words (n / 64) word below)
+        ap (λ k. bit_at (slice_index (slice_set words (n / 64) word) k) (m % 64) == 1) same ∙ (ap (λ w. bit_at w (m % 64) == 1) (get_or-set_same words (n / 64) word 0 below)
         ∙ (ap (λ x. x == 1) (others (m % 64) (omega arith) ne) ∙ (ap (λ k. bit_at (slice_index words k) (m % 64) == 1) (sym same) ∙ sym (ap (λ t. if t then b else bit_of words m) not))))
   ]
   | inr ne ↦
       let not : (m == n) ≡ false = grind (arith, nat_tests, ne) in
-      ap (λ w. bit_at w (m % 64) == 1) (index_apart words (n / 64) word (m / 64) ne) ∙ sym (ap (λ t. if t then b else bit_of words m) not)
+      ap (λ w. bit_at w (m % 64) == 1) (get_or-set_other words (n / 64) (m / 64) word 0 ne) ∙ sym (ap (λ t. if t then b else bit_of words m) not)
 ]
-
--- ---- bit i of word k
-
-pub bit_there : (words : List ℕ) (k i : ℕ) → i < 64 → bit_of words (k * 64 + i) ≡ (bit_at (slice_index words k) i == 1)
-bit_there words k i small =
-    let word : (k * 64 + i) / 64 ≡ k = omega (arith, small) in
-    let bit : (k * 64 + i) % 64 ≡ i = omega (arith, small) in
-    ap (λ j. bit_at (slice_index words j) ((k * 64 + i) % 64) == 1) word ∙ ap (λ j. bit_at (slice_index words k) j == 1) bit
-
-pub none_there : (words : List ℕ) (k bit m : ℕ) → ((i : ℕ) → bit ≤ i → i < 64 → bit_at (slice_index words k) i ≡ 0) → k * 64 + bit ≤ m → m < k * 64 + 64 → bit_of words m ≡ false
-none_there words k bit m none low high =
-    let word : m / 64 ≡ k = omega (arith, low, high) in
-    ap (λ j. bit_at (slice_index words j) (m % 64) == 1) word ∙ ap (λ x. x == 1) (none (m % 64) (omega (arith, low, high)) (omega arith))

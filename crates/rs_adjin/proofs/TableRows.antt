@@ -152,12 +152,6 @@ module _ (rows : List Row) (n : ℕ) (r s : Row) (read : slice_get rows n ≡ So
     | inr ne ↦ ap prefix_in (apart m ne)
   ]
 
-  pub kept_routes : s.routes.items ≡ r.routes.items → (m : ℕ) → routes_in (slice_get (slice_set rows n s) m) ≡ routes_in (slice_get rows m)
-  kept_routes same m = elim (cases_eq m n) [
-    | inl e ↦ subst (λ k. routes_in (slice_get (slice_set rows n s) k) ≡ routes_in (slice_get rows k)) (sym e) (ap routes_in here ∙ (same ∙ sym (ap routes_in read)))
-    | inr ne ↦ ap routes_in (apart m ne)
-  ]
-
   pub vacant_written : (p : Prefix) → s.prefix ≡ Some p → AreVacant rows → AreVacant (slice_set rows n s)
   vacant_written p is vacant m none = elim (cases_eq m n) [
     | inl e ↦ absurd (none_some (prefix_at (slice_set rows n s) n) p (subst (λ k. prefix_at (slice_set rows n s) k ≡ None) e none) (ap prefix_in here ∙ is))

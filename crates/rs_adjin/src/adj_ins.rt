@@ -164,7 +164,8 @@ impl AdjIns {
         withdraw_in(&mut self.table, held, client, prefix)
     }
 
-    /// The client withdraws its route for the prefix of a number, as `withdraw` has it.
+    /// The client withdraws its route for the prefix of a number, as `withdraw` has it, for a caller that
+    /// has looked the number up already. Only the tests call it.
     pub fn withdraw_at(&mut self, client: usize, number: u32) -> bool
         requires client { client < client_count self.old }
         requires number { IsSome (prefix_of self.old number) }
@@ -241,7 +242,8 @@ impl AdjIns {
         Holders::new(self.routes(prefix))
     }
 
-    /// The attributes that the client announced for a prefix; None where it holds none.
+    /// The attributes that the client announced for a prefix; None where it holds none. The outlets ask
+    /// by number (`route_at`); only the tests ask by prefix.
     pub fn route(&self, client: usize, prefix: Prefix) -> Option<&Arc<Attrs>>
         ensures { option_map (λ attrs. arc_value attrs.now) result ≡ held_of self.now client prefix }
     {

@@ -72,6 +72,7 @@ fn put_among(
 }
 
 /// Gives a client a route in the row of its prefix, and answers whether that changes what it has.
+/// The row is found by its number; `prefix` is there for the contract, which says what each prefix has.
 pub(crate) fn put_row(
     table: &mut Numbered,
     number: u32,
@@ -176,7 +177,8 @@ fn take_from(routes: &mut Vec<Route>, client: usize) -> bool
     }
 }
 
-/// Takes a client's route from the row of its prefix, and answers whether there was one.
+/// Takes a client's route from the row of its prefix, and answers whether there was one. The row is
+/// found by its number; `prefix` is there for the contract.
 fn take_row(table: &mut Numbered, number: u32, client: usize, prefix: Prefix) -> bool
     requires table { IsTable table.old }
     requires number { number_in table.old prefix ≡ Some number }

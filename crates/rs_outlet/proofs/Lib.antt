@@ -2,4 +2,3 @@ pub mod Message
 pub mod Decided
 pub mod Pending
 mod OneOf
-mod Orders

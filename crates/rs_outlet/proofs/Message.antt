@@ -1,5 +1,4 @@
 -- The next message: which prefixes it is about, and what it leaves.
-pub mod Limits
 pub mod Ranges
 pub mod Fullest
 pub mod AllWaiting

@@ -72,22 +72,33 @@ numbers_of cs = map (λ c. c.number) cs
 abbrev pub attributes_at : List (Option Row) → ℕ → Option (List Attribute)
 attributes_at rows n = shown (row_at rows n)
 
--- a change at number n, of what is due there
-pub record IsChangeAt (ins : AdjIns) (due_at : Prefix → Option (List Attribute)) (n : ℕ) (c : Change) : Type 0 where
+-- a row that has a route has this prefix
+abbrev pub IsOwn : Option Row → Prefix → Type 0
+IsOwn o p = (r : Row) → o ≡ Some r → r.prefix ≡ p
+
+-- each change stands at a row that is free or has its prefix
+abbrev pub AreOwn : List Change → List (Option Row) → Type 0
+AreOwn cs rows = AllByRecursion (λ c. IsOwn (row_at rows c.number) c.prefix) cs
+
+-- a change at number n, of what is due there, whose row is free or has its prefix
+pub record IsChangeAt (ins : AdjIns) (due_at : Prefix → Option (List Attribute)) (rows : List (Option Row)) (n : ℕ) (c : Change) : Type 0 where
   pub number : c.number ≡ n
   pub placed : number_of ins c.prefix ≡ Some n
   pub due : option_map arc_value c.due ≡ due_at c.prefix
+  pub own : IsOwn (row_at rows n) c.prefix
 
 -- where number n has what is due, no change is added; else one is
-abbrev pub IsDecidedAt : AdjIns → (Prefix → Option (List Attribute)) → ℕ → Option (List Attribute) → List Change → List Change → Type 0
-IsDecidedAt ins due_at n was old new =
-    ((new ≡ old) × ((p : Prefix) → number_of ins p ≡ Some n → was ≡ due_at p))
-    ⊎ ((c : Change) × IsChangeAt ins due_at n c × (new ≡ old ++ c ∷ []))
+abbrev pub IsDecidedAt : AdjIns → (Prefix → Option (List Attribute)) → List (Option Row) → ℕ → List Change → List Change → Type 0
+IsDecidedAt ins due_at rows n old new =
+    ((new ≡ old) × ((p : Prefix) → number_of ins p ≡ Some n → attributes_at rows n ≡ due_at p))
+    ⊎ ((c : Change) × IsChangeAt ins due_at rows n c × (new ≡ old ++ c ∷ []))
 
--- these are the changes at the numbers that pass the test: each once, and none where the row has what is due
+-- these are the changes at the numbers that pass the test: each once, at a row that is free or has its prefix, and none where
+-- the row has what is due
 pub record AreDecided (ins : AdjIns) (due_at : Prefix → Option (List Attribute)) (rows : List (Option Row)) (is_in : ℕ → Bool) (cs : List Change) : Type 0 where
   pub placed : ArePlaced cs ins
   pub due : AreDue due_at cs
+  pub own : AreOwn cs rows
   pub once : IsDistinct nat_eq (numbers_of cs)
   pub within : (n : ℕ) → list_any (nat_eq n) (numbers_of cs) ≡ true → is_in n ≡ true
   pub all : (n : ℕ) → is_in n ≡ true → list_any (nat_eq n) (numbers_of cs) ≡ false → (p : Prefix) → number_of ins p ≡ Some n → attributes_at rows n ≡ due_at p
@@ -157,17 +168,9 @@ RowsFit speech rows = (n : ℕ) (r : Row) → row_at rows n ≡ Some r → FitsA
 abbrev pub ChangesFit : Speech → List Change → Type 0
 ChangesFit speech cs = AllByRecursion (λ c. IfSome c.due (λ attrs. FitsAlone speech c.prefix (arc_value attrs))) cs
 
--- a row that has a route has this prefix
-abbrev pub IsOwn : Option Row → Prefix → Type 0
-IsOwn o p = (r : Row) → o ≡ Some r → r.prefix ≡ p
-
--- each change stands at a row that is free or has its prefix
-abbrev pub AreOwn : List Change → List (Option Row) → Type 0
-AreOwn cs rows = AllByRecursion (λ c. IsOwn (row_at rows c.number) c.prefix) cs
-
 -- ---- all of it
 
--- the slots of what waits, and behind them those of the turn at hand
+-- what contracts see of an outlet
 abbrev pub view_of : Inside → View
 view_of a = record {
   client = a.client;

@@ -14,8 +14,6 @@ use Rattle.rs_attrs.specs.Comparing.{same_attributes}
 use Rattle.rs_open.specs.declared.short.Short.{Short}
 use Rattle.rs_outlet.specs.declared.answers.Speech.{Speech}
 use Rattle.rs_outlet.specs.declared.answers.Last.{Last}
-use Rattle.rs_outlet.specs.declared.answers.Last.TheVariants.{Done}
-use Rattle.rs_outlet.specs.declared.answers.Turned.{Turned}
 
 abbrev pub Table : Type 0
 Table = FinMap prefix_order (List Attribute)
@@ -102,11 +100,6 @@ is_whole (Some s) = false
 abbrev pub IsOneOf : Option (List Attribute) → Option (List Attribute) → Option (List Attribute) → Type 0
 IsOneOf m a b = (m ≡ a) ⊎ (m ≡ b)
 
--- each touched prefix has what is due there, and nothing else has changed but what is touched and the answer of the last turn
-pub record IsDecided (due : Prefix → Option (List Attribute)) (old new : View) : Type 0 where
-  pub loc : (p : Prefix) → map.get new.loc p ≡ (if is_touched old.touched p then due p else map.get old.loc p)
-  pub rest : new ≡ record old { loc = new.loc; touched = Some set.empty; waits = new.waits; numbers = new.numbers; last = new.last }
-
 -- so many prefixes pass the test
 pub record IsNumberOf (is_in : Prefix → Bool) (n : ℕ) : Type 0 where
   pub all : Prefixes
@@ -117,17 +110,6 @@ pub record IsNumberOf (is_in : Prefix → Bool) (n : ℕ) : Type 0 where
 abbrev pub IsCount : (Prefix → Bool) → Table → Option Prefixes → ℕ → Type 0
 IsCount held loc None n = IsNumberOf (λ p. map.contains_key loc p || held p) n
 IsCount held loc (Some s) n = n ≡ set.len s
-
-pub record IsTurned (due : Prefix → Option (List Attribute)) (held : Prefix → Bool) (old new : View) (turned : Turned) : Type 0 where
-  pub decided : IsDecided due old new
-  pub last : new.last ≡ Done turned
-  pub whole : turned.whole ≡ is_whole old.touched
-  pub count : IsCount held old.loc old.touched turned.decided
-
--- what a turn did that was not refused; an outlet that is not up decides nothing
-abbrev pub TurnedAs : Option Speech → (Speech → Prefix → Option (List Attribute)) → (Prefix → Bool) → View → View → Turned → Type 0
-TurnedAs None due held old new turned = (turned ≡ record { decided = 0; whole = false }) × (new ≡ record old { last = Done turned })
-TurnedAs (Some speech) due held old new turned = IsTurned (due speech) held old new turned
 
 -- ---- what waits
 

@@ -134,28 +134,6 @@ fn carry_out(rows: &mut Rows, waits: &mut Waits, fresh: &mut Vec<Wait>, change: 
     }
 }
 
-/// Whether the row of a number is free or has this prefix.
-fn is_own(rows: &Rows, number: u32, prefix: &Prefix) -> bool
-    ensures { IsTrue result → IsOwn (row_at rows.now.rows.items number) prefix.now }
-{
-    match rows.get(number) {
-        None => true,
-        Some(row) => row.prefix == *prefix,
-    }
-}
-
-/// Whether each change stands at a row that is free or has its prefix.
-pub(crate) fn are_own(changes: &[Change], rows: &Rows) -> bool
-    ensures { IsTrue result → AreOwn changes.now rows.now.rows.items }
-{
-    for change in changes {
-        if !is_own(rows, change.number, &change.prefix) {
-            return false;
-        }
-    }
-    true
-}
-
 /// Makes room for so many changes, and for all that may wait then.
 pub(crate) fn make_room(
     alloc: Global,

@@ -205,7 +205,8 @@ fn decide_alone<'a>(
     pass_fitting(alloc, sources, speech, prefix, holder)
 }
 
-/// What is due where these clients hold the prefix: the best of the candidates.
+/// What is due where these clients hold the prefix: the best of the candidates. Only the ranks of the
+/// candidates are kept, so the winner's route is looked up and judged a second time.
 fn decide_among<'a>(
     alloc: Global,
     sources: &Sources<'a>,
@@ -222,10 +223,10 @@ fn decide_among<'a>(
     ensures { IfOk result (λ due. option_map attributes_passed due ≡ due_to (held_by sources.now) sources.now.client speech prefix.now) }
 {
     rank_all(sources, prefix, holders, ranks)?;
-    let Some(place) = best(ranks) else {
+    let Some(index) = best(ranks) else {
         return Ok(None);
     };
-    let Some(rank) = ranks.get(place) else {
+    let Some(rank) = ranks.get(index) else {
         return Ok(None);
     };
     let Some(attrs) = sources.ins.route_at(rank.place, number) else {

@@ -6,13 +6,13 @@
 //! as far as the link takes them, and the routes of the client's Loc-RIB.
 //!
 //! - `outlet` has the calls that change an `Outlet`, `queries` those that ask it; `answers` is what it
-//!   is told of its client, and what a turn answers; `sizes` says how much room a message has.
+//!   knows of its client, and what a turn answers; `sizes` says how much room a message has.
 //! - `touched` is what the next turn decides; `turn` decides it, by `deciding`, which says what is
 //!   due at one prefix; `changes` puts that into `rows`, the Loc-RIB by number, which keeps them in a
-//!   `table`, and into `waiting`, what is to be sent: slots in two runs (`parts`), of which `merging`
-//!   makes one. `marking` makes all that was told wait again.
-//! - `choosing` says which slots the next UPDATE is about, by the links that `chains` makes between
-//!   them; `sending` and `fill` begin the next message.
+//!   `table`, and into `waiting`, what is to be sent: slots in two `parts`, of which `merging` makes
+//!   one. `marking` makes all that was told wait again.
+//! - `choosing` says which slots the next UPDATE is about, going along the `chains` of slots that may
+//!   share one; `sending` and `fill` begin the next message.
 //! - `routes` shows the Loc-RIB; `laws` are contracts of functions that do nothing.
 #![tactic(auto)]
 

@@ -82,6 +82,7 @@ fn put_open(said: &ServerOpen, out: &mut Vec<u8>) -> usize
     ensures most { result ≤ 4096 }
     ensures room { vec_len out.new ≡ vec_len out.old }
 {
+    // for the prover: it fits
     let _size = short_size(&Short::Open, said);
     write_open(said, out)
 }
@@ -279,7 +280,7 @@ impl Outlet {
     }
 
     /// Whether the row of a number has no route, and no prefix is touched by itself. What is touched
-    /// is not looked through for the number: behind a turn that was not refused nothing is.
+    /// is not looked through for the number: after a turn that was not refused nothing is.
     pub fn is_free(&self, number: u32) -> bool
         ensures free { IsTrue result → IsNoNumberOf number self.now.numbers }
         ensures all { self.now.touched ≡ Some set.empty → IsNoNumberOf number self.now.numbers → IsTrue result }

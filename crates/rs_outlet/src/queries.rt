@@ -15,7 +15,8 @@ use rs_octets::Prefix;
 use std::sync::Arc;
 
 impl Outlet {
-    /// The place of its client among those of the configuration.
+    /// The place of its client among those of the configuration, as `new` was given it. Only tests ask
+    /// for it: it is what they have to show of an outlet before its turn.
     pub fn client(&self) -> usize
         ensures { result ≡ self.now.client }
     {

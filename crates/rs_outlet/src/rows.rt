@@ -57,11 +57,11 @@ impl Rows {
         self.at(number as usize)
     }
 
-    /// The row at a place, where it has a route.
-    pub(crate) fn at(&self, place: usize) -> Option<&Row>
-        ensures { option_copied result ≡ row_at self.now.rows.items place }
+    /// The row at an index, where it has a route.
+    pub(crate) fn at(&self, index: usize) -> Option<&Row>
+        ensures { option_copied result ≡ row_at self.now.rows.items index }
     {
-        match self.rows.get(place) {
+        match self.rows.get(index) {
             Some(row) => row.as_ref(),
             None => None,
         }

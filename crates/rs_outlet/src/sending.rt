@@ -20,6 +20,7 @@ ghost use Rattle.rs_open.specs.Notes.{limit_octets};
 
 use crate::answers::Speech;
 use crate::outlet::Outlet;
+use crate::sizes::most_prefixes;
 use crate::table::Rows;
 use crate::waiting::Waits;
 use rs_attrs::{Attrs, Mode, attributes_are_legal};
@@ -139,7 +140,7 @@ fn put_gone(
     ensures front { vec_capacity front.new ≡ vec_capacity front.old }
     ensures update { (rows : List (Option Row)) → MayUpdate speech rows waits.now.slots.items chosen.new.items front.new.items out.new.items result }
 {
-    let room = chosen.capacity().min(front.capacity());
+    let room = most_prefixes(speech.limit);
     waits.collect_withdrawn(first, room, chosen, front);
     if front.is_empty() {
         return NOTHING;
@@ -174,8 +175,9 @@ fn put_news(
     ensures front { vec_capacity front.new ≡ vec_capacity front.old }
     ensures update { MayUpdate speech rows.now.rows.items waits.now.slots.items chosen.new.items front.new.items out.new.items result }
 {
-    let room = chosen.capacity().min(front.capacity());
+    let room = most_prefixes(speech.limit);
     waits.collect_announced(rows, first, attrs, room, chosen, front);
+    // for the prover: they are legal
     attributes_are_legal(attrs);
     put_announcement(attrs, speech, front, out)
 }

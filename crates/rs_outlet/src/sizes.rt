@@ -1,10 +1,12 @@
 //! How much room a message has.
 
-ghost use Rattle.std.specs.Prelude.{◌≡◌, ◌≤◌};
+ghost use Rattle.std.specs.Prelude.{◌≡◌, ◌≤◌, ◌<◌, ◌-◌};
+ghost use Rattle.rs_open.specs.Notes.{limit_octets};
 ghost use Rattle.rs_octets.specs.Numbers.{longest_where};
 ghost use Rattle.rs_outlet.specs.Inside.{batch_of};
 
 use rs_octets::longest_message;
+use rs_open::Limit;
 
 /// The octets of the longest message.
 pub(crate) fn room(extended: bool) -> usize
@@ -17,7 +19,15 @@ pub(crate) fn room(extended: bool) -> usize
 /// The octets of an UPDATE without prefixes and attributes: its header and two lengths.
 const EMPTY_UPDATE: usize = 23;
 
-/// The most prefixes that one message holds, each of one octet.
+/// The most prefixes that a message of this limit holds: each takes an octet at least.
+pub(crate) fn most_prefixes(limit: Limit) -> usize
+    ensures value { result ≡ limit_octets limit - 23 }
+    ensures some { 0 < result }
+{
+    limit.octets() - EMPTY_UPDATE
+}
+
+/// The most prefixes that a message to a client holds.
 pub(crate) fn batch(extended: bool) -> usize
     ensures { result ≡ batch_of extended }
 {

@@ -1,6 +1,6 @@
 //! The touched prefixes: a list with room for more than 4,096, and a mark for all.
 //!
-//! A touch is put behind the others, even where its prefix is there already. A full list is put in
+//! A touch is added at the end, even where its prefix is there already. A full list is put in
 //! the order of the numbers and has each prefix once from then on; where these are more than 4,096,
 //! all are touched. So a touch costs a push and a few steps of a sort, whichever prefixes a member
 //! chooses.
@@ -22,7 +22,8 @@ pub(crate) const TOUCHED_MAX: usize = 4096;
 /// How many touches are listed. Once it is in order, the list has room for 1,024 more.
 const LISTED_MAX: usize = 5120;
 
-/// The prefixes that the next turn decides: all, or those listed where they are at most 4,096.
+/// The prefixes that the next turn decides: all, or those listed where they are at most 4,096. A turn
+/// goes by their numbers; the prefix beside each is there for contracts, which speak of prefixes.
 #[derive(Drop)]
 pub(crate) struct Touched {
     prefixes: Vec<(u32, Prefix)>,

@@ -11,12 +11,12 @@ ghost use Rattle.rs_outlet.specs.Views.{AreNumbered, HaveNumbers, IsCount, IsNum
 ghost use Rattle.rs_outlet.specs.Decided.Due.{any_holds, due_to};
 ghost use Rattle.rs_outlet.specs.Decided.Counted.{is_counted, is_standing};
 ghost use Rattle.rs_outlet.specs.Decided.HeldBy.{held_by};
-ghost use Rattle.rs_outlet.specs.Inside.{AreDecided, IsDecidedAt, attributes_at, shown};
+ghost use Rattle.rs_outlet.specs.Inside.{AreDecided, IsDecidedAt, IsOwn, shown};
 ghost use Rattle.rs_outlet.specs.Decided.Touching.{is_number_touched, is_numbered_in, touched_of};
 ghost use Rattle.rs_outlet.specs.Decided.Passing.{attributes_passed};
 
 use crate::answers::{Last, Speech, Turned};
-use crate::changes::{Change, are_own, commit, make_room};
+use crate::changes::{Change, commit, make_room};
 use crate::deciding::{Passed, Sources, decide};
 use crate::outlet::Outlet;
 use crate::rows::Row;
@@ -45,7 +45,18 @@ fn is_due(row: Option<&Row>, due: Option<&Passed<'_>>) -> bool
     }
 }
 
-/// Decides a prefix, and lists it where something else is due than before.
+/// Whether a row is free or has this prefix.
+fn is_own(row: Option<&Row>, prefix: &Prefix) -> bool
+    ensures { IsTrue result → IsOwn (option_copied row.entry) prefix.now }
+{
+    match row {
+        None => true,
+        Some(row) => row.prefix == *prefix,
+    }
+}
+
+/// Decides a prefix, and lists it where something else is due than before. It is refused where the row
+/// of the number has another prefix.
 fn decide_one(
     alloc: Global,
     sources: &Sources<'_>,
@@ -59,11 +70,15 @@ fn decide_one(
     requires number { number_of sources.now.ins.now prefix ≡ Some number }
     requires client { sources.now.client < length sources.now.config.now.clients }
     requires count { client_count sources.now.ins.now ≡ length sources.now.config.now.clients }
-    ensures { OnOk result (IsDecidedAt sources.now.ins.now (due_to (held_by sources.now) sources.now.client speech) number (attributes_at rows.now.rows.items number) changes.old.items changes.new.items) }
+    ensures { OnOk result (IsDecidedAt sources.now.ins.now (due_to (held_by sources.now) sources.now.client speech) rows.now.rows.items number changes.old.items changes.new.items) }
 {
     let due = decide(alloc, sources, speech, number, &prefix, ranks)?;
-    if is_due(rows.get(number), due.as_ref()) {
+    let row = rows.get(number);
+    if is_due(row, due.as_ref()) {
         return Ok(());
+    }
+    if !is_own(row, &prefix) {
+        return Err(AllocError);
     }
     let due = match due {
         None => None,
@@ -89,7 +104,7 @@ fn decide_at(
 ) -> Result<(), AllocError>
     requires client { sources.now.client < length sources.now.config.now.clients }
     requires count { client_count sources.now.ins.now ≡ length sources.now.config.now.clients }
-    ensures { OnOk result (IsDecidedAt sources.now.ins.now (due_to (held_by sources.now) sources.now.client speech) number (attributes_at rows.now.rows.items number) changes.old.items changes.new.items) }
+    ensures { OnOk result (IsDecidedAt sources.now.ins.now (due_to (held_by sources.now) sources.now.client speech) rows.now.rows.items number changes.old.items changes.new.items) }
 {
     let Some(prefix) = sources.ins.prefix(number) else {
         return Ok(());
@@ -97,7 +112,8 @@ fn decide_at(
     decide_one(alloc, sources, speech, rows, number, prefix, ranks, changes)
 }
 
-/// Decides what was touched by itself: at each number the prefix that the tables have there.
+/// Decides what was touched by itself: at each number the prefix that the tables have there. That is the
+/// prefix that was touched as long as it keeps its number, and no condition asks for that here.
 fn decide_touched(
     alloc: Global,
     sources: &Sources<'_>,
@@ -145,7 +161,7 @@ fn decide_number(
 ) -> Result<bool, AllocError>
     requires client { sources.now.client < length sources.now.config.now.clients }
     requires count { client_count sources.now.ins.now ≡ length sources.now.config.now.clients }
-    ensures changes { OnOk result (IsDecidedAt sources.now.ins.now (due_to (held_by sources.now) sources.now.client speech) number (attributes_at rows.now.rows.items number) changes.old.items changes.new.items) }
+    ensures changes { OnOk result (IsDecidedAt sources.now.ins.now (due_to (held_by sources.now) sources.now.client speech) rows.now.rows.items number changes.old.items changes.new.items) }
     ensures free { prefix_of sources.now.ins.now number ≡ None → IfOk result (λ decided. decided ≡ false) }
     ensures standing { (p : Prefix) → number_of sources.now.ins.now p ≡ Some number → IfOk result (λ decided. decided ≡ is_standing rows.now.rows.items (any_holds (held_by sources.now)) p number) }
 {
@@ -253,9 +269,6 @@ impl Outlet {
             decided: count,
             whole,
         };
-        if !are_own(&changes, &self.rows) {
-            return Err(AllocError);
-        }
         let numbers = sources.ins.numbers();
         let fresh = make_room(
             self.alloc,

@@ -1,10 +1,10 @@
 //! What waits to be sent to a client: the prefixes at which it was not told what is due, or that it
-//! asked for again. They stand in two runs in rising order (`runs`), so that a turn does not go over
-//! all that waits for a client that takes nothing.
+//! asked for again. Each has a slot. The slots stand in two `parts`, each in rising order, so that a turn
+//! does not go over all that waits for a client that takes nothing.
 //!
-//! Before a message begins, one run is made of both, and each slot that is to be announced gets a link
-//! to the next one whose hash falls into the same bucket (`linking`). A message is read off along the
-//! links, which leave none out that has the same attributes, and nothing is looked for in the Loc-RIB.
+//! Before a message begins, one part is made of both, and each slot that is to be announced is chained
+//! to the next one whose hash falls into the same bucket (`chains`). A message is read off along such a
+//! chain, which leaves out no slot that has the same attributes, and nothing is looked for in the Loc-RIB.
 
 ghost use Rattle.std.specs.Prelude.{◌≡◌, ◌≤◌, ◌<◌, ◌+◌, ℕ, Option, None, Some, [], true, false, drop, length, take, vec_len, slice_get, slice_set, option_map, if◌then◌else◌, IfSome, OnOk, ◌++◌};
 ghost use Rattle.std.specs.List.{AllWithin, Contains, IsDistinct, list_any};
@@ -61,18 +61,18 @@ pub(crate) struct Wait {
     pub(crate) open: bool,
 }
 
-/// What waits, in two runs by rising prefix. A prefix has one slot.
+/// What waits, in two parts by rising prefix. A prefix has one slot.
 #[derive(Drop)]
 pub(crate) struct Waits {
     pub(crate) alloc: Global,
     pub(crate) slots: Vec<Wait>,
-    /// How many slots are in the first run.
+    /// How many slots are in the first part.
     pub(crate) sorted: usize,
-    /// There is one run, and its links are made.
+    /// There is one part, and its slots are chained.
     pub(crate) ready: bool,
-    /// No slot between a slot and the one that its link leads to falls into its bucket.
+    /// For each slot the next one of its chain; no slot between the two falls into its bucket.
     pub(crate) chains: Vec<u32>,
-    /// While links are made: the first slot of each bucket behind the one at hand.
+    /// While slots are chained: the first slot of each bucket behind the one at hand.
     pub(crate) heads: Vec<u32>,
     /// No slot before it is to be withdrawn.
     pub(crate) gone: usize,

@@ -25,14 +25,14 @@ within (x ∷ xs) zero d e lt = refl
 within (x ∷ xs) (suc k) d e lt = within xs k d e (omega (arith, lt))
 
 -- a walk over a list, which has come to k: what stands there becomes v
-pub walked_on : {X : Type 0} (P : X → X → Type 0) (first part : List X) (k : ℕ) (e v : X) → k < length part → P (get_or part k e) v
-    → ((j : ℕ) (d : X) → k ≤ j → get_or part j d ≡ get_or first j d) → ((j : ℕ) (d : X) → j < k → P (get_or first j d) (get_or part j d))
-    → ((j : ℕ) (d : X) → k + 1 ≤ j → get_or (set part k v) j d ≡ get_or first j d) × ((j : ℕ) (d : X) → j < k + 1 → P (get_or first j d) (get_or (set part k v) j d))
-walked_on P first part k e v lt turned behind before = (
-  λ j d le. get_or-set_other part k j v d (λ e. let is = e in absurd (omega (arith, is, le))) ∙ behind j d (omega (arith, le)),
+pub walked_on : {X : Type 0} (P : X → X → Type 0) (first items : List X) (k : ℕ) (e v : X) → k < length items → P (get_or items k e) v
+    → ((j : ℕ) (d : X) → k ≤ j → get_or items j d ≡ get_or first j d) → ((j : ℕ) (d : X) → j < k → P (get_or first j d) (get_or items j d))
+    → ((j : ℕ) (d : X) → k + 1 ≤ j → get_or (set items k v) j d ≡ get_or first j d) × ((j : ℕ) (d : X) → j < k + 1 → P (get_or first j d) (get_or (set items k v) j d))
+walked_on P first items k e v lt turned behind before = (
+  λ j d le. get_or-set_other items k j v d (λ e. let is = e in absurd (omega (arith, is, le))) ∙ behind j d (omega (arith, le)),
   λ j d below.
-      below_more (λ i. P (get_or first i d) (get_or (set part k v) i d)) k
-      (λ i less. subst (λ x. P (get_or first i d) x) (sym (get_or-set_other part k i v d (λ e. let is = e in absurd (omega (arith, is, less))))) (before i d less))
-      (subst (λ x. P x (get_or (set part k v) k d)) (within part k e d lt ∙ behind k d (omega arith)) (subst (λ x. P (get_or part k e) x) (sym (get_or-set_same part k v d lt)) turned))
+      below_more (λ i. P (get_or first i d) (get_or (set items k v) i d)) k
+      (λ i less. subst (λ x. P (get_or first i d) x) (sym (get_or-set_other items k i v d (λ e. let is = e in absurd (omega (arith, is, less))))) (before i d less))
+      (subst (λ x. P x (get_or (set items k v) k d)) (within items k e d lt ∙ behind k d (omega arith)) (subst (λ x. P (get_or items k e) x) (sym (get_or-set_same items k v d lt)) turned))
       j below,
 )

@@ -3,7 +3,7 @@
 //! The tables and the configuration go in, shared and read by all; each outlet is lent to one
 //! worker alone. There is no lock, atomic or cell here.
 //!
-//! - `turning` has the call, `turn_all`: runs of neighbouring outlets, each turned by a thread of
+//! - `turning` has the call, `turn_all`: shares of neighbouring outlets, each turned by a thread of
 //!   its own where one can be started.
 //! - `gate` is what a worker passes before it turns its share: nothing, but in a test.
 #![tactic(auto)]

@@ -4,7 +4,7 @@ ghost use Rattle.std.specs.Prelude.{IfOk};
 ghost use Rattle.rs_workers.specs.Turned.{ArePlaced};
 
 use crate::gate::{Free, Gate};
-use crate::turning::{turn_all, turn_part};
+use crate::turning::{turn_all, turn_share};
 use rs_adjin::AdjIns;
 use rs_attrs::{Attrs, Mode, read};
 use rs_octets::Prefix;
@@ -75,7 +75,7 @@ impl Gate for Counting {
     }
 }
 
-/// Puts what is said of one member, AS 64512 or one behind it, at the end of the configuration.
+/// Puts what is said of one member, AS 64512 or a greater one, at the end of the configuration.
 fn put_member(rt: &impl Abort, alloc: Global, text: &mut String, n: u8) {
     let number = 64512 + u32::from(n);
     let member = format!(in alloc;
@@ -189,7 +189,7 @@ impl Exchange {
     fn turned_alone(&self, rt: &impl Abort) -> Vec<Outlet> {
         assert!(rt; self.tables.clients() == self.config.clients());
         let mut all = outlets(self.alloc, &self.config).expect(rt, "outlets");
-        turn_part(&Free, 0, &self.tables, &self.config, all.as_mut_slice());
+        turn_share(&Free, 0, &self.tables, &self.config, all.as_mut_slice());
         all
     }
 }
@@ -235,7 +235,7 @@ fn are_alike(one: &mut Outlet, other: &mut Outlet) -> bool {
 }
 
 #[test]
-fn both_parts_run(rt: HostRuntime) {
+fn both_shares_run(rt: HostRuntime) {
     let gate = Both::new();
     let exchange = Exchange::new(&rt, rt.alloc(), 2, 10);
     let all = exchange.turned(&rt, 2, &gate);
@@ -243,32 +243,32 @@ fn both_parts_run(rt: HostRuntime) {
     have_decided(&rt, &all, 2, 10);
 }
 
-/// The outlets of so many members are turned by so many workers in so many runs.
-fn has_parts<R: Threads + Wait + Sync + Abort>(
+/// The outlets of so many members are turned by so many workers in so many shares.
+fn has_shares<R: Threads + Wait + Sync + Abort>(
     rt: &R,
     alloc: Global,
     members: u8,
     workers: usize,
-    runs: usize,
+    shares: usize,
 ) {
     let gate = Counting::new(rt, alloc);
     let exchange = Exchange::new(rt, alloc, members, 10);
     exchange.turned(rt, workers, &gate);
     for (share, entries) in gate.shares.iter().enumerate() {
         let count = entries.load(Ordering::SeqCst);
-        let want = u64::from(share < runs);
+        let want = u64::from(share < shares);
         assert_eq!(rt; count, want, "share {share} of {members} by {workers}");
     }
 }
 
 #[test]
-fn parts_are_as_long_as_said(rt: HostRuntime) {
-    // members, workers, runs
-    has_parts(&rt, rt.alloc(), 1, 16, 1);
-    has_parts(&rt, rt.alloc(), 5, 4, 3);
-    has_parts(&rt, rt.alloc(), 16, 16, 16);
-    has_parts(&rt, rt.alloc(), 7, 2, 2);
-    has_parts(&rt, rt.alloc(), 6, 1, 1);
+fn shares_are_as_long_as_said(rt: HostRuntime) {
+    // members, workers, shares
+    has_shares(&rt, rt.alloc(), 1, 16, 1);
+    has_shares(&rt, rt.alloc(), 5, 4, 3);
+    has_shares(&rt, rt.alloc(), 16, 16, 16);
+    has_shares(&rt, rt.alloc(), 7, 2, 2);
+    has_shares(&rt, rt.alloc(), 6, 1, 1);
 }
 
 /// Turns by so many workers leave all seven outlets as turns one after the other do.

@@ -1,4 +1,4 @@
-//! Runs of neighbouring outlets, each turned by a thread of its own where one can be started.
+//! Shares of neighbouring outlets, each turned by a thread of its own where one can be started.
 
 ghost use Rattle.std.specs.Prelude.{◌≡◌, ◌<◌, ◌≤◌, length};
 ghost use Rattle.rs_adjin.specs.AdjIns.{client_count};
@@ -12,8 +12,8 @@ use std::sync::Wait;
 use std::thread;
 use std::thread::Threads;
 
-/// Turns each outlet, in runs of neighbours. Each run is as long as the number of outlets divided by
-/// the number of workers, rounded up; the last may be shorter.
+/// Turns each outlet, in shares of neighbours. Each share is as long as the number of outlets divided
+/// by the number of workers, rounded up; the last may be shorter.
 pub fn turn_all<R: Threads + Wait + Sync, G: Gate>(
     rt: &R,
     workers: usize,
@@ -32,28 +32,28 @@ pub fn turn_all<R: Threads + Wait + Sync, G: Gate>(
         return;
     }
     let size = outlets.len().div_ceil(workers);
-    let turn = |start: usize, part: &mut [Outlet]|
-        requires { (0 < size) × (client_count tables.now ≡ length config.now.clients) × ArePlaced config.now part.now }
-        ensures { AllTurnedAlone config.entry.now tables.entry.now part.entry.now part.exit.now }
-    { turn_part(gate, start / size, tables, config, part) };
+    let turn = |start: usize, neighbours: &mut [Outlet]|
+        requires { (0 < size) × (client_count tables.now ≡ length config.now.clients) × ArePlaced config.now neighbours.now }
+        ensures { AllTurnedAlone config.entry.now tables.entry.now neighbours.entry.now neighbours.exit.now }
+    { turn_share(gate, start / size, tables, config, neighbours) };
     thread::for_each_chunk_mut(rt, outlets, size, &turn);
 }
 
-/// Turns the outlets of one run, one after the other.
-pub(crate) fn turn_part<G: Gate>(
+/// Turns the outlets of one share, one after the other.
+pub(crate) fn turn_share<G: Gate>(
     gate: &G,
     share: usize,
     tables: &AdjIns,
     config: &Config,
-    part: &mut [Outlet],
+    outlets: &mut [Outlet],
 )
     requires clients { client_count tables.now ≡ length config.now.clients }
-    requires places { ArePlaced config.now part.old }
-    ensures { AllTurnedAlone config.now tables.now part.old part.new }
+    requires places { ArePlaced config.now outlets.old }
+    ensures { AllTurnedAlone config.now tables.now outlets.old outlets.new }
 {
     gate.enter(share);
-    for k in 0..part.len() {
-        turn_one(&mut part[k], tables, config);
+    for k in 0..outlets.len() {
+        turn_one(&mut outlets[k], tables, config);
     }
 }
 

@@ -16,7 +16,7 @@ use Rattle.rs_outlet.specs.Inside.{row_at, shown, loc_of}
 use Rattle.rs_outlet.specs.Decided.Counted.{if_numbered, is_standing, is_counted, is_counted_below}
 use Rattle.rs_outlet.proofs.Decided.LocByNumber.{Numbered, same, same_is, same_itself, by_number}
 use Rattle.rs_outlet.proofs.Decided.Numbering.{number_back, number_once, number_there}
-use Rattle.rs_outlet.proofs.Orders.{prefixes_total}
+use Rattle.rs_adjin.proofs.Listed.{prefixes_total}
 
 pub counted_as : (f g : Prefix → Bool) (n : ℕ) → ((p : Prefix) → f p ≡ g p) → IsNumberOf f n → IsNumberOf g n
 counted_as f g n is h = record { all = h.all; holds = λ p. h.holds p ∙ is p; size = h.size }

@@ -13,7 +13,7 @@ use Rattle.rs_adjin.specs.declared.adj_ins.AdjIns.{AdjIns}
 use Rattle.rs_adjin.specs.AdjIns.{number_of}
 use Rattle.rs_outlet.specs.declared.rows.Row.{Row}
 use Rattle.rs_outlet.specs.declared.changes.Change.{Change}
-use Rattle.rs_outlet.specs.Inside.{AreDecided, IsChangeAt, IsDecidedAt, attributes_at, numbers_of}
+use Rattle.rs_outlet.specs.Inside.{AreDecided, IsChangeAt, IsDecidedAt, IsOwn, attributes_at, numbers_of, row_at}
 use Rattle.rs_outlet.specs.Decided.Touching.{is_numbered_in}
 use Rattle.rs_outlet.proofs.Decided.Numbering.{all_both}
 
@@ -43,9 +43,6 @@ distinct_push [] c h new = (tt, tt)
 distinct_push (x ∷ cs) c h new =
     let apart = or_parts (nat_eq c.number x.number) (list_any (nat_eq c.number) (numbers_of cs)) new in
     (all_push x.number cs c h.0 (swap_false c.number x.number apart.0), distinct_push cs c h.1 apart.1)
-
-not_in : (b : Bool) (P : Type 0) → b ≡ false → b ≡ true → P
-not_in b P f t = absurd (true≢false (sym t ∙ f))
 
 -- ---- the entry at an index
 
@@ -79,6 +76,7 @@ module _ (ins : AdjIns) (due_at : Prefix → Option (List Attribute)) (rows : Li
   same_in d e n cs h is more = record {
     placed = h.placed;
     due = h.due;
+    own = h.own;
     once = h.once;
     within = λ m found. more m ∙ or_right (nat_eq m n) (d m) (h.within m found);
     all = λ m there none p at.
@@ -89,7 +87,7 @@ module _ (ins : AdjIns) (due_at : Prefix → Option (List Attribute)) (rows : Li
   }
 
   one_in : (d e : ℕ → Bool) (n : ℕ) (cs : List Change) (c : Change) → AreDecided ins due_at rows d cs → d n ≡ false
-      → IsChangeAt ins due_at n c → ((m : ℕ) → e m ≡ (nat_eq m n || d m)) → AreDecided ins due_at rows e (cs ++ c ∷ [])
+      → IsChangeAt ins due_at rows n c → ((m : ℕ) → e m ≡ (nat_eq m n || d m)) → AreDecided ins due_at rows e (cs ++ c ∷ [])
   one_in d e n cs c h new is more =
       let out : list_any (nat_eq n) (numbers_of cs) ≡ false =
       elim (list_any (nat_eq n) (numbers_of cs)) as (λ b. list_any (nat_eq n) (numbers_of cs) ≡ b → b ≡ false) [
@@ -100,6 +98,7 @@ module _ (ins : AdjIns) (due_at : Prefix → Option (List Attribute)) (rows : Li
       record {
         placed = all_both (λ (x : Change). number_of ins x.prefix ≡ Some x.number) cs (c ∷ []) h.placed (is.placed ∙ ap (λ k. Some k) (sym is.number), tt);
         due = all_both (λ (x : Change). option_map arc_value x.due ≡ due_at x.prefix) cs (c ∷ []) h.due (is.due, tt);
+        own = all_both (λ (x : Change). IsOwn (row_at rows x.number) x.prefix) cs (c ∷ []) h.own (subst (λ k. IsOwn (row_at rows k) c.prefix) (sym is.number) is.own, tt);
         once = distinct_push cs c h.once gone;
         within = λ m found. more m ∙
             elim (nat_eq m n) as (λ b. nat_eq m n ≡ b → (b || d m) ≡ true) [
@@ -113,7 +112,7 @@ module _ (ins : AdjIns) (due_at : Prefix → Option (List Attribute)) (rows : Li
 
   -- one number more
   pub one_more_decided : (d e : ℕ → Bool) (n : ℕ) (cs ds : List Change) → AreDecided ins due_at rows d cs → d n ≡ false
-      → IsDecidedAt ins due_at n (attributes_at rows n) cs ds → ((m : ℕ) → e m ≡ (nat_eq m n || d m)) → AreDecided ins due_at rows e ds
+      → IsDecidedAt ins due_at rows n cs ds → ((m : ℕ) → e m ≡ (nat_eq m n || d m)) → AreDecided ins due_at rows e ds
   one_more_decided d e n cs ds h new (inl is) more = subst (AreDecided ins due_at rows e) (sym is.0) (same_in d e n cs h is.1 more)
   one_more_decided d e n cs ds h new (inr is) more = subst (AreDecided ins due_at rows e) (sym is.2) (one_in d e n cs is.0 h new is.1 more)
 
@@ -123,13 +122,14 @@ module _ (ins : AdjIns) (due_at : Prefix → Option (List Attribute)) (rows : Li
   none_decided d cs none off = subst (AreDecided ins due_at rows d) (sym none) (record {
     placed = tt;
     due = tt;
+    own = tt;
     once = tt;
     within = λ m found. absurd (true≢false (sym found));
     all = λ m there empty p at. absurd (true≢false (sym there ∙ off m));
   })
 
   -- the numbers up to one
-  pub next_decided : (n : ℕ) (cs ds : List Change) → AreDecided ins due_at rows (λ m. nat_lt m n) cs → IsDecidedAt ins due_at n (attributes_at rows n) cs ds → AreDecided ins due_at rows (λ m. nat_lt m (n + 1)) ds
+  pub next_decided : (n : ℕ) (cs ds : List Change) → AreDecided ins due_at rows (λ m. nat_lt m n) cs → IsDecidedAt ins due_at rows n cs ds → AreDecided ins due_at rows (λ m. nat_lt m (n + 1)) ds
   next_decided n cs ds h is = one_more_decided (λ m. nat_lt m n) (λ m. nat_lt m (n + 1)) n cs ds h (grind (arith, nat_tests)) is (λ m. grind (arith, nat_tests))
 
   -- what every prefix's number is below is all
@@ -137,11 +137,12 @@ module _ (ins : AdjIns) (due_at : Prefix → Option (List Attribute)) (rows : Li
   all_decided n cs h below = record {
     placed = h.placed;
     due = h.due;
+    own = h.own;
     once = h.once;
     within = λ m found. refl;
     all = λ m there none p at. let l : m < n = below p m at in h.all m (grind (arith, nat_tests, l)) none p at;
   }
 
   -- the prefix of a number is one
-  pub decided_there : (n : ℕ) (p : Prefix) (cs : List Change) → number_of ins p ≡ Some n → ((q : Prefix) → number_of ins q ≡ Some n → q ≡ p) → attributes_at rows n ≡ due_at p → IsDecidedAt ins due_at n (attributes_at rows n) cs cs
+  pub decided_there : (n : ℕ) (p : Prefix) (cs : List Change) → number_of ins p ≡ Some n → ((q : Prefix) → number_of ins q ≡ Some n → q ≡ p) → attributes_at rows n ≡ due_at p → IsDecidedAt ins due_at rows n cs cs
   decided_there n p cs at once is = inl (refl, λ q there. is ∙ ap due_at (sym (once q there)))

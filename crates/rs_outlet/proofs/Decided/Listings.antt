@@ -19,7 +19,7 @@ use Rattle.rs_adjin.specs.AdjIns.{number_of}
 use Rattle.rs_outlet.specs.declared.rows.Row.{Row}
 use Rattle.rs_outlet.specs.Inside.{attributes_at, loc_of}
 use Rattle.rs_outlet.specs.Listing.{routes_at, with_route}
-use Rattle.rs_outlet.proofs.Orders.{exact_prefixes, prefixes_total}
+use Rattle.rs_adjin.proofs.Listed.{exact_prefixes, prefixes_total}
 use Rattle.rs_outlet.proofs.Decided.LocByNumber.{Numbered, by_number, same, same_is, value_at}
 use Rattle.rs_outlet.proofs.Pending.Slots.{less_apart}
 

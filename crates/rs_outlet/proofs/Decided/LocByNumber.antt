@@ -16,7 +16,7 @@ use Rattle.rs_outlet.specs.declared.rows.Row.{Row}
 use Rattle.rs_outlet.specs.Views.{HaveNumbers}
 use Rattle.rs_outlet.specs.Inside.{joined, row_at, shown, loc_of, numbers_from}
 use Rattle.rs_outlet.proofs.Decided.Numbering.{number_once}
-use Rattle.rs_outlet.proofs.Orders.{prefixes_total, exact_prefixes}
+use Rattle.rs_adjin.proofs.Listed.{prefixes_total, exact_prefixes}
 use Rattle.rs_outlet.proofs.Decided.Touches.{equal_only}
 
 abbrev pub same : Prefix → Prefix → Bool

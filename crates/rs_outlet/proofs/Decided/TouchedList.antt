@@ -21,7 +21,7 @@ use Rattle.rs_adjin.specs.AdjIns.{number_of}
 use Rattle.rs_outlet.specs.Views.{HaveNumbers, Prefixes, with_touch}
 use Rattle.rs_outlet.specs.Decided.Touching.{AreOnce, is_numbered_in, prefixes_in, touched_by, touched_of}
 use Rattle.rs_outlet.proofs.Pending.Deduped.{any_deduped}
-use Rattle.rs_outlet.proofs.Orders.{exact_prefixes, prefixes_total}
+use Rattle.rs_adjin.proofs.Listed.{exact_prefixes, prefixes_total}
 use Rattle.rs_outlet.proofs.Decided.Touches.{contains-from_list, prefix_eq, prefix_eq-cmp, prefix_eq-is, unsigned}
 use Rattle.rs_outlet.proofs.Decided.TouchedNumbers.{any_none, any_number, moved_numbers, touched_count}
 
@@ -90,7 +90,7 @@ in_empty s p here e = true≢false (sym here ∙ ap (λ t. set.contains t p) e �
 put_in : (s : Prefixes) (p : Prefix) → set.contains (set.insert s p) p ≡ true
 put_in s p = set.contains-insert prefixes_total s p p ∙ ap (λ b. b || set.contains s p) (ap is_eq (tied_itself prefixes_total p))
 
--- something is touched behind a touch
+-- something is touched after a touch
 not_empty : (o : Option Prefixes) (p : Prefix) → with_touch o p ≡ Some set.empty → ⊥
 not_empty None p h = absurd (let f : ◌≡◌ {A = Option Prefixes} None (Some set.empty) = h in (cc))
 not_empty (Some s) p h =

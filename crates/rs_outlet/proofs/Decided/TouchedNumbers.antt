@@ -18,7 +18,7 @@ use Rattle.rs_adjin.proofs.Counting.{iff}
 use Rattle.rs_outlet.specs.declared.answers.Speech.{Speech}
 use Rattle.rs_outlet.specs.Views.{View, Prefixes, HaveNumbers, if_up, with_touch, touched_at}
 use Rattle.rs_outlet.specs.Decided.Touching.{is_numbered_in, prefixes_in}
-use Rattle.rs_outlet.proofs.Orders.{prefixes_total}
+use Rattle.rs_adjin.proofs.Listed.{prefixes_total}
 use Rattle.rs_outlet.proofs.Decided.Numbering.{number_once}
 use Rattle.rs_outlet.proofs.Decided.Touches.{len-from_list, prefix_eq, prefix_eq-cmp, prefix_eq-is}
 

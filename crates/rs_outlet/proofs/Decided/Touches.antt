@@ -10,7 +10,7 @@ use Rattle.std.specs.declared.cmp.Ordering.TheVariants.{Less, Equal, Greater}
 use Rattle.std.proofs.lemmas.Bool.Decides.{nat_tests}
 use Rattle.std.proofs.lemmas.Map.Keys.{IsDistinct-head, IsDistinct-tail}
 use Rattle.rs_octets.specs.Prefixes.{Prefix, prefix_order}
-use Rattle.rs_outlet.proofs.Orders.{prefixes_total, exact_prefixes}
+use Rattle.rs_adjin.proofs.Listed.{prefixes_total, exact_prefixes}
 
 -- what `==` computes
 abbrev pub prefix_eq : Prefix → Prefix → Bool

@@ -1,4 +1,4 @@
--- The Loc-RIB behind a turn: at each touched prefix what is due, at each other what it had.
+-- The Loc-RIB after a turn: at each touched prefix what is due, at each other what it had.
 use Rattle.std.proofs.Common.{◌≡◌, ◌∙◌, ℕ, Bool, true, false, cond, ◌||◌, nat_eq, nat_lt, List, [], ◌∷◌, Option, None, Some, inl, inr, refl, sym, ap}
 use Rattle.std.specs.Prelude.{option_map}
 use mathlib.Core.Bool.{true≢false}

@@ -34,7 +34,7 @@ use Rattle.rs_outlet.proofs.Message.Fullest.{NonePass}
 use Rattle.rs_outlet.proofs.Pending.Chains.{due_read}
 use Rattle.rs_outlet.proofs.Pending.Slots.{found_at}
 use Rattle.rs_outlet.proofs.Decided.LocByNumber.{by_number, numbered, same, same_itself}
-use Rattle.rs_outlet.proofs.Orders.{prefixes_total}
+use Rattle.rs_adjin.proofs.Listed.{prefixes_total}
 
 -- ---- the entries of what waits
 

@@ -1,4 +1,4 @@
--- Places chosen for a message: one more of them, and the first of them given up.
+-- Slots chosen for a message: one more of them, and the first of them given up.
 use Rattle.std.proofs.Common.{◌≡◌, ◌+◌, ◌<◌, ◌≤◌, ℕ, zero, suc, Bool, true, false, cond, not, ◌&&◌, ◌||◌, Option, None, Some, List, [], ◌∷◌, ◌++◌, length, take, get_or, refl, sym, ap, ◌∙◌, subst, arith}
 use Rattle.std.specs.Prelude.{option_map, slice_get}
 use Rattle.std.proofs.lemmas.List.Elements.{All-from_all_within, recursion_from_All}
@@ -9,6 +9,7 @@ use Rattle.rs_attrs.specs.Meaning.{Attribute}
 use Rattle.std.specs.Arc.{arc_value}
 use Rattle.std.proofs.Math.Bool.{or-false}
 use Rattle.std.proofs.lemmas.Bool.{and_parts}
+use Rattle.std.proofs.lemmas.List.{get_or_default}
 use Rattle.rs_open.specs.Notes.{limit_octets}
 use Rattle.rs_packer.specs.Packed.{announcement}
 use Rattle.rs_outlet.specs.declared.answers.Speech.{Speech}
@@ -133,11 +134,6 @@ nothing_waits ws h k =
 
 -- ---- the first slot to be announced
 
-pub same_element : (ws : List Wait) (n : ℕ) (d e : Wait) → n < length ws → get_or ws n d ≡ get_or ws n e
-same_element [] n d e below = absurd (omega (arith, below))
-same_element (w ∷ ws) zero d e below = refl
-same_element (w ∷ ws) (suc n) d e below = same_element ws n d e (omega (arith, below))
-
 pub element : (ws : List Wait) (n : ℕ) → n < length ws → Wait
 element [] n below = absurd (omega (arith, below))
 element (w ∷ ws) zero below = w
@@ -149,7 +145,7 @@ news_of w h = and_parts w.open (not (is_withdrawal w.due)) h
 pub there_backed : (rows : List (Option Row)) (ws : List Wait) (n : ℕ) (d : Wait) → IsDistinct same (prefixes_at ws) → AreBacked rows ws → n < length ws → (get_or ws n d).open ≡ true → IsBacked rows (get_or ws n d).prefix (get_or ws n d).due
 there_backed rows ws n d apart backed below opened =
     let w = get_or ws n d in
-    backed w.prefix w (found_at ws n w below (same_element ws n d w below) opened apart)
+    backed w.prefix w (found_at ws n w below (get_or_default ws n d w below) opened apart)
 
 has_row : (rows : List (Option Row)) (p : Prefix) (d : Due) → IsBacked rows p d → not (is_withdrawal d) ≡ true → row_by rows d ≡ None → ⊥
 has_row rows p due.Withdrawn backed news none = true≢false (sym news)

@@ -1,9 +1,10 @@
 -- The prefixes listed for a message are those of all slots that pass a test, as many as there is room for; and what is the longest front
 -- of them that fits is the longest front of all.
 use Rattle.std.proofs.Common.{◌≡◌, ◌+◌, ◌<◌, ◌≤◌, ℕ, zero, suc, Bool, true, false, cond, List, [], ◌∷◌, ◌++◌, length, take, drop, get_or, append-nil, length-append, refl, sym, ap, ◌∙◌, subst, arith, inl, inr, Some}
-use Rattle.std.specs.Prelude.{◌⊎◌, slice_get}
+use Rattle.std.specs.Prelude.{slice_get}
 use Rattle.std.specs.List.{AllWithin, HoldsAt, filter}
-use Rattle.std.proofs.lemmas.List.{append_assoc, length-take-le, take-append-le}
+use Rattle.std.proofs.lemmas.Bool.{cases_lt}
+use Rattle.std.proofs.lemmas.List.{append_assoc, get_or_default, length-take-le, take-take}
 use Rattle.std.proofs.lemmas.Option.{get_or_from_slice_get}
 use Rattle.std.proofs.Math.Seq.{drop-cons}
 use Rattle.rs_octets.specs.Prefixes.{Prefix}
@@ -18,24 +19,10 @@ use Rattle.rs_outlet.specs.declared.waiting.Wait.{Wait}
 use Rattle.rs_outlet.specs.Pending.Slots.{prefixes_at}
 use Rattle.rs_outlet.specs.Pending.Choosing.{passing}
 use Rattle.rs_outlet.specs.Message.Next.{AreAsManyAsFit}
-use Rattle.rs_outlet.proofs.Message.Chosen.{element, same_element, take_past}
+use Rattle.rs_outlet.proofs.Message.Chosen.{element, take_past}
 use Rattle.rs_outlet.proofs.Message.Ranges.{drop_all}
 
 -- ---- lists
-
-below_or : (n m : ℕ) → (n < m) ⊎ (m ≤ n)
-below_or n zero = inr (omega arith)
-below_or zero (suc m) = inl (omega arith)
-below_or (suc n) (suc m) = elim (below_or n m) [
-  | inl less ↦ inl (omega (arith, less))
-  | inr most ↦ inr (omega (arith, most))
-]
-
-take_take : {A : Type 0} (n m : ℕ) (xs : List A) → n ≤ m → take n (take m xs) ≡ take n xs
-take_take zero m xs h = refl
-take_take (suc n) zero xs h = absurd (omega (arith, h))
-take_take (suc n) (suc m) [] h = refl
-take_take (suc n) (suc m) (x ∷ xs) h = ap (λ ys. x ∷ ys) (take_take n m xs (omega (arith, h)))
 
 taken : {A : Type 0} (n : ℕ) (xs : List A) → (length (take n xs) ≤ n) × (length (take n xs) ≤ length xs) × (length (take n xs) < n → length xs ≤ length (take n xs))
 taken zero xs = (omega arith, omega arith, λ h. absurd (omega (arith, h)))
@@ -86,7 +73,7 @@ passing_behind test ws first before =
 
 -- what holds of a slot that was read
 pub at_slot : (P : Wait → Type 0) (ws : List Wait) (n : ℕ) (w : Wait) → n < length ws → w ≡ get_or ws n w → P w → HoldsAt P ws n
-at_slot P ws n w below is p d = subst P (is ∙ same_element ws n w d below) p
+at_slot P ws n w below is p d = subst P (is ∙ get_or_default ws n w d below) p
 
 -- ---- listed slot by slot
 
@@ -122,9 +109,6 @@ module _ (test : Wait → Bool) (ws : List Wait) (room first : ℕ) where
     all = ap (λ qs. take room (ps ++ qs)) (sym (skipped test ws slot next later none)) ∙ listed.all;
   }
 
-  pub listed_full : (slot : ℕ) (ps : List Prefix) → room ≤ length ps → AreListedTo test ws room first slot ps → ps ≡ take room (passing test (drop first ws))
-  listed_full slot ps full listed = sym (take_past room ps listed.within) ∙ sym (take-append-le room ps (passing test (drop slot ws)) full) ∙ listed.all
-
   pub listed_all : (slot : ℕ) (ps : List Prefix) → length ws ≤ slot → AreListedTo test ws room first slot ps → ps ≡ take room (passing test (drop first ws))
   listed_all slot ps past listed =
       sym (take_past room ps listed.within) ∙ ap (take room) (sym (append-nil ps) ∙ ap (λ vs. ps ++ passing test vs) (sym (drop_all slot ws past))) ∙ listed.all
@@ -154,7 +138,7 @@ pub longest_of_all : (message : List Prefix → List ℕ) (limit room : ℕ) (al
 longest_of_all message limit room all ps n takes fits is longest =
     let sizes = taken room all in
     let long : length ps ≡ length (take room all) = ap length is in
-    let same : (k : ℕ) → k ≤ room → take k ps ≡ take k all = λ k less. ap (take k) is ∙ take_take k room all less in
+    let same : (k : ℕ) → k ≤ room → take k ps ≡ take k all = λ k less. ap (take k) is ∙ take-take k room all less in
     let most : n ≤ room = omega (arith, longest.within, long, sizes.0) in
     let count : length (take n ps) ≡ n = length-take-le n ps longest.within in
     record {
@@ -162,10 +146,10 @@ longest_of_all message limit room all ps n takes fits is longest =
       longest = subst (IsLongestFront message limit all) (sym count) (record {
         within = omega (arith, longest.within, long, sizes.1);
         fits = subst (λ qs. length (message qs) ≤ limit) (same n most) longest.fits;
-        full = λ more. elim (below_or n (length ps)) [
+        full = λ more. elim (cases_lt n (length ps)) [
           | inl less ↦ subst (λ qs. limit < length (message qs)) (same (n + 1) (omega (arith, less, long, sizes.0))) (longest.full less)
           | inr last ↦
-              let whole : room ≤ n = elim (below_or (length (take room all)) room) [
+              let whole : room ≤ n = elim (cases_lt (length (take room all)) room) [
                 | inl short ↦ absurd (let s : length all ≤ length (take room all) = sizes.2 short in omega (arith, s, last, long, more))
                 | inr full ↦ omega (arith, full, long, last)
               ] in

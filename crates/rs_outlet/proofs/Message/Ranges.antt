@@ -1,6 +1,6 @@
 -- Parts of a row of octets.
-use Rattle.std.proofs.Common.{◌≡◌, ◌≢◌, ℕ, zero, suc, ◌≤◌, ◌<◌, ◌+◌, ◌-◌, List, [], ◌∷◌, ◌++◌, length, take, drop, slice_range, refl, sym, ap, ◌∙◌, arith}
-use Rattle.std.proofs.lemmas.List.{drop-take, drop-drop, length-take, length-drop, take-take, take-append-le}
+use Rattle.std.proofs.Common.{◌≡◌, ℕ, zero, suc, ◌≤◌, ◌+◌, ◌-◌, List, [], ◌∷◌, length, take, drop, slice_range, refl, sym, ap, ◌∙◌, arith}
+use Rattle.std.proofs.lemmas.List.{drop-take, drop-drop, length-take, length-drop}
 
 -- a part of a message behind its first octets
 pub later_range : (xs : List ℕ) (i j n : ℕ) → n ≤ j - i → slice_range xs (i + n) j ≡ drop n (slice_range xs i j)
@@ -21,9 +21,6 @@ sub-zero n = omega arith
 pub from_start : (xs : List ℕ) (n : ℕ) → slice_range xs 0 n ≡ take n xs
 from_start xs n = ap (λ k. take k xs) (sub-zero n)
 
-pub take_kept : (n m : ℕ) (xs ys : List ℕ) → n ≤ m → n ≤ length xs → take n (take m (xs ++ ys)) ≡ take n xs
-take_kept n m xs ys h k = take-take n m (xs ++ ys) h ∙ take-append-le n xs ys k
-
 take_whole : {X : Type 0} (xs : List X) → take (length xs) xs ≡ xs
 take_whole [] = refl
 take_whole (x ∷ xs) = ap (λ ys. x ∷ ys) (take_whole xs)
@@ -39,10 +36,6 @@ take_rest (suc k) [] = take_nil (0 - suc k)
 take_rest (suc k) (x ∷ xs) =
     let e : suc (length xs) - suc k ≡ length xs - k = omega arith in
     ap (λ n. take n (drop k xs)) e ∙ take_rest k xs
-
-pub some_there : {X : Type 0} (xs : List X) → xs ≢ [] → 0 < length xs
-some_there [] h = absurd (h refl)
-some_there (x ∷ xs) h = omega arith
 
 pub not_in_flight : (xs : List ℕ) (i j : ℕ) → j ≤ length xs → slice_range xs i j ≡ [] → j ≤ i
 not_in_flight xs i j within e = omega (arith, ap length e, length-take (j - i) (drop i xs), length-drop i xs, within)

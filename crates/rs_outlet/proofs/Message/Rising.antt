@@ -16,7 +16,7 @@ use Rattle.rs_outlet.specs.Pending.Choosing.{AreChosen, IsFirst, MayList, Rise, 
 use Rattle.rs_outlet.specs.Pending.Slots.{is_withdrawal, open_at, prefixes_at}
 use Rattle.rs_outlet.proofs.Decided.LocByNumber.{same, same_is}
 use Rattle.rs_outlet.proofs.Pending.Backing.{open_is}
-use Rattle.rs_outlet.proofs.Orders.{prefixes_total}
+use Rattle.rs_adjin.proofs.Listed.{prefixes_total}
 
 -- ---- numbers listed
 

@@ -16,7 +16,7 @@ use Rattle.rs_outlet.specs.Views as views
 use Rattle.rs_outlet.specs.Pending.Slots.{open_at, told_of, told_by, marked_told, is_withdrawal}
 use Rattle.rs_outlet.specs.Inside.{told_over, marked_of, waits_of}
 use Rattle.rs_outlet.specs.Pending.Marking.{MayWaitAgain, is_told}
-use Rattle.rs_outlet.proofs.Orders.{prefixes_total, exact_prefixes}
+use Rattle.rs_adjin.proofs.Listed.{prefixes_total, exact_prefixes}
 use Rattle.rs_outlet.proofs.Pending.Standing.{told_at, marked_at, waits_at}
 
 told_so : (due : Option (List Attribute)) (was now : Option Wait) → MayWaitAgain due was now → told_by now due ≡ told_by was due

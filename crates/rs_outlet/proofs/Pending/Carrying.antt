@@ -96,7 +96,7 @@ none_more q ws fs none = ap (λ xs. open_at q (ws ++ xs)) none ∙ ap (open_at q
 -- ---- a change carried out
 
 module _ (c : Change) (was_due : Option (List Attribute)) (rows : List (Option Row)) (ws fs ws' fs' : List Wait) (h : IsCarriedOut c was_due rows ws fs ws' fs') where
-  -- what stands behind it, at its prefix and elsewhere
+  -- what stands after it, at its prefix and elsewhere
   pub here : (q : Prefix) → same q c.prefix ≡ true → open_at q fs ≡ None → open_at q (ws' ++ fs') ≡ h.wait
   here q is none =
       open_both q ws' fs'

@@ -1,4 +1,4 @@
--- Links between slots, and the heads of the buckets by which they are made.
+-- Chains of slots, and the heads of the buckets by which they are made.
 use Rattle.std.proofs.Common.{◌≡◌, ◌≢◌, ◌+◌, ◌<◌, ◌≤◌, ◌%◌, ℕ, zero, suc, Bool, true, false, cond, Some, List, [], ◌∷◌, ◌++◌, length, get_or, slice_set, nat_eq, refl, sym, ap, ◌∙◌, subst, arith, inl, inr}
 use Rattle.std.specs.Prelude.{◌⊎◌, slice_get}
 use Rattle.std.proofs.lemmas.Bool.Decides.{nat_tests}
@@ -56,7 +56,7 @@ apart_by_bucket count hash (due.Announced number other) h = go (nat_eq other has
         absurd (true≢false (sym t ∙ subst (λ k. nat_eq (k % count) (hash % count) ≡ false) e h))
     go false is = refl
 
--- ---- links
+-- ---- chains
 
 pub none_chained : (ds : List Due) (chains : List ℕ) → chains ≡ [] → AreChained ds chains
 none_chained ds chains none bucket n m chain d e at there here later below is = absurd (past n (sym (ap (λ ls. slice_get ls n) none) ∙ at))
@@ -65,9 +65,9 @@ none_chained ds chains none bucket n m chain d e at there here later below is = 
     past zero h = cc
     past (suc n) h = cc
 
--- where the slots and the links are the same
-pub same_chained : (ws ws' : List Wait) (chains links' : List ℕ) → ws' ≡ ws → links' ≡ chains → AreChained (dues_at ws) chains → AreChained (dues_at ws') links'
-same_chained ws ws' chains links' slots same chained = subst (λ vs. AreChained (dues_at vs) links') (sym slots) (subst (AreChained (dues_at ws)) (sym same) chained)
+-- where the slots and the chains are the same
+pub same_chained : (ws ws' : List Wait) (chains chains' : List ℕ) → ws' ≡ ws → chains' ≡ chains → AreChained (dues_at ws) chains → AreChained (dues_at ws') chains'
+same_chained ws ws' chains chains' slots same chained = subst (λ vs. AreChained (dues_at vs) chains') (sym slots) (subst (AreChained (dues_at ws)) (sym same) chained)
 
 push_cases : (ls : List ℕ) (x n chain : ℕ) → slice_get (ls ++ x ∷ []) n ≡ Some chain → (slice_get ls n ≡ Some chain) ⊎ (chain ≡ x)
 push_cases [] x zero chain h = inr (sym (same_Some x chain h))
@@ -76,17 +76,17 @@ push_cases [] x (suc (suc n)) chain h = absurd (cc)
 push_cases (l ∷ ls) x zero chain h = inl h
 push_cases (l ∷ ls) x (suc n) chain h = push_cases ls x n chain h
 
--- a link that leads nowhere
-chained_push : (ds : List Due) (chains links' : List ℕ) → links' ≡ chains ++ 0 ∷ [] → AreChained ds chains → AreChained ds links'
-chained_push ds chains links' is chained bucket n m chain d e at there here later below bucketed =
+-- one slot more, which leads nowhere
+chained_push : (ds : List Due) (chains chains' : List ℕ) → chains' ≡ chains ++ 0 ∷ [] → AreChained ds chains → AreChained ds chains'
+chained_push ds chains chains' is chained bucket n m chain d e at there here later below bucketed =
     elim (push_cases chains 0 n chain (sym (ap (λ ls. slice_get ls n) is) ∙ at)) [
       | inl old ↦ chained bucket n m chain d e old there here later below bucketed
       | inr none ↦ absurd (omega (arith, none, later, below))
     ]
 
-pub chained_any : (ds : List Due) (chains : List ℕ) (b : Bool) (links' : List ℕ) → links' ≡ cond b (chains ++ 0 ∷ []) chains → AreChained ds chains → AreChained ds links'
-chained_any ds chains true links' is chained = chained_push ds chains links' is chained
-chained_any ds chains false links' is chained = subst (AreChained ds) (sym is) chained
+pub chained_any : (ds : List Due) (chains : List ℕ) (b : Bool) (chains' : List ℕ) → chains' ≡ cond b (chains ++ 0 ∷ []) chains → AreChained ds chains → AreChained ds chains'
+chained_any ds chains true chains' is chained = chained_push ds chains chains' is chained
+chained_any ds chains false chains' is chained = subst (AreChained ds) (sym is) chained
 
 -- behind the last slot there is none
 pub heads_past : (ds : List Due) (from : ℕ) (heads : List ℕ) → length ds ≤ from → AreHeads ds from heads
@@ -122,7 +122,7 @@ heads_more ds n slot new heads number hash was is at old most are bucket head m 
       ]
 ]
 
--- a link to the head of the bucket
+-- a slot that leads to the head of its bucket
 pub chained_more : (ds : List Due) (n slot : ℕ) (chains heads : List ℕ) (number hash next was : ℕ) → slot ≡ hash % length ds → slice_get ds n ≡ Some (due.Announced number hash) → slice_get heads slot ≡ Some next → slice_get chains n ≡ Some was
     → AreHeads ds (n + 1) heads → AreChained ds chains → AreChained ds (slice_set chains n next)
 chained_more ds n slot chains heads number hash next was slot_is at head old are chained bucket k m chain d e there from here later below bucketed = elim (cases_eq k n) [
@@ -134,7 +134,7 @@ chained_more ds n slot chains heads number hash next was slot_is at head old are
   | inr other ↦ chained bucket k m chain d e (sym (set_apart chains n next k other) ∙ there) from here later below bucketed
 ]
 
--- between a slot and its link none has a hash of its bucket
+-- between a slot and the next one of its chain none has a hash of its bucket
 pub none_between : (ds : List Due) (chains : List ℕ) (n chain hash : ℕ) (d : Due) → AreChained ds chains → slice_get chains n ≡ Some chain → slice_get ds n ≡ Some d → is_in_bucket (length ds) (hash % length ds) d ≡ true
     → (m : ℕ) (e : Due) → slice_get ds m ≡ Some e → n < m → m < chain → has_hash hash e ≡ false
 none_between ds chains n chain hash d chained at there bucketed m e here later below =

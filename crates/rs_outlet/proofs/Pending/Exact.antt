@@ -16,12 +16,6 @@ pub none_waits : (due : Option (List Attribute)) → waits_at due due false ≡ 
 none_waits None = refl
 none_waits (Some m) = ap (λ b. cond (b && true) None (Some false)) (same_attributes_equiv.refl m)
 
--- what waits is the same, and so is what it goes by
-pub exact_kept : (v w : View) → w.loc ≡ v.loc → w.told ≡ v.told → w.marked ≡ v.marked → w.waits ≡ v.waits → WaitsAreExact v → WaitsAreExact w
-exact_kept v w loc told marked waits exact = λ p.
-    ap (λ t. fin.get t p) waits ∙ exact p
-    ∙ sym (λ i. waits_at (fin.get (loc i) p) (fin.get (told i) p) (set.contains (marked i) p))
-
 module _ (v w : View) (loc : w.loc ≡ v.loc) (exact : WaitsAreExact v) where
   settled_at : (ps : List Prefix) → Settles v w ps → (q : Prefix) (b : Bool) → list_any (same q) ps ≡ b → fin.get w.waits q ≡ waits_at (fin.get w.loc q) (fin.get w.told q) (set.contains w.marked q)
   settled_at ps s q true is =

@@ -13,7 +13,7 @@ use Rattle.std.proofs.lemmas.Option.{slice_get_read, slice_get_within, same_Some
 use Rattle.rs_octets.specs.Prefixes.{Prefix, prefix_order}
 use Rattle.rs_outlet.specs.declared.waiting.Wait.{Wait}
 use Rattle.rs_outlet.specs.Pending.Slots.{IsOpenSlot, open_at, prefixes_at}
-use Rattle.rs_outlet.proofs.Orders.{prefixes_total, exact_prefixes}
+use Rattle.rs_adjin.proofs.Listed.{prefixes_total, exact_prefixes}
 use Rattle.rs_outlet.proofs.Decided.LocByNumber.{same, same_is}
 use Rattle.rs_outlet.proofs.Pending.Adding.{not_listed}
 use Rattle.rs_outlet.proofs.Pending.Slots.{found_at, prefix_at, shut_here}

@@ -20,7 +20,7 @@ use Rattle.rs_outlet.specs.Pending.Slots.{is_withdrawal, open_at, prefixes_at, s
 use Rattle.rs_outlet.specs.Inside.{AreBacked, IsBacked, loc_of, prefix_and_hash, row_at}
 use Rattle.rs_outlet.specs.Pending.Marking.{IsPutAgain, MayAddRow, MayWaitAgain, WaitsAgain, remarked}
 use Rattle.rs_outlet.proofs.Pending.Deduped.{any_deduped}
-use Rattle.rs_outlet.proofs.Orders.{exact_prefixes, prefixes_total}
+use Rattle.rs_adjin.proofs.Listed.{exact_prefixes, prefixes_total}
 use Rattle.rs_outlet.proofs.Decided.LocByNumber.{same, same_is, same_itself}
 use Rattle.rs_outlet.proofs.Pending.Slots.{first_open, later_at, none_behind}
 use Rattle.rs_outlet.proofs.Pending.Finding.{absent_slot, searchable}

@@ -21,7 +21,7 @@ use Rattle.rs_outlet.specs.Views.{Table}
 use Rattle.rs_outlet.specs.Pending.Slots.{is_withdrawal, is_withdrawn, open_at, prefixes_at, still_open, withdrawn_count}
 use Rattle.rs_outlet.specs.Inside.{AreBacked, IsBacked, loc_of, prefix_and_hash, row_at}
 use Rattle.rs_outlet.specs.Pending.Marking.{IsPutAgain, MayAddRow, remarked}
-use Rattle.rs_outlet.proofs.Orders.{prefixes_total}
+use Rattle.rs_adjin.proofs.Listed.{prefixes_total}
 use Rattle.rs_outlet.proofs.Decided.LocByNumber.{same, same_is, same_itself}
 use Rattle.rs_outlet.proofs.Pending.Slots.{less_apart}
 use Rattle.rs_outlet.proofs.Pending.Withdrawals.{one_if, row_get}

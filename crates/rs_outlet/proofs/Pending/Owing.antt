@@ -6,9 +6,7 @@ use Rattle.std.proofs.Math.Bool.{and-false}
 use Rattle.rs_attrs.specs.Meaning.{Attribute}
 use Rattle.rs_attrs.specs.Comparing.{same_attributes}
 use Rattle.rs_attrs.specs.ComparisonLaws.{attributes_decides, same_attributes_equiv}
-use Rattle.rs_outlet.specs.declared.waiting.Wait.{Wait}
 use Rattle.rs_outlet.specs.Views.{waits_at}
-use Rattle.rs_outlet.specs.Pending.Slots.{is_withdrawal}
 use Rattle.rs_outlet.specs.Pending.Owed.{IsBeside, IsOwed}
 
 -- ---- what was told beside what is due
@@ -47,11 +45,4 @@ owed_nothing due told marked is = record {
   tells = sym is.0;
   marks = ap (λ b. b && is_some told) (sym is.1);
   exact = ap (λ b. cond (b && true) None (Some false)) (sym ((attributes_decides due due).1 refl));
-}
-
-pub owed_news : (w : Wait) (due : List Attribute) (told : Option (List Attribute)) → is_withdrawal w.due ≡ false → IsBeside (Some w.told) due told w.marked → IsOwed (Some w) (Some due) told w.marked
-owed_news w due told news is = record {
-  tells = is.0;
-  marks = ap (λ o. w.marked && is_some o) is.0;
-  exact = ap (λ b. Some b) news ∙ sym is.1 ∙ ap (λ o. waits_at (Some due) o (w.marked && is_some o)) (sym is.0);
 }

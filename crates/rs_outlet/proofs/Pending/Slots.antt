@@ -1,4 +1,4 @@
--- Places of different prefixes: one of them written, and what stands then of a prefix.
+-- Slots of different prefixes: one of them written, and what stands then of a prefix.
 use Rattle.std.proofs.Common.{◌≡◌, ◌-◌, ◌<◌, ◌≤◌, ℕ, zero, suc, Bool, true, false, cond, ◌&&◌, Option, None, Some, List, [], ◌∷◌, length, get_or, slice_set, refl, sym, ap, ◌∙◌, subst, arith}
 use Rattle.std.specs.Prelude.{slice_get}
 use mathlib.Core.Bool.{true≢false}
@@ -15,7 +15,7 @@ use Rattle.std.proofs.lemmas.Option.{same_Some}
 use Rattle.rs_octets.specs.Prefixes.{Prefix, prefix_order}
 use Rattle.rs_outlet.specs.declared.waiting.Wait.{Wait}
 use Rattle.rs_outlet.specs.Pending.Slots.{prefixes_at, open_count, open_at}
-use Rattle.rs_outlet.proofs.Orders.{prefixes_total}
+use Rattle.rs_adjin.proofs.Listed.{prefixes_total}
 use Rattle.rs_outlet.proofs.Decided.LocByNumber.{same, same_is, same_itself}
 
 -- ---- rising
@@ -164,12 +164,6 @@ pub prefix_at : (ws : List Wait) (n : ℕ) (w : Wait) → n < length ws → w �
 prefix_at [] n w below is = absurd (omega (arith, below))
 prefix_at (x ∷ ws) zero w below is = ap (λ (t : Wait). Some t.prefix) (sym is)
 prefix_at (x ∷ ws) (suc n) w below is = prefix_at ws n w (omega (arith, below)) is
-
-pub none_past : (ws : List Wait) (n : ℕ) (p : Prefix) → length ws ≤ n → slice_get (prefixes_at ws) n ≡ Some p → ⊥
-none_past [] zero p past is = cc
-none_past [] (suc n) p past is = cc
-none_past (x ∷ ws) zero p past is = omega (arith, past)
-none_past (x ∷ ws) (suc n) p past is = none_past ws n p (omega (arith, past)) is
 
 pub first_open : (q : Prefix) (x : Wait) (ws : List Wait) → x.open ≡ true → same q x.prefix ≡ true → open_at q (x ∷ ws) ≡ Some x
 first_open q x ws is at = λ i. cond (is i && at i) (Some x) (open_at q ws)

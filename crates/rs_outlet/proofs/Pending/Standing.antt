@@ -9,7 +9,7 @@ use Rattle.rs_outlet.specs.declared.waiting.Wait.{Wait}
 use Rattle.rs_outlet.specs.Views.{Table, Prefixes}
 use Rattle.rs_outlet.specs.Pending.Slots.{open_at, told_of, told_by, marked_told, is_withdrawal}
 use Rattle.rs_outlet.specs.Inside.{told_over, marked_of, waits_of, put, mark}
-use Rattle.rs_outlet.proofs.Orders.{prefixes_total}
+use Rattle.rs_adjin.proofs.Listed.{prefixes_total}
 use Rattle.rs_outlet.proofs.Decided.LocByNumber.{same, same_is}
 
 get-put : (t : Table) (p : Prefix) (v : Option (List Attribute)) (q : Prefix) → fin.get (put t p v) q ≡ cond (same q p) v (fin.get t q)

@@ -11,7 +11,7 @@ use Rattle.rs_outlet.specs.Views as views
 use Rattle.rs_outlet.specs.Pending.Slots.{open_at, told_by, marked_told, is_withdrawal}
 use Rattle.rs_outlet.specs.Inside.{AreBacked, told_over, marked_of, waits_of}
 use Rattle.rs_outlet.specs.Pending.Owed.{IsExactAt, Keeps}
-use Rattle.rs_outlet.proofs.Orders.{prefixes_total, exact_prefixes}
+use Rattle.rs_adjin.proofs.Listed.{prefixes_total, exact_prefixes}
 use Rattle.rs_outlet.proofs.Pending.Standing.{told_at, marked_at, waits_at}
 
 -- what is said of a prefix by the tables, and by the slot that stands open for it

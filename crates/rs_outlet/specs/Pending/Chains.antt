@@ -1,4 +1,4 @@
--- The links between slots: from each to the next one that may share a message with it.
+-- The chains of slots: each leads to the next one that may share a message with it.
 use Rattle.std.specs.Prelude.{◌≡◌, ℕ, ◌%◌, ◌<◌, ◌≤◌, Bool, true, false, nat_eq, List, Some, length, map, slice_get}
 use Rattle.rs_outlet.specs.declared.waiting.Due.{Due}
 use Rattle.rs_outlet.specs.declared.waiting.Due.TheVariants as due
@@ -17,7 +17,7 @@ abbrev pub is_in_bucket : ℕ → ℕ → Due → Bool
 is_in_bucket count bucket due.Withdrawn = false
 is_in_bucket count bucket (due.Announced number hash) = nat_eq (hash % count) bucket
 
--- between a slot and the one that its link leads to, none falls into its bucket
+-- between a slot and the next one of its chain, none falls into its bucket
 abbrev pub AreChained : List Due → List ℕ → Type 0
 AreChained ds chains =
     (bucket n m chain : ℕ) (d e : Due) → slice_get chains n ≡ Some chain → slice_get ds n ≡ Some d → slice_get ds m ≡ Some e

@@ -22,7 +22,7 @@ abbrev pub IsFound : (Wait → Bool) → List Wait → Option ℕ → Type 0
 IsFound test ws None = AllWithin (λ w. test w ≡ false) ws 0 (length ws)
 IsFound test ws (Some n) = (n < length ws) × HoldsAt (λ w. test w ≡ true) ws n × AllWithin (λ w. test w ≡ false) ws 0 n
 
--- a slot is listed behind others, or not
+-- a slot is added at the end of those listed, or not
 abbrev pub MayList : ℕ → List ℕ → List ℕ → Type 0
 MayList n old new = (new ≡ old) ⊎ (new ≡ old ++ n ∷ [])
 

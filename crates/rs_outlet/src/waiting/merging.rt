@@ -1,4 +1,4 @@
-//! Places are added to what waits, and both of its runs become one: now and then as slots are added,
+//! Slots are added to what waits, and both of its parts become one: now and then as slots are added,
 //! always where the client takes messages meanwhile, and at the latest before a message begins.
 
 ghost use Rattle.std.specs.Prelude.{◌≡◌, ◌≤◌, ◌+◌, ◌++◌, false, vec_len};
@@ -11,13 +11,13 @@ use crate::waiting::parts::{drop_shut, put_slots, sort_from};
 use crate::waiting::{Wait, Waits};
 use std::alloc::Global;
 
-/// Both runs become one where the late one's length squared is over so many times the first one's. So a
+/// Both parts become one where the late one's length squared is over so many times the first one's. So a
 /// slot that is added costs a share of the merge that falls as the root of what waits.
 const LATE: usize = 1000;
 
 impl Waits {
     /// Adds slots, for which there is room once those that wait no more are dropped. Where a message
-    /// began since others were added, the next one may begin soon, and one run is made for it here:
+    /// began since others were added, the next one may begin soon, and one part is made for it here:
     /// when it begins no buffer can be asked for.
     pub(crate) fn add(&mut self, more: Vec<Wait>)
         requires room { open_count self.old.slots.items + vec_len more ≤ vec_capacity self.old.slots }
@@ -34,7 +34,7 @@ impl Waits {
         }
     }
 
-    /// Makes room for so many slots behind the others, and keeps the late run short.
+    /// Makes room for so many slots behind the others, and keeps the late part short.
     fn make_room(&mut self, more: usize)
         requires room { open_count self.old.slots.items + more ≤ vec_capacity self.old.slots }
         ensures room { vec_len self.new.slots + more ≤ vec_capacity self.new.slots }
@@ -48,8 +48,8 @@ impl Waits {
         self.merge(Some(self.alloc));
     }
 
-    /// Whether one run is to be made before so many slots are added: there is no room behind the
-    /// slots, nothing waits, or the late run is long beside the first.
+    /// Whether one part is to be made before so many slots are added: there is no room behind the
+    /// slots, nothing waits, or the late part is long beside the first.
     fn is_crowded(&self, more: usize) -> bool
         ensures { result ≡ false → vec_len self.now.slots + more ≤ vec_capacity self.now.slots }
     {
@@ -60,7 +60,7 @@ impl Waits {
         self.waiting == 0 || self.sorted.saturating_mul(LATE) < late.saturating_mul(late)
     }
 
-    /// Adds slots to the late run, for which there is room.
+    /// Adds slots to the late part, for which there is room.
     fn add_late(&mut self, more: Vec<Wait>)
         requires room { vec_len self.old.slots + vec_len more ≤ vec_capacity self.old.slots }
         requires fresh { AreFresh self.old.slots.items more.items }
@@ -78,7 +78,7 @@ impl Waits {
         self.news = 0;
     }
 
-    /// Makes one run of both, without the slots that wait no more. A buffer for it is asked for where
+    /// Makes one part of both, without the slots that wait no more. A buffer for it is asked for where
     /// there is an allocator.
     fn merge(&mut self, buffers: Option<Global>)
         ensures slots { (q : Prefix) → open_at q self.new.slots.items ≡ open_at q self.old.slots.items }
@@ -97,7 +97,7 @@ impl Waits {
         self.news = 0;
     }
 
-    /// Makes one run of both, if there is a late one. A buffer for it is asked for where there is an
+    /// Makes one part of both, if there is a late one. A buffer for it is asked for where there is an
     /// allocator.
     pub(crate) fn make_one_part(&mut self, buffers: Option<Global>)
         ensures slots { (q : Prefix) → open_at q self.new.slots.items ≡ open_at q self.old.slots.items }
@@ -112,7 +112,7 @@ impl Waits {
         self.merge(buffers);
     }
 
-    /// Makes the slots ready for a message: they are one run, and linked. They stay so till others
+    /// Makes the slots ready for a message: they are one part, and chained. They stay so till others
     /// are added. It takes no memory.
     pub(crate) fn prepare(&mut self)
         ensures slots { (q : Prefix) → open_at q self.new.slots.items ≡ open_at q self.old.slots.items }

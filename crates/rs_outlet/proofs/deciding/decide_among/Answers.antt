@@ -20,13 +20,13 @@ returns-in_default-get c =
     let listed : ListsHolders c.args.sources.now.ins.now c.args.prefix.now c.args.holders = c.requires.holders in
     let ranked : c.deref.result.now ≡ ranks_among (held_by c.args.sources.now) c.args.sources.now.client c.args.prefix.now c.args.holders = c.deref.ensures.value ∙ c.in_ok-rank_all.ensures in
     due_none (held_by c.args.sources.now) _ _ _ c.args.holders _ listed.all ranked
-    (sym c.in-Some.ensures.value ∙ ap (λ xs. slice_get xs c.in-Some.place) (c.deref.ensures.value ∙ sym c.deref-2.ensures.value) ∙ past c.deref-2.result.now c.in-Some.place c.in_default-get.ensures.lookup.3)
+    (sym c.in-Some.ensures.value ∙ ap (λ xs. slice_get xs c.in-Some.index) (c.deref.ensures.value ∙ sym c.deref-2.ensures.value) ∙ past c.deref-2.result.now c.in-Some.index c.in_default-get.ensures.lookup.3)
 
 pub returns-in_default-route_at : goal.returns-in_default-route_at
 returns-in_default-route_at c =
     let listed : ListsHolders c.args.sources.now.ins.now c.args.prefix.now c.args.holders = c.requires.holders in
     let ranked : c.deref.result.now ≡ ranks_among (held_by c.args.sources.now) c.args.sources.now.client c.args.prefix.now c.args.holders = c.deref.ensures.value ∙ c.in_ok-rank_all.ensures in
-    let stands = ranked_at c.deref.result.now c.deref-2.result.now c.in-Some.place c.in-Some-get.rank.now (c.deref.ensures.value ∙ sym c.deref-2.ensures.value) c.in-Some-get.ensures.lookup.3.0 c.in-Some-get.ensures.lookup.1 in
+    let stands = ranked_at c.deref.result.now c.deref-2.result.now c.in-Some.index c.in-Some-get.rank.now (c.deref.ensures.value ∙ sym c.deref-2.ensures.value) c.in-Some-get.ensures.lookup.3.0 c.in-Some-get.ensures.lookup.1 in
     let best : best_of c.deref.result.now ≡ Some c.in-Some-get.rank.now = sym c.in-Some.ensures.value ∙ stands in
     due_some (held_by c.args.sources.now) _ _ _ c.args.holders _ c.in-Some-get.rank.now None listed.all ranked best (sym (c.in_default-route_at.ensures c.args.prefix.now c.requires.number))
 
@@ -34,14 +34,14 @@ pub pass_fitting-requires-clause-known : goal.pass_fitting-requires-clause-known
 pass_fitting-requires-clause-known c =
     let listed : ListsHolders c.args.sources.now.ins.now c.args.prefix.now c.args.holders = c.requires.holders in
     let ranked : c.deref.result.now ≡ ranks_among (held_by c.args.sources.now) c.args.sources.now.client c.args.prefix.now c.args.holders = c.deref.ensures.value ∙ c.in_ok-rank_all.ensures in
-    let stands = ranked_at c.deref.result.now c.deref-2.result.now c.in-Some.place c.in-Some-get.rank.now (c.deref.ensures.value ∙ sym c.deref-2.ensures.value) c.in-Some-get.ensures.lookup.3.0 c.in-Some-get.ensures.lookup.1 in
-    subst (λ n. c.in-Some-get.rank.now.place < n) c.requires.count (known_place _ (held_by c.args.sources.now) _ _ c.args.holders _ c.in-Some.place c.in-Some-get.rank.now listed.known ranked stands)
+    let stands = ranked_at c.deref.result.now c.deref-2.result.now c.in-Some.index c.in-Some-get.rank.now (c.deref.ensures.value ∙ sym c.deref-2.ensures.value) c.in-Some-get.ensures.lookup.3.0 c.in-Some-get.ensures.lookup.1 in
+    subst (λ n. c.in-Some-get.rank.now.place < n) c.requires.count (known_place _ (held_by c.args.sources.now) _ _ c.args.holders _ c.in-Some.index c.in-Some-get.rank.now listed.known ranked stands)
 
 pub returns : goal.returns
 returns c =
     let listed : ListsHolders c.args.sources.now.ins.now c.args.prefix.now c.args.holders = c.requires.holders in
     let ranked : c.deref.result.now ≡ ranks_among (held_by c.args.sources.now) c.args.sources.now.client c.args.prefix.now c.args.holders = c.deref.ensures.value ∙ c.in_ok-rank_all.ensures in
-    let stands = ranked_at c.deref.result.now c.deref-2.result.now c.in-Some.place c.in-Some-get.rank.now (c.deref.ensures.value ∙ sym c.deref-2.ensures.value) c.in-Some-get.ensures.lookup.3.0 c.in-Some-get.ensures.lookup.1 in
+    let stands = ranked_at c.deref.result.now c.deref-2.result.now c.in-Some.index c.in-Some-get.rank.now (c.deref.ensures.value ∙ sym c.deref-2.ensures.value) c.in-Some-get.ensures.lookup.3.0 c.in-Some-get.ensures.lookup.1 in
     let best : best_of c.deref.result.now ≡ Some c.in-Some-get.rank.now = sym c.in-Some.ensures.value ∙ stands in
     let m = arc_value c.in-Some-route_at.attrs.now in
     subst (λ due. IfOk c.pass_fitting.result (λ passed. option_map attributes_passed passed ≡ due))

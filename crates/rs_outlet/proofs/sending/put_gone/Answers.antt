@@ -21,7 +21,7 @@ returns-clause-update c = λ rows. inr (record {
   first = λ n at. subst (AllWithin (λ (w : Wait). is_withdrawn w ≡ false) c.args.waits.now.slots.items 0) (same_Some c.args.first n (sym (c.collect_withdrawn.ensures.first (search rules) (c.requires.some.1) (search rules) c.requires.empty c.requires.none.0) ∙ at)) c.requires.before;
   written = record { some = c.put_withdrawal.ensures.some; within = subst (λ (xs : List Prefix). c.put_withdrawal.result.prefixes ≤ length xs) c.deref.ensures.value c.put_withdrawal.ensures.within; says = c.put_withdrawal.ensures.octets ∙ ap (λ xs. withdrawal (take c.put_withdrawal.result.prefixes xs)) c.deref.ensures.value };
   all = longest_of_all withdrawal (limit_octets c.args.speech.limit) _ (passing is_withdrawn c.args.waits.now.slots.items) c.collect_withdrawn.new.front.items c.put_withdrawal.result.prefixes withdrawals_take
-      (omega (arith, c.min-room.ensures, c.capacity.ensures, c.requires.batch.0, c.requires.batch.1))
-      (c.collect_withdrawn.ensures.all (search rules) (search rules) c.requires.none.0 c.requires.none.1 ∙ ap (take c.min-room.result) (passing_behind is_withdrawn c.args.waits.now.slots.items c.args.first c.requires.before))
+      (omega (arith, c.most_prefixes-room.ensures.value))
+      (c.collect_withdrawn.ensures.all (search rules) (search rules) c.requires.none.0 c.requires.none.1 ∙ ap (take c.most_prefixes-room.result) (passing_behind is_withdrawn c.args.waits.now.slots.items c.args.first c.requires.before))
       (subst (λ xs. IsLongestFront withdrawal (limit_octets c.args.speech.limit) xs c.put_withdrawal.result.prefixes) c.deref.ensures.value c.put_withdrawal.ensures.longest);
 })

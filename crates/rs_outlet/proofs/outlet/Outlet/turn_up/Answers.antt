@@ -1,4 +1,4 @@
-use Rattle.std.proofs.Common.{◌≡◌, ◌∙◌, ◌++◌, cond, ap, ℕ, List, Some, refl, sym, subst}
+use Rattle.std.proofs.Common.{◌≡◌, ◌∙◌, ◌++◌, cond, ap, arith, ℕ, List, Option, Some, refl, sym, subst}
 use Rattle.std.specs.FinMap as fin
 use Rattle.rs_outlet.specs.Decided.Due.{any_holds, due_to}
 use Rattle.rs_outlet.specs.Decided.HeldBy.{held_by}
@@ -6,12 +6,14 @@ use Rattle.std.specs.List.{AllByRecursion}
 use Rattle.rs_octets.specs.Prefixes.{Prefix}
 use Rattle.rs_adjin.specs.AdjIns.{number_of}
 use Rattle.rs_adjin.specs.declared.adj_ins.AdjIns.{AdjIns}
+use Rattle.rs_outlet.specs.declared.outlet.Outlet.TheInside.{Inside}
+use Rattle.rs_outlet.specs.declared.rows.Row.{Row}
 use Rattle.rs_outlet.specs.declared.waiting.Wait.{Wait}
-use Rattle.rs_outlet.specs.Pending.Slots.{open_at}
+use Rattle.rs_outlet.specs.Pending.Slots.{open_at, withdrawn_count}
 use Rattle.rs_outlet.specs.Pending.Owed.{Keeps}
-use Rattle.rs_outlet.specs.Views.{View, Table, AreNumbered, IsCount, HaveNumbers, WaitsAreExact, is_touched, is_whole}
+use Rattle.rs_outlet.specs.Views.{View, AreNumbered, IsCount, HaveNumbers, WaitsAreExact, is_touched, is_whole}
 use Rattle.rs_outlet.proofs.Pending.Backing.{are_backed_same, changes_fit, fit_same, fit_spoken, own_same}
-use Rattle.rs_outlet.specs.Inside.{AreOwn, numbers_from, loc_of, is_changed, view_of}
+use Rattle.rs_outlet.specs.Inside.{numbers_from, loc_of, is_changed, view_of}
 use Rattle.rs_outlet.specs.Decided.Touching.{touched_of}
 use Rattle.rs_outlet.proofs.Decided.Numbering.{all_front, all_behind, all_both, have_rows}
 use Rattle.rs_outlet.proofs.Pending.Carrying.{distinct_prefixes, keeps_both, keeps_same}
@@ -89,49 +91,59 @@ there ins v w rows es ns is numbers same are =
     let P = λ (e : ℕ × Prefix). number_of ins e.1 ≡ Some e.0 in
     subst (AllByRecursion P) (sym same) (all_front P rows es (subst (AllByRecursion P) numbers (subst (λ (v : View). AreNumbered v ins) (sym is) are)))
 
-keeps : (loc loc1 loc2 : Table) (ws ws1 ws2 : List Wait) → loc1 ≡ loc → ws1 ≡ ws → ((q : Prefix) → Keeps (open_at q ws1) (fin.get loc1 q) (open_at q ws2) (fin.get loc2 q)) → (q : Prefix) → Keeps (open_at q ws) (fin.get loc q) (open_at q ws2) (fin.get loc2 q)
-keeps loc loc1 loc2 ws ws1 ws2 e f h q = keeps_both _ _ _ _ _ _ (keeps_same _ _ _ _ (ap (open_at q) f) (ap (λ t. fin.get t q) e)) (h q)
+-- what each prefix keeps, from before room is made until the changes are carried out
+keeps : (ins : AdjIns) (a : Inside) (v : View) (rows1 rows2 : List (Option Row)) (ws1 ws2 : List Wait) → view_of a ≡ v → numbers_from 0 rows1 ≡ numbers_from 0 a.rows.rows.items → loc_of rows1 ≡ loc_of a.rows.rows.items → ws1 ≡ a.waits.slots.items
+    → (HaveNumbers (numbers_from 0 rows1) ins → (q : Prefix) → Keeps (open_at q ws1) (fin.get (loc_of rows1) q) (open_at q ws2) (fin.get (loc_of rows2) q))
+    → AreNumbered v ins → (q : Prefix) → Keeps (open_at q a.waits.slots.items) (fin.get (loc_of a.rows.rows.items) q) (open_at q ws2) (fin.get (loc_of rows2) q)
+keeps ins a v rows1 rows2 ws1 ws2 is numbers loc waits kept are q =
+    keeps_both _ _ _ _ _ _ (keeps_same _ _ _ _ (ap (open_at q) waits) (ap (λ t. fin.get t q) loc))
+    (kept (there ins (view_of a) v (numbers_from 0 a.rows.rows.items) a.touched.prefixes.items _ is refl numbers are) q)
 
 pub returns-clause-told : goal.returns-clause-told
 returns-clause-told c = λ are.
     let ins = c.args.sources.now.ins.now in
     let a = c.self.inside in
-    let loc = loc_of a.rows.rows.items in
-    let ws = a.waits.slots.items in
-    let with_numbers = there ins (view_of a) c.args.self.now (numbers_from 0 a.rows.rows.items) a.touched.prefixes.items _ c.self.view_is refl c.make_room.ensures.numbers are in
-    let kept = c.commit.ensures.keeps ins c.in_ok-changes.ensures.changes.placed with_numbers in
-    told_kept loc (loc_of c.commit.new.rows.rows.items) ws c.commit.new.waits.slots.items
-    (keeps loc (loc_of c.make_room.new.rows.rows.items) (loc_of c.commit.new.rows.rows.items) ws c.make_room.new.waits.slots.items c.commit.new.waits.slots.items c.make_room.ensures.loc c.make_room.ensures.waits kept)
+    told_kept (loc_of a.rows.rows.items) (loc_of c.commit.new.rows.rows.items) a.waits.slots.items c.commit.new.waits.slots.items
+    (keeps ins a c.args.self.now c.make_room.new.rows.rows.items c.commit.new.rows.rows.items c.make_room.new.waits.slots.items c.commit.new.waits.slots.items c.self.view_is c.make_room.ensures.numbers c.make_room.ensures.loc c.make_room.ensures.waits (c.commit.ensures.keeps ins c.in_ok-changes.ensures.changes.placed) are)
     ∙ ap (λ (v : View). v.told) c.self.view_is
 
 pub returns-clause-marked : goal.returns-clause-marked
 returns-clause-marked c = λ are.
     let ins = c.args.sources.now.ins.now in
     let a = c.self.inside in
-    let loc = loc_of a.rows.rows.items in
-    let ws = a.waits.slots.items in
-    let with_numbers = there ins (view_of a) c.args.self.now (numbers_from 0 a.rows.rows.items) a.touched.prefixes.items _ c.self.view_is refl c.make_room.ensures.numbers are in
-    let kept = c.commit.ensures.keeps ins c.in_ok-changes.ensures.changes.placed with_numbers in
-    marked_kept loc (loc_of c.commit.new.rows.rows.items) ws c.commit.new.waits.slots.items
-    (keeps loc (loc_of c.make_room.new.rows.rows.items) (loc_of c.commit.new.rows.rows.items) ws c.make_room.new.waits.slots.items c.commit.new.waits.slots.items c.make_room.ensures.loc c.make_room.ensures.waits kept)
+    marked_kept (loc_of a.rows.rows.items) (loc_of c.commit.new.rows.rows.items) a.waits.slots.items c.commit.new.waits.slots.items
+    (keeps ins a c.args.self.now c.make_room.new.rows.rows.items c.commit.new.rows.rows.items c.make_room.new.waits.slots.items c.commit.new.waits.slots.items c.self.view_is c.make_room.ensures.numbers c.make_room.ensures.loc c.make_room.ensures.waits (c.commit.ensures.keeps ins c.in_ok-changes.ensures.changes.placed) are)
     ∙ ap (λ (v : View). v.marked) c.self.view_is
 
 pub returns-clause-exact : goal.returns-clause-exact
 returns-clause-exact c = λ are exact.
     let ins = c.args.sources.now.ins.now in
     let a = c.self.inside in
-    let loc = loc_of a.rows.rows.items in
-    let ws = a.waits.slots.items in
-    let with_numbers = there ins (view_of a) c.args.self.now (numbers_from 0 a.rows.rows.items) a.touched.prefixes.items _ c.self.view_is refl c.make_room.ensures.numbers are in
-    let kept = c.commit.ensures.keeps ins c.in_ok-changes.ensures.changes.placed with_numbers in
-    exact_kept loc (loc_of c.commit.new.rows.rows.items) ws c.commit.new.waits.slots.items
-    (keeps loc (loc_of c.make_room.new.rows.rows.items) (loc_of c.commit.new.rows.rows.items) ws c.make_room.new.waits.slots.items c.commit.new.waits.slots.items c.make_room.ensures.loc c.make_room.ensures.waits kept)
+    exact_kept (loc_of a.rows.rows.items) (loc_of c.commit.new.rows.rows.items) a.waits.slots.items c.commit.new.waits.slots.items
+    (keeps ins a c.args.self.now c.make_room.new.rows.rows.items c.commit.new.rows.rows.items c.make_room.new.waits.slots.items c.commit.new.waits.slots.items c.self.view_is c.make_room.ensures.numbers c.make_room.ensures.loc c.make_room.ensures.waits (c.commit.ensures.keeps ins c.in_ok-changes.ensures.changes.placed) are)
     (subst WaitsAreExact (sym c.self.view_is) exact)
 
 pub commit-requires-clause-own : goal.commit-requires-clause-own
 commit-requires-clause-own c =
-    own_same c.in_ok-changes.field-0.changes.items c.self.inside.rows.rows.items c.make_room.new.rows.rows.items c.make_room.ensures.rows
-    (subst (λ cs. AreOwn cs c.self.inside.rows.rows.items) c.deref.ensures.value (c.if-not-are_own.ensures refl))
+    own_same c.in_ok-changes.field-0.changes.items c.self.inside.rows.rows.items c.make_room.new.rows.rows.items c.make_room.ensures.rows c.in_ok-changes.ensures.changes.own
+
+pub invariant_of-self : goal.invariant_of-self
+invariant_of-self c =
+    let a = c.self.inside in
+    let kept = c.self.invariant in
+    let rows = c.make_room.new.rows.rows.items in
+    let same_rows = c.make_room.ensures.rows in
+    record {
+      octets = kept.octets;
+      started = kept.started;
+      ended = kept.ended;
+      front = kept.front;
+      chosen = kept.chosen;
+      slots = omega (arith, kept.slots, c.make_room.ensures.used, ap withdrawn_count c.make_room.ensures.waits, c.make_room.ensures.capacity);
+      extended = kept.extended;
+      backed = are_backed_same a.rows.rows.items rows a.waits.slots.items c.make_room.new.waits.slots.items same_rows c.make_room.ensures.waits kept.backed;
+      fit = λ speech is. fit_same speech a.rows.rows.items rows same_rows (kept.fit speech is);
+    }
 
 pub invariant_of-self-2 : goal.invariant_of-self-2
 invariant_of-self-2 c =

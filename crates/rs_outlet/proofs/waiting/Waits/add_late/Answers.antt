@@ -9,8 +9,8 @@ use Rattle.rs_outlet.proofs.Pending.Withdrawals.{one_if}
 use Rattle.rs_outlet.proofs.Pending.Chains.{none_chained}
 use Rattle.rs_outlet.proofs.waiting.Waits.add_late.Goals as goal
 
-pub put_slots-requires-clause-runs : goal.put_slots-requires-clause-runs
-put_slots-requires-clause-runs c =
+pub put_slots-requires-clause-parts : goal.put_slots-requires-clause-parts
+put_slots-requires-clause-parts c =
     record { within = omega (arith, c.args.self.now.within, length-map c.args.self.now.slots.items (λ (w : Wait). w.prefix), c.args.self.now.slots.ok); first = c.args.self.now.first; late = c.args.self.now.late }
 
 pub overflow_add-self : goal.overflow_add-self

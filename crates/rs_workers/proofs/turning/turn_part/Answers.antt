@@ -1,9 +1,0 @@
-use Rattle.std.proofs.Common.{◌<◌, sym, subst}
-use Rattle.rs_workers.specs.Turned.{TurnedAlone}
-use Rattle.rs_workers.proofs.Placing.{walked_on}
-use Rattle.rs_workers.proofs.turning.turn_part.Goals as goal
-
-pub loop-k-preserved : goal.loop-k-preserved
-loop-k-preserved g c =
-    walked_on (TurnedAlone c.args.config.now c.args.tables.now) c.args.part.now c.loop-k.part c.loop-k.k c.index-part-k.result c.turn_one.new.outlet
-    (subst (λ n. c.loop-k.k < n) (sym c.loop-k.auto.part) c.loop-k-test.true) c.turn_one.ensures c.loop-k.invariant.0 c.loop-k.invariant.1

@@ -1,9 +1,0 @@
-use Rattle.std.proofs.Common.{◌≡◌, ℕ, ◌<◌, ◌≤◌, get_or}
-use Rattle.rs_outlet.specs.Views.{View}
-use Rattle.rs_workers.specs.Turned.{TurnedAlone}
-use Rattle.rs_workers.proofs.turning.turn_part.Given as goal
-
-abbrev pub invariant-loop-k : goal.invariant-loop-k
-invariant-loop-k g l =
-    ((j : ℕ) (d : View) → l.k ≤ j → get_or l.part j d ≡ get_or l.initial.part j d)
-    × ((j : ℕ) (d : View) → j < l.k → TurnedAlone l.config l.tables (get_or l.initial.part j d) (get_or l.part j d))
