@@ -1,5 +1,5 @@
 #!/usr/bin/env python3
-"""Checks that the example configurations are those that a test of the configuration reads, and those that OPERATING tells of.
+"""Checks that the example configurations are those that a test of the configuration reads, and those that OPERATING has.
 
 A test can read no files, so it has their texts as literals. This compares them, octet for octet. The data of
 rs_replay has one of them too. OPERATING has a table of the rules by which a member's export list reads action
@@ -16,7 +16,7 @@ TESTS = TOP / "crates/rs_tests/src/policy/examples.rt"
 EXAMPLES = {"FOUR_MEMBERS": "four_members.toml", "SMALL": "small.toml", "EXCHANGE": "exchange.toml"}
 COPY = TOP / "crates/rs_replay/data/four_members.toml"
 OPERATING = TOP / "docs/OPERATING.md"
-MEMBER = "For a member of AS 64496 the `export` list is these four rules"
+MEMBER = "For a member of AS 64496 the `export` list is"
 RULE = re.compile(r'^\| (?:`community = "(?P<community>[\d:]+)"`, (?P<by>pass|drop)|(?P<all>pass|drop)) \|', re.MULTILINE)
 
 
