@@ -1,6 +1,6 @@
 //! What a caller can ask of a route server.
 
-ghost use Rattle.std.specs.Prelude.{ℕ, Some, ◌≡◌, ◌==◌, ◌&&◌, ◌<◌, T, true, false, List, [], ◌∷◌, length, IfSome, IsTrue};
+ghost use Rattle.std.specs.Prelude.{ℕ, Some, ◌≡◌, ◌==◌, ◌&&◌, ◌<◌, ◌≤◌, T, true, false, List, [], ◌∷◌, length, IfSome, IsTrue};
 ghost use Rattle.std.specs.FinMap.{find, is_sorted};
 ghost use Rattle.rs_octets.specs.Prefixes.{Prefix, prefix_order};
 ghost use Rattle.rs_adjin.specs.AdjIns.{number_of};
@@ -37,8 +37,9 @@ ghost use Rattle.rs_core.specs.Session.Hearing.{is_up, is_closing};
 impl Core {
     ghost use Rattle.rs_core.specs.Core.{client_count, loc_rib, is_refusal, is_refused, last_of, lent_octets, owed, is_decided};
     ghost use Rattle.rs_core.specs.Run.Moves.{Move, config_in};
-    ghost use Rattle.rs_core.specs.Session.Hearing.{Hearing, state_in, hold_in, mode_in, limit_in, ending_in, faulted_updates_in};
-    ghost use Rattle.rs_core.specs.Run.Meaning.{hearing, is_established, IsServed};
+    ghost use Rattle.rs_core.specs.Session.Hearing.{Hearing, session_in, state_in, hold_in, mode_in, limit_in, ending_in, faulted_updates_in};
+    ghost use Rattle.rs_core.specs.Run.Meaning.{hearing, is_established, is_ended_at, EndsSome, IsServed};
+    ghost use Rattle.rs_session.specs.Sessions.{ends_at};
     ghost use Rattle.rs_core.specs.Run.Agreeing.{Agrees, Knows};
     ghost use Rattle.rs_core.specs.Told.InTurn.{IsAnswered};
     ghost use Rattle.rs_core.specs.Owed.Sending.{HasLent};
@@ -107,6 +108,29 @@ impl Core {
         } else {
             None
         }
+    }
+
+    /// The greatest moment that ends no session by its hold timer, should it be seen next (RFC 4271, 6.5);
+    /// `u64::MAX` where none does. So a link that was kept from reading tells this moment first, hears
+    /// who has something to say, and only then tells the time.
+    pub fn quiet_until(&self) -> u64
+        ensures quiet { (run : List Move) → Agrees self.now run → (t : ℕ) → t ≤ result → (c : ℕ) → c < client_count self.now → is_ended_at run c t ≡ false }
+        ensures greatest { (run : List Move) → Agrees self.now run → (t : ℕ) → result < t → t ≤ 18446744073709551615 → EndsSome run (client_count self.now) t }
+    {
+        let mut until = u64::MAX;
+        for c in 0..self.count {
+            until = until.min(self.quiet_for(c));
+        }
+        until
+    }
+
+    /// The greatest moment that doesn't end the session of this client.
+    fn quiet_for(&self, c: usize) -> u64
+        requires { c < client_count self.now }
+        ensures quiet { (s : Configuration) (h : Hearing) → Knows self.now s c h → (t : ℕ) → t ≤ result → ends_at (session_in s c) h.items t ≡ false }
+        ensures greatest { (s : Configuration) (h : Hearing) → Knows self.now s c h → (t : ℕ) → result < t → t ≤ 18446744073709551615 → ends_at (session_in s c) h.items t ≡ true }
+    {
+        self.sessions[c].quiet_until()
     }
 
     /// The Hold Time used with a client that is Established, in seconds; 0 for none (RFC 4271, 4.2).

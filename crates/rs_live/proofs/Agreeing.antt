@@ -1,5 +1,5 @@
 -- What the link keeps still agrees with what was done, one operation later.
-use Rattle.std.proofs.Common.{◌≡◌, ◌<◌, ◌≤◌, ◌+◌, ◌==◌, ◌++◌, inl, inr, ℕ, suc, List, [], ◌∷◌, length, take, drop, Option, Some, None, Result, Ok, refl, sym, subst, ap, ◌∙◌, arith}
+use Rattle.std.proofs.Common.{◌≡◌, ◌<◌, ◌≤◌, ◌+◌, ◌==◌, ◌++◌, inl, inr, min, ℕ, suc, List, [], ◌∷◌, length, take, drop, Option, Some, None, Result, Ok, refl, sym, subst, ap, ◌∙◌, arith}
 use Rattle.std.specs.Prelude.{IsSome, ⊤, if◌then◌else◌}
 use Rattle.std.proofs.lemmas.Bool.{cases_eq, cases_lt}
 use Rattle.std.proofs.Math.Seq.{drop-nil}
@@ -9,15 +9,17 @@ use Rattle.rs_live.specs.declared.ports.Incoming.{Incoming}
 use Rattle.rs_live.specs.declared.ports.PortFault.{PortFault}
 use Rattle.rs_live.specs.declared.ports.Line.TheVariants as lines
 use Rattle.rs_live.specs.declared.live_link.Phase.{Phase}
-use Rattle.rs_live.specs.declared.live_link.Phase.TheVariants as phases
-use Rattle.rs_live.specs.Calls.{Call, Waited, Accepted, Printed}
-use Rattle.rs_live.specs.Operations.{Operation, Asked, WroteTo, WroteRest, ClosedRest, Did}
+use Rattle.rs_live.specs.declared.live_link.Stage.{Stage}
+use Rattle.rs_live.specs.declared.live_link.Stage.TheVariants as stages
+use Rattle.rs_live.specs.Calls.{Call, Waited, Accepted, Read, Timed, Printed}
+use Rattle.rs_live.specs.Operations.{Operation, Asked, WroteTo, WroteRest, ClosedRest, Spared, Did}
 use Rattle.rs_live.specs.Keys.{come}
 use Rattle.rs_live.specs.Sending.{taken}
 use Rattle.rs_live.specs.Rounds.{HasRoom, IsSettled}
-use Rattle.rs_live.specs.Keeping.{Held, Agrees, IsInPhase, IsPlain, HaveRoom, change, had_by, held_by, key_come, nothing, with_live, with_rest}
+use Rattle.rs_live.specs.Moments.{WasRead, WereRead, IsFair, OnTime, Heard, Sparing}
+use Rattle.rs_live.specs.Keeping.{Held, Agrees, IsAtStage, IsClocked, IsFairBy, IsInPhase, IsPlain, HaveRoom, at, before, begun_at, change, given, had_by, held_by, key_at, key_come, nothing, passed, with_live, with_rest}
 use Rattle.rs_live.specs.Handled.{IsLossOf}
-use Rattle.rs_live.proofs.Changing.{at_same, at_other, no_some, same_changed, KeepsNone, come_asked, phase_asked, IsQuiet, phase_did, phase_changed, IsChange, if_lost, if_waits, if_rests, if_closed, ended, if_ended, begun_with, if_begun}
+use Rattle.rs_live.proofs.Changing.{at_same, at_other, no_some, past, held_set, clocked_asked, clocked_did, same_changed, KeepsNone, come_asked, phase_asked, IsQuiet, phase_did, phase_changed, IsChange, if_lost, if_waits, if_rests, if_closed, ended, if_ended, begun_with, if_begun}
 
 -- the ports were asked something
 pub agrees_asked : (held : List Held) (phase : Phase) (call : Call) (operations : List Operation) → IsPlain call → Agrees held phase operations → Agrees held phase (Asked call ∷ operations)
@@ -59,16 +61,20 @@ agrees_offer held phase c n octets operations none h = agrees_changed (handed_mo
 abbrev pub taken_from : Result (Option ℕ) PortFault → Held → Held
 taken_from answer h = with_live h.key (drop (taken answer) h.waiting) h
 
+wrote_stage : (held : List Held) (stage : Stage) (c key : ℕ) (octets : List ℕ) (answer : Result (Option ℕ) PortFault) (operations : List Operation) → IsAtStage held stage operations → IsAtStage held stage (WroteTo c key octets answer ∷ operations)
+wrote_stage held stages.Rules c key octets answer operations h = h
+wrote_stage held stages.Start c key octets answer operations h = h
+wrote_stage held stages.Accept c key octets answer operations h = h
+wrote_stage held (stages.Come d incoming) c key octets answer operations h = h
+wrote_stage held stages.Read c key octets answer operations h = h
+wrote_stage held stages.Moment c key octets answer operations h = h
+wrote_stage held stages.Turn c key octets answer operations h = h
+wrote_stage held (stages.Room from) c key octets answer operations h = h
+wrote_stage held (stages.Handed d) c key octets answer operations h = h
+wrote_stage held stages.Over c key octets answer operations h = h
+
 wrote_round : (held : List Held) (phase : Phase) (c key : ℕ) (octets : List ℕ) (answer : Result (Option ℕ) PortFault) (operations : List Operation) → IsInPhase held phase operations → IsInPhase held phase (WroteTo c key octets answer ∷ operations)
-wrote_round held phases.Rules c key octets answer operations h = h
-wrote_round held phases.Accept c key octets answer operations h = h
-wrote_round held (phases.Come d incoming) c key octets answer operations h = h
-wrote_round held phases.Read c key octets answer operations h = h
-wrote_round held phases.Moment c key octets answer operations h = h
-wrote_round held phases.Turn c key octets answer operations h = h
-wrote_round held (phases.Room from) c key octets answer operations h = h
-wrote_round held (phases.Handed d) c key octets answer operations h = h
-wrote_round held phases.Over c key octets answer operations h = h
+wrote_round held phase c key octets answer operations h = record { stage = wrote_stage held phase.stage c key octets answer operations h.stage; clocked = let k = h.clocked in record { asked = k.asked; clock = k.clock; quiet = k.quiet; told = k.told; read = k.read; over = k.over } }
 
 pub agrees_wrote : (held : List Held) (phase : Phase) (c key : ℕ) (octets : List ℕ) (answer : Result (Option ℕ) PortFault) (operations : List Operation) → Agrees held phase operations → Agrees (change c (taken_from answer) held) phase (WroteTo c key octets answer ∷ operations)
 agrees_wrote held phase c key octets answer operations h = agrees_changed (taken_from answer) held phase c operations (WroteTo c key octets answer ∷ operations) (λ past. ap (λ o. with_live None o nothing) (drop-nil (taken answer))) (λ k some. some)
@@ -78,32 +84,40 @@ agrees_wrote held phase c key octets answer operations h = agrees_changed (taken
 abbrev pub taken_from_rest : Result (Option ℕ) PortFault → Held → Held
 taken_from_rest answer h = with_rest h.rest_key (drop (taken answer) h.rest) h
 
+wrote_rest_stage : (held : List Held) (stage : Stage) (c key : ℕ) (octets : List ℕ) (answer : Result (Option ℕ) PortFault) (operations : List Operation) → IsAtStage held stage operations → IsAtStage held stage (WroteRest c key octets answer ∷ operations)
+wrote_rest_stage held stages.Rules c key octets answer operations h = h
+wrote_rest_stage held stages.Start c key octets answer operations h = h
+wrote_rest_stage held stages.Accept c key octets answer operations h = h
+wrote_rest_stage held (stages.Come d incoming) c key octets answer operations h = h
+wrote_rest_stage held stages.Read c key octets answer operations h = h
+wrote_rest_stage held stages.Moment c key octets answer operations h = h
+wrote_rest_stage held stages.Turn c key octets answer operations h = h
+wrote_rest_stage held (stages.Room from) c key octets answer operations h = h
+wrote_rest_stage held (stages.Handed d) c key octets answer operations h = h
+wrote_rest_stage held stages.Over c key octets answer operations h = h
+
 wrote_rest_round : (held : List Held) (phase : Phase) (c key : ℕ) (octets : List ℕ) (answer : Result (Option ℕ) PortFault) (operations : List Operation) → IsInPhase held phase operations → IsInPhase held phase (WroteRest c key octets answer ∷ operations)
-wrote_rest_round held phases.Rules c key octets answer operations h = h
-wrote_rest_round held phases.Accept c key octets answer operations h = h
-wrote_rest_round held (phases.Come d incoming) c key octets answer operations h = h
-wrote_rest_round held phases.Read c key octets answer operations h = h
-wrote_rest_round held phases.Moment c key octets answer operations h = h
-wrote_rest_round held phases.Turn c key octets answer operations h = h
-wrote_rest_round held (phases.Room from) c key octets answer operations h = h
-wrote_rest_round held (phases.Handed d) c key octets answer operations h = h
-wrote_rest_round held phases.Over c key octets answer operations h = h
+wrote_rest_round held phase c key octets answer operations h = record { stage = wrote_rest_stage held phase.stage c key octets answer operations h.stage; clocked = let k = h.clocked in record { asked = k.asked; clock = k.clock; quiet = k.quiet; told = k.told; read = k.read; over = k.over } }
 
 pub agrees_wrote_rest : (held : List Held) (phase : Phase) (c key : ℕ) (octets : List ℕ) (answer : Result (Option ℕ) PortFault) (operations : List Operation) → Agrees held phase operations → Agrees (change c (taken_from_rest answer) held) phase (WroteRest c key octets answer ∷ operations)
 agrees_wrote_rest held phase c key octets answer operations h = agrees_changed (taken_from_rest answer) held phase c operations (WroteRest c key octets answer ∷ operations) (λ past. ap (λ o. with_rest None o nothing) (drop-nil (taken answer))) (λ k some. some)
     (λ d. if_rests (d == c) (drop (taken answer) (had_by d operations).rest) (had_by d operations), λ d. refl) (λ hs r. wrote_rest_round hs phase c key octets answer operations r) h
 
 -- the connection of an ended session is closed
+closed_stage : (held : List Held) (stage : Stage) (c key : ℕ) (operations : List Operation) → IsAtStage held stage operations → IsAtStage held stage (ClosedRest c key ∷ operations)
+closed_stage held stages.Rules c key operations h = h
+closed_stage held stages.Start c key operations h = h
+closed_stage held stages.Accept c key operations h = h
+closed_stage held (stages.Come d incoming) c key operations h = h
+closed_stage held stages.Read c key operations h = h
+closed_stage held stages.Moment c key operations h = h
+closed_stage held stages.Turn c key operations h = h
+closed_stage held (stages.Room from) c key operations h = h
+closed_stage held (stages.Handed d) c key operations h = h
+closed_stage held stages.Over c key operations h = h
+
 closed_round : (held : List Held) (phase : Phase) (c key : ℕ) (operations : List Operation) → IsInPhase held phase operations → IsInPhase held phase (ClosedRest c key ∷ operations)
-closed_round held phases.Rules c key operations h = h
-closed_round held phases.Accept c key operations h = h
-closed_round held (phases.Come d incoming) c key operations h = h
-closed_round held phases.Read c key operations h = h
-closed_round held phases.Moment c key operations h = h
-closed_round held phases.Turn c key operations h = h
-closed_round held (phases.Room from) c key operations h = h
-closed_round held (phases.Handed d) c key operations h = h
-closed_round held phases.Over c key operations h = h
+closed_round held phase c key operations h = record { stage = closed_stage held phase.stage c key operations h.stage; clocked = let k = h.clocked in record { asked = k.asked; clock = k.clock; quiet = k.quiet; told = k.told; read = k.read; over = k.over } }
 
 pub agrees_closed : (held : List Held) (phase : Phase) (c key : ℕ) (operations : List Operation) → Agrees held phase operations → Agrees (change c (with_rest None []) held) phase (ClosedRest c key ∷ operations)
 agrees_closed held phase c key operations h = agrees_changed (with_rest None []) held phase c operations (ClosedRest c key ∷ operations) (λ past. refl) (λ k some. some)
@@ -154,12 +168,29 @@ none_where d c x y h = elim (cases_eq d c) [
   | inr ne ↦ at_other d c None x ne ∙ h ∙ at_other d c y None ne
 ]
 
+-- at another stage of the round
+again : (held : List Held) (from next : Stage) (w : Phase) (operations : List Operation) → (next ≡ stages.Over → w.told ≡ w.clock) → IsClocked held (at from w) operations → IsClocked held (at next w) operations
+again held from next w operations over h = record { asked = h.asked; clock = h.clock; quiet = h.quiet; told = h.told; read = h.read; over = over }
+
 -- the core begins with the connection that has come
-pub agrees_begin : (held : List Held) (c : ℕ) (incoming : Incoming) (operations : List Operation) → Agrees held (phases.Come c incoming) operations → Agrees (change c (with_live (Some incoming.key) []) held) phases.Accept (Did (Begin c) ∷ operations)
-agrees_begin held c incoming operations h = record {
-  same = same_changed (with_live (Some incoming.key) []) held c operations (Did (Begin c) ∷ operations) (λ ge. absurd (omega (arith, h.round))) begun h.same;
+pub agrees_begin : (held : List Held) (w : Phase) (c : ℕ) (incoming : Incoming) (operations : List Operation) → Agrees held (at (stages.Come c incoming) w) operations → Agrees (change c (with_live (Some incoming.key) []) held) (at stages.Accept w) (Did (Begin c) ∷ operations)
+agrees_begin held w c incoming operations h = record {
+  same = same_changed (with_live (Some incoming.key) []) held c operations (Did (Begin c) ∷ operations) (λ ge. absurd (omega (arith, h.round.stage))) begun h.same;
   fresh = λ d. none_where d c (come d operations) (Some incoming.key) (h.fresh d);
-  round = tt;
+  round = record {
+    stage = tt;
+    clocked = let k = h.round.clocked in record {
+      asked = k.asked;
+      clock = k.clock;
+      quiet = k.quiet;
+      told = k.told;
+      read = λ d below some. elim (cases_eq d c) [
+        | inl e ↦ inl e
+        | inr ne ↦ inr (k.read d below (subst (λ x. IsSome x.key) (held_set (with_live (Some incoming.key) []) held c d (λ ge. absurd (omega (arith, h.round.stage))) ∙ at_other d c (with_live (Some incoming.key) [] (held_by d held)) (held_by d held) ne) some))
+      ];
+      over = λ (e : stages.Accept ≡ stages.Over). cc;
+    };
+  };
 }
   where
     begun : (d : ℕ) → had_by d (Did (Begin c) ∷ operations) ≡ (if d == c then with_live (Some incoming.key) [] (had_by d operations) else had_by d operations)
@@ -189,8 +220,12 @@ agrees_begin_none held phase c operations none h = record {
     ]
 
 -- the core refuses the connection that has come
-pub agrees_busy : (held : List Held) (c : ℕ) (incoming : Incoming) (operations : List Operation) → Agrees held (phases.Come c incoming) operations → Agrees held phases.Accept (Did (Busy c) ∷ operations)
-agrees_busy held c incoming operations h = record { same = h.same; fresh = λ d. none_where d c (come d operations) (Some incoming.key) (h.fresh d); round = tt }
+pub agrees_busy : (held : List Held) (w : Phase) (c : ℕ) (incoming : Incoming) (operations : List Operation) → Agrees held (at (stages.Come c incoming) w) operations → Agrees held (at stages.Accept w) (Did (Busy c) ∷ operations)
+agrees_busy held w c incoming operations h = record {
+  same = h.same;
+  fresh = λ d. none_where d c (come d operations) (Some incoming.key) (h.fresh d);
+  round = record { stage = tt; clocked = again held (stages.Come c incoming) stages.Accept w (Did (Busy c) ∷ operations) (λ (e : stages.Accept ≡ stages.Over). cc) (clocked_did held (at (stages.Come c incoming) w) (Busy c) operations tt h.round.clocked) };
+}
 
 -- the core refuses a client of which none has come
 pub agrees_busy_none : (held : List Held) (phase : Phase) (c : ℕ) (operations : List Operation) → key_come c phase ≡ None → Agrees held phase operations → Agrees held phase (Did (Busy c) ∷ operations)
@@ -201,75 +236,181 @@ agrees_busy_none held phase c operations none h = record {
 }
 
 -- a client's connection has come
-pub agrees_opened : (held : List Held) (c : ℕ) (octets : List ℕ) (incoming : Incoming) (operations : List Operation) → c < length held → Agrees held phases.Accept operations → Agrees held (phases.Come c incoming) (Did (Happened (Opened c) octets) ∷ Asked (Accepted (Ok (Some incoming))) ∷ operations)
-agrees_opened held c octets incoming operations below h = record { same = h.same; fresh = λ d. ap (λ k. if d == c then Some incoming.key else k) (h.fresh d); round = below }
+pub agrees_opened : (held : List Held) (w : Phase) (c : ℕ) (octets : List ℕ) (incoming : Incoming) (operations : List Operation) → c < length held → Agrees held (at stages.Accept w) operations → Agrees held (at (stages.Come c incoming) w) (Did (Happened (Opened c) octets) ∷ Asked (Accepted (Ok (Some incoming))) ∷ operations)
+agrees_opened held w c octets incoming operations below h = record {
+  same = h.same;
+  fresh = λ d. ap (λ k. if d == c then Some incoming.key else k) (h.fresh d);
+  round = record {
+    stage = below;
+    clocked = again held stages.Accept (stages.Come c incoming) w (Did (Happened (Opened c) octets) ∷ Asked (Accepted (Ok (Some incoming))) ∷ operations) (λ (e : stages.Come c incoming ≡ stages.Over). cc)
+        (clocked_did held (at stages.Accept w) (Happened (Opened c) octets) (Asked (Accepted (Ok (Some incoming))) ∷ operations) tt (clocked_asked held (at stages.Accept w) (Accepted (Ok (Some incoming))) operations tt h.round.clocked));
+  };
+}
 
 -- a connection is refused as a stranger's
-pub agrees_stranger : (held : List Held) (phase : Phase) (operations : List Operation) → Agrees held phase operations → Agrees held phases.Accept (Asked (Printed lines.Stranger) ∷ operations)
-agrees_stranger held phase operations h = record { same = h.same; fresh = λ c. refl; round = tt }
+pub agrees_stranger : (held : List Held) (phase : Phase) (operations : List Operation) → Agrees held phase operations → Agrees held (at stages.Accept phase) (Asked (Printed lines.Stranger) ∷ operations)
+agrees_stranger held phase operations h = record {
+  same = h.same;
+  fresh = λ c. refl;
+  round = record { stage = tt; clocked = let k = h.round.clocked in record { asked = k.asked; clock = k.clock; quiet = k.quiet; told = k.told; read = k.read; over = λ (e : stages.Accept ≡ stages.Over). cc } };
+}
+
+-- where a client was read, or has no connection
+clocked_passed : (held : List Held) (w : Phase) (c : ℕ) (operations : List Operation) → (IsSome (held_by c held).key → WasRead c operations) → IsClocked held w operations → IsClocked held (passed c w) operations
+clocked_passed held w c operations this h = record {
+  asked = h.asked;
+  clock = h.clock;
+  quiet = h.quiet;
+  told = h.told;
+  read = λ d below some. elim (cases_eq c w.read_to) [
+    | inl e ↦ let lt : d < min (c + 1) 18446744073709551615 = subst (λ n. d < n) (at_same c w.read_to (min (c + 1) 18446744073709551615) w.read_to e) below in elim (cases_eq d c) [
+      | inl is ↦ subst (λ k. WasRead k operations) (sym is) (this (subst (λ k. IsSome (held_by k held).key) is some))
+      | inr ne ↦ h.read d (omega (arith, lt, e, ne)) some
+    ]
+    | inr ne ↦ h.read d (subst (λ n. d < n) (at_other c w.read_to (min (c + 1) 18446744073709551615) w.read_to ne) below) some
+  ];
+  over = h.over;
+}
+
+-- a client without a connection is passed over
+pub agrees_passed : (held : List Held) (w : Phase) (c : ℕ) (operations : List Operation) → (held_by c held).key ≡ None → Agrees held (at stages.Read w) operations → Agrees held (at stages.Read (passed c w)) operations
+agrees_passed held w c operations none h = record {
+  same = h.same;
+  fresh = h.fresh;
+  round = record { stage = tt; clocked = clocked_passed held (at stages.Read w) c operations (λ some. absurd (no_some ((held_by c held).key) none some)) h.round.clocked };
+}
+
+-- a client's connection is read
+pub agrees_read : (held : List Held) (w : Phase) (c key : ℕ) (piece : List ℕ) (answer : Result (Option ℕ) PortFault) (operations : List Operation) → (held_by c held).key ≡ Some key → Agrees held (at stages.Read w) operations → Agrees held (at stages.Read (passed c w)) (Asked (Read key piece answer) ∷ operations)
+agrees_read held w c key piece answer operations of h = record {
+  same = h.same;
+  fresh = h.fresh;
+  round = record { stage = tt; clocked = clocked_passed held (at stages.Read w) c (Asked (Read key piece answer) ∷ operations) (λ some. inl (ap (λ x. x.key) (h.same c) ∙ of)) (clocked_asked held (at stages.Read w) (Read key piece answer) operations tt h.round.clocked) };
+}
 
 -- the core is given octets
-pub agrees_octets : (held : List Held) (c n : ℕ) (octets : List ℕ) (operations : List Operation) → Agrees held phases.Read operations → Agrees held phases.Read (Did (Happened (Octets c n) octets) ∷ operations)
-agrees_octets held c n octets operations h = record { same = h.same; fresh = h.fresh; round = tt }
+pub agrees_octets : (held : List Held) (w : Phase) (c n : ℕ) (octets : List ℕ) (operations : List Operation) → Agrees held (at stages.Read w) operations → Agrees held (at stages.Read w) (Did (Happened (Octets c n) octets) ∷ operations)
+agrees_octets held w c n octets operations h = record { same = h.same; fresh = h.fresh; round = record { stage = tt; clocked = clocked_did held (at stages.Read w) (Happened (Octets c n) octets) operations tt h.round.clocked } }
 
--- the core is given a moment
-pub agrees_moment : (held : List Held) (t : ℕ) (octets : List ℕ) (operations : List Operation) → Agrees held phases.Moment operations → Agrees held phases.Turn (Did (Happened (Moment t) octets) ∷ operations)
-agrees_moment held t octets operations h = record { same = h.same; fresh = h.fresh; round = tt }
+clocked_given : (held : List Held) (from next : Stage) (w : Phase) (t : ℕ) (octets : List ℕ) (operations : List Operation) → (next ≡ stages.Over → ⊥) → IsClocked held (at from w) operations → IsClocked held (given next t w) (Did (Happened (Moment t) octets) ∷ operations)
+clocked_given held from next w t octets operations not h = record { asked = h.asked; clock = h.clock; quiet = h.quiet; told = refl; read = h.read; over = λ e. absurd (not e) }
+
+-- the core is given the first moment of a round
+pub agrees_start : (held : List Held) (w : Phase) (t : ℕ) (octets : List ℕ) (operations : List Operation) → Agrees held (at stages.Start w) operations → Agrees held (given stages.Accept t w) (Did (Happened (Moment t) octets) ∷ operations)
+agrees_start held w t octets operations h = record { same = h.same; fresh = h.fresh; round = record { stage = tt; clocked = clocked_given held stages.Start stages.Accept w t octets operations (λ (e : stages.Accept ≡ stages.Over). cc) h.round.clocked } }
+
+-- and a later one
+pub agrees_moment : (held : List Held) (w : Phase) (t : ℕ) (octets : List ℕ) (operations : List Operation) → Agrees held (at stages.Moment w) operations → Agrees held (given stages.Turn t w) (Did (Happened (Moment t) octets) ∷ operations)
+agrees_moment held w t octets operations h = record { same = h.same; fresh = h.fresh; round = record { stage = tt; clocked = clocked_given held stages.Moment stages.Turn w t octets operations (λ (e : stages.Turn ≡ stages.Over). cc) h.round.clocked } }
+
+-- it is fair
+pub fair_is : (held : List Held) (w : Phase) (t : ℕ) (operations : List Operation) → IsFairBy (length held) w t → Agrees held w operations → IsFair t operations
+fair_is held w t operations (inl (e, inl le)) h = OnTime (e ∙ sym h.round.clocked.clock) (subst (λ n. t ≤ n) (sym h.round.clocked.quiet) le)
+fair_is held w t operations (inl (e, inr all)) h = Heard (e ∙ sym h.round.clocked.clock) read
+  where
+    read : WereRead operations
+    read c some = let has = subst (λ x. IsSome x.key) (h.same c) some in elim (cases_lt c (length held)) [
+      | inl lt ↦ h.round.clocked.read c (omega (arith, lt, all)) has
+      | inr ge ↦ absurd (no_some ((held_by c held).key) (ap (λ x. x.key) (past held c ge)) has)
+    ]
+fair_is held w t operations (inr (e, le)) h = Sparing (e ∙ sym h.round.clocked.quiet) (subst (λ n. t ≤ n) (sym h.round.clocked.clock) le)
 
 -- the core is given a turn
-pub agrees_turn : (held : List Held) (octets : List ℕ) (operations : List Operation) → Agrees held phases.Turn operations → Agrees held (phases.Room 0) (Did (Happened Turn octets) ∷ operations)
-agrees_turn held octets operations h = record { same = h.same; fresh = h.fresh; round = (h.round, λ c below some. absurd (omega arith)) }
+pub agrees_turn : (held : List Held) (w : Phase) (octets : List ℕ) (operations : List Operation) → Agrees held (at stages.Turn w) operations → Agrees held (at (stages.Room 0) w) (Did (Happened Turn octets) ∷ operations)
+agrees_turn held w octets operations h = record {
+  same = h.same;
+  fresh = h.fresh;
+  round = record {
+    stage = (h.round.stage, λ c below some. absurd (omega arith));
+    clocked = again held stages.Turn (stages.Room 0) w (Did (Happened Turn octets) ∷ operations) (λ (e : stages.Room 0 ≡ stages.Over). cc) (clocked_did held (at stages.Turn w) (Happened Turn octets) operations tt h.round.clocked);
+  };
+}
 
 -- a client is given room
-pub agrees_room : (held : List Held) (from c : ℕ) (octets : List ℕ) (operations : List Operation) → ((d : ℕ) → from ≤ d → d < c → (held_by d held).key ≡ None) → Agrees held (phases.Room from) operations → Agrees held (phases.Handed c) (Did (Happened (Room c 18446744073709551615) octets) ∷ operations)
-agrees_room held from c octets operations none h = record { same = h.same; fresh = h.fresh; round = (h.round.0, roomy) }
+pub agrees_room : (held : List Held) (w : Phase) (from c : ℕ) (octets : List ℕ) (operations : List Operation) → ((d : ℕ) → from ≤ d → d < c → (held_by d held).key ≡ None) → Agrees held (at (stages.Room from) w) operations → Agrees held (at (stages.Handed c) w) (Did (Happened (Room c 18446744073709551615) octets) ∷ operations)
+agrees_room held w from c octets operations none h = record {
+  same = h.same;
+  fresh = h.fresh;
+  round = record {
+    stage = (h.round.stage.0, roomy);
+    clocked = again held (stages.Room from) (stages.Handed c) w (Did (Happened (Room c 18446744073709551615) octets) ∷ operations) (λ (e : stages.Handed c ≡ stages.Over). cc) (clocked_did held (at (stages.Room from) w) (Happened (Room c 18446744073709551615) octets) operations tt h.round.clocked);
+  };
+}
   where
     roomy : HaveRoom (suc c) held (Did (Happened (Room c 18446744073709551615) octets) ∷ operations)
     roomy d below some = elim (cases_eq d c) [
       | inl e ↦ inl (e, refl)
       | inr ne ↦ elim (cases_lt d from) [
-        | inl lt ↦ inr (h.round.1 d lt some)
+        | inl lt ↦ inr (h.round.stage.1 d lt some)
         | inr ge ↦ absurd (no_some ((held_by d held).key) (none d ge (omega arith)) some)
       ]
     ]
 
 -- and is done with
-pub agrees_handed : (held : List Held) (c from : ℕ) (operations : List Operation) → from ≤ c + 1 → Agrees held (phases.Handed c) operations → Agrees held (phases.Room from) operations
-agrees_handed held c from operations within h = record { same = h.same; fresh = h.fresh; round = (h.round.0, λ d below some. h.round.1 d (omega arith) some) }
+pub agrees_handed : (held : List Held) (w : Phase) (c from : ℕ) (operations : List Operation) → from ≤ c + 1 → Agrees held (at (stages.Handed c) w) operations → Agrees held (at (stages.Room from) w) operations
+agrees_handed held w c from operations within h = record {
+  same = h.same;
+  fresh = h.fresh;
+  round = record { stage = (h.round.stage.0, λ d below some. h.round.stage.1 d (omega arith) some); clocked = again held (stages.Handed c) (stages.Room from) w operations (λ (e : stages.Room from ≡ stages.Over). cc) h.round.clocked };
+}
 
--- all clients are done with
-pub agrees_over : (held : List Held) (from : ℕ) (operations : List Operation) → ((d : ℕ) → from ≤ d → (held_by d held).key ≡ None) → Agrees held (phases.Room from) operations → Agrees held phases.Over operations
-agrees_over held from operations none h = record { same = h.same; fresh = h.fresh; round = (h.round.0, roomy) }
+-- all clients are done with, and what the clock answered was given
+pub agrees_over : (held : List Held) (w : Phase) (from : ℕ) (operations : List Operation) → ((d : ℕ) → from ≤ d → (held_by d held).key ≡ None) → w.told ≡ w.clock → Agrees held (at (stages.Room from) w) operations → Agrees held (at stages.Over w) operations
+agrees_over held w from operations none on_time h = record {
+  same = h.same;
+  fresh = h.fresh;
+  round = record { stage = (h.round.stage.0, roomy); clocked = again held (stages.Room from) stages.Over w operations (λ e. on_time) h.round.clocked };
+}
   where
     roomy : (d : ℕ) → IsSome ((held_by d held).key) → HasRoom d operations
     roomy d some = elim (cases_lt d from) [
-      | inl lt ↦ h.round.1 d lt some
+      | inl lt ↦ h.round.stage.1 d lt some
       | inr ge ↦ absurd (no_some ((held_by d held).key) (none d ge) some)
     ]
 
 -- a round that is over may end
-pub settled : (held : List Held) (operations : List Operation) → Agrees held phases.Over operations → IsSettled operations
-settled held operations h = record { turned = h.round.0; rooms = λ c some. h.round.1 c (subst (λ x. IsSome x.key) (h.same c) some); answered = h.fresh }
+pub settled : (held : List Held) (w : Phase) (operations : List Operation) → Agrees held (at stages.Over w) operations → IsSettled operations
+settled held w operations h = record {
+  turned = h.round.stage.0;
+  rooms = λ c some. h.round.stage.1 c (subst (λ x. IsSome x.key) (h.same c) some);
+  on_time = let k = h.round.clocked in record { asked = k.asked; told = k.told ∙ k.over refl ∙ sym k.clock };
+  answered = h.fresh;
+}
 
 -- the next begins
-pub agrees_waited : (held : List Held) (operations : List Operation) → Agrees held phases.Over operations → Agrees held phases.Accept (Asked (Waited (Ok tt)) ∷ operations)
-agrees_waited held operations h = record { same = h.same; fresh = h.fresh; round = tt }
+pub agrees_waited : (held : List Held) (w : Phase) (clock quiet : ℕ) (operations : List Operation) → Agrees held (at stages.Over w) operations → Agrees held (begun_at clock quiet w) (Spared quiet ∷ Asked (Timed clock) ∷ Asked (Waited (Ok tt)) ∷ operations)
+agrees_waited held w clock quiet operations h = record {
+  same = h.same;
+  fresh = h.fresh;
+  round = record { stage = tt; clocked = record { asked = tt; clock = refl; quiet = refl; told = h.round.clocked.told; read = λ c below some. absurd (omega (arith, below)); over = λ (e : stages.Start ≡ stages.Over). cc } };
+}
 
 -- nothing was done
-pub agrees_begun : (held : List Held) → ((c : ℕ) → held_by c held ≡ nothing) → Agrees held phases.Over []
-agrees_begun held none = record { same = λ c. sym (none c); fresh = λ c. refl; round = (tt, λ c some. absurd (no_some (held_by c held).key (ap (λ h. h.key) (none c)) some)) }
+pub agrees_begun : (held : List Held) → ((c : ℕ) → held_by c held ≡ nothing) → Agrees held before []
+agrees_begun held none = record {
+  same = λ c. sym (none c);
+  fresh = λ c. refl;
+  round = record {
+    stage = (tt, λ c some. absurd (no_some (held_by c held).key (ap (λ h. h.key) (none c)) some));
+    clocked = record { asked = tt; clock = refl; quiet = refl; told = refl; read = λ c below some. absurd (omega (arith, below)); over = λ e. refl };
+  };
+}
 
 -- whose connection has come
-pub come_is : (c key : ℕ) (phase : Phase) → key_come c phase ≡ Some key → (incoming : Incoming) × (phase ≡ phases.Come c incoming) × (incoming.key ≡ key)
-come_is c key phases.Rules e = cc
-come_is c key phases.Accept e = cc
-come_is c key (phases.Come d incoming) e = elim (cases_eq c d) [
-  | inl same ↦ (incoming, ap (λ k. phases.Come k incoming) (sym same), (let i : Some incoming.key ≡ Some key = sym (at_same c d (Some incoming.key) None same) ∙ e in cc))
+come_at_stage : (c key : ℕ) (stage : Stage) → key_at c stage ≡ Some key → (incoming : Incoming) × (stage ≡ stages.Come c incoming) × (incoming.key ≡ key)
+come_at_stage c key stages.Rules e = cc
+come_at_stage c key stages.Start e = cc
+come_at_stage c key stages.Accept e = cc
+come_at_stage c key (stages.Come d incoming) e = elim (cases_eq c d) [
+  | inl same ↦ (incoming, ap (λ k. stages.Come k incoming) (sym same), (let i : Some incoming.key ≡ Some key = sym (at_same c d (Some incoming.key) None same) ∙ e in cc))
   | inr ne ↦ let i : None ≡ Some key = sym (at_other c d (Some incoming.key) None ne) ∙ e in cc
 ]
-come_is c key phases.Read e = cc
-come_is c key phases.Moment e = cc
-come_is c key phases.Turn e = cc
-come_is c key (phases.Room from) e = cc
-come_is c key (phases.Handed d) e = cc
-come_is c key phases.Over e = cc
+come_at_stage c key stages.Read e = cc
+come_at_stage c key stages.Moment e = cc
+come_at_stage c key stages.Turn e = cc
+come_at_stage c key (stages.Room from) e = cc
+come_at_stage c key (stages.Handed d) e = cc
+come_at_stage c key stages.Over e = cc
+
+pub come_is : (c key : ℕ) (phase : Phase) → key_come c phase ≡ Some key → (incoming : Incoming) × (phase.stage ≡ stages.Come c incoming) × (incoming.key ≡ key)
+come_is c key phase e = come_at_stage c key phase.stage e

@@ -1,5 +1,5 @@
 -- What each client has, and how far the round has come, one operation later.
-use Rattle.std.proofs.Common.{◌≡◌, ◌≢◌, ◌<◌, ◌≤◌, ◌==◌, inl, inr, ℕ, suc, zero, Bool, true, false, List, [], ◌∷◌, length, set, Option, Some, None, refl, sym, subst, ap, ◌∙◌, arith}
+use Rattle.std.proofs.Common.{◌≡◌, ◌≢◌, ◌<◌, ◌≤◌, ◌==◌, inl, inr, ℕ, suc, zero, Bool, true, false, List, [], ◌∷◌, length, Option, Some, None, refl, sym, subst, ap, ◌∙◌, arith}
 use Rattle.std.specs.Prelude.{IsSome, ⊤, if◌then◌else◌}
 use Rattle.std.proofs.lemmas.Bool.{cases_eq, cases_lt, false≢true}
 use Rattle.std.proofs.lemmas.Bool.Decides.{nat_tests}
@@ -8,13 +8,14 @@ use Rattle.rs_core.specs.declared.links.Event.TheVariants.{Opened, Octets, Momen
 use Rattle.rs_core.specs.Drives.Steps.{Step, Happened, Begin, Busy, Offer, Memory, End, Replaced}
 use Rattle.rs_live.specs.declared.ports.Line.TheVariants as lines
 use Rattle.rs_live.specs.declared.live_link.Phase.{Phase}
-use Rattle.rs_live.specs.declared.live_link.Phase.TheVariants as phases
+use Rattle.rs_live.specs.declared.live_link.Stage.{Stage}
+use Rattle.rs_live.specs.declared.live_link.Stage.TheVariants as stages
 use Rattle.rs_live.specs.Calls.{Call, Waited, Accepted, Read, Wrote, Closed, Timed, Fetched, Printed, Logged}
 use Rattle.rs_live.specs.Operations.{Operation, Asked, Did}
 use Rattle.rs_live.specs.Keys.{come, or_else}
 use Rattle.rs_live.specs.Waiting.{where_one}
 use Rattle.rs_live.specs.Rounds.{IsTimed, IsTurned, HasRoom}
-use Rattle.rs_live.specs.Keeping.{Held, IsInPhase, IsPlain, change, had_by, held_by, nothing, with_live, with_rest}
+use Rattle.rs_live.specs.Keeping.{Held, IsAtStage, IsClocked, IsInPhase, IsPlain, change, had_by, held_by, nothing, with_live, with_rest}
 use Rattle.rs_live.proofs.Places.{holds, unchanged_past}
 
 -- a choice by two clients, where they are one
@@ -29,7 +30,7 @@ pub no_some : (key : Option ℕ) → key ≡ None → IsSome key → ⊥
 no_some key none some = false≢true (subst (λ k. IsSome k) none some)
 
 -- past the last client nothing is held
-past : (held : List Held) (c : ℕ) → length held ≤ c → held_by c held ≡ nothing
+pub past : (held : List Held) (c : ℕ) → length held ≤ c → held_by c held ≡ nothing
 past [] zero ge = refl
 past [] (suc c) ge = refl
 past (h ∷ held) zero ge = absurd (omega arith)
@@ -71,7 +72,7 @@ come_asked c (Accepted answer) operations is = refl
 come_asked c (Read key piece answer) operations is = refl
 come_asked c (Wrote key octets answer) operations is = refl
 come_asked c (Closed key) operations is = refl
-come_asked c (Timed seconds) operations is = refl
+come_asked c (Timed seconds) operations is = absurd is
 come_asked c (Fetched text answer) operations is = refl
 come_asked c (Printed (lines.Begin d)) operations is = refl
 come_asked c (Printed (lines.Busy d)) operations is = refl
@@ -88,7 +89,7 @@ timed_asked (Accepted answer) operations is h = h
 timed_asked (Read key piece answer) operations is h = h
 timed_asked (Wrote key octets answer) operations is h = h
 timed_asked (Closed key) operations is h = h
-timed_asked (Timed seconds) operations is h = h
+timed_asked (Timed seconds) operations is h = absurd is
 timed_asked (Fetched text answer) operations is h = h
 timed_asked (Printed line) operations is h = h
 timed_asked (Logged report) operations is h = h
@@ -99,21 +100,36 @@ turned_asked (Accepted answer) operations is h = h
 turned_asked (Read key piece answer) operations is h = h
 turned_asked (Wrote key octets answer) operations is h = h
 turned_asked (Closed key) operations is h = h
-turned_asked (Timed seconds) operations is h = h
+turned_asked (Timed seconds) operations is h = absurd is
 turned_asked (Fetched text answer) operations is h = h
 turned_asked (Printed line) operations is h = h
 turned_asked (Logged report) operations is h = h
 
+stage_asked : (held : List Held) (stage : Stage) (call : Call) (operations : List Operation) → IsPlain call → IsAtStage held stage operations → IsAtStage held stage (Asked call ∷ operations)
+stage_asked held stages.Rules call operations is h = h
+stage_asked held stages.Start call operations is h = h
+stage_asked held stages.Accept call operations is h = h
+stage_asked held (stages.Come c incoming) call operations is h = h
+stage_asked held stages.Read call operations is h = h
+stage_asked held stages.Moment call operations is h = h
+stage_asked held stages.Turn call operations is h = timed_asked call operations is h
+stage_asked held (stages.Room from) call operations is h = (turned_asked call operations is h.0, h.1)
+stage_asked held (stages.Handed c) call operations is h = (turned_asked call operations is h.0, h.1)
+stage_asked held stages.Over call operations is h = (turned_asked call operations is h.0, h.1)
+
+pub clocked_asked : (held : List Held) (phase : Phase) (call : Call) (operations : List Operation) → IsPlain call → IsClocked held phase operations → IsClocked held phase (Asked call ∷ operations)
+clocked_asked held phase (Waited answer) operations is h = absurd is
+clocked_asked held phase (Accepted answer) operations is h = record { asked = h.asked; clock = h.clock; quiet = h.quiet; told = h.told; read = h.read; over = h.over }
+clocked_asked held phase (Read key piece answer) operations is h = record { asked = h.asked; clock = h.clock; quiet = h.quiet; told = h.told; read = λ c below some. inr (h.read c below some); over = h.over }
+clocked_asked held phase (Wrote key octets answer) operations is h = record { asked = h.asked; clock = h.clock; quiet = h.quiet; told = h.told; read = h.read; over = h.over }
+clocked_asked held phase (Closed key) operations is h = record { asked = h.asked; clock = h.clock; quiet = h.quiet; told = h.told; read = h.read; over = h.over }
+clocked_asked held phase (Timed seconds) operations is h = absurd is
+clocked_asked held phase (Fetched text answer) operations is h = record { asked = h.asked; clock = h.clock; quiet = h.quiet; told = h.told; read = h.read; over = h.over }
+clocked_asked held phase (Printed line) operations is h = record { asked = h.asked; clock = h.clock; quiet = h.quiet; told = h.told; read = h.read; over = h.over }
+clocked_asked held phase (Logged report) operations is h = record { asked = h.asked; clock = h.clock; quiet = h.quiet; told = h.told; read = h.read; over = h.over }
+
 pub phase_asked : (held : List Held) (phase : Phase) (call : Call) (operations : List Operation) → IsPlain call → IsInPhase held phase operations → IsInPhase held phase (Asked call ∷ operations)
-phase_asked held phases.Rules call operations is h = h
-phase_asked held phases.Accept call operations is h = h
-phase_asked held (phases.Come c incoming) call operations is h = h
-phase_asked held phases.Read call operations is h = h
-phase_asked held phases.Moment call operations is h = h
-phase_asked held phases.Turn call operations is h = timed_asked call operations is h
-phase_asked held (phases.Room from) call operations is h = (turned_asked call operations is h.0, h.1)
-phase_asked held (phases.Handed c) call operations is h = (turned_asked call operations is h.0, h.1)
-phase_asked held phases.Over call operations is h = (turned_asked call operations is h.0, h.1)
+phase_asked held phase call operations is h = record { stage = stage_asked held phase.stage call operations is h.stage; clocked = clocked_asked held phase call operations is h.clocked }
 
 -- by this step the core is given no octets, no moment, no turn and no room
 abbrev pub IsQuiet : Step → Type 0
@@ -171,27 +187,75 @@ room_did d (Memory c) operations is h = h
 room_did d (End c) operations is h = h
 room_did d (Replaced answer) operations is h = h
 
+stage_did : (held : List Held) (stage : Stage) (step : Step) (operations : List Operation) → IsQuiet step → IsAtStage held stage operations → IsAtStage held stage (Did step ∷ operations)
+stage_did held stages.Rules step operations is h = h
+stage_did held stages.Start step operations is h = h
+stage_did held stages.Accept step operations is h = h
+stage_did held (stages.Come c incoming) step operations is h = h
+stage_did held stages.Read step operations is h = h
+stage_did held stages.Moment step operations is h = h
+stage_did held stages.Turn step operations is h = timed_did step operations is h
+stage_did held (stages.Room from) step operations is h = (turned_did step operations is h.0, λ c below some. room_did c step operations is (h.1 c below some))
+stage_did held (stages.Handed c) step operations is h = (turned_did step operations is h.0, λ c below some. room_did c step operations is (h.1 c below some))
+stage_did held stages.Over step operations is h = (turned_did step operations is h.0, λ c some. room_did c step operations is (h.1 c some))
+
+-- by this step the core is given no moment
+abbrev pub IsUntimed : Step → Type 0
+IsUntimed (Happened (Moment t) octets) = ⊥
+IsUntimed step = ⊤
+
+pub clocked_did : (held : List Held) (phase : Phase) (step : Step) (operations : List Operation) → IsUntimed step → IsClocked held phase operations → IsClocked held phase (Did step ∷ operations)
+clocked_did held phase (Happened (Opened c) octets) operations is h = record { asked = h.asked; clock = h.clock; quiet = h.quiet; told = h.told; read = h.read; over = h.over }
+clocked_did held phase (Happened (Octets c n) octets) operations is h = record { asked = h.asked; clock = h.clock; quiet = h.quiet; told = h.told; read = h.read; over = h.over }
+clocked_did held phase (Happened (Moment t) octets) operations is h = absurd is
+clocked_did held phase (Happened Turn octets) operations is h = record { asked = h.asked; clock = h.clock; quiet = h.quiet; told = h.told; read = h.read; over = h.over }
+clocked_did held phase (Happened (Room c n) octets) operations is h = record { asked = h.asked; clock = h.clock; quiet = h.quiet; told = h.told; read = h.read; over = h.over }
+clocked_did held phase (Happened (Lost c) octets) operations is h = record { asked = h.asked; clock = h.clock; quiet = h.quiet; told = h.told; read = h.read; over = h.over }
+clocked_did held phase (Happened Rules octets) operations is h = record { asked = h.asked; clock = h.clock; quiet = h.quiet; told = h.told; read = h.read; over = h.over }
+clocked_did held phase (Happened Stop octets) operations is h = record { asked = h.asked; clock = h.clock; quiet = h.quiet; told = h.told; read = h.read; over = h.over }
+clocked_did held phase (Begin d) operations is h = record { asked = h.asked; clock = h.clock; quiet = h.quiet; told = h.told; read = λ c below some. inr (h.read c below some); over = h.over }
+clocked_did held phase (Busy c) operations is h = record { asked = h.asked; clock = h.clock; quiet = h.quiet; told = h.told; read = h.read; over = h.over }
+clocked_did held phase (Offer c octets answer) operations is h = record { asked = h.asked; clock = h.clock; quiet = h.quiet; told = h.told; read = h.read; over = h.over }
+clocked_did held phase (Memory c) operations is h = record { asked = h.asked; clock = h.clock; quiet = h.quiet; told = h.told; read = h.read; over = h.over }
+clocked_did held phase (End c) operations is h = record { asked = h.asked; clock = h.clock; quiet = h.quiet; told = h.told; read = h.read; over = h.over }
+clocked_did held phase (Replaced answer) operations is h = record { asked = h.asked; clock = h.clock; quiet = h.quiet; told = h.told; read = h.read; over = h.over }
+
+quiet_untimed : (step : Step) → IsQuiet step → IsUntimed step
+quiet_untimed (Happened (Opened c) octets) is = tt
+quiet_untimed (Happened (Octets c n) octets) is = absurd is
+quiet_untimed (Happened (Moment t) octets) is = absurd is
+quiet_untimed (Happened Turn octets) is = absurd is
+quiet_untimed (Happened (Room c n) octets) is = absurd is
+quiet_untimed (Happened (Lost c) octets) is = tt
+quiet_untimed (Happened Rules octets) is = tt
+quiet_untimed (Happened Stop octets) is = tt
+quiet_untimed (Begin d) is = tt
+quiet_untimed (Busy c) is = tt
+quiet_untimed (Offer c octets answer) is = tt
+quiet_untimed (Memory c) is = tt
+quiet_untimed (End c) is = tt
+quiet_untimed (Replaced answer) is = tt
+
 pub phase_did : (held : List Held) (phase : Phase) (step : Step) (operations : List Operation) → IsQuiet step → IsInPhase held phase operations → IsInPhase held phase (Did step ∷ operations)
-phase_did held phases.Rules step operations is h = h
-phase_did held phases.Accept step operations is h = h
-phase_did held (phases.Come c incoming) step operations is h = h
-phase_did held phases.Read step operations is h = h
-phase_did held phases.Moment step operations is h = h
-phase_did held phases.Turn step operations is h = timed_did step operations is h
-phase_did held (phases.Room from) step operations is h = (turned_did step operations is h.0, λ c below some. room_did c step operations is (h.1 c below some))
-phase_did held (phases.Handed c) step operations is h = (turned_did step operations is h.0, λ c below some. room_did c step operations is (h.1 c below some))
-phase_did held phases.Over step operations is h = (turned_did step operations is h.0, λ c some. room_did c step operations is (h.1 c some))
+phase_did held phase step operations is h = record { stage = stage_did held phase.stage step operations is h.stage; clocked = clocked_did held phase step operations (quiet_untimed step is) h.clocked }
+
+stage_changed : (f : Held → Held) (held : List Held) (c : ℕ) (stage : Stage) (operations : List Operation) → (length held ≤ c → f nothing ≡ nothing) → KeepsNone f → IsAtStage held stage operations → IsAtStage (change c f held) stage operations
+stage_changed f held c stages.Rules operations none keeps h = h
+stage_changed f held c stages.Start operations none keeps h = h
+stage_changed f held c stages.Accept operations none keeps h = h
+stage_changed f held c (stages.Come d incoming) operations none keeps h = subst (λ n. d < n) (sym (length-set held c (f (held_by c held)))) h
+stage_changed f held c stages.Read operations none keeps h = h
+stage_changed f held c stages.Moment operations none keeps h = h
+stage_changed f held c stages.Turn operations none keeps h = h
+stage_changed f held c (stages.Room from) operations none keeps h = (h.0, λ d below some. h.1 d below (had f held c d none keeps some))
+stage_changed f held c (stages.Handed e) operations none keeps h = (h.0, λ d below some. h.1 d below (had f held c d none keeps some))
+stage_changed f held c stages.Over operations none keeps h = (h.0, λ d some. h.1 d (had f held c d none keeps some))
+
+pub clocked_changed : (f : Held → Held) (held : List Held) (c : ℕ) (phase : Phase) (operations : List Operation) → (length held ≤ c → f nothing ≡ nothing) → KeepsNone f → IsClocked held phase operations → IsClocked (change c f held) phase operations
+clocked_changed f held c phase operations none keeps h = record { asked = h.asked; clock = h.clock; quiet = h.quiet; told = h.told; read = λ d below some. h.read d below (had f held c d none keeps some); over = h.over }
 
 pub phase_changed : (f : Held → Held) (held : List Held) (c : ℕ) (phase : Phase) (operations : List Operation) → (length held ≤ c → f nothing ≡ nothing) → KeepsNone f → IsInPhase held phase operations → IsInPhase (change c f held) phase operations
-phase_changed f held c phases.Rules operations none keeps h = h
-phase_changed f held c phases.Accept operations none keeps h = h
-phase_changed f held c (phases.Come d incoming) operations none keeps h = subst (λ n. d < n) (sym (length-set held c (f (held_by c held)))) h
-phase_changed f held c phases.Read operations none keeps h = h
-phase_changed f held c phases.Moment operations none keeps h = h
-phase_changed f held c phases.Turn operations none keeps h = h
-phase_changed f held c (phases.Room from) operations none keeps h = (h.0, λ d below some. h.1 d below (had f held c d none keeps some))
-phase_changed f held c (phases.Handed e) operations none keeps h = (h.0, λ d below some. h.1 d below (had f held c d none keeps some))
-phase_changed f held c phases.Over operations none keeps h = (h.0, λ d some. h.1 d (had f held c d none keeps some))
+phase_changed f held c phase operations none keeps h = record { stage = stage_changed f held c phase.stage operations none keeps h.stage; clocked = clocked_changed f held c phase operations none keeps h.clocked }
 
 -- these operations change what one client has, and nothing else
 abbrev pub IsChange : (Held → Held) → ℕ → List Operation → List Operation → Type 0

@@ -9,16 +9,18 @@ use Rattle.rs_live.specs.declared.ports.PortFault.{PortFault}
 use Rattle.rs_live.specs.declared.ports.Line.TheVariants as lines
 use Rattle.rs_live.specs.declared.live_link.LiveLink.{LiveLink}
 use Rattle.rs_live.specs.declared.live_link.Phase.{Phase}
-use Rattle.rs_live.specs.declared.live_link.Phase.TheVariants as phases
+use Rattle.rs_live.specs.declared.live_link.Stage.{Stage}
+use Rattle.rs_live.specs.declared.live_link.Stage.TheVariants as stages
 use Rattle.rs_live.specs.Calls.{Call, Waited, Accepted, Read, Wrote, Closed, Timed, Printed, IsLastRead, IsGood, FindsLost, IsFailedAccept}
-use Rattle.rs_live.specs.Operations.{Operation, Asked, WroteTo, WroteRest, ClosedRest, Did, calls}
+use Rattle.rs_live.specs.Operations.{Operation, Asked, WroteTo, WroteRest, ClosedRest, Spared, Did, calls}
 use Rattle.rs_live.specs.Keys.{come, key_of}
 use Rattle.rs_live.specs.Waiting.{waiting, rest_key, rest}
 use Rattle.rs_live.specs.Sending.{taken, Writes, NoWrite, OneMore, Sent, Broke}
-use Rattle.rs_live.specs.Keeping.{Held, Agrees, IsInPhase, IsPlain, change, held_by, held_of, key_come, nothing, with_live, with_rest}
-use Rattle.rs_live.specs.Handled.{IsLossOf, IsNoLoss, AreHandled, Begun, Waits, Asks, Does, Opens, Refuses, TurnsAway, TurnsNoneAway, Hears, Times, Loses, Fails, Takes, Sends, Breaks, SendsRest, Drops, Closes, PassesOver, EndBy, By, EndByWrite, ByWrite, EndByWait, Has, AreKept, AreBroken, Keeps, Follows, On, Halts, Gives}
+use Rattle.rs_live.specs.Keeping.{Held, Agrees, IsAtStage, IsFairBy, IsInPhase, IsPlain, at, before, begun_at, change, given, held_by, held_of, key_at, key_come, nothing, passed, with_live, with_rest}
+use Rattle.rs_live.specs.Handled.{IsLossOf, IsNoLoss, AreHandled, Begun, Waits, Asks, Does, Opens, Refuses, TurnsAway, TurnsNoneAway, Hears, Spares, Times, Loses, Fails, Takes, Sends, Breaks, SendsRest, Drops, Closes, PassesOver, EndBy, By, EndByWrite, ByWrite, EndByWait, Has, AreKept, AreBroken, Keeps, IsRunning, Follows, On, Halts, Gives}
+use Rattle.rs_live.specs.Leaving.{LeavesPorts}
 use Rattle.rs_live.proofs.Changing.{at_same, ended, ended_same, no_some}
-use Rattle.rs_live.proofs.Agreeing.{agrees_asked, agrees_lost, agrees_end, agrees_offer, handed_more, agrees_wrote, taken_from, agrees_wrote_rest, taken_from_rest, agrees_closed, IsStill, agrees_still, agrees_phase, agrees_begin, agrees_begin_none, agrees_busy, agrees_busy_none, agrees_opened, agrees_stranger, agrees_octets, agrees_moment, agrees_turn, agrees_room, agrees_handed, agrees_over, settled, agrees_waited, agrees_begun, come_is}
+use Rattle.rs_live.proofs.Agreeing.{agrees_asked, agrees_lost, agrees_end, agrees_offer, handed_more, agrees_wrote, taken_from, agrees_wrote_rest, taken_from_rest, agrees_closed, IsStill, agrees_still, agrees_phase, agrees_begin, agrees_begin_none, agrees_busy, agrees_busy_none, agrees_opened, agrees_stranger, agrees_passed, agrees_read, agrees_octets, agrees_start, agrees_moment, fair_is, agrees_turn, agrees_room, agrees_handed, agrees_over, settled, agrees_waited, agrees_begun, come_is}
 use Rattle.rs_live.proofs.Places.{at_place, below_change, change_again, unchanged}
 
 -- the ports were asked one call more
@@ -61,13 +63,20 @@ ends asked Is held phase a b call m is plain h = more asked (AreKept held phase)
 pub end_alone : {P : Type 0} (asked : P → List Call → Type 0) (Is : Call → Type 0) (held : List Held) (phase : Phase) (p : P) → Has asked p (AreEndedBy Is held phase) → Has asked p (EndBy Is)
 end_alone asked Is held phase p h = so asked (AreEndedBy Is held phase) (EndBy Is) p (λ operations k. k.0) h
 
--- a wait begins a round
-pub waits : {P : Type 0} (asked : P → List Call → Type 0) (held : List Held) (a b : P) → AsksMore asked a (Waited (Ok tt)) b → Has asked a (AreKept held phases.Over) → Has asked b (AreKept held phases.Accept)
-waits asked held a b m h = more asked (AreKept held phases.Over) (AreKept held phases.Accept) a b (Waited (Ok tt)) m (λ operations k. (Waits operations (settled held operations k.1) k.0, agrees_waited held operations k.1)) h
+-- a wait begins a round: then the clock is asked, and the core said up to when no session ends
+pub waits : {P : Type 0} (asked : P → List Call → Type 0) (held : List Held) (w : Phase) (clock quiet : ℕ) (a m b : P) → AsksMore asked a (Waited (Ok tt)) m → AsksMore asked m (Timed clock) b → Has asked a (AreKept held (at stages.Over w)) → Has asked b (AreKept held (begun_at clock quiet w))
+waits asked held w clock quiet a m b first second h = record {
+  operations = Spared quiet ∷ Asked (Timed clock) ∷ Asked (Waited (Ok tt)) ∷ h.operations;
+  are = (
+    Spares quiet (Asked (Timed clock) ∷ Asked (Waited (Ok tt)) ∷ h.operations) (Asks (Timed clock) (Asked (Waited (Ok tt)) ∷ h.operations) tt (Waits h.operations (settled held w h.operations h.are.1) h.are.0)),
+    agrees_waited held w clock quiet h.operations h.are.1,
+  );
+  were = second (Waited (Ok tt) ∷ calls h.operations) (first (calls h.operations) h.were);
+}
 
 -- or fails
-pub breaks : {P : Type 0} (asked : P → List Call → Type 0) (held : List Held) (a b : P) (fault : PortFault) → AsksMore asked a (Waited (Err fault)) b → Has asked a (AreKept held phases.Over) → Has asked b EndByWait
-breaks asked held a b fault m h = more asked (AreKept held phases.Over) EndByWait a b (Waited (Err fault)) m (λ operations k. (By (Waited (Err fault)) operations refl k.0, settled held operations k.1)) h
+pub breaks : {P : Type 0} (asked : P → List Call → Type 0) (held : List Held) (w : Phase) (a b : P) (fault : PortFault) → AsksMore asked a (Waited (Err fault)) b → Has asked a (AreKept held (at stages.Over w)) → Has asked b EndByWait
+breaks asked held w a b fault m h = more asked (AreKept held (at stages.Over w)) EndByWait a b (Waited (Err fault)) m (λ operations k. (By (Waited (Err fault)) operations refl k.0, settled held w operations k.1)) h
 
 lost_so : (held : List Held) (phase : Phase) (c key : ℕ) (step : Step) (operations : List Operation) → IsLossOf c step → Agrees held phase operations → Agrees (change c (with_live None []) held) phase (Did step ∷ Asked (Closed key) ∷ Asked (Printed (lines.Lost c)) ∷ operations)
 lost_so held phase c key step operations is h = agrees_lost held phase c step (Asked (Closed key) ∷ Asked (Printed (lines.Lost c)) ∷ operations) is
@@ -91,17 +100,17 @@ pub does : {P : Type 0} (asked : P → List Call → Type 0) (held : List Held) 
 does asked held phase step p other is h = did asked (AreKept held phase) (AreKept held phase) p step (λ operations k. (Does step operations other k.0, agrees_still held phase step operations is k.1)) h
 
 -- the core begins with the connection that has come
-pub begins : {P : Type 0} (asked : P → List Call → Type 0) (held : List Held) (c : ℕ) (incoming : Incoming) (p : P) → Has asked p (AreKept held (phases.Come c incoming)) → Has asked p (λ operations. AreKept (change c (with_live (Some incoming.key) []) held) phases.Accept (Did (Begin c) ∷ operations))
-begins asked held c incoming p h = did asked (AreKept held (phases.Come c incoming)) (AreKept (change c (with_live (Some incoming.key) []) held) phases.Accept) p (Begin c) (λ operations k. (Does (Begin c) operations tt k.0, agrees_begin held c incoming operations k.1)) h
+pub begins : {P : Type 0} (asked : P → List Call → Type 0) (held : List Held) (w : Phase) (c : ℕ) (incoming : Incoming) (p : P) → Has asked p (AreKept held (at (stages.Come c incoming) w)) → Has asked p (λ operations. AreKept (change c (with_live (Some incoming.key) []) held) (at stages.Accept w) (Did (Begin c) ∷ operations))
+begins asked held w c incoming p h = did asked (AreKept held (at (stages.Come c incoming) w)) (AreKept (change c (with_live (Some incoming.key) []) held) (at stages.Accept w)) p (Begin c) (λ operations k. (Does (Begin c) operations tt k.0, agrees_begin held w c incoming operations k.1)) h
 
 -- none has come
 pub begins_none : {P : Type 0} (asked : P → List Call → Type 0) (held : List Held) (phase : Phase) (c : ℕ) (p : P) → key_come c phase ≡ None → Has asked p (AreKept held phase) → Has asked p (λ operations. AreKept held phase (Did (Begin c) ∷ operations))
 begins_none asked held phase c p none h = did asked (AreKept held phase) (AreKept held phase) p (Begin c) (λ operations k. (Does (Begin c) operations tt k.0, agrees_begin_none held phase c operations none k.1)) h
 
 -- the connection that has come is a second one, and closed
-pub turns_away : {P : Type 0} (asked : P → List Call → Type 0) (held : List Held) (phase : Phase) (c key : ℕ) (a b : P) → key_come c phase ≡ Some key → AsksTwo asked a (Printed (lines.Busy c)) (Closed key) b → Has asked a (AreKept held phase) → Has asked b (λ operations. AreKept held phases.Accept (Did (Busy c) ∷ operations))
-turns_away asked held phase c key a b come m h = let w = come_is c key phase come in two_more asked (AreKept held phase) (λ operations. AreKept held phases.Accept (Did (Busy c) ∷ operations)) a b (Printed (lines.Busy c)) (Closed key) m
-    (λ operations k. (TurnsAway c key operations (k.1.fresh c ∙ come) k.0, agrees_busy held c w.0 (Asked (Closed key) ∷ Asked (Printed (lines.Busy c)) ∷ operations) (subst (λ p. Agrees held p (Asked (Closed key) ∷ Asked (Printed (lines.Busy c)) ∷ operations)) w.1 (agrees_asked held phase (Closed key) (Asked (Printed (lines.Busy c)) ∷ operations) tt (agrees_asked held phase (Printed (lines.Busy c)) operations tt k.1))))) h
+pub turns_away : {P : Type 0} (asked : P → List Call → Type 0) (held : List Held) (phase : Phase) (c key : ℕ) (a b : P) → key_come c phase ≡ Some key → AsksTwo asked a (Printed (lines.Busy c)) (Closed key) b → Has asked a (AreKept held phase) → Has asked b (λ operations. AreKept held (at stages.Accept phase) (Did (Busy c) ∷ operations))
+turns_away asked held phase c key a b come m h = let w = come_is c key phase come in two_more asked (AreKept held phase) (λ operations. AreKept held (at stages.Accept phase) (Did (Busy c) ∷ operations)) a b (Printed (lines.Busy c)) (Closed key) m
+    (λ operations k. (TurnsAway c key operations (k.1.fresh c ∙ come) k.0, agrees_busy held phase c w.0 (Asked (Closed key) ∷ Asked (Printed (lines.Busy c)) ∷ operations) (subst (λ s. Agrees held (at s phase) (Asked (Closed key) ∷ Asked (Printed (lines.Busy c)) ∷ operations)) w.1 (agrees_asked held phase (Closed key) (Asked (Printed (lines.Busy c)) ∷ operations) tt (agrees_asked held phase (Printed (lines.Busy c)) operations tt k.1))))) h
 
 -- none has come
 pub turns_none_away : {P : Type 0} (asked : P → List Call → Type 0) (held : List Held) (phase : Phase) (c : ℕ) (p : P) → key_come c phase ≡ None → Has asked p (AreKept held phase) → Has asked p (λ operations. AreKept held phase (Did (Busy c) ∷ operations))
@@ -112,14 +121,28 @@ pub ends_session : {P : Type 0} (asked : P → List Call → Type 0) (held : Lis
 ends_session asked held phase c p h = did asked (AreKept held phase) (AreKept (change c ended held) phase) p (End c) (λ operations k. (Does (End c) operations tt k.0, agrees_end held phase c operations k.1)) h
 
 -- a connection that was just accepted
-pub opens : {P : Type 0} (asked : P → List Call → Type 0) (held : List Held) (c : ℕ) (incoming : Incoming) (answer : Option Incoming) (a b : P) → answer ≡ Some incoming → c < length held → AsksMore asked a (Accepted (Ok answer)) b → Has asked a (AreKept held phases.Accept) → Has asked b (λ operations. AreKept held (phases.Come c incoming) (Did (Happened (Opened c) []) ∷ operations))
-opens asked held c incoming answer a b is below m h = more asked (AreKept held phases.Accept) (λ operations. AreKept held (phases.Come c incoming) (Did (Happened (Opened c) []) ∷ operations)) a b (Accepted (Ok (Some incoming))) (subst (λ r. AsksMore asked a (Accepted (Ok r)) b) is m)
-    (λ operations k. (Opens c [] incoming operations k.0, agrees_opened held c [] incoming operations below k.1)) h
+pub opens : {P : Type 0} (asked : P → List Call → Type 0) (held : List Held) (w : Phase) (c : ℕ) (incoming : Incoming) (answer : Option Incoming) (a b : P) → answer ≡ Some incoming → c < length held → AsksMore asked a (Accepted (Ok answer)) b → Has asked a (AreKept held (at stages.Accept w)) → Has asked b (λ operations. AreKept held (at (stages.Come c incoming) w) (Did (Happened (Opened c) []) ∷ operations))
+opens asked held w c incoming answer a b is below m h = more asked (AreKept held (at stages.Accept w)) (λ operations. AreKept held (at (stages.Come c incoming) w) (Did (Happened (Opened c) []) ∷ operations)) a b (Accepted (Ok (Some incoming))) (subst (λ r. AsksMore asked a (Accepted (Ok r)) b) is m)
+    (λ operations k. (Opens c [] incoming operations k.0, agrees_opened held w c [] incoming operations below k.1)) h
+
+-- a client without a connection is passed over
+pub passes_by : {P : Type 0} (asked : P → List Call → Type 0) (held : List Held) (w : Phase) (c : ℕ) (p : P) → (held_by c held).key ≡ None → Has asked p (AreKept held (at stages.Read w)) → Has asked p (AreKept held (at stages.Read (passed c w)))
+passes_by asked held w c p none h = so asked (AreKept held (at stages.Read w)) (AreKept held (at stages.Read (passed c w))) p (λ operations k. (k.0, agrees_passed held w c operations none k.1)) h
+
+-- nothing was there to read
+pub reads_none : {P : Type 0} (asked : P → List Call → Type 0) (held : List Held) (w : Phase) (c key : ℕ) (answer : Option ℕ) (piece : List ℕ) (a b : P) → (held_by c held).key ≡ Some key → answer ≡ None → AsksMore asked a (Read key piece (Ok answer)) b → Has asked a (AreKept held (at stages.Read w)) → Has asked b (AreKept held (at stages.Read (passed c w)))
+reads_none asked held w c key answer piece a b of none m h = more asked (AreKept held (at stages.Read w)) (AreKept held (at stages.Read (passed c w))) a b (Read key piece (Ok None)) (subst (λ r. AsksMore asked a (Read key piece (Ok r)) b) none m)
+    (λ operations k. (Asks (Read key piece (Ok None)) operations refl k.0, agrees_read held w c key piece (Ok None) operations of k.1)) h
 
 -- what was just read
-pub hears : {P : Type 0} (asked : P → List Call → Type 0) (held : List Held) (c key count : ℕ) (answer : Option ℕ) (piece : List ℕ) (a b : P) → (held_by c held).key ≡ Some key → count ≢ 0 → answer ≡ Some count → AsksMore asked a (Read key piece (Ok answer)) b → Has asked a (AreKept held phases.Read) → Has asked b (λ operations. AreKept held phases.Read (Did (Happened (Octets c count) (take count piece)) ∷ operations))
-hears asked held c key count answer piece a b of some is m h = more asked (AreKept held phases.Read) (λ operations. AreKept held phases.Read (Did (Happened (Octets c count) (take count piece)) ∷ operations)) a b (Read key piece (Ok (Some count))) (subst (λ r. AsksMore asked a (Read key piece (Ok r)) b) is m)
-    (λ operations k. (Hears c key count piece operations (ap (λ h. h.key) (k.1.same c) ∙ of) some k.0, agrees_octets held c count (take count piece) (Asked (Read key piece (Ok (Some count))) ∷ operations) (agrees_asked held phases.Read (Read key piece (Ok (Some count))) operations tt k.1))) h
+pub hears : {P : Type 0} (asked : P → List Call → Type 0) (held : List Held) (w : Phase) (c key count : ℕ) (answer : Option ℕ) (piece : List ℕ) (a b : P) → (held_by c held).key ≡ Some key → count ≢ 0 → answer ≡ Some count → AsksMore asked a (Read key piece (Ok answer)) b → Has asked a (AreKept held (at stages.Read w)) → Has asked b (λ operations. AreKept held (at stages.Read (passed c w)) (Did (Happened (Octets c count) (take count piece)) ∷ operations))
+hears asked held w c key count answer piece a b of some is m h = more asked (AreKept held (at stages.Read w)) (λ operations. AreKept held (at stages.Read (passed c w)) (Did (Happened (Octets c count) (take count piece)) ∷ operations)) a b (Read key piece (Ok (Some count))) (subst (λ r. AsksMore asked a (Read key piece (Ok r)) b) is m)
+    (λ operations k. (Hears c key count piece operations (ap (λ h. h.key) (k.1.same c) ∙ of) some k.0, agrees_octets held (passed c w) c count (take count piece) (Asked (Read key piece (Ok (Some count))) ∷ operations) (agrees_read held w c key piece (Ok (Some count)) operations of k.1))) h
+
+-- by a read a connection was found lost
+pub reads_last : {P : Type 0} (asked : P → List Call → Type 0) (held : List Held) (w : Phase) (c key : ℕ) (piece : List ℕ) (answer : Result (Option ℕ) PortFault) (a b : P) → (held_by c held).key ≡ Some key → IsLastRead answer → AsksMore asked a (Read key piece answer) b → Has asked a (AreKept held (at stages.Read w)) → Has asked b (AreEndedBy (FindsLost key) held (at stages.Read (passed c w)))
+reads_last asked held w c key piece answer a b of last m h = more asked (AreKept held (at stages.Read w)) (AreEndedBy (FindsLost key) held (at stages.Read (passed c w))) a b (Read key piece answer) m
+    (λ operations k. (By (Read key piece answer) operations (refl, last) k.0, agrees_read held w c key piece answer operations of k.1)) h
 
 -- what holds where a result is an error, in other words
 pub so_err : {T E : Type 0} (Is So : E → Type 0) (result : Result T E) → ((fault : E) → Is fault → So fault) → IfErr result Is → IfErr result So
@@ -130,35 +153,38 @@ so_err Is So (Err fault) f h = f fault h
 pub is_last : (answer : Option ℕ) (count : ℕ) → answer ≡ Some count → count ≡ 0 → IsLastRead (Ok answer)
 is_last answer count is none = subst (λ r. IsLastRead (Ok r)) (sym is) none
 
--- what the clock has just answered
-pub times : {P : Type 0} (asked : P → List Call → Type 0) (held : List Held) (seconds : ℕ) (a b : P) → AsksMore asked a (Timed seconds) b → Has asked a (AreKept held phases.Moment) → Has asked b (λ operations. AreKept held phases.Turn (Did (Happened (Moment seconds) []) ∷ operations))
-times asked held seconds a b m h = more asked (AreKept held phases.Moment) (λ operations. AreKept held phases.Turn (Did (Happened (Moment seconds) []) ∷ operations)) a b (Timed seconds) m
-    (λ operations k. (Times seconds [] operations k.0, agrees_moment held seconds [] (Asked (Timed seconds) ∷ operations) (agrees_asked held phases.Moment (Timed seconds) operations tt k.1))) h
+-- the first moment of a round, a fair one
+pub starts : {P : Type 0} (asked : P → List Call → Type 0) (held : List Held) (w : Phase) (t : ℕ) (p : P) → IsFairBy (length held) w t → Has asked p (AreKept held (at stages.Start w)) → Has asked p (λ operations. AreKept held (given stages.Accept t w) (Did (Happened (Moment t) []) ∷ operations))
+starts asked held w t p fair h = did asked (AreKept held (at stages.Start w)) (AreKept held (given stages.Accept t w)) p (Happened (Moment t) []) (λ operations k. (Times t [] operations (fair_is held (at stages.Start w) t operations fair k.1) k.0, agrees_start held w t [] operations k.1)) h
+
+-- and a later one
+pub times : {P : Type 0} (asked : P → List Call → Type 0) (held : List Held) (w : Phase) (t : ℕ) (p : P) → IsFairBy (length held) w t → Has asked p (AreKept held (at stages.Moment w)) → Has asked p (λ operations. AreKept held (given stages.Turn t w) (Did (Happened (Moment t) []) ∷ operations))
+times asked held w t p fair h = did asked (AreKept held (at stages.Moment w)) (AreKept held (given stages.Turn t w)) p (Happened (Moment t) []) (λ operations k. (Times t [] operations (fair_is held (at stages.Moment w) t operations fair k.1) k.0, agrees_moment held w t [] operations k.1)) h
 
 -- a turn
-pub turns : {P : Type 0} (asked : P → List Call → Type 0) (held : List Held) (p : P) → Has asked p (AreKept held phases.Turn) → Has asked p (λ operations. AreKept held (phases.Room 0) (Did (Happened Turn []) ∷ operations))
-turns asked held p h = did asked (AreKept held phases.Turn) (AreKept held (phases.Room 0)) p (Happened Turn []) (λ operations k. (Does (Happened Turn []) operations tt k.0, agrees_turn held [] operations k.1)) h
+pub turns : {P : Type 0} (asked : P → List Call → Type 0) (held : List Held) (w : Phase) (p : P) → Has asked p (AreKept held (at stages.Turn w)) → Has asked p (λ operations. AreKept held (at (stages.Room 0) w) (Did (Happened Turn []) ∷ operations))
+turns asked held w p h = did asked (AreKept held (at stages.Turn w)) (AreKept held (at (stages.Room 0) w)) p (Happened Turn []) (λ operations k. (Does (Happened Turn []) operations tt k.0, agrees_turn held w [] operations k.1)) h
 
 -- room
-pub gives_room : {P : Type 0} (asked : P → List Call → Type 0) (held : List Held) (from c : ℕ) (p : P) → ((d : ℕ) → from ≤ d → d < c → (held_by d held).key ≡ None) → Has asked p (AreKept held (phases.Room from)) → Has asked p (λ operations. AreKept held (phases.Handed c) (Did (Happened (Room c 18446744073709551615) []) ∷ operations))
-gives_room asked held from c p none h = did asked (AreKept held (phases.Room from)) (AreKept held (phases.Handed c)) p (Happened (Room c 18446744073709551615) []) (λ operations k. (Does (Happened (Room c 18446744073709551615) []) operations tt k.0, agrees_room held from c [] operations none k.1)) h
+pub gives_room : {P : Type 0} (asked : P → List Call → Type 0) (held : List Held) (w : Phase) (from c : ℕ) (p : P) → ((d : ℕ) → from ≤ d → d < c → (held_by d held).key ≡ None) → Has asked p (AreKept held (at (stages.Room from) w)) → Has asked p (λ operations. AreKept held (at (stages.Handed c) w) (Did (Happened (Room c 18446744073709551615) []) ∷ operations))
+gives_room asked held w from c p none h = did asked (AreKept held (at (stages.Room from) w)) (AreKept held (at (stages.Handed c) w)) p (Happened (Room c 18446744073709551615) []) (λ operations k. (Does (Happened (Room c 18446744073709551615) []) operations tt k.0, agrees_room held w from c [] operations none k.1)) h
 
 -- a connection that was just accepted is a stranger's, and closed
-pub refuses : {P : Type 0} (asked : P → List Call → Type 0) (held : List Held) (incoming : Incoming) (answer : Option Incoming) (a m b : P) → answer ≡ Some incoming → AsksMore asked a (Accepted (Ok answer)) m → AsksTwo asked m (Printed lines.Stranger) (Closed incoming.key) b → Has asked a (AreKept held phases.Accept) → Has asked b (AreKept held phases.Accept)
-refuses asked held incoming answer a m b is first second h = record {
+pub refuses : {P : Type 0} (asked : P → List Call → Type 0) (held : List Held) (w : Phase) (incoming : Incoming) (answer : Option Incoming) (a m b : P) → answer ≡ Some incoming → AsksMore asked a (Accepted (Ok answer)) m → AsksTwo asked m (Printed lines.Stranger) (Closed incoming.key) b → Has asked a (AreKept held (at stages.Accept w)) → Has asked b (AreKept held (at stages.Accept w))
+refuses asked held w incoming answer a m b is first second h = record {
   operations = Asked (Closed incoming.key) ∷ Asked (Printed lines.Stranger) ∷ Asked (Accepted (Ok (Some incoming))) ∷ h.operations;
-  are = (Refuses incoming h.operations h.are.0, agrees_asked held phases.Accept (Closed incoming.key) _ tt (agrees_stranger held phases.Accept (Asked (Accepted (Ok (Some incoming))) ∷ h.operations) (agrees_asked held phases.Accept (Accepted (Ok (Some incoming))) h.operations tt h.are.1)));
+  are = (Refuses incoming h.operations h.are.0, agrees_asked held (at stages.Accept w) (Closed incoming.key) _ tt (agrees_stranger held (at stages.Accept w) (Asked (Accepted (Ok (Some incoming))) ∷ h.operations) (agrees_asked held (at stages.Accept w) (Accepted (Ok (Some incoming))) h.operations tt h.are.1)));
   were = second (Accepted (Ok (Some incoming)) ∷ calls h.operations) (subst (λ r. AsksMore asked a (Accepted (Ok r)) m) is first (calls h.operations) h.were);
 }
 
 -- whose connection has come
-pub come_at : (phase : Phase) (c : ℕ) (incoming : Incoming) → phase ≡ phases.Come c incoming → key_come c phase ≡ Some incoming.key
-come_at phase c incoming e = ap (λ p. key_come c p) e ∙ at_same c c (Some incoming.key) None refl
+pub come_at : (phase : Phase) (c : ℕ) (incoming : Incoming) → phase.stage ≡ stages.Come c incoming → key_come c phase ≡ Some incoming.key
+come_at phase c incoming e = ap (λ s. key_come c (at s phase)) e ∙ at_same c c (Some incoming.key) None refl
 
 -- so one that the core has passed over
-pub passes_over : {P : Type 0} (asked : P → List Call → Type 0) (held : List Held) (phase : Phase) (c key : ℕ) (a b : P) → key_come c phase ≡ Some key → AsksTwo asked a (Printed lines.Stranger) (Closed key) b → Has asked a (AreKept held phase) → Has asked b (AreKept held phases.Accept)
-passes_over asked held phase c key a b come m h = two_more asked (AreKept held phase) (AreKept held phases.Accept) a b (Printed lines.Stranger) (Closed key) m
-    (λ operations k. (PassesOver c key operations (k.1.fresh c ∙ come) k.0, agrees_asked held phases.Accept (Closed key) (Asked (Printed lines.Stranger) ∷ operations) tt (agrees_stranger held phase operations k.1))) h
+pub passes_over : {P : Type 0} (asked : P → List Call → Type 0) (held : List Held) (phase : Phase) (c key : ℕ) (a b : P) → key_come c phase ≡ Some key → AsksTwo asked a (Printed lines.Stranger) (Closed key) b → Has asked a (AreKept held phase) → Has asked b (AreKept held (at stages.Accept phase))
+passes_over asked held phase c key a b come m h = two_more asked (AreKept held phase) (AreKept held (at stages.Accept phase)) a b (Printed lines.Stranger) (Closed key) m
+    (λ operations k. (PassesOver c key operations (k.1.fresh c ∙ come) k.0, agrees_asked held (at stages.Accept phase) (Closed key) (Asked (Printed lines.Stranger) ∷ operations) tt (agrees_stranger held phase operations k.1))) h
 
 -- an offer takes some octets
 pub takes : {P : Type 0} (asked : P → List Call → Type 0) (held : List Held) (phase : Phase) (c n : ℕ) (octets : List ℕ) (p : P) → (length held ≤ c → take n octets ≡ []) → ((held_by c held).key ≡ None → n ≡ 0) → Has asked p (AreKept held phase) → Has asked p (λ operations. AreKept (change c (handed_more (take n octets)) held) phase (Did (Offer c octets (Some n)) ∷ operations))
@@ -173,10 +199,10 @@ pub record Done (cs : List Call) (Is : List Operation → Type 0) : Type 0 where
 
 -- each write of a connection is an operation for its client
 carried : (D : ℕ → List ℕ → Result (Option ℕ) PortFault → List Operation → List Operation) → ((k : ℕ) (octets : List ℕ) (answer : Result (Option ℕ) PortFault) (operations : List Operation) → calls (D k octets answer operations) ≡ Wrote k octets answer ∷ calls operations) →
-    (Is : List ℕ → List Operation → Type 0) (key : Option ℕ) (before : List Call) (first : List ℕ) → ((k : ℕ) (answer : Result (Option ℕ) PortFault) (operations : List Operation) (waits : List ℕ) → key ≡ Some k → IsOk answer → Is waits operations → Is (drop (taken answer) waits) (D k waits answer operations)) →
-    (cs : List Call) (waits : List ℕ) → Writes key before first cs waits → Done before (Is first) → Done cs (Is waits)
-carried D same Is key before first step _ _ NoWrite h = h
-carried D same Is key before first step _ _ (OneMore k answer cs waits e ok w) h = let d = carried D same Is key before first step cs waits w h in record {
+    (Is : List ℕ → List Operation → Type 0) (key : Option ℕ) (start : List Call) (first : List ℕ) → ((k : ℕ) (answer : Result (Option ℕ) PortFault) (operations : List Operation) (waits : List ℕ) → key ≡ Some k → IsOk answer → Is waits operations → Is (drop (taken answer) waits) (D k waits answer operations)) →
+    (cs : List Call) (waits : List ℕ) → Writes key start first cs waits → Done start (Is first) → Done cs (Is waits)
+carried D same Is key start first step _ _ NoWrite h = h
+carried D same Is key start first step _ _ (OneMore k answer cs waits e ok w) h = let d = carried D same Is key start first step cs waits w h in record {
   operations = D k waits answer d.operations;
   same = same k waits answer d.operations ∙ ap (λ x. Wrote k waits answer ∷ x) d.same;
   are = step k answer d.operations waits e ok d.are;
@@ -349,21 +375,26 @@ drops asked held phase c k key now_key first now a m b was e o broke more none e
 pub goes_on : {P : Type 0} (asked : P → List Call → Type 0) (held : List Held) (phase next : Phase) (p : P) → ((c : ℕ) → key_come c phase ≡ key_come c next) → ((operations : List Operation) → IsInPhase held phase operations → IsInPhase held next operations) → Has asked p (AreKept held phase) → Has asked p (AreKept held next)
 goes_on asked held phase next p same is h = so asked (AreKept held phase) (AreKept held next) p (λ operations k. (k.0, agrees_phase held phase next operations same (is operations k.1.round) k.1)) h
 
+-- from a stage of which nothing is known but how the round stands
+pub goes_to : {P : Type 0} (asked : P → List Call → Type 0) (held : List Held) (from next : Stage) (w : Phase) (p : P) → ((c : ℕ) → key_at c from ≡ key_at c next) → ((operations : List Operation) → IsAtStage held from operations → IsAtStage held next operations) → (next ≡ stages.Over → ⊥) → Has asked p (AreKept held (at from w)) → Has asked p (AreKept held (at next w))
+goes_to asked held from next w p same is not h = goes_on asked held (at from w) (at next w) p same
+    (λ operations k. record { stage = is operations k.stage; clocked = let c = k.clocked in record { asked = c.asked; clock = c.clock; quiet = c.quiet; told = c.told; read = c.read; over = λ e. absurd (not e) } }) h
+
 -- nothing was asked
 pub unasked : {P : Type 0} (asked : P → List Call → Type 0) (p : P) → asked p [] → Has asked p (λ operations. operations ≡ [])
 unasked asked p h = record { operations = []; are = refl; were = h }
 
-pub begun : {P : Type 0} (asked : P → List Call → Type 0) (held : List Held) (p : P) → ((c : ℕ) → held_by c held ≡ nothing) → asked p [] → Has asked p (AreKept held phases.Over)
+pub begun : {P : Type 0} (asked : P → List Call → Type 0) (held : List Held) (p : P) → ((c : ℕ) → held_by c held ≡ nothing) → asked p [] → Has asked p (AreKept held before)
 begun asked held p none h = record { operations = []; are = (Begun, agrees_begun held none); were = h }
 
--- what a link in a phase keeps
-pub at_phase : {P : Type 0} (asked : P → List Call → Type 0) (link : LiveLink P) (phase : Phase) → link.phase ≡ phase → Keeps asked link → Has asked link.ports.now (AreKept (held_of link.connections.now.items) phase)
-at_phase asked link phase e h = subst (λ p. Has asked link.ports.now (AreKept (held_of link.connections.now.items) p)) e h
+-- what a link at a stage keeps
+pub at_phase : {P : Type 0} (asked : P → List Call → Type 0) (link : LiveLink P) (stage : Stage) → link.phase.stage ≡ stage → Keeps asked link → Has asked link.ports.now (AreKept (held_of link.connections.now.items) (at stage link.phase))
+at_phase asked link stage e h = subst (λ s. Has asked link.ports.now (AreKept (held_of link.connections.now.items) (at s link.phase))) e h
 
 -- a step of a link that has not failed, with these held, in this phase
 pub follows : {P : Type 0} (asked : P → List Call → Type 0) (step : Step) (link : LiveLink P) (has_failed : Bool) (held : List Held) (phase : Phase) → has_failed ≡ false → held_of link.connections.now.items ≡ held → link.phase ≡ phase → Has asked link.ports.now (λ operations. AreKept held phase (Did step ∷ operations)) → Follows asked step link has_failed
-follows asked step link has_failed held phase fine same at h =
-    subst (λ b. Follows asked step link b) (sym fine) (On (subst (λ ks. Has asked link.ports.now (λ operations. AreKept ks link.phase (Did step ∷ operations))) (sym same) (subst (λ p. Has asked link.ports.now (λ operations. AreKept held p (Did step ∷ operations))) (sym at) h)))
+follows asked step link has_failed held phase fine same is h =
+    subst (λ b. Follows asked step link b) (sym fine) (On (subst (λ ks. Has asked link.ports.now (λ operations. AreKept ks link.phase (Did step ∷ operations))) (sym same) (subst (λ p. Has asked link.ports.now (λ operations. AreKept held p (Did step ∷ operations))) (sym is) h)))
 
 -- no connection can be accepted any more
 pub halts : {P : Type 0} (asked : P → List Call → Type 0) (piece : List ℕ) (link : LiveLink P) → link.has_failed ≡ true → Has asked link.ports.now (EndBy IsFailedAccept) → Gives asked Stop piece link
@@ -371,20 +402,24 @@ halts asked piece link e h text = subst (λ b. Follows asked (Happened Stop []) 
 
 -- with these held too
 pub kept_at : {P : Type 0} (asked : P → List Call → Type 0) (link : LiveLink P) (held : List Held) (phase : Phase) (p : P) → held_of link.connections.now.items ≡ held → link.phase ≡ phase → link.ports.now ≡ p → Keeps asked link → Has asked p (AreKept held phase)
-kept_at asked link held phase p same at where_to h = subst (λ q. Has asked q (AreKept held phase)) where_to (subst (λ ks. Has asked link.ports.now (AreKept ks phase)) same (at_phase asked link phase at h))
+kept_at asked link held phase p same is where_to h = subst (λ q. Has asked q (AreKept held phase)) where_to (subst (λ ks. Has asked link.ports.now (AreKept ks phase)) same (subst (λ q. Has asked link.ports.now (AreKept (held_of link.connections.now.items) q)) is h))
 
 -- so of a link that keeps this
 pub keeps_at : {P : Type 0} (asked : P → List Call → Type 0) (link : LiveLink P) (held : List Held) (phase : Phase) (p : P) → held_of link.connections.now.items ≡ held → link.phase ≡ phase → link.ports.now ≡ p → Has asked p (AreKept held phase) → Keeps asked link
-keeps_at asked link held phase p same at where_to h = subst (λ ks. Has asked link.ports.now (AreKept ks link.phase)) (sym same) (subst (λ q. Has asked link.ports.now (AreKept held q)) (sym at) (subst (λ q. Has asked q (AreKept held phase)) (sym where_to) h))
+keeps_at asked link held phase p same is where_to h = subst (λ ks. Has asked link.ports.now (AreKept ks link.phase)) (sym same) (subst (λ q. Has asked link.ports.now (AreKept held q)) (sym is) (subst (λ q. Has asked q (AreKept held phase)) (sym where_to) h))
+
+-- so of a link whose ports were asked no more
+pub left_running : {P : Type 0} (asked : P → List Call → Type 0) (old new : LiveLink P) → LeavesPorts old new → IsRunning asked old → IsRunning asked new
+left_running asked old new left h = (left.failed ∙ h.0, keeps_at asked new (held_of old.connections.now.items) old.phase old.ports.now left.held left.phase left.unasked h.1)
 
 -- a step of a link whose ports were asked no more
 pub follows_at : {P : Type 0} (asked : P → List Call → Type 0) (step : Step) (link : LiveLink P) (has_failed : Bool) (held : List Held) (phase : Phase) (p : P) → has_failed ≡ false → held_of link.connections.now.items ≡ held → link.phase ≡ phase → link.ports.now ≡ p → Has asked p (λ operations. AreKept held phase (Did step ∷ operations)) → Follows asked step link has_failed
-follows_at asked step link has_failed held phase p fine same at where_to h = follows asked step link has_failed held phase fine same at (subst (λ q. Has asked q (λ operations. AreKept held phase (Did step ∷ operations))) (sym where_to) h)
+follows_at asked step link has_failed held phase p fine same is where_to h = follows asked step link has_failed held phase fine same is (subst (λ q. Has asked q (λ operations. AreKept held phase (Did step ∷ operations))) (sym where_to) h)
 
 -- what a client's connection was handed is written; the next client's turn comes
-pub leaves : {P : Type 0} (asked : P → List Call → Type 0) (held : List Held) (c from : ℕ) (p : P) → from ≤ c + 1 → Has asked p (AreKept held (phases.Handed c)) → Has asked p (AreKept held (phases.Room from))
-leaves asked held c from p within h = so asked (AreKept held (phases.Handed c)) (AreKept held (phases.Room from)) p (λ operations k. (k.0, agrees_handed held c from operations within k.1)) h
+pub leaves : {P : Type 0} (asked : P → List Call → Type 0) (held : List Held) (w : Phase) (c from : ℕ) (p : P) → from ≤ c + 1 → Has asked p (AreKept held (at (stages.Handed c) w)) → Has asked p (AreKept held (at (stages.Room from) w))
+leaves asked held w c from p within h = so asked (AreKept held (at (stages.Handed c) w)) (AreKept held (at (stages.Room from) w)) p (λ operations k. (k.0, agrees_handed held w c from operations within k.1)) h
 
 -- and all are done with
-pub is_over : {P : Type 0} (asked : P → List Call → Type 0) (held : List Held) (from : ℕ) (p : P) → ((d : ℕ) → from ≤ d → (held_by d held).key ≡ None) → Has asked p (AreKept held (phases.Room from)) → Has asked p (AreKept held phases.Over)
-is_over asked held from p none h = so asked (AreKept held (phases.Room from)) (AreKept held phases.Over) p (λ operations k. (k.0, agrees_over held from operations none k.1)) h
+pub is_over : {P : Type 0} (asked : P → List Call → Type 0) (held : List Held) (w : Phase) (from : ℕ) (p : P) → ((d : ℕ) → from ≤ d → (held_by d held).key ≡ None) → w.told ≡ w.clock → Has asked p (AreKept held (at (stages.Room from) w)) → Has asked p (AreKept held (at stages.Over w))
+is_over asked held w from p none on_time h = so asked (AreKept held (at (stages.Room from) w)) (AreKept held (at stages.Over w)) p (λ operations k. (k.0, agrees_over held w from operations none on_time k.1)) h

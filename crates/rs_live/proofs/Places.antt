@@ -3,7 +3,8 @@ use Rattle.std.proofs.Common.{◌≡◌, ◌≤◌, ◌<◌, ℕ, zero, suc, Lis
 use Rattle.std.proofs.lemmas.List.{length-set}
 use Rattle.std.specs.Prelude.{slice_get}
 use Rattle.rs_live.specs.declared.connections.ClientConnections.{ClientConnections}
-use Rattle.rs_live.specs.Keeping.{Held, change, held_by, held_in, held_of}
+use Rattle.rs_live.specs.declared.live_link.Phase.{Phase}
+use Rattle.rs_live.specs.Keeping.{Held, IsFairBy, change, held_by, held_in, held_of}
 
 abbrev pub holds : Option ℕ → List ℕ → Option ℕ → List ℕ → Held
 holds key waiting rest_key rest = record { key = key; waiting = waiting; rest_key = rest_key; rest = rest }
@@ -58,6 +59,14 @@ pub held_there : (connections : List ClientConnections) (c : ℕ) (own : ClientC
 held_there [] c own e = cc
 held_there (s ∷ connections) zero own e = let i : s ≡ own = cc in ap held_in i
 held_there (s ∷ connections) (suc c) own e = held_there connections c own e
+
+pub held_count : (connections : List ClientConnections) → length (held_of connections) ≡ length connections
+held_count [] = refl
+held_count (s ∷ connections) = ap suc (held_count connections)
+
+-- a moment that is fair beside so many clients
+pub fair_held : (connections : List ClientConnections) (phase : Phase) (t : ℕ) → IsFairBy (length connections) phase t → IsFairBy (length (held_of connections)) phase t
+fair_held connections phase t h = subst (λ n. IsFairBy n phase t) (sym (held_count connections)) h
 
 -- each part is the same
 pub parts : {k l : Option ℕ} {w v : List ℕ} {r s : Option ℕ} {o p : List ℕ} → k ≡ l → w ≡ v → r ≡ s → o ≡ p → holds k w r o ≡ holds l v s p

@@ -10,11 +10,13 @@ use Rattle.rs_live.specs.declared.serve.ServeFault.TheVariants as faults
 use Rattle.rs_live.specs.declared.ports.Line.TheVariants as lines
 use Rattle.rs_live.specs.declared.live_link.LiveLink.{LiveLink}
 use Rattle.rs_live.specs.declared.live_link.Phase.{Phase}
-use Rattle.rs_live.specs.Calls.{Call, Waited, Accepted, Read, Closed, Timed, Printed, IsGood, FindsLost, IsFailedWait, IsFailedAccept}
-use Rattle.rs_live.specs.Operations.{Operation, Asked, WroteTo, WroteRest, ClosedRest, Did, calls}
+use Rattle.rs_live.specs.declared.live_link.Stage.{Stage}
+use Rattle.rs_live.specs.Calls.{Call, Waited, Accepted, Read, Closed, Printed, IsGood, FindsLost, IsFailedWait, IsFailedAccept}
+use Rattle.rs_live.specs.Operations.{Operation, Asked, WroteTo, WroteRest, ClosedRest, Spared, Did, calls}
 use Rattle.rs_live.specs.Keys.{come, key_of}
 use Rattle.rs_live.specs.Waiting.{waiting, rest_key, rest}
 use Rattle.rs_live.specs.Rounds.{IsSettled}
+use Rattle.rs_live.specs.Moments.{IsFair}
 use Rattle.rs_live.specs.Keeping.{Held, Agrees, all_held}
 
 -- by this step the core hears that the client's connection is lost
@@ -54,8 +56,8 @@ IsNoLoss (Replaced answer) = ⊤
 -- closed, and the core heard of the loss. The core hears of no other loss but after such a line and the close of that client's
 -- connection. Of each connection that was accepted the core heard at once, or it was closed as a stranger's, as is one that the core
 -- passes over; where the core refuses it as a client's second one, the line `busy` was printed and it was closed. What a read gave
--- the core heard at once, all of it, as octets of the client whose connection was read; and a moment is what the clock answered
--- just before. No such event comes otherwise.
+-- the core heard at once, all of it, as octets of the client whose connection was read; and a moment is a fair one. No such
+-- event comes otherwise.
 --
 -- Each write is of all that waits for a client, under the key of its connection; or of all the rest, under the key of the
 -- connection that it had when its session ended, which is closed at once where such a write fails. An offer to a client that has no
@@ -70,7 +72,8 @@ pub data AreHandled : List Operation → Type 0 where
   TurnsAway : (c key : ℕ) (operations : List Operation) → come c operations ≡ Some key → AreHandled operations → AreHandled (Did (Busy c) ∷ Asked (Closed key) ∷ Asked (Printed (lines.Busy c)) ∷ operations)
   TurnsNoneAway : (c : ℕ) (operations : List Operation) → come c operations ≡ None → AreHandled operations → AreHandled (Did (Busy c) ∷ operations)
   Hears : (c key count : ℕ) (piece : List ℕ) (operations : List Operation) → key_of c operations ≡ Some key → count ≢ 0 → AreHandled operations → AreHandled (Did (Happened (Octets c count) (take count piece)) ∷ Asked (Read key piece (Ok (Some count))) ∷ operations)
-  Times : (seconds : ℕ) (octets : List ℕ) (operations : List Operation) → AreHandled operations → AreHandled (Did (Happened (Moment seconds) octets) ∷ Asked (Timed seconds) ∷ operations)
+  Spares : (until : ℕ) (operations : List Operation) → AreHandled operations → AreHandled (Spared until ∷ operations)
+  Times : (t : ℕ) (octets : List ℕ) (operations : List Operation) → IsFair t operations → AreHandled operations → AreHandled (Did (Happened (Moment t) octets) ∷ operations)
   Loses : (c key : ℕ) (step : Step) (operations : List Operation) → key_of c operations ≡ Some key → IsLossOf c step → AreHandled operations → AreHandled (Did step ∷ Asked (Closed key) ∷ Asked (Printed (lines.Lost c)) ∷ operations)
   Fails : (c key : ℕ) (call : Call) (step : Step) (operations : List Operation) → key_of c operations ≡ Some key → FindsLost key call → IsLossOf c step → AreHandled operations → AreHandled (Did step ∷ Asked (Closed key) ∷ Asked (Printed (lines.Lost c)) ∷ Asked call ∷ operations)
   Takes : (c n : ℕ) (octets : List ℕ) (operations : List Operation) → (key_of c operations ≡ None → n ≡ 0) → AreHandled operations → AreHandled (Did (Offer c octets (Some n)) ∷ operations)
@@ -144,6 +147,6 @@ abbrev pub Answers : {P : Type 0} → (P → List Call → Type 0) → Option Ev
 Answers asked None piece link = IsRunning asked link
 Answers asked (Some event) piece link = Gives asked event piece link
 
--- so from a link that was running, in this phase
-abbrev pub AnswersFrom : {P : Type 0} → (P → List Call → Type 0) → Phase → Option Event → List ℕ → LiveLink P → LiveLink P → Type 0
-AnswersFrom asked phase event piece old new = old.phase ≡ phase → IsRunning asked old → Answers asked event piece new
+-- so from a link that was running, at this stage
+abbrev pub AnswersFrom : {P : Type 0} → (P → List Call → Type 0) → Stage → Option Event → List ℕ → LiveLink P → LiveLink P → Type 0
+AnswersFrom asked stage event piece old new = old.phase.stage ≡ stage → IsRunning asked old → Answers asked event piece new

@@ -1,15 +1,17 @@
 -- What the link keeps, against what was done.
-use Rattle.std.specs.Prelude.{◌≡◌, ◌<◌, ℕ, suc, ◌==◌, List, [], map, length, get_or, set, Option, Some, None, IsSome, ⊤, if◌then◌else◌}
+use Rattle.std.specs.Prelude.{◌≡◌, ◌<◌, ◌≤◌, ◌⊎◌, ◌+◌, min, ℕ, suc, ◌==◌, List, [], map, length, get_or, set, Option, Some, None, IsSome, ⊤, if◌then◌else◌}
 use Rattle.rs_live.specs.declared.live_link.LiveLink.{LiveLink}
 use Rattle.rs_live.specs.declared.live_link.Phase.{Phase}
-use Rattle.rs_live.specs.declared.live_link.Phase.TheVariants.{Come, Turn, Room, Handed, Over}
+use Rattle.rs_live.specs.declared.live_link.Stage.{Stage}
+use Rattle.rs_live.specs.declared.live_link.Stage.TheVariants.{Start, Come, Turn, Room, Handed, Over}
 use Rattle.rs_live.specs.declared.connections.ClientConnections.{ClientConnections}
 use Rattle.rs_live.specs.declared.ports.Line.TheVariants as lines
-use Rattle.rs_live.specs.Calls.{Call, Waited, Printed}
+use Rattle.rs_live.specs.Calls.{Call, Waited, Timed, Printed}
 use Rattle.rs_live.specs.Operations.{Operation}
 use Rattle.rs_live.specs.Keys.{come, key_of}
 use Rattle.rs_live.specs.Waiting.{waiting, rest_key, rest}
 use Rattle.rs_live.specs.Rounds.{IsTimed, IsTurned, HasRoom}
+use Rattle.rs_live.specs.Moments.{HasAsked, clock_of, quiet_of, told_of, WasRead}
 
 -- what a client has at the ports: the key of its connection and what waits for it, and so of the connection that it had when its
 -- session ended
@@ -52,31 +54,72 @@ with_rest key octets held = record { key = held.key; waiting = held.waiting; res
 abbrev pub change : ℕ → (Held → Held) → List Held → List Held
 change c f held = set held c (f (held_by c held))
 
+-- before the first round
+abbrev pub before : Phase
+before = record { stage = Over; clock = 0; quiet = 0; told = 0; read_to = 0 }
+
+-- at another stage of the same round
+abbrev pub at : Stage → Phase → Phase
+at stage phase = record { stage = stage; clock = phase.clock; quiet = phase.quiet; told = phase.told; read_to = phase.read_to }
+
+-- where the core was given this moment
+abbrev pub given : Stage → ℕ → Phase → Phase
+given stage t phase = record { stage = stage; clock = phase.clock; quiet = phase.quiet; told = t; read_to = phase.read_to }
+
+-- where this client, and each below it, was read
+abbrev pub passed : ℕ → Phase → Phase
+passed c phase = record { stage = phase.stage; clock = phase.clock; quiet = phase.quiet; told = phase.told; read_to = if c == phase.read_to then min (c + 1) 18446744073709551615 else phase.read_to }
+
+-- where a round begins
+abbrev pub begun_at : ℕ → ℕ → Phase → Phase
+begun_at clock quiet phase = record { stage = Start; clock = clock; quiet = quiet; told = phase.told; read_to = 0 }
+
+-- a fair moment to give to the core, beside so many clients
+abbrev pub IsFairBy : ℕ → Phase → ℕ → Type 0
+IsFairBy clients phase t = ((t ≡ phase.clock) × ((t ≤ phase.quiet) ⊎ (clients ≤ phase.read_to))) ⊎ ((t ≡ phase.quiet) × (t ≤ phase.clock))
+
 -- the key of a connection of this client that has come and was not answered yet
+abbrev pub key_at : ℕ → Stage → Option ℕ
+key_at c (Come d incoming) = if c == d then Some incoming.key else None
+key_at c stage = None
+
 abbrev pub key_come : ℕ → Phase → Option ℕ
-key_come c (Come d incoming) = if c == d then Some incoming.key else None
-key_come c phase = None
+key_come c phase = key_at c phase.stage
 
 -- after the last turn each client below this one that has a connection was given room
 abbrev pub HaveRoom : ℕ → List Held → List Operation → Type 0
 HaveRoom below held operations = (c : ℕ) → c < below → IsSome (held_by c held).key → HasRoom c operations
 
 -- how far the round has come
-abbrev pub IsInPhase : List Held → Phase → List Operation → Type 0
-IsInPhase held (Come c incoming) operations = c < length held
-IsInPhase held Turn operations = IsTimed operations
-IsInPhase held (Room from) operations = IsTurned operations × HaveRoom from held operations
-IsInPhase held (Handed c) operations = IsTurned operations × HaveRoom (suc c) held operations
-IsInPhase held Over operations = IsTurned operations × ((c : ℕ) → IsSome (held_by c held).key → HasRoom c operations)
-IsInPhase held phase operations = ⊤
+abbrev pub IsAtStage : List Held → Stage → List Operation → Type 0
+IsAtStage held (Come c incoming) operations = c < length held
+IsAtStage held Turn operations = IsTimed operations
+IsAtStage held (Room from) operations = IsTurned operations × HaveRoom from held operations
+IsAtStage held (Handed c) operations = IsTurned operations × HaveRoom (suc c) held operations
+IsAtStage held Over operations = IsTurned operations × ((c : ℕ) → IsSome (held_by c held).key → HasRoom c operations)
+IsAtStage held stage operations = ⊤
+
+-- what the clock and the core answered in it, what the core was given, and which clients were read
+pub record IsClocked (held : List Held) (phase : Phase) (operations : List Operation) : Type 0 where
+  pub asked : HasAsked operations
+  pub clock : clock_of operations ≡ phase.clock
+  pub quiet : quiet_of operations ≡ phase.quiet
+  pub told : told_of operations ≡ phase.told
+  pub read : (c : ℕ) → c < phase.read_to → IsSome (held_by c held).key → WasRead c operations
+  pub over : phase.stage ≡ Over → phase.told ≡ phase.clock
+
+pub record IsInPhase (held : List Held) (phase : Phase) (operations : List Operation) : Type 0 where
+  pub stage : IsAtStage held phase.stage operations
+  pub clocked : IsClocked held phase operations
 
 pub record Agrees (held : List Held) (phase : Phase) (operations : List Operation) : Type 0 where
   pub same : (c : ℕ) → had_by c operations ≡ held_by c held
   pub fresh : (c : ℕ) → come c operations ≡ key_come c phase
   pub round : IsInPhase held phase operations
 
--- it begins no round, and refuses no stranger
+-- it begins no round, asks no clock, and refuses no stranger
 abbrev pub IsPlain : Call → Type 0
 IsPlain (Waited answer) = ⊥
+IsPlain (Timed seconds) = ⊥
 IsPlain (Printed lines.Stranger) = ⊥
 IsPlain call = ⊤

@@ -4,6 +4,7 @@ pub mod Handled
 pub mod Keeping
 pub mod Keys
 pub mod Leaving
+pub mod Moments
 pub mod Rounds
 pub mod Sending
 pub mod Waiting

@@ -13,6 +13,8 @@ pub data Operation : Type 0 where
   WroteRest : (c key : ℕ) (octets : List ℕ) (answer : Result (Option ℕ) PortFault) → Operation
   -- that one was closed
   ClosedRest : (c key : ℕ) → Operation
+  -- the core answered that no session ends by a moment up to this one
+  Spared : (until : ℕ) → Operation
   -- a step between the core and its link: the core was given an event, or called
   Did : (step : Step) → Operation
 
@@ -22,4 +24,5 @@ calls (Asked call ∷ operations) = call ∷ calls operations
 calls (WroteTo c key octets answer ∷ operations) = Wrote key octets answer ∷ calls operations
 calls (WroteRest c key octets answer ∷ operations) = Wrote key octets answer ∷ calls operations
 calls (ClosedRest c key ∷ operations) = Closed key ∷ calls operations
+calls (Spared until ∷ operations) = calls operations
 calls (Did step ∷ operations) = calls operations

@@ -5,6 +5,7 @@ use Rattle.rs_core.specs.Drives.Steps.{Happened}
 use Rattle.rs_live.specs.Calls.{Waited}
 use Rattle.rs_live.specs.Operations.{Operation, Asked, Did}
 use Rattle.rs_live.specs.Keys.{come, key_of}
+use Rattle.rs_live.specs.Moments.{IsOnTime}
 
 -- in this round the core was given a moment, and no octets after it
 abbrev pub IsTimed : List Operation → Type 0
@@ -30,8 +31,10 @@ HasRoom c (Did (Happened (Room d room) octets) ∷ operations) = ((c ≡ d) × (
 HasRoom c (operation ∷ operations) = HasRoom c operations
 
 -- A round may end: after the last octets that the core was given in it came a moment and then a turn, and after that turn each
--- client that has a connection was given room; and of no client is the connection that came last unanswered.
+-- client that has a connection was given room; the core was given what the clock answered in the round; and of no client is the
+-- connection that came last unanswered.
 pub record IsSettled (operations : List Operation) : Type 0 where
   pub turned : IsTurned operations
   pub rooms : (c : ℕ) → IsSome (key_of c operations) → HasRoom c operations
+  pub on_time : IsOnTime operations
   pub answered : (c : ℕ) → come c operations ≡ None

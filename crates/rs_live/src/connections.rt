@@ -18,6 +18,10 @@ use std::mem;
 /// none of them: the send hold timer (RFC 9687).
 pub const SEND_HOLD: u64 = 480;
 
+/// After how many seconds in which each turn was refused memory for a client its connection counts as lost:
+/// what it was told may be long out of date, and its loss gives memory back.
+pub const STALE: u64 = 10;
+
 /// How many seconds a connection that the server closes has for what waits still.
 pub const CLOSING: u64 = 1;
 
@@ -201,6 +205,15 @@ impl Connection {
     }
 }
 
+/// Turns one after the other that were refused memory for a client.
+#[derive(Clone, Copy)]
+pub struct Refused {
+    /// The moment of the first.
+    since: u64,
+    /// Which turn was the last, counted from the start.
+    turn: u64,
+}
+
 /// The place of a client.
 #[derive(Drop)]
 pub struct ClientConnections {
@@ -212,9 +225,31 @@ pub struct ClientConnections {
     pub closing: Connection,
     /// A session of the client has ended, and nobody has asked yet.
     pub has_ended: bool,
+    /// The last turns that were refused memory for the client.
+    pub refused: Option<Refused>,
 }
 
 impl ClientConnections {
+    /// This turn was refused memory for the client.
+    pub(crate) fn refuse(&mut self, now: u64, turn: u64)
+        ensures live { self.new.live ≡ self.old.live }
+        ensures closing { self.new.closing ≡ self.old.closing }
+    {
+        let since = match self.refused {
+            Some(before) if before.turn.saturating_add(1) >= turn => before.since,
+            _ => now,
+        };
+        self.refused = Some(Refused { since, turn });
+    }
+
+    /// So was each turn for as long as the client may be told nothing, up to this one.
+    pub(crate) fn is_stale(&self, now: u64, turn: u64) -> bool {
+        match self.refused {
+            Some(last) => last.turn == turn && now.saturating_sub(last.since) >= STALE,
+            None => false,
+        }
+    }
+
     /// The connection, if there is one, is to be closed: it goes where one that is being closed has its
     /// place.
     pub(crate) fn retire(&mut self, now: u64)
@@ -259,6 +294,7 @@ pub fn connections(alloc: Global, config: &Config) -> Result<Vec<ClientConnectio
             live: Connection::new(alloc)?,
             closing: Connection::new(alloc)?,
             has_ended: false,
+            refused: None,
         })?;
     }
     Ok(all)

@@ -5,7 +5,7 @@
 ghost use Rattle.std.specs.Prelude.{◌≡◌, ◌∷◌, false, List, [], None, IsTrue, IsFalse};
 ghost use Rattle.rs_live.specs.Calls.{Call, Closed, Printed};
 ghost use Rattle.rs_live.specs.Handled.{Has, EndByWait, Keeps};
-ghost use Rattle.rs_live.specs.Keeping.{IsPlain, all_held, change, held_by, with_live};
+ghost use Rattle.rs_live.specs.Keeping.{IsFairBy, IsPlain, all_held, before, change, held_by, with_live};
 ghost use Rattle.rs_live.specs.Leaving.{LeavesClients, LeavesPorts, LeavesRound, SamePorts};
 
 use crate::connections::ClientConnections;
@@ -14,11 +14,17 @@ use crate::reports::Report;
 use rs_policy::RulesFault;
 use std::mem;
 
+/// For so many seconds after a connection began, a session ended, or rules were replaced all workers turn:
+/// a whole table may be to decide then, for one client or for all.
+pub(crate) const WIDE: u64 = 2;
+
 /// What a round does next.
 #[derive(Clone, Copy, Debug, PartialEq, Eq)]
-pub(crate) enum Phase {
+pub(crate) enum Stage {
     /// Gives the core the text of rules that was read.
     Rules,
+    /// Gives it the first moment of the round.
+    Start,
     Accept,
     /// A connection of this client has come, and the core is to answer.
     Come(usize, Incoming),
@@ -32,6 +38,43 @@ pub(crate) enum Phase {
     Over,
 }
 
+/// How far a round has come.
+#[derive(Clone, Copy, Debug, PartialEq, Eq)]
+pub(crate) struct Phase {
+    pub(crate) stage: Stage,
+    /// What the clock answered in this round.
+    pub(crate) clock: u64,
+    /// The moment up to which no session ends, as the core answered then.
+    pub(crate) quiet: u64,
+    /// The moment that the core was given last.
+    pub(crate) told: u64,
+    /// Each client below this one that has a connection was read since.
+    pub(crate) read_to: usize,
+}
+
+impl Phase {
+    /// No round has begun yet.
+    pub(crate) const BEFORE: Phase = Phase {
+        stage: Stage::Over,
+        clock: 0,
+        quiet: 0,
+        told: 0,
+        read_to: 0,
+    };
+
+    /// The moment to give to the core now, beside so many clients. While one of them was not read since
+    /// the clock answered, its KEEPALIVE may lie there: until then no moment is given that ends a session.
+    pub(crate) fn fair_moment(&self, clients: usize) -> u64
+        ensures { IsFairBy clients self.now result }
+    {
+        if self.clock <= self.quiet || clients <= self.read_to {
+            self.clock
+        } else {
+            self.quiet
+        }
+    }
+}
+
 /// The ports as a link of the core.
 #[derive(Drop)]
 pub struct LiveLink<'a, P> {
@@ -40,19 +83,23 @@ pub struct LiveLink<'a, P> {
     pub(crate) phase: Phase,
     /// How many connections the round has accepted.
     pub(crate) accepted: u32,
-    /// The client whose connection is read, and how many pieces of it the round has read.
+    /// The client whose connection is read next.
     pub(crate) reading: usize,
+    /// How many pieces the round has read, and whether one since it began with the first client again.
     pub(crate) pieces: u32,
+    pub(crate) has_heard: bool,
     /// What was read since the last turn.
     pub(crate) pieces_heard: u32,
     pub(crate) octets_heard: usize,
     /// How often this connection was given room after this turn.
     pub(crate) rooms: u32,
-    /// All workers turn.
+    /// How many turns there were.
+    pub(crate) turns: u64,
+    /// All workers turn; and up to which moment they do, however little was heard.
     pub(crate) is_wide: bool,
+    pub(crate) wide_to: u64,
     /// Something was left undone, so that the next round doesn't wait.
     pub(crate) has_more: bool,
-    pub(crate) now: u64,
     pub(crate) ended: u64,
     /// A call of `accept` failed.
     pub(crate) has_failed: bool,
@@ -77,22 +124,24 @@ impl<'a, P: Ports> LiveLink<'a, P> {
         ensures same_ports { result.ports.ghost_name ≡ ports.entry.ghost_name }
         ensures value { result.ports.now ≡ ports.old }
         ensures connections { result.connections.now ≡ connections.old }
-        ensures phase { result.phase ≡ Phase.Over }
+        ensures phase { result.phase ≡ before }
         ensures fine { result.has_failed ≡ false }
     {
         LiveLink {
             ports,
             connections,
-            phase: Phase::Over,
+            phase: Phase::BEFORE,
             accepted: 0,
             reading: 0,
             pieces: 0,
+            has_heard: false,
             pieces_heard: 0,
             octets_heard: 0,
             rooms: 0,
+            turns: 0,
             is_wide: false,
+            wide_to: 0,
             has_more: false,
-            now: 0,
             ended: 0,
             has_failed: false,
             text,
@@ -103,21 +152,28 @@ impl<'a, P: Ports> LiveLink<'a, P> {
         }
     }
 
-    /// Waits for the ports, and begins a round. Answers whether the wait succeeded.
-    pub fn begin_round(&mut self) -> bool
+    /// Waits for the ports, and begins a round; up to the moment `quiet` no session ends. Answers
+    /// whether the wait succeeded.
+    pub fn begin_round(&mut self, quiet: u64) -> bool
         ensures same_ports { SamePorts self.old self.new }
         ensures failed { self.new.has_failed ≡ self.old.has_failed }
-        ensures phase { self.new.phase ≡ Phase.Accept }
-        ensures ready { IsTrue result → self.old.phase ≡ Phase.Over → Keeps P.asked self.old → Keeps P.asked self.new }
-        ensures broken { IsFalse result → self.old.phase ≡ Phase.Over → Keeps P.asked self.old → Has P.asked self.new.ports.now EndByWait }
+        ensures stage { self.new.phase.stage ≡ Stage.Start }
+        ensures ready { IsTrue result → self.old.phase.stage ≡ Stage.Over → Keeps P.asked self.old → Keeps P.asked self.new }
+        ensures broken { IsFalse result → self.old.phase.stage ≡ Stage.Over → Keeps P.asked self.old → Has P.asked self.new.ports.now EndByWait }
     {
-        self.phase = Phase::Accept;
+        self.phase.stage = Stage::Start;
         self.accepted = 0;
         self.reading = 0;
         self.pieces = 0;
+        self.has_heard = false;
         let pause = !mem::replace(&mut self.has_more, false);
         match self.ports.wait(pause) {
-            Ok(()) => true,
+            Ok(()) => {
+                self.phase.read_to = 0;
+                self.phase.quiet = quiet;
+                self.phase.clock = self.ports.seconds();
+                true
+            }
             Err(_) => false,
         }
     }
@@ -127,7 +183,7 @@ impl<'a, P: Ports> LiveLink<'a, P> {
     pub fn read_rules(&mut self)
         ensures same_ports { SamePorts self.old self.new }
         ensures failed { self.new.has_failed ≡ self.old.has_failed }
-        ensures handled { self.old.phase ≡ Phase.Accept → Keeps P.asked self.old → Keeps P.asked self.new }
+        ensures handled { self.old.phase.stage ≡ Stage.Start → Keeps P.asked self.old → Keeps P.asked self.new }
     {
         if !self.fetch() {
             if !mem::replace(&mut self.is_unreadable, true) {
@@ -141,7 +197,7 @@ impl<'a, P: Ports> LiveLink<'a, P> {
         }
         mem::swap(self.read, self.text);
         self.has_text = true;
-        self.phase = Phase::Rules;
+        self.phase.stage = Stage::Rules;
     }
 
     /// Reads the file of rules, and answers whether it could be read.
@@ -157,15 +213,18 @@ impl<'a, P: Ports> LiveLink<'a, P> {
         ensures leaves { LeavesClients self.old self.new }
         ensures handled { Keeps P.asked self.old → Keeps P.asked self.new }
     {
+        if answer.is_ok() {
+            self.wide_to = self.phase.told.saturating_add(WIDE);
+        }
         self.print(Line::Rules(answer));
         self.log(&Report::Rules(answer));
     }
 
     /// The round is over.
     pub fn is_over(&self) -> bool
-        ensures { IsTrue result → self.entry.now.phase ≡ Phase.Over }
+        ensures { IsTrue result → self.entry.now.phase.stage ≡ Stage.Over }
     {
-        matches!(self.phase, Phase::Over)
+        matches!(self.phase.stage, Stage::Over)
     }
 
     /// The turn that comes next is one for all workers. The core's loop turns with as many workers as it
@@ -212,7 +271,7 @@ impl<'a, P: Ports> LiveLink<'a, P> {
 
     /// The seconds since the start, at the last moment that the core was given.
     pub fn now(&self) -> u64 {
-        self.now
+        self.phase.told
     }
 
     /// Shows an operator a report.
@@ -237,8 +296,18 @@ impl<'a, P: Ports> LiveLink<'a, P> {
         ensures { LeavesPorts self.old self.new }
     {
         self.ended = self.ended.saturating_add(1);
+        self.wide_to = self.phase.told.saturating_add(WIDE);
         if let Some(own) = self.connections.get_mut(c) {
             own.has_ended = true;
+        }
+    }
+
+    /// The last turn was refused memory for a client.
+    pub(crate) fn note_refused(&mut self, c: usize)
+        ensures { LeavesPorts self.old self.new }
+    {
+        if let Some(own) = self.connections.get_mut(c) {
+            own.refuse(self.phase.told, self.turns);
         }
     }
 
@@ -270,6 +339,7 @@ impl<'a, P: Ports> LiveLink<'a, P> {
     {
         if let Some(own) = self.connections.get_mut(c) {
             own.live.forget();
+            own.refused = None;
         }
     }
 }

@@ -6,7 +6,7 @@ ghost use Rattle.rs_live.specs.Handled.{Has, EndBy, IsRunning, IsServed, Keeps};
 ghost use Rattle.rs_live.specs.Leaving.{SamePorts};
 
 use crate::connections::connections;
-use crate::live_link::{LiveLink, Phase};
+use crate::live_link::{LiveLink, Stage};
 use crate::ports::Ports;
 use crate::watch::Watch;
 use rs_core::{Core, drive, drive_with};
@@ -84,12 +84,12 @@ fn serve_on<R: Threads + Wait + Sync, P: Ports>(
 ) -> Result<(), ServeFault>
     requires workers { (0 < limits.workers) × (limits.workers ≤ 16) }
     ensures same_ports { SamePorts link.old link.new }
-    ensures served { link.old.phase ≡ Phase.Over → IsRunning P.asked link.old → Has P.asked link.new.ports.now (IsServed result) }
+    ensures served { link.old.phase.stage ≡ Stage.Over → IsRunning P.asked link.old → Has P.asked link.new.ports.now (IsServed result) }
     ensures ended { IsOk result → IsSome limits.sessions }
 {
     let mut rounds = 0;
     for _ in rt.forever() {
-        if !link.begin_round() {
+        if !link.begin_round(core.quiet_until()) {
             return Err(ServeFault::Poll);
         }
         rounds = reload(rounds, limits.reload, link);
@@ -109,7 +109,7 @@ fn serve_on<R: Threads + Wait + Sync, P: Ports>(
 fn reload<P: Ports>(rounds: u16, every: Option<u16>, link: &mut LiveLink<'_, P>) -> u16
     ensures same_ports { SamePorts link.old link.new }
     ensures failed { link.new.has_failed ≡ link.old.has_failed }
-    ensures handled { link.old.phase ≡ Phase.Accept → Keeps P.asked link.old → Keeps P.asked link.new }
+    ensures handled { link.old.phase.stage ≡ Stage.Start → Keeps P.asked link.old → Keeps P.asked link.new }
 {
     let next = next_round(rounds, every);
     if next == 0 {
@@ -137,7 +137,7 @@ fn play_round<R: Threads + Wait + Sync, P: Ports>(
 ) -> Result<(), ServeFault>
     requires workers { (0 < workers) × (workers ≤ 16) }
     ensures same_ports { SamePorts link.old link.new }
-    ensures over { IsOk result → link.new.phase ≡ Phase.Over }
+    ensures over { IsOk result → link.new.phase.stage ≡ Stage.Over }
     ensures ok { IsOk result → IsRunning P.asked link.old → IsRunning P.asked link.new }
     ensures err { IsErr result → IsRunning P.asked link.old → Has P.asked link.new.ports.now (EndBy IsFailedAccept) }
 {

@@ -2,13 +2,14 @@
 
 ghost use Rattle.std.specs.Prelude.{◌≡◌, ◌≤◌, ◌∷◌, Some, None, length, IfOk, IfErr, IsSome, IsNone};
 ghost use Rattle.rs_core.specs.Drives.Steps.{Begin, Offer, End};
+ghost use Rattle.rs_live.specs.declared.live_link.Phase.{Phase};
 ghost use Rattle.rs_live.specs.declared.ports.Incoming.{Incoming};
 ghost use Rattle.rs_live.specs.Operations.{Did};
 ghost use Rattle.rs_live.specs.Handled.{Has, AreKept, IsBroken, Keeps, KeepsAfter};
-ghost use Rattle.rs_live.specs.Keeping.{all_held, held_by, key_come};
+ghost use Rattle.rs_live.specs.Keeping.{all_held, at, held_by, key_come};
 ghost use Rattle.rs_live.specs.Leaving.{LeavesRound, SamePorts};
 
-use crate::live_link::{LiveLink, Phase};
+use crate::live_link::{LiveLink, Stage, WIDE};
 use crate::ports::{Line, Ports};
 use rs_core::Sink;
 use rs_policy::RulesFault;
@@ -21,23 +22,23 @@ impl<'a, P: Ports> LiveLink<'a, P> {
         ensures unasked { self.new.ports.now ≡ self.old.ports.now }
         ensures held { all_held self.new ≡ all_held self.old }
         ensures come { result ≡ key_come c self.old.phase }
-        ensures answered { IsSome result → self.new.phase ≡ Phase.Accept }
+        ensures answered { IsSome result → self.new.phase ≡ at Stage.Accept self.old.phase }
         ensures same { IsNone result → self.new.phase ≡ self.old.phase }
     {
-        let Phase::Come(d, incoming) = self.phase else {
+        let Stage::Come(d, incoming) = self.phase.stage else {
             return None;
         };
         if c != d {
             return None;
         }
-        self.phase = Phase::Accept;
+        self.phase.stage = Stage::Accept;
         Some(incoming.key)
     }
 
     /// The connection with this key is the client's; one that is being closed still is closed now.
     fn take_on(&mut self, c: usize, key: usize)
         ensures leaves { LeavesRound self.old self.new }
-        ensures begun { (incoming : Incoming) → incoming.key ≡ key → Has P.asked self.old.ports.now (AreKept (all_held self.old) (Phase.Come c incoming)) → Has P.asked self.new.ports.now (λ operations. AreKept (all_held self.new) Phase.Accept (Did (Begin c) ∷ operations)) }
+        ensures begun { (incoming : Incoming) (phase : Phase) → incoming.key ≡ key → Has P.asked self.old.ports.now (AreKept (all_held self.old) (at (Stage.Come c incoming) phase)) → Has P.asked self.new.ports.now (λ operations. AreKept (all_held self.new) (at Stage.Accept phase) (Did (Begin c) ∷ operations)) }
     {
         if let Some(own) = self.connections.get_mut(c) {
             own.closing.close(self.ports);
@@ -54,7 +55,7 @@ impl<'a, P: Ports> LiveLink<'a, P> {
         ensures broke { IfErr result (λ key. Keeps P.asked self.old → IsBroken P.asked c key self.new) }
     {
         match self.connections.get_mut(c) {
-            Some(own) if own.live.is_open() => own.live.offer(self.ports, octets, self.now),
+            Some(own) if own.live.is_open() => own.live.offer(self.ports, octets, self.phase.told),
             _ => Ok(0),
         }
     }
@@ -67,7 +68,7 @@ impl<'a, P: Ports> LiveLink<'a, P> {
     {
         if let Some(own) = self.connections.get_mut(c) {
             own.closing.close(self.ports);
-            own.retire(self.now);
+            own.retire(self.phase.told);
         }
     }
 
@@ -86,6 +87,7 @@ impl<'a, P: Ports> LiveLink<'a, P> {
 
 impl<'a, P: Ports> Sink for LiveLink<'a, P> {
     fn begin(&mut self, c: usize) {
+        self.wide_to = self.phase.told.saturating_add(WIDE);
         self.print(Line::Begin(c));
         if let Some(key) = self.take_come(c) {
             self.take_on(c, key);
@@ -111,6 +113,7 @@ impl<'a, P: Ports> Sink for LiveLink<'a, P> {
 
     fn memory(&mut self, c: usize) {
         self.print(Line::Memory(c));
+        self.note_refused(c);
     }
 
     fn end(&mut self, c: usize) {

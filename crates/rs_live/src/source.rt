@@ -1,15 +1,16 @@
-//! The events of a round, one at a time. A round accepts the connections that have come, then reads
-//! each connection. After every few pieces read, and once at the end, come a moment, a turn, and room
-//! for each connection. Turns so stay small: an outlet that was touched at more than 4,096 prefixes
-//! would decide its whole table.
+//! The events of a round, one at a time. A round gives a moment, accepts the connections that have come,
+//! then reads one piece of each connection that is ready, and again while there is more and few were
+//! ready. After every few pieces read, and once at the end, come a moment, a turn, and room for each
+//! connection. Turns so stay small: an outlet that was touched at more than 4,096 prefixes would decide
+//! its whole table.
 
 ghost use Rattle.std.specs.Prelude.{◌≡◌, ◌+◌, ◌<◌, ◌≤◌, ◌∷◌, ℕ, List, min, length, None, IfSome, IfErr, IsOk, IsNone, false};
 ghost use Rattle.rs_live.specs.Calls.{Call, Closed, Printed};
 ghost use Rattle.rs_live.specs.Handled.{IsBroken, IsRunning, Keeps, Follows, Answers, AnswersFrom};
-ghost use Rattle.rs_live.specs.Keeping.{all_held, held_by};
+ghost use Rattle.rs_live.specs.Keeping.{all_held, held_by, passed};
 ghost use Rattle.rs_live.specs.Leaving.{KeepsOn, LeavesClients, LeavesPorts, LeavesRound, SamePorts};
 
-use crate::live_link::{LiveLink, Phase};
+use crate::live_link::{LiveLink, Stage};
 use crate::ports::{Incoming, Line, Ports};
 use rs_core::{Event, Link, Source};
 
@@ -17,7 +18,7 @@ use rs_core::{Event, Link, Source};
 /// who connects over and over keeps the server from those that are connected.
 const ACCEPTED: u32 = 64;
 
-/// How many pieces of one connection a round reads.
+/// Where a round has read so many pieces, it begins with the first connection no more.
 const PIECES: u32 = 16;
 
 /// How many pieces are read before a turn: three of 4,096 octets name some 3,000 prefixes of 24 bits.
@@ -26,8 +27,8 @@ const PIECES_A_TURN: u32 = 3;
 /// How many times in a row one connection is given room after a turn.
 const ROOMS: u32 = 16;
 
-/// From so many octets heard since the last turn on, all workers turn; else one does, since to start
-/// threads costs more than a short turn saves. `bench/turns.py` measures from where on.
+/// From so many octets heard since the last turn on, all workers turn; else one does, for most turns are
+/// short, and to start threads costs more than that saves. `bench/turns.py` measures from where on.
 const MUCH: usize = 4096;
 
 impl<'a, P: Ports> LiveLink<'a, P> {
@@ -53,7 +54,7 @@ impl<'a, P: Ports> LiveLink<'a, P> {
     /// Accepts until a client's connection comes, none is left, or the round has accepted enough.
     fn accepted(&mut self) -> Option<Event>
         ensures same_ports { SamePorts self.old self.new }
-        ensures answers { (piece : List ℕ) → AnswersFrom P.asked Phase.Accept result piece self.old self.new }
+        ensures answers { (piece : List ℕ) → AnswersFrom P.asked Stage.Accept result piece self.old self.new }
     {
         for _ in self.accepted..ACCEPTED {
             match self.ports.accept() {
@@ -62,13 +63,13 @@ impl<'a, P: Ports> LiveLink<'a, P> {
                     return Some(Event::Stop);
                 }
                 Ok(None) => {
-                    self.phase = Phase::Read;
+                    self.phase.stage = Stage::Read;
                     return None;
                 }
                 Ok(Some(incoming)) => {
                     self.accepted = self.accepted.saturating_add(1);
                     if let Some(c) = self.client_of(&incoming) {
-                        self.phase = Phase::Come(c, incoming);
+                        self.phase.stage = Stage::Come(c, incoming);
                         return Some(Event::Opened(c));
                     }
                     self.refuse(&incoming);
@@ -76,7 +77,7 @@ impl<'a, P: Ports> LiveLink<'a, P> {
             }
         }
         self.has_more = true;
-        self.phase = Phase::Read;
+        self.phase.stage = Stage::Read;
         None
     }
 
@@ -84,17 +85,14 @@ impl<'a, P: Ports> LiveLink<'a, P> {
     /// input the connection is lost, as where the read fails.
     fn piece(&mut self, piece: &mut [u8; 4096]) -> Option<Event>
         ensures same_ports { SamePorts self.old self.new }
-        ensures phase { self.new.phase ≡ self.old.phase }
-        ensures answers { AnswersFrom P.asked Phase.Read result piece.new self.old self.new }
+        ensures stage { self.new.phase.stage ≡ self.old.phase.stage }
+        ensures answers { AnswersFrom P.asked Stage.Read result piece.new self.old self.new }
     {
         let c = self.reading;
+        self.pass_on(c);
         let Some(key) = self.live_key(c) else {
             return None;
         };
-        if self.pieces >= PIECES {
-            self.has_more = true;
-            return None;
-        }
         match self.ports.read(key, piece) {
             Ok(None) => None,
             Ok(Some(count)) => {
@@ -112,10 +110,25 @@ impl<'a, P: Ports> LiveLink<'a, P> {
         }
     }
 
+    /// This client is read, and the next one is to be.
+    fn pass_on(&mut self, c: usize)
+        ensures same_ports { SamePorts self.old self.new }
+        ensures failed { self.new.has_failed ≡ self.old.has_failed }
+        ensures held { all_held self.new ≡ all_held self.old }
+        ensures phase { self.new.phase ≡ passed c self.old.phase }
+        ensures unasked { self.new.ports.now ≡ self.old.ports.now }
+    {
+        self.reading = c.saturating_add(1);
+        if c == self.phase.read_to {
+            self.phase.read_to = self.reading;
+        }
+    }
+
     /// Counts octets that were read.
     fn heard(&mut self, count: usize)
         ensures { LeavesPorts self.old self.new }
     {
+        self.has_heard = true;
         self.pieces = self.pieces.saturating_add(1);
         self.pieces_heard = self.pieces_heard.saturating_add(1);
         self.octets_heard = self.octets_heard.saturating_add(count);
@@ -124,48 +137,74 @@ impl<'a, P: Ports> LiveLink<'a, P> {
     /// Reads on, until enough was heard for a turn or nothing is left.
     fn read_on(&mut self, piece: &mut [u8; 4096]) -> Option<Event>
         ensures same_ports { SamePorts self.old self.new }
-        ensures answers { AnswersFrom P.asked Phase.Read result piece.new self.old self.new }
+        ensures answers { AnswersFrom P.asked Stage.Read result piece.new self.old self.new }
     {
         if self.pieces_heard < PIECES_A_TURN {
             for _ in 0..self.connections.len() {
-                if self.reading >= self.connections.len() {
+                if !self.has_to_read() {
                     break;
                 }
                 match self.piece(piece) {
                     Some(event) => return Some(event),
-                    None => {
-                        self.reading = self.reading.saturating_add(1);
-                        self.pieces = 0;
-                    }
+                    None => {}
                 }
             }
         }
-        self.phase = Phase::Moment;
+        self.phase.stage = Stage::Moment;
         None
+    }
+
+    /// Whether a connection is to be read in this round: behind the last one the first is the next, where
+    /// there was something to read and the round has read little.
+    fn has_to_read(&mut self) -> bool
+        ensures { LeavesPorts self.old self.new }
+    {
+        if self.reading < self.connections.len() {
+            return true;
+        }
+        if self.has_heard && self.pieces < PIECES {
+            self.has_heard = false;
+            self.reading = 0;
+            return !self.connections.is_empty();
+        }
+        false
+    }
+
+    /// The first moment of the round.
+    fn start(&mut self) -> Option<Event>
+        ensures same_ports { SamePorts self.old self.new }
+        ensures answers { (piece : List ℕ) → AnswersFrom P.asked Stage.Start result piece self.old self.new }
+    {
+        let clients = self.connections.len();
+        self.phase.stage = Stage::Accept;
+        self.phase.told = self.phase.fair_moment(clients);
+        Some(Event::Moment(self.phase.told))
     }
 
     fn moment(&mut self) -> Option<Event>
         ensures same_ports { SamePorts self.old self.new }
-        ensures answers { (piece : List ℕ) → AnswersFrom P.asked Phase.Moment result piece self.old self.new }
+        ensures answers { (piece : List ℕ) → AnswersFrom P.asked Stage.Moment result piece self.old self.new }
     {
-        self.phase = Phase::Turn;
-        self.now = self.ports.seconds();
-        Some(Event::Moment(self.now))
+        let clients = self.connections.len();
+        self.phase.stage = Stage::Turn;
+        self.phase.told = self.phase.fair_moment(clients);
+        Some(Event::Moment(self.phase.told))
     }
 
     /// A turn; or a stop before it, where other workers are to do it.
     fn turn(&mut self) -> Option<Event>
         ensures same_ports { SamePorts self.old self.new }
-        ensures answers { (piece : List ℕ) → AnswersFrom P.asked Phase.Turn result piece self.old self.new }
+        ensures answers { (piece : List ℕ) → AnswersFrom P.asked Stage.Turn result piece self.old self.new }
     {
-        let is_wide = self.octets_heard >= MUCH;
+        let is_wide = self.octets_heard >= MUCH || self.phase.told < self.wide_to;
         if is_wide != self.is_wide {
             self.is_wide = is_wide;
             return Some(Event::Stop);
         }
         self.pieces_heard = 0;
         self.octets_heard = 0;
-        self.phase = Phase::Room(0);
+        self.turns = self.turns.saturating_add(1);
+        self.phase.stage = Stage::Room(0);
         Some(Event::Turn)
     }
 
@@ -185,24 +224,23 @@ impl<'a, P: Ports> LiveLink<'a, P> {
     /// Gives room to the next connection from this client's on.
     fn room(&mut self, from: usize) -> Option<Event>
         ensures same_ports { SamePorts self.old self.new }
-        ensures answers { (piece : List ℕ) → AnswersFrom P.asked (Phase.Room from) result piece self.old self.new }
+        ensures answers { (piece : List ℕ) → AnswersFrom P.asked (Stage.Room from) result piece self.old self.new }
     {
-        match self.next_live(from) {
-            Some(c) => {
-                self.rooms = 0;
-                self.phase = Phase::Handed(c);
-                Some(Event::Room(c, u64::MAX))
-            }
-            None if self.reading < self.connections.len() => {
-                self.phase = Phase::Read;
-                None
-            }
-            None => {
-                self.phase = Phase::Over;
-                self.finish_closing();
-                None
-            }
+        if let Some(c) = self.next_live(from) {
+            self.rooms = 0;
+            self.phase.stage = Stage::Handed(c);
+            return Some(Event::Room(c, u64::MAX));
         }
+        if self.has_to_read() {
+            self.phase.stage = Stage::Read;
+        } else if self.phase.told != self.phase.clock {
+            self.phase.stage = Stage::Moment;
+        } else {
+            self.has_more = self.has_more || self.has_heard;
+            self.phase.stage = Stage::Over;
+            self.finish_closing();
+        }
+        None
     }
 
     /// Writes what a client's connection was handed, and answers whether it was full and no longer is;
@@ -216,18 +254,20 @@ impl<'a, P: Ports> LiveLink<'a, P> {
             return Ok(false);
         };
         let was_full = own.live.is_full();
-        match own.live.write(self.ports, self.now) {
+        match own.live.write(self.ports, self.phase.told) {
             Ok(()) => Ok(was_full && own.live.is_empty()),
             Err(key) => Err(key),
         }
     }
 
-    /// The key of a client's connection whose octets have waited too long.
+    /// The key of a client's connection whose octets have waited too long, or to whose client nothing could
+    /// be told for too long.
     fn overdue(&self, c: usize) -> Option<usize>
         ensures { IfSome result (λ key. (held_by c (all_held self.entry.now)).key ≡ Some key) }
     {
         let own = self.connections.get(c)?;
-        if !own.live.is_over(self.now) {
+        let now = self.phase.told;
+        if !own.live.is_over(now) && !own.is_stale(now, self.turns) {
             return None;
         }
         own.live.key()
@@ -236,9 +276,9 @@ impl<'a, P: Ports> LiveLink<'a, P> {
     /// Writes what a connection was handed; gives it room again where it was full and no longer is.
     fn handed(&mut self, c: usize) -> Option<Event>
         ensures same_ports { SamePorts self.old self.new }
-        ensures answers { (piece : List ℕ) → AnswersFrom P.asked (Phase.Handed c) result piece self.old self.new }
+        ensures answers { (piece : List ℕ) → AnswersFrom P.asked (Stage.Handed c) result piece self.old self.new }
     {
-        self.phase = Phase::Room(c.saturating_add(1));
+        self.phase.stage = Stage::Room(c.saturating_add(1));
         match self.write_on(c) {
             Err(key) => {
                 self.lose(c, key);
@@ -251,7 +291,7 @@ impl<'a, P: Ports> LiveLink<'a, P> {
     /// A client's connection was written; it is given room again where it was full and no longer is.
     fn written(&mut self, c: usize, is_free: bool) -> Option<Event>
         ensures same_ports { SamePorts self.old self.new }
-        ensures answers { (piece : List ℕ) → AnswersFrom P.asked (Phase.Room (min (c + 1) usize.MAX)) result piece self.old self.new }
+        ensures answers { (piece : List ℕ) → AnswersFrom P.asked (Stage.Room (min (c + 1) usize.MAX)) result piece self.old self.new }
     {
         if let Some(key) = self.overdue(c) {
             self.lose(c, key);
@@ -266,14 +306,14 @@ impl<'a, P: Ports> LiveLink<'a, P> {
     /// Room for a connection once more, unless it had much after this turn.
     fn room_again(&mut self, c: usize) -> Option<Event>
         ensures same_ports { SamePorts self.old self.new }
-        ensures answers { (piece : List ℕ) → AnswersFrom P.asked (Phase.Room (min (c + 1) usize.MAX)) result piece self.old self.new }
+        ensures answers { (piece : List ℕ) → AnswersFrom P.asked (Stage.Room (min (c + 1) usize.MAX)) result piece self.old self.new }
     {
         if self.rooms >= ROOMS {
             self.has_more = true;
             return None;
         }
         self.rooms = self.rooms.saturating_add(1);
-        self.phase = Phase::Handed(c);
+        self.phase.stage = Stage::Handed(c);
         Some(Event::Room(c, u64::MAX))
     }
 
@@ -291,7 +331,7 @@ impl<'a, P: Ports> LiveLink<'a, P> {
         ensures { KeepsOn P.asked self.old self.new }
     {
         if let Some(own) = self.connections.get_mut(c) {
-            own.closing.finish(self.ports, self.now);
+            own.closing.finish(self.ports, self.phase.told);
         }
     }
 
@@ -300,23 +340,24 @@ impl<'a, P: Ports> LiveLink<'a, P> {
         ensures same_ports { SamePorts self.old self.new }
         ensures answers { IsRunning P.asked self.old → Answers P.asked result piece.new self.new }
     {
-        match self.phase {
-            Phase::Rules => {
-                self.phase = Phase::Accept;
+        match self.phase.stage {
+            Stage::Rules => {
+                self.phase.stage = Stage::Start;
                 Some(Event::Rules)
             }
-            Phase::Accept => self.accepted(),
-            Phase::Come(_, incoming) => {
+            Stage::Start => self.start(),
+            Stage::Accept => self.accepted(),
+            Stage::Come(_, incoming) => {
                 self.refuse(&incoming);
-                self.phase = Phase::Accept;
+                self.phase.stage = Stage::Accept;
                 None
             }
-            Phase::Read => self.read_on(piece),
-            Phase::Moment => self.moment(),
-            Phase::Turn => self.turn(),
-            Phase::Room(from) => self.room(from),
-            Phase::Handed(c) => self.handed(c),
-            Phase::Over => Some(Event::Stop),
+            Stage::Read => self.read_on(piece),
+            Stage::Moment => self.moment(),
+            Stage::Turn => self.turn(),
+            Stage::Room(from) => self.room(from),
+            Stage::Handed(c) => self.handed(c),
+            Stage::Over => Some(Event::Stop),
         }
     }
 }

@@ -1,5 +1,6 @@
 //! The server over ports in memory, whose members follow a script, and over sockets on loopback.
 
+mod hold_timers;
 mod loopback;
 mod rate_limits;
 mod reloading;

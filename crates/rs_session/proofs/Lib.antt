@@ -5,5 +5,6 @@ pub mod Standing
 pub mod Messages
 pub mod Moments
 pub mod Lasting
+pub mod Quiet
 pub mod Briefs
 pub mod Updates

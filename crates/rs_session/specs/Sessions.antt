@@ -178,6 +178,20 @@ act_of settings (Moment t) items =
     else acts.None
 act_of settings Left items = acts.None
 
+-- ---- how long it lasts without a word of the client
+
+-- the answer is to end the session
+abbrev pub is_down : Act → Bool
+is_down acts.None = false
+is_down (acts.Say said) = false
+is_down acts.Up = false
+is_down (acts.Down said) = true
+is_down acts.Again = false
+
+-- a moment seen next ends the session: its hold timer has run out (RFC 4271, 6.5)
+abbrev pub ends_at : Settings → List Item → ℕ → Bool
+ends_at settings items t = is_down (act_of settings (Moment t) items)
+
 -- a session says its OPEN or a KEEPALIVE, and ends with a brief NOTIFICATION or with none
 abbrev pub SaysBriefly : Act → Type 0
 SaysBriefly acts.None = ⊤

@@ -1,5 +1,5 @@
 -- What the code makes of its fields at a message and at a moment.
-use Rattle.std.specs.Prelude.{ℕ, true, false, min, Ok, Err, if◌then◌else◌}
+use Rattle.std.specs.Prelude.{ℕ, zero, suc, ◌+◌, true, false, min, Ok, Err, if◌then◌else◌}
 use Rattle.rs_open.specs.declared.short.Short.TheVariants as short
 use Rattle.rs_session.specs.declared.heard.Heard.{Heard}
 use Rattle.rs_session.specs.declared.heard.Heard.TheVariants as heard
@@ -65,3 +65,8 @@ moment_step phases.Idle hold now = (phases.Idle, acts.None)
 moment_step (phases.OpenSent since) hold now = wait since now
 moment_step (phases.Agreed peer) hold now = tick (min hold peer.sent.hold) peer now
 moment_step phases.Closing hold now = (phases.Closing, acts.None)
+
+-- the greatest moment, as a u64 holds it, at which this many seconds have not passed since
+abbrev pub quiet_for : ℕ → ℕ → ℕ
+quiet_for zero since = 18446744073709551615
+quiet_for (suc most) since = min (since + most) 18446744073709551615

@@ -1,7 +1,7 @@
 //! The phase of a session, and what a message or a moment makes of it.
 
 ghost use Rattle.std.specs.Prelude.{◌≡◌, ◌-◌, nat_le, Some, None};
-ghost use Rattle.rs_session.specs.Steps.{first_step, second_step, later_step, tick, wait};
+ghost use Rattle.rs_session.specs.Steps.{first_step, second_step, later_step, quiet_for, tick, wait};
 ghost use Rattle.rs_session.specs.declared.phase.Phase.TheVariants as phases;
 
 use crate::act::Act;
@@ -10,7 +10,7 @@ use crate::heard::Heard;
 use rs_open::{Open, Short};
 
 /// The seconds that we wait for the peer's OPEN (RFC 4271, 8.2.2, suggests four minutes).
-const OPEN_WAIT: u16 = 240;
+pub const OPEN_WAIT: u16 = 240;
 
 /// The address family IPv4 (RFC 2918, 3; RFC 4760, 3).
 const IPV4: u16 = 1;
@@ -121,6 +121,16 @@ fn has_passed(seconds: u16, since: u64, now: u64) -> bool
     ensures { result ≡ nat_le seconds (now - since) }
 {
     u64::from(seconds) <= now.saturating_sub(since)
+}
+
+/// The greatest moment at which not yet so many seconds have passed; 0 seconds never do.
+pub fn quiet_for(seconds: u16, since: u64) -> u64
+    ensures { result ≡ quiet_for seconds since }
+{
+    match seconds.checked_sub(1) {
+        None => u64::MAX,
+        Some(most) => since.saturating_add(u64::from(most)),
+    }
 }
 
 /// A moment before the peer's OPEN.

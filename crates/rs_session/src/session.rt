@@ -1,10 +1,10 @@
 //! The session of one client: its settings, the greatest moment, and the phase that it is in.
 
-ghost use Rattle.std.specs.Prelude.{◌≡◌, ◌≢◌, Bool, true, false, max, List, [], ◌∷◌, IsSome, IfOk, OnErr};
+ghost use Rattle.std.specs.Prelude.{◌≡◌, ◌≢◌, ◌<◌, ◌≤◌, ℕ, Bool, true, false, max, List, [], ◌∷◌, IsSome, IfOk, OnErr};
 
 use crate::act::{Act, Busy, State};
 use crate::heard::Heard;
-use crate::phase::{Phase, first, later, second, ticked, waited};
+use crate::phase::{OPEN_WAIT, Phase, first, later, quiet_for, second, ticked, waited};
 use crate::settings::Settings;
 use rs_attrs::Mode;
 use rs_open::{Limit, Open, Short};
@@ -22,7 +22,7 @@ impl Session {
     ghost use Rattle.rs_session.specs.Steps.{message_step, moment_step};
     ghost use Rattle.rs_session.specs.Items.{Came, Message, Moment, Left};
     ghost use Rattle.rs_session.specs.Sessions.{state_of, is_live, agreed_of};
-    ghost use Rattle.rs_session.specs.Sessions.{agreed_hold, agreed_mode, agreed_identifier, agreed_limit, SaysBriefly};
+    ghost use Rattle.rs_session.specs.Sessions.{agreed_hold, agreed_mode, agreed_identifier, agreed_limit, ends_at, SaysBriefly};
     ghost use Rattle.rs_session.specs.Hearing.{configured, HasHeard, Whenever, Shows, RespondsTo, Takes, Forgets};
 
     /// A session of a client with these settings: Idle, and no moment was seen.
@@ -169,6 +169,23 @@ impl Session {
         match self.agreed() {
             Some(sent) => Some(self.settings.hold.min(sent.hold)),
             None => None,
+        }
+    }
+
+    /// The greatest moment that doesn't end the session, should it be seen next (RFC 4271, 6.5);
+    /// `u64::MAX` where none does.
+    #[tactic(auto, using(crate::proofs::Quiet::quiet_heard, crate::proofs::Quiet::ending_heard))]
+    pub fn quiet_until(&self) -> u64
+        ensures quiet { Whenever self.now (λ settings items. (t : ℕ) → t ≤ result → ends_at settings items t ≡ false) }
+        ensures greatest { Whenever self.now (λ settings items. (t : ℕ) → result < t → t ≤ 18446744073709551615 → ends_at settings items t ≡ true) }
+    {
+        match self.phase {
+            Phase::Idle | Phase::Closing => u64::MAX,
+            Phase::OpenSent { since } => quiet_for(OPEN_WAIT, since),
+            Phase::Agreed(peer) => quiet_for(
+                self.settings.hold.min(peer.sent.hold),
+                peer.hold_timer_since,
+            ),
         }
     }
 

@@ -1,10 +1,10 @@
 -- What a run means for each client: what befell it, and what RFC 7947 makes due to it.
-use Rattle.std.specs.Prelude.{◌≡◌, ℕ, ◌==◌, true, Bool, ◌&&◌, not, List, [], ◌∷◌, length, Option, Some, None, if◌then◌else◌}
+use Rattle.std.specs.Prelude.{◌≡◌, ◌<◌, ℕ, ◌==◌, true, Bool, ◌&&◌, not, List, [], ◌∷◌, length, Option, Some, None, if◌then◌else◌}
 use Rattle.std.specs.List.{list_any}
 use Rattle.rs_octets.specs.Prefixes.{Prefix}
 use Rattle.rs_attrs.specs.Meaning.{Attribute}
 use Rattle.rs_open.specs.declared.open.Open.{Open}
-use Rattle.rs_session.specs.Sessions.{agreed_of, limit_by}
+use Rattle.rs_session.specs.Sessions.{agreed_of, limit_by, ends_at}
 use Rattle.rs_session.specs.Sessions as sessions
 use Rattle.rs_policy.specs.Configuration.{Configuration}
 use Rattle.rs_outlet.specs.declared.answers.Speech.{Speech}
@@ -82,6 +82,16 @@ due run c p = due_among (config_in run) (λ d. hearing d run) c p
 -- was refused for it is none
 abbrev pub dues : List Move → ℕ → Prefix → List (Option (List Attribute))
 dues run c p = dues_at (hearing c run).points p
+
+-- ---- hold timers (RFC 4271, 6.5)
+
+-- a moment seen next ends the session of this client
+abbrev pub is_ended_at : List Move → ℕ → ℕ → Bool
+is_ended_at run c t = ends_at (session_in (config_in run) c) (hearing c run).items t
+
+-- of one of so many
+abbrev pub EndsSome : List Move → ℕ → ℕ → Type 0
+EndsSome run n t = (c : ℕ) × (c < n) × (is_ended_at run c t ≡ true)
 
 -- ---- what a client was told
 

@@ -1,5 +1,7 @@
 //! Ports in memory: members that say what a script has, and a call that fails where it is wanted.
 
+ghost use Rattle.std.specs.Prelude.{◌≤◌};
+
 use rs_live::ports::{Incoming, Line, PortFault, Ports};
 use rs_live::reports::Report;
 use std::alloc::Global;
@@ -28,6 +30,8 @@ pub struct Wire {
     /// The member closes once it has said all and was sent so many octets, and not before this round.
     until: usize,
     stays: u64,
+    /// What it says in or after this round, once it has said all else.
+    later: Option<(u64, &'static [u8])>,
     /// It takes no octets.
     is_deaf: bool,
     pub heard: Vec<u8>,
@@ -61,8 +65,9 @@ pub struct Script {
     pub broken: Option<Broken>,
     /// In this round all members close.
     pub end: u64,
-    /// How many seconds pass in each round.
+    /// How many seconds pass in each round, and how many more before this one.
     pub pace: u64,
+    pub stall: Option<(u64, u64)>,
     rounds: u64,
     pub text: &'static [u8],
     /// What the text is from this round on.
@@ -85,6 +90,7 @@ impl Script {
             broken: None,
             end: u64::MAX,
             pace: 0,
+            stall: None,
             rounds: 0,
             text: b"",
             later: None,
@@ -113,6 +119,7 @@ impl Script {
             given: 0,
             until,
             stays: 0,
+            later: None,
             is_deaf: false,
             heard: Vec::new(self.alloc),
             is_open: false,
@@ -124,6 +131,13 @@ impl Script {
     pub fn stay(&mut self, key: usize, round: u64) {
         if let Some(wire) = self.wires.get_mut(key) {
             wire.stays = round;
+        }
+    }
+
+    /// The member of this connection says this in or after this round.
+    pub fn say_later(&mut self, key: usize, round: u64, octets: &'static [u8]) {
+        if let Some(wire) = self.wires.get_mut(key) {
+            wire.later = Some((round, octets));
         }
     }
 
@@ -172,6 +186,15 @@ pub fn sent(rt: &impl Abort, octets: Option<&[u8]>, want: &[u8]) {
     assert_eq!(rt; octets, Some(want));
 }
 
+/// Lays octets at the front of a piece, and answers how many.
+fn lay(piece: &mut [u8; 4096], octets: &[u8]) -> usize
+    ensures { result ≤ 4096 }
+{
+    let count = octets.len().min(4096);
+    piece[..count].copy_from_slice(&octets[..count]);
+    count
+}
+
 impl Ports for Script {
     ghost asked = { λ ports calls. Unit {0} };
 
@@ -212,6 +235,12 @@ impl Ports for Script {
             return Ok(Some(0));
         }
         let Some(said) = wire.says.get(wire.given) else {
+            if let Some((round, octets)) = wire.later
+                && self.rounds >= round
+            {
+                wire.later = None;
+                return Ok(Some(lay(piece, octets)));
+            }
             let is_done = wire.heard.len() >= wire.until && self.rounds >= wire.stays;
             return Ok(if is_done { Some(0) } else { None });
         };
@@ -219,9 +248,7 @@ impl Ports for Script {
             return Ok(None);
         }
         wire.given = wire.given.saturating_add(1);
-        let n = said.octets.len().min(4096);
-        piece[..n].copy_from_slice(&said.octets[..n]);
-        Ok(Some(n))
+        Ok(Some(lay(piece, said.octets)))
     }
 
     fn write(&mut self, key: usize, octets: &[u8]) -> Result<Option<usize>, PortFault> {
@@ -247,7 +274,13 @@ impl Ports for Script {
     }
 
     fn seconds(&mut self) -> u64 {
-        self.rounds.saturating_mul(self.pace)
+        let stalled = match self.stall {
+            Some((round, seconds)) if self.rounds >= round => seconds,
+            _ => 0,
+        };
+        self.rounds
+            .saturating_mul(self.pace)
+            .saturating_add(stalled)
     }
 
     fn text(&mut self, text: &mut Vec<u8>) -> Result<(), PortFault> {

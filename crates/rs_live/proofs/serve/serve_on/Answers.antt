@@ -1,7 +1,8 @@
-use Rattle.std.proofs.Common.{◌∙◌, refl, Ok}
-use Rattle.rs_live.specs.declared.live_link.Phase.TheVariants as phases
+use Rattle.std.proofs.Common.{ap, ◌∙◌, refl, Ok}
+use Rattle.rs_live.specs.declared.live_link.Phase.{Phase}
+use Rattle.rs_live.specs.declared.live_link.Stage.TheVariants as stages
 use Rattle.rs_live.specs.Handled.{AreKept, IsServed}
-use Rattle.rs_live.specs.Keeping.{held_of}
+use Rattle.rs_live.specs.Keeping.{at, held_of}
 use Rattle.rs_live.proofs.Agreeing.{settled}
 use Rattle.rs_live.proofs.Handling.{at_phase, so}
 use Rattle.rs_live.proofs.serve.serve_on.Goals as goal
@@ -9,10 +10,10 @@ use Rattle.rs_live.proofs.serve.serve_on.Goals as goal
 pub loop-preserved : goal.loop-preserved
 loop-preserved g c = record {
   same_ports = c.report.ensures.same_ports ∙ c.play_round.ensures.same_ports ∙ c.reload-rounds.ensures.same_ports ∙ c.begin_round.ensures.same_ports ∙ c.loop.invariant.same_ports;
-  phase = λ p. c.report.ensures.phase ∙ c.in-Ok.ensures.over refl;
+  phase = λ p. ap (λ (w : Phase). w.stage) c.report.ensures.phase ∙ c.in-Ok.ensures.over refl;
   handled = λ p r.
       let i = c.loop.invariant.handled p r in
-      let read = c.reload-rounds.ensures.handled c.begin_round.ensures.phase (c.if-not-begin_round.ensures.ready refl (c.loop.invariant.phase p) i.1) in
+      let read = c.reload-rounds.ensures.handled c.begin_round.ensures.stage (c.if-not-begin_round.ensures.ready refl (c.loop.invariant.phase p) i.1) in
       let played = c.in-Ok.ensures.ok refl (c.reload-rounds.ensures.failed ∙ c.begin_round.ensures.failed ∙ i.0, read) in
       (c.report.ensures.failed ∙ played.0, c.report.ensures.handled played.1);
 }
@@ -23,6 +24,6 @@ returns-then-not-begin_round-clause-served g c p r = let i = c.loop.invariant.ha
 pub returns-then-is_done-clause-served : goal.returns-then-is_done-clause-served
 returns-then-is_done-clause-served g c p r =
     let i = c.loop.invariant.handled p r in
-    let read = c.reload-rounds.ensures.handled c.begin_round.ensures.phase (c.if-not-begin_round.ensures.ready refl (c.loop.invariant.phase p) i.1) in
+    let read = c.reload-rounds.ensures.handled c.begin_round.ensures.stage (c.if-not-begin_round.ensures.ready refl (c.loop.invariant.phase p) i.1) in
     let played = c.in-Ok.ensures.ok refl (c.reload-rounds.ensures.failed ∙ c.begin_round.ensures.failed ∙ i.0, read) in
-    so g.P.Ports.asked (AreKept (held_of c.report.new.link.connections.now.items) phases.Over) (IsServed (Ok tt)) _ (λ operations k. (k.0, settled _ operations k.1)) (at_phase g.P.Ports.asked c.report.new.link phases.Over (c.report.ensures.phase ∙ c.in-Ok.ensures.over refl) (c.report.ensures.handled played.1))
+    so g.P.Ports.asked (AreKept (held_of c.report.new.link.connections.now.items) (at stages.Over c.report.new.link.phase)) (IsServed (Ok tt)) _ (λ operations k. (k.0, settled _ c.report.new.link.phase operations k.1)) (at_phase g.P.Ports.asked c.report.new.link stages.Over (ap (λ (w : Phase). w.stage) c.report.ensures.phase ∙ c.in-Ok.ensures.over refl) (c.report.ensures.handled played.1))

@@ -1,10 +1,11 @@
-use Rattle.std.proofs.Common.{[], Ok, refl, sym, subst, ◌∙◌}
+use Rattle.std.proofs.Common.{◌≡◌, [], Ok, refl, sym, subst, ap, ◌∙◌}
 use Rattle.rs_core.specs.declared.links.Event.TheVariants.{Opened}
 use Rattle.rs_core.specs.Drives.Steps.{Happened}
-use Rattle.rs_live.specs.declared.live_link.Phase.TheVariants as phases
+use Rattle.rs_live.specs.declared.live_link.Phase.{Phase}
+use Rattle.rs_live.specs.declared.live_link.Stage.TheVariants as stages
 use Rattle.rs_live.specs.Calls.{Accepted, IsGood, IsFailedAccept}
-use Rattle.rs_live.specs.Keeping.{held_of}
-use Rattle.rs_live.proofs.Handling.{asks, at_phase, end_alone, ends, follows, goes_on, halts, keeps_at, opens, refuses}
+use Rattle.rs_live.specs.Keeping.{at, held_of}
+use Rattle.rs_live.proofs.Handling.{asks, at_phase, end_alone, ends, follows, goes_to, halts, keeps_at, opens, refuses}
 use Rattle.rs_live.proofs.live_link.LiveLink.accepted.Goals as goal
 
 pub returns-in-Err-clause-answers : goal.returns-in-Err-clause-answers
@@ -14,30 +15,30 @@ pub returns-in-Ok-None-clause-answers : goal.returns-in-Ok-None-clause-answers
 returns-in-Ok-None-clause-answers g c piece p r =
     let i = c.loop.invariant.answers p r in (
       i.0,
-      goes_on g.P.Ports.asked _ phases.Accept phases.Read _ (λ k. refl) (λ operations x. tt)
-          (asks g.P.Ports.asked _ _ _ _ _ c.in-Ok-None.ensures (subst (λ r. IsGood (Accepted (Ok r))) (sym c.in-Ok-None.field-0-is) refl) tt (at_phase g.P.Ports.asked c.loop.self phases.Accept (c.loop.invariant.phase p) i.1)),
+      goes_to g.P.Ports.asked _ stages.Accept stages.Read c.loop.self.phase _ (λ k. refl) (λ operations x. tt) (λ (e : stages.Read ≡ stages.Over). cc)
+          (asks g.P.Ports.asked _ _ _ _ _ c.in-Ok-None.ensures (subst (λ r. IsGood (Accepted (Ok r))) (sym c.in-Ok-None.field-0-is) refl) tt (at_phase g.P.Ports.asked c.loop.self stages.Accept (c.loop.invariant.phase p) i.1)),
     )
 
 pub returns-in-Some-clause-answers : goal.returns-in-Some-clause-answers
 returns-in-Some-clause-answers g c piece p r text =
     let i = c.loop.invariant.answers p r in
     follows g.P.Ports.asked (Happened (Opened c.in-Some.c) []) _ _ _ _ i.0 refl refl
-    (opens g.P.Ports.asked _ c.in-Some.c c.in-Ok-Some.incoming _ _ _ c.in-Ok-Some.field-0-is c.in-Some.ensures c.in-Ok-Some.ensures (at_phase g.P.Ports.asked c.loop.self phases.Accept (c.loop.invariant.phase p) i.1))
+    (opens g.P.Ports.asked _ c.loop.self.phase c.in-Some.c c.in-Ok-Some.incoming _ _ _ c.in-Ok-Some.field-0-is c.in-Some.ensures c.in-Ok-Some.ensures (at_phase g.P.Ports.asked c.loop.self stages.Accept (c.loop.invariant.phase p) i.1))
 
 pub returns-clause-answers : goal.returns-clause-answers
 returns-clause-answers g c piece p r =
     let i = c.loop.invariant.answers p r in
-    (i.0, goes_on g.P.Ports.asked _ phases.Accept phases.Read _ (λ k. refl) (λ operations x. tt) (at_phase g.P.Ports.asked c.loop.self phases.Accept (c.loop.invariant.phase p) i.1))
+    (i.0, goes_to g.P.Ports.asked _ stages.Accept stages.Read c.loop.self.phase _ (λ k. refl) (λ operations x. tt) (λ (e : stages.Read ≡ stages.Over). cc) (at_phase g.P.Ports.asked c.loop.self stages.Accept (c.loop.invariant.phase p) i.1))
 
 pub loop-preserved : goal.loop-preserved
 loop-preserved g c = record {
   same_ports = c.refuse.ensures.leaves.same_ports ∙ c.loop.invariant.same_ports;
-  phase = λ p. c.refuse.ensures.leaves.phase ∙ c.loop.invariant.phase p;
+  phase = λ p. ap (λ (w : Phase). w.stage) c.refuse.ensures.leaves.phase ∙ c.loop.invariant.phase p;
   answers = λ p r.
       let i = c.loop.invariant.answers p r in
       let keys = held_of c.loop.self.connections.now.items in (
         c.refuse.ensures.leaves.failed ∙ i.0,
-        keeps_at g.P.Ports.asked c.refuse.new.self keys phases.Accept c.refuse.new.self.ports.now c.refuse.ensures.leaves.held (c.refuse.ensures.leaves.phase ∙ c.loop.invariant.phase p) refl
-            (refuses g.P.Ports.asked keys c.in-Ok-Some.incoming _ _ _ _ c.in-Ok-Some.field-0-is c.in-Ok-Some.ensures c.refuse.ensures.asked (at_phase g.P.Ports.asked c.loop.self phases.Accept (c.loop.invariant.phase p) i.1)),
+        keeps_at g.P.Ports.asked c.refuse.new.self keys (at stages.Accept c.loop.self.phase) c.refuse.new.self.ports.now c.refuse.ensures.leaves.held (c.refuse.ensures.leaves.phase ∙ ap (λ s. at s c.loop.self.phase) (c.loop.invariant.phase p)) refl
+            (refuses g.P.Ports.asked keys c.loop.self.phase c.in-Ok-Some.incoming _ _ _ _ c.in-Ok-Some.field-0-is c.in-Ok-Some.ensures c.refuse.ensures.asked (at_phase g.P.Ports.asked c.loop.self stages.Accept (c.loop.invariant.phase p) i.1)),
       );
 }

@@ -1,6 +1,7 @@
-use Rattle.std.proofs.Common.{refl, ◌∙◌, sym}
+use Rattle.std.proofs.Common.{ap, refl, ◌∙◌, sym}
 use Rattle.rs_core.specs.Drives.Steps.{Begin}
-use Rattle.rs_live.specs.declared.live_link.Phase.TheVariants as phases
+use Rattle.rs_live.specs.declared.live_link.Stage.TheVariants as stages
+use Rattle.rs_live.specs.Keeping.{at}
 use Rattle.rs_live.proofs.Agreeing.{come_is}
 use Rattle.rs_live.proofs.Handling.{begins_none, follows, follows_at, kept_at}
 use Rattle.rs_live.proofs.sink.LiveLinkSink.begin.Goals as goal
@@ -10,8 +11,8 @@ returns-in-Some g c = (
   c.take_on.ensures.leaves.same_ports ∙ c.take_come.ensures.same_ports ∙ c.print.ensures.leaves.same_ports,
   λ f h.
       let w = come_is c.args.c c.in-Some.key c.print.new.self.phase (sym c.take_come.ensures.come ∙ c.in-Some.is) in
-      follows g.P.Ports.asked (Begin c.args.c) _ _ _ phases.Accept (c.take_on.ensures.leaves.failed ∙ c.take_come.ensures.failed ∙ c.print.ensures.leaves.failed ∙ f) refl (c.take_on.ensures.leaves.phase ∙ c.in-Some.ensures.answered refl)
-      (c.take_on.ensures.begun w.0 w.2 (kept_at g.P.Ports.asked c.print.new.self _ (phases.Come c.args.c w.0) _ (sym c.take_come.ensures.held) w.1 (sym c.take_come.ensures.unasked) (c.print.ensures.handled tt h))),
+      follows g.P.Ports.asked (Begin c.args.c) _ _ _ _ (c.take_on.ensures.leaves.failed ∙ c.take_come.ensures.failed ∙ c.print.ensures.leaves.failed ∙ f) refl (c.take_on.ensures.leaves.phase ∙ c.in-Some.ensures.answered refl)
+      (c.take_on.ensures.begun w.0 c.print.new.self.phase w.2 (kept_at g.P.Ports.asked c.print.new.self _ (at (stages.Come c.args.c w.0) c.print.new.self.phase) _ (sym c.take_come.ensures.held) (ap (λ s. at s c.print.new.self.phase) w.1) (sym c.take_come.ensures.unasked) (c.print.ensures.handled tt h))),
 )
 
 pub returns-in_default : goal.returns-in_default

@@ -1,9 +1,10 @@
 use Rattle.std.proofs.Common.{refl, ◌∙◌, ◌∷◌, sym, ap, subst}
 use Rattle.rs_core.specs.Drives.Steps.{Busy}
-use Rattle.rs_live.specs.declared.live_link.Phase.TheVariants as phases
+use Rattle.rs_live.specs.declared.live_link.Phase.{Phase}
+use Rattle.rs_live.specs.declared.live_link.Stage.TheVariants as stages
 use Rattle.rs_live.specs.declared.ports.Line.TheVariants as lines
 use Rattle.rs_live.specs.Calls.{Printed}
-use Rattle.rs_live.specs.Keeping.{key_come}
+use Rattle.rs_live.specs.Keeping.{at, key_come}
 use Rattle.rs_live.proofs.Handling.{follows, follows_at, turns_away, turns_none_away}
 use Rattle.rs_live.proofs.sink.LiveLinkSink.busy.Goals as goal
 
@@ -11,11 +12,11 @@ pub returns-in-Some : goal.returns-in-Some
 returns-in-Some g c = (
   c.take_come.ensures.same_ports ∙ c.print.ensures.leaves.same_ports,
   λ f h.
-      follows g.P.Ports.asked (Busy c.args.c) _ _ _ phases.Accept (c.take_come.ensures.failed ∙ c.print.ensures.leaves.failed ∙ f)
+      follows g.P.Ports.asked (Busy c.args.c) _ _ _ _ (c.take_come.ensures.failed ∙ c.print.ensures.leaves.failed ∙ f)
       (c.take_come.ensures.held ∙ c.print.ensures.leaves.held)
-      (c.in-Some.ensures.answered refl)
+      (c.in-Some.ensures.answered refl ∙ ap (λ (w : Phase). at stages.Accept w) c.print.ensures.leaves.phase)
       (turns_away g.P.Ports.asked _ c.args.self.now.phase c.args.c c.in-Some.key _ _
-      (ap (λ p. key_come c.args.c p) (sym c.print.ensures.leaves.phase) ∙ sym c.take_come.ensures.come ∙ c.in-Some.is)
+      (ap (λ (w : Phase). key_come c.args.c w) (sym c.print.ensures.leaves.phase) ∙ sym c.take_come.ensures.come ∙ c.in-Some.is)
       (λ cs k. c.close.ensures _ (subst (λ p. g.P.Ports.asked p (Printed (lines.Busy c.args.c) ∷ cs)) (sym c.take_come.ensures.unasked) (c.print.ensures.asked cs k)))
       h),
 )
