@@ -2,7 +2,7 @@
 # It stands on `rt`, the command of the Rattle toolchain, and on Python 3.
 
 .DEFAULT_GOAL := help
-.PHONY: help demo try build serve test interop bench attack examples clean
+.PHONY: help demo try build package serve test interop bench attack examples clean
 
 PROGRAMS := rs_replay rs_served
 
@@ -22,6 +22,9 @@ build: ## prove what the programs stand on, and leave them in out/
 		cp crates/$$program/out/$$program out/ || exit 1; \
 		echo "out/$$program"; \
 	done
+
+package: ## make a Debian package of what `make build` proved (by debhelper and pandoc); tools/try_package.py tries it
+	@python3 tools/package.py
 
 serve: ## run the live server for the two members of examples/small.toml, on loopback (make build first)
 	@[ -x out/rs_served ] || { echo "out/rs_served isn't there: make build makes it"; exit 1; }

@@ -37,7 +37,7 @@ STRANGERS = {
     "": {
         "dpkt": "a library for captures", "bird": "a daemon", "nohup": "a command of the system", "ulimit": "a command of the shell",
         "logrotate": "a program", "diff": "a command", "git": "a command", "systemctl": "a command", "journalctl": "a command",
-        "bin/": "a folder of the toolchain", "out/": "where programs are built", "--help": "clap gives it to each program",
+        "bin/": "a folder of the toolchain", "out/": "where programs are built", "rs_served.toml": "the operator's configuration", "--help": "clap gives it to each program",
     },
     "docs/REPLAY.md": dict.fromkeys(
         ("exchange.pcap", "exchange.toml", "exchange.trace", "exchange.sent", "exchange.due"), "a file that the reader makes"

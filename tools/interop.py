@@ -4,8 +4,10 @@
 interop.py PROGRAM [--member NAME] [--page FILE]
 
 All that are installed are members at once, beside a plain member of our own, on loopback addresses. The play runs twice:
-with four-octet AS numbers in all sessions, then with two-octet sessions where a daemon can be set so. What is not
-installed is skipped with a word, and a skip is not counted as passed. FILE is made anew with the tables of what was seen.
+with four-octet AS numbers in all sessions, then with two-octet sessions where a daemon can be set so. Then each is a member
+alone beside the plain one: with 20,000 routes, a Hold Time of 9 seconds and long messages, and either side is ended by SIGKILL.
+What is not installed is skipped with a word, and a skip is not counted as passed. FILE is made anew with the tables of
+what was seen.
 """
 import argparse
 import collections
@@ -20,15 +22,25 @@ import sys
 import tempfile
 import time
 
-from interop_play import CHECKS, Play
+from interop_play import CHECKS, HEAVY, HEAVY_CHECKS, LIGHT, HeavyPlay, Play
 from results import end
 from routers import ALL
 
 # All of it, in seconds.
-MOST = 570
+MOST = 1800
 
 
-def write_page(page, members, plays, missing):
+def table(names, checks, seen):
+    """What was seen, a line for each check."""
+    text = ["", "| | " + " | ".join(names) + " |", "|---" * (len(names) + 1) + "|"]
+    return text + [f"| {check} | " + " | ".join(seen.get((check, name), "") for name in names) + " |" for check, _ in checks]
+
+
+# What stands behind this line of the page was seen otherwise, and stays as it is.
+KEPT = "## Newer versions\n"
+
+
+def write_page(page, members, plays, heavy, missing):
     """The tables of what was seen."""
     today = datetime.date.today()
     text = ["# Members that were tried", ""]
@@ -44,21 +56,24 @@ def write_page(page, members, plays, missing):
     ]
     text += [f"| {it.name} | {it.version()} | {it.settings} |" for it in members]
     text += [f"| {name} | skipped: {why} | |" for name, why in missing]
+    names = [it.name for it in members]
     for title, seen in plays:
-        names = [it.name for it in members] + ["plain"]
-        text += ["", f"## {title}", "", "| | " + " | ".join(names) + " |", "|---" * (len(names) + 1) + "|"]
-        for check, _ in CHECKS:
-            text.append(f"| {check} | " + " | ".join(seen.get((check, name), "") for name in names) + " |")
-    text += ["", "## What a line says", ""] + [f"- **{check}**: {words}" for check, words in CHECKS]
-    page.write_text("\n".join(text) + "\n")
+        text += ["", f"## {title}", *table([*names, "plain"], CHECKS, seen)]
+    text += ["", "### What a line says", ""] + [f"- **{check}**: {words}" for check, words in CHECKS]
+    text += ["", f"## {HEAVY.count:,} routes, Hold Time {HEAVY.hold}, long messages", ""]
+    text += ["Each alone beside the plain member, each of both with as many routes, `hold = 9` and `extended` set."]
+    text += table(names, HEAVY_CHECKS, heavy)
+    text += ["", "### What a line says", ""] + [f"- **{check}**: {words}" for check, words in HEAVY_CHECKS]
+    kept = page.read_text().partition(KEPT)[1:] if page.exists() else ()
+    page.write_text("\n".join(text) + "\n" + "".join(["\n", *kept] if any(kept) else []))
 
 
-def played(title, program, members, short, until):
+def played(title, program, members, short, until, kind=Play, load=LIGHT):
     """One play: its title, and what was seen, by check and member."""
     print(title, flush=True)
     with tempfile.TemporaryDirectory(prefix="interop-") as room, contextlib.ExitStack() as stack:
         os.chmod(room, 0o755)
-        play = Play(program, members, room, short, until)
+        play = kind(program, members, room, short, until, load)
         stack.callback(play.end)
         play.run()
         return title, play.seen
@@ -85,12 +100,15 @@ def main():
     if able:
         names = ", ".join(it.name for it in able)
         plays.append(played(f"Two-octet sessions of {names}", options.program, members, True, until))
+    heavy = {}
+    for it in members:
+        heavy.update(played(f"{HEAVY.count} routes, {it.name}", options.program, [it], False, until, HeavyPlay, HEAVY)[1])
     held, differ = 0, 0
-    for _, seen in plays:
+    for _, seen in [*plays, ("", heavy)]:
         held += sum(words.startswith("yes") for words in seen.values())
         differ += sum(words.startswith("no: ") for words in seen.values())
     if options.page:
-        write_page(options.page, members, plays, missing)
+        write_page(options.page, members, plays, heavy, missing)
     end(held, differ)
 
 

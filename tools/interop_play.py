@@ -1,20 +1,37 @@
 """One play of daemons as members: the server, the daemons and a plain member, and what each of them saw."""
+import collections
 import contextlib
 import pathlib
+import re
 import socket
 import subprocess
 import threading
 import time
 
-from routers import Place, Route
+from routers import Place, Route, prefixes_of
 from speaker import IPV4_UNICAST, ROUTE_REFRESH, Speaker, attribute, attributes, message, prefixes, update
 
 PLACE = Place("127.0.0.2", 17990, 64500)
 PLAIN = 9
 REFRESH = b"\2\0"
+EXTENDED = b"\6\0"
 # How long each thing may take, in seconds.
 PATIENCE = 60
+# What is asked of a play: how many routes each member has, the server's Hold Time, and whether long messages are offered.
+Load = collections.namedtuple("Load", "count hold long")
+LIGHT, HEAVY = Load(1000, 90, False), Load(20_000, 9, True)
 
+# What is looked at with a heavy load, each member alone beside the plain one.
+HEAVY_CHECKS = (
+    ("comes up", "the daemon says that its first session is Established"),
+    ("long messages", "the server says that the session's messages may have 65,535 octets (RFC 8654)"),
+    ("hears all", "it shows just the 20,000 routes of the plain member, with their AS_PATH, NEXT_HOP, MED and communities"),
+    ("is heard", "the plain member was told all of its 20,000 routes, so"),
+    ("asks again", "by its command for ROUTE-REFRESH all routes come again, as it counts them, and its table is as before"),
+    ("Hold Time 9", "the session's Hold Time is 9, and it lasts 30 seconds in which no route changes"),
+    ("is ended and comes back", "by SIGKILL: the plain member is told that its routes are gone; started again, both have all routes again"),
+    ("the server is ended and comes back", "by SIGKILL: started again, the session comes up again, and both have all routes again"),
+)
 CHECKS = (
     ("comes up", "the daemon says that its first session is Established"),
     ("hears all others", "it shows just the 1,000 routes of each other member"),
@@ -33,10 +50,11 @@ class Plain(Speaker):
 
     name, shows_zero = "plain", False
 
-    def __init__(self):
+    def __init__(self, load):
         self.number, self.table, self.count, self.noted, self.stays = 65536, {}, 0, None, True
-        self.prefixes = [f"10.{4 * PLAIN + it // 256}.{it % 256}.0/24" for it in range(1000)]
-        super().__init__(self.number, f"10.255.0.{PLAIN}", PLACE[:2], f"127.0.1.{PLAIN}", IPV4_UNICAST + REFRESH)
+        self.prefixes, self.hold, self.long = prefixes_of(PLAIN, load.count), load.hold, load.long
+        offered = IPV4_UNICAST + REFRESH + (EXTENDED if load.long else b"")
+        super().__init__(self.number, f"10.255.0.{PLAIN}", PLACE[:2], f"127.0.1.{PLAIN}", offered)
 
     def sent(self):
         kinds = [
@@ -47,13 +65,25 @@ class Plain(Speaker):
         ]
         return {it: kinds[at % len(kinds)] for at, it in enumerate(self.prefixes)}
 
-    def announce(self, prefix, it, more=b""):
+    def announce(self, prefix, it):
+        self.announce_all([prefix], it)
+
+    def announce_all(self, prefixes, it):
+        """Announces these prefixes by one UPDATE."""
         pairs = [tuple(map(int, one.split(":"))) for one in it.communities]
-        self.out += update(field=attributes(it.path, it.next_hop, it.med, pairs) + more, nlri=octets(prefix))
+        self.out += update(field=attributes(it.path, it.next_hop, it.med, pairs), nlri=b"".join(map(octets, prefixes)))
 
     def came_up(self):
+        """Announces all: one route in each UPDATE, or by long messages all of one kind."""
+        if not self.long:
+            for prefix, it in self.sent().items():
+                self.announce(prefix, it)
+            return
+        kinds = collections.defaultdict(list)
         for prefix, it in self.sent().items():
-            self.announce(prefix, it)
+            kinds[it].append(prefix)
+        for it, prefixes in kinds.items():
+            self.announce_all(prefixes, it)
 
     def refused(self, body):
         self.noted = body.hex()
@@ -107,9 +137,9 @@ def meaning(field):
 class Play:
     """The server and its members. `seen` says of each check and member what was seen."""
 
-    def __init__(self, program, members, room, short, until):
-        self.program, self.room, self.until = program, pathlib.Path(room), until
-        self.members = [it(PLACE, 64500 + at, at, room, short) for at, it in enumerate(members, 1)]
+    def __init__(self, program, members, room, short, until, load=LIGHT):
+        self.program, self.room, self.until, self.load = program, pathlib.Path(room), until, load
+        self.members = [it(PLACE, 64500 + at, at, room, short, load.count, load.long) for at, it in enumerate(members, 1)]
         self.seen, self.plain, self.server, self.over = {}, None, None, threading.Event()
 
     def note(self, check, member, good, wrong):
@@ -126,9 +156,16 @@ class Play:
 
     def start(self):
         clients = [(it.name, it.number, it.address) for it in self.members] + [("plain", 65536, f"127.0.1.{PLAIN}")]
-        lines = [f'as = {PLACE.number}\nidentifier = "192.0.2.1"\nmultiprotocol = true\nrefresh = true\n']
+        lines = [f'as = {PLACE.number}\nidentifier = "192.0.2.1"\nhold = {self.load.hold}\nmultiprotocol = true\nrefresh = true\n']
+        lines += ["extended = true\n"] if self.load.long else []
         lines += [f'[[client]]\nname = "{name}"\nas = {number}\nlisten = "{PLACE.server}:{PLACE.port}"\npeer = "{peer}"\n' for name, number, peer in clients]
         (self.room / "served.toml").write_text("\n".join(lines))
+        self.serve()
+        for it in self.members:
+            it.start()
+
+    def serve(self):
+        """Starts the server, and the plain member."""
         self.server = subprocess.Popen(
             [*self.program, "--config", self.room / "served.toml", "--log"],
             stdout=open(self.room / "served.out", "w"),
@@ -136,10 +173,8 @@ class Play:
         )
         if not self.wait(lambda: "listening" in (self.room / "served.out").read_text()):
             raise SystemExit("the server does not listen: " + (self.room / "served.log").read_text())
-        self.plain = Plain()
+        self.plain = Plain(self.load)
         threading.Thread(target=self.plain.speak, args=(self.over,), daemon=True).start()
-        for it in self.members:
-            it.start()
 
     def end(self):
         self.over.set()
@@ -250,6 +285,79 @@ class Play:
             words = f"says {it.state()}" + (", keeps what it was told by its nature" if it.keeps_told else "")
             self.note("the server's stop", it, good and words, f"{it.state()}, {len(self.table(it))} routes")
         self.note("the server's stop", self.plain, self.wait(lambda: not self.plain.stays) and self.plain.noted is None and "the connection is closed", self.plain.noted or "the connection is there")
+
+
+class HeavyPlay(Play):
+    """One member alone beside the plain one, both with many routes, by a short Hold Time and by long messages where it has them."""
+
+    def run(self):
+        self.start()
+        self.come_up()
+        member = self.members[0]
+        self.note_speech(member)
+        self.note("hears all", member, *self.hears(member))
+        self.note("is heard", member, *self.is_heard(member))
+        self.ask_again()
+        self.be_silent(member)
+        self.end_member(member)
+        self.end_server(member)
+
+    def said(self, member):
+        """The limit of messages and the Hold Time of its last session, as the server says."""
+        found = re.findall(rf" {member.name} up: .* up to (\d+) octets, Hold Time (\d+)", (self.room / "served.log").read_text())
+        return tuple(map(int, found[-1])) if found else (0, 0)
+
+    def note_speech(self, member):
+        long = self.said(member)[0] == 65535
+        self.note("long messages", member, long, "the server does not say so") if long else self.seen.update({("long messages", member.name): "offers none"})
+
+    def hears(self, member):
+        """Whether the member shows what it is to be told, and what is wrong."""
+        due = self.others(member)
+        holds = lambda: self.table(member).keys() == due.keys()
+        self.wait(holds)
+        table = self.table(member)
+        other = [it for it in due if it in table and not alike(member, due[it], table[it])]
+        return table.keys() == due.keys() and not other, f"{len(table)} routes of {len(due)}, {len(other)} otherwise"
+
+    def is_heard(self, member):
+        """Whether the plain member has what this one sends, and what is wrong."""
+        due = member.sent()
+        self.wait(lambda: self.plain.table == due)
+        return self.plain.table == due, f"the plain member has {len(self.plain.table)} routes of {len(due)}"
+
+    def be_silent(self, member):
+        hold, before = self.said(member)[1], self.plain.count
+        time.sleep(30)
+        good = hold == 9 and member.is_up() and self.first(member) and self.plain.stays and self.plain.count == before
+        self.note("Hold Time 9", member, good, f"Hold Time {hold}, {member.state()}")
+
+    def both(self, member):
+        """Whether the session is there, and both have all routes, and what is wrong."""
+        up = self.wait(member.is_up)
+        for part in (self.hears, self.is_heard):
+            good, wrong = part(member)
+            if not (up and good):
+                return False, f"{member.state()}, {wrong}"
+        return True, None
+
+    def end_member(self, member):
+        member.kill()
+        gone = self.wait(lambda: not self.plain.table)
+        time.sleep(1)
+        member.start()
+        self.wait(lambda: member.state() != "not there")
+        member.after_start()
+        good, wrong = self.both(member)
+        self.note("is ended and comes back", member, gone and good, wrong or "its routes stayed")
+
+    def end_server(self, member):
+        self.server.kill()
+        self.server.wait()
+        down = self.wait(lambda: not member.is_up())
+        self.serve()
+        good, wrong = self.both(member)
+        self.note("the server is ended and comes back", member, down and good, wrong or "its session stayed")
 
 
 def alike(member, sent, shown):

@@ -53,19 +53,22 @@ def prefixes(field):
 class Speaker:
     """A member's end of a session. `came_up`, `told_of` and `refused` are for the subclass."""
 
+    # The Hold Time that it offers, in seconds.
+    hold = 90
+
     def __init__(self, number, address, server, source, capabilities=b""):
         self.heard, self.is_up, self.beat = bytearray(), False, time.monotonic()
         self.socket = socket.create_connection(server, timeout=5, source_address=(source, 0))
         self.socket.setblocking(False)
         capabilities += b"\x41\x04" + struct.pack(">I", number)
         short = number if number < 65536 else 23456
-        body = struct.pack(">BHHI", 4, short, 90, int.from_bytes(socket.inet_aton(address), "big"))
+        body = struct.pack(">BHHI", 4, short, self.hold, int.from_bytes(socket.inet_aton(address), "big"))
         parameters = b"\x02" + bytes([len(capabilities)]) + capabilities
         self.out = bytearray(message(OPEN, body + bytes([len(parameters)]) + parameters) + message(KEEPALIVE))
 
     def write(self):
         """Sends what the socket takes, and a KEEPALIVE where it is time for one."""
-        if time.monotonic() > self.beat + 20:
+        if time.monotonic() > self.beat + self.hold / 4:
             self.out += message(KEEPALIVE)
             self.beat = time.monotonic()
         with contextlib.suppress(BlockingIOError):

@@ -4,6 +4,6 @@ from .exabgp import ExaBgp
 from .frr import Frr
 from .gobgp import GoBgp
 from .openbgpd import OpenBgpd
-from .router import Place, Route
+from .router import Place, Route, prefixes_of
 
 ALL = (Bird, OpenBgpd, Frr, GoBgp, ExaBgp)

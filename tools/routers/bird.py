@@ -7,6 +7,7 @@ from .router import Route, Router, run
 
 class Bird(Router):
     name, package, has_short = "bird", "bird2", True
+    has_long = True
     counts = "routes"
 
     @staticmethod
@@ -45,6 +46,7 @@ protocol bgp route_server {{
 	multihop;
 	connect delay time 1;
 	enable as4 {"off" if self.short else "on"};
+	enable extended messages {"on" if self.long else "off"};
 	ipv4 {{ next hop address {self.next_hop}; import all; export filter to_server; }};
 }}
 """}
@@ -67,8 +69,9 @@ protocol bgp route_server {{
         for line in self.ask("show", "route", "all", "protocol", "route_server").splitlines():
             if found := re.match(r"([\d.]+/\d+) ", line):
                 prefix, seen = found[1], {}
-            elif found := re.match(r"\s+BGP\.(\w+): ?(.*)", line):
-                seen[found[1]] = found[2]
+            elif found := re.match(r"\s+(?:BGP\.|bgp_)(\w+): ?(.*)", line):
+                # BIRD 3 calls the path so.
+                seen[{"path": "as_path"}.get(found[1], found[1])] = found[2]
             if prefix and seen:
                 pairs = re.findall(r"\((\d+),(\d+)\)", seen.get("community", ""))
                 table[prefix] = Route(

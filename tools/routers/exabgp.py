@@ -1,4 +1,5 @@
 """ExaBGP as a member."""
+import contextlib
 import os
 import pwd
 import re
@@ -11,7 +12,7 @@ LINE = re.compile(r"ipv4 unicast ([\d.]+/\d+) next-hop ([\d.]+)(.*)")
 
 class ExaBgp(Router):
     name, package, has_short = "exabgp", "exabgp", True
-    keeps_told = True
+    keeps_told, has_long = True, True
 
     @staticmethod
     def missing():
@@ -36,7 +37,7 @@ class ExaBgp(Router):
 	connect {self.place.port};
 	adj-rib-in true;
 	family {{ ipv4 unicast; }}
-	capability {{ asn4 {"disable" if self.short else "enable"}; route-refresh enable; }}
+	capability {{ asn4 {"disable" if self.short else "enable"}; route-refresh enable; extended-message {"enable" if self.long else "disable"}; }}
 	static {{
 {routes}
 	}}
@@ -44,9 +45,10 @@ class ExaBgp(Router):
 """}
 
     def start(self):
-        (self.room / "run").mkdir()
+        (self.room / "run").mkdir(exist_ok=True)
         for end in ("in", "out"):
-            os.mkfifo(self.room / "run" / f"interop.{end}", 0o600)
+            with contextlib.suppress(FileExistsError):
+                os.mkfifo(self.room / "run" / f"interop.{end}", 0o600)
         super().start()
 
     def surroundings(self):

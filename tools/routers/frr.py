@@ -10,7 +10,7 @@ PROGRAM = pathlib.Path("/usr/lib/frr/bgpd")
 
 class Frr(Router):
     name, package = "frr", "frr"
-    settings = "`no bgp ebgp-requires-policy`"
+    settings = "`no bgp ebgp-requires-policy`, `no neighbor .. enforce-first-as` (checked by itself from some version on)"
 
     @staticmethod
     def missing():
@@ -38,7 +38,7 @@ class Frr(Router):
         networks = "\n".join(f"  network {it} route-map kind{at % 4}" for at, it in enumerate(self.prefixes))
         return {"bgpd.conf": f"""frr defaults traditional
 {chr(10).join(maps)}
-ip prefix-list own permit {self.prefixes[0].partition("/")[0]}/14 le 24
+ip prefix-list own permit {self.prefixes[0].partition("/")[0]}/8 le 24
 route-map to_server permit 10
  match ip address prefix-list own
  set ip next-hop {self.next_hop}
@@ -51,6 +51,7 @@ router bgp {self.number}
  neighbor {self.place.server} port {self.place.port}
  neighbor {self.place.server} update-source {self.address}
  neighbor {self.place.server} ebgp-multihop 2
+ no neighbor {self.place.server} enforce-first-as
  neighbor {self.place.server} timers connect 2
  neighbor {self.place.server} advertisement-interval 0
  address-family ipv4 unicast
@@ -80,7 +81,8 @@ router bgp {self.number}
     def table(self):
         table = {}
         for prefix, it in loaded(self.ask("show bgp ipv4 unicast json detail")).get("routes", {}).items():
-            for one in it[1:]:
+            # A list behind its head, or in later versions a table with the paths.
+            for one in it["paths"] if isinstance(it, dict) else it[1:]:
                 if one.get("peer", {}).get("peerId") == self.place.server:
                     path = tuple(number for part in one["aspath"]["segments"] for number in part["list"])
                     pairs = tuple(one.get("community", {}).get("list", ()))
