@@ -2,7 +2,7 @@
 # It stands on `rt`, the command of the Rattle toolchain, and on Python 3.
 
 .DEFAULT_GOAL := help
-.PHONY: help demo try build package serve test interop bench attack examples clean
+.PHONY: help demo try build package serve test interop bench hostile attack examples clean
 
 PROGRAMS := rs_replay rs_served
 
@@ -41,6 +41,10 @@ bench: ## measure the server among BIRD, OpenBGPD, FRR and GoBGP, and write docs
 	@[ -x out/rs_served ] || { echo "out/rs_served isn't there: make build makes it"; exit 1; }
 	@python3 bench/bench.py out/rs_served $(if $(FULL),--full) --page docs/BENCH.md
 
+hostile: ## play hostile members and accidents to the server and to others, and write docs/HOSTILE.md (ROWS=c,d: those alone; all: about an hour)
+	@[ -x out/rs_served ] || { echo "out/rs_served isn't there: make build makes it"; exit 1; }
+	@python3 tools/hostile.py out/rs_served $(if $(ROWS),--rows $(ROWS)) --page docs/HOSTILE.md
+
 attack: ## try the wrong programs of attacks/, beyond those of the gate (CRATE=rs_octets: those of one crate)
 	@python3 tools/attack.py $(CRATE)
 
@@ -48,4 +52,4 @@ examples: ## compare the example configurations with those that are tested
 	@python3 tools/check_examples.py
 
 clean: ## remove all that was built
-	rm -rf out crates/*/out tools/__pycache__ tools/routers/__pycache__ bench/__pycache__
+	rm -rf out crates/*/out tools/__pycache__ tools/hostile/__pycache__ tools/routers/__pycache__ bench/__pycache__

@@ -50,16 +50,33 @@ def prefixes(field):
         at += size
 
 
+def connected(server, source, window=None):
+    """A socket connected from this address, which waits for nothing."""
+    it = socket.socket()
+    try:
+        if window:
+            it.setsockopt(socket.SOL_SOCKET, socket.SO_RCVBUF, window)
+        it.settimeout(5)
+        it.bind((source, 0))
+        it.connect(server)
+    except OSError:
+        it.close()
+        raise
+    it.setblocking(False)
+    return it
+
+
 class Speaker:
     """A member's end of a session. `came_up`, `told_of` and `refused` are for the subclass."""
 
     # The Hold Time that it offers, in seconds.
     hold = 90
+    # What its receive buffer takes, where that is not the system's choice.
+    window = None
 
     def __init__(self, number, address, server, source, capabilities=b""):
         self.heard, self.is_up, self.beat = bytearray(), False, time.monotonic()
-        self.socket = socket.create_connection(server, timeout=5, source_address=(source, 0))
-        self.socket.setblocking(False)
+        self.socket = connected(server, source, self.window)
         capabilities += b"\x41\x04" + struct.pack(">I", number)
         short = number if number < 65536 else 23456
         body = struct.pack(">BHHI", 4, short, self.hold, int.from_bytes(socket.inet_aton(address), "big"))

@@ -1,0 +1,61 @@
+"""The page of hostile.py: a verdict for each row, and what was seen of each server."""
+import datetime
+import os
+import platform
+
+from .table import ROWS, SHORT_SLACK, SLACK
+
+INTRODUCTION = """
+What a member with nothing but valid octets, a stranger or an accident can do to others' sessions and to the time that they wait.
+Each attack is played to the built server and, where they take it, to BIRD with one table, BIRD with a table for each client and
+OpenBGPD, one after the other, on loopback; each ends within a bound. A row is missed where the server doesn't do what stands under
+"To be"; a miss is played once more before it counts. Figures of others are for comparison, and no verdict but where "To be" names them.
+"""
+WORDS = f"""
+## What the words mean
+
+- **A change waits**: one of two members changes a prefix some twenty times a second (beside `--reload` as often as it can), and the other waits for it, from the moment at which the first writes the UPDATE. One that doesn't come counts as long as it was waited for.
+- **Lost**: the session ended, by the NOTIFICATION that the member was sent (4/0: Hold Timer Expired) or by the connection's end alone.
+- **Of the processor**: processor time of the server and its descendants, by their clocks.
+- **Load**: the machine's load average of one minute when the row began. Since the machine has other work too, a change may wait {SLACK:g} s longer than "To be" says ({SHORT_SLACK:g} s in rows e, i and n).
+"""
+
+
+def verdict(it):
+    if it["missed"]:
+        return f"**missed**: {it['missed']}"
+    return "held" + (" when played once more" if it["times"] > 1 else "")
+
+
+def page(kept, targets):
+    """The whole page, of the rows that were played to this build."""
+    machine = f"{platform.processor() or platform.machine()}, {os.cpu_count()} processors, {platform.system()} {platform.release()}"
+    played = [(row, kept.rows[row.letter]) for row in ROWS if row.letter in kept.rows]
+    days = sorted({datetime.date.fromisoformat(it["day"]) for _, it in played})
+    text = ["# Hostile members, and accidents", ""]
+    text += [f"Made by `make hostile` on {' and '.join(f'{it.day} {it:%B %Y}' for it in days)}: {machine}.", INTRODUCTION]
+    text += ["Servers: " + ", ".join(f"{it.name} ({it.version()})" for it in targets.values() if not it.missing) + "."]
+    text += [f"Skipped: {it.name} {it.missing}." for it in targets.values() if it.missing]
+    text += ["", "## Verdicts", "", "| | Attack or accident | To be | Verdict | Load |", "|---|---|---|---|---:|"]
+    text += [f"| {row.letter} | {row.attack} | {row.wanted} | {verdict(it)} | {it['load']:.1f} |" for row, it in played]
+    text += [f"| {row.letter} | {row.attack} | {row.wanted} | not played | |" for row in ROWS if row.letter not in kept.rows]
+    text += ["", "## What was seen", "", "| | Server | Seen |", "|---|---|---|"]
+    text += [f"| {row.letter} | {name} | {words} |" for row, it in played for name, words in it["seen"].items()]
+    text += ["", "## Sizes", "", "| | |", "|---|---|"]
+    text += [f"| {row.letter} | {sizes(row.sizes)} |" for row, _ in played if row.sizes]
+    return "\n".join(text) + "\n" + WORDS
+
+
+def sizes(them):
+    """The sizes of a row, as a person reads them."""
+    return ", ".join(f"{name} {listed(value)}" for name, value in them.items())
+
+
+def listed(value):
+    if isinstance(value, dict):
+        return f"({sizes(value)})"
+    if isinstance(value, tuple):
+        return " and ".join(map(listed, value))
+    if isinstance(value, bool):
+        return "yes" if value else "no"
+    return f"{value:,}" if isinstance(value, int) else str(value)
