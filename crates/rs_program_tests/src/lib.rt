@@ -6,4 +6,6 @@
 #[cfg(test)]
 mod live;
 #[cfg(test)]
+mod plain;
+#[cfg(test)]
 mod replays;

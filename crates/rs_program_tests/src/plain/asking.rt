@@ -1,0 +1,343 @@
+//! Cases on standard input, each answered by a line: whether the clients of a route server hold what they are to hold.
+//!
+//! A line of a case is one of these, its words parted by blanks; a number that isn't there is `-`, and yes is 1.
+//!
+//!     server AS PASSES EXTENDED REFRESH      the first line
+//!     without SENTENCE                       the definitions are read without this one
+//!     client AS ADDRESS                      a client, in the order of the configuration
+//!     import PASSES PREFERENCE BITS LENGTH MIN MAX FROM PATH_HAS ORIGIN_AS COMMUNITY NEXT_HOP_IS_PEER STRIPS_ALL STRIP..
+//!     export ..                              a rule of the client above
+//!     heard HEX                              what came from it since its connection came
+//!     sent HEX                               what was sent to it since then
+//!     end                                    the case is to be answered
+
+use crate::plain::choice::due;
+use crate::plain::meaning::{Meaning, Reader, read_octets};
+use crate::plain::passing::is_passed_on;
+use crate::plain::rules::{Range, Rule};
+use crate::plain::{Client, Exchange, Filter, Route, Sentence, Session, route_at};
+use rs_attrs::Mode;
+use rs_octets::Prefix;
+use std::alloc::{AllocError, Global};
+use std::io::{BufRead, BufReader};
+use std::test::Fail;
+
+/// The octets that passed between a client and the server.
+#[derive(Drop)]
+struct Link {
+    heard: Vec<u8>,
+    sent: Vec<u8>,
+}
+
+/// A case, as far as it was read.
+#[derive(Drop)]
+struct Case {
+    alloc: Global,
+    exchange: Exchange,
+    links: Vec<Link>,
+    extended: bool,
+    refresh: bool,
+    without: Option<Sentence>,
+}
+
+/// How a case is answered.
+#[derive(Clone, Copy)]
+enum Answer {
+    /// All Established clients hold what they are to hold, so many routes.
+    Same(u64),
+    /// The octets that were sent to this client are not whole messages without a fault.
+    Unreadable(usize),
+    /// At this prefix the client holds another route than it is to hold.
+    Differs(usize, Prefix),
+}
+
+fn number(words: &[&str], at: usize) -> Option<u32> {
+    words.get(at)?.parse::<u32>().ok()
+}
+
+fn yes(words: &[&str], at: usize) -> Option<bool> {
+    number(words, at).map(|it| it == 1)
+}
+
+fn sentence(name: &str) -> Option<Sentence> {
+    for (known, sentence) in [
+        ("last-mention", Sentence::LastMention),
+        ("established", Sentence::Established),
+        ("of-another", Sentence::OfAnother),
+        ("servers-as", Sentence::ServersAs),
+        ("import", Sentence::Import),
+        ("export", Sentence::Export),
+        ("stripped", Sentence::Stripped),
+        ("fits", Sentence::Fits),
+        ("preference", Sentence::Filter(Filter::Preference)),
+        ("path", Sentence::Filter(Filter::Path)),
+        ("origin", Sentence::Filter(Filter::Origin)),
+        ("med", Sentence::Filter(Filter::Med)),
+        ("identifier", Sentence::Filter(Filter::Identifier)),
+        ("address", Sentence::Filter(Filter::Address)),
+        ("place", Sentence::Filter(Filter::Place)),
+    ] {
+        if name == known {
+            return Some(sentence);
+        }
+    }
+    None
+}
+
+/// The range of a rule, where its four words are there.
+fn range(words: &[&str]) -> Option<Range> {
+    let len = u8::try_from(number(words, 4)?).ok()?;
+    Some(Range {
+        prefix: Prefix::new(number(words, 3)?, len)?,
+        min: number(words, 5)?,
+        max: number(words, 6)?,
+    })
+}
+
+fn rule(alloc: Global, words: &[&str]) -> Result<Rule, AllocError> {
+    let mut strips = Vec::new(alloc);
+    for at in 13..words.len() {
+        if let Some(community) = number(words, at) {
+            strips.push(community)?;
+        }
+    }
+    Ok(Rule {
+        range: range(words),
+        from: number(words, 7).map(|it| it as usize),
+        path_has: number(words, 8),
+        origin_as: number(words, 9),
+        community: number(words, 10),
+        next_hop_is_peer: yes(words, 11),
+        passes: yes(words, 1) == Some(true),
+        preference: number(words, 2),
+        strips_all: yes(words, 12) == Some(true),
+        strips,
+    })
+}
+
+/// The octets of a word of hexadecimal digits; none where it isn't there.
+fn octets(alloc: Global, words: &[&str]) -> Vec<u8> {
+    match words.get(1) {
+        Some(word) => hex::decode(alloc, *word).unwrap_or(Vec::new(alloc)),
+        None => Vec::new(alloc),
+    }
+}
+
+impl Case {
+    fn new(alloc: Global) -> Case {
+        Case {
+            alloc,
+            exchange: Exchange {
+                number: 0,
+                passes: true,
+                clients: Vec::new(alloc),
+            },
+            links: Vec::new(alloc),
+            extended: false,
+            refresh: false,
+            without: None,
+        }
+    }
+
+    fn server(&mut self, words: &[&str]) {
+        self.exchange.number = number(words, 1).unwrap_or(0);
+        self.exchange.passes = yes(words, 2) == Some(true);
+        self.extended = yes(words, 3) == Some(true);
+        self.refresh = yes(words, 4) == Some(true);
+    }
+
+    fn client(&mut self, words: &[&str]) -> Result<(), AllocError> {
+        let alloc = self.alloc;
+        self.exchange.clients.push(Client {
+            number: number(words, 1).unwrap_or(0),
+            address: number(words, 2).unwrap_or(0),
+            import: Vec::new(alloc),
+            export: Vec::new(alloc),
+            session: None,
+            table: Vec::new(alloc),
+        })?;
+        self.links.push(Link {
+            heard: Vec::new(alloc),
+            sent: Vec::new(alloc),
+        })?;
+        Ok(())
+    }
+
+    fn rule(&mut self, words: &[&str], is_import: bool) -> Result<(), AllocError> {
+        let rule = rule(self.alloc, words)?;
+        if let Some(client) = self.exchange.clients.last_mut() {
+            let list = if is_import {
+                &mut client.import
+            } else {
+                &mut client.export
+            };
+            list.push(rule)?;
+        }
+        Ok(())
+    }
+
+    fn link(&mut self, words: &[&str], is_heard: bool) {
+        let octets = octets(self.alloc, words);
+        if let Some(link) = self.links.last_mut() {
+            if is_heard {
+                link.heard = octets;
+            } else {
+                link.sent = octets;
+            }
+        }
+    }
+
+    /// One line more, but for `end`.
+    fn take(&mut self, words: &[&str]) -> Result<(), AllocError> {
+        match words.first().copied().unwrap_or("") {
+            "server" => self.server(words),
+            "without" => self.without = sentence(words.get(1).copied().unwrap_or("")),
+            "client" => self.client(words)?,
+            "import" => self.rule(words, true)?,
+            "export" => self.rule(words, false)?,
+            "heard" => self.link(words, true),
+            "sent" => self.link(words, false),
+            _ => {}
+        }
+        Ok(())
+    }
+
+    /// What a client's octets mean.
+    fn hear(&self, place: usize) -> Result<Option<Meaning>, AllocError> {
+        let (Some(client), Some(link)) = (self.exchange.clients.get(place), self.links.get(place))
+        else {
+            return Ok(None);
+        };
+        let reader = Reader {
+            number: Some(client.number),
+            extended: self.extended,
+            refresh: self.refresh,
+            mode: Mode::Four,
+            without: self.without,
+        };
+        Ok(Some(read_octets(self.alloc, &reader, &link.heard)?))
+    }
+
+    /// Hears all clients.
+    fn hear_all(&mut self) -> Result<(), AllocError> {
+        for place in 0..self.exchange.clients.len() {
+            let heard = self.hear(place)?;
+            let Some(client) = self.exchange.clients.get_mut(place) else {
+                continue;
+            };
+            let Some(heard) = heard else {
+                continue;
+            };
+            if heard.is_up() || self.without == Some(Sentence::Established) {
+                client.session = heard.session;
+                client.table = heard.table;
+            }
+        }
+        Ok(())
+    }
+
+    /// What was told to a client, where it can be read.
+    fn told(&self, place: usize, session: &Session) -> Result<Option<Vec<Route>>, AllocError> {
+        let Some(link) = self.links.get(place) else {
+            return Ok(None);
+        };
+        let reader = Reader {
+            number: None,
+            extended: session.limit > 4_096,
+            refresh: false,
+            mode: session.mode,
+            without: None,
+        };
+        let read = read_octets(self.alloc, &reader, &link.sent)?;
+        Ok(if read.is_good { Some(read.table) } else { None })
+    }
+
+    /// Whether a client holds at a prefix what it is to hold there.
+    fn holds(&self, place: usize, told: &[Route], prefix: &Prefix) -> Result<bool, AllocError> {
+        let wanted = due(self.alloc, &self.exchange, place, prefix, self.without)?;
+        match (wanted, route_at(told, prefix)) {
+            (None, None) => Ok(true),
+            (Some(wanted), Some(route)) => {
+                is_passed_on(self.alloc, &wanted, &route.attrs, self.without)
+            }
+            _ => Ok(false),
+        }
+    }
+
+    /// A prefix of these routes at which a client holds another route than it is to hold.
+    fn differs_among(
+        &self,
+        place: usize,
+        told: &[Route],
+        routes: &[Route],
+    ) -> Result<Option<Prefix>, AllocError> {
+        for route in routes {
+            if !self.holds(place, told, &route.prefix)? {
+                return Ok(Some(route.prefix));
+            }
+        }
+        Ok(None)
+    }
+
+    /// A prefix at which a client holds another route than it is to hold.
+    fn differs(&self, place: usize, told: &[Route]) -> Result<Option<Prefix>, AllocError> {
+        if let Some(prefix) = self.differs_among(place, told, told)? {
+            return Ok(Some(prefix));
+        }
+        for client in &self.exchange.clients {
+            if let Some(prefix) = self.differs_among(place, told, &client.table)? {
+                return Ok(Some(prefix));
+            }
+        }
+        Ok(None)
+    }
+
+    fn answer(&mut self) -> Result<Answer, AllocError> {
+        self.hear_all()?;
+        let mut routes = 0u64;
+        for place in 0..self.exchange.clients.len() {
+            let Some(client) = self.exchange.clients.get(place) else {
+                continue;
+            };
+            let Some(session) = client.session else {
+                continue;
+            };
+            let Some(told) = self.told(place, &session)? else {
+                return Ok(Answer::Unreadable(place));
+            };
+            if let Some(prefix) = self.differs(place, &told)? {
+                return Ok(Answer::Differs(place, prefix));
+            }
+            routes = routes.saturating_add(told.len() as u64);
+        }
+        Ok(Answer::Same(routes))
+    }
+}
+
+/// Prints an answer.
+fn print<R: Print>(rt: &R, answer: Answer) -> std::io::Result<()> {
+    match answer {
+        Answer::Same(routes) => println!(rt; "same {routes}"),
+        Answer::Unreadable(place) => println!(rt; "unreadable {place}"),
+        Answer::Differs(place, prefix) => {
+            println!(rt; "differs {place} {} {}", prefix.bits(), prefix.len())
+        }
+    }
+}
+
+#[test]
+fn what_clients_hold(rt: HostRuntime) -> Result<(), Fail> {
+    let alloc = rt.alloc();
+    let mut case = Case::new(alloc);
+    for line in BufReader::new(alloc, rt.reader())?.lines(alloc) {
+        let line = line?;
+        let words: Vec<&str> = line.split_whitespace().collect(alloc)?;
+        if line.as_str() == "end" {
+            print(&rt, case.answer()?)?;
+            case = Case::new(alloc);
+        } else {
+            case.take(&words)?;
+        }
+    }
+    Ok(())
+}

@@ -1,0 +1,231 @@
+#!/usr/bin/env python3
+"""Plays random sessions to a built rs_replay, and holds what its clients hold against the plain function of the tests.
+
+fuzz.py PROGRAM TESTS [CASES [SEED]]
+
+A case is a configuration (rules, limits, long messages, ROUTE-REFRESH) and a session: members that come up, as two-octet
+or four-octet peers, and come again; routes, withdrawals and faults, in any pieces; turns, rooms of any size, losses, moments and
+replaced rules. The seed is printed, by which the same cases come again. Where a case differs, the smallest session that
+still does, found by leaving out lines, is printed with its configuration.
+"""
+import pathlib
+import random
+import struct
+import sys
+import time
+import tomllib
+
+from holding import ask, case, drain, play
+from results import end, tell
+
+CASES = 100
+MARKER = b"\xff" * 16
+NAMES = "abcd"
+PREFIXES = [(bits, length) for bits, length in ((0x0A000000, 8), (0x0A010000, 16), (0x0A010200, 24), (0xC6336400, 24), (0xC6336480, 25), (0, 0), (0xCB007101, 32))]
+COMMUNITIES = ["64500:1", "64500:2", "65535:65281"]
+BIG = 4_200_000_000
+
+
+def message(kind, body):
+    return MARKER + struct.pack(">HB", 19 + len(body), kind) + body
+
+
+KEEPALIVE = message(4, b"")
+
+
+def spelt(prefix):
+    bits, length = prefix
+    return bytes([length]) + struct.pack(">I", bits)[: (length + 7) // 8]
+
+
+def attribute(flags, kind, value):
+    if len(value) > 255:
+        return struct.pack(">BBH", flags | 0x10, kind, len(value)) + value
+    return struct.pack(">BBB", flags, kind, len(value)) + value
+
+
+class Peer:
+    """A member, and how it spells AS numbers since its last connection."""
+
+    def __init__(self, place):
+        self.name, self.number, self.address = NAMES[place], 64496 + place, 0xC000020B + place
+        self.is_four, self.is_long, self.identifier = True, False, self.address
+
+    def open(self, draw):
+        self.is_four, self.is_long = draw.random() < 0.7, draw.random() < 0.5
+        self.identifier = draw.choice([self.address, self.address, 0xC0000201 + draw.randrange(3)])
+        capabilities = (b"\x41\x04" + struct.pack(">I", self.number) if self.is_four else b"") + (b"\x06\x00" if self.is_long else b"")
+        parameters = bytes([2, len(capabilities)]) + capabilities if capabilities else b""
+        hold = draw.choice([0, 0, 90])
+        return message(1, struct.pack(">BHHIB", 4, self.number, hold, self.identifier, len(parameters)) + parameters)
+
+    def path(self, draw):
+        numbers = [self.number] + [draw.choice([64496, 64497, 64500, 64999, 65000]) for _ in range(draw.randrange(3))]
+        if draw.random() < 0.1:
+            numbers += [BIG if self.is_four else 64999] * draw.choice([200, 500, 700])
+        elif draw.random() < 0.3 and self.is_four:
+            numbers.append(BIG)
+        kind, code = draw.choice([2, 2, 2, 1]), ">I" if self.is_four else ">H"
+        pieces = [numbers[at : at + 255] for at in range(0, len(numbers), 255)]
+        return b"".join(bytes([kind, len(it)]) + b"".join(struct.pack(code, one) for one in it) for it in pieces)
+
+    def update(self, draw):
+        withdrawn = b"".join(map(spelt, draw.sample(PREFIXES, draw.choice([0, 0, 1, 2]))))
+        nlri = b"".join(map(spelt, draw.sample(PREFIXES, draw.choice([0, 1, 1, 2, 3]))))
+        field = b""
+        if nlri:
+            field += attribute(0x40, 1, bytes([draw.choice([0, 0, 1, 2, 3] if draw.random() < 0.2 else [0, 0, 2])]))
+            field += attribute(0x40, 2, self.path(draw))
+            if draw.random() < 0.95:
+                field += attribute(0x40, 3, struct.pack(">I", draw.choice([self.address, 0xC000020C])))
+            if draw.random() < 0.4:
+                field += attribute(0x80, 4, struct.pack(">I", draw.randrange(3)))
+            if draw.random() < 0.2:
+                field += attribute(0xC0, 7, struct.pack(">II" if self.is_four else ">HI", 64496, self.address))
+            if draw.random() < 0.4:
+                chosen = draw.sample(COMMUNITIES, draw.choice([1, 2, 3]))
+                field += attribute(0xC0, 8, b"".join(struct.pack(">HH", *map(int, it.split(":"))) for it in chosen))
+            if draw.random() < 0.1:
+                field += attribute(0xC0, 99, b"\xab\xcd")
+        return message(2, struct.pack(">H", len(withdrawn)) + withdrawn + struct.pack(">H", len(field)) + field + nlri)
+
+
+def rule(draw, name):
+    """A rule as the configuration has it."""
+    words = []
+    if draw.random() < 0.5:
+        bits, length = draw.choice(PREFIXES)
+        words.append('prefix = "%d.%d.%d.%d/%d"' % (*struct.pack(">I", bits), length))
+        if draw.random() < 0.5:
+            words.append(f"max = {draw.randrange(length, 33)}")
+    for chance, word in (
+        (0.2, f'from = "{draw.choice(NAMES)}"'),
+        (0.2, f"path_has = {draw.choice([64999, 64497])}"),
+        (0.2, f"origin_as = {draw.choice([64496, 64999, BIG])}"),
+        (0.2, f'community = "{draw.choice(COMMUNITIES)}"'),
+        (0.2, f"next_hop_is_peer = {draw.choice(['true', 'false'])}"),
+    ):
+        if draw.random() < chance:
+            words.append(word)
+    passes = draw.random() < 0.7
+    words.append(f'action = "{"pass" if passes else "drop"}"')
+    if passes and draw.random() < 0.5:
+        words.append(f"preference = {draw.choice([50, 100, 200])}")
+    if passes and draw.random() < 0.5:
+        words.append(draw.choice(['strip = "all"', f'strip = ["{draw.choice(COMMUNITIES)}"]']))
+    return "{ " + ", ".join(words) + " }"
+
+
+def configuration(draw, fixed):
+    """A text; what may not change while the server runs is `fixed`."""
+    extended, refresh = fixed
+    text = f'as = 64500\nidentifier = "192.0.2.1"\nhold = 90\ndefault = "{draw.choice(["pass", "pass", "pass", "drop"])}"\n'
+    text += f"extended = {extended}\nrefresh = {refresh}\n"
+    for place, name in enumerate(NAMES):
+        text += f'\n[[client]]\nname = "{name}"\nas = {64496 + place}\nlisten = "127.0.0.1:{17901 + place}"\npeer = "192.0.2.{11 + place}"\n'
+        if draw.random() < 0.15:
+            text += f"limit = {draw.randrange(1, 5)}\n"
+        for kind in ("import", "export"):
+            if draw.random() < 0.3:
+                text += f"{kind} = [{', '.join(rule(draw, name) for _ in range(draw.randrange(1, 4)))}]\n"
+    return text
+
+
+def pieces(draw, name, octets):
+    """The lines by which octets come, in any pieces."""
+    cuts = sorted(draw.sample(range(len(octets)), min(len(octets), draw.choice([0, 0, 0, 1, 3])))) + [len(octets)]
+    before = 0
+    for cut in cuts:
+        for at in range(before, cut, 4096):
+            yield f"octets {name} {octets[at : min(cut, at + 4096)].hex()}"
+        before = cut
+
+
+def session(draw):
+    """A configuration, and the lines of a session."""
+    fixed = draw.choice(["true", "false"]), draw.choice(["true", "false"])
+    text, peers, moment = configuration(draw, fixed), [Peer(place) for place in range(len(NAMES))], 0
+    lines = []
+    for peer in peers:
+        lines += [f"open {peer.name}", *pieces(draw, peer.name, peer.open(draw) + KEEPALIVE)]
+    for _ in range(draw.randrange(10, 60)):
+        peer, chance = draw.choice(peers), draw.random()
+        if chance < 0.45:
+            lines += pieces(draw, peer.name, b"".join(peer.update(draw) for _ in range(draw.choice([1, 1, 2]))))
+        elif chance < 0.6:
+            lines.append("turn")
+        elif chance < 0.8:
+            lines.append(f"room {peer.name} {draw.choice([1, 19, 50, 1000, 100_000, draw.randrange(1, 300)])}")
+        elif chance < 0.86:
+            lines += [f"lost {peer.name}", f"open {peer.name}", *pieces(draw, peer.name, peer.open(draw) + KEEPALIVE)]
+        elif chance < 0.9:
+            moment += draw.choice([1, 29, 30])
+            lines.append(f"moment {moment}")
+        elif chance < 0.94:
+            lines.append(f"rules {configuration(draw, fixed).encode().hex()}")
+        elif chance < 0.97:
+            lines.append(f"octets {peer.name} {(message(5, bytes([0, 1, 0, 1])) if fixed[1] == 'true' else KEEPALIVE).hex()}")
+        else:
+            octets = bytearray(peer.update(draw))
+            octets[draw.randrange(len(octets))] = draw.randrange(256)
+            lines += pieces(draw, peer.name, bytes(octets))
+    return text, [line for line in lines if len(line) <= 8_000]
+
+
+def played(program, text, lines, workers):
+    return play(program, text, [*lines, *drain(tomllib.loads(text))], workers)
+
+
+def differs(program, tests, text, lines, workers):
+    """What is wrong with a session, or None."""
+    one = played(program, text, lines, workers)
+    if one.status:
+        return f"status {one.status}: {one.errors.strip()}"
+    (answer,) = ask(tests, [list(case(one))])
+    return None if answer and answer.startswith("same") else str(answer)
+
+
+def smallest(program, tests, text, lines, workers):
+    """The session without each line that can be left out while it still differs."""
+    size = len(lines) // 2
+    while size:
+        at = 0
+        while at < len(lines):
+            fewer = lines[:at] + lines[at + size :]
+            if differs(program, tests, text, fewer, workers):
+                lines = fewer
+            else:
+                at += size
+        size //= 2
+    return lines
+
+
+def fuzz(program, tests, cases, seed):
+    """The results of so many cases."""
+    for file in (program, tests):
+        if not file.exists():
+            yield "random sessions", f"{file} isn't there"
+            return
+    draw, tried = random.Random(seed), []
+    for number in range(cases):
+        text, lines = session(draw)
+        workers = draw.choice([1, 2, 3])
+        tried.append((text, lines, workers, played(program, text, lines, workers)))
+    answers, held = ask(tests, [list(case(it[3])) for it in tried]), 0
+    for number, (answer, (text, lines, workers, one)) in enumerate(zip(answers, tried)):
+        if one.status or answer is None or not answer.startswith("same"):
+            least = smallest(program, tests, text, lines, workers)
+            wrong = differs(program, tests, text, least, workers)
+            yield f"random session {number} of seed {seed}", "\n".join([str(wrong), text, *least])
+        else:
+            held += int(answer.split()[1])
+    yield f"{cases} random sessions of seed {seed}, {held} routes held", None if held else "no route was held"
+
+
+if __name__ == "__main__":
+    if len(sys.argv) < 3:
+        sys.exit(__doc__)
+    number = int(sys.argv[3]) if len(sys.argv) > 3 else CASES
+    chosen = int(sys.argv[4]) if len(sys.argv) > 4 else time.time_ns() % 2**32
+    print(f"seed {chosen}", flush=True)
+    end(*tell(fuzz(pathlib.Path(sys.argv[1]).resolve(), pathlib.Path(sys.argv[2]).resolve(), number, chosen)))

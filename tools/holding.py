@@ -1,0 +1,148 @@
+"""What the clients of a recorded session hold, asked of the plain function of the tests (crates/rs_program_tests/src/plain.rt).
+
+A session is played with two things beside it. A spare client connects first, and again behind each line: it is busy then,
+which shows in the output where what a line brought about ends. Behind the session stand a turn and room for all, by which
+each Established client is drained. What came from each client since its connection came, and what was sent to it, is then
+given to the plain function, which says whether the one is what the others ask for.
+"""
+import collections
+import ipaddress
+import subprocess
+import tomllib
+
+TEST = "plain::asking::what_clients_hold"
+SPARE = "spare"
+SPARE_CLIENT = f'\n[[client]]\nname = "{SPARE}"\nas = 65535\nlisten = "127.0.0.1:65535"\npeer = "203.0.113.255"\n'
+ALL = 2**64 - 1
+SECONDS = 120
+
+# A session that was played: its configuration, the lines with what each wrote, what it wrote behind them, its status, and
+# what was said on standard error.
+Played = collections.namedtuple("Played", "config lines rest status errors")
+
+
+class Link:
+    """What passed between a client and the server since its connection came."""
+
+    def __init__(self):
+        self.heard, self.sent = bytearray(), bytearray()
+
+
+def with_spare(line):
+    """The line, and where it replaces the rules also those with the spare client."""
+    word, *rest = line.split(" ")
+    if word == "rules" and rest:
+        return f"rules {rest[0]}{SPARE_CLIENT.encode().hex()}"
+    return line
+
+
+def names(config):
+    return [it["name"] for it in config["client"]]
+
+
+def drain(config):
+    """The lines by which each Established client is drained."""
+    return ["turn", *(f"room {name} {ALL}" for name in names(config))]
+
+
+def play(program, text, lines, workers=1, environment=None, descriptors=()):
+    """Plays a session by the configuration of this text."""
+    trace = [f"open {SPARE}"]
+    for line in lines:
+        trace += [with_spare(line), f"open {SPARE}"]
+    with open("/dev/shm/tivrazel_config.toml", "w") as file:
+        file.write(text + SPARE_CLIENT)
+    run = subprocess.run(
+        [program, "--config", file.name, "--workers", str(workers)],
+        input="\n".join(trace).encode(),
+        capture_output=True,
+        timeout=SECONDS,
+        env=environment,
+        pass_fds=descriptors,
+    )
+    parts = [[]]
+    for line in run.stdout.decode().splitlines():
+        if line == f"busy {SPARE}":
+            parts.append([])
+        else:
+            parts[-1].append(line)
+    *parts, rest = parts
+    return Played(tomllib.loads(text), list(zip(lines, parts)), rest, run.returncode, run.stderr.decode())
+
+
+def links(played):
+    """The configuration that held last, and what passed on each link that is connected."""
+    config, found = played.config, {}
+    for line, written in played.lines:
+        word, *words = line.split(" ")
+        if word == "open" and f"busy {words[0]}" not in written:
+            found[words[0]] = Link()
+        elif word == "octets" and words[0] in found and len(words) > 1:
+            found[words[0]].heard += bytes.fromhex(words[1])
+        elif word == "lost":
+            found.pop(words[0], None)
+        elif word == "rules" and "rules accepted" in written:
+            config = tomllib.loads(bytes.fromhex(words[0]).decode())
+        for it in written:
+            what, name, *octets = it.split(" ")
+            if what == "sent" and name in found:
+                found[name].sent += bytes.fromhex(octets[0])
+            elif what == "close":
+                found.pop(name, None)
+    return config, found
+
+
+def number(value):
+    return "-" if value is None else str(int(value))
+
+
+def community(text):
+    high, low = text.split(":")
+    return int(high) << 16 | int(low)
+
+
+def rule(config, it):
+    """The words of a rule."""
+    words = [number(it["action"] == "pass"), number(it.get("preference"))]
+    if "prefix" in it:
+        network = ipaddress.ip_network(it["prefix"], strict=False)
+        least = it.get("min", network.prefixlen)
+        words += [number(int(network.network_address)), number(network.prefixlen), number(least), number(it.get("max", least))]
+    else:
+        words += ["-"] * 4
+    strip = it.get("strip", [])
+    words += [
+        number(names(config).index(it["from"]) if "from" in it else None),
+        number(it.get("path_has")),
+        number(it.get("origin_as")),
+        number(community(it["community"]) if "community" in it else None),
+        number(it.get("next_hop_is_peer")),
+        number(strip == "all"),
+    ]
+    return " ".join(words + ([] if strip == "all" else [number(community(one)) for one in strip]))
+
+
+def case(played, without=None):
+    """The lines of a case for the plain function, read without a sentence or with all."""
+    config, found = links(played)
+    flags = config.get("default", "pass") == "pass", config.get("extended", False), config.get("refresh", False)
+    yield " ".join(["server", number(config["as"]), *map(number, flags)])
+    if without:
+        yield f"without {without}"
+    for client in config["client"]:
+        yield f"client {client['as']} {int(ipaddress.ip_address(client['peer']))}"
+        for kind in ("import", "export"):
+            for it in client.get(kind, []):
+                yield f"{kind} {rule(config, it)}"
+        if link := found.get(client["name"]):
+            yield f"heard {link.heard.hex()}"
+            yield f"sent {link.sent.hex()}"
+    yield "end"
+
+
+def ask(tests, cases):
+    """What the plain function answers to each case: its own line, or None where it didn't answer."""
+    text = "\n".join("\n".join(it) for it in cases)
+    run = subprocess.run([tests, TEST], input=text.encode(), capture_output=True, timeout=600)
+    answers = [it for it in run.stdout.decode().splitlines() if it.split(" ")[0] in ("same", "differs", "unreadable")]
+    return answers + [None] * (len(cases) - len(answers))
