@@ -5,18 +5,19 @@ use Rattle.std.specs.List.{list_any, AllPairs}
 use Rattle.std.proofs.lemmas.List.{get_or-take, length-take}
 use Rattle.toml.specs.Data.{Data, Members, table}
 use Rattle.toml.specs.Parse.{parse_document}
-use Rattle.rs_policy.specs.Keys.{top_keys, client_keys, rule_keys}
-use Rattle.rs_policy.specs.Values.{keyed, has_only, fault_in, value_or, stranger, first_failing, or_fault, answer, each_from, checks_from}
-use Rattle.rs_policy.specs.Configuration.{Client, Configuration}
-use Rattle.rs_policy.specs.Rules.{prefix_at, prefix_in, min_at, min_in, max_at, max_in, range_checks, range_of, from_at, path_has_at, origin_as_at, community_at, next_hop_is_peer_at, test_checks, tests_of, disposition_at, disposition_in, preference_at, strip_at, action_checks, action_of, rule_checks, rule_of}
-use Rattle.rs_policy.specs.Documents.{the_top, server_as_at, identifier_at, hold_at, default_at, flag_at, clients_at, top_of, top_checks, client_place, name_at, client_as_at, listen_at, peer_at, limit_at, client_from, clients_from, is_same, client_checks, clients_checks, rule_place, rules_at, rules_checks, list_checks, list_of_rules, policy_from, policy_checks, policies_checks, client_tables, document_checks, configuration_of, config_from, config_of}
-use Rattle.rs_policy.specs.Accepted.{SaysTop, SaysClient, SaysRange, SaysTests, SaysAction, SaysRule, SaysEach, SaysRules, SaysPolicy, Says, AcceptedSays}
+use Rattle.rs_policy.specs.Keys.{top_keys, client_keys, named_list_keys, rule_keys}
+use Rattle.rs_policy.specs.Values.{keyed, list_place, has_only, fault_in, value_or, stranger, first_failing, or_fault, answer, each_from, checks_from}
+use Rattle.rs_policy.specs.Configuration.{Client, NamedList, Configuration}
+use Rattle.rs_policy.specs.NamedLists.{list_name_at, has_entries, entries_needed, prefixes_at, ases_at, named_list_from, named_lists_from, is_same_name, named_list_checks, named_lists_checks}
+use Rattle.rs_policy.specs.Rules.{prefix_at, prefix_in, min_at, min_in, max_at, max_in, range_checks, range_of, prefix_in_at, from_at, path_has_at, origin_as_at, origin_in_at, community_at, next_hop_is_peer_at, test_checks, tests_of, disposition_at, disposition_in, preference_at, strip_at, action_checks, action_of, rule_checks, rule_of}
+use Rattle.rs_policy.specs.Documents.{the_top, server_as_at, identifier_at, hold_at, default_at, flag_at, clients_at, lists_at, top_of, top_checks, client_place, name_at, client_as_at, listen_at, peer_at, limit_at, client_from, clients_from, is_same, client_checks, clients_checks, rule_place, rules_at, rules_checks, list_checks, list_of_rules, policy_from, policy_checks, policies_checks, client_tables, list_tables, document_checks, configuration_of, config_from, config_of}
+use Rattle.rs_policy.specs.Accepted.{SaysTop, SaysClient, SaysNamedList, SaysRange, SaysTests, SaysAction, SaysRule, SaysEach, SaysRules, SaysPolicy, Says, AcceptedSays}
 use Rattle.rs_policy.specs.declared.faults.Key.TheVariants as K
 use Rattle.rs_policy.specs.declared.faults.List.{List as RuleList}
 use Rattle.rs_policy.specs.declared.faults.List.TheVariants.{Import, Export}
 use Rattle.rs_policy.specs.declared.faults.Place.{Place}
 use Rattle.rs_policy.specs.declared.faults.ConfigFault.{ConfigFault}
-use Rattle.rs_policy.specs.declared.faults.ConfigFault.TheVariants.{BadValue, Twice}
+use Rattle.rs_policy.specs.declared.faults.ConfigFault.TheVariants.{BadValue, Missing, Twice, TwiceList}
 use Rattle.rs_policy.specs.declared.rules.Disposition.TheVariants as D
 use Rattle.rs_policy.specs.declared.rules.Stripping.TheVariants.{Named}
 
@@ -93,6 +94,27 @@ client_alone n earlier d e =
     let h : AllPass (client_checks n earlier d) = all_pass (client_checks n earlier d) e in
     fails_if (list_any (is_same (client_from n d)) earlier) (Twice n) h.1.1.1.1.1.1.0
 
+-- ---- a list
+
+list_says : (n : ℕ) (earlier : List NamedList) (d : Data) → Pass (named_list_checks n earlier d) → SaysNamedList n d (named_list_from n d)
+unfolding named_list_checks named_list_from entries_needed
+list_says n earlier d e =
+    let h : AllPass (named_list_checks n earlier d) = all_pass (named_list_checks n earlier d) e in
+    record {
+      name = was_read [] (list_name_at n d) h.0;
+      some = holds_if (has_entries d) (Missing (keyed (list_place n) K.Prefixes)) h.1.0;
+      prefixes = was_read None (prefixes_at n d) h.1.1.0;
+      ases = was_read None (ases_at n d) h.1.1.1.0;
+      only = holds_if (has_only named_list_keys d) (BadValue (keyed (list_place n) K.Other)) h.1.1.1.1.0;
+    }
+
+list_alone : (n : ℕ) (earlier : List NamedList) (d : Data) → Pass (named_list_checks n earlier d)
+    → list_any (is_same_name (named_list_from n d)) earlier ≡ false
+unfolding named_list_checks
+list_alone n earlier d e =
+    let h : AllPass (named_list_checks n earlier d) = all_pass (named_list_checks n earlier d) e in
+    fails_if (list_any (is_same_name (named_list_from n d)) earlier) (TwiceList n) h.1.1.1.1.1.0
+
 -- ---- a rule
 
 range_says : (place : Place) (d : Data) → Pass (range_checks place d) → SaysRange place d (range_of place d)
@@ -109,17 +131,19 @@ range_says place d e =
       range_is = refl;
     }
 
-tests_say : (clients : List Client) (place : Place) (d : Data) → Pass (test_checks clients place d)
-    → SaysTests clients place d (tests_of clients place d)
+tests_say : (clients : List Client) (lists : List NamedList) (place : Place) (d : Data) → Pass (test_checks clients lists place d)
+    → SaysTests clients lists place d (tests_of clients lists place d)
 unfolding test_checks tests_of
-tests_say clients place d e =
-    let h : AllPass (test_checks clients place d) = all_pass (test_checks clients place d) e in
+tests_say clients lists place d e =
+    let h : AllPass (test_checks clients lists place d) = all_pass (test_checks clients lists place d) e in
     record {
-      from = was_read None (from_at clients place d) h.0;
-      path_has = was_read None (path_has_at place d) h.1.0;
-      origin_as = was_read None (origin_as_at place d) h.1.1.0;
-      community = was_read None (community_at place d) h.1.1.1.0;
-      next_hop_is_peer = was_read None (next_hop_is_peer_at place d) h.1.1.1.1.0;
+      prefix_in = was_read None (prefix_in_at lists place d) h.0;
+      from = was_read None (from_at clients place d) h.1.0;
+      path_has = was_read None (path_has_at place d) h.1.1.0;
+      origin_as = was_read None (origin_as_at place d) h.1.1.1.0;
+      origin_in = was_read None (origin_in_at lists place d) h.1.1.1.1.0;
+      community = was_read None (community_at place d) h.1.1.1.1.1.0;
+      next_hop_is_peer = was_read None (next_hop_is_peer_at place d) h.1.1.1.1.1.1.0;
     }
 
 action_says : (place : Place) (d : Data) → Pass (action_checks place d) → SaysAction place d (action_of place d)
@@ -136,17 +160,17 @@ action_says place d e =
       action_is = refl;
     }
 
-rule_says : (clients : List Client) (place : Place) (d : Data) → Pass (rule_checks clients place d)
-    → SaysRule clients place d (rule_of clients place d)
-rule_says clients place d e =
+rule_says : (clients : List Client) (lists : List NamedList) (place : Place) (d : Data) → Pass (rule_checks clients lists place d)
+    → SaysRule clients lists place d (rule_of clients lists place d)
+rule_says clients lists place d e =
     let known : List (Option ConfigFault) = fault_in (stranger rule_keys place d) ∷ [] in
-    let behind : Pass (test_checks clients place d ++ (action_checks place d ++ known)) =
-    back_passes (range_checks place d) (test_checks clients place d ++ (action_checks place d ++ known)) e in
-    let last : Pass (action_checks place d ++ known) = back_passes (test_checks clients place d) (action_checks place d ++ known) behind in
+    let behind : Pass (test_checks clients lists place d ++ (action_checks place d ++ known)) =
+    back_passes (range_checks place d) (test_checks clients lists place d ++ (action_checks place d ++ known)) e in
+    let last : Pass (action_checks place d ++ known) = back_passes (test_checks clients lists place d) (action_checks place d ++ known) behind in
     let h : AllPass known = all_pass known (back_passes (action_checks place d) known last) in
     record {
-      range = range_says place d (front_passes (range_checks place d) (test_checks clients place d ++ (action_checks place d ++ known)) e);
-      tests = tests_say clients place d (front_passes (test_checks clients place d) (action_checks place d ++ known) behind);
+      range = range_says place d (front_passes (range_checks place d) (test_checks clients lists place d ++ (action_checks place d ++ known)) e);
+      tests = tests_say clients lists place d (front_passes (test_checks clients lists place d) (action_checks place d ++ known) behind);
       action = action_says place d (front_passes (action_checks place d) known last);
       only = holds_if (has_only rule_keys d) (BadValue (keyed place K.Other)) h.0;
     }
@@ -174,24 +198,24 @@ each_at R n (d ∷ ds) (a ∷ xs) h (suc i) x l =
     let k : (d : Data) × R (n + 1 + i) d (get_or xs i x) = each_at R (n + 1) ds xs h.1 i x (omega arith) in
     (k.0, subst (λ m. R m k.0 (get_or xs i x)) (let e : n + 1 + i ≡ n + suc i = omega arith in e) k.1)
 
-rules_say : (clients : List Client) (n : ℕ) (list : RuleList) (d : Data) → Pass (list_checks clients n list d)
-    → SaysRules clients n list d (list_of_rules clients n list d)
-rules_say clients n list d e =
+rules_say : (clients : List Client) (lists : List NamedList) (n : ℕ) (list : RuleList) (d : Data) → Pass (list_checks clients lists n list d)
+    → SaysRules clients lists n list d (list_of_rules clients lists n list d)
+rules_say clients lists n list d e =
     let tables : List Data = value_or [] (rules_at n list d) in
-    let h : AllPass (list_checks clients n list d) = all_pass (list_checks clients n list d) e in
+    let h : AllPass (list_checks clients lists n list d) = all_pass (list_checks clients lists n list d) e in
     record {
       tables = tables;
       tables_are = was_read [] (rules_at n list d) h.0;
-      each = each_says (λ r d. rule_of clients (rule_place n list r) d) (λ r d. rule_checks clients (rule_place n list r) d)
-          (λ r d rule. SaysRule clients (rule_place n list r) d rule) (λ r d p. rule_says clients (rule_place n list r) d p) 1 tables
-          (back_passes (fault_in (rules_at n list d) ∷ []) (rules_checks clients n list tables) e);
+      each = each_says (λ r d. rule_of clients lists (rule_place n list r) d) (λ r d. rule_checks clients lists (rule_place n list r) d)
+          (λ r d rule. SaysRule clients lists (rule_place n list r) d rule) (λ r d p. rule_says clients lists (rule_place n list r) d p) 1 tables
+          (back_passes (fault_in (rules_at n list d) ∷ []) (rules_checks clients lists n list tables) e);
     }
 
-policy_says : (clients : List Client) (n : ℕ) (d : Data) → Pass (policy_checks clients n d)
-    → SaysPolicy clients n d (policy_from clients n d)
-policy_says clients n d e = record {
-  import = rules_say clients n Import d (front_passes (list_checks clients n Import d) (list_checks clients n Export d) e);
-  export = rules_say clients n Export d (back_passes (list_checks clients n Import d) (list_checks clients n Export d) e);
+policy_says : (clients : List Client) (lists : List NamedList) (n : ℕ) (d : Data) → Pass (policy_checks clients lists n d)
+    → SaysPolicy clients lists n d (policy_from clients lists n d)
+policy_says clients lists n d e = record {
+  import = rules_say clients lists n Import d (front_passes (list_checks clients lists n Import d) (list_checks clients lists n Export d) e);
+  export = rules_say clients lists n Export d (back_passes (list_checks clients lists n Import d) (list_checks clients lists n Export d) e);
 }
 
 -- ---- no client twice
@@ -210,43 +234,55 @@ none_passes p [] i x e l = absurd (omega arith)
 none_passes p (y ∷ ys) zero x e l = left_false (p y) (list_any p ys) e
 none_passes p (y ∷ ys) (suc i) x e l = none_passes p ys i x (right_false (p y) (list_any p ys) e) (omega arith)
 
-abbrev IsAlone : List Client → ℕ → Data → Client → Type 0
-IsAlone all n d c = list_any (is_same c) (take (n - 1) all) ≡ false
+abbrev IsAlone : {A : Type 0} → (A → A → Bool) → List A → ℕ → Data → A → Type 0
+IsAlone same all n d c = list_any (same c) (take (n - 1) all) ≡ false
 
-none_twice : (ds : List Data) (all : List Client) → SaysEach (IsAlone all) 1 ds all
-    → AllPairs (λ earlier later. is_same later earlier ≡ false) all
-none_twice ds all h i j x before within =
-    let k : (d : Data) × IsAlone all (1 + j) d (get_or all j x) = each_at (IsAlone all) 1 ds all h j x within in
+none_twice : {A : Type 0} (same : A → A → Bool) (ds : List Data) (all : List A) → SaysEach (IsAlone same all) 1 ds all
+    → AllPairs (λ earlier later. same later earlier ≡ false) all
+none_twice same ds all h i j x before within =
+    let k : (d : Data) × IsAlone same all (1 + j) d (get_or all j x) = each_at (IsAlone same all) 1 ds all h j x within in
     let front : take (1 + j - 1) all ≡ take j all = ap (λ n. take n all) (let e : 1 + j - 1 ≡ j = omega arith in e) in
-    let alone : list_any (is_same (get_or all j x)) (take j all) ≡ false = ap (list_any (is_same (get_or all j x))) (sym front) ∙ k.1 in
+    let alone : list_any (same (get_or all j x)) (take j all) ≡ false = ap (list_any (same (get_or all j x))) (sym front) ∙ k.1 in
     let fits : i < length (take j all) = omega (arith, length-take j all) in
-    ap (is_same (get_or all j x)) (sym (get_or-take j all i x before))
-    ∙ none_passes (is_same (get_or all j x)) (take j all) i x alone fits
+    ap (same (get_or all j x)) (sym (get_or-take j all i x before))
+    ∙ none_passes (same (get_or all j x)) (take j all) i x alone fits
 
 -- ---- the document
 
 document_says : (d : Data) → Pass (document_checks d) → Says d (configuration_of d)
 document_says d e =
     let ds : List Data = client_tables d in
+    let ls : List Data = list_tables d in
     let all : List Client = clients_from ds in
-    let behind = back_passes (top_checks d) (fault_in (clients_at d) ∷ fault_in (stranger top_keys the_top d) ∷ (clients_checks ds ++ policies_checks all ds)) e in
-    let h : (fault_in (clients_at d) ≡ None) × ((fault_in (stranger top_keys the_top d) ≡ None) × AllPass (clients_checks ds ++ policies_checks all ds)) =
-    all_pass (fault_in (clients_at d) ∷ fault_in (stranger top_keys the_top d) ∷ (clients_checks ds ++ policies_checks all ds)) behind in
-    let rest : Pass (clients_checks ds ++ policies_checks all ds) =
-    back_passes (fault_in (clients_at d) ∷ fault_in (stranger top_keys the_top d) ∷ []) (clients_checks ds ++ policies_checks all ds) behind in
-    let clients : Pass (clients_checks ds) = front_passes (clients_checks ds) (policies_checks all ds) rest in
+    let lists : List NamedList = named_lists_from ls in
+    let known : List (Option ConfigFault) = fault_in (clients_at d) ∷ fault_in (lists_at d) ∷ fault_in (stranger top_keys the_top d) ∷ [] in
+    let last : List (Option ConfigFault) = policies_checks all lists ds in
+    let behind : Pass (known ++ (clients_checks ds ++ (named_lists_checks ls ++ last))) =
+    back_passes (top_checks d) (known ++ (clients_checks ds ++ (named_lists_checks ls ++ last))) e in
+    let h : AllPass known = all_pass known (front_passes known (clients_checks ds ++ (named_lists_checks ls ++ last)) behind) in
+    let rest : Pass (clients_checks ds ++ (named_lists_checks ls ++ last)) = back_passes known (clients_checks ds ++ (named_lists_checks ls ++ last)) behind in
+    let clients : Pass (clients_checks ds) = front_passes (clients_checks ds) (named_lists_checks ls ++ last) rest in
+    let third : Pass (named_lists_checks ls ++ last) = back_passes (clients_checks ds) (named_lists_checks ls ++ last) rest in
+    let listed : Pass (named_lists_checks ls) = front_passes (named_lists_checks ls) last third in
     record {
-      top = top_says d (front_passes (top_checks d) (fault_in (clients_at d) ∷ fault_in (stranger top_keys the_top d) ∷ (clients_checks ds ++ policies_checks all ds)) e);
-      only = holds_if (has_only top_keys d) (BadValue (keyed the_top K.Other)) h.1.0;
+      top = top_says d (front_passes (top_checks d) (known ++ (clients_checks ds ++ (named_lists_checks ls ++ last))) e);
+      only = holds_if (has_only top_keys d) (BadValue (keyed the_top K.Other)) h.1.1.0;
       tables = ds;
       tables_are = was_read [] (clients_at d) h.0;
       clients = each_says client_from (λ n d. client_checks n (take (n - 1) all) d) SaysClient
           (λ n d p. client_says n (take (n - 1) all) d p) 1 ds clients;
-      none_twice = none_twice ds all
-          (each_says client_from (λ n d. client_checks n (take (n - 1) all) d) (IsAlone all)
+      none_twice = none_twice is_same ds all
+          (each_says client_from (λ n d. client_checks n (take (n - 1) all) d) (IsAlone is_same all)
           (λ n d p. client_alone n (take (n - 1) all) d p) 1 ds clients);
-      policies = each_says (policy_from all) (policy_checks all) (SaysPolicy all) (policy_says all) 1 ds
-          (back_passes (clients_checks ds) (policies_checks all ds) rest);
+      lists_tables = ls;
+      lists_are = was_read [] (lists_at d) h.1.0;
+      lists = each_says named_list_from (λ n d. named_list_checks n (take (n - 1) lists) d) SaysNamedList
+          (λ n d p. list_says n (take (n - 1) lists) d p) 1 ls listed;
+      no_list_twice = none_twice is_same_name ls lists
+          (each_says named_list_from (λ n d. named_list_checks n (take (n - 1) lists) d) (IsAlone is_same_name lists)
+          (λ n d p. list_alone n (take (n - 1) lists) d p) 1 ls listed);
+      policies = each_says (policy_from all lists) (policy_checks all lists) (SaysPolicy all lists) (policy_says all lists) 1 ds
+          (back_passes (named_lists_checks ls) last third);
     }
 
 pass_of_ok : {A : Type 0} (a v : A) (o : Option ConfigFault) → or_fault a o ≡ Ok v → (o ≡ None) × (a ≡ v)

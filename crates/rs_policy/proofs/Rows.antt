@@ -3,19 +3,20 @@ use Rattle.std.specs.Prelude.{◌≡◌, ℕ, pos, true, false, List, [], ◌∷
 use Rattle.toml.specs.Data.{Data, string, integer, boolean, array, table, Items, no_items, item, Members, no_members, member}
 use Rattle.rs_octets.specs.Prefixes.{Prefix}
 use Rattle.rs_attrs.specs.Meaning.{Attribute}
-use Rattle.rs_policy.specs.Texts.{number_to, parted, address_of, endpoint_of, prefix_of, community_of}
-use Rattle.rs_policy.specs.Values.{keyed, required_at, optional_at, tables_at, some_tables_at, has_only, answer, each_from, checks_from}
+use Rattle.rs_policy.specs.Texts.{number_to, parted, address_of, endpoint_of, prefix_of, community_of, lengths_of, prefix_range_of, as_range_of}
+use Rattle.rs_policy.specs.Values.{keyed, entries_at, entries_from, entry_place, list_place, required_at, optional_at, tables_at, some_tables_at, has_only, answer, each_from, checks_from}
 use Rattle.rs_policy.specs.Configuration.{Configuration, no_policy}
+use Rattle.rs_policy.specs.NamedLists.{entries_needed, named_list_checks, named_list_from}
 use Rattle.rs_policy.specs.Rules.{range_checks, range_of, strip_at, action_checks, action_of, test_checks, tests_of}
 use Rattle.rs_policy.specs.Documents.{the_top, top_of, top_checks, client_place, client_from, client_checks, rule_place, document_checks, configuration_of}
-use Rattle.rs_policy.specs.Verdicts.{Judgement, dropped, passed, matches, outcome, verdict}
+use Rattle.rs_policy.specs.Verdicts.{Judgement, dropped, passed, attributes_match, matches, outcome, verdict}
 use Rattle.rs_policy.specs.Replacing.{other_in_top, other_in_client, other_in_clients, first_fixed}
 use Rattle.rs_policy.specs.declared.faults.Key.{Key}
 use Rattle.rs_policy.specs.declared.faults.Key.TheVariants as K
 use Rattle.rs_policy.specs.declared.faults.List.TheVariants.{Import}
 use Rattle.rs_policy.specs.declared.faults.Place.{Place}
 use Rattle.rs_policy.specs.declared.faults.ConfigFault.{ConfigFault}
-use Rattle.rs_policy.specs.declared.faults.ConfigFault.TheVariants.{Missing, BadValue, Twice, TooMany}
+use Rattle.rs_policy.specs.declared.faults.ConfigFault.TheVariants.{Missing, BadValue, Twice, TwiceList, TooMany}
 use Rattle.rs_policy.specs.declared.rules.Disposition.TheVariants as D
 
 -- ---- documents: what TOML makes of a text
@@ -30,6 +31,10 @@ members (field ∷ fields) = member field.0 field.1 (members fields)
 abbrev items : List Data → Items
 items [] = no_items
 items (d ∷ ds) = item d (items ds)
+
+abbrev strings : List (List ℕ) → List Data
+strings [] = []
+strings (t ∷ ts) = string t ∷ strings ts
 
 abbrev number : ℕ → Data
 number n = integer (pos n)
@@ -134,6 +139,35 @@ refused_rules =
     ∷ (importing (((codes "action", string (codes "pass")) ∷ (codes "colour", number 1) ∷ []) ∷ []), BadValue (at_rule K.Other))
     ∷ []
 
+-- lists before two clients
+abbrev listing : List Fields → Data
+listing lists = exchange ((codes "list", array_of lists) ∷ []) [] []
+
+abbrev texts : List (List ℕ) → Data
+texts ts = array (items (strings ts))
+
+abbrev named : List ℕ → Fields → Fields
+named name fields = (codes "name", string name) ∷ fields
+
+abbrev prefixes : List (List ℕ) → Fields
+prefixes ts = (codes "prefixes", texts ts) ∷ []
+
+abbrev refused_lists : List (Data × ConfigFault)
+refused_lists =
+    (listing ([] ∷ []), Missing (keyed (list_place 1) K.Name))
+    ∷ (listing (named (codes "l") [] ∷ []), Missing (keyed (list_place 1) K.Prefixes))
+    ∷ (listing (named (codes "l") (prefixes (codes "10.0.0.0/8^+" ∷ codes "10.0.0.0" ∷ [])) ∷ []), BadValue (entry_place 1 K.Prefixes 2))
+    ∷ (listing (named (codes "l") (prefixes (codes "10.0.0.0/8^24-16" ∷ [])) ∷ []), BadValue (entry_place 1 K.Prefixes 1))
+    ∷ (listing (named (codes "l") (prefixes (codes "192.0.2.1/32^-" ∷ [])) ∷ []), BadValue (entry_place 1 K.Prefixes 1))
+    ∷ (listing (named (codes "l") ((codes "ases", array (items (number 0 ∷ string (codes "2-1") ∷ []))) ∷ []) ∷ []), BadValue (entry_place 1 K.Ases 2))
+    ∷ (listing (named (codes "l") (prefixes []) ∷ named (codes "l") (prefixes []) ∷ []), TwiceList 2)
+    ∷ (listing (named (codes "l") ((codes "colour", number 1) ∷ prefixes []) ∷ []), BadValue (keyed (list_place 1) K.Other))
+    ∷ []
+
+lists_are_refused : AreRefused refused_lists
+unfolding answer top_checks top_of client_checks client_from named_list_checks named_list_from entries_needed entries_at entries_from required_at optional_at tables_at some_tables_at has_only each_from checks_from number_to parted address_of endpoint_of prefix_of prefix_range_of lengths_of as_range_of
+lists_are_refused = (refl, (refl, (refl, (refl, (refl, (refl, (refl, (refl, tt))))))))
+
 tops_are_refused : AreRefused refused_tops
 unfolding answer top_checks top_of client_checks client_from required_at optional_at tables_at some_tables_at has_only each_from checks_from number_to parted address_of endpoint_of
 tops_are_refused = (refl, (refl, (refl, (refl, (refl, (refl, (refl, (refl, (refl, (refl, (refl, (refl, (refl, tt)))))))))))))
@@ -154,6 +188,7 @@ read_whole : answered (exchange [] [] ((codes "limit", number 5) ∷ []))
       clients = record { name = codes "a"; client_as = 64496; listen = (0x7f000001, 17901); peer = 0xc000020b; limit = None }
           ∷ record { name = codes "b"; client_as = 64497; listen = (0x7f000001, 17902); peer = 0xc000020c; limit = Some 5 }
           ∷ [];
+      lists = [];
       policies = no_policy ∷ no_policy ∷ [];
     })
 unfolding answer top_checks top_of client_checks client_from required_at optional_at tables_at some_tables_at has_only each_from checks_from number_to parted address_of endpoint_of
@@ -203,6 +238,34 @@ within lengths = drops ((codes "prefix", string (codes "198.51.100.0/22")) ∷ l
 abbrev of_24 : List Fields
 of_24 = within ((codes "min", number 24) ∷ (codes "max", number 24) ∷ [])
 
+-- with this list, and with a rule of a that drops what a test finds in it
+abbrev by_list : Fields → List ℕ → Prefix → List Attribute → Judgement
+by_list entries test p m =
+    verdict (configuration_of (exchange ((codes "list", array_of (named (codes "l") entries ∷ [])) ∷ []) ((codes "import", array_of (drops ((test, string (codes "l")) ∷ []))) ∷ []) [])) 0 1 p m
+
+pub record AreInLists : Type 0 where
+  pub the_prefix_itself : by_list (prefixes (codes "192.0.2.0/24" ∷ codes "198.51.100.0/24" ∷ [])) (codes "prefix_in") net plain ≡ dropped
+  pub not_one_within : preferring (by_list (prefixes (codes "198.51.0.0/16" ∷ [])) (codes "prefix_in") net plain) 100
+  pub any_within : by_list (prefixes (codes "198.51.0.0/16^+" ∷ [])) (codes "prefix_in") net plain ≡ dropped
+  pub longer_alone : preferring (by_list (prefixes (codes "198.51.100.0/24^-" ∷ [])) (codes "prefix_in") net plain) 100
+  pub lengths_between : by_list (prefixes (codes "198.51.0.0/16^22-24" ∷ [])) (codes "prefix_in") net plain ≡ dropped
+  pub nothing_in_it : preferring (by_list (prefixes []) (codes "prefix_in") net plain) 100
+  pub origin : by_list ((codes "ases", texts (codes "64490-64496" ∷ [])) ∷ []) (codes "origin_in") net plain ≡ dropped
+  pub no_origin_of_a_set : preferring (by_list ((codes "ases", texts (codes "64490-64499" ∷ [])) ∷ []) (codes "origin_in") net set) 100
+
+are_in_lists : AreInLists
+unfolding verdict outcome matches attributes_match top_of client_from named_list_from entries_at entries_from required_at optional_at tables_at some_tables_at each_from number_to parted address_of endpoint_of prefix_of prefix_range_of lengths_of as_range_of community_of range_of tests_of strip_at action_of
+are_in_lists = record {
+  the_prefix_itself = refl;
+  not_one_within = refl;
+  any_within = refl;
+  longer_alone = refl;
+  lengths_between = refl;
+  nothing_in_it = refl;
+  origin = refl;
+  no_origin_of_a_set = refl;
+}
+
 pub record AreJudged : Type 0 where
   pub without_rules : preferring (judged [] [] net plain) 100
   pub a_24_within : judged [] of_24 (prefix 0xc6336700 24) plain ≡ dropped
@@ -224,7 +287,7 @@ pub record AreJudged : Type 0 where
       ≡ passed 100 ((4227072001 ∷ []) ∷ [] ∷ []) true
 
 are_judged : AreJudged
-unfolding verdict outcome matches top_of client_from required_at optional_at tables_at some_tables_at each_from number_to parted address_of endpoint_of prefix_of community_of range_of tests_of strip_at action_of
+unfolding verdict outcome matches attributes_match top_of client_from required_at optional_at tables_at some_tables_at each_from number_to parted address_of endpoint_of prefix_of community_of range_of tests_of strip_at action_of
 are_judged = record {
   without_rules = refl;
   a_24_within = refl;

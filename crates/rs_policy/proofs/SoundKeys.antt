@@ -1,5 +1,5 @@
 -- What is read at each key is sound.
-use Rattle.std.proofs.Common.{◌≡◌, ◌≢◌, ℕ, zero, suc, ◌<◌, ◌≤◌, ◌^◌, ◌==◌, ◌&&◌, ◌||◌, Bool, true, false, List, [], ◌∷◌, length, Option, Some, None, Result, Ok, Err, ok_or, option_map, option_and_then, refl, subst, nat_lt, nat_le, arith, if◌then◌else◌}
+use Rattle.std.proofs.Common.{◌≡◌, ◌≢◌, ℕ, zero, suc, ◌+◌, ◌<◌, ◌≤◌, ◌^◌, ◌==◌, ◌&&◌, ◌||◌, Bool, true, false, List, [], ◌∷◌, length, Option, Some, None, Result, Ok, Err, ok_or, option_map, option_and_then, refl, sym, ap, subst, nat_lt, nat_le, arith, if◌then◌else◌}
 use Rattle.std.specs.Prelude.{ℤ, pos, negsuc, IfSome}
 use Rattle.std.specs.List.{list_all}
 use Rattle.std.proofs.lemmas.Bool.{leb-true, ltb-false, eqb-false, and_parts, or_parts}
@@ -8,7 +8,7 @@ use Rattle.std.specs.Int.{w32, from_be_bytes}
 use Rattle.rs_octets.specs.Prefixes.{Prefix, masked}
 use Rattle.rs_policy.specs.Keys.{key_text}
 use Rattle.rs_policy.specs.Texts.{number_after, is_decimal, number_to, parted, both, point, slash, colon, octet, address_of, no_zero, endpoint_of, prefix_of, is_name}
-use Rattle.rs_policy.specs.Values.{between, integer_in, hold_seconds, text_as, address, identifier, name_of, keyed, required, optional, required_at, optional_at, maybe_at, list_of, is_table, tables_of, optional_tables, tables_at, some_tables, some_tables_at}
+use Rattle.rs_policy.specs.Values.{between, integer_in, hold_seconds, text_as, address, identifier, name_of, keyed, required, optional, required_at, optional_at, maybe_at, list_of, list_place, array_at, entries_from, entries_of, entries_found, entries_at, before, given, is_table, tables_of, optional_tables, tables_at, some_tables, some_tables_at}
 use Rattle.rs_policy.specs.declared.faults.Key.{Key}
 use Rattle.rs_policy.specs.declared.faults.Place.{Place}
 use Rattle.rs_policy.specs.declared.faults.ConfigFault.{ConfigFault}
@@ -219,3 +219,50 @@ pub some_at : (most : ℕ) (place : Place) (k : Key) (d : Data) (v : List Data) 
     → (0 < length v) × (length v ≤ most)
 unfolding some_tables_at
 some_at most place k d v e = some_of most (keyed place k) (tables_at most place k d) v (λ v f. few_at most place k d v f) e
+
+-- ---- arrays of entries
+
+before_ok : {A : Type 0} (o : Option A) (f : ConfigFault) (r : Result (List A) ConfigFault) (v : List A) (n : ℕ)
+    → ((more : List A) → r ≡ Ok more → length more ≡ n) → before o f r ≡ Ok v → length v ≡ suc n
+before_ok None f r v n every e = cc
+before_ok (Some a) f (Ok more) v n every e = subst (λ (x : List _). length x ≡ suc n) (let g : a ∷ more ≡ v = cc in g) (ap suc (every more refl))
+before_ok (Some a) f (Err g) v n every e = cc
+
+pub entries_count : {A : Type 0} (reads : Data → Option A) (n : ℕ) (k : Key) (i : ℕ) (ds : List Data) (v : List A)
+    → entries_from reads n k i ds ≡ Ok v → length v ≡ length ds
+unfolding entries_from
+entries_count {A} reads n k i [] v e = let f : ◌≡◌ {A = List A} [] v = cc in sym (ap length f)
+entries_count reads n k i (d ∷ ds) v e =
+    before_ok (reads d) _ (entries_from reads n k (i + 1) ds) v (length ds) (λ more f. entries_count reads n k (i + 1) ds more f) e
+
+long_by : (b : Bool) (f : ConfigFault) (ds v : List Data) → (if b then Err f else Ok ds) ≡ Ok v → (b ≡ false) × (ds ≡ v)
+long_by true f ds v e = cc
+long_by false f ds v e = (refl, let h : ds ≡ v = cc in h)
+
+few_array : (n : ℕ) (k : Key) (o : Option (List Data)) (v : List Data) → array_at n k o ≡ Ok v → length v ≤ 1048576
+few_array n k None v e = cc
+few_array n k (Some ds) v e =
+    let h : (nat_lt 1048576 (length ds) ≡ false) × (ds ≡ v) = long_by (nat_lt 1048576 (length ds)) (TooMany (keyed (list_place n) k)) ds v e in
+    subst (λ (x : List Data). length x ≤ 1048576) h.1 (ltb-false 1048576 (length ds) h.0)
+
+few_entries_of : {A : Type 0} (reads : Data → Option A) (n : ℕ) (k : Key) (r : Result (List Data) ConfigFault) (v : List A)
+    → ((ds : List Data) → r ≡ Ok ds → length ds ≤ 1048576) → entries_of reads n k r ≡ Ok v → length v ≤ 1048576
+few_entries_of reads n k (Ok ds) v few e = subst (λ m. m ≤ 1048576) (sym (entries_count reads n k 1 ds v e)) (few ds refl)
+few_entries_of reads n k (Err f) v few e = cc
+
+given_few : {A : Type 0} (r : Result (List A) ConfigFault) (v : Option (List A)) → ((xs : List A) → r ≡ Ok xs → length xs ≤ 1048576)
+    → given r ≡ Ok v → IfSome v (λ xs. length xs ≤ 1048576)
+given_few (Ok xs) v every e = subst (λ o. IfSome o (λ xs. length xs ≤ 1048576)) (let g : Some xs ≡ v = cc in g) (every xs refl)
+given_few (Err f) v every e = cc
+
+found_few : {A : Type 0} (reads : Data → Option A) (n : ℕ) (k : Key) (o : Option Data) (v : Option (List A))
+    → entries_found reads n k o ≡ Ok v → IfSome v (λ xs. length xs ≤ 1048576)
+found_few {A} reads n k None v e = subst (λ o. IfSome o (λ xs. length xs ≤ 1048576)) (let g : ◌≡◌ {A = Option (List A)} None v = cc in g) tt
+found_few reads n k (Some d) v e =
+    let r : Result (List Data) ConfigFault = array_at n k (option_map list_of (as_array d)) in
+    given_few (entries_of reads n k r) v (λ xs f. few_entries_of reads n k r xs (few_array n k (option_map list_of (as_array d))) f) e
+
+pub few_entries : {A : Type 0} (reads : Data → Option A) (n : ℕ) (k : Key) (d : Data) (v : Option (List A))
+    → entries_at reads n k d ≡ Ok v → IfSome v (λ xs. length xs ≤ 1048576)
+unfolding entries_at
+few_entries reads n k d v e = found_few reads n k (get (key_text k) d) v e

@@ -1,6 +1,6 @@
 -- Each rule and each client is sound, so that every configuration is.
 use Rattle.std.proofs.Common.{◌≡◌, ◌≢◌, ℕ, suc, ◌+◌, ◌<◌, ◌≤◌, ◌^◌, ◌==◌, ◌&&◌, Bool, true, false, List, [], ◌∷◌, length, get_or, Option, Some, None, Result, Ok, Err, option_map, refl, sym, ap, subst, ◌∙◌, eq-eqb, bytes_eq, arith, if◌then◌else◌}
-use Rattle.std.specs.Prelude.{IfSome, codes}
+use Rattle.std.specs.Prelude.{IfSome, codes, is_some}
 use Rattle.std.specs.List.{All}
 use Rattle.std.proofs.lemmas.Bool.{ltb-false, or_parts}
 use Rattle.std.proofs.lemmas.List.Elements.{All-nil, All-cons}
@@ -10,12 +10,13 @@ use Rattle.toml.specs.Data.{Data, table, get, as_array, as_str}
 use Rattle.rs_octets.specs.Prefixes.{Prefix}
 use Rattle.rs_policy.specs.Keys.{key_text}
 use Rattle.rs_policy.specs.Texts.{endpoint_of, prefix_of, is_name, community_of}
-use Rattle.rs_policy.specs.Values.{integer_in, positive, hold_seconds, text_as, identifier, name_of, keyed, read_or_bad, list_of, answer}
-use Rattle.rs_policy.specs.Configuration.{Client, Policy, Configuration, no_client}
-use Rattle.rs_policy.specs.Rules.{prefix_at, min_at, max_at, range_with, client_named, communities_of, stripping_from, strippings, is_longer, strip_found, strip_at, action_with}
+use Rattle.rs_policy.specs.Values.{integer_in, positive, hold_seconds, text_as, identifier, name_of, keyed, read_or_bad, list_of, list_place, prefix_entry, as_entry, answer}
+use Rattle.rs_policy.specs.Configuration.{Client, NamedList, Policy, Configuration, no_client, no_list}
+use Rattle.rs_policy.specs.NamedLists.{is_same_name}
+use Rattle.rs_policy.specs.Rules.{prefix_at, min_at, max_at, range_with, ases_named, client_named, prefixes_named, communities_of, stripping_from, strippings, is_longer, strip_found, strip_at, action_with}
 use Rattle.rs_policy.specs.Documents.{the_top, client_place, is_same, list_key, rule_place, document_checks, configuration_of, config_of}
-use Rattle.rs_policy.specs.Accepted.{SaysClient, SaysRule, SaysEach, SaysRules, SaysPolicy, Says}
-use Rattle.rs_policy.specs.Sound.{IsSoundClient, IsSoundRange, StripsFew, IsSoundRule, AreSoundRules, IsSoundPolicy, AreOthers, IsSound}
+use Rattle.rs_policy.specs.Accepted.{SaysClient, SaysNamedList, SaysRule, SaysEach, SaysRules, SaysPolicy, Says}
+use Rattle.rs_policy.specs.Sound.{IsSoundClient, IsSoundRange, IsSoundList, StripsFew, IsSoundRule, AreSoundRules, IsSoundPolicy, AreOthers, AreOtherLists, IsSound}
 use Rattle.rs_policy.specs.declared.faults.Key.TheVariants as K
 use Rattle.rs_policy.specs.declared.faults.List.{List as RuleList}
 use Rattle.rs_policy.specs.declared.faults.List.TheVariants.{Import, Export}
@@ -29,7 +30,7 @@ use Rattle.rs_policy.specs.declared.rules.Stripping.TheVariants.{Named, All as E
 use Rattle.rs_policy.specs.declared.rules.Action.TheVariants as A
 use Rattle.rs_policy.specs.declared.rules.Rule.{Rule}
 use Rattle.rs_policy.proofs.Passing.{answer_says, accepted_says}
-use Rattle.rs_policy.proofs.SoundKeys.{IsHold, at_maybe, at_optional, at_required, few_at, hold_is, identifier_is, integer_is, map_by, name_is, port_is, prefix_is, some_at, text_is, then_by, was_some}
+use Rattle.rs_policy.proofs.SoundKeys.{IsHold, few_entries, at_maybe, at_optional, at_required, few_at, hold_is, identifier_is, integer_is, map_by, name_is, port_is, prefix_is, some_at, text_is, then_by, was_some}
 
 -- ---- a rule
 
@@ -47,6 +48,12 @@ range_sound place d (Some p) min max e f g =
 
 named_is : (clients : List Client) (name : List ℕ) (c : ℕ) → client_named clients name ≡ Some c → c < length clients
 named_is clients name c e = (position-Some (λ (c : Client). bytes_eq c.name name) clients c no_client e).0
+
+prefixes_named_is : (lists : List NamedList) (name : List ℕ) (n : ℕ) → prefixes_named lists name ≡ Some n → n < length lists
+prefixes_named_is lists name n e = (position-Some (λ (l : NamedList). bytes_eq l.name name && is_some l.prefixes) lists n no_list e).0
+
+ases_named_is : (lists : List NamedList) (name : List ℕ) (n : ℕ) → ases_named lists name ≡ Some n → n < length lists
+ases_named_is lists name n e = (position-Some (λ (l : NamedList). bytes_eq l.name name && is_some l.ases) lists n no_list e).0
 
 length_read : (ds : List Data) (ns : List ℕ) → communities_of ds ≡ Some ns → length ns ≡ length ds
 length_read [] ns e = let f : ◌≡◌ {A = List ℕ} [] ns = cc in sym (ap length f)
@@ -99,9 +106,13 @@ action_sound : (disposition : Disposition) (preference : Option ℕ) (v : Stripp
 action_sound D.Drop preference v h = tt
 action_sound D.Pass preference v h = any_preference preference v h
 
-rule_sound : (clients : List Client) (place : Place) (d : Data) (rule : Rule) → SaysRule clients place d rule
-    → IsSoundRule (length clients) rule
-rule_sound clients place d rule h = record {
+rule_sound : (clients : List Client) (lists : List NamedList) (place : Place) (d : Data) (rule : Rule) → SaysRule clients lists place d rule
+    → IsSoundRule (length clients) (length lists) rule
+rule_sound clients lists place d rule h = record {
+  prefix_in = at_maybe (λ n. n < length lists) (text_as (prefixes_named lists)) place K.PrefixIn d rule.tests.prefix_in
+      (λ d v e. text_is (λ n. n < length lists) (prefixes_named lists) d v (prefixes_named_is lists) e) h.tests.prefix_in;
+  origin_in = at_maybe (λ n. n < length lists) (text_as (ases_named lists)) place K.OriginIn d rule.tests.origin_in
+      (λ d v e. text_is (λ n. n < length lists) (ases_named lists) d v (ases_named_is lists) e) h.tests.origin_in;
   range = subst (λ r. IfSome r IsSoundRange) (sym h.range.range_is)
       (range_sound place d h.range.prefix h.range.min h.range.max h.range.prefix_is h.range.min_is h.range.max_is);
   from = at_maybe (λ c. c < length clients) (text_as (client_named clients)) place K.From d rule.tests.from
@@ -126,24 +137,37 @@ each_count R n [] (a ∷ xs) h = absurd h
 each_count R n (d ∷ ds) [] h = absurd h
 each_count R n (d ∷ ds) (a ∷ xs) h = ap suc (each_count R (n + 1) ds xs h.1)
 
-rules_sound : (clients : List Client) (n : ℕ) (list : RuleList) (d : Data) (rules : List Rule)
-    → SaysRules clients n list d rules → AreSoundRules (length clients) rules
-rules_sound clients n list d rules h = record {
+rules_sound : (clients : List Client) (lists : List NamedList) (n : ℕ) (list : RuleList) (d : Data) (rules : List Rule)
+    → SaysRules clients lists n list d rules → AreSoundRules (length clients) (length lists) rules
+rules_sound clients lists n list d rules h = record {
   few = let few : length h.tables ≤ 64 = few_at 64 (client_place n) (list_key list) d h.tables h.tables_are in
-      let count : length rules ≡ length h.tables = each_count (λ r d rule. SaysRule clients (rule_place n list r) d rule) 1 h.tables rules h.each in
+      let count : length rules ≡ length h.tables = each_count (λ r d rule. SaysRule clients lists (rule_place n list r) d rule) 1 h.tables rules h.each in
       omega arith;
-  each = each_all (λ r d rule. SaysRule clients (rule_place n list r) d rule) (IsSoundRule (length clients))
-      (λ r d rule e. rule_sound clients (rule_place n list r) d rule e) 1 h.tables rules h.each;
+  each = each_all (λ r d rule. SaysRule clients lists (rule_place n list r) d rule) (IsSoundRule (length clients) (length lists))
+      (λ r d rule e. rule_sound clients lists (rule_place n list r) d rule e) 1 h.tables rules h.each;
 }
 
-policy_sound : (clients : List Client) (n : ℕ) (d : Data) (policy : Policy) → SaysPolicy clients n d policy
-    → IsSoundPolicy (length clients) policy
-policy_sound clients n d policy h = record {
-  import = rules_sound clients n Import d policy.import h.import;
-  export = rules_sound clients n Export d policy.export h.export;
+policy_sound : (clients : List Client) (lists : List NamedList) (n : ℕ) (d : Data) (policy : Policy) → SaysPolicy clients lists n d policy
+    → IsSoundPolicy (length clients) (length lists) policy
+policy_sound clients lists n d policy h = record {
+  import = rules_sound clients lists n Import d policy.import h.import;
+  export = rules_sound clients lists n Export d policy.export h.export;
 }
 
--- ---- the top and the clients
+-- ---- the top, the clients and the lists
+
+list_sound : (n : ℕ) (d : Data) (l : NamedList) → SaysNamedList n d l → IsSoundList l
+list_sound n d l h = record {
+  name = at_required (λ t. is_name t ≡ true) (text_as name_of) (list_place n) K.Name d l.name
+      (λ d v e. text_is (λ t. is_name t ≡ true) name_of d v name_is e) h.name;
+  prefixes = few_entries prefix_entry n K.Prefixes d l.prefixes h.prefixes;
+  ases = few_entries as_entry n K.Ases d l.ases h.ases;
+}
+
+other_names : (a b : NamedList) → is_same_name b a ≡ false → AreOtherLists a b
+other_names a b e f =
+    let g : bytes_eq b.name a.name ≡ true = (bytes_eq-Decides b.name a.name).1 (sym f) in
+    let k : false ≡ true = sym e ∙ g in cc
 
 abbrev IsNumber : ℕ → Type 0
 IsNumber n = (1 ≤ n) × (n ≤ 4294967295)
@@ -185,7 +209,9 @@ pub says_sound : (d : Data) (s : Configuration) → Says d s → IsSound s
 says_sound d s h =
     let some : (0 < length h.tables) × (length h.tables ≤ 512) = some_at 512 the_top K.Client d h.tables h.tables_are in
     let count : length s.clients ≡ length h.tables = each_count SaysClient 1 h.tables s.clients h.clients in
-    let policies : length s.policies ≡ length h.tables = each_count (SaysPolicy s.clients) 1 h.tables s.policies h.policies in
+    let policies : length s.policies ≡ length h.tables = each_count (SaysPolicy s.clients s.lists) 1 h.tables s.policies h.policies in
+    let lists : length s.lists ≡ length h.lists_tables = each_count SaysNamedList 1 h.lists_tables s.lists h.lists in
+    let fewer : length h.lists_tables ≤ 1024 = few_at 1024 the_top K.List d h.lists_tables h.lists_are in
     let number : IsNumber s.top.server_as = at_required IsNumber positive the_top K.As d s.top.server_as (integer_is 1 4294967295) h.top.server_as in
     let named : (s.top.identifier ≢ 0) × (s.top.identifier < 2 ^ 32) =
     at_required (λ n. (n ≢ 0) × (n < 2 ^ 32)) identifier the_top K.Identifier d s.top.identifier identifier_is h.top.identifier in
@@ -210,7 +236,10 @@ says_sound d s h =
       };
       clients = each_all SaysClient IsSoundClient client_sound 1 h.tables s.clients h.clients;
       others = λ i j x before within. not_same (get_or s.clients i x) (get_or s.clients j x) (h.none_twice i j x before within);
-      rules = each_all (SaysPolicy s.clients) (IsSoundPolicy (length s.clients)) (policy_sound s.clients) 1 h.tables s.policies h.policies;
+      few_lists = omega arith;
+      lists = each_all SaysNamedList IsSoundList list_sound 1 h.lists_tables s.lists h.lists;
+      other_lists = λ i j x before within. other_names (get_or s.lists i x) (get_or s.lists j x) (h.no_list_twice i j x before within);
+      rules = each_all (SaysPolicy s.clients s.lists) (IsSoundPolicy (length s.clients) (length s.lists)) (policy_sound s.clients s.lists) 1 h.tables s.policies h.policies;
     }
 
 -- a configuration that passes every check

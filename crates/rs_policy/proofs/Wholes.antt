@@ -4,50 +4,74 @@ use Rattle.toml.specs.Data.{Data}
 use Rattle.std.proofs.Math.Seq.{take-append_seam}
 use Rattle.rs_policy.specs.Keys.{top_keys}
 use Rattle.rs_policy.specs.Values.{answer, stranger}
-use Rattle.rs_policy.specs.Configuration.{Client, Policy}
-use Rattle.rs_policy.specs.Documents.{top_checks, top_of, the_top, clients_at, clients_checks, clients_from, rules_at, rules_checks, rules_from, list_checks, list_of_rules, policies_checks, policies_from, document_checks, configuration_of}
+use Rattle.rs_policy.specs.Configuration.{Client, NamedList, Policy}
+use Rattle.rs_policy.specs.NamedLists.{named_lists_checks, named_lists_from}
+use Rattle.rs_policy.specs.Documents.{top_checks, top_of, the_top, clients_at, lists_at, clients_checks, clients_from, rules_at, rules_checks, rules_from, list_checks, list_of_rules, policies_checks, policies_from, document_checks, configuration_of}
 use Rattle.rs_policy.specs.declared.faults.List.{List as RuleList}
 use Rattle.rs_policy.specs.declared.config.top.Top.{Top}
 use Rattle.rs_policy.proofs.Checks.{passes, passes_one, answer-value, answer-append-ok, answer-ok_for}
 
--- the clients before client number i, from 0
-pub earlier_clients : (all items rest : List Client) (i : ℕ) → all ≡ items ++ rest → length items ≡ i → items ≡ take (i + 1 - 1) all
-earlier_clients all items rest i parts count =
+-- those before number i, from 0
+pub earlier : {A : Type 0} (all items rest : List A) (i : ℕ) → all ≡ items ++ rest → length items ≡ i → items ≡ take (i + 1 - 1) all
+earlier all items rest i parts count =
     let same : i + 1 - 1 ≡ length items = omega arith in
     rw (same, parts) (sym (take-append_seam items rest))
 
 -- a list of rules whose array is one
-pub list_passes : (clients : List Client) (n : ℕ) (list : RuleList) (d : Data) (ds : List Data) → Ok ds ≡ rules_at n list d
-    → answer (list_checks clients n list d) (list_of_rules clients n list d) ≡ answer (rules_checks clients n list ds) (rules_from clients n list ds)
+pub list_passes : (clients : List Client) (lists : List NamedList) (n : ℕ) (list : RuleList) (d : Data) (ds : List Data) → Ok ds ≡ rules_at n list d
+    → answer (list_checks clients lists n list d) (list_of_rules clients lists n list d) ≡ answer (rules_checks clients lists n list ds) (rules_from clients lists n list ds)
 unfolding answer
-list_passes clients n list d ds e = rw (← e)
+list_passes clients lists n list d ds e = rw (← e)
+
+-- the top and the arrays of tables
+pub record TopIs (d : Data) (top : Top) (ds ls : List Data) : Type 0 where
+  pub first : Ok top ≡ answer (top_checks d) (top_of d)
+  pub clients : Ok ds ≡ clients_at d
+  pub lists : Ok ls ≡ lists_at d
+  pub only : Ok tt ≡ stranger top_keys the_top d
+
+pub top_is : (d : Data) (top : Top) (ds ls : List Data) → Ok top ≡ answer (top_checks d) (top_of d) → Ok ds ≡ clients_at d → Ok ls ≡ lists_at d
+    → Ok tt ≡ stranger top_keys the_top d → TopIs d top ds ls
+top_is d top ds ls a b c e = record { first = a; clients = b; lists = c; only = e }
 
 -- the top passes
-pub top_passes : {A : Type 0} (d : Data) (top : Top) (ds : List Data) (a : A) → Ok top ≡ answer (top_checks d) (top_of d) → Ok ds ≡ clients_at d → Ok tt ≡ stranger top_keys the_top d
-    → answer (document_checks d) a ≡ answer (clients_checks ds ++ policies_checks (clients_from ds) ds) a
-top_passes d top ds a first tables known =
-    passes (top_checks d) _ (top_of d) top a first
-    ∙ passes_one (clients_at d) _ ds a tables
-    ∙ passes_one (stranger top_keys the_top d) _ tt a known
-    ∙ rw (← tables)
+pub top_passes : {A : Type 0} (d : Data) (top : Top) (ds ls : List Data) (a : A) → TopIs d top ds ls
+    → answer (document_checks d) a ≡ answer (clients_checks ds ++ (named_lists_checks ls ++ policies_checks (clients_from ds) (named_lists_from ls) ds)) a
+top_passes d top ds ls a h =
+    passes (top_checks d) _ (top_of d) top a h.first
+    ∙ passes_one (clients_at d) _ ds a h.clients
+    ∙ passes_one (lists_at d) _ ls a h.lists
+    ∙ passes_one (stranger top_keys the_top d) _ tt a h.only
+    ∙ rw (← h.clients, ← h.lists)
 
 -- the clients pass
-pub clients_pass : {A : Type 0} (d : Data) (top : Top) (ds : List Data) (cs : List Client) (a : A) → Ok top ≡ answer (top_checks d) (top_of d) → Ok ds ≡ clients_at d → Ok tt ≡ stranger top_keys the_top d
+pub clients_pass : {A : Type 0} (d : Data) (top : Top) (ds ls : List Data) (cs : List Client) (a : A) → TopIs d top ds ls
     → answer (clients_checks ds) (clients_from ds) ≡ Ok cs
-    → answer (document_checks d) a ≡ answer (policies_checks cs ds) a
-clients_pass d top ds cs a first tables known second =
-    top_passes d top ds a first tables known
-    ∙ answer-append-ok (clients_checks ds) (policies_checks (clients_from ds) ds) (clients_from ds) cs a second
-    ∙ ap (λ x. answer (policies_checks x ds) a) (answer-value (clients_checks ds) (clients_from ds) cs second)
+    → answer (document_checks d) a ≡ answer (named_lists_checks ls ++ policies_checks cs (named_lists_from ls) ds) a
+clients_pass d top ds ls cs a h second =
+    top_passes d top ds ls a h
+    ∙ answer-append-ok (clients_checks ds) (named_lists_checks ls ++ policies_checks (clients_from ds) (named_lists_from ls) ds) (clients_from ds) cs a second
+    ∙ ap (λ x. answer (named_lists_checks ls ++ policies_checks x (named_lists_from ls) ds) a) (answer-value (clients_checks ds) (clients_from ds) cs second)
+
+-- the lists pass
+pub lists_pass : {A : Type 0} (d : Data) (top : Top) (ds ls : List Data) (cs : List Client) (ns : List NamedList) (a : A) → TopIs d top ds ls
+    → answer (clients_checks ds) (clients_from ds) ≡ Ok cs → answer (named_lists_checks ls) (named_lists_from ls) ≡ Ok ns
+    → answer (document_checks d) a ≡ answer (policies_checks cs ns ds) a
+lists_pass d top ds ls cs ns a h second third =
+    clients_pass d top ds ls cs a h second
+    ∙ answer-append-ok (named_lists_checks ls) (policies_checks cs (named_lists_from ls) ds) (named_lists_from ls) ns a third
+    ∙ ap (λ x. answer (policies_checks cs x ds) a) (answer-value (named_lists_checks ls) (named_lists_from ls) ns third)
 
 -- everything passes
-pub document_passes : (d : Data) (top : Top) (ds : List Data) (cs : List Client) (ps : List Policy) → Ok top ≡ answer (top_checks d) (top_of d) → Ok ds ≡ clients_at d → Ok tt ≡ stranger top_keys the_top d
-    → answer (clients_checks ds) (clients_from ds) ≡ Ok cs → answer (policies_checks cs ds) (policies_from cs ds) ≡ Ok ps
-    → answer (document_checks d) (configuration_of d) ≡ Ok (record { top = top; clients = cs; policies = ps })
-document_passes d top ds cs ps first tables known second third =
-    let a : top_of d ≡ top = answer-value (top_checks d) (top_of d) top (sym first) in
+pub document_passes : (d : Data) (top : Top) (ds ls : List Data) (cs : List Client) (ns : List NamedList) (ps : List Policy) → TopIs d top ds ls
+    → answer (clients_checks ds) (clients_from ds) ≡ Ok cs → answer (named_lists_checks ls) (named_lists_from ls) ≡ Ok ns
+    → answer (policies_checks cs ns ds) (policies_from cs ns ds) ≡ Ok ps
+    → answer (document_checks d) (configuration_of d) ≡ Ok (record { top = top; clients = cs; lists = ns; policies = ps })
+document_passes d top ds ls cs ns ps h second third fourth =
+    let a : top_of d ≡ top = answer-value (top_checks d) (top_of d) top (sym h.first) in
     let b : clients_from ds ≡ cs = answer-value (clients_checks ds) (clients_from ds) cs second in
-    let p : policies_from cs ds ≡ ps = answer-value (policies_checks cs ds) (policies_from cs ds) ps third in
-    clients_pass d top ds cs (configuration_of d) first tables known second
-    ∙ answer-ok_for (policies_checks cs ds) (policies_from cs ds) ps (configuration_of d) third
-    ∙ rw (← tables, a, b, p)
+    let n : named_lists_from ls ≡ ns = answer-value (named_lists_checks ls) (named_lists_from ls) ns third in
+    let p : policies_from cs ns ds ≡ ps = answer-value (policies_checks cs ns ds) (policies_from cs ns ds) ps fourth in
+    lists_pass d top ds ls cs ns (configuration_of d) h second third
+    ∙ answer-ok_for (policies_checks cs ns ds) (policies_from cs ns ds) ps (configuration_of d) fourth
+    ∙ rw (← h.clients, ← h.lists, a, b, n, p)

@@ -4,11 +4,12 @@ use Rattle.std.specs.List.{AllPairs}
 use Rattle.toml.specs.Data.{Data, Members, table}
 use Rattle.toml.specs.Parse.{parse_document}
 use Rattle.rs_octets.specs.Prefixes.{Prefix}
-use Rattle.rs_policy.specs.Keys.{top_keys, client_keys, rule_keys}
+use Rattle.rs_policy.specs.Keys.{top_keys, client_keys, named_list_keys, rule_keys}
 use Rattle.rs_policy.specs.Values.{has_only}
-use Rattle.rs_policy.specs.Configuration.{Client, Policy, Configuration}
-use Rattle.rs_policy.specs.Rules.{prefix_at, min_at, max_at, range_with, from_at, path_has_at, origin_as_at, community_at, next_hop_is_peer_at, disposition_at, preference_at, strip_at, action_with}
-use Rattle.rs_policy.specs.Documents.{server_as_at, identifier_at, hold_at, default_at, flag_at, clients_at, name_at, client_as_at, listen_at, peer_at, limit_at, is_same, rules_at, rule_place, config_of}
+use Rattle.rs_policy.specs.NamedLists.{list_name_at, has_entries, prefixes_at, ases_at, is_same_name}
+use Rattle.rs_policy.specs.Configuration.{Client, NamedList, Policy, Configuration}
+use Rattle.rs_policy.specs.Rules.{prefix_at, min_at, max_at, range_with, prefix_in_at, from_at, path_has_at, origin_as_at, origin_in_at, community_at, next_hop_is_peer_at, disposition_at, preference_at, strip_at, action_with}
+use Rattle.rs_policy.specs.Documents.{server_as_at, identifier_at, hold_at, default_at, flag_at, clients_at, lists_at, name_at, client_as_at, listen_at, peer_at, limit_at, is_same, rules_at, rule_place, config_of}
 use Rattle.rs_policy.specs.declared.faults.Key.TheVariants as K
 use Rattle.rs_policy.specs.declared.faults.List.{List as RuleList}
 use Rattle.rs_policy.specs.declared.faults.List.TheVariants.{Import, Export}
@@ -38,6 +39,13 @@ pub record SaysClient (n : ℕ) (d : Data) (c : Client) : Type 0 where
   pub limit : limit_at n d ≡ Ok c.limit
   pub only : has_only client_keys d ≡ true
 
+pub record SaysNamedList (n : ℕ) (d : Data) (l : NamedList) : Type 0 where
+  pub name : list_name_at n d ≡ Ok l.name
+  pub some : has_entries d ≡ true
+  pub prefixes : prefixes_at n d ≡ Ok l.prefixes
+  pub ases : ases_at n d ≡ Ok l.ases
+  pub only : has_only named_list_keys d ≡ true
+
 pub record SaysRange (place : Place) (d : Data) (range : Option Range) : Type 0 where
   pub prefix : Option Prefix
   pub min : ℕ
@@ -47,10 +55,12 @@ pub record SaysRange (place : Place) (d : Data) (range : Option Range) : Type 0 
   pub max_is : max_at prefix min place d ≡ Ok max
   pub range_is : range ≡ range_with prefix min max
 
-pub record SaysTests (clients : List Client) (place : Place) (d : Data) (tests : Tests) : Type 0 where
+pub record SaysTests (clients : List Client) (lists : List NamedList) (place : Place) (d : Data) (tests : Tests) : Type 0 where
+  pub prefix_in : prefix_in_at lists place d ≡ Ok tests.prefix_in
   pub from : from_at clients place d ≡ Ok tests.from
   pub path_has : path_has_at place d ≡ Ok tests.path_has
   pub origin_as : origin_as_at place d ≡ Ok tests.origin_as
+  pub origin_in : origin_in_at lists place d ≡ Ok tests.origin_in
   pub community : community_at place d ≡ Ok tests.community
   pub next_hop_is_peer : next_hop_is_peer_at place d ≡ Ok tests.next_hop_is_peer
 
@@ -63,9 +73,9 @@ pub record SaysAction (place : Place) (d : Data) (action : Action) : Type 0 wher
   pub strip_is : strip_at disposition place d ≡ Ok strip
   pub action_is : action ≡ action_with disposition preference strip
 
-pub record SaysRule (clients : List Client) (place : Place) (d : Data) (rule : Rule) : Type 0 where
+pub record SaysRule (clients : List Client) (lists : List NamedList) (place : Place) (d : Data) (rule : Rule) : Type 0 where
   pub range : SaysRange place d rule.range
-  pub tests : SaysTests clients place d rule.tests
+  pub tests : SaysTests clients lists place d rule.tests
   pub action : SaysAction place d rule.action
   pub only : has_only rule_keys d ≡ true
 
@@ -76,14 +86,14 @@ SaysEach R n [] (x ∷ xs) = ⊥
 SaysEach R n (d ∷ ds) [] = ⊥
 SaysEach R n (d ∷ ds) (x ∷ xs) = R n d x × SaysEach R (n + 1) ds xs
 
-pub record SaysRules (clients : List Client) (n : ℕ) (list : RuleList) (d : Data) (rules : List Rule) : Type 0 where
+pub record SaysRules (clients : List Client) (lists : List NamedList) (n : ℕ) (list : RuleList) (d : Data) (rules : List Rule) : Type 0 where
   pub tables : List Data
   pub tables_are : rules_at n list d ≡ Ok tables
-  pub each : SaysEach (λ r d rule. SaysRule clients (rule_place n list r) d rule) 1 tables rules
+  pub each : SaysEach (λ r d rule. SaysRule clients lists (rule_place n list r) d rule) 1 tables rules
 
-pub record SaysPolicy (clients : List Client) (n : ℕ) (d : Data) (policy : Policy) : Type 0 where
-  pub import : SaysRules clients n Import d policy.import
-  pub export : SaysRules clients n Export d policy.export
+pub record SaysPolicy (clients : List Client) (lists : List NamedList) (n : ℕ) (d : Data) (policy : Policy) : Type 0 where
+  pub import : SaysRules clients lists n Import d policy.import
+  pub export : SaysRules clients lists n Export d policy.export
 
 pub record Says (d : Data) (s : Configuration) : Type 0 where
   pub top : SaysTop d s.top
@@ -92,7 +102,11 @@ pub record Says (d : Data) (s : Configuration) : Type 0 where
   pub tables_are : clients_at d ≡ Ok tables
   pub clients : SaysEach SaysClient 1 tables s.clients
   pub none_twice : AllPairs (λ earlier later. is_same later earlier ≡ false) s.clients
-  pub policies : SaysEach (SaysPolicy s.clients) 1 tables s.policies
+  pub lists_tables : List Data
+  pub lists_are : lists_at d ≡ Ok lists_tables
+  pub lists : SaysEach SaysNamedList 1 lists_tables s.lists
+  pub no_list_twice : AllPairs (λ earlier later. is_same_name later earlier ≡ false) s.lists
+  pub policies : SaysEach (SaysPolicy s.clients s.lists) 1 tables s.policies
 
 -- a text that is accepted is a document, and the configuration is what it says
 abbrev pub AcceptedSays : Type 0

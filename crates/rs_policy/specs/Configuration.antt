@@ -1,5 +1,6 @@
 -- What a configuration sets.
 use Rattle.std.specs.Prelude.{ℕ, List, [], slice_index_or, Option, None}
+use Rattle.rs_policy.specs.declared.rules.Range.{Range}
 use Rattle.rs_policy.specs.declared.rules.Rule.{Rule}
 use Rattle.rs_policy.specs.declared.config.top.Top.{Top}
 
@@ -11,15 +12,22 @@ pub record Client : Type 0 where
   pub peer : ℕ
   pub limit : Option ℕ
 
+-- a list that rules name: ranges of prefixes, and AS numbers from one to another; None where it has no such key
+pub record NamedList : Type 0 where
+  pub name : List ℕ
+  pub prefixes : Option (List Range)
+  pub ases : Option (List (ℕ × ℕ))
+
 -- the rules for the routes that a client sends, and for those that it is sent
 pub record Policy : Type 0 where
   pub import : List Rule
   pub export : List Rule
 
--- clients and policies stand in the order of the configuration
+-- clients, lists and policies stand in the order of the configuration
 pub record Configuration : Type 0 where
   pub top : Top
   pub clients : List Client
+  pub lists : List NamedList
   pub policies : List Policy
 
 abbrev pub no_client : Client
@@ -28,6 +36,13 @@ no_client = record { name = []; client_as = 0; listen = (0, 0); peer = 0; limit 
 -- client number c, from 0
 abbrev pub client_of : Configuration → ℕ → Client
 client_of s c = slice_index_or s.clients c no_client
+
+abbrev pub no_list : NamedList
+no_list = record { name = []; prefixes = None; ases = None }
+
+-- list number n, from 0
+abbrev pub list_at : List NamedList → ℕ → NamedList
+list_at lists n = slice_index_or lists n no_list
 
 abbrev pub no_policy : Policy
 no_policy = record { import = []; export = [] }

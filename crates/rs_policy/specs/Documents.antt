@@ -7,13 +7,15 @@ use Rattle.toml.specs.Parse.{parse_document}
 use Rattle.rs_policy.specs.Keys.{top_keys, client_keys}
 use Rattle.rs_policy.specs.Texts.{endpoint_of}
 use Rattle.rs_policy.specs.Values.{text_as, positive, hold_seconds, address, identifier, disposition_of, name_of, required_at, optional_at, maybe_at, tables_at, some_tables_at, fault_in, value_or, stranger, answer, each_from, checks_from}
-use Rattle.rs_policy.specs.Configuration.{Client, Policy, Configuration}
+use Rattle.rs_policy.specs.Configuration.{Client, NamedList, Policy, Configuration}
+use Rattle.rs_policy.specs.NamedLists.{named_lists_from, named_lists_checks}
 use Rattle.rs_policy.specs.Rules.{rule_checks, rule_of}
 use Rattle.rs_policy.specs.declared.faults.Key.{Key}
 use Rattle.rs_policy.specs.declared.faults.Key.TheVariants as K
 use Rattle.rs_policy.specs.declared.faults.List.{List as RuleList}
 use Rattle.rs_policy.specs.declared.faults.List.TheVariants.{Import, Export}
 use Rattle.rs_policy.specs.declared.faults.Place.{Place}
+use Rattle.rs_policy.specs.declared.faults.Table.TheVariants as T
 use Rattle.rs_policy.specs.declared.faults.ConfigFault.{ConfigFault}
 use Rattle.rs_policy.specs.declared.faults.ConfigFault.TheVariants.{Syntax, Twice}
 use Rattle.rs_policy.specs.declared.rules.Disposition.{Disposition}
@@ -24,7 +26,7 @@ use Rattle.rs_policy.specs.declared.config.top.Top.{Top}
 -- the top
 
 abbrev pub the_top : Place
-the_top = record { client = None; list = None; rule = None; key = K.Other }
+the_top = record { table = T.Top; key = K.Other }
 
 abbrev pub server_as_at : Data → Result ℕ ConfigFault
 server_as_at = required_at positive the_top K.As
@@ -43,6 +45,9 @@ flag_at k = optional_at as_bool false the_top k
 
 abbrev pub clients_at : Data → Result (List Data) ConfigFault
 clients_at = some_tables_at 512 the_top K.Client
+
+abbrev pub lists_at : Data → Result (List Data) ConfigFault
+lists_at = tables_at 1024 the_top K.List
 
 unfoldable pub top_of : Data → Top
 top_of d = record {
@@ -69,7 +74,7 @@ top_checks d =
 -- the clients, counted from 1
 
 abbrev pub client_place : ℕ → Place
-client_place n = record { client = Some n; list = None; rule = None; key = K.Other }
+client_place n = record { table = T.Client n; key = K.Other }
 
 abbrev pub name_at : ℕ → Data → Result (List ℕ) ConfigFault
 name_at n = required_at (text_as name_of) (client_place n) K.Name
@@ -120,60 +125,66 @@ client_checks n earlier d =
 abbrev pub clients_checks : List Data → List (Option ConfigFault)
 clients_checks ds = checks_from (λ n d. client_checks n (take (n - 1) (clients_from ds)) d) 1 ds
 
--- the lists of rules, counted from 1
+-- the rules of clients, counted from 1
 
 abbrev pub list_key : RuleList → Key
 list_key Import = K.Import
 list_key Export = K.Export
 
 abbrev pub rule_place : ℕ → RuleList → ℕ → Place
-rule_place n list r = record { client = Some n; list = Some list; rule = Some r; key = K.Other }
+rule_place n list r = record { table = T.Rule n list r; key = K.Other }
 
 abbrev pub rules_at : ℕ → RuleList → Data → Result (List Data) ConfigFault
 rules_at n list d = tables_at 64 (client_place n) (list_key list) d
 
-abbrev pub rules_from : List Client → ℕ → RuleList → List Data → List Rule
-rules_from clients n list ds = each_from (λ r d. rule_of clients (rule_place n list r) d) 1 ds
+abbrev pub rules_from : List Client → List NamedList → ℕ → RuleList → List Data → List Rule
+rules_from clients lists n list ds = each_from (λ r d. rule_of clients lists (rule_place n list r) d) 1 ds
 
-abbrev pub rules_checks : List Client → ℕ → RuleList → List Data → List (Option ConfigFault)
-rules_checks clients n list ds = checks_from (λ r d. rule_checks clients (rule_place n list r) d) 1 ds
+abbrev pub rules_checks : List Client → List NamedList → ℕ → RuleList → List Data → List (Option ConfigFault)
+rules_checks clients lists n list ds = checks_from (λ r d. rule_checks clients lists (rule_place n list r) d) 1 ds
 
-abbrev pub list_checks : List Client → ℕ → RuleList → Data → List (Option ConfigFault)
-list_checks clients n list d = fault_in (rules_at n list d) ∷ rules_checks clients n list (value_or [] (rules_at n list d))
+abbrev pub list_checks : List Client → List NamedList → ℕ → RuleList → Data → List (Option ConfigFault)
+list_checks clients lists n list d = fault_in (rules_at n list d) ∷ rules_checks clients lists n list (value_or [] (rules_at n list d))
 
-abbrev pub list_of_rules : List Client → ℕ → RuleList → Data → List Rule
-list_of_rules clients n list d = rules_from clients n list (value_or [] (rules_at n list d))
+abbrev pub list_of_rules : List Client → List NamedList → ℕ → RuleList → Data → List Rule
+list_of_rules clients lists n list d = rules_from clients lists n list (value_or [] (rules_at n list d))
 
-abbrev pub policy_from : List Client → ℕ → Data → Policy
-policy_from clients n d = record { import = list_of_rules clients n Import d; export = list_of_rules clients n Export d }
+abbrev pub policy_from : List Client → List NamedList → ℕ → Data → Policy
+policy_from clients lists n d = record { import = list_of_rules clients lists n Import d; export = list_of_rules clients lists n Export d }
 
-abbrev pub policy_checks : List Client → ℕ → Data → List (Option ConfigFault)
-policy_checks clients n d = list_checks clients n Import d ++ list_checks clients n Export d
+abbrev pub policy_checks : List Client → List NamedList → ℕ → Data → List (Option ConfigFault)
+policy_checks clients lists n d = list_checks clients lists n Import d ++ list_checks clients lists n Export d
 
-abbrev pub policies_from : List Client → List Data → List Policy
-policies_from clients ds = each_from (policy_from clients) 1 ds
+abbrev pub policies_from : List Client → List NamedList → List Data → List Policy
+policies_from clients lists ds = each_from (policy_from clients lists) 1 ds
 
-abbrev pub policies_checks : List Client → List Data → List (Option ConfigFault)
-policies_checks clients ds = checks_from (policy_checks clients) 1 ds
+abbrev pub policies_checks : List Client → List NamedList → List Data → List (Option ConfigFault)
+policies_checks clients lists ds = checks_from (policy_checks clients lists) 1 ds
 
 -- the document
 
 abbrev pub client_tables : Data → List Data
 client_tables d = value_or [] (clients_at d)
 
+abbrev pub list_tables : Data → List Data
+list_tables d = value_or [] (lists_at d)
+
 abbrev pub document_checks : Data → List (Option ConfigFault)
 document_checks d =
     let tables = client_tables d in
+    let lists = list_tables d in
     top_checks d
     ++ fault_in (clients_at d)
+    ∷ fault_in (lists_at d)
     ∷ fault_in (stranger top_keys the_top d)
-    ∷ (clients_checks tables ++ policies_checks (clients_from tables) tables)
+    ∷ (clients_checks tables ++ (named_lists_checks lists ++ policies_checks (clients_from tables) (named_lists_from lists) tables))
 
 abbrev pub configuration_of : Data → Configuration
 configuration_of d =
     let tables = client_tables d in
     let clients = clients_from tables in
-    record { top = top_of d; clients = clients; policies = policies_from clients tables }
+    let lists = named_lists_from (list_tables d) in
+    record { top = top_of d; clients = clients; lists = lists; policies = policies_from clients lists tables }
 
 abbrev pub config_from : Option Members → Result Configuration ConfigFault
 config_from None = Err Syntax

@@ -1,10 +1,12 @@
 -- The text of each fault.
-use Rattle.std.specs.Prelude.{ℕ, List, ◌++◌, [], Option, Some, None, codes, decimal}
+use Rattle.std.specs.Prelude.{ℕ, List, ◌++◌, [], codes, decimal}
 use Rattle.rs_policy.specs.declared.faults.List.{List as RuleList}
 use Rattle.rs_policy.specs.declared.faults.List.TheVariants.{Import, Export}
+use Rattle.rs_policy.specs.declared.faults.Table.{Table}
+use Rattle.rs_policy.specs.declared.faults.Table.TheVariants as T
 use Rattle.rs_policy.specs.declared.faults.Place.{Place}
 use Rattle.rs_policy.specs.declared.faults.ConfigFault.{ConfigFault}
-use Rattle.rs_policy.specs.declared.faults.ConfigFault.TheVariants.{Syntax, Missing, BadValue, Twice, TooMany, OutOfMemory}
+use Rattle.rs_policy.specs.declared.faults.ConfigFault.TheVariants.{Syntax, Missing, BadValue, Twice, TwiceList, TooMany, OutOfMemory}
 use Rattle.rs_policy.specs.declared.faults.RulesFault.{RulesFault}
 use Rattle.rs_policy.specs.declared.faults.RulesFault.TheVariants.{Unreadable, Config, Fixed}
 use Rattle.rs_policy.specs.Keys.{key_text}
@@ -17,23 +19,37 @@ list_text Export = codes "export"
 abbrev pub client_text : ℕ → List ℕ
 client_text n = codes "client " ++ decimal n
 
+abbrev pub named_list_text : ℕ → List ℕ
+named_list_text n = codes "list " ++ decimal n
+
 abbrev pub rule_text : RuleList → ℕ → List ℕ
 rule_text list n = codes " " ++ list_text list ++ codes " " ++ decimal n
 
--- the table that a key stands in: the top, a client, or a rule of a list of a client
-abbrev pub table_text : Option ℕ → Option RuleList → Option ℕ → List ℕ
-table_text None list rule = []
-table_text (Some client) (Some list) (Some rule) = client_text client ++ rule_text list rule ++ codes " "
-table_text (Some client) list rule = client_text client ++ codes " "
+-- the table that a key stands in: the top, a client, a rule of a list of a client, or a list
+abbrev pub table_text : Table → List ℕ
+table_text T.Top = []
+table_text (T.Client n) = client_text n ++ codes " "
+table_text (T.Rule n list r) = client_text n ++ rule_text list r ++ codes " "
+table_text (T.List n) = named_list_text n ++ codes " "
+table_text (T.Entry n e) = named_list_text n ++ codes " "
+
+-- which entry of the key's array it is
+abbrev pub entry_text : Table → List ℕ
+entry_text T.Top = []
+entry_text (T.Client n) = []
+entry_text (T.Rule n list r) = []
+entry_text (T.List n) = []
+entry_text (T.Entry n e) = codes " " ++ decimal e
 
 unfoldable pub place_text : Place → List ℕ
-place_text p = table_text p.client p.list p.rule ++ key_text p.key
+place_text p = table_text p.table ++ key_text p.key ++ entry_text p.table
 
 unfoldable pub fault_text : ConfigFault → List ℕ
 fault_text Syntax = codes "syntax"
 fault_text (Missing p) = codes "missing " ++ place_text p
 fault_text (BadValue p) = codes "bad value " ++ place_text p
 fault_text (Twice n) = codes "twice " ++ client_text n
+fault_text (TwiceList n) = codes "twice " ++ named_list_text n
 fault_text (TooMany p) = codes "too many " ++ place_text p
 fault_text OutOfMemory = codes "out of memory"
 

@@ -13,18 +13,23 @@ key_text K.Extended = codes "extended"
 key_text K.Refresh = codes "refresh"
 key_text K.Multiprotocol = codes "multiprotocol"
 key_text K.Client = codes "client"
+key_text K.List = codes "list"
 key_text K.Name = codes "name"
 key_text K.Listen = codes "listen"
 key_text K.Peer = codes "peer"
 key_text K.Limit = codes "limit"
 key_text K.Import = codes "import"
 key_text K.Export = codes "export"
+key_text K.Prefixes = codes "prefixes"
+key_text K.Ases = codes "ases"
 key_text K.Prefix = codes "prefix"
 key_text K.Min = codes "min"
 key_text K.Max = codes "max"
+key_text K.PrefixIn = codes "prefix_in"
 key_text K.From = codes "from"
 key_text K.PathHas = codes "path_has"
 key_text K.OriginAs = codes "origin_as"
+key_text K.OriginIn = codes "origin_in"
 key_text K.Community = codes "community"
 key_text K.NextHopIsPeer = codes "next_hop_is_peer"
 key_text K.Action = codes "action"
@@ -34,13 +39,16 @@ key_text K.Other = codes "?"
 
 -- the keys of each table, in the order in which they are checked
 abbrev pub top_keys : List Key
-top_keys = K.As ∷ K.Identifier ∷ K.Hold ∷ K.Default ∷ K.Extended ∷ K.Refresh ∷ K.Multiprotocol ∷ K.Client ∷ []
+top_keys = K.As ∷ K.Identifier ∷ K.Hold ∷ K.Default ∷ K.Extended ∷ K.Refresh ∷ K.Multiprotocol ∷ K.Client ∷ K.List ∷ []
 
 abbrev pub client_keys : List Key
 client_keys = K.Name ∷ K.As ∷ K.Listen ∷ K.Peer ∷ K.Limit ∷ K.Import ∷ K.Export ∷ []
 
+abbrev pub named_list_keys : List Key
+named_list_keys = K.Name ∷ K.Prefixes ∷ K.Ases ∷ []
+
 abbrev pub rule_keys : List Key
-rule_keys = K.Prefix ∷ K.Min ∷ K.Max ∷ K.From ∷ K.PathHas ∷ K.OriginAs ∷ K.Community ∷ K.NextHopIsPeer ∷ K.Action ∷ K.Preference ∷ K.Strip ∷ []
+rule_keys = K.Prefix ∷ K.Min ∷ K.Max ∷ K.PrefixIn ∷ K.From ∷ K.PathHas ∷ K.OriginAs ∷ K.OriginIn ∷ K.Community ∷ K.NextHopIsPeer ∷ K.Action ∷ K.Preference ∷ K.Strip ∷ []
 
 abbrev pub is_among : List Key → List ℕ → Bool
 is_among keys text = list_any (λ k. bytes_eq (key_text k) text) keys

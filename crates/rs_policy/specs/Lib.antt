@@ -2,8 +2,10 @@ pub mod Accepted
 pub mod Configuration
 pub mod Documents
 pub mod FaultTexts
+pub mod Indexed
 pub mod Judged
 pub mod Keys
+pub mod NamedLists
 pub mod Replacing
 pub mod Rules
 pub mod Seen

@@ -1,11 +1,11 @@
 -- A rule as a table spells it: its keys, their checks in order, and the rule where none fails.
-use Rattle.std.specs.Prelude.{ℕ, Bool, nat_lt, List, [], ◌∷◌, ◌++◌, length, codes, bytes_eq, false, position, Option, Some, None, Result, Ok, Err, option_map, option_and_then, if◌then◌else◌}
+use Rattle.std.specs.Prelude.{ℕ, Bool, nat_lt, List, [], ◌∷◌, ◌++◌, length, codes, bytes_eq, false, ◌&&◌, position, Option, Some, None, is_some, Result, Ok, Err, option_map, option_and_then, if◌then◌else◌}
 use Rattle.toml.specs.Data.{Data, as_array, as_str, as_bool, get}
 use Rattle.rs_octets.specs.Prefixes.{Prefix}
 use Rattle.rs_policy.specs.Keys.{key_text, rule_keys}
 use Rattle.rs_policy.specs.Texts.{prefix_of, community_of}
 use Rattle.rs_policy.specs.Values.{text_as, integer_in, positive, nothing, disposition_of, keyed, list_of, read_or_bad, required_at, optional_at, maybe_at, fault_in, value_or, stranger}
-use Rattle.rs_policy.specs.Configuration.{Client}
+use Rattle.rs_policy.specs.Configuration.{Client, NamedList}
 use Rattle.rs_policy.specs.declared.faults.Key.TheVariants as K
 use Rattle.rs_policy.specs.declared.faults.Place.{Place}
 use Rattle.rs_policy.specs.declared.faults.ConfigFault.{ConfigFault}
@@ -62,11 +62,22 @@ range_checks place d =
 unfoldable pub range_of : Place → Data → Option Range
 range_of place d = range_with (prefix_in place d) (min_in place d) (max_in place d)
 
--- the tests that look at the sender and the attributes
+-- the tests that look at lists, the sender and the attributes
 
 -- the place of the client with this name, from 0
 abbrev pub client_named : List Client → List ℕ → Option ℕ
 client_named clients name = position (λ c. bytes_eq c.name name) clients
+
+-- the place of the list with this name, from 0, where it has prefixes
+abbrev pub prefixes_named : List NamedList → List ℕ → Option ℕ
+prefixes_named lists name = position (λ l. bytes_eq l.name name && is_some l.prefixes) lists
+
+-- and where it has AS numbers
+abbrev pub ases_named : List NamedList → List ℕ → Option ℕ
+ases_named lists name = position (λ l. bytes_eq l.name name && is_some l.ases) lists
+
+abbrev pub prefix_in_at : List NamedList → Place → Data → Result (Option ℕ) ConfigFault
+prefix_in_at lists place d = maybe_at (text_as (prefixes_named lists)) place K.PrefixIn d
 
 abbrev pub from_at : List Client → Place → Data → Result (Option ℕ) ConfigFault
 from_at clients place d = maybe_at (text_as (client_named clients)) place K.From d
@@ -76,6 +87,9 @@ path_has_at place d = maybe_at positive place K.PathHas d
 
 abbrev pub origin_as_at : Place → Data → Result (Option ℕ) ConfigFault
 origin_as_at place d = maybe_at positive place K.OriginAs d
+
+abbrev pub origin_in_at : List NamedList → Place → Data → Result (Option ℕ) ConfigFault
+origin_in_at lists place d = maybe_at (text_as (ases_named lists)) place K.OriginIn d
 
 abbrev pub community_at : Place → Data → Result (Option ℕ) ConfigFault
 community_at place d = maybe_at (text_as community_of) place K.Community d
@@ -143,26 +157,30 @@ action_of place d = action_with (disposition_in place d) (value_or None (prefere
 
 -- the rule
 
-unfoldable pub test_checks : List Client → Place → Data → List (Option ConfigFault)
-test_checks clients place d =
-    fault_in (from_at clients place d)
+unfoldable pub test_checks : List Client → List NamedList → Place → Data → List (Option ConfigFault)
+test_checks clients lists place d =
+    fault_in (prefix_in_at lists place d)
+    ∷ fault_in (from_at clients place d)
     ∷ fault_in (path_has_at place d)
     ∷ fault_in (origin_as_at place d)
+    ∷ fault_in (origin_in_at lists place d)
     ∷ fault_in (community_at place d)
     ∷ fault_in (next_hop_is_peer_at place d)
     ∷ []
 
-abbrev pub rule_checks : List Client → Place → Data → List (Option ConfigFault)
-rule_checks clients place d = range_checks place d ++ (test_checks clients place d ++ (action_checks place d ++ fault_in (stranger rule_keys place d) ∷ []))
+abbrev pub rule_checks : List Client → List NamedList → Place → Data → List (Option ConfigFault)
+rule_checks clients lists place d = range_checks place d ++ (test_checks clients lists place d ++ (action_checks place d ++ fault_in (stranger rule_keys place d) ∷ []))
 
-unfoldable pub tests_of : List Client → Place → Data → Tests
-tests_of clients place d = record {
+unfoldable pub tests_of : List Client → List NamedList → Place → Data → Tests
+tests_of clients lists place d = record {
+  prefix_in = value_or None (prefix_in_at lists place d);
   from = value_or None (from_at clients place d);
   path_has = value_or None (path_has_at place d);
   origin_as = value_or None (origin_as_at place d);
+  origin_in = value_or None (origin_in_at lists place d);
   community = value_or None (community_at place d);
   next_hop_is_peer = value_or None (next_hop_is_peer_at place d);
 }
 
-abbrev pub rule_of : List Client → Place → Data → Rule
-rule_of clients place d = record { range = range_of place d; tests = tests_of clients place d; action = action_of place d }
+abbrev pub rule_of : List Client → List NamedList → Place → Data → Rule
+rule_of clients lists place d = record { range = range_of place d; tests = tests_of clients lists place d; action = action_of place d }

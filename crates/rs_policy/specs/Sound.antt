@@ -2,7 +2,7 @@
 use Rattle.std.specs.Prelude.{◌≡◌, ◌≢◌, ℕ, ◌<◌, ◌≤◌, ◌^◌, true, List, length, IfSome, ⊤}
 use Rattle.std.specs.List.{All, AllPairs}
 use Rattle.rs_policy.specs.Texts.{is_name}
-use Rattle.rs_policy.specs.Configuration.{Client, Policy, Configuration}
+use Rattle.rs_policy.specs.Configuration.{Client, NamedList, Policy, Configuration}
 use Rattle.rs_policy.specs.declared.rules.Range.{Range}
 use Rattle.rs_policy.specs.declared.rules.Stripping.TheVariants.{Named, All as Every}
 use Rattle.rs_policy.specs.declared.rules.Action.{Action}
@@ -33,29 +33,40 @@ pub record IsSoundRange (range : Range) : Type 0 where
   pub rising : range.min ≤ range.max
   pub most : range.max ≤ 32
 
+pub record IsSoundList (l : NamedList) : Type 0 where
+  pub name : is_name l.name ≡ true
+  pub prefixes : IfSome l.prefixes (λ ranges. length ranges ≤ 1048576)
+  pub ases : IfSome l.ases (λ ranges. length ranges ≤ 1048576)
+
 -- the communities that are taken away by name
 abbrev pub StripsFew : Action → Type 0
 StripsFew A.Drop = ⊤
 StripsFew (A.Pass preference (Named communities)) = length communities ≤ 64
 StripsFew (A.Pass preference Every) = ⊤
 
--- a rule beside so many clients
-pub record IsSoundRule (count : ℕ) (rule : Rule) : Type 0 where
+-- a rule beside so many clients and lists
+pub record IsSoundRule (count lists : ℕ) (rule : Rule) : Type 0 where
   pub range : IfSome rule.range IsSoundRange
+  pub prefix_in : IfSome rule.tests.prefix_in (λ n. n < lists)
   pub from : IfSome rule.tests.from (λ c. c < count)
+  pub origin_in : IfSome rule.tests.origin_in (λ n. n < lists)
   pub strip : StripsFew rule.action
 
-pub record AreSoundRules (count : ℕ) (rules : List Rule) : Type 0 where
+pub record AreSoundRules (count lists : ℕ) (rules : List Rule) : Type 0 where
   pub few : length rules ≤ 64
-  pub each : All (IsSoundRule count) rules
+  pub each : All (IsSoundRule count lists) rules
 
-pub record IsSoundPolicy (count : ℕ) (policy : Policy) : Type 0 where
-  pub import : AreSoundRules count policy.import
-  pub export : AreSoundRules count policy.export
+pub record IsSoundPolicy (count lists : ℕ) (policy : Policy) : Type 0 where
+  pub import : AreSoundRules count lists policy.import
+  pub export : AreSoundRules count lists policy.export
 
 -- no two clients have one name, or one pair of `listen` and `peer`
 abbrev pub AreOthers : Client → Client → Type 0
 AreOthers a b = (a.name ≢ b.name) × (a.listen ≡ b.listen → a.peer ≢ b.peer)
+
+-- no two lists have one name
+abbrev pub AreOtherLists : NamedList → NamedList → Type 0
+AreOtherLists a b = a.name ≢ b.name
 
 pub record IsSound (s : Configuration) : Type 0 where
   pub some : 0 < length s.clients
@@ -64,4 +75,7 @@ pub record IsSound (s : Configuration) : Type 0 where
   pub top : IsSoundTop s.top
   pub clients : All IsSoundClient s.clients
   pub others : AllPairs AreOthers s.clients
-  pub rules : All (IsSoundPolicy (length s.clients)) s.policies
+  pub few_lists : length s.lists ≤ 1024
+  pub lists : All IsSoundList s.lists
+  pub other_lists : AllPairs AreOtherLists s.lists
+  pub rules : All (IsSoundPolicy (length s.clients) (length s.lists)) s.policies

@@ -1,8 +1,9 @@
--- How the texts of a configuration are read: numbers, addresses, prefixes, communities, names.
-use Rattle.std.specs.Prelude.{ℕ, ◌+◌, ◌-◌, ◌*◌, ◌==◌, Bool, not, ◌&&◌, ◌||◌, List, [], ◌∷◌, length, nat_le, nat_lt, slice_index, take, drop, position, Option, Some, None, option_map, option_and_then, if◌then◌else◌}
+-- How the texts of a configuration are read: numbers, addresses, prefixes and ranges, communities, names.
+use Rattle.std.specs.Prelude.{ℕ, ◌+◌, ◌-◌, ◌*◌, ◌==◌, Bool, not, ◌&&◌, ◌||◌, List, [], ◌∷◌, length, nat_le, nat_lt, slice_index, take, drop, position, codes, bytes_eq, Option, Some, None, option_map, option_and_then, if◌then◌else◌}
 use Rattle.std.specs.List.{list_all}
 use Rattle.std.specs.Int.{w32, from_be_bytes}
 use Rattle.rs_octets.specs.Prefixes.{Prefix, masked}
+use Rattle.rs_policy.specs.declared.rules.Range.{Range}
 
 -- a decimal digit, in ASCII
 abbrev pub is_digit : ℕ → Bool
@@ -56,6 +57,45 @@ endpoint_of = both address_of colon (λ port. option_and_then no_zero (number_to
 unfoldable pub prefix_of : List ℕ → Option Prefix
 prefix_of text = option_map (λ p. record { bits = masked p.0 p.1; len = p.1 }) (both address_of slash (number_to 32) text)
 
+-- what one reading makes of a text, or else another
+abbrev pub or_else : {A : Type 0} → Option A → Option A → Option A
+or_else None other = other
+or_else (Some a) other = Some a
+
+-- ranges
+
+abbrev pub dash : ℕ
+dash = 45
+
+abbrev pub caret : ℕ
+caret = 94
+
+-- the lengths that a range operator takes, behind a prefix of this length (RFC 2622, 2): `-` all that are longer, `+` these and
+-- its own, `n` one, `n-m` those between
+unfoldable pub lengths_of : ℕ → List ℕ → Option (ℕ × ℕ)
+lengths_of len operator =
+    if bytes_eq operator (codes "-") then Some (len + 1, 32)
+    else (if bytes_eq operator (codes "+") then Some (len, 32)
+    else or_else (option_map (λ n. (n, n)) (number_to 32 operator)) (both (number_to 32) dash (number_to 32) operator))
+
+-- lengths from the prefix's own to 32, the least first
+abbrev pub ranged : Prefix → ℕ × ℕ → Option Range
+ranged p lengths =
+    if nat_le p.len lengths.0 && (nat_le lengths.0 lengths.1 && nat_le lengths.1 32)
+    then Some (record { prefix = p; min = lengths.0; max = lengths.1 }) else None
+
+-- a prefix alone, or one with an operator behind it
+abbrev pub range_from : List ℕ → Option (List ℕ × List ℕ) → Option Range
+range_from text None = option_map (λ p. record { prefix = p; min = p.len; max = p.len }) (prefix_of text)
+range_from text (Some parts) = option_and_then (λ p. option_and_then (ranged p) (lengths_of p.len parts.1)) (prefix_of parts.0)
+
+unfoldable pub prefix_range_of : List ℕ → Option Range
+prefix_range_of text = range_from text (parted caret text)
+
+-- the least and the greatest of some AS numbers
+unfoldable pub as_range_of : List ℕ → Option (ℕ × ℕ)
+as_range_of text = option_and_then (λ r. if nat_le r.0 r.1 then Some r else None) (both (number_to 4294967295) dash (number_to 4294967295) text)
+
 -- two numbers of 16 bits (RFC 1997)
 unfoldable pub community_of : List ℕ → Option ℕ
 community_of text = option_map (λ p. 65536 * p.0 + p.1) (both (number_to 65535) colon (number_to 65535) text)
@@ -64,6 +104,6 @@ community_of text = option_map (λ p. 65536 * p.0 + p.1) (both (number_to 65535)
 abbrev pub is_name_octet : ℕ → Bool
 is_name_octet c = ((nat_le 97 c && nat_le c 122) || (nat_le 65 c && nat_le c 90)) || (is_digit c || c == 45)
 
--- the name of a client: 1 to 32 of these
+-- a name: 1 to 32 of these
 abbrev pub is_name : List ℕ → Bool
 is_name text = (nat_lt 0 (length text) && nat_le (length text) 32) && list_all is_name_octet text

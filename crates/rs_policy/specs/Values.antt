@@ -5,14 +5,16 @@ use Rattle.std.specs.List.{list_all}
 use Rattle.toml.specs.Data.{Data, Items, Members, no_items, item, no_members, member, get, as_integer, as_str, as_array, as_table}
 use Rattle.rs_octets.specs.HoldTimes.{is_refused_hold}
 use Rattle.rs_policy.specs.Keys.{key_text, is_among}
-use Rattle.rs_policy.specs.Texts.{address_of, is_name, no_zero}
+use Rattle.rs_policy.specs.Texts.{address_of, as_range_of, is_name, no_zero, or_else, prefix_range_of}
 use Rattle.rs_policy.specs.declared.faults.Key.{Key}
 use Rattle.rs_policy.specs.declared.faults.Key.TheVariants as K
 use Rattle.rs_policy.specs.declared.faults.Place.{Place}
+use Rattle.rs_policy.specs.declared.faults.Table.TheVariants.{Entry, List as OfList}
 use Rattle.rs_policy.specs.declared.faults.ConfigFault.{ConfigFault}
 use Rattle.rs_policy.specs.declared.faults.ConfigFault.TheVariants.{Missing, BadValue, TooMany, OutOfMemory}
 use Rattle.rs_policy.specs.declared.rules.Disposition.{Disposition}
 use Rattle.rs_policy.specs.declared.rules.Disposition.TheVariants.{Pass, Drop}
+use Rattle.rs_policy.specs.declared.rules.Range.{Range}
 
 -- what a value of each kind is, and None for a value of another kind or out of its range
 
@@ -45,6 +47,14 @@ disposition_of text = if bytes_eq text (codes "pass") then Some Pass else (if by
 
 abbrev pub name_of : List ℕ → Option (List ℕ)
 name_of text = if is_name text then Some text else None
+
+-- an entry of a list: prefixes, and AS numbers, one or those from one to another. AS 0 is among them (RFC 7607)
+
+abbrev pub prefix_entry : Data → Option Range
+prefix_entry = text_as prefix_range_of
+
+abbrev pub as_entry : Data → Option (ℕ × ℕ)
+as_entry d = or_else (option_map (λ n. (n, n)) (integer_in 0 4294967295 d)) (text_as as_range_of d)
 
 -- no value is right
 abbrev pub nothing : {A : Type 0} → Data → Option A
@@ -109,6 +119,46 @@ some_tables place r = r
 
 unfoldable pub some_tables_at : ℕ → Place → Key → Data → Result (List Data) ConfigFault
 some_tables_at most place k d = some_tables (keyed place k) (tables_at most place k d)
+
+-- arrays of entries, in list number n
+
+abbrev pub list_place : ℕ → Place
+list_place n = record { table = OfList n; key = K.Other }
+
+abbrev pub entry_place : ℕ → Key → ℕ → Place
+entry_place n k e = record { table = Entry n e; key = k }
+
+-- one before others
+abbrev pub before : {A : Type 0} → Option A → ConfigFault → Result (List A) ConfigFault → Result (List A) ConfigFault
+before None f r = Err f
+before (Some a) f (Ok more) = Ok (a ∷ more)
+before (Some a) f (Err g) = Err g
+
+-- what each is, counted from e, or the place of the first that is none
+unfoldable pub entries_from : {A : Type 0} → (Data → Option A) → ℕ → Key → ℕ → List Data → Result (List A) ConfigFault
+entries_from reads n k e [] = Ok []
+entries_from reads n k e (d ∷ ds) = before (reads d) (BadValue (entry_place n k e)) (entries_from reads n k (e + 1) ds)
+
+-- an array that is too long is that first, whatever it holds
+abbrev pub array_at : ℕ → Key → Option (List Data) → Result (List Data) ConfigFault
+array_at n k None = Err (BadValue (keyed (list_place n) k))
+array_at n k (Some ds) = if nat_lt 1048576 (length ds) then Err (TooMany (keyed (list_place n) k)) else Ok ds
+
+abbrev pub entries_of : {A : Type 0} → (Data → Option A) → ℕ → Key → Result (List Data) ConfigFault → Result (List A) ConfigFault
+entries_of reads n k (Ok ds) = entries_from reads n k 1 ds
+entries_of reads n k (Err f) = Err f
+
+abbrev pub given : {A : Type 0} → Result A ConfigFault → Result (Option A) ConfigFault
+given (Ok a) = Ok (Some a)
+given (Err f) = Err f
+
+abbrev pub entries_found : {A : Type 0} → (Data → Option A) → ℕ → Key → Option Data → Result (Option (List A)) ConfigFault
+entries_found reads n k None = Ok None
+entries_found reads n k (Some d) = given (entries_of reads n k (array_at n k (option_map list_of (as_array d))))
+
+-- such an array that may be left out
+unfoldable pub entries_at : {A : Type 0} → (Data → Option A) → ℕ → Key → Data → Result (Option (List A)) ConfigFault
+entries_at reads n k d = entries_found reads n k (get (key_text k) d)
 
 -- keys that a table hasn't
 

@@ -1,9 +1,10 @@
 -- Which routes a rule matches, and what the rules make of a route.
+use Rattle.std.specs.List.{list_any}
 use Rattle.std.specs.Prelude.{ℕ, ◌-◌, ◌/◌, ◌^◌, ◌==◌, Bool, true, false, not, ◌&&◌, ◌||◌, nat_le, List, [], ◌∷◌, find, Option, Some, None, option_map, unwrap_or, if◌then◌else◌}
 use Rattle.rs_octets.specs.Prefixes.{Prefix}
 use Rattle.rs_attrs.specs.Meaning.{Attribute}
 use Rattle.rs_attrs.specs.Getters.{path_has_of, origin_as_of, has_community, next_hop_of}
-use Rattle.rs_policy.specs.Configuration.{Configuration, client_of, policy_of}
+use Rattle.rs_policy.specs.Configuration.{NamedList, Configuration, client_of, list_at, policy_of}
 use Rattle.rs_policy.specs.declared.rules.Disposition.{Disposition}
 use Rattle.rs_policy.specs.declared.rules.Disposition.TheVariants as D
 use Rattle.rs_policy.specs.declared.rules.Range.{Range}
@@ -11,6 +12,7 @@ use Rattle.rs_policy.specs.declared.rules.Stripping.TheVariants.{Named, All}
 use Rattle.rs_policy.specs.declared.rules.Action.{Action}
 use Rattle.rs_policy.specs.declared.rules.Action.TheVariants as A
 use Rattle.rs_policy.specs.declared.rules.Rule.{Rule}
+use Rattle.rs_policy.specs.declared.rules.Tests.{Tests}
 
 -- a route as its sender announced it: the sender's place and address, the prefix and the attributes
 pub record AnnouncedRoute : Type 0 where
@@ -30,6 +32,17 @@ is_within p outer = nat_le outer.len p.len && front outer.len p.bits == front ou
 abbrev pub in_range : Range → Prefix → Bool
 in_range r p = is_within p r.prefix && (nat_le r.min p.len && nat_le p.len r.max)
 
+-- some range of a list takes the prefix
+abbrev pub has_prefix : NamedList → Prefix → Bool
+has_prefix l p = unwrap_or (option_map (λ ranges. list_any (λ r. in_range r p) ranges) l.prefixes) false
+
+abbrev pub in_as_range : ℕ × ℕ → ℕ → Bool
+in_as_range r n = nat_le r.0 n && nat_le n r.1
+
+-- some range of a list has the AS number
+abbrev pub has_as : NamedList → ℕ → Bool
+has_as l n = unwrap_or (option_map (λ ranges. list_any (λ r. in_as_range r n) ranges) l.ases) false
+
 -- the route's NEXT_HOP is its sender's address
 abbrev pub next_hop_is_peer : AnnouncedRoute → Bool
 next_hop_is_peer r = unwrap_or (option_map (λ a. a == r.peer) (next_hop_of r.attributes)) false
@@ -37,20 +50,30 @@ next_hop_is_peer r = unwrap_or (option_map (λ a. a == r.peer) (next_hop_of r.at
 abbrev pub origin_as_is : ℕ → AnnouncedRoute → Bool
 origin_as_is n r = unwrap_or (option_map (λ o. o == n) (origin_as_of r.attributes)) false
 
+abbrev pub origin_in : NamedList → AnnouncedRoute → Bool
+origin_in l r = unwrap_or (option_map (λ o. has_as l o) (origin_as_of r.attributes)) false
+
 -- a test that isn't there holds
 abbrev pub holds : {A : Type 0} → (A → Bool) → Option A → Bool
 holds test None = true
 holds test (Some a) = test a
 
+-- the tests that walk communities and paths
+unfoldable pub attributes_match : List NamedList → Tests → AnnouncedRoute → Bool
+attributes_match lists tests r =
+    holds (λ n. has_community n r.attributes) tests.community
+    && (holds (λ n. origin_as_is n r) tests.origin_as
+    && (holds (λ n. origin_in (list_at lists n) r) tests.origin_in
+    && holds (λ n. path_has_of n r.attributes) tests.path_has))
+
 -- all tests of a rule hold, those that walk the attributes last
-unfoldable pub matches : Rule → AnnouncedRoute → Bool
-matches rule r =
+unfoldable pub matches : List NamedList → Rule → AnnouncedRoute → Bool
+matches lists rule r =
     holds (λ range. in_range range r.prefix) rule.range
+    && (holds (λ n. has_prefix (list_at lists n) r.prefix) rule.tests.prefix_in
     && (holds (λ c. c == r.from) rule.tests.from
     && (holds (λ b. if b then next_hop_is_peer r else not (next_hop_is_peer r)) rule.tests.next_hop_is_peer
-    && (holds (λ n. has_community n r.attributes) rule.tests.community
-    && (holds (λ n. origin_as_is n r) rule.tests.origin_as
-    && holds (λ n. path_has_of n r.attributes) rule.tests.path_has))))
+    && attributes_match lists rule.tests r)))
 
 -- how a list passes a route: the preference, if it gives one, and the communities that are taken away
 pub record Passing : Type 0 where
@@ -72,8 +95,8 @@ passing_by default None = passing_by_default default
 passing_by default (Some rule) = passing rule.action
 
 -- the first rule that matches decides, and the default where none does
-unfoldable pub outcome : Disposition → List Rule → AnnouncedRoute → Option Passing
-outcome default rules r = passing_by default (find (λ rule. matches rule r) rules)
+unfoldable pub outcome : Disposition → List NamedList → List Rule → AnnouncedRoute → Option Passing
+outcome default lists rules r = passing_by default (find (λ rule. matches lists rule r) rules)
 
 -- what becomes of a route
 pub data Judgement : Type 0 where
@@ -93,4 +116,4 @@ announced_route s from p m = record { from = from; peer = (client_of s from).pee
 unfoldable pub verdict : Configuration → ℕ → ℕ → Prefix → List Attribute → Judgement
 verdict s from to p m =
     let r = announced_route s from p m in
-    joined (outcome s.top.default (policy_of s from).import r) (outcome s.top.default (policy_of s to).export r)
+    joined (outcome s.top.default s.lists (policy_of s from).import r) (outcome s.top.default s.lists (policy_of s to).export r)

@@ -2,6 +2,7 @@
 
 mod arrays;
 mod clients;
+pub(crate) mod named_lists;
 mod policies;
 mod replacing;
 mod rule_tables;
@@ -20,9 +21,10 @@ ghost use Rattle.rs_policy.specs.Sound.{IsSound};
 ghost use Rattle.rs_policy.specs.Documents.{document_checks, configuration_of, config_of};
 
 use crate::config::clients::{Client, read_clients};
+use crate::config::named_lists::{NamedList, read_named_lists};
 use crate::config::policies::{Policy, read_policies};
 use crate::config::rule_tables::place_of;
-use crate::config::top::{Top, client_tables, refuse_other_keys};
+use crate::config::top::{Top, client_tables, list_tables, refuse_other_keys};
 use crate::faults::ConfigFault;
 use crate::rules::Disposition;
 use std::alloc::Global;
@@ -34,6 +36,7 @@ use toml::value::Value;
 pub struct Config {
     top: Top,
     clients: Vec<Client>,
+    lists: Vec<NamedList>,
     policies: Vec<Policy>,
 }
 
@@ -44,9 +47,9 @@ impl Model for Config {
 
     ghost use Rattle.rs_policy.specs.Sound.{IsSound};
 
-    ghost view = { λ c. record { top = c.top; clients = c.clients.items; policies = c.policies.items } };
+    ghost view = { λ c. record { top = c.top; clients = c.clients.items; lists = c.lists.items; policies = c.policies.items } };
 
-    ghost invariant = { λ c. IsSound (record { top = c.top; clients = c.clients.items; policies = c.policies.items }) };
+    ghost invariant = { λ c. IsSound (record { top = c.top; clients = c.clients.items; lists = c.lists.items; policies = c.policies.items }) };
 }
 
 impl Config {
@@ -72,12 +75,15 @@ impl Config {
     {
         let top = Top::read(document)?;
         let tables = client_tables(document)?;
+        let named = list_tables(document)?;
         refuse_other_keys(document)?;
         let clients = read_clients(alloc, tables)?;
-        let policies = read_policies(alloc, tables, &clients)?;
+        let lists = read_named_lists(alloc, named)?;
+        let policies = read_policies(alloc, tables, &clients, &lists)?;
         Ok(Config {
             top,
             clients,
+            lists,
             policies,
         })
     }
@@ -198,6 +204,13 @@ impl Config {
         ensures { result.now ≡ policy_of self.now c }
     {
         &self.policies[c]
+    }
+
+    /// The lists that rules name.
+    pub(crate) fn lists(&self) -> &[NamedList]
+        ensures { result.now ≡ self.now.lists }
+    {
+        &self.lists
     }
 
     pub(crate) fn top(&self) -> &Top

@@ -24,18 +24,23 @@ pub enum Key {
     Refresh,
     Multiprotocol,
     Client,
+    List,
     Name,
     Listen,
     Peer,
     Limit,
     Import,
     Export,
+    Prefixes,
+    Ases,
     Prefix,
     Min,
     Max,
+    PrefixIn,
     From,
     PathHas,
     OriginAs,
+    OriginIn,
     Community,
     NextHopIsPeer,
     Action,
@@ -59,18 +64,23 @@ impl Key {
             Key::Refresh => "refresh",
             Key::Multiprotocol => "multiprotocol",
             Key::Client => "client",
+            Key::List => "list",
             Key::Name => "name",
             Key::Listen => "listen",
             Key::Peer => "peer",
             Key::Limit => "limit",
             Key::Import => "import",
             Key::Export => "export",
+            Key::Prefixes => "prefixes",
+            Key::Ases => "ases",
             Key::Prefix => "prefix",
             Key::Min => "min",
             Key::Max => "max",
+            Key::PrefixIn => "prefix_in",
             Key::From => "from",
             Key::PathHas => "path_has",
             Key::OriginAs => "origin_as",
+            Key::OriginIn => "origin_in",
             Key::Community => "community",
             Key::NextHopIsPeer => "next_hop_is_peer",
             Key::Action => "action",
@@ -90,13 +100,24 @@ pub enum List {
     Export,
 }
 
-/// A place in a configuration: at its top, in the table of a client, or in one of its rules. Clients
-/// and rules are counted from 1.
+/// A table of a configuration. All are counted from 1.
+#[derive(Clone, Copy, Debug, PartialEq, Eq)]
+pub enum Table {
+    Top,
+    /// The table of a client.
+    Client(usize),
+    /// A rule of a list of rules of a client.
+    Rule(usize, List, usize),
+    /// A list that rules name.
+    List(usize),
+    /// Of such a list an entry of the array at the key.
+    Entry(usize, usize),
+}
+
+/// A place in a configuration.
 #[derive(Clone, Copy, Debug, PartialEq, Eq)]
 pub struct Place {
-    pub client: Option<usize>,
-    pub list: Option<List>,
-    pub rule: Option<usize>,
+    pub table: Table,
     pub key: Key,
 }
 
@@ -111,6 +132,8 @@ pub enum ConfigFault {
     BadValue(Place),
     /// The client, counted from 1, has the name or the pair of `listen` and `peer` of an earlier one.
     Twice(usize),
+    /// The list, counted from 1, has the name of an earlier one.
+    TwiceList(usize),
     /// An array is too long.
     TooMany(Place),
     /// Memory was refused.
@@ -167,6 +190,7 @@ impl ConfigFault {
             ConfigFault::Missing(place) => Line::of(b"missing ").with_place(place),
             ConfigFault::BadValue(place) => Line::of(b"bad value ").with_place(place),
             ConfigFault::Twice(client) => Line::of(b"twice ").with_client(*client),
+            ConfigFault::TwiceList(list) => Line::of(b"twice ").with_named_list(*list),
             ConfigFault::TooMany(place) => Line::of(b"too many ").with_place(place),
             ConfigFault::OutOfMemory => Line::of(b"out of memory"),
         }

@@ -1,11 +1,16 @@
 //! Laws of the definitions. Each contract is the law; the bodies do nothing.
 
+ghost use Rattle.std.specs.List.{Contains};
 ghost use Rattle.std.specs.Prelude.{◌≡◌, ◌↔◌, ℕ, List, None, Ok};
+ghost use Rattle.rs_octets.specs.Prefixes.{Prefix};
 ghost use Rattle.rs_policy.specs.Accepted.{AcceptedSays};
 ghost use Rattle.rs_policy.specs.Configuration.{Configuration};
 ghost use Rattle.rs_policy.specs.Documents.{config_of};
 ghost use Rattle.rs_policy.specs.Replacing.{first_fixed, IsFixed};
 ghost use Rattle.rs_policy.specs.Sound.{IsSound};
+ghost use Rattle.rs_policy.specs.Verdicts.{has_prefix};
+ghost use Rattle.rs_policy.specs.NamedLists.{listing};
+ghost use Rattle.rs_policy.specs.declared.rules.Range.{Range};
 
 /// A configuration may replace another exactly where all but the default, the limits and the rules is
 /// what it was.
@@ -21,9 +26,17 @@ pub fn an_accepted_text_says_each_value()
     ensures { AcceptedSays }
 {}
 
+/// Lists in which the same ranges stand have the same prefixes, in whatever order and however often each
+/// stands.
+pub fn a_list_ignores_order()
+    ensures { (xs ys : List Range) → ((r : Range) → Contains xs r ↔ Contains ys r)
+        → (p : Prefix) → has_prefix (listing xs) p ≡ has_prefix (listing ys) p }
+{}
+
 /// What every configuration has: an identifier, no Hold Time of 1 or 2 seconds, 1 to 512 clients of
-/// which no two have one name or one pair of `listen` and `peer`, at most 64 rules in a list, and rules
-/// whose lengths are in range and which name clients that are there.
+/// which no two have one name or one pair of `listen` and `peer`, at most 1,024 lists of which no two have
+/// one name, at most 64 rules in a list of rules, and rules whose lengths are in range and which name clients
+/// and lists that are there.
 pub fn every_configuration_is_sound()
     ensures { (text : List ℕ) (s : Configuration) → config_of text ≡ Ok s → IsSound s }
 {}

@@ -19,5 +19,5 @@ pub mod laws;
 mod rules;
 
 pub use config::Config;
-pub use faults::{ConfigFault, Key, List, Place, RulesFault};
+pub use faults::{ConfigFault, Key, List, Place, RulesFault, Table};
 pub use rules::verdict::{Fate, Verdict, judge};

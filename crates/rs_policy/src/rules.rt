@@ -64,13 +64,17 @@ pub(crate) struct Range {
     pub(crate) max: u8,
 }
 
-/// What a rule asks of the sender and the attributes of a route.
+/// What a rule asks of the prefix, the sender and the attributes of a route.
 #[derive(Clone, Copy, Debug, PartialEq, Eq)]
 pub(crate) struct Tests {
+    /// The place of a list with prefixes, from 0.
+    pub(crate) prefix_in: Option<usize>,
     /// The place of the sender, from 0.
     pub(crate) from: Option<usize>,
     pub(crate) path_has: Option<u32>,
     pub(crate) origin_as: Option<u32>,
+    /// The place of a list with AS numbers, from 0.
+    pub(crate) origin_in: Option<usize>,
     pub(crate) community: Option<u32>,
     pub(crate) next_hop_is_peer: Option<bool>,
 }

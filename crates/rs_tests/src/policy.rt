@@ -2,6 +2,7 @@
 
 mod examples;
 mod faults;
+mod lists;
 mod matching;
 mod replacing;
 mod routes;

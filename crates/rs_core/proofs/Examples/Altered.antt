@@ -3,7 +3,7 @@ use Rattle.std.specs.Prelude.{◌≡◌, true, false, [], ◌∷◌, ◌++◌, L
 use Rattle.std.proofs.Common.{inl, inr, arith}
 use Rattle.rs_attrs.specs.Meaning.{Attribute, all_types}
 use Rattle.rs_attrs.proofs.Rows.{u1_attributes}
-use Rattle.rs_policy.specs.Verdicts.{matches, outcome, verdict}
+use Rattle.rs_policy.specs.Verdicts.{attributes_match, matches, outcome, verdict}
 use Rattle.rs_decision.specs.Choice.{unbeaten}
 use Rattle.rs_outlet.specs.declared.answers.Last.TheVariants as lasts
 use Rattle.rs_core.specs.Run.Moves.{Came, Dropped, Heard, Left, Turned}
@@ -60,7 +60,7 @@ lost_with_it = (λ e. absurd (omega (arith, e)), λ same. let e : ◌≡◌ {A =
 
 -- what stands of a client: what another one holds
 holds : stands announced 1 n24 ≡ true
-unfolding all_types matches outcome verdict unbeaten
+unfolding all_types attributes_match matches outcome verdict unbeaten
 holds = refl
 
 -- ---- the answer of the last turn stays

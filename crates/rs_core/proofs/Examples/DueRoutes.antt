@@ -13,7 +13,7 @@ use Rattle.rs_session.specs.declared.act.Act.TheVariants as acts
 use Rattle.rs_session.specs.Endings.{Ends}
 use Rattle.rs_session.specs.Sessions.{fate, act_of}
 use Rattle.rs_policy.specs.Configuration.{Client, Configuration, no_policy}
-use Rattle.rs_policy.specs.Verdicts.{matches, outcome, verdict}
+use Rattle.rs_policy.specs.Verdicts.{attributes_match, matches, outcome, verdict}
 use Rattle.rs_policy.specs.declared.rules.Rule.{Rule}
 use Rattle.rs_policy.specs.declared.rules.Action.TheVariants as actions
 use Rattle.rs_policy.specs.declared.rules.Disposition.TheVariants as dispositions
@@ -33,6 +33,7 @@ abbrev pub base : Configuration
 base = record {
   top = record { server_as = 64500; identifier = 0xc0000201; hold = 90; default = dispositions.Pass; extended = false; refresh = false; multiprotocol = false };
   clients = client 0 64496 ∷ client 1 64497 ∷ client 2 64498 ∷ client 3 64499 ∷ [];
+  lists = [];
   policies = replicate 4 no_policy;
 }
 
@@ -107,16 +108,16 @@ abbrev pub announced : List Move
 announced = Turned [] ∷ Heard 0 u1 ∷ two_up
 
 due_to_b : due announced 1 n24 ≡ Some u1_attributes
-unfolding all_types matches outcome verdict unbeaten
+unfolding all_types attributes_match matches outcome verdict unbeaten
 due_to_b = refl
 
 none_due_to_a : due announced 0 n24 ≡ None
-unfolding all_types matches outcome verdict unbeaten
+unfolding all_types attributes_match matches outcome verdict unbeaten
 none_due_to_a = refl
 
 -- c isn't Established
 none_due_to_c : due announced 2 n24 ≡ None
-unfolding all_types matches outcome verdict unbeaten
+unfolding all_types attributes_match matches outcome verdict unbeaten
 none_due_to_c = refl
 
 -- ---- an UPDATE at fault is a withdrawal (RFC 7606, 2), and without NLRI a session reset
@@ -125,7 +126,7 @@ abbrev at_fault : List Move
 at_fault = Heard 0 bad_origin ∷ announced
 
 withdrawn_from_b : due at_fault 1 n24 ≡ None
-unfolding all_types matches outcome verdict unbeaten
+unfolding all_types attributes_match matches outcome verdict unbeaten
 withdrawn_from_b = refl
 
 stays_up : is_established at_fault 0 ≡ true
@@ -141,7 +142,7 @@ reset = refl
 abbrev rule : Rule
 rule = record {
   range = None;
-  tests = record { from = Some 0; path_has = None; origin_as = None; community = None; next_hop_is_peer = None };
+  tests = record { prefix_in = None; from = Some 0; path_has = None; origin_as = None; origin_in = None; community = None; next_hop_is_peer = None };
   action = actions.Drop;
 }
 
@@ -152,63 +153,63 @@ abbrev both_announce : List Move
 both_announce = Heard 1 ub ∷ Heard 0 u1 ∷ up 3 open_d (up 2 open_c (up 1 open_b (up 0 open_a (Ruled c_drops_a ∷ []))))
 
 due_to_c : due both_announce 2 n24 ≡ Some ub_attributes
-unfolding all_types matches outcome verdict unbeaten
+unfolding all_types attributes_match matches outcome verdict unbeaten
 due_to_c = refl
 
 -- a's BGP Identifier is the lower one
 due_to_d : due both_announce 3 n24 ≡ Some u1_attributes
-unfolding all_types matches outcome verdict unbeaten
+unfolding all_types attributes_match matches outcome verdict unbeaten
 due_to_d = refl
 
 -- ---- a withdrawal, and the same route again
 
 gone : due (Heard 0 w1 ∷ announced) 1 n24 ≡ None
-unfolding all_types matches outcome verdict unbeaten
+unfolding all_types attributes_match matches outcome verdict unbeaten
 gone = refl
 
 back : due (Heard 0 u1 ∷ Turned [] ∷ Heard 0 w1 ∷ announced) 1 n24 ≡ Some u1_attributes
-unfolding all_types matches outcome verdict unbeaten
+unfolding all_types attributes_match matches outcome verdict unbeaten
 back = refl
 
 -- what was due at the turns: a turn that was refused for a client is none of its turns, and a new connection begins anew
 withdrawn_behind_a_turn : dues (Turned [] ∷ Heard 0 w1 ∷ announced) 1 n24 ≡ None ∷ Some u1_attributes ∷ []
-unfolding all_types matches outcome verdict unbeaten
+unfolding all_types attributes_match matches outcome verdict unbeaten
 withdrawn_behind_a_turn = refl
 
 back_before_a_turn : dues (Turned [] ∷ Heard 0 u1 ∷ Heard 0 w1 ∷ announced) 1 n24 ≡ Some u1_attributes ∷ Some u1_attributes ∷ []
-unfolding all_types matches outcome verdict unbeaten
+unfolding all_types attributes_match matches outcome verdict unbeaten
 back_before_a_turn = refl
 
 refused_for_b : dues (Turned (1 ∷ []) ∷ Heard 0 w1 ∷ announced) 1 n24 ≡ Some u1_attributes ∷ []
-unfolding all_types matches outcome verdict unbeaten
+unfolding all_types attributes_match matches outcome verdict unbeaten
 refused_for_b = refl
 
 connected_anew : dues (Came 1 ∷ Left 1 ∷ announced) 1 n24 ≡ []
-unfolding all_types matches outcome verdict unbeaten
+unfolding all_types attributes_match matches outcome verdict unbeaten
 connected_anew = refl
 
 -- ---- a receiver is lost and comes again
 
 receiver_lost : due (Left 1 ∷ announced) 1 n24 ≡ None
-unfolding all_types matches outcome verdict unbeaten
+unfolding all_types attributes_match matches outcome verdict unbeaten
 receiver_lost = refl
 
 receiver_back : due (up 1 open_b (Left 1 ∷ announced)) 1 n24 ≡ Some u1_attributes
-unfolding all_types matches outcome verdict unbeaten
+unfolding all_types attributes_match matches outcome verdict unbeaten
 receiver_back = refl
 
 -- ---- a sender is lost: its routes are gone at once, and when it comes again it holds nothing
 
 sender_lost : due (Left 0 ∷ announced) 1 n24 ≡ None
-unfolding all_types matches outcome verdict unbeaten
+unfolding all_types attributes_match matches outcome verdict unbeaten
 sender_lost = refl
 
 sender_up_again : due (up 0 open_a (Left 0 ∷ announced)) 1 n24 ≡ None
-unfolding all_types matches outcome verdict unbeaten
+unfolding all_types attributes_match matches outcome verdict unbeaten
 sender_up_again = refl
 
 sender_back : due (Heard 0 u5 ∷ up 0 open_a (Left 0 ∷ announced)) 1 n24 ≡ Some u5_attributes
-unfolding all_types matches outcome verdict unbeaten
+unfolding all_types attributes_match matches outcome verdict unbeaten
 sender_back = refl
 
 -- ---- a second connection of a client that isn't Idle changes nothing: there is no move
@@ -237,7 +238,7 @@ abbrev to_b_nothing : Configuration
 to_b_nothing = record base { policies = no_policy ∷ record { import = []; export = record rule { tests = record rule.tests { from = None } } ∷ [] } ∷ no_policy ∷ no_policy ∷ [] }
 
 ruled_out : due (Ruled to_b_nothing ∷ announced) 1 n24 ≡ None
-unfolding all_types matches outcome verdict unbeaten
+unfolding all_types attributes_match matches outcome verdict unbeaten
 ruled_out = refl
 
 b_stays_up : is_established (Ruled to_b_nothing ∷ announced) 1 ≡ true

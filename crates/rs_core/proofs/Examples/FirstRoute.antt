@@ -11,7 +11,7 @@ use Rattle.rs_attrs.specs.Meaning.{Attribute, all_types}
 use Rattle.rs_attrs.specs.Effects.{Change, Changes, HasEffect, MeansTable, same_prefix, table_of, table_since}
 use Rattle.rs_attrs.proofs.EachOnce.{same_is}
 use Rattle.rs_attrs.proofs.Rows.{u1_attributes}
-use Rattle.rs_policy.specs.Verdicts.{matches, outcome, verdict}
+use Rattle.rs_policy.specs.Verdicts.{attributes_match, matches, outcome, verdict}
 use Rattle.rs_decision.specs.Choice.{unbeaten}
 use Rattle.rs_outlet.specs.declared.answers.Speech.{Speech}
 use Rattle.rs_core.specs.Session.Hearing.{identifier_in, table_in}
@@ -59,7 +59,7 @@ elsewhere : (p : Prefix) → same_prefix p n24 ≡ false → table_since (announ
 elsewhere p e = rw e
 
 none_elsewhere : (p : Prefix) → same_prefix p n24 ≡ false → due first_route 1 p ≡ None
-unfolding all_types matches outcome verdict unbeaten
+unfolding all_types attributes_match matches outcome verdict unbeaten
 none_elsewhere p e =
     due_below base 4 1 four p identifiers identifiers (λ d q. table_in base d (hearing d first_route) q) (λ d q. None) others
   where
@@ -74,7 +74,7 @@ none_elsewhere p e =
     others (suc (suc (suc (suc d)))) below other = absurd (omega arith)
 
 due_is : (p : Prefix) → due first_route 1 p ≡ table_of (announces ∷ []) p
-unfolding all_types matches outcome verdict unbeaten
+unfolding all_types attributes_match matches outcome verdict unbeaten
 due_is p = elim (cases_Bool (same_prefix p n24)) [
   | inl same ↦ subst (λ q. due first_route 1 q ≡ table_of (announces ∷ []) q) (sym (same_is p n24 same)) refl
   | inr other ↦ none_elsewhere p other ∙ sym (elsewhere p other)
@@ -95,7 +95,7 @@ served = record {
 
 -- before the UPDATE is taken it is not served
 none_told : (changes : List Change) → AllZip (λ body change. HasEffect body modes.Four (Changes change)) [] changes → due decided 1 n24 ≡ table_of changes n24 → ⊥
-unfolding all_types matches outcome verdict unbeaten
+unfolding all_types attributes_match matches outcome verdict unbeaten
 none_told [] zip same = let f : ◌≡◌ {A = Option (List Attribute)} (Some u1_attributes) None = same in cc
 none_told (change ∷ changes) zip same = absurd zip
 
@@ -105,7 +105,7 @@ not_served_yet yet = let t = (yet.told four refl).means in none_told t.0 t.1 (t.
 -- ---- in order
 
 in_order : InOrder (hearing 1 first_route).points (Some u1_attributes ∷ []) false
-unfolding all_types matches outcome verdict unbeaten
+unfolding all_types attributes_match matches outcome verdict unbeaten
 in_order = inl (inr (record {
   value = Some u1_attributes;
   earlier = [];

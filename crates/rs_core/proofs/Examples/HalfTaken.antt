@@ -5,7 +5,7 @@ use Rattle.std.specs.Prelude.{Option, Some, None}
 use Rattle.rs_octets.specs.Messages.{body_of}
 use Rattle.rs_attrs.specs.Meaning.{Attribute, all_types}
 use Rattle.rs_attrs.proofs.Rows.{u1_attributes}
-use Rattle.rs_policy.specs.Verdicts.{matches, outcome, verdict}
+use Rattle.rs_policy.specs.Verdicts.{attributes_match, matches, outcome, verdict}
 use Rattle.rs_decision.specs.Choice.{unbeaten}
 use Rattle.rs_core.specs.Run.Moves.{Move, Heard, Left, Turned, Began, Took}
 use Rattle.rs_core.specs.Told.Points.{Value}
@@ -24,7 +24,7 @@ abbrev both_told : List Move
 both_told = Began 1 ∷ Took 1 route_5 ∷ Began 1 ∷ whole
 
 both_due : dues both_told 1 n24 ≡ Some u5_attributes ∷ Some u1_attributes ∷ []
-unfolding all_types matches outcome verdict unbeaten
+unfolding all_types attributes_match matches outcome verdict unbeaten
 both_due = refl
 
 -- ---- what is half taken is no UPDATE yet
@@ -42,7 +42,7 @@ none_begins values asked more = let f : take 20 route ≡ [] = more.whole in cc
 -- ---- the first as it began, then the second
 
 in_order : InOrder (hearing 1 both_told).points (Some u5_attributes ∷ Some u1_attributes ∷ []) false
-unfolding all_types matches outcome verdict unbeaten
+unfolding all_types attributes_match matches outcome verdict unbeaten
 in_order = inl (inr (record {
   value = Some u5_attributes;
   earlier = Some u1_attributes ∷ [];

@@ -7,7 +7,7 @@ use Rattle.rs_attrs.specs.Meaning.{Attribute, all_types}
 use Rattle.rs_attrs.proofs.Rows.{u1_attributes}
 use Rattle.rs_open.specs.declared.short.Limit.TheVariants as limits
 use Rattle.rs_session.specs.Items.{is_connected}
-use Rattle.rs_policy.specs.Verdicts.{matches, outcome, verdict}
+use Rattle.rs_policy.specs.Verdicts.{attributes_match, matches, outcome, verdict}
 use Rattle.rs_decision.specs.Choice.{unbeaten}
 use Rattle.rs_core.specs.Drives.Steps.{Step, Happened, Begin, Offer}
 use Rattle.rs_core.specs.Run.Moves.{Move, Left, Turned, Began, Took}
@@ -64,12 +64,12 @@ one_update_anew : bodies (hearing 1 back).taken ≡ body_of route ∷ []
 one_update_anew = refl
 
 due_anew : dues back 1 n24 ≡ Some u1_attributes ∷ []
-unfolding all_types matches outcome verdict unbeaten
+unfolding all_types attributes_match matches outcome verdict unbeaten
 due_anew = refl
 
 -- though a turn before the loss had decided it, too
 in_order : InOrder (hearing 1 back).points (Some u1_attributes ∷ []) false
-unfolding all_types matches outcome verdict unbeaten
+unfolding all_types attributes_match matches outcome verdict unbeaten
 in_order = inl (inr (record {
   value = Some u1_attributes;
   earlier = [];

@@ -3,7 +3,7 @@ use Rattle.std.proofs.Common.{◌≡◌, Bool, false, List, [], ◌∷◌, ◌++
 use Rattle.std.specs.Prelude.{Some, None}
 use Rattle.rs_attrs.specs.Meaning.{all_types}
 use Rattle.rs_attrs.proofs.Rows.{u1_attributes}
-use Rattle.rs_policy.specs.Verdicts.{matches, outcome, verdict}
+use Rattle.rs_policy.specs.Verdicts.{attributes_match, matches, outcome, verdict}
 use Rattle.rs_decision.specs.Choice.{unbeaten}
 use Rattle.rs_core.specs.Run.Moves.{Move, Heard, Turned, Began}
 use Rattle.rs_core.specs.Told.Points.{Offered, Value}
@@ -20,7 +20,7 @@ never_sent = Began 1 ∷ gone
 
 -- the route was due at a turn, and then none was
 came_and_went : dues never_sent 1 n24 ≡ None ∷ Some u1_attributes ∷ []
-unfolding all_types matches outcome verdict unbeaten
+unfolding all_types attributes_match matches outcome verdict unbeaten
 came_and_went = refl
 
 -- and the link took no UPDATE
@@ -39,7 +39,7 @@ nothing_before : NothingAlone (Offered (said ++ keepalive_sent) ∷ Offered said
 nothing_before = nothing_more (Offered said ∷ Offered [] ∷ []) (said ++ keepalive_sent) refl (nothing_more (Offered [] ∷ []) said refl (nothing_more [] [] refl (λ values asked is. is)))
 
 nothing_alone : NothingAlone (hearing 1 never_sent).points
-unfolding all_types matches outcome verdict unbeaten
+unfolding all_types attributes_match matches outcome verdict unbeaten
 nothing_alone = nothing_more (hearing 1 gone).points (hearing 1 gone).taken refl nothing_before
 
 -- an announcement of what was due before the last turn is not

@@ -6,7 +6,7 @@ use Rattle.std.proofs.lemmas.Bool.{false≢true}
 use Rattle.rs_attrs.specs.Meaning.{Attribute, all_types}
 use Rattle.rs_attrs.proofs.Rows.{u1_attributes}
 use Rattle.rs_policy.specs.Configuration.{Configuration}
-use Rattle.rs_policy.specs.Verdicts.{matches, outcome, verdict}
+use Rattle.rs_policy.specs.Verdicts.{attributes_match, matches, outcome, verdict}
 use Rattle.rs_decision.specs.Choice.{unbeaten}
 use Rattle.rs_core.specs.Told.InTurn.{HasBeenAnswered}
 use Rattle.rs_core.specs.Run.Moves.{Move, Ruled, Heard, Turned, Began, Took}
@@ -39,7 +39,7 @@ told run = Began 1 ∷ Took 1 route ∷ Began 1 ∷ run
 -- ---- once, and again after the request
 
 once : InOrder (hearing 1 (told decided)).points (Some u1_attributes ∷ []) false
-unfolding all_types matches outcome verdict unbeaten
+unfolding all_types attributes_match matches outcome verdict unbeaten
 once = inl (inr (record {
   value = Some u1_attributes;
   earlier = [];
@@ -60,7 +60,7 @@ taken : (hearing 1 again).taken ≡ said ++ keepalive_sent ++ route ++ route
 taken = refl
 
 twice : InOrder (hearing 1 again).points (Some u1_attributes ∷ Some u1_attributes ∷ []) false
-unfolding all_types matches outcome verdict unbeaten
+unfolding all_types attributes_match matches outcome verdict unbeaten
 twice = inl (inr (record {
   value = Some u1_attributes;
   earlier = Some u1_attributes ∷ [];
@@ -88,12 +88,12 @@ nothing_before : NothingAlone (Offered (said ++ keepalive_sent) ∷ Offered said
 nothing_before = nothing_more (Offered said ∷ Offered [] ∷ []) (said ++ keepalive_sent) refl (nothing_more (Offered [] ∷ []) said refl (nothing_more [] [] refl (λ values asked is. is)))
 
 once_alone : Once (Some u1_attributes) (hearing 1 (told decided)).points
-unfolding all_types matches outcome verdict unbeaten
+unfolding all_types attributes_match matches outcome verdict unbeaten
 once_alone = once_more (Some u1_attributes) (hearing 1 (Began 1 ∷ decided)).points (said ++ keepalive_sent ++ route) refl
     (once_more (Some u1_attributes) (hearing 1 decided).points (said ++ keepalive_sent) refl (no_more_than_once (Some u1_attributes) (hearing 1 decided).points nothing_before))
 
 once_still : Once (Some u1_attributes) (hearing 1 (told (told decided))).points
-unfolding all_types matches outcome verdict unbeaten
+unfolding all_types attributes_match matches outcome verdict unbeaten
 once_still = once_more (Some u1_attributes) (hearing 1 (Began 1 ∷ told decided)).points (said ++ keepalive_sent ++ route ++ route) refl
     (once_more (Some u1_attributes) (hearing 1 (told decided)).points (said ++ keepalive_sent ++ route) refl once_alone)
 

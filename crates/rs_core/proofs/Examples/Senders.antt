@@ -4,7 +4,7 @@ use Rattle.std.specs.Prelude.{◌≡◌, ℕ, true, false, List, [], ◌∷◌, 
 use Rattle.rs_octets.proofs.Rows.{hex}
 use Rattle.rs_attrs.specs.Meaning.{Attribute, all_types}
 use Rattle.rs_attrs.proofs.Rows.{well, u1_attributes}
-use Rattle.rs_policy.specs.Verdicts.{matches, outcome, verdict}
+use Rattle.rs_policy.specs.Verdicts.{attributes_match, matches, outcome, verdict}
 use Rattle.rs_core.specs.Told.Senders.{ArePassedOn, IsSendersRoute, communities_left}
 use Rattle.rs_core.proofs.Examples.DueRoutes.{announced, n24}
 
@@ -28,7 +28,7 @@ all_left = refl
 -- ---- the route that a announced, at b
 
 from_a : IsSendersRoute announced 1 n24 u1_attributes
-unfolding all_types matches outcome verdict
+unfolding all_types attributes_match matches outcome verdict
 from_a = record {
   sender = 0;
   client = omega arith;

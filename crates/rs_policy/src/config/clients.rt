@@ -11,7 +11,7 @@ use crate::config::arrays::refuse_others;
 use crate::config::texts::is_name;
 use crate::config::top::TOP;
 use crate::config::values::{Address, Endpoint, POSITIVE, find, maybe, required};
-use crate::faults::{ConfigFault, Key, Place};
+use crate::faults::{ConfigFault, Key, Place, Table};
 use std::alloc::Global;
 use std::marker::Model;
 use toml::value::Value;
@@ -45,9 +45,9 @@ const KEYS: [Key; 7] = [
     Key::Export,
 ];
 
-/// The name in a client's table.
+/// The name in a table.
 #[tactic(auto, unfolding(crate::specs::Values::required_at))]
-fn name_in(table: &Value, here: Place) -> Result<&str, ConfigFault>
+pub(crate) fn name_in(table: &Value, here: Place) -> Result<&str, ConfigFault>
     ensures { seen_text result ≡ required_at (text_as name_of) here Key.Name (view table.now) }
 {
     let place = Place {
@@ -92,7 +92,7 @@ impl Client {
             (answer (client_checks number earlier.now (view table.now)) (client_from number (view table.now))) }
     {
         let here = Place {
-            client: Some(number),
+            table: Table::Client(number),
             ..TOP
         };
         let name = name_in(table, here)?;

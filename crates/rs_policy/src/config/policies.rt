@@ -8,9 +8,10 @@ ghost use Rattle.rs_policy.specs.Documents.{rules_from, rules_checks, list_check
 
 use crate::config::arrays::tables;
 use crate::config::clients::Client;
+use crate::config::named_lists::NamedList;
 use crate::config::rule_tables::read_rule;
 use crate::config::top::TOP;
-use crate::faults::{ConfigFault, Key, List, Place};
+use crate::faults::{ConfigFault, Key, List, Place, Table};
 use crate::rules::Rule;
 use std::alloc::Global;
 use std::marker::Model;
@@ -37,19 +38,18 @@ fn rules_of(
     client: usize,
     list: List,
     clients: &[Client],
+    lists: &[NamedList],
 ) -> Result<Vec<Rule>, ConfigFault>
     ensures { AnswersItems result
-        (answer (rules_checks clients.now client list (data_of tables.now)) (rules_from clients.now client list (data_of tables.now))) }
+        (answer (rules_checks clients.now lists.now client list (data_of tables.now)) (rules_from clients.now lists.now client list (data_of tables.now))) }
 {
     let mut rules = Vec::with_capacity(alloc, tables.len())?;
     for (index, table) in tables.iter().enumerate() {
         let here = Place {
-            client: Some(client),
-            list: Some(list),
-            rule: Some(index + 1),
+            table: Table::Rule(client, list, index + 1),
             key: Key::Other,
         };
-        let rule = read_rule(alloc, table, here, clients)?;
+        let rule = read_rule(alloc, table, here, clients, lists)?;
         rules.push(rule)?;
     }
     Ok(rules)
@@ -70,16 +70,17 @@ fn read_rules(
     client: usize,
     list: List,
     clients: &[Client],
+    lists: &[NamedList],
 ) -> Result<Vec<Rule>, ConfigFault>
     ensures { AnswersItems result
-        (answer (list_checks clients.now client list (view table.now)) (list_of_rules clients.now client list (view table.now))) }
+        (answer (list_checks clients.now lists.now client list (view table.now)) (list_of_rules clients.now lists.now client list (view table.now))) }
 {
     let here = Place {
-        client: Some(client),
+        table: Table::Client(client),
         ..TOP
     };
     let rules = tables(table, 64, here, list_key(list))?;
-    rules_of(alloc, rules, client, list, clients)
+    rules_of(alloc, rules, client, list, clients, lists)
 }
 
 impl Policy {
@@ -88,12 +89,13 @@ impl Policy {
         table: &Value,
         client: usize,
         clients: &[Client],
+        lists: &[NamedList],
     ) -> Result<Policy, ConfigFault>
         ensures { Answers result
-            (answer (policy_checks clients.now client (view table.now)) (policy_from clients.now client (view table.now))) }
+            (answer (policy_checks clients.now lists.now client (view table.now)) (policy_from clients.now lists.now client (view table.now))) }
     {
-        let import = read_rules(alloc, table, client, List::Import, clients)?;
-        let export = read_rules(alloc, table, client, List::Export, clients)?;
+        let import = read_rules(alloc, table, client, List::Import, clients, lists)?;
+        let export = read_rules(alloc, table, client, List::Export, clients, lists)?;
         Ok(Policy { import, export })
     }
 }
@@ -103,14 +105,15 @@ pub(crate) fn read_policies(
     alloc: Global,
     tables: &[Value],
     clients: &[Client],
+    lists: &[NamedList],
 ) -> Result<Vec<Policy>, ConfigFault>
     ensures answers { AnswersItems result
-        (answer (policies_checks clients.now (data_of tables.now)) (policies_from clients.now (data_of tables.now))) }
+        (answer (policies_checks clients.now lists.now (data_of tables.now)) (policies_from clients.now lists.now (data_of tables.now))) }
     ensures count { IfOk result (λ v. length v.items ≡ length tables.now) }
 {
     let mut policies = Vec::with_capacity(alloc, tables.len())?;
     for (index, table) in tables.iter().enumerate() {
-        let policy = Policy::read(alloc, table, index + 1, clients)?;
+        let policy = Policy::read(alloc, table, index + 1, clients, lists)?;
         policies.push(policy)?;
     }
     Ok(policies)

@@ -6,7 +6,7 @@ ghost use Rattle.rs_policy.specs.Replacing.{other_in_top, other_in_client, other
 use crate::config::Config;
 use crate::config::clients::Client;
 use crate::config::top::{TOP, Top};
-use crate::faults::{Key, Place, RulesFault};
+use crate::faults::{Key, Place, RulesFault, Table};
 use std::alloc::Global;
 
 #[tactic(auto, unfolding(crate::specs::Replacing::other_in_top))]
@@ -66,8 +66,7 @@ fn other_in_clients(a: &[Client], b: &[Client]) -> Option<Place>
         if let Some(key) = other_in_client(&a[index], &b[index]) {
             return Some(Place {
                 key,
-                client: Some(index + 1),
-                ..TOP
+                table: Table::Client(index + 1),
             });
         }
     }

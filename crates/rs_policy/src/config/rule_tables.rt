@@ -4,10 +4,11 @@ ghost use Rattle.std.specs.Prelude.{◌≡◌, IfOk, option_map, position, bytes
 ghost use Rattle.toml.specs.View.{view};
 ghost use Rattle.rs_policy.specs.Seen.{data_of};
 ghost use Rattle.rs_policy.specs.Values.{list_of, text_as, answer, Answers};
-ghost use Rattle.rs_policy.specs.Rules.{client_named, range_checks, range_of, test_checks, tests_of, communities_of, stripping_of, strip_at, action_checks, action_of, rule_checks, rule_of};
+ghost use Rattle.rs_policy.specs.Rules.{ases_named, client_named, prefixes_named, range_checks, range_of, test_checks, tests_of, communities_of, stripping_of, strip_at, action_checks, action_of, rule_checks, rule_of};
 
 use crate::config::arrays::{array_in, is_longer, refuse_others};
 use crate::config::clients::Client;
+use crate::config::named_lists::NamedList;
 use crate::config::values::{
     CommunityText, Flag, Integer, Kind, Length, Nothing, POSITIVE, PassOrDrop, PrefixText, find,
     maybe, optional, required,
@@ -17,13 +18,15 @@ use crate::rules::{Action, Communities, Disposition, Range, Rule, Stripping, Tes
 use std::alloc::{AllocError, Global};
 use toml::value::Value;
 
-const KEYS: [Key; 11] = [
+const KEYS: [Key; 13] = [
     Key::Prefix,
     Key::Min,
     Key::Max,
+    Key::PrefixIn,
     Key::From,
     Key::PathHas,
     Key::OriginAs,
+    Key::OriginIn,
     Key::Community,
     Key::NextHopIsPeer,
     Key::Action,
@@ -45,6 +48,52 @@ impl Kind for NameOf<'_> {
     fn read(&self, value: &Value) -> Option<usize> {
         place_of(self.clients, value.as_str()?)
     }
+}
+
+/// Names of lists with prefixes, as their places from 0.
+#[derive(Clone, Copy)]
+struct PrefixListOf<'a> {
+    lists: &'a [NamedList],
+}
+
+impl Kind for PrefixListOf<'_> {
+    type Out = usize;
+
+    ghost reads = { λ k. text_as (prefixes_named k.lists.now) };
+
+    fn read(&self, value: &Value) -> Option<usize> {
+        prefix_list_of(self.lists, value.as_str()?)
+    }
+}
+
+fn prefix_list_of(lists: &[NamedList], name: &str) -> Option<usize>
+    ensures { result ≡ prefixes_named lists.now name.now }
+{
+    lists.iter().position(|list| list.name.as_str() == name && list.prefixes.is_some())
+}
+
+/// Names of lists with AS numbers, as their places from 0.
+#[derive(Clone, Copy)]
+struct AsListOf<'a> {
+    lists: &'a [NamedList],
+}
+
+impl Kind for AsListOf<'_> {
+    type Out = usize;
+
+    ghost reads = { λ k. text_as (ases_named k.lists.now) };
+
+    fn read(&self, value: &Value) -> Option<usize> {
+        as_list_of(self.lists, value.as_str()?)
+    }
+}
+
+fn as_list_of(lists: &[NamedList], name: &str) -> Option<usize>
+    ensures { result ≡ ases_named lists.now name.now }
+{
+    lists
+        .iter()
+        .position(|list| list.name.as_str() == name && list.ases.is_some())
 }
 
 /// The client with this name, from 0.
@@ -76,13 +125,20 @@ fn read_range(table: &Value, here: Place) -> Result<Option<Range>, ConfigFault>
 }
 
 #[tactic(auto, unfolding(crate::specs::Values::answer, crate::specs::Rules::test_checks, crate::specs::Rules::tests_of))]
-fn read_tests(table: &Value, here: Place, clients: &[Client]) -> Result<Tests, ConfigFault>
-    ensures { result ≡ answer (test_checks clients.now here (view table.now)) (tests_of clients.now here (view table.now)) }
+fn read_tests(
+    table: &Value,
+    here: Place,
+    clients: &[Client],
+    lists: &[NamedList],
+) -> Result<Tests, ConfigFault>
+    ensures { result ≡ answer (test_checks clients.now lists.now here (view table.now)) (tests_of clients.now lists.now here (view table.now)) }
 {
     Ok(Tests {
+        prefix_in: maybe(table, here, Key::PrefixIn, PrefixListOf { lists })?,
         from: maybe(table, here, Key::From, NameOf { clients })?,
         path_has: maybe(table, here, Key::PathHas, POSITIVE)?,
         origin_as: maybe(table, here, Key::OriginAs, POSITIVE)?,
+        origin_in: maybe(table, here, Key::OriginIn, AsListOf { lists })?,
         community: maybe(table, here, Key::Community, CommunityText)?,
         next_hop_is_peer: maybe(table, here, Key::NextHopIsPeer, Flag)?,
     })
@@ -173,12 +229,13 @@ pub(crate) fn read_rule(
     table: &Value,
     here: Place,
     clients: &[Client],
+    lists: &[NamedList],
 ) -> Result<Rule, ConfigFault>
     ensures { Answers result
-        (answer (rule_checks clients.now here (view table.now)) (rule_of clients.now here (view table.now))) }
+        (answer (rule_checks clients.now lists.now here (view table.now)) (rule_of clients.now lists.now here (view table.now))) }
 {
     let range = read_range(table, here)?;
-    let tests = read_tests(table, here, clients)?;
+    let tests = read_tests(table, here, clients, lists)?;
     let action = read_action(alloc, table, here)?;
     refuse_others(table, here, &KEYS)?;
     Ok(Rule {

@@ -2,8 +2,9 @@
 
 ghost use Rattle.std.specs.Prelude.{◌≡◌, ◌<◌, ◌^◌, ◌≤◌, option_map, position, ◌==◌, IfSome};
 ghost use Rattle.std.specs.List.{list_all};
-ghost use Rattle.rs_policy.specs.Texts.{number_to, is_digit, is_decimal, parted, octet, address_of, endpoint_of, prefix_of, community_of, is_name_octet, is_name};
+ghost use Rattle.rs_policy.specs.Texts.{number_to, is_digit, is_decimal, parted, octet, address_of, as_range_of, endpoint_of, lengths_of, prefix_of, prefix_range_of, ranged, community_of, is_name_octet, is_name};
 
+use crate::rules::Range;
 use rs_octets::Prefix;
 
 fn are_digits(text: &[u8]) -> bool
@@ -23,21 +24,21 @@ fn is_decimal(text: &[u8]) -> bool
 
 /// The decimal number that a text is, up to the highest.
 #[tactic(auto, unfolding(crate::specs::Texts::number_to))]
-fn number(text: &[u8], high: u16) -> Option<u16>
+fn number(text: &[u8], high: u32) -> Option<u32>
     ensures value { result ≡ number_to high text.now }
     ensures high { IfSome result (λ n. n ≤ high) }
 {
     if !is_decimal(text) {
         return None;
     }
-    let mut value: u32 = 0;
+    let mut value: u64 = 0;
     for octet in text {
-        value = 10 * value + u32::from(*octet - b'0');
-        if value > u32::from(high) {
+        value = 10 * value + u64::from(*octet - b'0');
+        if value > u64::from(high) {
             return None;
         }
     }
-    Some(value as u16)
+    Some(value as u32)
 }
 
 fn place_of(text: &[u8], mark: u8) -> Option<usize>
@@ -89,7 +90,7 @@ pub(crate) fn endpoint(text: &[u8]) -> Option<(u32, u16)>
     let host = address(host)?;
     match number(port, 65535) {
         None | Some(0) => None,
-        Some(port) => Some((host, port)),
+        Some(port) => Some((host, port as u16)),
     }
 }
 
@@ -104,6 +105,71 @@ pub(crate) fn prefix(text: &[u8]) -> Option<Prefix>
     Prefix::new(bits, len as u8)
 }
 
+/// The lengths that a range operator takes behind a prefix of this length (RFC 2622, 2).
+#[tactic(auto, unfolding(crate::specs::Texts::lengths_of))]
+fn lengths(len: u8, operator: &[u8]) -> Option<(u8, u8)>
+    requires { len ≤ 32 }
+    ensures { result ≡ lengths_of len operator.now }
+{
+    if operator == b"-".as_slice() {
+        return Some((len + 1, 32));
+    }
+    if operator == b"+".as_slice() {
+        return Some((len, 32));
+    }
+    if let Some(length) = number(operator, 32) {
+        return Some((length as u8, length as u8));
+    }
+    let (min, max) = parted(operator, b'-')?;
+    let min = number(min, 32)?;
+    let max = number(max, 32)?;
+    Some((min as u8, max as u8))
+}
+
+fn ranged(prefix: Prefix, lengths: (u8, u8)) -> Option<Range>
+    ensures { result ≡ ranged prefix lengths }
+{
+    let (min, max) = lengths;
+    if prefix.len() <= min && min <= max && max <= 32 {
+        Some(Range { prefix, min, max })
+    } else {
+        None
+    }
+}
+
+/// A prefix, and where a range operator stands behind it, the lengths that it takes.
+#[tactic(auto, unfolding(crate::specs::Texts::prefix_range_of))]
+pub(crate) fn prefix_range(text: &[u8]) -> Option<Range>
+    ensures { result ≡ prefix_range_of text.now }
+{
+    match parted(text, b'^') {
+        None => {
+            let prefix = prefix(text)?;
+            let len = prefix.len();
+            Some(Range {
+                prefix,
+                min: len,
+                max: len,
+            })
+        }
+        Some((text, operator)) => {
+            let prefix = prefix(text)?;
+            ranged(prefix, lengths(prefix.len(), operator)?)
+        }
+    }
+}
+
+/// The least and the greatest of some AS numbers.
+#[tactic(auto, unfolding(crate::specs::Texts::as_range_of))]
+pub(crate) fn as_range(text: &[u8]) -> Option<(u32, u32)>
+    ensures { result ≡ as_range_of text.now }
+{
+    let (low, high) = parted(text, b'-')?;
+    let low = number(low, 4_294_967_295)?;
+    let high = number(high, 4_294_967_295)?;
+    if low <= high { Some((low, high)) } else { None }
+}
+
 /// Two numbers of 16 bits with a colon between (RFC 1997).
 #[tactic(auto, unfolding(crate::specs::Texts::community_of))]
 pub(crate) fn community(text: &[u8]) -> Option<u32>
@@ -112,7 +178,7 @@ pub(crate) fn community(text: &[u8]) -> Option<u32>
     let (high, low) = parted(text, b':')?;
     let high = number(high, 65535)?;
     let low = number(low, 65535)?;
-    Some(65536 * u32::from(high) + u32::from(low))
+    Some(65536 * high + low)
 }
 
 fn is_name_octet(octet: u8) -> bool
@@ -127,7 +193,7 @@ fn are_name_octets(text: &[u8]) -> bool
     text.iter().all(|octet| is_name_octet(*octet))
 }
 
-/// Whether a text can be the name of a client.
+/// Whether a text can be a name.
 pub(crate) fn is_name(text: &[u8]) -> bool
     ensures { result ≡ is_name text.now }
 {

@@ -3,13 +3,13 @@
 ghost use Rattle.std.specs.Prelude.{◌≡◌, ◌<◌, ◌≤◌, length, IfOk};
 ghost use Rattle.toml.specs.View.{view};
 ghost use Rattle.rs_policy.specs.Seen.{seen};
-ghost use Rattle.rs_policy.specs.Documents.{clients_at, the_top};
+ghost use Rattle.rs_policy.specs.Documents.{clients_at, lists_at, the_top};
 ghost use Rattle.rs_policy.specs.Keys.{top_keys};
 ghost use Rattle.rs_policy.specs.Values.{answer, stranger};
 
-use crate::config::arrays::{refuse_others, some_tables};
+use crate::config::arrays::{refuse_others, some_tables, tables};
 use crate::config::values::{Flag, HoldTime, Identifier, POSITIVE, PassOrDrop, optional, required};
-use crate::faults::{ConfigFault, Key, Place};
+use crate::faults::{ConfigFault, Key, Place, Table};
 use crate::rules::Disposition;
 use toml::value::Value;
 
@@ -25,7 +25,7 @@ pub(crate) struct Top {
     pub(crate) multiprotocol: bool,
 }
 
-const KEYS: [Key; 8] = [
+const KEYS: [Key; 9] = [
     Key::As,
     Key::Identifier,
     Key::Hold,
@@ -34,12 +34,11 @@ const KEYS: [Key; 8] = [
     Key::Refresh,
     Key::Multiprotocol,
     Key::Client,
+    Key::List,
 ];
 
 pub(crate) const TOP: Place = Place {
-    client: None,
-    list: None,
-    rule: None,
+    table: Table::Top,
     key: Key::Other,
 };
 
@@ -70,6 +69,14 @@ pub(crate) fn client_tables(document: &Value) -> Result<&[Value], ConfigFault>
     ensures few { IfOk result (λ ds. length ds.now ≤ 512) }
 {
     some_tables(document, 512, TOP, Key::Client)
+}
+
+/// The tables of the lists that rules name.
+pub(crate) fn list_tables(document: &Value) -> Result<&[Value], ConfigFault>
+    ensures tables { seen result ≡ lists_at (view document.now) }
+    ensures few { IfOk result (λ ds. length ds.now ≤ 1024) }
+{
+    tables(document, 1024, TOP, Key::List)
 }
 
 /// Refuses a key that the top hasn't.

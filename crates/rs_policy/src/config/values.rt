@@ -5,11 +5,11 @@ ghost use Rattle.toml.specs.Data.{Data, get, as_str, as_bool};
 ghost use Rattle.toml.specs.View.{view};
 ghost use Rattle.rs_policy.specs.Keys.{key_text};
 ghost use Rattle.rs_policy.specs.Texts.{address_of, endpoint_of, prefix_of, community_of};
-ghost use Rattle.rs_policy.specs.Values.{integer_in, hold_seconds, text_as, address, identifier, disposition_of, name_of, nothing, required_at, optional_at, maybe_at};
+ghost use Rattle.rs_policy.specs.Values.{as_entry, integer_in, hold_seconds, prefix_entry, text_as, address, identifier, disposition_of, name_of, nothing, required_at, optional_at, maybe_at};
 
 use crate::config::texts;
 use crate::faults::{ConfigFault, Key, Place};
-use crate::rules::Disposition;
+use crate::rules::{Disposition, Range};
 use rs_octets::{Prefix, is_refused_hold};
 use toml::value::Value;
 
@@ -179,6 +179,41 @@ impl Kind for PrefixText {
 
     fn read(&self, value: &Value) -> Option<Prefix> {
         texts::prefix(value.as_str()?.as_bytes())
+    }
+}
+
+/// An entry of `prefixes`: a prefix, or one with a range operator.
+#[derive(Clone, Copy)]
+pub(crate) struct PrefixEntry;
+
+impl Kind for PrefixEntry {
+    type Out = Range;
+
+    ghost reads = { λ k. prefix_entry };
+
+    fn read(&self, value: &Value) -> Option<Range> {
+        texts::prefix_range(value.as_str()?.as_bytes())
+    }
+}
+
+/// An entry of `ases`: an AS number, or those from one to another.
+#[derive(Clone, Copy)]
+pub(crate) struct AsEntry;
+
+impl Kind for AsEntry {
+    type Out = (u32, u32);
+
+    ghost reads = { λ k. as_entry };
+
+    fn read(&self, value: &Value) -> Option<(u32, u32)> {
+        let any = Integer {
+            low: 0,
+            high: 4_294_967_295,
+        };
+        match any.read(value) {
+            Some(number) => Some((number, number)),
+            None => texts::as_range(value.as_str()?.as_bytes()),
+        }
     }
 }
 

@@ -1,9 +1,9 @@
 //! A line of text with a place in a configuration.
 
-ghost use Rattle.std.specs.Prelude.{◌≡◌, ◌+◌, ◌≤◌, ◌^◌, ◌<◌, length, decimal, ◌++◌};
-ghost use Rattle.rs_policy.specs.FaultTexts.{client_text, rule_text, table_text, place_text};
+ghost use Rattle.std.specs.Prelude.{◌≡◌, ◌+◌, ◌≤◌, ◌^◌, ◌<◌, length, codes, decimal, ◌++◌};
+ghost use Rattle.rs_policy.specs.FaultTexts.{client_text, named_list_text, rule_text, table_text, place_text};
 
-use crate::faults::{List, Place};
+use crate::faults::{List, Place, Table};
 use std::fmt;
 use std::marker::Model;
 
@@ -82,6 +82,14 @@ impl Line {
         self.with(b"client ").with_number(client)
     }
 
+    pub(crate) fn with_named_list(self, list: usize) -> Line
+        requires { length self ≤ 20 }
+        ensures text { result ≡ self ++ named_list_text list }
+        ensures short { length result ≤ length self + 25 }
+    {
+        self.with(b"list ").with_number(list)
+    }
+
     fn with_rule(self, list: List, rule: usize) -> Line
         requires { length self ≤ 40 }
         ensures text { result ≡ self ++ rule_text list rule }
@@ -94,20 +102,27 @@ impl Line {
         self.with(name).with_number(rule)
     }
 
-    /// The table of a place.
-    fn with_table(self, place: &Place) -> Line
+    fn with_table(self, table: Table) -> Line
         requires { length self ≤ 10 }
-        ensures text { result ≡ self ++ table_text place.now.client place.now.list place.now.rule }
+        ensures text { result ≡ self ++ table_text table }
         ensures short { length result ≤ length self + 56 }
     {
-        let Some(client) = place.client else {
-            return self;
-        };
-        let front = self.with_client(client);
-        match (place.list, place.rule) {
-            (Some(list), Some(rule)) => front.with_rule(list, rule).with(b" "),
-            _ => front.with(b" "),
+        match table {
+            Table::Top => self,
+            Table::Client(client) => self.with_client(client).with(b" "),
+            Table::Rule(client, list, rule) => {
+                self.with_client(client).with_rule(list, rule).with(b" ")
+            }
+            Table::List(list) | Table::Entry(list, _) => self.with_named_list(list).with(b" "),
         }
+    }
+
+    /// Which entry of an array it is.
+    fn with_entry(self, entry: usize) -> Line
+        requires { length self ≤ 72 }
+        ensures { result ≡ self ++ codes " " ++ decimal entry }
+    {
+        self.with(b" ").with_number(entry)
     }
 
     #[tactic(auto, using(crate::proofs::Decimals::key_text_short), unfolding(crate::specs::FaultTexts::place_text))]
@@ -115,7 +130,15 @@ impl Line {
         requires { length self ≤ 10 }
         ensures { result ≡ self ++ place_text place.now }
     {
-        self.with_table(place).with(place.key.text().as_bytes())
+        let key = place.key.text().as_bytes();
+        match place.table {
+            Table::Entry(list, entry) => self
+                .with_named_list(list)
+                .with(b" ")
+                .with(key)
+                .with_entry(entry),
+            table => self.with_table(table).with(key),
+        }
     }
 }
 

@@ -1,11 +1,13 @@
 //! What the rules make of a route.
 
 ghost use Rattle.std.specs.Prelude.{◌≡◌, ◌<◌, ◌≤◌, length, find, option_map};
-ghost use Rattle.rs_policy.specs.Verdicts.{front, in_range, joined, matches, next_hop_is_peer, origin_as_is, passing, passing_by_default, outcome, verdict};
+ghost use Rattle.rs_policy.specs.Verdicts.{attributes_match, front, has_as, has_prefix, in_range, joined, matches, next_hop_is_peer, origin_as_is, origin_in, passing, passing_by_default, outcome, verdict};
+ghost use Rattle.rs_policy.specs.Configuration.{list_at};
 ghost use Rattle.rs_policy.specs.Judged.{offered, passed_as, judged};
 
 use crate::config::Config;
-use crate::rules::{Action, Disposition, Range, Rule, Stripping};
+use crate::config::named_lists::NamedList;
+use crate::rules::{Action, Disposition, Range, Rule, Stripping, Tests};
 use rs_attrs::{Attrs, Strip};
 use rs_octets::Prefix;
 
@@ -79,13 +81,64 @@ fn origin_as_is(number: u32, offer: &Offer<'_, '_>) -> bool
     }
 }
 
+fn is_in_list(lists: &[NamedList], list: usize, prefix: &Prefix) -> bool
+    ensures { result ≡ has_prefix (list_at lists.now list) prefix.now }
+{
+    match lists.get(list) {
+        None => false,
+        Some(list) => list.has_prefix(prefix),
+    }
+}
+
+fn origin_is_in(lists: &[NamedList], list: usize, offer: &Offer<'_, '_>) -> bool
+    ensures { result ≡ origin_in (list_at lists.now list) (offered offer.now) }
+{
+    match (lists.get(list), offer.attrs.origin_as()) {
+        (Some(list), Some(origin)) => list.has_as(origin),
+        _ => false,
+    }
+}
+
+/// The tests that walk communities and paths.
+#[tactic(auto, unfolding(crate::specs::Verdicts::attributes_match))]
+fn attributes_match(lists: &[NamedList], tests: &Tests, offer: &Offer<'_, '_>) -> bool
+    ensures { result ≡ attributes_match lists.now tests.now (offered offer.now) }
+{
+    if let Some(community) = tests.community
+        && !offer.attrs.has_community(community)
+    {
+        return false;
+    }
+    if let Some(number) = tests.origin_as
+        && !origin_as_is(number, offer)
+    {
+        return false;
+    }
+    if let Some(list) = tests.origin_in
+        && !origin_is_in(lists, list, offer)
+    {
+        return false;
+    }
+    if let Some(number) = tests.path_has
+        && !offer.attrs.path_has(number)
+    {
+        return false;
+    }
+    true
+}
+
 #[tactic(auto, unfolding(crate::specs::Verdicts::matches))]
-fn matches(rule: &Rule, offer: &Offer<'_, '_>) -> bool
-    ensures { result ≡ matches rule.now (offered offer.now) }
+fn matches(lists: &[NamedList], rule: &Rule, offer: &Offer<'_, '_>) -> bool
+    ensures { result ≡ matches lists.now rule.now (offered offer.now) }
 {
     let tests = &rule.tests;
     if let Some(range) = &rule.range
         && !is_in_range(range, offer.prefix)
+    {
+        return false;
+    }
+    if let Some(list) = tests.prefix_in
+        && !is_in_list(lists, list, offer.prefix)
     {
         return false;
     }
@@ -99,29 +152,18 @@ fn matches(rule: &Rule, offer: &Offer<'_, '_>) -> bool
     {
         return false;
     }
-    if let Some(community) = tests.community
-        && !offer.attrs.has_community(community)
-    {
-        return false;
-    }
-    if let Some(number) = tests.origin_as
-        && !origin_as_is(number, offer)
-    {
-        return false;
-    }
-    if let Some(number) = tests.path_has
-        && !offer.attrs.path_has(number)
-    {
-        return false;
-    }
-    true
+    attributes_match(lists, tests, offer)
 }
 
-fn action_of<'a>(rules: &'a [Rule], offer: &Offer<'_, '_>) -> Option<&'a Action>
-    ensures { option_map (λ a. a.now) result ≡ option_map (λ rule. rule.action) (find (λ rule. matches rule (offered offer.now)) rules.now) }
+fn action_of<'a>(
+    lists: &[NamedList],
+    rules: &'a [Rule],
+    offer: &Offer<'_, '_>,
+) -> Option<&'a Action>
+    ensures { option_map (λ a. a.now) result ≡ option_map (λ rule. rule.action) (find (λ rule. matches lists.now rule (offered offer.now)) rules.now) }
 {
     for rule in rules {
-        if matches(rule, offer) {
+        if matches(lists, rule, offer) {
             return Some(&rule.action);
         }
     }
@@ -130,10 +172,15 @@ fn action_of<'a>(rules: &'a [Rule], offer: &Offer<'_, '_>) -> Option<&'a Action>
 
 /// How a list of rules passes a route, and None where it drops it.
 #[tactic(auto, unfolding(crate::specs::Verdicts::outcome))]
-fn outcome<'a>(default: Disposition, rules: &'a [Rule], offer: &Offer<'_, '_>) -> Option<Passed<'a>>
-    ensures { option_map passed_as result ≡ outcome default rules.now (offered offer.now) }
+fn outcome<'a>(
+    default: Disposition,
+    lists: &[NamedList],
+    rules: &'a [Rule],
+    offer: &Offer<'_, '_>,
+) -> Option<Passed<'a>>
+    ensures { option_map passed_as result ≡ outcome default lists.now rules.now (offered offer.now) }
 {
-    match action_of(rules, offer) {
+    match action_of(lists, rules, offer) {
         Some(Action::Drop) => None,
         Some(Action::Pass(preference, Stripping::Named(communities))) => Some(Passed {
             preference: *preference,
@@ -193,16 +240,17 @@ pub fn judge<'a>(
     if imports.is_empty() && exports.is_empty() {
         return judge_without_rules(default);
     }
+    let lists = config.lists();
     let offer = Offer {
         from,
         peer: config.peer(from),
         prefix,
         attrs,
     };
-    let Some(import) = outcome(default, imports, &offer) else {
+    let Some(import) = outcome(default, lists, imports, &offer) else {
         return Verdict::Drop;
     };
-    let Some(export) = outcome(default, exports, &offer) else {
+    let Some(export) = outcome(default, lists, exports, &offer) else {
         return Verdict::Drop;
     };
     let given = export.preference.or(import.preference);

@@ -3,7 +3,7 @@
 use super::{Streams, is_printed};
 use rs_command::Status;
 use rs_command::configuration::{ConfigurationFault, read_configuration, read_configuration_from};
-use rs_policy::{Config, ConfigFault, Key, Place};
+use rs_policy::{Config, ConfigFault, Key, Place, Table};
 use std::alloc::Global;
 use std::io::{ErrorKind, Read};
 use std::process::Abort;
@@ -22,9 +22,7 @@ const TWO_FAULTS: &str = "as = 64500\nhold = 2\n\
 
 /// The identifier, as a place of a configuration.
 const IDENTIFIER: Place = Place {
-    client: None,
-    list: None,
-    rule: None,
+    table: Table::Top,
     key: Key::Identifier,
 };
 

@@ -165,21 +165,18 @@ fn is_in_front(rt: &impl Abort, fault: &ConfigFault, out: &mut [u8; 96], want: &
 #[test]
 fn the_longest_text_fits(rt: HostRuntime) {
     let place = Place {
-        client: Some(usize::MAX),
-        list: Some(List::Export),
-        rule: Some(usize::MAX),
+        table: Table::Rule(usize::MAX, List::Export, usize::MAX),
         key: Key::NextHopIsPeer,
     };
     let mut out = [b'.'; 96];
     let want = "bad value client 18446744073709551615 export 18446744073709551615 next_hop_is_peer";
     is_in_front(&rt, &ConfigFault::BadValue(place), &mut out, want);
-    // a list without its rule isn't written
-    let no_rule = Place {
-        rule: None,
+    let entry = Place {
+        table: Table::Entry(usize::MAX, usize::MAX),
         ..place
     };
-    let want = "missing client 18446744073709551615 next_hop_is_peer";
-    is_in_front(&rt, &ConfigFault::Missing(no_rule), &mut out, want);
+    let want = "missing list 18446744073709551615 next_hop_is_peer 18446744073709551615";
+    is_in_front(&rt, &ConfigFault::Missing(entry), &mut out, want);
 }
 
 /// What is shown is this text.

@@ -8,4 +8,4 @@ returns-in_err-rules c =
 
 pub returns : goal.returns
 returns c =
-    rw (list_passes c.args.clients.now c.args.client c.args.list _ _ (rw c.list_key.ensures at c.in_ok-rules.ensures.tables)) c.rules_of.ensures
+    rw (list_passes c.args.clients.now c.args.lists.now c.args.client c.args.list _ _ (rw c.list_key.ensures at c.in_ok-rules.ensures.tables)) c.rules_of.ensures

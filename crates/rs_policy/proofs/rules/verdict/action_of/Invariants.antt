@@ -5,4 +5,4 @@ use Rattle.rs_policy.proofs.rules.verdict.action_of.Given as goal
 
 abbrev pub invariant-loop-rule : goal.invariant-loop-rule
 invariant-loop-rule l =
-    find (λ rule. matches rule (offered l.offer)) (drop l.rule-index l.rules) ≡ find (λ rule. matches rule (offered l.offer)) l.rules
+    find (λ rule. matches l.lists rule (offered l.offer)) (drop l.rule-index l.rules) ≡ find (λ rule. matches l.lists rule (offered l.offer)) l.rules

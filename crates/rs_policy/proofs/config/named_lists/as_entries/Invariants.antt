@@ -1,0 +1,14 @@
+use Rattle.std.proofs.Common.{◌≡◌, ◌+◌, drop, length}
+use Rattle.rs_policy.specs.Seen.{data_of}
+use Rattle.rs_policy.specs.Values.{entries_from, as_entry}
+use Rattle.rs_policy.specs.declared.faults.Key.TheVariants as K
+use Rattle.rs_policy.proofs.Entries.{onto}
+use Rattle.rs_policy.proofs.config.named_lists.as_entries.Given as goal
+
+abbrev pub invariant-loop-index : goal.invariant-loop-index
+invariant-loop-index l = record {
+  entries :
+      entries_from as_entry l.list K.Ases 1 (data_of l.values)
+      ≡ onto l.entries.items (entries_from as_entry l.list K.Ases (l.index + 1) (data_of (drop l.index l.values)));
+  count : length l.entries.items ≡ l.index;
+}

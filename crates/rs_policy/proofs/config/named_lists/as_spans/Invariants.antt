@@ -1,0 +1,9 @@
+use Rattle.std.proofs.Common.{◌≡◌, take, length}
+use Rattle.rs_policy.specs.Indexed.{AreAsesIndexed}
+use Rattle.rs_policy.proofs.config.named_lists.as_spans.Given as goal
+
+abbrev pub invariant-loop-range : goal.invariant-loop-range
+invariant-loop-range l = record {
+  indexed : AreAsesIndexed (take l.range-index l.ranges) l.spans.items;
+  count : length l.spans.items ≡ l.range-index;
+}

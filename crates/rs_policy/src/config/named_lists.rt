@@ -1,0 +1,344 @@
+//! The lists that rules name.
+
+ghost use Rattle.std.specs.Prelude.{◌≡◌, ◌≤◌, ◌<◌, ◌^◌, length, ℕ, IfOk, option_map, is_some};
+ghost use Rattle.std.specs.List.{list_any};
+ghost use Rattle.rs_lists.specs.Lists.{covers};
+ghost use Rattle.rs_octets.specs.Prefixes.{Prefix};
+ghost use Rattle.toml.specs.Data.{as_array};
+ghost use Rattle.toml.specs.View.{view};
+ghost use Rattle.rs_policy.specs.Seen.{data_of, seen};
+ghost use Rattle.rs_policy.specs.declared.faults.Key.TheVariants as Key;
+ghost use Rattle.rs_policy.specs.Values.{answer, Answers, AnswersItems, array_at, as_entry, entries_from, list_of, prefix_entry};
+ghost use Rattle.rs_policy.specs.Indexed.{AreAsesIndexed, AreIndexed};
+ghost use Rattle.rs_policy.specs.Verdicts.{has_as, has_prefix, in_as_range, in_range};
+ghost use Rattle.rs_policy.specs.NamedLists.{ases_at, entries_needed, is_same_name, named_list_checks, named_list_from, named_lists_checks, named_lists_from, prefixes_at};
+
+use crate::config::arrays::{array_in, refuse_others};
+use crate::config::clients::name_in;
+use crate::config::top::TOP;
+use crate::config::values::{AsEntry, Kind, PrefixEntry, find};
+use crate::faults::{ConfigFault, Key, Place, Table};
+use crate::rules::Range;
+use rs_lists::{Index, Span};
+use rs_octets::Prefix;
+use std::alloc::{AllocError, Global};
+use std::marker::Model;
+use toml::value::Value;
+
+const KEYS: [Key; 3] = [Key::Name, Key::Prefixes, Key::Ases];
+
+/// The most entries of an array.
+const MOST: usize = 1_048_576;
+
+/// Ranges of prefixes, as they stand in the text and as they are searched.
+#[derive(Debug, Drop)]
+pub(crate) struct Prefixes {
+    ranges: Vec<Range>,
+    index: Index,
+}
+
+impl Model for Prefixes {
+    ghost use Rattle.std.specs.Prelude.{List};
+    ghost use Rattle.rs_policy.specs.declared.rules.Range.{Range};
+    ghost use Rattle.rs_policy.specs.Indexed.{AreIndexed};
+
+    ghost Value = { List Range };
+
+    ghost view = { λ p. p.ranges.items };
+
+    ghost invariant = { λ p. AreIndexed p.ranges.items p.index };
+}
+
+/// AS numbers, likewise.
+#[derive(Debug, Drop)]
+pub(crate) struct Ases {
+    ranges: Vec<(u32, u32)>,
+    index: Index,
+}
+
+impl Model for Ases {
+    ghost use Rattle.std.specs.Prelude.{List, ℕ};
+    ghost use Rattle.rs_policy.specs.Indexed.{AreAsesIndexed};
+
+    ghost Value = { List (ℕ × ℕ) };
+
+    ghost view = { λ a. a.ranges.items };
+
+    ghost invariant = { λ a. AreAsesIndexed a.ranges.items a.index };
+}
+
+/// A list that rules name.
+#[derive(Debug, Drop)]
+pub(crate) struct NamedList {
+    pub(crate) name: String,
+    pub(crate) prefixes: Option<Prefixes>,
+    pub(crate) ases: Option<Ases>,
+}
+
+impl Model for NamedList {
+    ghost use Rattle.std.specs.Prelude.{string_bytes};
+    ghost use Rattle.rs_policy.specs.Configuration.{NamedList};
+
+    ghost Value = { NamedList };
+
+    ghost view = { λ l. record { name = string_bytes l.name; prefixes = l.prefixes; ases = l.ases } };
+}
+
+/// The least length that a range takes.
+fn least(range: &Range) -> u8
+    ensures own { range.now.prefix.len ≤ result }
+    ensures said { range.now.min ≤ result }
+    ensures least { (len : ℕ) → range.now.prefix.len ≤ len → range.now.min ≤ len → result ≤ len }
+{
+    let len = range.prefix.len();
+    if range.min < len { len } else { range.min }
+}
+
+/// The numbers of a prefix's addresses, with the lengths of a range.
+fn span_of(range: &Range) -> Span
+    ensures { (p : Prefix) → covers p.bits p.len result ≡ in_range range.now p }
+{
+    let low = range.prefix.bits();
+    let len = range.prefix.len();
+    let size = 1_u64 << (32 - len);
+    let last = u64::from(low) + (size - 1);
+    Span::new(low, last as u32, least(range), range.max)
+}
+
+fn as_span(range: (u32, u32)) -> Span
+    ensures { (n : ℕ) → covers n 0 result ≡ in_as_range range n }
+{
+    Span::new(range.0, range.1, 0, 0)
+}
+
+/// The spans of some ranges of prefixes.
+fn prefix_spans(alloc: Global, ranges: &[Range]) -> Result<Vec<Span>, AllocError>
+    ensures indexed { IfOk result (λ v. AreIndexed ranges.now v.items) }
+    ensures count { IfOk result (λ v. length v.items ≡ length ranges.now) }
+{
+    let mut spans = Vec::with_capacity(alloc, ranges.len())?;
+    for range in ranges {
+        spans.push(span_of(range))?;
+    }
+    Ok(spans)
+}
+
+/// The spans of some ranges of AS numbers.
+fn as_spans(alloc: Global, ranges: &[(u32, u32)]) -> Result<Vec<Span>, AllocError>
+    ensures indexed { IfOk result (λ v. AreAsesIndexed ranges.now v.items) }
+    ensures count { IfOk result (λ v. length v.items ≡ length ranges.now) }
+{
+    let mut spans = Vec::with_capacity(alloc, ranges.len())?;
+    for range in ranges {
+        spans.push(as_span(*range))?;
+    }
+    Ok(spans)
+}
+
+impl Prefixes {
+    fn of(alloc: Global, ranges: Vec<Range>) -> Result<Prefixes, AllocError>
+        requires { length ranges.items ≤ 1048576 }
+        ensures { IfOk result (λ p. p ≡ ranges.items) }
+    {
+        let spans = prefix_spans(alloc, &ranges)?;
+        let index = Index::of(spans);
+        Ok(Prefixes { ranges, index })
+    }
+
+    fn has(&self, prefix: &Prefix) -> bool
+        ensures { result ≡ list_any (λ r. in_range r prefix.now) self.now }
+    {
+        self.index.covers(prefix.bits(), prefix.len())
+    }
+}
+
+impl Ases {
+    fn of(alloc: Global, ranges: Vec<(u32, u32)>) -> Result<Ases, AllocError>
+        requires { length ranges.items ≤ 1048576 }
+        ensures { IfOk result (λ a. a ≡ ranges.items) }
+    {
+        let spans = as_spans(alloc, &ranges)?;
+        let index = Index::of(spans);
+        Ok(Ases { ranges, index })
+    }
+
+    fn has(&self, number: u32) -> bool
+        ensures { result ≡ list_any (λ r. in_as_range r number) self.now }
+    {
+        self.index.covers(number, 0)
+    }
+}
+
+/// The array at a key of a list, at most so long.
+#[tactic(auto, using(crate::proofs::Documents::length_seen))]
+fn array_of(value: &Value, list: usize, key: Key) -> Result<&[Value], ConfigFault>
+    ensures array { seen result ≡ array_at list key (option_map list_of (as_array (view value.now))) }
+    ensures few { IfOk result (λ vs. length vs.now ≤ 1048576) }
+{
+    let place = Place {
+        table: Table::List(list),
+        key,
+    };
+    let Some(values) = array_in(value) else {
+        return Err(ConfigFault::BadValue(place));
+    };
+    if values.len() > MOST {
+        return Err(ConfigFault::TooMany(place));
+    }
+    Ok(values)
+}
+
+/// What each entry of `prefixes` is, or the place of the first that is none.
+fn prefix_entries(alloc: Global, values: &[Value], list: usize) -> Result<Vec<Range>, ConfigFault>
+    ensures entries { AnswersItems result (entries_from prefix_entry list Key.Prefixes 1 (data_of values.now)) }
+    ensures count { IfOk result (λ v. length v.items ≡ length values.now) }
+{
+    let mut entries = Vec::with_capacity(alloc, values.len())?;
+    for (index, value) in values.iter().enumerate() {
+        let Some(entry) = PrefixEntry.read(value) else {
+            return Err(ConfigFault::BadValue(Place {
+                table: Table::Entry(list, index + 1),
+                key: Key::Prefixes,
+            }));
+        };
+        entries.push(entry)?;
+    }
+    Ok(entries)
+}
+
+/// The same of `ases`.
+fn as_entries(alloc: Global, values: &[Value], list: usize) -> Result<Vec<(u32, u32)>, ConfigFault>
+    ensures entries { AnswersItems result (entries_from as_entry list Key.Ases 1 (data_of values.now)) }
+    ensures count { IfOk result (λ v. length v.items ≡ length values.now) }
+{
+    let mut entries = Vec::with_capacity(alloc, values.len())?;
+    for (index, value) in values.iter().enumerate() {
+        let Some(entry) = AsEntry.read(value) else {
+            return Err(ConfigFault::BadValue(Place {
+                table: Table::Entry(list, index + 1),
+                key: Key::Ases,
+            }));
+        };
+        entries.push(entry)?;
+    }
+    Ok(entries)
+}
+
+#[tactic(auto, unfolding(crate::specs::Values::entries_at))]
+fn prefixes_in(alloc: Global, table: &Value, list: usize) -> Result<Option<Prefixes>, ConfigFault>
+    ensures { Answers result (prefixes_at list (view table.now)) }
+{
+    let Some(value) = find(table, Key::Prefixes) else {
+        return Ok(None);
+    };
+    let values = array_of(value, list, Key::Prefixes)?;
+    let ranges = prefix_entries(alloc, values, list)?;
+    Ok(Some(Prefixes::of(alloc, ranges)?))
+}
+
+#[tactic(auto, unfolding(crate::specs::Values::entries_at))]
+fn ases_in(alloc: Global, table: &Value, list: usize) -> Result<Option<Ases>, ConfigFault>
+    ensures { Answers result (ases_at list (view table.now)) }
+{
+    let Some(value) = find(table, Key::Ases) else {
+        return Ok(None);
+    };
+    let values = array_of(value, list, Key::Ases)?;
+    let ranges = as_entries(alloc, values, list)?;
+    Ok(Some(Ases::of(alloc, ranges)?))
+}
+
+/// Refuses a list that has neither prefixes nor AS numbers.
+#[tactic(auto, unfolding(crate::specs::NamedLists::entries_needed))]
+fn need_entries(table: &Value, list: usize) -> Result<(), ConfigFault>
+    ensures { result ≡ entries_needed list (view table.now) }
+{
+    if find(table, Key::Prefixes).is_none() && find(table, Key::Ases).is_none() {
+        return Err(ConfigFault::Missing(Place {
+            table: Table::List(list),
+            key: Key::Prefixes,
+        }));
+    }
+    Ok(())
+}
+
+impl NamedList {
+    fn is_same_name(&self, other: &NamedList) -> bool
+        ensures { result ≡ is_same_name self.now other.now }
+    {
+        self.name.as_str() == other.name.as_str()
+    }
+
+    fn is_among(&self, others: &[NamedList]) -> bool
+        ensures { result ≡ list_any (is_same_name self.now) others.now }
+    {
+        others.iter().any(|other| self.is_same_name(other))
+    }
+
+    /// Whether a range of the list takes the prefix.
+    pub(crate) fn has_prefix(&self, prefix: &Prefix) -> bool
+        ensures { result ≡ has_prefix self.now prefix.now }
+    {
+        match &self.prefixes {
+            None => false,
+            Some(prefixes) => prefixes.has(prefix),
+        }
+    }
+
+    /// Whether a range of the list has the AS number.
+    pub(crate) fn has_as(&self, number: u32) -> bool
+        ensures { result ≡ has_as self.now number }
+    {
+        match &self.ases {
+            None => false,
+            Some(ases) => ases.has(number),
+        }
+    }
+
+    /// What the table of a list sets, or its first fault.
+    #[tactic(auto, unfolding(crate::specs::Values::answer, crate::specs::NamedLists::named_list_checks, crate::specs::NamedLists::named_list_from))]
+    fn read(
+        alloc: Global,
+        table: &Value,
+        number: usize,
+        earlier: &[NamedList],
+    ) -> Result<NamedList, ConfigFault>
+        ensures { Answers result
+            (answer (named_list_checks number earlier.now (view table.now)) (named_list_from number (view table.now))) }
+    {
+        let here = Place {
+            table: Table::List(number),
+            ..TOP
+        };
+        let name = name_in(table, here)?;
+        need_entries(table, number)?;
+        let prefixes = prefixes_in(alloc, table, number)?;
+        let ases = ases_in(alloc, table, number)?;
+        refuse_others(table, here, &KEYS)?;
+        let list = NamedList {
+            name: String::from_str(alloc, name)?,
+            prefixes,
+            ases,
+        };
+        if list.is_among(earlier) {
+            return Err(ConfigFault::TwiceList(number));
+        }
+        Ok(list)
+    }
+}
+
+/// The lists of a configuration, or their first fault.
+pub(crate) fn read_named_lists(
+    alloc: Global,
+    tables: &[Value],
+) -> Result<Vec<NamedList>, ConfigFault>
+    ensures { AnswersItems result
+        (answer (named_lists_checks (data_of tables.now)) (named_lists_from (data_of tables.now))) }
+{
+    let mut lists = Vec::with_capacity(alloc, tables.len())?;
+    for (index, table) in tables.iter().enumerate() {
+        let list = NamedList::read(alloc, table, index + 1, &lists)?;
+        lists.push(list)?;
+    }
+    Ok(lists)
+}

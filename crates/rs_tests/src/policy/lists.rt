@@ -1,0 +1,303 @@
+//! Lists that rules name: what is in them, and their faults.
+
+use super::routes::{Route, SET};
+use super::*;
+use crate::common::{ROUTE, prefix};
+
+/// Entries of `prefixes`, each list with a prefix and whether it is in. The operators by the examples of
+/// RFC 2622, 2.
+const PREFIXES: [(&str, u32, u8, bool); 27] = [
+    ("", 0x0500_0000, 8, false),
+    ("\"5.0.0.0/8\"", 0x0500_0000, 8, true),
+    ("\"5.0.0.0/8\"", 0x0501_0000, 16, false),
+    ("\"5.1.2.3/8\"", 0x0500_0000, 8, true),
+    ("\"5.0.0.0/8^+\"", 0x0500_0000, 8, true),
+    ("\"5.0.0.0/8^+\"", 0x0501_0203, 32, true),
+    ("\"5.0.0.0/8^+\"", 0x0400_0000, 7, false),
+    ("\"5.0.0.0/8^+\"", 0x0600_0000, 8, false),
+    ("\"128.9.0.0/16^-\"", 0x8009_0000, 16, false),
+    ("\"128.9.0.0/16^-\"", 0x8009_0000, 17, true),
+    ("\"128.9.0.0/16^-\"", 0x8009_ff00, 24, true),
+    ("\"30.0.0.0/8^16\"", 0x1e09_0000, 16, true),
+    ("\"30.0.0.0/8^16\"", 0x1e09_0000, 17, false),
+    ("\"30.0.0.0/8^16\"", 0x1e00_0000, 8, false),
+    ("\"30.0.0.0/8^24-32\"", 0x1e09_0960, 28, true),
+    ("\"30.0.0.0/8^24-32\"", 0x1e09_0000, 23, false),
+    ("\"0.0.0.0/0\"", 0, 0, true),
+    ("\"0.0.0.0/0^25-32\"", 0xffff_ff80, 25, true),
+    ("\"0.0.0.0/0^25-32\"", 0xffff_ff00, 24, false),
+    ("\"255.255.255.255/32^+\"", 0xffff_ffff, 32, true),
+    // one within another, beside each other, twice, in whatever order
+    (
+        "\"10.1.0.0/16\", \"10.0.0.0/8^24\"",
+        0x0a01_0000,
+        16,
+        true,
+    ),
+    (
+        "\"10.1.0.0/16\", \"10.0.0.0/8^24\"",
+        0x0aff_0100,
+        24,
+        true,
+    ),
+    (
+        "\"10.1.0.0/16\", \"10.0.0.0/8^24\"",
+        0x0a01_0100,
+        24,
+        true,
+    ),
+    (
+        "\"10.1.0.0/16\", \"10.0.0.0/8^24\"",
+        0x0a02_0000,
+        16,
+        false,
+    ),
+    (
+        "\"10.2.0.0/16\", \"10.2.0.0/16\", \"10.1.0.0/16\", \"10.0.0.0/8\"",
+        0x0a01_0000,
+        16,
+        true,
+    ),
+    (
+        "\"10.2.0.0/16\", \"10.2.0.0/16\", \"10.1.0.0/16\", \"10.0.0.0/8\"",
+        0x0a00_0000,
+        8,
+        true,
+    ),
+    (
+        "\"10.2.0.0/16\", \"10.2.0.0/16\", \"10.1.0.0/16\", \"10.0.0.0/8\"",
+        0x0a00_0000,
+        9,
+        false,
+    ),
+];
+
+/// A configuration whose list has these entries, with a rule that drops what is in it.
+fn goes_by_list(
+    rt: &impl Abort,
+    alloc: Global,
+    route: &Route,
+    list: (&str, &str, &str),
+    is_in: bool,
+) {
+    let (key, entries, test) = list;
+    let top = format!(in alloc; "[[list]]\nname = \"l\"\n{key} = [{entries}]\n");
+    let top = top.expect(rt, "a text");
+    let rule = format!(in alloc; "{{ {test} = \"l\", action = \"drop\" }}").expect(rt, "a text");
+    let want = if is_in { None } else { Some(100) };
+    route.goes(rt, alloc, (top.as_str(), rule.as_str(), ""), want);
+    route.goes(rt, alloc, (top.as_str(), "", rule.as_str()), want);
+}
+
+#[test]
+fn prefixes_in_lists(rt: HostRuntime) {
+    let mut route = Route::spelt(&rt, rt.alloc(), &ROUTE);
+    for (entries, bits, len, is_in) in &PREFIXES {
+        route.prefix = prefix(&rt, *bits, *len);
+        let list = ("prefixes", *entries, "prefix_in");
+        goes_by_list(&rt, rt.alloc(), &route, list, *is_in);
+    }
+    route.let_go();
+}
+
+/// Entries of `ases`, each list with whether the origin 64496 is in.
+const ORIGINS: [(&str, bool); 8] = [
+    ("", false),
+    ("64496", true),
+    ("64495, 64497", false),
+    ("\"64496-64511\"", true),
+    ("\"64480-64496\"", true),
+    ("\"64497-64511\"", false),
+    ("\"0-4294967295\"", true),
+    ("0, \"65536-65551\", \"64490-64499\", 64496", true),
+];
+
+#[test]
+fn origins_in_lists(rt: HostRuntime) {
+    let route = Route::spelt(&rt, rt.alloc(), &ROUTE);
+    // a path whose last segment is a set has no origin
+    let set = Route::spelt(&rt, rt.alloc(), SET);
+    for (entries, is_in) in &ORIGINS {
+        let list = ("ases", *entries, "origin_in");
+        goes_by_list(&rt, rt.alloc(), &route, list, *is_in);
+        goes_by_list(&rt, rt.alloc(), &set, list, false);
+    }
+    route.let_go();
+    set.let_go();
+}
+
+/// What stands at the top besides a client, each with its fault.
+const FAULTS: [(&str, &str); 36] = [
+    ("list = 1\n", "bad value list"),
+    ("list = [1]\n", "bad value list"),
+    ("list = []\n", "good"),
+    ("[[list]]\n", "missing list 1 name"),
+    ("[[list]]\nname = \"a b\"\n", "bad value list 1 name"),
+    ("[[list]]\nname = \"l\"\n", "missing list 1 prefixes"),
+    ("[[list]]\nname = \"l\"\nprefixes = []\n", "good"),
+    ("[[list]]\nname = \"l\"\nases = []\n", "good"),
+    ("[[list]]\nname = \"l\"\nases = []\nprefixes = []\n", "good"),
+    (
+        "[[list]]\nname = \"l\"\nprefixes = \"10.0.0.0/8\"\n",
+        "bad value list 1 prefixes",
+    ),
+    (
+        "[[list]]\nname = \"l\"\nprefixes = [1]\n",
+        "bad value list 1 prefixes 1",
+    ),
+    (
+        "[[list]]\nname = \"l\"\nprefixes = [\"10.0.0.0/8\", \"10.0.0.0\"]\n",
+        "bad value list 1 prefixes 2",
+    ),
+    (
+        "[[list]]\nname = \"l\"\nprefixes = [\"10.0.0.0/33\"]\n",
+        "bad value list 1 prefixes 1",
+    ),
+    (
+        "[[list]]\nname = \"l\"\nprefixes = [\"10.0.0.0/8^7\"]\n",
+        "bad value list 1 prefixes 1",
+    ),
+    (
+        "[[list]]\nname = \"l\"\nprefixes = [\"10.0.0.0/8^33\"]\n",
+        "bad value list 1 prefixes 1",
+    ),
+    (
+        "[[list]]\nname = \"l\"\nprefixes = [\"10.0.0.0/8^24-16\"]\n",
+        "bad value list 1 prefixes 1",
+    ),
+    (
+        "[[list]]\nname = \"l\"\nprefixes = [\"10.0.0.0/8^7-16\"]\n",
+        "bad value list 1 prefixes 1",
+    ),
+    (
+        "[[list]]\nname = \"l\"\nprefixes = [\"10.0.0.0/8^16-33\"]\n",
+        "bad value list 1 prefixes 1",
+    ),
+    (
+        "[[list]]\nname = \"l\"\nprefixes = [\"10.0.0.0/8^\"]\n",
+        "bad value list 1 prefixes 1",
+    ),
+    (
+        "[[list]]\nname = \"l\"\nprefixes = [\"10.0.0.0/8^*\"]\n",
+        "bad value list 1 prefixes 1",
+    ),
+    (
+        "[[list]]\nname = \"l\"\nprefixes = [\"10.0.0.0/8^+^+\"]\n",
+        "bad value list 1 prefixes 1",
+    ),
+    (
+        "[[list]]\nname = \"l\"\nprefixes = [\"10.0.0.1/32^-\"]\n",
+        "bad value list 1 prefixes 1",
+    ),
+    (
+        "[[list]]\nname = \"l\"\nases = [-1]\n",
+        "bad value list 1 ases 1",
+    ),
+    (
+        "[[list]]\nname = \"l\"\nases = [0, 4294967296]\n",
+        "bad value list 1 ases 2",
+    ),
+    (
+        "[[list]]\nname = \"l\"\nases = [\"64496\"]\n",
+        "bad value list 1 ases 1",
+    ),
+    (
+        "[[list]]\nname = \"l\"\nases = [\"64497-64496\"]\n",
+        "bad value list 1 ases 1",
+    ),
+    (
+        "[[list]]\nname = \"l\"\nases = [\"0-4294967296\"]\n",
+        "bad value list 1 ases 1",
+    ),
+    (
+        "[[list]]\nname = \"l\"\nases = [\"064496-64499\"]\n",
+        "bad value list 1 ases 1",
+    ),
+    (
+        "[[list]]\nname = \"l\"\nases = [\"64496 - 64499\"]\n",
+        "bad value list 1 ases 1",
+    ),
+    (
+        "[[list]]\nname = \"l\"\nases = []\ncolour = 1\n",
+        "bad value list 1 ?",
+    ),
+    (
+        "[[list]]\nname = \"l\"\nases = []\n[[list]]\nname = \"l\"\nprefixes = []\n",
+        "twice list 2",
+    ),
+    (
+        "[[list]]\nname = \"l\"\nases = []\n[[list]]\nname = \"m\"\nprefixes = [\"::/0\"]\n",
+        "bad value list 2 prefixes 1",
+    ),
+    // an entry before what is unknown, the prefixes before the AS numbers
+    (
+        "[[list]]\nname = \"l\"\nases = [-1]\nprefixes = [1]\ncolour = 1\n",
+        "bad value list 1 prefixes 1",
+    ),
+    // an unknown key at the top before the lists' keys, the array of lists before it
+    ("colour = 1\n[[list]]\n", "bad value ?"),
+    ("colour = 1\nlist = 1\n", "bad value list"),
+    ("colour = 1\n", "bad value ?"),
+];
+
+#[test]
+fn faults_of_lists(rt: HostRuntime) {
+    for (lists, want) in &FAULTS {
+        let text = format!(in rt.alloc(); "{TOP}{lists}{CLIENT}").expect(&rt, "a text");
+        is_answered(&rt, rt.alloc(), text.as_str(), want);
+    }
+}
+
+/// Rules beside a list `p` of prefixes and a list `n` of AS numbers, each with its fault.
+const RULES: [(&str, &str); 9] = [
+    ("prefix_in = \"p\", action = \"drop\"", "good"),
+    ("origin_in = \"n\", action = \"drop\"", "good"),
+    (
+        "prefix_in = 1, action = \"drop\"",
+        "bad value client 1 import 1 prefix_in",
+    ),
+    (
+        "prefix_in = \"q\", action = \"drop\"",
+        "bad value client 1 import 1 prefix_in",
+    ),
+    (
+        "prefix_in = \"n\", action = \"drop\"",
+        "bad value client 1 import 1 prefix_in",
+    ),
+    (
+        "origin_in = \"p\", action = \"drop\"",
+        "bad value client 1 import 1 origin_in",
+    ),
+    // in the order of the keys
+    (
+        "max = 1, prefix_in = \"q\"",
+        "bad value client 1 import 1 max",
+    ),
+    (
+        "from = \"z\", prefix_in = \"q\"",
+        "bad value client 1 import 1 prefix_in",
+    ),
+    (
+        "origin_as = 0, origin_in = \"q\"",
+        "bad value client 1 import 1 origin_as",
+    ),
+];
+
+const NAMED: &str = "[[list]]\nname = \"p\"\nprefixes = [\"10.0.0.0/8\"]\n\
+[[list]]\nname = \"n\"\nases = [64496]\n";
+
+#[test]
+fn rules_that_name_lists(rt: HostRuntime) {
+    for (rule, want) in &RULES {
+        let text = format!(in rt.alloc(); "{TOP}{NAMED}{CLIENT}import = [{{ {rule} }}]\n");
+        let text = text.expect(&rt, "a text");
+        is_answered(&rt, rt.alloc(), text.as_str(), want);
+    }
+    // a list's fault comes after the clients' and before the rules'
+    let text = format!(in rt.alloc(); "{TOP}[[list]]\n{CLIENT}import = [{{}}]\n[[client]]\n");
+    let text = text.expect(&rt, "a text");
+    is_answered(&rt, rt.alloc(), text.as_str(), "missing client 2 name");
+    let text = format!(in rt.alloc(); "{TOP}[[list]]\n{CLIENT}import = [{{}}]\n");
+    let text = text.expect(&rt, "a text");
+    is_answered(&rt, rt.alloc(), text.as_str(), "missing list 1 name");
+}
