@@ -6,6 +6,9 @@ play_without_memory.py TESTS
 TESTS is the built tests of rs_tests. Those of calls that take no memory print a line before such calls and one behind
 them: between the two no memory may be asked for.
 
+A test of how much room attributes take prints a line before they are read and one behind: between the two no more may be
+held than what they are.
+
 Another test runs with one request refused, another one in each run. It turns an outlet at its end, and says so where
 memory was refused to that turn: then it must pass, which it does where nothing but the answer of the last turn has
 changed. Where memory is refused before or behind the turn the test can't go on, and fails without a word of the turn.
@@ -33,15 +36,22 @@ ASKING = (
     "route_server::asking::how_a_session_begins_and_ends",
 )
 MARK = "no memory is asked for"
+# The test of attributes' room, what both of its lines say, and how many octets may be held: 200 heads of 8 octets and 200
+# values of an octet, with what the allocator adds to each of two blocks.
+ROOM = "attrs::room::a_thousand_attributes_of_one_octet"
+ROOM_MARK = "room is counted"
+MOST = 200 * 8 + 200 + 2 * 16
 SECONDS = 120
 # So many of the last requests are refused, one after the other; the turn makes some of them.
 LAST = 300
 
 
-def run(program, library, test, refused):
-    """Whether the test passed, what it printed, and the requests made by each line and in all, with this one refused."""
+def run(program, library, test, refused, mark=MARK, held=False):
+    """Whether the test passed, what it printed, and the requests made (or octets held) by each line and in all, with this one refused."""
     reader, writer = os.pipe()
-    environment = {**os.environ, "LD_PRELOAD": str(library), "REFUSE": str(refused), "COUNTED": str(writer), "MARK": MARK}
+    environment = {**os.environ, "LD_PRELOAD": str(library), "REFUSE": str(refused), "COUNTED": str(writer), "MARK": mark}
+    if held:
+        environment["HELD"] = "1"
     try:
         ran = subprocess.run([program, test], env=environment, pass_fds=(writer,), capture_output=True, timeout=SECONDS)
     finally:
@@ -63,6 +73,19 @@ def count_requests(program, library):
         elif asked:
             wrong = f"memory was asked for {asked} times"
         yield f"without memory, {test}", wrong
+
+
+def count_room(program, library):
+    """The result of the test of attributes' room."""
+    passed, _, lines = run(program, library, ROOM, 0, ROOM_MARK, held=True)
+    wrong = None
+    if not passed:
+        wrong = "it failed"
+    elif len(lines) != 3 or lines[1] <= lines[0]:
+        wrong = "what it holds was not counted"
+    elif lines[1] - lines[0] > MOST:
+        wrong = f"{lines[1] - lines[0]} octets are held, and {MOST} are enough"
+    yield f"without memory, {ROOM}", wrong
 
 
 def refuse_requests(program, library):
@@ -93,6 +116,7 @@ def play_memory(program):
             yield "without memory", f"cc: {made.stderr.strip()}"
             return
         yield from count_requests(program, library)
+        yield from count_room(program, library)
         yield from refuse_requests(program, library)
 
 

@@ -15,6 +15,8 @@
 //!   `size` counts and `write_into` writes; `head` spells what stands before a value, `narrow` the
 //!   values for two-octet peers.
 //! - `laws` are contracts of functions that do nothing.
+//!
+//! The tests stand in `rs_tests`, in `src/attrs`.
 #![tactic(auto)]
 
 mod attrs;
@@ -26,8 +28,6 @@ mod reading;
 mod segments;
 mod stripping;
 mod table;
-#[cfg(test)]
-mod tests;
 mod types;
 mod writing;
 

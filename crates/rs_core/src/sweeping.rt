@@ -42,14 +42,16 @@ impl Ribs {
         self.give_up(number);
     }
 
-    /// Gives up the number of a prefix that nobody holds or has in a row.
+    /// Gives up the number of a prefix that nobody holds or has in a row. One that no prefix has is passed over before any
+    /// outlet is asked.
     pub(crate) fn give_up(&mut self, number: u32)
         ensures settings { KeepsSettings self.old self.new }
         ensures tables { adj_ins.Same self.old.tables self.new.tables }
         ensures outlets { self.new.outlets ≡ self.old.outlets }
         ensures kept { KeepsFresh self.old self.new }
     {
-        if self.tables.at_number(number).is_empty() && self.is_unused(number) {
+        let is_given = self.tables.prefix(number).is_some();
+        if is_given && self.tables.at_number(number).is_empty() && self.is_unused(number) {
             self.tables.release(number);
         }
     }

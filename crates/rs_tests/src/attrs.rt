@@ -2,6 +2,7 @@
 
 mod faults;
 mod reading;
+mod room;
 mod routes;
 
 use crate::common::{ROUTE, attrs, octets};
