@@ -3,7 +3,7 @@
 
 fuzz.py PROGRAM TESTS [CASES [SEED]]
 
-A case is a configuration (rules, limits, long messages, ROUTE-REFRESH) and a session: members that come up, as two-octet
+A case is a configuration (rules, lists, limits, long messages, ROUTE-REFRESH) and a session: members that come up, as two-octet
 or four-octet peers, and come again; routes, withdrawals and faults, in any pieces; turns, rooms of any size, losses, moments and
 replaced rules. The seed is printed, by which the same cases come again. Where a case differs, the smallest session that
 still does, found by leaving out lines, is printed with its configuration.
@@ -22,6 +22,7 @@ CASES = 100
 MARKER = b"\xff" * 16
 NAMES = "abcd"
 PREFIXES = [(bits, length) for bits, length in ((0x0A000000, 8), (0x0A010000, 16), (0x0A010200, 24), (0xC6336400, 24), (0xC6336480, 25), (0, 0), (0xCB007101, 32))]
+LISTS = ["small", "large"]
 COMMUNITIES = ["64500:1", "64500:2", "65535:65281"]
 BIG = 4_200_000_000
 
@@ -90,18 +91,29 @@ class Peer:
         return message(2, struct.pack(">H", len(withdrawn)) + withdrawn + struct.pack(">H", len(field)) + field + nlri)
 
 
+def dotted(prefix):
+    return "%d.%d.%d.%d/%d" % (*struct.pack(">I", prefix[0]), prefix[1])
+
+
+def operators(length):
+    """Range operators for a prefix of this length."""
+    return ["", "^+", "^32", f"^{length}-32", *(["^-"] if length < 32 else [])]
+
+
 def rule(draw, name):
     """A rule as the configuration has it."""
     words = []
     if draw.random() < 0.5:
-        bits, length = draw.choice(PREFIXES)
-        words.append('prefix = "%d.%d.%d.%d/%d"' % (*struct.pack(">I", bits), length))
+        prefix = draw.choice(PREFIXES)
+        words.append(f'prefix = "{dotted(prefix)}"')
         if draw.random() < 0.5:
-            words.append(f"max = {draw.randrange(length, 33)}")
+            words.append(f"max = {draw.randrange(prefix[1], 33)}")
     for chance, word in (
         (0.2, f'from = "{draw.choice(NAMES)}"'),
         (0.2, f"path_has = {draw.choice([64999, 64497])}"),
         (0.2, f"origin_as = {draw.choice([64496, 64999, BIG])}"),
+        (0.2, f'prefix_in = "{draw.choice(LISTS)}"'),
+        (0.2, f'origin_in = "{draw.choice(LISTS)}"'),
         (0.2, f'community = "{draw.choice(COMMUNITIES)}"'),
         (0.2, f"next_hop_is_peer = {draw.choice(['true', 'false'])}"),
     ):
@@ -116,11 +128,19 @@ def rule(draw, name):
     return "{ " + ", ".join(words) + " }"
 
 
+def named_list(draw, name):
+    """A list as the configuration has it."""
+    entries = [f'"{dotted(it)}{draw.choice(operators(it[1]))}"' for it in draw.sample(PREFIXES, draw.randrange(4))]
+    ases = [draw.choice(["64496", "64999", f'"64497-{BIG}"', f'"{BIG}"']) for _ in range(draw.randrange(3))]
+    return f'\n[[list]]\nname = "{name}"\nprefixes = [{", ".join(entries)}]\nases = [{", ".join(ases)}]\n'
+
+
 def configuration(draw, fixed):
     """A text; what may not change while the server runs is `fixed`."""
     extended, refresh = fixed
     text = f'as = 64500\nidentifier = "192.0.2.1"\nhold = 90\ndefault = "{draw.choice(["pass", "pass", "pass", "drop"])}"\n'
     text += f"extended = {extended}\nrefresh = {refresh}\n"
+    text += "".join(named_list(draw, name) for name in LISTS)
     for place, name in enumerate(NAMES):
         text += f'\n[[client]]\nname = "{name}"\nas = {64496 + place}\nlisten = "127.0.0.1:{17901 + place}"\npeer = "192.0.2.{11 + place}"\n'
         if draw.random() < 0.15:

@@ -3,15 +3,17 @@
 
 Runs `rt ci` at the top of the repository and passes on what it prints. Meanwhile it looks, twice a
 second, at the processes of the prover and of the compilers; from that it prints how long each crate's
-proofs, tests and edits took. Then it plays each session of examples/sessions to the built rs_replay and two
-members to the built rs_served, runs tests of rs_workers where no thread can be started, tests of calls that take no
-memory where requests are counted and a test of outlets where memory is refused, compares the example configurations
-with those that are tested, and looks whether what the pages name is there. The last line is 'N passed, M failed' over all of it; the exit status is 0 where nothing failed.
+proofs, tests and edits took. Then it plays each session of examples/sessions to the built rs_replay, and two members to the
+built rs_served. It holds what the members of these sessions are sent against the plain function of the tests: of their
+fronts, with losses, cut and changed octets, refused memory and without threads, and of random sessions. It plays hostile
+members to the built rs_served, those whose play takes seconds. It runs tests
+of calls that take no memory where requests are counted and a test of outlets where memory is refused, compares the example
+configurations with those that are tested, and looks whether what the pages name is there. The last line is 'N passed, M failed'
+over all of it; the exit status is 0 where nothing failed.
 
 It reads the repository, and writes nothing but what `rt ci` itself writes.
 """
 import collections
-import itertools
 import os
 import pathlib
 import re
@@ -24,13 +26,19 @@ import time
 
 from check_examples import check
 from check_names import check_pages
+from fuzz import CASES, fuzz
+from hostile.plays import play_short
 from play_server import play_members
+from play_refused import play_refused
 from play_sessions import play
+from play_sweeps import play_sweeps
 from play_without_memory import play_memory
 from play_without_threads import play_alone
 from results import tell
 
 TOP = pathlib.Path(__file__).resolve().parent.parent
+# The rows of hostile members that are played, in small sizes.
+HOSTILE = "cdegn"
 PAUSE = 0.5
 TICK = os.sysconf("SC_CLK_TCK")
 KINDS = ("proofs", "tests", "edits")
@@ -127,11 +135,36 @@ def tell_times(took, started):
     for crate in sorted({crate for crate, _ in took}, key=whole, reverse=True):
         figures = [*(took[crate, kind] for kind in KINDS), whole(crate)]
         print(f"  {crate:<12}" + "".join(f"{it:8.0f}" for it in figures))
-    used = resource.getrusage(resource.RUSAGE_CHILDREN)
+    tell_time("The whole", started, 0)
+
+
+def processor_minutes():
+    """What this process and those that it waited for have taken so far."""
+    all_used = map(resource.getrusage, (resource.RUSAGE_SELF, resource.RUSAGE_CHILDREN))
+    return sum(used.ru_utime + used.ru_stime for used in all_used) / 60
+
+
+def tell_time(what, started, used):
+    """How long it took since this moment, and since so many processor minutes were used."""
     print(
-        f"The whole: {time.monotonic() - started:.0f} seconds on {len(os.sched_getaffinity(0))} processors, "
-        f"{(used.ru_utime + used.ru_stime) / 60:.1f} processor minutes"
+        f"{what}: {time.monotonic() - started:.0f} seconds on {len(os.sched_getaffinity(0))} processors, "
+        f"{processor_minutes() - used:.1f} processor minutes"
     )
+
+
+def play_all(crates, folder):
+    """The result of each check on what was built."""
+    replay, tests = crates / "rs_replay/out/rs_replay", crates / "rs_program_tests/out/rs_program_tests_tests"
+    yield from play(replay, folder)
+    yield from play_sweeps(replay, tests, folder)
+    yield from play_refused(replay, tests, folder)
+    yield from fuzz(replay, tests, CASES, time.time_ns() % 2**32)
+    yield from play_members(crates / "rs_served/out/rs_served")
+    yield from play_short(crates / "rs_served/out/rs_served", HOSTILE)
+    yield from play_alone(crates, folder)
+    yield from play_memory(crates / "rs_tests/out/rs_tests_tests")
+    yield from check()
+    yield from check_pages()
 
 
 def main():
@@ -141,11 +174,9 @@ def main():
     started = time.monotonic()
     passed, failed, took = run_gate()
     tell_times(took, started)
-    sessions = play(TOP / "crates/rs_replay/out/rs_replay", TOP / "examples/sessions")
-    members = play_members(TOP / "crates/rs_served/out/rs_served")
-    alone = play_alone(TOP / "crates/rs_workers/out/rs_workers_tests")
-    memory = play_memory(TOP / "crates/rs_tests/out/rs_tests_tests")
-    held, differ = tell(itertools.chain(sessions, members, alone, memory, check(), check_pages()))
+    began, used = time.monotonic(), processor_minutes()
+    held, differ = tell(play_all(TOP / "crates", TOP / "examples/sessions"))
+    tell_time("What was played", began, used)
     passed, failed = passed + held, failed + differ
     print(f"{passed} passed, {failed} failed")
     return 1 if failed else 0

@@ -8,6 +8,7 @@ given to the plain function, which says whether the one is what the others ask f
 import collections
 import ipaddress
 import subprocess
+import tempfile
 import tomllib
 
 TEST = "plain::asking::what_clients_hold"
@@ -50,16 +51,17 @@ def play(program, text, lines, workers=1, environment=None, descriptors=()):
     trace = [f"open {SPARE}"]
     for line in lines:
         trace += [with_spare(line), f"open {SPARE}"]
-    with open("/dev/shm/tivrazel_config.toml", "w") as file:
+    with tempfile.NamedTemporaryFile("w", suffix=".toml") as file:
         file.write(text + SPARE_CLIENT)
-    run = subprocess.run(
-        [program, "--config", file.name, "--workers", str(workers)],
-        input="\n".join(trace).encode(),
-        capture_output=True,
-        timeout=SECONDS,
-        env=environment,
-        pass_fds=descriptors,
-    )
+        file.flush()
+        run = subprocess.run(
+            [program, "--config", file.name, "--workers", str(workers)],
+            input="\n".join(trace).encode(),
+            capture_output=True,
+            timeout=SECONDS,
+            env=environment,
+            pass_fds=descriptors,
+        )
     parts = [[]]
     for line in run.stdout.decode().splitlines():
         if line == f"busy {SPARE}":
@@ -101,6 +103,29 @@ def community(text):
     return int(high) << 16 | int(low)
 
 
+def prefixes(entry):
+    """The words of a list's entry: a prefix, with a range operator (RFC 2622, 2) or without."""
+    prefix, _, operator = entry.partition("^")
+    network = ipaddress.ip_network(prefix, strict=False)
+    length = network.prefixlen
+    least, _, most = {"": str(length), "-": f"{length + 1}-32", "+": f"{length}-32"}.get(operator, operator).partition("-")
+    return f"{int(network.network_address)} {length} {least} {most or least}"
+
+
+def numbers(entry):
+    """The words of a list's entry: an AS number, or a text with two, from one to the other."""
+    first, _, last = str(entry).partition("-")
+    return f"{first} {last or first}"
+
+
+def listed(config, it):
+    """The lines of the lists that a rule names."""
+    for test, key, words in (("prefix_in", "prefixes", prefixes), ("origin_in", "ases", numbers)):
+        for one in config.get("list", []):
+            if one["name"] == it.get(test):
+                yield " ".join([test, *map(words, one[key])])
+
+
 def rule(config, it):
     """The words of a rule."""
     words = [number(it["action"] == "pass"), number(it.get("preference"))]
@@ -133,6 +158,7 @@ def case(played, without=None):
         yield f"client {client['as']} {int(ipaddress.ip_address(client['peer']))}"
         for kind in ("import", "export"):
             for it in client.get(kind, []):
+                yield from listed(config, it)
                 yield f"{kind} {rule(config, it)}"
         if link := found.get(client["name"]):
             yield f"heard {link.heard.hex()}"

@@ -1,16 +1,16 @@
 #!/usr/bin/env python3
-"""Plays recorded sessions to a built rs_replay where a request for memory is refused, or no thread can be started.
+"""Plays recorded sessions to a built rs_replay where a request for memory is refused, and says what went otherwise than it must.
 
 play_refused.py PROGRAM TESTS FOLDER
 
 Of the requests for memory of a session, by 1 and by 2 workers, each is refused in a run of its own. It must show as a
-line `memory NAME`, or as status 3 with the words `out of memory`; where it shows as nothing, no more than the session's
-own octets may have been written. Behind the session the clients that were lost come again and say again what they said, a turn
-and room for all follow, and each Established client must hold what the plain function of the tests says (`holding.py`).
-
-Where no thread can be started, all recorded sessions must be played by 2 and by 16 workers as by one.
+line `memory NAME`, with `close NAME` where octets came and without at a turn; as `rules refused: out of memory`; or as status 3
+with the words `out of memory`, and then what was written is a front of what is written else. Two kinds show as nothing: the
+one request of READING, and those by which a thread is started for a turn by 2 workers, which is then done on one. Behind the
+session the clients that were lost come again and say again what they said, a turn and room for all follow, and each
+Established client must hold what the plain function of the tests says (`holding.py`).
 """
-import os
+import collections
 import pathlib
 import subprocess
 import sys
@@ -18,10 +18,10 @@ import tempfile
 import tomllib
 
 from holding import ask, case, drain, play
-from play_sweeps import session, sessions
+from play_sweeps import session
+from preloading import built, preloaded
 from results import end, tell
 
-TOOLS = pathlib.Path(__file__).resolve().parent
 REFUSED = (
     "first_route", "origin_out_of_range_withdraws", "rule_hides_a_path_from_one", "withdrawn_before_it_was_sent",
     "flap_between_takings", "lost_in_mid_message", "hold_timer_runs_out", "community_stripped",
@@ -33,23 +33,11 @@ REFUSED = (
 READING = 1
 
 
-def made(folder, name):
-    """What is preloaded, built."""
-    library = pathlib.Path(folder) / f"{name}.so"
-    subprocess.run(["cc", "-O2", "-shared", "-fPIC", "-o", library, TOOLS / f"{name}.c"], check=True)
-    return library
-
-
 def refused(program, library, text, lines, workers, number):
     """A session of which this request is refused, and how many there were."""
-    reader, writer = os.pipe()
-    environment = {**os.environ, "LD_PRELOAD": str(library), "REFUSE": str(number), "COUNTED": str(writer)}
-    try:
-        played = play(program, text, lines, workers, environment, (writer,))
-    finally:
-        os.close(writer)
-    with os.fdopen(reader) as told:
-        return played, [int(line) for line in told][-1]
+    run = lambda environment, descriptors: play(program, text, lines, workers, environment, descriptors)
+    played, told = preloaded(library, "COUNTED", run, REFUSE=str(number))
+    return played, [int(line) for line in told.split()][-1]
 
 
 def lost(played):
@@ -61,73 +49,109 @@ def lost(played):
 
 
 def again(names, lines):
-    """The lines by which clients come again, and say again what they said."""
+    """The lines by which clients come again, and say again what they said since they came last."""
     for name in names:
         yield f"lost {name}"
-        yield f"open {name}"
-        yield from (line for line in lines if line.startswith(f"octets {name} "))
+        last = max(at for at, line in enumerate(lines) if line == f"open {name}")
+        yield from (line for line in lines[last:] if line == f"open {name}" or line.startswith(f"octets {name} "))
 
 
-def is_shown(played):
-    """The refusal shows in a line that was written."""
-    return any(line.startswith("memory ") or line == "rules refused: out of memory" for _, written in played.lines for line in written)
+def is_shown(line, written):
+    """The refusal shows in what a line wrote."""
+    word = line.split(" ")[0]
+    names = [it.split(" ")[1] for it in written if it.startswith("memory ")]
+    if word == "octets":
+        return len(names) == 1 and f"close {names[0]}" in written
+    if word == "turn":
+        return len(names) == 1 and f"close {names[0]}" not in written
+    return word == "rules" and "rules refused: out of memory" in written
 
 
-def sweep(program, tests, library, folder, name, workers):
-    """What is wrong where each request of a session is refused, how many there were, and how many showed as nothing."""
-    text, lines = session(folder, name)
-    rest = drain(tomllib.loads(text))
-    _, requests = refused(program, library, text, lines, workers, 0)
-    cases, quiet, numbers, names = [], 0, [], []
-    for number in range(1, requests + 1):
+def all_written(played):
+    return [*(it for _, written in played.lines for it in written), *played.rest]
+
+
+class Refusals:
+    """A session of which each request for memory is refused."""
+
+    def __init__(self, program, library, text, lines, workers):
+        self.program, self.library, self.text, self.workers = program, library, text, workers
+        self.lines, self.rest = lines, drain(tomllib.loads(text))
+        # How many requests were made before each line, and in all.
+        self.counts = [self.play(lines[:count], 0)[1] for count in range(len(lines) + 1)]
+
+    def play(self, lines, number):
+        return refused(self.program, self.library, self.text, lines, self.workers, number)
+
+    def line_of(self, number):
+        """The line that makes this request, or None before the first."""
+        behind = next(at for at, count in enumerate(self.counts) if number <= count)
+        return self.lines[behind - 1] if behind else None
+
+    def play_refused(self, number):
+        """The session of which this request is refused, and those that it costs come again."""
+        names = []
         for _ in range(3):
-            played, _ = refused(program, library, text, [*lines, *again(names, lines), *rest], workers, number)
+            played, _ = self.play([*self.lines, *again(names, self.lines), *self.rest], number)
             if played.status or lost(played) == names:
                 break
             names = lost(played)
-        if played.status == 3 and "out of memory" in played.errors:
-            continue
+        return played
+
+    def kind(self, number, played):
+        """How a refusal shows: in a line, by the status, in none of both for a reason, or what is wrong with it."""
+        shown = [is_shown(line, written) for line, written in played.lines if any("memory" in it for it in written)]
         if played.status:
-            return f"status {played.status} at request {number}: {played.errors.strip()}", requests, quiet
-        quiet += not is_shown(played)
-        numbers.append(number)
-        cases.append(list(case(played)))
+            whole = all_written(self.play(self.lines, 0)[0])
+            is_front = all_written(played) == whole[: len(all_written(played))]
+            good = played.status == 3 and "out of memory" in played.errors and not shown and is_front
+            return "by status 3" if good else f"status {played.status}: {played.errors.strip()}"
+        if shown:
+            return "in a line" if shown == [True] else "in a line where none is due"
+        if number <= self.counts[0]:
+            return "nowhere, by the words"
+        is_turn = self.workers > 1 and self.line_of(number) == "turn"
+        return "nowhere, by a thread" if is_turn else f"nowhere, at {self.line_of(number)}"
+
+
+# Each turn by two workers starts a thread, for which this many requests are made.
+OF_A_THREAD = 1
+
+
+def sweep(program, tests, library, folder, name, workers):
+    """How the refusals of a session show, and what is wrong."""
+    refusals = Refusals(program, library, *session(folder, name), workers)
+    kinds, cases, numbers = collections.Counter(), [], []
+    for number in range(1, refusals.counts[-1] + 1):
+        played = refusals.play_refused(number)
+        kinds[refusals.kind(number, played)] += 1
+        if not played.status:
+            numbers.append(number)
+            cases.append(list(case(played)))
+    most = {
+        "in a line": number,
+        "by status 3": number,
+        "nowhere, by the words": READING,
+        "nowhere, by a thread": OF_A_THREAD * refusals.lines.count("turn"),
+    }
+    wrong = [f"{count} shown {kind}" for kind, count in kinds.items() if count > most.get(kind, 0)]
     for number, answer in zip(numbers, ask(tests, cases)):
         if answer is None or not answer.startswith("same"):
-            return f"{answer} where request {number} is refused", requests, quiet
-    # Each turn by two workers starts a thread, for which a block is taken: refused it, the turn is done on one thread.
-    most = READING + (workers - 1) * sum(line == "turn" for line in [*lines, *rest])
-    return None if cases and quiet <= most else f"{quiet} refusals show as nothing, and {most} may", requests, quiet
-
-
-def without_threads(program, library, folder):
-    """Each recorded session where no thread can be started."""
-    for name, text, lines in sessions(folder):
-        wanted = play(program, text, lines)
-        for workers in (2, 16):
-            reader, writer = os.pipe()
-            environment = {**os.environ, "LD_PRELOAD": str(library), "REFUSED": str(writer)}
-            try:
-                found = play(program, text, lines, workers, environment, (writer,))
-            finally:
-                os.close(writer)
-            with os.fdopen(reader, "rb") as told:
-                asked = len(told.read())
-            wrong = None if found == wanted else "what is written is another"
-            if "turn" in lines and not asked:
-                wrong = "no thread was asked for"
-            yield f"without threads, {name} by {workers} workers", wrong
+            wrong.append(f"{answer} where request {number} is refused")
+    told = ", ".join(f"{count} {kind}" for kind, count in sorted(kinds.items()))
+    return f"memory refused, {name} by {workers} workers: {told}", "\n".join(wrong) or None
 
 
 def play_refused(program, tests, folder):
     """The results of all."""
-    with tempfile.TemporaryDirectory() as room:
-        memory, threads = made(room, "refuse_memory"), made(room, "no_threads")
-        for name in REFUSED:
-            for workers in (1, 2):
-                wrong, requests, quiet = sweep(program, tests, memory, folder, name, workers)
-                yield f"memory refused, {name} by {workers} workers, {requests} requests, {quiet} shown by nothing", wrong
-        yield from without_threads(program, threads, folder)
+    try:
+        with tempfile.TemporaryDirectory() as room:
+            library = built(room, "refuse_memory")
+            for name in REFUSED:
+                for workers in (1, 2):
+                    yield sweep(program, tests, library, folder, name, workers)
+    except (OSError, subprocess.SubprocessError) as fault:
+        yield "memory refused", str(fault)
 
 
 if __name__ == "__main__":

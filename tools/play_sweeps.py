@@ -9,7 +9,9 @@ TESTS is the built tests of rs_program_tests, whose plain function says what eac
 - Wrong readings of the plain function, each without one of its sentences: some recorded session must find each.
 - Each session with rooms of one octet in place of its rooms: the octets of each client, joined, must be the same.
 - A loss of the connection behind so many octets of an UPDATE that were taken, or heard, each number that there is.
-- Messages cut behind each octet, and with each octet changed: no session but the sender's ends.
+- What member a says in the recorded sessions, each OPEN, KEEPALIVE and UPDATE of no more than 100 octets, cut behind each
+  octet and then lost, and with each octet as 00, as ff and one greater, while its session is in OpenSent and in
+  Established: no session but a's ends.
 """
 import collections
 import itertools
@@ -27,35 +29,25 @@ READINGS = (
 )
 MARKER = "ff" * 16
 KEEPALIVE = MARKER + "001304"
-# The OPENs of the members of examples/four_members.toml, and routes of a and of b.
+# The OPENs of the members of examples/four_members.toml, and a's as a two-octet peer.
 OPENS = {
     name: f"{MARKER}00250104fbf{at}005ac000020{identifier}080206410400" + f"00fbf{at}"
     for at, (name, identifier) in enumerate(zip("abcd", "bcde"))
 }
-ORIGINS = "40010100"
-ROUTE = ORIGINS + "40020602010000fbf0" + "400304c000020b"
-BESIDE = f"{MARKER}002f020000001440010100" + "40020602010000fbf1" + "400304c000020c" + "18cb0071"
+TWO_OCTETS = f"{MARKER}001d0104fbf0005ac000020b00"
+# Routes of a, and one of b.
+ROUTE = "40010100" + "40020602010000fbf0" + "400304c000020b"
 FIRST = f"{MARKER}002f0200000014{ROUTE}18c63364"
 SECOND = f"{MARKER}0036020000001b{ROUTE}8004040000000518c63364"
-# What a says that is cut and changed: OPEN, KEEPALIVE, and UPDATEs with routes, withdrawals and faults.
-CORPUS = {
-    "an OPEN": OPENS["a"],
-    "a KEEPALIVE": KEEPALIVE,
-    "a route": FIRST,
-    "a route with MULTI_EXIT_DISC": SECOND,
-    "a withdrawal": f"{MARKER}001b02000418c633640000",
-    "a prefix withdrawn and announced": f"{MARKER}0033020004" + "18c63364" + f"0014{ROUTE}18c63364",
-    "attributes that stand twice": f"{MARKER}004c0200000031{ROUTE}8004040000000a80040400000014400504000000c8c007050000fbf0c018c63364",
-    "a path with a number of four octets": f"{MARKER}003302000000184001010040020a02020000fbf0fa56ea00400304c000020b18c63364",
-    "a route with a community": f"{MARKER}0036020000001b{ROUTE}c00804fbf4000118c63364",
-    "a route with unknown attributes": f"{MARKER}0037020000001c{ROUTE}c06302abcd80640018c63364",
-    "a path of a two-octet member": f"{MARKER}003e02000000234001010040020803" + "fbf05ba05ba0400304c000020bc0110a0202fa56ea00fa56ea0118c63364",
-}
+OF_TWO_OCTETS = f"{MARKER}002d0200000012" + "40010100" + "400204" + "0201fbf0" + "400304c000020b" + "18c63364"
+BESIDE = f"{MARKER}002f020000001440010100" + "40020602010000fbf1" + "400304c000020c" + "18cb0071"
+# Longer messages are not cut and changed.
+MOST = 100
 
 
-def up(name):
-    """The lines by which a member comes up."""
-    return [f"open {name}", f"octets {name} {OPENS[name]}", f"octets {name} {KEEPALIVE}", f"room {name} 1000"]
+def up(name, opening=None):
+    """The lines by which a member comes up, by its own OPEN or by this one."""
+    return [f"open {name}", f"octets {name} {opening or OPENS[name]}", f"octets {name} {KEEPALIVE}", f"room {name} 1000"]
 
 
 def session(folder, name):
@@ -104,14 +96,15 @@ class Sweep:
 
 
 def fronts(program, tests, folder):
-    """Each front of each recorded session, and then the wrong readings of what they were held against."""
-    sweep = Sweep(program, tests)
+    """Each front of each recorded session, and then the wrong readings of what the whole ones were held against."""
+    sweep, whole = Sweep(program, tests), []
     for name, text, lines in sessions(folder):
         for count in range(1, len(lines) + 1):
-            sweep.play(f"fronts of {name}", text, lines[:count])
+            played = sweep.play(f"fronts of {name}", text, lines[:count])
+        whole.append(played)
     yield from sweep.results()
     for reading in READINGS:
-        answers = ask(tests, [list(case(it, reading)) for it in sweep.cases])
+        answers = ask(tests, [list(case(it, reading)) for it in whole])
         found = sum(answer is None or not answer.startswith("same") for answer in answers)
         yield f"the definitions without {reading}: {found} sessions differ", None if found else "no session finds it"
 
@@ -160,11 +153,34 @@ def losses(program, tests, folder):
     yield from sweep.results()
 
 
-def forms(message):
+def split(octets):
+    """The whole messages at the front of these octets, and what is left."""
+    messages = []
+    while len(octets) >= 19 and 19 <= (length := int.from_bytes(octets[16:18])) <= len(octets):
+        messages.append(octets[:length])
+        octets = octets[length:]
+    return messages, octets
+
+
+def corpus(folder):
+    """What a says in the recorded sessions, each message once: the session, whether a spells AS numbers in four octets, and the message."""
+    found = {}
+    for name, _, lines in sessions(folder):
+        rest, is_four = b"", True
+        for word, who, *more in (line.split(" ") for line in lines if line.split(" ")[:2] in (["open", "a"], ["octets", "a"])):
+            messages, rest = split(rest + bytes.fromhex("".join(more))) if word == "octets" else ([], b"")
+            for message in messages:
+                if message[18] == 1:
+                    is_four = bytes.fromhex("4104") in message
+                if message[18] in (1, 2, 4) and len(message) <= MOST:
+                    found.setdefault((is_four, message), name)
+    return [(name, is_four, message) for (is_four, message), name in found.items()]
+
+
+def forms(octets):
     """The lines by which a says a message that is cut, and then is lost, and one in which an octet is changed."""
-    octets = bytes.fromhex(message)
     for at in range(len(octets)):
-        yield [f"octets a {octets[:at].hex()}", "lost a"]
+        yield [f"octets a {octets[: at + 1].hex()}", "lost a"]
         for changed in {0, 255, (octets[at] + 1) % 256} - {octets[at]}:
             yield [f"octets a {(octets[:at] + bytes([changed]) + octets[at + 1 :]).hex()}"]
 
@@ -173,12 +189,15 @@ def cuts(program, tests, folder):
     """Each message of the corpus cut and changed, in OpenSent and in Established."""
     text = (folder.parent / "four_members.toml").read_text()
     sweep = Sweep(program, tests)
-    for name, message in CORPUS.items():
-        for state, before in (("OpenSent", ["open a", "room a 1000"]), ("Established", [*up("a"), f"octets a {FIRST}", "turn", "room b 1000"])):
-            tried = f"{name}, cut and changed, in {state}"
+    # b has a route of its own, which a's end must leave to c.
+    others = [*up("b"), *up("c"), f"octets b {BESIDE}"]
+    for name, is_four, message in corpus(folder):
+        opening, route = (OPENS["a"], FIRST) if is_four else (TWO_OCTETS, OF_TWO_OCTETS)
+        established = [*up("a", opening), f"octets a {route}", "turn", "room b 1000"]
+        for state, before in (("OpenSent", ["open a", "room a 1000"]), ("Established", established)):
+            tried = f"cut and changed in {state}, of {name}"
             for lines in forms(message):
-                # b has a route of its own, which a's end must leave to c.
-                played = sweep.play(tried, text, [*up("b"), *up("c"), f"octets b {BESIDE}", *before, *lines])
+                played = sweep.play(tried, text, [*others, *before, *lines])
                 ended = {line for _, written in played.lines for line in written if line.startswith(("close", "memory"))}
                 if ended - {"close a"}:
                     sweep.wrong[tried].append(f"{sorted(ended)} behind {lines}")

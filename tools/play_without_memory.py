@@ -13,15 +13,14 @@ Another test runs with one request refused, another one in each run. It turns an
 memory was refused to that turn: then it must pass, which it does where nothing but the answer of the last turn has
 changed. Where memory is refused before or behind the turn the test can't go on, and fails without a word of the turn.
 """
-import os
 import pathlib
 import subprocess
 import sys
 import tempfile
 
+from preloading import built, run_test
 from results import end, tell
 
-SHIM = pathlib.Path(__file__).resolve().parent / "refuse_memory.c"
 TEST = "outlet::refused::a_refused_turn_changes_nothing_but_last"
 SAID = b"memory was refused to a turn"
 # The tests of calls that take no memory, and what both of their lines say.
@@ -46,18 +45,11 @@ SECONDS = 120
 LAST = 300
 
 
-def run(program, library, test, refused, mark=MARK, held=False):
-    """Whether the test passed, what it printed, and the requests made (or octets held) by each line and in all, with this one refused."""
-    reader, writer = os.pipe()
-    environment = {**os.environ, "LD_PRELOAD": str(library), "REFUSE": str(refused), "COUNTED": str(writer), "MARK": mark}
-    if held:
-        environment["HELD"] = "1"
-    try:
-        ran = subprocess.run([program, test], env=environment, pass_fds=(writer,), capture_output=True, timeout=SECONDS)
-    finally:
-        os.close(writer)
-    with os.fdopen(reader, "rb") as told:
-        return ran.returncode == 0, ran.stdout + ran.stderr, [int(line) for line in told] or [0]
+def run(program, library, test, refused, **variables):
+    """Whether the test passed, what it printed, and the requests made (with HELD the octets held) by each line and in all."""
+    variables = {"MARK": MARK, **variables}
+    passed, said, told = run_test(program, test, library, "COUNTED", SECONDS, REFUSE=str(refused), **variables)
+    return passed, said, [int(line) for line in told.split()] or [0]
 
 
 def count_requests(program, library):
@@ -77,7 +69,7 @@ def count_requests(program, library):
 
 def count_room(program, library):
     """The result of the test of attributes' room."""
-    passed, _, lines = run(program, library, ROOM, 0, ROOM_MARK, held=True)
+    passed, _, lines = run(program, library, ROOM, 0, MARK=ROOM_MARK, HELD="1")
     wrong = None
     if not passed:
         wrong = "it failed"
@@ -109,15 +101,14 @@ def play_memory(program):
     if not program.exists():
         yield "without memory", f"{program} isn't there"
         return
-    with tempfile.TemporaryDirectory() as folder:
-        library = pathlib.Path(folder) / "refuse_memory.so"
-        made = subprocess.run(["cc", "-O2", "-shared", "-fPIC", "-o", library, SHIM], capture_output=True, text=True)
-        if made.returncode:
-            yield "without memory", f"cc: {made.stderr.strip()}"
-            return
-        yield from count_requests(program, library)
-        yield from count_room(program, library)
-        yield from refuse_requests(program, library)
+    try:
+        with tempfile.TemporaryDirectory() as folder:
+            library = built(folder, "refuse_memory")
+            yield from count_requests(program, library)
+            yield from count_room(program, library)
+            yield from refuse_requests(program, library)
+    except (OSError, subprocess.SubprocessError) as fault:
+        yield "without memory", str(fault)
 
 
 if __name__ == "__main__":

@@ -1,57 +1,75 @@
 #!/usr/bin/env python3
-"""Runs tests of rs_workers where no thread can be started, and says what went otherwise than it must.
+"""Runs tests, and plays recorded sessions, where no thread can be started, and says what went otherwise than it must.
 
-play_without_threads.py TESTS
+play_without_threads.py CRATES FOLDER
 
-TESTS is the crate's built tests. Turns by several workers must give the same outlets, turned on the thread that
-there is; and the test by which two workers must run at once must fail, which shows that there was no second thread.
+CRATES has the crates with their built tests and programs, FOLDER the recorded sessions. Turns by several workers, and what
+drives them, replays them and serves by them, must do the same on the thread that there is; and the tests by which two
+workers must run at once must fail, which shows that there was no second thread. Each recorded session must be played by 2 and by
+16 workers as by one.
 """
-import os
 import pathlib
 import subprocess
 import sys
 import tempfile
 
+from holding import play
+from play_sweeps import sessions
+from preloading import built, preloaded, run_test
 from results import end, tell
 
-SHIM = pathlib.Path(__file__).resolve().parent / "no_threads.c"
 SECONDS = 120
-# Each test, and whether it passes without threads.
-TESTS = (("tests::any_number_of_workers_gives_the_same", True), ("tests::both_shares_run", False))
+# Each test by its crate, and whether it passes without threads.
+TESTS = (
+    ("rs_workers", "tests::any_number_of_workers_gives_the_same", True),
+    ("rs_workers", "tests::both_shares_run", False),
+    ("rs_tests", "route_server::turns::many_workers_turn", True),
+    ("rs_tests", "route_server::turns::both_shares_run", False),
+    ("rs_tests", "route_server::driving::many_workers_drive_a_link", True),
+    ("rs_program_tests", "live::rounds::a_route_goes_by_many_workers", True),
+)
 
 
-def run_alone(program, library, test):
-    """Whether the test passed, and how many threads were refused meanwhile."""
-    reader, writer = os.pipe()
-    environment = {**os.environ, "LD_PRELOAD": str(library), "REFUSED": str(writer)}
-    try:
-        ran = subprocess.run([program, test], env=environment, pass_fds=(writer,), capture_output=True, timeout=SECONDS)
-    finally:
-        os.close(writer)
-    with os.fdopen(reader, "rb") as told:
-        return ran.returncode == 0, len(told.read())
-
-
-def play_alone(program):
+def play_tests(library, crates):
     """The result of each test, by its name."""
-    if not program.exists():
-        yield "without threads", f"{program} isn't there"
-        return
-    with tempfile.TemporaryDirectory() as folder:
-        library = pathlib.Path(folder) / "no_threads.so"
-        made = subprocess.run(["cc", "-O2", "-shared", "-fPIC", "-o", library, SHIM], capture_output=True, text=True)
-        if made.returncode:
-            yield "without threads", f"cc: {made.stderr.strip()}"
-            return
-        for test, wanted in TESTS:
-            passed, refused = run_alone(program, library, test)
-            wrong = None
-            if not refused:
+    for crate, test, wanted in TESTS:
+        program, wrong = crates / crate / f"out/{crate}_tests", None
+        if not program.exists():
+            yield f"without threads, {test}", f"{program} isn't there"
+            continue
+        passed, _, refused = run_test(program, test, library, "REFUSED", SECONDS)
+        if not refused:
+            wrong = "no thread was asked for"
+        elif passed != wanted:
+            wrong = "passed" if passed else "failed"
+        yield f"without threads, {crate} {test}", wrong
+
+
+def play_recorded(library, program, folder):
+    """The result of each recorded session, by its name and the number of workers."""
+    for name, text, lines in sessions(folder):
+        wanted = play(program, text, lines)
+        for workers in (2, 16):
+            run = lambda environment, descriptors: play(program, text, lines, workers, environment, descriptors)
+            found, refused = preloaded(library, "REFUSED", run)
+            wrong = None if found == wanted else "what is written is another"
+            if "turn" in lines and not refused:
                 wrong = "no thread was asked for"
-            elif passed != wanted:
-                wrong = "passed" if passed else "failed"
-            yield f"without threads, {test}", wrong
+            yield f"without threads, {name} by {workers} workers", wrong
+
+
+def play_alone(crates, folder):
+    """The results of all."""
+    try:
+        with tempfile.TemporaryDirectory() as room:
+            library = built(room, "no_threads")
+            yield from play_tests(library, crates)
+            yield from play_recorded(library, crates / "rs_replay/out/rs_replay", folder)
+    except (OSError, subprocess.SubprocessError) as fault:
+        yield "without threads", str(fault)
 
 
 if __name__ == "__main__":
-    end(*tell(play_alone(pathlib.Path(sys.argv[1]))))
+    if len(sys.argv) != 3:
+        sys.exit(__doc__)
+    end(*tell(play_alone(*(pathlib.Path(it).resolve() for it in sys.argv[1:]))))

@@ -42,6 +42,12 @@ pub const KEEPALIVE: &[u8] =
 /// 198.51.100.0/24 with ORIGIN IGP, AS_PATH 64496 and NEXT_HOP 192.0.2.11.
 pub const UPDATE: &[u8] =
     b"\xff\xff\xff\xff\xff\xff\xff\xff\xff\xff\xff\xff\xff\xff\xff\xff\x00\x2f\x02\x00\x00\x00\x14\x40\x01\x01\x00\x40\x02\x06\x02\x01\x00\x00\xfb\xf0\x40\x03\x04\xc0\x00\x02\x0b\x18\xc6\x33\x64";
+/// 203.0.113.0/24 of AS 64497, with NEXT_HOP 192.0.2.12; and the same withdrawn.
+const UPDATE_B: &[u8] =
+    b"\xff\xff\xff\xff\xff\xff\xff\xff\xff\xff\xff\xff\xff\xff\xff\xff\x00\x2f\x02\x00\x00\x00\x14\x40\x01\x01\x00\x40\x02\x06\x02\x01\x00\x00\xfb\xf1\x40\x03\x04\xc0\x00\x02\x0c\x18\xcb\x00\x71";
+
+const WITHDRAWAL_B: &[u8] =
+    b"\xff\xff\xff\xff\xff\xff\xff\xff\xff\xff\xff\xff\xff\xff\xff\xff\x00\x1b\x02\x00\x04\x18\xcb\x00\x71\x00\x00";
 /// 198.51.100.0/24 withdrawn.
 pub const WITHDRAWAL: &[u8] =
     b"\xff\xff\xff\xff\xff\xff\xff\xff\xff\xff\xff\xff\xff\xff\xff\xff\x00\x1b\x02\x00\x04\x18\xc6\x33\x64\x00\x00";
@@ -169,7 +175,23 @@ fn is_lost(rt: &impl Abort, ports: &Script, key: usize) {
     assert!(rt; !wire.is_open, "connection {key}");
 }
 
-/// The server ends as it is to behind a call that failed.
+/// Behind a loss of the one that announced it, the other member was sent nothing of a route, or that it is withdrawn too.
+fn holds_nothing(rt: &impl Abort, ports: &Script, key: usize, update: &[u8], withdrawal: &[u8]) {
+    let told = ports.heard(key).get(COMING_UP..).expect(rt, "a session");
+    let is_withdrawn = told.strip_prefix(update) == Some(withdrawal);
+    assert!(rt; told.is_empty() || is_withdrawn, "connection {key}");
+}
+
+/// The other member holds what is due to it behind the loss of this connection.
+fn other_holds_what_is_due(rt: &impl Abort, ports: &Script, lost: usize) {
+    if lost == 0 {
+        holds_nothing(rt, ports, 1, UPDATE, WITHDRAWAL);
+    } else {
+        holds_nothing(rt, ports, 0, UPDATE_B, WITHDRAWAL_B);
+    }
+}
+
+/// The server ends as it is to behind a call that failed, and the other member holds what is due to it.
 fn ends_by(rt: &impl Abort, ports: &Script, broken: Broken, ended: Result<(), ServeFault>) {
     match broken {
         Broken::Wait => assert_eq!(rt; ended, Err(ServeFault::Poll)),
@@ -177,18 +199,35 @@ fn ends_by(rt: &impl Abort, ports: &Script, broken: Broken, ended: Result<(), Se
         Broken::Read(key) | Broken::Write(key) => {
             assert_eq!(rt; ended, Ok(()));
             is_lost(rt, ports, key);
+            if ports.is_early {
+                other_holds_what_is_due(rt, ports, key);
+            }
         }
     }
 }
 
-/// The exchange with a second connection of a, of which this call fails; whether there were so many.
+/// Both members announce a route and stay until a round in which all close, and a connects a second time; this call fails.
+fn both_announce(rt: &impl Abort, alloc: Global, failing: u64) -> Script {
+    let mut ports = Script::new(alloc, failing);
+    let [open, keepalive] = comes_up(OPEN_A);
+    ports.wire(rt, 0, A, &[open, keepalive, behind(UPDATE)], usize::MAX);
+    let [open, keepalive] = comes_up(OPEN_B);
+    ports.wire(rt, 1, B, &[open, keepalive, behind(UPDATE_B)], usize::MAX);
+    ports.wire(rt, 0, A, &comes_up(OPEN_A), usize::MAX);
+    ports.end = 20;
+    ports
+}
+
+/// Of this exchange a call fails; whether there were so many.
 fn breaks<R: Abort + Threads + Wait + Sync>(rt: &R, alloc: Global, failing: u64) -> bool {
-    let mut ports = exchange(rt, alloc, failing);
-    ports.wire(rt, 0, A, &comes_up(OPEN_A), COMING_UP);
-    ports.end = 40;
+    let mut ports = both_announce(rt, alloc, failing);
     let ended = ended(rt, alloc, &mut ports, until(2));
     match ports.broken {
-        None => assert_eq!(rt; ended, Ok(())),
+        None => {
+            assert_eq!(rt; ended, Ok(()));
+            sent(rt, ports.heard(0).get(COMING_UP..), UPDATE_B);
+            sent(rt, ports.heard(1).get(COMING_UP..), UPDATE);
+        }
         Some(broken) => ends_by(rt, &ports, broken, ended),
     }
     ports.broken.is_some()
@@ -203,6 +242,27 @@ fn each_call_that_fails_ends_one_session_or_the_server(rt: HostRuntime) {
         }
     }
     assert!(rt; false, "the run goes on for ever");
+}
+
+/// The exchange with turns by so many workers.
+fn goes_by<R: Abort + Threads + Wait + Sync>(rt: &R, alloc: Global, workers: usize) {
+    let mut ports = exchange(rt, alloc, 0);
+    let limits = Limits {
+        workers,
+        sessions: Some(2),
+        reload: None,
+    };
+    served(rt, alloc, &mut ports, limits);
+    sent(rt, ports.heard(0).get(..37), OPEN_S);
+    sent(rt, ports.heard(0).get(COMING_UP..), &[]);
+    sent(rt, ports.heard(1).get(COMING_UP..), UPDATE);
+    ports.let_go();
+}
+
+#[test]
+fn a_route_goes_by_many_workers(rt: HostRuntime) {
+    goes_by(&rt, rt.alloc(), 2);
+    goes_by(&rt, rt.alloc(), 16);
 }
 
 /// a says this once it has come up, and stays for 30 seconds; the server's part.

@@ -63,6 +63,8 @@ pub struct Script {
     calls: u64,
     failing: u64,
     pub broken: Option<Broken>,
+    /// It failed while members may still be sent something, and not in the round in which all close.
+    pub is_early: bool,
     /// In this round all members close.
     pub end: u64,
     /// How many seconds pass in each round, and how many more before this one.
@@ -88,6 +90,7 @@ impl Script {
             calls: 0,
             failing,
             broken: None,
+            is_early: false,
             end: u64::MAX,
             pace: 0,
             stall: None,
@@ -176,6 +179,7 @@ impl Script {
         let fails = self.calls == self.failing;
         if fails {
             self.broken = Some(call);
+            self.is_early = self.rounds < self.end;
         }
         fails
     }

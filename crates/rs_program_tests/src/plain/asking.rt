@@ -5,6 +5,8 @@
 //!     server AS PASSES EXTENDED REFRESH      the first line
 //!     without SENTENCE                       the definitions are read without this one
 //!     client AS ADDRESS                      a client, in the order of the configuration
+//!     prefix_in BITS LENGTH MIN MAX ..       the list of prefixes of the next rule
+//!     origin_in FIRST LAST ..                its list of AS numbers
 //!     import PASSES PREFERENCE BITS LENGTH MIN MAX FROM PATH_HAS ORIGIN_AS COMMUNITY NEXT_HOP_IS_PEER STRIPS_ALL STRIP..
 //!     export ..                              a rule of the client above
 //!     heard HEX                              what came from it since its connection came
@@ -14,7 +16,7 @@
 use crate::plain::choice::due;
 use crate::plain::meaning::{Meaning, Reader, read_octets};
 use crate::plain::passing::is_passed_on;
-use crate::plain::rules::{Range, Rule};
+use crate::plain::rules::{Numbers, Range, Rule};
 use crate::plain::{Client, Exchange, Filter, Route, Sentence, Session, route_at};
 use rs_attrs::Mode;
 use rs_octets::Prefix;
@@ -35,6 +37,8 @@ struct Case {
     alloc: Global,
     exchange: Exchange,
     links: Vec<Link>,
+    prefix_in: Option<Vec<Range>>,
+    origin_in: Option<Vec<Numbers>>,
     extended: bool,
     refresh: bool,
     without: Option<Sentence>,
@@ -84,35 +88,47 @@ fn sentence(name: &str) -> Option<Sentence> {
     None
 }
 
-/// The range of a rule, where its four words are there.
+/// The range that four words say.
 fn range(words: &[&str]) -> Option<Range> {
-    let len = u8::try_from(number(words, 4)?).ok()?;
+    let len = u8::try_from(number(words, 1)?).ok()?;
     Some(Range {
-        prefix: Prefix::new(number(words, 3)?, len)?,
-        min: number(words, 5)?,
-        max: number(words, 6)?,
+        prefix: Prefix::new(number(words, 0)?, len)?,
+        min: number(words, 2)?,
+        max: number(words, 3)?,
     })
 }
 
-fn rule(alloc: Global, words: &[&str]) -> Result<Rule, AllocError> {
-    let mut strips = Vec::new(alloc);
-    for at in 13..words.len() {
-        if let Some(community) = number(words, at) {
-            strips.push(community)?;
+/// The ranges behind the first word.
+fn ranges(alloc: Global, words: &[&str]) -> Result<Vec<Range>, AllocError> {
+    let mut found = Vec::new(alloc);
+    for four in words.get(1..).unwrap_or(&[]).chunks_exact(4) {
+        if let Some(range) = range(four) {
+            found.push(range)?;
         }
     }
-    Ok(Rule {
-        range: range(words),
-        from: number(words, 7).map(|it| it as usize),
-        path_has: number(words, 8),
-        origin_as: number(words, 9),
-        community: number(words, 10),
-        next_hop_is_peer: yes(words, 11),
-        passes: yes(words, 1) == Some(true),
-        preference: number(words, 2),
-        strips_all: yes(words, 12) == Some(true),
-        strips,
-    })
+    Ok(found)
+}
+
+/// The AS numbers behind the first word.
+fn numbers(alloc: Global, words: &[&str]) -> Result<Vec<Numbers>, AllocError> {
+    let mut found = Vec::new(alloc);
+    for two in words.get(1..).unwrap_or(&[]).chunks_exact(2) {
+        if let (Some(first), Some(last)) = (number(two, 0), number(two, 1)) {
+            found.push(Numbers { first, last })?;
+        }
+    }
+    Ok(found)
+}
+
+/// The communities that a rule takes away, one for each word behind the others.
+fn strips(alloc: Global, words: &[&str]) -> Result<Vec<u32>, AllocError> {
+    let mut found = Vec::new(alloc);
+    for at in 13..words.len() {
+        if let Some(community) = number(words, at) {
+            found.push(community)?;
+        }
+    }
+    Ok(found)
 }
 
 /// The octets of a word of hexadecimal digits; none where it isn't there.
@@ -133,6 +149,8 @@ impl Case {
                 clients: Vec::new(alloc),
             },
             links: Vec::new(alloc),
+            prefix_in: None,
+            origin_in: None,
             extended: false,
             refresh: false,
             without: None,
@@ -164,7 +182,20 @@ impl Case {
     }
 
     fn rule(&mut self, words: &[&str], is_import: bool) -> Result<(), AllocError> {
-        let rule = rule(self.alloc, words)?;
+        let rule = Rule {
+            range: words.get(3..).and_then(range),
+            prefix_in: self.prefix_in.take(),
+            from: number(words, 7).map(|it| it as usize),
+            path_has: number(words, 8),
+            origin_as: number(words, 9),
+            origin_in: self.origin_in.take(),
+            community: number(words, 10),
+            next_hop_is_peer: yes(words, 11),
+            passes: yes(words, 1) == Some(true),
+            preference: number(words, 2),
+            strips_all: yes(words, 12) == Some(true),
+            strips: strips(self.alloc, words)?,
+        };
         if let Some(client) = self.exchange.clients.last_mut() {
             let list = if is_import {
                 &mut client.import
@@ -193,6 +224,8 @@ impl Case {
             "server" => self.server(words),
             "without" => self.without = sentence(words.get(1).copied().unwrap_or("")),
             "client" => self.client(words)?,
+            "prefix_in" => self.prefix_in = Some(ranges(self.alloc, words)?),
+            "origin_in" => self.origin_in = Some(numbers(self.alloc, words)?),
             "import" => self.rule(words, true)?,
             "export" => self.rule(words, false)?,
             "heard" => self.link(words, true),

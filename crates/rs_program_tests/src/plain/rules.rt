@@ -11,13 +11,22 @@ pub(super) struct Range {
     pub(super) max: u32,
 }
 
+/// AS numbers from one to another.
+#[derive(Clone, Copy)]
+pub(super) struct Numbers {
+    pub(super) first: u32,
+    pub(super) last: u32,
+}
+
 /// A rule: what a route must be for it to match, None where it asks nothing of it, and what it does with the route.
 #[derive(Drop)]
 pub(super) struct Rule {
     pub(super) range: Option<Range>,
+    pub(super) prefix_in: Option<Vec<Range>>,
     pub(super) from: Option<usize>,
     pub(super) path_has: Option<u32>,
     pub(super) origin_as: Option<u32>,
+    pub(super) origin_in: Option<Vec<Numbers>>,
     pub(super) community: Option<u32>,
     pub(super) next_hop_is_peer: Option<bool>,
     pub(super) passes: bool,
@@ -34,11 +43,31 @@ fn is_in(range: &Range, prefix: &Prefix) -> bool {
     is_below && front == Some(range.prefix) && range.min <= len && len <= range.max
 }
 
+/// The rule names no list of prefixes, or the prefix is in it.
+fn is_in_list(rule: &Rule, prefix: &Prefix) -> bool {
+    match &rule.prefix_in {
+        Some(list) => list.iter().any(|range| is_in(range, prefix)),
+        None => true,
+    }
+}
+
+/// The rule names no list of AS numbers, or the origin is in it.
+fn has_origin_in_list(rule: &Rule, origin: Option<u32>) -> bool {
+    match (&rule.origin_in, origin) {
+        (Some(list), Some(number)) => list.iter().any(|numbers| numbers.first <= number
+            && number <= numbers.last),
+        (Some(_), None) => false,
+        (None, _) => true,
+    }
+}
+
 /// All that the rule asks of a route holds, which came from the client of this place and address.
 fn matches(rule: &Rule, from: usize, address: u32, route: &Route) -> bool {
     let attrs = &route.attrs;
     let is_peer = attrs.next_hop() == Some(address);
     rule.range.is_none_or(|range| is_in(&range, &route.prefix))
+        && is_in_list(rule, &route.prefix)
+        && has_origin_in_list(rule, attrs.origin_as())
         && rule.from.is_none_or(|place| place == from)
         && rule.path_has.is_none_or(|number| attrs.path_has(number))
         && rule

@@ -79,15 +79,39 @@ impl TextOut for FailingOut {
     }
 }
 
-/// Two clients, one after the other, and a line with a fault.
-const TRACE: &[u8] = b"open a\nroom a 40\nopen b\nroom b 40\n\n# end\nopen a\nturns\nturn\n";
+/// Two members come up, a's route goes to b, and a line with a fault.
+const TRACE: &[u8] = b"open a
+octets a ffffffffffffffffffffffffffffffff00250104fbf0005ac000020b08020641040000fbf0
+octets a ffffffffffffffffffffffffffffffff001304
+room a 1000
+open b
+octets b ffffffffffffffffffffffffffffffff00250104fbf1005ac000020c08020641040000fbf1
+octets b ffffffffffffffffffffffffffffffff001304
+room b 1000
+octets a ffffffffffffffffffffffffffffffff002f02000000144001010040020602010000fbf0400304c000020b18c63364
+turn
+room b 5000
+
+# end
+open a
+turns
+turn
+";
 
 const WRITTEN: &[u8] =
     b"sent a ffffffffffffffffffffffffffffffff00250104fbf4005ac000020108020641040000fbf4
+sent a ffffffffffffffffffffffffffffffff001304
 sent b ffffffffffffffffffffffffffffffff00250104fbf4005ac000020108020641040000fbf4
+sent b ffffffffffffffffffffffffffffffff001304
+sent b ffffffffffffffffffffffffffffffff002f02000000144001010040020602010000fbf0400304c000020b18c63364
 busy a
-line 8: unknown word
+line 15: unknown word
 ";
+
+/// So many readings of seven octets take the text up to its fault, and so many writings of five what is written.
+const READINGS: u64 = 64;
+
+const WRITINGS: u64 = 82;
 
 fn members(alloc: Global) -> Result<Config, Fail> {
     Ok(Config::read(alloc, MEMBERS)?)
@@ -98,7 +122,7 @@ fn each_call_failing(rt: HostRuntime) -> Result<(), Fail> {
     let alloc = rt.alloc();
     let mut reading_failed = 0u64;
     let mut writing_failed = 0u64;
-    for good_calls in 0..60u64 {
+    for good_calls in 0..100u64 {
         let mut reader = FailingIn {
             text: TRACE,
             good_calls,
@@ -106,7 +130,7 @@ fn each_call_failing(rt: HostRuntime) -> Result<(), Fail> {
         };
         let mut writer = FailingOut {
             text: Vec::new(alloc),
-            good_calls: 60,
+            good_calls: 100,
             failures: 0,
         };
         let played = replay(
@@ -150,9 +174,8 @@ fn each_call_failing(rt: HostRuntime) -> Result<(), Fail> {
             assert_eq!(rt; writer.text.as_slice(), WRITTEN, "{good_calls}");
         }
     }
-    // The text up to its fault takes eight readings of seven octets, and the output 41 writings.
-    assert_eq!(rt; reading_failed, 8);
-    assert_eq!(rt; writing_failed, 41);
+    assert_eq!(rt; reading_failed, READINGS);
+    assert_eq!(rt; writing_failed, WRITINGS);
     Ok(())
 }
 
@@ -160,7 +183,7 @@ fn each_call_failing(rt: HostRuntime) -> Result<(), Fail> {
 fn counts_that_are_full(rt: HostRuntime) -> Result<(), Fail> {
     let mut reader = FailingIn {
         text: TRACE,
-        good_calls: 60,
+        good_calls: 100,
         failures: u64::MAX,
     };
     let mut written = Vec::new(rt.alloc());

@@ -6,6 +6,7 @@ use crate::route_server::exchange::{
 use crate::route_server::link::{Said, Tape};
 use crate::route_server::turns::Both;
 use rs_core::{Core, Event, drive, drive_with};
+use rs_workers::{Free, Gate};
 use std::alloc::Global;
 use std::process::Abort;
 use std::sync::Wait;
@@ -56,9 +57,15 @@ impl Driven {
         drive(rt, &mut self.core, &mut self.link);
     }
 
-    /// The same, with turns by two workers.
-    fn play_with<R: Threads + Wait + Sync>(&mut self, rt: &R, gate: &Both) {
-        drive_with(rt, 2, gate, &mut self.core, &mut self.link);
+    /// The same, with turns by so many workers.
+    fn play_with<R: Threads + Wait + Sync + Abort, G: Gate>(
+        &mut self,
+        rt: &R,
+        workers: usize,
+        gate: &G,
+    ) {
+        assert!(rt; 0 < workers && workers <= 16);
+        drive_with(rt, workers, gate, &mut self.core, &mut self.link);
     }
 
     /// Nothing is owed to a client.
@@ -188,16 +195,32 @@ fn a_link_is_told_of_ends_and_rules(rt: HostRuntime) {
     driven.let_go();
 }
 
-#[test]
-fn both_shares_run_by_a_link(rt: HostRuntime) {
-    let mut link = with_a_route(&rt, rt.alloc());
-    link.room(&rt, B, 5_000);
-    let gate = Both::new();
-    let mut driven = Driven::new(&rt, rt.alloc(), link);
-    driven.play_with(&rt, &gate);
-    assert!(rt; !gate.has_failed());
+/// a's route goes over a link to b with turns by so many workers.
+fn goes_by<R: Threads + Wait + Sync + Abort, G: Gate>(
+    rt: &R,
+    alloc: Global,
+    workers: usize,
+    gate: &G,
+) {
+    let mut link = with_a_route(rt, alloc);
+    link.room(rt, B, 5_000);
+    let mut driven = Driven::new(rt, alloc, link);
+    driven.play_with(rt, workers, gate);
     driven
         .link
-        .was_sent(&rt, B, &[OPEN_SERVER, KEEPALIVE, ROUTE]);
+        .was_sent(rt, B, &[OPEN_SERVER, KEEPALIVE, ROUTE]);
     driven.let_go();
+}
+
+#[test]
+fn both_shares_run_by_a_link(rt: HostRuntime) {
+    let gate = Both::new();
+    goes_by(&rt, rt.alloc(), 2, &gate);
+    assert!(rt; !gate.has_failed());
+}
+
+#[test]
+fn many_workers_drive_a_link(rt: HostRuntime) {
+    goes_by(&rt, rt.alloc(), 2, &Free);
+    goes_by(&rt, rt.alloc(), 16, &Free);
 }
