@@ -73,8 +73,8 @@ def play(program, text, lines, workers=1, environment=None, descriptors=()):
 
 
 def links(played):
-    """The configuration that held last, and what passed on each link that is connected."""
-    config, found = played.config, {}
+    """The configuration that held last, what passed on each link that is connected, and on each that the server closed."""
+    config, found, closed = played.config, {}, {}
     for line, written in played.lines:
         word, *words = line.split(" ")
         if word == "open" and f"busy {words[0]}" not in written:
@@ -89,9 +89,9 @@ def links(played):
             what, name, *octets = it.split(" ")
             if what == "sent" and name in found:
                 found[name].sent += bytes.fromhex(octets[0])
-            elif what == "close":
-                found.pop(name, None)
-    return config, found
+            elif what == "close" and name in found:
+                closed[name] = found.pop(name)
+    return config, found, {name: link for name, link in closed.items() if name not in found}
 
 
 def number(value):
@@ -147,9 +147,9 @@ def rule(config, it):
     return " ".join(words + ([] if strip == "all" else [number(community(one)) for one in strip]))
 
 
-def case(played, without=None):
-    """The lines of a case for the plain function, read without a sentence or with all."""
-    config, found = links(played)
+def case(played, without=None, is_closed_for_faults=False):
+    """The lines of a case for the plain function, read without a sentence or with all; links are closed for faults alone, or not."""
+    config, found, closed = links(played)
     flags = config.get("default", "pass") == "pass", config.get("extended", False), config.get("refresh", False)
     yield " ".join(["server", number(config["as"]), *map(number, flags)])
     if without:
@@ -163,6 +163,9 @@ def case(played, without=None):
         if link := found.get(client["name"]):
             yield f"heard {link.heard.hex()}"
             yield f"sent {link.sent.hex()}"
+        elif is_closed_for_faults and (link := closed.get(client["name"])):
+            yield f"heard {link.heard.hex()}"
+            yield "closed"
     yield "end"
 
 
@@ -170,5 +173,5 @@ def ask(tests, cases):
     """What the plain function answers to each case: its own line, or None where it didn't answer."""
     text = "\n".join("\n".join(it) for it in cases)
     run = subprocess.run([tests, TEST], input=text.encode(), capture_output=True, timeout=600)
-    answers = [it for it in run.stdout.decode().splitlines() if it.split(" ")[0] in ("same", "differs", "unreadable")]
+    answers = [it for it in run.stdout.decode().splitlines() if it.split(" ")[0] in ("same", "closed", "differs", "unreadable")]
     return answers + [None] * (len(cases) - len(answers))

@@ -11,7 +11,7 @@ TESTS is the built tests of rs_program_tests, whose plain function says what eac
 - A loss of the connection behind so many octets of an UPDATE that were taken, or heard, each number that there is.
 - What member a says in the recorded sessions, each OPEN, KEEPALIVE and UPDATE of no more than 100 octets, cut behind each
   octet and then lost, and with each octet as 00, as ff and one greater, while its session is in OpenSent and in
-  Established: no session but a's ends.
+  Established: no session but a's ends, and a's only where what it said is at fault.
 """
 import collections
 import itertools
@@ -66,10 +66,11 @@ def sessions(folder):
 
 
 class Sweep:
-    """Sessions that are played, and what the plain function says of each once all are."""
+    """Sessions that are played, in which links are closed for faults alone or not, and what the plain function says of each."""
 
-    def __init__(self, program, tests):
+    def __init__(self, program, tests, is_closed_for_faults=False):
         self.program, self.tests, self.names, self.cases = program, tests, [], []
+        self.is_closed_for_faults = is_closed_for_faults
         self.wrong = collections.defaultdict(list)
 
     def play(self, name, text, lines, workers=1):
@@ -83,7 +84,7 @@ class Sweep:
 
     def results(self):
         """What is wrong with the sessions of each name, or None."""
-        answers = ask(self.tests, [list(case(it)) for it in self.cases])
+        answers = ask(self.tests, [list(case(it, None, self.is_closed_for_faults)) for it in self.cases])
         held = collections.Counter()
         for name, answer, played in zip(self.names, answers, self.cases):
             if answer is None or not answer.startswith("same"):
@@ -188,7 +189,7 @@ def forms(octets):
 def cuts(program, tests, folder):
     """Each message of the corpus cut and changed, in OpenSent and in Established."""
     text = (folder.parent / "four_members.toml").read_text()
-    sweep = Sweep(program, tests)
+    sweep = Sweep(program, tests, is_closed_for_faults=True)
     # b has a route of its own, which a's end must leave to c.
     others = [*up("b"), *up("c"), f"octets b {BESIDE}"]
     for name, is_four, message in corpus(folder):

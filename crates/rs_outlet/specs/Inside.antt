@@ -158,6 +158,12 @@ IsBacked rows p (due.Announced number hash) = IsRowOf rows number p hash
 abbrev pub AreBacked : List (Option Row) → List Wait → Type 0
 AreBacked rows ws = (q : Prefix) (w : Wait) → open_at q ws ≡ Some w → IsBacked rows w.prefix w.due
 
+-- between a slot and the one that it leads to, none that waits has the attributes that are due at it
+abbrev pub AreChained : List (Option Row) → List Wait → List ℕ → Type 0
+AreChained rows ws chains =
+    (n m chain : ℕ) (w z : Wait) (a : List Attribute) → slice_get chains n ≡ Some chain → slice_get ws n ≡ Some w → slice_get ws m ≡ Some z
+    → n < m → m < chain → z.open ≡ true → shown (row_by rows w.due) ≡ Some a → shown (row_by rows z.due) ≢ Some a
+
 -- a message to the client has room for these attributes beside this prefix
 abbrev pub FitsAlone : Speech → Prefix → List Attribute → Type 0
 FitsAlone speech p m = length (announcement m speech.mode (p ∷ [])) ≤ limit_octets speech.limit
@@ -201,4 +207,5 @@ pub record IsKept (a : Inside) : Type 0 where
   pub slots : a.rows.used + withdrawn_count a.waits.slots.items ≤ vec_capacity a.waits.slots
   pub extended : (speech : Speech) → a.speech ≡ Some speech → speech.limit ≡ limits.Long → a.extended ≡ true
   pub backed : AreBacked a.rows.rows.items a.waits.slots.items
+  pub chained : AreChained a.rows.rows.items a.waits.slots.items a.waits.chains.items
   pub fit : (speech : Speech) → a.speech ≡ Some speech → RowsFit speech a.rows.rows.items

@@ -146,6 +146,7 @@ pub(crate) fn make_room(
     ensures loc { loc_of rows.new.rows.items ≡ loc_of rows.old.rows.items }
     ensures numbers { numbers_from 0 rows.new.rows.items ≡ numbers_from 0 rows.old.rows.items }
     ensures waits { waits.new.slots.items ≡ waits.old.slots.items }
+    ensures chains { waits.new.chains.items ≡ waits.old.chains.items }
     ensures room { OnOk result (numbers ≤ vec_len rows.new.rows) }
     ensures none { IfOk result (λ fresh. fresh.items ≡ []) }
     ensures fresh { IfOk result (λ fresh. changes ≤ vec_capacity fresh) }
@@ -179,6 +180,7 @@ pub(crate) fn commit(rows: &mut Rows, waits: &mut Waits, changes: Vec<Change>, m
     ensures all { rows.new.used + withdrawn_count waits.new.slots.items ≤ vec_capacity waits.new.slots }
     ensures loc { (ins : AdjIns) (due : Prefix → Option (List Attribute)) → ArePlaced changes.items ins → AreDue due changes.items → HaveNumbers (numbers_from 0 rows.old.rows.items) ins → (q : Prefix) → fin.get (loc_of rows.new.rows.items) q ≡ (if is_changed changes.items q then due q else fin.get (loc_of rows.old.rows.items) q) }
     ensures numbered { (ins : AdjIns) → ArePlaced changes.items ins → HaveNumbers (numbers_from 0 rows.old.rows.items) ins → HaveNumbers (numbers_from 0 rows.new.rows.items) ins }
+    ensures chains { waits.new.chains.items ≡ [] }
     ensures backed { AreBacked rows.old.rows.items waits.old.slots.items → AreBacked rows.new.rows.items waits.new.slots.items }
     ensures fit { (speech : Speech) → ChangesFit speech changes.items → RowsFit speech rows.old.rows.items → RowsFit speech rows.new.rows.items }
     ensures keeps { (ins : AdjIns) → ArePlaced changes.items ins → HaveNumbers (numbers_from 0 rows.old.rows.items) ins → (q : Prefix) → Keeps (open_at q waits.old.slots.items) (fin.get (loc_of rows.old.rows.items) q) (open_at q waits.new.slots.items) (fin.get (loc_of rows.new.rows.items) q) }

@@ -11,8 +11,8 @@
 //!   due at one prefix; `changes` puts that into `rows`, the Loc-RIB by number, which keeps them in a
 //!   `table`, and into `waiting`, what is to be sent: slots in two `parts`, of which `merging` makes
 //!   one. `marking` makes all that was told wait again.
-//! - `choosing` says which slots the next UPDATE is about, going along the `chains` of slots that may
-//!   share one; `sending` and `fill` begin the next message.
+//! - `choosing` says which slots the next UPDATE is about, going along the `chains` of slots with the
+//!   same attributes; `sending` and `fill` begin the next message.
 //! - `routes` shows the Loc-RIB; `laws` are contracts of functions that do nothing.
 #![tactic(auto)]
 

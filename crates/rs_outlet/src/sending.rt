@@ -10,7 +10,7 @@ ghost use Rattle.rs_outlet.specs.Message.Next.{note_octets};
 ghost use Rattle.rs_outlet.specs.Message.Begins.{BeginsUpdate};
 ghost use Rattle.rs_outlet.specs.Views.{WaitsAreExact};
 ghost use Rattle.rs_outlet.specs.Pending.Choosing.{HaveRoom, MayUpdate, NoneWithdrawn, WaitsFor};
-ghost use Rattle.rs_outlet.specs.Inside.{AreBacked, RowsFit};
+ghost use Rattle.rs_outlet.specs.Inside.{AreBacked, AreChained, RowsFit};
 ghost use Rattle.rs_outlet.specs.declared.answers.Speech.{Speech};
 ghost use Rattle.rs_outlet.specs.declared.rows.Row.{Row};
 ghost use Rattle.std.specs.List.{AllWithin, HoldsAt};
@@ -165,6 +165,7 @@ fn put_news(
     requires some { (first < vec_len waits.now.slots) × HoldsAt (WaitsFor rows.now.rows.items attrs.now) waits.now.slots.items first }
     requires before { AllWithin (λ w. is_announced w ≡ false) waits.now.slots.items 0 first }
     requires backed { AreBacked rows.now.rows.items waits.now.slots.items }
+    requires chained { AreChained rows.now.rows.items waits.now.slots.items waits.now.chains.items }
     requires fit { RowsFit speech rows.now.rows.items }
     requires empty { HaveRoom chosen.old front.old }
     requires batch { (limit_octets speech.limit ≤ 23 + vec_capacity chosen.old) × (limit_octets speech.limit ≤ 23 + vec_capacity front.old) }
@@ -193,6 +194,7 @@ fn put_update(
 ) -> Packed
     requires room { limit_octets speech.limit ≤ vec_len out.old }
     requires backed { AreBacked rows.now.rows.items waits.old.slots.items }
+    requires chained { AreChained rows.now.rows.items waits.old.slots.items waits.old.chains.items }
     requires fit { RowsFit speech rows.now.rows.items }
     requires empty { HaveRoom chosen.old front.old }
     requires batch { (limit_octets speech.limit ≤ 23 + vec_capacity chosen.old) × (limit_octets speech.limit ≤ 23 + vec_capacity front.old) }
@@ -202,6 +204,7 @@ fn put_update(
     ensures chosen { vec_capacity chosen.new ≡ vec_capacity chosen.old }
     ensures front { vec_capacity front.new ≡ vec_capacity front.old }
     ensures slots { waits.new.slots.items ≡ waits.old.slots.items }
+    ensures chains { waits.new.chains.items ≡ waits.old.chains.items }
     ensures capacity { vec_capacity waits.new.slots ≡ vec_capacity waits.old.slots }
     ensures update { MayUpdate speech rows.now.rows.items waits.old.slots.items chosen.new.items front.new.items out.new.items result }
 {
@@ -261,7 +264,7 @@ impl Outlet {
     {
         self.front.clear();
         self.chosen.clear();
-        self.waits.prepare();
+        self.waits.prepare(&self.rows);
         let packed = put_update(
             &self.rows,
             &mut self.waits,

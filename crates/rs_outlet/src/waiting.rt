@@ -3,10 +3,10 @@
 //! does not go over all that waits for a client that takes nothing.
 //!
 //! Before a message begins, one part is made of both, and each slot that is to be announced is chained
-//! to the next one whose hash falls into the same bucket (`chains`). A message is read off along such a
-//! chain, which leaves out no slot that has the same attributes, and nothing is looked for in the Loc-RIB.
+//! to the next one that has the same attributes (`chains`). A message is read off along such a chain,
+//! and nothing is looked for in the Loc-RIB.
 
-ghost use Rattle.std.specs.Prelude.{◌≡◌, ◌≤◌, ◌<◌, ◌+◌, ℕ, Option, None, Some, [], true, false, drop, length, take, vec_len, slice_get, slice_set, option_map, if◌then◌else◌, IfSome, OnOk, ◌++◌};
+ghost use Rattle.std.specs.Prelude.{List, ◌≡◌, ◌≤◌, ◌<◌, ◌+◌, ℕ, Option, None, Some, [], true, false, drop, length, take, vec_len, slice_get, slice_set, option_map, if◌then◌else◌, IfSome, OnOk, ◌++◌};
 ghost use Rattle.std.specs.List.{AllWithin, Contains, IsDistinct, list_any};
 ghost use Rattle.std.specs.Arc.{arc_value};
 ghost use Rattle.std.specs.Ordering.{eq_by_cmp};
@@ -16,7 +16,6 @@ ghost use Rattle.std.specs.Vec.{vec_capacity};
 ghost use Rattle.rs_octets.specs.Prefixes.{Prefix, prefix_order};
 ghost use Rattle.rs_outlet.specs.declared.waiting.Wait.{Wait};
 ghost use Rattle.rs_outlet.specs.Pending.Hashing.{attributes_hash};
-ghost use Rattle.rs_outlet.specs.Pending.Chains.{AreChained, dues_at};
 ghost use Rattle.rs_outlet.specs.Pending.Slots.{AreFresh, IsOpenSlot, prefixes_at, open_count, withdrawn_count, is_withdrawn, is_announced, open_at, told_of, told_by, marked_by};
 
 mod chains;
@@ -25,6 +24,7 @@ mod marking;
 mod merging;
 mod parts;
 
+use crate::waiting::chains::Hashed;
 use crate::waiting::parts::{slot_of, sort_from};
 use rs_attrs::Attrs;
 use rs_octets::Prefix;
@@ -70,10 +70,10 @@ pub(crate) struct Waits {
     pub(crate) sorted: usize,
     /// There is one part, and its slots are chained.
     pub(crate) ready: bool,
-    /// For each slot the next one of its chain; no slot between the two falls into its bucket.
+    /// For each slot the next one that has its attributes; none where slots are not chained.
     pub(crate) chains: Vec<u32>,
-    /// While slots are chained: the first slot of each bucket behind the one at hand.
-    pub(crate) heads: Vec<u32>,
+    /// While slots are chained: those that are to be announced, in order of their attributes.
+    pub(crate) order: Vec<Hashed>,
     /// No slot before it is to be withdrawn.
     pub(crate) gone: usize,
     /// No slot before it is to be announced.
@@ -83,7 +83,6 @@ pub(crate) struct Waits {
     ghost counted: { open_count slots.items ≡ waiting },
     ghost withdrawn: { AllWithin (λ w. is_withdrawn w ≡ false) slots.items 0 gone },
     ghost announced: { AllWithin (λ w. is_announced w ≡ false) slots.items 0 news },
-    ghost chained: { AreChained (dues_at slots.items) chains.items },
     ghost within: { sorted ≤ vec_len slots },
     ghost first: { IsStrictlySortedBy prefix_order (take sorted (prefixes_at slots.items)) } by { Prim.hlevel props },
     ghost late: { IsStrictlySortedBy prefix_order (drop sorted (prefixes_at slots.items)) } by { Prim.hlevel props },
@@ -92,8 +91,12 @@ pub(crate) struct Waits {
 }
 
 impl Waits {
+    ghost use Rattle.rs_outlet.specs.declared.rows.Row.{Row};
+    ghost use Rattle.rs_outlet.specs.Inside.{AreChained};
+
     pub(crate) fn new(alloc: Global) -> Waits
-        ensures { result.slots.items ≡ [] }
+        ensures slots { result.slots.items ≡ [] }
+        ensures chains { result.chains.items ≡ [] }
     {
         Waits {
             alloc,
@@ -101,7 +104,7 @@ impl Waits {
             sorted: 0,
             ready: false,
             chains: Vec::new(alloc),
-            heads: Vec::new(alloc),
+            order: Vec::new(alloc),
             gone: 0,
             news: 0,
             waiting: 0,
@@ -109,13 +112,14 @@ impl Waits {
     }
 
     pub(crate) fn clear(&mut self)
-        ensures { self.new.slots.items ≡ [] }
+        ensures slots { self.new.slots.items ≡ [] }
+        ensures chains { self.new.chains.items ≡ [] }
     {
         self.slots.clear();
         self.sorted = 0;
         self.ready = false;
         self.chains.clear();
-        self.heads.clear();
+        self.order.clear();
         self.gone = 0;
         self.news = 0;
         self.waiting = 0;
@@ -131,11 +135,12 @@ impl Waits {
     /// Makes room for so many slots.
     pub(crate) fn reserve(&mut self, count: usize) -> Result<(), AllocError>
         ensures items { self.new.slots.items ≡ self.old.slots.items }
+        ensures chains { self.new.chains.items ≡ self.old.chains.items }
         ensures room { OnOk result (count ≤ vec_capacity self.new.slots) }
         ensures kept { vec_capacity self.old.slots ≤ vec_capacity self.new.slots }
     {
-        let more = count.saturating_sub(self.heads.len());
-        self.heads.reserve(more)?;
+        let more = count.saturating_sub(self.order.len());
+        self.order.reserve(more)?;
         let more = count.saturating_sub(self.chains.len());
         self.chains.reserve(more)?;
         let more = count.saturating_sub(self.slots.len());
@@ -165,6 +170,7 @@ impl Waits {
         ensures prefixes { prefixes_at self.new.slots.items ≡ prefixes_at self.old.slots.items }
         ensures slots { (p : Prefix) → slice_get (prefixes_at self.old.slots.items) slot ≡ Some p → (q : Prefix) → open_at q self.new.slots.items ≡ (if eq_by_cmp prefix_order q p then None else open_at q self.old.slots.items) }
         ensures told { (w : Wait) → slice_get self.old.slots.items slot ≡ Some w → (result.0 ≡ w.told) × (result.1 ≡ w.marked) }
+        ensures chained { (rows : List (Option Row)) → AreChained rows self.old.slots.items self.old.chains.items → AreChained rows self.new.slots.items self.new.chains.items }
         ensures count { open_count self.new.slots.items ≤ open_count self.old.slots.items }
         ensures withdrawn { withdrawn_count self.new.slots.items ≤ withdrawn_count self.old.slots.items }
         ensures capacity { vec_capacity self.new.slots ≡ vec_capacity self.old.slots }

@@ -1,21 +1,17 @@
 -- All prefixes that wait for the like, as callers see them, are those of the slots that pass a test.
-use Rattle.std.proofs.Common.{◌≡◌, ◌≢◌, ◌<◌, ℕ, Bool, true, false, cond, not, ◌&&◌, Option, None, Some, List, [], ◌∷◌, ◌+◌, length, map, get_or, nat_eq, refl, sym, ap, ◌∙◌, arith}
-use Rattle.std.specs.Prelude.{◌||◌, is_some, option_map, slice_get}
+use Rattle.std.proofs.Common.{◌≡◌, ℕ, Bool, true, false, cond, not, ◌&&◌, Option, None, Some, List, [], ◌∷◌, length, map, get_or, refl, sym, ap, ◌∙◌}
+use Rattle.std.specs.Prelude.{◌||◌, is_some, option_map}
 use mathlib.Core.Bool.{true≢false}
-use Rattle.std.specs.Arc.{arc_value}
 use Rattle.std.specs.List.{AllByRecursion, AllWithin, IsDistinct, filter, list_any}
 use Rattle.std.proofs.lemmas.Map.Keys.{IsDistinct-from_sorted}
 use Rattle.std.specs.List.Sorted.{IsStrictlySortedBy}
 use Rattle.std.specs.declared.cmp.Ordering.TheVariants.{Less}
-use Rattle.std.proofs.lemmas.Bool.Decides.{nat_tests}
-use Rattle.std.proofs.lemmas.Option.{get_or_from_slice_get, slice_get_within, same_Some}
+use Rattle.std.proofs.lemmas.Option.{same_Some}
 use Rattle.std.proofs.lemmas.List.Elements.{All-from_all_within, recursion_from_All}
 use Rattle.std.specs.FinMap as fin
 use Rattle.std.specs.FinMap.Entries.{put, by_order}
 use Rattle.rs_octets.specs.Prefixes.{Prefix, prefix_order}
 use Rattle.rs_attrs.specs.Meaning.{Attribute}
-use Rattle.rs_attrs.specs.Comparing.{same_attributes}
-use Rattle.rs_attrs.specs.ComparisonLaws.{attributes_decides}
 use Rattle.rs_adjin.specs.declared.adj_ins.AdjIns.{AdjIns}
 use Rattle.rs_adjin.specs.AdjIns.{number_of}
 use Rattle.rs_outlet.specs.declared.rows.Row.{Row}
@@ -27,12 +23,7 @@ use Rattle.rs_outlet.specs.Pending.Slots.{prefixes_at, still_open, is_announced,
 use Rattle.rs_outlet.specs.Inside.{AreBacked, IsBacked, loc_of, numbers_from, prefix_and_hash, row_at, row_by, shown, waits_of}
 use Rattle.rs_outlet.specs.Pending.Choosing.{passing, shares}
 use Rattle.rs_outlet.specs.Message.Next.{has_attributes, to_announce, to_withdraw}
-use Rattle.rs_outlet.specs.Pending.Hashing.{attributes_hash}
-use Rattle.rs_outlet.specs.Pending.Chains.{dues_at, has_hash}
 use Rattle.rs_outlet.proofs.Message.Chosen.{there_backed}
-use Rattle.rs_outlet.proofs.Message.Fullest.{NonePass}
-use Rattle.rs_outlet.proofs.Pending.Chains.{due_read}
-use Rattle.rs_outlet.proofs.Pending.Slots.{found_at}
 use Rattle.rs_outlet.proofs.Decided.LocByNumber.{by_number, numbered, same, same_itself}
 use Rattle.rs_adjin.proofs.Listed.{prefixes_total}
 
@@ -134,53 +125,7 @@ module _ (rows : List (Option Row)) (ws : List Wait) (m : List Attribute) (ins :
       ∙ ap (λ es. map (λ (e : Prefix × Bool). e.0) (filter asked es)) (entries_of_waits ws up)
       ∙ where_asked (shares rows m) asked ws (recursion_from_All (Asks (shares rows m) asked) ws (All-from_all_within (Asks (shares rows m) asked) ws asks_shares))
 
--- ---- a slot that a hash leads to
-
--- what shares the attributes of a row has their hash
-shares_not : (rows : List (Option Row)) (m : List Attribute) (p : Prefix) (hash other : ℕ) (o : Option Row) → hash ≡ attributes_hash m → option_map prefix_and_hash o ≡ Some (p, other) → nat_eq other hash ≡ false → has_attributes (shown o) m ≡ false
-shares_not rows m p hash other None is backed apart = refl
-shares_not rows m p hash other (Some r) is backed apart = go (same_attributes (arc_value r.attrs) m) refl
-  where
-    go : (b : Bool) → same_attributes (arc_value r.attrs) m ≡ b → b ≡ false
-    go true same =
-        let e : other ≡ hash = sym (ap (λ (e : Prefix × ℕ). e.1) (same_Some (prefix_and_hash r) (p, other) backed)) ∙ ap attributes_hash ((attributes_decides (arc_value r.attrs) m).0 same) ∙ sym is in
-        let t : nat_eq other hash ≡ true = grind (arith, nat_tests, e) in
-        absurd (true≢false (sym t ∙ apart))
-    go false same = refl
-
-due_apart : (rows : List (Option Row)) (m : List Attribute) (hash : ℕ) (p : Prefix) (d : Due) → hash ≡ attributes_hash m → IsBacked rows p d → has_hash hash d ≡ false → has_attributes (shown (row_by rows d)) m ≡ false
-due_apart rows m hash p due.Withdrawn is backed apart = refl
-due_apart rows m hash p (due.Announced number other) is backed apart = shares_not rows m p hash other (row_at rows number) is backed apart
-
-pub shares_apart : (rows : List (Option Row)) (m : List Attribute) (hash : ℕ) (w : Wait) → hash ≡ attributes_hash m → (w.open ≡ true → IsBacked rows w.prefix w.due) → has_hash hash w.due ≡ false → shares rows m w ≡ false
-shares_apart rows m hash w is backed apart = go w.open refl
-  where
-    go : (b : Bool) → w.open ≡ b → (b && has_attributes (shown (row_by rows w.due)) m) ≡ false
-    go true opened = due_apart rows m hash w.prefix w.due is (backed opened) apart
-    go false opened = refl
-
--- the same of the slots between two
-pub none_share : (rows : List (Option Row)) (ws : List Wait) (m : List Attribute) (hash from to : ℕ) → hash ≡ attributes_hash m → IsDistinct same (prefixes_at ws) → AreBacked rows ws
-    → ((n : ℕ) (d : Due) → slice_get (dues_at ws) n ≡ Some d → from < n → n < to → has_hash hash d ≡ false) → NonePass (shares rows m) ws (from + 1) to
-none_share rows ws m hash from to is apart backed between n w at low high =
-    let below = slice_get_within ws n w at in
-    let read : w ≡ get_or ws n w = sym (get_or_from_slice_get ws n w w at) in
-    shares_apart rows m hash w is
-    (λ opened. backed w.prefix w (found_at ws n w below read opened apart))
-    (between n w.due (due_read ws n w w.due below read refl) (omega (arith, low)) high)
-
 -- ---- what a test of a slot answers
-
-pub other_hash : (hash other : ℕ) → hash ≢ other → nat_eq other hash ≡ false
-other_hash hash other ne = go (nat_eq other hash) refl
-  where
-    go : (b : Bool) → nat_eq other hash ≡ b → b ≡ false
-    go true is = absurd (ne (sym (let e : other ≡ hash = grind (arith, nat_tests, is) in e)))
-    go false is = refl
-
--- a slot that has no hash of them has not the attributes
-pub just_not : (rows : List (Option Row)) (m : List Attribute) (hash : ℕ) (p : Prefix) (d : Due) → hash ≡ attributes_hash m → IsBacked rows p d → has_hash hash d ≡ false → false ≡ has_attributes (shown (row_by rows d)) m
-just_not rows m hash p d is backed apart = sym (due_apart rows m hash p d is backed apart)
 
 -- what isn't to be announced shares no attributes
 pub not_shared : (rows : List (Option Row)) (m : List Attribute) (w : Wait) → is_announced w ≡ false → shares rows m w ≡ false

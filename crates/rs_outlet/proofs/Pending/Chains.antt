@@ -1,141 +1,295 @@
--- Chains of slots, and the heads of the buckets by which they are made.
-use Rattle.std.proofs.Common.{◌≡◌, ◌≢◌, ◌+◌, ◌<◌, ◌≤◌, ◌%◌, ℕ, zero, suc, Bool, true, false, cond, Some, List, [], ◌∷◌, ◌++◌, length, get_or, slice_set, nat_eq, refl, sym, ap, ◌∙◌, subst, arith, inl, inr}
-use Rattle.std.specs.Prelude.{◌⊎◌, slice_get}
-use Rattle.std.proofs.lemmas.Bool.Decides.{nat_tests}
-use Rattle.std.proofs.lemmas.Option.{slice_get_within, same_Some}
-use mathlib.Core.Bool.{true≢false}
-use Rattle.std.proofs.lemmas.Bool.{cases_eq}
-use Rattle.rs_adjin.proofs.TableRows.{set_apart, set_here}
+-- Chains of slots: how they come of slots that are in order, and what leaves them as they are.
+use Rattle.std.proofs.Common.{◌≡◌, ◌≢◌, ◌<◌, ◌≤◌, ◌+◌, ℕ, zero, suc, Bool, true, false, ◌&&◌, cond, Option, None, Some, List, [], ◌∷◌, ◌++◌, length, get_or, slice_set, refl, sym, ap, ◌∙◌, subst, arith, inl, inr}
+use Rattle.std.specs.Prelude.{◌⊎◌, option_map, slice_get}
+use Rattle.std.specs.Arc.{arc_value}
+use Rattle.std.specs.List.{Contains, IsDistinct}
+use Rattle.std.specs.List.Sorted.{IsPermutation}
+use Rattle.std.specs.Ordering.{is_eq}
+use Rattle.std.specs.declared.cmp.Ordering.TheVariants.{Less, Equal}
+use Rattle.std.proofs.lemmas.Bool.{cases_eq, cases_lt}
+use Rattle.std.proofs.lemmas.Cmp.{tied_itself}
+use Rattle.std.proofs.lemmas.Option.{get_or_from_slice_get, slice_get_read, slice_get_within, same_Some}
+use Rattle.std.proofs.lemmas.List.Sorted.{Contains-permutation, IsPermutation-sym}
+use Rattle.std.proofs.lemmas.List.Elements.{Contains-append_left, Contains-append_right, Contains-append_cases, Contains-get_or}
+use Rattle.rs_octets.specs.Prefixes.{Prefix}
+use Rattle.rs_attrs.specs.Meaning.{Attribute}
+use Rattle.rs_attrs.specs.Comparing.{attributes_cmp, same_attributes}
+use Rattle.rs_attrs.specs.ComparisonLaws.{attributes_cmp_decides, attributes_cmp_total, attributes_decides}
+use Rattle.rs_adjin.proofs.TableRows.{set_apart, set_here, some_row}
+use Rattle.rs_outlet.specs.declared.rows.Row.{Row}
 use Rattle.rs_outlet.specs.declared.waiting.Due.{Due}
 use Rattle.rs_outlet.specs.declared.waiting.Due.TheVariants as due
 use Rattle.rs_outlet.specs.declared.waiting.Wait.{Wait}
-use Rattle.rs_outlet.specs.Pending.Chains.{AreHeads, AreChained, dues_at, has_hash, is_in_bucket}
+use Rattle.rs_outlet.specs.declared.waiting.chains.Hashed.{Hashed}
+use Rattle.rs_outlet.specs.Inside.{AreBacked, AreChained, IsBacked, prefix_and_hash, row_at, row_by, shown}
+use Rattle.rs_outlet.specs.Message.Next.{has_attributes}
+use Rattle.rs_outlet.specs.Pending.Slots.{prefixes_at}
+use Rattle.rs_outlet.specs.Pending.Hashing.{attributes_hash}
+use Rattle.rs_outlet.specs.Pending.Chains.{AreHashed, AreLinked, IsBefore, IsHashed, Leads, AreInOrder, by_rows, due_there, or_none}
+use Rattle.rs_outlet.specs.Pending.Choosing.{shares}
+use Rattle.rs_outlet.proofs.Decided.LocByNumber.{same}
+use Rattle.rs_outlet.proofs.Pending.Slots.{found_at}
 
--- ---- what is due at the slots
+-- ---- what leaves chains as they are
 
-pub same_dues : (ws : List Wait) (n : ℕ) (y d : Wait) → y.due ≡ (get_or ws n d).due → dues_at (slice_set ws n y) ≡ dues_at ws
-same_dues [] zero y d h = refl
-same_dues [] (suc n) y d h = refl
-same_dues (w ∷ ws) zero y d h = ap (λ t. t ∷ dues_at ws) h
-same_dues (w ∷ ws) (suc n) y d h = ap (λ ts. w.due ∷ ts) (same_dues ws n y d h)
-
-pub due_at : (ws : List Wait) (n : ℕ) (d : Wait) → n < length ws → slice_get (dues_at ws) n ≡ Some (get_or ws n d).due
-due_at [] n d below = absurd (omega (arith, below))
-due_at (w ∷ ws) zero d below = refl
-due_at (w ∷ ws) (suc n) d below = due_at ws n d (omega (arith, below))
-
--- what is due at a slot that was read
-pub due_read : (ws : List Wait) (n : ℕ) (w : Wait) (d : Due) → n < length ws → w ≡ get_or ws n w → w.due ≡ d → slice_get (dues_at ws) n ≡ Some d
-due_read ws n w d below is at = due_at ws n w below ∙ ap (λ (v : Wait). Some v.due) (sym is) ∙ ap (λ d. Some d) at
-
-pub as_many_dues : (ws : List Wait) → length (dues_at ws) ≡ length ws
-as_many_dues [] = refl
-as_many_dues (w ∷ ws) = ap suc (as_many_dues ws)
-
--- ---- buckets
-
-bucket_is : (count bucket number hash : ℕ) → is_in_bucket count bucket (due.Announced number hash) ≡ true → hash % count ≡ bucket
-bucket_is count bucket number hash h = grind (arith, nat_tests, h)
-
-other_bucket : (count bucket number hash : ℕ) → bucket ≢ hash % count → is_in_bucket count bucket (due.Announced number hash) ≡ false
-other_bucket count bucket number hash ne = go (nat_eq (hash % count) bucket) refl
-  where
-    go : (b : Bool) → nat_eq (hash % count) bucket ≡ b → b ≡ false
-    go true is = absurd (ne (sym (let e : hash % count ≡ bucket = grind (arith, nat_tests, is) in e)))
-    go false is = refl
-
--- what doesn't fall into the bucket of a hash hasn't the hash
-pub apart_by_bucket : (count hash : ℕ) (d : Due) → is_in_bucket count (hash % count) d ≡ false → has_hash hash d ≡ false
-apart_by_bucket count hash due.Withdrawn h = refl
-apart_by_bucket count hash (due.Announced number other) h = go (nat_eq other hash) refl
-  where
-    go : (b : Bool) → nat_eq other hash ≡ b → b ≡ false
-    go true is =
-        let e : other ≡ hash = grind (arith, nat_tests, is) in
-        let t : nat_eq (hash % count) (hash % count) ≡ true = grind (arith, nat_tests) in
-        absurd (true≢false (sym t ∙ subst (λ k. nat_eq (k % count) (hash % count) ≡ false) e h))
-    go false is = refl
-
--- ---- chains
-
-pub none_chained : (ds : List Due) (chains : List ℕ) → chains ≡ [] → AreChained ds chains
-none_chained ds chains none bucket n m chain d e at there here later below is = absurd (past n (sym (ap (λ ls. slice_get ls n) none) ∙ at))
+pub none_chained : (rows : List (Option Row)) (ws : List Wait) (chains : List ℕ) → chains ≡ [] → AreChained rows ws chains
+none_chained rows ws chains none n m chain w z a at from to later below opened is = absurd (past n (sym (ap (λ ls. slice_get ls n) none) ∙ at))
   where
     past : (n : ℕ) → ◌≢◌ (slice_get [] n) (Some chain)
     past zero h = cc
     past (suc n) h = cc
 
--- where the slots and the chains are the same
-pub same_chained : (ws ws' : List Wait) (chains chains' : List ℕ) → ws' ≡ ws → chains' ≡ chains → AreChained (dues_at ws) chains → AreChained (dues_at ws') chains'
-same_chained ws ws' chains chains' slots same chained = subst (λ vs. AreChained (dues_at vs) chains') (sym slots) (subst (AreChained (dues_at ws)) (sym same) chained)
+same_row_by : (rows rows' : List (Option Row)) → ((n : ℕ) → row_at rows' n ≡ row_at rows n) → (d : Due) → row_by rows' d ≡ row_by rows d
+same_row_by rows rows' same_rows due.Withdrawn = refl
+same_row_by rows rows' same_rows (due.Announced number hash) = same_rows number
 
-push_cases : (ls : List ℕ) (x n chain : ℕ) → slice_get (ls ++ x ∷ []) n ≡ Some chain → (slice_get ls n ≡ Some chain) ⊎ (chain ≡ x)
-push_cases [] x zero chain h = inr (sym (same_Some x chain h))
-push_cases [] x (suc zero) chain h = absurd (cc)
-push_cases [] x (suc (suc n)) chain h = absurd (cc)
-push_cases (l ∷ ls) x zero chain h = inl h
-push_cases (l ∷ ls) x (suc n) chain h = push_cases ls x n chain h
+pub same_chained : (rows rows' : List (Option Row)) (ws ws' : List Wait) (chains chains' : List ℕ) → ((n : ℕ) → row_at rows' n ≡ row_at rows n) → ws' ≡ ws → chains' ≡ chains → AreChained rows ws chains → AreChained rows' ws' chains'
+same_chained rows rows' ws ws' chains chains' same_rows slots same are n m chain w z a at from to later below opened is =
+    λ e.
+    are n m chain w z a (ap (λ ls. slice_get ls n) (sym same) ∙ at) (ap (λ vs. slice_get vs n) (sym slots) ∙ from) (ap (λ vs. slice_get vs m) (sym slots) ∙ to) later below opened
+    (ap shown (sym (same_row_by rows rows' same_rows w.due)) ∙ is)
+    (ap shown (sym (same_row_by rows rows' same_rows z.due)) ∙ e)
 
--- one slot more, which leads nowhere
-chained_push : (ds : List Due) (chains chains' : List ℕ) → chains' ≡ chains ++ 0 ∷ [] → AreChained ds chains → AreChained ds chains'
-chained_push ds chains chains' is chained bucket n m chain d e at there here later below bucketed =
-    elim (push_cases chains 0 n chain (sym (ap (λ ls. slice_get ls n) is) ∙ at)) [
-      | inl old ↦ chained bucket n m chain d e old there here later below bucketed
-      | inr none ↦ absurd (omega (arith, none, later, below))
-    ]
-
-pub chained_any : (ds : List Due) (chains : List ℕ) (b : Bool) (chains' : List ℕ) → chains' ≡ cond b (chains ++ 0 ∷ []) chains → AreChained ds chains → AreChained ds chains'
-chained_any ds chains true chains' is chained = chained_push ds chains chains' is chained
-chained_any ds chains false chains' is chained = subst (AreChained ds) (sym is) chained
-
--- behind the last slot there is none
-pub heads_past : (ds : List Due) (from : ℕ) (heads : List ℕ) → length ds ≤ from → AreHeads ds from heads
-heads_past ds from heads past bucket head m e at here behind below = absurd (omega (arith, past, behind, slice_get_within ds m e here))
-
--- one slot more that falls into no bucket that has a head
-pub heads_kept : (ds : List Due) (n : ℕ) (heads : List ℕ) (d : Due) → slice_get ds n ≡ Some d
-    → ((bucket : ℕ) → bucket < length heads → is_in_bucket (length ds) bucket d ≡ false) → AreHeads ds (n + 1) heads → AreHeads ds n heads
-heads_kept ds n heads d at none are bucket head m e there here behind below = elim (cases_eq m n) [
-  | inl same ↦ ap (is_in_bucket (length ds) bucket) (same_Some e d (sym here ∙ ap (slice_get ds) same ∙ at)) ∙ none bucket (slice_get_within heads bucket head there)
-  | inr other ↦ are bucket head m e there here (let ne : m ≢ n = other in omega (arith, behind, ne)) below
-]
-
-pub heads_withdrawn : (ds : List Due) (n : ℕ) (heads : List ℕ) → slice_get ds n ≡ Some due.Withdrawn → AreHeads ds (n + 1) heads → AreHeads ds n heads
-heads_withdrawn ds n heads at are = heads_kept ds n heads due.Withdrawn at (λ _ _. refl) are
-
-pub heads_none : (ds : List Due) (n slot : ℕ) (heads : List ℕ) (number hash : ℕ) → slot ≡ hash % length ds → slice_get ds n ≡ Some (due.Announced number hash) → length heads ≤ slot → AreHeads ds (n + 1) heads → AreHeads ds n heads
-heads_none ds n slot heads number hash is at past are =
-    heads_kept ds n heads (due.Announced number hash) at (λ bucket below. other_bucket (length ds) bucket number hash (λ e. omega (arith, e, is, below, past))) are
-
--- one slot more that is the head of its bucket
-pub heads_more : (ds : List Due) (n slot new : ℕ) (heads : List ℕ) (number hash was : ℕ) → slot ≡ hash % length ds → slice_get ds n ≡ Some (due.Announced number hash) → slice_get heads slot ≡ Some was → new ≤ n
-    → AreHeads ds (n + 1) heads → AreHeads ds n (slice_set heads slot new)
-heads_more ds n slot new heads number hash was is at old most are bucket head m e there here behind below = elim (cases_eq bucket slot) [
-  | inl same ↦
-      let h : new ≡ head = same_Some new head (sym (set_here heads slot new was old) ∙ sym (ap (slice_get (slice_set heads slot new)) same) ∙ there) in
-      absurd (omega (arith, h, most, behind, below))
-  | inr other ↦
-      let kept : slice_get heads bucket ≡ Some head = sym (set_apart heads slot new bucket other) ∙ there in
-      elim (cases_eq m n) [
-        | inl same ↦ ap (is_in_bucket (length ds) bucket) (same_Some e (due.Announced number hash) (sym here ∙ ap (slice_get ds) same ∙ at)) ∙ other_bucket (length ds) bucket number hash (λ b. other (b ∙ sym is))
-        | inr ne ↦ are bucket head m e kept here (let apart : m ≢ n = ne in omega (arith, behind, apart)) below
+-- one slot waits no more
+pub shut_chained : (rows : List (Option Row)) (ws : List Wait) (n : ℕ) (x y : Wait) (chains : List ℕ) → slice_get ws n ≡ Some x → y.due ≡ x.due → y.open ≡ false → AreChained rows ws chains → AreChained rows (slice_set ws n y) chains
+shut_chained rows ws n x y chains here due shut are k m chain w z a at from to later below opened is = elim (cases_eq m n) [
+  | inl e ↦
+      let same : y ≡ z = same_Some y z (sym (set_here ws n y x here) ∙ sym (ap (slice_get (slice_set ws n y)) e) ∙ to) in
+      absurd (let f : true ≡ false = sym opened ∙ ap (λ (v : Wait). v.open) (sym same) ∙ shut in cc)
+  | inr ne ↦
+      let there : slice_get ws m ≡ Some z = sym (set_apart ws n y m ne) ∙ to in
+      elim (cases_eq k n) [
+        | inl e ↦
+            let same : y ≡ w = same_Some y w (sym (set_here ws n y x here) ∙ sym (ap (slice_get (slice_set ws n y)) e) ∙ from) in
+            are k m chain x z a at (ap (slice_get ws) e ∙ here) there later below opened (ap (λ d. shown (row_by rows d)) (sym due ∙ ap (λ (v : Wait). v.due) same) ∙ is)
+        | inr apart ↦ are k m chain w z a at (sym (set_apart ws n y k apart) ∙ from) there later below opened is
       ]
 ]
 
--- a slot that leads to the head of its bucket
-pub chained_more : (ds : List Due) (n slot : ℕ) (chains heads : List ℕ) (number hash next was : ℕ) → slot ≡ hash % length ds → slice_get ds n ≡ Some (due.Announced number hash) → slice_get heads slot ≡ Some next → slice_get chains n ≡ Some was
-    → AreHeads ds (n + 1) heads → AreChained ds chains → AreChained ds (slice_set chains n next)
-chained_more ds n slot chains heads number hash next was slot_is at head old are chained bucket k m chain d e there from here later below bucketed = elim (cases_eq k n) [
-  | inl same ↦
-      let l : next ≡ chain = same_Some next chain (sym (set_here chains n next was old) ∙ sym (ap (slice_get (slice_set chains n next)) same) ∙ there) in
-      let is : d ≡ due.Announced number hash = same_Some d (due.Announced number hash) (sym from ∙ ap (slice_get ds) same ∙ at) in
-      let b : hash % length ds ≡ bucket = bucket_is (length ds) bucket number hash (sym (ap (is_in_bucket (length ds) bucket) is) ∙ bucketed) in
-      are bucket next m e (ap (slice_get heads) (sym b ∙ sym slot_is) ∙ head) here (omega (arith, later, same)) (omega (arith, below, l))
-  | inr other ↦ chained bucket k m chain d e (sym (set_apart chains n next k other) ∙ there) from here later below bucketed
-]
+-- ---- what a chain passes over
 
--- between a slot and the next one of its chain none has a hash of its bucket
-pub none_between : (ds : List Due) (chains : List ℕ) (n chain hash : ℕ) (d : Due) → AreChained ds chains → slice_get chains n ≡ Some chain → slice_get ds n ≡ Some d → is_in_bucket (length ds) (hash % length ds) d ≡ true
-    → (m : ℕ) (e : Due) → slice_get ds m ≡ Some e → n < m → m < chain → has_hash hash e ≡ false
-none_between ds chains n chain hash d chained at there bucketed m e here later below =
-    apart_by_bucket (length ds) hash e (chained (hash % length ds) n m chain d e at there here later below bucketed)
+has_not : (o : Option (List Attribute)) (m : List Attribute) → o ≢ Some m → has_attributes o m ≡ false
+has_not None m ne = refl
+has_not (Some n) m ne = go (same_attributes n m) refl
+  where
+    go : (b : Bool) → same_attributes n m ≡ b → b ≡ false
+    go true is = absurd (ne (ap (λ x. Some x) ((attributes_decides n m).0 is)))
+    go false is = refl
+
+-- what isn't due at a slot, where it waits, is not shared by it
+pub shares_other : (rows : List (Option Row)) (m : List Attribute) (z : Wait) → (z.open ≡ true → shown (row_by rows z.due) ≢ Some m) → shares rows m z ≡ false
+shares_other rows m z ne = go z.open refl
+  where
+    go : (b : Bool) → z.open ≡ b → (b && has_attributes (shown (row_by rows z.due)) m) ≡ false
+    go true opened = has_not (shown (row_by rows z.due)) m (ne opened)
+    go false opened = refl
+
+-- ---- slots in order
+
+pub not_less : (m : List Attribute) → attributes_cmp m m ≡ Less → ⊥
+not_less m h = let f : Equal ≡ Less = sym (tied_itself attributes_cmp_total m) ∙ h in cc
+
+pub level_is : (m n : List Attribute) → attributes_cmp m n ≡ Equal → m ≡ n
+level_is m n h = (attributes_cmp_decides m n).0 (ap is_eq h)
+
+module _ (a : Hashed → List Attribute) where
+  not_before_itself : (e : Hashed) → IsBefore a e e → ⊥
+  not_before_itself e (inl less) = absurd (omega (arith, less))
+  not_before_itself e (inr (same, inl less)) = not_less (a e) less
+  not_before_itself e (inr (same, inr (level, less))) = absurd (omega (arith, less))
+
+  before_trans : (e f g : Hashed) → IsBefore a e f → IsBefore a f g → IsBefore a e g
+  before_trans e f g (inl x) (inl y) = inl (omega (arith, x, y))
+  before_trans e f g (inl x) (inr (h, y)) = inl (omega (arith, x, h))
+  before_trans e f g (inr (h, x)) (inl y) = inl (omega (arith, h, y))
+  before_trans e f g (inr (h, inl x)) (inr (k, inl y)) = inr (h ∙ k, inl (attributes_cmp_total.trans (a e) (a f) (a g) x y))
+  before_trans e f g (inr (h, inl x)) (inr (k, inr (is, y))) = inr (h ∙ k, inl (ap (attributes_cmp (a e)) (sym is) ∙ x))
+  before_trans e f g (inr (h, inr (is, x))) (inr (k, inl y)) = inr (h ∙ k, inl (ap (λ m. attributes_cmp m (a g)) is ∙ y))
+  before_trans e f g (inr (h, inr (is, x))) (inr (k, inr (also, y))) = inr (h ∙ k, inr (is ∙ also, omega (arith, x, y)))
+
+  -- what comes between two with the same attributes has them too
+  between : (e g f : Hashed) → IsBefore a e g → IsBefore a g f → e.hash ≡ f.hash → a e ≡ a f → (g.hash ≡ e.hash) × (a g ≡ a e) × (g.slot < f.slot)
+  between e g f (inl x) (inl y) same is = absurd (omega (arith, x, y, same))
+  between e g f (inl x) (inr (h, y)) same is = absurd (omega (arith, x, h, same))
+  between e g f (inr (h, x)) (inl y) same is = absurd (omega (arith, h, y, same))
+  between e g f (inr (h, inl x)) (inr (k, inl y)) same is = absurd (not_less (a f) (ap (λ m. attributes_cmp m (a f)) (sym is) ∙ attributes_cmp_total.trans (a e) (a g) (a f) x y))
+  between e g f (inr (h, inl x)) (inr (k, inr (also, y))) same is = absurd (not_less (a e) (ap (attributes_cmp (a e)) (is ∙ sym also) ∙ x))
+  between e g f (inr (h, inr (also, x))) (inr (k, inl y)) same is = absurd (not_less (a f) (ap (λ m. attributes_cmp m (a f)) (sym is ∙ also) ∙ y))
+  between e g f (inr (h, inr (also, x))) (inr (k, inr (too, y))) same is = (sym h, sym also, y)
+
+  -- each comes before all behind it
+  rise_on : (es : List Hashed) → AreInOrder a es (length es) → (i j : ℕ) (e f : Hashed) → i < j → slice_get es i ≡ Some e → slice_get es j ≡ Some f → IsBefore a e f
+  rise_on es rise i zero e f less at to = absurd (omega (arith, less))
+  rise_on es rise i (suc j) e f less at to = elim (cases_eq i j) [
+    | inl same ↦ rise j e f (let w = slice_get_within es (suc j) f to in omega (arith, w)) (ap (slice_get es) (sym same) ∙ at) to
+    | inr ne ↦
+        let apart : i ≢ j = ne in
+        let below : j < length es = (let w = slice_get_within es (suc j) f to in omega (arith, w)) in
+        let g = some_row es j e below in
+        before_trans e g.0 f (rise_on es rise i j e g.0 (omega (arith, less, apart)) at g.1) (rise j g.0 f below g.1 to)
+  ]
+
+  -- one that comes before another with its attributes leads no further than there
+  leads_on : (es : List Hashed) → AreInOrder a es (length es) → (i j chain : ℕ) (e f : Hashed) → slice_get es i ≡ Some e → slice_get es j ≡ Some f → e.hash ≡ f.hash → a e ≡ a f → e.slot < f.slot
+      → ((g : Hashed) → slice_get es (suc i) ≡ Some g → g.hash ≡ e.hash → a g ≡ a e → chain ≤ g.slot) → chain ≤ f.slot
+  leads_on es rise i j chain e f at to same is less leads = elim (cases_lt i j) [
+    | inr past ↦
+        let before : IsBefore a e f = inr (same, inr (is, less)) in
+        elim (cases_eq j i) [
+          | inl here ↦ absurd (not_before_itself e (subst (IsBefore a e) (same_Some f e (sym to ∙ ap (slice_get es) here ∙ at)) before))
+          | inr ne ↦ absurd (let apart : j ≢ i = ne in not_before_itself e (before_trans e f e before (rise_on es rise j i f e (omega (arith, past, apart)) to at)))
+        ]
+    | inl more ↦ elim (cases_eq j (suc i)) [
+      | inl here ↦ leads f (ap (slice_get es) (sym here) ∙ to) (sym same) (sym is)
+      | inr ne ↦
+          let apart : j ≢ suc i = ne in
+          let below : suc i < length es = (let w = slice_get_within es j f to in omega (arith, w, more, apart)) in
+          let g = some_row es (suc i) e below in
+          let r = between e g.0 f (rise_on es rise i (suc i) e g.0 (omega arith) at g.1) (rise_on es rise (suc i) j g.0 f (omega (arith, more, apart)) g.1 to) same is in
+          let most = leads g.0 g.1 r.0 r.1 in
+          omega (arith, most, r.2)
+    ]
+  ]
+
+-- ---- chains of slots in order
+
+hash_by : (o : Option Row) (p : Prefix) (hash : ℕ) (m : List Attribute) → option_map prefix_and_hash o ≡ Some (p, hash) → shown o ≡ Some m → attributes_hash m ≡ hash
+hash_by None p hash m backed is = absurd (cc)
+hash_by (Some r) p hash m backed is = ap attributes_hash (sym (same_Some (arc_value r.attrs) m is)) ∙ ap (λ (e : Prefix × ℕ). e.1) (same_Some (prefix_and_hash r) (p, hash) backed)
+
+backed_hash : (rows : List (Option Row)) (p : Prefix) (d : Due) (number hash : ℕ) (m : List Attribute) → IsBacked rows p d → d ≡ due.Announced number hash → shown (row_by rows d) ≡ Some m → attributes_hash m ≡ hash
+backed_hash rows p d number hash m backed at is =
+    hash_by (row_at rows number) p hash m (subst (IsBacked rows p) at backed) (ap (λ x. shown (row_by rows x)) (sym at) ∙ is)
+
+announced : (rows : List (Option Row)) (d : Due) (m : List Attribute) → shown (row_by rows d) ≡ Some m → (number : ℕ) × (hash : ℕ) × (d ≡ due.Announced number hash)
+announced rows due.Withdrawn m is = absurd (let f : ◌≡◌ {A = Option (List Attribute)} None (Some m) = is in cc)
+announced rows (due.Announced number hash) m is = (number, hash, refl)
+
+listed_at : (es : List Hashed) (e : Hashed) → Contains es e → (j : ℕ) × (slice_get es j ≡ Some e)
+listed_at es e (k, below, at) = (k, slice_get_read es (length es) k e refl below (sym at))
+
+contains_at : (es : List Hashed) (i : ℕ) (e : Hashed) → slice_get es i ≡ Some e → Contains es e
+contains_at es i e at = (i, slice_get_within es i e at, get_or_from_slice_get es i e e at)
+
+module _ (rows : List (Option Row)) (ws : List Wait) (apart : IsDistinct same (prefixes_at ws)) (backed : AreBacked rows ws) where
+  abbrev at_slot : Hashed → List Attribute
+  at_slot = due_there rows ws
+
+  backed_at : (n : ℕ) (w : Wait) → slice_get ws n ≡ Some w → w.open ≡ true → IsBacked rows w.prefix w.due
+  backed_at n w at opened = backed w.prefix w (found_at ws n w (slice_get_within ws n w at) (sym (get_or_from_slice_get ws n w w at)) opened apart)
+
+  due_is : (e : Hashed) (w : Wait) (m : List Attribute) → slice_get ws e.slot ≡ Some w → shown (row_by rows w.due) ≡ Some m → at_slot e ≡ m
+  due_is e w m at is = ap (by_rows rows) at ∙ ap or_none is
+
+  pub linked_chained : (es : List Hashed) (chains : List ℕ) → AreHashed ws (length ws) es → AreInOrder at_slot es (length es) → AreLinked at_slot es chains → AreChained rows ws chains
+  linked_chained es chains hashed rise linked n m chain w z a at from to later below opened is = λ also. go also (linked n chain at)
+    where
+      go : shown (row_by rows z.due) ≡ Some a → Leads at_slot es n chain → ⊥
+      go also (inl nowhere) = absurd (omega (arith, nowhere, below))
+      go also (inr (i, e, e_at, e_slot, leads)) =
+          let j = hashed.just e (contains_at es i e e_at) in
+          let here : slice_get ws e.slot ≡ Some w = ap (slice_get ws) e_slot ∙ from in
+          let w_is : j.0 ≡ w = same_Some j.0 w (sym j.2 ∙ here) in
+          let w_open : w.open ≡ true = ap (λ (v : Wait). v.open) (sym w_is) ∙ j.3 in
+          let w_due : w.due ≡ due.Announced j.1 e.hash = ap (λ (v : Wait). v.due) (sym w_is) ∙ j.4 in
+          let w_hash : attributes_hash a ≡ e.hash = backed_hash rows w.prefix w.due j.1 e.hash a (backed_at n w from w_open) w_due is in
+          let d = announced rows z.due a also in
+          let z_hash : attributes_hash a ≡ d.1 = backed_hash rows z.prefix z.due d.0 d.1 a (backed_at m z to opened) d.2 also in
+          let f : Hashed = record { hash = d.1; slot = m } in
+          let k = listed_at es f (hashed.all m d.0 d.1 z to (slice_get_within ws m z to) opened d.2) in
+          let e_due : at_slot e ≡ a = due_is e w a here is in
+          let f_due : at_slot f ≡ a = due_is f z a to also in
+          let less : e.slot < f.slot = omega (arith, e_slot, later) in
+          let most : chain ≤ m = leads_on at_slot es rise i k.0 chain e f e_at k.1 (sym w_hash ∙ z_hash) (e_due ∙ sym f_due) less leads in
+          absurd (omega (arith, most, below))
+
+-- ---- slots listed
+
+pub none_hashed : (ws : List Wait) (es : List Hashed) → es ≡ [] → AreHashed ws 0 es
+none_hashed ws es none = record {
+  just = λ e there. absurd (let below : there.0 < length es = there.1 in omega (arith, below, ap length none));
+  all = λ m number hash z at below opened is. absurd (omega (arith, below));
+}
+
+-- one slot more that is not to be announced
+pub hashed_past : (ws : List Wait) (n : ℕ) (w : Wait) (es : List Hashed) → slice_get ws n ≡ Some w → (w.open ≡ true → (number hash : ℕ) → w.due ≢ due.Announced number hash) → AreHashed ws n es → AreHashed ws (suc n) es
+hashed_past ws n w es at none are = record {
+  just = are.just;
+  all = λ m number hash z to below opened is. elim (cases_eq m n) [
+    | inl e ↦
+        let same : z ≡ w = same_Some z w (sym to ∙ ap (slice_get ws) e ∙ at) in
+        absurd (none (ap (λ (v : Wait). v.open) (sym same) ∙ opened) number hash (ap (λ (v : Wait). v.due) (sym same) ∙ is))
+    | inr ne ↦ are.all m number hash z to (let apart : m ≢ n = ne in omega (arith, below, apart)) opened is
+  ];
+}
+
+-- one slot more that is
+pub hashed_more : (ws : List Wait) (n : ℕ) (w : Wait) (es es' : List Hashed) (e : Hashed) (number : ℕ) → slice_get ws n ≡ Some w → w.open ≡ true → w.due ≡ due.Announced number e.hash → e.slot ≡ n → es' ≡ es ++ e ∷ [] → AreHashed ws n es → AreHashed ws (suc n) es'
+hashed_more ws n w es es' e number at opened is slot added are =
+    subst (AreHashed ws (suc n)) (sym added) (record {
+      just = λ f there. elim (Contains-append_cases es (e ∷ []) f there) [
+        | inl old ↦ are.just f old
+        | inr new ↦
+            let same : e ≡ f = only f new in
+            subst (IsHashed ws) same (w, number, ap (slice_get ws) slot ∙ at, opened, is)
+      ];
+      all = λ m other hash z to below wopen wis. elim (cases_eq m n) [
+        | inl here ↦
+            let same : z ≡ w = same_Some z w (sym to ∙ ap (slice_get ws) here ∙ at) in
+            let due_is : due.Announced other hash ≡ due.Announced number e.hash = sym wis ∙ ap (λ (v : Wait). v.due) same ∙ is in
+            let hash_is : hash ≡ e.hash = ap hash_in due_is in
+            let whole : record { hash = hash; slot = m } ≡ e = (λ i. record { hash = hash_is i; slot = (here ∙ sym slot) i }) in
+            subst (Contains (es ++ e ∷ [])) (sym whole) (Contains-append_right es (e ∷ []) e (0, omega arith, refl))
+        | inr ne ↦ Contains-append_left es (e ∷ []) _ (are.all m other hash z to (let apart : m ≢ n = ne in omega (arith, below, apart)) wopen wis)
+      ];
+    })
+  where
+    hash_in : Due → ℕ
+    hash_in due.Withdrawn = 0
+    hash_in (due.Announced number hash) = hash
+
+    only : (f : Hashed) → Contains (e ∷ []) f → e ≡ f
+    only f (zero, below, at) = at
+    only f (suc k, below, at) = absurd (omega (arith, below))
+
+-- the same slots in another order
+pub hashed_again : (ws : List Wait) (count : ℕ) (es es' : List Hashed) → IsPermutation es es' → AreHashed ws count es → AreHashed ws count es'
+hashed_again ws count es es' moved are = record {
+  just = λ e is. are.just e (Contains-permutation es' es e (IsPermutation-sym es es' moved) is);
+  all = λ m number hash z at below opened is. Contains-permutation es es' _ moved (are.all m number hash z at below opened is);
+}
+
+-- ---- chains made one by one
+
+module _ (a : Hashed → List Attribute) (es : List Hashed) where
+  pub none_linked : (chains : List ℕ) → chains ≡ [] → AreLinked a es chains
+  none_linked chains none n chain at = absurd (let below = slice_get_within chains n chain at in omega (arith, below, ap length none))
+
+  pub linked_none_more : (chains chains' : List ℕ) (b : Bool) → chains' ≡ cond b (chains ++ 0 ∷ []) chains → AreLinked a es chains → AreLinked a es chains'
+  linked_none_more chains chains' false is are = subst (AreLinked a es) (sym is) are
+  linked_none_more chains chains' true is are = subst (AreLinked a es) (sym is) (λ n chain at. elim (push_cases chains n chain at) [
+    | inl old ↦ are n chain old
+    | inr new ↦ inl new
+  ])
+    where
+      push_cases : (ls : List ℕ) (n chain : ℕ) → slice_get (ls ++ 0 ∷ []) n ≡ Some chain → (slice_get ls n ≡ Some chain) ⊎ (chain ≡ 0)
+      push_cases [] zero chain h = inr (sym (same_Some 0 chain h))
+      push_cases [] (suc zero) chain h = absurd (cc)
+      push_cases [] (suc (suc n)) chain h = absurd (cc)
+      push_cases (l ∷ ls) zero chain h = inl h
+      push_cases (l ∷ ls) (suc n) chain h = push_cases ls n chain h
+
+  pub linked_more : (chains : List ℕ) (i n chain was : ℕ) (e : Hashed) → slice_get es i ≡ Some e → e.slot ≡ n → slice_get chains n ≡ Some was
+      → ((f : Hashed) → slice_get es (suc i) ≡ Some f → f.hash ≡ e.hash → a f ≡ a e → chain ≤ f.slot) → AreLinked a es chains → AreLinked a es (slice_set chains n chain)
+  linked_more chains i n chain was e at slot old leads are k to there = elim (cases_eq k n) [
+    | inl here ↦
+        let same : chain ≡ to = same_Some chain to (sym (set_here chains n chain was old) ∙ sym (ap (slice_get (slice_set chains n chain)) here) ∙ there) in
+        inr (i, e, at, slot ∙ sym here, λ f f_at h d. subst (λ c. c ≤ f.slot) same (leads f f_at h d))
+    | inr ne ↦ are k to (sym (set_apart chains n chain k ne) ∙ there)
+  ]
+
+  pub rise_more : (n : ℕ) → ((e f : Hashed) → slice_get es n ≡ Some e → slice_get es (suc n) ≡ Some f → IsBefore a e f) → AreInOrder a es n → AreInOrder a es (suc n)
+  rise_more n next rise k e f below at to = elim (cases_eq k n) [
+    | inl here ↦ next e f (ap (slice_get es) (sym here) ∙ at) (ap (λ j. slice_get es (suc j)) (sym here) ∙ to)
+    | inr ne ↦ rise k e f (let apart : k ≢ n = ne in omega (arith, below, apart)) at to
+  ]

@@ -10,13 +10,12 @@ ghost use Rattle.rs_outlet.specs.declared.rows.Row.{Row};
 ghost use Rattle.rs_outlet.specs.declared.waiting.Wait.{Wait};
 ghost use Rattle.rs_outlet.specs.Pending.Slots.{prefixes_at, open_at, is_withdrawal, is_withdrawn, is_announced, withdrawn_count};
 ghost use Rattle.rs_outlet.specs.Pending.Choosing.{HasRow, HaveRoom, IsFound, IsChosen, AreChosen, MayList, Rise, WaitsFor, passing, shares};
-ghost use Rattle.rs_outlet.specs.Pending.Hashing.{attributes_hash};
-ghost use Rattle.rs_outlet.specs.Inside.{AreBacked, IsBacked, row_by, shown};
+ghost use Rattle.rs_outlet.specs.Inside.{AreBacked, AreChained, IsBacked, row_by, shown};
 ghost use Rattle.rs_outlet.specs.Message.Next.{has_attributes};
 
 use crate::rows::Row;
 use crate::table::Rows;
-use crate::waiting::{Due, Wait, Waits, hash_of};
+use crate::waiting::{Due, Wait, Waits};
 use rs_attrs::Attrs;
 use rs_octets::Prefix;
 
@@ -24,6 +23,7 @@ impl Waits {
     /// The first slot that is to be withdrawn.
     pub(crate) fn first_withdrawn(&mut self) -> Option<usize>
         ensures slots { self.new.slots.items ≡ self.old.slots.items }
+        ensures chains { self.new.chains.items ≡ self.old.chains.items }
         ensures capacity { vec_capacity self.new.slots ≡ vec_capacity self.old.slots }
         ensures first { IsFound is_withdrawn self.old.slots.items result }
     {
@@ -38,6 +38,7 @@ impl Waits {
     /// The first slot that is to be announced.
     pub(crate) fn first_announced(&mut self) -> Option<usize>
         ensures slots { self.new.slots.items ≡ self.old.slots.items }
+        ensures chains { self.new.chains.items ≡ self.old.chains.items }
         ensures capacity { vec_capacity self.new.slots ≡ vec_capacity self.old.slots }
         ensures first { IsFound is_announced self.old.slots.items result }
     {
@@ -121,9 +122,8 @@ impl Waits {
         ensures first { first < vec_len self.now.slots → HoldsAt (WaitsFor rows.now.rows.items attrs.now) self.now.slots.items first → vec_len front.old < room → HaveRoom chosen.old front.old → chosen.old.items ≡ [] → slice_get chosen.new.items 0 ≡ Some first }
         ensures rise { chosen.old.items ≡ [] → Rise chosen.new.items }
         ensures are { AreChosen rows.now.rows.items self.now.slots.items (Some attrs.now) chosen.old.items front.old.items → AreChosen rows.now.rows.items self.now.slots.items (Some attrs.now) chosen.new.items front.new.items }
-        ensures all { AreBacked rows.now.rows.items self.now.slots.items → room ≤ vec_capacity chosen.old → room ≤ vec_capacity front.old → chosen.old.items ≡ [] → front.old.items ≡ [] → front.new.items ≡ take room (passing (shares rows.now.rows.items attrs.now) (drop first self.now.slots.items)) }
+        ensures all { AreChained rows.now.rows.items self.now.slots.items self.now.chains.items → AreBacked rows.now.rows.items self.now.slots.items → room ≤ vec_capacity chosen.old → room ≤ vec_capacity front.old → chosen.old.items ≡ [] → front.old.items ≡ [] → front.new.items ≡ take room (passing (shares rows.now.rows.items attrs.now) (drop first self.now.slots.items)) }
     {
-        let hash = hash_of(attrs);
         let mut slot = first;
         for _ in 0..self.slots.len() {
             if room <= front.len() {
@@ -132,41 +132,47 @@ impl Waits {
             if self.slots.len() <= slot {
                 return;
             }
-            self.list_announced(rows, slot, hash, attrs, chosen, front);
-            slot = self.next_slot(slot, hash);
+            let listed = self.list_announced(rows, slot, attrs, chosen, front);
+            slot = self.next_slot(slot, listed);
         }
     }
 
-    /// Lists the prefix of a slot, if it waits for these attributes, which have this hash.
+    /// Lists the prefix of a slot, if it waits for these attributes. Answers whether it does.
     fn list_announced(
         &self,
         rows: &Rows,
         slot: usize,
-        hash: u32,
         attrs: &Attrs,
         chosen: &mut Vec<usize>,
         front: &mut Vec<Prefix>,
-    )
+    ) -> bool
         requires { slot < vec_len self.now.slots }
+        ensures waits { IsTrue result → HoldsAt (λ w. shown (row_by rows.now.rows.items w.due) ≡ Some attrs.now) self.now.slots.items slot }
         ensures chosen { vec_capacity chosen.new ≡ vec_capacity chosen.old }
         ensures front { vec_capacity front.new ≡ vec_capacity front.old }
         ensures grows { vec_len front.old ≤ vec_len front.new }
-        ensures listed { HoldsAt (WaitsFor rows.now.rows.items attrs.now) self.now.slots.items slot → hash ≡ attributes_hash attrs.now → HaveRoom chosen.old front.old → 0 < vec_len front.new }
+        ensures listed { HoldsAt (WaitsFor rows.now.rows.items attrs.now) self.now.slots.items slot → HaveRoom chosen.old front.old → 0 < vec_len front.new }
         ensures slots { MayList slot chosen.old.items chosen.new.items }
-        ensures there { HoldsAt (WaitsFor rows.now.rows.items attrs.now) self.now.slots.items slot → hash ≡ attributes_hash attrs.now → HaveRoom chosen.old front.old → chosen.new.items ≡ chosen.old.items ++ slot ∷ [] }
+        ensures there { HoldsAt (WaitsFor rows.now.rows.items attrs.now) self.now.slots.items slot → HaveRoom chosen.old front.old → chosen.new.items ≡ chosen.old.items ++ slot ∷ [] }
         ensures are { AreChosen rows.now.rows.items self.now.slots.items (Some attrs.now) chosen.old.items front.old.items → AreChosen rows.now.rows.items self.now.slots.items (Some attrs.now) chosen.new.items front.new.items }
-        ensures all { HaveRoom chosen.old front.old → hash ≡ attributes_hash attrs.now → HoldsAt (λ w. (w.open ≡ true → IsBacked rows.now.rows.items w.prefix w.due) → front.new.items ≡ front.old.items ++ passing (shares rows.now.rows.items attrs.now) (w ∷ [])) self.now.slots.items slot }
+        ensures all { HaveRoom chosen.old front.old → HoldsAt (λ w. (w.open ≡ true → IsBacked rows.now.rows.items w.prefix w.due) → front.new.items ≡ front.old.items ++ passing (shares rows.now.rows.items attrs.now) (w ∷ [])) self.now.slots.items slot }
     {
         let wait = &self.slots[slot];
-        if wait.open && waits_for(rows, wait, hash, attrs) {
-            // for the prover: it is legal
-            let _len = wait.prefix.len();
-            list_slot(slot, wait.prefix, chosen, front);
+        if !wait.open {
+            return false;
         }
+        if !waits_for(rows, wait, attrs) {
+            return false;
+        }
+        // for the prover: it is legal
+        let _len = wait.prefix.len();
+        list_slot(slot, wait.prefix, chosen, front);
+        true
     }
 
     /// These slots wait no more.
     pub(crate) fn give_up(&mut self, chosen: &[usize])
+        ensures chained { (rows : List (Option Row)) → AreChained rows self.old.slots.items self.old.chains.items → AreChained rows self.new.slots.items self.new.chains.items }
         ensures withdrawn { withdrawn_count self.new.slots.items ≤ withdrawn_count self.old.slots.items }
         ensures capacity { vec_capacity self.new.slots ≡ vec_capacity self.old.slots }
         ensures slots { (rows : List (Option Row)) (said : Option (List Attribute)) (ps : List Prefix) → AreChosen rows self.old.slots.items said chosen.now ps → (q : Prefix) → open_at q self.new.slots.items ≡ (if list_any (eq_by_cmp prefix_order q) ps then None else open_at q self.old.slots.items) }
@@ -178,6 +184,7 @@ impl Waits {
 
     /// A slot waits no more.
     fn give_up_one(&mut self, slot: usize)
+        ensures chained { (rows : List (Option Row)) → AreChained rows self.old.slots.items self.old.chains.items → AreChained rows self.new.slots.items self.new.chains.items }
         ensures prefixes { prefixes_at self.new.slots.items ≡ prefixes_at self.old.slots.items }
         ensures withdrawn { withdrawn_count self.new.slots.items ≤ withdrawn_count self.old.slots.items }
         ensures capacity { vec_capacity self.new.slots ≡ vec_capacity self.old.slots }
@@ -236,23 +243,17 @@ fn list_slot(slot: usize, prefix: Prefix, chosen: &mut Vec<usize>, front: &mut V
     front.push_reserved(prefix);
 }
 
-/// Whether a slot waits for these attributes, which have this hash.
-fn waits_for(rows: &Rows, wait: &Wait, hash: u32, attrs: &Attrs) -> bool
+/// Whether a slot waits for these attributes.
+fn waits_for(rows: &Rows, wait: &Wait, attrs: &Attrs) -> bool
     ensures said { IsTrue result → is_withdrawal wait.now.due ≡ false }
     ensures row { IsTrue result → HasRow rows.now.rows.items wait.now.prefix attrs.now }
-    ensures all { WaitsFor rows.now.rows.items attrs.now wait.now → hash ≡ attributes_hash attrs.now → result ≡ true }
-    ensures just { IsBacked rows.now.rows.items wait.now.prefix wait.now.due → hash ≡ attributes_hash attrs.now → result ≡ has_attributes (shown (row_by rows.now.rows.items wait.now.due)) attrs.now }
+    ensures due { IsTrue result → shown (row_by rows.now.rows.items wait.now.due) ≡ Some attrs.now }
+    ensures all { WaitsFor rows.now.rows.items attrs.now wait.now → result ≡ true }
+    ensures just { IsBacked rows.now.rows.items wait.now.prefix wait.now.due → result ≡ has_attributes (shown (row_by rows.now.rows.items wait.now.due)) attrs.now }
 {
-    let Due::Announced {
-        number,
-        hash: other,
-    } = wait.due
-    else {
+    let Due::Announced { number, .. } = wait.due else {
         return false;
     };
-    if hash != other {
-        return false;
-    }
     let Some(row) = rows.get(number) else {
         return false;
     };

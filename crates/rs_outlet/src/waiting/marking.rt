@@ -1,6 +1,6 @@
 //! A client asks for everything again: what was told waits to be told again (RFC 2918, 4).
 
-ghost use Rattle.std.specs.Prelude.{◌≡◌, ◌≤◌, ◌<◌, ◌+◌, None, IsSome, true, false, map, take, vec_len};
+ghost use Rattle.std.specs.Prelude.{◌≡◌, ◌≤◌, ◌<◌, ◌+◌, None, IsSome, [], true, false, map, take, vec_len};
 ghost use Rattle.std.specs.FinMap as fin;
 ghost use Rattle.std.specs.List.{list_any};
 ghost use Rattle.std.specs.List.Sorted.{IsStrictlySortedBy};
@@ -26,6 +26,7 @@ impl Waits {
         ensures all { AreBacked rows.now.rows.items self.old.slots.items → (q : Prefix) → IsSome (fin.get (loc_of rows.now.rows.items) q) → IsSome (open_at q self.new.slots.items) }
         ensures withdrawn { withdrawn_count self.new.slots.items ≤ withdrawn_count self.old.slots.items }
         ensures capacity { vec_capacity self.new.slots ≡ vec_capacity self.old.slots }
+        ensures chains { self.new.chains.items ≡ [] }
         ensures backed { AreBacked rows.now.rows.items self.old.slots.items → AreBacked rows.now.rows.items self.new.slots.items }
     {
         self.make_one_part(None);

@@ -1,12 +1,14 @@
 //! Slots are added to what waits, and both of its parts become one: now and then as slots are added,
 //! always where the client takes messages meanwhile, and at the latest before a message begins.
 
-ghost use Rattle.std.specs.Prelude.{◌≡◌, ◌≤◌, ◌+◌, ◌++◌, false, vec_len};
+ghost use Rattle.std.specs.Prelude.{◌≡◌, ◌≤◌, ◌+◌, ◌++◌, [], false, vec_len};
 ghost use Rattle.std.specs.List.Sorted.{IsStrictlySortedBy};
 ghost use Rattle.std.specs.Vec.{vec_capacity};
 ghost use Rattle.rs_octets.specs.Prefixes.{Prefix, prefix_order};
 ghost use Rattle.rs_outlet.specs.Pending.Slots.{AreFresh, open_at, open_count, prefixes_at, withdrawn_count};
+ghost use Rattle.rs_outlet.specs.Inside.{AreBacked, AreChained};
 
+use crate::table::Rows;
 use crate::waiting::parts::{drop_shut, put_slots, sort_from};
 use crate::waiting::{Wait, Waits};
 use std::alloc::Global;
@@ -25,6 +27,7 @@ impl Waits {
         ensures slots { (q : Prefix) → open_at q self.new.slots.items ≡ open_at q (self.old.slots.items ++ more.items) }
         ensures withdrawn { withdrawn_count self.new.slots.items ≤ withdrawn_count self.old.slots.items + withdrawn_count more.items }
         ensures capacity { vec_capacity self.new.slots ≡ vec_capacity self.old.slots }
+        ensures chains { self.new.chains.items ≡ [] }
     {
         let has_begun = self.ready;
         self.make_room(more.len());
@@ -67,6 +70,7 @@ impl Waits {
         ensures slots { (q : Prefix) → open_at q self.new.slots.items ≡ open_at q (self.old.slots.items ++ more.items) }
         ensures withdrawn { withdrawn_count self.new.slots.items ≤ withdrawn_count self.old.slots.items + withdrawn_count more.items }
         ensures capacity { vec_capacity self.new.slots ≡ vec_capacity self.old.slots }
+        ensures chains { self.new.chains.items ≡ [] }
     {
         let count = more.len();
         put_slots(&mut self.slots, self.sorted, more);
@@ -87,6 +91,7 @@ impl Waits {
         ensures len { vec_len self.new.slots ≡ open_count self.old.slots.items }
         ensures withdrawn { withdrawn_count self.new.slots.items ≡ withdrawn_count self.old.slots.items }
         ensures capacity { vec_capacity self.new.slots ≡ vec_capacity self.old.slots }
+        ensures chains { self.new.chains.items ≡ [] }
     {
         drop_shut(&mut self.slots);
         sort_from(buffers, &mut self.slots, 0);
@@ -105,6 +110,7 @@ impl Waits {
         ensures one { self.new.sorted ≡ vec_len self.new.slots }
         ensures withdrawn { withdrawn_count self.new.slots.items ≡ withdrawn_count self.old.slots.items }
         ensures capacity { vec_capacity self.new.slots ≡ vec_capacity self.old.slots }
+        ensures chains { self.old.chains.items ≡ [] → self.new.chains.items ≡ [] }
     {
         if self.sorted == self.slots.len() {
             return;
@@ -114,7 +120,10 @@ impl Waits {
 
     /// Makes the slots ready for a message: they are one part, and chained. They stay so till others
     /// are added. It takes no memory.
-    pub(crate) fn prepare(&mut self)
+    pub(crate) fn prepare(&mut self, rows: &Rows)
+        requires backed { AreBacked rows.now.rows.items self.old.slots.items }
+        requires chained { AreChained rows.now.rows.items self.old.slots.items self.old.chains.items }
+        ensures chained { AreChained rows.now.rows.items self.new.slots.items self.new.chains.items }
         ensures slots { (q : Prefix) → open_at q self.new.slots.items ≡ open_at q self.old.slots.items }
         ensures rises { IsStrictlySortedBy prefix_order (prefixes_at self.new.slots.items) }
         ensures withdrawn { withdrawn_count self.new.slots.items ≡ withdrawn_count self.old.slots.items }
@@ -124,7 +133,7 @@ impl Waits {
             return;
         }
         self.make_one_part(None);
-        self.chain();
+        self.chain(rows);
         self.ready = true;
     }
 }

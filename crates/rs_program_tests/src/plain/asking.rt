@@ -11,6 +11,7 @@
 //!     export ..                              a rule of the client above
 //!     heard HEX                              what came from it since its connection came
 //!     sent HEX                               what was sent to it since then
+//!     closed                                 the server closed the connection, and not for a timer, a limit or want of memory
 //!     end                                    the case is to be answered
 
 use crate::plain::choice::due;
@@ -29,6 +30,7 @@ use std::test::Fail;
 struct Link {
     heard: Vec<u8>,
     sent: Vec<u8>,
+    is_closed: bool,
 }
 
 /// A case, as far as it was read.
@@ -49,6 +51,8 @@ struct Case {
 enum Answer {
     /// All Established clients hold what they are to hold, so many routes.
     Same(u64),
+    /// The connection of this client was closed, and nothing that came from it was at fault.
+    Closed(usize),
     /// The octets that were sent to this client are not whole messages without a fault.
     Unreadable(usize),
     /// At this prefix the client holds another route than it is to hold.
@@ -177,6 +181,7 @@ impl Case {
         self.links.push(Link {
             heard: Vec::new(alloc),
             sent: Vec::new(alloc),
+            is_closed: false,
         })?;
         Ok(())
     }
@@ -218,6 +223,12 @@ impl Case {
         }
     }
 
+    fn close(&mut self) {
+        if let Some(link) = self.links.last_mut() {
+            link.is_closed = true;
+        }
+    }
+
     /// One line more, but for `end`.
     fn take(&mut self, words: &[&str]) -> Result<(), AllocError> {
         match words.first().copied().unwrap_or("") {
@@ -230,6 +241,7 @@ impl Case {
             "export" => self.rule(words, false)?,
             "heard" => self.link(words, true),
             "sent" => self.link(words, false),
+            "closed" => self.close(),
             _ => {}
         }
         Ok(())
@@ -251,22 +263,26 @@ impl Case {
         Ok(Some(read_octets(self.alloc, &reader, &link.heard)?))
     }
 
-    /// Hears all clients.
-    fn hear_all(&mut self) -> Result<(), AllocError> {
+    /// Hears all clients; answers one whose connection was closed though nothing was at fault.
+    fn hear_all(&mut self) -> Result<Option<usize>, AllocError> {
         for place in 0..self.exchange.clients.len() {
             let heard = self.hear(place)?;
+            let is_closed = self.links.get(place).is_some_and(|link| link.is_closed);
             let Some(client) = self.exchange.clients.get_mut(place) else {
                 continue;
             };
             let Some(heard) = heard else {
                 continue;
             };
+            if is_closed && heard.is_good {
+                return Ok(Some(place));
+            }
             if heard.is_up() || self.without == Some(Sentence::Established) {
                 client.session = heard.session;
                 client.table = heard.table;
             }
         }
-        Ok(())
+        Ok(None)
     }
 
     /// What was told to a client, where it can be read.
@@ -326,7 +342,9 @@ impl Case {
     }
 
     fn answer(&mut self) -> Result<Answer, AllocError> {
-        self.hear_all()?;
+        if let Some(place) = self.hear_all()? {
+            return Ok(Answer::Closed(place));
+        }
         let mut routes = 0u64;
         for place in 0..self.exchange.clients.len() {
             let Some(client) = self.exchange.clients.get(place) else {
@@ -351,6 +369,7 @@ impl Case {
 fn print<R: Print>(rt: &R, answer: Answer) -> std::io::Result<()> {
     match answer {
         Answer::Same(routes) => println!(rt; "same {routes}"),
+        Answer::Closed(place) => println!(rt; "closed {place}"),
         Answer::Unreadable(place) => println!(rt; "unreadable {place}"),
         Answer::Differs(place, prefix) => {
             println!(rt; "differs {place} {} {}", prefix.bits(), prefix.len())

@@ -27,7 +27,7 @@ returns-clause-update c = inr (record {
       let m = c.args.attrs.now in
       longest_of_all (announcement m c.args.speech.mode) (limit_octets c.args.speech.limit) _ (passing (shares rows m) ws) c.collect_announced.new.front.items c.put_announcement.result.prefixes (announcements_take m c.args.speech.mode)
       (omega (arith, c.most_prefixes-room.ensures.value))
-      (c.collect_announced.ensures.all c.requires.backed (search rules) (search rules) c.requires.none.0 c.requires.none.1
+      (c.collect_announced.ensures.all c.requires.chained c.requires.backed (search rules) (search rules) c.requires.none.0 c.requires.none.1
       ∙ ap (take c.most_prefixes-room.result) (passing_behind (shares rows m) ws c.args.first (λ k d low high. not_shared rows m (get_or ws k d) (c.requires.before k d low high))))
       (subst (λ xs. IsLongestFront (announcement m c.args.speech.mode) (limit_octets c.args.speech.limit) xs c.put_announcement.result.prefixes) c.deref.ensures.value c.put_announcement.ensures.longest);
 })

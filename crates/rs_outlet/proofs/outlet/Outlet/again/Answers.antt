@@ -3,6 +3,7 @@ use Rattle.std.specs.FinMap as fin
 use Rattle.rs_outlet.specs.Views.{View}
 use Rattle.rs_outlet.specs.Inside.{loc_of}
 use Rattle.rs_outlet.proofs.Pending.AskedAgain.{exact_again, marked_all, told_again}
+use Rattle.rs_outlet.proofs.Pending.Chains.{none_chained}
 use Rattle.rs_outlet.proofs.outlet.Outlet.again.Goals as goal
 
 pub returns-clause-told : goal.returns-clause-told
@@ -25,6 +26,7 @@ returns-clause-exact c = λ exact.
 pub invariant_of-self : goal.invariant_of-self
 invariant_of-self c =
     let kept = c.self.invariant in
+    let a = c.self.inside in
     record {
       octets = kept.octets;
       started = kept.started;
@@ -34,5 +36,6 @@ invariant_of-self c =
       slots = omega (arith, kept.slots, c.mark_all.ensures.withdrawn, c.mark_all.ensures.capacity);
       extended = kept.extended;
       backed = c.mark_all.ensures.backed kept.backed;
+      chained = none_chained a.rows.rows.items c.mark_all.new.self.slots.items _ c.mark_all.ensures.chains;
       fit = kept.fit;
     }

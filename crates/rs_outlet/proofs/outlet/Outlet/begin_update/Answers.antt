@@ -9,6 +9,7 @@ use Rattle.rs_outlet.proofs.Decided.LocByNumber.{same}
 use Rattle.rs_outlet.proofs.Decided.Numbering.{all_front}
 use Rattle.rs_outlet.proofs.Message.Ranges.{from_start}
 use Rattle.rs_outlet.proofs.Message.Beginning.{backed_left, update_seen}
+use Rattle.rs_outlet.proofs.Pending.Chains.{same_chained}
 use Rattle.rs_outlet.proofs.Pending.Unchanged.{backed_same, marked_same, told_same, waits_same}
 use Rattle.rs_outlet.proofs.outlet.Outlet.begin_update.Goals as goal
 
@@ -31,6 +32,12 @@ returns-clause-begins c = λ spoken e.
     (subst (λ ns. AreChosen rows c.prepare.new.self.slots.items said ns qs) (sym (c.deref.ensures.value ∙ c.truncate.ensures.items)) are)) q
     ∙ ap (λ ws. cond (list_any (same q) qs) None (open_at q ws)) c.put_update-packed.ensures.slots)
     (backed_same rows was ws is c.self.invariant.backed)
+
+pub prepare-requires-clause-backed : goal.prepare-requires-clause-backed
+prepare-requires-clause-backed c = c.self.invariant.backed
+
+pub prepare-requires-clause-chained : goal.prepare-requires-clause-chained
+prepare-requires-clause-chained c = c.self.invariant.chained
 
 pub put_update-packed-requires-clause-backed : goal.put_update-packed-requires-clause-backed
 put_update-packed-requires-clause-backed c = backed_same c.self.inside.rows.rows.items c.self.inside.waits.slots.items c.prepare.new.self.slots.items c.prepare.ensures.slots c.self.invariant.backed
@@ -56,5 +63,6 @@ invariant_of-self c =
           (subst (λ ns. AreChosen rows c.prepare.new.self.slots.items said ns qs) (sym (c.deref.ensures.value ∙ c.truncate.ensures.items)) are)) q
           ∙ ap (λ ws. cond (list_any (same q) qs) None (open_at q ws)) c.put_update-packed.ensures.slots)
           (backed_same rows a.waits.slots.items c.prepare.new.self.slots.items c.prepare.ensures.slots kept.backed);
+      chained = c.give_up.ensures.chained rows (same_chained rows rows c.prepare.new.self.slots.items c.put_update-packed.new.waits.slots.items c.prepare.new.self.chains.items _ (λ n. refl) c.put_update-packed.ensures.slots c.put_update-packed.ensures.chains c.prepare.ensures.chained);
       fit = kept.fit;
     }

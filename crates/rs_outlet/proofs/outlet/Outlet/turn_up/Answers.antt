@@ -18,6 +18,7 @@ use Rattle.rs_outlet.specs.Decided.Touching.{touched_of}
 use Rattle.rs_outlet.proofs.Decided.Numbering.{all_front, all_behind, all_both, have_rows}
 use Rattle.rs_outlet.proofs.Pending.Carrying.{distinct_prefixes, keeps_both, keeps_same}
 use Rattle.rs_outlet.proofs.Pending.Unchanged.{told_kept, marked_kept, exact_kept}
+use Rattle.rs_outlet.proofs.Pending.Chains.{none_chained, same_chained}
 use Rattle.rs_outlet.proofs.Decided.Ranks.{due_unnumbered, none_holds}
 use Rattle.rs_outlet.proofs.Decided.Counting.{count_touched, counted_by_prefix}
 use Rattle.rs_outlet.proofs.Decided.LocByNumber.{numbered}
@@ -142,6 +143,7 @@ invariant_of-self c =
       slots = omega (arith, kept.slots, c.make_room.ensures.used, ap withdrawn_count c.make_room.ensures.waits, c.make_room.ensures.capacity);
       extended = kept.extended;
       backed = are_backed_same a.rows.rows.items rows a.waits.slots.items c.make_room.new.waits.slots.items same_rows c.make_room.ensures.waits kept.backed;
+      chained = same_chained a.rows.rows.items rows a.waits.slots.items c.make_room.new.waits.slots.items a.waits.chains.items _ same_rows c.make_room.ensures.waits c.make_room.ensures.chains kept.chained;
       fit = λ speech is. fit_same speech a.rows.rows.items rows same_rows (kept.fit speech is);
     }
 
@@ -159,6 +161,7 @@ invariant_of-self-2 c =
       slots = c.commit.ensures.all;
       extended = kept.extended;
       backed = c.commit.ensures.backed (are_backed_same a.rows.rows.items c.make_room.new.rows.rows.items a.waits.slots.items c.make_room.new.waits.slots.items c.make_room.ensures.rows c.make_room.ensures.waits kept.backed);
+      chained = none_chained _ _ _ c.commit.ensures.chains;
       fit = fit_spoken c.commit.new.rows.rows.items a.speech c.args.speech is
           (c.commit.ensures.fit c.args.speech
           (changes_fit (held_by c.args.sources.now) c.args.sources.now.client c.args.speech c.in_ok-changes.field-0.changes.items c.in_ok-changes.ensures.changes.due)

@@ -6,7 +6,6 @@ use Rattle.rs_outlet.specs.Pending.Slots.{is_withdrawn}
 use Rattle.rs_outlet.proofs.Pending.Adding.{moved_apart, same_open}
 use Rattle.rs_outlet.proofs.Pending.TwoParts.{first_same, late_rise, open_within}
 use Rattle.rs_outlet.proofs.Pending.Withdrawals.{one_if}
-use Rattle.rs_outlet.proofs.Pending.Chains.{none_chained}
 use Rattle.rs_outlet.proofs.waiting.Waits.add_late.Goals as goal
 
 pub put_slots-requires-clause-parts : goal.put_slots-requires-clause-parts
@@ -43,6 +42,3 @@ pub returns-clause-withdrawn : goal.returns-clause-withdrawn
 returns-clause-withdrawn c =
     let moved = sum_by-IsPermutation (λ (w : Wait). one_if (is_withdrawn w)) c.put_slots.new.slots.items c.sort_from.new.slots.items c.sort_from.ensures.permutation in
     omega (arith, moved, c.put_slots.ensures.withdrawn)
-
-pub invariant_of-self-clause-chained : goal.invariant_of-self-clause-chained
-invariant_of-self-clause-chained c = none_chained _ _ (search rules)

@@ -1,15 +1,14 @@
-use Rattle.std.proofs.Common.{◌≡◌, ◌∙◌, drop, false, Some, refl, sym, subst, take, ap, rules}
+use Rattle.std.proofs.Common.{◌≡◌, ◌∙◌, drop, false, length, Some, refl, sym, subst, take, ap, rules}
 use Rattle.std.specs.Prelude.{slice_get}
 use Rattle.std.proofs.lemmas.List.Elements.{AllWithin-set}
-use Rattle.std.proofs.lemmas.Option.{get_or_from_slice_get}
+use Rattle.std.proofs.lemmas.Option.{get_or_from_slice_get, slice_get_read}
 use Rattle.std.specs.List.{IsDistinct}
 use Rattle.std.specs.List.Sorted.{IsStrictlySortedBy}
 use Rattle.std.specs.Ordering.{eq_by_cmp}
 use Rattle.rs_octets.specs.Prefixes.{prefix_order}
 use Rattle.rs_outlet.specs.declared.waiting.Wait.{Wait}
 use Rattle.rs_outlet.specs.Pending.Slots.{is_withdrawn, is_announced}
-use Rattle.rs_outlet.specs.Pending.Chains.{AreChained}
-use Rattle.rs_outlet.proofs.Pending.Chains.{same_dues}
+use Rattle.rs_outlet.proofs.Pending.Chains.{shut_chained}
 use Rattle.rs_outlet.proofs.Pending.Slots.{count_shut, count_one, count_less, same_prefixes, closed_at}
 use Rattle.rs_outlet.proofs.Pending.Withdrawals.{withdrawn_less}
 use Rattle.rs_outlet.proofs.waiting.Waits.close.Goals as goal
@@ -44,12 +43,6 @@ invariant_of-self-clause-withdrawn c = AllWithin-set (λ w. is_withdrawn w ≡ f
 pub invariant_of-self-clause-announced : goal.invariant_of-self-clause-announced
 invariant_of-self-clause-announced c = AllWithin-set (λ w. is_announced w ≡ false) c.args.self.now.slots.items 0 c.args.self.now.news c.args.slot _ (search rules) refl c.args.self.now.announced
 
-pub invariant_of-self-clause-chained : goal.invariant_of-self-clause-chained
-invariant_of-self-clause-chained c =
-    subst (λ ds. AreChained ds c.args.self.now.chains.items)
-    (sym (same_dues c.args.self.now.slots.items c.args.slot _ c.index_mut-wait.result.now (ap (λ (w : Wait). w.due) c.index_mut-wait.ensures.value)))
-    c.args.self.now.chained
-
 pub returns : goal.returns
 returns c =
     let ws = c.args.self.now.slots.items in
@@ -59,6 +52,7 @@ returns c =
       prefixes = same_prefixes ws c.args.slot _ was (ap (λ (w : Wait). w.prefix) c.index_mut-wait.ensures.value);
       slots = λ p at q. closed_at ws c.args.slot p _ c.args.self.now.apart at refl q;
       told = λ w at. (c.replace-told.ensures.value ∙ ap (λ (w : Wait). w.told) (is w at), ap (λ (w : Wait). w.marked) (is w at));
+      chained = λ rows. shut_chained rows ws c.args.slot was _ c.args.self.now.chains.items (slice_get_read ws (length ws) c.args.slot was refl (search rules) c.index_mut-wait.ensures.value) refl refl;
       count = count_less ws c.args.slot _ was (search rules) refl;
       withdrawn = withdrawn_less ws c.args.slot _ was (search rules) refl;
       capacity = refl;

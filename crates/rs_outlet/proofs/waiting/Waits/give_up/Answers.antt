@@ -10,6 +10,7 @@ pub loop-slot-preserved : goal.loop-slot-preserved
 loop-slot-preserved c = record {
   prefixes = c.give_up_one.ensures.prefixes ∙ c.loop-slot.invariant.prefixes;
   withdrawn = omega (arith, c.give_up_one.ensures.withdrawn, c.loop-slot.invariant.withdrawn);
+  chained = λ rows are. c.give_up_one.ensures.chained rows (c.loop-slot.invariant.chained rows are);
   capacity = c.give_up_one.ensures.capacity ∙ c.loop-slot.invariant.capacity;
   slots = λ rows said ps are q.
       let i = c.loop-slot.slot-index in

@@ -7,7 +7,6 @@ use Rattle.rs_outlet.specs.Pending.Marking.{MayWaitAgain}
 use Rattle.rs_outlet.specs.Pending.Slots.{open_at, prefixes_at}
 use Rattle.rs_outlet.proofs.Pending.TwoParts.{whole_first, whole_late}
 use Rattle.rs_outlet.proofs.Pending.Unchanged.{backed_same}
-use Rattle.rs_outlet.proofs.Pending.Chains.{none_chained}
 use Rattle.rs_outlet.proofs.waiting.Waits.mark_all.Goals as goal
 
 pub add_rows-requires-clause-room : goal.add_rows-requires-clause-room
@@ -33,8 +32,6 @@ returns c =
       all = λ backed. c.add_rows.ensures.all (backed_same rows ws one is backed);
       withdrawn = omega (arith, c.add_rows.ensures.withdrawn, c.make_one_part.ensures.withdrawn);
       capacity = c.add_rows.ensures.capacity ∙ c.make_one_part.ensures.capacity;
+      chains = search rules;
       backed = λ backed. c.add_rows.ensures.backed (backed_same rows ws one is backed);
     }
-
-pub invariant_of-self-clause-chained : goal.invariant_of-self-clause-chained
-invariant_of-self-clause-chained c = none_chained _ _ (search rules)

@@ -1,6 +1,5 @@
 use Rattle.std.proofs.Common.{rules, ◌∙◌, arith}
 use Rattle.rs_outlet.proofs.Pending.TwoParts.{are_merged, whole_first, whole_late}
-use Rattle.rs_outlet.proofs.Pending.Chains.{none_chained}
 use Rattle.rs_outlet.proofs.waiting.Waits.merge.Goals as goal
 
 pub invariant_of-self-clause-counted : goal.invariant_of-self-clause-counted
@@ -31,7 +30,5 @@ returns c =
       len = omega (arith, merged.size, c.sort_from.new.slots.ok);
       withdrawn = merged.withdrawn;
       capacity = c.sort_from.ensures.capacity ∙ c.drop_shut.ensures.capacity;
+      chains = search rules;
     }
-
-pub invariant_of-self-clause-chained : goal.invariant_of-self-clause-chained
-invariant_of-self-clause-chained c = none_chained _ _ (search rules)

@@ -1,5 +1,4 @@
 use Rattle.std.proofs.Common.{rules}
-use Rattle.rs_outlet.proofs.Pending.Chains.{none_chained}
 use Rattle.rs_outlet.proofs.Pending.Slots.{no_part, none_distinct, none_rise}
 use Rattle.rs_outlet.proofs.waiting.Waits.new.Goals as goal
 
@@ -11,6 +10,3 @@ invariant_of-result-clause-late c = search (rules, none_rise)
 
 pub invariant_of-result-clause-apart : goal.invariant_of-result-clause-apart
 invariant_of-result-clause-apart c = search (rules, none_distinct)
-
-pub invariant_of-result-clause-chained : goal.invariant_of-result-clause-chained
-invariant_of-result-clause-chained c = none_chained _ _ (search rules)

@@ -6,7 +6,6 @@ use Rattle.std.specs.Ordering.{eq_by_cmp}
 use Rattle.rs_octets.specs.Prefixes.{prefix_order}
 use Rattle.rs_outlet.specs.declared.waiting.Wait.{Wait}
 use Rattle.rs_outlet.specs.Pending.Slots.{is_announced, is_withdrawn, open_count, prefixes_at}
-use Rattle.rs_outlet.proofs.Pending.Chains.{same_chained}
 use Rattle.rs_outlet.proofs.waiting.Waits.reserve.Goals as goal
 
 pub invariant_of-self-in-Break-branch-2 : goal.invariant_of-self-in-Break-branch-2
@@ -16,7 +15,6 @@ invariant_of-self-in-Break-branch-2 c =
       counted = old.counted;
       withdrawn = old.withdrawn;
       announced = old.announced;
-      chained = same_chained old.slots.items old.slots.items old.chains.items c.reserve-2.new.self.items refl c.reserve-2.ensures.items old.chained;
       within = old.within;
       first = old.first;
       late = old.late;
@@ -33,7 +31,6 @@ invariant_of-self-2 c =
       counted = ap open_count same ∙ old.counted;
       withdrawn = subst (λ (ws : List Wait). AllWithin (λ (w : Wait). is_withdrawn w ≡ false) ws 0 old.gone) (sym same) old.withdrawn;
       announced = subst (λ (ws : List Wait). AllWithin (λ (w : Wait). is_announced w ≡ false) ws 0 old.news) (sym same) old.announced;
-      chained = same_chained old.slots.items slots.items old.chains.items c.reserve-2.new.self.items same c.reserve-2.ensures.items old.chained;
       within = omega (arith, old.within, ap length same, old.slots.ok, slots.ok);
       first = subst (λ (ws : List Wait). IsStrictlySortedBy prefix_order (take old.sorted (prefixes_at ws))) (sym same) old.first;
       late = subst (λ (ws : List Wait). IsStrictlySortedBy prefix_order (drop old.sorted (prefixes_at ws))) (sym same) old.late;

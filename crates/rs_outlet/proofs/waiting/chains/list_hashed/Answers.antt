@@ -1,0 +1,26 @@
+use Rattle.std.proofs.Common.{◌≡◌, ◌∙◌, length, refl, sym}
+use mathlib.Core.Bool.{true≢false}
+use Rattle.std.proofs.lemmas.Option.{slice_get_read}
+use Rattle.rs_outlet.specs.declared.waiting.Due.TheVariants as due
+use Rattle.rs_outlet.specs.declared.waiting.chains.Hashed.{Hashed}
+use Rattle.rs_outlet.proofs.Pending.Chains.{hashed_more, hashed_past}
+use Rattle.rs_outlet.proofs.waiting.chains.list_hashed.Goals as goal
+
+pub returns-then-not-wait : goal.returns-then-not-wait
+returns-then-not-wait c = λ _ are.
+    let ws = c.args.slots.now in
+    hashed_past ws c.args.slot c.index-slots-slot.result c.args.order.now.items (slice_get_read ws (length ws) c.args.slot c.index-slots-slot.result refl c.requires c.index-slots-slot.is)
+    (λ opened number hash is. true≢false (sym opened ∙ c.if-not-wait.true)) are
+
+pub returns-in_default : goal.returns-in_default
+returns-in_default c = λ _ are.
+    let ws = c.args.slots.now in
+    hashed_past ws c.args.slot c.index-slots-slot.result c.args.order.now.items (slice_get_read ws (length ws) c.args.slot c.index-slots-slot.result refl c.requires c.index-slots-slot.is)
+    (λ opened number hash is. absurd (let f : due.Withdrawn ≡ due.Announced number hash = sym c.in_default.is ∙ is in cc)) are
+
+pub returns : goal.returns
+returns c = λ _ are.
+    let ws = c.args.slots.now in
+    let e : Hashed = record { hash = c.in-Announced.hash; slot = c.in-Ok.slot } in
+    hashed_more ws c.args.slot c.index-slots-slot.result c.args.order.now.items c.push_reserved.new.self.items e c.in-Announced.number
+    (slice_get_read ws (length ws) c.args.slot c.index-slots-slot.result refl c.requires c.index-slots-slot.is) c.if-not-wait.false c.in-Announced.is c.in-Ok.ensures.1 c.push_reserved.ensures.items are
