@@ -16,9 +16,10 @@ def comes_and_goes(server, source):
     return False
 
 
-def counted(lines, printed, counting):
-    """How many of these lines there are, and how many were left out by the lines that count them."""
-    return sum(line in printed for line in lines), sum(int(line.rpartition(" ")[2]) for line in lines if line.startswith(counting))
+def counted(lines, words):
+    """How many lines of this kind there are, and how often what they say was, by the number behind some of them."""
+    kind = [line.removeprefix(words).split() for line in lines if line == words or line.startswith(f"{words} ")]
+    return len(kind), sum(int(number[0]) if number else 1 for number in kind)
 
 
 def a_restless_member(program, until):
@@ -35,14 +36,14 @@ def a_restless_member(program, until):
             return wrong
         most = time.monotonic() - start + 2
         lines = server.stdout.read().decode().splitlines()
-    alpha = counted(lines, ("begin alpha", "busy alpha", "lost alpha", "close alpha"), "left out alpha ")
-    strangers = counted(lines, ("stranger",), "strangers ")
-    if max(alpha[0], strangers[0]) > most:
-        return f"{alpha[0]} lines of alpha and {strangers[0]} of strangers in {most:.0f} seconds"
-    if sum(alpha) != 2 * begun + refused:
-        return f"{alpha[0]} lines of alpha, and {alpha[1]} left out, for {begun} sessions and {refused} refused connections"
-    if sum(strangers) != begun + refused - 1:
-        return f"{strangers[0]} lines of strangers, and {strangers[1]} left out, for {begun + refused - 1}"
+    kinds = {words: counted(lines, words) for words in ("begin alpha", "busy alpha", "lost alpha", "close alpha", "stranger", "strangers")}
+    for words, (count, _) in kinds.items():
+        if count > most:
+            return f"{count} lines {words} in {most:.0f} seconds"
+    if sum(often for words, (_, often) in kinds.items() if words.endswith("alpha")) != 2 * begun + refused:
+        return f"the lines say {kinds}, for {begun} sessions and {refused} refused connections"
+    if kinds["stranger"][1] + kinds["strangers"][1] != begun + refused - 1:
+        return f"the lines say {kinds}, for {begun + refused - 1} strangers"
     return None
 
 

@@ -29,8 +29,8 @@ TEXT = (TOP / "examples/small.toml").read_text().replace("127.0.0.1:17901", "127
 RULES = TEXT.replace("multiprotocol = true\n", 'multiprotocol = true\ndefault = "drop"\n')
 FAULTY = TEXT.replace("multiprotocol = true\n", 'multiprotocol = true\ndefault = "maybe"\n')
 OTHER = TEXT.replace("as = 64497", "as = 64499")
-# A new file is read within so many seconds, by the unit's --reload.
-RELOAD = 20
+# A new file is read within so many seconds, by the unit's --reload: at the second look after the change.
+RELOAD = 30
 
 
 def run(*words):

@@ -12,7 +12,7 @@ from .members import REFRESH, Counting, Member, announced, come_up, next_hop, nu
 from .playing import Seen, shown
 from .targets import Exchange
 
-# Attributes whose octets end a block with this have one sum in the hash that rs_outlet once used, whatever its key.
+# Attributes whose octets end a block with this have one sum in the hash by which rs_outlet puts slots in order first, whatever its key.
 CHOSEN = (0x9E3779B97F4A7C15).to_bytes(8, "little")
 ATTACKER = 2
 # Prefixes of attackers: the first is out of all honest members' reach.

@@ -18,6 +18,9 @@ pub enum ConfigurationFault {
     /// The file can't be read, or isn't UTF-8.
     #[error("configuration: unreadable")]
     Unreadable,
+    /// The file is larger than 64 MiB.
+    #[error("configuration: larger than 64 MiB")]
+    TooLarge,
     /// The text is no configuration; this is its first fault.
     #[error("configuration: {0}")]
     Text(ConfigFault),
@@ -68,13 +71,21 @@ pub fn read_configuration<R: Files>(
     read_configuration_from(alloc, &mut file)
 }
 
+/// The most octets that are read of a configuration: 64 MiB.
+const MOST: u64 = 67_108_864;
+
 /// Reads the configuration that a reader gives, up to its end.
 pub fn read_configuration_from<F: Read>(
     alloc: Global,
     reader: &mut F,
 ) -> Result<Config, ConfigurationFault> {
     let mut octets = Vec::new(alloc);
-    reader.read_to_end(&mut octets)?;
+    let mut front = reader.take(MOST);
+    front.read_to_end(&mut octets)?;
+    let mut more = [0u8];
+    if octets.len() as u64 == MOST && front.into_inner().read(&mut more)? > 0 {
+        return Err(ConfigurationFault::TooLarge);
+    }
     configuration_of(alloc, &octets)
 }
 

@@ -81,6 +81,7 @@ come_asked c (Printed (lines.Close d)) operations is = refl
 come_asked c (Printed (lines.Lost d)) operations is = refl
 come_asked c (Printed (lines.Memory d)) operations is = refl
 come_asked c (Printed (lines.Rules answer)) operations is = refl
+come_asked c (Printed (lines.File fault)) operations is = refl
 come_asked c (Logged report) operations is = refl
 
 timed_asked : (call : Call) (operations : List Operation) → IsPlain call → IsTimed operations → IsTimed (Asked call ∷ operations)

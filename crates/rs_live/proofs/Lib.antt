@@ -2,5 +2,6 @@ pub mod Agreeing
 pub mod Changing
 pub mod Handling
 pub mod Places
+pub mod Printing
 pub mod Rounds
 pub mod Sending

@@ -1,5 +1,6 @@
 -- What the server asks of its ports, each call with its answer.
-use Rattle.std.specs.Prelude.{◌≡◌, ℕ, List, Option, Some, None, Result, Ok, Err, IsErr, ⊤}
+use Rattle.std.specs.Prelude.{◌≡◌, ℕ, List, Bool, Option, Some, None, Result, Ok, Err, IsErr, ⊤}
+use Rattle.rs_live.specs.declared.file_watch.FileFault.{FileFault}
 use Rattle.rs_live.specs.declared.ports.PortFault.{PortFault}
 use Rattle.rs_live.specs.declared.ports.Incoming.{Incoming}
 use Rattle.rs_live.specs.declared.ports.Line.{Line}
@@ -12,7 +13,7 @@ pub data Call : Type 0 where
   Wrote : (key : ℕ) (octets : List ℕ) (answer : Result (Option ℕ) PortFault) → Call
   Closed : (key : ℕ) → Call
   Timed : (seconds : ℕ) → Call
-  Fetched : (text : List ℕ) (answer : Result (Unit {0}) PortFault) → Call
+  Fetched : (text : List ℕ) (answer : Result Bool FileFault) → Call
   Printed : (line : Line) → Call
   Logged : (report : Report) → Call
 

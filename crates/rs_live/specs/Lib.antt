@@ -5,6 +5,8 @@ pub mod Keeping
 pub mod Keys
 pub mod Leaving
 pub mod Moments
+pub mod Printing
 pub mod Rounds
 pub mod Sending
+pub mod Tallies
 pub mod Waiting

@@ -2,28 +2,36 @@
 //!
 //! `serve` is the loop, which gives the core events by a `live_link` over `ports`: `source` chooses which
 //! comes next, `sink` turns the core's calls into calls of the ports. `sockets` are the ports of the system,
-//! with the listeners of `listeners`; `configuration` reads the file of the configuration again.
+//! with the listeners of `listeners`; `configuration` reads the file of the configuration again, where
+//! `file_watch` says that it is to be read.
 //! `connections` and `outbox` are what the link keeps of each connection, `watch` and `reports` show an
 //! operator what happened, with clients by their `names`, and `lines` is standard output, both within
-//! `rate_limits`.
+//! `rate_limits`; of the lines each is counted by a `tally`. What is printed goes by a `printer` and its
+//! `line_queue`, whose octets wait in a `backlog`, to `streams` that keep nobody waiting.
 //!
 //! The way of a round: `serve` waits; `source` accepts and reads, and gives the core each event, last a moment,
 //! a turn and room; the core calls `sink`, which hands its octets to `connections`; these write them; `watch`
 //! reports what has become of each client.
 #![tactic(auto)]
 
+pub mod backlog;
 mod configuration;
 pub mod connections;
+pub mod file_watch;
+pub mod line_queue;
 pub mod lines;
 mod listeners;
 pub mod live_link;
 pub mod names;
 pub mod outbox;
 pub mod ports;
+pub mod printer;
 pub mod rate_limits;
 pub mod reports;
 pub mod serve;
 mod sink;
 pub mod sockets;
 mod source;
+pub mod streams;
+mod tally;
 pub mod watch;

@@ -1,16 +1,50 @@
-//! The lines on standard output: in a second at most one of each client, and one of strangers, so that
-//! nobody can fill a disk by coming and going.
+//! The lines on standard output: in a second at most one of each kind for each client, and one of
+//! strangers, so that nobody can fill a disk by coming and going. None is left out: of what comes more
+//! often a later line has the count.
 
 use crate::names::Names;
 use crate::ports::Line;
-use crate::rate_limits::{Due, RateLimit};
+use crate::printer::Printer;
+use crate::rate_limits::RateLimit;
+use crate::streams::Stream;
+use crate::tally::Tally;
 use std::alloc::{AllocError, Global};
+use std::{fmt, mem};
 
-/// What was printed of each client and, at the place after the last client, of strangers; and what waits.
+/// The lines of someone that wait: how many of each kind, and which came last; and when some were printed.
+#[derive(Clone, Copy)]
+struct Waiting {
+    tally: Tally,
+    last: RateLimit<Line>,
+}
+
+impl Waiting {
+    /// Nothing was printed yet, and nothing waits.
+    fn new() -> Waiting {
+        Waiting {
+            tally: Tally::new(),
+            last: RateLimit::new(),
+        }
+    }
+
+    /// A line has come, and waits.
+    fn put(&mut self, line: &Line) {
+        self.tally.count(line);
+        self.last.put(*line);
+    }
+
+    /// All that waits, unless something was printed in this second already: the counts, and the last line.
+    fn take(&mut self, second: u64) -> Option<(Tally, Line)> {
+        let due = self.last.take(second)?;
+        Some((mem::replace(&mut self.tally, Tally::new()), due.item))
+    }
+}
+
+/// What waits of each client and, at the place after the last client, of strangers.
 #[derive(Drop)]
 pub struct Lines<'a> {
     names: &'a Names,
-    rate_limits: Vec<RateLimit<Line>>,
+    all: Vec<Waiting>,
 }
 
 impl<'a> Lines<'a> {
@@ -19,86 +53,101 @@ impl<'a> Lines<'a> {
         let count = names.count().saturating_add(1);
         Ok(Lines {
             names,
-            rate_limits: vec![in alloc; RateLimit::new(); count]?,
+            all: vec![in alloc; Waiting::new(); count]?,
         })
     }
 
-    /// Prints a line, now or in a later second; one of rules now.
-    pub fn print<R: Print>(&mut self, rt: &R, second: u64, line: &Line) {
+    /// Prints a line, now or in a later second; one of rules or their file now.
+    pub fn print<S: Stream>(&mut self, output: &mut Printer<S>, second: u64, line: &Line) {
         let Some(place) = self.place(line) else {
-            print_line(rt, self.names, line);
+            print_line(output, self.names, line, 1);
             return;
         };
-        if let Some(rate_limit) = self.rate_limits.get_mut(place) {
-            rate_limit.put(*line);
+        if let Some(waiting) = self.all.get_mut(place) {
+            waiting.put(line);
         }
-        self.print_waiting_at(rt, second, place);
+        self.print_waiting_at(output, second, place);
     }
 
     /// Prints what waits for this second. In the greatest, which never comes, it is all that waits.
-    pub fn print_waiting<R: Print>(&mut self, rt: &R, second: u64) {
-        for place in 0..self.rate_limits.len() {
-            self.print_waiting_at(rt, second, place);
+    pub fn print_waiting<S: Stream>(&mut self, output: &mut Printer<S>, second: u64) {
+        for place in 0..self.all.len() {
+            self.print_waiting_at(output, second, place);
         }
     }
 
     /// Prints what waits for this second at one place.
-    fn print_waiting_at<R: Print>(&mut self, rt: &R, second: u64, place: usize) {
-        if let Some(rate_limit) = self.rate_limits.get_mut(place)
-            && let Some(due) = rate_limit.take(second)
+    fn print_waiting_at<S: Stream>(&mut self, output: &mut Printer<S>, second: u64, place: usize) {
+        if let Some(waiting) = self.all.get_mut(place)
+            && let Some((tally, last)) = waiting.take(second)
         {
-            print_due(rt, self.names, &due);
+            print_all(output, self.names, &tally, &last);
         }
     }
 
-    /// Where the rate limit of a line is; `None` for those of rules, which have none.
+    /// Where the lines like this one wait; `None` for those of rules and their file, which don't.
     fn place(&self, line: &Line) -> Option<usize> {
         match line {
-            Line::Rules(_) => None,
+            Line::Rules(_) | Line::File(_) => None,
             Line::Stranger => Some(self.names.count()),
-            _ => client_of(line),
+            Line::Begin(c) | Line::Busy(c) | Line::Close(c) | Line::Lost(c) | Line::Memory(c) =>
+                Some(*c),
         }
     }
 }
 
-/// The client that a line is of.
-fn client_of(line: &Line) -> Option<usize> {
+/// A line of each kind as this one's place can have: the losses of service stand before a begin, unless the
+/// last line is one.
+fn kinds(line: &Line) -> [Line; 5] {
     match line {
-        Line::Begin(c) | Line::Busy(c) | Line::Close(c) | Line::Lost(c) | Line::Memory(c) => Some(
-            *c,
-        ),
-        Line::Stranger | Line::Rules(_) => None,
+        Line::Begin(c) | Line::Busy(c) | Line::Close(c) | Line::Lost(c) | Line::Memory(c) => [
+            Line::Memory(*c),
+            Line::Close(*c),
+            Line::Lost(*c),
+            Line::Busy(*c),
+            Line::Begin(*c),
+        ],
+        _ => [*line; 5],
     }
 }
 
-/// Prints a line, after the count of those that were left out before it.
-fn print_due<R: Print>(rt: &R, names: &Names, due: &Due<Line>) {
-    if due.left_out > 0 {
-        print_count(rt, names, due);
+/// Prints a line of each kind that was counted, the kind that came last at the end.
+fn print_all<S: Stream>(output: &mut Printer<S>, names: &Names, tally: &Tally, last: &Line) {
+    for line in &kinds(last) {
+        if line != last && tally.counted(line) > 0 {
+            print_line(output, names, line, tally.counted(line));
+        }
     }
-    print_line(rt, names, &due.item);
+    print_line(output, names, last, tally.counted(last));
 }
 
-/// Prints how many lines were left out.
-fn print_count<R: Print>(rt: &R, names: &Names, due: &Due<Line>) {
-    let count = due.left_out;
-    let _ = match client_of(&due.item) {
-        Some(c) => rt.println(format_args!("left out {} {count}", names.name(c))),
-        None => rt.println(format_args!("strangers {count}")),
-    };
+/// A word, a client's name, and how often, where it is more than once.
+#[derive(Drop)]
+struct Worded<'a>(&'static str, &'a str, u64);
+
+impl fmt::Display for Worded<'_> {
+    fn fmt<W: fmt::Write>(&self, f: &mut fmt::Formatter<W>) -> fmt::Result {
+        let Worded(word, name, count) = *self;
+        if count > 1 {
+            write!(f, "{word} {name} {count}")
+        } else {
+            write!(f, "{word} {name}")
+        }
+    }
 }
 
-/// Prints a line.
-fn print_line<R: Print>(rt: &R, names: &Names, line: &Line) {
-    let name = |c: usize| names.name(c);
-    let _ = match line {
-        Line::Begin(c) => rt.println(format_args!("begin {}", name(*c))),
-        Line::Busy(c) => rt.println(format_args!("busy {}", name(*c))),
-        Line::Stranger => rt.println(format_args!("stranger")),
-        Line::Close(c) => rt.println(format_args!("close {}", name(*c))),
-        Line::Lost(c) => rt.println(format_args!("lost {}", name(*c))),
-        Line::Memory(c) => rt.println(format_args!("memory {}", name(*c))),
-        Line::Rules(Ok(())) => rt.println(format_args!("rules accepted")),
-        Line::Rules(Err(fault)) => rt.println(format_args!("rules refused: {fault}")),
-    };
+/// Prints a line that came so often.
+fn print_line<S: Stream>(output: &mut Printer<S>, names: &Names, line: &Line, count: u64) {
+    match line {
+        Line::Begin(c) => output.print(Worded("begin", names.name(*c), count)),
+        Line::Busy(c) => output.print(Worded("busy", names.name(*c), count)),
+        Line::Close(c) => output.print(Worded("close", names.name(*c), count)),
+        Line::Lost(c) => output.print(Worded("lost", names.name(*c), count)),
+        Line::Memory(c) => output.print(Worded("memory", names.name(*c), count)),
+        Line::Stranger if count > 1 => output.print(format_args!("strangers {count}")),
+        Line::Stranger => output.print("stranger"),
+        Line::Rules(Ok(())) => output.print("rules accepted"),
+        Line::Rules(Err(fault)) => output.print(format_args!("rules refused: {fault}")),
+        Line::File(fault) => output.print(format_args!("rules refused: {fault}")),
+    }
 }

@@ -9,6 +9,7 @@ ghost use Rattle.rs_live.specs.Keeping.{IsFairBy, IsPlain, all_held, before, cha
 ghost use Rattle.rs_live.specs.Leaving.{LeavesClients, LeavesPorts, LeavesRound, SamePorts};
 
 use crate::connections::ClientConnections;
+use crate::file_watch::FileFault;
 use crate::ports::{Incoming, Line, Ports};
 use crate::reports::Report;
 use rs_policy::RulesFault;
@@ -107,8 +108,6 @@ pub struct LiveLink<'a, P> {
     pub(crate) text: &'a mut Vec<u8>,
     pub(crate) read: &'a mut Vec<u8>,
     pub(crate) has_text: bool,
-    /// The file could not be read at the last reading.
-    pub(crate) is_unreadable: bool,
     /// The address of the first stranger that was not reported yet, and how many there were.
     pub(crate) strangers: Option<(u32, u64)>,
 }
@@ -147,7 +146,6 @@ impl<'a, P: Ports> LiveLink<'a, P> {
             text,
             read,
             has_text: false,
-            is_unreadable: false,
             strangers: None,
         }
     }
@@ -178,20 +176,16 @@ impl<'a, P: Ports> LiveLink<'a, P> {
         }
     }
 
-    /// Reads the file of rules; where it is another than before, the core is given it in this round. A file
-    /// that can't be read is reported once.
+    /// Asks for the text of the file of rules; where it is another than before, the core is given it in this
+    /// round.
     pub fn read_rules(&mut self)
         ensures same_ports { SamePorts self.old self.new }
         ensures failed { self.new.has_failed ≡ self.old.has_failed }
         ensures handled { self.old.phase.stage ≡ Stage.Start → Keeps P.asked self.old → Keeps P.asked self.new }
     {
         if !self.fetch() {
-            if !mem::replace(&mut self.is_unreadable, true) {
-                self.report_rules(Err(RulesFault::Unreadable));
-            }
             return;
         }
-        self.is_unreadable = false;
         if self.has_text && self.read.as_slice() == self.text.as_slice() {
             return;
         }
@@ -200,12 +194,36 @@ impl<'a, P: Ports> LiveLink<'a, P> {
         self.phase.stage = Stage::Rules;
     }
 
-    /// Reads the file of rules, and answers whether it could be read.
+    /// Asks for the text of the file of rules, and answers whether there is one; why it was not read is
+    /// printed and reported.
     fn fetch(&mut self) -> bool
         ensures leaves { LeavesClients self.old self.new }
         ensures handled { Keeps P.asked self.old → Keeps P.asked self.new }
     {
-        self.ports.text(self.read).is_ok()
+        match self.ask_text() {
+            Ok(is_new) => is_new,
+            Err(fault) => {
+                self.report_file(fault);
+                false
+            }
+        }
+    }
+
+    /// Asks for the text of the file of rules.
+    fn ask_text(&mut self) -> Result<bool, FileFault>
+        ensures leaves { LeavesClients self.old self.new }
+        ensures handled { Keeps P.asked self.old → Keeps P.asked self.new }
+    {
+        self.ports.text(self.read)
+    }
+
+    /// Prints and reports why the file of rules was not read.
+    fn report_file(&mut self, fault: FileFault)
+        ensures leaves { LeavesClients self.old self.new }
+        ensures handled { Keeps P.asked self.old → Keeps P.asked self.new }
+    {
+        self.print(Line::File(fault));
+        self.log(&Report::File(fault));
     }
 
     /// Prints and reports that rules were accepted, or why they weren't.

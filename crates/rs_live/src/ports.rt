@@ -4,6 +4,7 @@
 ghost use Rattle.std.specs.Prelude.{◌≤◌, ◌∷◌, ℕ, List, IfOk, IfSome, length};
 ghost use Rattle.rs_live.specs.Calls.{Call, Waited, Accepted, Read, Wrote, Closed, Timed, Fetched, Printed, Logged};
 
+use crate::file_watch::FileFault;
 use crate::reports::Report;
 use rs_policy::RulesFault;
 
@@ -37,6 +38,8 @@ pub enum Line {
     Memory(usize),
     /// A text of rules was accepted, or why it was not.
     Rules(Result<(), RulesFault>),
+    /// The file of rules was not read.
+    File(FileFault),
 }
 
 /// Listeners, connections, a clock, a file of rules and places to print. `asked ports calls` says that
@@ -70,8 +73,9 @@ pub trait Ports {
     fn seconds(&mut self) -> u64
         ensures { (calls : List Call) → asked self.old calls → asked self.new (Timed result ∷ calls) };
 
-    /// The text of the file of rules, in place of what stands in `text`.
-    fn text(&mut self, text: &mut Vec<u8>) -> Result<(), PortFault>
+    /// The text of the file of rules, in place of what stands in `text`. `false` where there is none that was
+    /// not given already; what then stands in `text` is not said. A fault is answered once.
+    fn text(&mut self, text: &mut Vec<u8>) -> Result<bool, FileFault>
         ensures { (calls : List Call) → asked self.old calls → asked self.new (Fetched text.new.items result ∷ calls) };
 
     /// Prints a line, now or later, or counts it among those that are left out.

@@ -1,14 +1,17 @@
 //! What is reported to an operator, on standard error: what happened and why, so that nobody needs a
 //! capture of packets to see it.
 
+use crate::file_watch::FileFault;
 use crate::names::Names;
+use crate::printer::Printer;
+use crate::streams::Stream;
 use rs_attrs::{Faulted, Mode};
 use rs_core::{Ending, Notice};
 use rs_octets::Notification;
 use rs_open::{Limit, Short};
 use rs_policy::RulesFault;
+use std::fmt;
 use std::net::Ipv4Addr;
-use std::{fmt, io};
 
 /// What happened.
 #[derive(Clone, Copy, Debug, PartialEq, Eq)]
@@ -39,6 +42,8 @@ pub enum Report {
     },
     /// A text of rules was accepted, or why it was not.
     Rules(Result<(), RulesFault>),
+    /// The file of rules was not read.
+    File(FileFault),
     /// So many reports of a client were left out, since there was one in that second already.
     LeftOut {
         client: usize,
@@ -216,6 +221,7 @@ impl fmt::Display for Worded<'_> {
             }
             Report::Rules(Ok(())) => write!(f, "rules accepted"),
             Report::Rules(Err(fault)) => write!(f, "rules refused: {fault}"),
+            Report::File(fault) => write!(f, "rules refused: {fault}"),
             Report::LeftOut { client, count } => {
                 let reports = one_or_several(*count, "report", "reports");
                 write!(f, "{}: {count} {reports} left out", names.name(*client))
@@ -226,7 +232,7 @@ impl fmt::Display for Worded<'_> {
 
 impl Report {
     /// Prints a report as a line, after the seconds since the start.
-    pub fn print<R: Eprint>(&self, rt: &R, seconds: u64, names: &Names) -> io::Result<()> {
-        rt.eprintln(format_args!("{seconds} {}", Worded(self, names)))
+    pub fn print<S: Stream>(&self, output: &mut Printer<S>, seconds: u64, names: &Names) {
+        output.print(format_args!("{seconds} {}", Worded(self, names)));
     }
 }

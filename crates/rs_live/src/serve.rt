@@ -35,7 +35,7 @@ pub struct Limits {
     pub workers: usize,
     /// After how many ended sessions the server ends; `None`: never.
     pub sessions: Option<u64>,
-    /// Every how many rounds the file of rules is read; `None`: never.
+    /// Every how many rounds the ports are asked for a text of rules; `None`: never.
     pub reload: Option<u16>,
 }
 

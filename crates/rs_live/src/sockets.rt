@@ -1,12 +1,16 @@
 //! The ports that are sockets of the system, its clock, the file of the configuration, and the
 //! standard streams.
 
-use crate::configuration::read_file;
+use crate::configuration::Configuration;
+use crate::file_watch::{FileFault, FileWatch};
 use crate::lines::Lines;
 use crate::listeners::{Accepted, Listeners};
 use crate::names::Names;
 use crate::ports::{Incoming, Line, PortFault, Ports};
+use crate::printer::Printer;
 use crate::reports::Report;
+use crate::serve::ServeFault;
+use crate::streams::Descriptor;
 use mio::net::{TcpListener, TcpStream};
 use mio::{Events, Interest, Poll, Token};
 use slab::Slab;
@@ -22,7 +26,7 @@ const FIRST_LISTENER: usize = 1 << 32;
 
 /// A connection, and whether something may be there to read.
 #[derive(Drop)]
-struct Stream {
+struct Connected {
     stream: TcpStream,
     is_ready: bool,
 }
@@ -34,23 +38,26 @@ const UNKEPT: usize = 64;
 #[derive(Drop)]
 pub struct Sockets<'a, R> {
     rt: &'a R,
-    /// The file of the configuration.
-    path: &'a str,
+    configuration: Configuration<'a, R>,
+    watch: FileWatch,
     names: &'a Names,
     lines: Lines<'a>,
+    output: Printer<Descriptor>,
+    errors: Printer<Descriptor>,
     /// Reports are printed on standard error.
     is_logging: bool,
     poll: Poll,
     events: Events,
     listeners: Listeners,
-    streams: Slab<Stream>,
+    streams: Slab<Connected>,
     start: Instant,
 }
 
 /// Listens at an address and says so, a line. The poll knows the listener by its place.
-fn open_listener<R: Net + Print>(
+fn open_listener<R: Net>(
     rt: &R,
     poll: &Poll,
+    output: &mut Printer<Descriptor>,
     place: usize,
     address: (u32, u16),
 ) -> io::Result<TcpListener> {
@@ -59,26 +66,28 @@ fn open_listener<R: Net + Print>(
     let token = Token(FIRST_LISTENER.saturating_add(place));
     poll.registry()
         .register(&mut listener, token, Interest::READABLE)?;
-    rt.println(format_args!("listening {address}"))?;
+    output.print(format_args!("listening {address}"));
     Ok(listener)
 }
 
 /// Listens at these addresses.
-fn open_listeners<R: Net + Print>(
+fn open_listeners<R: Net>(
     rt: &R,
     alloc: Global,
     poll: &Poll,
+    output: &mut Printer<Descriptor>,
     addresses: &[(u32, u16)],
 ) -> io::Result<Listeners> {
     let mut listeners = Listeners::new(alloc);
     for (place, address) in addresses.iter().enumerate() {
-        listeners.add(open_listener(rt, poll, place, *address)?)?;
+        listeners.add(open_listener(rt, poll, output, place, *address)?)?;
     }
     Ok(listeners)
 }
 
-impl<'a, R: Net + Clock + Files + Print + Eprint> Sockets<'a, R> {
-    /// Listens at these addresses and says so, a line each.
+impl<'a, R: Net + Clock + Files> Sockets<'a, R> {
+    /// Listens at these addresses and says so, a line each. No descriptor may have been opened before and
+    /// be open still.
     pub fn listen(
         rt: &'a R,
         alloc: Global,
@@ -87,16 +96,21 @@ impl<'a, R: Net + Clock + Files + Print + Eprint> Sockets<'a, R> {
         is_logging: bool,
         addresses: &[(u32, u16)],
     ) -> io::Result<Sockets<'a, R>> {
+        let mut output = Printer::new(alloc, Descriptor::stdout())?;
+        let errors = Printer::new(alloc, Descriptor::stderr())?;
         let poll = Poll::new(rt)?;
         let events = Events::with_capacity(alloc, 1024)?;
-        let listeners = open_listeners(rt, alloc, &poll, addresses)?;
+        let listeners = open_listeners(rt, alloc, &poll, &mut output, addresses)?;
         let mut streams = Slab::new(alloc);
         streams.reserve(names.count().saturating_mul(2).saturating_add(1))?;
         Ok(Sockets {
             rt,
-            path,
+            configuration: Configuration { rt, path },
+            watch: FileWatch::new(),
             names,
             lines: Lines::new(alloc, names)?,
+            output,
+            errors,
             is_logging,
             poll,
             events,
@@ -106,9 +120,20 @@ impl<'a, R: Net + Clock + Files + Print + Eprint> Sockets<'a, R> {
         })
     }
 
-    /// Prints all lines that wait.
-    pub fn finish(&mut self) {
-        self.lines.print_waiting(self.rt, u64::MAX);
+    /// Prints all lines that wait, and why the server ended, where that was a fault.
+    pub fn finish(&mut self, served: &Result<(), ServeFault>) {
+        self.lines.print_waiting(&mut self.output, u64::MAX);
+        if let Err(fault) = served {
+            self.errors.print(*fault);
+        }
+    }
+
+    /// Prints the lines that wait for this second, and goes on with those that a stream has not taken.
+    fn print_waiting(&mut self) {
+        let second = self.seconds();
+        self.lines.print_waiting(&mut self.output, second);
+        self.output.flush();
+        self.errors.flush();
     }
 
     /// Keeps an accepted connection, under a key; `None` where it can't be kept.
@@ -130,7 +155,7 @@ impl<'a, R: Net + Clock + Files + Print + Eprint> Sockets<'a, R> {
             .ok()?;
         let key = self
             .streams
-            .insert(Stream {
+            .insert(Connected {
                 stream,
                 is_ready: true,
             })
@@ -143,7 +168,7 @@ impl<'a, R: Net + Clock + Files + Print + Eprint> Sockets<'a, R> {
     }
 }
 
-impl<'a, R: Net + Clock + Files + Print + Eprint> Ports for Sockets<'a, R> {
+impl<'a, R: Net + Clock + Files> Ports for Sockets<'a, R> {
     ghost asked = { λ ports calls. Unit {0} };
 
     fn wait(&mut self, pause: bool) -> Result<(), PortFault> {
@@ -164,8 +189,7 @@ impl<'a, R: Net + Clock + Files + Print + Eprint> Ports for Sockets<'a, R> {
             }
         }
         self.listeners.ask_all();
-        let second = self.seconds();
-        self.lines.print_waiting(self.rt, second);
+        self.print_waiting();
         Ok(())
     }
 
@@ -223,23 +247,20 @@ impl<'a, R: Net + Clock + Files + Print + Eprint> Ports for Sockets<'a, R> {
         }
     }
 
-    fn text(&mut self, text: &mut Vec<u8>) -> Result<(), PortFault> {
-        text.clear();
-        match read_file(self.rt, self.path, text) {
-            Ok(()) => Ok(()),
-            Err(_) => Err(PortFault),
-        }
+    fn text(&mut self, text: &mut Vec<u8>) -> Result<bool, FileFault> {
+        let second = self.seconds();
+        self.watch.take_up(&mut self.configuration, second, text)
     }
 
     fn print(&mut self, line: &Line) {
         let second = self.seconds();
-        self.lines.print(self.rt, second, line);
+        self.lines.print(&mut self.output, second, line);
     }
 
     fn log(&mut self, report: &Report) {
         if self.is_logging {
             let seconds = self.seconds();
-            let _ = report.print(self.rt, seconds, self.names);
+            report.print(&mut self.errors, seconds, self.names);
         }
     }
 }

@@ -47,13 +47,10 @@ fn run<R: Threads + Wait + Sync + Net + Clock + Files + Print + Eprint>(
         reload: options.reload,
     };
     let served = serve(rt, alloc, &mut ports, config, limits);
-    ports.finish();
+    ports.finish(&served);
     match served {
         Ok(()) => Ok(Status::Done),
-        Err(fault) => {
-            eprintln!(rt; "{fault}")?;
-            Ok(Status::Failed)
-        }
+        Err(_) => Ok(Status::Failed),
     }
 }
 

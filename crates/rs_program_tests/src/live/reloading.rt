@@ -4,7 +4,9 @@ use crate::live::rounds::{
     A, B, COMING_UP, OPEN_A, OPEN_B, THREE, UPDATE, WITHDRAWAL, behind, comes_up, served,
 };
 use crate::live::script::{Script, sent};
+use rs_live::file_watch::FileFault;
 use rs_live::ports::Line;
+use rs_live::reports::Report;
 use rs_live::serve::Limits;
 use std::alloc::Global;
 use std::process::Abort;
@@ -50,5 +52,24 @@ fn a_text_is_handed_over_at_first_and_when_it_changes(rt: HostRuntime) {
     // The first reading, and the one behind the change; b was sent the withdrawal while a was there.
     assert_eq!(rt; accepted(&ports.said), 2);
     assert!(rt; ports.said.ends_with(&[Line::Lost(1), Line::Lost(0)]));
+    ports.let_go();
+}
+
+#[test]
+fn a_file_that_is_not_read_is_told_and_the_rules_stay(rt: HostRuntime) {
+    let mut ports = changing(&rt, rt.alloc());
+    ports.unread = Some(FileFault::NoFile);
+    let limits = Limits {
+        workers: 1,
+        sessions: Some(2),
+        reload: Some(2),
+    };
+    served(&rt, rt.alloc(), &mut ports, limits);
+    let told = Line::File(FileFault::NoFile);
+    assert_eq!(rt; ports.said.iter().filter(|line| **line == told).count(), 1);
+    assert!(rt; ports.reports.contains(&Report::File(FileFault::NoFile)));
+    let answers = COMING_UP + UPDATE.len();
+    sent(&rt, ports.heard(1).get(COMING_UP..answers), UPDATE);
+    assert_eq!(rt; accepted(&ports.said), 2);
     ports.let_go();
 }

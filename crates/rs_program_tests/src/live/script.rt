@@ -2,6 +2,7 @@
 
 ghost use Rattle.std.specs.Prelude.{◌≤◌};
 
+use rs_live::file_watch::FileFault;
 use rs_live::ports::{Incoming, Line, PortFault, Ports};
 use rs_live::reports::Report;
 use std::alloc::Global;
@@ -74,6 +75,8 @@ pub struct Script {
     pub text: &'static [u8],
     /// What the text is from this round on.
     pub later: Option<(u64, &'static [u8])>,
+    /// Why the file is not read at its next reading.
+    pub unread: Option<FileFault>,
     pub said: Vec<Line>,
     pub reports: Vec<Report>,
 }
@@ -97,6 +100,7 @@ impl Script {
             rounds: 0,
             text: b"",
             later: None,
+            unread: None,
             said: Vec::new(alloc),
             reports: Vec::new(alloc),
         }
@@ -287,15 +291,18 @@ impl Ports for Script {
             .saturating_add(stalled)
     }
 
-    fn text(&mut self, text: &mut Vec<u8>) -> Result<(), PortFault> {
+    fn text(&mut self, text: &mut Vec<u8>) -> Result<bool, FileFault> {
+        if let Some(fault) = self.unread.take() {
+            return Err(fault);
+        }
         let octets = match self.later {
             Some((round, octets)) if self.rounds >= round => octets,
             _ => self.text,
         };
         text.clear();
         match text.extend_from_slice(octets) {
-            Ok(()) => Ok(()),
-            Err(_) => Err(PortFault),
+            Ok(()) => Ok(true),
+            Err(_) => Err(FileFault::Memory),
         }
     }
 

@@ -1,4 +1,4 @@
-use Rattle.std.proofs.Common.{rules, ◌∙◌, arith, cond}
+use Rattle.std.proofs.Common.{◌∙◌, arith, cond}
 use Rattle.std.proofs.lemmas.List.{length-map}
 use Rattle.std.proofs.lemmas.List.Sorted.{length_permutation, sum_by-IsPermutation}
 use Rattle.rs_outlet.specs.declared.waiting.Wait.{Wait}

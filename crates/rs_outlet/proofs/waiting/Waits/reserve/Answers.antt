@@ -1,4 +1,4 @@
-use Rattle.std.proofs.Common.{◌≡◌, ◌∙◌, false, List, length, ap, refl, subst, sym, arith}
+use Rattle.std.proofs.Common.{◌≡◌, ◌∙◌, false, List, length, ap, subst, sym, arith}
 use Rattle.std.specs.Prelude.{drop, take}
 use Rattle.std.specs.List.{AllWithin, IsDistinct}
 use Rattle.std.specs.List.Sorted.{IsStrictlySortedBy}

@@ -1,4 +1,4 @@
-use Rattle.std.proofs.Common.{◌≡◌, ◌∙◌, ap, arith, inr, sym}
+use Rattle.std.proofs.Common.{◌∙◌, ap, arith, inr, sym}
 use Rattle.rs_attrs.specs.Comparing.{attributes_cmp}
 use Rattle.rs_outlet.specs.Pending.Chains.{due_there}
 use Rattle.rs_outlet.proofs.Pending.Chains.{level_is, not_less}

@@ -1,5 +1,5 @@
 use Rattle.rs_live.proofs.Handling.{asks}
-use Rattle.rs_live.proofs.live_link.LiveLink.fetch.Goals as goal
+use Rattle.rs_live.proofs.live_link.LiveLink.ask_text.Goals as goal
 
 pub returns-clause-handled : goal.returns-clause-handled
 returns-clause-handled g c h = asks g.P.Ports.asked _ _ _ _ _ c.text.ensures tt tt h
