@@ -5,7 +5,7 @@ bench.py PROGRAM [--full] [--page FILE] [--servers NAME,..] [--works WORD] [--wo
 
 The load is played by rsload (bench/rsload, Rust, built by cargo without a network). Each server is a process on loopback
 addresses with a configuration that rsload writes. What is not installed is skipped with a word. FILE is made anew with the
-tables, and with a profile of ours where a goal was missed.
+table, and with a profile of ours where a goal was missed; bench.csv beside it has all figures.
 """
 import argparse
 import datetime
@@ -21,7 +21,7 @@ import tempfile
 import threading
 import time
 
-from page import goals, page
+from page import data, goals, page
 from plot import drawing
 from servers import HOST, PORT, servers
 
@@ -144,6 +144,7 @@ def main():
     text = page(rows, judged, met, seen, machine, [(it.name, it.version()) for it in there], [(it.name, it.missing) for it in wanted if it.missing])
     if options.page:
         options.page.write_text(text)
+        options.page.with_name("bench.csv").write_text(data(rows))
         if made := drawing(text):
             options.page.with_name("bench.svg").write_text(made)
     print(text)

@@ -1,45 +1,40 @@
 """The page of bench.py: the tables, the goals as ratios in one run, and what the words mean."""
+import csv
 import datetime
+import io
 
 WORDS = """
 ## What is played
 
-Clients speak over 127.0.0.0/8, all in one process of two threads (`bench/rsload`). The same seed gives the same octets for each
-server. All NEXT_HOPs are data alone.
+Clients speak over 127.0.0.0/8, all in one process of two threads (`bench/rsload`), with the same octets for each server.
 
 | Work | Means |
 |---|---|
 | `packed AxB` | A clients announce B prefixes each, 500 to a set of attributes |
 | `internet AxB` | 1 to 5 prefixes to a set; AS_PATH of 2 to 6 four-octet numbers; MED, communities, large communities, AGGREGATOR on some; a fifth of the clients in a four-octet AS |
-| `overlap AxB` | as `internet`, but three clients announce each prefix, so that a choice is made, and paths that it hides show |
-| `deaf AxB` | as `internet`, with one client more that reads nothing once it is up; the row has the others' figures |
+| `overlap AxB` | as `internet`, but three clients announce each prefix |
+| `deaf AxB` | as `internet`, with one client more that reads nothing once it is up |
 
-After the start (all are up, then all announce at once) come single changes, one at a time beside the full table; a flap (client 0
-closes its connection, comes back and announces again); and a late client without routes.
+After the start (all announce at once) come single changes, one at a time beside the full table; a flap (a client closes its
+connection, comes back and announces again); and a late client without routes.
 
 ## Columns
 
 - **converged**: from the first UPDATE sent until the last client holds exactly its table; `-`: it never did.
-- **CPU**, **CPU in all**: processor seconds of the server and its descendants until then, and over the whole run.
-- **us/route**: CPU by routes told. **octets/route**: **peak MB** (VmHWM of all processes, shared pages counted twice) by routes due to all clients together.
-- **wrong**: what clients hold, against the best of the others' routes (RFC 4271, 9.1.2.2; RFC 7947, 2.3.2): missing, not due, not the best, altered (octet by octet, but for the order of attributes and the form of their lengths), or sent back to their sender, whose router drops them for its own AS.
-- **one**, **gone**: until the last client has a single announcement, or withdrawal: the middle and the 99th of a hundred.
-- **flap gone**, **back**: from the drop until nobody has a route of it, from its first UPDATE after the return until all have them again. **late**: from Established until the late client has all.
+- **CPU**, **CPU in all**: processor seconds of the server and its descendants until then, and over the run.
+- **peak MB**: VmHWM of all processes, shared pages counted twice. **octets/route**: the same by routes due to all clients together. **us/route**: CPU by routes told.
+- **wrong**: what clients hold, against the best of the others' routes (RFC 4271, 9.1.2.2; RFC 7947, 2.3.2): missing, not due, not the best, altered (but for the order of attributes and the form of their lengths), or sent back to their sender, whose router drops them for its own AS.
+- **one**, **gone**: until the last client has a single announcement, or withdrawal: the middle (p50) and the 99th of a hundred.
+- **flap gone**, **back**: from the drop until nobody has its routes, from its first UPDATE after the return until all have. **late**: from Established until the late client has all.
 
 ## How each server is set
 
-- `bird`: one table; a client whose own route is the best is told none (hidden paths). `bird-tables`: a table for each client, joined by pipes, where its own routes have less preference.
-- `openbgpd`: `transparent-as yes`, `set nexthop no-modify`, `rde evaluate all`, and a rule against each client's own routes, so that no path is hidden.
+- `bird`: one table; a client whose own route is the best is told none (hidden paths). `bird-tables`: a table for each client, joined by pipes, its own routes with less preference.
+- `openbgpd`: `transparent-as yes`, `set nexthop no-modify`, `rde evaluate all`, and a rule against each client's own routes.
 - `frr`: `route-server-client`, one choice for all. `gobgp`: `route-server-client`, `external-compare-router-id`.
 
-Times depend on what else runs on the machine: compare rows of one run alone. `cargo` builds rsload without a network.
+Times depend on what else runs on the machine: compare rows of one run alone.
 """
-
-
-LATER = (
-    "| Work | Server | one p50 ms | one p99 ms | gone p50 ms | gone p99 ms | flap gone s | back s | late s | CPU in all s |",
-    "|---|---|---:|---:|---:|---:|---:|---:|---:|---:|",
-)
 
 
 def value(report, phase, name):
@@ -78,49 +73,67 @@ def ratio(one, other, by=1.0):
     return None if one is None or not other else by * one / other
 
 
-def start_rows(rows):
-    yield "| Work | Server | converged s | CPU s | us/route | octets/route | peak MB | UPDATEs | wrong | load |"
-    yield "|---|---|---:|---:|---:|---:|---:|---:|---|---:|"
-    for work, server, report, load in rows:
-        if "initial" not in report:
-            yield f"| {work} | {server} | - | - | - | - | - | - | {report.get('fault', 'it did not come up')} | {load:.1f} |"
-            continue
-        cpu, peak = value(report, "initial", "server_cpu_s"), value(report, "whole", "server_peak_mb")
-        figures = [
-            value(report, "initial", "complete_s"),
-            cpu,
-            ratio(cpu, told(report, "initial"), 1e6),
-            ratio(peak, value(report, "initial", "due"), 2**20),
-            peak,
-            value(report, "initial", "updates"),
-        ]
-        yield f"| {work} | {server} | {' | '.join(map(shown, figures))} | {wrong(report)} | {load:.1f} |"
+# Each figure: its column, and where it stands in a report.
+COLUMNS = (
+    ("converged s", lambda it: value(it, "initial", "complete_s")),
+    ("CPU s", lambda it: value(it, "initial", "server_cpu_s")),
+    ("us/route", lambda it: ratio(value(it, "initial", "server_cpu_s"), told(it, "initial"), 1e6)),
+    ("octets/route", lambda it: ratio(value(it, "whole", "server_peak_mb"), value(it, "initial", "due"), 2**20)),
+    ("peak MB", lambda it: value(it, "whole", "server_peak_mb")),
+    ("UPDATEs", lambda it: value(it, "initial", "updates")),
+    ("one p50 ms", lambda it: value(it, "single", "announce_ms_p50")),
+    ("one p99 ms", lambda it: value(it, "single", "announce_ms_p99")),
+    ("gone p50 ms", lambda it: value(it, "single", "withdraw_ms_p50")),
+    ("gone p99 ms", lambda it: value(it, "single", "withdraw_ms_p99")),
+    ("flap gone s", lambda it: value(it, "flap", "withdrawn_s")),
+    ("back s", lambda it: value(it, "flap", "reannounced_s")),
+    ("late s", lambda it: value(it, "late", "full_s")),
+    ("CPU in all s", lambda it: value(it, "whole", "server_cpu_s")),
+)
+# The works and the figures that the page shows; the file beside it has all.
+SHOWN_WORKS = ("internet", "overlap")
+SHOWN = ("converged s", "CPU s", "peak MB", "one p50 ms", "gone p50 ms", "flap gone s", "back s", "late s")
 
 
-def later_rows(rows):
-    names = (
-        ("single", "announce_ms_p50"),
-        ("single", "announce_ms_p99"),
-        ("single", "withdraw_ms_p50"),
-        ("single", "withdraw_ms_p99"),
-        ("flap", "withdrawn_s"),
-        ("flap", "reannounced_s"),
-        ("late", "full_s"),
-        ("whole", "server_cpu_s"),
-    )
+def figures(report):
+    """Each figure of a report by its column, as it is shown."""
+    return {name: shown(figure(report)) for name, figure in COLUMNS}
+
+
+def table(rows):
+    """The rows of the page's table."""
+    yield "| Work | Server | " + " | ".join(SHOWN) + " | wrong |"
+    yield "|---|---|" + "---:|" * len(SHOWN) + "---|"
     for work, server, report, _ in rows:
-        if "single" in report or "flap" in report or "late" in report:
-            yield f"| {work} | {server} | " + " | ".join(shown(value(report, *it)) for it in names) + " |"
+        if "initial" in report and work.startswith(SHOWN_WORKS):
+            found = figures(report)
+            yield f"| {work} | {server} | " + " | ".join(found[it] for it in SHOWN) + f" | {wrong(report)} |"
+
+
+def data(rows):
+    """All figures, as lines with commas between them."""
+    text = io.StringIO()
+    lines = csv.writer(text, lineterminator="\n")
+    lines.writerow(["Work", "Server", *(name for name, _ in COLUMNS), "wrong", "load"])
+    for work, server, report, load in rows:
+        if "initial" in report:
+            lines.writerow([work, server, *figures(report).values(), wrong(report), f"{load:.1f}"])
+    return text.getvalue()
 
 
 def faults(rows):
-    """What went wrong in a phase, in rsload's words."""
+    """What went wrong in a phase, in rsload's words, and what was not played."""
+    absent = {}
     for work, server, report, _ in rows:
+        if "initial" not in report:
+            absent.setdefault((server, report.get("fault", "it did not come up")), []).append(work)
         for phase, figures in report.items():
             if isinstance(figures, dict) and "fault" in figures:
                 yield f"- {work}, {server}: {phase}: {figures['fault']}"
         if differences := report.get("whole", {}).get("attribute_differences"):
             yield f"- {work}, {server}: altered attributes: {differences}"
+    for (server, fault), works in absent.items():
+        yield f"- {', '.join(works)}, {server}: {fault}"
 
 
 def least(rows, work, server, phase, name):
@@ -155,7 +168,7 @@ def page(rows, judged, met, seen, machine, versions, missing):
     """The whole page."""
     today = datetime.date.today()
     text = ["# Among other route servers", ""]
-    text += [f"Made by `make bench` on {today.day} {today:%B %Y}: {machine}. One server after the other; each row has the load average before its run.", ""]
+    text += [f"Made by `make bench` on {today.day} {today:%B %Y}: {machine}. One server after the other. `bench.csv` beside this page has all works and figures, and the load average before each run.", ""]
     text += ["Servers: " + ", ".join(f"{name} ({version()})" if callable(version) else f"{name} ({version})" for name, version in versions) + "."]
     text += [f"Skipped: {name} {why}." for name, why in missing]
     if met:
@@ -166,9 +179,7 @@ def page(rows, judged, met, seen, machine, versions, missing):
     for phase, lines in (seen or {}).items():
         text += ["", f"Where ours spends its processor time there, phase `{phase}`, by `perf` (clock samples):", ""]
         text += [f"    {it}" for it in lines.splitlines()]
-    text += ["", "## From nothing until all hold their tables", "", *start_rows(rows)]
-    if later := list(later_rows(rows)):
-        text += ["", "## Afterwards", "", *LATER, *later]
+    text += ["", "## Until all hold their tables, and afterwards", "", *table(rows)]
     if lines := list(faults(rows)):
         text += ["", "## What went wrong", "", *lines]
     return "\n".join(text) + "\n" + WORDS

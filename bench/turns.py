@@ -2,7 +2,7 @@
 """Measures from how much on a turn is done sooner by several workers: turns.py PROGRAM [--workers N] [--runs N]
 
 PROGRAM is a built rs_replay. For each number of members, and of prefixes of 24 bits that one of them announces anew before
-each turn, a recorded session of many such turns is written, with room for all members behind each turn, and played by one
+each turn, a recorded session of many such turns is written, with room for all members after each turn, and played by one
 worker and by N (4 unless said otherwise), in turns, each as often as runs say (5). A turn by several workers differs from
 one by a single worker in the threads alone, so the difference of the two times, for each turn, is what the threads cost or
 save. The least of the runs counts. It writes nothing in the repository.

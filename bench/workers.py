@@ -14,7 +14,7 @@ import tempfile
 from laid import build
 
 CRATES = ("rs_octets", "rs_attrs", "rs_adjin", "rs_open", "rs_outlet", "rs_policy", "rs_workers")
-NAMES = {"whole": "over all 100,000 prefixes", "changed": "behind 1,000 changed routes"}
+NAMES = {"whole": "over all 100,000 prefixes", "changed": "after 1,000 changed routes"}
 
 
 def main():

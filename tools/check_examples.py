@@ -21,7 +21,7 @@ RULE = re.compile(r'^\| (?:`community = "(?P<community>[\d:]+)"`, (?P<by>pass|dr
 
 
 def told_rules(page):
-    """The rules of the table behind the sentence: the community of each, if it has one, and what it does."""
+    """The rules of the table after the sentence: the community of each, if it has one, and what it does."""
     table = page.partition(MEMBER)[2].partition("\n\n")[2].partition("\n\n")[0]
     return [(it["community"], it["by"] or it["all"]) for it in RULE.finditer(table)]
 

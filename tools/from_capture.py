@@ -11,8 +11,8 @@ Captures are read by dpkt: apt-get install python3-dpkt. MRT needs nothing but P
 
 Each connection between the server's address and another, with PORT (179) on either side, becomes `open NAME`, the octets
 that the member sent `octets NAME HEX` (put together from the TCP segments), its end `lost NAME`. `moment N` is the second
-since the first of these. A `turn`, and `room NAME N` for each client that has a connection, come behind the octets of one
-second, before a `lost` that comes behind octets, and behind each million octets; so what the route server would have sent
+since the first of these. A `turn`, and `room NAME N` for each client that has a connection, come after the octets of one
+second, before a `lost` that comes after octets, and after each million octets; so what the route server would have sent
 is worked out once a second and not at each message. Where less than a second is left of a Hold Time, the replay may end
 a session that the server did not.
 

@@ -54,7 +54,7 @@ def processes():
             stat = pathlib.Path(f"/proc/{pid}/stat").read_text()
         except OSError:
             continue
-        # What stands behind the name in its brackets: the state, the parent, .., four times in ticks, .., the start.
+        # What stands after the name in its brackets: the state, the parent, .., four times in ticks, .., the start.
         fields = stat.rpartition(")")[2].split()
         found[int(pid)] = Process(int(fields[1]), int(fields[19]), sum(map(int, fields[11:15])) / TICK)
     return found

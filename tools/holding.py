@@ -1,6 +1,6 @@
 """What the clients of a recorded session hold, asked of the plain function of the tests (crates/rs_program_tests/src/plain.rt).
 
-A session is played with two things beside it. A spare client connects first, and again behind each line: it is busy then,
+A session is played with two things beside it. A spare client connects first, and again after each line: it is busy then,
 which shows in the output where what a line brought about ends. Behind the session stand a turn and room for all, by which
 each Established client is drained. What came from each client since its connection came, and what was sent to it, is then
 given to the plain function, which says whether the one is what the others ask for.
@@ -17,7 +17,7 @@ SPARE_CLIENT = f'\n[[client]]\nname = "{SPARE}"\nas = 65535\nlisten = "127.0.0.1
 ALL = 2**64 - 1
 SECONDS = 120
 
-# A session that was played: its configuration, the lines with what each wrote, what it wrote behind them, its status, and
+# A session that was played: its configuration, the lines with what each wrote, what it wrote after them, its status, and
 # what was said on standard error.
 Played = collections.namedtuple("Played", "config lines rest status errors")
 

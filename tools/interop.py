@@ -31,12 +31,15 @@ MOST = 1800
 
 
 def table(names, checks, seen):
-    """What was seen, a line for each check."""
+    """What was seen, a line for each check; those that were seen alike stand in one."""
     text = ["", "| | " + " | ".join(names) + " |", "|---" * (len(names) + 1) + "|"]
-    return text + [f"| {check} | " + " | ".join(seen.get((check, name), "") for name in names) + " |" for check, _ in checks]
+    lines = {}
+    for check, _ in checks:
+        lines.setdefault(" | ".join(seen.get((check, name), "") for name in names), []).append(check)
+    return text + [f"| {', '.join(alike)} | {line} |" for line, alike in lines.items()]
 
 
-# What stands behind this line of the page was seen otherwise, and stays as it is.
+# What stands after this line of the page was seen otherwise, and stays as it is.
 KEPT = "## Newer versions\n"
 
 
@@ -51,19 +54,21 @@ def write_page(page, members, plays, heavy, missing):
         "",
         f"{today.day} {today:%B %Y}, {platform.system()} {platform.release()}, {os.cpu_count()} processors.",
         "",
-        "| Member | Version | Settings beyond its neighbour, its routes and that it may take and send all |",
-        "|---|---|---|",
+        "Members, with settings beyond the neighbour, their routes and that they may take and send all: "
+        + ", ".join(f"{it.name} {it.version()}" + ("" if it.settings == "nothing" else f" ({it.settings})") for it in members)
+        + ".",
     ]
-    text += [f"| {it.name} | {it.version()} | {it.settings} |" for it in members]
-    text += [f"| {name} | skipped: {why} | |" for name, why in missing]
+    text += [f"Skipped: {name}, {why}." for name, why in missing]
     names = [it.name for it in members]
+    shown = []
     for title, seen in plays:
-        text += ["", f"## {title}", *table([*names, "plain"], CHECKS, seen)]
+        text += ["", f"## {title}", *(["", "All as above."] if seen in shown else table([*names, "plain"], CHECKS, seen))]
+        shown.append(seen)
     text += ["", "### What a line says", ""] + [f"- **{check}**: {words}" for check, words in CHECKS]
     text += ["", f"## {HEAVY.count:,} routes, Hold Time {HEAVY.hold}, long messages", ""]
     text += ["Each alone beside the plain member, each of both with as many routes, `hold = 9` and `extended` set."]
     text += table(names, HEAVY_CHECKS, heavy)
-    text += ["", "### What a line says", ""] + [f"- **{check}**: {words}" for check, words in HEAVY_CHECKS]
+    text += ["", "### What else a line says", ""] + [f"- **{check}**: {words}" for check, words in HEAVY_CHECKS if (check, words) not in CHECKS]
     kept = page.read_text().partition(KEPT)[1:] if page.exists() else ()
     page.write_text("\n".join(text) + "\n" + "".join(["\n", *kept] if any(kept) else []))
 

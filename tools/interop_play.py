@@ -26,17 +26,17 @@ HEAVY_CHECKS = (
     ("comes up", "the daemon says that its first session is Established"),
     ("long messages", "the server says that the session's messages may have 65,535 octets (RFC 8654)"),
     ("hears all", "it shows just the 20,000 routes of the plain member, with their AS_PATH, NEXT_HOP, MED and communities"),
-    ("is heard", "the plain member was told all of its 20,000 routes, so"),
+    ("is heard", "the plain member was told all of its routes, so"),
     ("asks again", "by its command for ROUTE-REFRESH all routes come again, as it counts them, and its table is as before"),
     ("Hold Time 9", "the session's Hold Time is 9, and it lasts 30 seconds in which no route changes"),
-    ("is ended and comes back", "by SIGKILL: the plain member is told that its routes are gone; started again, both have all routes again"),
-    ("the server is ended and comes back", "by SIGKILL: started again, the session comes up again, and both have all routes again"),
+    ("is ended and comes back", "by SIGKILL: the plain member is told that its routes are gone; then both have all routes again"),
+    ("the server is ended and comes back", "by SIGKILL: the session comes up again, and both have all routes again"),
 )
 CHECKS = (
     ("comes up", "the daemon says that its first session is Established"),
     ("hears all others", "it shows just the 1,000 routes of each other member"),
-    ("as they were sent", "with the AS_PATH, NEXT_HOP, MED and communities that the sender was set to send (OpenBGPD shows a MED of 0 where there is none)"),
-    ("is heard", "the plain member was told all of its 1,000 routes, so"),
+    ("as they were sent", "with the AS_PATH, NEXT_HOP, MED and communities as sent (OpenBGPD shows a MED of 0 where there is none)"),
+    ("is heard", "the plain member was told all of its routes, so"),
     ("withdrawal arrives", "the plain member withdraws a route, and it is gone here"),
     ("withdraws", "it withdraws a route by its own command, and the plain member is told"),
     ("faulty route stays out", "the plain member announces routes with a faulty ORIGIN, a new one and one in place of another: neither is here, and its session lasts"),
@@ -243,7 +243,7 @@ class Play:
             self.note("withdraws", it, self.wait(lambda: it.prefixes[5] not in self.plain.table), "the plain member has the route still")
 
     def fault(self):
-        """ORIGIN 9, for a route that is there and for a new one; then a good one, behind which both have been heard."""
+        """ORIGIN 9, for a route that is there and for a new one; then a good one, after which both have been heard."""
         new, old, mark = "10.40.0.0/24", self.plain.prefixes[6], "10.40.1.0/24"
         bad = attribute(0x40, 1, b"\x09") + attributes((65536,), "10.255.0.9")[4:]
         self.plain.out += update(field=bad, nlri=octets(new)) + update(field=bad, nlri=octets(old))

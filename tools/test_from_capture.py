@@ -233,7 +233,7 @@ class Streams(unittest.TestCase):
         self.assertEqual([len(line.split()[2]) // 2 for line in lines], [4096] * (len(whole) // 4096) + [len(whole) % 4096])
         self.assertTrue(all(len(line) <= 8240 for line in lines))
 
-    def test_a_turn_behind_a_million_octets(self):
+    def test_a_turn_after_a_million_octets(self):
         whole = OPEN_A + KEEPALIVE + UPDATE * 45000
         _, session, *_ = self.streamed([(at, whole[at : at + 60000]) for at in range(0, len(whole), 60000)])
         self.assertEqual((octets_of(session), session.count("turn")), (whole, 3))
@@ -299,7 +299,7 @@ class Streams(unittest.TestCase):
         self.assertEqual(octets_of(session), OPEN_A + KEEPALIVE + UPDATE)
         self.assertNotIn("missing", said)
 
-    def test_octets_behind_the_servers_end(self):
+    def test_octets_after_the_servers_end(self):
         late = [(1, "server", 37, b"", ("flags", FIN | ACK)), (2, "member", 56, UPDATE)]
         _, session, _, _, said = self.streamed([(0, OPEN_A + KEEPALIVE)], late)
         self.assertEqual((octets_of(session), session[-3:]), (OPEN_A + KEEPALIVE, ["moment 1", f"lost {NAME_A}", "turn"]))
@@ -750,7 +750,7 @@ class Dumps(unittest.TestCase):
         self.assertEqual(octets_of(session), MADE_UP + KEEPALIVE + UPDATE)
         self.assertIn("flags of attributes in tables, put right (RFC 4271, 5): 1", said)
 
-    def test_a_table_and_what_came_behind_it(self):
+    def test_a_table_and_what_came_after_it(self):
         table = peers((2, A, 64496)) + routes(PREFIX, (0, ATTRIBUTES))
         _, session, _, _, said = made(table + bgp4mp(message(KEEPALIVE), time=START + 2), words=("--server", SERVER, "--as", "64500"))
         self.assertEqual(octets_of(session), MADE_UP + KEEPALIVE + UPDATE + KEEPALIVE)

@@ -1,7 +1,7 @@
 """Recorded sessions and configurations as text, in the forms of crates/rs_replay/README.md and docs/OPERATING.md."""
 import datetime
 
-# The most octets that a line may have, and behind how many of them a turn comes within one second.
+# The most octets that a line may have, and after how many of them a turn comes within one second.
 MOST, TURN = 4096, 1000000
 # What the link to a client takes at once: more than is ever due.
 ROOM = 1000000000
@@ -11,8 +11,8 @@ SECOND = 10**9
 class Recorder:
     """Turns events in the order of time into the lines of a recorded session.
 
-    A turn, and room for each client with a connection, come behind the octets of one second, before a loss that comes
-    behind octets, and behind each million octets.
+    A turn, and room for each client with a connection, come after the octets of one second, before a loss that comes
+    after octets, and after each million octets.
     """
 
     def __init__(self, tell):

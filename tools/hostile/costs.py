@@ -198,7 +198,7 @@ def given_up(target, members, prefixes, count):
 
 @contextlib.contextmanager
 def stopped(exchange):
-    """The server stands still in this block; behind it what came meanwhile is there at once."""
+    """The server stands still in this block; after it what came meanwhile is there at once."""
     for pid in exchange.pids():
         os.kill(pid, signal.SIGSTOP)
     try:

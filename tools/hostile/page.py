@@ -7,17 +7,16 @@ from .table import ROWS, SHORT_SLACK, SLACK
 
 INTRODUCTION = """
 What a member with nothing but valid octets, a stranger or an accident can do to others' sessions and to the time that they wait.
-Each attack is played to the built server and, where they take it, to BIRD with one table, BIRD with a table for each client and
-OpenBGPD, one after the other, on loopback; each ends within a bound. A row is missed where the server doesn't do what stands under
-"To be"; a miss is played once more before it counts. Figures of others are for comparison, and no verdict but where "To be" names them.
+Each attack is played on loopback to the built server, and to BIRD (with one table, and one for each client) and OpenBGPD where they
+take it. A row is missed where the server doesn't do what stands under "To be", twice.
 """
 WORDS = f"""
 ## What the words mean
 
-- **A change waits**: one of two members changes a prefix some twenty times a second (beside `--reload` as often as it can), and the other waits for it, from the moment at which the first writes the UPDATE. One that doesn't come counts as long as it was waited for.
-- **Lost**: the session ended, by the NOTIFICATION that the member was sent (4/0: Hold Timer Expired) or by the connection's end alone.
-- **Of the processor**: processor time of the server and its descendants, by their clocks.
-- **Load**: the machine's load average of one minute when the row began. Since the machine has other work too, a change may wait {SLACK:g} s longer than "To be" says ({SHORT_SLACK:g} s in rows e, i and n).
+- **A change waits**: one of two members changes a prefix some twenty times a second (beside `--reload` as often as it can), and the other waits for it, from when the first writes the UPDATE.
+- **Lost**: the session ended, by the NOTIFICATION that the member was sent or by the connection's end alone.
+- **Of the processor**: processor time of the server and its descendants.
+- **Load**: the load average of one minute when the row began. A change may wait {SLACK:g} s longer than "To be" says ({SHORT_SLACK:g} s in rows e, i and n).
 """
 
 
@@ -38,11 +37,12 @@ def page(kept, targets):
     text += [f"Skipped: {it.name} {it.missing}." for it in targets.values() if it.missing]
     text += ["", "## Verdicts", "", "| | Attack or accident | To be | Verdict | Load |", "|---|---|---|---|---:|"]
     text += [f"| {row.letter} | {row.attack} | {row.wanted} | {verdict(it)} | {it['load']:.1f} |" for row, it in played]
-    text += [f"| {row.letter} | {row.attack} | {row.wanted} | not played | |" for row in ROWS if row.letter not in kept.rows]
+    if others := [row for row in ROWS if row.letter not in kept.rows]:
+        text += ["", "Not played to this build (`tools/hostile/table.py` has what is to be seen):", ""]
+        text += [f"- {row.letter}: {row.attack}" for row in others]
     text += ["", "## What was seen", "", "| | Server | Seen |", "|---|---|---|"]
     text += [f"| {row.letter} | {name} | {words} |" for row, it in played for name, words in it["seen"].items()]
-    text += ["", "## Sizes", "", "| | |", "|---|---|"]
-    text += [f"| {row.letter} | {sizes(row.sizes)} |" for row, _ in played if row.sizes]
+    text += ["", "Sizes: " + "; ".join(f"{row.letter} {sizes(row.sizes)}" for row, _ in played if row.sizes) + "."]
     return "\n".join(text) + "\n" + WORDS
 
 

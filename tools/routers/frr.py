@@ -81,7 +81,7 @@ router bgp {self.number}
     def table(self):
         table = {}
         for prefix, it in loaded(self.ask("show bgp ipv4 unicast json detail")).get("routes", {}).items():
-            # A list behind its head, or in later versions a table with the paths.
+            # A list after its head, or in later versions a table with the paths.
             for one in it["paths"] if isinstance(it, dict) else it[1:]:
                 if one.get("peer", {}).get("peerId") == self.place.server:
                     path = tuple(number for part in one["aspath"]["segments"] for number in part["list"])
