@@ -131,7 +131,7 @@ def rule(draw, name):
 def named_list(draw, name):
     """A list as the configuration has it."""
     entries = [f'"{dotted(it)}{draw.choice(operators(it[1]))}"' for it in draw.sample(PREFIXES, draw.randrange(4))]
-    ases = [draw.choice(["64496", "64999", f'"64497-{BIG}"', f'"{BIG}"']) for _ in range(draw.randrange(3))]
+    ases = [draw.choice(["64496", "64999", f'"64497-{BIG}"', str(BIG)]) for _ in range(draw.randrange(3))]
     return f'\n[[list]]\nname = "{name}"\nprefixes = [{", ".join(entries)}]\nases = [{", ".join(ases)}]\n'
 
 

@@ -16,6 +16,8 @@ SPARE = "spare"
 SPARE_CLIENT = f'\n[[client]]\nname = "{SPARE}"\nas = 65535\nlisten = "127.0.0.1:65535"\npeer = "203.0.113.255"\n'
 ALL = 2**64 - 1
 SECONDS = 120
+# How many cases the plain function is asked in one run.
+AT_ONCE = 200
 
 # A session that was played: its configuration, the lines with what each wrote, what it wrote after them, its status, and
 # what was said on standard error.
@@ -169,9 +171,14 @@ def case(played, without=None, is_closed_for_faults=False):
     yield "end"
 
 
+def answers(tests, cases):
+    """What the plain function answers to cases that it is asked in one run."""
+    text = "\n".join("\n".join(it) for it in cases)
+    run = subprocess.run([tests, TEST], input=text.encode(), capture_output=True, timeout=5 * SECONDS)
+    found = [it for it in run.stdout.decode().splitlines() if it.split(" ")[0] in ("same", "closed", "differs", "unreadable")]
+    return found + [None] * (len(cases) - len(found))
+
+
 def ask(tests, cases):
     """What the plain function answers to each case: its own line, or None where it didn't answer."""
-    text = "\n".join("\n".join(it) for it in cases)
-    run = subprocess.run([tests, TEST], input=text.encode(), capture_output=True, timeout=600)
-    answers = [it for it in run.stdout.decode().splitlines() if it.split(" ")[0] in ("same", "closed", "differs", "unreadable")]
-    return answers + [None] * (len(cases) - len(answers))
+    return [answer for at in range(0, len(cases), AT_ONCE) for answer in answers(tests, cases[at : at + AT_ONCE])]

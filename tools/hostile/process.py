@@ -355,7 +355,8 @@ def signals(target):
     bare = {it.name: signalled(target, it, None) for it in (signal.SIGHUP, signal.SIGUSR1)}
     kept = signalled(target, signal.SIGHUP, lambda: signal.signal(signal.SIGHUP, signal.SIG_IGN))
     unit, page = (TOP / "examples/rs_served.service").read_text(), (TOP / "docs/OPERATING.md").read_text()
-    said = "ExecReload" not in unit and "SIGHUP" in page and "nohup" in page
+    sends = any(word in line for line in unit.splitlines() if line.startswith("ExecReload") for word in ("kill", "HUP"))
+    said = not sends and "SIGHUP" in page and "nohup" in page
     words = ", ".join(f"{name} {'is borne' if it else 'ends it'}" for name, it in bare.items())
     words += f"; under `nohup` SIGHUP {'is borne' if kept else 'ends it'}; OPERATING {'warns, and the unit sends none' if said else 'or the unit says otherwise'}"
     return Seen({"kept": kept, "said": said}, words)

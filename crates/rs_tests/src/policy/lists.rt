@@ -1,5 +1,6 @@
 //! Lists that rules name: what is in them, and their faults.
 
+use super::matching::{drops, left};
 use super::routes::{Route, SET};
 use super::*;
 use crate::common::{ROUTE, prefix};
@@ -28,30 +29,10 @@ const PREFIXES: [(&str, u32, u8, bool); 27] = [
     ("\"0.0.0.0/0^25-32\"", 0xffff_ff00, 24, false),
     ("\"255.255.255.255/32^+\"", 0xffff_ffff, 32, true),
     // one within another, beside each other, twice, in whatever order
-    (
-        "\"10.1.0.0/16\", \"10.0.0.0/8^24\"",
-        0x0a01_0000,
-        16,
-        true,
-    ),
-    (
-        "\"10.1.0.0/16\", \"10.0.0.0/8^24\"",
-        0x0aff_0100,
-        24,
-        true,
-    ),
-    (
-        "\"10.1.0.0/16\", \"10.0.0.0/8^24\"",
-        0x0a01_0100,
-        24,
-        true,
-    ),
-    (
-        "\"10.1.0.0/16\", \"10.0.0.0/8^24\"",
-        0x0a02_0000,
-        16,
-        false,
-    ),
+    ("\"10.1.0.0/16\", \"10.0.0.0/8^24\"", 0x0a01_0000, 16, true),
+    ("\"10.1.0.0/16\", \"10.0.0.0/8^24\"", 0x0aff_0100, 24, true),
+    ("\"10.1.0.0/16\", \"10.0.0.0/8^24\"", 0x0a01_0100, 24, true),
+    ("\"10.1.0.0/16\", \"10.0.0.0/8^24\"", 0x0a02_0000, 16, false),
     (
         "\"10.2.0.0/16\", \"10.2.0.0/16\", \"10.1.0.0/16\", \"10.0.0.0/8\"",
         0x0a01_0000,
@@ -72,21 +53,30 @@ const PREFIXES: [(&str, u32, u8, bool); 27] = [
     ),
 ];
 
-/// A configuration whose list has these entries, with a rule that drops what is in it.
+/// A list with these entries under a key.
+fn listed(rt: &impl Abort, alloc: Global, key: &str, entries: &str) -> String {
+    let text = format!(in alloc; "[[list]]\nname = \"l\"\n{key} = [{entries}]\n");
+    text.expect(rt, "a text")
+}
+
+/// By this list and a rule with this test, on import and on export, a route is dropped where it is in the list.
 fn goes_by_list(
     rt: &impl Abort,
     alloc: Global,
     route: &Route,
-    list: (&str, &str, &str),
+    list: &str,
+    test: &str,
     is_in: bool,
 ) {
-    let (key, entries, test) = list;
-    let top = format!(in alloc; "[[list]]\nname = \"l\"\n{key} = [{entries}]\n");
-    let top = top.expect(rt, "a text");
-    let rule = format!(in alloc; "{{ {test} = \"l\", action = \"drop\" }}").expect(rt, "a text");
-    let want = if is_in { None } else { Some(100) };
-    route.goes(rt, alloc, (top.as_str(), rule.as_str(), ""), want);
-    route.goes(rt, alloc, (top.as_str(), "", rule.as_str()), want);
+    let rule = drops(rt, alloc, test);
+    route.goes(rt, alloc, (list, rule.as_str(), ""), left(is_in));
+    route.goes(rt, alloc, (list, "", rule.as_str()), left(is_in));
+}
+
+/// A route's prefix is in a list of these entries, or not.
+fn prefix_is_in(rt: &impl Abort, alloc: Global, route: &Route, entries: &str, is_in: bool) {
+    let list = listed(rt, alloc, "prefixes", entries);
+    goes_by_list(rt, alloc, route, list.as_str(), "prefix_in = \"l\"", is_in);
 }
 
 #[test]
@@ -94,8 +84,7 @@ fn prefixes_in_lists(rt: HostRuntime) {
     let mut route = Route::spelt(&rt, rt.alloc(), &ROUTE);
     for (entries, bits, len, is_in) in &PREFIXES {
         route.prefix = prefix(&rt, *bits, *len);
-        let list = ("prefixes", *entries, "prefix_in");
-        goes_by_list(&rt, rt.alloc(), &route, list, *is_in);
+        prefix_is_in(&rt, rt.alloc(), &route, entries, *is_in);
     }
     route.let_go();
 }
@@ -112,15 +101,20 @@ const ORIGINS: [(&str, bool); 8] = [
     ("0, \"65536-65551\", \"64490-64499\", 64496", true),
 ];
 
+/// A route's origin is in a list of these entries, or not.
+fn origin_is_in(rt: &impl Abort, alloc: Global, route: &Route, entries: &str, is_in: bool) {
+    let list = listed(rt, alloc, "ases", entries);
+    goes_by_list(rt, alloc, route, list.as_str(), "origin_in = \"l\"", is_in);
+}
+
 #[test]
 fn origins_in_lists(rt: HostRuntime) {
     let route = Route::spelt(&rt, rt.alloc(), &ROUTE);
     // a path whose last segment is a set has no origin
     let set = Route::spelt(&rt, rt.alloc(), SET);
     for (entries, is_in) in &ORIGINS {
-        let list = ("ases", *entries, "origin_in");
-        goes_by_list(&rt, rt.alloc(), &route, list, *is_in);
-        goes_by_list(&rt, rt.alloc(), &set, list, false);
+        origin_is_in(&rt, rt.alloc(), &route, entries, *is_in);
+        origin_is_in(&rt, rt.alloc(), &set, entries, false);
     }
     route.let_go();
     set.let_go();

@@ -64,12 +64,12 @@ const PREFIXES: [(&str, u32, u8, bool); 17] = [
 ];
 
 /// The preference of a route where a rule that drops matches it, or doesn't.
-fn left(matches: bool) -> Option<u32> {
+pub(super) fn left(matches: bool) -> Option<u32> {
     if matches { None } else { Some(100) }
 }
 
 /// A rule with this test, which drops.
-fn drops(rt: &impl Abort, alloc: Global, test: &str) -> String {
+pub(super) fn drops(rt: &impl Abort, alloc: Global, test: &str) -> String {
     format!(in alloc; "{{ {test}, action = \"drop\" }}").expect(rt, "a text")
 }
 
