@@ -51,6 +51,8 @@ pub struct Sockets<'a, R> {
     listeners: Listeners,
     streams: Slab<Connected>,
     start: Instant,
+    /// The second for which it was marked what may be there.
+    marked: Option<u64>,
 }
 
 /// Listens at an address and says so, a line. The poll knows the listener by its place.
@@ -117,6 +119,7 @@ impl<'a, R: Net + Clock + Files> Sockets<'a, R> {
             listeners,
             streams,
             start: Instant::now(rt)?,
+            marked: None,
         })
     }
 
@@ -128,9 +131,32 @@ impl<'a, R: Net + Clock + Files> Sockets<'a, R> {
         }
     }
 
+    /// The seconds since the start.
+    fn passed(&self) -> u64 {
+        match self.start.elapsed(self.rt) {
+            Ok(passed) => passed.as_secs(),
+            Err(_) => 0,
+        }
+    }
+
+    /// Marks where something may be there to read or to accept, after at most so many seconds.
+    fn mark_ready(&mut self, most: u64) -> io::Result<()> {
+        self.poll
+            .poll(&mut self.events, Some(Duration::from_secs(most)))?;
+        for event in self.events.iter() {
+            let token = event.token().0;
+            if token >= FIRST_LISTENER {
+                self.listeners.mark_ready(token - FIRST_LISTENER);
+            } else if let Some(stream) = self.streams.get_mut(token) {
+                stream.is_ready = true;
+            }
+        }
+        Ok(())
+    }
+
     /// Prints the lines that wait for this second, and goes on with those that a stream has not taken.
     fn print_waiting(&mut self) {
-        let second = self.seconds();
+        let second = self.passed();
         self.lines.print_waiting(&mut self.output, second);
         self.output.flush();
         self.errors.flush();
@@ -173,20 +199,8 @@ impl<'a, R: Net + Clock + Files> Ports for Sockets<'a, R> {
 
     fn wait(&mut self, pause: bool) -> Result<(), PortFault> {
         let most = if pause { 1 } else { 0 };
-        if self
-            .poll
-            .poll(&mut self.events, Some(Duration::from_secs(most)))
-            .is_err()
-        {
+        if self.mark_ready(most).is_err() {
             return Err(PortFault);
-        }
-        for event in self.events.iter() {
-            let token = event.token().0;
-            if token >= FIRST_LISTENER {
-                self.listeners.mark_ready(token - FIRST_LISTENER);
-            } else if let Some(stream) = self.streams.get_mut(token) {
-                stream.is_ready = true;
-            }
         }
         self.listeners.ask_all();
         self.print_waiting();
@@ -241,25 +255,29 @@ impl<'a, R: Net + Clock + Files> Ports for Sockets<'a, R> {
     }
 
     fn seconds(&mut self) -> u64 {
-        match self.start.elapsed(self.rt) {
-            Ok(passed) => passed.as_secs(),
-            Err(_) => 0,
+        let second = self.passed();
+        if self.marked != Some(second) {
+            // What came while the process stood still is marked after the clock was asked: a wait that was
+            // broken off has not seen it.
+            self.marked = Some(second);
+            let _ = self.mark_ready(0);
         }
+        second
     }
 
     fn text(&mut self, text: &mut Vec<u8>) -> Result<bool, FileFault> {
-        let second = self.seconds();
+        let second = self.passed();
         self.watch.take_up(&mut self.configuration, second, text)
     }
 
     fn print(&mut self, line: &Line) {
-        let second = self.seconds();
+        let second = self.passed();
         self.lines.print(&mut self.output, second, line);
     }
 
     fn log(&mut self, report: &Report) {
         if self.is_logging {
-            let seconds = self.seconds();
+            let seconds = self.passed();
             report.print(&mut self.errors, seconds, self.names);
         }
     }

@@ -1,12 +1,9 @@
 //! The server over ports in memory, whose members follow a script, and over sockets on loopback.
 
 mod hold_timers;
-mod lines;
 mod loopback;
 mod rate_limits;
 mod reloading;
 mod reports;
 mod rounds;
 mod script;
-mod streams;
-mod watched;
