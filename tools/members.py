@@ -19,7 +19,7 @@ class Member(Speaker):
     def __init__(self, name, number, address, server, routes, source="127.0.0.1"):
         super().__init__(number, address, server, source)
         self.name, self.number, self.address, self.routes = name, number, address, routes
-        self.told, self.wrong = {}, []
+        self.told, self.wrong, self.may_lose = {}, [], False
 
     def attributes(self, group):
         """Those of the group's routes."""
@@ -35,8 +35,10 @@ class Member(Speaker):
         self.wrong.append(f"was sent the NOTIFICATION {body.hex()}")
 
     def told_of(self, withdrawn, field, nlri):
-        if withdrawn:
+        if withdrawn and not self.may_lose:
             self.wrong.append("was told of a withdrawal")
+        for prefix in prefixes(withdrawn):
+            self.told.pop(prefix[1:], None)
         for prefix in prefixes(nlri):
             if prefix[1:] in self.told:
                 self.wrong.append(f"was told twice of {prefix.hex()}")
@@ -96,16 +98,39 @@ def ends(server, members, until):
     return f"status {status}" if status else None
 
 
+def speak(members, until, is_over):
+    """Lets the members speak until it is over; what went wrong, or None."""
+    while time.monotonic() < until:
+        for it in members:
+            it.write()
+            if not it.read():
+                it.wrong.append("lost its connection")
+            if it.wrong:
+                return f"{it.name} {it.wrong[0]}"
+        if is_over():
+            return None
+        time.sleep(0.01)
+    return "waited for in vain"
+
+
+def replace(server, head):
+    """Puts a file that begins with this in place of a server's configuration."""
+    file = pathlib.Path(server.args[server.args.index("--config") + 1])
+    beside = file.with_name("new")
+    beside.write_text(head + file.read_text())
+    beside.rename(file)
+
+
 @contextlib.contextmanager
-def serving(program, clients, sessions):
-    """A server for these clients, each a name, an AS, a port and an address; it listens already."""
+def serving(program, clients, sessions, *options):
+    """A server for these clients, each a name, an AS, a port and an address, by these options; it listens already."""
     text = f'as = {SERVER_AS}\nidentifier = "192.0.2.1"\n'
     for name, number, port, peer in clients:
         text += f'[[client]]\nname = "{name}"\nas = {number}\nlisten = "127.0.0.1:{port}"\npeer = "{peer}"\n'
     with tempfile.TemporaryDirectory(prefix="served-") as room:
         config = pathlib.Path(room) / "config.toml"
         config.write_text(text)
-        words = [*program, "--config", config, "--sessions", str(sessions), "--workers", "2"]
+        words = [*program, "--config", config, "--sessions", str(sessions), "--workers", "2", *options]
         with subprocess.Popen(words, stdout=subprocess.PIPE, stderr=subprocess.STDOUT) as server:
             try:
                 for _ in {port for _, _, port, _ in clients}:

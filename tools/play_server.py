@@ -6,6 +6,8 @@ play_server.py PROGRAM
 Two members: each announces 10,000 routes and must be told the other's.
 A silent member: one member announces 100,000 routes, another must be told them, while a third comes up and then reads
 nothing; the server's memory must stay below a bound, and the third's session must last.
+A server taken out: behind `default = "drop"` in place of its rules two members must be told that all routes are gone, and keep
+their sessions.
 Many members: of 512 in the configuration 200 connect; each announces a route and must be told those of all others.
 A restless member: one member and a stranger connect 300 times, as fast as they can; on standard output there may be no more
 than a line of each kind in a second, and the numbers behind them must count all.
@@ -23,7 +25,7 @@ import sys
 import time
 
 import play_connections
-from members import Member, differs, ends, free_ports, routes, serving
+from members import Member, differs, ends, free_ports, replace, routes, serving, speak
 from results import end, tell
 
 SECONDS = 120
@@ -39,16 +41,41 @@ def memory(server):
     return 0
 
 
+def pair():
+    """Two clients, each with a port of its own."""
+    ports = free_ports(2)
+    return [("alpha", 64496, ports[0], "127.0.0.1"), ("beta", 64497, ports[1], "127.0.0.1")]
+
+
+def members_of(clients, count):
+    """A member for each client, with so many routes."""
+    return [
+        Member(name, number, f"192.0.2.{11 + at}", ("127.0.0.1", port), routes(10 + at, count))
+        for at, (name, number, port, _) in enumerate(clients)
+    ]
+
+
 def two_members(program, until):
     """Two members of 10,000 routes each."""
-    ports = free_ports(2)
-    clients = [("alpha", 64496, ports[0], "127.0.0.1"), ("beta", 64497, ports[1], "127.0.0.1")]
+    clients = pair()
     with serving(program, clients, 2) as server:
-        members = [
-            Member(name, number, f"192.0.2.{11 + at}", ("127.0.0.1", port), routes(10 + at, 10_000))
-            for at, (name, number, port, _) in enumerate(clients)
-        ]
+        members = members_of(clients, 10_000)
         return differs(server, members, members, until) or ends(server, members, until)
+
+
+def a_server_taken_out(program, until):
+    """Two members, and a file with `default = "drop"` in place of the server's."""
+    clients = pair()
+    with serving(program, clients, 2, "--reload", "1") as server:
+        members = members_of(clients, 1_000)
+        if wrong := differs(server, members, members, until):
+            return wrong
+        for it in members:
+            it.may_lose = True
+        replace(server, 'default = "drop"\n')
+        wrong = speak(members, until, lambda: not any(it.told for it in members))
+        still = time.monotonic() + 2
+        return wrong or speak(members, until, lambda: time.monotonic() > still) or ends(server, members, until)
 
 
 def a_silent_member(program, until):
@@ -84,6 +111,7 @@ def many_members(program, until):
 
 PLAYS = (
     ("two members of 10,000 routes each", two_members),
+    ("a server that is taken out by its rules", a_server_taken_out),
     ("a member of 100,000 routes beside one that reads nothing", a_silent_member),
     ("512 members, of which 200 are connected", many_members),
     *play_connections.PLAYS,

@@ -9,9 +9,9 @@ TESTS is the built tests of rs_program_tests, whose plain function says what eac
 - Wrong readings of the plain function, each without one of its sentences: some recorded session must find each.
 - Each session with rooms of one octet in place of its rooms: the octets of each client, joined, must be the same.
 - A loss of the connection behind so many octets of an UPDATE that were taken, or heard, each number that there is.
-- What member a says in the recorded sessions, each OPEN, KEEPALIVE and UPDATE of no more than 100 octets, cut behind each
-  octet and then lost, and with each octet as 00, as ff and one greater, while its session is in OpenSent and in
-  Established: no session but a's ends, and a's only where what it said is at fault.
+- What member a says in the recorded sessions, each OPEN, KEEPALIVE and UPDATE, cut behind each octet and then lost, and
+  with each octet as 00, as ff and one greater, while its session is in OpenSent and in Established: no session but a's
+  ends, and a's only where what it said is at fault. Many are played one behind the other, each by connections of its own.
 """
 import collections
 import itertools
@@ -19,7 +19,7 @@ import pathlib
 import sys
 import tomllib
 
-from holding import ask, case, drain, play
+from holding import AT_ONCE, Played, ask, case, drain, names, play
 from results import end, tell
 
 # The sentences of the definitions that some recorded session needs.
@@ -41,8 +41,6 @@ FIRST = f"{MARKER}002f0200000014{ROUTE}18c63364"
 SECOND = f"{MARKER}0036020000001b{ROUTE}8004040000000518c63364"
 OF_TWO_OCTETS = f"{MARKER}002d0200000012" + "40010100" + "400204" + "0201fbf0" + "400304c000020b" + "18c63364"
 BESIDE = f"{MARKER}002f020000001440010100" + "40020602010000fbf1" + "400304c000020c" + "18cb0071"
-# Longer messages are not cut and changed.
-MOST = 100
 
 
 def up(name, opening=None):
@@ -69,31 +67,55 @@ class Sweep:
     """Sessions that are played, in which links are closed for faults alone or not, and what the plain function says of each."""
 
     def __init__(self, program, tests, is_closed_for_faults=False):
-        self.program, self.tests, self.names, self.cases = program, tests, [], []
-        self.is_closed_for_faults = is_closed_for_faults
+        self.program, self.tests, self.is_closed_for_faults = program, tests, is_closed_for_faults
+        # Those of which the plain function was not asked yet, each with its name.
+        self.played = []
+        self.counts, self.held = collections.Counter(), collections.Counter()
         self.wrong = collections.defaultdict(list)
 
     def play(self, name, text, lines, workers=1):
         """Plays a session and what drains its clients."""
         played = play(self.program, text, [*lines, *drain(tomllib.loads(text))], workers)
-        if played.status:
-            self.wrong[name].append(f"status {played.status}: {played.errors.strip()}")
-        self.names.append(name)
-        self.cases.append(played)
+        self.take(name, played)
         return played
 
-    def results(self):
-        """What is wrong with the sessions of each name, or None."""
-        answers = ask(self.tests, [list(case(it, None, self.is_closed_for_faults)) for it in self.cases])
-        held = collections.Counter()
-        for name, answer, played in zip(self.names, answers, self.cases):
+    def play_in_turn(self, name, text, sessions):
+        """Plays sessions one behind the other, each by connections of its own, and what drains its clients."""
+        config = tomllib.loads(text)
+        before, behind = [f"lost {it}" for it in names(config)], drain(config)
+        parts = [[*before, *lines, *behind] for lines in sessions]
+        whole = play(self.program, text, list(itertools.chain.from_iterable(parts)))
+        lines = iter(whole.lines)
+        for part in parts:
+            played = Played(whole.config, list(itertools.islice(lines, len(part))), [], whole.status, whole.errors)
+            self.take(name, played)
+            yield played
+
+    def take(self, name, played):
+        """A session of this name was played."""
+        if played.status:
+            self.wrong[name].append(f"status {played.status}: {played.errors.strip()}")
+        self.counts[name] += 1
+        self.played.append((name, played))
+        if len(self.played) == AT_ONCE:
+            self.ask()
+
+    def ask(self):
+        """Asks the plain function of the sessions that were played since it was asked."""
+        answers = ask(self.tests, [list(case(it, None, self.is_closed_for_faults)) for _, it in self.played])
+        for (name, played), answer in zip(self.played, answers):
             if answer is None or not answer.startswith("same"):
                 self.wrong[name].append(f"{answer} behind\n" + "\n".join(line for line, _ in played.lines))
             else:
-                held[name] += int(answer.split()[1])
-        for name in dict.fromkeys(self.names):
+                self.held[name] += int(answer.split()[1])
+        self.played = []
+
+    def results(self):
+        """What is wrong with the sessions of each name, or None."""
+        self.ask()
+        for name, count in self.counts.items():
             wrong = self.wrong[name]
-            yield f"{name}, {self.names.count(name)} sessions, {held[name]} routes held", "\n".join(wrong[:1]) if wrong else None
+            yield f"{name}, {count} sessions, {self.held[name]} routes held", "\n".join(wrong[:1]) if wrong else None
 
 
 def fronts(program, tests, folder):
@@ -173,7 +195,7 @@ def corpus(folder):
             for message in messages:
                 if message[18] == 1:
                     is_four = bytes.fromhex("4104") in message
-                if message[18] in (1, 2, 4) and len(message) <= MOST:
+                if message[18] in (1, 2, 4):
                     found.setdefault((is_four, message), name)
     return [(name, is_four, message) for (is_four, message), name in found.items()]
 
@@ -197,11 +219,12 @@ def cuts(program, tests, folder):
         established = [*up("a", opening), f"octets a {route}", "turn", "room b 1000"]
         for state, before in (("OpenSent", ["open a", "room a 1000"]), ("Established", established)):
             tried = f"cut and changed in {state}, of {name}"
-            for lines in forms(message):
-                played = sweep.play(tried, text, [*others, *before, *lines])
-                ended = {line for _, written in played.lines for line in written if line.startswith(("close", "memory"))}
-                if ended - {"close a"}:
-                    sweep.wrong[tried].append(f"{sorted(ended)} behind {lines}")
+            sessions = ([*others, *before, *lines] for lines in forms(message))
+            while some := list(itertools.islice(sessions, AT_ONCE)):
+                for lines, played in zip(some, sweep.play_in_turn(tried, text, some)):
+                    ended = {line for _, written in played.lines for line in written if line.startswith(("close", "memory"))}
+                    if ended - {"close a"}:
+                        sweep.wrong[tried].append(f"{sorted(ended)} behind {lines}")
     yield from sweep.results()
 
 

@@ -160,10 +160,10 @@ class File:
     def __init__(self, exchange):
         self.exchange, self.path, self.good = exchange, exchange.file, exchange.file.read_text()
 
-    def said(self):
-        """How often rules were accepted and refused so far."""
-        text = self.exchange.text()
-        return text.count("rules accepted"), text.count("rules refused")
+    def accepted(self):
+        """How often rules were accepted so far, by the lines on standard output; those of the log begin with the time."""
+        lines = re.findall(r"^rules accepted(?: (\d+))?$", self.exchange.text(), re.MULTILINE)
+        return sum(int(often or 1) for often in lines)
 
     def replace(self, text):
         """Writes beside, then renames, as OPERATING says."""
@@ -177,15 +177,15 @@ class File:
 
     def taken(self, text, seconds=8):
         """Whether this text is accepted in this time, once it was renamed into place."""
-        before, until = self.said()[0], time.monotonic() + seconds
+        before, until = self.accepted(), time.monotonic() + seconds
         self.replace(text)
-        while time.monotonic() < until and self.said()[0] == before:
+        while time.monotonic() < until and self.accepted() == before:
             time.sleep(0.2)
-        return self.said()[0] > before
+        return self.accepted() > before
 
     def half(self):
         """Writes the file in place in two halves, each of them good, half a second apart: how often rules were accepted."""
-        whole, before = self.ruled(2), self.said()[0]
+        whole, before = self.ruled(2), self.accepted()
         cut = len(self.ruled(1))
         with open(self.path, "w") as file:
             file.write(whole[:cut])
@@ -193,7 +193,7 @@ class File:
             time.sleep(0.5)
             file.write(whole[cut:])
         time.sleep(5)
-        return self.said()[0] - before
+        return self.accepted() - before
 
     def fifo(self, seconds):
         """A FIFO stands there for so long, then the good file again."""

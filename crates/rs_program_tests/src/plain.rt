@@ -87,7 +87,8 @@ struct Exchange {
     clients: Vec<Client>,
 }
 
-/// The route of a table at a prefix, of which it has one at most.
+/// The route of a table at a prefix, of which it has one at most, by rising prefix.
 fn route_at<'a>(table: &'a [Route], prefix: &Prefix) -> Option<&'a Route> {
-    table.iter().find(|route| route.prefix == *prefix)
+    let place = table.binary_search_by_key(prefix, |route| route.prefix);
+    table.get(place.ok()?)
 }

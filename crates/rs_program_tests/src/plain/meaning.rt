@@ -1,6 +1,6 @@
 //! What octets mean: the sessions and tables that they make, by the last mention of each prefix.
 
-use crate::plain::{Route, Sentence, Session, route_at};
+use crate::plain::{Route, Sentence, Session};
 use rs_attrs::{Attrs, Mode};
 use rs_octets::{Allowed, Front, Kind, Prefix, read_front};
 use rs_open::read_open;
@@ -36,16 +36,19 @@ fn mention(
     attrs: Option<&Arc<Attrs>>,
     without: Option<Sentence>,
 ) -> Result<(), AllocError> {
-    if without == Some(Sentence::LastMention) && route_at(table, prefix).is_some() {
+    let place = table.binary_search_by_key(prefix, |route| route.prefix);
+    if without == Some(Sentence::LastMention) && place.is_ok() {
         return Ok(());
     }
-    table.retain(|route| route.prefix != *prefix);
+    if let Ok(place) = place {
+        table.remove(place);
+    }
     if let Some(attrs) = attrs {
         let route = Route {
             prefix: *prefix,
             attrs: attrs.clone()?,
         };
-        table.push(route)?;
+        table.insert(place.unwrap_or_else(|place| place), route)?;
     }
     Ok(())
 }
