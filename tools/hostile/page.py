@@ -37,9 +37,8 @@ def page(kept, targets):
     text += [f"Skipped: {it.name} {it.missing}." for it in targets.values() if it.missing]
     text += ["", "## Verdicts", "", "| | Attack or accident | To be | Verdict | Load |", "|---|---|---|---|---:|"]
     text += [f"| {row.letter} | {row.attack} | {row.wanted} | {verdict(it)} | {it['load']:.1f} |" for row, it in played]
-    if others := [row for row in ROWS if row.letter not in kept.rows]:
-        text += ["", "Not played to this build (`tools/hostile/table.py` has what is to be seen):", ""]
-        text += [f"- {row.letter}: {row.attack}" for row in others]
+    if others := [row.letter for row in ROWS if row.letter not in kept.rows]:
+        text += ["", f"Not played to this build (`tools/hostile/table.py` has what they are): {', '.join(others)}."]
     text += ["", "## What was seen", "", "| | Server | Seen |", "|---|---|---|"]
     text += [f"| {row.letter} | {name} | {words} |" for row, it in played for name, words in it["seen"].items()]
     text += ["", "Sizes: " + "; ".join(f"{row.letter} {sizes(row.sizes)}" for row, _ in played if row.sizes) + "."]

@@ -59,7 +59,8 @@ def stale_routes_go(seen, short):
 
 def given_up_is_free(seen, short):
     it = seen["ours"].figures
-    return missed((it["after"] <= 1.5 * it["before"] + 0.000_05, "a round costs more than before"))
+    more = 0.000_1 if short else 0.000_05
+    return missed((it["after"] <= 1.5 * it["before"] + more, "a round costs more than before"))
 
 
 def wide_is_cheap(seen, short):
