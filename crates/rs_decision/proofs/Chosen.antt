@@ -54,10 +54,10 @@ joins ranks b x hb hx same =
 
 -- ---- MULTI_EXIT_DISC
 
-at_most_med : (n m a b : ℕ) → ((n == m) && nat_lt a b) ≡ false → n ≡ m → b ≤ a
+pub at_most_med : (n m a b : ℕ) → ((n == m) && nat_lt a b) ≡ false → n ≡ m → b ≤ a
 at_most_med n m a b is same = grind (arith, nat_tests)
 
-not_lower_med : (n m a b : ℕ) → (n ≡ m → b ≤ a) → ((n == m) && nat_lt a b) ≡ false
+pub not_lower_med : (n m a b : ℕ) → (n ≡ m → b ≤ a) → ((n == m) && nat_lt a b) ≡ false
 not_lower_med n m a b h = grind (arith, nat_tests)
 
 abbrev has_lower : Rank → Rank → Bool

@@ -9,7 +9,7 @@ use Rattle.std.proofs.lemmas.Bool.Decides.{nat_tests}
 use Rattle.rs_decision.specs.declared.rank.Rank.{Rank}
 use Rattle.rs_decision.specs.Choice.{med_of, unbeaten, best_of}
 use Rattle.rs_decision.specs.Best.{HasDistinctPlaces, IsOnlyOneLeft, IsLevel, HasLowestMed, IsUnbeaten}
-use Rattle.rs_decision.specs.Rank.{is_level, has_lower_med, precedes, blank, rank_at, IsNextAfter}
+use Rattle.rs_decision.specs.Rank.{is_level, has_lower_med, precedes, blank, rank_at, IsFirst, IsNextAfter}
 use Rattle.std.proofs.lemmas.Option.{slice_get_read}
 use Rattle.rs_decision.proofs.Chosen.{unbeaten_is_only}
 use Rattle.rs_octets.proofs.Members.{Has, has, contains, any_false, none_of, apart_by, same_key}
@@ -48,12 +48,12 @@ above_tied a b ab ba h g = (grind (arith, nat_tests, h, g), grind (arith, nat_te
 last_tied : (a b : ℕ) → nat_lt a b ≡ false → nat_lt b a ≡ false → a ≡ b
 last_tied a b h g = grind (arith, nat_tests, h, g)
 
-precedes_self : (a : Rank) → precedes a a ≡ false
+pub precedes_self : (a : Rank) → precedes a a ≡ false
 precedes_self a =
     before_self a.preference _
     (before_self a.path_len _ (before_self a.origin _ (before_self a.identifier _ (before_self a.address _ (grind (arith, nat_tests))))))
 
-precedes_past : (a b c : Rank) → precedes a b ≡ false → precedes c b ≡ true → precedes a c ≡ false
+pub precedes_past : (a b c : Rank) → precedes a b ≡ false → precedes c b ≡ true → precedes a c ≡ false
 precedes_past a b c =
     above_past a.preference b.preference c.preference _ _ _
     (before_past a.path_len b.path_len c.path_len _ _ _
@@ -151,7 +151,7 @@ next_passes ranks from next i new is so_far here =
 abbrev pub loses : List Rank → Rank → Bool
 loses ranks r = list_any (λ s. has_lower_med s r) ranks
 
-level_is : (a b : Rank) → is_level a b ≡ true → IsLevel a b
+pub level_is : (a b : Rank) → is_level a b ≡ true → IsLevel a b
 level_is a b h = record {
   preference = grind (arith, nat_tests, h);
   path = grind (arith, nat_tests, h);
@@ -185,7 +185,7 @@ lowest_stays : (ranks : List Rank) (b : Rank) → HasLowestMed ranks b → loses
 lowest_stays ranks b low = any_false (λ r. has_lower_med r b) ranks (λ s hs. not_lower_in_med s b (low s (contains ranks s hs)))
 
 -- a rank that is level with s and does not lose
-record IsLevelStay (ranks : List Rank) (s : Rank) : Type 0 where
+pub record IsLevelStay (ranks : List Rank) (s : Rank) : Type 0 where
   pub rank : Rank
   pub member : Contains ranks rank
   pub level : IsLevel rank s
@@ -217,13 +217,13 @@ descends : (ranks : List Rank) (n : ℕ) (s : Rank) → Contains ranks s → med
 descends ranks zero s hs below = absurd (omega (arith, below))
 descends ranks (suc n) s hs below = descends_at ranks n s hs below (descends ranks n) (loses ranks s) refl
 
-stay : (ranks : List Rank) (s : Rank) → Contains ranks s → IsLevelStay ranks s
+pub stay : (ranks : List Rank) (s : Rank) → Contains ranks s → IsLevelStay ranks s
 stay ranks s hs = descends ranks (suc (med_of s)) s hs (omega arith)
 
 -- ---- the walk from rank to rank
 
 -- what holds at each index holds of each member
-each : (P : Rank → Type 0) (ranks : List Rank) → ((k : ℕ) → k < length ranks → P (rank_at ranks k)) → (s : Rank) → Contains ranks s → P s
+pub each : (P : Rank → Type 0) (ranks : List Rank) → ((k : ℕ) → k < length ranks → P (rank_at ranks k)) → (s : Rank) → Contains ranks s → P s
 each P ranks h s at = subst P (get_or_default ranks at.0 blank s at.1 ∙ at.2) (h at.0 at.1)
 
 -- no rank that stays precedes the one at best
@@ -231,7 +231,10 @@ pub record IsReached (ranks : List Rank) (best : ℕ) : Type 0 where
   pub within : best < length ranks
   pub first : (k : ℕ) → k < length ranks → loses ranks (rank_at ranks k) ≡ false → precedes (rank_at ranks k) (rank_at ranks best) ≡ false
 
-here : (ranks : List Rank) (best : ℕ) → best < length ranks → Contains ranks (rank_at ranks best)
+pub first_is_reached : (ranks : List Rank) (first : ℕ) → IsFirst ranks first → IsReached ranks first
+first_is_reached ranks first is = record { within = is.within; first = λ k below stays. is.first k below }
+
+pub here : (ranks : List Rank) (best : ℕ) → best < length ranks → Contains ranks (rank_at ranks best)
 here ranks best within = Contains-get_or ranks best blank within
 
 tied : (ranks : List Rank) (a b : Rank) → HasDistinctPlaces ranks → Contains ranks a → Contains ranks b → precedes a b ≡ false → precedes b a ≡ false → a ≡ b

@@ -1,4 +1,5 @@
 pub mod Filters
 pub mod Chosen
 pub mod Compared
+pub mod Grouped
 pub mod Rows

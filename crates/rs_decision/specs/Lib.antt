@@ -1,3 +1,4 @@
 pub mod Choice
 pub mod Best
 pub mod Rank
+pub mod Exits

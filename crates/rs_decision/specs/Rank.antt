@@ -1,5 +1,5 @@
 -- Two ranks compared, as the code does it.
-use Rattle.std.specs.Prelude.{ℕ, ◌≡◌, ◌<◌, ◌==◌, ◌&&◌, ◌||◌, true, false, Bool, nat_lt, List, None, length, slice_index_or}
+use Rattle.std.specs.Prelude.{ℕ, ◌≡◌, ◌<◌, ◌==◌, ◌&&◌, ◌||◌, true, false, Bool, nat_lt, List, Option, Some, None, length, slice_index_or}
 use Rattle.std.specs.List.{EachIndex}
 use Rattle.rs_decision.specs.declared.rank.Rank.{Rank}
 use Rattle.rs_decision.specs.Choice.{med_of}
@@ -38,3 +38,14 @@ pub record IsNextAfter (ranks : List Rank) (from : Rank) (i : ℕ) : Type 0 wher
   pub within : i < length ranks
   pub after : precedes from (rank_at ranks i) ≡ true
   pub first : EachIndex ranks (λ k. precedes from (rank_at ranks k) ≡ true → precedes (rank_at ranks k) (rank_at ranks i) ≡ false)
+
+-- at i stands the first of the ranks that pass a test
+pub record IsFirstAmong (passes : Rank → Bool) (ranks : List Rank) (i : ℕ) : Type 0 where
+  pub within : i < length ranks
+  pub member : passes (rank_at ranks i) ≡ true
+  pub first : EachIndex ranks (λ k. passes (rank_at ranks k) ≡ true → precedes (rank_at ranks k) (rank_at ranks i) ≡ false)
+
+-- the rank comes before the one at this index, where there is one
+abbrev pub precedes_any : List Rank → Rank → Option ℕ → Bool
+precedes_any ranks r None = true
+precedes_any ranks r (Some i) = precedes r (rank_at ranks i)

@@ -6,13 +6,15 @@
 //! - `rank` is what the choice looks at in a route.
 //! - `choice` has the call, `best`. It is defined by filters over the whole list, one for each of
 //!   the standard's steps (`specs/Choice.antt`). The code asks for the first rank by all steps but
-//!   c, MULTI_EXIT_DISC, and for the next one as long as that rank loses by c.
+//!   c, MULTI_EXIT_DISC, and where that rank loses by c for the first that doesn't.
+//! - `exits` tells which ranks lose by c.
 //! - `laws` are contracts of functions that do nothing: the best is unbeaten, and the order of the
 //!   list doesn't matter.
 //! - `tests` have choices worked out by the standard's rules.
 #![tactic(auto)]
 
 mod choice;
+mod exits;
 mod laws;
 mod rank;
 #[cfg(test)]

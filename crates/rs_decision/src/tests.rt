@@ -28,6 +28,23 @@ fn best_of_three(rt: &impl Abort, first: Rank, second: Rank, third: Rank) -> Opt
     best(&[first, second, third])
 }
 
+/// The best of four, each of another place.
+fn best_of_four(
+    rt: &impl Abort,
+    first: Rank,
+    second: Rank,
+    third: Rank,
+    fourth: Rank,
+) -> Option<usize> {
+    assert!(rt; first.place != second.place);
+    assert!(rt; first.place != third.place);
+    assert!(rt; first.place != fourth.place);
+    assert!(rt; second.place != third.place);
+    assert!(rt; second.place != fourth.place);
+    assert!(rt; third.place != fourth.place);
+    best(&[first, second, third, fourth])
+}
+
 #[test]
 fn nothing_is_best_of_none(rt: HostRuntime) {
     assert_eq!(rt; best(&[]), None);
@@ -103,6 +120,39 @@ fn pairwise_comparing_fails(rt: HostRuntime) {
     assert_eq!(rt; best_of_three(&rt, second, third, first), Some(0));
     assert_eq!(rt; best_of_three(&rt, third, first, second), Some(2));
     assert_eq!(rt; best_of_three(&rt, third, second, first), Some(1));
+}
+
+/// The first in all but MED is out by two that share a lower one, of which the lower identifier wins. A longer
+/// path's MED, lower still, puts out neither.
+#[test]
+fn the_lowest_med_of_a_level_may_be_shared(rt: HostRuntime) {
+    let longer = Rank {
+        path_len: 3,
+        med: Some(0),
+        identifier: 1,
+        place: 0,
+        ..EQUAL
+    };
+    let higher = Rank {
+        med: Some(5),
+        identifier: 2,
+        place: 1,
+        ..EQUAL
+    };
+    let late = Rank {
+        med: Some(4),
+        identifier: 9,
+        place: 2,
+        ..EQUAL
+    };
+    let early = Rank {
+        med: Some(4),
+        identifier: 8,
+        place: 3,
+        ..EQUAL
+    };
+    assert_eq!(rt; best_of_four(&rt, longer, higher, late, early), Some(3));
+    assert_eq!(rt; best_of_four(&rt, early, late, higher, longer), Some(0));
 }
 
 /// A missing MED counts 0: it is lower than 1, and equal to 0.
