@@ -136,6 +136,10 @@ abbrev pub waits_of : List Wait → Waiting
 waits_of [] = fin.empty
 waits_of (w ∷ ws) = if w.open then fin.insert (waits_of ws) w.prefix (is_withdrawal w.due) else waits_of ws
 
+-- all that was told is to be told again, and nothing else
+abbrev pub IsAskedAgain : Table → List Wait → Type 0
+IsAskedAgain loc ws = (p : Prefix) → set.contains (marked_of loc ws) p ≡ fin.contains_key (told_over loc ws) p
+
 -- ---- each slot to be announced has its row, and each row fits
 
 -- the row of what is due at a slot
@@ -209,3 +213,4 @@ pub record IsKept (a : Inside) : Type 0 where
   pub backed : AreBacked a.rows.rows.items a.waits.slots.items
   pub chained : AreChained a.rows.rows.items a.waits.slots.items a.waits.chains.items
   pub fit : (speech : Speech) → a.speech ≡ Some speech → RowsFit speech a.rows.rows.items
+  pub asked : a.asked ≡ true → IsAskedAgain (loc_of a.rows.rows.items) a.waits.slots.items

@@ -16,7 +16,7 @@ ghost use Rattle.rs_outlet.specs.Pending.Owed.{IsBeside, IsCarriedOut, IsOpenAt,
 ghost use Rattle.rs_outlet.specs.declared.answers.Speech.{Speech};
 ghost use Rattle.rs_outlet.specs.declared.waiting.Due.{Due};
 ghost use Rattle.rs_outlet.specs.Pending.Hashing.{attributes_hash};
-ghost use Rattle.rs_outlet.specs.Inside.{AreBacked, AreDue, AreOwn, ArePlaced, ChangesFit, FitsAlone, HaveRows, IsOwn, RowsFit, attributes_at, is_changed, numbers_of, row_at, loc_of, numbers_from};
+ghost use Rattle.rs_outlet.specs.Inside.{AreBacked, AreChained, AreDue, AreOwn, ArePlaced, ChangesFit, FitsAlone, HaveRows, IsOwn, RowsFit, attributes_at, is_changed, numbers_of, row_at, loc_of, numbers_from};
 
 use crate::table::Rows;
 use crate::waiting::{Due, Told, Wait, Waits, hash_of};
@@ -167,7 +167,7 @@ pub(crate) fn make_room(
     Ok(fresh)
 }
 
-/// Carries out the changes, for which there is room.
+/// Carries out the changes, for which there is room. Without a change all stays as it is.
 pub(crate) fn commit(rows: &mut Rows, waits: &mut Waits, changes: Vec<Change>, mut fresh: Vec<Wait>)
     requires rows { HaveRows changes.items (vec_len rows.old.rows) }
     requires once { IsDistinct (eq_by_cmp prefix_order) (prefixes_of changes.items) }
@@ -180,11 +180,15 @@ pub(crate) fn commit(rows: &mut Rows, waits: &mut Waits, changes: Vec<Change>, m
     ensures all { rows.new.used + withdrawn_count waits.new.slots.items ≤ vec_capacity waits.new.slots }
     ensures loc { (ins : AdjIns) (due : Prefix → Option (List Attribute)) → ArePlaced changes.items ins → AreDue due changes.items → HaveNumbers (numbers_from 0 rows.old.rows.items) ins → (q : Prefix) → fin.get (loc_of rows.new.rows.items) q ≡ (if is_changed changes.items q then due q else fin.get (loc_of rows.old.rows.items) q) }
     ensures numbered { (ins : AdjIns) → ArePlaced changes.items ins → HaveNumbers (numbers_from 0 rows.old.rows.items) ins → HaveNumbers (numbers_from 0 rows.new.rows.items) ins }
-    ensures chains { waits.new.chains.items ≡ [] }
+    ensures none { changes.items ≡ [] → (rows.new ≡ rows.old) × (waits.new ≡ waits.old) }
+    ensures chained { AreChained rows.old.rows.items waits.old.slots.items waits.old.chains.items → AreChained rows.new.rows.items waits.new.slots.items waits.new.chains.items }
     ensures backed { AreBacked rows.old.rows.items waits.old.slots.items → AreBacked rows.new.rows.items waits.new.slots.items }
     ensures fit { (speech : Speech) → ChangesFit speech changes.items → RowsFit speech rows.old.rows.items → RowsFit speech rows.new.rows.items }
     ensures keeps { (ins : AdjIns) → ArePlaced changes.items ins → HaveNumbers (numbers_from 0 rows.old.rows.items) ins → (q : Prefix) → Keeps (open_at q waits.old.slots.items) (fin.get (loc_of rows.old.rows.items) q) (open_at q waits.new.slots.items) (fin.get (loc_of rows.new.rows.items) q) }
 {
+    if changes.is_empty() {
+        return;
+    }
     for change in changes {
         carry_out(rows, waits, &mut fresh, change);
     }

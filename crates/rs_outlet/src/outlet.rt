@@ -53,6 +53,8 @@ pub struct Outlet {
     /// A NOTIFICATION waits.
     pub(crate) note: Option<Short>,
     pub(crate) touched: Touched,
+    /// All that was told waits to be told again, and nothing came of it since it was asked for.
+    pub(crate) asked: bool,
     pub(crate) last: Last,
     /// The prefixes of the next message, and the slots where they wait.
     pub(crate) front: Vec<Prefix>,
@@ -106,6 +108,7 @@ impl Outlet {
             keepalive_due: false,
             note: None,
             touched: Touched::new(alloc)?,
+            asked: false,
             last: Last::Never,
             front: Vec::with_capacity(alloc, batch(extended))?,
             chosen: Vec::with_capacity(alloc, batch(extended))?,
@@ -119,6 +122,7 @@ impl Outlet {
     {
         self.rows.clear();
         self.waits.clear();
+        self.asked = false;
         self.speech = Some(Speech { mode, limit });
         self.touched.add_all();
     }
@@ -135,6 +139,7 @@ impl Outlet {
         self.keepalive_due = false;
         self.note = None;
         self.touched.clear();
+        self.asked = false;
     }
 
     /// Empties everything but the message in flight and the answer of the last turn.
@@ -146,6 +151,7 @@ impl Outlet {
         self.waits.clear();
         self.keepalive_due = false;
         self.touched.clear();
+        self.asked = false;
         self.note = note;
     }
 
@@ -249,7 +255,11 @@ impl Outlet {
         ensures marked { (p : Prefix) → set.contains self.new.marked p ≡ map.contains_key self.old.told p }
         ensures exact { WaitsAreExact self.old → WaitsAreExact self.new }
     {
+        if self.asked {
+            return;
+        }
         self.waits.mark_all(&self.rows);
+        self.asked = true;
     }
 
     /// Begins the next message, where none is in flight.

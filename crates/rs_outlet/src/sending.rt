@@ -262,6 +262,7 @@ impl Outlet {
         ensures begins { (spoken : Speech) → self.old.speech ≡ Some spoken → BeginsUpdate spoken self.old self.new }
         ensures rest { self.new ≡ record self.old { told = self.new.told; flight = self.new.flight; marked = self.new.marked; waits = self.new.waits } }
     {
+        self.asked = false;
         self.front.clear();
         self.chosen.clear();
         self.waits.prepare(&self.rows);

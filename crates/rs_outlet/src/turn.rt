@@ -277,6 +277,7 @@ impl Outlet {
             numbers,
             changes.len(),
         )?;
+        self.asked &= changes.is_empty();
         commit(&mut self.rows, &mut self.waits, changes, fresh);
         self.touched.clear();
         self.last = Last::Done(turned);

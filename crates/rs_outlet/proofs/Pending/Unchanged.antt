@@ -1,5 +1,5 @@
 -- What was told, what is marked and what waits, where each prefix keeps it.
-use Rattle.std.proofs.Common.{◌≡◌, List, Option, ap, sym, ◌∙◌}
+use Rattle.std.proofs.Common.{◌≡◌, List, Option, ap, sym, ◌∙◌, subst}
 use Rattle.std.specs.Prelude.{option_map}
 use Rattle.std.specs.FinMap as fin
 use Rattle.std.specs.FinSet as set
@@ -9,7 +9,7 @@ use Rattle.rs_outlet.specs.declared.waiting.Wait.{Wait}
 use Rattle.rs_outlet.specs.Views.{Table}
 use Rattle.rs_outlet.specs.Views as views
 use Rattle.rs_outlet.specs.Pending.Slots.{open_at, told_by, marked_told, is_withdrawal}
-use Rattle.rs_outlet.specs.Inside.{AreBacked, told_over, marked_of, waits_of}
+use Rattle.rs_outlet.specs.Inside.{AreBacked, IsAskedAgain, told_over, marked_of, waits_of}
 use Rattle.rs_outlet.specs.Pending.Owed.{IsExactAt, Keeps}
 use Rattle.rs_adjin.proofs.Listed.{prefixes_total, exact_prefixes}
 use Rattle.rs_outlet.proofs.Pending.Standing.{told_at, marked_at, waits_at}
@@ -47,6 +47,9 @@ module _ (loc : Table) (ws ws' : List Wait) (is : (q : Prefix) → open_at q ws'
 
   pub waits_same : waits_of ws' ≡ waits_of ws
   waits_same = fin.same_map prefixes_total exact_prefixes _ _ (λ q. waits_at ws' q ∙ ap (option_map (λ (w : Wait). is_withdrawal w.due)) (is q) ∙ sym (waits_at ws q))
+
+pub asked_same : (loc loc' : Table) (ws ws' : List Wait) → loc' ≡ loc → ws' ≡ ws → IsAskedAgain loc ws → IsAskedAgain loc' ws'
+asked_same loc loc' ws ws' e f h = subst (λ t. IsAskedAgain t ws') (sym e) (subst (IsAskedAgain loc) (sym f) h)
 
 pub backed_same : (rows : List (Option Row)) (ws ws' : List Wait) → ((q : Prefix) → open_at q ws' ≡ open_at q ws) → AreBacked rows ws → AreBacked rows ws'
 backed_same rows ws ws' is backed q w there = backed q w (sym (is q) ∙ there)

@@ -2,12 +2,14 @@ use Rattle.std.proofs.Common.{◌≡◌, ◌++◌, false, nat_eq, [], ◌∷◌,
 use Rattle.std.specs.FinMap as fin
 use Rattle.std.specs.List.{AllByRecursion, IsDistinct, list_any}
 use Rattle.std.specs.Vec.Iter.{into_iter_items}
+use Rattle.std.proofs.lemmas.Bool.Decides.{nat_tests}
 use Rattle.std.proofs.lemmas.Map.Keys.{IsDistinct-head, IsDistinct-tail}
 use Rattle.rs_adjin.specs.AdjIns.{number_of}
 use Rattle.rs_outlet.specs.Inside.{AreDue, AreOwn, ArePlaced, ChangesFit, HaveRows, is_changed, loc_of, numbers_of}
 use Rattle.rs_outlet.proofs.Pending.Backing.{are_backed_same, backed_step, own_rest}
 use Rattle.rs_outlet.specs.Pending.Slots.{prefixes_at, withdrawn_count}
 use Rattle.rs_outlet.specs.Pending.Owed.{prefixes_of}
+use Rattle.rs_outlet.proofs.Pending.Chains.{none_chained}
 use Rattle.rs_outlet.proofs.Pending.Carrying.{fresh_step, keeps_both, keeps_same, keeps_step, length_step, none_fresh, none_more, none_unlisted, unlisted_rest, unlisted_step}
 use Rattle.rs_outlet.proofs.Decided.LocByNumber.{same, same_is, by_number, numbered}
 use Rattle.rs_outlet.proofs.Decided.Numbering.{all_nil, no_elements}
@@ -87,6 +89,19 @@ loop-change-preserved c =
           (λ s. by_number ins was (numbered ins was (inv.numbered ins p h)) q (Some x.number) (ap (number_of ins) (same_is q x.prefix s) ∙ placed))
           (c.carry_out.ensures.loc ins placed (inv.numbered ins p h) q));
     }
+
+pub returns-then-is_empty-clause-loc : goal.returns-then-is_empty-clause-loc
+returns-then-is_empty-clause-loc c = λ ins due p d h q.
+    ap (λ cs. cond (is_changed cs q) (due q) (fin.get (loc_of c.args.rows.now.rows.items) q)) (no_elements c.args.changes.items (let e : length c.args.changes.items ≡ 0 = grind (arith, nat_tests, c.is_empty.ensures, c.if-is_empty.true, c.args.changes.ok) in e))
+
+pub returns-then-is_empty-clause-keeps : goal.returns-then-is_empty-clause-keeps
+returns-then-is_empty-clause-keeps c = λ ins p h q. keeps_same _ _ _ _ refl refl
+
+pub returns-clause-none : goal.returns-clause-none
+returns-clause-none c = λ none. absurd (grind (arith, nat_tests, ap length none, c.args.changes.ok, c.is_empty.ensures, c.if-is_empty.false))
+
+pub returns-clause-chained : goal.returns-clause-chained
+returns-clause-chained c = λ _. none_chained _ _ _ c.add.ensures.chains
 
 pub returns-clause-loc : goal.returns-clause-loc
 returns-clause-loc c = λ ins due p d h q.

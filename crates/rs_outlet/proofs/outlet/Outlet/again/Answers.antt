@@ -1,10 +1,15 @@
-use Rattle.std.proofs.Common.{◌∙◌, ap, arith, is_some}
+use Rattle.std.proofs.Common.{◌∙◌, ap, arith, is_some, sym}
 use Rattle.std.specs.FinMap as fin
+use Rattle.std.specs.FinSet as set
 use Rattle.rs_outlet.specs.Views.{View}
 use Rattle.rs_outlet.specs.Inside.{loc_of}
 use Rattle.rs_outlet.proofs.Pending.AskedAgain.{exact_again, marked_all, told_again}
 use Rattle.rs_outlet.proofs.Pending.Chains.{none_chained}
 use Rattle.rs_outlet.proofs.outlet.Outlet.again.Goals as goal
+
+pub returns-then-self-clause-marked : goal.returns-then-self-clause-marked
+returns-then-self-clause-marked c = λ p.
+    ap (λ (v : View). set.contains v.marked p) (sym c.self.view_is) ∙ c.self.invariant.asked c.if-self.true p ∙ ap (λ (v : View). is_some (fin.get v.told p)) c.self.view_is
 
 pub returns-clause-told : goal.returns-clause-told
 returns-clause-told c =
@@ -38,4 +43,7 @@ invariant_of-self c =
       backed = c.mark_all.ensures.backed kept.backed;
       chained = none_chained a.rows.rows.items c.mark_all.new.self.slots.items _ c.mark_all.ensures.chains;
       fit = kept.fit;
+      asked = λ _ p.
+          marked_all (loc_of a.rows.rows.items) a.waits.slots.items c.mark_all.new.self.slots.items c.mark_all.ensures.again (c.mark_all.ensures.all kept.backed) p
+          ∙ ap (λ t. is_some (fin.get t p)) (sym (told_again (loc_of a.rows.rows.items) a.waits.slots.items c.mark_all.new.self.slots.items c.mark_all.ensures.again));
     }

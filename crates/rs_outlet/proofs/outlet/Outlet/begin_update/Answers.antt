@@ -65,4 +65,5 @@ invariant_of-self c =
           (backed_same rows a.waits.slots.items c.prepare.new.self.slots.items c.prepare.ensures.slots kept.backed);
       chained = c.give_up.ensures.chained rows (same_chained rows rows c.prepare.new.self.slots.items c.put_update-packed.new.waits.slots.items c.prepare.new.self.chains.items _ (λ n. refl) c.put_update-packed.ensures.slots c.put_update-packed.ensures.chains c.prepare.ensures.chained);
       fit = kept.fit;
+      asked = λ is. cc is;
     }

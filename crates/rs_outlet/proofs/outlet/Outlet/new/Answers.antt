@@ -15,4 +15,5 @@ invariant_of-result c = record {
   backed = λ q w is. absurd (let f : None ≡ Some w = sym (ap (open_at q) c.new-2.ensures.slots) ∙ is in (cc));
   chained = none_chained _ _ _ c.new-2.ensures.chains;
   fit = λ speech e. cc e;
+  asked = λ is. cc is;
 }

@@ -1,4 +1,6 @@
-use Rattle.std.proofs.Common.{◌≡◌, ◌∙◌, ◌++◌, cond, ap, arith, ℕ, List, Option, Some, refl, sym, subst}
+use Rattle.std.proofs.Common.{◌≡◌, ◌∙◌, ◌++◌, cond, ap, arith, ℕ, List, length, Option, Some, refl, sym, subst}
+use Rattle.std.proofs.lemmas.Bool.{and_parts}
+use Rattle.std.proofs.lemmas.Bool.Decides.{nat_tests}
 use Rattle.std.specs.FinMap as fin
 use Rattle.rs_outlet.specs.Decided.Due.{any_holds, due_to}
 use Rattle.rs_outlet.specs.Decided.HeldBy.{held_by}
@@ -8,17 +10,19 @@ use Rattle.rs_adjin.specs.AdjIns.{number_of}
 use Rattle.rs_adjin.specs.declared.adj_ins.AdjIns.{AdjIns}
 use Rattle.rs_outlet.specs.declared.outlet.Outlet.TheInside.{Inside}
 use Rattle.rs_outlet.specs.declared.rows.Row.{Row}
+use Rattle.rs_outlet.specs.declared.table.Rows.{Rows}
 use Rattle.rs_outlet.specs.declared.waiting.Wait.{Wait}
+use Rattle.rs_outlet.specs.declared.waiting.Waits.{Waits}
 use Rattle.rs_outlet.specs.Pending.Slots.{open_at, withdrawn_count}
 use Rattle.rs_outlet.specs.Pending.Owed.{Keeps}
 use Rattle.rs_outlet.specs.Views.{View, AreNumbered, IsCount, HaveNumbers, WaitsAreExact, is_touched, is_whole}
 use Rattle.rs_outlet.proofs.Pending.Backing.{are_backed_same, changes_fit, fit_same, fit_spoken, own_same}
 use Rattle.rs_outlet.specs.Inside.{numbers_from, loc_of, is_changed, view_of}
 use Rattle.rs_outlet.specs.Decided.Touching.{touched_of}
-use Rattle.rs_outlet.proofs.Decided.Numbering.{all_front, all_behind, all_both, have_rows}
+use Rattle.rs_outlet.proofs.Decided.Numbering.{all_front, all_behind, all_both, have_rows, no_elements}
 use Rattle.rs_outlet.proofs.Pending.Carrying.{distinct_prefixes, keeps_both, keeps_same}
-use Rattle.rs_outlet.proofs.Pending.Unchanged.{told_kept, marked_kept, exact_kept}
-use Rattle.rs_outlet.proofs.Pending.Chains.{none_chained, same_chained}
+use Rattle.rs_outlet.proofs.Pending.Unchanged.{asked_same, told_kept, marked_kept, exact_kept}
+use Rattle.rs_outlet.proofs.Pending.Chains.{same_chained}
 use Rattle.rs_outlet.proofs.Decided.Ranks.{due_unnumbered, none_holds}
 use Rattle.rs_outlet.proofs.Decided.Counting.{count_touched, counted_by_prefix}
 use Rattle.rs_outlet.proofs.Decided.LocByNumber.{numbered}
@@ -145,6 +149,7 @@ invariant_of-self c =
       backed = are_backed_same a.rows.rows.items rows a.waits.slots.items c.make_room.new.waits.slots.items same_rows c.make_room.ensures.waits kept.backed;
       chained = same_chained a.rows.rows.items rows a.waits.slots.items c.make_room.new.waits.slots.items a.waits.chains.items _ same_rows c.make_room.ensures.waits c.make_room.ensures.chains kept.chained;
       fit = λ speech is. fit_same speech a.rows.rows.items rows same_rows (kept.fit speech is);
+      asked = λ is. asked_same (loc_of a.rows.rows.items) (loc_of rows) a.waits.slots.items c.make_room.new.waits.slots.items c.make_room.ensures.loc c.make_room.ensures.waits (kept.asked is);
     }
 
 pub invariant_of-self-2 : goal.invariant_of-self-2
@@ -161,9 +166,16 @@ invariant_of-self-2 c =
       slots = c.commit.ensures.all;
       extended = kept.extended;
       backed = c.commit.ensures.backed (are_backed_same a.rows.rows.items c.make_room.new.rows.rows.items a.waits.slots.items c.make_room.new.waits.slots.items c.make_room.ensures.rows c.make_room.ensures.waits kept.backed);
-      chained = none_chained _ _ _ c.commit.ensures.chains;
+      chained = c.commit.ensures.chained (same_chained a.rows.rows.items c.make_room.new.rows.rows.items a.waits.slots.items c.make_room.new.waits.slots.items a.waits.chains.items _ c.make_room.ensures.rows c.make_room.ensures.waits c.make_room.ensures.chains kept.chained);
       fit = fit_spoken c.commit.new.rows.rows.items a.speech c.args.speech is
           (c.commit.ensures.fit c.args.speech
           (changes_fit (held_by c.args.sources.now) c.args.sources.now.client c.args.speech c.in_ok-changes.field-0.changes.items c.in_ok-changes.ensures.changes.due)
           (fit_same c.args.speech a.rows.rows.items c.make_room.new.rows.rows.items c.make_room.ensures.rows (kept.fit c.args.speech is)));
+      asked = λ is.
+          let both = and_parts a.asked _ is in
+          let changes = c.in_ok-changes.field-0.changes in
+          let count : length changes.items ≡ 0 = grind (arith, nat_tests, c.is_empty.ensures, both.1, changes.ok) in
+          let none = c.commit.ensures.none (sym (no_elements changes.items count)) in
+          asked_same (loc_of a.rows.rows.items) (loc_of c.commit.new.rows.rows.items) a.waits.slots.items c.commit.new.waits.slots.items
+          (ap (λ (r : Rows). loc_of r.rows.items) none.0 ∙ c.make_room.ensures.loc) (ap (λ (w : Waits). w.slots.items) none.1 ∙ c.make_room.ensures.waits) (kept.asked both.0);
     }
