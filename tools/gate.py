@@ -38,7 +38,7 @@ from results import tell
 
 TOP = pathlib.Path(__file__).resolve().parent.parent
 # The rows of hostile members that are played, in small sizes.
-HOSTILE = "cdegn"
+HOSTILE = "abcdegn"
 PAUSE = 0.5
 TICK = os.sysconf("SC_CLK_TCK")
 KINDS = ("proofs", "tests", "edits")
