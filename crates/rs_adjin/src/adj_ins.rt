@@ -42,7 +42,7 @@ pub struct AdjIns {
 }
 
 impl AdjIns {
-    ghost use Rattle.rs_adjin.specs.AdjIns.{client_count, identifier_of, held_of, Sets, Clears, Begins, Same, ListsHolders, SetsAt, TellsChangeAt, would_hold, candidates_of, number_of, prefix_of, KeepsNumbers, SameNumbers, SameNumbersBut, GivesUp};
+    ghost use Rattle.rs_adjin.specs.AdjIns.{client_count, identifier_of, held_of, is_held, Sets, Clears, Begins, Same, ListsHolders, SetsAt, TellsChangeAt, would_hold, candidates_of, number_of, prefix_of, KeepsNumbers, SameNumbers, SameNumbersBut, GivesUp};
 
     /// Empty tables for so many clients.
     pub fn new(alloc: Global, clients: usize) -> Result<AdjIns, AllocError>
@@ -281,6 +281,13 @@ impl AdjIns {
         ensures { (p : Prefix) (n : ℕ) → number_of self.now p ≡ Some n → n < result }
     {
         self.table.count()
+    }
+
+    /// How many prefixes any client holds.
+    pub fn held_prefixes(&self) -> usize
+        ensures { Counts (is_held self.now) result }
+    {
+        self.table.used()
     }
 
     /// The clients that hold the prefix of a number, as `at` lists them.

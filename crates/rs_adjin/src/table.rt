@@ -91,13 +91,12 @@ pub(crate) fn put_row(
     ensures err { OnErr result (IsSame table.old table.new) }
     ensures numbers { SameNumbers table.old table.new }
 {
-    put_among(
-        &mut table.rows[number as usize].routes,
-        held,
-        client,
-        number,
-        attrs,
-    )
+    let row = &mut table.rows[number as usize];
+    let was_empty = row.routes.is_empty();
+    let put = put_among(&mut row.routes, held, client, number, attrs);
+    let is_empty = row.routes.is_empty();
+    table.used = table.used + usize::from(was_empty) - usize::from(is_empty);
+    put
 }
 
 /// Gives a client a route for a prefix that has no number: where memory is refused it has none
@@ -187,7 +186,12 @@ fn take_row(table: &mut Numbered, number: u32, client: usize, prefix: Prefix) ->
     ensures writes { Writes table.old table.new client prefix None }
     ensures numbers { SameNumbers table.old table.new }
 {
-    take_from(&mut table.rows[number as usize].routes, client)
+    let row = &mut table.rows[number as usize];
+    let was_empty = row.routes.is_empty();
+    let taken = take_from(&mut row.routes, client);
+    let is_empty = row.routes.is_empty();
+    table.used = table.used + usize::from(was_empty) - usize::from(is_empty);
+    taken
 }
 
 /// Takes a client's route from the row of its prefix, and the number from its set.

@@ -2,3 +2,5 @@
 pub mod Leading
 pub mod Taking
 pub mod Continuing
+pub mod Sets
+pub mod Closing

@@ -10,6 +10,7 @@ pub mod Dues
 pub mod Loops
 pub mod Numbers
 pub mod Freshness
+pub mod KeptFresh
 pub mod Changing
 pub mod Around
 pub mod Outgoing

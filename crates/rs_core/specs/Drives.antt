@@ -2,4 +2,5 @@
 pub mod Steps
 pub mod Courses
 pub mod Answers
+pub mod Closing
 pub mod Serving

@@ -7,7 +7,7 @@ use Rattle.rs_adjin.specs.AdjIns.{held_of}
 use Rattle.rs_outlet.specs.declared.answers.Speech.{Speech}
 use Rattle.rs_outlet.specs.Decided.Due.{due_to}
 use Rattle.rs_outlet.specs.Decided.HeldBy.{tables_of}
-use Rattle.rs_outlet.specs.Views.{View, AreNumbered, is_touched}
+use Rattle.rs_outlet.specs.Views.{View, AreNumbered, IsStaleTouched, is_touched}
 use Rattle.rs_core.specs.Touched.Touches.{IsTouchedAt, IsTouchedBetween, IsTouchedWhere}
 use Rattle.rs_core.specs.declared.ribs.Ribs.{Ribs}
 
@@ -36,9 +36,10 @@ due_in ribs c = due_to (tables_of ribs.config ribs.tables) c
 pub record IsNumbered (ribs : Ribs) : Type 0 where
   pub each : (c : ℕ) (none : View) → c < ribs.count → AreNumbered (outlet_in ribs c none) ribs.tables
 
--- where a prefix is not touched, the Loc-RIB has what is due there
+-- where a prefix is not stale, the Loc-RIB has what is due there; and what is stale is touched
 pub record IsDecidedBy (due : Speech → Prefix → Option (List Attribute)) (v : View) : Type 0 where
-  pub at : (speech : Speech) (p : Prefix) → v.speech ≡ Some speech → is_touched v.touched p ≡ false → map.get v.loc p ≡ due speech p
+  pub at : (speech : Speech) (p : Prefix) → v.speech ≡ Some speech → is_touched v.stale p ≡ false → map.get v.loc p ≡ due speech p
+  pub stale_touched : IsStaleTouched v
 
 -- so it is for each client
 pub record IsFresh (ribs : Ribs) : Type 0 where

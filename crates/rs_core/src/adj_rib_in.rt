@@ -23,7 +23,7 @@ fn touch_all_of(outlet: &mut Outlet, tables: &AdjIns, c: usize)
     requires { c < adj_ins.client_count tables.now }
     ensures client { outlet.new.client ≡ outlet.old.client }
     ensures extended { outlet.new.extended ≡ outlet.old.extended }
-    ensures rest { outlet.new ≡ record outlet.old { touched = outlet.new.touched; numbers = outlet.new.numbers } }
+    ensures rest { outlet.new ≡ record outlet.old { touched = outlet.new.touched; stale = outlet.new.stale; numbers = outlet.new.numbers } }
     ensures touched { AreNumbered outlet.old tables.now → IsTouchedWhereHeld tables.now c outlet.old outlet.new }
     ensures numbered { AreNumbered outlet.old tables.now → AreNumbered outlet.new tables.now }
 {

@@ -5,7 +5,9 @@ ghost use Rattle.rs_core.specs.Core.{client_count, is_refused, refused_below};
 ghost use Rattle.rs_core.specs.Drives.Steps.{HasLed, HasStopped, Leads, Memory, Step, octets_of, stops};
 ghost use Rattle.rs_core.specs.Drives.Courses.{Continues, memories};
 ghost use Rattle.rs_core.specs.Drives.Answers.{Answers, Drives, Ended, EndsAll};
+ghost use Rattle.rs_core.specs.Drives.Closing.{DoesAmong};
 
+use crate::closing::MayClose;
 use crate::links::{Event, Sink, Source};
 use crate::offering::use_room;
 use crate::route_server::Core;
@@ -34,13 +36,15 @@ pub fn drive<L: Source + Sink>(rt: &impl Wait, core: &mut Core, link: &mut L)
     ensures drives { Continues L.happens core.old link.old core.new link.new Drives }
 {
     let mut piece = [0; 4096];
+    let mut closing = MayClose::all();
     for _ in rt.forever() {
         let event = link.next(&mut piece);
+        closing.note(event);
         match answer(core, link, event, &piece) {
-            Todo::Nothing => end_closed(core, link),
+            Todo::Nothing => end_closed(core, link, &mut closing),
             Todo::Turn => {
                 turn(core, link);
-                end_closed(core, link);
+                end_closed(core, link, &mut closing);
             }
             Todo::Stop => return,
         }
@@ -61,13 +65,15 @@ pub fn drive_with<R: Threads + Wait + Sync, G: Gate, L: Source + Sink>(
     ensures drives { Continues L.happens core.old link.old core.new link.new Drives }
 {
     let mut piece = [0; 4096];
+    let mut closing = MayClose::all();
     for _ in rt.forever() {
         let event = link.next(&mut piece);
+        closing.note(event);
         match answer(core, link, event, &piece) {
-            Todo::Nothing => end_closed(core, link),
+            Todo::Nothing => end_closed(core, link, &mut closing),
             Todo::Turn => {
                 turn_with(rt, workers, gate, core, link);
-                end_closed(core, link);
+                end_closed(core, link, &mut closing);
             }
             Todo::Stop => return,
         }
@@ -206,15 +212,33 @@ fn tell_if_refused<L: Sink>(core: &Core, link: &mut L, c: usize)
     }
 }
 
-/// Ends each client that wants to be closed.
-fn end_closed<L: Sink>(core: &mut Core, link: &mut L)
+/// Ends each client that wants to be closed. Only those are asked that may be Closing.
+fn end_closed<L: Sink>(core: &mut Core, link: &mut L, closing: &mut MayClose)
     ensures count { client_count core.new ≡ client_count core.old }
     ensures led { HasLed L.happens link.old link.new }
-    ensures ends { Continues L.happens core.old link.old core.new link.new EndsAll }
+    ensures ends { Continues L.happens core.old link.old core.new link.new (DoesAmong EndsAll closing.old closing.new) }
 {
-    for c in 0..core.clients() {
-        end_if_wanted(core, link, c);
+    let count = core.clients();
+    let mut from = 0;
+    while let Some(c) = closing.next(from, count) {
+        ask(core, link, closing, c);
+        from = c + 1;
     }
+}
+
+/// Ends a client if it wants to be closed, or takes it out of those that may be Closing.
+fn ask<L: Sink>(core: &mut Core, link: &mut L, closing: &mut MayClose, c: usize)
+    requires client { c < client_count core.old }
+    requires few { client_count core.old ≤ 512 }
+    ensures count { client_count core.new ≡ client_count core.old }
+    ensures led { HasLed L.happens link.old link.new }
+    ensures ended { Continues L.happens core.old link.old core.new link.new (DoesAmong (Ended c) closing.old closing.new) }
+{
+    if !core.is_closing(c) {
+        closing.remove(c);
+        return;
+    }
+    end_if_wanted(core, link, c);
 }
 
 /// Ends a client if it wants to be closed.

@@ -15,11 +15,12 @@
 //! - Out: `outlets` has the calls of one client's outlet, `sending` begins messages, lends octets and
 //!   counts those taken; `endings` say why a session ended.
 //! - `rules` puts another configuration in; `queries` is what a caller can ask.
-//! - `driving` drives all this by a link of `links`, and `offering` offers it what is lent; `laws`
-//!   are contracts of functions that do nothing.
+//! - `driving` drives all this by a link of `links`: `offering` offers it what is lent, and `closing`
+//!   knows whose connection may be to be closed; `laws` are contracts of functions that do nothing.
 #![tactic(auto, unfolding(crate::specs::Core::client_count, crate::specs::Core::lent_octets))]
 
 mod adj_rib_in;
+mod closing;
 mod connections;
 mod driving;
 mod endings;

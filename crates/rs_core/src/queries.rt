@@ -50,8 +50,9 @@ impl Core {
     pub fn clients(&self) -> usize
         ensures count { result ≡ client_count self.now }
         ensures configured { (run : List Move) → Agrees self.now run → result ≡ length (config_in run).clients }
+        ensures few { result ≤ 512 }
     {
-        self.count
+        self.ribs.config.clients()
     }
 
     /// The client of this name.
@@ -200,6 +201,14 @@ impl Core {
     {
         let outlet = &self.ribs.outlets[c];
         outlet.is_drained()
+    }
+
+    /// Whether the session of a client has ended, and its connection has not.
+    pub(crate) fn is_closing(&self, c: usize) -> bool
+        requires { c < client_count self.now }
+        ensures { (run : List Move) → Agrees self.now run → result ≡ is_closing (state_in (config_in run) c (hearing c run)) }
+    {
+        is_closing(self.sessions[c].state())
     }
 
     /// Whether the session of a client has ended with nothing left to send.

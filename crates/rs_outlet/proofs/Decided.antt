@@ -10,3 +10,4 @@ pub mod TouchedList
 pub mod Ranks
 pub mod OthersAlone
 pub mod Counting
+pub mod Left

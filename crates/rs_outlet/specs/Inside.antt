@@ -17,7 +17,7 @@ use Rattle.rs_outlet.specs.declared.changes.Change.{Change}
 use Rattle.rs_adjin.specs.declared.adj_ins.AdjIns.{AdjIns}
 use Rattle.rs_adjin.specs.AdjIns.{number_of}
 use Rattle.rs_outlet.specs.declared.outlet.Outlet.TheInside.{Inside}
-use Rattle.rs_outlet.specs.Decided.Touching.{touched_of}
+use Rattle.rs_outlet.specs.Decided.Touching.{stale_of, touched_of}
 use Rattle.rs_outlet.specs.Views.{View, Table, Prefixes, Waiting}
 use Rattle.rs_open.specs.Notes.{limit_octets}
 use Rattle.rs_packer.specs.Packed.{announcement}
@@ -102,6 +102,10 @@ pub record AreDecided (ins : AdjIns) (due_at : Prefix → Option (List Attribute
   pub once : IsDistinct nat_eq (numbers_of cs)
   pub within : (n : ℕ) → list_any (nat_eq n) (numbers_of cs) ≡ true → is_in n ≡ true
   pub all : (n : ℕ) → is_in n ≡ true → list_any (nat_eq n) (numbers_of cs) ≡ false → (p : Prefix) → number_of ins p ≡ Some n → attributes_at rows n ≡ due_at p
+
+-- each prefix whose number doesn't pass the test has what is due
+abbrev pub AreFresh : AdjIns → (Prefix → Option (List Attribute)) → List (Option Row) → (ℕ → Bool) → Type 0
+AreFresh ins due_at rows is_in = (p : Prefix) (n : ℕ) → number_of ins p ≡ Some n → is_in n ≡ false → attributes_at rows n ≡ due_at p
 
 -- there is a row for each change
 abbrev pub HaveRows : List Change → ℕ → Type 0
@@ -192,6 +196,7 @@ view_of a = record {
   keepalive_due = a.keepalive_due;
   note = a.note;
   touched = touched_of a.touched.all a.touched.prefixes.items;
+  stale = stale_of a.touched.all a.touched.prefixes.items;
   marked = marked_of (loc_of a.rows.rows.items) a.waits.slots.items;
   waits = waits_of a.waits.slots.items;
   numbers = numbers_from 0 a.rows.rows.items ++ a.touched.prefixes.items;

@@ -26,7 +26,8 @@ Waiting = FinMap prefix_order Bool
 
 -- `loc`: the Loc-RIB, due at the last turn. `told`: what the messages begun so far leave with the client. `flight`: the
 -- octets still to lend. `keepalive_due`: a KEEPALIVE is due. `note`: a NOTIFICATION waits. `touched`: the prefixes to decide at the
--- next turn, and with None all. `marked`: those told that are to be told again. `waits`: the prefixes that wait for a
+-- next turn, and with None all. `stale`: of these the ones where something else may be due than the Loc-RIB has; with None all may
+-- be. `marked`: those told that are to be told again. `waits`: the prefixes that wait for a
 -- message, each with whether it is to be withdrawn. `numbers`: the prefixes that are due or touched by themselves, each with
 -- the number that it was touched with.
 pub record View : Type 0 where
@@ -39,6 +40,7 @@ pub record View : Type 0 where
   pub keepalive_due : Bool
   pub note : Option Short
   pub touched : Option Prefixes
+  pub stale : Option Prefixes
   pub marked : Prefixes
   pub waits : Waiting
   pub numbers : List (ℕ × Prefix)
@@ -46,7 +48,7 @@ pub record View : Type 0 where
 
 -- nothing is there but what it was made with and the answer of the last turn
 abbrev pub bare : ℕ → Bool → Last → View
-bare client extended last = record { client = client; extended = extended; speech = None; loc = map.empty; told = map.empty; flight = []; keepalive_due = false; note = None; touched = Some set.empty; marked = set.empty; waits = map.empty; numbers = []; last = last }
+bare client extended last = record { client = client; extended = extended; speech = None; loc = map.empty; told = map.empty; flight = []; keepalive_due = false; note = None; touched = Some set.empty; stale = Some set.empty; marked = set.empty; waits = map.empty; numbers = []; last = last }
 
 abbrev pub cleared : View → View
 cleared v = bare v.client v.extended v.last
@@ -61,7 +63,7 @@ finished note v = record (cleared v) { flight = flight_after note v.flight; note
 
 -- a session begins: nothing is due or told, and all is to be decided
 abbrev pub begun : Speech → View → View
-begun speech v = record v { speech = Some speech; loc = map.empty; told = map.empty; touched = None; marked = set.empty; waits = map.empty; numbers = [] }
+begun speech v = record v { speech = Some speech; loc = map.empty; told = map.empty; touched = None; stale = None; marked = set.empty; waits = map.empty; numbers = [] }
 
 -- each of these prefixes has the number beside it
 abbrev pub HaveNumbers : List (ℕ × Prefix) → AdjIns → Type 0
@@ -94,6 +96,17 @@ abbrev pub is_whole : Option Prefixes → Bool
 is_whole None = true
 is_whole (Some s) = false
 
+-- ---- what is stale
+
+-- what is stale is touched
+abbrev pub IsStaleTouched : View → Type 0
+IsStaleTouched v = (p : Prefix) → is_touched v.touched p ≡ false → is_touched v.stale p ≡ false
+
+-- where the client is Established p is stale now, and all that was stale still is
+pub record IsStaleToo (p : Prefix) (old new : View) : Type 0 where
+  pub added : IsSome old.speech → is_touched new.stale p ≡ true
+  pub kept : (q : Prefix) → is_touched old.stale q ≡ true → is_touched new.stale q ≡ true
+
 -- ---- turns
 
 -- it is one of two
@@ -106,7 +119,8 @@ pub record IsNumberOf (is_in : Prefix → Bool) (n : ℕ) : Type 0 where
   pub holds : (p : Prefix) → set.contains all p ≡ is_in p
   pub size : n ≡ set.len all
 
--- how many prefixes a turn decides, each once: those touched; with all, those that a client holds or the Loc-RIB has
+-- How many prefixes a turn decides, each once: those touched; with all, those that a client holds or the Loc-RIB has. One that is not
+-- stale counts too, though the body passes over it: it has the value that deciding it anew gives.
 abbrev pub IsCount : (Prefix → Bool) → Table → Option Prefixes → ℕ → Type 0
 IsCount held loc None n = IsNumberOf (λ p. map.contains_key loc p || held p) n
 IsCount held loc (Some s) n = n ≡ set.len s

@@ -13,8 +13,8 @@ ghost use Rattle.rs_open.specs.Writing.{server_open, keepalive};
 ghost use Rattle.rs_open.specs.declared.short.Short.{Short};
 ghost use Rattle.rs_outlet.specs.Message.Next.{note_octets};
 ghost use Rattle.rs_open.specs.declared.short.Limit.TheVariants as limits;
-ghost use Rattle.rs_outlet.specs.Views.{AreNumbered, IsOneOf, WaitsAreExact, bare, begun, cleared, finished, if_up, touched_at};
-ghost use Rattle.rs_outlet.specs.Decided.Turns.{HasTurned};
+ghost use Rattle.rs_outlet.specs.Views.{AreNumbered, IsOneOf, IsStaleToo, IsStaleTouched, WaitsAreExact, bare, begun, cleared, finished, if_up, touched_at};
+ghost use Rattle.rs_outlet.specs.Decided.Turns.{HasTurned, IsCurrent};
 ghost use Rattle.rs_outlet.specs.Message.Begins.{BeginsUpdate};
 ghost use Rattle.rs_outlet.specs.Inside.{IsNoNumberOf};
 
@@ -31,6 +31,10 @@ use rs_open::{Limit, ServerOpen, Short, short_size, write_open};
 use rs_policy::Config;
 use std::alloc::{AllocError, Global};
 use std::marker::Model;
+
+/// Where more than one in so many prefixes may be stale, all may be: a list of them would take more
+/// memory than it saves time.
+const STALE_SHARE: usize = 4;
 
 /// One client's Adj-RIB-Out: what is due to it, what it was told, and the message in flight.
 ///
@@ -186,12 +190,15 @@ impl Outlet {
     pub fn touch(&mut self, number: u32, prefix: Prefix)
         ensures client { self.new.client ≡ self.old.client }
         ensures extended { self.new.extended ≡ self.old.extended }
-        ensures rest { self.new ≡ record self.old { touched = self.new.touched; numbers = self.new.numbers } }
+        ensures rest { self.new ≡ record self.old { touched = self.new.touched; stale = self.new.stale; numbers = self.new.numbers } }
         ensures touched { (ins : AdjIns) → AreNumbered self.old ins → number_of ins prefix ≡ Some number → self.new.touched ≡ (touched_at prefix self.old).touched }
+        ensures stale { (ins : AdjIns) → AreNumbered self.old ins → number_of ins prefix ≡ Some number → IsStaleToo prefix self.old self.new }
+        ensures stale_touched { IsStaleTouched self.new }
         ensures numbered { (ins : AdjIns) → AreNumbered self.old ins → number_of ins prefix ≡ Some number → AreNumbered self.new ins }
     {
         if self.speech.is_some() {
-            self.touched.add(number, prefix);
+            self.touched
+                .add(number, prefix, self.rows.count() / STALE_SHARE);
         }
     }
 
@@ -199,7 +206,7 @@ impl Outlet {
     pub fn touch_all(&mut self)
         ensures client { self.new.client ≡ self.old.client }
         ensures extended { self.new.extended ≡ self.old.extended }
-        ensures touched { self.new ≡ record self.old { touched = if_up self.old.speech None self.old.touched; numbers = self.new.numbers } }
+        ensures touched { self.new ≡ record self.old { touched = if_up self.old.speech None self.old.touched; stale = if_up self.old.speech None self.old.stale; numbers = self.new.numbers } }
         ensures numbered { (ins : AdjIns) → AreNumbered self.old ins → AreNumbered self.new ins }
     {
         if self.speech.is_some() {
@@ -207,15 +214,16 @@ impl Outlet {
         }
     }
 
-    /// Decides what is touched. Memory is refused only where the client is Established, and such a turn
-    /// changes nothing but the answer of the last turn.
+    /// Decides what is touched; of a whole turn what is stale, as all else has what is due. Memory is
+    /// refused only where the client is Established, and such a turn changes nothing but the answer of
+    /// the last turn.
     pub fn turn(&mut self, ins: &AdjIns, config: &Config) -> Result<Turned, AllocError>
         requires client { self.old.client < length config.now.clients }
         requires clients { client_count ins.now ≡ length config.now.clients }
         ensures client { self.new.client ≡ self.old.client }
         ensures extended { self.new.extended ≡ self.old.extended }
-        ensures rest { self.new ≡ record self.old { loc = self.new.loc; told = self.new.told; touched = self.new.touched; marked = self.new.marked; waits = self.new.waits; numbers = self.new.numbers; last = self.new.last } }
-        ensures turned { AreNumbered self.old ins.now → IfOk result (HasTurned config.now ins.now self.old self.new) }
+        ensures rest { self.new ≡ record self.old { loc = self.new.loc; told = self.new.told; touched = self.new.touched; stale = self.new.stale; marked = self.new.marked; waits = self.new.waits; numbers = self.new.numbers; last = self.new.last } }
+        ensures turned { AreNumbered self.old ins.now → IsCurrent config.now ins.now self.old → IfOk result (HasTurned config.now ins.now self.old self.new) }
         ensures done { IfOk result (λ turned. self.new.last ≡ Last.Done turned) }
         ensures touched { OnOk result (IsSome self.old.speech → self.new.touched ≡ Some set.empty) }
         ensures due { (speech : Speech) → self.old.speech ≡ Some speech → AreNumbered self.old ins.now → (p : Prefix) → IsOneOf (map.get self.new.loc p) (map.get self.old.loc p) (due_to (tables_of config.now ins.now) self.old.client speech p) }

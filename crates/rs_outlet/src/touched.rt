@@ -1,17 +1,17 @@
-//! The touched prefixes: a list with room for more than 4,096, and a mark for all.
+//! The touched prefixes: a list, and a mark for all.
 //!
 //! A touch is added at the end, even where its prefix is there already. A full list is put in
-//! the order of the numbers and has each prefix once from then on; where these are more than 4,096,
-//! all are touched. So a touch costs a push and a few steps of a sort, whichever prefixes a member
-//! chooses.
+//! the order of the numbers and has each prefix once from then on. Where these are more than 4,096,
+//! all are touched; but only those listed are stale, and the list gets room for twice as many. So
+//! a touch costs a push and a few steps of a sort, whichever prefixes a member chooses.
 
-ghost use Rattle.std.specs.Prelude.{◌≡◌, ◌↔◌, ◌≤◌, ◌<◌, [], None, Some, true, false, length, vec_len, is_none, IsTrue, IfOk, IfSome};
+ghost use Rattle.std.specs.Prelude.{◌≡◌, ◌↔◌, ◌⊎◌, ◌≤◌, ◌<◌, [], None, Some, true, false, length, nat_lt, vec_len, is_none, IsTrue, IfOk, IfSome};
 ghost use Rattle.std.specs.FinSet as set;
 ghost use Rattle.std.specs.Vec.{vec_capacity};
 ghost use Rattle.rs_adjin.specs.declared.adj_ins.AdjIns.{AdjIns};
 ghost use Rattle.rs_adjin.specs.AdjIns.{number_of};
 ghost use Rattle.rs_outlet.specs.Views.{HaveNumbers, Prefixes, is_whole, with_touch};
-ghost use Rattle.rs_outlet.specs.Decided.Touching.{AreOnce, touched_of};
+ghost use Rattle.rs_outlet.specs.Decided.Touching.{AreOnce, MayAdd, stale_of, touched_of};
 
 use rs_octets::Prefix;
 use std::alloc::{AllocError, Global};
@@ -19,11 +19,13 @@ use std::alloc::{AllocError, Global};
 /// How many prefixes are touched one by one.
 pub(crate) const TOUCHED_MAX: usize = 4096;
 
-/// How many touches are listed. Once it is in order, the list has room for 1,024 more.
+/// How many touches are listed without more memory. A list in order with no more prefixes than are
+/// touched one by one has room for 1,024 more.
 const LISTED_MAX: usize = 5120;
 
-/// The prefixes that the next turn decides: all, or those listed where they are at most 4,096. A turn
-/// goes by their numbers; the prefix beside each is there for contracts, which speak of prefixes.
+/// The prefixes that may be stale: all, or those listed. These are touched by themselves where they
+/// are at most 4,096. A turn goes by their numbers; the prefix beside each is there for contracts,
+/// which speak of prefixes.
 #[derive(Drop)]
 pub(crate) struct Touched {
     prefixes: Vec<(u32, Prefix)>,
@@ -42,11 +44,20 @@ impl Touched {
         })
     }
 
+    /// Lists nothing, and gives back what a long list took.
+    fn empty(&mut self)
+        ensures prefixes { self.new.prefixes.items ≡ [] }
+        ensures all { self.new.all ≡ self.old.all }
+    {
+        self.prefixes.clear();
+        self.prefixes.shrink_to(LISTED_MAX);
+    }
+
     pub(crate) fn clear(&mut self)
         ensures prefixes { self.new.prefixes.items ≡ [] }
         ensures all { self.new.all ≡ false }
     {
-        self.prefixes.clear();
+        self.empty();
         self.all = false;
     }
 
@@ -54,35 +65,57 @@ impl Touched {
         ensures prefixes { self.new.prefixes.items ≡ [] }
         ensures all { self.new.all ≡ true }
     {
-        self.prefixes.clear();
+        self.empty();
         self.all = true;
     }
 
-    /// Adds a prefix, which has this number.
-    pub(crate) fn add(&mut self, number: u32, prefix: Prefix)
+    /// Adds a prefix, which has this number. Where more than 4,096 are listed, no more than `most`
+    /// are: else all may be stale, as where memory is refused.
+    pub(crate) fn add(&mut self, number: u32, prefix: Prefix, most: usize)
         ensures touched { (ins : AdjIns) → HaveNumbers self.old.prefixes.items ins → touched_of self.new.all self.new.prefixes.items ≡ with_touch (touched_of self.old.all self.old.prefixes.items) prefix }
+        ensures stale { (ins : AdjIns) → HaveNumbers self.old.prefixes.items ins → MayAdd prefix (stale_of self.old.all self.old.prefixes.items) (stale_of self.new.all self.new.prefixes.items) }
         ensures numbered { (ins : AdjIns) → HaveNumbers self.old.prefixes.items ins → number_of ins prefix ≡ Some number → HaveNumbers self.new.prefixes.items ins }
     {
-        self.make_room();
+        self.make_room(most);
         if self.all {
             return;
         }
         self.prefixes.push_reserved((number, prefix));
     }
 
-    /// Puts a full list in order. Where it has too many prefixes, all are touched.
-    fn make_room(&mut self)
-        ensures room { vec_len self.new.prefixes < 5120 }
+    /// Puts a full list in order, and makes room where it is long still.
+    fn make_room(&mut self, most: usize)
+        ensures room { vec_len self.new.prefixes < vec_capacity self.new.prefixes }
         ensures touched { (ins : AdjIns) → HaveNumbers self.old.prefixes.items ins → touched_of self.new.all self.new.prefixes.items ≡ touched_of self.old.all self.old.prefixes.items }
+        ensures stale { (ins : AdjIns) → HaveNumbers self.old.prefixes.items ins → (stale_of self.new.all self.new.prefixes.items ≡ stale_of self.old.all self.old.prefixes.items) ⊎ (stale_of self.new.all self.new.prefixes.items ≡ None) }
         ensures numbered { (ins : AdjIns) → HaveNumbers self.old.prefixes.items ins → HaveNumbers self.new.prefixes.items ins }
     {
-        if self.prefixes.len() < LISTED_MAX {
+        let capacity = self.prefixes.capacity();
+        if self.prefixes.len() < capacity {
             return;
         }
         put_in_order(&mut self.prefixes);
-        if self.prefixes.len() > TOUCHED_MAX {
-            self.add_all();
+        if self.prefixes.len() > capacity / 5 * 4 {
+            self.lengthen(most);
         }
+    }
+
+    /// Makes room for twice as many prefixes, where they are more than 4,096 and in order. Where these
+    /// are more than `most`, or memory is refused, all may be stale.
+    fn lengthen(&mut self, most: usize)
+        requires many { 4096 < vec_len self.old.prefixes }
+        ensures room { vec_len self.new.prefixes < vec_capacity self.new.prefixes }
+        ensures kept { ((self.new.all ≡ self.old.all) × (self.new.prefixes.items ≡ self.old.prefixes.items)) ⊎ ((self.new.all ≡ true) × (self.new.prefixes.items ≡ [])) }
+    {
+        let len = self.prefixes.len();
+        if len > most {
+            self.add_all();
+            return;
+        }
+        let Ok(()) = self.prefixes.reserve(len) else {
+            self.add_all();
+            return;
+        };
     }
 
     pub(crate) fn is_empty(&self) -> bool
@@ -94,17 +127,18 @@ impl Touched {
         self.prefixes.is_empty()
     }
 
-    /// Whether no prefix is touched by itself.
+    /// Whether no prefix is listed.
     pub(crate) fn lists_none(&self) -> bool
         ensures { IsTrue result ↔ self.now.prefixes.items ≡ [] }
     {
         self.prefixes.is_empty()
     }
 
-    /// What is touched by itself, in the order of the numbers; `None` where all is.
+    /// What is stale, in the order of the numbers; `None` where all may be.
     pub(crate) fn list(&self, alloc: Global) -> Result<Option<Vec<(u32, Prefix)>>, AllocError>
+        ensures all { IfOk result (λ listed. is_none listed ≡ self.now.all) }
         ensures once { IfOk result (λ listed. IfSome listed (λ list. AreOnce self.now.prefixes.items list.items)) }
-        ensures whole { (ins : AdjIns) → HaveNumbers self.now.prefixes.items ins → IfOk result (λ listed. is_whole (touched_of self.now.all self.now.prefixes.items) ≡ is_none listed) }
+        ensures whole { (ins : AdjIns) → HaveNumbers self.now.prefixes.items ins → IfOk result (λ listed. IfSome listed (λ list. is_whole (touched_of self.now.all self.now.prefixes.items) ≡ nat_lt 4096 (length list.items))) }
         ensures count { (ins : AdjIns) → HaveNumbers self.now.prefixes.items ins → IfOk result (λ listed. IfSome listed (λ list. (prefixes : Prefixes) → touched_of self.now.all self.now.prefixes.items ≡ Some prefixes → length list.items ≡ set.len prefixes)) }
     {
         if self.all {
@@ -112,9 +146,6 @@ impl Touched {
         }
         let mut list = Vec::from_slice(alloc, &self.prefixes)?;
         put_in_order(&mut list);
-        if list.len() > TOUCHED_MAX {
-            return Ok(None);
-        }
         Ok(Some(list))
     }
 }

@@ -1,17 +1,18 @@
 //! A turn: what is touched is decided anew, and what the client was not told so waits.
 
-ghost use Rattle.std.specs.Prelude.{◌≡◌, ◌<◌, ◌+◌, Option, None, Some, true, false, nat_eq, option_copied, option_map, length, if◌then◌else◌, IsTrue, IfOk, OnOk, OnErr};
+ghost use Rattle.std.specs.Prelude.{◌≡◌, ◌<◌, ◌+◌, Option, None, Some, true, false, nat_eq, nat_lt, count_by, option_copied, option_map, length, if◌then◌else◌, IsTrue, IfOk, OnOk, OnErr};
 ghost use Rattle.std.specs.List.{IsDistinct};
 ghost use Rattle.std.specs.Map.{keys_of};
 ghost use Rattle.std.specs.FinMap as fin;
 ghost use Rattle.std.specs.FinSet as set;
 ghost use Rattle.rs_octets.specs.Prefixes.{Prefix};
 ghost use Rattle.rs_adjin.specs.AdjIns.{client_count, number_of, prefix_of};
-ghost use Rattle.rs_outlet.specs.Views.{AreNumbered, HaveNumbers, IsCount, IsNumberOf, Prefixes, WaitsAreExact, is_touched, is_whole};
+ghost use Rattle.rs_outlet.specs.Views.{AreNumbered, HaveNumbers, IsCount, IsNumberOf, IsOneOf, Prefixes, WaitsAreExact, is_touched, is_whole};
+ghost use Rattle.rs_outlet.specs.Decided.Turns.{IsCurrent};
 ghost use Rattle.rs_outlet.specs.Decided.Due.{any_holds, due_to};
-ghost use Rattle.rs_outlet.specs.Decided.Counted.{is_counted, is_standing};
+ghost use Rattle.rs_outlet.specs.Decided.Counted.{is_counted, is_left, is_standing};
 ghost use Rattle.rs_outlet.specs.Decided.HeldBy.{held_by};
-ghost use Rattle.rs_outlet.specs.Inside.{AreDecided, IsDecidedAt, IsOwn, shown};
+ghost use Rattle.rs_outlet.specs.Inside.{AreDecided, AreFresh, IsDecidedAt, IsOwn, shown};
 ghost use Rattle.rs_outlet.specs.Decided.Touching.{is_number_touched, is_numbered_in, touched_of};
 ghost use Rattle.rs_outlet.specs.Decided.Passing.{attributes_passed};
 
@@ -21,7 +22,7 @@ use crate::deciding::{Passed, Sources, decide};
 use crate::outlet::Outlet;
 use crate::rows::Row;
 use crate::table::Rows;
-use crate::touched::Touched;
+use crate::touched::{TOUCHED_MAX, Touched};
 use rs_decision::Rank;
 use rs_octets::Prefix;
 use std::alloc::{AllocError, Global};
@@ -120,13 +121,11 @@ fn decide_touched(
     speech: Speech,
     rows: &Rows,
     touched: &[(u32, Prefix)],
-) -> Result<Decided, AllocError>
+) -> Result<Vec<Change>, AllocError>
     requires client { sources.now.client < length sources.now.config.now.clients }
     requires count { client_count sources.now.ins.now ≡ length sources.now.config.now.clients }
     requires once { IsDistinct nat_eq (keys_of touched.now) }
-    ensures changes { IfOk result (λ decided. AreDecided sources.now.ins.now (due_to (held_by sources.now) sources.now.client speech) rows.now.rows.items (is_numbered_in touched.now) decided.changes.items) }
-    ensures count { IfOk result (λ decided. decided.count ≡ length touched.now) }
-    ensures whole { IfOk result (λ decided. decided.whole ≡ false) }
+    ensures { IfOk result (λ changes. AreDecided sources.now.ins.now (due_to (held_by sources.now) sources.now.client speech) rows.now.rows.items (is_numbered_in touched.now) changes.items) }
 {
     let mut ranks = Vec::new(alloc);
     let mut changes = Vec::new(alloc);
@@ -141,10 +140,60 @@ fn decide_touched(
             &mut changes,
         )?;
     }
+    Ok(changes)
+}
+
+/// Whether the row of a number has a route, though no client holds the prefix.
+fn is_left(sources: &Sources<'_>, rows: &Rows, number: u32) -> bool
+    ensures { (p : Prefix) → number_of sources.now.ins.now p ≡ Some number → result ≡ is_left rows.now.rows.items (any_holds (held_by sources.now)) (number, p) }
+{
+    rows.get(number).is_some() && sources.ins.at_number(number).is_empty()
+}
+
+/// How many of these prefixes have a route in their row, though no client holds them.
+fn count_left(sources: &Sources<'_>, rows: &Rows, touched: &[(u32, Prefix)]) -> usize
+    ensures { HaveNumbers touched.now sources.now.ins.now → result ≡ count_by (is_left rows.now.rows.items (any_holds (held_by sources.now))) touched.now }
+{
+    let mut count = 0usize;
+    for (number, _) in touched {
+        count += usize::from(is_left(sources, rows, *number));
+    }
+    count
+}
+
+/// Decides what may be stale. Where it is more than is touched one by one, the turn is whole, and each
+/// other prefix that stands has what is due: a client holds it, so that it is counted already.
+fn decide_stale(
+    alloc: Global,
+    sources: &Sources<'_>,
+    speech: Speech,
+    rows: &Rows,
+    touched: &[(u32, Prefix)],
+) -> Result<Decided, AllocError>
+    requires client { sources.now.client < length sources.now.config.now.clients }
+    requires count { client_count sources.now.ins.now ≡ length sources.now.config.now.clients }
+    requires once { IsDistinct nat_eq (keys_of touched.now) }
+    ensures changes { IfOk result (λ decided. AreDecided sources.now.ins.now (due_to (held_by sources.now) sources.now.client speech) rows.now.rows.items (is_numbered_in touched.now) decided.changes.items) }
+    ensures whole { IfOk result (λ decided. decided.whole ≡ nat_lt 4096 (length touched.now)) }
+    ensures count { IfOk result (λ decided. decided.whole ≡ false → decided.count ≡ length touched.now) }
+    ensures all { HaveNumbers touched.now sources.now.ins.now → AreFresh sources.now.ins.now (due_to (held_by sources.now) sources.now.client speech) rows.now.rows.items (is_numbered_in touched.now) → IfOk result (λ decided. decided.whole ≡ true → IsNumberOf (is_counted sources.now.ins.now rows.now.rows.items (any_holds (held_by sources.now))) decided.count) }
+{
+    let changes = decide_touched(alloc, sources, speech, rows, touched)?;
+    if touched.len() <= TOUCHED_MAX {
+        return Ok(Decided {
+            changes,
+            count: touched.len(),
+            whole: false,
+        });
+    }
+    let held = sources.ins.held_prefixes();
+    let Some(count) = held.checked_add(count_left(sources, rows, touched)) else {
+        return Err(AllocError);
+    };
     Ok(Decided {
         changes,
-        count: touched.len(),
-        whole: false,
+        count,
+        whole: true,
     })
 }
 
@@ -214,7 +263,7 @@ fn decide_all(
     })
 }
 
-/// Decides what is touched, from the tables and the rules.
+/// Decides what is touched, from the tables and the rules: of a whole turn what may be stale.
 fn decide_all_touched(
     alloc: Global,
     sources: &Sources<'_>,
@@ -224,14 +273,14 @@ fn decide_all_touched(
 ) -> Result<Decided, AllocError>
     requires client { sources.now.client < length sources.now.config.now.clients }
     requires count { client_count sources.now.ins.now ≡ length sources.now.config.now.clients }
-    ensures changes { IfOk result (λ decided. AreDecided sources.now.ins.now (due_to (held_by sources.now) sources.now.client speech) rows.now.rows.items (is_number_touched decided.whole touched.now.prefixes.items) decided.changes.items) }
+    ensures changes { IfOk result (λ decided. AreDecided sources.now.ins.now (due_to (held_by sources.now) sources.now.client speech) rows.now.rows.items (is_number_touched touched.now.all touched.now.prefixes.items) decided.changes.items) }
     ensures whole { HaveNumbers touched.now.prefixes.items sources.now.ins.now → IfOk result (λ decided. decided.whole ≡ is_whole (touched_of touched.now.all touched.now.prefixes.items)) }
     ensures count { HaveNumbers touched.now.prefixes.items sources.now.ins.now → IfOk result (λ decided. (prefixes : Prefixes) → touched_of touched.now.all touched.now.prefixes.items ≡ Some prefixes → decided.count ≡ set.len prefixes) }
-    ensures all { IfOk result (λ decided. decided.whole ≡ true → IsNumberOf (is_counted sources.now.ins.now rows.now.rows.items (any_holds (held_by sources.now))) decided.count) }
+    ensures all { HaveNumbers touched.now.prefixes.items sources.now.ins.now → AreFresh sources.now.ins.now (due_to (held_by sources.now) sources.now.client speech) rows.now.rows.items (is_number_touched touched.now.all touched.now.prefixes.items) → IfOk result (λ decided. decided.whole ≡ true → IsNumberOf (is_counted sources.now.ins.now rows.now.rows.items (any_holds (held_by sources.now))) decided.count) }
 {
     match touched.list(alloc)? {
         None => decide_all(alloc, sources, speech, rows),
-        Some(numbers) => decide_touched(alloc, sources, speech, rows, &numbers),
+        Some(list) => decide_stale(alloc, sources, speech, rows, &list),
     }
 }
 
@@ -244,16 +293,19 @@ impl Outlet {
         sources: &Sources<'_>,
     ) -> Result<Turned, AllocError>
         requires speech { self.old.speech ≡ Some speech }
+        requires own { sources.now.client ≡ self.old.client }
         requires client { sources.now.client < length sources.now.config.now.clients }
         requires count { client_count sources.now.ins.now ≡ length sources.now.config.now.clients }
         ensures client { self.new.client ≡ self.old.client }
         ensures extended { self.new.extended ≡ self.old.extended }
-        ensures rest { self.new ≡ record self.old { loc = self.new.loc; told = self.new.told; touched = self.new.touched; marked = self.new.marked; waits = self.new.waits; numbers = self.new.numbers; last = self.new.last } }
+        ensures rest { self.new ≡ record self.old { loc = self.new.loc; told = self.new.told; touched = self.new.touched; stale = self.new.stale; marked = self.new.marked; waits = self.new.waits; numbers = self.new.numbers; last = self.new.last } }
         ensures done { IfOk result (λ turned. self.new.last ≡ Last.Done turned) }
         ensures touched { OnOk result (self.new.touched ≡ Some set.empty) }
-        ensures loc { OnOk result (AreNumbered self.old sources.now.ins.now → (p : Prefix) → fin.get self.new.loc p ≡ (if is_touched self.old.touched p then due_to (held_by sources.now) sources.now.client speech p else fin.get self.old.loc p)) }
+        ensures stale { OnOk result (self.new.stale ≡ Some set.empty) }
+        ensures due { OnOk result (AreNumbered self.old sources.now.ins.now → (p : Prefix) → IsOneOf (fin.get self.new.loc p) (fin.get self.old.loc p) (due_to (held_by sources.now) sources.now.client speech p)) }
+        ensures loc { OnOk result (AreNumbered self.old sources.now.ins.now → IsCurrent sources.now.config.now sources.now.ins.now self.old → (p : Prefix) → fin.get self.new.loc p ≡ (if is_touched self.old.touched p then due_to (held_by sources.now) sources.now.client speech p else fin.get self.old.loc p)) }
         ensures whole { AreNumbered self.old sources.now.ins.now → IfOk result (λ turned. turned.whole ≡ is_whole self.old.touched) }
-        ensures count { AreNumbered self.old sources.now.ins.now → IfOk result (λ turned. IsCount (any_holds (held_by sources.now)) self.old.loc self.old.touched turned.decided) }
+        ensures count { AreNumbered self.old sources.now.ins.now → IsCurrent sources.now.config.now sources.now.ins.now self.old → IfOk result (λ turned. IsCount (any_holds (held_by sources.now)) self.old.loc self.old.touched turned.decided) }
         ensures told { AreNumbered self.old sources.now.ins.now → OnOk result (self.new.told ≡ self.old.told) }
         ensures marked { AreNumbered self.old sources.now.ins.now → OnOk result (self.new.marked ≡ self.old.marked) }
         ensures exact { AreNumbered self.old sources.now.ins.now → WaitsAreExact self.old → OnOk result (WaitsAreExact self.new) }

@@ -179,6 +179,27 @@ fn more_than_4096_touched_are_all(rt: HostRuntime) {
     let_go(exchange, outlet);
 }
 
+/// The sender withdraws the first so many prefixes.
+fn withdraw(rt: &impl Abort, exchange: &mut Exchange, count: u32) {
+    for n in 0..count {
+        let prefix = prefix(rt, n);
+        assert!(rt; SENDER < exchange.tables.clients());
+        exchange.tables.withdraw(SENDER, prefix);
+    }
+}
+
+#[test]
+fn a_whole_turn_counts_what_it_passes_over(rt: HostRuntime) {
+    let mut exchange = Exchange::with_routes(&rt, rt.alloc(), 40_000);
+    let mut outlet = exchange.outlet(&rt, CLIENT);
+    exchange.decides(&rt, &mut outlet, all(40_000));
+    withdraw(&rt, &mut exchange, 6_000);
+    // what was withdrawn stands in the Loc-RIB still
+    decides_after(&rt, &exchange, &mut outlet, 6_000, all(40_000));
+    decides_after(&rt, &exchange, &mut outlet, 6_000, all(34_000));
+    let_go(exchange, outlet);
+}
+
 /// All that was told is told again, and nothing else.
 fn tells_again(rt: &impl Abort, exchange: &Exchange, outlet: &mut Outlet, told: &[u8]) {
     outlet.again();

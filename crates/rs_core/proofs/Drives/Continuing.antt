@@ -13,6 +13,8 @@ use Rattle.rs_core.specs.Run.Agreeing.{Agrees, IsRuled}
 use Rattle.rs_core.specs.Drives.Steps.{Step, Happened, Memory, End, Replaced, HasLed, HasStopped, Leads, octets_of, stops}
 use Rattle.rs_core.specs.Drives.Courses.{Course, course, called, memories, Reaches, Continues}
 use Rattle.rs_core.specs.Drives.Answers.{is_passed_over, closes, AreEstablished, Answers, Passes, Turns, Rules, Keeps, EndsAll, Ended, Lasts, Owes, Closes, Gives, Goes_on, Offers, Rounds, Start, Round, Drives}
+use Rattle.rs_core.specs.Drives.Closing.{may_close, HasClosing, DoesAmong, Notes}
+use Rattle.rs_core.specs.declared.closing.MayClose.{MayClose}
 use Rattle.rs_core.specs.declared.links.Event.{Event}
 use Rattle.rs_core.specs.declared.links.Event.TheVariants as events
 use Rattle.rs_core.specs.declared.route_server.Core.{Core}
@@ -66,29 +68,36 @@ pub as_event : {L : Type 0} (happens : L → Step → L → Type 0) (old : Core)
     → Continues happens old before new after (Answers (octets_of e piece text) e) → Continues happens old before new after (Answers (octets_of event piece text) event)
 as_event happens old before new after event e piece text is h = subst (λ (x : Event). Continues happens old before new after (Answers (octets_of x piece text) x)) (sym is) h
 
+-- rounds, and each client that is closing is in the set
+abbrev pub RoundsAmong : MayClose → Course → Course → Type 0
+RoundsAmong set x y = Rounds x y × HasClosing set y.run
+
 -- a round more
-pub round : {L : Type 0} (happens : L → Step → L → Type 0) (a : Core) (x : L) (b : Core) (before told : L) (c : Core) (mid : L) (d : Core) (after : L) (event : Event) (octets : List ℕ)
-    → stops event ≡ false → happens before (Happened event octets) told
-    → Continues happens a x b before Rounds → Continues happens b told c mid (Answers octets event) → Continues happens c mid d after EndsAll
-    → Continues happens a x d after Rounds
-round happens a x b before told c mid d after event octets goes_on step rounds answers ends = record {
+round : {L : Type 0} (happens : L → Step → L → Type 0) (a : Core) (x : L) (b : Core) (before told : L) (c : Core) (mid : L) (d : Core) (after : L) (event : Event) (octets : List ℕ) (old noted new : MayClose)
+    → stops event ≡ false → happens before (Happened event octets) told → Notes event old noted
+    → Continues happens a x b before (RoundsAmong old) → Continues happens b told c mid (Answers octets event) → Continues happens c mid d after (DoesAmong EndsAll noted new)
+    → Continues happens a x d after (RoundsAmong new)
+round happens a x b before told c mid d after event octets old noted new goes_on step notes rounds answers ends = record {
   on = λ first steps run h l.
       let r = rounds.on first steps run h l in
       let s = answers.on first (Happened event octets ∷ r.steps) r.run r.agrees (before, r.leads, step) in
       let t = ends.on first s.steps s.run s.agrees s.leads in
+      let there = course b r.steps r.run r.agrees in
+      let answered = course c s.steps s.run s.agrees in
+      let done = t.is (notes octets (called (Happened event octets) there) answered s.is r.is.1) in
       record {
         steps = t.steps;
         run = t.run;
         agrees = t.agrees;
         leads = t.leads;
-        is = Round event octets (course b r.steps r.run r.agrees) (course c s.steps s.run s.agrees) (course d t.steps t.run t.agrees) r.is goes_on s.is t.is;
+        is = (Round event octets there answered (course d t.steps t.run t.agrees) r.is.0 goes_on s.is done.0, done.1);
       };
 }
 
 -- and then a stop
-stopped : {L : Type 0} (happens : L → Step → L → Type 0) (a : Core) (x : L) (b : Core) (before after : L) (event : Event) (octets : List ℕ)
-    → stops event ≡ true → happens before (Happened event octets) after → Continues happens a x b before Rounds → Continues happens a x b after Drives
-stopped happens a x b before after event octets is step rounds = record {
+stopped : {L : Type 0} (happens : L → Step → L → Type 0) (a : Core) (x : L) (b : Core) (before after : L) (event : Event) (octets : List ℕ) (set : MayClose)
+    → stops event ≡ true → happens before (Happened event octets) after → Continues happens a x b before (RoundsAmong set) → Continues happens a x b after Drives
+stopped happens a x b before after event octets set is step rounds = record {
   on = λ first steps run h l.
       let r = rounds.on first steps run h l in
       let stop : happens before (Happened events.Stop octets) after = subst (λ (e : Event). happens before (Happened e octets) after) (stop_is event is) step in
@@ -97,22 +106,22 @@ stopped happens a x b before after event octets is step rounds = record {
         run = r.run;
         agrees = r.agrees;
         leads = (before, r.leads, stop);
-        is = record { before = course b r.steps r.run r.agrees; octets = octets; rounds = r.is; stop = refl };
+        is = record { before = course b r.steps r.run r.agrees; octets = octets; rounds = r.is.0; stop = refl };
       };
 }
 
--- driven so far: by rounds, none of them a stop
-pub record IsDriven {L : Type 0} (happens : L → Step → L → Type 0) (old : Core) (before : L) (new : Core) (after : L) : Type 0 where
+-- driven so far: by rounds, none of them a stop, and each client that is closing is in the set
+pub record IsDriven {L : Type 0} (happens : L → Step → L → Type 0) (old : Core) (before : L) (new : Core) (after : L) (set : MayClose) : Type 0 where
   pub count : client_count new ≡ client_count old
   pub led : HasLed happens before after
-  pub rounds : Continues happens old before new after Rounds
+  pub rounds : Continues happens old before new after (RoundsAmong set)
 
 -- not at all yet
-pub not_driven : {L : Type 0} (happens : L → Step → L → Type 0) (core : Core) (link : L) → IsDriven happens core link core link
-not_driven happens core link = record {
+pub not_driven : {L : Type 0} (happens : L → Step → L → Type 0) (core : Core) (link : L) (set : MayClose) → ((c : ℕ) → c < 512 → may_close set c ≡ true) → IsDriven happens core link core link set
+not_driven happens core link set all = record {
   count = refl;
   led = led_same happens link;
-  rounds = stays happens core link Rounds (λ x. Start);
+  rounds = stays happens core link (RoundsAmong set) (λ x. (Start, λ c few e. all c few));
 }
 
 -- driven to the stop
@@ -122,15 +131,15 @@ pub record IsDrivenToStop {L : Type 0} (happens : L → Step → L → Type 0) (
   pub drives : Continues happens old before new after Drives
 
 -- the event that came is a stop, by which nothing changed
-pub driven_to_stop : {L : Type 0} (happens : L → Step → L → Type 0) (a : Core) (x : L) (b : Core) (before told : L) (new : Core) (after : L) (event : Event) (octets : List ℕ)
-    → stops event ≡ true → happens before (Happened event octets) told → IsDriven happens a x b before → (new ≡ b) × (after ≡ told) → IsDrivenToStop happens a x new after
-driven_to_stop happens a x b before told new after event octets is step driven same =
+pub driven_to_stop : {L : Type 0} (happens : L → Step → L → Type 0) (a : Core) (x : L) (b : Core) (before told : L) (new : Core) (after : L) (event : Event) (octets : List ℕ) (set : MayClose)
+    → stops event ≡ true → happens before (Happened event octets) told → IsDriven happens a x b before set → (new ≡ b) × (after ≡ told) → IsDrivenToStop happens a x new after
+driven_to_stop happens a x b before told new after event octets set is step driven same =
     subst (λ l. IsDrivenToStop happens a x new l) (sym same.1)
     (subst (λ (k : Core). IsDrivenToStop happens a x k told) (sym same.0)
     (record {
       count = driven.count;
       led = led_to_stop happens x before told event octets driven.led step is;
-      drives = stopped happens a x b before told event octets is step driven.rounds;
+      drives = stopped happens a x b before told event octets set is step driven.rounds;
     }))
 
 -- a part of a round: an answer to an event, or the ends after it
@@ -140,14 +149,14 @@ pub record HasContinued {L : Type 0} (happens : L → Step → L → Type 0) (ol
   pub continues : Continues happens old before new after By
 
 -- and a round more
-pub driven_on : {L : Type 0} (happens : L → Step → L → Type 0) (a : Core) (x : L) (b : Core) (before told : L) (c : Core) (mid : L) (d : Core) (after : L) (event : Event) (octets : List ℕ)
-    → stops event ≡ false → happens before (Happened event octets) told
-    → IsDriven happens a x b before → HasContinued happens b told c mid (Answers octets event) → HasContinued happens c mid d after EndsAll
-    → IsDriven happens a x d after
-driven_on happens a x b before told c mid d after event octets goes_on step driven answered ended = record {
+pub driven_on : {L : Type 0} (happens : L → Step → L → Type 0) (a : Core) (x : L) (b : Core) (before told : L) (c : Core) (mid : L) (d : Core) (after : L) (event : Event) (octets : List ℕ) (old noted new : MayClose)
+    → stops event ≡ false → happens before (Happened event octets) told → Notes event old noted
+    → IsDriven happens a x b before old → HasContinued happens b told c mid (Answers octets event) → HasContinued happens c mid d after (DoesAmong EndsAll noted new)
+    → IsDriven happens a x d after new
+driven_on happens a x b before told c mid d after event octets old noted new goes_on step notes driven answered ended = record {
   count = ended.count ∙ (answered.count ∙ driven.count);
   led = led_on happens x mid after (led_on happens x told mid (led_by happens x before told (Happened event octets) driven.led step goes_on) answered.led) ended.led;
-  rounds = round happens a x b before told c mid d after event octets goes_on step driven.rounds answered.continues ended.continues;
+  rounds = round happens a x b before told c mid d after event octets old noted new goes_on step notes driven.rounds answered.continues ended.continues;
 }
 
 -- an answer that left a turn to do changed nothing, and then the turn was done

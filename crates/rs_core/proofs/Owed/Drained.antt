@@ -23,6 +23,7 @@ use Rattle.rs_core.specs.Run.Agreeing.{Agrees}
 use Rattle.rs_core.specs.Owed.Owing.{owed_by, owed_behind, waiting_octets, is_none}
 use Rattle.rs_core.specs.Core.{owed, is_decided, is_refused, is_refusal, refusal_in}
 use Rattle.rs_core.specs.declared.route_server.Core.{Core}
+use Rattle.rs_core.proofs.Touched.Turned.{is_current}
 use Rattle.rs_core.proofs.Told.BySession.{spoken_up, up_live}
 use Rattle.rs_core.proofs.Owed.Owing.{limit_least, none_times, no_length, some_owed}
 use Rattle.rs_core.proofs.Owed.Sending.{nobody, outlet_is, owed_is, decided_is}
@@ -144,7 +145,7 @@ turned_decided c old new mid run lt count turned same h up done = decided_is new
 
   by_turn : IsTurn old.ribs.config old.ribs.tables v w → is_none (outlet_in new.ribs c nobody).touched ≡ true
   by_turn (inl d) = ap (λ (x : View). is_none x.touched) is
-      ∙ none_touched w.touched ((d.decided (old.numbered.each c nobody (within old c lt))).touched (subst IsSome (sym (((h.clients c lt).knows.outlet h.config nobody).speech ∙ heard.1)) refl))
+      ∙ none_touched w.touched ((d.decided (old.numbered.each c nobody (within old c lt)) (is_current old.ribs c nobody (within old c lt) old.fresh)).touched (subst IsSome (sym (((h.clients c lt).knows.outlet h.config nobody).speech ∙ heard.1)) refl))
   by_turn (inr refused) = absurd (
       let last : (outlet_in new.ribs c nobody).last ≡ lasts.Refused = ap (λ (x : View). x.last) is ∙ ap (λ (x : View). x.last) refused.rest in
       let f : true ≡ false = sym (ap refusal_in (outlet_is new c now) ∙ ap is_refusal last) ∙ done in cc)

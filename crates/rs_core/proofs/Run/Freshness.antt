@@ -1,4 +1,4 @@
--- Where no prefix is touched that changed for a client, what is due to it stays due.
+-- Where no prefix is stale that changed for a client, what is due to it stays due.
 use Rattle.std.proofs.Common.{◌≡◌, ◌≢◌, ◌⊎◌, inl, inr, ◌<◌, ◌==◌, ◌&&◌, ℕ, Bool, true, false, List, [], ◌∷◌, refl, sym, ◌∙◌, ap, subst, arith}
 use Rattle.std.specs.Prelude.{Option, Some, None, IsSome, if◌then◌else◌}
 use Rattle.std.specs.List.{Contains}
@@ -12,7 +12,7 @@ use Rattle.rs_adjin.specs.AdjIns.{client_count, held_of, identifier_of, Begins, 
 use Rattle.rs_policy.specs.Configuration.{Configuration}
 use Rattle.rs_outlet.specs.declared.answers.Speech.{Speech}
 use Rattle.rs_outlet.specs.Decided.Due.{due_to}
-use Rattle.rs_outlet.specs.Views.{View, if_up, is_touched}
+use Rattle.rs_outlet.specs.Views.{View, IsStaleTouched, if_up, is_touched}
 use Rattle.rs_core.specs.Touched.Touches.{IsTouchedAt, IsTouchedWhereHeld}
 use Rattle.rs_core.specs.Touched.Turns.{IsMarked}
 use Rattle.rs_core.specs.Ribs.{outlet_in, due_in, IsDecidedBy, IsFresh, KeepsSettings, ChangesOthers, ChangesOwn, ChangesAll}
@@ -34,11 +34,12 @@ AreSent old new d p = (e : ℕ) → e ≢ d → IsSameSent (identifier_of old e)
 
 -- ---- one client
 
--- client d's outlet had at least as much decided, and what is not touched is sent as before
+-- client d's outlet had at least as much decided, and what is not stale is sent as before
 pub record IsStill (old new : AdjIns) (d : ℕ) (v w : View) : Type 0 where
   pub speech : w.speech ≡ v.speech
   pub loc : w.loc ≡ v.loc
-  pub untouched : (p : Prefix) (speech : Speech) → v.speech ≡ Some speech → is_touched w.touched p ≡ false → (is_touched v.touched p ≡ false) × AreSent old new d p
+  pub untouched : (p : Prefix) (speech : Speech) → v.speech ≡ Some speech → is_touched w.stale p ≡ false → (is_touched v.stale p ≡ false) × AreSent old new d p
+  pub stale_touched : IsStaleTouched v → IsStaleTouched w
 
 pub still_decided : (old new : Ribs) (d : ℕ) (v w : View) → new.config ≡ old.config → client_count new.tables ≡ client_count old.tables → IsStill old.tables new.tables d v w → IsDecidedBy (due_in old d) v → IsDecidedBy (due_in new d) w
 still_decided old new d v w config count h decided = record {
@@ -48,6 +49,7 @@ still_decided old new d v w config count h decided = record {
       ap (λ t. map.get t p) h.loc
       ∙ decided.at speech p was so.0
       ∙ due_same old.config new.config (client_count old.tables) (client_count new.tables) d speech p (identifier_of old.tables) (identifier_of new.tables) (held_of old.tables) (held_of new.tables) config count so.1;
+  stale_touched = h.stale_touched decided.stale_touched;
 }
 
 -- an outlet that is as it was
@@ -55,12 +57,13 @@ pub same_still : (old new : AdjIns) (d : ℕ) (v w : View) → w ≡ v → ((p :
 same_still old new d v w e sent = record {
   speech = ap (λ (x : View). x.speech) e;
   loc = ap (λ (x : View). x.loc) e;
-  untouched = λ p speech up un. (ap (λ (x : View). is_touched x.touched p) (sym e) ∙ un, sent p);
+  untouched = λ p speech up un. (ap (λ (x : View). is_touched x.stale p) (sym e) ∙ un, sent p);
+  stale_touched = λ within. subst IsStaleTouched (sym e) within;
 }
 
-not_touched : (v w : View) (ps : List Prefix) (q : Prefix) → IsTouchedAtChange ps v w → is_touched w.touched q ≡ false → is_touched v.touched q ≡ false
-not_touched v w ps q h un = by_it (is_touched v.touched q) refl where
-  by_it : (b : Bool) → is_touched v.touched q ≡ b → is_touched v.touched q ≡ false
+not_stale : (v w : View) (ps : List Prefix) (q : Prefix) → IsTouchedAtChange ps v w → is_touched w.stale q ≡ false → is_touched v.stale q ≡ false
+not_stale v w ps q h un = by_it (is_touched v.stale q) refl where
+  by_it : (b : Bool) → is_touched v.stale q ≡ b → is_touched v.stale q ≡ false
   by_it true e = absurd (let f : true ≡ false = sym (h.still q e) ∙ un in (cc))
   by_it false e = e
 
@@ -69,25 +72,29 @@ pub touched_others_still : (old new : AdjIns) (d : ℕ) (ps : List Prefix) (v w 
 touched_others_still old new d ps v w touched sent = let h = touched_others ps v w touched in record {
   speech = h.speech;
   loc = h.loc;
-  untouched = λ p speech up un. (not_touched v w ps p h un, sent p (λ has. absurd (let f : true ≡ false = sym (h.all p speech up has) ∙ un in (cc))));
+  untouched = λ p speech up un. (not_stale v w ps p h un, sent p (λ has. absurd (let f : true ≡ false = sym (h.all p speech up has) ∙ un in (cc))));
+  stale_touched = h.stale_touched;
 }
 
--- one with all touched, and one that is not up
-pub all_decided : (due : Speech → Prefix → Option (List Attribute)) (w : View) → w.touched ≡ None → IsDecidedBy due w
-all_decided due w all = record { at = λ speech p up un. absurd (let f : true ≡ false = sym (ap (λ t. is_touched t p) all) ∙ un in (cc)) }
+-- one with all stale, and one that is not up
+pub all_decided : (due : Speech → Prefix → Option (List Attribute)) (w : View) → w.stale ≡ None → IsStaleTouched w → IsDecidedBy due w
+all_decided due w all within = record { at = λ speech p up un. absurd (let f : true ≡ false = sym (ap (λ t. is_touched t p) all) ∙ un in (cc)); stale_touched = within }
 
-pub silent_decided : (due : Speech → Prefix → Option (List Attribute)) (w : View) → w.speech ≡ None → IsDecidedBy due w
-silent_decided due w silent = record { at = λ speech p up un. absurd (let f : ◌≡◌ {A = Option Speech} None (Some speech) = sym silent ∙ up in (cc)) }
+all_touched : (w : View) → w.touched ≡ None → IsStaleTouched w
+all_touched w all p un = absurd (let f : true ≡ false = sym (ap (λ t. is_touched t p) all) ∙ un in (cc))
 
-marked_by : (due : Speech → Prefix → Option (List Attribute)) (ins : AdjIns) (v w : View) (o : Option Speech) → v.speech ≡ o → IsMarked ins v w → IsDecidedBy due w
-marked_by due ins v w None e h = silent_decided due w (ap (λ (x : View). x.speech) h.is ∙ e)
-marked_by due ins v w (Some speech) e h = all_decided due w (ap (λ (x : View). x.touched) h.is ∙ up_all v.speech speech e) where
-  up_all : (o : Option Speech) (speech : Speech) → o ≡ Some speech → if_up o None v.touched ≡ None
-  up_all None speech e = absurd (let f : ◌≡◌ {A = Option Speech} None (Some speech) = e in (cc))
-  up_all (Some s) speech e = refl
+pub silent_decided : (due : Speech → Prefix → Option (List Attribute)) (w : View) → w.speech ≡ None → IsStaleTouched w → IsDecidedBy due w
+silent_decided due w silent within = record { at = λ speech p up un. absurd (let f : ◌≡◌ {A = Option Speech} None (Some speech) = sym silent ∙ up in (cc)); stale_touched = within }
 
-pub marked_decided : (due : Speech → Prefix → Option (List Attribute)) (ins : AdjIns) (v w : View) → IsMarked ins v w → IsDecidedBy due w
-marked_decided due ins v w h = marked_by due ins v w v.speech refl h
+marked_by : (due : Speech → Prefix → Option (List Attribute)) (ins : AdjIns) (v w : View) (o : Option Speech) → v.speech ≡ o → IsMarked ins v w → IsStaleTouched v → IsDecidedBy due w
+marked_by due ins v w None e h within = silent_decided due w (ap (λ (x : View). x.speech) h.is ∙ e) (λ p un.
+    ap (λ (x : View). is_touched x.stale p) h.is ∙ ap (λ o. is_touched (if_up o None v.stale) p) e
+    ∙ within p (sym (ap (λ o. is_touched (if_up o None v.touched) p) e) ∙ sym (ap (λ (x : View). is_touched x.touched p) h.is) ∙ un))
+marked_by due ins v w (Some speech) e h within =
+    all_decided due w (ap (λ (x : View). x.stale) h.is ∙ ap (λ o. if_up o None v.stale) e) (all_touched w (ap (λ (x : View). x.touched) h.is ∙ ap (λ o. if_up o None v.touched) e))
+
+pub marked_decided : (due : Speech → Prefix → Option (List Attribute)) (ins : AdjIns) (v w : View) → IsMarked ins v w → IsStaleTouched v → IsDecidedBy due w
+marked_decided due ins v w h within = marked_by due ins v w v.speech refl h within
 
 -- ---- all clients
 
@@ -172,15 +179,21 @@ forgotten_fresh old new c identifier settings begins changes = fresh_each old ne
           (λ q isnt. begun_sent old.tables new.tables c d identifier q begins (none_held (held_of old.tables c q) (λ some. isnt ((t.held.all q).1 some))))
 
 -- it held nothing, and all is to be decided for it
-pub begun_fresh : (old new : Ribs) (c identifier : ℕ) (Is : View → View → Type 0) → KeepsSettings old new → Begins old.tables new.tables c identifier → ChangesOwn c Is old new → ((v w : View) → Is v w → w.touched ≡ None) → ((p : Prefix) → held_of old.tables c p ≡ None) → IsFresh old → IsFresh new
+pub begun_fresh : (old new : Ribs) (c identifier : ℕ) (Is : View → View → Type 0) → KeepsSettings old new → Begins old.tables new.tables c identifier → ChangesOwn c Is old new → ((v w : View) → Is v w → (w.touched ≡ None) × (w.stale ≡ None)) → ((p : Prefix) → held_of old.tables c p ≡ None) → IsFresh old → IsFresh new
 begun_fresh old new c identifier Is settings begins changes all nothing = fresh_each old new settings.count (λ d none lt decided. by_client d none lt decided (equal_or d c)) where
   by_client : (d : ℕ) (none : View) → d < old.count → IsDecidedBy (due_in old d) (outlet_in old d none) → (d ≡ c) ⊎ (d ≢ c) → IsDecidedBy (due_in new d) (outlet_in new d none)
-  by_client d none lt decided (inl e) = all_decided (due_in new d) (outlet_in new d none)
-      (ap (λ k. (outlet_in new k none).touched) e ∙ all (outlet_in old c none) (outlet_in new c none) (changes.own none (subst (λ k. k < old.count) e lt)))
+  by_client d none lt decided (inl e) =
+      let is = all (outlet_in old c none) (outlet_in new c none) (changes.own none (subst (λ k. k < old.count) e lt)) in
+      all_decided (due_in new d) (outlet_in new d none) (ap (λ k. (outlet_in new k none).stale) e ∙ is.1)
+      (all_touched (outlet_in new d none) (ap (λ k. (outlet_in new k none).touched) e ∙ is.0))
   by_client d none lt decided (inr ne) = still_decided old new d (outlet_in old d none) (outlet_in new d none) settings.config begins.count
       (same_still old.tables new.tables d (outlet_in old d none) (outlet_in new d none) (changes.others d none ne) (λ q. begun_sent old.tables new.tables c d identifier q begins (nothing q))) decided
 
 -- ---- all is to be decided
 
-pub marked_fresh : (old new : Ribs) (ins : AdjIns) → new.count ≡ old.count → ChangesAll (λ c. IsMarked ins) old new → IsFresh new
-marked_fresh old new ins count changes = record { each = λ d none lt. marked_decided (due_in new d) ins (outlet_in old d none) (outlet_in new d none) (changes.each d none (subst (λ n. d < n) count lt)) }
+pub marked_fresh : (old new : Ribs) (ins : AdjIns) → new.count ≡ old.count → ChangesAll (λ c. IsMarked ins) old new → IsFresh old → IsFresh new
+marked_fresh old new ins count changes fresh = record {
+  each = λ d none lt.
+      let within = subst (λ n. d < n) count lt in
+      marked_decided (due_in new d) ins (outlet_in old d none) (outlet_in new d none) (changes.each d none within) (fresh.each d none within).stale_touched;
+}

@@ -33,7 +33,7 @@ use Rattle.rs_core.proofs.Session.OperatorRecords.{watched_still}
 use Rattle.rs_core.proofs.Told.Ordering.{took_ordered, turned_ordered}
 use Rattle.rs_core.proofs.Told.NextMessage.{begun_ordered}
 use Rattle.rs_core.proofs.Told.Serving.{due_is, due_spoken}
-use Rattle.rs_core.proofs.Touched.Turned.{done_decided}
+use Rattle.rs_core.proofs.Touched.Turned.{done_decided, is_current}
 use Rattle.rs_core.proofs.Run.Clients.{is_own, is_other}
 
 -- nothing but the outlet of one client has changed
@@ -145,11 +145,11 @@ turned_loc : (old : Core) (run : List Move) (d : ℕ) (none w : View) → d < ol
 turned_loc old run d none w lt h done speech is p =
     let v : View = outlet_in old.ribs d none in
     let there : d < old.ribs.count = within old d lt in
-    let turned = done.decided (old.numbered.each d none there) in
+    let turned = done.decided (old.numbered.each d none there) (is_current old.ribs d none there old.fresh) in
     let spoken : w.speech ≡ v.speech = ap (λ (x : View). x.speech) done.rest in
     let up : v.speech ≡ Some speech = sym spoken ∙ is in
     let decided = done_decided old.ribs.config old.ribs.tables d v w done.turned ((old.ribs.kept d none (subst (λ n. d < n) (sym old.ribs.outlets_len) there)).client) spoken turned (old.fresh.each d none there) in
-    decided.at speech p is (ap (λ t. is_touched t p) (turned.touched (ap is_some up)) ∙ set.contains-empty prefix_order p)
+    decided.at speech p is (ap (λ t. is_touched t p) (turned.stale (ap is_some up)) ∙ set.contains-empty prefix_order p)
     ∙ due_is old run d speech p h
     ∙ sym (due_spoken run d speech p (sym (((h.clients d lt).knows.outlet h.config none).speech) ∙ up))
 
@@ -172,10 +172,10 @@ turned_agrees old new mid run refused count sessions buffers watched settings ta
           table = λ p. same.held d p ∙ ap (λ t. held_of t d p) tables ∙ at.knows.table p;
           identifier = same.identifiers d ∙ ap (λ t. identifier_of t d) tables ∙ at.knows.identifier;
           outlet = λ config none. decided_says (config_in run) d it is_turned (due run d) (outlet_in new.ribs d none) (subst (λ v. SpeaksTo (config_in run) d it v) (sym (outlet none))
-              (turned_spoken (config_in run) d it old.ribs.config old.ribs.tables (outlet_in old.ribs d none) (outlet_in mid d none) (old.numbered.each d none (within old d there))
+              (turned_spoken (config_in run) d it old.ribs.config old.ribs.tables (outlet_in old.ribs d none) (outlet_in mid d none) (old.numbered.each d none (within old d there)) (is_current old.ribs d none (within old d there) old.fresh)
               (turned.each d none (within old d there)) (at.knows.outlet h.config none)));
           ordered = λ config none. subst (λ v. IsOrdered (config_in run) d (decides is_turned (due run d) it) v) (sym (outlet none))
-              (turned_ordered (config_in run) d it (due run d) old.ribs.config old.ribs.tables (outlet_in old.ribs d none) (outlet_in mid d none) (is_listed d refused) (old.numbered.each d none (within old d there))
+              (turned_ordered (config_in run) d it (due run d) old.ribs.config old.ribs.tables (outlet_in old.ribs d none) (outlet_in mid d none) (is_listed d refused) (old.numbered.each d none (within old d there)) (is_current old.ribs d none (within old d there) old.fresh)
               (at.knows.outlet h.config none) (listed d none lt ∙ ap (λ (v : View). is_refusal v.last) (outlet none)) (λ done. turned_loc old run d none (outlet_in mid d none) there h done)
               (turned.each d none (within old d there)) (at.knows.ordered h.config none));
           watched = watched_still old.watched.items new.watched.items d it.endings it.faults (ap (λ v. v.items) watched) at.knows.watched;

@@ -20,21 +20,21 @@ use Rattle.rs_core.specs.Told.Outlets.{IsInOrder, SaysTheSame, IsDue, IsLeftAlon
 -- ---- outlets that say the same
 
 pub alone_on : (u v w : View) → IsLeftAlone u v → IsLeftAlone v w → IsLeftAlone u w
-alone_on u v w a b = record { is = b.is ∙ ap (λ (x : View). record x { touched = w.touched; numbers = w.numbers }) a.is }
+alone_on u v w a b = record { is = b.is ∙ ap (λ (x : View). record x { touched = w.touched; stale = w.stale; numbers = w.numbers }) a.is }
 
 pub alone_is : (v w : View) → w ≡ v → IsLeftAlone v w
-alone_is v w e = record { is = e ∙ (λ i. record v { touched = (sym e i).touched; numbers = (sym e i).numbers }) }
+alone_is v w e = record { is = e ∙ (λ i. record v { touched = (sym e i).touched; stale = (sym e i).stale; numbers = (sym e i).numbers }) }
 
 -- who is left alone says the same
 pub still : (v w : View) → IsLeftAlone v w → SaysTheSame v w
-still v w h = record { is = h.is ∙ (λ i. record v { keepalive_due = (sym h.is i).keepalive_due; touched = w.touched; numbers = w.numbers; last = (sym h.is i).last }) }
+still v w h = record { is = h.is ∙ (λ i. record v { keepalive_due = (sym h.is i).keepalive_due; touched = w.touched; stale = w.stale; numbers = w.numbers; last = (sym h.is i).last }) }
 
 pub same_is : (v w : View) → w ≡ v → SaysTheSame v w
 same_is v w e = still v w (alone_is v w e)
 
 -- its last turn answered otherwise
 pub last_same : (v w : View) (last : Last) → w ≡ record v { last = last } → SaysTheSame v w
-last_same v w last e = record { is = e ∙ (λ i. record v { keepalive_due = (sym e i).keepalive_due; touched = (sym e i).touched; numbers = (sym e i).numbers; last = (sym e i).last }) }
+last_same v w last e = record { is = e ∙ (λ i. record v { keepalive_due = (sym e i).keepalive_due; touched = (sym e i).touched; stale = (sym e i).stale; numbers = (sym e i).numbers; last = (sym e i).last }) }
 
 -- who is left alone is still to be told the same
 pub alone_out : (v w : View) → IsLeftAlone v w → outgoing_of w ≡ outgoing_of v
@@ -101,7 +101,7 @@ ends_so said v w e = record {
 
 -- a KEEPALIVE is due
 pub due_same : (v w : View) → IsDue v w → SaysTheSame v w
-due_same v w h = record { is = h.is ∙ (λ i. record v { keepalive_due = (sym h.is i).keepalive_due; touched = (sym h.is i).touched; numbers = (sym h.is i).numbers; last = (sym h.is i).last }) }
+due_same v w h = record { is = h.is ∙ (λ i. record v { keepalive_due = (sym h.is i).keepalive_due; touched = (sym h.is i).touched; stale = (sym h.is i).stale; numbers = (sym h.is i).numbers; last = (sym h.is i).last }) }
 
 pub begun_come_up : (speech : Speech) (v w : View) → w ≡ begun speech v → HasComeUp (Some speech) v w
 begun_come_up speech v w e = record {
@@ -124,11 +124,11 @@ touched_rest (p ∷ ps) v = touched_rest ps (touched_at p v)
 
 pub touched_alone : (ps : List Prefix) (v w : View) → IsTouchedAt ps v w → IsLeftAlone v w
 touched_alone ps v w h = alone_on v (touched_with ps v) w
-    (record { is = touched_rest ps v ∙ (λ i. let x = sym (touched_rest ps v) i in record v { touched = (touched_with ps v).touched; numbers = x.numbers }) })
-    (record { is = h.is ∙ (λ i. record (touched_with ps v) { touched = (sym h.is i).touched; numbers = w.numbers }) })
+    (record { is = touched_rest ps v ∙ (λ i. let x = sym (touched_rest ps v) i in record v { touched = (touched_with ps v).touched; stale = x.stale; numbers = x.numbers }) })
+    (record { is = h.is ∙ (λ i. record (touched_with ps v) { touched = (sym h.is i).touched; stale = w.stale; numbers = w.numbers }) })
 
 pub marked_alone : (ins : AdjIns) (v w : View) → IsMarked ins v w → IsLeftAlone v w
-marked_alone ins v w h = record { is = h.is ∙ (λ i. record v { touched = (sym h.is i).touched; numbers = w.numbers }) }
+marked_alone ins v w h = record { is = h.is ∙ (λ i. record v { touched = (sym h.is i).touched; stale = (sym h.is i).stale; numbers = w.numbers }) }
 
 pub marked_same : (ins : AdjIns) (v w : View) → IsMarked ins v w → SaysTheSame v w
 marked_same ins v w h = still v w (marked_alone ins v w h)

@@ -18,6 +18,7 @@ use Rattle.rs_packer.specs.Packed.{announcement, withdrawal}
 use Rattle.rs_outlet.specs.Message.Begins.{BeginsUpdate}
 use Rattle.rs_outlet.specs.Decided.Due.{due_to}
 use Rattle.rs_outlet.specs.Decided.HeldBy.{tables_of}
+use Rattle.rs_outlet.specs.Decided.Turns.{IsCurrent}
 use Rattle.rs_outlet.specs.Views.{View, AreNumbered, is_touched}
 use Rattle.rs_adjin.specs.declared.adj_ins.AdjIns.{AdjIns}
 use Rattle.rs_outlet.specs.Message.Begun.{HasBegun}
@@ -173,9 +174,9 @@ begun_spoken s c h ins v w numbered b at = by_flight v.flight refl where
 
 -- ---- a turn
 
-done_spoken : (s : Configuration) (c : ℕ) (h : Hearing) (config : Configuration) (ins : AdjIns) (v w : View) → AreNumbered v ins → IsDone config ins v w → SpeaksTo s c h v → SpeaksTo s c h w
-done_spoken s c h config ins v w numbered done at =
-    let turned = done.decided numbered in
+done_spoken : (s : Configuration) (c : ℕ) (h : Hearing) (config : Configuration) (ins : AdjIns) (v w : View) → AreNumbered v ins → IsCurrent config ins v → IsDone config ins v w → SpeaksTo s c h v → SpeaksTo s c h w
+done_spoken s c h config ins v w numbered current done at =
+    let turned = done.decided numbered current in
     spoken_by s s c h h v w refl (λ l. l) (ap (λ (x : View). h.taken ++ x.flight) done.rest) (ap (λ (x : View). x.speech) done.rest) (ap (λ (x : View). x.note) done.rest) turned.told
     (record {
       mandatory = λ p m e. by_speech v.speech refl p m e;
@@ -183,16 +184,16 @@ done_spoken s c h config ins v w numbered done at =
       down = λ silent. let none = sym (ap (λ (x : View). x.speech) done.rest) ∙ silent in ap (λ (x : View). x.loc) (turned.down none).1 ∙ at.order.down none;
     }) (says_still s c h v w (ap outgoing_of done.rest) at) at where
       by_speech : (o : Option Speech) → v.speech ≡ o → (p : Prefix) (m : List Attribute) → fin.get w.loc p ≡ Some m → lacks_mandatory m ≡ false
-      by_speech None none p m e = at.order.mandatory p m (ap (λ (x : View). fin.get x.loc p) (sym ((done.decided numbered).down none).1) ∙ e)
+      by_speech None none p m e = at.order.mandatory p m (ap (λ (x : View). fin.get x.loc p) (sym ((done.decided numbered current).down none).1) ∙ e)
       by_speech (Some speech) up p m e = by_touch (is_touched v.touched p) refl where
         by_touch : (b : Bool) → is_touched v.touched p ≡ b → lacks_mandatory m ≡ false
         by_touch true t = due_has_mandatory config ins v.client speech p m
-            (sym ((done.decided numbered).loc speech up p ∙ ap (λ b. if b then due_to (tables_of config ins) v.client speech p else fin.get v.loc p) t) ∙ e)
+            (sym ((done.decided numbered current).loc speech up p ∙ ap (λ b. if b then due_to (tables_of config ins) v.client speech p else fin.get v.loc p) t) ∙ e)
         by_touch false t = at.order.mandatory p m
-            (sym ((done.decided numbered).loc speech up p ∙ ap (λ b. if b then due_to (tables_of config ins) v.client speech p else fin.get v.loc p) t) ∙ e)
+            (sym ((done.decided numbered current).loc speech up p ∙ ap (λ b. if b then due_to (tables_of config ins) v.client speech p else fin.get v.loc p) t) ∙ e)
 
 -- decided or refused, it says the same
-pub turned_spoken : (s : Configuration) (c : ℕ) (h : Hearing) (config : Configuration) (ins : AdjIns) (v w : View) → AreNumbered v ins → IsTurn config ins v w → SpeaksTo s c h v → SpeaksTo s c h w
-turned_spoken s c h config ins v w numbered (inl done) at = done_spoken s c h config ins v w numbered done at
-turned_spoken s c h config ins v w numbered (inr refused) at =
+pub turned_spoken : (s : Configuration) (c : ℕ) (h : Hearing) (config : Configuration) (ins : AdjIns) (v w : View) → AreNumbered v ins → IsCurrent config ins v → IsTurn config ins v w → SpeaksTo s c h v → SpeaksTo s c h w
+turned_spoken s c h config ins v w numbered current (inl done) at = done_spoken s c h config ins v w numbered current done at
+turned_spoken s c h config ins v w numbered current (inr refused) at =
     spoken_on s s c h h v w refl (λ l. l) refl (same_again v w (last_same v w _ refused.rest)) (says_still s c h v w (ap outgoing_of refused.rest) at) at

@@ -22,6 +22,7 @@ use Rattle.rs_session.specs.Hearing.{Asks, HasHeard, Tells, Stays, Says}
 use Rattle.rs_adjin.specs.declared.adj_ins.AdjIns.{AdjIns}
 use Rattle.rs_policy.specs.Configuration.{Configuration}
 use Rattle.rs_outlet.specs.declared.answers.Speech.{Speech}
+use Rattle.rs_outlet.specs.Decided.Turns.{IsCurrent}
 use Rattle.rs_outlet.specs.Views.{View, AreNumbered}
 use Rattle.rs_core.specs.Told.Points.{Point, Asked, Value, asked_if, dues_at, latest}
 use Rattle.rs_core.specs.Told.Order.{IsOrdered, IsToldInOrder, TellsAt, TellsInOrder}
@@ -206,20 +207,20 @@ and_not : (up listed : Bool) → listed ≡ true → (up && not listed) ≡ fals
 and_not true listed e = ap not e
 and_not false listed e = refl
 
-done_ordered : (s : Configuration) (c : ℕ) (h : Hearing) (due : Prefix → Value) (config : Configuration) (ins : AdjIns) (v w : View) → AreNumbered v ins → SpeaksTo s c h v → (done : IsDone config ins v w)
+done_ordered : (s : Configuration) (c : ℕ) (h : Hearing) (due : Prefix → Value) (config : Configuration) (ins : AdjIns) (v w : View) → AreNumbered v ins → IsCurrent config ins v → SpeaksTo s c h v → (done : IsDone config ins v w)
     → ((speech : Speech) → w.speech ≡ Some speech → (p : Prefix) → fin.get w.loc p ≡ due p) → (up : Bool) → is_up (state_in s c h) ≡ up → IsOrdered s c h v → IsOrdered s c (decides up due h) w
-done_ordered s c h due config ins v w numbered says done loc true up at =
-    decided_ordered s c h due v w up (ap (λ (x : View). x.flight) done.rest) (ap (λ (x : View). x.speech) done.rest) ((done.decided numbered).told) ((done.decided numbered).marked) loc at
-done_ordered s c h due config ins v w numbered says done loc false up at =
-    not_decided s c h due v w (last_same v w _ (((done.decided numbered).down (says.speech ∙ down_speech s c h up)).1)) at
+done_ordered s c h due config ins v w numbered current says done loc true up at =
+    decided_ordered s c h due v w up (ap (λ (x : View). x.flight) done.rest) (ap (λ (x : View). x.speech) done.rest) ((done.decided numbered current).told) ((done.decided numbered current).marked) loc at
+done_ordered s c h due config ins v w numbered current says done loc false up at =
+    not_decided s c h due v w (last_same v w _ (((done.decided numbered current).down (says.speech ∙ down_speech s c h up)).1)) at
 
 -- a turn of all; a client for which memory was refused is listed
-pub turned_ordered : (s : Configuration) (c : ℕ) (h : Hearing) (due : Prefix → Value) (config : Configuration) (ins : AdjIns) (v w : View) (listed : Bool) → AreNumbered v ins → SpeaksTo s c h v → listed ≡ is_refusal w.last
+pub turned_ordered : (s : Configuration) (c : ℕ) (h : Hearing) (due : Prefix → Value) (config : Configuration) (ins : AdjIns) (v w : View) (listed : Bool) → AreNumbered v ins → IsCurrent config ins v → SpeaksTo s c h v → listed ≡ is_refusal w.last
     → ((done : IsDone config ins v w) (speech : Speech) → w.speech ≡ Some speech → (p : Prefix) → fin.get w.loc p ≡ due p) → IsTurn config ins v w → IsOrdered s c h v
     → IsOrdered s c (decides (is_up (state_in s c h) && not listed) due h) w
-turned_ordered s c h due config ins v w listed numbered says is loc (inl done) at =
+turned_ordered s c h due config ins v w listed numbered current says is loc (inl done) at =
     subst (λ b. IsOrdered s c (decides b due h) w) (sym (ap (λ b. is_up (state_in s c h) && not b) (is ∙ ap is_refusal done.last) ∙ and-true (is_up (state_in s c h))))
-    (done_ordered s c h due config ins v w numbered says done (loc done) (is_up (state_in s c h)) refl at)
-turned_ordered s c h due config ins v w listed numbered says is loc (inr refused) at =
+    (done_ordered s c h due config ins v w numbered current says done (loc done) (is_up (state_in s c h)) refl at)
+turned_ordered s c h due config ins v w listed numbered current says is loc (inr refused) at =
     subst (λ b. IsOrdered s c (decides b due h) w) (sym (and_not (is_up (state_in s c h)) listed (is ∙ ap (λ (x : View). is_refusal x.last) refused.rest)))
     (not_decided s c h due v w (last_same v w _ refused.rest) at)

@@ -53,7 +53,7 @@ pub told_is_due : (core : Core) (run : List Move) (c : ℕ) (none : View) (speec
 told_is_due core run c none speech lt drained h up is p =
     due_spoken run c speech p is
     ∙ sym (due_is core run c speech p h)
-    ∙ sym ((core.fresh.each c none (subst (λ n. c < n) (sym core.ribs_len) lt)).at speech p up (ap (λ t. is_touched t p) drained.untouched ∙ set.contains-empty prefix_order p))
+    ∙ sym (let fresh = core.fresh.each c none (subst (λ n. c < n) (sym core.ribs_len) lt) in fresh.at speech p up (fresh.stale_touched p (ap (λ t. is_touched t p) drained.untouched ∙ set.contains-empty prefix_order p)))
     ∙ sym (drained.told p)
 
 done_served : (core : Core) (run : List Move) (c : ℕ) (none : View) (speech : Speech) → c < core.count → IsDone (outlet_in core.ribs c none) → Agrees core run → (outlet_in core.ribs c none).speech ≡ Some speech → IsServed run c

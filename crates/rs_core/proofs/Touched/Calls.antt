@@ -28,6 +28,7 @@ use Rattle.rs_core.specs.Core.{client_count, is_refusal, is_refused, loc_in, loc
 use Rattle.rs_core.specs.Touched.ByRun.{DecidesTouched, IsChangedBy, IsCountOf, KeepsTouched, MayBeChangedBy, TouchesAll, TouchesBetween, TouchesItself, TouchesOthersBetween, TouchesOthersWhere, TouchesWhere, stands, with_touches}
 use Rattle.rs_core.specs.declared.ribs.Ribs.{Ribs}
 use Rattle.rs_core.specs.declared.route_server.Core.{Core}
+use Rattle.rs_core.proofs.Touched.Turned.{is_current}
 use Rattle.rs_core.proofs.Run.Agreeing.{AgreesOnClients, on_clients}
 use Rattle.rs_core.proofs.Owed.Drained.{established_spoken}
 use Rattle.rs_core.proofs.Told.InTurn.{has_what_was_due}
@@ -217,7 +218,7 @@ decides_touched c old new mid run lt count turned same h up done = by_turn (turn
   }
 
   by_turn : IsTurn old.ribs.config old.ribs.tables v w → DecidesTouched run c old new
-  by_turn (inl d) = by_done d (d.decided (old.numbered.each c nobody (within old c lt)))
+  by_turn (inl d) = by_done d (d.decided (old.numbered.each c nobody (within old c lt)) (is_current old.ribs c nobody (within old c lt) old.fresh))
   by_turn (inr refused) = absurd (
       let last : (outlet_in new.ribs c nobody).last ≡ lasts.Refused = ap (λ (x : View). x.last) is ∙ ap (λ (x : View). x.last) refused.rest in
       let f : true ≡ false = sym (ap refusal_in (outlet_is new c now) ∙ ap is_refusal last) ∙ done in cc)

@@ -11,11 +11,12 @@ use Rattle.rs_attrs.specs.Effects.{same_prefix, has_prefix}
 use Rattle.rs_attrs.proofs.EachOnce.{same_is}
 use Rattle.rs_adjin.specs.AdjIns.{held_of, Sets, Same, Begins}
 use Rattle.rs_adjin.specs.declared.adj_ins.AdjIns.{AdjIns}
-use Rattle.rs_outlet.specs.Views.{View, touched_at}
+use Rattle.rs_outlet.specs.Views.{View, Prefixes, touched_at}
 use Rattle.rs_core.specs.Touched.Touches.{touched_with, IsTouchedAt, IsTouchedWhere, IsTouchedWhereHeld}
 use Rattle.rs_core.specs.Ribs.{outlet_in, ChangesOwn, ChangesOthers, ChangesAround, TouchesOthersAtChange, TouchesOthersJustWhere, TouchesOthersWithin, TouchesChange}
 use Rattle.rs_core.specs.Run.Parts.{HasOverlaid, HasOverlaidSome}
 use Rattle.rs_core.specs.declared.ribs.Ribs.{Ribs}
+use Rattle.rs_core.proofs.Touched.Touching.{none_more, same_speech}
 use Rattle.rs_core.proofs.Run.Around.{same_or}
 use Rattle.rs_core.proofs.Run.Agreeing.{begun_held}
 use Rattle.rs_core.proofs.Run.Changing.{set_here, sets_nothing}
@@ -27,25 +28,31 @@ touched_join : (ps qs : List Prefix) (v : View) → touched_with (ps ++ qs) v �
 touched_join [] qs v = refl
 touched_join (p ∷ ps) qs v = touched_join ps qs (touched_at p v)
 
--- numbers are carried along
-touched_numbers : (ps : List Prefix) (ns : List (ℕ × Prefix)) (v : View) → touched_with ps (record v { numbers = ns }) ≡ record (touched_with ps v) { numbers = ns }
-touched_numbers [] ns v = refl
-touched_numbers (p ∷ ps) ns v = touched_numbers ps ns (touched_at p v)
+-- what is stale, and numbers, are carried along
+touched_numbers : (ps : List Prefix) (s : Option Prefixes) (ns : List (ℕ × Prefix)) (v : View) → touched_with ps (record v { stale = s; numbers = ns }) ≡ record (touched_with ps v) { stale = s; numbers = ns }
+touched_numbers [] s ns v = refl
+touched_numbers (p ∷ ps) s ns v = touched_numbers ps s ns (touched_at p v)
 
 touched_both : (ps qs : List Prefix) (u v w : View) → IsTouchedAt ps u v → IsTouchedAt qs v w → IsTouchedAt (ps ++ qs) u w
 touched_both ps qs u v w a b = record {
   is =
       b.is
-      ∙ ap (λ (x : View). record (touched_with qs x) { numbers = w.numbers }) a.is
-      ∙ ap (λ (x : View). record x { numbers = w.numbers }) (touched_numbers qs v.numbers (touched_with ps u))
-      ∙ ap (λ (x : View). record x { numbers = w.numbers }) (sym (touched_join ps qs u));
+      ∙ ap (λ (x : View). record (touched_with qs x) { stale = w.stale; numbers = w.numbers }) a.is
+      ∙ ap (λ (x : View). record x { stale = w.stale; numbers = w.numbers }) (touched_numbers qs v.stale v.numbers (touched_with ps u))
+      ∙ ap (λ (x : View). record x { stale = w.stale; numbers = w.numbers }) (sym (touched_join ps qs u));
+  added = λ up q has. elim (Contains-append_cases ps qs q has) [
+    | inl before ↦ b.kept q (a.added up q before)
+    | inr behind ↦ b.added (subst IsSome (sym (ap (λ (x : View). x.speech) a.is ∙ same_speech ps u)) up) q behind
+  ];
+  kept = λ q t. b.kept q (a.kept q t);
+  stale_touched = λ h. b.stale_touched (a.stale_touched h);
 }
 
 pub nowhere : (Holds : Prefix → Type 0) (v w : View) → w ≡ v → ((p : Prefix) → Holds p → ⊥) → IsTouchedWhere Holds v w
 nowhere Holds v w e none = record {
   prefixes = [];
   just = λ p. (λ has. absurd (let lt = has.1 in omega (arith, lt)), λ holds. absurd (none p holds));
-  touched = record { is = e ∙ (λ i. record v { numbers = (sym e i).numbers }) };
+  touched = subst (IsTouchedAt [] v) (sym e) (none_more v);
 }
 
 pub where_as : (P Q : Prefix → Type 0) (v w : View) → IsTouchedWhere P v w → ((p : Prefix) → P p ↔ Q p) → IsTouchedWhere Q v w

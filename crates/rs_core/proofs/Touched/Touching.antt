@@ -1,6 +1,7 @@
 -- What touches leave of an outlet, and what they make touched.
-use Rattle.std.proofs.Common.{◌≡◌, ◌<◌, ℕ, zero, suc, Bool, true, false, ◌||◌, List, [], ◌∷◌, ◌++◌, length, refl, sym, ◌∙◌, ap, subst, arith, slice_index_or, append_assoc, append-nil}
-use Rattle.std.specs.Prelude.{Option, Some, None, nat_lt, if◌then◌else◌}
+use Rattle.std.proofs.Common.{inl, inr, ◌≡◌, ◌<◌, ℕ, zero, suc, Bool, true, false, ◌||◌, List, [], ◌∷◌, ◌++◌, length, refl, sym, ◌∙◌, ap, subst, arith, slice_index_or, append_assoc, append-nil}
+use Rattle.std.specs.Prelude.{Option, Some, None, IsSome, is_some, nat_lt, if◌then◌else◌}
+use Rattle.std.proofs.lemmas.List.Elements.{Contains-append_cases}
 use Rattle.std.specs.List.{Contains}
 use Rattle.std.specs.Map.{keys_of}
 use Rattle.std.specs.FinSet as set
@@ -12,7 +13,7 @@ use Rattle.rs_octets.specs.PrefixOrder.{prefix_order_total}
 use Rattle.rs_adjin.specs.AdjIns.{number_of}
 use Rattle.rs_adjin.specs.declared.adj_ins.AdjIns.{AdjIns}
 use Rattle.rs_outlet.specs.declared.answers.Speech.{Speech}
-use Rattle.rs_outlet.specs.Views.{View, AreNumbered, Prefixes, if_up, is_touched, touched_at, with_touch}
+use Rattle.rs_outlet.specs.Views.{View, AreNumbered, IsStaleToo, IsStaleTouched, Prefixes, is_touched, touched_at, with_touch}
 use Rattle.rs_core.specs.Touched.Touches.{touched_with, AreHeld, IsTouchedAt, IsTouchedWhereHeld}
 
 tied : (p : Prefix) → eq_by_cmp prefix_order p p ≡ true
@@ -45,31 +46,9 @@ pub touched_more : (o : Option Prefixes) (p q : Prefix) → is_touched o q ≡ t
 touched_more None p q h = refl
 touched_more (Some s) p q h = more_by s p q (set.contains s p) (nat_lt (set.len s) 4096) h
 
-more_if_up : (o : Option Speech) (t : Option Prefixes) (p q : Prefix) → is_touched t q ≡ true → is_touched (if_up o (with_touch t p) t) q ≡ true
-more_if_up None t p q h = h
-more_if_up (Some speech) t p q h = touched_more t p q h
-
-here_if_up : (o : Option Speech) (speech : Speech) (t : Option Prefixes) (p : Prefix) → o ≡ Some speech → is_touched (if_up o (with_touch t p) t) p ≡ true
-here_if_up None speech t p up = absurd (let e : ◌≡◌ {A = Option Speech} None (Some speech) = up in cc)
-here_if_up (Some s) speech t p up = touched_here t p
-
 -- ---- many
 
--- what was touched still is
-pub still_touched : (ps : List Prefix) (v : View) (q : Prefix) → is_touched v.touched q ≡ true → is_touched (touched_with ps v).touched q ≡ true
-still_touched [] v q h = h
-still_touched (p ∷ ps) v q h = still_touched ps (touched_at p v) q (more_if_up v.speech v.touched p q h)
-
-at_index : (ps : List Prefix) (v : View) (q : Prefix) (speech : Speech) (k : ℕ) → v.speech ≡ Some speech → k < length ps → slice_index_or ps k q ≡ q → is_touched (touched_with ps v).touched q ≡ true
-at_index [] v q speech k up lt is = absurd (omega (arith, lt))
-at_index (p ∷ ps) v q speech zero up lt is = still_touched ps (touched_at p v) q (subst (λ r. is_touched (touched_at p v).touched r ≡ true) is (here_if_up v.speech speech v.touched p up))
-at_index (p ∷ ps) v q speech (suc k) up lt is = at_index ps (touched_at p v) q speech k up (omega (arith, lt)) is
-
--- where the client is up each of them is touched
-pub all_touched : (ps : List Prefix) (v : View) (q : Prefix) (speech : Speech) → v.speech ≡ Some speech → Contains ps q → is_touched (touched_with ps v).touched q ≡ true
-all_touched ps v q speech up has = at_index ps v q speech has.0 up has.1 has.2
-
-same_speech : (ps : List Prefix) (v : View) → (touched_with ps v).speech ≡ v.speech
+pub same_speech : (ps : List Prefix) (v : View) → (touched_with ps v).speech ≡ v.speech
 same_speech [] v = refl
 same_speech (p ∷ ps) v = same_speech ps (touched_at p v)
 
@@ -77,19 +56,21 @@ same_loc : (ps : List Prefix) (v : View) → (touched_with ps v).loc ≡ v.loc
 same_loc [] v = refl
 same_loc (p ∷ ps) v = same_loc ps (touched_at p v)
 
--- what a touch of these prefixes leaves, with the prefixes that it makes touched
+-- what a touch of these prefixes leaves, with the prefixes that it makes stale
 pub record IsTouchedAtChange (ps : List Prefix) (v w : View) : Type 0 where
   pub speech : w.speech ≡ v.speech
   pub loc : w.loc ≡ v.loc
-  pub still : (q : Prefix) → is_touched v.touched q ≡ true → is_touched w.touched q ≡ true
-  pub all : (q : Prefix) (speech : Speech) → v.speech ≡ Some speech → Contains ps q → is_touched w.touched q ≡ true
+  pub still : (q : Prefix) → is_touched v.stale q ≡ true → is_touched w.stale q ≡ true
+  pub all : (q : Prefix) (speech : Speech) → v.speech ≡ Some speech → Contains ps q → is_touched w.stale q ≡ true
+  pub stale_touched : IsStaleTouched v → IsStaleTouched w
 
 pub touched_others : (ps : List Prefix) (v w : View) → IsTouchedAt ps v w → IsTouchedAtChange ps v w
 touched_others ps v w h = record {
   speech = ap (λ (x : View). x.speech) h.is ∙ same_speech ps v;
   loc = ap (λ (x : View). x.loc) h.is ∙ same_loc ps v;
-  still = λ q t. ap (λ (x : View). is_touched x.touched q) h.is ∙ still_touched ps v q t;
-  all = λ q speech up has. ap (λ (x : View). is_touched x.touched q) h.is ∙ all_touched ps v q speech up has;
+  still = λ q t. h.kept q t;
+  all = λ q speech up has. h.added (ap is_some up) q has;
+  stale_touched = h.stale_touched;
 }
 
 -- ---- one more
@@ -98,15 +79,35 @@ with_more : (ps : List Prefix) (p : Prefix) (v : View) → touched_with (ps ++ p
 with_more [] p v = refl
 with_more (q ∷ ps) p v = with_more ps p (touched_at q v)
 
-pub one_touched : (p : Prefix) (v w : View) → w ≡ record v { touched = w.touched; numbers = w.numbers } → w.touched ≡ (touched_at p v).touched → IsTouchedAt (p ∷ []) v w
-one_touched p v w rest touched = record { is = rest ∙ ap (λ t. record v { touched = t; numbers = w.numbers }) touched }
+-- nothing is touched
+pub none_more : (v : View) → IsTouchedAt [] v v
+none_more v = record { is = refl; added = λ up q has. absurd (let lt = has.1 in omega (arith, lt)); kept = λ q t. t; stale_touched = λ h. h }
 
-pub more_touched : (ps : List Prefix) (p : Prefix) (v w x : View) → IsTouchedAt ps v w → x ≡ record w { touched = x.touched; numbers = x.numbers } → x.touched ≡ (touched_at p w).touched → IsTouchedAt (ps ++ p ∷ []) v x
-more_touched ps p v w x h rest touched = record {
+only : (p q : Prefix) → Contains (p ∷ []) q → q ≡ p
+only p q (zero, lt, is) = sym is
+only p q (suc k, lt, is) = absurd (omega (arith, lt))
+
+pub one_touched : (p : Prefix) (v w : View) → w ≡ record v { touched = w.touched; stale = w.stale; numbers = w.numbers } → w.touched ≡ (touched_at p v).touched → IsStaleToo p v w → IsStaleTouched w → IsTouchedAt (p ∷ []) v w
+one_touched p v w rest touched stale within = record {
+  is = rest ∙ ap (λ t. record v { touched = t; stale = w.stale; numbers = w.numbers }) touched;
+  added = λ up q has. ap (is_touched w.stale) (only p q has) ∙ stale.added up;
+  kept = stale.kept;
+  stale_touched = λ _. within;
+}
+
+pub more_touched : (ps : List Prefix) (p : Prefix) (v w x : View) → IsTouchedAt ps v w → x ≡ record w { touched = x.touched; stale = x.stale; numbers = x.numbers } → x.touched ≡ (touched_at p w).touched → IsStaleToo p w x → IsStaleTouched x
+    → IsTouchedAt (ps ++ p ∷ []) v x
+more_touched ps p v w x h rest touched stale within = record {
   is =
-      rest ∙ ap (λ t. record w { touched = t; numbers = x.numbers }) touched
-      ∙ ap (λ (y : View). record (touched_at p y) { numbers = x.numbers }) h.is
-      ∙ ap (λ (y : View). record y { numbers = x.numbers }) (sym (with_more ps p v));
+      rest ∙ ap (λ t. record w { touched = t; stale = x.stale; numbers = x.numbers }) touched
+      ∙ ap (λ (y : View). record (touched_at p y) { stale = x.stale; numbers = x.numbers }) h.is
+      ∙ ap (λ (y : View). record y { stale = x.stale; numbers = x.numbers }) (sym (with_more ps p v));
+  added = λ up q has. elim (Contains-append_cases ps (p ∷ []) q has) [
+    | inl before ↦ stale.kept q (h.added up q before)
+    | inr last ↦ ap (is_touched x.stale) (only p q last) ∙ stale.added (subst IsSome (sym (ap (λ (y : View). y.speech) h.is ∙ same_speech ps v)) up)
+  ];
+  kept = λ q t. stale.kept q (h.kept q t);
+  stale_touched = λ _. within;
 }
 
 -- ---- a walk over the prefixes that a client holds, each with its number
@@ -115,24 +116,24 @@ more_touched ps p v w x h rest touched = record {
 pub record IsTouching (ins : AdjIns) (all left : List (Prefix × ℕ)) (v w : View) : Type 0 where
   pub done : List (Prefix × ℕ)
   pub split : done ++ left ≡ all
-  pub rest : w ≡ record v { touched = w.touched; numbers = w.numbers }
+  pub rest : w ≡ record v { touched = w.touched; stale = w.stale; numbers = w.numbers }
   pub touched : AreNumbered v ins → IsTouchedAt (keys_of done) v w
   pub numbered : AreNumbered v ins → AreNumbered w ins
 
 pub touching_begins : (ins : AdjIns) (all : List (Prefix × ℕ)) (v : View) → IsTouching ins all all v v
-touching_begins ins all v = record { done = []; split = refl; rest = refl; touched = λ h. record { is = refl }; numbered = λ h. h }
+touching_begins ins all v = record { done = []; split = refl; rest = refl; touched = λ h. none_more v; numbered = λ h. h }
 
 keys_more : (es : List (Prefix × ℕ)) (e : Prefix × ℕ) → keys_of (es ++ e ∷ []) ≡ keys_of es ++ e.0 ∷ []
 keys_more [] e = refl
 keys_more (x ∷ es) e = ap (λ ps. x.0 ∷ ps) (keys_more es e)
 
-pub touching_on : (ins : AdjIns) (all left : List (Prefix × ℕ)) (e : Prefix × ℕ) (v w x : View) → IsTouching ins all (e ∷ left) v w → x ≡ record w { touched = x.touched; numbers = x.numbers }
-    → (AreNumbered w ins → x.touched ≡ (touched_at e.0 w).touched) → (AreNumbered w ins → AreNumbered x ins) → IsTouching ins all left v x
-touching_on ins all left e v w x h rest touched numbered = record {
+pub touching_on : (ins : AdjIns) (all left : List (Prefix × ℕ)) (e : Prefix × ℕ) (v w x : View) → IsTouching ins all (e ∷ left) v w → x ≡ record w { touched = x.touched; stale = x.stale; numbers = x.numbers }
+    → (AreNumbered w ins → x.touched ≡ (touched_at e.0 w).touched) → (AreNumbered w ins → IsStaleToo e.0 w x) → IsStaleTouched x → (AreNumbered w ins → AreNumbered x ins) → IsTouching ins all left v x
+touching_on ins all left e v w x h rest touched stale within numbered = record {
   done = h.done ++ e ∷ [];
   split = append_assoc h.done (e ∷ []) left ∙ h.split;
-  rest = rest ∙ ap (λ (y : View). record y { touched = x.touched; numbers = x.numbers }) h.rest;
-  touched = λ k. subst (λ ps. IsTouchedAt ps v x) (sym (keys_more h.done e)) (more_touched (keys_of h.done) e.0 v w x (h.touched k) rest (touched (h.numbered k)));
+  rest = rest ∙ ap (λ (y : View). record y { touched = x.touched; stale = x.stale; numbers = x.numbers }) h.rest;
+  touched = λ k. subst (λ ps. IsTouchedAt ps v x) (sym (keys_more h.done e)) (more_touched (keys_of h.done) e.0 v w x (h.touched k) rest (touched (h.numbered k)) (stale (h.numbered k)) within);
   numbered = λ k. numbered (h.numbered k);
 }
 

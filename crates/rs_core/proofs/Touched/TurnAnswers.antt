@@ -19,6 +19,7 @@ use Rattle.rs_core.specs.declared.route_server.Core.{Core}
 use Rattle.rs_core.proofs.Run.Outgoing.{within}
 use Rattle.rs_core.proofs.Owed.Sending.{last_is, nobody}
 use Rattle.rs_core.proofs.Touched.Calls.{decides_touched}
+use Rattle.rs_core.proofs.Touched.Turned.{is_current}
 use Rattle.rs_core.proofs.Told.BySession.{down_speech}
 
 -- memory was refused
@@ -58,7 +59,7 @@ down_last c old new mid run lt count turned same h down = last_is new c now ∙ 
   silent = ((h.clients c lt).knows.outlet h.config nobody).speech ∙ down_speech (config_in run) c (hearing c run) down
 
   by_turn : IsTurn old.ribs.config old.ribs.tables v w → w.last ≡ lasts.Done nothing
-  by_turn (inl d) = d.last ∙ ap (λ (t : Turned). lasts.Done t) ((d.decided (old.numbered.each c nobody (within old c lt))).down silent).0
+  by_turn (inl d) = d.last ∙ ap (λ (t : Turned). lasts.Done t) ((d.decided (old.numbered.each c nobody (within old c lt)) (is_current old.ribs c nobody (within old c lt) old.fresh)).down silent).0
   by_turn (inr refused) = absurd (false≢true (sym (ap is_some silent) ∙ refused.up))
 
 -- memory is refused only for one that is

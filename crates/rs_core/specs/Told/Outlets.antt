@@ -55,7 +55,7 @@ pub record SpeaksTo (s : Configuration) (c : ℕ) (h : Hearing) (v : View) : Typ
 
 -- a KEEPALIVE fell due, prefixes were touched, or a turn was refused
 pub record SaysTheSame (v w : View) : Type 0 where
-  pub is : w ≡ record v { keepalive_due = w.keepalive_due; touched = w.touched; numbers = w.numbers; last = w.last }
+  pub is : w ≡ record v { keepalive_due = w.keepalive_due; touched = w.touched; stale = w.stale; numbers = w.numbers; last = w.last }
 
 -- a KEEPALIVE fell due
 pub record IsDue (v w : View) : Type 0 where
@@ -63,7 +63,7 @@ pub record IsDue (v w : View) : Type 0 where
 
 -- prefixes were touched
 pub record IsLeftAlone (v w : View) : Type 0 where
-  pub is : w ≡ record v { touched = w.touched; numbers = w.numbers }
+  pub is : w ≡ record v { touched = w.touched; stale = w.stale; numbers = w.numbers }
 
 -- what a client was told goes, and it is spoken to like this
 pub record HasComeUp (agreed : Option Speech) (v w : View) : Type 0 where

@@ -1,21 +1,24 @@
 -- What touches, and asking for all again, make of an outlet.
-use Rattle.std.specs.Prelude.{None, ◌≡◌, ◌↔◌, ℕ, List, [], ◌∷◌, IsSome}
+use Rattle.std.specs.Prelude.{None, true, ◌≡◌, ◌↔◌, ℕ, List, [], ◌∷◌, IsSome}
 use Rattle.std.specs.List.{Contains}
 use Rattle.std.specs.FinMap as map
 use Rattle.std.specs.FinSet as set
 use Rattle.rs_octets.specs.Prefixes.{Prefix}
 use Rattle.rs_adjin.specs.AdjIns.{held_of}
 use Rattle.rs_adjin.specs.declared.adj_ins.AdjIns.{AdjIns}
-use Rattle.rs_outlet.specs.Views.{View, WaitsAreExact, touched_at}
+use Rattle.rs_outlet.specs.Views.{View, IsStaleTouched, WaitsAreExact, is_touched, touched_at}
 
 -- these prefixes are touched, one after the other
 abbrev pub touched_with : List Prefix → View → View
 touched_with [] v = v
 touched_with (p ∷ ps) v = touched_with ps (touched_at p v)
 
--- these prefixes were touched, and nothing else has changed but numbers
+-- these prefixes were touched and are stale, and nothing else has changed but what is stale, and numbers
 pub record IsTouchedAt (ps : List Prefix) (old new : View) : Type 0 where
-  pub is : new ≡ record (touched_with ps old) { numbers = new.numbers }
+  pub is : new ≡ record (touched_with ps old) { stale = new.stale; numbers = new.numbers }
+  pub added : IsSome old.speech → (p : Prefix) → Contains ps p → is_touched new.stale p ≡ true
+  pub kept : (p : Prefix) → is_touched old.stale p ≡ true → is_touched new.stale p ≡ true
+  pub stale_touched : IsStaleTouched old → IsStaleTouched new
 
 -- just the prefixes where this holds were touched, and nothing else has changed but numbers
 pub record IsTouchedWhere (Holds : Prefix → Type 0) (old new : View) : Type 0 where

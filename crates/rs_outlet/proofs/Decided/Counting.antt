@@ -21,10 +21,10 @@ use Rattle.rs_adjin.proofs.Listed.{prefixes_total}
 pub counted_as : (f g : Prefix → Bool) (n : ℕ) → ((p : Prefix) → f p ≡ g p) → IsNumberOf f n → IsNumberOf g n
 counted_as f g n is h = record { all = h.all; holds = λ p. h.holds p ∙ is p; size = h.size }
 
-counted_same : {f : Prefix → Bool} {n m : ℕ} → IsNumberOf f n → n ≡ m → IsNumberOf f m
+pub counted_same : {f : Prefix → Bool} {n m : ℕ} → IsNumberOf f n → n ≡ m → IsNumberOf f m
 counted_same h e = record { all = h.all; holds = h.holds; size = sym e ∙ h.size }
 
-shown_some : (r : Option Row) → is_some (shown r) ≡ is_some r
+pub shown_some : (r : Option Row) → is_some (shown r) ≡ is_some r
 shown_some None = refl
 shown_some (Some r) = refl
 

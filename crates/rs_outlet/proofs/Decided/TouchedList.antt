@@ -1,5 +1,5 @@
 -- The list of touched prefixes: what it says, what a touch more makes of it, and what is left once it is in order.
-use Rattle.std.proofs.Common.{◌≡◌, ◌∙◌, ◌↔◌, ◌<◌, ◌≤◌, ℕ, Bool, true, false, cond, not, ◌||◌, nat_eq, nat_lt, Option, None, Some, List, [], ◌∷◌, ◌++◌, length, ◌+◌, refl, sym, ap, subst, arith}
+use Rattle.std.proofs.Common.{inl, inr, ◌≡◌, ◌∙◌, ◌↔◌, ◌<◌, ℕ, Bool, true, false, cond, not, ◌||◌, nat_eq, nat_lt, Option, None, Some, List, [], ◌∷◌, ◌++◌, length, ◌+◌, refl, sym, ap, subst, arith}
 use mathlib.Core.Bool.{true≢false}
 use Rattle.std.specs.List.{AllByRecursion, IsDistinct, dedup, dedup_from, list_any}
 use Rattle.std.specs.List.Sorted.{IsPermutation, IsSorted, IsStrictlySortedBy}
@@ -13,13 +13,14 @@ use Rattle.std.proofs.lemmas.Bool.Decides.{nat_tests}
 use Rattle.std.proofs.lemmas.Cmp.{on_total, tied_itself}
 use Rattle.std.proofs.lemmas.List.Kept.{IsStrictlySortedBy-dedup}
 use Rattle.std.proofs.lemmas.List.Sorted.{IsPermutation-map, list_any-IsPermutation}
-use Rattle.std.proofs.lemmas.Bool.{eqb-true}
+use Rattle.std.proofs.lemmas.Bool.{eqb-true, or_right}
 use Rattle.std.proofs.lemmas.Option.{same_Some}
 use Rattle.rs_octets.specs.Prefixes.{Prefix, prefix_order}
 use Rattle.rs_adjin.specs.declared.adj_ins.AdjIns.{AdjIns}
 use Rattle.rs_adjin.specs.AdjIns.{number_of}
-use Rattle.rs_outlet.specs.Views.{HaveNumbers, Prefixes, with_touch}
-use Rattle.rs_outlet.specs.Decided.Touching.{AreOnce, is_numbered_in, prefixes_in, touched_by, touched_of}
+use Rattle.rs_outlet.specs.Views.{HaveNumbers, Prefixes, is_touched, is_whole, with_touch}
+use Rattle.rs_outlet.specs.Decided.Touching.{AreOnce, MayAdd, is_numbered_in, prefixes_in, stale_of, touched_by, touched_of}
+use Rattle.std.specs.Prelude.{◌⊎◌, option_map}
 use Rattle.rs_outlet.proofs.Pending.Deduped.{any_deduped}
 use Rattle.rs_adjin.proofs.Listed.{exact_prefixes, prefixes_total}
 use Rattle.rs_outlet.proofs.Decided.Touches.{contains-from_list, prefix_eq, prefix_eq-cmp, prefix_eq-is, unsigned}
@@ -77,12 +78,43 @@ prefixes_push : (es : List Entry) (e : Entry) → prefixes_in (es ++ e ∷ []) �
 prefixes_push [] e = refl
 prefixes_push (d ∷ es) e = ap (λ ps. d.1 ∷ ps) (prefixes_push es e)
 
+listed_push : (es : List Entry) (e : Entry) → set.from_list {R = prefix_order} (prefixes_in (es ++ e ∷ [])) ≡ set.insert (set.from_list (prefixes_in es)) e.1
+listed_push es e = ap set.from_list (prefixes_push es e) ∙ set.from_list_push prefixes_total exact_prefixes (prefixes_in es) e.1
+
+-- what is stale after a touch more
+pub stale_push : (b : Bool) (es : List Entry) (e : Entry) (old : Option Prefixes) → b ≡ false → (stale_of b es ≡ old) ⊎ (stale_of b es ≡ None) → MayAdd e.1 old (stale_of b (es ++ e ∷ []))
+stale_push true es e old part h = absurd (true≢false part)
+stale_push false es e old part (inl h) = inl (ap (λ s. Some s) (listed_push es e) ∙ ap (option_map (λ s. set.insert s e.1)) h)
+stale_push false es e old part (inr h) = absurd (let f : ◌≡◌ {A = Option Prefixes} (Some (set.from_list (prefixes_in es))) None = h in cc)
+
 pub touched_push : (es : List Entry) (e : Entry) → touched_by (es ++ e ∷ []) ≡ with_touch (touched_by es) e.1
 touched_push es e =
     listed (es ++ e ∷ [])
     ∙ ap few (ap set.from_list (prefixes_push es e) ∙ set.from_list_push prefixes_total exact_prefixes (prefixes_in es) e.1)
     ∙ sym (touch_few (set.from_list (prefixes_in es)) e.1)
     ∙ ap (λ o. with_touch o e.1) (sym (listed es))
+
+added_here : (s : Prefixes) (p : Prefix) → set.contains (set.insert s p) p ≡ true
+added_here s p = set.contains-insert prefixes_total s p p ∙ ap (λ b. b || set.contains s p) (ap is_eq (tied_itself prefixes_total p))
+
+pub added_stale : (p : Prefix) (old new : Option Prefixes) → MayAdd p old new → is_touched new p ≡ true
+added_stale p None new (inl is) = ap (λ o. is_touched o p) is
+added_stale p (Some s) new (inl is) = ap (λ o. is_touched o p) is ∙ added_here s p
+added_stale p old new (inr all) = ap (λ o. is_touched o p) all
+
+pub kept_stale : (p q : Prefix) (old new : Option Prefixes) → MayAdd p old new → is_touched old q ≡ true → is_touched new q ≡ true
+kept_stale p q None new (inl is) there = ap (λ o. is_touched o q) is
+kept_stale p q (Some s) new (inl is) there = ap (λ o. is_touched o q) is ∙ set.contains-insert prefixes_total s p q ∙ or_right (eq_by_cmp prefix_order q p) (set.contains s q) there
+kept_stale p q old new (inr all) there = ap (λ o. is_touched o q) all
+
+few_within : (s : Prefixes) (q : Prefix) (many : Bool) → is_touched (cond many None (Some s)) q ≡ false → set.contains s q ≡ false
+few_within s q true h = absurd (true≢false h)
+few_within s q false h = h
+
+-- what is stale is touched
+pub stale_within : (all : Bool) (es : List Entry) (q : Prefix) → is_touched (touched_of all es) q ≡ false → is_touched (stale_of all es) q ≡ false
+stale_within true es q h = h
+stale_within false es q h = few_within (set.from_list (prefixes_in es)) q (nat_lt 4096 (set.len (set.from_list (prefixes_in es)))) (sym (ap (λ o. is_touched o q) (listed es)) ∙ h)
 
 in_empty : (s : Prefixes) (p : Prefix) → set.contains s p ≡ true → s ≡ set.empty → ⊥
 in_empty s p here e = true≢false (sym here ∙ ap (λ t. set.contains t p) e ∙ set.contains-empty prefix_order p)
@@ -177,9 +209,6 @@ ordered es ms fs moved up is = subst (AreOnce es) (sym is) (record {
 more_than : (n m : ℕ) → n ≡ m → 4096 < n → nat_lt 4096 m ≡ true
 more_than n m is h = grind (arith, nat_tests, is, h)
 
-no_more_than : (n m : ℕ) → n ≡ m → n ≤ 4096 → nat_lt 4096 m ≡ false
-no_more_than n m is h = grind (arith, nat_tests, is, h)
-
 module _ (ins : AdjIns) (es fs : List Entry) (o : AreOnce es fs) (h : HaveNumbers es ins) where
   same_prefixes : set.from_list {R = prefix_order} (prefixes_in fs) ≡ set.from_list (prefixes_in es)
   same_prefixes = set.same_set prefixes_total exact_prefixes _ _ (λ q. contains-from_list q (prefixes_in fs) ∙ at q (number_of ins q) refl ∙ sym (contains-from_list q (prefixes_in es)))
@@ -194,17 +223,44 @@ module _ (ins : AdjIns) (es fs : List Entry) (o : AreOnce es fs) (h : HaveNumber
   pub too_many : 4096 < length fs → touched_by es ≡ None
   too_many many = listed es ∙ ap (λ b. cond b None (Some (set.from_list (prefixes_in es)))) (more_than (length fs) (set.len (set.from_list (prefixes_in es))) count many)
 
-  pub not_many : length fs ≤ 4096 → touched_by es ≡ Some (set.from_list (prefixes_in es))
-  not_many few_are = listed es ∙ ap (λ b. cond b None (Some (set.from_list (prefixes_in es)))) (no_more_than (length fs) (set.len (set.from_list (prefixes_in es))) count few_are)
-
   -- as many as are touched
-  pub as_many : (prefixes : Prefixes) → length fs ≤ 4096 → touched_by es ≡ Some prefixes → length fs ≡ set.len prefixes
-  as_many prefixes few_are is = count ∙ ap set.len (same_Some (set.from_list (prefixes_in es)) prefixes (sym (not_many few_are) ∙ is))
+  pub many_are : (prefixes : Prefixes) → touched_by es ≡ Some prefixes → length fs ≡ set.len prefixes
+  many_are prefixes is = count ∙ by_size (nat_lt 4096 (set.len (set.from_list (prefixes_in es)))) (set.from_list (prefixes_in es)) (sym (listed es) ∙ is)
+    where
+      by_size : (b : Bool) (s : Prefixes) → cond b None (Some s) ≡ Some prefixes → set.len s ≡ set.len prefixes
+      by_size true s e = absurd (let f : ◌≡◌ {A = Option Prefixes} None (Some prefixes) = e in cc)
+      by_size false s e = ap set.len (same_Some s prefixes e)
 
   pub same_touched : (all : Bool) → touched_of all fs ≡ touched_of all es
   same_touched true = refl
   same_touched false = listed fs ∙ ap few same_prefixes ∙ sym (listed es)
 
+  -- a turn is whole where more than 4,096 are listed
+  pub is_many : (b : Bool) → b ≡ false → is_whole (touched_of b es) ≡ nat_lt 4096 (length fs)
+  is_many true part = absurd (true≢false part)
+  is_many false part = ap is_whole (listed es) ∙ whole_by (nat_lt 4096 (set.len (set.from_list (prefixes_in es)))) (set.from_list (prefixes_in es)) ∙ ap (nat_lt 4096) (sym count)
+    where
+      whole_by : (b : Bool) (s : Prefixes) → is_whole (cond b None (Some s)) ≡ b
+      whole_by true s = refl
+      whole_by false s = refl
+
+  pub stale_same : (all : Bool) → stale_of all fs ≡ stale_of all es
+  stale_same true = refl
+  stale_same false = ap (λ s. Some s) same_prefixes
+
   pub all_touched : (all : Bool) → 4096 < length fs → None ≡ touched_of all es
   all_touched true many = refl
   all_touched false many = sym (too_many many)
+
+  -- it has room for more, or was given up
+  pub longer_touched : (all b : Bool) (new : List Entry) → 4096 < length fs → ((b ≡ all) × (new ≡ fs)) ⊎ ((b ≡ true) × (new ≡ [])) → touched_of b new ≡ touched_of all es
+  longer_touched all b new many (inl same) = (λ i. touched_of (same.0 i) (same.1 i)) ∙ same_touched all
+  longer_touched all b new many (inr gone) = (λ i. touched_of (gone.0 i) (gone.1 i)) ∙ all_touched all many
+
+  pub longer_stale : (all b : Bool) (new : List Entry) → ((b ≡ all) × (new ≡ fs)) ⊎ ((b ≡ true) × (new ≡ [])) → (stale_of b new ≡ stale_of all es) ⊎ (stale_of b new ≡ None)
+  longer_stale all b new (inl same) = inl ((λ i. stale_of (same.0 i) (same.1 i)) ∙ stale_same all)
+  longer_stale all b new (inr gone) = inr (λ i. stale_of (gone.0 i) (gone.1 i))
+
+  pub longer_numbered : (all b : Bool) (new : List Entry) → ((b ≡ all) × (new ≡ fs)) ⊎ ((b ≡ true) × (new ≡ [])) → HaveNumbers new ins
+  longer_numbered all b new (inl same) = subst (λ xs. HaveNumbers xs ins) (sym same.1) (o.numbered ins h)
+  longer_numbered all b new (inr gone) = subst (λ xs. HaveNumbers xs ins) (sym gone.1) tt

@@ -1,23 +1,22 @@
 -- The Loc-RIB after a turn: at each touched prefix what is due, at each other what it had.
-use Rattle.std.proofs.Common.{◌≡◌, ◌∙◌, ℕ, Bool, true, false, cond, ◌||◌, nat_eq, nat_lt, List, [], ◌∷◌, Option, None, Some, inl, inr, refl, sym, ap}
+use Rattle.std.proofs.Common.{◌≡◌, ◌∙◌, ℕ, Bool, true, false, cond, ◌||◌, nat_eq, List, [], ◌∷◌, Option, None, Some, inl, inr, refl, sym, ap}
 use Rattle.std.specs.Prelude.{option_map}
 use mathlib.Core.Bool.{true≢false}
 use Rattle.std.specs.List.{list_any}
 use Rattle.std.specs.FinMap as fin
-use Rattle.std.specs.FinSet as set
 use Rattle.std.specs.Arc.{arc_value}
-use Rattle.rs_octets.specs.Prefixes.{Prefix, prefix_order}
+use Rattle.rs_octets.specs.Prefixes.{Prefix}
 use Rattle.rs_attrs.specs.Meaning.{Attribute}
 use Rattle.rs_adjin.specs.declared.adj_ins.AdjIns.{AdjIns}
 use Rattle.rs_adjin.specs.AdjIns.{number_of}
 use Rattle.rs_outlet.specs.declared.rows.Row.{Row}
 use Rattle.rs_outlet.specs.declared.changes.Change.{Change}
-use Rattle.rs_outlet.specs.Views.{HaveNumbers, IsOneOf, is_touched, is_whole}
-use Rattle.rs_outlet.specs.Inside.{AreDecided, ArePlaced, attributes_at, is_changed, loc_of, numbers_from, numbers_of}
-use Rattle.rs_outlet.specs.Decided.Touching.{is_number_touched, prefixes_in, touched_of}
+use Rattle.rs_outlet.specs.Views.{HaveNumbers, IsOneOf, is_touched}
+use Rattle.rs_outlet.specs.Inside.{AreDecided, AreFresh, ArePlaced, attributes_at, is_changed, loc_of, numbers_from, numbers_of}
+use Rattle.rs_outlet.specs.Decided.Touching.{is_number_touched, prefixes_in, stale_of, touched_of}
 use Rattle.rs_outlet.proofs.Decided.LocByNumber.{same, same_is, by_number, numbered}
-use Rattle.rs_outlet.proofs.Decided.Touches.{prefix_eq-cmp, contains-from_list}
-use Rattle.rs_outlet.proofs.Decided.TouchedList.{listed}
+use Rattle.rs_outlet.proofs.Decided.Touches.{contains-from_list, prefix_eq-cmp}
+use Rattle.rs_outlet.proofs.Decided.TouchedList.{stale_within}
 use Rattle.rs_outlet.proofs.Decided.TouchedNumbers.{any_number, eq_numbers}
 
 -- ---- one change carried out
@@ -49,16 +48,9 @@ module _ (ins : AdjIns) where
         | false ↦ λ _. changed_unnumbered cs p h.1 none
       ] refl
 
-  listed_numbered : (es : List (ℕ × Prefix)) (p : Prefix) (n : ℕ) (many : Bool) → HaveNumbers es ins → number_of ins p ≡ Some n → is_touched (cond many None (Some (set.from_list (prefixes_in es)))) p ≡ is_number_touched (is_whole (cond many None (Some (set.from_list {R = prefix_order} (prefixes_in es))))) es n
-  listed_numbered es p n true h at = refl
-  listed_numbered es p n false h at = contains-from_list p (prefixes_in es) ∙ any_number ins es p n h at
-
-  touched_numbered : (all : Bool) (es : List (ℕ × Prefix)) (p : Prefix) (n : ℕ) → HaveNumbers es ins → number_of ins p ≡ Some n → is_touched (touched_of all es) p ≡ is_number_touched (is_whole (touched_of all es)) es n
-  touched_numbered true es p n h at = refl
-  touched_numbered false es p n h at =
-      ap (λ o. is_touched o p) (listed es)
-      ∙ listed_numbered es p n (nat_lt 4096 (set.len (set.from_list (prefixes_in es)))) h at
-      ∙ ap (λ o. is_number_touched (is_whole o) es n) (sym (listed es))
+  stale_numbered : (all : Bool) (es : List (ℕ × Prefix)) (p : Prefix) (n : ℕ) → HaveNumbers es ins → number_of ins p ≡ Some n → is_touched (stale_of all es) p ≡ is_number_touched all es n
+  stale_numbered true es p n h at = refl
+  stale_numbered false es p n h at = contains-from_list p (prefixes_in es) ∙ any_number ins es p n h at
 
   -- a prefix without a number has nothing, and nothing is due there
   unnumbered_at : (t : Bool) (due was new : Option (List Attribute)) → due ≡ None → was ≡ None → new ≡ was → new ≡ cond t due was
@@ -71,25 +63,40 @@ module _ (ins : AdjIns) where
   numbered_at false true due was new is within all = is ∙ all refl refl
   numbered_at false false due was new is within all = is
 
-  module _ (rows : List (Option Row)) (es : List (ℕ × Prefix)) (every : Bool) (whole : Bool) (is_all : whole ≡ is_whole (touched_of every es)) (due_at : Prefix → Option (List Attribute)) (cs : List Change)
-      (h : HaveNumbers (numbers_from 0 rows) ins) (k : HaveNumbers es ins) (are : AreDecided ins due_at rows (is_number_touched whole es) cs)
-      (nothing : (p : Prefix) → number_of ins p ≡ None → due_at p ≡ None) where
-    turned_by : (p : Prefix) (new : Option (List Attribute)) (o : Option ℕ) → number_of ins p ≡ o → new ≡ cond (is_changed cs p) (due_at p) (fin.get (loc_of rows) p)
-        → new ≡ cond (is_touched (touched_of every es) p) (due_at p) (fin.get (loc_of rows) p)
-    turned_by p new None at is =
-        let was : fin.get (loc_of rows) p ≡ None = by_number ins rows (numbered ins rows h) p None at in
-        unnumbered_at (is_touched (touched_of every es) p) (due_at p) _ new (nothing p at) was (is ∙ ap (λ b. cond b (due_at p) (fin.get (loc_of rows) p)) (changed_unnumbered cs p are.placed at))
-    turned_by p new (Some n) at is =
-        let was : fin.get (loc_of rows) p ≡ attributes_at rows n = by_number ins rows (numbered ins rows h) p (Some n) at in
-        let changed : is_changed cs p ≡ list_any (nat_eq n) (numbers_of cs) = changed_numbered cs p n are.placed at in
-        let touched : is_touched (touched_of every es) p ≡ is_number_touched whole es n = touched_numbered every es p n k at ∙ ap (λ b. is_number_touched b es n) (sym is_all) in
-        numbered_at (is_changed cs p) (is_touched (touched_of every es) p) (due_at p) _ new is
-        (λ t. touched ∙ are.within n (sym changed ∙ t))
-        (λ t f. was ∙ are.all n (sym touched ∙ t) (sym changed ∙ f) p at)
+  -- where what is touched and not stale is due, it has what is due
+  touched_at : (stale touched : Bool) (due was new : Option (List Attribute)) → new ≡ cond stale due was → (touched ≡ false → stale ≡ false) → (stale ≡ false → was ≡ due) → new ≡ cond touched due was
+  touched_at true true due was new is within current = is
+  touched_at true false due was new is within current = absurd (true≢false (within refl))
+  touched_at false true due was new is within current = is ∙ current refl
+  touched_at false false due was new is within current = is
 
-    pub turned_at : (p : Prefix) (new : Option (List Attribute)) → new ≡ cond (is_changed cs p) (due_at p) (fin.get (loc_of rows) p)
-        → new ≡ cond (is_touched (touched_of every es) p) (due_at p) (fin.get (loc_of rows) p)
-    turned_at p new is = turned_by p new (number_of ins p) refl is
+  module _ (rows : List (Option Row)) (es : List (ℕ × Prefix)) (all : Bool) (due_at : Prefix → Option (List Attribute)) (cs : List Change)
+      (h : HaveNumbers (numbers_from 0 rows) ins) (k : HaveNumbers es ins) where
+    -- what is not stale is due, by number
+    pub fresh_rows : ((p : Prefix) → is_touched (stale_of all es) p ≡ false → fin.get (loc_of rows) p ≡ due_at p) → AreFresh ins due_at rows (is_number_touched all es)
+    fresh_rows current p n at out = sym (by_number ins rows (numbered ins rows h) p (Some n) at) ∙ current p (stale_numbered all es p n k at ∙ out)
+
+    module _ (are : AreDecided ins due_at rows (is_number_touched all es) cs) (nothing : (p : Prefix) → number_of ins p ≡ None → due_at p ≡ None) where
+      stale_by : (p : Prefix) (new : Option (List Attribute)) (o : Option ℕ) → number_of ins p ≡ o → new ≡ cond (is_changed cs p) (due_at p) (fin.get (loc_of rows) p)
+          → new ≡ cond (is_touched (stale_of all es) p) (due_at p) (fin.get (loc_of rows) p)
+      stale_by p new None at is =
+          let was : fin.get (loc_of rows) p ≡ None = by_number ins rows (numbered ins rows h) p None at in
+          unnumbered_at (is_touched (stale_of all es) p) (due_at p) _ new (nothing p at) was (is ∙ ap (λ b. cond b (due_at p) (fin.get (loc_of rows) p)) (changed_unnumbered cs p are.placed at))
+      stale_by p new (Some n) at is =
+          let was : fin.get (loc_of rows) p ≡ attributes_at rows n = by_number ins rows (numbered ins rows h) p (Some n) at in
+          let changed : is_changed cs p ≡ list_any (nat_eq n) (numbers_of cs) = changed_numbered cs p n are.placed at in
+          let stale : is_touched (stale_of all es) p ≡ is_number_touched all es n = stale_numbered all es p n k at in
+          numbered_at (is_changed cs p) (is_touched (stale_of all es) p) (due_at p) _ new is
+          (λ t. stale ∙ are.within n (sym changed ∙ t))
+          (λ t f. was ∙ are.all n (sym stale ∙ t) (sym changed ∙ f) p at)
+
+      pub stale_at : (p : Prefix) (new : Option (List Attribute)) → new ≡ cond (is_changed cs p) (due_at p) (fin.get (loc_of rows) p)
+          → new ≡ cond (is_touched (stale_of all es) p) (due_at p) (fin.get (loc_of rows) p)
+      stale_at p new is = stale_by p new (number_of ins p) refl is
+
+      pub turned_at : ((p : Prefix) → is_touched (stale_of all es) p ≡ false → fin.get (loc_of rows) p ≡ due_at p) → (p : Prefix) (new : Option (List Attribute)) → new ≡ cond (is_changed cs p) (due_at p) (fin.get (loc_of rows) p)
+          → new ≡ cond (is_touched (touched_of all es) p) (due_at p) (fin.get (loc_of rows) p)
+      turned_at current p new is = touched_at (is_touched (stale_of all es) p) (is_touched (touched_of all es) p) (due_at p) _ new (stale_at p new is) (stale_within all es p) (current p)
 
 -- ---- one of two
 

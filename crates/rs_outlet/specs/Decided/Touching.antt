@@ -1,5 +1,5 @@
 -- What is touched, by the touches that are listed.
-use Rattle.std.specs.Prelude.{◌≡◌, ℕ, Bool, true, false, nat_eq, Option, None, Some, List, [], ◌∷◌}
+use Rattle.std.specs.Prelude.{◌≡◌, ◌⊎◌, ℕ, Bool, true, false, nat_eq, Option, None, Some, option_map, List, [], ◌∷◌}
 use Rattle.std.specs.List.{IsDistinct, list_any}
 use Rattle.std.specs.Map.{keys_of}
 use Rattle.std.specs.FinSet as set
@@ -28,6 +28,15 @@ touched_by (e ∷ es) = with_touch (touched_by es) e.1
 abbrev pub touched_of : Bool → List (ℕ × Prefix) → Option Prefixes
 touched_of true es = None
 touched_of false es = touched_by es
+
+-- what is stale: all, or these
+abbrev pub stale_of : Bool → List (ℕ × Prefix) → Option Prefixes
+stale_of true es = None
+stale_of false es = Some (set.from_list (prefixes_in es))
+
+-- as before, and p too; or all
+abbrev pub MayAdd : Prefix → Option Prefixes → Option Prefixes → Type 0
+MayAdd p old new = (new ≡ option_map (λ s. set.insert s p) old) ⊎ (new ≡ None)
 
 -- the same numbers, each once
 pub record AreOnce (es fs : List (ℕ × Prefix)) : Type 0 where

@@ -12,13 +12,18 @@ use Rattle.rs_outlet.specs.Views.{View, IsCount, is_touched, is_whole}
 use Rattle.rs_outlet.specs.Decided.Due.{any_holds, due_to}
 use Rattle.rs_outlet.specs.Decided.HeldBy.{tables_of}
 
--- what a turn does that is not refused, where each prefix stands at its number: each touched prefix has what is due there,
+-- where a prefix is not stale, the Loc-RIB has what is due there
+abbrev pub IsCurrent : Configuration → AdjIns → View → Type 0
+IsCurrent config ins v = (speech : Speech) → v.speech ≡ Some speech → (p : Prefix) → is_touched v.stale p ≡ false → map.get v.loc p ≡ due_to (tables_of config ins) v.client speech p
+
+-- what a turn does that is not refused, where each prefix stands at its number and what is not stale is due: each touched prefix has what is due there,
 -- each other what it had; what was told stays, and what is to be told again; an outlet that is not up decides nothing
 pub record HasTurned (config : Configuration) (ins : AdjIns) (old new : View) (turned : Turned) : Type 0 where
   pub loc : (speech : Speech) → old.speech ≡ Some speech → (p : Prefix) → map.get new.loc p ≡ (if is_touched old.touched p then due_to (tables_of config ins) old.client speech p else map.get old.loc p)
   pub told : new.told ≡ old.told
   pub marked : new.marked ≡ old.marked
   pub touched : IsSome old.speech → new.touched ≡ Some set.empty
+  pub stale : IsSome old.speech → new.stale ≡ Some set.empty
   pub whole : IsSome old.speech → turned.whole ≡ is_whole old.touched
   pub count : IsSome old.speech → IsCount (any_holds (tables_of config ins)) old.loc old.touched turned.decided
   pub down : old.speech ≡ None → (turned ≡ record { decided = 0; whole = false }) × (new ≡ record old { last = Done turned })

@@ -15,7 +15,7 @@ loop-prefix-preserved c =
     (sym c.into_iter-prefix-iterator.ensures.into_iter_gives) c.held_by_number-prefix-items.ensures.numbers in
     let number = next_number tables all c.next.new.self e c.args.outlet.now c.loop-prefix.outlet now numbers in
     touching_on tables all c.next.new.self e c.args.outlet.now c.loop-prefix.outlet c.touch.new.self now
-    c.touch.ensures.rest (λ h. c.touch.ensures.touched tables h number) (λ h. c.touch.ensures.numbered tables h number)
+    c.touch.ensures.rest (λ h. c.touch.ensures.touched tables h number) (λ h. c.touch.ensures.stale tables h number) c.touch.ensures.stale_touched (λ h. c.touch.ensures.numbered tables h number)
 
 pub returns : goal.returns
 returns c =

@@ -3,5 +3,5 @@ use Rattle.rs_core.proofs.driving.drive_with.Given as goal
 
 abbrev pub invariant-loop : goal.invariant-loop
 invariant-loop g l = record {
-  driven : IsDriven g.L.Link.happens l.fn.core l.fn.link l.core l.link;
+  driven : IsDriven g.L.Link.happens l.fn.core l.fn.link l.core l.link l.closing;
 }

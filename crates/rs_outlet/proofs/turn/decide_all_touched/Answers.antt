@@ -1,34 +1,41 @@
-use Rattle.std.proofs.Common.{◌≡◌, ◌∙◌, ap, length, subst, sym, Option, Some, Result, Ok, Err, IfOk}
+use Rattle.std.proofs.Common.{◌≡◌, ◌∙◌, ap, length, subst, sym, ℕ, List, false, nat_lt, Option, Some, Result, Ok, Err, IfOk}
 use Rattle.std.specs.Prelude.{IfSome, is_none}
-use mathlib.Core.Bool.{true≢false}
-use Rattle.rs_outlet.specs.Views.{is_whole}
+use Rattle.rs_octets.specs.Prefixes.{Prefix}
+use Rattle.rs_outlet.specs.Decided.Touching.{AreOnce, is_number_touched, is_numbered_in, touched_of}
+use Rattle.rs_outlet.specs.Views.{HaveNumbers, is_whole}
 use Rattle.rs_outlet.proofs.turn.decide_all_touched.Goals as goal
-
-if_ok_all : {A E : Type 0} (Q : A → Type 0) (r : Result A E) → ((x : A) → Q x) → IfOk r Q
-if_ok_all Q (Ok x) q = q x
-if_ok_all Q (Err e) q = tt
 
 if_ok_map : {A E : Type 0} (P Q : A → Type 0) (r : Result A E) → IfOk r P → ((x : A) → P x → Q x) → IfOk r Q
 if_ok_map P Q (Ok x) h q = q x h
 if_ok_map P Q (Err e) h q = tt
 
+if_ok_both : {A E : Type 0} (P Q R : A → Type 0) (r : Result A E) → IfOk r P → IfOk r Q → ((x : A) → P x → Q x → R x) → IfOk r R
+if_ok_both P Q R (Ok x) h k q = q x h k
+if_ok_both P Q R (Err e) h k q = tt
+
 if_some_at : {A : Type 0} (Q : A → Type 0) (o : Option A) (x : A) → o ≡ Some x → IfSome o Q → Q x
 if_some_at Q o x is h = subst (λ o. IfSome o Q) is h
 
-pub returns-in-None-clause-whole : goal.returns-in-None-clause-whole
-returns-in-None-clause-whole c = λ are.
-    if_ok_map _ _ c.decide_all.result c.decide_all.ensures.whole (λ x whole. whole ∙ sym (c.in_ok-list.ensures.whole c.args.sources.now.ins.now are ∙ ap is_none c.in-None.is))
-
-pub returns-in-None-clause-count : goal.returns-in-None-clause-count
-returns-in-None-clause-count c = λ are.
-    if_ok_all _ c.decide_all.result (λ x prefixes is.
-    absurd (true≢false (sym (c.in_ok-list.ensures.whole c.args.sources.now.ins.now are ∙ ap is_none c.in-None.is) ∙ ap is_whole is)))
+is_whole_by : (c : goal.After-drop-list) → HaveNumbers c.args.touched.now.prefixes.items c.args.sources.now.ins.now → nat_lt 4096 (length c.deref.result.now) ≡ is_whole (touched_of c.args.touched.now.all c.args.touched.now.prefixes.items)
+is_whole_by c are =
+    ap (λ (xs : List (ℕ × Prefix)). nat_lt 4096 (length xs)) c.deref.ensures.value
+    ∙ sym (if_some_at _ c.in_ok-list.field-0 c.in-Some.list c.in-Some.is (c.in_ok-list.ensures.whole c.args.sources.now.ins.now are))
 
 pub returns-in-Some-clause-whole : goal.returns-in-Some-clause-whole
-returns-in-Some-clause-whole c = λ are.
-    if_ok_map _ _ c.decide_touched.result c.decide_touched.ensures.whole (λ x whole. whole ∙ sym (c.in_ok-list.ensures.whole c.args.sources.now.ins.now are ∙ ap is_none c.in-Some.is))
+returns-in-Some-clause-whole c = λ are. if_ok_map _ _ c.decide_stale.result c.decide_stale.ensures.whole (λ x whole. whole ∙ is_whole_by c are)
 
 pub returns-in-Some-clause-count : goal.returns-in-Some-clause-count
 returns-in-Some-clause-count c = λ are.
-    if_ok_map _ _ c.decide_touched.result c.decide_touched.ensures.count (λ x counted prefixes is.
-    counted ∙ ap length c.deref.ensures.value ∙ if_some_at _ c.in_ok-list.field-0 c.in-Some.numbers c.in-Some.is (c.in_ok-list.ensures.count c.args.sources.now.ins.now are) prefixes is)
+    if_ok_both _ _ _ c.decide_stale.result c.decide_stale.ensures.whole c.decide_stale.ensures.count (λ x whole counted prefixes is.
+    counted (whole ∙ is_whole_by c are ∙ ap is_whole is)
+    ∙ ap length c.deref.ensures.value
+    ∙ if_some_at _ c.in_ok-list.field-0 c.in-Some.list c.in-Some.is (c.in_ok-list.ensures.count c.args.sources.now.ins.now are) prefixes is)
+
+pub returns-in-Some-clause-all : goal.returns-in-Some-clause-all
+returns-in-Some-clause-all c = λ are fresh.
+    let ins = c.args.sources.now.ins.now in
+    let es = c.args.touched.now.prefixes.items in
+    let once : AreOnce es c.in-Some.list.items = if_some_at _ c.in_ok-list.field-0 c.in-Some.list c.in-Some.is c.in_ok-list.ensures.once in
+    let part : c.args.touched.now.all ≡ false = sym c.in_ok-list.ensures.all ∙ ap is_none c.in-Some.is in
+    c.decide_stale.ensures.all (subst (λ xs. HaveNumbers xs ins) (sym c.deref.ensures.value) (once.numbered ins are))
+    (λ p n at out. fresh p n at (ap (λ b. is_number_touched b es n) part ∙ sym (once.same n) ∙ sym (ap (λ xs. is_numbered_in xs n) c.deref.ensures.value) ∙ out))

@@ -9,7 +9,7 @@ returns c =
       client = c.turn.ensures.client;
       extended = c.turn.ensures.extended;
       rest = c.turn.ensures.rest;
-      answer = answered c.args.config.now c.args.tables.now old new c.turn.result c.turn.ensures.turned c.turn.ensures.refused c.turn.ensures.refused_only_up;
+      answer = answered c.args.config.now c.args.tables.now old new c.turn.result c.turn.ensures.turned c.turn.ensures.done c.turn.ensures.refused c.turn.ensures.refused_only_up;
       numbered = c.turn.ensures.numbered;
       exact = c.turn.ensures.exact;
     }

@@ -39,6 +39,6 @@ returns-clause-kept c = record {
   fresh = λ h f. begun_fresh c.forget_routes.new.self c.begin_session.new.self c.args.c c.args.identifier _
       (record { count = c.begin_session.ensures.settings.count; extended = c.begin_session.ensures.settings.extended; config = c.begin_session.ensures.settings.config })
       (subst (λ t. Begins c.forget_routes.new.self.tables t c.args.c c.args.identifier) (sym c.begin_session.ensures.tables) c.begin.ensures.begins)
-      (own_from c.args.c _ c.forget_routes.new.self _ c.begin_session.new.self refl refl c.begin_session.ensures.outlet) (λ v w e. ap (λ (x : View). x.touched) e)
+      (own_from c.args.c _ c.forget_routes.new.self _ c.begin_session.new.self refl refl c.begin_session.ensures.outlet) (λ v w e. (ap (λ (x : View). x.touched) e, ap (λ (x : View). x.stale) e))
       (begun_held c.args.self.now.tables c.forget_routes.new.self.tables c.args.c 0 c.forget_routes.ensures.held) (c.forget_routes.ensures.kept.fresh h f);
 }

@@ -21,6 +21,6 @@ returns c =
       touched = record { each = changed.each };
       kept = record {
         numbered = λ h. all_numbered _ _ c.loop-c.self done (λ d v w so. so.numbered) (record { each = h.each });
-        fresh = λ h f. marked_fresh c.args.self.now c.loop-c.self c.args.self.now.tables done.settings.count (record { each = changed.each });
+        fresh = λ h f. marked_fresh c.args.self.now c.loop-c.self c.args.self.now.tables done.settings.count (record { each = changed.each }) f;
       };
     }

@@ -124,3 +124,11 @@ pub returns-in-Some-clause-keeps : goal.returns-in-Some-clause-keeps
 returns-in-Some-clause-keeps c = λ s h config knows none.
     let own = c.announce_all.ensures.alone.touched.own none ∙ c.withdraw_all.ensures.alone.touched.own none in
     keeps_same _ _ (ap (λ (v : View). v.speech) own) (ap (λ (v : View). v.touched) own)
+
+pub returns-in-None-attrs-clause-spares : goal.returns-in-None-attrs-clause-spares
+unfolding client_count
+returns-in-None-attrs-clause-spares c =
+    let lt : c.args.c < length c.args.self.now.sessions.items = subst (λ k. c.args.c < k) (sym c.args.self.now.sessions_len) c.requires.client in
+    let alone = c.withdraw_all.ensures.alone in
+    acted_spares c.args.self.now c.withdraw_all.new.self c.args.c c.message.new.self alone.count alone.config lt (ap (λ (v : Vec Session). v.items) alone.sessions) alone.buffers alone.others alone.touched.others
+    (λ d ne. ap (λ (v : Vec Watched). slice_get v.items d) alone.watched) (routes_answers c.args.c c.args.self.now.ribs c.withdraw_all.new.self.ribs alone.touched)

@@ -123,3 +123,9 @@ unfolding client_count
 returns-else-is_beyond-clause-spares c =
     let there : c.args.c < length c.args.self.now.watched.items = subst (λ k. c.args.c < k) (sym c.args.self.now.watched_len) c.requires in
     kept_spares c.args.c c.args.self.now _ c.change.new.self c.note.new.self there refl refl refl refl refl c.change.ensures.spares
+
+pub returns-then-is_beyond-clause-spares : goal.returns-then-is_beyond-clause-spares
+unfolding client_count
+returns-then-is_beyond-clause-spares c =
+    let there : c.args.c < length c.args.self.now.watched.items = subst (λ k. c.args.c < k) (sym c.args.self.now.watched_len) c.requires in
+    kept_spares c.args.c c.args.self.now _ c.session_hears-then-is_beyond.new.self c.note.new.self there refl refl refl refl refl c.session_hears-then-is_beyond.ensures.spares

@@ -13,8 +13,7 @@ use Rattle.rs_outlet.specs.Inside.{view_of}
 use Rattle.rs_outlet.specs.Decided.Due.{Held, due_to}
 use Rattle.rs_outlet.specs.Decided.HeldBy.{tables_of}
 use Rattle.rs_outlet.specs.Decided.Turns.{HasTurned}
-use Rattle.rs_outlet.specs.Views.{View, is_touched}
-use Rattle.rs_outlet.proofs.Decided.TurnedLoc.{one_of}
+use Rattle.rs_outlet.specs.Views.{IsOneOf, View, is_touched}
 use Rattle.rs_outlet.proofs.outlet.Outlet.turn.Goals as goal
 
 abbrev nothing : Turned
@@ -24,6 +23,9 @@ nothing = record { decided = 0; whole = false }
 for_client : (t : Held) (m was : Option (List Attribute)) (b : Bool) (c d : ℕ) (s u : Speech) (p : Prefix) → c ≡ d → s ≡ u → m ≡ cond b (due_to t c s p) was → m ≡ cond b (due_to t d u p) was
 for_client t m was b c d s u p e f is = is ∙ (λ i. cond b (due_to t (e i) (f i) p) was)
 
+due_for_client : (t : Held) (m was : Option (List Attribute)) (c d : ℕ) (s u : Speech) (p : Prefix) → c ≡ d → s ≡ u → IsOneOf m was (due_to t c s p) → IsOneOf m was (due_to t d u p)
+due_for_client t m was c d s u p e f is = subst (λ o. IsOneOf m was o) (λ i. due_to t (e i) (f i) p) is
+
 -- an outlet that is not up
 not_up : (config : Configuration) (ins : AdjIns) (v w : View) → v ≡ w → v.speech ≡ None → HasTurned config ins w (record v { last = Done nothing }) nothing
 not_up config ins v w same none = subst (λ (u : View). HasTurned config ins u (record v { last = Done nothing }) nothing) same (record {
@@ -31,6 +33,7 @@ not_up config ins v w same none = subst (λ (u : View). HasTurned config ins u (
   told = refl;
   marked = refl;
   touched = λ up. absurd (true≢false (sym up ∙ ap is_some none));
+  stale = λ up. absurd (true≢false (sym up ∙ ap is_some none));
   whole = λ up. absurd (true≢false (sym up ∙ ap is_some none));
   count = λ up. absurd (true≢false (sym up ∙ ap is_some none));
   down = λ _. (refl, refl);
@@ -38,10 +41,10 @@ not_up config ins v w same none = subst (λ (u : View). HasTurned config ins u (
 })
 
 pub returns-in_default-clause-turned : goal.returns-in_default-clause-turned
-returns-in_default-clause-turned c = λ are. not_up c.args.config.now c.args.ins.now (view_of c.self.inside) c.args.self.now c.self.view_is c.in_default.is
+returns-in_default-clause-turned c = λ are current. not_up c.args.config.now c.args.ins.now (view_of c.self.inside) c.args.self.now c.self.view_is c.in_default.is
 
 pub returns-in-Ok-clause-turned : goal.returns-in-Ok-clause-turned
-returns-in-Ok-clause-turned c = λ are.
+returns-in-Ok-clause-turned c = λ are current.
     let now = c.args.self.now in
     let t = tables_of c.args.config.now c.args.ins.now in
     record {
@@ -49,12 +52,13 @@ returns-in-Ok-clause-turned c = λ are.
           for_client t _ (map.get now.loc p) (is_touched now.touched p) _ now.client _ speech p
           (ap (λ (v : View). v.client) c.self.view_is)
           (same_Some c.in-Some.speech speech (sym c.in-Some.is ∙ ap (λ (v : View). v.speech) c.self.view_is ∙ up))
-          (c.in-Ok.ensures.loc are p);
+          (c.in-Ok.ensures.loc are current p);
       told = c.in-Ok.ensures.told are;
       marked = c.in-Ok.ensures.marked are;
       touched = λ up. c.in-Ok.ensures.touched;
+      stale = λ up. c.in-Ok.ensures.stale;
       whole = λ up. c.in-Ok.ensures.whole are;
-      count = λ up. c.in-Ok.ensures.count are;
+      count = λ up. c.in-Ok.ensures.count are current;
       down = λ none. absurd (let f : None ≡ Some c.in-Some.speech = sym none ∙ sym (ap (λ (v : View). v.speech) c.self.view_is) ∙ c.in-Some.is in (cc));
       last = c.in-Ok.ensures.done;
     }
@@ -63,8 +67,7 @@ pub returns-in-Ok-clause-due : goal.returns-in-Ok-clause-due
 returns-in-Ok-clause-due c = λ speech up are p.
     let now = c.args.self.now in
     let t = tables_of c.args.config.now c.args.ins.now in
-    one_of (is_touched now.touched p) _ _ _
-    (for_client t _ (map.get now.loc p) (is_touched now.touched p) _ now.client _ speech p
+    due_for_client t _ (map.get now.loc p) _ now.client _ speech p
     (ap (λ (v : View). v.client) c.self.view_is)
     (same_Some c.in-Some.speech speech (sym c.in-Some.is ∙ ap (λ (v : View). v.speech) c.self.view_is ∙ up))
-    (c.in-Ok.ensures.loc are p))
+    (c.in-Ok.ensures.due are p)

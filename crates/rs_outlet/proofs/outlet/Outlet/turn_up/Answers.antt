@@ -1,4 +1,4 @@
-use Rattle.std.proofs.Common.{◌≡◌, ◌∙◌, ◌++◌, cond, ap, arith, ℕ, List, length, Option, Some, refl, sym, subst}
+use Rattle.std.proofs.Common.{◌≡◌, ◌∙◌, ◌++◌, cond, ap, arith, ℕ, List, [], false, length, Option, Some, refl, sym, subst}
 use Rattle.std.proofs.lemmas.Bool.{and_parts}
 use Rattle.std.proofs.lemmas.Bool.Decides.{nat_tests}
 use Rattle.std.specs.FinMap as fin
@@ -18,7 +18,11 @@ use Rattle.rs_outlet.specs.Pending.Owed.{Keeps}
 use Rattle.rs_outlet.specs.Views.{View, AreNumbered, IsCount, HaveNumbers, WaitsAreExact, is_touched, is_whole}
 use Rattle.rs_outlet.proofs.Pending.Backing.{are_backed_same, changes_fit, fit_same, fit_spoken, own_same}
 use Rattle.rs_outlet.specs.Inside.{numbers_from, loc_of, is_changed, view_of}
-use Rattle.rs_outlet.specs.Decided.Touching.{touched_of}
+use Rattle.rs_outlet.specs.Decided.Touching.{stale_of, touched_of}
+use Rattle.rs_outlet.specs.Decided.Turns.{IsCurrent}
+use Rattle.rs_outlet.specs.Decided.HeldBy.{tables_of}
+use Rattle.rs_outlet.specs.declared.answers.Speech.{Speech}
+use Rattle.rs_policy.specs.Configuration.{Configuration}
 use Rattle.rs_outlet.proofs.Decided.Numbering.{all_front, all_behind, all_both, have_rows, no_elements}
 use Rattle.rs_outlet.proofs.Pending.Carrying.{distinct_prefixes, keeps_both, keeps_same}
 use Rattle.rs_outlet.proofs.Pending.Unchanged.{asked_same, told_kept, marked_kept, exact_kept}
@@ -26,7 +30,7 @@ use Rattle.rs_outlet.proofs.Pending.Chains.{same_chained}
 use Rattle.rs_outlet.proofs.Decided.Ranks.{due_unnumbered, none_holds}
 use Rattle.rs_outlet.proofs.Decided.Counting.{count_touched, counted_by_prefix}
 use Rattle.rs_outlet.proofs.Decided.LocByNumber.{numbered}
-use Rattle.rs_outlet.proofs.Decided.TurnedLoc.{turned_at}
+use Rattle.rs_outlet.proofs.Decided.TurnedLoc.{fresh_rows, one_of, stale_at, turned_at}
 use Rattle.rs_outlet.proofs.outlet.Outlet.turn_up.Goals as goal
 
 pub commit-requires-clause-rows : goal.commit-requires-clause-rows
@@ -47,8 +51,16 @@ returns-clause-numbered c = λ numbered.
     (c.commit.ensures.numbered ins c.in_ok-changes.ensures.changes.placed (subst (λ es. HaveNumbers es ins) (sym c.make_room.ensures.numbers) (all_front P (numbers_from 0 c.self.inside.rows.rows.items) _ was)))
     (subst (AllByRecursion P) (sym c.clear.ensures.prefixes) tt)
 
-pub returns-clause-loc : goal.returns-clause-loc
-returns-clause-loc c = λ are p.
+-- what is not stale is due
+as_due : (config : Configuration) (ins : AdjIns) (a : Inside) (v : View) (speech : Speech) (client : ℕ) → view_of a ≡ v → v.speech ≡ Some speech → client ≡ v.client → IsCurrent config ins v
+    → (p : Prefix) → is_touched (stale_of a.touched.all a.touched.prefixes.items) p ≡ false → fin.get (loc_of a.rows.rows.items) p ≡ due_to (tables_of config ins) client speech p
+as_due config ins a v speech client is up own current p out =
+    ap (λ (x : View). fin.get x.loc p) is
+    ∙ current speech up p (sym (ap (λ (x : View). is_touched x.stale p) is) ∙ out)
+    ∙ ap (λ k. due_to (tables_of config ins) k speech p) (sym own)
+
+pub returns-clause-due : goal.returns-clause-due
+returns-clause-due c = λ are p.
     let ins = c.args.sources.now.ins.now in
     let a = c.self.inside in
     let rows = a.rows.rows.items in
@@ -60,13 +72,33 @@ returns-clause-loc c = λ are p.
     let k : HaveNumbers es ins = all_behind P (numbers_from 0 rows) es was in
     let there = subst (λ es. HaveNumbers es ins) (sym c.make_room.ensures.numbers) h in
     let decided = c.in_ok-changes.ensures.changes in
-    turned_at ins rows es a.touched.all c.in_ok-changes.field-0.whole (c.in_ok-changes.ensures.whole k) due_at c.in_ok-changes.field-0.changes.items h k decided
+    one_of (is_touched (stale_of a.touched.all es) p) _ _ _
+    (stale_at ins rows es a.touched.all due_at c.in_ok-changes.field-0.changes.items h k decided
     (λ q none. due_unnumbered c.args.sources.now.config.now ins c.args.sources.now.client c.args.speech q none)
+    p _ (c.commit.ensures.loc ins due_at decided.placed decided.due there p ∙ ap (λ t. cond (is_changed c.in_ok-changes.field-0.changes.items p) (due_at p) (fin.get t p)) c.make_room.ensures.loc)
+    ∙ ap (λ (v : View). cond (is_touched (stale_of a.touched.all es) p) (due_at p) (fin.get v.loc p)) c.self.view_is)
+
+pub returns-clause-loc : goal.returns-clause-loc
+returns-clause-loc c = λ are current p.
+    let ins = c.args.sources.now.ins.now in
+    let a = c.self.inside in
+    let rows = a.rows.rows.items in
+    let es = a.touched.prefixes.items in
+    let due_at = due_to (held_by c.args.sources.now) c.args.sources.now.client c.args.speech in
+    let P = λ (e : ℕ × Prefix). number_of ins e.1 ≡ Some e.0 in
+    let was = subst (λ (v : View). AreNumbered v ins) (sym c.self.view_is) are in
+    let h : HaveNumbers (numbers_from 0 rows) ins = all_front P (numbers_from 0 rows) es was in
+    let k : HaveNumbers es ins = all_behind P (numbers_from 0 rows) es was in
+    let there = subst (λ es. HaveNumbers es ins) (sym c.make_room.ensures.numbers) h in
+    let decided = c.in_ok-changes.ensures.changes in
+    turned_at ins rows es a.touched.all due_at c.in_ok-changes.field-0.changes.items h k decided
+    (λ q none. due_unnumbered c.args.sources.now.config.now ins c.args.sources.now.client c.args.speech q none)
+    (as_due c.args.sources.now.config.now ins a c.args.self.now c.args.speech c.args.sources.now.client c.self.view_is c.requires.speech c.requires.own current)
     p _ (c.commit.ensures.loc ins due_at decided.placed decided.due there p ∙ ap (λ t. cond (is_changed c.in_ok-changes.field-0.changes.items p) (due_at p) (fin.get t p)) c.make_room.ensures.loc)
     ∙ ap (λ (v : View). cond (is_touched v.touched p) (due_at p) (fin.get v.loc p)) c.self.view_is
 
 pub returns-clause-count : goal.returns-clause-count
-returns-clause-count c = λ are.
+returns-clause-count c = λ are current.
     let config = c.args.sources.now.config.now in
     let ins = c.args.sources.now.ins.now in
     let a = c.self.inside in
@@ -74,12 +106,15 @@ returns-clause-count c = λ are.
     let es = a.touched.prefixes.items in
     let held = any_holds (held_by c.args.sources.now) in
     let count = c.in_ok-changes.field-0.count in
+    let due_at = due_to (held_by c.args.sources.now) c.args.sources.now.client c.args.speech in
     let P = λ (e : ℕ × Prefix). number_of ins e.1 ≡ Some e.0 in
     let was = subst (λ (v : View). AreNumbered v ins) (sym c.self.view_is) are in
     let there = all_behind P (numbers_from 0 rows) es was in
     subst (λ (v : View). IsCount held v.loc v.touched count) c.self.view_is
     (count_touched held (loc_of rows) (touched_of a.touched.all es) count
-    (λ all. counted_by_prefix ins rows held count (numbered ins rows (all_front P (numbers_from 0 rows) es was)) (none_holds config ins) (c.in_ok-changes.ensures.all (c.in_ok-changes.ensures.whole there ∙ all)))
+    (λ all. counted_by_prefix ins rows held count (numbered ins rows (all_front P (numbers_from 0 rows) es was)) (none_holds config ins)
+    (c.in_ok-changes.ensures.all there (fresh_rows ins rows es a.touched.all due_at [] (all_front P (numbers_from 0 rows) es was) there
+    (as_due config ins a c.args.self.now c.args.speech c.args.sources.now.client c.self.view_is c.requires.speech c.requires.own current)) (c.in_ok-changes.ensures.whole there ∙ all)))
     (c.in_ok-changes.ensures.count there))
 
 pub returns-clause-whole : goal.returns-clause-whole

@@ -1,18 +1,25 @@
-use Rattle.std.proofs.Common.{◌<◌, length, ap, ◌∙◌, arith}
-use Rattle.rs_outlet.specs.Decided.Touching.{touched_of}
-use Rattle.rs_outlet.proofs.Decided.TouchedList.{all_touched, same_touched}
+use Rattle.std.proofs.Common.{◌<◌, length, arith}
+use Rattle.rs_outlet.proofs.Decided.TouchedList.{longer_numbered, longer_stale, longer_touched, same_touched, stale_same}
+use Rattle.std.proofs.Common.{inl}
 use Rattle.rs_outlet.proofs.touched.Touched.make_room.Goals as goal
 
-pub returns-then-len-gt-TOUCHED_MAX-clause-touched :
-    goal.returns-then-len-gt-TOUCHED_MAX-clause-touched
-returns-then-len-gt-TOUCHED_MAX-clause-touched c = λ ins h.
-    let es = c.args.self.now.prefixes.items in
-    let fs = c.put_in_order.new.touches.items in
-    let many : 4096 < length fs = omega arith in
-    ap (λ b. touched_of b c.add_all.new.self.prefixes.items) c.add_all.ensures.all
-    ∙ all_touched ins es fs c.put_in_order.ensures.once h c.args.self.now.all many
+pub returns-then-len-capacity-2-clause-touched : goal.returns-then-len-capacity-2-clause-touched
+returns-then-len-capacity-2-clause-touched c = λ ins h.
+    let many : 4096 < length c.put_in_order.new.touches.items = omega arith in
+    longer_touched ins c.args.self.now.prefixes.items c.put_in_order.new.touches.items c.put_in_order.ensures.once h c.args.self.now.all c.lengthen.new.self.all c.lengthen.new.self.prefixes.items many c.lengthen.ensures.kept
 
-pub returns-else-len-gt-TOUCHED_MAX-clause-touched :
-    goal.returns-else-len-gt-TOUCHED_MAX-clause-touched
-returns-else-len-gt-TOUCHED_MAX-clause-touched c = λ ins h.
+pub returns-then-len-capacity-2-clause-stale : goal.returns-then-len-capacity-2-clause-stale
+returns-then-len-capacity-2-clause-stale c = λ ins h.
+    longer_stale ins c.args.self.now.prefixes.items c.put_in_order.new.touches.items c.put_in_order.ensures.once h c.args.self.now.all c.lengthen.new.self.all c.lengthen.new.self.prefixes.items c.lengthen.ensures.kept
+
+pub returns-then-len-capacity-2-clause-numbered : goal.returns-then-len-capacity-2-clause-numbered
+returns-then-len-capacity-2-clause-numbered c = λ ins h.
+    longer_numbered ins c.args.self.now.prefixes.items c.put_in_order.new.touches.items c.put_in_order.ensures.once h c.args.self.now.all c.lengthen.new.self.all c.lengthen.new.self.prefixes.items c.lengthen.ensures.kept
+
+pub returns-else-len-capacity-2-clause-touched : goal.returns-else-len-capacity-2-clause-touched
+returns-else-len-capacity-2-clause-touched c = λ ins h.
     same_touched ins c.args.self.now.prefixes.items c.put_in_order.new.touches.items c.put_in_order.ensures.once h c.args.self.now.all
+
+pub returns-else-len-capacity-2-clause-stale : goal.returns-else-len-capacity-2-clause-stale
+returns-else-len-capacity-2-clause-stale c = λ ins h.
+    inl (stale_same ins c.args.self.now.prefixes.items c.put_in_order.new.touches.items c.put_in_order.ensures.once h c.args.self.now.all)
