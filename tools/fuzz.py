@@ -23,6 +23,7 @@ MARKER = b"\xff" * 16
 NAMES = "abcd"
 PREFIXES = [(bits, length) for bits, length in ((0x0A000000, 8), (0x0A010000, 16), (0x0A010200, 24), (0xC6336400, 24), (0xC6336480, 25), (0, 0), (0xCB007101, 32))]
 LISTS = ["small", "large"]
+SHARED = ["first", "second"]
 COMMUNITIES = ["64500:1", "64500:2", "65535:65281"]
 BIG = 4_200_000_000
 
@@ -100,7 +101,7 @@ def operators(length):
     return ["", "^+", "^32", f"^{length}-32", *(["^-"] if length < 32 else [])]
 
 
-def rule(draw, name):
+def rule(draw):
     """A rule as the configuration has it."""
     words = []
     if draw.random() < 0.5:
@@ -111,6 +112,9 @@ def rule(draw, name):
     for chance, word in (
         (0.2, f'from = "{draw.choice(NAMES)}"'),
         (0.2, f"path_has = {draw.choice([64999, 64497])}"),
+        (0.1, f"path_longer = {draw.randrange(4)}"),
+        (0.1, f'path_in = "{draw.choice(LISTS)}"'),
+        (0.1, f"first_as_is_peer = {draw.choice(['true', 'false'])}"),
         (0.2, f"origin_as = {draw.choice([64496, 64999, BIG])}"),
         (0.2, f'prefix_in = "{draw.choice(LISTS)}"'),
         (0.2, f'origin_in = "{draw.choice(LISTS)}"'),
@@ -135,19 +139,28 @@ def named_list(draw, name):
     return f'\n[[list]]\nname = "{name}"\nprefixes = [{", ".join(entries)}]\nases = [{", ".join(ases)}]\n'
 
 
+def rules(draw, of_client):
+    """An array of rules; of a client it may use others."""
+    tables = [rule(draw) for _ in range(draw.randrange(1, 4))]
+    if of_client and draw.random() < 0.3:
+        tables.insert(draw.randrange(len(tables) + 1), f'{{ use = "{draw.choice(SHARED)}" }}')
+    return f"[{', '.join(tables)}]"
+
+
 def configuration(draw, fixed):
     """A text; what may not change while the server runs is `fixed`."""
     extended, refresh = fixed
     text = f'as = 64500\nidentifier = "192.0.2.1"\nhold = 90\ndefault = "{draw.choice(["pass", "pass", "pass", "drop"])}"\n'
     text += f"extended = {extended}\nrefresh = {refresh}\n"
     text += "".join(named_list(draw, name) for name in LISTS)
+    text += "".join(f'\n[[rules]]\nname = "{name}"\nrules = {rules(draw, False)}\n' for name in SHARED)
     for place, name in enumerate(NAMES):
         text += f'\n[[client]]\nname = "{name}"\nas = {64496 + place}\nlisten = "127.0.0.1:{17901 + place}"\npeer = "192.0.2.{11 + place}"\n'
         if draw.random() < 0.15:
             text += f"limit = {draw.randrange(1, 5)}\n"
         for kind in ("import", "export"):
             if draw.random() < 0.3:
-                text += f"{kind} = [{', '.join(rule(draw, name) for _ in range(draw.randrange(1, 4)))}]\n"
+                text += f"{kind} = {rules(draw, True)}\n"
     return text
 
 

@@ -122,7 +122,7 @@ def numbers(entry):
 
 def listed(config, it):
     """The lines of the lists that a rule names."""
-    for test, key, words in (("prefix_in", "prefixes", prefixes), ("origin_in", "ases", numbers)):
+    for test, key, words in (("prefix_in", "prefixes", prefixes), ("path_in", "ases", numbers), ("origin_in", "ases", numbers)):
         for one in config.get("list", []):
             if one["name"] == it.get(test):
                 yield " ".join([test, *map(words, one[key])])
@@ -141,12 +141,23 @@ def rule(config, it):
     words += [
         number(names(config).index(it["from"]) if "from" in it else None),
         number(it.get("path_has")),
+        number(it.get("path_longer")),
         number(it.get("origin_as")),
+        number(it.get("first_as_is_peer")),
         number(community(it["community"]) if "community" in it else None),
         number(it.get("next_hop_is_peer")),
         number(strip == "all"),
     ]
     return " ".join(words + ([] if strip == "all" else [number(community(one)) for one in strip]))
+
+
+def written_out(config, client, kind):
+    """The rules of a client's list, those that it uses in their place."""
+    for it in client.get(kind, []):
+        if "use" in it:
+            yield from next(one["rules"] for one in config["rules"] if one["name"] == it["use"])
+        else:
+            yield it
 
 
 def case(played, without=None, is_closed_for_faults=False):
@@ -159,7 +170,7 @@ def case(played, without=None, is_closed_for_faults=False):
     for client in config["client"]:
         yield f"client {client['as']} {int(ipaddress.ip_address(client['peer']))}"
         for kind in ("import", "export"):
-            for it in client.get(kind, []):
+            for it in written_out(config, client, kind):
                 yield from listed(config, it)
                 yield f"{kind} {rule(config, it)}"
         if link := found.get(client["name"]):

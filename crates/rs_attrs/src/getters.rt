@@ -102,7 +102,7 @@ impl Attrs {
     }
 
     /// The segments of AS_PATH, none where there is no AS_PATH.
-    fn path(&self) -> Segments<'_>
+    pub fn path(&self) -> Segments<'_>
         ensures segments { result ≡ path_of self.now }
         ensures short { path_length_of self.now < 2 ^ 64 }
     {
@@ -160,7 +160,7 @@ impl Attrs {
     }
 
     /// The communities, none where there is no COMMUNITIES (RFC 1997).
-    pub(crate) fn communities(&self) -> Numbers<'_>
+    pub fn communities(&self) -> Numbers<'_>
         ensures { result ≡ communities_of self.now }
     {
         match self.value(COMMUNITIES) {

@@ -40,6 +40,7 @@ pub use laws::{
 };
 pub use mode::Mode;
 pub use reading::{Parsed, read};
+pub use segments::{Numbers, PathSegment, Segments};
 pub use stripping::{Strip, stripped};
 pub use table::attribute_name;
 pub use types::{

@@ -74,7 +74,7 @@ pub(crate) fn first_segment(path: &[u8], mode: Mode, confederations: bool) -> Op
 
 /// The numbers that octets spell, four octets each.
 #[derive(Debug, Drop)]
-pub(crate) struct Numbers<'a> {
+pub struct Numbers<'a> {
     octets: &'a [u8],
 }
 
@@ -116,9 +116,9 @@ impl Iterator for Numbers<'_> {
     }
 }
 
-/// A segment of a path.
+/// A segment of a path, a set or a sequence (RFC 4271, 4.3).
 #[derive(Debug, Drop)]
-pub(crate) struct PathSegment<'a> {
+pub struct PathSegment<'a> {
     kind: u8,
     numbers: &'a [u8],
 }
@@ -146,7 +146,8 @@ impl PathSegment<'_> {
         self.numbers.len() / 4
     }
 
-    pub(crate) fn numbers(&self) -> Numbers<'_>
+    /// Its AS numbers.
+    pub fn numbers(&self) -> Numbers<'_>
         ensures { result ≡ self.now.numbers }
     {
         Numbers::of(self.numbers)
@@ -191,7 +192,7 @@ impl PathSegment<'_> {
 
 /// The segments of a well-formed path with AS numbers in four octets.
 #[derive(Debug, Drop)]
-pub(crate) struct Segments<'a> {
+pub struct Segments<'a> {
     octets: &'a [u8],
 }
 

@@ -19,6 +19,7 @@ key_text_short K.Refresh = lit≤ tt
 key_text_short K.Multiprotocol = lit≤ tt
 key_text_short K.Client = lit≤ tt
 key_text_short K.List = lit≤ tt
+key_text_short K.Rules = lit≤ tt
 key_text_short K.Name = lit≤ tt
 key_text_short K.Listen = lit≤ tt
 key_text_short K.Peer = lit≤ tt
@@ -33,13 +34,17 @@ key_text_short K.Max = lit≤ tt
 key_text_short K.PrefixIn = lit≤ tt
 key_text_short K.From = lit≤ tt
 key_text_short K.PathHas = lit≤ tt
+key_text_short K.PathLonger = lit≤ tt
+key_text_short K.PathIn = lit≤ tt
 key_text_short K.OriginAs = lit≤ tt
 key_text_short K.OriginIn = lit≤ tt
+key_text_short K.FirstAsIsPeer = lit≤ tt
 key_text_short K.Community = lit≤ tt
 key_text_short K.NextHopIsPeer = lit≤ tt
 key_text_short K.Action = lit≤ tt
 key_text_short K.Preference = lit≤ tt
 key_text_short K.Strip = lit≤ tt
+key_text_short K.Use = lit≤ tt
 key_text_short K.Other = lit≤ tt
 
 pub length-decimal-step : (n : ℕ) → 10 ≤ n → n < 2 ^ 64 → length (decimal n) ≡ length (decimal (n / 10)) + 1

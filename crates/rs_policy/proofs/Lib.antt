@@ -4,12 +4,15 @@ mod Digits
 mod Documents
 pub mod Entries
 pub mod Fixed
+pub mod Older
 mod Others
 pub mod Passing
 mod Rows
 mod Sets
+mod SharedRules
 pub mod SoundKeys
 pub mod Soundness
 mod Spans
 mod Wholes
 mod WithoutRules
+mod Written

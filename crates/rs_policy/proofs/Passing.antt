@@ -1,25 +1,26 @@
 -- What follows where checks pass: each key was read.
 use Rattle.std.proofs.Common.{◌≡◌, ℕ, zero, suc, ◌+◌, ◌-◌, ◌<◌, ◌||◌, Bool, true, false, List, [], ◌∷◌, ◌++◌, length, take, get_or, Option, Some, None, Result, Ok, Err, refl, sym, ap, subst, ◌∙◌, arith, if◌then◌else◌}
-use Rattle.std.specs.Prelude.{⊤}
+use Rattle.std.specs.Prelude.{⊤, bytes_eq}
 use Rattle.std.specs.List.{list_any, AllPairs}
 use Rattle.std.proofs.lemmas.List.{get_or-take, length-take}
 use Rattle.toml.specs.Data.{Data, Members, table}
 use Rattle.toml.specs.Parse.{parse_document}
-use Rattle.rs_policy.specs.Keys.{top_keys, client_keys, named_list_keys, rule_keys}
+use Rattle.rs_policy.specs.Keys.{top_keys, client_keys, named_list_keys, shared_keys, rule_keys, use_keys}
 use Rattle.rs_policy.specs.Values.{keyed, list_place, has_only, fault_in, value_or, stranger, first_failing, or_fault, answer, each_from, checks_from}
-use Rattle.rs_policy.specs.Configuration.{Client, NamedList, Configuration}
+use Rattle.rs_policy.specs.Configuration.{Client, NamedList, SharedRules, Configuration}
 use Rattle.rs_policy.specs.NamedLists.{list_name_at, has_entries, entries_needed, prefixes_at, ases_at, named_list_from, named_lists_from, is_same_name, named_list_checks, named_lists_checks}
-use Rattle.rs_policy.specs.Rules.{prefix_at, prefix_in, min_at, min_in, max_at, max_in, range_checks, range_of, prefix_in_at, from_at, path_has_at, origin_as_at, origin_in_at, community_at, next_hop_is_peer_at, test_checks, tests_of, disposition_at, disposition_in, preference_at, strip_at, action_checks, action_of, rule_checks, rule_of}
-use Rattle.rs_policy.specs.Documents.{the_top, server_as_at, identifier_at, hold_at, default_at, flag_at, clients_at, lists_at, top_of, top_checks, client_place, name_at, client_as_at, listen_at, peer_at, limit_at, client_from, clients_from, is_same, client_checks, clients_checks, rule_place, rules_at, rules_checks, list_checks, list_of_rules, policy_from, policy_checks, policies_checks, client_tables, list_tables, document_checks, configuration_of, config_from, config_of}
-use Rattle.rs_policy.specs.Accepted.{SaysTop, SaysClient, SaysNamedList, SaysRange, SaysTests, SaysAction, SaysRule, SaysEach, SaysRules, SaysPolicy, Says, AcceptedSays}
+use Rattle.rs_policy.specs.Rules.{prefix_at, prefix_in, min_at, min_in, max_at, max_in, range_checks, range_of, prefix_in_at, from_at, path_has_at, path_longer_at, path_in_at, origin_as_at, origin_in_at, first_as_is_peer_at, community_at, next_hop_is_peer_at, test_checks, tests_of, disposition_at, disposition_in, preference_at, strip_at, action_checks, action_of, rule_checks, rule_of}
+use Rattle.rs_policy.specs.Documents.{the_top, server_as_at, identifier_at, hold_at, default_at, flag_at, clients_at, lists_at, top_of, top_checks, client_place, name_at, client_as_at, listen_at, peer_at, limit_at, client_from, clients_from, is_same, client_checks, clients_checks, rule_place, rules_checks, shared_place, shared_name_at, shared_rules_at, shared_from, shared_checks, all_shared_at, all_shared_from, all_shared_checks, has_use, use_at, use_checks, item_checks, item_of, items_checks, rules_at, list_checks, list_of_items, policy_from, policy_checks, policies_from, policies_checks, client_tables, list_tables, shared_tables, document_checks, configuration_of, config_from, config_of}
+use Rattle.rs_policy.specs.Accepted.{SaysTop, SaysClient, SaysNamedList, SaysRange, SaysTests, SaysAction, SaysRule, SaysEach, SaysShared, SaysItem, SaysItems, SaysPolicy, Says, AcceptedSays}
 use Rattle.rs_policy.specs.declared.faults.Key.TheVariants as K
 use Rattle.rs_policy.specs.declared.faults.List.{List as RuleList}
-use Rattle.rs_policy.specs.declared.faults.List.TheVariants.{Import, Export}
+use Rattle.rs_policy.specs.declared.faults.List.TheVariants.{Import, Export, Shared}
 use Rattle.rs_policy.specs.declared.faults.Place.{Place}
 use Rattle.rs_policy.specs.declared.faults.ConfigFault.{ConfigFault}
-use Rattle.rs_policy.specs.declared.faults.ConfigFault.TheVariants.{BadValue, Missing, Twice, TwiceList}
+use Rattle.rs_policy.specs.declared.faults.ConfigFault.TheVariants.{BadValue, Missing, Twice, TwiceList, TwiceRules}
 use Rattle.rs_policy.specs.declared.rules.Disposition.TheVariants as D
 use Rattle.rs_policy.specs.declared.rules.Stripping.TheVariants.{Named}
+use Rattle.rs_policy.specs.declared.rules.Item.TheVariants.{Own, Use}
 
 -- ---- checks that pass
 
@@ -140,10 +141,13 @@ tests_say clients lists place d e =
       prefix_in = was_read None (prefix_in_at lists place d) h.0;
       from = was_read None (from_at clients place d) h.1.0;
       path_has = was_read None (path_has_at place d) h.1.1.0;
-      origin_as = was_read None (origin_as_at place d) h.1.1.1.0;
-      origin_in = was_read None (origin_in_at lists place d) h.1.1.1.1.0;
-      community = was_read None (community_at place d) h.1.1.1.1.1.0;
-      next_hop_is_peer = was_read None (next_hop_is_peer_at place d) h.1.1.1.1.1.1.0;
+      path_longer = was_read None (path_longer_at place d) h.1.1.1.0;
+      path_in = was_read None (path_in_at lists place d) h.1.1.1.1.0;
+      origin_as = was_read None (origin_as_at place d) h.1.1.1.1.1.0;
+      origin_in = was_read None (origin_in_at lists place d) h.1.1.1.1.1.1.0;
+      first_as_is_peer = was_read None (first_as_is_peer_at place d) h.1.1.1.1.1.1.1.0;
+      community = was_read None (community_at place d) h.1.1.1.1.1.1.1.1.0;
+      next_hop_is_peer = was_read None (next_hop_is_peer_at place d) h.1.1.1.1.1.1.1.1.1.0;
     }
 
 action_says : (place : Place) (d : Data) → Pass (action_checks place d) → SaysAction place d (action_of place d)
@@ -198,24 +202,63 @@ each_at R n (d ∷ ds) (a ∷ xs) h (suc i) x l =
     let k : (d : Data) × R (n + 1 + i) d (get_or xs i x) = each_at R (n + 1) ds xs h.1 i x (omega arith) in
     (k.0, subst (λ m. R m k.0 (get_or xs i x)) (let e : n + 1 + i ≡ n + suc i = omega arith in e) k.1)
 
-rules_say : (clients : List Client) (lists : List NamedList) (n : ℕ) (list : RuleList) (d : Data) → Pass (list_checks clients lists n list d)
-    → SaysRules clients lists n list d (list_of_rules clients lists n list d)
-rules_say clients lists n list d e =
+shared_says : (clients : List Client) (lists : List NamedList) (n : ℕ) (earlier : List SharedRules) (d : Data)
+    → Pass (shared_checks clients lists n earlier d) → SaysShared clients lists n d (shared_from clients lists n d)
+unfolding shared_checks shared_from
+shared_says clients lists n earlier d e =
+    let tables : List Data = value_or [] (shared_rules_at n d) in
+    let h : AllPass (shared_checks clients lists n earlier d) = all_pass (shared_checks clients lists n earlier d) e in
+    record {
+      name = was_read [] (shared_name_at n d) h.0;
+      tables = tables;
+      tables_are = was_read [] (shared_rules_at n d) h.1.0;
+      each = each_says (λ r d. rule_of clients lists (rule_place n Shared r) d) (λ r d. rule_checks clients lists (rule_place n Shared r) d)
+          (λ r d rule. SaysRule clients lists (rule_place n Shared r) d rule) (λ r d p. rule_says clients lists (rule_place n Shared r) d p) 1 tables
+          (back_passes (fault_in (shared_name_at n d) ∷ fault_in (shared_rules_at n d) ∷ fault_in (stranger shared_keys (shared_place n) d)
+          ∷ fault_in {A = Unit {0}} (if list_any (λ s. bytes_eq (value_or [] (shared_name_at n d)) s.name) earlier then Err (TwiceRules n) else Ok tt) ∷ [])
+          (rules_checks clients lists n Shared tables) e);
+      only = holds_if (has_only shared_keys d) (BadValue (keyed (shared_place n) K.Other)) h.1.1.0;
+    }
+
+shared_alone : (clients : List Client) (lists : List NamedList) (n : ℕ) (earlier : List SharedRules) (d : Data) → Pass (shared_checks clients lists n earlier d)
+    → list_any (λ s. bytes_eq (shared_from clients lists n d).name s.name) earlier ≡ false
+unfolding shared_checks shared_from
+shared_alone clients lists n earlier d e =
+    let h : AllPass (shared_checks clients lists n earlier d) = all_pass (shared_checks clients lists n earlier d) e in
+    fails_if (list_any (λ s. bytes_eq (value_or [] (shared_name_at n d)) s.name) earlier) (TwiceRules n) h.1.1.1.0
+
+item_by : (clients : List Client) (lists : List NamedList) (shared : List SharedRules) (place : Place) (d : Data) (b : Bool) → has_use d ≡ b
+    → Pass (if b then use_checks shared place d else rule_checks clients lists place d)
+    → SaysItem clients lists shared place d (if b then Use (value_or 0 (use_at shared place d)) else Own (rule_of clients lists place d))
+unfolding use_checks
+item_by clients lists shared place d true is e =
+    let h : AllPass (use_checks shared place d) = all_pass (use_checks shared place d) e in
+    (was_read 0 (use_at shared place d) h.0, holds_if (has_only use_keys d) (BadValue (keyed place K.Other)) h.1.0)
+item_by clients lists shared place d false is e = (is, rule_says clients lists place d e)
+
+item_says : (clients : List Client) (lists : List NamedList) (shared : List SharedRules) (place : Place) (d : Data) → Pass (item_checks clients lists shared place d)
+    → SaysItem clients lists shared place d (item_of clients lists shared place d)
+unfolding item_checks item_of
+item_says clients lists shared place d e = item_by clients lists shared place d (has_use d) refl e
+
+items_say : (clients : List Client) (lists : List NamedList) (shared : List SharedRules) (n : ℕ) (list : RuleList) (d : Data) → Pass (list_checks clients lists shared n list d)
+    → SaysItems clients lists shared n list d (list_of_items clients lists shared n list d)
+items_say clients lists shared n list d e =
     let tables : List Data = value_or [] (rules_at n list d) in
-    let h : AllPass (list_checks clients lists n list d) = all_pass (list_checks clients lists n list d) e in
+    let h : AllPass (list_checks clients lists shared n list d) = all_pass (list_checks clients lists shared n list d) e in
     record {
       tables = tables;
       tables_are = was_read [] (rules_at n list d) h.0;
-      each = each_says (λ r d. rule_of clients lists (rule_place n list r) d) (λ r d. rule_checks clients lists (rule_place n list r) d)
-          (λ r d rule. SaysRule clients lists (rule_place n list r) d rule) (λ r d p. rule_says clients lists (rule_place n list r) d p) 1 tables
-          (back_passes (fault_in (rules_at n list d) ∷ []) (rules_checks clients lists n list tables) e);
+      each = each_says (λ r d. item_of clients lists shared (rule_place n list r) d) (λ r d. item_checks clients lists shared (rule_place n list r) d)
+          (λ r d item. SaysItem clients lists shared (rule_place n list r) d item) (λ r d p. item_says clients lists shared (rule_place n list r) d p) 1 tables
+          (back_passes (fault_in (rules_at n list d) ∷ []) (items_checks clients lists shared n list tables) e);
     }
 
-policy_says : (clients : List Client) (lists : List NamedList) (n : ℕ) (d : Data) → Pass (policy_checks clients lists n d)
-    → SaysPolicy clients lists n d (policy_from clients lists n d)
-policy_says clients lists n d e = record {
-  import = rules_say clients lists n Import d (front_passes (list_checks clients lists n Import d) (list_checks clients lists n Export d) e);
-  export = rules_say clients lists n Export d (back_passes (list_checks clients lists n Import d) (list_checks clients lists n Export d) e);
+policy_says : (clients : List Client) (lists : List NamedList) (shared : List SharedRules) (n : ℕ) (d : Data) → Pass (policy_checks clients lists shared n d)
+    → SaysPolicy clients lists shared n d (policy_from clients lists shared n d)
+policy_says clients lists shared n d e = record {
+  import = items_say clients lists shared n Import d (front_passes (list_checks clients lists shared n Import d) (list_checks clients lists shared n Export d) e);
+  export = items_say clients lists shared n Export d (back_passes (list_checks clients lists shared n Import d) (list_checks clients lists shared n Export d) e);
 }
 
 -- ---- no client twice
@@ -253,20 +296,25 @@ document_says : (d : Data) → Pass (document_checks d) → Says d (configuratio
 document_says d e =
     let ds : List Data = client_tables d in
     let ls : List Data = list_tables d in
+    let us : List Data = shared_tables d in
     let all : List Client = clients_from ds in
     let lists : List NamedList = named_lists_from ls in
-    let known : List (Option ConfigFault) = fault_in (clients_at d) ∷ fault_in (lists_at d) ∷ fault_in (stranger top_keys the_top d) ∷ [] in
-    let last : List (Option ConfigFault) = policies_checks all lists ds in
-    let behind : Pass (known ++ (clients_checks ds ++ (named_lists_checks ls ++ last))) =
-    back_passes (top_checks d) (known ++ (clients_checks ds ++ (named_lists_checks ls ++ last))) e in
-    let h : AllPass known = all_pass known (front_passes known (clients_checks ds ++ (named_lists_checks ls ++ last)) behind) in
-    let rest : Pass (clients_checks ds ++ (named_lists_checks ls ++ last)) = back_passes known (clients_checks ds ++ (named_lists_checks ls ++ last)) behind in
-    let clients : Pass (clients_checks ds) = front_passes (clients_checks ds) (named_lists_checks ls ++ last) rest in
-    let third : Pass (named_lists_checks ls ++ last) = back_passes (clients_checks ds) (named_lists_checks ls ++ last) rest in
-    let listed : Pass (named_lists_checks ls) = front_passes (named_lists_checks ls) last third in
+    let shared : List SharedRules = all_shared_from all lists us in
+    let known : List (Option ConfigFault) = fault_in (clients_at d) ∷ fault_in (lists_at d) ∷ fault_in (all_shared_at d) ∷ fault_in (stranger top_keys the_top d) ∷ [] in
+    let last : List (Option ConfigFault) = policies_checks all lists shared ds in
+    let used : List (Option ConfigFault) = all_shared_checks all lists us ++ last in
+    let named : List (Option ConfigFault) = named_lists_checks ls ++ used in
+    let behind : Pass (known ++ (clients_checks ds ++ named)) = back_passes (top_checks d) (known ++ (clients_checks ds ++ named)) e in
+    let h : AllPass known = all_pass known (front_passes known (clients_checks ds ++ named) behind) in
+    let rest : Pass (clients_checks ds ++ named) = back_passes known (clients_checks ds ++ named) behind in
+    let clients : Pass (clients_checks ds) = front_passes (clients_checks ds) named rest in
+    let third : Pass named = back_passes (clients_checks ds) named rest in
+    let listed : Pass (named_lists_checks ls) = front_passes (named_lists_checks ls) used third in
+    let fourth : Pass used = back_passes (named_lists_checks ls) used third in
+    let shares : Pass (all_shared_checks all lists us) = front_passes (all_shared_checks all lists us) last fourth in
     record {
-      top = top_says d (front_passes (top_checks d) (known ++ (clients_checks ds ++ (named_lists_checks ls ++ last))) e);
-      only = holds_if (has_only top_keys d) (BadValue (keyed the_top K.Other)) h.1.1.0;
+      top = top_says d (front_passes (top_checks d) (known ++ (clients_checks ds ++ named)) e);
+      only = holds_if (has_only top_keys d) (BadValue (keyed the_top K.Other)) h.1.1.1.0;
       tables = ds;
       tables_are = was_read [] (clients_at d) h.0;
       clients = each_says client_from (λ n d. client_checks n (take (n - 1) all) d) SaysClient
@@ -281,8 +329,18 @@ document_says d e =
       no_list_twice = none_twice is_same_name ls lists
           (each_says named_list_from (λ n d. named_list_checks n (take (n - 1) lists) d) (IsAlone is_same_name lists)
           (λ n d p. list_alone n (take (n - 1) lists) d p) 1 ls listed);
-      policies = each_says (policy_from all lists) (policy_checks all lists) (SaysPolicy all lists) (policy_says all lists) 1 ds
-          (back_passes (named_lists_checks ls) last third);
+      shared = shared;
+      shared_tables = us;
+      shared_are = was_read [] (all_shared_at d) h.1.1.0;
+      rules = each_says (shared_from all lists) (λ n d. shared_checks all lists n (take (n - 1) shared) d) (SaysShared all lists)
+          (λ n d p. shared_says all lists n (take (n - 1) shared) d p) 1 us shares;
+      no_rules_twice = none_twice (λ (a b : SharedRules). bytes_eq a.name b.name) us shared
+          (each_says (shared_from all lists) (λ n d. shared_checks all lists n (take (n - 1) shared) d) (IsAlone (λ (a b : SharedRules). bytes_eq a.name b.name) shared)
+          (λ n d p. shared_alone all lists n (take (n - 1) shared) d p) 1 us shares);
+      stated = policies_from all lists shared ds;
+      policies = each_says (policy_from all lists shared) (policy_checks all lists shared) (SaysPolicy all lists shared) (policy_says all lists shared) 1 ds
+          (back_passes (all_shared_checks all lists us) last fourth);
+      written = refl;
     }
 
 pass_of_ok : {A : Type 0} (a v : A) (o : Option ConfigFault) → or_fault a o ≡ Ok v → (o ≡ None) × (a ≡ v)

@@ -4,19 +4,19 @@ use Rattle.toml.specs.Data.{Data, string, integer, boolean, array, table, Items,
 use Rattle.rs_octets.specs.Prefixes.{Prefix}
 use Rattle.rs_attrs.specs.Meaning.{Attribute}
 use Rattle.rs_policy.specs.Texts.{number_to, parted, address_of, endpoint_of, prefix_of, community_of, lengths_of, prefix_range_of, as_range_of}
-use Rattle.rs_policy.specs.Values.{keyed, entries_at, entries_from, entry_place, list_place, required_at, optional_at, tables_at, some_tables_at, has_only, answer, each_from, checks_from}
+use Rattle.rs_policy.specs.Values.{keyed, entries_at, entries_from, entry_place, list_place, required_at, optional_at, tables_at, needed_tables_at, some_tables_at, has_only, answer, each_from, checks_from}
 use Rattle.rs_policy.specs.Configuration.{Configuration, no_policy}
 use Rattle.rs_policy.specs.NamedLists.{entries_needed, named_list_checks, named_list_from}
 use Rattle.rs_policy.specs.Rules.{range_checks, range_of, strip_at, action_checks, action_of, test_checks, tests_of}
-use Rattle.rs_policy.specs.Documents.{the_top, top_of, top_checks, client_place, client_from, client_checks, rule_place, document_checks, configuration_of}
+use Rattle.rs_policy.specs.Documents.{the_top, top_of, top_checks, client_place, client_from, client_checks, rule_place, shared_place, shared_from, shared_checks, use_checks, item_checks, item_of, document_checks, configuration_of}
 use Rattle.rs_policy.specs.Verdicts.{Judgement, dropped, passed, attributes_match, matches, outcome, verdict}
 use Rattle.rs_policy.specs.Replacing.{other_in_top, other_in_client, other_in_clients, first_fixed}
 use Rattle.rs_policy.specs.declared.faults.Key.{Key}
 use Rattle.rs_policy.specs.declared.faults.Key.TheVariants as K
-use Rattle.rs_policy.specs.declared.faults.List.TheVariants.{Import}
+use Rattle.rs_policy.specs.declared.faults.List.TheVariants.{Import, Shared}
 use Rattle.rs_policy.specs.declared.faults.Place.{Place}
 use Rattle.rs_policy.specs.declared.faults.ConfigFault.{ConfigFault}
-use Rattle.rs_policy.specs.declared.faults.ConfigFault.TheVariants.{Missing, BadValue, Twice, TwiceList, TooMany}
+use Rattle.rs_policy.specs.declared.faults.ConfigFault.TheVariants.{Missing, BadValue, Twice, TwiceList, TwiceRules, TooMany}
 use Rattle.rs_policy.specs.declared.rules.Disposition.TheVariants as D
 
 -- ---- documents: what TOML makes of a text
@@ -164,20 +164,47 @@ refused_lists =
     ∷ (listing (named (codes "l") ((codes "colour", number 1) ∷ prefixes []) ∷ []), BadValue (keyed (list_place 1) K.Other))
     ∷ []
 
+-- rules that others use, and an import list of a
+abbrev sharing : List Fields → List Fields → Data
+sharing shared import = exchange ((codes "rules", array_of shared) ∷ []) ((codes "import", array_of import) ∷ []) []
+
+abbrev shared : List ℕ → List Fields → Fields
+shared name rules = named name ((codes "rules", array_of rules) ∷ [])
+
+abbrev using : List ℕ → Fields
+using name = (codes "use", string name) ∷ []
+
+abbrev refused_shared : List (Data × ConfigFault)
+refused_shared =
+    (sharing ([] ∷ []) [], Missing (keyed (shared_place 1) K.Name))
+    ∷ (sharing (named (codes "r") [] ∷ []) [], Missing (keyed (shared_place 1) K.Rules))
+    ∷ (sharing (replicate 257 []) [], TooMany (at_top K.Rules))
+    ∷ (sharing (shared (codes "r") (replicate 65 []) ∷ []) [], TooMany (keyed (shared_place 1) K.Rules))
+    ∷ (sharing (shared (codes "r") ([] ∷ []) ∷ []) [], Missing (keyed (rule_place 1 Shared 1) K.Action))
+    ∷ (sharing (shared (codes "r") [] ∷ shared (codes "r") (using (codes "r") ∷ []) ∷ []) [], TwiceRules 2)
+    ∷ (sharing (shared (codes "r") [] ∷ shared (codes "s") (using (codes "r") ∷ []) ∷ []) [], Missing (keyed (rule_place 2 Shared 1) K.Action))
+    ∷ (sharing (shared (codes "r") [] ∷ []) (using (codes "s") ∷ []), BadValue (at_rule K.Use))
+    ∷ (sharing (shared (codes "r") [] ∷ []) (((codes "use", string (codes "r")) ∷ (codes "action", string (codes "drop")) ∷ []) ∷ []), BadValue (at_rule K.Other))
+    ∷ []
+
+shared_are_refused : AreRefused refused_shared
+unfolding answer shared_checks shared_from use_checks item_checks item_of needed_tables_at top_checks top_of client_checks client_from required_at optional_at tables_at some_tables_at has_only each_from checks_from number_to parted address_of endpoint_of prefix_of community_of range_checks range_of test_checks tests_of strip_at action_checks action_of
+shared_are_refused = (refl, (refl, (refl, (refl, (refl, (refl, (refl, (refl, (refl, tt)))))))))
+
 lists_are_refused : AreRefused refused_lists
-unfolding answer top_checks top_of client_checks client_from named_list_checks named_list_from entries_needed entries_at entries_from required_at optional_at tables_at some_tables_at has_only each_from checks_from number_to parted address_of endpoint_of prefix_of prefix_range_of lengths_of as_range_of
+unfolding answer shared_checks shared_from use_checks item_checks item_of needed_tables_at top_checks top_of client_checks client_from named_list_checks named_list_from entries_needed entries_at entries_from required_at optional_at tables_at some_tables_at has_only each_from checks_from number_to parted address_of endpoint_of prefix_of prefix_range_of lengths_of as_range_of
 lists_are_refused = (refl, (refl, (refl, (refl, (refl, (refl, (refl, (refl, tt))))))))
 
 tops_are_refused : AreRefused refused_tops
-unfolding answer top_checks top_of client_checks client_from required_at optional_at tables_at some_tables_at has_only each_from checks_from number_to parted address_of endpoint_of
+unfolding answer shared_checks shared_from use_checks item_checks item_of needed_tables_at top_checks top_of client_checks client_from required_at optional_at tables_at some_tables_at has_only each_from checks_from number_to parted address_of endpoint_of
 tops_are_refused = (refl, (refl, (refl, (refl, (refl, (refl, (refl, (refl, (refl, (refl, (refl, (refl, (refl, tt)))))))))))))
 
 clients_are_refused : AreRefused refused_clients
-unfolding answer top_checks top_of client_checks client_from required_at optional_at tables_at some_tables_at has_only each_from checks_from number_to parted address_of endpoint_of
+unfolding answer shared_checks shared_from use_checks item_checks item_of needed_tables_at top_checks top_of client_checks client_from required_at optional_at tables_at some_tables_at has_only each_from checks_from number_to parted address_of endpoint_of
 clients_are_refused = (refl, (refl, (refl, (refl, (refl, (refl, (refl, (refl, (refl, tt)))))))))
 
 rules_are_refused : AreRefused refused_rules
-unfolding answer top_checks top_of client_checks client_from required_at optional_at tables_at some_tables_at has_only each_from checks_from number_to parted address_of endpoint_of prefix_of community_of range_checks range_of test_checks tests_of strip_at action_checks action_of
+unfolding answer shared_checks shared_from use_checks item_checks item_of needed_tables_at top_checks top_of client_checks client_from required_at optional_at tables_at some_tables_at has_only each_from checks_from number_to parted address_of endpoint_of prefix_of community_of range_checks range_of test_checks tests_of strip_at action_checks action_of
 rules_are_refused = (refl, (refl, (refl, (refl, (refl, (refl, (refl, (refl, (refl, (refl, (refl, (refl, tt))))))))))))
 
 -- ---- a configuration
@@ -191,7 +218,7 @@ read_whole : answered (exchange [] [] ((codes "limit", number 5) ∷ []))
       lists = [];
       policies = no_policy ∷ no_policy ∷ [];
     })
-unfolding answer top_checks top_of client_checks client_from required_at optional_at tables_at some_tables_at has_only each_from checks_from number_to parted address_of endpoint_of
+unfolding answer shared_checks shared_from use_checks item_checks item_of needed_tables_at top_checks top_of client_checks client_from required_at optional_at tables_at some_tables_at has_only each_from checks_from number_to parted address_of endpoint_of
 read_whole = refl
 
 -- ---- verdicts on a route from a to b
@@ -251,10 +278,12 @@ pub record AreInLists : Type 0 where
   pub lengths_between : by_list (prefixes (codes "198.51.0.0/16^22-24" ∷ [])) (codes "prefix_in") net plain ≡ dropped
   pub nothing_in_it : preferring (by_list (prefixes []) (codes "prefix_in") net plain) 100
   pub origin : by_list ((codes "ases", texts (codes "64490-64496" ∷ [])) ∷ []) (codes "origin_in") net plain ≡ dropped
+  pub in_a_set_of_the_path : by_list ((codes "ases", texts (codes "64490-64496" ∷ [])) ∷ []) (codes "path_in") net set ≡ dropped
+  pub not_in_the_path : preferring (by_list ((codes "ases", array (items (number 64495 ∷ number 64497 ∷ []))) ∷ []) (codes "path_in") net set) 100
   pub no_origin_of_a_set : preferring (by_list ((codes "ases", texts (codes "64490-64499" ∷ [])) ∷ []) (codes "origin_in") net set) 100
 
 are_in_lists : AreInLists
-unfolding verdict outcome matches attributes_match top_of client_from named_list_from entries_at entries_from required_at optional_at tables_at some_tables_at each_from number_to parted address_of endpoint_of prefix_of prefix_range_of lengths_of as_range_of community_of range_of tests_of strip_at action_of
+unfolding verdict shared_from item_of needed_tables_at outcome matches attributes_match top_of client_from named_list_from entries_at entries_from required_at optional_at tables_at some_tables_at each_from number_to parted address_of endpoint_of prefix_of prefix_range_of lengths_of as_range_of community_of range_of tests_of strip_at action_of
 are_in_lists = record {
   the_prefix_itself = refl;
   not_one_within = refl;
@@ -263,8 +292,24 @@ are_in_lists = record {
   lengths_between = refl;
   nothing_in_it = refl;
   origin = refl;
+  in_a_set_of_the_path = refl;
+  not_in_the_path = refl;
   no_origin_of_a_set = refl;
 }
+
+-- with rules named r that drop this, and with an import list of a
+abbrev by_use : Fields → List Fields → Prefix → List Attribute → Judgement
+by_use tests import p m = verdict (configuration_of (sharing (shared (codes "q") [] ∷ shared (codes "r") (drops tests) ∷ []) import)) 0 1 p m
+
+pub record AreUsed : Type 0 where
+  pub drops_there : by_use [] (using (codes "r") ∷ []) net plain ≡ dropped
+  pub goes_on_behind : preferring (by_use ((codes "path_has", number 64999) ∷ []) (using (codes "r") ∷ prefers 7) net plain) 7
+  pub an_earlier_one_decides : preferring (by_use [] ((((codes "action", string (codes "pass")) ∷ (codes "preference", number 7) ∷ []) ∷ using (codes "r") ∷ [])) net plain) 7
+  pub none_is_used : preferring (by_use [] (using (codes "q") ∷ []) net plain) 100
+
+are_used : AreUsed
+unfolding verdict shared_from item_of needed_tables_at outcome matches attributes_match top_of client_from required_at optional_at tables_at some_tables_at each_from number_to parted address_of endpoint_of prefix_of community_of range_of tests_of strip_at action_of
+are_used = record { drops_there = refl; goes_on_behind = refl; an_earlier_one_decides = refl; none_is_used = refl }
 
 pub record AreJudged : Type 0 where
   pub without_rules : preferring (judged [] [] net plain) 100
@@ -282,12 +327,17 @@ pub record AreJudged : Type 0 where
   pub from_a : judged [] (drops ((codes "from", string (codes "a")) ∷ [])) net plain ≡ dropped
   pub from_b : preferring (judged [] (drops ((codes "from", string (codes "b")) ∷ [])) net plain) 100
   pub next_hop_is_peer : judged (drops ((codes "next_hop_is_peer", boolean true) ∷ [])) [] net plain ≡ dropped
+  pub first_as_is_peer : judged (drops ((codes "first_as_is_peer", boolean true) ∷ [])) [] net plain ≡ dropped
+  pub first_as_is_another : judged (drops ((codes "first_as_is_peer", boolean false) ∷ [])) [] net set ≡ dropped
+  pub no_first_as : judged (drops ((codes "first_as_is_peer", boolean false) ∷ [])) [] net (route []) ≡ dropped
+  pub a_set_counts_one : judged (drops ((codes "path_longer", number 1) ∷ [])) [] net set ≡ dropped
+  pub no_longer : preferring (judged (drops ((codes "path_longer", number 2) ∷ [])) [] net set) 100
   pub first_that_matches : preferring (judged (((codes "action", string (codes "pass")) ∷ (codes "preference", number 1) ∷ []) ∷ drops []) [] net plain) 1
   pub strips : judged (((codes "action", string (codes "pass")) ∷ (codes "strip", array (items (string (codes "64500:1") ∷ []))) ∷ []) ∷ []) (((codes "action", string (codes "pass")) ∷ (codes "strip", string (codes "all")) ∷ []) ∷ []) net plain
       ≡ passed 100 ((4227072001 ∷ []) ∷ [] ∷ []) true
 
 are_judged : AreJudged
-unfolding verdict outcome matches attributes_match top_of client_from required_at optional_at tables_at some_tables_at each_from number_to parted address_of endpoint_of prefix_of community_of range_of tests_of strip_at action_of
+unfolding verdict shared_from item_of needed_tables_at outcome matches attributes_match top_of client_from required_at optional_at tables_at some_tables_at each_from number_to parted address_of endpoint_of prefix_of community_of range_of tests_of strip_at action_of
 are_judged = record {
   without_rules = refl;
   a_24_within = refl;
@@ -304,6 +354,11 @@ are_judged = record {
   from_a = refl;
   from_b = refl;
   next_hop_is_peer = refl;
+  first_as_is_peer = refl;
+  first_as_is_another = refl;
+  no_first_as = refl;
+  a_set_counts_one = refl;
+  no_longer = refl;
   first_that_matches = refl;
   strips = refl;
 }
@@ -324,7 +379,7 @@ pub record AreReplaced : Type 0 where
   pub not_a_peer : first_changed plainly (clients (a [] ∷ client (codes "b") 64497 (codes "127.0.0.1:17902") (codes "192.0.2.13") [] ∷ [])) ≡ Some (at_client 2 K.Peer)
 
 are_replaced : AreReplaced
-unfolding first_fixed other_in_top other_in_client other_in_clients top_of client_from required_at optional_at tables_at some_tables_at each_from number_to parted address_of endpoint_of
+unfolding first_fixed shared_from item_of needed_tables_at other_in_top other_in_client other_in_clients top_of client_from required_at optional_at tables_at some_tables_at each_from number_to parted address_of endpoint_of
 are_replaced = record {
   rules_and_limits = refl;
   not_the_hold_time = refl;

@@ -8,7 +8,7 @@ use Rattle.std.specs.Int.{w32, from_be_bytes}
 use Rattle.rs_octets.specs.Prefixes.{Prefix, masked}
 use Rattle.rs_policy.specs.Keys.{key_text}
 use Rattle.rs_policy.specs.Texts.{number_after, is_decimal, number_to, parted, both, point, slash, colon, octet, address_of, no_zero, endpoint_of, prefix_of, is_name}
-use Rattle.rs_policy.specs.Values.{between, integer_in, hold_seconds, text_as, address, identifier, name_of, keyed, required, optional, required_at, optional_at, maybe_at, list_of, list_place, array_at, entries_from, entries_of, entries_found, entries_at, before, given, is_table, tables_of, optional_tables, tables_at, some_tables, some_tables_at}
+use Rattle.rs_policy.specs.Values.{between, integer_in, hold_seconds, text_as, address, identifier, name_of, keyed, required, optional, required_at, optional_at, maybe_at, list_of, list_place, array_at, entries_from, entries_of, entries_found, entries_at, before, given, is_table, tables_of, optional_tables, tables_at, needed_tables, needed_tables_at, some_tables, some_tables_at}
 use Rattle.rs_policy.specs.declared.faults.Key.{Key}
 use Rattle.rs_policy.specs.declared.faults.Place.{Place}
 use Rattle.rs_policy.specs.declared.faults.ConfigFault.{ConfigFault}
@@ -206,6 +206,14 @@ few_optional most place (Some d) v e = few_of most place (option_map list_of (as
 pub few_at : (most : ℕ) (place : Place) (k : Key) (d : Data) (v : List Data) → tables_at most place k d ≡ Ok v → length v ≤ most
 unfolding tables_at
 few_at most place k d v e = few_optional most (keyed place k) (get (key_text k) d) v e
+
+few_of_needed : (most : ℕ) (place : Place) (o : Option Data) (v : List Data) → needed_tables most place o ≡ Ok v → length v ≤ most
+few_of_needed most place None v e = cc
+few_of_needed most place (Some d) v e = few_of most place (option_map list_of (as_array d)) v e
+
+pub few_needed : (most : ℕ) (place : Place) (k : Key) (d : Data) (v : List Data) → needed_tables_at most place k d ≡ Ok v → length v ≤ most
+unfolding needed_tables_at
+few_needed most place k d v e = few_of_needed most (keyed place k) (get (key_text k) d) v e
 
 some_of : (most : ℕ) (place : Place) (r : Result (List Data) ConfigFault) (v : List Data)
     → ((v : List Data) → r ≡ Ok v → length v ≤ most) → some_tables place r ≡ Ok v → (0 < length v) × (length v ≤ most)

@@ -1,9 +1,10 @@
 -- Each rule and each client is sound, so that every configuration is.
-use Rattle.std.proofs.Common.{◌≡◌, ◌≢◌, ℕ, suc, ◌+◌, ◌<◌, ◌≤◌, ◌^◌, ◌==◌, ◌&&◌, Bool, true, false, List, [], ◌∷◌, length, get_or, Option, Some, None, Result, Ok, Err, option_map, refl, sym, ap, subst, ◌∙◌, eq-eqb, bytes_eq, arith, if◌then◌else◌}
+use Rattle.std.proofs.Common.{◌≡◌, ◌≢◌, ℕ, suc, ◌+◌, ◌<◌, ◌≤◌, ◌^◌, ◌==◌, ◌&&◌, Bool, true, false, List, [], ◌∷◌, ◌*◌, length, length-append, map, get_or, Option, Some, None, Result, Ok, Err, option_map, refl, sym, ap, subst, ◌∙◌, eq-eqb, bytes_eq, arith, if◌then◌else◌}
 use Rattle.std.specs.Prelude.{IfSome, codes, is_some}
 use Rattle.std.specs.List.{All}
 use Rattle.std.proofs.lemmas.Bool.{ltb-false, or_parts}
-use Rattle.std.proofs.lemmas.List.Elements.{All-nil, All-cons}
+use Rattle.std.proofs.lemmas.List.{length-map}
+use Rattle.std.proofs.lemmas.List.Elements.{All-nil, All-cons, All-append}
 use Rattle.std.proofs.lemmas.List.Quantifiers.{position-Some}
 use Rattle.std.proofs.lemmas.Slice.Eq.{bytes_eq-Decides}
 use Rattle.toml.specs.Data.{Data, table, get, as_array, as_str}
@@ -11,15 +12,15 @@ use Rattle.rs_octets.specs.Prefixes.{Prefix}
 use Rattle.rs_policy.specs.Keys.{key_text}
 use Rattle.rs_policy.specs.Texts.{endpoint_of, prefix_of, is_name, community_of}
 use Rattle.rs_policy.specs.Values.{integer_in, positive, hold_seconds, text_as, identifier, name_of, keyed, read_or_bad, list_of, list_place, prefix_entry, as_entry, answer}
-use Rattle.rs_policy.specs.Configuration.{Client, NamedList, Policy, Configuration, no_client, no_list}
+use Rattle.rs_policy.specs.Configuration.{Client, NamedList, SharedRules, Stated, Policy, Configuration, no_client, no_list, no_shared, rules_in, written_out, policy_written}
 use Rattle.rs_policy.specs.NamedLists.{is_same_name}
 use Rattle.rs_policy.specs.Rules.{prefix_at, min_at, max_at, range_with, ases_named, client_named, prefixes_named, communities_of, stripping_from, strippings, is_longer, strip_found, strip_at, action_with}
-use Rattle.rs_policy.specs.Documents.{the_top, client_place, is_same, list_key, rule_place, document_checks, configuration_of, config_of}
-use Rattle.rs_policy.specs.Accepted.{SaysClient, SaysNamedList, SaysRule, SaysEach, SaysRules, SaysPolicy, Says}
+use Rattle.rs_policy.specs.Documents.{the_top, client_place, is_same, shared_place, shared_named, list_key, rule_place, document_checks, configuration_of, config_of}
+use Rattle.rs_policy.specs.Accepted.{SaysClient, SaysNamedList, SaysRule, SaysEach, SaysShared, SaysItem, SaysItems, SaysPolicy, Says}
 use Rattle.rs_policy.specs.Sound.{IsSoundClient, IsSoundRange, IsSoundList, StripsFew, IsSoundRule, AreSoundRules, IsSoundPolicy, AreOthers, AreOtherLists, IsSound}
 use Rattle.rs_policy.specs.declared.faults.Key.TheVariants as K
 use Rattle.rs_policy.specs.declared.faults.List.{List as RuleList}
-use Rattle.rs_policy.specs.declared.faults.List.TheVariants.{Import, Export}
+use Rattle.rs_policy.specs.declared.faults.List.TheVariants.{Import, Export, Shared}
 use Rattle.rs_policy.specs.declared.faults.Place.{Place}
 use Rattle.rs_policy.specs.declared.faults.ConfigFault.{ConfigFault}
 use Rattle.rs_policy.specs.declared.faults.ConfigFault.TheVariants.{BadValue, TooMany}
@@ -29,8 +30,10 @@ use Rattle.rs_policy.specs.declared.rules.Stripping.{Stripping}
 use Rattle.rs_policy.specs.declared.rules.Stripping.TheVariants.{Named, All as Every}
 use Rattle.rs_policy.specs.declared.rules.Action.TheVariants as A
 use Rattle.rs_policy.specs.declared.rules.Rule.{Rule}
+use Rattle.rs_policy.specs.declared.rules.Item.{Item}
+use Rattle.rs_policy.specs.declared.rules.Item.TheVariants.{Own, Use}
 use Rattle.rs_policy.proofs.Passing.{answer_says, accepted_says}
-use Rattle.rs_policy.proofs.SoundKeys.{IsHold, few_entries, at_maybe, at_optional, at_required, few_at, hold_is, identifier_is, integer_is, map_by, name_is, port_is, prefix_is, some_at, text_is, then_by, was_some}
+use Rattle.rs_policy.proofs.SoundKeys.{IsHold, few_entries, at_maybe, at_optional, at_required, few_at, few_needed, hold_is, identifier_is, integer_is, map_by, name_is, port_is, prefix_is, some_at, text_is, then_by, was_some}
 
 -- ---- a rule
 
@@ -111,6 +114,8 @@ rule_sound : (clients : List Client) (lists : List NamedList) (place : Place) (d
 rule_sound clients lists place d rule h = record {
   prefix_in = at_maybe (λ n. n < length lists) (text_as (prefixes_named lists)) place K.PrefixIn d rule.tests.prefix_in
       (λ d v e. text_is (λ n. n < length lists) (prefixes_named lists) d v (prefixes_named_is lists) e) h.tests.prefix_in;
+  path_in = at_maybe (λ n. n < length lists) (text_as (ases_named lists)) place K.PathIn d rule.tests.path_in
+      (λ d v e. text_is (λ n. n < length lists) (ases_named lists) d v (ases_named_is lists) e) h.tests.path_in;
   origin_in = at_maybe (λ n. n < length lists) (text_as (ases_named lists)) place K.OriginIn d rule.tests.origin_in
       (λ d v e. text_is (λ n. n < length lists) (ases_named lists) d v (ases_named_is lists) e) h.tests.origin_in;
   range = subst (λ r. IfSome r IsSoundRange) (sym h.range.range_is)
@@ -137,22 +142,72 @@ each_count R n [] (a ∷ xs) h = absurd h
 each_count R n (d ∷ ds) [] h = absurd h
 each_count R n (d ∷ ds) (a ∷ xs) h = ap suc (each_count R (n + 1) ds xs h.1)
 
-rules_sound : (clients : List Client) (lists : List NamedList) (n : ℕ) (list : RuleList) (d : Data) (rules : List Rule)
-    → SaysRules clients lists n list d rules → AreSoundRules (length clients) (length lists) rules
-rules_sound clients lists n list d rules h = record {
-  few = let few : length h.tables ≤ 64 = few_at 64 (client_place n) (list_key list) d h.tables h.tables_are in
-      let count : length rules ≡ length h.tables = each_count (λ r d rule. SaysRule clients lists (rule_place n list r) d rule) 1 h.tables rules h.each in
-      omega arith;
-  each = each_all (λ r d rule. SaysRule clients lists (rule_place n list r) d rule) (IsSoundRule (length clients) (length lists))
-      (λ r d rule e. rule_sound clients lists (rule_place n list r) d rule e) 1 h.tables rules h.each;
+-- at most 64 rules, each sound
+abbrev AreFewSound : ℕ → ℕ → List Rule → Type 0
+AreFewSound count lists rules = (length rules ≤ 64) × All (IsSoundRule count lists) rules
+
+shared_sound : (clients : List Client) (lists : List NamedList) (n : ℕ) (d : Data) (s : SharedRules) → SaysShared clients lists n d s
+    → AreFewSound (length clients) (length lists) s.rules
+shared_sound clients lists n d s h =
+    let few : length h.tables ≤ 64 = few_needed 64 (shared_place n) K.Rules d h.tables h.tables_are in
+    let count : length s.rules ≡ length h.tables = each_count (λ r d rule. SaysRule clients lists (rule_place n Shared r) d rule) 1 h.tables s.rules h.each in (
+      omega arith,
+      each_all (λ r d rule. SaysRule clients lists (rule_place n Shared r) d rule) (IsSoundRule (length clients) (length lists))
+          (λ r d rule e. rule_sound clients lists (rule_place n Shared r) d rule e) 1 h.tables s.rules h.each,
+    )
+
+shared_named_is : (shared : List SharedRules) (name : List ℕ) (n : ℕ) → shared_named shared name ≡ Some n → n < length shared
+shared_named_is shared name n e = (position-Some (λ (s : SharedRules). bytes_eq s.name name) shared n no_shared e).0
+
+item_sound : (clients : List Client) (lists : List NamedList) (shared : List SharedRules) (place : Place) (d : Data) (item : Item)
+    → All (λ s. AreFewSound (length clients) (length lists) s.rules) shared → SaysItem clients lists shared place d item
+    → AreFewSound (length clients) (length lists) (rules_in shared item)
+item_sound clients lists shared place d (Own rule) all h =
+    (omega arith, All-cons (IsSoundRule (length clients) (length lists)) rule [] (rule_sound clients lists place d rule h.1) (All-nil (IsSoundRule (length clients) (length lists))))
+item_sound clients lists shared place d (Use n) all h =
+    all n no_shared (at_required (λ n. n < length shared) (text_as (shared_named shared)) place K.Use d n
+    (λ d v e. text_is (λ n. n < length shared) (shared_named shared) d v (shared_named_is shared) e) h.0)
+
+-- so many tables, written out
+written_sound : (count lists : ℕ) (shared : List SharedRules) (items : List Item) → All (λ item. AreFewSound count lists (rules_in shared item)) items
+    → (length (written_out shared items) ≤ 64 * length items) × All (IsSoundRule count lists) (written_out shared items)
+written_sound count lists shared [] all = (omega arith, All-nil (IsSoundRule count lists))
+written_sound count lists shared (item ∷ items) all =
+    let first : AreFewSound count lists (rules_in shared item) = all 0 item (omega arith) in
+    let rest : (length (written_out shared items) ≤ 64 * length items) × All (IsSoundRule count lists) (written_out shared items) =
+    written_sound count lists shared items (λ i d within. all (suc i) d (omega arith)) in
+    let few : length (rules_in shared item) ≤ 64 = first.0 in
+    let fewer : length (written_out shared items) ≤ 64 * length items = rest.0 in (
+      omega (arith, length-append (rules_in shared item) (written_out shared items)),
+      All-append (IsSoundRule count lists) (rules_in shared item) (written_out shared items) first.1 rest.1,
+    )
+
+items_sound : (clients : List Client) (lists : List NamedList) (shared : List SharedRules) (n : ℕ) (list : RuleList) (d : Data) (items : List Item)
+    → All (λ s. AreFewSound (length clients) (length lists) s.rules) shared → SaysItems clients lists shared n list d items
+    → AreSoundRules (length clients) (length lists) (written_out shared items)
+items_sound clients lists shared n list d items all h =
+    let few : length h.tables ≤ 64 = few_at 64 (client_place n) (list_key list) d h.tables h.tables_are in
+    let count : length items ≡ length h.tables = each_count (λ r d item. SaysItem clients lists shared (rule_place n list r) d item) 1 h.tables items h.each in
+    let each : All (λ item. AreFewSound (length clients) (length lists) (rules_in shared item)) items =
+    each_all (λ r d item. SaysItem clients lists shared (rule_place n list r) d item) (λ item. AreFewSound (length clients) (length lists) (rules_in shared item))
+    (λ r d item e. item_sound clients lists shared (rule_place n list r) d item all e) 1 h.tables items h.each in
+    let written : (length (written_out shared items) ≤ 64 * length items) × All (IsSoundRule (length clients) (length lists)) (written_out shared items) =
+    written_sound (length clients) (length lists) shared items each in
+    let fits : length (written_out shared items) ≤ 64 * length items = written.0 in
+    record { few = omega arith; each = written.1 }
+
+policy_sound : (clients : List Client) (lists : List NamedList) (shared : List SharedRules) (n : ℕ) (d : Data) (policy : Stated)
+    → All (λ s. AreFewSound (length clients) (length lists) s.rules) shared → SaysPolicy clients lists shared n d policy
+    → IsSoundPolicy (length clients) (length lists) (policy_written shared policy)
+policy_sound clients lists shared n d policy all h = record {
+  import = items_sound clients lists shared n Import d policy.import all h.import;
+  export = items_sound clients lists shared n Export d policy.export all h.export;
 }
 
-policy_sound : (clients : List Client) (lists : List NamedList) (n : ℕ) (d : Data) (policy : Policy) → SaysPolicy clients lists n d policy
-    → IsSoundPolicy (length clients) (length lists) policy
-policy_sound clients lists n d policy h = record {
-  import = rules_sound clients lists n Import d policy.import h.import;
-  export = rules_sound clients lists n Export d policy.export h.export;
-}
+-- what holds of each as it is written out
+all_written : (P : Policy → Type 0) (shared : List SharedRules) (ps : List Stated) → All (λ p. P (policy_written shared p)) ps → All P (map (policy_written shared) ps)
+all_written P shared [] all = All-nil P
+all_written P shared (p ∷ ps) all = All-cons P (policy_written shared p) (map (policy_written shared) ps) (all 0 p (omega arith)) (all_written P shared ps (λ i d within. all (suc i) d (omega arith)))
 
 -- ---- the top, the clients and the lists
 
@@ -209,7 +264,10 @@ pub says_sound : (d : Data) (s : Configuration) → Says d s → IsSound s
 says_sound d s h =
     let some : (0 < length h.tables) × (length h.tables ≤ 512) = some_at 512 the_top K.Client d h.tables h.tables_are in
     let count : length s.clients ≡ length h.tables = each_count SaysClient 1 h.tables s.clients h.clients in
-    let policies : length s.policies ≡ length h.tables = each_count (SaysPolicy s.clients s.lists) 1 h.tables s.policies h.policies in
+    let stated : length h.stated ≡ length h.tables = each_count (SaysPolicy s.clients s.lists h.shared) 1 h.tables h.stated h.policies in
+    let policies : length s.policies ≡ length h.tables = ap length h.written ∙ (length-map h.stated (policy_written h.shared) ∙ stated) in
+    let shared : All (λ r. AreFewSound (length s.clients) (length s.lists) r.rules) h.shared =
+    each_all (SaysShared s.clients s.lists) (λ r. AreFewSound (length s.clients) (length s.lists) r.rules) (shared_sound s.clients s.lists) 1 h.shared_tables h.shared h.rules in
     let lists : length s.lists ≡ length h.lists_tables = each_count SaysNamedList 1 h.lists_tables s.lists h.lists in
     let fewer : length h.lists_tables ≤ 1024 = few_at 1024 the_top K.List d h.lists_tables h.lists_are in
     let number : IsNumber s.top.server_as = at_required IsNumber positive the_top K.As d s.top.server_as (integer_is 1 4294967295) h.top.server_as in
@@ -239,7 +297,10 @@ says_sound d s h =
       few_lists = omega arith;
       lists = each_all SaysNamedList IsSoundList list_sound 1 h.lists_tables s.lists h.lists;
       other_lists = λ i j x before within. other_names (get_or s.lists i x) (get_or s.lists j x) (h.no_list_twice i j x before within);
-      rules = each_all (SaysPolicy s.clients s.lists) (IsSoundPolicy (length s.clients) (length s.lists)) (policy_sound s.clients s.lists) 1 h.tables s.policies h.policies;
+      rules = subst (All (IsSoundPolicy (length s.clients) (length s.lists))) (sym h.written)
+          (all_written (IsSoundPolicy (length s.clients) (length s.lists)) h.shared h.stated
+          (each_all (SaysPolicy s.clients s.lists h.shared) (λ p. IsSoundPolicy (length s.clients) (length s.lists) (policy_written h.shared p))
+          (λ n d p e. policy_sound s.clients s.lists h.shared n d p shared e) 1 h.tables h.stated h.policies));
     }
 
 -- a configuration that passes every check

@@ -1,7 +1,10 @@
 -- What a configuration sets.
-use Rattle.std.specs.Prelude.{ℕ, List, [], slice_index_or, Option, None}
+use Rattle.std.specs.Prelude.{ℕ, List, [], ◌∷◌, slice_index_or, Option, None}
+use Rattle.std.specs.List.{flat_map}
 use Rattle.rs_policy.specs.declared.rules.Range.{Range}
 use Rattle.rs_policy.specs.declared.rules.Rule.{Rule}
+use Rattle.rs_policy.specs.declared.rules.Item.{Item}
+use Rattle.rs_policy.specs.declared.rules.Item.TheVariants.{Own, Use}
 use Rattle.rs_policy.specs.declared.config.top.Top.{Top}
 
 -- a client; an address is a number of 32 bits
@@ -17,6 +20,16 @@ pub record NamedList : Type 0 where
   pub name : List ℕ
   pub prefixes : Option (List Range)
   pub ases : Option (List (ℕ × ℕ))
+
+-- rules that others use
+pub record SharedRules : Type 0 where
+  pub name : List ℕ
+  pub rules : List Rule
+
+-- the lists of a client as they stand in the text
+pub record Stated : Type 0 where
+  pub import : List Item
+  pub export : List Item
 
 -- the rules for the routes that a client sends, and for those that it is sent
 pub record Policy : Type 0 where
@@ -49,3 +62,18 @@ no_policy = record { import = []; export = [] }
 
 abbrev pub policy_of : Configuration → ℕ → Policy
 policy_of s c = slice_index_or s.policies c no_policy
+
+abbrev pub no_shared : SharedRules
+no_shared = record { name = []; rules = [] }
+
+-- the rules that stand at a place of a client's list: its own one, or those that it uses
+abbrev pub rules_in : List SharedRules → Item → List Rule
+rules_in shared (Own rule) = rule ∷ []
+rules_in shared (Use n) = (slice_index_or shared n no_shared).rules
+
+-- a list with the rules that it uses written out
+abbrev pub written_out : List SharedRules → List Item → List Rule
+written_out shared items = flat_map (rules_in shared) items
+
+abbrev pub policy_written : List SharedRules → Stated → Policy
+policy_written shared p = record { import = written_out shared p.import; export = written_out shared p.export }

@@ -1,26 +1,28 @@
 -- What the text of a configuration means: the first check that fails, in order, each over the document's table alone,
 -- or the configuration where none fails.
-use Rattle.std.specs.Prelude.{ℕ, ◌-◌, take, ◌==◌, ◌&&◌, ◌||◌, Bool, false, List, [], ◌∷◌, ◌++◌, bytes_eq, Option, Some, None, Result, Ok, Err, if◌then◌else◌}
+use Rattle.std.specs.Prelude.{ℕ, ◌-◌, take, map, position, is_some, ◌==◌, ◌&&◌, ◌||◌, Bool, false, List, [], ◌∷◌, ◌++◌, bytes_eq, Option, Some, None, Result, Ok, Err, if◌then◌else◌}
 use Rattle.std.specs.List.{list_any}
-use Rattle.toml.specs.Data.{Data, Members, table, as_bool}
+use Rattle.toml.specs.Data.{Data, Members, table, as_bool, get}
 use Rattle.toml.specs.Parse.{parse_document}
-use Rattle.rs_policy.specs.Keys.{top_keys, client_keys}
+use Rattle.rs_policy.specs.Keys.{key_text, top_keys, client_keys, shared_keys, use_keys}
 use Rattle.rs_policy.specs.Texts.{endpoint_of}
-use Rattle.rs_policy.specs.Values.{text_as, positive, hold_seconds, address, identifier, disposition_of, name_of, required_at, optional_at, maybe_at, tables_at, some_tables_at, fault_in, value_or, stranger, answer, each_from, checks_from}
-use Rattle.rs_policy.specs.Configuration.{Client, NamedList, Policy, Configuration}
+use Rattle.rs_policy.specs.Values.{text_as, positive, hold_seconds, address, identifier, disposition_of, name_of, required_at, optional_at, maybe_at, tables_at, needed_tables_at, some_tables_at, fault_in, value_or, stranger, answer, each_from, checks_from}
+use Rattle.rs_policy.specs.Configuration.{Client, NamedList, SharedRules, Stated, Configuration, policy_written}
 use Rattle.rs_policy.specs.NamedLists.{named_lists_from, named_lists_checks}
 use Rattle.rs_policy.specs.Rules.{rule_checks, rule_of}
 use Rattle.rs_policy.specs.declared.faults.Key.{Key}
 use Rattle.rs_policy.specs.declared.faults.Key.TheVariants as K
 use Rattle.rs_policy.specs.declared.faults.List.{List as RuleList}
-use Rattle.rs_policy.specs.declared.faults.List.TheVariants.{Import, Export}
+use Rattle.rs_policy.specs.declared.faults.List.TheVariants.{Import, Export, Shared}
 use Rattle.rs_policy.specs.declared.faults.Place.{Place}
 use Rattle.rs_policy.specs.declared.faults.Table.TheVariants as T
 use Rattle.rs_policy.specs.declared.faults.ConfigFault.{ConfigFault}
-use Rattle.rs_policy.specs.declared.faults.ConfigFault.TheVariants.{Syntax, Twice}
+use Rattle.rs_policy.specs.declared.faults.ConfigFault.TheVariants.{Syntax, Twice, TwiceRules}
 use Rattle.rs_policy.specs.declared.rules.Disposition.{Disposition}
 use Rattle.rs_policy.specs.declared.rules.Disposition.TheVariants.{Pass}
 use Rattle.rs_policy.specs.declared.rules.Rule.{Rule}
+use Rattle.rs_policy.specs.declared.rules.Item.{Item}
+use Rattle.rs_policy.specs.declared.rules.Item.TheVariants.{Own, Use}
 use Rattle.rs_policy.specs.declared.config.top.Top.{Top}
 
 -- the top
@@ -48,6 +50,9 @@ clients_at = some_tables_at 512 the_top K.Client
 
 abbrev pub lists_at : Data → Result (List Data) ConfigFault
 lists_at = tables_at 1024 the_top K.List
+
+abbrev pub all_shared_at : Data → Result (List Data) ConfigFault
+all_shared_at = tables_at 256 the_top K.Rules
 
 unfoldable pub top_of : Data → Top
 top_of d = record {
@@ -125,17 +130,15 @@ client_checks n earlier d =
 abbrev pub clients_checks : List Data → List (Option ConfigFault)
 clients_checks ds = checks_from (λ n d. client_checks n (take (n - 1) (clients_from ds)) d) 1 ds
 
--- the rules of clients, counted from 1
+-- rules, counted from 1: of a client, or of rules that others use
 
 abbrev pub list_key : RuleList → Key
 list_key Import = K.Import
 list_key Export = K.Export
+list_key Shared = K.Rules
 
 abbrev pub rule_place : ℕ → RuleList → ℕ → Place
 rule_place n list r = record { table = T.Rule n list r; key = K.Other }
-
-abbrev pub rules_at : ℕ → RuleList → Data → Result (List Data) ConfigFault
-rules_at n list d = tables_at 64 (client_place n) (list_key list) d
 
 abbrev pub rules_from : List Client → List NamedList → ℕ → RuleList → List Data → List Rule
 rules_from clients lists n list ds = each_from (λ r d. rule_of clients lists (rule_place n list r) d) 1 ds
@@ -143,23 +146,91 @@ rules_from clients lists n list ds = each_from (λ r d. rule_of clients lists (r
 abbrev pub rules_checks : List Client → List NamedList → ℕ → RuleList → List Data → List (Option ConfigFault)
 rules_checks clients lists n list ds = checks_from (λ r d. rule_checks clients lists (rule_place n list r) d) 1 ds
 
-abbrev pub list_checks : List Client → List NamedList → ℕ → RuleList → Data → List (Option ConfigFault)
-list_checks clients lists n list d = fault_in (rules_at n list d) ∷ rules_checks clients lists n list (value_or [] (rules_at n list d))
+-- rules that others use, counted from 1
 
-abbrev pub list_of_rules : List Client → List NamedList → ℕ → RuleList → Data → List Rule
-list_of_rules clients lists n list d = rules_from clients lists n list (value_or [] (rules_at n list d))
+abbrev pub shared_place : ℕ → Place
+shared_place n = record { table = T.Rules n; key = K.Other }
 
-abbrev pub policy_from : List Client → List NamedList → ℕ → Data → Policy
-policy_from clients lists n d = record { import = list_of_rules clients lists n Import d; export = list_of_rules clients lists n Export d }
+abbrev pub shared_name_at : ℕ → Data → Result (List ℕ) ConfigFault
+shared_name_at n = required_at (text_as name_of) (shared_place n) K.Name
 
-abbrev pub policy_checks : List Client → List NamedList → ℕ → Data → List (Option ConfigFault)
-policy_checks clients lists n d = list_checks clients lists n Import d ++ list_checks clients lists n Export d
+abbrev pub shared_rules_at : ℕ → Data → Result (List Data) ConfigFault
+shared_rules_at n = needed_tables_at 64 (shared_place n) K.Rules
 
-abbrev pub policies_from : List Client → List NamedList → List Data → List Policy
-policies_from clients lists ds = each_from (policy_from clients lists) 1 ds
+abbrev pub shared_twice : ℕ → List SharedRules → List ℕ → Result (Unit {0}) ConfigFault
+shared_twice n earlier name = if list_any (λ s. bytes_eq name s.name) earlier then Err (TwiceRules n) else Ok tt
 
-abbrev pub policies_checks : List Client → List NamedList → List Data → List (Option ConfigFault)
-policies_checks clients lists ds = checks_from (policy_checks clients lists) 1 ds
+unfoldable pub shared_from : List Client → List NamedList → ℕ → Data → SharedRules
+shared_from clients lists n d = record {
+  name = value_or [] (shared_name_at n d);
+  rules = rules_from clients lists n Shared (value_or [] (shared_rules_at n d));
+}
+
+-- the table's own keys before its rules
+unfoldable pub shared_checks : List Client → List NamedList → ℕ → List SharedRules → Data → List (Option ConfigFault)
+shared_checks clients lists n earlier d =
+    fault_in (shared_name_at n d)
+    ∷ fault_in (shared_rules_at n d)
+    ∷ fault_in (stranger shared_keys (shared_place n) d)
+    ∷ fault_in (shared_twice n earlier (value_or [] (shared_name_at n d)))
+    ∷ rules_checks clients lists n Shared (value_or [] (shared_rules_at n d))
+
+abbrev pub all_shared_from : List Client → List NamedList → List Data → List SharedRules
+all_shared_from clients lists ds = each_from (shared_from clients lists) 1 ds
+
+-- those of each, beside those before it
+abbrev pub all_shared_checks : List Client → List NamedList → List Data → List (Option ConfigFault)
+all_shared_checks clients lists ds = checks_from (λ n d. shared_checks clients lists n (take (n - 1) (all_shared_from clients lists ds)) d) 1 ds
+
+-- what stands at a place of a client's list: a rule, or the name of rules, alone
+
+-- the place of the rules of this name, from 0
+abbrev pub shared_named : List SharedRules → List ℕ → Option ℕ
+shared_named shared name = position (λ s. bytes_eq s.name name) shared
+
+abbrev pub use_at : List SharedRules → Place → Data → Result ℕ ConfigFault
+use_at shared place d = required_at (text_as (shared_named shared)) place K.Use d
+
+unfoldable pub use_checks : List SharedRules → Place → Data → List (Option ConfigFault)
+use_checks shared place d = fault_in (use_at shared place d) ∷ fault_in (stranger use_keys place d) ∷ []
+
+abbrev pub has_use : Data → Bool
+has_use d = is_some (get (key_text K.Use) d)
+
+unfoldable pub item_checks : List Client → List NamedList → List SharedRules → Place → Data → List (Option ConfigFault)
+item_checks clients lists shared place d = if has_use d then use_checks shared place d else rule_checks clients lists place d
+
+unfoldable pub item_of : List Client → List NamedList → List SharedRules → Place → Data → Item
+item_of clients lists shared place d = if has_use d then Use (value_or 0 (use_at shared place d)) else Own (rule_of clients lists place d)
+
+abbrev pub items_from : List Client → List NamedList → List SharedRules → ℕ → RuleList → List Data → List Item
+items_from clients lists shared n list ds = each_from (λ r d. item_of clients lists shared (rule_place n list r) d) 1 ds
+
+abbrev pub items_checks : List Client → List NamedList → List SharedRules → ℕ → RuleList → List Data → List (Option ConfigFault)
+items_checks clients lists shared n list ds = checks_from (λ r d. item_checks clients lists shared (rule_place n list r) d) 1 ds
+
+-- the lists of clients, counted from 1
+
+abbrev pub rules_at : ℕ → RuleList → Data → Result (List Data) ConfigFault
+rules_at n list d = tables_at 64 (client_place n) (list_key list) d
+
+abbrev pub list_checks : List Client → List NamedList → List SharedRules → ℕ → RuleList → Data → List (Option ConfigFault)
+list_checks clients lists shared n list d = fault_in (rules_at n list d) ∷ items_checks clients lists shared n list (value_or [] (rules_at n list d))
+
+abbrev pub list_of_items : List Client → List NamedList → List SharedRules → ℕ → RuleList → Data → List Item
+list_of_items clients lists shared n list d = items_from clients lists shared n list (value_or [] (rules_at n list d))
+
+abbrev pub policy_from : List Client → List NamedList → List SharedRules → ℕ → Data → Stated
+policy_from clients lists shared n d = record { import = list_of_items clients lists shared n Import d; export = list_of_items clients lists shared n Export d }
+
+abbrev pub policy_checks : List Client → List NamedList → List SharedRules → ℕ → Data → List (Option ConfigFault)
+policy_checks clients lists shared n d = list_checks clients lists shared n Import d ++ list_checks clients lists shared n Export d
+
+abbrev pub policies_from : List Client → List NamedList → List SharedRules → List Data → List Stated
+policies_from clients lists shared ds = each_from (policy_from clients lists shared) 1 ds
+
+abbrev pub policies_checks : List Client → List NamedList → List SharedRules → List Data → List (Option ConfigFault)
+policies_checks clients lists shared ds = checks_from (policy_checks clients lists shared) 1 ds
 
 -- the document
 
@@ -169,22 +240,32 @@ client_tables d = value_or [] (clients_at d)
 abbrev pub list_tables : Data → List Data
 list_tables d = value_or [] (lists_at d)
 
+abbrev pub shared_tables : Data → List Data
+shared_tables d = value_or [] (all_shared_at d)
+
 abbrev pub document_checks : Data → List (Option ConfigFault)
 document_checks d =
     let tables = client_tables d in
-    let lists = list_tables d in
+    let clients = clients_from tables in
+    let lists = named_lists_from (list_tables d) in
     top_checks d
     ++ fault_in (clients_at d)
     ∷ fault_in (lists_at d)
+    ∷ fault_in (all_shared_at d)
     ∷ fault_in (stranger top_keys the_top d)
-    ∷ (clients_checks tables ++ (named_lists_checks lists ++ policies_checks (clients_from tables) (named_lists_from lists) tables))
+    ∷ (clients_checks tables
+    ++ (named_lists_checks (list_tables d)
+    ++ (all_shared_checks clients lists (shared_tables d)
+    ++ policies_checks clients lists (all_shared_from clients lists (shared_tables d)) tables)))
 
+-- the rules that lists use are written out in them
 abbrev pub configuration_of : Data → Configuration
 configuration_of d =
     let tables = client_tables d in
     let clients = clients_from tables in
     let lists = named_lists_from (list_tables d) in
-    record { top = top_of d; clients = clients; lists = lists; policies = policies_from clients lists tables }
+    let shared = all_shared_from clients lists (shared_tables d) in
+    record { top = top_of d; clients = clients; lists = lists; policies = map (policy_written shared) (policies_from clients lists shared tables) }
 
 abbrev pub config_from : Option Members → Result Configuration ConfigFault
 config_from None = Err Syntax

@@ -8,7 +8,7 @@ use Rattle.rs_policy.specs.declared.rules.verdict.Fate.{Fate}
 use Rattle.rs_policy.specs.declared.rules.verdict.Fate.TheVariants.{Drop, Pass}
 
 abbrev pub offered : Offer → AnnouncedRoute
-offered o = record { from = o.from; peer = o.peer; prefix = o.prefix.now; attributes = o.attrs.now }
+offered o = record { from = o.from; peer = o.peer; peer_as = o.peer_as; prefix = o.prefix.now; attributes = o.attrs.now }
 
 abbrev pub passed_as : Passed → Passing
 passed_as p = record { preference = p.preference; communities = p.communities.now; all = p.all }

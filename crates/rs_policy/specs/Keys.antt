@@ -14,6 +14,7 @@ key_text K.Refresh = codes "refresh"
 key_text K.Multiprotocol = codes "multiprotocol"
 key_text K.Client = codes "client"
 key_text K.List = codes "list"
+key_text K.Rules = codes "rules"
 key_text K.Name = codes "name"
 key_text K.Listen = codes "listen"
 key_text K.Peer = codes "peer"
@@ -28,18 +29,22 @@ key_text K.Max = codes "max"
 key_text K.PrefixIn = codes "prefix_in"
 key_text K.From = codes "from"
 key_text K.PathHas = codes "path_has"
+key_text K.PathLonger = codes "path_longer"
+key_text K.PathIn = codes "path_in"
 key_text K.OriginAs = codes "origin_as"
 key_text K.OriginIn = codes "origin_in"
+key_text K.FirstAsIsPeer = codes "first_as_is_peer"
 key_text K.Community = codes "community"
 key_text K.NextHopIsPeer = codes "next_hop_is_peer"
 key_text K.Action = codes "action"
 key_text K.Preference = codes "preference"
 key_text K.Strip = codes "strip"
+key_text K.Use = codes "use"
 key_text K.Other = codes "?"
 
 -- the keys of each table, in the order in which they are checked
 abbrev pub top_keys : List Key
-top_keys = K.As ∷ K.Identifier ∷ K.Hold ∷ K.Default ∷ K.Extended ∷ K.Refresh ∷ K.Multiprotocol ∷ K.Client ∷ K.List ∷ []
+top_keys = K.As ∷ K.Identifier ∷ K.Hold ∷ K.Default ∷ K.Extended ∷ K.Refresh ∷ K.Multiprotocol ∷ K.Client ∷ K.List ∷ K.Rules ∷ []
 
 abbrev pub client_keys : List Key
 client_keys = K.Name ∷ K.As ∷ K.Listen ∷ K.Peer ∷ K.Limit ∷ K.Import ∷ K.Export ∷ []
@@ -47,8 +52,16 @@ client_keys = K.Name ∷ K.As ∷ K.Listen ∷ K.Peer ∷ K.Limit ∷ K.Import �
 abbrev pub named_list_keys : List Key
 named_list_keys = K.Name ∷ K.Prefixes ∷ K.Ases ∷ []
 
+-- of rules that others use
+abbrev pub shared_keys : List Key
+shared_keys = K.Name ∷ K.Rules ∷ []
+
 abbrev pub rule_keys : List Key
-rule_keys = K.Prefix ∷ K.Min ∷ K.Max ∷ K.PrefixIn ∷ K.From ∷ K.PathHas ∷ K.OriginAs ∷ K.OriginIn ∷ K.Community ∷ K.NextHopIsPeer ∷ K.Action ∷ K.Preference ∷ K.Strip ∷ []
+rule_keys = K.Prefix ∷ K.Min ∷ K.Max ∷ K.PrefixIn ∷ K.From ∷ K.PathHas ∷ K.PathLonger ∷ K.PathIn ∷ K.OriginAs ∷ K.OriginIn ∷ K.FirstAsIsPeer ∷ K.Community ∷ K.NextHopIsPeer ∷ K.Action ∷ K.Preference ∷ K.Strip ∷ []
+
+-- of a table that names such rules
+abbrev pub use_keys : List Key
+use_keys = K.Use ∷ []
 
 abbrev pub is_among : List Key → List ℕ → Bool
 is_among keys text = list_any (λ k. bytes_eq (key_text k) text) keys

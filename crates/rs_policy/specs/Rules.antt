@@ -85,11 +85,20 @@ from_at clients place d = maybe_at (text_as (client_named clients)) place K.From
 abbrev pub path_has_at : Place → Data → Result (Option ℕ) ConfigFault
 path_has_at place d = maybe_at positive place K.PathHas d
 
+abbrev pub path_longer_at : Place → Data → Result (Option ℕ) ConfigFault
+path_longer_at place d = maybe_at (integer_in 0 4294967295) place K.PathLonger d
+
+abbrev pub path_in_at : List NamedList → Place → Data → Result (Option ℕ) ConfigFault
+path_in_at lists place d = maybe_at (text_as (ases_named lists)) place K.PathIn d
+
 abbrev pub origin_as_at : Place → Data → Result (Option ℕ) ConfigFault
 origin_as_at place d = maybe_at positive place K.OriginAs d
 
 abbrev pub origin_in_at : List NamedList → Place → Data → Result (Option ℕ) ConfigFault
 origin_in_at lists place d = maybe_at (text_as (ases_named lists)) place K.OriginIn d
+
+abbrev pub first_as_is_peer_at : Place → Data → Result (Option Bool) ConfigFault
+first_as_is_peer_at place d = maybe_at as_bool place K.FirstAsIsPeer d
 
 abbrev pub community_at : Place → Data → Result (Option ℕ) ConfigFault
 community_at place d = maybe_at (text_as community_of) place K.Community d
@@ -162,8 +171,11 @@ test_checks clients lists place d =
     fault_in (prefix_in_at lists place d)
     ∷ fault_in (from_at clients place d)
     ∷ fault_in (path_has_at place d)
+    ∷ fault_in (path_longer_at place d)
+    ∷ fault_in (path_in_at lists place d)
     ∷ fault_in (origin_as_at place d)
     ∷ fault_in (origin_in_at lists place d)
+    ∷ fault_in (first_as_is_peer_at place d)
     ∷ fault_in (community_at place d)
     ∷ fault_in (next_hop_is_peer_at place d)
     ∷ []
@@ -176,8 +188,11 @@ tests_of clients lists place d = record {
   prefix_in = value_or None (prefix_in_at lists place d);
   from = value_or None (from_at clients place d);
   path_has = value_or None (path_has_at place d);
+  path_longer = value_or None (path_longer_at place d);
+  path_in = value_or None (path_in_at lists place d);
   origin_as = value_or None (origin_as_at place d);
   origin_in = value_or None (origin_in_at lists place d);
+  first_as_is_peer = value_or None (first_as_is_peer_at place d);
   community = value_or None (community_at place d);
   next_hop_is_peer = value_or None (next_hop_is_peer_at place d);
 }

@@ -49,11 +49,13 @@ pub record IsSoundRule (count lists : ℕ) (rule : Rule) : Type 0 where
   pub range : IfSome rule.range IsSoundRange
   pub prefix_in : IfSome rule.tests.prefix_in (λ n. n < lists)
   pub from : IfSome rule.tests.from (λ c. c < count)
+  pub path_in : IfSome rule.tests.path_in (λ n. n < lists)
   pub origin_in : IfSome rule.tests.origin_in (λ n. n < lists)
   pub strip : StripsFew rule.action
 
+-- 64 tables, each of which may use 64 rules
 pub record AreSoundRules (count lists : ℕ) (rules : List Rule) : Type 0 where
-  pub few : length rules ≤ 64
+  pub few : length rules ≤ 4096
   pub each : All (IsSoundRule count lists) rules
 
 pub record IsSoundPolicy (count lists : ℕ) (policy : Policy) : Type 0 where

@@ -112,7 +112,15 @@ optional_tables most place (Some d) = tables_in most place d
 unfoldable pub tables_at : ℕ → Place → Key → Data → Result (List Data) ConfigFault
 tables_at most place k d = optional_tables most (keyed place k) (get (key_text k) d)
 
--- such an array that has to be there, and has a table
+abbrev pub needed_tables : ℕ → Place → Option Data → Result (List Data) ConfigFault
+needed_tables most place None = Err (Missing place)
+needed_tables most place (Some d) = tables_in most place d
+
+-- such an array that has to be there
+unfoldable pub needed_tables_at : ℕ → Place → Key → Data → Result (List Data) ConfigFault
+needed_tables_at most place k d = needed_tables most (keyed place k) (get (key_text k) d)
+
+-- and has a table
 abbrev pub some_tables : Place → Result (List Data) ConfigFault → Result (List Data) ConfigFault
 some_tables place (Ok []) = Err (Missing place)
 some_tables place r = r

@@ -1,9 +1,10 @@
 -- Which routes a rule matches, and what the rules make of a route.
 use Rattle.std.specs.List.{list_any}
-use Rattle.std.specs.Prelude.{ℕ, ◌-◌, ◌/◌, ◌^◌, ◌==◌, Bool, true, false, not, ◌&&◌, ◌||◌, nat_le, List, [], ◌∷◌, find, Option, Some, None, option_map, unwrap_or, if◌then◌else◌}
+use Rattle.std.specs.Prelude.{ℕ, ◌-◌, ◌/◌, ◌^◌, ◌==◌, Bool, true, false, not, ◌&&◌, ◌||◌, nat_le, nat_lt, List, [], ◌∷◌, find, Option, Some, None, option_map, unwrap_or, if◌then◌else◌}
 use Rattle.rs_octets.specs.Prefixes.{Prefix}
 use Rattle.rs_attrs.specs.Meaning.{Attribute}
-use Rattle.rs_attrs.specs.Getters.{path_has_of, origin_as_of, has_community, next_hop_of}
+use Rattle.rs_attrs.specs.Paths.{Segment}
+use Rattle.rs_attrs.specs.Getters.{path_of, path_length_of, path_has_of, origin_as_of, has_community, next_hop_of}
 use Rattle.rs_policy.specs.Configuration.{NamedList, Configuration, client_of, list_at, policy_of}
 use Rattle.rs_policy.specs.declared.rules.Disposition.{Disposition}
 use Rattle.rs_policy.specs.declared.rules.Disposition.TheVariants as D
@@ -14,10 +15,11 @@ use Rattle.rs_policy.specs.declared.rules.Action.TheVariants as A
 use Rattle.rs_policy.specs.declared.rules.Rule.{Rule}
 use Rattle.rs_policy.specs.declared.rules.Tests.{Tests}
 
--- a route as its sender announced it: the sender's place and address, the prefix and the attributes
+-- a route as its sender announced it: the sender's place, address and AS number, the prefix and the attributes
 pub record AnnouncedRoute : Type 0 where
   pub from : ℕ
   pub peer : ℕ
+  pub peer_as : ℕ
   pub prefix : Prefix
   pub attributes : List Attribute
 
@@ -53,10 +55,35 @@ origin_as_is n r = unwrap_or (option_map (λ o. o == n) (origin_as_of r.attribut
 abbrev pub origin_in : NamedList → AnnouncedRoute → Bool
 origin_in l r = unwrap_or (option_map (λ o. has_as l o) (origin_as_of r.attributes)) false
 
+-- some AS number of the path is in the list, in whatever segment it stands
+abbrev pub path_in : NamedList → AnnouncedRoute → Bool
+path_in l r = list_any (λ s. list_any (has_as l) s.numbers) (path_of r.attributes)
+
+-- the leftmost AS number of a path (RFC 4271, 6.3), whose segments have one at least
+abbrev pub first_of : List ℕ → Option ℕ
+first_of [] = None
+first_of (n ∷ ns) = Some n
+
+abbrev pub first_as : List Segment → Option ℕ
+first_as [] = None
+first_as (s ∷ path) = first_of s.numbers
+
+-- it is the AS number of the sender
+abbrev pub first_as_is_peer : AnnouncedRoute → Bool
+first_as_is_peer r = unwrap_or (option_map (λ n. n == r.peer_as) (first_as (path_of r.attributes))) false
+
 -- a test that isn't there holds
 abbrev pub holds : {A : Type 0} → (A → Bool) → Option A → Bool
 holds test None = true
 holds test (Some a) = test a
+
+-- the tests of the path but for its end
+abbrev pub path_matches : List NamedList → Tests → AnnouncedRoute → Bool
+path_matches lists tests r =
+    holds (λ n. path_has_of n r.attributes) tests.path_has
+    && (holds (λ n. path_in (list_at lists n) r) tests.path_in
+    && (holds (λ n. nat_lt n (path_length_of r.attributes)) tests.path_longer
+    && holds (λ b. if b then first_as_is_peer r else not (first_as_is_peer r)) tests.first_as_is_peer))
 
 -- the tests that walk communities and paths
 unfoldable pub attributes_match : List NamedList → Tests → AnnouncedRoute → Bool
@@ -64,7 +91,7 @@ attributes_match lists tests r =
     holds (λ n. has_community n r.attributes) tests.community
     && (holds (λ n. origin_as_is n r) tests.origin_as
     && (holds (λ n. origin_in (list_at lists n) r) tests.origin_in
-    && holds (λ n. path_has_of n r.attributes) tests.path_has))
+    && path_matches lists tests r))
 
 -- all tests of a rule hold, those that walk the attributes last
 unfoldable pub matches : List NamedList → Rule → AnnouncedRoute → Bool
@@ -110,7 +137,7 @@ joined (Some import) (Some export) =
 joined _ _ = dropped
 
 abbrev pub announced_route : Configuration → ℕ → Prefix → List Attribute → AnnouncedRoute
-announced_route s from p m = record { from = from; peer = (client_of s from).peer; prefix = p; attributes = m }
+announced_route s from p m = record { from = from; peer = (client_of s from).peer; peer_as = (client_of s from).client_as; prefix = p; attributes = m }
 
 -- by the sender's import list and the receiver's export list, both over the attributes as they were received (RFC 7947, 2.3)
 unfoldable pub verdict : Configuration → ℕ → ℕ → Prefix → List Attribute → Judgement

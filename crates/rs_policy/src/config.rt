@@ -6,6 +6,7 @@ pub(crate) mod named_lists;
 mod policies;
 mod replacing;
 mod rule_tables;
+pub(crate) mod shared_rules;
 mod texts;
 mod top;
 mod values;
@@ -24,9 +25,10 @@ use crate::config::clients::{Client, read_clients};
 use crate::config::named_lists::{NamedList, read_named_lists};
 use crate::config::policies::{Policy, read_policies};
 use crate::config::rule_tables::place_of;
-use crate::config::top::{Top, client_tables, list_tables, refuse_other_keys};
+use crate::config::shared_rules::{SharedRules, read_shared_rules};
+use crate::config::top::{Top, client_tables, list_tables, refuse_other_keys, shared_tables};
 use crate::faults::ConfigFault;
-use crate::rules::Disposition;
+use crate::rules::{Disposition, Rules};
 use std::alloc::Global;
 use std::marker::Model;
 use toml::value::Value;
@@ -37,19 +39,21 @@ pub struct Config {
     top: Top,
     clients: Vec<Client>,
     lists: Vec<NamedList>,
+    shared: Vec<SharedRules>,
     policies: Vec<Policy>,
 }
 
 impl Model for Config {
-    ghost use Rattle.rs_policy.specs.Configuration.{Configuration};
+    ghost use Rattle.std.specs.Prelude.{map};
+    ghost use Rattle.rs_policy.specs.Configuration.{Configuration, policy_written};
 
     ghost Value = { Configuration };
 
     ghost use Rattle.rs_policy.specs.Sound.{IsSound};
 
-    ghost view = { λ c. record { top = c.top; clients = c.clients.items; lists = c.lists.items; policies = c.policies.items } };
+    ghost view = { λ c. record { top = c.top; clients = c.clients.items; lists = c.lists.items; policies = map (policy_written c.shared.items) c.policies.items } };
 
-    ghost invariant = { λ c. IsSound (record { top = c.top; clients = c.clients.items; lists = c.lists.items; policies = c.policies.items }) };
+    ghost invariant = { λ c. IsSound (record { top = c.top; clients = c.clients.items; lists = c.lists.items; policies = map (policy_written c.shared.items) c.policies.items }) };
 }
 
 impl Config {
@@ -76,14 +80,17 @@ impl Config {
         let top = Top::read(document)?;
         let tables = client_tables(document)?;
         let named = list_tables(document)?;
+        let used = shared_tables(document)?;
         refuse_other_keys(document)?;
         let clients = read_clients(alloc, tables)?;
         let lists = read_named_lists(alloc, named)?;
-        let policies = read_policies(alloc, tables, &clients, &lists)?;
+        let shared = read_shared_rules(alloc, used, &clients, &lists)?;
+        let policies = read_policies(alloc, tables, &clients, &lists, &shared)?;
         Ok(Config {
             top,
             clients,
             lists,
+            shared,
             policies,
         })
     }
@@ -198,12 +205,22 @@ impl Config {
         self.top.default
     }
 
-    /// The rules of a client.
-    pub(crate) fn policy(&self, c: usize) -> &Policy
+    /// The rules for the routes that a client sends.
+    pub(crate) fn import(&self, c: usize) -> Rules<'_>
         requires { c < length self.now.clients }
-        ensures { result.now ≡ policy_of self.now c }
+        ensures { result ≡ (policy_of self.now c).import }
     {
-        &self.policies[c]
+        let policy = &self.policies[c];
+        Rules::of(&policy.import, &self.shared)
+    }
+
+    /// The rules for the routes that it is sent.
+    pub(crate) fn export(&self, c: usize) -> Rules<'_>
+        requires { c < length self.now.clients }
+        ensures { result ≡ (policy_of self.now c).export }
+    {
+        let policy = &self.policies[c];
+        Rules::of(&policy.export, &self.shared)
     }
 
     /// The lists that rules name.

@@ -25,6 +25,7 @@ pub enum Key {
     Multiprotocol,
     Client,
     List,
+    Rules,
     Name,
     Listen,
     Peer,
@@ -39,13 +40,17 @@ pub enum Key {
     PrefixIn,
     From,
     PathHas,
+    PathLonger,
+    PathIn,
     OriginAs,
     OriginIn,
+    FirstAsIsPeer,
     Community,
     NextHopIsPeer,
     Action,
     Preference,
     Strip,
+    Use,
     /// Any key that its table hasn't.
     Other,
 }
@@ -65,6 +70,7 @@ impl Key {
             Key::Multiprotocol => "multiprotocol",
             Key::Client => "client",
             Key::List => "list",
+            Key::Rules => "rules",
             Key::Name => "name",
             Key::Listen => "listen",
             Key::Peer => "peer",
@@ -79,25 +85,31 @@ impl Key {
             Key::PrefixIn => "prefix_in",
             Key::From => "from",
             Key::PathHas => "path_has",
+            Key::PathLonger => "path_longer",
+            Key::PathIn => "path_in",
             Key::OriginAs => "origin_as",
             Key::OriginIn => "origin_in",
+            Key::FirstAsIsPeer => "first_as_is_peer",
             Key::Community => "community",
             Key::NextHopIsPeer => "next_hop_is_peer",
             Key::Action => "action",
             Key::Preference => "preference",
             Key::Strip => "strip",
+            Key::Use => "use",
             Key::Other => "?",
         }
     }
 }
 
-/// A list of rules of a client.
+/// A list of rules: of a client, or one that others use.
 #[derive(Clone, Copy, Debug, PartialEq, Eq)]
 pub enum List {
     /// The rules for the routes that the client sends.
     Import,
     /// The rules for the routes that it is sent.
     Export,
+    /// Rules that lists of clients use.
+    Shared,
 }
 
 /// A table of a configuration. All are counted from 1.
@@ -106,7 +118,9 @@ pub enum Table {
     Top,
     /// The table of a client.
     Client(usize),
-    /// A rule of a list of rules of a client.
+    /// Rules that lists of clients use.
+    Rules(usize),
+    /// A rule of a list of rules, which is a client's or the rules of this number.
     Rule(usize, List, usize),
     /// A list that rules name.
     List(usize),
@@ -134,6 +148,8 @@ pub enum ConfigFault {
     Twice(usize),
     /// The list, counted from 1, has the name of an earlier one.
     TwiceList(usize),
+    /// The rules, counted from 1, have the name of earlier ones.
+    TwiceRules(usize),
     /// An array is too long.
     TooMany(Place),
     /// Memory was refused.
@@ -191,6 +207,7 @@ impl ConfigFault {
             ConfigFault::BadValue(place) => Line::of(b"bad value ").with_place(place),
             ConfigFault::Twice(client) => Line::of(b"twice ").with_client(*client),
             ConfigFault::TwiceList(list) => Line::of(b"twice ").with_named_list(*list),
+            ConfigFault::TwiceRules(rules) => Line::of(b"twice ").with_shared(*rules),
             ConfigFault::TooMany(place) => Line::of(b"too many ").with_place(place),
             ConfigFault::OutOfMemory => Line::of(b"out of memory"),
         }

@@ -3,13 +3,16 @@
 ghost use Rattle.std.specs.List.{Contains};
 ghost use Rattle.std.specs.Prelude.{◌≡◌, ◌↔◌, ℕ, List, None, Ok};
 ghost use Rattle.rs_octets.specs.Prefixes.{Prefix};
+ghost use Rattle.toml.specs.Data.{Data};
 ghost use Rattle.rs_policy.specs.Accepted.{AcceptedSays};
-ghost use Rattle.rs_policy.specs.Configuration.{Configuration};
+ghost use Rattle.rs_policy.specs.Configuration.{Client, NamedList, Configuration};
 ghost use Rattle.rs_policy.specs.Documents.{config_of};
 ghost use Rattle.rs_policy.specs.Replacing.{first_fixed, IsFixed};
 ghost use Rattle.rs_policy.specs.Sound.{IsSound};
 ghost use Rattle.rs_policy.specs.Verdicts.{has_prefix};
 ghost use Rattle.rs_policy.specs.NamedLists.{listing};
+ghost use Rattle.rs_policy.specs.Older.{AnswersAsBefore, IsOlder, IsOlderDocument, MeansWhatItMeant};
+ghost use Rattle.rs_policy.specs.declared.faults.Place.{Place};
 ghost use Rattle.rs_policy.specs.declared.rules.Range.{Range};
 
 /// A configuration may replace another exactly where all but the default, the limits and the rules is
@@ -33,9 +36,21 @@ pub fn a_list_ignores_order()
         → (p : Prefix) → has_prefix (listing xs) p ≡ has_prefix (listing ys) p }
 {}
 
+/// A rule without `path_longer`, `path_in` and `first_as_is_peer` has the fault and matches the routes that
+/// it had before there were these keys.
+pub fn an_older_rule_means_what_it_meant()
+    ensures { (clients : List Client) (lists : List NamedList) (place : Place) (d : Data) → IsOlder d → MeansWhatItMeant clients lists place d }
+{}
+
+/// A document without `rules` and `use` has the fault, or is the configuration, that it was before there were
+/// these keys.
+pub fn an_older_text_means_what_it_meant()
+    ensures { (d : Data) → IsOlderDocument d → AnswersAsBefore d }
+{}
+
 /// What every configuration has: an identifier, no Hold Time of 1 or 2 seconds, 1 to 512 clients of
 /// which no two have one name or one pair of `listen` and `peer`, at most 1,024 lists of which no two have
-/// one name, at most 64 rules in a list of rules, and rules whose lengths are in range and which name clients
+/// one name, at most 4,096 rules in a client's list with those that it uses, and rules whose lengths are in range and which name clients
 /// and lists that are there.
 pub fn every_configuration_is_sound()
     ensures { (text : List ℕ) (s : Configuration) → config_of text ≡ Ok s → IsSound s }

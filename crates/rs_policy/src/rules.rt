@@ -2,8 +2,10 @@
 
 pub(crate) mod verdict;
 
-ghost use Rattle.std.specs.Prelude.{◌≡◌};
+ghost use Rattle.std.specs.Prelude.{◌≡◌, true, []};
+ghost use Rattle.rs_policy.specs.Configuration.{written_out};
 
+use crate::config::shared_rules::SharedRules;
 use rs_octets::Prefix;
 use std::marker::Model;
 
@@ -72,9 +74,13 @@ pub(crate) struct Tests {
     /// The place of the sender, from 0.
     pub(crate) from: Option<usize>,
     pub(crate) path_has: Option<u32>,
+    pub(crate) path_longer: Option<u32>,
+    /// The place of a list with AS numbers, from 0.
+    pub(crate) path_in: Option<usize>,
     pub(crate) origin_as: Option<u32>,
     /// The place of a list with AS numbers, from 0.
     pub(crate) origin_in: Option<usize>,
+    pub(crate) first_as_is_peer: Option<bool>,
     pub(crate) community: Option<u32>,
     pub(crate) next_hop_is_peer: Option<bool>,
 }
@@ -85,4 +91,50 @@ pub(crate) struct Rule {
     pub(crate) range: Option<Range>,
     pub(crate) tests: Tests,
     pub(crate) action: Action,
+}
+
+/// What stands at a place of a client's list.
+#[derive(Debug, Drop)]
+pub(crate) enum Item {
+    Own(Rule),
+    /// The rules of this place, from 0, stand here.
+    Use(usize),
+}
+
+/// The rules of a client's list, those that it uses written out.
+#[derive(Drop)]
+pub(crate) struct Rules<'a> {
+    items: &'a [Item],
+    shared: &'a [SharedRules],
+}
+
+impl<'a> Model for Rules<'a> {
+    ghost use Rattle.std.specs.Prelude.{List};
+    ghost use Rattle.rs_policy.specs.declared.rules.Rule.{Rule};
+    ghost use Rattle.rs_policy.specs.Configuration.{written_out};
+
+    ghost Value = { List Rule };
+
+    ghost view = { λ r. written_out r.shared.now r.items.now };
+}
+
+impl<'a> Rules<'a> {
+    pub(crate) fn of(items: &'a [Item], shared: &'a [SharedRules]) -> Rules<'a>
+        ensures { result ≡ written_out shared.now items.now }
+    {
+        Rules { items, shared }
+    }
+
+    /// The places of the list, and the rules that they use.
+    pub(crate) fn parts(&self) -> (&'a [Item], &'a [SharedRules])
+        ensures { self.now ≡ written_out result.1.now result.0.now }
+    {
+        (self.items, self.shared)
+    }
+
+    pub(crate) fn is_empty(&self) -> bool
+        ensures { result ≡ true → self.now ≡ [] }
+    {
+        self.items.is_empty()
+    }
 }

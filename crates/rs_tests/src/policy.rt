@@ -6,6 +6,7 @@ mod lists;
 mod matching;
 mod replacing;
 mod routes;
+mod shared;
 mod table_faults;
 
 use rs_policy::*;

@@ -8,7 +8,7 @@ ghost use Rattle.toml.specs.View.{view};
 ghost use Rattle.rs_policy.specs.Keys.{key_text, is_among};
 ghost use Rattle.rs_policy.specs.Seen.{data_of, seen};
 ghost use Rattle.rs_policy.specs.Rules.{is_longer};
-ghost use Rattle.rs_policy.specs.Values.{list_of, is_table, tables_in, tables_at, some_tables_at, has_only, stranger};
+ghost use Rattle.rs_policy.specs.Values.{list_of, is_table, needed_tables_at, tables_in, tables_at, some_tables_at, has_only, stranger};
 
 use crate::config::values::find;
 use crate::faults::{ConfigFault, Key, Place};
@@ -71,6 +71,22 @@ pub(crate) fn tables(
 {
     match find(table, key) {
         None => Ok(&[]),
+        Some(value) => tables_in(value, most, Place { key, ..here }),
+    }
+}
+
+/// An array of tables that has to be there.
+#[tactic(auto, unfolding(crate::specs::Values::needed_tables_at))]
+pub(crate) fn needed_tables(
+    table: &Value,
+    most: usize,
+    here: Place,
+    key: Key,
+) -> Result<&[Value], ConfigFault>
+    ensures { seen result ≡ needed_tables_at most here key (view table.now) }
+{
+    match find(table, key) {
+        None => Err(ConfigFault::Missing(Place { key, ..here })),
         Some(value) => tables_in(value, most, Place { key, ..here }),
     }
 }

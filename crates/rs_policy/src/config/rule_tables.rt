@@ -3,30 +3,35 @@
 ghost use Rattle.std.specs.Prelude.{◌≡◌, IfOk, option_map, position, bytes_eq};
 ghost use Rattle.toml.specs.View.{view};
 ghost use Rattle.rs_policy.specs.Seen.{data_of};
-ghost use Rattle.rs_policy.specs.Values.{list_of, text_as, answer, Answers};
+ghost use Rattle.rs_policy.specs.Values.{list_of, text_as, answer, Answers, value_or};
 ghost use Rattle.rs_policy.specs.Rules.{ases_named, client_named, prefixes_named, range_checks, range_of, test_checks, tests_of, communities_of, stripping_of, strip_at, action_checks, action_of, rule_checks, rule_of};
+ghost use Rattle.rs_policy.specs.Documents.{shared_named, use_at, use_checks};
 
 use crate::config::arrays::{array_in, is_longer, refuse_others};
 use crate::config::clients::Client;
 use crate::config::named_lists::NamedList;
+use crate::config::shared_rules::SharedRules;
 use crate::config::values::{
-    CommunityText, Flag, Integer, Kind, Length, Nothing, POSITIVE, PassOrDrop, PrefixText, find,
-    maybe, optional, required,
+    ANY, CommunityText, Flag, Kind, Length, Nothing, POSITIVE, PassOrDrop, PrefixText, find, maybe,
+    optional, required,
 };
 use crate::faults::{ConfigFault, Key, Place};
 use crate::rules::{Action, Communities, Disposition, Range, Rule, Stripping, Tests};
 use std::alloc::{AllocError, Global};
 use toml::value::Value;
 
-const KEYS: [Key; 13] = [
+const KEYS: [Key; 16] = [
     Key::Prefix,
     Key::Min,
     Key::Max,
     Key::PrefixIn,
     Key::From,
     Key::PathHas,
+    Key::PathLonger,
+    Key::PathIn,
     Key::OriginAs,
     Key::OriginIn,
+    Key::FirstAsIsPeer,
     Key::Community,
     Key::NextHopIsPeer,
     Key::Action,
@@ -96,6 +101,28 @@ fn as_list_of(lists: &[NamedList], name: &str) -> Option<usize>
         .position(|list| list.name.as_str() == name && list.ases.is_some())
 }
 
+/// Names of rules that others use, as their places from 0.
+#[derive(Clone, Copy)]
+struct SharedOf<'a> {
+    shared: &'a [SharedRules],
+}
+
+impl Kind for SharedOf<'_> {
+    type Out = usize;
+
+    ghost reads = { λ k. text_as (shared_named k.shared.now) };
+
+    fn read(&self, value: &Value) -> Option<usize> {
+        shared_of(self.shared, value.as_str()?)
+    }
+}
+
+fn shared_of(shared: &[SharedRules], name: &str) -> Option<usize>
+    ensures { result ≡ shared_named shared.now name.now }
+{
+    shared.iter().position(|rules| rules.name.as_str() == name)
+}
+
 /// The client with this name, from 0.
 pub(crate) fn place_of(clients: &[Client], name: &str) -> Option<usize>
     ensures { result ≡ client_named clients.now name.now }
@@ -137,8 +164,11 @@ fn read_tests(
         prefix_in: maybe(table, here, Key::PrefixIn, PrefixListOf { lists })?,
         from: maybe(table, here, Key::From, NameOf { clients })?,
         path_has: maybe(table, here, Key::PathHas, POSITIVE)?,
+        path_longer: maybe(table, here, Key::PathLonger, ANY)?,
+        path_in: maybe(table, here, Key::PathIn, AsListOf { lists })?,
         origin_as: maybe(table, here, Key::OriginAs, POSITIVE)?,
         origin_in: maybe(table, here, Key::OriginIn, AsListOf { lists })?,
+        first_as_is_peer: maybe(table, here, Key::FirstAsIsPeer, Flag)?,
         community: maybe(table, here, Key::Community, CommunityText)?,
         next_hop_is_peer: maybe(table, here, Key::NextHopIsPeer, Flag)?,
     })
@@ -212,11 +242,7 @@ fn read_action(alloc: Global, table: &Value, here: Place) -> Result<Action, Conf
             Ok(Action::Drop)
         }
         Disposition::Pass => {
-            let any = Integer {
-                low: 0,
-                high: 4_294_967_295,
-            };
-            let preference = maybe(table, here, Key::Preference, any)?;
+            let preference = maybe(table, here, Key::Preference, ANY)?;
             let stripping = read_strip(alloc, table, here, Disposition::Pass)?;
             Ok(Action::Pass(preference, stripping))
         }
@@ -243,4 +269,18 @@ pub(crate) fn read_rule(
         tests,
         action,
     })
+}
+
+/// The place, from 0, of the rules that a table uses, or its first fault.
+#[tactic(auto, unfolding(crate::specs::Values::answer, crate::specs::Documents::use_checks))]
+pub(crate) fn read_use(
+    table: &Value,
+    here: Place,
+    shared: &[SharedRules],
+) -> Result<usize, ConfigFault>
+    ensures { result ≡ answer (use_checks shared.now here (view table.now)) (value_or 0 (use_at shared.now here (view table.now))) }
+{
+    let place = required(table, here, Key::Use, SharedOf { shared })?;
+    refuse_others(table, here, &[Key::Use])?;
+    Ok(place)
 }

@@ -3,7 +3,7 @@
 ghost use Rattle.std.specs.Prelude.{◌≡◌, ◌<◌, ◌≤◌, length, IfOk};
 ghost use Rattle.toml.specs.View.{view};
 ghost use Rattle.rs_policy.specs.Seen.{seen};
-ghost use Rattle.rs_policy.specs.Documents.{clients_at, lists_at, the_top};
+ghost use Rattle.rs_policy.specs.Documents.{all_shared_at, clients_at, lists_at, the_top};
 ghost use Rattle.rs_policy.specs.Keys.{top_keys};
 ghost use Rattle.rs_policy.specs.Values.{answer, stranger};
 
@@ -25,7 +25,7 @@ pub(crate) struct Top {
     pub(crate) multiprotocol: bool,
 }
 
-const KEYS: [Key; 9] = [
+const KEYS: [Key; 10] = [
     Key::As,
     Key::Identifier,
     Key::Hold,
@@ -35,6 +35,7 @@ const KEYS: [Key; 9] = [
     Key::Multiprotocol,
     Key::Client,
     Key::List,
+    Key::Rules,
 ];
 
 pub(crate) const TOP: Place = Place {
@@ -77,6 +78,13 @@ pub(crate) fn list_tables(document: &Value) -> Result<&[Value], ConfigFault>
     ensures few { IfOk result (λ ds. length ds.now ≤ 1024) }
 {
     tables(document, 1024, TOP, Key::List)
+}
+
+/// The tables of the rules that others use.
+pub(crate) fn shared_tables(document: &Value) -> Result<&[Value], ConfigFault>
+    ensures { seen result ≡ all_shared_at (view document.now) }
+{
+    tables(document, 256, TOP, Key::Rules)
 }
 
 /// Refuses a key that the top hasn't.

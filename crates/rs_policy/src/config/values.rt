@@ -52,6 +52,12 @@ pub(crate) const POSITIVE: Integer = Integer {
     high: 4_294_967_295,
 };
 
+/// Numbers of 32 bits.
+pub(crate) const ANY: Integer = Integer {
+    low: 0,
+    high: 4_294_967_295,
+};
+
 /// Lengths of prefixes, from `low` on.
 #[derive(Clone, Copy)]
 pub(crate) struct Length {
@@ -206,11 +212,7 @@ impl Kind for AsEntry {
     ghost reads = { λ k. as_entry };
 
     fn read(&self, value: &Value) -> Option<(u32, u32)> {
-        let any = Integer {
-            low: 0,
-            high: 4_294_967_295,
-        };
-        match any.read(value) {
+        match ANY.read(value) {
             Some(number) => Some((number, number)),
             None => texts::as_range(value.as_str()?.as_bytes()),
         }

@@ -1,7 +1,7 @@
 //! A line of text with a place in a configuration.
 
 ghost use Rattle.std.specs.Prelude.{◌≡◌, ◌+◌, ◌≤◌, ◌^◌, ◌<◌, length, codes, decimal, ◌++◌};
-ghost use Rattle.rs_policy.specs.FaultTexts.{client_text, named_list_text, rule_text, table_text, place_text};
+ghost use Rattle.rs_policy.specs.FaultTexts.{client_text, named_list_text, owner_text, rule_text, shared_text, table_text, place_text};
 
 use crate::faults::{List, Place, Table};
 use std::fmt;
@@ -90,16 +90,36 @@ impl Line {
         self.with(b"list ").with_number(list)
     }
 
+    pub(crate) fn with_shared(self, rules: usize) -> Line
+        requires { length self ≤ 20 }
+        ensures text { result ≡ self ++ shared_text rules }
+        ensures short { length result ≤ length self + 26 }
+    {
+        self.with(b"rules ").with_number(rules)
+    }
+
+    /// Whose list of rules it is.
+    fn with_owner(self, list: List, number: usize) -> Line
+        requires { length self ≤ 20 }
+        ensures text { result ≡ self ++ owner_text list number }
+        ensures short { length result ≤ length self + 27 }
+    {
+        match list {
+            List::Import | List::Export => self.with_client(number),
+            List::Shared => self.with_shared(number),
+        }
+    }
+
     fn with_rule(self, list: List, rule: usize) -> Line
         requires { length self ≤ 40 }
         ensures text { result ≡ self ++ rule_text list rule }
         ensures short { length result ≤ length self + 28 }
     {
-        let name = match list {
-            List::Import => b" import ",
-            List::Export => b" export ",
-        };
-        self.with(name).with_number(rule)
+        match list {
+            List::Import => self.with(b" import ").with_number(rule),
+            List::Export => self.with(b" export ").with_number(rule),
+            List::Shared => self.with(b" rules ").with_number(rule),
+        }
     }
 
     fn with_table(self, table: Table) -> Line
@@ -110,9 +130,11 @@ impl Line {
         match table {
             Table::Top => self,
             Table::Client(client) => self.with_client(client).with(b" "),
-            Table::Rule(client, list, rule) => {
-                self.with_client(client).with_rule(list, rule).with(b" ")
-            }
+            Table::Rules(rules) => self.with_shared(rules).with(b" "),
+            Table::Rule(number, list, rule) => self
+                .with_owner(list, number)
+                .with_rule(list, rule)
+                .with(b" "),
             Table::List(list) | Table::Entry(list, _) => self.with_named_list(list).with(b" "),
         }
     }

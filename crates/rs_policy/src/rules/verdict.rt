@@ -1,14 +1,17 @@
 //! What the rules make of a route.
 
 ghost use Rattle.std.specs.Prelude.{◌≡◌, ◌<◌, ◌≤◌, length, find, option_map};
-ghost use Rattle.rs_policy.specs.Verdicts.{attributes_match, front, has_as, has_prefix, in_range, joined, matches, next_hop_is_peer, origin_as_is, origin_in, passing, passing_by_default, outcome, verdict};
-ghost use Rattle.rs_policy.specs.Configuration.{list_at};
+ghost use Rattle.std.specs.List.{list_any};
+ghost use Rattle.rs_attrs.specs.Getters.{path_of};
+ghost use Rattle.rs_policy.specs.Verdicts.{attributes_match, front, has_as, has_prefix, in_range, joined, matches, next_hop_is_peer, origin_as_is, origin_in, path_in, path_matches, first_as, first_as_is_peer, passing, passing_by_default, outcome, verdict};
+ghost use Rattle.rs_policy.specs.Configuration.{list_at, rules_in};
 ghost use Rattle.rs_policy.specs.Judged.{offered, passed_as, judged};
 
 use crate::config::Config;
 use crate::config::named_lists::NamedList;
-use crate::rules::{Action, Disposition, Range, Rule, Stripping, Tests};
-use rs_attrs::{Attrs, Strip};
+use crate::config::shared_rules::SharedRules;
+use crate::rules::{Action, Disposition, Item, Range, Rule, Rules, Stripping, Tests};
+use rs_attrs::{Attrs, PathSegment, Strip};
 use rs_octets::Prefix;
 
 /// The preference of a route that no rule gives one.
@@ -33,6 +36,8 @@ struct Offer<'p, 'a> {
     from: usize,
     /// The sender's address.
     peer: u32,
+    /// The sender's AS number.
+    peer_as: u32,
     prefix: &'p Prefix,
     attrs: &'a Attrs,
 }
@@ -90,13 +95,83 @@ fn is_in_list(lists: &[NamedList], list: usize, prefix: &Prefix) -> bool
     }
 }
 
+fn as_is_in(lists: &[NamedList], list: usize, number: u32) -> bool
+    ensures { result ≡ has_as (list_at lists.now list) number }
+{
+    match lists.get(list) {
+        None => false,
+        Some(list) => list.has_as(number),
+    }
+}
+
 fn origin_is_in(lists: &[NamedList], list: usize, offer: &Offer<'_, '_>) -> bool
     ensures { result ≡ origin_in (list_at lists.now list) (offered offer.now) }
 {
-    match (lists.get(list), offer.attrs.origin_as()) {
-        (Some(list), Some(origin)) => list.has_as(origin),
-        _ => false,
+    match offer.attrs.origin_as() {
+        None => false,
+        Some(origin) => as_is_in(lists, list, origin),
     }
+}
+
+/// Whether an AS number of the segment is in the list.
+fn segment_is_in(lists: &[NamedList], list: usize, segment: &PathSegment<'_>) -> bool
+    ensures { result ≡ list_any (has_as (list_at lists.now list)) segment.now.numbers }
+{
+    segment
+        .numbers()
+        .any(|number| as_is_in(lists, list, number))
+}
+
+fn path_is_in(lists: &[NamedList], list: usize, offer: &Offer<'_, '_>) -> bool
+    ensures { result ≡ path_in (list_at lists.now list) (offered offer.now) }
+{
+    offer
+        .attrs
+        .path()
+        .any(|segment| segment_is_in(lists, list, &segment))
+}
+
+/// The leftmost AS number of AS_PATH (RFC 4271, 6.3).
+fn first_as(attrs: &Attrs) -> Option<u32>
+    ensures { result ≡ first_as (path_of attrs.now) }
+{
+    attrs.path().next()?.numbers().next()
+}
+
+fn first_as_is_peer(offer: &Offer<'_, '_>) -> bool
+    ensures { result ≡ first_as_is_peer (offered offer.now) }
+{
+    match first_as(offer.attrs) {
+        None => false,
+        Some(number) => number == offer.peer_as,
+    }
+}
+
+/// The tests of AS_PATH but for its end.
+fn path_matches(lists: &[NamedList], tests: &Tests, offer: &Offer<'_, '_>) -> bool
+    ensures { result ≡ path_matches lists.now tests.now (offered offer.now) }
+{
+    if let Some(number) = tests.path_has
+        && !offer.attrs.path_has(number)
+    {
+        return false;
+    }
+    if let Some(list) = tests.path_in
+        && !path_is_in(lists, list, offer)
+    {
+        return false;
+    }
+    if let Some(length) = tests.path_longer
+        && offer.attrs.path_len() <= length as usize
+    {
+        return false;
+    }
+    if let Some(wanted) = tests.first_as_is_peer
+        && first_as_is_peer(offer) != wanted
+    {
+        return false;
+    }
+    true
 }
 
 /// The tests that walk communities and paths.
@@ -119,12 +194,7 @@ fn attributes_match(lists: &[NamedList], tests: &Tests, offer: &Offer<'_, '_>) -
     {
         return false;
     }
-    if let Some(number) = tests.path_has
-        && !offer.attrs.path_has(number)
-    {
-        return false;
-    }
-    true
+    path_matches(lists, tests, offer)
 }
 
 #[tactic(auto, unfolding(crate::specs::Verdicts::matches))]
@@ -155,7 +225,8 @@ fn matches(lists: &[NamedList], rule: &Rule, offer: &Offer<'_, '_>) -> bool
     attributes_match(lists, tests, offer)
 }
 
-fn action_of<'a>(
+/// What the first rule that matches does.
+fn action_among<'a>(
     lists: &[NamedList],
     rules: &'a [Rule],
     offer: &Offer<'_, '_>,
@@ -170,12 +241,53 @@ fn action_of<'a>(
     None
 }
 
+/// The same at a place of a client's list.
+fn action_at<'a>(
+    lists: &[NamedList],
+    shared: &'a [SharedRules],
+    item: &'a Item,
+    offer: &Offer<'_, '_>,
+) -> Option<&'a Action>
+    ensures { option_map (λ a. a.now) result ≡ option_map (λ rule. rule.action) (find (λ rule. matches lists.now rule (offered offer.now)) (rules_in shared.now item.now)) }
+{
+    match item {
+        Item::Own(rule) => {
+            if matches(lists, rule, offer) {
+                Some(&rule.action)
+            } else {
+                None
+            }
+        }
+        Item::Use(place) => match shared.get(*place) {
+            None => None,
+            Some(used) => action_among(lists, &used.rules, offer),
+        },
+    }
+}
+
+/// The same of the whole list.
+fn action_of<'a>(
+    lists: &[NamedList],
+    rules: &Rules<'a>,
+    offer: &Offer<'_, '_>,
+) -> Option<&'a Action>
+    ensures { option_map (λ a. a.now) result ≡ option_map (λ rule. rule.action) (find (λ rule. matches lists.now rule (offered offer.now)) rules.now) }
+{
+    let (items, shared) = rules.parts();
+    for item in items {
+        if let Some(action) = action_at(lists, shared, item, offer) {
+            return Some(action);
+        }
+    }
+    None
+}
+
 /// How a list of rules passes a route, and None where it drops it.
 #[tactic(auto, unfolding(crate::specs::Verdicts::outcome))]
 fn outcome<'a>(
     default: Disposition,
     lists: &[NamedList],
-    rules: &'a [Rule],
+    rules: &Rules<'a>,
     offer: &Offer<'_, '_>,
 ) -> Option<Passed<'a>>
     ensures { option_map passed_as result ≡ outcome default lists.now rules.now (offered offer.now) }
@@ -235,8 +347,8 @@ pub fn judge<'a>(
     ensures { judged result ≡ verdict config.now from to prefix.now attrs.now }
 {
     let default = config.default();
-    let imports: &[Rule] = &config.policy(from).import;
-    let exports: &[Rule] = &config.policy(to).export;
+    let imports = config.import(from);
+    let exports = config.export(to);
     if imports.is_empty() && exports.is_empty() {
         return judge_without_rules(default);
     }
@@ -244,13 +356,14 @@ pub fn judge<'a>(
     let offer = Offer {
         from,
         peer: config.peer(from),
+        peer_as: config.client_as(from),
         prefix,
         attrs,
     };
-    let Some(import) = outcome(default, lists, imports, &offer) else {
+    let Some(import) = outcome(default, lists, &imports, &offer) else {
         return Verdict::Drop;
     };
-    let Some(export) = outcome(default, lists, exports, &offer) else {
+    let Some(export) = outcome(default, lists, &exports, &offer) else {
         return Verdict::Drop;
     };
     let given = export.preference.or(import.preference);

@@ -6,8 +6,10 @@
 //!     without SENTENCE                       the definitions are read without this one
 //!     client AS ADDRESS                      a client, in the order of the configuration
 //!     prefix_in BITS LENGTH MIN MAX ..       the list of prefixes of the next rule
-//!     origin_in FIRST LAST ..                its list of AS numbers
-//!     import PASSES PREFERENCE BITS LENGTH MIN MAX FROM PATH_HAS ORIGIN_AS COMMUNITY NEXT_HOP_IS_PEER STRIPS_ALL STRIP..
+//!     path_in FIRST LAST ..                  its list of AS numbers for the path
+//!     origin_in FIRST LAST ..                its list of AS numbers for the origin
+//!     import PASSES PREFERENCE BITS LENGTH MIN MAX FROM PATH_HAS PATH_LONGER ORIGIN_AS FIRST_AS_IS_PEER COMMUNITY
+//!         NEXT_HOP_IS_PEER STRIPS_ALL STRIP..
 //!     export ..                              a rule of the client above
 //!     heard HEX                              what came from it since its connection came
 //!     sent HEX                               what was sent to it since then
@@ -40,6 +42,7 @@ struct Case {
     exchange: Exchange,
     links: Vec<Link>,
     prefix_in: Option<Vec<Range>>,
+    path_in: Option<Vec<Numbers>>,
     origin_in: Option<Vec<Numbers>>,
     extended: bool,
     refresh: bool,
@@ -127,7 +130,7 @@ fn numbers(alloc: Global, words: &[&str]) -> Result<Vec<Numbers>, AllocError> {
 /// The communities that a rule takes away, one for each word behind the others.
 fn strips(alloc: Global, words: &[&str]) -> Result<Vec<u32>, AllocError> {
     let mut found = Vec::new(alloc);
-    for at in 13..words.len() {
+    for at in 15..words.len() {
         if let Some(community) = number(words, at) {
             found.push(community)?;
         }
@@ -154,6 +157,7 @@ impl Case {
             },
             links: Vec::new(alloc),
             prefix_in: None,
+            path_in: None,
             origin_in: None,
             extended: false,
             refresh: false,
@@ -192,13 +196,16 @@ impl Case {
             prefix_in: self.prefix_in.take(),
             from: number(words, 7).map(|it| it as usize),
             path_has: number(words, 8),
-            origin_as: number(words, 9),
+            path_longer: number(words, 9),
+            path_in: self.path_in.take(),
+            origin_as: number(words, 10),
             origin_in: self.origin_in.take(),
-            community: number(words, 10),
-            next_hop_is_peer: yes(words, 11),
+            first_as_is_peer: yes(words, 11),
+            community: number(words, 12),
+            next_hop_is_peer: yes(words, 13),
             passes: yes(words, 1) == Some(true),
             preference: number(words, 2),
-            strips_all: yes(words, 12) == Some(true),
+            strips_all: yes(words, 14) == Some(true),
             strips: strips(self.alloc, words)?,
         };
         if let Some(client) = self.exchange.clients.last_mut() {
@@ -236,6 +243,7 @@ impl Case {
             "without" => self.without = sentence(words.get(1).copied().unwrap_or("")),
             "client" => self.client(words)?,
             "prefix_in" => self.prefix_in = Some(ranges(self.alloc, words)?),
+            "path_in" => self.path_in = Some(numbers(self.alloc, words)?),
             "origin_in" => self.origin_in = Some(numbers(self.alloc, words)?),
             "import" => self.rule(words, true)?,
             "export" => self.rule(words, false)?,

@@ -1,6 +1,6 @@
 //! The candidates for a client at a prefix (RFC 7947, 2.3).
 
-use crate::plain::rules::{Rule, first_match};
+use crate::plain::rules::{Rule, Sender, first_match};
 use crate::plain::{Client, Exchange, Route, Sentence, Session, route_at};
 use rs_octets::Prefix;
 use std::alloc::{AllocError, Global};
@@ -37,8 +37,13 @@ fn offer<'a>(
     if route.attrs.path_has(exchange.number) && without != Some(Sentence::ServersAs) {
         return None;
     }
-    let import = first_match(&sender.import, place, sender.address, route);
-    let export = first_match(&to.export, place, sender.address, route);
+    let from = Sender {
+        place,
+        address: sender.address,
+        number: sender.number,
+    };
+    let import = first_match(&sender.import, from, route);
+    let export = first_match(&to.export, from, route);
     if !passes(exchange, import) && without != Some(Sentence::Import) {
         return None;
     }

@@ -1,7 +1,7 @@
 //! Lists that rules name: what is in them, and their faults.
 
 use super::matching::{drops, left};
-use super::routes::{Route, SET};
+use super::routes::{NOWHERE, Route, SET};
 use super::*;
 use crate::common::{ROUTE, prefix};
 
@@ -118,6 +118,35 @@ fn origins_in_lists(rt: HostRuntime) {
     }
     route.let_go();
     set.let_go();
+}
+
+/// Entries of `ases`, each list with whether an AS number of the path 64499 and the set of 64496 is in.
+const PATHS: [(&str, bool); 7] = [
+    ("", false),
+    ("64496", true),
+    ("64499", true),
+    ("0, 64495, \"64497-64498\", \"64500-4294967295\"", false),
+    ("\"64490-64497\"", true),
+    ("\"64498-64510\"", true),
+    ("\"0-4294967295\"", true),
+];
+
+/// An AS number of a route's path is in a list of these entries, or not.
+fn path_is_in(rt: &impl Abort, alloc: Global, route: &Route, entries: &str, is_in: bool) {
+    let list = listed(rt, alloc, "ases", entries);
+    goes_by_list(rt, alloc, route, list.as_str(), "path_in = \"l\"", is_in);
+}
+
+#[test]
+fn paths_in_lists(rt: HostRuntime) {
+    let set = Route::spelt(&rt, rt.alloc(), SET);
+    let nowhere = Route::spelt(&rt, rt.alloc(), NOWHERE);
+    for (entries, is_in) in &PATHS {
+        path_is_in(&rt, rt.alloc(), &set, entries, *is_in);
+        path_is_in(&rt, rt.alloc(), &nowhere, entries, false);
+    }
+    set.let_go();
+    nowhere.let_go();
 }
 
 /// What stands at the top besides a client, each with its fault.
@@ -243,7 +272,7 @@ fn faults_of_lists(rt: HostRuntime) {
 }
 
 /// Rules beside a list `p` of prefixes and a list `n` of AS numbers, each with its fault.
-const RULES: [(&str, &str); 9] = [
+const RULES: [(&str, &str); 15] = [
     ("prefix_in = \"p\", action = \"drop\"", "good"),
     ("origin_in = \"n\", action = \"drop\"", "good"),
     (
@@ -262,7 +291,28 @@ const RULES: [(&str, &str); 9] = [
         "origin_in = \"p\", action = \"drop\"",
         "bad value client 1 import 1 origin_in",
     ),
+    ("path_in = \"n\", action = \"drop\"", "good"),
+    (
+        "path_in = 64496, action = \"drop\"",
+        "bad value client 1 import 1 path_in",
+    ),
+    (
+        "path_in = \"p\", action = \"drop\"",
+        "bad value client 1 import 1 path_in",
+    ),
+    (
+        "path_in = \"q\", action = \"drop\"",
+        "bad value client 1 import 1 path_in",
+    ),
     // in the order of the keys
+    (
+        "origin_as = 0, path_in = \"q\"",
+        "bad value client 1 import 1 path_in",
+    ),
+    (
+        "first_as_is_peer = 1, origin_in = \"q\"",
+        "bad value client 1 import 1 origin_in",
+    ),
     (
         "max = 1, prefix_in = \"q\"",
         "bad value client 1 import 1 max",

@@ -1,6 +1,6 @@
 //! Which routes a rule matches: prefixes with their lengths, and what attributes say.
 
-use super::routes::{COLOURED, ELSEWHERE, Route, SET};
+use super::routes::{COLOURED, ELSEWHERE, NOWHERE, Route, SET, SET_FIRST};
 use crate::common::{ROUTE, prefix};
 use std::alloc::Global;
 use std::process::Abort;
@@ -85,7 +85,7 @@ fn prefixes_and_their_lengths(rt: HostRuntime) {
 }
 
 /// Tests of attributes, each with attributes and whether the rule matches.
-const ATTRIBUTES: [(&str, &[u8], bool); 15] = [
+const ATTRIBUTES: [(&str, &[u8], bool); 28] = [
     ("origin_as = 64496", &ROUTE, true),
     ("origin_as = 64499", &ROUTE, false),
     // a path whose last segment is a set has no origin
@@ -94,6 +94,21 @@ const ATTRIBUTES: [(&str, &[u8], bool); 15] = [
     ("path_has = 64496", SET, true),
     ("path_has = 64499", SET, true),
     ("path_has = 64500", SET, false),
+    // a set counts one (RFC 4271, 9.1.2.2, a)
+    ("path_longer = 0", &ROUTE, true),
+    ("path_longer = 1", &ROUTE, false),
+    ("path_longer = 1", SET, true),
+    ("path_longer = 2", SET, false),
+    ("path_longer = 1", SET_FIRST, false),
+    ("path_longer = 0", NOWHERE, false),
+    ("path_longer = 4294967295", SET, false),
+    // the leftmost by the position of octets (RFC 4271, 6.3)
+    ("first_as_is_peer = true", &ROUTE, true),
+    ("first_as_is_peer = false", &ROUTE, false),
+    ("first_as_is_peer = true", SET, false),
+    ("first_as_is_peer = false", SET, true),
+    ("first_as_is_peer = true", SET_FIRST, true),
+    ("first_as_is_peer = false", NOWHERE, true),
     ("next_hop_is_peer = true", &ROUTE, true),
     ("next_hop_is_peer = false", &ROUTE, false),
     ("next_hop_is_peer = true", ELSEWHERE, false),

@@ -12,6 +12,14 @@ pub(super) const SET: &[u8] = &[
     2, 11,
 ];
 
+/// `ROUTE`, but the path is empty.
+pub(super) const NOWHERE: &[u8] = &[0x40, 1, 1, 0, 0x40, 2, 0, 0x40, 3, 4, 192, 0, 2, 11];
+
+/// `ROUTE`, but the path is the set of 64496 and 64499.
+pub(super) const SET_FIRST: &[u8] = &[
+    0x40, 1, 1, 0, 0x40, 2, 10, 1, 2, 0, 0, 0xfb, 0xf0, 0, 0, 0xfb, 0xf3, 0x40, 3, 4, 192, 0, 2, 11,
+];
+
 /// `ROUTE` with NEXT_HOP 192.0.2.12.
 pub(super) const ELSEWHERE: &[u8] = &[
     0x40, 1, 1, 0, 0x40, 2, 6, 2, 1, 0, 0, 0xfb, 0xf0, 0x40, 3, 4, 192, 0, 2, 12,

@@ -114,7 +114,7 @@ const IN_A_CLIENT: [(&str, &str); 32] = [
 ];
 
 /// The keys of a rule, each with the cause and the key of its fault.
-const IN_A_RULE: [(&str, &str, &str); 37] = [
+const IN_A_RULE: [(&str, &str, &str); 43] = [
     ("", "missing", "action"),
     ("prefix = 1, action = \"pass\"", "bad value", "prefix"),
     (
@@ -176,6 +176,33 @@ const IN_A_RULE: [(&str, &str, &str); 37] = [
         "path_has = \"1\", action = \"pass\"",
         "bad value",
         "path_has",
+    ),
+    (
+        "path_longer = -1, action = \"pass\"",
+        "bad value",
+        "path_longer",
+    ),
+    (
+        "path_longer = 4294967296, action = \"pass\"",
+        "bad value",
+        "path_longer",
+    ),
+    // in the order of the keys
+    ("path_longer = \"1\", path_has = 0", "bad value", "path_has"),
+    (
+        "path_longer = true, path_in = 1",
+        "bad value",
+        "path_longer",
+    ),
+    (
+        "first_as_is_peer = \"true\", action = \"pass\"",
+        "bad value",
+        "first_as_is_peer",
+    ),
+    (
+        "first_as_is_peer = 1, community = 1",
+        "bad value",
+        "first_as_is_peer",
     ),
     (
         "origin_as = 4294967296, action = \"pass\"",

@@ -8,7 +8,7 @@ pub returns-in_err-policy-clause-answers : goal.returns-in_err-policy-clause-ans
 returns-in_err-policy-clause-answers c =
     passed_on_items _ _ _ c.from_residual-in_err-policy.ensures.1
     (λ other. c.loop-index.invariant.answer
-    ∙ walk-fails (policy_from c.args.clients.now c.args.lists.now) (policy_checks c.args.clients.now c.args.lists.now) _ _ _ _ _ _
+    ∙ walk-fails (policy_from c.args.clients.now c.args.lists.now c.args.shared.now) (policy_checks c.args.clients.now c.args.lists.now c.args.shared.now) _ _ _ _ _ _
     (data_of-drop c.args.tables.now c.loop-index.index c.index-tables-index.result (omega arith) c.index-tables-index.is)
     (c.in_err-policy.ensures.1 other))
 
@@ -18,7 +18,7 @@ loop-index-preserved c =
     record {
       answer = rw grown
           (c.loop-index.invariant.answer
-          ∙ walk-next (policy_from c.args.clients.now c.args.lists.now) (policy_checks c.args.clients.now c.args.lists.now) _ _ _ _ _ _
+          ∙ walk-next (policy_from c.args.clients.now c.args.lists.now c.args.shared.now) (policy_checks c.args.clients.now c.args.lists.now c.args.shared.now) _ _ _ _ _ _
           (data_of-drop c.args.tables.now c.loop-index.index c.index-tables-index.result (omega arith) c.index-tables-index.is)
           c.in_ok-policy.ensures.0);
       count = rw grown (omega (arith, c.loop-index.invariant.count, length-append c.loop-index.policies.items (c.in_ok-policy.policy ∷ [])));
@@ -27,7 +27,7 @@ loop-index-preserved c =
 pub returns-clause-answers : goal.returns-clause-answers
 returns-clause-answers c = (
   c.loop-index.invariant.answer
-      ∙ walk-end (policy_from c.args.clients.now c.args.lists.now) (policy_checks c.args.clients.now c.args.lists.now) _ _ _
+      ∙ walk-end (policy_from c.args.clients.now c.args.lists.now c.args.shared.now) (policy_checks c.args.clients.now c.args.lists.now c.args.shared.now) _ _ _
       (data_of-end c.args.tables.now c.loop-index.index (omega arith)),
   tt,
 )

@@ -7,8 +7,8 @@ use Rattle.rs_policy.proofs.config.policies.read_policies.Given as goal
 abbrev pub invariant-loop-index : goal.invariant-loop-index
 invariant-loop-index l = record {
   answer :
-      answer (policies_checks l.clients l.lists (data_of l.tables)) (policies_from l.clients l.lists (data_of l.tables))
-      ≡ answer (checks_from (policy_checks l.clients l.lists) (l.index + 1) (data_of (drop l.index l.tables)))
-      (l.policies.items ++ each_from (policy_from l.clients l.lists) (l.index + 1) (data_of (drop l.index l.tables)));
+      answer (policies_checks l.clients l.lists l.shared (data_of l.tables)) (policies_from l.clients l.lists l.shared (data_of l.tables))
+      ≡ answer (checks_from (policy_checks l.clients l.lists l.shared) (l.index + 1) (data_of (drop l.index l.tables)))
+      (l.policies.items ++ each_from (policy_from l.clients l.lists l.shared) (l.index + 1) (data_of (drop l.index l.tables)));
   count : length l.policies.items ≡ l.index;
 }

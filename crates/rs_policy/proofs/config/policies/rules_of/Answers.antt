@@ -9,7 +9,7 @@ pub returns-in_err-rule : goal.returns-in_err-rule
 returns-in_err-rule c =
     passed_on_items _ _ _ c.from_residual-in_err-rule.ensures.1
     (λ other. c.loop-index.invariant
-    ∙ walk-fails (λ r d. rule_of c.args.clients.now c.args.lists.now (rule_place c.args.client c.args.list r) d) (λ r d. rule_checks c.args.clients.now c.args.lists.now (rule_place c.args.client c.args.list r) d) _ _ _ _ _ _
+    ∙ walk-fails (λ r d. rule_of c.args.clients.now c.args.lists.now (rule_place c.args.number c.args.list r) d) (λ r d. rule_checks c.args.clients.now c.args.lists.now (rule_place c.args.number c.args.list r) d) _ _ _ _ _ _
     (data_of-drop c.args.tables.now c.loop-index.index c.index-tables-index.result (omega arith) c.index-tables-index.is)
     (c.in_err-rule.ensures.1 other))
 
@@ -18,14 +18,14 @@ loop-index-preserved c =
     let grown : c.push.new.self.items ≡ c.loop-index.rules.items ++ c.in_ok-rule.rule ∷ [] = c.in_ok-push.ensures.items in
     rw grown
     (c.loop-index.invariant
-    ∙ walk-next (λ r d. rule_of c.args.clients.now c.args.lists.now (rule_place c.args.client c.args.list r) d) (λ r d. rule_checks c.args.clients.now c.args.lists.now (rule_place c.args.client c.args.list r) d) _ _ _ _ _ _
+    ∙ walk-next (λ r d. rule_of c.args.clients.now c.args.lists.now (rule_place c.args.number c.args.list r) d) (λ r d. rule_checks c.args.clients.now c.args.lists.now (rule_place c.args.number c.args.list r) d) _ _ _ _ _ _
     (data_of-drop c.args.tables.now c.loop-index.index c.index-tables-index.result (omega arith) c.index-tables-index.is)
     c.in_ok-rule.ensures.0)
 
 pub returns : goal.returns
 returns c = (
   c.loop-index.invariant
-      ∙ walk-end (λ r d. rule_of c.args.clients.now c.args.lists.now (rule_place c.args.client c.args.list r) d) (λ r d. rule_checks c.args.clients.now c.args.lists.now (rule_place c.args.client c.args.list r) d) _ _ _
+      ∙ walk-end (λ r d. rule_of c.args.clients.now c.args.lists.now (rule_place c.args.number c.args.list r) d) (λ r d. rule_checks c.args.clients.now c.args.lists.now (rule_place c.args.number c.args.list r) d) _ _ _
       (data_of-end c.args.tables.now c.loop-index.index (omega arith)),
   tt,
 )

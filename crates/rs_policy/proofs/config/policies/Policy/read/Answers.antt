@@ -1,6 +1,6 @@
 use Rattle.std.proofs.Common.{◌≡◌, ◌∙◌, ap, Ok, List}
-use Rattle.rs_policy.specs.Configuration.{Policy}
-use Rattle.rs_policy.specs.declared.rules.Rule.{Rule}
+use Rattle.rs_policy.specs.Configuration.{Stated}
+use Rattle.rs_policy.specs.declared.rules.Item.{Item}
 use Rattle.rs_policy.proofs.Checks.{answer-value, answer-append-ok, answer-append-err, answer-ok_for, answer-err_for, passed_on}
 use Rattle.rs_policy.proofs.config.policies.Policy.read.Goals as goal
 
@@ -13,7 +13,7 @@ returns-in_err-export c =
     passed_on _ _ _ c.from_residual-in_err-export.ensures.1
     (λ other. answer-append-ok _ _ _ _ _ c.in_ok-import.ensures.0 ∙ answer-err_for _ _ _ _ (c.in_err-export.ensures.1 other))
 
-policy_of_parts : (a a' b b' : List Rule) → a ≡ a' → b ≡ b' → let x : Policy = record { import = a; export = b } in x ≡ record { import = a'; export = b' }
+policy_of_parts : (a a' b b' : List Item) → a ≡ a' → b ≡ b' → let x : Stated = record { import = a; export = b } in x ≡ record { import = a'; export = b' }
 policy_of_parts a a' b b' e f = cc
 
 pub returns : goal.returns
