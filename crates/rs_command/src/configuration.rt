@@ -1,6 +1,8 @@
 //! The file of the configuration, which both programs read before they begin.
 
-ghost use Rattle.std.specs.Prelude.{◌≡◌, ◌≢◌};
+ghost use Rattle.std.specs.Prelude.{◌≡◌, ◌≢◌, ◌≤◌, length, take, Ok, Err, IfOk, IfErr, IsOk, IsErr, IfSome, IfNone, IsUtf8};
+ghost use Rattle.rs_policy.specs.Documents.{config_of};
+ghost use Rattle.rs_policy.specs.declared.faults.ConfigFault.{ConfigFault};
 ghost use Rattle.rs_command.specs.declared.configuration.ConfigurationFault.TheVariants as faults;
 ghost use Rattle.rs_command.specs.declared.status.Status.TheVariants as statuses;
 
@@ -53,6 +55,12 @@ impl ConfigurationFault {
 }
 
 impl From<io::Error> for ConfigurationFault {
+    ghost use Rattle.std.specs.Prelude.{◌≢◌};
+    ghost use Rattle.rs_policy.specs.declared.faults.ConfigFault.{ConfigFault};
+    ghost use Rattle.rs_command.specs.declared.configuration.ConfigurationFault.TheVariants as faults;
+
+    ghost from_gives = { λ _ e. (e ≢ faults.TooLarge) × ((fault : ConfigFault) → e ≢ faults.Text fault) };
+
     fn from(error: io::Error) -> ConfigurationFault {
         match error.kind() {
             ErrorKind::OutOfMemory => ConfigurationFault::Memory,
@@ -78,19 +86,42 @@ const MOST: u64 = 67_108_864;
 pub fn read_configuration_from<F: Read>(
     alloc: Global,
     reader: &mut F,
-) -> Result<Config, ConfigurationFault> {
+) -> Result<Config, ConfigurationFault>
+    ensures good { IfOk result (λ config. IfSome (F.remaining reader.old) (λ all. config_of (take 67108864 all) ≡ Ok config)) }
+    ensures fault { IfErr result (λ e. (fault : ConfigFault) → e ≡ faults.Text fault → IfSome (F.remaining reader.old) (λ all. config_of (take 67108864 all) ≡ Err fault)) }
+    ensures large { IfErr result (λ e. e ≡ faults.TooLarge → IfSome (F.remaining reader.old) (λ all. 67108864 ≤ length all)) }
+{
+    let Some(octets) = octets_of(alloc, reader)? else {
+        return Err(ConfigurationFault::TooLarge);
+    };
+    configuration_of(alloc, &octets)
+}
+
+/// All octets that a reader gives; None where they are more than are read.
+pub fn octets_of<F: Read>(alloc: Global, reader: &mut F) -> io::Result<Option<Vec<u8>>>
+    ensures front { IfOk result (λ o. IfSome o (λ octets. IfSome (F.remaining reader.old) (λ all. octets.items ≡ take 67108864 all))) }
+    ensures large { IfOk result (λ o. IfNone o (IfSome (F.remaining reader.old) (λ all. 67108864 ≤ length all))) }
+{
     let mut octets = Vec::new(alloc);
     let mut front = reader.take(MOST);
     front.read_to_end(&mut octets)?;
     let mut more = [0u8];
     if octets.len() as u64 == MOST && front.into_inner().read(&mut more)? > 0 {
-        return Err(ConfigurationFault::TooLarge);
+        return Ok(None);
     }
-    configuration_of(alloc, &octets)
+    Ok(Some(octets))
 }
 
 /// The configuration whose text these octets are.
-fn configuration_of(alloc: Global, octets: &[u8]) -> Result<Config, ConfigurationFault> {
+pub fn configuration_of(alloc: Global, octets: &[u8]) -> Result<Config, ConfigurationFault>
+    ensures good { IfOk result (λ config. config_of octets.now ≡ Ok config) }
+    ensures fault { IfErr result (λ e. (fault : ConfigFault) → e ≡ faults.Text fault → config_of octets.now ≡ Err fault) }
+    ensures faulty { IfErr result (λ e. e ≢ faults.Memory → IsUtf8 octets.now → IsErr (config_of octets.now)) }
+    ensures text { IsOk result → IsUtf8 octets.now }
+    ensures no_text { IfErr result (λ e. e ≢ faults.Memory → ¬ (IsUtf8 octets.now) → e ≡ faults.Unreadable) }
+    ensures readable { IfErr result (λ e. IsUtf8 octets.now → e ≢ faults.Unreadable) }
+    ensures small { IfErr result (λ e. e ≢ faults.TooLarge) }
+{
     let Ok(text) = str::from_utf8(octets) else {
         return Err(ConfigurationFault::Unreadable);
     };

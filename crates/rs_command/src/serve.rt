@@ -3,9 +3,20 @@
 use crate::Asked;
 use crate::arguments::{config, flag, number};
 use crate::version::VERSION;
-use clap::{ArgMatches, Command, Error};
+use clap::{Arg, ArgMatches, Command, Error};
 use std::alloc::{AllocError, Global};
 use std::io;
+
+/// How much is told on standard error.
+#[derive(Clone, Copy, Debug, PartialEq, Eq)]
+pub enum LogLevel {
+    Error,
+    Change,
+    Route,
+}
+
+/// The levels as they are spelt.
+const LEVELS: &[&str] = &["error", "change", "route"];
 
 /// What to serve, and how long.
 #[derive(Drop)]
@@ -18,8 +29,10 @@ pub struct Options {
     pub sessions: Option<u64>,
     /// After how many rounds the configuration is read again, from 1; never where there is none.
     pub reload: Option<u16>,
-    /// Reports are printed on standard error.
-    pub log: bool,
+    /// Which reports are printed on standard error; none where there is no level.
+    pub log: Option<LogLevel>,
+    /// They begin with the time of day.
+    pub utc: bool,
     /// The configuration is only to be read.
     pub check: bool,
 }
@@ -45,9 +58,33 @@ fn options_of(alloc: Global, matches: &ArgMatches<'_>) -> Result<Options, AllocE
         workers: matches.get_one::<usize>("workers").unwrap_or(1),
         sessions: matches.get_one::<u64>("sessions"),
         reload: matches.get_one::<u16>("reload"),
-        log: matches.get_flag("log"),
+        log: level_of(matches.get_str("log")),
+        utc: matches.get_flag("utc"),
         check: matches.get_flag("check"),
     })
+}
+
+/// The level with this name.
+fn level_of(name: Option<&str>) -> Option<LogLevel> {
+    match name? {
+        "error" => Some(LogLevel::Error),
+        "change" => Some(LogLevel::Change),
+        "route" => Some(LogLevel::Route),
+        _ => None,
+    }
+}
+
+/// `--log` or `--log LEVEL`.
+fn log<'a>(alloc: Global) -> Arg<'a> {
+    Arg::new(alloc, "log")
+        .long("log")
+        .value_name("LEVEL")
+        .num_args(0..=1)
+        .default_missing_value("route")
+        .value_parser(LEVELS)
+        .help(
+            "print on standard error what happens, and why: what goes wrong, what changes too, or all",
+        )
 }
 
 /// The command line that is understood.
@@ -74,10 +111,11 @@ fn command<'a>(alloc: Global) -> Result<Command<'a>, AllocError> {
             u32::from(u16::MAX),
             "read the configuration again every N rounds, and use its rules where they are good",
         ))?
+        .arg(log(alloc))?
         .arg(flag(
             alloc,
-            "log",
-            "print on standard error what happens, and why",
+            "utc",
+            "begin these lines with the time of day, in place of the seconds since the start",
         ))?
         .arg(flag(
             alloc,

@@ -1,6 +1,9 @@
 //! The program that plays a recorded session: standard input to standard output.
 #![tactic(auto)]
 
+mod output;
+
+use crate::output::Output;
 use rs_command::configuration::read_configuration;
 use rs_command::replay::{Options, read_command};
 use rs_command::{Asked, Status};
@@ -35,26 +38,40 @@ fn report_asking_fault<R: Eprint>(rt: &R, error: &io::Error) -> Status {
     Status::Failed
 }
 
+/// Why a trace was not played as a whole.
+#[derive(Clone, Copy, Debug, Drop)]
+enum Ended {
+    /// It was not played to its end, or could not be written.
+    Fault(ReplayFault),
+    /// Nobody reads on what is written.
+    Unread,
+}
+
 /// Plays standard input to standard output.
 fn play<R: Input + Print + AllocGlobal + Threads + Wait + Sync, P: Watch>(
     rt: &R,
     watch: &mut P,
     config: Config,
     workers: usize,
-) -> Result<(), ReplayFault> {
+) -> Result<(), Ended> {
     let alloc = rt.alloc();
     let Ok(buffered) = BufWriter::new(alloc, io::writer(rt)) else {
-        return Err(ReplayFault::Memory);
+        return Err(Ended::Fault(ReplayFault::Memory));
     };
     let mut reader = OverRead::new(rt.reader());
-    let mut writer = OverWrite::new(buffered);
+    let mut writer = OverWrite::new(Output::new(buffered));
     let workers = workers.clamp(1, 16);
     let played = replay(rt, alloc, &mut reader, &mut writer, watch, config, workers);
     let flushed = writer.flush();
     match played {
-        Ok(()) | Err(ReplayFault::Line(_, _)) if flushed.is_err() => Err(ReplayFault::Writing),
-        played => played,
+        Err(ReplayFault::Memory | ReplayFault::Reading) => {}
+        _ if writer.writer.is_closed() => return Err(Ended::Unread),
+        Ok(()) | Err(ReplayFault::Line(_, _)) if flushed.is_err() => {
+            return Err(Ended::Fault(ReplayFault::Writing));
+        }
+        _ => {}
     }
+    played.map_err(Ended::Fault)
 }
 
 /// Plays standard input to standard output, and prints on standard error how far it is.
@@ -62,17 +79,19 @@ fn play_watched<R: Input + Print + Eprint + AllocGlobal + Threads + Wait + Sync>
     rt: &R,
     config: Config,
     workers: usize,
-) -> Result<(), ReplayFault> {
-    match Progress::new(rt, rt.alloc(), config.clients()) {
-        Ok(mut progress) => play(rt, &mut progress, config, workers),
-        Err(_) => Err(ReplayFault::Memory),
-    }
+) -> Result<(), Ended> {
+    let Ok(mut progress) = Progress::new(rt, rt.alloc(), config.clients()) else {
+        return Err(Ended::Fault(ReplayFault::Memory));
+    };
+    let played = play(rt, &mut progress, config, workers);
+    progress.finish();
+    played
 }
 
-fn status_of(played: Result<(), ReplayFault>) -> Status {
+fn status_of(played: Result<(), Ended>) -> Status {
     match played {
         Ok(()) => Status::Done,
-        Err(ReplayFault::Line(_, _)) => Status::BadTrace,
+        Err(Ended::Fault(ReplayFault::Line(_, _))) => Status::BadTrace,
         Err(_) => Status::Failed,
     }
 }
@@ -98,7 +117,7 @@ fn start<R: Env + Files + Input + Print + Eprint + AllocGlobal + Threads + Wait 
         play(rt, &mut Unwatched, config, options.workers)
     };
     let status = status_of(played);
-    if let Err(fault) = played
+    if let Err(Ended::Fault(fault)) = played
         && status == Status::Failed
     {
         let _ = eprintln!(rt; "{fault}");

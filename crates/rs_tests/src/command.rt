@@ -1,7 +1,9 @@
 //! What command lines ask for, what is printed for those that ask for nothing, and the statuses.
 
+mod checking;
 mod configuration;
 
+use rs_command::serve::LogLevel;
 use rs_command::{Asked, Status, replay, serve};
 use std::alloc::{AllocError, Global};
 use std::cell::RefCell;
@@ -34,7 +36,8 @@ Options:
       --workers <N>    how many threads decide where much has changed, 1 to 16 (1 if missing)
       --sessions <N>   end once so many sessions have ended
       --reload <N>     read the configuration again every N rounds, and use its rules where they are good
-      --log            print on standard error what happens, and why
+      --log [<LEVEL>]  print on standard error what happens, and why: what goes wrong, what changes too, or all [possible values: error, change, route]
+      --utc            begin these lines with the time of day, in place of the seconds since the start
       --check          only read the configuration, and say whether it is good
   -h, --help           Print help
   -V, --version        Print version
@@ -133,7 +136,14 @@ fn is_served<R: Abort>(
     rt: &R,
     alloc: Global,
     line: &str,
-    wanted: (&str, usize, Option<u64>, Option<u16>, bool, bool),
+    wanted: (
+        &str,
+        usize,
+        Option<u64>,
+        Option<u16>,
+        Option<LogLevel>,
+        bool,
+    ),
 ) -> Result<(), Fail> {
     let streams = Streams::new(alloc);
     let words = words_of(alloc, line)?;
@@ -190,26 +200,48 @@ fn options_to_serve_by(rt: HostRuntime) -> Result<(), Fail> {
         &rt,
         alloc,
         "rs_served --config a",
-        ("a", 1, None, None, false, false),
+        ("a", 1, None, None, None, false),
     )?;
     is_served(
         &rt,
         alloc,
         "rs_served --config a --workers=16 --sessions 4294967295 --reload 65535 --log",
-        ("a", 16, Some(4_294_967_295), Some(65_535), true, false),
+        (
+            "a",
+            16,
+            Some(4_294_967_295),
+            Some(65_535),
+            Some(LogLevel::Route),
+            false,
+        ),
     )?;
     is_served(
         &rt,
         alloc,
         "rs_served --check --reload 1 --sessions 1 --config a",
-        ("a", 1, Some(1), Some(1), false, true),
+        ("a", 1, Some(1), Some(1), None, true),
     )?;
     is_served(
         &rt,
         alloc,
         "rs_served --check -ca",
-        ("a", 1, None, None, false, true),
+        ("a", 1, None, None, None, true),
     )
+}
+
+#[test]
+fn levels_of_the_log(rt: HostRuntime) -> Result<(), Fail> {
+    let alloc = rt.alloc();
+    for (line, level) in [
+        ("rs_served --log -c a", LogLevel::Route),
+        ("rs_served --log error -c a", LogLevel::Error),
+        ("rs_served --log=change --utc -c a", LogLevel::Change),
+        ("rs_served -c a --log route", LogLevel::Route),
+    ] {
+        is_served(&rt, alloc, line, ("a", 1, None, None, Some(level), false))?;
+    }
+    is_refused(&rt, alloc, "rs_served -c a --log errors")?;
+    is_refused(&rt, alloc, "rs_served -c a --log --log")
 }
 
 #[test]

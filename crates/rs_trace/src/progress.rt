@@ -133,11 +133,18 @@ impl<'a, R: Eprint> Progress<'a, R> {
         is_other
     }
 
-    /// Prints how far the replay is.
+    /// Prints how far the replay is, in the place of what was printed before.
     fn report(&mut self, number: u64) {
         self.reported_at = number;
         // Where standard error is closed nobody can read it.
-        let _ = eprintln!(self.rt; "{number} lines read, {} UPDATEs heard", self.updates);
+        let _ = eprint!(self.rt; "\r{number} lines read, {} UPDATEs heard", self.updates);
+    }
+
+    /// Ends the line, where something was printed.
+    pub fn finish(&self) {
+        if self.reported_at > 0 {
+            let _ = eprintln!(self.rt);
+        }
     }
 }
 

@@ -12,12 +12,12 @@ use std::time::{SystemTime, UNIX_EPOCH};
 use std::{env, fs, io};
 
 /// Two members.
-const GOOD: &str = "as = 64500\nidentifier = \"192.0.2.1\"\n\
+pub(super) const GOOD: &str = "as = 64500\nidentifier = \"192.0.2.1\"\n\
 [[client]]\nname = \"a\"\nas = 64496\nlisten = \"127.0.0.1:17901\"\npeer = \"192.0.2.11\"\n\
 [[client]]\nname = \"b\"\nas = 64497\nlisten = \"127.0.0.1:17902\"\npeer = \"192.0.2.12\"\n";
 
 /// The identifier is missing, and the hold time is too short.
-const TWO_FAULTS: &str = "as = 64500\nhold = 2\n\
+pub(super) const TWO_FAULTS: &str = "as = 64500\nhold = 2\n\
 [[client]]\nname = \"a\"\nas = 64496\nlisten = \"127.0.0.1:17901\"\npeer = \"192.0.2.11\"\n";
 
 /// The identifier, as a place of a configuration.

@@ -1,0 +1,3 @@
+pub mod Positions
+pub mod Forms
+pub mod Warnings

@@ -1,0 +1,297 @@
+//! Where a value of a document stands in its text. The text was read as a document before, so what
+//! isn't found here is spelt in another way than configurations are.
+
+use std::alloc::{AllocError, AllocFailed, Global};
+use toml_parser::text::{byte_at, first, skip, skip_blank, skip_ws};
+use toml_parser::{Key, ParseError, dotted_key, quoted, starts_string, unquoted};
+
+/// A step on the way to a value.
+#[derive(Clone, Copy, Debug)]
+pub(crate) enum Step<'a> {
+    /// The value at a key of a table.
+    Key(&'a str),
+    /// A value of an array, counted from 0.
+    Item(usize),
+}
+
+/// Where something stands in a text. All are numbers of octets before it.
+#[derive(Clone, Copy, Debug)]
+pub(crate) enum Spot {
+    /// A value and its key. A value of an array has no key, and `key` is where it begins.
+    Value {
+        key: usize,
+        start: usize,
+        stop: usize,
+    },
+    /// The header of a table.
+    Header {
+        start: usize,
+        stop: usize,
+    },
+}
+
+/// Why nothing is found.
+#[derive(Clone, Copy, Debug)]
+pub(crate) enum Lost {
+    Memory,
+    Nowhere,
+}
+
+impl From<ParseError> for Lost {
+    fn from(error: ParseError) -> Lost {
+        match error {
+            ParseError::OutOfMemory => Lost::Memory,
+            ParseError::At(_, _, _) => Lost::Nowhere,
+        }
+    }
+}
+
+impl From<AllocError> for Lost {
+    fn from(_error: AllocError) -> Lost {
+        Lost::Memory
+    }
+}
+
+impl<T: Drop> From<AllocFailed<T>> for Lost {
+    fn from(_error: AllocFailed<T>) -> Lost {
+        Lost::Memory
+    }
+}
+
+/// What follows an ASCII character.
+fn behind_octet(s: &str) -> Result<&str, Lost> {
+    match first(s) {
+        0 | 128.. => Err(Lost::Nowhere),
+        _ => Ok(skip(s, 1)),
+    }
+}
+
+/// What follows the bracket that closes the first one.
+fn behind_brackets<'t>(alloc: Global, s: &'t str) -> Result<&'t str, Lost> {
+    let mut rest = s;
+    let mut open: usize = 0;
+    for _ in 0..s.len() {
+        let start = skip_blank(rest, true);
+        if starts_string(start) {
+            let (_, after) = quoted(alloc, start)?;
+            rest = after;
+            continue;
+        }
+        open = match first(start) {
+            b'[' | b'{' => open.saturating_add(1),
+            b']' | b'}' => open.saturating_sub(1),
+            _ => open,
+        };
+        rest = behind_octet(start)?;
+        if open == 0 {
+            return Ok(rest);
+        }
+    }
+    Err(Lost::Nowhere)
+}
+
+/// What follows a value.
+fn behind_value<'t>(alloc: Global, s: &'t str) -> Result<&'t str, Lost> {
+    if starts_string(s) {
+        let (_, rest) = quoted(alloc, s)?;
+        return Ok(rest);
+    }
+    match first(s) {
+        b'[' | b'{' => behind_brackets(alloc, s),
+        _ => {
+            let (_, rest) = unquoted(alloc, s)?;
+            Ok(rest)
+        }
+    }
+}
+
+/// What follows the comma behind a value.
+fn behind_comma(s: &str) -> Result<&str, Lost> {
+    let rest = skip_blank(s, true);
+    if first(rest) == b',' {
+        behind_octet(rest)
+    } else {
+        Err(Lost::Nowhere)
+    }
+}
+
+/// A key, and the text from its value on.
+fn key_and_value<'t>(alloc: Global, s: &'t str) -> Result<(Key, &'t str), Lost> {
+    let (key, rest) = dotted_key(alloc, s)?;
+    if first(rest) != b'=' {
+        return Err(Lost::Nowhere);
+    }
+    Ok((key, skip_ws(behind_octet(rest)?)))
+}
+
+/// Whether a key is this one, without a dot.
+fn is_key(key: &Key, wanted: &str) -> bool {
+    key.path.is_empty() && key.last.as_str() == wanted
+}
+
+/// A value of an array, counted from 0: the text from it on.
+fn item<'t>(alloc: Global, s: &'t str, number: usize) -> Result<&'t str, Lost> {
+    let mut rest = behind_octet(s)?;
+    for _ in 0..number {
+        let value = skip_blank(rest, true);
+        rest = behind_comma(behind_value(alloc, value)?)?;
+    }
+    let value = skip_blank(rest, true);
+    if first(value) == b']' {
+        return Err(Lost::Nowhere);
+    }
+    Ok(value)
+}
+
+/// The value at a key of an inline table: the text from the key on, and from the value on.
+fn member<'t>(alloc: Global, s: &'t str, wanted: &str) -> Result<(&'t str, &'t str), Lost> {
+    let mut rest = behind_octet(s)?;
+    for _ in 0..s.len() {
+        let start = skip_blank(rest, true);
+        let (key, value) = key_and_value(alloc, start)?;
+        if is_key(&key, wanted) {
+            return Ok((start, value));
+        }
+        rest = behind_comma(behind_value(alloc, value)?)?;
+    }
+    Err(Lost::Nowhere)
+}
+
+/// The value that the steps lead to from a pair of a key and a value.
+fn within<'t>(
+    alloc: Global,
+    pair: (&'t str, &'t str),
+    steps: &[Step<'_>],
+) -> Result<(&'t str, &'t str), Lost> {
+    let mut at = pair;
+    for step in steps {
+        at = match (step, first(at.1)) {
+            (Step::Item(number), b'[') => {
+                let value = item(alloc, at.1, *number)?;
+                (value, value)
+            }
+            (Step::Key(key), b'{') => member(alloc, at.1, key)?,
+            _ => return Err(Lost::Nowhere),
+        };
+    }
+    Ok(at)
+}
+
+/// The section of a document that a text is in, beside the steps to a value: a key and a number in turn.
+#[derive(Clone, Copy, Debug)]
+struct Section {
+    /// How many of the steps lead to the section; None where it lies aside.
+    made: Option<usize>,
+    /// How many headers of the arrays on the way were seen.
+    seen: [usize; 2],
+}
+
+impl Section {
+    /// Counts a header of the array that so many steps lead to, and forgets those of the arrays in it.
+    fn count(&mut self, made: usize) {
+        let [outer, inner] = self.seen;
+        self.seen = if made < 2 {
+            [outer.saturating_add(1), 0]
+        } else {
+            [outer, inner.saturating_add(1)]
+        };
+    }
+
+    /// Goes on by a part of a header's key; a header of an array adds a table where it ends.
+    fn go_on(&mut self, steps: &[Step<'_>], part: &str, adds: bool) {
+        let Some(made) = self.made else {
+            return;
+        };
+        self.made = None;
+        match steps.get(made) {
+            Some(Step::Key(key)) if *key == part => {}
+            _ => return,
+        }
+        let Some(Step::Item(number)) = steps.get(made.saturating_add(1)) else {
+            self.made = Some(made.saturating_add(1));
+            return;
+        };
+        if adds {
+            self.count(made);
+        }
+        let [outer, inner] = self.seen;
+        let seen = if made < 2 { outer } else { inner };
+        if seen == number.saturating_add(1) {
+            self.made = Some(made.saturating_add(2));
+        }
+    }
+
+    /// Goes into the section of the header at the front of a text, and answers what follows it.
+    fn enter<'t>(
+        &mut self,
+        alloc: Global,
+        s: &'t str,
+        steps: &[Step<'_>],
+    ) -> Result<&'t str, Lost> {
+        let is_array = byte_at(s, 1) == b'[';
+        let inside = behind_octet(s)?;
+        let inside = if is_array {
+            behind_octet(inside)?
+        } else {
+            inside
+        };
+        let (key, rest) = dotted_key(alloc, skip_ws(inside))?;
+        self.made = Some(0);
+        for part in &key.path {
+            self.go_on(steps, part.as_str(), false);
+        }
+        self.go_on(steps, key.last.as_str(), is_array);
+        let rest = behind_octet(rest)?;
+        if is_array {
+            behind_octet(rest)
+        } else {
+            Ok(rest)
+        }
+    }
+
+    /// The steps that are left, from a key at the front on.
+    fn left<'s, 'a>(&self, steps: &'s [Step<'a>], key: &Key) -> Option<&'s [Step<'a>]> {
+        match steps.get(self.made?..)? {
+            [Step::Key(wanted), left @ ..] if is_key(key, wanted) => Some(left),
+            _ => None,
+        }
+    }
+}
+
+/// How many octets of a text stand before its end.
+fn before(text: &str, end: &str) -> usize {
+    text.len().saturating_sub(end.len())
+}
+
+/// Where the value that some steps lead to stands in a text.
+pub(crate) fn find(alloc: Global, text: &str, steps: &[Step<'_>]) -> Result<Spot, Lost> {
+    let mut section = Section {
+        made: Some(0),
+        seen: [0, 0],
+    };
+    let mut rest = text.strip_prefix('\u{feff}').unwrap_or(text);
+    for _ in 0..text.len() {
+        let start = skip_blank(rest, true);
+        if first(start) == b'[' {
+            rest = section.enter(alloc, start, steps)?;
+            if section.made == Some(steps.len()) {
+                return Ok(Spot::Header {
+                    start: before(text, start),
+                    stop: before(text, rest),
+                });
+            }
+            continue;
+        }
+        let (key, value) = key_and_value(alloc, start)?;
+        if let Some(left) = section.left(steps, &key) {
+            let (key, value) = within(alloc, (start, value), left)?;
+            return Ok(Spot::Value {
+                key: before(text, key),
+                start: before(text, value),
+                stop: before(text, behind_value(alloc, value)?),
+            });
+        }
+        rest = behind_value(alloc, value)?;
+    }
+    Err(Lost::Nowhere)
+}

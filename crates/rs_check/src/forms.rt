@@ -1,0 +1,187 @@
+//! The keys of a configuration as they are spelt, which each table has, and the form of each key's value.
+
+ghost use Rattle.std.specs.Prelude.{◌≡◌};
+ghost use Rattle.rs_policy.specs.Keys.{is_among, key_text};
+ghost use Rattle.rs_check.specs.Forms.{keys_of};
+
+use rs_policy::{Key, List, Place, Table};
+
+/// A key as a configuration spells it.
+pub(crate) fn key_text(key: Key) -> &'static str
+    ensures { result.now ≡ key_text key }
+{
+    match key {
+        Key::As => "as",
+        Key::Identifier => "identifier",
+        Key::Hold => "hold",
+        Key::Default => "default",
+        Key::Extended => "extended",
+        Key::Refresh => "refresh",
+        Key::Multiprotocol => "multiprotocol",
+        Key::Client => "client",
+        Key::List => "list",
+        Key::Rules => "rules",
+        Key::Name => "name",
+        Key::Listen => "listen",
+        Key::Peer => "peer",
+        Key::Limit => "limit",
+        Key::Import => "import",
+        Key::Export => "export",
+        Key::Prefixes => "prefixes",
+        Key::Ases => "ases",
+        Key::Prefix => "prefix",
+        Key::Min => "min",
+        Key::Max => "max",
+        Key::PrefixIn => "prefix_in",
+        Key::From => "from",
+        Key::PathHas => "path_has",
+        Key::PathLonger => "path_longer",
+        Key::PathIn => "path_in",
+        Key::OriginAs => "origin_as",
+        Key::OriginIn => "origin_in",
+        Key::FirstAsIsPeer => "first_as_is_peer",
+        Key::Community => "community",
+        Key::NextHopIsPeer => "next_hop_is_peer",
+        Key::Action => "action",
+        Key::Preference => "preference",
+        Key::Strip => "strip",
+        Key::Use => "use",
+        Key::Other => "?",
+    }
+}
+
+const TOP_KEYS: [Key; 10] = [
+    Key::As,
+    Key::Identifier,
+    Key::Hold,
+    Key::Default,
+    Key::Extended,
+    Key::Refresh,
+    Key::Multiprotocol,
+    Key::Client,
+    Key::List,
+    Key::Rules,
+];
+
+const CLIENT_KEYS: [Key; 7] = [
+    Key::Name,
+    Key::As,
+    Key::Listen,
+    Key::Peer,
+    Key::Limit,
+    Key::Import,
+    Key::Export,
+];
+
+const LIST_KEYS: [Key; 3] = [Key::Name, Key::Prefixes, Key::Ases];
+
+const SHARED_KEYS: [Key; 2] = [Key::Name, Key::Rules];
+
+const USE_KEYS: [Key; 1] = [Key::Use];
+
+const RULE_KEYS: [Key; 16] = [
+    Key::Prefix,
+    Key::Min,
+    Key::Max,
+    Key::PrefixIn,
+    Key::From,
+    Key::PathHas,
+    Key::PathLonger,
+    Key::PathIn,
+    Key::OriginAs,
+    Key::OriginIn,
+    Key::FirstAsIsPeer,
+    Key::Community,
+    Key::NextHopIsPeer,
+    Key::Action,
+    Key::Preference,
+    Key::Strip,
+];
+
+/// The keys that a table may have, which has `use` or not.
+pub(crate) fn known_keys(table: Table, uses: bool) -> &'static [Key]
+    ensures { result.now ≡ keys_of table uses }
+{
+    match table {
+        Table::Top => &TOP_KEYS,
+        Table::Client(_) => &CLIENT_KEYS,
+        Table::List(_) | Table::Entry(_, _) => &LIST_KEYS,
+        Table::Rules(_) => &SHARED_KEYS,
+        Table::Rule(_, List::Import | List::Export, _) if uses => &USE_KEYS,
+        Table::Rule(_, _, _) => &RULE_KEYS,
+    }
+}
+
+/// Whether a table may have this key.
+pub(crate) fn is_known(table: Table, uses: bool, text: &str) -> bool
+    ensures { result ≡ is_among (keys_of table uses) text.now }
+{
+    known_keys(table, uses)
+        .iter()
+        .any(|key| key_text(*key) == text)
+}
+
+const AS_NUMBER: &str = "an integer of 1 to 4294967295";
+
+const PASS_OR_DROP: &str = "\"pass\" or \"drop\"";
+
+const TRUE_OR_FALSE: &str = "true or false";
+
+const RULES: &str = "an array of at most 64 tables";
+
+/// The form of the value at a place.
+pub(crate) fn form(place: &Place) -> &'static str {
+    match (place.table, place.key) {
+        (Table::Entry(_, _), Key::Ases) => {
+            "an integer of 0 to 4294967295, or a text of the least and the greatest, as \"64512-65534\""
+        }
+        (Table::Entry(_, _), _) => {
+            "a prefix, as \"198.51.100.0/24\", or one with a range of lengths, as \"198.51.100.0/24^25-32\""
+        }
+        (Table::Client(_), Key::As) => AS_NUMBER,
+        (Table::Top, Key::Rules) => "at most 256 tables [[rules]]",
+        (_, key) => form_at(key),
+    }
+}
+
+/// The same at the keys of tables.
+fn form_at(key: Key) -> &'static str {
+    match key {
+        Key::As | Key::Limit | Key::PathHas | Key::OriginAs => AS_NUMBER,
+        Key::Default | Key::Action => PASS_OR_DROP,
+        Key::Extended
+        | Key::Refresh
+        | Key::Multiprotocol
+        | Key::FirstAsIsPeer
+        | Key::NextHopIsPeer => TRUE_OR_FALSE,
+        Key::Import | Key::Export | Key::Rules => RULES,
+        Key::Identifier => "an address other than 0.0.0.0, as \"192.0.2.1\"",
+        Key::Hold => "an integer: 0, or 3 to 65535",
+        Key::Client => "1 to 512 tables [[client]]",
+        Key::List => "at most 1024 tables [[list]]",
+        Key::Name => "a text of 1 to 32 ASCII letters, digits and hyphens",
+        Key::Listen => "an address and a port of 1 to 65535, as \"192.0.2.1:179\"",
+        Key::Peer => "an address, as \"192.0.2.11\"",
+        Key::Prefixes => "an array of at most 1048576 prefixes",
+        Key::Ases => "an array of at most 1048576 AS numbers",
+        Key::Prefix => "an address and a length of 0 to 32, as \"198.51.100.0/24\"",
+        Key::Min => "an integer from the length of prefix, which has to be there, to 32",
+        Key::Max => "an integer from min to 32, beside prefix",
+        _ => form_of_rest(key),
+    }
+}
+
+/// The same at the last keys of a rule.
+fn form_of_rest(key: Key) -> &'static str {
+    match key {
+        Key::From => "the name of a client",
+        Key::PrefixIn => "the name of a list that has prefixes",
+        Key::PathIn | Key::OriginIn => "the name of a list that has ases",
+        Key::PathLonger => "an integer of 0 to 4294967295",
+        Key::Community => "\"N:M\", both 0 to 65535 without leading zeros",
+        Key::Preference => "an integer of 0 to 4294967295, beside action = \"pass\"",
+        Key::Strip => "\"all\" or at most 64 communities \"N:M\", beside action = \"pass\"",
+        Key::Use => "the name of rules that others use",
+        _ => "a key that is known there",
+    }
+}

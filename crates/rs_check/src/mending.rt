@@ -1,0 +1,192 @@
+//! The text of a configuration with a fault mended, by which the next one is found.
+
+use crate::find::{Spot, Step};
+use crate::forms::{is_known, key_text};
+use crate::place::{found, steps_to, steps_to_table, value_at, with};
+use rs_policy::{ConfigFault, Key, Place, Table};
+use std::alloc::{AllocError, Global};
+use toml::value::Value;
+use toml_parser::text::{first, skip_blank};
+
+/// A client, where there is none.
+const CLIENT: &str =
+    "\n[[client]]\nname = \"mended-1\"\nas = 1\nlisten = \"0.0.0.0:1\"\npeer = \"0.0.0.0\"\n";
+
+/// Where the comma behind a value ends, or else the value.
+fn behind_comma(text: &str, stop: usize) -> usize {
+    let Some(rest) = text.get(stop..) else {
+        return stop;
+    };
+    let blank = skip_blank(rest, true);
+    if first(blank) == b',' {
+        text.len().saturating_sub(blank.len()).saturating_add(1)
+    } else {
+        stop
+    }
+}
+
+/// The text without the pair of a key and a value that the steps lead to.
+fn without(alloc: Global, text: &str, steps: &[Step<'_>]) -> Result<Option<String>, AllocError> {
+    match found(alloc, text, steps)? {
+        Some(Spot::Value { key, start, stop }) if key < start => {
+            with(alloc, text, key, behind_comma(text, stop), "")
+        }
+        _ => Ok(None),
+    }
+}
+
+/// The text with another value where the steps lead to.
+fn replaced(
+    alloc: Global,
+    text: &str,
+    steps: &[Step<'_>],
+    value: &str,
+) -> Result<Option<String>, AllocError> {
+    match found(alloc, text, steps)? {
+        Some(
+            Spot::Value {
+                key: _,
+                start,
+                stop,
+            },
+        ) => with(alloc, text, start, stop, value),
+        _ => Ok(None),
+    }
+}
+
+/// The text with a pair of a key and a value more in a table.
+fn inserted(
+    alloc: Global,
+    text: &str,
+    table: Table,
+    key: Key,
+    value: &str,
+) -> Result<Option<String>, AllocError> {
+    let key = key_text(key);
+    if table == Table::Top {
+        let pair = format!(in alloc; "{key} = {value}\n")?;
+        return with(alloc, text, 0, 0, pair.as_str());
+    }
+    let steps = steps_to_table(alloc, table)?;
+    match found(alloc, text, &steps)? {
+        Some(Spot::Header { start: _, stop }) => {
+            let pair = format!(in alloc; "\n{key} = {value}\n")?;
+            with(alloc, text, stop, stop, pair.as_str())
+        }
+        Some(
+            Spot::Value {
+                key: _,
+                start,
+                stop: _,
+            },
+        ) => {
+            let inside = start.saturating_add(1);
+            let pair = format!(in alloc; "{key} = {value}, ")?;
+            with(alloc, text, inside, inside, pair.as_str())
+        }
+        None => Ok(None),
+    }
+}
+
+/// A good value at a place that has to have one; None where the key may be left out.
+fn good_value(alloc: Global, place: &Place) -> Result<Option<String>, AllocError> {
+    let number = match place.table {
+        Table::Top => 0,
+        Table::Client(number) | Table::List(number) | Table::Rules(number) => number,
+        Table::Rule(_, _, rule) => rule,
+        Table::Entry(_, entry) => entry,
+    };
+    let value = match (place.table, place.key) {
+        (Table::Entry(_, _), Key::Ases) => String::from_str(alloc, "0"),
+        (Table::Entry(_, _), _) => String::from_str(alloc, "\"0.0.0.0/0\""),
+        (_, Key::Prefix) => String::from_str(alloc, "\"0.0.0.0/0\""),
+        (_, Key::As) => String::from_str(alloc, "1"),
+        (_, Key::Identifier) => String::from_str(alloc, "\"192.0.2.1\""),
+        (_, Key::Name) => format!(in alloc; "\"mended-{number}\""),
+        (_, Key::Listen) => format!(in alloc; "\"0.0.0.0:{}\"", number.clamp(1, 65535)),
+        (_, Key::Peer) => String::from_str(alloc, "\"0.0.0.0\""),
+        (_, Key::Prefixes) | (Table::Rules(_), Key::Rules) => String::from_str(alloc, "[]"),
+        (_, Key::Action) => String::from_str(alloc, "\"pass\""),
+        _ => return Ok(None),
+    };
+    Ok(Some(value?))
+}
+
+/// The text without a key that its table hasn't.
+fn without_stranger(
+    alloc: Global,
+    text: &str,
+    document: &Value,
+    table: Table,
+) -> Result<Option<String>, AllocError> {
+    let mut steps = steps_to_table(alloc, table)?;
+    let Some(entries) = value_at(document, &steps).and_then(|value| value.as_table()) else {
+        return Ok(None);
+    };
+    let uses = entries.get("use").is_some();
+    for (key, _) in entries {
+        if !is_known(table, uses, key.as_str()) {
+            steps.push(Step::Key(key.as_str()))?;
+            return without(alloc, text, &steps);
+        }
+    }
+    Ok(None)
+}
+
+/// The text with the value at a place mended, or without it.
+fn with_good_value(alloc: Global, text: &str, place: &Place) -> Result<Option<String>, AllocError> {
+    let steps = steps_to(alloc, place)?;
+    match good_value(alloc, place)? {
+        Some(value) => replaced(alloc, text, &steps, value.as_str()),
+        None => without(alloc, text, &steps),
+    }
+}
+
+/// The text with a name in a table that no other has, and for a client another pair of `listen` and `peer`.
+fn with_own_name(alloc: Global, text: &str, table: Table) -> Result<Option<String>, AllocError> {
+    let name = Place {
+        table,
+        key: Key::Name,
+    };
+    let Some(named) = with_good_value(alloc, text, &name)? else {
+        return Ok(None);
+    };
+    match table {
+        Table::Client(_) => {
+            let listen = Place {
+                table,
+                key: Key::Listen,
+            };
+            with_good_value(alloc, named.as_str(), &listen)
+        }
+        _ => Ok(Some(named)),
+    }
+}
+
+/// The text of a document with its first fault mended; None where it isn't known how.
+pub(crate) fn mended(
+    alloc: Global,
+    text: &str,
+    document: &Value,
+    fault: &ConfigFault,
+) -> Result<Option<String>, AllocError> {
+    match fault {
+        ConfigFault::BadValue(place) if place.key == Key::Other => {
+            without_stranger(alloc, text, document, place.table)
+        }
+        ConfigFault::BadValue(place) | ConfigFault::TooMany(place) => {
+            with_good_value(alloc, text, place)
+        }
+        ConfigFault::Missing(place) if place.key == Key::Client => {
+            with(alloc, text, text.len(), text.len(), CLIENT)
+        }
+        ConfigFault::Missing(place) => match good_value(alloc, place)? {
+            Some(value) => inserted(alloc, text, place.table, place.key, value.as_str()),
+            None => Ok(None),
+        },
+        ConfigFault::Twice(client) => with_own_name(alloc, text, Table::Client(*client)),
+        ConfigFault::TwiceList(list) => with_own_name(alloc, text, Table::List(*list)),
+        ConfigFault::TwiceRules(rules) => with_own_name(alloc, text, Table::Rules(*rules)),
+        ConfigFault::Syntax | ConfigFault::OutOfMemory => Ok(None),
+    }
+}

@@ -1,0 +1,270 @@
+//! What is good in a configuration but likely wrong.
+
+ghost use Rattle.std.specs.Prelude.{◌≡◌, true, false};
+ghost use Rattle.std.specs.List.{list_any};
+ghost use Rattle.toml.specs.View.{view};
+ghost use Rattle.rs_policy.specs.declared.faults.Key.TheVariants as Key;
+ghost use Rattle.rs_check.specs.Warnings.{MatchesAll, has_key, test_keys};
+
+use crate::details::position_of;
+use crate::find::Step;
+use crate::forms::key_text;
+use crate::place::{steps_to, steps_to_table};
+use rs_policy::{Config, Key, List, Place, Table};
+use std::alloc::{AllocError, Global};
+use std::fmt;
+use toml::value::Value;
+
+/// The most warnings that are told.
+const MOST: usize = 20;
+
+/// Something that is good but likely wrong. Tables are counted from 1.
+#[derive(Clone, Copy, Debug)]
+pub(crate) enum Warning {
+    MultiprotocolOff,
+    NoImportRules(usize),
+    /// A rule of a list of rules, of a client or of the rules of this number, behind one that matches every route.
+    Unreached(usize, List, usize),
+    Unused(usize),
+    UnusedRules(usize),
+}
+
+/// The name of a list of rules.
+fn list_text(list: List) -> &'static str {
+    match list {
+        List::Import => "import",
+        List::Export => "export",
+        List::Shared => "rules",
+    }
+}
+
+/// Whose list of rules it is.
+fn owner_text(list: List) -> &'static str {
+    match list {
+        List::Import | List::Export => "client",
+        List::Shared => "rules",
+    }
+}
+
+impl fmt::Display for Warning {
+    fn fmt<W: fmt::Write>(&self, f: &mut fmt::Formatter<W>) -> fmt::Result {
+        match self {
+            Warning::MultiprotocolOff => {
+                f.write_str("multiprotocol is off, and BIRD and OpenBGPD need it")
+            }
+            Warning::NoImportRules(client) => write!(f, "client {client} has no import rules"),
+            Warning::Unreached(number, list, rule) => write!(
+                f,
+                "{} {number} {} {rule} is never reached: a rule before it matches every route",
+                owner_text(*list),
+                list_text(*list)
+            ),
+            Warning::Unused(list) => write!(f, "list {list} is named by no rule"),
+            Warning::UnusedRules(rules) => write!(f, "rules {rules} are used by no client"),
+        }
+    }
+}
+
+impl Warning {
+    /// The steps to what it is about.
+    fn steps<'a>(&self, alloc: Global) -> Result<Vec<Step<'a>>, AllocError> {
+        match self {
+            Warning::MultiprotocolOff => steps_to(
+                alloc,
+                &Place {
+                    table: Table::Top,
+                    key: Key::Multiprotocol,
+                },
+            ),
+            Warning::NoImportRules(client) => steps_to_table(alloc, Table::Client(*client)),
+            Warning::Unreached(number, list, rule) => {
+                steps_to_table(alloc, Table::Rule(*number, *list, *rule))
+            }
+            Warning::Unused(list) => steps_to_table(alloc, Table::List(*list)),
+            Warning::UnusedRules(rules) => steps_to_table(alloc, Table::Rules(*rules)),
+        }
+    }
+
+    /// The line that tells it.
+    pub(crate) fn line(&self, alloc: Global, text: &str) -> Result<String, AllocError> {
+        let steps = self.steps(alloc)?;
+        let at = position_of(alloc, text, &steps)?;
+        format!(in alloc; "warning: {at}{self}")
+    }
+}
+
+/// The values of an array at a key of a table; none where there is no array.
+fn values_at(table: &Value, key: Key) -> &[Value] {
+    match table.get(key_text(key)).and_then(|value| value.as_array()) {
+        None => &[],
+        Some(values) => values,
+    }
+}
+
+/// The tests of a rule, but for its range.
+const TESTS: [Key; 10] = [
+    Key::PrefixIn,
+    Key::From,
+    Key::PathHas,
+    Key::PathLonger,
+    Key::PathIn,
+    Key::OriginAs,
+    Key::OriginIn,
+    Key::FirstAsIsPeer,
+    Key::Community,
+    Key::NextHopIsPeer,
+];
+
+/// Whether a table has a key.
+fn has(table: &Value, key: Key) -> bool
+    ensures { result ≡ has_key (view table.now) key }
+{
+    table.get(key_text(key)).is_some()
+}
+
+/// Whether a rule has one of the tests.
+fn is_tested(rule: &Value) -> bool
+    ensures { result ≡ list_any (has_key (view rule.now)) test_keys }
+{
+    TESTS.iter().any(|key| has(rule, *key))
+}
+
+/// Whether the range of a rule takes every prefix.
+fn takes_every_prefix(rule: &Value) -> bool {
+    let is_any = rule
+        .get("prefix")
+        .and_then(|prefix| prefix.as_str())
+        .is_some_and(|text| text.ends_with("/0"));
+    let is_low = rule
+        .get("min")
+        .is_none_or(|min| min.as_integer() == Some(0));
+    let is_high = rule
+        .get("max")
+        .is_some_and(|max| max.as_integer() == Some(32));
+    is_any && is_low && is_high
+}
+
+/// Whether a rule matches every route.
+fn matches_all(rule: &Value) -> bool
+    ensures { result ≡ true → has_key (view rule.now) Key.Prefix ≡ false → MatchesAll (view rule.now) }
+{
+    if is_tested(rule) || has(rule, Key::Use) {
+        return false;
+    }
+    !has(rule, Key::Prefix) || takes_every_prefix(rule)
+}
+
+/// The first rule behind one that matches every route, counted from 1.
+fn first_unreached(rules: &[Value]) -> Option<usize> {
+    let last = rules.iter().position(|rule| matches_all(rule))?;
+    let next = last.saturating_add(1);
+    if next < rules.len() {
+        Some(next.saturating_add(1))
+    } else {
+        None
+    }
+}
+
+/// The keys by which a rule names a list, and rules that it uses.
+const LISTS: [Key; 3] = [Key::PrefixIn, Key::PathIn, Key::OriginIn];
+
+const USES: [Key; 1] = [Key::Use];
+
+/// Whether a rule has this name at one of these keys.
+fn rule_names(rule: &Value, keys: &[Key], name: &str) -> bool {
+    keys.iter().any(|key| {
+        rule.get(key_text(*key))
+            .and_then(|value| value.as_str())
+            .is_some_and(|text| text == name)
+    })
+}
+
+/// Whether a rule of a table's lists does.
+fn table_names(table: &Value, keys: &[Key], name: &str) -> bool {
+    [Key::Import, Key::Export, Key::Rules]
+        .iter()
+        .any(|list| values_at(table, *list)
+            .iter()
+            .any(|rule| rule_names(rule, keys, name)))
+}
+
+/// Whether a rule of one of these tables does.
+fn are_named(tables: &[Value], keys: &[Key], name: &str) -> bool {
+    tables.iter().any(|table| table_names(table, keys, name))
+}
+
+/// The name of a table.
+fn name_of(table: &Value) -> &str {
+    match table.get("name").and_then(|name| name.as_str()) {
+        None => "",
+        Some(name) => name,
+    }
+}
+
+/// Adds a warning, where there aren't as many yet as are told.
+fn add(warnings: &mut Vec<Warning>, warning: Warning) -> Result<(), AllocError> {
+    if warnings.len() < MOST {
+        warnings.push(warning)?;
+    }
+    Ok(())
+}
+
+/// Adds what there is to say of the rules of a client.
+fn add_of_client(
+    warnings: &mut Vec<Warning>,
+    table: &Value,
+    client: usize,
+) -> Result<(), AllocError> {
+    if values_at(table, Key::Import).is_empty() {
+        add(warnings, Warning::NoImportRules(client))?;
+    }
+    for (list, key) in [(List::Import, Key::Import), (List::Export, Key::Export)] {
+        if let Some(rule) = first_unreached(values_at(table, key)) {
+            add(warnings, Warning::Unreached(client, list, rule))?;
+        }
+    }
+    Ok(())
+}
+
+/// Adds what there is to say of the rules that others use.
+fn add_of_rules(
+    warnings: &mut Vec<Warning>,
+    clients: &[Value],
+    table: &Value,
+    rules: usize,
+) -> Result<(), AllocError> {
+    if !are_named(clients, &USES, name_of(table)) {
+        add(warnings, Warning::UnusedRules(rules))?;
+    }
+    if let Some(rule) = first_unreached(values_at(table, Key::Rules)) {
+        add(warnings, Warning::Unreached(rules, List::Shared, rule))?;
+    }
+    Ok(())
+}
+
+/// The warnings about a good configuration, of which this is the document.
+pub(crate) fn warnings_of(
+    alloc: Global,
+    config: &Config,
+    document: &Value,
+) -> Result<Vec<Warning>, AllocError> {
+    let mut warnings = Vec::new(alloc);
+    if !config.multiprotocol() {
+        add(&mut warnings, Warning::MultiprotocolOff)?;
+    }
+    let clients = values_at(document, Key::Client);
+    for (index, client) in clients.iter().enumerate() {
+        add_of_client(&mut warnings, client, index.saturating_add(1))?;
+    }
+    let shared = values_at(document, Key::Rules);
+    for (index, list) in values_at(document, Key::List).iter().enumerate() {
+        let name = name_of(list);
+        if !are_named(clients, &LISTS, name) && !are_named(shared, &LISTS, name) {
+            add(&mut warnings, Warning::Unused(index.saturating_add(1)))?;
+        }
+    }
+    for (index, rules) in shared.iter().enumerate() {
+        add_of_rules(&mut warnings, clients, rules, index.saturating_add(1))?;
+    }
+    Ok(warnings)
+}

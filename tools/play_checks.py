@@ -1,0 +1,289 @@
+#!/usr/bin/env python3
+"""Gives files of configurations to `rs_served --check`, and says what it answers otherwise than it must.
+
+play_checks.py PROGRAM
+
+Each row of FAULTS makes one change to GOOD, a configuration in which nothing is wrong, and has the lines that must come on
+standard error, with status 2 and nothing on standard output. Where a line and a column are told, they are looked up in the
+text: there must stand what the row says. WARNINGS are rows of good configurations, likewise, with status 0. Then what can't be
+read: no file, a folder, a file without rights, one that isn't UTF-8; and more faults than are told.
+"""
+import os
+import pathlib
+import re
+import subprocess
+import sys
+import tempfile
+
+from results import end, tell
+
+GOOD = """\
+as = 64500
+identifier = "192.0.2.1"
+multiprotocol = true
+
+[[client]] # the first
+name = "alpha"
+as = 64496
+listen = "127.0.0.1:17901"
+peer = "192.0.2.11"
+import = [
+    { prefix = "10.0.0.0/8", max = 32, action = "drop" }, # private
+    { prefix_in = "own", path_in = "own", path_has = 64496, action = "pass", strip = ["0:1", '0:2'] },
+    { action = "drop" },
+]
+
+[[client]]
+name = "beta"
+as = 64497
+listen = "127.0.0.1:17902"
+peer = "192.0.2.12"
+
+[[client.import]]
+from = "beta"
+action = "drop"
+
+[[client.import]]
+action = "pass"
+
+[[client.export]]
+use = "last"
+
+[[rules]]
+name = "last"
+rules = [{ path_has = 64999, action = "drop" }]
+
+[[list]]
+name = "own"
+prefixes = ["198.51.100.0/24", "203.0.113.0/24^25-26"]
+ases = [64496]
+"""
+
+AS_FORM = "an integer of 1 to 4294967295"
+CLIENT_KEYS = "name as listen peer limit import export"
+RULE_KEYS = (
+    "prefix min max prefix_in from path_has path_longer path_in origin_as origin_in first_as_is_peer community next_hop_is_peer "
+    "action preference strip"
+)
+
+# What is changed, into what, the lines, and what stands at each line and column that they tell.
+FAULTS = (
+    ("as = 64500", "as = 0", ["bad value as", f"@as = 0; expected: {AS_FORM}"], ["0"]),
+    ("as = 64500\n", "", ["missing as", f"expected: as = {AS_FORM}"], []),
+    ('"192.0.2.1"', '"192.0.2.256"', ["bad value identifier", '@identifier = "192.0.2.256"; expected: an address other than 0.0.0.0, as "192.0.2.1"'], ['"192.0.2.256"']),
+    ("as = 64500", "as = 64500\nhold = 2", ["bad value hold", "@hold = 2; expected: an integer: 0, or 3 to 65535"], ["2\n"]),
+    ("as = 64500", "as = 64500\ndefault = 'permit'", ["bad value default", """@default = 'permit'; expected: "pass" or "drop\""""], ["'permit'"]),
+    ("multiprotocol = true", 'multiprotocol = "yes"', ["bad value multiprotocol", '@multiprotocol = "yes"; expected: true or false'], ['"yes"']),
+    ("as = 64500", "as 64500", ["syntax", "@MESSAGE"], ["64500"]),
+    ('name = "beta"', 'name = "beta"\nname = "gamma"', ["syntax", "@MESSAGE"], ['name = "gamma"']),
+    ("as = 64497", "as = 64_496_000_000", ["bad value client 2 as", f"@as = 64_496_000_000; expected: {AS_FORM}"], ["64_496"]),
+    ('peer = "192.0.2.12"\n', "", ["missing client 2 peer", '@expected: peer = an address, as "192.0.2.11"'], ["[[client]]\nname = \"beta\""]),
+    ("127.0.0.1:17902", "127.0.0.1", ["bad value client 2 listen", '@listen = "127.0.0.1"; expected: an address and a port of 1 to 65535, as "192.0.2.1:179"'], ['"127.0.0.1"\n']),
+    ('peer = "192.0.2.12"', 'peer = "192.0.2.12"\npeeer = 1', ["bad value client 2 ?", f"@not known here: peeer; known: {CLIENT_KEYS}"], ["1\n"]),
+    ('name = "beta"', 'name = "alpha"', ["twice client 2", "@client 1 has this name too"], ["[[client]]\nname"]),
+    ('127.0.0.1:17902"\npeer = "192.0.2.12"', '127.0.0.1:17901"\npeer = "192.0.2.11"', ["twice client 2", "@client 1 has this listen and peer too"], ["[[client]]\nname"]),
+    ('{ prefix = "10.0.0.0/8", max = 32,', '{ prefix = "10.0.0.0/8", max = 7,', ["bad value client 1 import 1 max", "@max = 7; expected: an integer from min to 32, beside prefix"], ["7, action"]),
+    ("path_has = 64496", "pathhas = 64496", ["bad value client 1 import 2 ?", f"@not known here: pathhas; known: {RULE_KEYS}"], ["64496, action"]),
+    ("path_has = 64496", "path_longer = -1", ["bad value client 1 import 2 path_longer", "@path_longer = -1; expected: an integer of 0 to 4294967295"], ["-1, action"]),
+    ('path_in = "own"', 'path_in = "beta"', ["bad value client 1 import 2 path_in", '@path_in = "beta"; expected: the name of a list that has ases'], ['"beta", path_has']),
+    ("path_has = 64496", "first_as_is_peer = 1", ["bad value client 1 import 2 first_as_is_peer", "@first_as_is_peer = 1; expected: true or false"], ["1, action"]),
+    ("'0:2'", "'0:70000'", ["bad value client 1 import 2 strip", """@strip = ["0:1", '0:70000']; expected: "all" or at most 64 communities "N:M", beside action = "pass\""""], ['["0:1"']),
+    ('from = "beta"', 'from = "delta"', ["bad value client 2 import 1 from", '@from = "delta"; expected: the name of a client'], ['"delta"']),
+    ('from = "beta"\naction = "drop"', 'from = "beta"', ["missing client 2 import 1 action", '@expected: action = "pass" or "drop"'], ['[[client.import]]\nfrom']),
+    ("{ action = \"drop\" }", "{ }", ["missing client 1 import 3 action", '@expected: action = "pass" or "drop"'], ["{ },"]),
+    ('"203.0.113.0/24^25-26"', '"203.0.113.0/24^23"', ["bad value list 1 prefixes 2", '@"203.0.113.0/24^23"; expected: a prefix, as "198.51.100.0/24", or one with a range of lengths, as "198.51.100.0/24^25-32"'], ['"203.0.113.0/24^23"']),
+    ("ases = [64496]", "ases = [64496, -1]", ["bad value list 1 ases 2", '@-1; expected: an integer of 0 to 4294967295, or a text of the least and the greatest, as "64512-65534"'], ["-1]"]),
+    ('name = "own"', 'name = "own"\nases = [1]\n[[list]]\nname = "own"', ["twice list 2", "@list 1 has this name too"], ['[[list]]\nname = "own"\nprefixes']),
+    ("ases = [64496]", f"ases = {'x' * 70!r}", ["bad value list 1 ases", f"@ases = '{'x' * 59}..; expected: an array of at most 1048576 AS numbers"], ["'xxx"]),
+    ("ases = [64496]", "ases = '''\nmuch'''", ["bad value list 1 ases", "@ases = '''..; expected: an array of at most 1048576 AS numbers"], ["'''\nmuch"]),
+    ("strip = [", 'strip = [' + '"1:1", ' * 63, ["too many client 1 import 2 strip", '@strip has 65; expected: "all" or at most 64 communities "N:M", beside action = "pass"'], ['["1:1"']),
+    (
+        'use = "last"',
+        'use = "least"',
+        ["bad value client 2 export 1 use", '@use = "least"; expected: the name of rules that others use', "missing client 2 export 1 action", '@expected: action = "pass" or "drop"'],
+        ['"least"', "[[client.export]]"],
+    ),
+    ('use = "last"', 'use = "last"\naction = "drop"', ["bad value client 2 export 1 ?", "@not known here: action; known: use"], ['"drop"\n\n[[rules]]']),
+    ("path_has = 64999", "path_has = 0", ["bad value rules 1 rules 1 path_has", f"@path_has = 0; expected: {AS_FORM}"], ["0, action"]),
+    ("path_has = 64999", 'use = "last", path_has = 64999', ["bad value rules 1 rules 1 ?", f"@not known here: use; known: {RULE_KEYS}"], ['"last", path_has']),
+    ('name = "last"\n', 'name = "last"\nrules = []\n[[rules]]\nname = "last"\n', ["twice rules 2", "@rules 1 has this name too"], ['[[rules]]\nname = "last"\nrules = [{']),
+    (
+        "rules = [{",
+        "ruls = [{",
+        ["missing rules 1 rules", "@expected: rules = an array of at most 64 tables", "bad value rules 1 ?", "@not known here: ruls; known: name rules"],
+        ['[[rules]]', "[{ path_has"],
+    ),
+    # Several faults, told in the order in which they are found, none of which comes of how another was mended.
+    (
+        'identifier = "192.0.2.1"',
+        "hold = 1",
+        ["missing identifier", 'expected: identifier = an address other than 0.0.0.0, as "192.0.2.1"', "bad value hold", "@hold = 1; expected: an integer: 0, or 3 to 65535"],
+        ["1\n"],
+    ),
+    (
+        '[[client]]\nname = "beta"\nas = 64497',
+        '[[client]]\nname = "b\u00e9ta"\nas = "64497"',
+        [
+            "bad value client 2 name",
+            '@name = "b\u00e9ta"; expected: a text of 1 to 32 ASCII letters, digits and hyphens',
+            "bad value client 2 as",
+            f'@as = "64497"; expected: {AS_FORM}',
+        ],
+        ['"b\u00e9ta"', '"64497"'],
+    ),
+    (
+        'prefix = "10.0.0.0/8", max = 32, action = "drop"',
+        'prefix = "10.0.0.0/33", max = 32, action = "deny", q = 1, r = { q = [1, "}"] }',
+        [
+            "bad value client 1 import 1 prefix",
+            '@prefix = "10.0.0.0/33"; expected: an address and a length of 0 to 32, as "198.51.100.0/24"',
+            "bad value client 1 import 1 action",
+            '@action = "deny"; expected: "pass" or "drop"',
+            "bad value client 1 import 1 ?",
+            f"@not known here: q r; known: {RULE_KEYS}",
+        ],
+        ['"10.0.0.0/33"', '"deny"', "1, r"],
+    ),
+    (
+        '{ action = "drop" }',
+        '{ min = 8, max = 7, action = "drop", preference = 1, strip = "all" }',
+        [
+            "bad value client 1 import 3 min",
+            "@min = 8; expected: an integer from the length of prefix, which has to be there, to 32",
+            "bad value client 1 import 3 max",
+            "@max = 7; expected: an integer from min to 32, beside prefix",
+            "bad value client 1 import 3 preference",
+            '@preference = 1; expected: an integer of 0 to 4294967295, beside action = "pass"',
+            "bad value client 1 import 3 strip",
+            '@strip = "all"; expected: "all" or at most 64 communities "N:M", beside action = "pass"',
+        ],
+        ["8, max", "7, action", "1, strip", '"all"'],
+    ),
+    # A rule names a list that has no prefixes: that comes of the list.
+    ("prefixes = [", "prefixs = [", ["bad value list 1 ?", "@not known here: prefixs; known: name prefixes ases"], ['["198']),
+    ("ases = [", "as = [", ["bad value list 1 ?", "@not known here: as; known: name prefixes ases"], ["[64496]"]),
+)
+
+WARNINGS = (
+    ("", "", [], []),
+    ("multiprotocol = true", "", ["multiprotocol is off, and BIRD and OpenBGPD need it"], []),
+    ("multiprotocol = true", "multiprotocol = false", ["@multiprotocol is off, and BIRD and OpenBGPD need it"], ["false"]),
+    ('[[client.import]]\nfrom = "beta"\naction = "drop"\n\n[[client.import]]\naction = "pass"', "import = []", ["@client 2 has no import rules"], ['[[client]]\nname = "beta"']),
+    ('    { prefix = "10.0.0.0/8", max = 32, ', '    { prefix = "0.0.0.0/0", max = 32, ', ["@client 1 import 2 is never reached: a rule before it matches every route"], ["{ prefix_in"]),
+    ('    { prefix = "10.0.0.0/8", max = 32, ', '    { prefix = "0.0.0.0/0", max = 31, ', [], []),
+    ('    { prefix = "10.0.0.0/8", max = 32, ', '    { prefix = "0.0.0.0/0", min = 1, max = 32, ', [], []),
+    ('from = "beta"\n', "", ["@client 2 import 2 is never reached: a rule before it matches every route"], ['[[client.import]]\naction = "pass"']),
+    ('from = "beta"', "path_longer = 0", [], []),
+    ('from = "beta"', "first_as_is_peer = false", [], []),
+    ('use = "last"', 'action = "drop"', ["@rules 1 are used by no client"], ["[[rules]]"]),
+    ("[{ path_has = 64999", '[{ action = "pass" }, { path_has = 64999', ["@rules 1 rules 2 is never reached: a rule before it matches every route"], ["{ path_has = 64999"]),
+    ('prefix_in = "own", path_in = "own", ', "", ["@list 1 is named by no rule"], ["[[list]]"]),
+    ('prefix_in = "own", path_in = "own", ', 'prefix_in = "own", ', [], []),
+    ('prefix_in = "own", path_in = "own", ', 'path_in = "own", ', [], []),
+    ('prefix_in = "own", path_in = "own", ', 'origin_in = "own", ', [], []),
+)
+
+
+def asked(program, path, **more):
+    return subprocess.run([program, "--check", "--config", path], capture_output=True, timeout=60, **more)
+
+
+def offset(text, line, column):
+    """Where a line and a column, both from 1, stand in a text."""
+    lines = text.split("\n")
+    return sum(len(it) + 1 for it in lines[: line - 1]) + column - 1
+
+
+def lines_differ(text, lines, wanted, stand):
+    """What is wrong with lines, of which those that are wanted with @ begin with a line and a column of the text; or None."""
+    stand = list(stand)
+    if len(lines) != len(wanted):
+        return f"{lines} and not {wanted}"
+    for line, want in zip(lines, wanted):
+        if want.startswith("@"):
+            at = re.fullmatch(r"line (\d+), column (\d+): (.*)", line)
+            if not at:
+                return f"{line!r} tells no place"
+            there = text[offset(text, int(at[1]), int(at[2])) :]
+            if not there.startswith(stand[0]):
+                return f"{line!r}: {there[:20]!r} stands there, and not {stand[0]!r}"
+            stand.pop(0)
+            line, want = at[3], want[1:]
+        if want != "MESSAGE" and line != want:
+            return f"{line!r} and not {want!r}"
+    return f"not told: {stand}" if stand else None
+
+
+def fault_differs(program, path, old, new, wanted, stand):
+    """What is wrong with what is told of GOOD with a change, or None. Each second line names a fault."""
+    text = GOOD.replace(old, new, 1)
+    if text == GOOD or GOOD.count(old) != 1:
+        return f"{old!r} doesn't stand once"
+    path.write_text(text)
+    run = asked(program, path)
+    if (run.returncode, run.stdout) != (2, b""):
+        return f"status {run.returncode}, {run.stdout}"
+    lines = run.stderr.decode().splitlines()
+    heads = [f"configuration: {it}" for it in wanted[::2]]
+    if lines[::2] != heads:
+        return f"{lines[::2]} and not {heads}: {lines[1::2]}"
+    return lines_differ(text, lines[1::2], wanted[1::2], stand)
+
+
+def warning_differs(program, path, old, new, wanted, stand):
+    """What is wrong with the warnings of GOOD with a change, or None."""
+    text = GOOD.replace(old, new, 1) if old else GOOD
+    path.write_text(text)
+    run = asked(program, path)
+    if (run.returncode, run.stdout) != (0, b"configuration: good, 2 clients\n"):
+        return f"status {run.returncode}, {run.stdout}, {run.stderr}"
+    lines = run.stderr.decode().splitlines()
+    if any(not it.startswith("warning: ") for it in lines):
+        return f"{lines}"
+    return lines_differ(text, [it[len("warning: ") :] for it in lines], wanted, stand)
+
+
+def unread(program, path, wanted, **more):
+    """What is wrong with what is told of a file that can't be read, or None."""
+    run = asked(program, path, **more)
+    told = f"configuration: unreadable\n{wanted}\n"
+    if (run.returncode, run.stdout, run.stderr.decode()) != (2, b"", told):
+        return f"status {run.returncode}, {run.stdout}, {run.stderr} and not {told!r}"
+    return None
+
+
+def many_differ(program, path):
+    """What is wrong with what is told of more faults than are told, or None."""
+    rules = "".join(f"    {{ path_has = {-at}, action = 'drop' }},\n" for at in range(30))
+    text = GOOD.replace("import = [\n", f"import = [\n{rules}")
+    path.write_text(text)
+    lines = asked(program, path).stderr.decode().splitlines()
+    heads = [f"configuration: bad value client 1 import {at + 1} path_has" for at in range(20)]
+    if lines[0:40:2] != heads or lines[40:] != ["there are more"]:
+        return f"{lines}"
+    wanted = [f"@path_has = {-at}; expected: {AS_FORM}" for at in range(20)]
+    return lines_differ(text, lines[1:40:2], wanted, [f"{-at}, action" for at in range(20)])
+
+
+def play_checks(program):
+    """Tries all: what was tried, and what is wrong or None."""
+    with tempfile.TemporaryDirectory() as folder:
+        path = pathlib.Path(folder, "given.toml")
+        for old, new, wanted, stand in FAULTS:
+            yield f"--check: {', '.join(wanted[::2])}", fault_differs(program, path, old, new, wanted, stand)
+        for old, new, wanted, stand in WARNINGS:
+            yield f"--check warns: {wanted}", warning_differs(program, path, old, new, wanted, stand)
+        yield "--check tells at most 20 faults", many_differ(program, path)
+        yield "--check: no file", unread(program, path.with_name("none.toml"), "there is no such file")
+        yield "--check: a folder", unread(program, folder, "it is a folder")
+        path.write_bytes("# caf\u00e9 ".encode() + b"\xe9\n")
+        yield "--check: not UTF-8", unread(program, path, "line 1, column 8: not UTF-8")
+        path.chmod(0)
+        nobody = {} if os.geteuid() else {"user": 65534, "group": 65534}
+        yield "--check: no rights", unread(program, path, "there are no rights to read it", **nobody)
+
+
+if __name__ == "__main__":
+    if len(sys.argv) != 2:
+        sys.exit(__doc__)
+    end(*tell(play_checks(pathlib.Path(sys.argv[1]).resolve())))
