@@ -1,10 +1,13 @@
 pub mod Calls
+pub mod Communications
 pub mod Operations
 pub mod Handled
 pub mod Keeping
 pub mod Keys
 pub mod Leaving
+pub mod Levels
 pub mod Moments
+pub mod Offers
 pub mod Printing
 pub mod Rounds
 pub mod Sending

@@ -1,13 +1,15 @@
 //! A place for each client: where its connection comes from, the one that it has, and an earlier one
 //! that the server is closing.
 
-ghost use Rattle.std.specs.Prelude.{◌≡◌, ◌≤◌, ◌<◌, ◌++◌, ◌↔◌, ℕ, List, [], length, take, drop, IfOk, IfErr, IsOk, IsSome, IsTrue};
+ghost use Rattle.std.specs.Prelude.{◌≡◌, ◌≤◌, ◌<◌, ◌++◌, ◌↔◌, ℕ, List, [], true, false, length, take, drop, IfOk, IfErr, IsOk, IsSome, IsTrue};
 ghost use Rattle.rs_live.specs.Calls.{Call};
 ghost use Rattle.rs_live.specs.declared.live_link.Phase.{Phase};
 ghost use Rattle.rs_live.specs.Handled.{Has, AreKept};
 ghost use Rattle.rs_live.specs.Keeping.{Held, change, held_by, held_of, nothing, with_rest};
+ghost use Rattle.rs_live.specs.Offers.{IsOffered};
 ghost use Rattle.rs_live.specs.Sending.{Broke, Sent};
 
+use crate::offers::Offered;
 use crate::outbox::Outbox;
 use crate::ports::Ports;
 use rs_policy::Config;
@@ -225,11 +227,57 @@ pub struct ClientConnections {
     pub closing: Connection,
     /// A session of the client has ended, and nobody has asked yet.
     pub has_ended: bool,
+    /// Nothing was heard on its last connection.
+    pub is_silent: bool,
+    /// What the OPEN of its last connection offered, where that came in one piece.
+    pub offered: Option<Offered>,
+    /// How many connections beside its own were closed since somebody has asked.
+    pub busy: u64,
     /// The last turns that were refused memory for the client.
     pub refused: Option<Refused>,
 }
 
 impl ClientConnections {
+    /// A connection begins, and nothing was heard on it.
+    pub(crate) fn begin(&mut self, key: usize)
+        ensures key { self.new.live.key ≡ Some key }
+        ensures empty { self.new.live.out ≡ [] }
+        ensures closing { self.new.closing ≡ self.old.closing }
+        ensures silent { (self.new.is_silent ≡ true) × (self.new.offered ≡ None) }
+    {
+        self.live.begin(key);
+        self.is_silent = true;
+        self.offered = None;
+    }
+
+    /// The client says these octets: a connection begins with its OPEN.
+    pub(crate) fn hear(&mut self, octets: &[u8])
+        ensures live { self.new.live ≡ self.old.live }
+        ensures closing { self.new.closing ≡ self.old.closing }
+        ensures silent { self.new.is_silent ≡ false }
+        ensures first { self.old.is_silent ≡ true → IsOffered octets.now self.new.offered }
+        ensures later { self.old.is_silent ≡ false → self.new.offered ≡ self.old.offered }
+    {
+        if mem::replace(&mut self.is_silent, false) {
+            self.offered = Offered::at_front(octets);
+        }
+    }
+
+    /// Its address, and how many connections beside its own were closed since the last call; `None` where
+    /// there were none.
+    pub(crate) fn take_busy(&mut self) -> Option<(u32, u64)>
+        ensures live { self.new.live ≡ self.old.live }
+        ensures closing { self.new.closing ≡ self.old.closing }
+        ensures taken { self.new.busy ≡ 0 }
+        ensures none { self.old.busy ≡ 0 → result ≡ None }
+        ensures some { 0 < self.old.busy → result ≡ Some (self.old.peer, self.old.busy) }
+    {
+        match mem::replace(&mut self.busy, 0) {
+            0 => None,
+            count => Some((self.peer, count)),
+        }
+    }
+
     /// This turn was refused memory for the client.
     pub(crate) fn refuse(&mut self, now: u64, turn: u64)
         ensures live { self.new.live ≡ self.old.live }
@@ -294,6 +342,9 @@ pub fn connections(alloc: Global, config: &Config) -> Result<Vec<ClientConnectio
             live: Connection::new(alloc)?,
             closing: Connection::new(alloc)?,
             has_ended: false,
+            is_silent: true,
+            offered: None,
+            busy: 0,
             refused: None,
         })?;
     }

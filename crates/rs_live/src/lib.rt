@@ -15,6 +15,7 @@
 #![tactic(auto)]
 
 pub mod backlog;
+pub mod communications;
 mod configuration;
 pub mod connections;
 pub mod file_watch;
@@ -22,7 +23,9 @@ pub mod line_queue;
 pub mod lines;
 mod listeners;
 pub mod live_link;
+pub mod logging;
 pub mod names;
+pub mod offers;
 pub mod outbox;
 pub mod ports;
 pub mod printer;

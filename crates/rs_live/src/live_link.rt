@@ -2,14 +2,16 @@
 //! what the core calls goes to the ports (`sink`). Where a connection fails the core hears of its loss at
 //! once.
 
-ghost use Rattle.std.specs.Prelude.{◌≡◌, ◌∷◌, false, List, [], None, IsTrue, IsFalse};
-ghost use Rattle.rs_live.specs.Calls.{Call, Closed, Printed};
+ghost use Rattle.std.specs.Prelude.{◌≡◌, ◌<◌, ◌∷◌, true, false, List, [], Some, None, slice_get, IfSome, IsTrue, IsFalse};
+ghost use Rattle.rs_live.specs.Calls.{Call, Closed, Logged, Printed};
 ghost use Rattle.rs_live.specs.Handled.{Has, EndByWait, Keeps};
 ghost use Rattle.rs_live.specs.Keeping.{IsFairBy, IsPlain, all_held, before, change, held_by, with_live};
 ghost use Rattle.rs_live.specs.Leaving.{LeavesClients, LeavesPorts, LeavesRound, SamePorts};
+ghost use Rattle.rs_live.specs.Levels.{level_of};
 
 use crate::connections::ClientConnections;
 use crate::file_watch::FileFault;
+use crate::offers::Offered;
 use crate::ports::{Incoming, Line, Ports};
 use crate::reports::Report;
 use rs_policy::RulesFault;
@@ -287,17 +289,48 @@ impl<'a, P: Ports> LiveLink<'a, P> {
         }
     }
 
+    /// What the OPEN of a client's last connection offered, where that came in one piece.
+    pub fn offered(&self, c: usize) -> Option<Offered>
+        ensures { IfSome (slice_get self.entry.now.connections.now.items c) (λ own. result ≡ own.offered) }
+    {
+        self.connections.get(c)?.offered
+    }
+
+    /// The address of a client, and how many connections beside its own were closed since the last call;
+    /// `None` where there were none.
+    pub fn take_busy(&mut self, c: usize) -> Option<(u32, u64)>
+        ensures leaves { LeavesPorts self.old self.new }
+        ensures none { IfSome (slice_get self.old.connections.now.items c) (λ own. own.busy ≡ 0 → result ≡ None) }
+        ensures some { IfSome (slice_get self.old.connections.now.items c) (λ own. 0 < own.busy → result ≡ Some (own.peer, own.busy)) }
+    {
+        match self.connections.get_mut(c) {
+            Some(own) => own.take_busy(),
+            None => None,
+        }
+    }
+
     /// The seconds since the start, at the last moment that the core was given.
     pub fn now(&self) -> u64 {
         self.phase.told
     }
 
-    /// Shows an operator a report.
+    /// Whether an operator is shown such a report.
+    pub(crate) fn shows(&self, report: &Report) -> bool
+        ensures { result ≡ P.shown self.entry.now.ports.now (level_of report.now) }
+    {
+        self.ports.shows(report.level())
+    }
+
+    /// Shows an operator a report, where its level was asked for.
     pub fn log(&mut self, report: &Report)
         ensures leaves { LeavesClients self.old self.new }
+        ensures shown { P.shown self.old.ports.now (level_of report.now) ≡ true → (calls : List Call) → P.asked self.old.ports.now calls → P.asked self.new.ports.now (Logged report.now ∷ calls) }
+        ensures hidden { P.shown self.old.ports.now (level_of report.now) ≡ false → self.new.ports.now ≡ self.old.ports.now }
         ensures handled { Keeps P.asked self.old → Keeps P.asked self.new }
     {
-        self.ports.log(report);
+        if self.shows(report) {
+            self.ports.log(report);
+        }
     }
 
     /// Prints a line.
@@ -317,6 +350,15 @@ impl<'a, P: Ports> LiveLink<'a, P> {
         self.wide_to = self.phase.told.saturating_add(WIDE);
         if let Some(own) = self.connections.get_mut(c) {
             own.has_ended = true;
+        }
+    }
+
+    /// A connection beside the client's own is closed.
+    pub(crate) fn note_busy(&mut self, c: usize)
+        ensures { LeavesPorts self.old self.new }
+    {
+        if let Some(own) = self.connections.get_mut(c) {
+            own.busy = own.busy.saturating_add(1);
         }
     }
 

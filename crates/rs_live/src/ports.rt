@@ -1,10 +1,12 @@
 //! What the server asks of the outside, as one trait: connections, a clock, a file, and places to
 //! print. Nothing else of the crate but its sockets reaches further.
 
-ghost use Rattle.std.specs.Prelude.{◌≤◌, ◌∷◌, ℕ, List, IfOk, IfSome, length};
+ghost use Rattle.std.specs.Prelude.{◌≡◌, ◌≤◌, ◌∷◌, ℕ, Bool, List, IfOk, IfSome, length};
 ghost use Rattle.rs_live.specs.Calls.{Call, Waited, Accepted, Read, Wrote, Closed, Timed, Fetched, Printed, Logged};
+ghost use Rattle.rs_live.specs.declared.logging.Level.{Level};
 
 use crate::file_watch::FileFault;
+use crate::logging::Level;
 use crate::reports::Report;
 use rs_policy::RulesFault;
 
@@ -44,8 +46,11 @@ pub enum Line {
 
 /// Listeners, connections, a clock, a file of rules and places to print. `asked ports calls` says that
 /// the ports were asked these calls, the newest first; where it always holds, nothing is known.
+/// `shown ports level` says whether an operator is shown reports of a level.
 pub trait Ports {
     ghost asked: { Self → List Call → Type 0 };
+
+    ghost shown: { Self → Level → Bool };
 
     /// Waits until something is ready, at most one second, or only asks for what is.
     fn wait(&mut self, pause: bool) -> Result<(), PortFault>
@@ -81,6 +86,10 @@ pub trait Ports {
     /// Prints a line, now or later, or counts it among those that are left out.
     fn print(&mut self, line: &Line)
         ensures { (calls : List Call) → asked self.old calls → asked self.new (Printed line.now ∷ calls) };
+
+    /// Whether an operator is shown reports of this level.
+    fn shows(&self, level: Level) -> bool
+        ensures { result ≡ shown self.now level };
 
     /// Shows an operator what happened and why.
     fn log(&mut self, report: &Report)

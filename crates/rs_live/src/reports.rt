@@ -1,8 +1,14 @@
 //! What is reported to an operator, on standard error: what happened and why, so that nobody needs a
 //! capture of packets to see it.
 
+ghost use Rattle.std.specs.Prelude.{◌≡◌};
+ghost use Rattle.rs_live.specs.Levels.{level_of};
+
+use crate::communications::communication_in;
 use crate::file_watch::FileFault;
+use crate::logging::{Level, Stamp};
 use crate::names::Names;
+use crate::offers::Offered;
 use crate::printer::Printer;
 use crate::streams::Stream;
 use rs_attrs::{Faulted, Mode};
@@ -28,10 +34,19 @@ pub enum Report {
         limit: Limit,
         hold: u16,
     },
-    /// A client's session has ended; `None`: before anything was heard of it.
+    /// A client's session has ended; `None`: before anything was heard of it. What its OPEN offered, where
+    /// that came in one piece.
     Down {
         client: usize,
         ending: Option<Ending>,
+        offered: Option<Offered>,
+    },
+    /// So many connections came from a client's address, and were closed since it has one.
+    Busy {
+        client: usize,
+        address: u32,
+        count: u64,
+        holder: Holder,
     },
     /// UPDATEs of a client were not taken as they came (RFC 7606, 2): how many since the last such
     /// report, and what was wrong with the last.
@@ -49,6 +64,17 @@ pub enum Report {
         client: usize,
         count: u64,
     },
+}
+
+/// What has the place of a client's connection.
+#[derive(Clone, Copy, Debug, PartialEq, Eq)]
+pub enum Holder {
+    /// A session that is Established.
+    Session,
+    /// A connection whose session is not Established yet.
+    Connection,
+    /// Nothing any more.
+    Nothing,
 }
 
 /// How a NOTIFICATION of this error code and subcode is called.
@@ -80,6 +106,21 @@ impl fmt::Display for Data<'_> {
     }
 }
 
+/// What a NOTIFICATION of this error code and subcode says beside them: a text, or its data.
+#[derive(Drop)]
+struct Said<'a>(u8, u8, &'a [u8]);
+
+impl fmt::Display for Said<'_> {
+    fn fmt<W: fmt::Write>(&self, f: &mut fmt::Formatter<W>) -> fmt::Result {
+        let Said(code, sub, data) = *self;
+        match communication_in(code, sub, data) {
+            Some(it) if it.is_whole => write!(f, ", {:?}", it.text),
+            Some(it) => write!(f, ", {:?} and more", it.text),
+            None => write!(f, "{}", Data(data)),
+        }
+    }
+}
+
 /// A NOTIFICATION with its data, and whether it was sent or heard.
 #[derive(Drop)]
 struct Noted<'a> {
@@ -97,7 +138,12 @@ impl fmt::Display for Noted<'_> {
             sub,
             data,
         } = *self;
-        write!(f, "NOTIFICATION {way}: {}{}", Called(code, sub), Data(data))
+        write!(
+            f,
+            "NOTIFICATION {way}: {}{}",
+            Called(code, sub),
+            Said(code, sub, data)
+        )
     }
 }
 
@@ -125,6 +171,35 @@ fn heard(notice: &Notice) -> Noted<'_> {
         code: notice.code,
         sub: notice.sub,
         data: notice.data.get(..notice.count).unwrap_or(&notice.data),
+    }
+}
+
+/// What was offered by an OPEN that was refused by a NOTIFICATION of this subcode, and what it should
+/// have been (RFC 4271, 6.2).
+#[derive(Drop)]
+struct Refused<'a>(u8, &'a Offered, u32);
+
+impl fmt::Display for Refused<'_> {
+    fn fmt<W: fmt::Write>(&self, f: &mut fmt::Formatter<W>) -> fmt::Result {
+        let Refused(sub, offered, number) = *self;
+        match sub {
+            1 => write!(f, ": {}, not 4", offered.version),
+            2 => write!(f, ": {}, not {number}", offered.number),
+            3 => write!(f, ": {}", Ipv4Addr::from(offered.identifier)),
+            6 => write!(f, ": {}", offered.hold),
+            _ => Ok(()),
+        }
+    }
+}
+
+/// The error code of a fault of an OPEN (RFC 4271, 4.5).
+const OPEN_FAULT: u8 = 2;
+
+/// The subcode by which an OPEN was refused.
+fn refused_by(ending: &Option<Ending>) -> Option<u8> {
+    match ending {
+        Some(Ending::Said(Short::Note { code, sub, .. })) if *code == OPEN_FAULT => Some(*sub),
+        _ => None,
     }
 }
 
@@ -174,6 +249,14 @@ impl fmt::Display for Agreed {
     }
 }
 
+fn holder_text(holder: Holder) -> &'static str {
+    match holder {
+        Holder::Session => "its session is up",
+        Holder::Connection => "its session is not up yet",
+        Holder::Nothing => "its session has ended since",
+    }
+}
+
 /// The words for one, or those for several.
 fn one_or_several(count: u64, one: &'static str, several: &'static str) -> &'static str {
     if count == 1 { one } else { several }
@@ -208,8 +291,33 @@ impl fmt::Display for Worded<'_> {
                     Agreed(*mode, *limit, *hold)
                 )
             }
-            Report::Down { client, ending } => {
-                write!(f, "{} down: {}", names.name(*client), Why(ending))
+            Report::Down {
+                client,
+                ending,
+                offered,
+            } => {
+                write!(f, "{} down: {}", names.name(*client), Why(ending))?;
+                match (refused_by(ending), offered) {
+                    (Some(sub), Some(offered)) => {
+                        write!(f, "{}", Refused(sub, offered, names.number(*client)))
+                    }
+                    _ => Ok(()),
+                }
+            }
+            Report::Busy {
+                client,
+                address,
+                count,
+                holder,
+            } => {
+                let name = names.name(*client);
+                let which = one_or_several(*count, "connection", "connections");
+                let address = Ipv4Addr::from(*address);
+                write!(
+                    f,
+                    "{name} busy: {count} {which} from {address} closed, {}",
+                    holder_text(*holder)
+                )
             }
             Report::Faulted {
                 client,
@@ -231,8 +339,24 @@ impl fmt::Display for Worded<'_> {
 }
 
 impl Report {
-    /// Prints a report as a line, after the seconds since the start.
-    pub fn print<S: Stream>(&self, output: &mut Printer<S>, seconds: u64, names: &Names) {
-        output.print(format_args!("{seconds} {}", Worded(self, names)));
+    /// From which level of the log on it is printed.
+    pub fn level(&self) -> Level
+        ensures { result ≡ level_of self.now }
+    {
+        match self {
+            Report::Down { .. }
+            | Report::Busy { .. }
+            | Report::Strangers { .. }
+            | Report::Rules(Err(_))
+            | Report::File(_)
+            | Report::LeftOut { .. } => Level::Error,
+            Report::Up { .. } | Report::Rules(Ok(())) => Level::Change,
+            Report::Faulted { .. } => Level::Route,
+        }
+    }
+
+    /// Prints a report as a line, after a stamp.
+    pub fn print<S: Stream>(&self, output: &mut Printer<S>, stamp: Stamp, names: &Names) {
+        output.print(format_args!("{stamp} {}", Worded(self, names)));
     }
 }

@@ -42,7 +42,7 @@ impl<'a, P: Ports> LiveLink<'a, P> {
     {
         if let Some(own) = self.connections.get_mut(c) {
             own.closing.close(self.ports);
-            own.live.begin(key);
+            own.begin(key);
         }
     }
 
@@ -96,6 +96,7 @@ impl<'a, P: Ports> Sink for LiveLink<'a, P> {
 
     fn busy(&mut self, c: usize) {
         self.print(Line::Busy(c));
+        self.note_busy(c);
         if let Some(key) = self.take_come(c) {
             self.ports.close(key);
         }

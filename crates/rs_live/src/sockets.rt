@@ -1,10 +1,13 @@
 //! The ports that are sockets of the system, its clock, the file of the configuration, and the
 //! standard streams.
 
+ghost use Rattle.rs_live.specs.Levels.{is_shown};
+
 use crate::configuration::Configuration;
 use crate::file_watch::{FileFault, FileWatch};
 use crate::lines::Lines;
 use crate::listeners::{Accepted, Listeners};
+use crate::logging::{Level, Log, Stamp};
 use crate::names::Names;
 use crate::ports::{Incoming, Line, PortFault, Ports};
 use crate::printer::Printer;
@@ -14,12 +17,12 @@ use crate::streams::Descriptor;
 use mio::net::{TcpListener, TcpStream};
 use mio::{Events, Interest, Poll, Token};
 use slab::Slab;
-use std::alloc::Global;
-use std::io;
+use std::alloc::{AllocError, Global};
 use std::io::{ErrorKind, Read, Write};
 use std::net::{IpAddr, Ipv4Addr, Net, SocketAddr, SocketAddrV4};
 use std::rt::{Clock, Files};
-use std::time::{Duration, Instant};
+use std::time::{Duration, Instant, SystemTime, UNIX_EPOCH};
+use std::{fmt, io};
 
 /// The tokens of listeners lie above those of connections.
 const FIRST_LISTENER: usize = 1 << 32;
@@ -44,8 +47,8 @@ pub struct Sockets<'a, R> {
     lines: Lines<'a>,
     output: Printer<Descriptor>,
     errors: Printer<Descriptor>,
-    /// Reports are printed on standard error.
-    is_logging: bool,
+    /// What is told on standard error, and how.
+    log: Log,
     poll: Poll,
     events: Events,
     listeners: Listeners,
@@ -53,6 +56,50 @@ pub struct Sockets<'a, R> {
     start: Instant,
     /// The second for which it was marked what may be there.
     marked: Option<u64>,
+}
+
+/// Why the server can't listen: at this address, or before any was tried.
+#[derive(Clone, Copy, Debug, Drop)]
+pub struct ListenFault {
+    pub address: Option<SocketAddrV4>,
+    pub error: io::Error,
+}
+
+impl ListenFault {
+    /// A fault at this address.
+    fn at(address: (u32, u16), error: io::Error) -> ListenFault {
+        ListenFault {
+            address: Some(SocketAddrV4::new(Ipv4Addr::from(address.0), address.1)),
+            error,
+        }
+    }
+}
+
+impl From<io::Error> for ListenFault {
+    fn from(error: io::Error) -> ListenFault {
+        ListenFault {
+            address: None,
+            error,
+        }
+    }
+}
+
+impl From<AllocError> for ListenFault {
+    fn from(error: AllocError) -> ListenFault {
+        ListenFault {
+            address: None,
+            error: error.into(),
+        }
+    }
+}
+
+impl fmt::Display for ListenFault {
+    fn fmt<W: fmt::Write>(&self, f: &mut fmt::Formatter<W>) -> fmt::Result {
+        match self.address {
+            Some(address) => write!(f, "{address}: {}", self.error),
+            None => write!(f, "{}", self.error),
+        }
+    }
 }
 
 /// Listens at an address and says so, a line. The poll knows the listener by its place.
@@ -79,10 +126,13 @@ fn open_listeners<R: Net>(
     poll: &Poll,
     output: &mut Printer<Descriptor>,
     addresses: &[(u32, u16)],
-) -> io::Result<Listeners> {
+) -> Result<Listeners, ListenFault> {
     let mut listeners = Listeners::new(alloc);
     for (place, address) in addresses.iter().enumerate() {
-        listeners.add(open_listener(rt, poll, output, place, *address)?)?;
+        match open_listener(rt, poll, output, place, *address) {
+            Ok(listener) => listeners.add(listener)?,
+            Err(error) => return Err(ListenFault::at(*address, error)),
+        }
     }
     Ok(listeners)
 }
@@ -95,9 +145,9 @@ impl<'a, R: Net + Clock + Files> Sockets<'a, R> {
         alloc: Global,
         path: &'a str,
         names: &'a Names,
-        is_logging: bool,
+        log: Log,
         addresses: &[(u32, u16)],
-    ) -> io::Result<Sockets<'a, R>> {
+    ) -> Result<Sockets<'a, R>, ListenFault> {
         let mut output = Printer::new(alloc, Descriptor::stdout())?;
         let errors = Printer::new(alloc, Descriptor::stderr())?;
         let poll = Poll::new(rt)?;
@@ -113,7 +163,7 @@ impl<'a, R: Net + Clock + Files> Sockets<'a, R> {
             lines: Lines::new(alloc, names)?,
             output,
             errors,
-            is_logging,
+            log,
             poll,
             events,
             listeners,
@@ -162,6 +212,17 @@ impl<'a, R: Net + Clock + Files> Sockets<'a, R> {
         self.errors.flush();
     }
 
+    /// What a line of the log begins with now.
+    fn stamp(&self) -> Stamp {
+        if self.log.has_utc
+            && let Ok(time) = SystemTime::now(self.rt)
+            && let Ok(since) = time.duration_since(UNIX_EPOCH)
+        {
+            return Stamp::Utc(since.as_secs());
+        }
+        Stamp::Seconds(self.passed())
+    }
+
     /// Keeps an accepted connection, under a key; `None` where it can't be kept.
     fn keep(&mut self, accepted: Accepted) -> Option<Incoming> {
         let Accepted {
@@ -196,6 +257,8 @@ impl<'a, R: Net + Clock + Files> Sockets<'a, R> {
 
 impl<'a, R: Net + Clock + Files> Ports for Sockets<'a, R> {
     ghost asked = { λ ports calls. Unit {0} };
+
+    ghost shown = { λ ports level. is_shown ports.log.level level };
 
     fn wait(&mut self, pause: bool) -> Result<(), PortFault> {
         let most = if pause { 1 } else { 0 };
@@ -275,10 +338,12 @@ impl<'a, R: Net + Clock + Files> Ports for Sockets<'a, R> {
         self.lines.print(&mut self.output, second, line);
     }
 
+    fn shows(&self, level: Level) -> bool {
+        self.log.shows(level)
+    }
+
     fn log(&mut self, report: &Report) {
-        if self.is_logging {
-            let seconds = self.passed();
-            report.print(&mut self.errors, seconds, self.names);
-        }
+        let stamp = self.stamp();
+        report.print(&mut self.errors, stamp, self.names);
     }
 }

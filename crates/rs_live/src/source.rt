@@ -100,7 +100,7 @@ impl<'a, P: Ports> LiveLink<'a, P> {
                     self.lose(c, key);
                     return Some(Event::Lost(c));
                 }
-                self.heard(count);
+                self.heard(c, &piece[..count]);
                 Some(Event::Octets(c, count))
             }
             Err(_) => {
@@ -124,14 +124,17 @@ impl<'a, P: Ports> LiveLink<'a, P> {
         }
     }
 
-    /// Counts octets that were read.
-    fn heard(&mut self, count: usize)
+    /// Counts octets that were read of a client.
+    fn heard(&mut self, c: usize, octets: &[u8])
         ensures { LeavesPorts self.old self.new }
     {
         self.has_heard = true;
         self.pieces = self.pieces.saturating_add(1);
         self.pieces_heard = self.pieces_heard.saturating_add(1);
-        self.octets_heard = self.octets_heard.saturating_add(count);
+        self.octets_heard = self.octets_heard.saturating_add(octets.len());
+        if let Some(own) = self.connections.get_mut(c) {
+            own.hear(octets);
+        }
     }
 
     /// Reads on, until enough was heard for a turn or nothing is left.

@@ -6,7 +6,7 @@ ghost use Rattle.rs_live.specs.Leaving.{KeepsOn};
 use crate::live_link::LiveLink;
 use crate::ports::Ports;
 use crate::rate_limits::RateLimit;
-use crate::reports::Report;
+use crate::reports::{Holder, Report};
 use rs_core::Core;
 use std::alloc::{AllocError, Global};
 
@@ -41,13 +41,17 @@ fn up(core: &Core, client: usize) -> Option<Report> {
 }
 
 /// How the last session of a client ended.
-fn down(core: &Core, client: usize) -> Report {
+fn down<P: Ports>(core: &Core, link: &LiveLink<'_, P>, client: usize) -> Report {
     let ending = if client < core.clients() {
         core.ending(client)
     } else {
         None
     };
-    Report::Down { client, ending }
+    Report::Down {
+        client,
+        ending,
+        offered: link.offered(client),
+    }
 }
 
 /// Reports how many reports of a client were left out, where there are some.
@@ -60,11 +64,13 @@ fn report_left_out<P: Ports>(link: &mut LiveLink<'_, P>, client: usize, count: u
 }
 
 impl Reported {
-    /// Makes a report, now or in a later second.
+    /// Makes a report that is shown, now or in a later second.
     fn report<P: Ports>(&mut self, link: &mut LiveLink<'_, P>, client: usize, report: &Report)
         ensures { KeepsOn P.asked link.old link.new }
     {
-        self.reports.put(*report);
+        if link.shows(report) {
+            self.reports.put(*report);
+        }
         self.report_waiting(link, client);
     }
 
@@ -84,7 +90,8 @@ impl Reported {
     {
         if link.take_ended(client) {
             self.is_up = false;
-            self.report(link, client, &down(core, client));
+            let report = down(core, link, client);
+            self.report(link, client, &report);
         }
     }
 
@@ -97,6 +104,36 @@ impl Reported {
         }
         if let Some(report) = up(core, client) {
             self.is_up = true;
+            self.report(link, client, &report);
+        }
+    }
+
+    /// What has the place of the client's connection.
+    fn holder<P: Ports>(&self, link: &LiveLink<'_, P>, client: usize) -> Holder {
+        if self.is_up {
+            Holder::Session
+        } else if link.live_key(client).is_some() {
+            Holder::Connection
+        } else {
+            Holder::Nothing
+        }
+    }
+
+    /// Reports the connections beside a client's own that were closed, where there was no report in this
+    /// second.
+    fn report_busy<P: Ports>(&mut self, link: &mut LiveLink<'_, P>, client: usize)
+        ensures { KeepsOn P.asked link.old link.new }
+    {
+        if !self.reports.is_free(link.now()) {
+            return;
+        }
+        if let Some((address, count)) = link.take_busy(client) {
+            let report = Report::Busy {
+                client,
+                address,
+                count,
+                holder: self.holder(link, client),
+            };
             self.report(link, client, &report);
         }
     }
@@ -151,6 +188,7 @@ impl Watch {
             reported.report_end(core, link, client);
             reported.report_begin(core, link, client);
             reported.report_faulted(core, link, client);
+            reported.report_busy(link, client);
         }
     }
 

@@ -3,10 +3,12 @@
 #![tactic(auto)]
 
 use anyhow::Result;
+use rs_check::check;
 use rs_command::configuration::read_configuration;
-use rs_command::serve::{Options, read_command};
+use rs_command::serve::{LogLevel, Options, read_command};
 use rs_command::{Asked, Status};
 use rs_live::connections::listen_addresses;
+use rs_live::logging::{Level, Log};
 use rs_live::names::Names;
 use rs_live::serve::{Limits, serve};
 use rs_live::sockets::Sockets;
@@ -17,6 +19,20 @@ use std::process::ExitCode;
 use std::rt::{Clock, Env, Files};
 use std::sync::Wait;
 use std::thread::Threads;
+
+/// What is to be told on standard error.
+fn log_of(options: &Options) -> Log {
+    let level = match options.log {
+        None => None,
+        Some(LogLevel::Error) => Some(Level::Error),
+        Some(LogLevel::Change) => Some(Level::Change),
+        Some(LogLevel::Route) => Some(Level::Route),
+    };
+    Log {
+        level,
+        has_utc: options.utc,
+    }
+}
 
 /// Serves, and answers the status to end with.
 fn run<R: Threads + Wait + Sync + Net + Clock + Files + Print + Eprint>(
@@ -32,7 +48,7 @@ fn run<R: Threads + Wait + Sync + Net + Clock + Files + Print + Eprint>(
         alloc,
         &options.config,
         &names,
-        options.log,
+        log_of(options),
         &addresses,
     ) {
         Ok(ports) => ports,
@@ -64,14 +80,13 @@ fn start<R: Threads + Wait + Sync + Net + Clock + Env + Files + Print + Eprint +
         Asked::Run(options) => options,
         Asked::End(status) => return Ok(status),
     };
+    if options.check {
+        return Ok(check(rt, alloc, &options.config)?);
+    }
     let config = match read_configuration(rt, alloc, &options.config) {
         Ok(config) => config,
         Err(fault) => return Ok(fault.report(rt)),
     };
-    if options.check {
-        println!(rt; "configuration: good, {} clients", config.clients())?;
-        return Ok(Status::Done);
-    }
     run(rt, alloc, &options, config)
 }
 

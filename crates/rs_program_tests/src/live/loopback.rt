@@ -2,6 +2,7 @@
 
 use crate::live::rounds::{COMING_UP, KEEPALIVE, OPEN_A, OPEN_B, UPDATE, until};
 use rs_live::connections::listen_addresses;
+use rs_live::logging::Log;
 use rs_live::names::Names;
 use rs_live::serve::serve;
 use rs_live::sockets::Sockets;
@@ -26,6 +27,12 @@ fn come_up(rt: &HostRuntime, port: u16, open: &[u8]) -> io::Result<TcpStream> {
     Ok(stream)
 }
 
+/// Nothing is told on standard error.
+const SILENT: Log = Log {
+    level: None,
+    has_utc: false,
+};
+
 /// What b is sent of the route that a announces.
 fn exchange(rt: &HostRuntime) -> io::Result<[u8; 47]> {
     let mut a = come_up(rt, 17931, OPEN_A)?;
@@ -42,7 +49,9 @@ fn a_route_goes_over_sockets(rt: HostRuntime) -> Result<(), Fail> {
     let config = Config::read(alloc, TWO)?;
     let names = Names::of(alloc, &config)?;
     let addresses = listen_addresses(alloc, &config)?;
-    let mut ports = Sockets::listen(&rt, alloc, "", &names, false, &addresses)?;
+    let mut ports = Sockets::listen(&rt, alloc, "", &names, SILENT, &addresses).map_err(
+        |fault| fault.error,
+    )?;
     let (served, heard) = thread::join(
         &rt,
         || serve(&rt, alloc, &mut ports, config, until(2)),

@@ -4,9 +4,14 @@ ghost use Rattle.std.specs.Prelude.{◌≡◌};
 
 use crate::live::script::{Broken, Said, Script, sent};
 use rs_attrs::{AttributeFault, Cause, Faulted};
+use rs_core::Ending;
+use rs_live::logging::{Level, Log};
+use rs_live::offers::Offered;
 use rs_live::ports::Line;
-use rs_live::reports::Report;
+use rs_live::reports::{Holder, Report};
 use rs_live::serve::{Limits, ServeFault, serve};
+use rs_octets::Notification;
+use rs_open::Short;
 use rs_policy::Config;
 use std::alloc::Global;
 use std::process::Abort;
@@ -147,7 +152,28 @@ fn strangers_and_second_connections_are_closed(rt: HostRuntime) {
     ];
     ports.says_first(&rt, &lines);
     sent(&rt, ports.heard(1).get(COMING_UP..), UPDATE);
-    assert!(rt; !ports.reports.is_empty());
+    let busy = Report::Busy {
+        client: 0,
+        address: A,
+        count: 1,
+        holder: Holder::Connection,
+    };
+    assert!(rt; ports.reports.contains(&busy));
+    ports.let_go();
+}
+
+#[test]
+fn what_goes_wrong_alone_is_told(rt: HostRuntime) {
+    let mut ports = exchange(&rt, rt.alloc(), 0);
+    ports.log = Log {
+        level: Some(Level::Error),
+        has_utc: false,
+    };
+    served(&rt, rt.alloc(), &mut ports, until(2));
+    assert_eq!(rt; ports.reports.len(), 2);
+    for report in &ports.reports {
+        assert!(rt; matches!(report, Report::Down { .. }));
+    }
     ports.let_go();
 }
 
@@ -343,6 +369,24 @@ fn a_route_without_next_hop_is_reported(rt: HostRuntime) {
         },
     };
     assert!(rt; ports.reports.contains(&answers));
+    ports.let_go();
+}
+
+#[test]
+fn what_a_refused_open_offered_is_reported(rt: HostRuntime) {
+    let [open, _] = comes_up(OPEN_B);
+    let ports = hears_of_a(&rt, rt.alloc(), &[open]);
+    let down = Report::Down {
+        client: 0,
+        ending: Some(Ending::Said(Short::of(Notification::BadPeerAs))),
+        offered: Some(Offered {
+            version: 4,
+            number: 64497,
+            hold: 90,
+            identifier: B,
+        }),
+    };
+    assert!(rt; ports.reports.contains(&down));
     ports.let_go();
 }
 

@@ -1,8 +1,10 @@
 //! Ports in memory: members that say what a script has, and a call that fails where it is wanted.
 
 ghost use Rattle.std.specs.Prelude.{◌≤◌};
+ghost use Rattle.rs_live.specs.Levels.{is_shown};
 
 use rs_live::file_watch::FileFault;
+use rs_live::logging::{Level, Log};
 use rs_live::ports::{Incoming, Line, PortFault, Ports};
 use rs_live::reports::Report;
 use std::alloc::Global;
@@ -78,6 +80,7 @@ pub struct Script {
     /// Why the file is not read at its next reading.
     pub unread: Option<FileFault>,
     pub said: Vec<Line>,
+    pub log: Log,
     pub reports: Vec<Report>,
 }
 
@@ -102,6 +105,10 @@ impl Script {
             later: None,
             unread: None,
             said: Vec::new(alloc),
+            log: Log {
+                level: Some(Level::Route),
+                has_utc: false,
+            },
             reports: Vec::new(alloc),
         }
     }
@@ -206,6 +213,8 @@ fn lay(piece: &mut [u8; 4096], octets: &[u8]) -> usize
 impl Ports for Script {
     ghost asked = { λ ports calls. Unit {0} };
 
+    ghost shown = { λ ports level. is_shown ports.log.level level };
+
     fn wait(&mut self, _pause: bool) -> Result<(), PortFault> {
         self.rounds = self.rounds.saturating_add(1);
         self.accepts = 0;
@@ -308,6 +317,10 @@ impl Ports for Script {
 
     fn print(&mut self, line: &Line) {
         let _ = self.said.push(*line);
+    }
+
+    fn shows(&self, level: Level) -> bool {
+        self.log.shows(level)
     }
 
     fn log(&mut self, report: &Report) {
