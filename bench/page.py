@@ -91,7 +91,7 @@ COLUMNS = (
     ("CPU in all s", lambda it: value(it, "whole", "server_cpu_s")),
 )
 # The works and the figures that the page shows; the file beside it has all.
-SHOWN_WORKS = ("internet", "overlap")
+SHOWN_WORKS = ("internet 10x100k", "internet 100x1k", "overlap")
 SHOWN = ("converged s", "CPU s", "peak MB", "one p50 ms", "gone p50 ms", "flap gone s", "back s", "late s")
 
 

@@ -5,8 +5,8 @@ hostile.py PROGRAM [--short] [--rows a,b,..] [--servers NAME,..] [--page FILE]
 
 Each attack has a bound in time, and ends with all that it has started. A row that is missed is played once more before it
 counts; the load of the machine then stands beside it. The short form has the rows that take seconds, in small sizes, and ours
-alone. FILE is made anew with the verdicts and with what was seen of these rows and of those that were played to the same build
-before, as out/hostile.json keeps them. Status 1 where a row is missed.
+alone. FILE is made anew with the verdicts on these rows and on those that were played to the same build before, as
+out/hostile.json keeps them, and what was seen in a .csv beside it. Status 1 where a row is missed.
 """
 import argparse
 import pathlib
@@ -14,7 +14,7 @@ import signal
 import sys
 
 from hostile.kept import Kept
-from hostile.page import page
+from hostile.page import data, page
 from hostile.plays import chosen, play
 from hostile.targets import targets
 from results import end
@@ -50,6 +50,7 @@ def main():
         if options.page:
             kept.keep(row, seen, missed, load, times)
             options.page.write_text(page(kept, known))
+            options.page.with_name(f"{options.page.stem.lower()}.csv").write_text(data(kept))
     end(held, differ)
 
 

@@ -9,13 +9,15 @@ file: four_members.toml above the folder), what the program must write in NAME.o
 1, 2, 3 and 16 workers.
 
 Where no NAME is given, one trace more is played with --progress: with a terminal on standard error it must be told there
-how far the replay is, and without one nothing; what is written is the same.
+on one line how far the replay is, and without one nothing; what is written is the same. And one is played of which only the first
+line is read, as by `head -1`: the program must end with status 3, and say nothing.
 """
 import os
 import pathlib
 import pty
 import subprocess
 import sys
+import tempfile
 
 from results import end, tell
 
@@ -53,7 +55,7 @@ def progress_differs(program, folder):
     trace = first + b"moment 7\nmoment 7\n" + b"#\n" * 140_000 + b"moment 7\nmoment 8\n"
     at = first.count(b"\n") + 1
     told = [at, at + 65_536, at + 2 * 65_536, at + 140_003]
-    wanted = "".join(f"{line} lines read, 1 UPDATEs heard\r\n" for line in told).encode()
+    wanted = "".join(f"\r{line} lines read, 1 UPDATEs heard" for line in told).encode() + b"\r\n"
     words = [program, "--config", folder.parent / "four_members.toml", "--progress"]
     ours, theirs = pty.openpty()
     try:
@@ -73,6 +75,25 @@ def progress_differs(program, folder):
     return None if watched.stdout == alone.stdout == output else "what is written is another than without --progress"
 
 
+def unread_differs(program, folder):
+    """What is wrong where nobody reads on behind the first line, or None."""
+    first = (folder / "first_route.trace").read_bytes()
+    trace = first + b"table b\n" * 50_000
+    words = [program, "--config", folder.parent / "four_members.toml"]
+    with tempfile.TemporaryFile() as given:
+        given.write(trace)
+        given.seek(0)
+        with subprocess.Popen(words, stdin=given, stdout=subprocess.PIPE, stderr=subprocess.PIPE) as run:
+            line = run.stdout.readline()
+            run.stdout.close()
+            told = run.stderr.read()
+            status = run.wait(60)
+    wanted = (folder / "first_route.out").read_bytes().splitlines(keepends=True)[0]
+    if line != wanted:
+        return f"wrote {line} and not {wanted}"
+    return None if (status, told) == (3, b"") else f"status {status}, {told}"
+
+
 def play(program, folder, names=()):
     """Plays the sessions: each, and what is wrong with it or None."""
     chosen, names = names, names or sorted(it.stem for it in folder.glob("*.trace"))
@@ -83,6 +104,7 @@ def play(program, folder, names=()):
         yield f"session {name}", next((f"{it[0]} workers: {it[1]}" for it in wrong if it[1]), None)
     if not chosen:
         yield "what --progress tells", progress_differs(program, folder)
+        yield "nobody reads on", unread_differs(program, folder)
 
 
 if __name__ == "__main__":

@@ -1,5 +1,7 @@
-"""The page of hostile.py: a verdict for each row, and what was seen of each server."""
+"""The page of hostile.py: a verdict for each row; and what was seen of each server, as a file beside it."""
+import csv
 import datetime
+import io
 import os
 import platform
 
@@ -8,7 +10,8 @@ from .table import ROWS, SHORT_SLACK, SLACK
 INTRODUCTION = """
 What a member with nothing but valid octets, a stranger or an accident can do to others' sessions and to the time that they wait.
 Each attack is played on loopback to the built server, and to BIRD (with one table, and one for each client) and OpenBGPD where they
-take it. A row is missed where the server doesn't do what stands under "To be", twice.
+take it. A row is missed where the server doesn't do what stands under "To be", twice. `hostile.csv` beside this page has what was seen of
+each server, and in which sizes.
 """
 WORDS = f"""
 ## What the words mean
@@ -39,10 +42,18 @@ def page(kept, targets):
     text += [f"| {row.letter} | {row.attack} | {row.wanted} | {verdict(it)} | {it['load']:.1f} |" for row, it in played]
     if others := [row.letter for row in ROWS if row.letter not in kept.rows]:
         text += ["", f"Not played to this build (`tools/hostile/table.py` has what they are): {', '.join(others)}."]
-    text += ["", "## What was seen", "", "| | Server | Seen |", "|---|---|---|"]
-    text += [f"| {row.letter} | {name} | {words} |" for row, it in played for name, words in it["seen"].items()]
-    text += ["", "Sizes: " + "; ".join(f"{row.letter} {sizes(row.sizes)}" for row, _ in played if row.sizes) + "."]
     return "\n".join(text) + "\n" + WORDS
+
+
+def data(kept):
+    """What was seen of each server in each row, as lines with commas between them."""
+    text = io.StringIO()
+    lines = csv.writer(text, lineterminator="\n")
+    lines.writerow(["Row", "Sizes", "Server", "Seen"])
+    for row in ROWS:
+        if it := kept.rows.get(row.letter):
+            lines.writerows([row.letter, sizes(row.sizes), name, words] for name, words in it["seen"].items())
+    return text.getvalue()
 
 
 def sizes(them):
