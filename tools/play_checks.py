@@ -97,12 +97,7 @@ FAULTS = (
     ("ases = [64496]", f"ases = {'x' * 70!r}", ["bad value list 1 ases", f"@ases = '{'x' * 59}..; expected: an array of at most 1048576 AS numbers"], ["'xxx"]),
     ("ases = [64496]", "ases = '''\nmuch'''", ["bad value list 1 ases", "@ases = '''..; expected: an array of at most 1048576 AS numbers"], ["'''\nmuch"]),
     ("strip = [", 'strip = [' + '"1:1", ' * 63, ["too many client 1 import 2 strip", '@strip has 65; expected: "all" or at most 64 communities "N:M", beside action = "pass"'], ['["1:1"']),
-    (
-        'use = "last"',
-        'use = "least"',
-        ["bad value client 2 export 1 use", '@use = "least"; expected: the name of rules that others use', "missing client 2 export 1 action", '@expected: action = "pass" or "drop"'],
-        ['"least"', "[[client.export]]"],
-    ),
+    ('use = "last"', 'use = "least"', ["bad value client 2 export 1 use", '@use = "least"; expected: the name of rules that others use'], ['"least"']),
     ('use = "last"', 'use = "last"\naction = "drop"', ["bad value client 2 export 1 ?", "@not known here: action; known: use"], ['"drop"\n\n[[rules]]']),
     ("path_has = 64999", "path_has = 0", ["bad value rules 1 rules 1 path_has", f"@path_has = 0; expected: {AS_FORM}"], ["0, action"]),
     ("path_has = 64999", 'use = "last", path_has = 64999', ["bad value rules 1 rules 1 ?", f"@not known here: use; known: {RULE_KEYS}"], ['"last", path_has']),

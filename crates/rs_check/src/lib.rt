@@ -66,6 +66,17 @@ fn hangs_on(told: &[ConfigFault], fault: &ConfigFault) -> bool {
     }) && told.iter().any(|earlier| changes_names(earlier))
 }
 
+/// Whether a fault is of a table of which a faulty `use` was told: without it another rule stands there.
+fn is_without_use(told: &[ConfigFault], fault: &ConfigFault) -> bool {
+    place_of(fault).is_some_and(|place| {
+        let used = ConfigFault::BadValue(Place {
+            key: Key::Use,
+            ..place
+        });
+        told.iter().any(|earlier| *earlier == used)
+    })
+}
+
 /// Whether to mend a fault changes which names there are, or what a list has.
 fn changes_names(fault: &ConfigFault) -> bool {
     match place_of(fault) {
@@ -100,7 +111,8 @@ fn tell_faults<R: Eprint>(
     let mut without = String::from_str(alloc, text)?;
     let mut fault = first;
     for _ in 0..MENDINGS {
-        if !is_told(&told, &fault) && !hangs_on(&told, &fault) {
+        let comes_of_one = hangs_on(&told, &fault) || is_without_use(&told, &fault);
+        if !comes_of_one && !is_told(&told, &fault) {
             if told.len() == MOST {
                 tell(rt, "there are more");
                 break;
