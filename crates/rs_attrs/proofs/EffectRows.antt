@@ -86,7 +86,7 @@ abbrev faults_noted : List ℕ → Option Faulted
 faults_noted body = option_map (λ fields. faulted_in fields Four) (fields_of body)
 
 abbrev at_fault : Option AttributeFault → Option AttributeFault → Option Faulted
-at_fault withdraw discard = Some (record { withdraw = withdraw; discard = discard })
+at_fault withdraw discard = Some (record { withdraw = withdraw; discard = discard; mp_reach = false })
 
 no_next_hop_noted : faults_noted (hex (codes "0000 000d 40010100 40020602010000fbf0 18c63364")) ≡ at_fault (Some (fault 3 cause.Missing)) None
 unfolding all_types
@@ -109,6 +109,11 @@ missing_beside_discarded = refl
 none_missing : faults_noted (hex (codes "0000 0014") ++ u1 ++ hex (codes "18c63364")) ≡ at_fault None None
 unfolding all_types
 none_missing = refl
+
+-- routes of another address family beside one of IPv4
+routes_passed_over : faults_noted (hex (codes "0000 001c") ++ u1 ++ hex (codes "800e050002010000 18c63364")) ≡ Some (record { withdraw = None; discard = None; mp_reach = true })
+unfolding all_types
+routes_passed_over = refl
 
 withdrawn_alone_noted : faults_noted (hex (codes "0004 18c63364 0000")) ≡ at_fault None None
 unfolding all_types

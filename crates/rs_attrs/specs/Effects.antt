@@ -127,6 +127,7 @@ abbrev pub with_missing : Faulted → Option ℕ → Faulted
 with_missing faulted missing = record {
   withdraw = option_or faulted.withdraw (option_map (λ kind. fault kind cause.Missing) missing);
   discard = faulted.discard;
+  mp_reach = faulted.mp_reach;
 }
 
 -- what is wrong with the attributes that came, and which one is missing

@@ -15,6 +15,7 @@ use Rattle.rs_attrs.specs.declared.faults.Flaw.{Flaw}
 use Rattle.rs_attrs.specs.Spellings.{Spelling, spellings_of, rest_of}
 use Rattle.rs_attrs.specs.Table.{Row, row_of, fits_class, outcome_of, is_kept, is_withdraw, is_discard}
 use Rattle.rs_attrs.specs.Meaning.{that_counts}
+use Rattle.rs_attrs.specs.Types as types
 
 -- Why a value that isn't well formed is not: ORIGIN of one octet has a bad value, and a path bad segments; else the
 -- length is wrong. A type of which no value is well formed is discarded whatever it says: that is no fault.
@@ -71,10 +72,11 @@ first_by is_it flaws = option_map (λ flaw. flaw.fault) (find (λ flaw. is_it fl
 
 -- the first of each kind
 abbrev pub firsts_of : List Flaw → Faulted
-firsts_of flaws = record { withdraw = first_by is_withdraw flaws; discard = first_by is_discard flaws }
+firsts_of flaws = record { withdraw = first_by is_withdraw flaws; discard = first_by is_discard flaws; mp_reach = false }
 
+-- and whether MP_REACH_NLRI came (RFC 4760, 3)
 abbrev pub faulted_of : List ℕ → Mode → Faulted
-faulted_of octets mode = firsts_of (flaws_of octets mode)
+faulted_of octets mode = record (firsts_of (flaws_of octets mode)) { mp_reach = comes_among types.mp_reach_nlri (spellings_of octets) }
 
 -- ---- with a flaw more
 
@@ -87,4 +89,5 @@ with_flaw faulted None = faulted
 with_flaw faulted (Some flaw) = record {
   withdraw = or_fault faulted.withdraw (is_withdraw flaw.outcome) flaw.fault;
   discard = or_fault faulted.discard (is_discard flaw.outcome) flaw.fault;
+  mp_reach = faulted.mp_reach;
 }

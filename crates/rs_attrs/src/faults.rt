@@ -52,16 +52,18 @@ pub struct AttributeFault {
     pub cause: Cause,
 }
 
-/// The first attribute that is treated as withdraw, and the first that is discarded. A type that is
-/// discarded whatever it says, as LOCAL_PREF, is none of them. Of an UPDATE that announces routes,
-/// where no attribute of its own is treated as withdraw, the first is the mandatory one that is
-/// missing; a field of attributes alone misses none.
+/// What goes into the log of an UPDATE: the first attribute that is treated as withdraw, and the first
+/// that is discarded. A type that is discarded whatever it says, as LOCAL_PREF, is none of them. Of an
+/// UPDATE that announces routes, where no attribute of its own is treated as withdraw, the first is the
+/// mandatory one that is missing; a field of attributes alone misses none.
 #[derive(Clone, Copy, Debug, PartialEq, Eq)]
 pub struct Faulted {
     /// For which the UPDATE is treated as withdraw.
     pub withdraw: Option<AttributeFault>,
     /// That is discarded.
     pub discard: Option<AttributeFault>,
+    /// MP_REACH_NLRI is there (RFC 4760, 3), whose routes are passed over. That is no fault.
+    pub mp_reach: bool,
 }
 
 impl Cause {
@@ -194,13 +196,13 @@ pub(crate) fn noting(faulted: Faulted, flaw: Option<Flaw>) -> Faulted
         return faulted;
     };
     match (flaw.outcome, faulted.withdraw, faulted.discard) {
-        (Outcome::Withdraw, None, discard) => Faulted {
+        (Outcome::Withdraw, None, _) => Faulted {
             withdraw: Some(flaw.fault),
-            discard,
+            ..faulted
         },
-        (Outcome::Discard, withdraw, None) => Faulted {
-            withdraw,
+        (Outcome::Discard, _, None) => Faulted {
             discard: Some(flaw.fault),
+            ..faulted
         },
         _ => faulted,
     }

@@ -102,6 +102,9 @@ pub struct FaultedUpdates {
     pub count: u64,
     /// What was wrong with the last one.
     pub last: Faulted,
+    /// How many had MP_REACH_NLRI (RFC 4760, 3), whose routes are passed over; `count` has them only
+    /// where something else was at fault.
+    pub mp_reach: u64,
 }
 
 /// What is kept of a client for the operator.
@@ -120,7 +123,9 @@ impl Watched {
             last: Faulted {
                 withdraw: None,
                 discard: None,
+                mp_reach: false,
             },
+            mp_reach: 0,
         },
     };
 
@@ -138,10 +143,11 @@ impl Watched {
         ensures { (endings : List Ending) (faults : List Faulted) → self.old ≡ watched_by endings faults → self.new ≡ watched_by endings (with_faults faulted faults) }
     {
         if faulted.withdraw.is_some() || faulted.discard.is_some() {
-            self.faulted = FaultedUpdates {
-                count: self.faulted.count.saturating_add(1),
-                last: faulted,
-            };
+            self.faulted.count = self.faulted.count.saturating_add(1);
+            self.faulted.last = faulted;
+        }
+        if faulted.mp_reach {
+            self.faulted.mp_reach = self.faulted.mp_reach.saturating_add(1);
         }
     }
 }

@@ -55,6 +55,8 @@ pub enum Report {
         count: u64,
         last: Faulted,
     },
+    /// A client sends routes in MP_REACH_NLRI (RFC 4760, 3), which are passed over.
+    PassedOver { client: usize },
     /// A text of rules was accepted, or why it was not.
     Rules(Result<(), RulesFault>),
     /// The file of rules was not read.
@@ -327,6 +329,10 @@ impl fmt::Display for Worded<'_> {
                 let which = one_or_several(*count, "UPDATE at fault", "UPDATEs at fault, the last");
                 write!(f, "{}: {count} {which}: {last}", names.name(*client))
             }
+            Report::PassedOver { client } => {
+                let name = names.name(*client);
+                write!(f, "{name}: routes in MP_REACH_NLRI (14) are passed over")
+            }
             Report::Rules(Ok(())) => write!(f, "rules accepted"),
             Report::Rules(Err(fault)) => write!(f, "rules refused: {fault}"),
             Report::File(fault) => write!(f, "rules refused: {fault}"),
@@ -351,7 +357,7 @@ impl Report {
             | Report::File(_)
             | Report::LeftOut { .. } => Level::Error,
             Report::Up { .. } | Report::Rules(Ok(())) => Level::Change,
-            Report::Faulted { .. } => Level::Route,
+            Report::Faulted { .. } | Report::PassedOver { .. } => Level::Route,
         }
     }
 

@@ -17,7 +17,17 @@ struct Reported {
     is_up: bool,
     /// How many of its UPDATEs were at fault.
     faulted: u64,
+    mp_reach: MpReach,
     reports: RateLimit<Report>,
+}
+
+/// What was reported of the routes in MP_REACH_NLRI of a client's session.
+#[derive(Clone, Copy)]
+enum MpReach {
+    /// Nothing; before the session there were so many UPDATEs with some.
+    Before(u64),
+    /// That there are some.
+    Reported,
 }
 
 /// What was reported of each client.
@@ -38,6 +48,15 @@ fn up(core: &Core, client: usize) -> Option<Report> {
         limit: core.limit(client)?,
         hold: core.hold(client)?,
     })
+}
+
+/// How many UPDATEs of a client had MP_REACH_NLRI.
+fn with_mp_reach(core: &Core, client: usize) -> u64 {
+    if client < core.clients() {
+        core.faulted(client).mp_reach
+    } else {
+        0
+    }
 }
 
 /// How the last session of a client ended.
@@ -90,6 +109,7 @@ impl Reported {
     {
         if link.take_ended(client) {
             self.is_up = false;
+            self.mp_reach = MpReach::Before(with_mp_reach(core, client));
             let report = down(core, link, client);
             self.report(link, client, &report);
         }
@@ -162,6 +182,25 @@ impl Reported {
             );
         }
     }
+
+    /// Reports that a client sends routes in MP_REACH_NLRI, once in a session, where there was no report in
+    /// this second.
+    fn report_passed_over<P: Ports>(
+        &mut self,
+        core: &Core,
+        link: &mut LiveLink<'_, P>,
+        client: usize,
+    )
+        ensures { KeepsOn P.asked link.old link.new }
+    {
+        let MpReach::Before(count) = self.mp_reach else {
+            return;
+        };
+        if with_mp_reach(core, client) > count && self.reports.is_free(link.now()) {
+            self.mp_reach = MpReach::Reported;
+            self.report(link, client, &Report::PassedOver { client });
+        }
+    }
 }
 
 impl Watch {
@@ -170,6 +209,7 @@ impl Watch {
         let nothing = Reported {
             is_up: false,
             faulted: 0,
+            mp_reach: MpReach::Before(0),
             reports: RateLimit::new(),
         };
         Ok(Watch {
@@ -188,6 +228,7 @@ impl Watch {
             reported.report_end(core, link, client);
             reported.report_begin(core, link, client);
             reported.report_faulted(core, link, client);
+            reported.report_passed_over(core, link, client);
             reported.report_busy(link, client);
         }
     }

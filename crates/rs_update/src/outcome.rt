@@ -98,7 +98,7 @@ fn faults_noted(faulted: Faulted, missing: Option<u8>) -> Faulted
     });
     Faulted {
         withdraw: faulted.withdraw.or(missing),
-        discard: faulted.discard,
+        ..faulted
     }
 }
 

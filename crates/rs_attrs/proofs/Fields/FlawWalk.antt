@@ -11,7 +11,8 @@ use Rattle.rs_attrs.specs.declared.faults.Flaw.{Flaw}
 use Rattle.rs_attrs.specs.Spellings.{Spelling, spellings_of, rest_of}
 use Rattle.rs_attrs.specs.Table.{is_withdraw, is_discard}
 use Rattle.rs_attrs.specs.Meaning.{that_counts}
-use Rattle.rs_attrs.specs.Flaws.{flaw_by, comes_among, flaws_behind, cut_off, first_by, firsts_of, faulted_of, or_fault, with_flaw}
+use Rattle.rs_attrs.specs.Types as types
+use Rattle.rs_attrs.specs.Flaws.{flaw_by, comes_among, flaws_behind, flaws_of, cut_off, first_by, firsts_of, faulted_of, or_fault, with_flaw}
 use Rattle.rs_attrs.specs.Walking.{Stops, Steps}
 use Rattle.rs_attrs.proofs.Fields.FirstOfTypeWalk.{or_else, if_kind, counts_more}
 
@@ -45,7 +46,7 @@ first_more is_it (g ∷ flaws) f = by_test (is_it g.outcome) (first_more is_it f
 
 pub firsts_more : (flaws : List Flaw) (o : Option Flaw) → firsts_of (flaws ++ cons_option o []) ≡ with_flaw (firsts_of flaws) o
 firsts_more flaws None = ap firsts_of (append-nil flaws)
-firsts_more flaws (Some f) = λ i. record { withdraw = first_more is_withdraw flaws f i; discard = first_more is_discard flaws f i }
+firsts_more flaws (Some f) = λ i. record { withdraw = first_more is_withdraw flaws f i; discard = first_more is_discard flaws f i; mp_reach = false }
 
 -- ---- the walk
 
@@ -62,7 +63,7 @@ none_seen zero kind = refl
 none_seen (suc n) zero = refl
 none_seen (suc n) (suc kind) = none_seen n kind
 
-pub so_far_start : (mode : Mode) (field : List ℕ) → FlawsSoFar mode field (replicate 256 false) (record { withdraw = None; discard = None }) [] field
+pub so_far_start : (mode : Mode) (field : List ℕ) → FlawsSoFar mode field (replicate 256 false) (record { withdraw = None; discard = None; mp_reach = false }) [] field
 so_far_start mode field = record {
   size = length-replicate 256 false;
   whole = refl;
@@ -108,9 +109,12 @@ so_far_more mode field seen faulted more done rest after s flaw had steps byte f
 pub so_far_all : (mode : Mode) (field : List ℕ) (seen : List Bool) (faulted : Faulted) (done : List Spelling) (rest : List ℕ) → FlawsSoFar mode field seen faulted done rest → Stops rest → done ≡ spellings_of field
 so_far_all mode field seen faulted done rest had stops = sym (had.whole ∙ ap (λ ss. done ++ ss) stops.0 ∙ append-nil done)
 
-pub so_far_end : (mode : Mode) (field : List ℕ) (seen : List Bool) (faulted : Faulted) (done : List Spelling) (rest : List ℕ) → FlawsSoFar mode field seen faulted done rest → Stops rest → with_flaw faulted (cut_off rest) ≡ faulted_of field mode
+pub so_far_end : (mode : Mode) (field : List ℕ) (seen : List Bool) (faulted : Faulted) (done : List Spelling) (rest : List ℕ) → FlawsSoFar mode field seen faulted done rest → Stops rest → record (with_flaw faulted (cut_off rest)) { mp_reach = get_or seen types.mp_reach_nlri false } ≡ faulted_of field mode
 so_far_end mode field seen faulted done rest had stops =
     let all : done ≡ spellings_of field = so_far_all mode field seen faulted done rest had stops in
     let left : rest ≡ rest_of field = sym (had.behind ∙ stops.1) in
-    (λ i. with_flaw ((had.firsts ∙ ap (λ ss. firsts_of (flaws_behind mode [] ss)) all) i) (cut_off (left i)))
-    ∙ sym (firsts_more (flaws_behind mode [] (spellings_of field)) (cut_off (rest_of field)))
+    let firsts : with_flaw faulted (cut_off rest) ≡ firsts_of (flaws_of field mode) =
+        (λ i. with_flaw ((had.firsts ∙ ap (λ ss. firsts_of (flaws_behind mode [] ss)) all) i) (cut_off (left i)))
+        ∙ sym (firsts_more (flaws_behind mode [] (spellings_of field)) (cut_off (rest_of field))) in
+    let came = had.came types.mp_reach_nlri ∙ ap (comes_among types.mp_reach_nlri) all in
+    λ i. record (firsts i) { mp_reach = came i }

@@ -11,6 +11,7 @@ use Rattle.rs_attrs.specs.Spellings.{Spelling, spellings_of, rest_of}
 use Rattle.rs_attrs.specs.Table.{outcome_of, is_kept, is_withdraw, is_unknown, is_discard}
 use Rattle.rs_attrs.specs.Meaning.{that_counts, if_kept, kept_spelling, stands_twice, comes_to, some_comes_to, faults_of, all_types}
 use Rattle.rs_attrs.specs.Flaws.{fault, cause_in, cut_off, faulted_of, flaw_by, with_flaw, comes_among}
+use Rattle.rs_attrs.specs.Types as types
 use Rattle.rs_attrs.specs.Walking.{Stops, Steps, noted, noted_with, AreRising, Keeps, faults_with, noted_more}
 use Rattle.rs_attrs.proofs.Fields.FirstOfType.{any_of, not_withdraw, not_unknown, not_discard}
 use Rattle.rs_attrs.proofs.Fields.FirstOfTypeWalk.{counts_same, counts_new, twice_more, comes_more}
@@ -180,7 +181,7 @@ gathering_noted mode field came kept more faults_noted new rest after s place co
 -- ---- the first and the last
 
 abbrev pub nothing_wrong : Faults × Faulted
-nothing_wrong = (record { mp_twice = false; withdraw = false; unknown = false; discard = false }, record { withdraw = None; discard = None })
+nothing_wrong = (record { mp_twice = false; withdraw = false; unknown = false; discard = false }, record { withdraw = None; discard = None; mp_reach = false })
 
 pub gathering_start : (mode : Mode) (field : List ℕ) (kept : List Found) → kept ≡ [] → Gathering mode field (replicate 256 false) kept nothing_wrong field
 gathering_start mode field kept e =
@@ -228,5 +229,5 @@ no_rest faults rest e = λ i. record faults { withdraw = (never faults.withdraw 
     never false = refl
 
 pub rest_faulted : (mode : Mode) (field : List ℕ) (came : List Bool) (kept : List Found) (faults_noted : Faults × Faulted) (rest : List ℕ) → Gathering mode field came kept faults_noted rest → Stops rest
-    → with_flaw faults_noted.1 (cut_off rest) ≡ faulted_of field mode
+    → record (with_flaw faults_noted.1 (cut_off rest)) { mp_reach = get_or came types.mp_reach_nlri false } ≡ faulted_of field mode
 rest_faulted mode field came kept faults_noted rest had stops = so_far_end mode field came faults_noted.1 had.done rest had.flaws_so_far stops

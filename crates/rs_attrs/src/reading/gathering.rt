@@ -31,6 +31,7 @@ const NO_FAULTS: Faults = Faults {
 const NOTHING_NOTED: Faulted = Faulted {
     withdraw: None,
     discard: None,
+    mp_reach: false,
 };
 
 /// MP_REACH_NLRI or MP_UNREACH_NLRI.
@@ -124,7 +125,10 @@ pub(crate) fn gather<'a>(
     }
     if !rest.is_empty() {
         faults.withdraw = true;
-        faulted = noting(faulted, flaw_of_rest(rest));
     }
+    let faulted = Faulted {
+        mp_reach: came[usize::from(MP_REACH_NLRI)],
+        ..noting(faulted, flaw_of_rest(rest))
+    };
     Ok((faults, faulted))
 }

@@ -284,7 +284,7 @@ ended_by_server = refl
 
 -- ---- an UPDATE at fault counts, and no other does
 
-one_at_fault : faulted_updates_in (hearing 0 (Heard 0 u1 ∷ at_fault)) ≡ record { count = 1; last = record { withdraw = Some (record { kind = 1; cause = causes.Value }); discard = None } }
+one_at_fault : faulted_updates_in (hearing 0 (Heard 0 u1 ∷ at_fault)) ≡ record { count = 1; last = record { withdraw = Some (record { kind = 1; cause = causes.Value }); discard = None; mp_reach = false }; mp_reach = 0 }
 unfolding all_types
 one_at_fault = refl
 

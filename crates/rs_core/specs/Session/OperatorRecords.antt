@@ -1,5 +1,5 @@
 -- What is kept of a client for the operator: why its sessions ended, and which of its UPDATEs were not taken as they came.
-use Rattle.std.specs.Prelude.{◌≡◌, ◌≢◌, ℕ, ◌-◌, min, Bool, ◌||◌, List, [], ◌∷◌, ◌++◌, length, take, replicate, Option, Some, None, is_some, slice_get, if◌then◌else◌}
+use Rattle.std.specs.Prelude.{◌≡◌, ◌≢◌, ℕ, ◌-◌, min, Bool, false, ◌||◌, List, filter, [], ◌∷◌, ◌++◌, length, take, replicate, Option, Some, None, is_some, slice_get, if◌then◌else◌}
 use Rattle.std.specs.List.{cons_option}
 use Rattle.rs_attrs.specs.declared.faults.Faulted.{Faulted}
 use Rattle.rs_session.specs.declared.act.Act.{Act}
@@ -47,15 +47,15 @@ ended_if lasts why = if lasts then Some why else None
 -- ---- UPDATEs that were not taken as they came (RFC 7606, 2)
 
 abbrev pub no_faults : Faulted
-no_faults = record { withdraw = None; discard = None }
+no_faults = record { withdraw = None; discard = None; mp_reach = false }
 
 -- an attribute was at fault, or one was missing
 abbrev pub is_faulted : Faulted → Bool
 is_faulted faulted = is_some faulted.withdraw || is_some faulted.discard
 
--- an UPDATE was taken with these faults, after others; one without any does not count
+-- an UPDATE was taken of which this is noted, after others; one without any fault or MP_REACH_NLRI is not among them
 abbrev pub with_faults : Faulted → List Faulted → List Faulted
-with_faults faulted earlier = if is_faulted faulted then faulted ∷ earlier else earlier
+with_faults faulted earlier = if is_faulted faulted || faulted.mp_reach then faulted ∷ earlier else earlier
 
 -- ---- what is kept
 
@@ -68,9 +68,15 @@ abbrev pub newest_faults : List Faulted → Faulted
 newest_faults [] = no_faults
 newest_faults (faulted ∷ earlier) = faulted
 
--- how many there were, where they are no more than a u64 counts, and what was wrong with the last one
+-- how many there are, as far as a u64 counts
+abbrev pub counted : List Faulted → ℕ
+counted faults = min (length faults) 18446744073709551615
+
+-- how many were at fault, what was wrong with the last of these, and how many had MP_REACH_NLRI
 abbrev pub faulted_by : List Faulted → FaultedUpdates
-faulted_by faults = record { count = min (length faults) 18446744073709551615; last = newest_faults faults }
+faulted_by faults =
+    let at_fault = filter is_faulted faults in
+    record { count = counted at_fault; last = newest_faults at_fault; mp_reach = counted (filter (λ f. f.mp_reach) faults) }
 
 -- by the endings of its sessions, and by what was wrong with its UPDATEs, each the newest first
 abbrev pub watched_by : List Ending → List Faulted → Watched

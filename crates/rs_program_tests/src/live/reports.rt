@@ -34,12 +34,16 @@ fn at_fault(
     Report::Faulted {
         client,
         count,
-        last: Faulted { withdraw, discard },
+        last: Faulted {
+            withdraw,
+            discard,
+            mp_reach: false,
+        },
     }
 }
 
 /// Reports, and how each reads.
-fn reports() -> [(Report, &'static str); 11] {
+fn reports() -> [(Report, &'static str); 12] {
     let address = 0xc000_024d;
     [
         (
@@ -86,6 +90,10 @@ fn reports() -> [(Report, &'static str); 11] {
         (
             at_fault(2, 3, WITHDRAWN, DISCARDED),
             "c: 3 UPDATEs at fault, the last: ORIGIN (1) treated as withdraw: malformed value; AGGREGATOR (7) discarded: wrong length",
+        ),
+        (
+            Report::PassedOver { client: 0 },
+            "a: routes in MP_REACH_NLRI (14) are passed over",
         ),
         (Report::Rules(Ok(())), "rules accepted"),
         (

@@ -366,9 +366,29 @@ fn a_route_without_next_hop_is_reported(rt: HostRuntime) {
                 cause: Cause::Missing,
             }),
             discard: None,
+            mp_reach: false,
         },
     };
     assert!(rt; ports.reports.contains(&answers));
+    ports.let_go();
+}
+
+/// 2001:db8::/32 in MP_REACH_NLRI, and no route of IPv4.
+const IPV6_ROUTE: &[u8] =
+    b"\xff\xff\xff\xff\xff\xff\xff\xff\xff\xff\xff\xff\xff\xff\xff\xff\x00\x34\x02\x00\x00\x00\x1d\x80\x0e\x1a\x00\x02\x01\x10\x20\x01\x0d\xb8\x00\x00\x00\x00\x00\x00\x00\x00\x00\x00\x00\x01\x00\x20\x20\x01\x0d\xb8";
+
+#[test]
+fn routes_in_mp_reach_nlri_are_reported_once(rt: HostRuntime) {
+    let [open, keepalive] = comes_up(OPEN_A);
+    let ipv6 = behind(IPV6_ROUTE);
+    let ports = hears_of_a(&rt, rt.alloc(), &[open, keepalive, ipv6, ipv6]);
+    let mut lines = 0u64;
+    for report in &ports.reports {
+        if *report == (Report::PassedOver { client: 0 }) {
+            lines = lines.saturating_add(1);
+        }
+    }
+    assert_eq!(rt; lines, 1);
     ports.let_go();
 }
 

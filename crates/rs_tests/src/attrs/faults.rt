@@ -119,7 +119,9 @@ fn in_words(alloc: Global, fault: Option<AttributeFault>) -> Result<String, Allo
 fn holds(rt: &impl Abort, alloc: Global, mode: Mode, row: &(&str, &str, &str)) {
     let (shows, field, answer) = row;
     let field = octets(alloc, field).expect(rt, "octets");
-    let Faulted { withdraw, discard } = read(alloc, &field, mode).expect(rt, "attributes").faulted;
+    let Faulted {
+        withdraw, discard, ..
+    } = read(alloc, &field, mode).expect(rt, "attributes").faulted;
     let withdraw = in_words(alloc, withdraw).expect(rt, "a text");
     let discard = in_words(alloc, discard).expect(rt, "a text");
     let both = format!(in alloc; "{withdraw}; {discard}").expect(rt, "a text");
@@ -192,6 +194,7 @@ fn a_missing_attribute_as_text(rt: HostRuntime) -> Result<(), Fail> {
             cause: Cause::Missing,
         }),
         discard: None,
+        mp_reach: false,
     };
     let shown = format!(in rt.alloc(); "{missing}")?;
     assert_eq!(rt; shown.as_str(), "NEXT_HOP (3) treated as withdraw: missing");

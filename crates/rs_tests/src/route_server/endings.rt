@@ -1,7 +1,7 @@
 //! Why sessions end, and which UPDATEs are not taken as they come.
 
 use crate::route_server::exchange::{
-    A, B, BAD_ROUTE, Exchange, NO_NEXT_HOP, NO_ROUTE, OPEN_A, ROUTE,
+    A, B, BAD_ROUTE, Exchange, IPV6_ROUTE, NO_NEXT_HOP, NO_ROUTE, OPEN_A, ROUTE,
 };
 use rs_attrs::{AttributeFault, Cause, Faulted};
 use rs_core::{Ending, FaultedUpdates, Notice};
@@ -27,7 +27,11 @@ fn goes_on(rt: &impl Abort, exchange: &Exchange, c: usize) {
 /// So many UPDATEs of a client were at fault, the last one by these faults.
 fn has_faulted(rt: &impl Abort, exchange: &Exchange, c: usize, count: u64, last: Faulted) {
     assert!(rt; c < exchange.core.clients());
-    let want = FaultedUpdates { count, last };
+    let want = FaultedUpdates {
+        count,
+        last,
+        mp_reach: 0,
+    };
     assert_eq!(rt; exchange.core.faulted(c), want, "client {c}");
 }
 
@@ -94,13 +98,14 @@ fn a_session_ends_with_its_connection(rt: HostRuntime) {
 const NO_FAULT: Faulted = Faulted {
     withdraw: None,
     discard: None,
+    mp_reach: false,
 };
 
 /// An attribute of this type is at fault.
 fn fault(kind: u8, cause: Cause) -> Faulted {
     Faulted {
         withdraw: Some(AttributeFault { kind, cause }),
-        discard: None,
+        ..NO_FAULT
     }
 }
 
@@ -118,6 +123,19 @@ fn updates_at_fault_are_counted(rt: HostRuntime) {
     exchange.hear(&rt, A, BAD_ROUTE);
     has_faulted(&rt, &exchange, A, 2, origin);
     has_faulted(&rt, &exchange, B, 0, NO_FAULT);
+    exchange.let_go();
+}
+
+#[test]
+fn routes_in_mp_reach_nlri_are_counted(rt: HostRuntime) {
+    let mut exchange = Exchange::with_a_route(&rt, rt.alloc(), "");
+    exchange.hear(&rt, A, IPV6_ROUTE);
+    exchange.hear(&rt, A, ROUTE);
+    exchange.hear(&rt, A, IPV6_ROUTE);
+    assert!(rt; A < exchange.core.clients());
+    let faulted = exchange.core.faulted(A);
+    assert_eq!(rt; faulted.mp_reach, 2);
+    assert_eq!(rt; faulted.count, 0);
     exchange.let_go();
 }
 

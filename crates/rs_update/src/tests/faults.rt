@@ -6,12 +6,13 @@ use rs_attrs::{AttributeFault, Cause, Faulted};
 const NOTHING: Faulted = Faulted {
     withdraw: None,
     discard: None,
+    mp_reach: false,
 };
 
 fn withdraws(kind: u8, cause: Cause) -> Faulted {
     Faulted {
         withdraw: Some(AttributeFault { kind, cause }),
-        discard: None,
+        ..NOTHING
     }
 }
 
@@ -81,6 +82,27 @@ fn nothing_is_missing_where_nothing_is_announced(rt: HostRuntime) -> Result<(), 
             return Err(Fail::from("a reset"));
         };
         assert_eq!(rt; faulted, NOTHING, "{body}");
+    }
+    Ok(())
+}
+
+#[test]
+fn routes_in_mp_reach_nlri_are_noted(rt: HostRuntime) -> Result<(), Fail> {
+    let alloc = rt.alloc();
+    // 2001:db8::/32, beside a route of IPv4 and alone
+    for body in [
+        "0000 0031 A 800e1a 0002 01 10 20010db8000000000000000000000001 00 2020010db8 18c63364",
+        "0000 001d 800e1a 0002 01 10 20010db8000000000000000000000001 00 2020010db8",
+    ] {
+        let octets = octets(alloc, body)?;
+        let Outcome::Change { faulted, .. } = effect(alloc, &octets, Mode::Four)? else {
+            return Err(Fail::from("a reset"));
+        };
+        let noted = Faulted {
+            mp_reach: true,
+            ..NOTHING
+        };
+        assert_eq!(rt; faulted, noted, "{body}");
     }
     Ok(())
 }

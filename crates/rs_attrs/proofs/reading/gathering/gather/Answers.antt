@@ -1,4 +1,4 @@
-use Rattle.std.proofs.Common.{ap, ◌∙◌, arith}
+use Rattle.std.proofs.Common.{ap, ◌∙◌, arith, get_or, false}
 use Rattle.rs_attrs.specs.declared.reading.field.Found.{Found}
 use Rattle.rs_attrs.specs.Flaws.{with_flaw}
 use Rattle.rs_attrs.specs.Walking.{spelling_in}
@@ -27,6 +27,8 @@ loop-found-preserved c = elim c.if-counts.branch [
       (λ i. ((w.faults-is ∙ w.take_note.ensures) i, (w.faulted-is ∙ w.noting_found-faulted.ensures) i))
 ]
 
-pub returns-then-not-is_empty-clause-faulted : goal.returns-then-not-is_empty-clause-faulted
-returns-then-not-is_empty-clause-faulted c =
-    c.noting-faulted.ensures ∙ ap (with_flaw c.loop-found.faulted) c.flaw_of_rest.ensures ∙ rest_faulted _ _ _ _ _ _ c.loop-found.invariant c.in_default.ensures.step
+pub returns-clause-faulted : goal.returns-clause-faulted
+returns-clause-faulted c =
+    let noted = c.noting.ensures ∙ ap (with_flaw c.loop-found.faulted) c.flaw_of_rest.ensures in
+    (λ i. record (noted i) { mp_reach = get_or c.loop-found.came (c.from.ensures i) false })
+    ∙ rest_faulted _ _ _ _ _ _ c.loop-found.invariant c.in_default.ensures.step
