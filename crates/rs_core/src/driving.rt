@@ -4,7 +4,7 @@ ghost use Rattle.std.specs.Prelude.{◌≡◌, ◌≢◌, ◌<◌, ◌≤◌, tr
 ghost use Rattle.rs_core.specs.Core.{client_count, is_refused, refused_below};
 ghost use Rattle.rs_core.specs.Drives.Steps.{HasLed, HasStopped, Leads, Memory, Step, octets_of, stops};
 ghost use Rattle.rs_core.specs.Drives.Courses.{Continues, memories};
-ghost use Rattle.rs_core.specs.Drives.Answers.{Answers, Drives, Ended, EndsAll};
+ghost use Rattle.rs_core.specs.Drives.Answers.{Answers, AreTurns, Drives, Ended, EndsAll};
 ghost use Rattle.rs_core.specs.Drives.Closing.{DoesAmong};
 
 use crate::closing::MayClose;
@@ -35,20 +35,7 @@ pub fn drive<L: Source + Sink>(rt: &impl Wait, core: &mut Core, link: &mut L)
     ensures led { HasStopped L.happens link.old link.new }
     ensures drives { Continues L.happens core.old link.old core.new link.new Drives }
 {
-    let mut piece = [0; 4096];
-    let mut closing = MayClose::all();
-    for _ in rt.forever() {
-        let event = link.next(&mut piece);
-        closing.note(event);
-        match answer(core, link, event, &piece) {
-            Todo::Nothing => end_closed(core, link, &mut closing),
-            Todo::Turn => {
-                turn(core, link);
-                end_closed(core, link, &mut closing);
-            }
-            Todo::Stop => return,
-        }
-    }
+    drive_by(rt, core, link, turn);
 }
 
 /// The same with turns by 1 to 16 workers.
@@ -64,6 +51,25 @@ pub fn drive_with<R: Threads + Wait + Sync, G: Gate, L: Source + Sink>(
     ensures led { HasStopped L.happens link.old link.new }
     ensures drives { Continues L.happens core.old link.old core.new link.new Drives }
 {
+    let do_turn = |core: &mut Core, link: &mut L|
+        requires { (0 < workers) × (workers ≤ 16) }
+    { turn_with(rt, workers, gate, core, link) };
+    drive_by(rt, core, link, do_turn);
+}
+
+/// The one loop of both: each turn is a call of `do_turn`.
+fn drive_by<L: Source + Sink, T: Fn(&mut Core, &mut L)>(
+    rt: &impl Wait,
+    core: &mut Core,
+    link: &mut L,
+    do_turn: T,
+)
+    requires callable { T.IsAlwaysCallable do_turn }
+    requires turns { AreTurns L.happens (T.post do_turn) }
+    ensures count { client_count core.new ≡ client_count core.old }
+    ensures led { HasStopped L.happens link.old link.new }
+    ensures drives { Continues L.happens core.old link.old core.new link.new Drives }
+{
     let mut piece = [0; 4096];
     let mut closing = MayClose::all();
     for _ in rt.forever() {
@@ -72,7 +78,7 @@ pub fn drive_with<R: Threads + Wait + Sync, G: Gate, L: Source + Sink>(
         match answer(core, link, event, &piece) {
             Todo::Nothing => end_closed(core, link, &mut closing),
             Todo::Turn => {
-                turn_with(rt, workers, gate, core, link);
+                do_turn(core, link);
                 end_closed(core, link, &mut closing);
             }
             Todo::Stop => return,

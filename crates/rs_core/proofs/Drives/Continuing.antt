@@ -11,7 +11,7 @@ use Rattle.rs_core.specs.Run.Moves.{Move, Ruled, Left, Turned, Began, config_in}
 use Rattle.rs_core.specs.Run.Meaning.{is_established}
 use Rattle.rs_core.specs.Run.Agreeing.{Agrees, IsRuled}
 use Rattle.rs_core.specs.Drives.Steps.{Step, Happened, Memory, End, Replaced, HasLed, HasStopped, Leads, octets_of, stops}
-use Rattle.rs_core.specs.Drives.Courses.{Course, course, called, memories, Reaches, Continues}
+use Rattle.rs_core.specs.Drives.Courses.{Course, course, called, memories, Reaches, Continues, HasContinued}
 use Rattle.rs_core.specs.Drives.Answers.{is_passed_over, closes, AreEstablished, Answers, Passes, Turns, Rules, Keeps, EndsAll, Ended, Lasts, Owes, Closes, Gives, Goes_on, Offers, Rounds, Start, Round, Drives}
 use Rattle.rs_core.specs.Drives.Closing.{may_close, HasClosing, DoesAmong, Notes}
 use Rattle.rs_core.specs.declared.closing.MayClose.{MayClose}
@@ -141,12 +141,6 @@ driven_to_stop happens a x b before told new after event octets set is step driv
       led = led_to_stop happens x before told event octets driven.led step is;
       drives = stopped happens a x b before told event octets set is step driven.rounds;
     }))
-
--- a part of a round: an answer to an event, or the ends after it
-pub record HasContinued {L : Type 0} (happens : L → Step → L → Type 0) (old : Core) (before : L) (new : Core) (after : L) (By : Course → Course → Type 0) : Type 0 where
-  pub count : client_count new ≡ client_count old
-  pub led : HasLed happens before after
-  pub continues : Continues happens old before new after By
 
 -- and a round more
 pub driven_on : {L : Type 0} (happens : L → Step → L → Type 0) (a : Core) (x : L) (b : Core) (before told : L) (c : Core) (mid : L) (d : Core) (after : L) (event : Event) (octets : List ℕ) (old noted new : MayClose)

@@ -1,5 +1,6 @@
 -- Which calls on the sink follow which event, and what befalls the route server by it.
 use Rattle.std.specs.Prelude.{◌≡◌, ◌≢◌, ◌<◌, ◌≤◌, ◌-◌, ◌||◌, ℕ, zero, suc, Bool, true, false, nat_le, nat_lt, List, [], ◌∷◌, length, take, Some, None, Ok, Err, ⊤}
+use Rattle.std.specs.Borrow.{MutBor}
 use Rattle.rs_session.specs.declared.act.State.TheVariants as states
 use Rattle.rs_policy.specs.Configuration.{Configuration}
 use Rattle.rs_policy.specs.Replacing.{Replaces, Refuses}
@@ -9,8 +10,8 @@ use Rattle.rs_core.specs.Session.Hearing.{state_in, is_closing}
 use Rattle.rs_core.specs.Run.Meaning.{hearing, is_established}
 use Rattle.rs_core.specs.Core.{client_count, lent_octets, owed}
 use Rattle.rs_core.specs.Owed.Sending.{HasLent, HasTaken}
-use Rattle.rs_core.specs.Drives.Steps.{Happened, Begin, Busy, Offer, Memory, End, Replaced, stops}
-use Rattle.rs_core.specs.Drives.Courses.{Course, Becomes, IsLost, called, remembered, moved, began, took}
+use Rattle.rs_core.specs.Drives.Steps.{Step, Happened, Begin, Busy, Offer, Memory, End, Replaced, stops}
+use Rattle.rs_core.specs.Drives.Courses.{Course, Becomes, IsLost, HasContinued, called, remembered, moved, began, took}
 use Rattle.rs_core.specs.declared.links.Event.{Event}
 use Rattle.rs_core.specs.declared.links.Event.TheVariants as events
 use Rattle.rs_core.specs.declared.route_server.Core.{Core}
@@ -101,6 +102,12 @@ Ends (suc c) x z = (y : Course) × Ends c x y × Ended c y z
 -- of all clients
 abbrev pub EndsAll : Course → Course → Type 0
 EndsAll x y = Ends (client_count x.core) x y
+
+-- ---- how a turn is done
+
+-- each call that this can be is a turn of all clients
+abbrev pub AreTurns : {L : Type 0} → (L → Step → L → Type 0) → (MutBor Core → MutBor L → Unit {0} → MutBor Core → MutBor L → Type 0) → Type 0
+AreTurns {L} happens calls = (old new : MutBor Core) (before after : MutBor L) → calls old before tt new after → HasContinued happens old.now before.now new.now after.now (Answers [] events.Turn)
 
 -- ---- rounds
 

@@ -1,7 +1,7 @@
 -- How a link and a route server go on together: what has passed between them, what it means, and the route server at hand.
 use Rattle.std.specs.Prelude.{◌≡◌, ℕ, List, [], ◌∷◌, take}
 use Rattle.rs_core.specs.Run.Moves.{Move, Left, Began, Took}
-use Rattle.rs_core.specs.Drives.Steps.{Step, Leads, Memory}
+use Rattle.rs_core.specs.Drives.Steps.{Step, HasLed, Leads, Memory}
 use Rattle.rs_core.specs.Core.{client_count, lent_octets}
 use Rattle.rs_core.specs.Run.Agreeing.{Agrees}
 use Rattle.rs_core.specs.Owed.Sending.{HasLent, HasTaken, LeavesOwed}
@@ -69,3 +69,9 @@ pub record Reaches {L : Type 0} (happens : L → Step → L → Type 0) (first :
 pub record Continues {L : Type 0} (happens : L → Step → L → Type 0) (old : Core) (before : L) (new : Core) (after : L) (By : Course → Course → Type 0) : Type 0 where
   pub on : (first : L) (steps : List Step) (run : List Move) (agrees : Agrees old run) → Leads happens first steps before
       → Reaches happens first new after (By (course old steps run agrees))
+
+-- so with as many clients, by steps none of which is a stop
+pub record HasContinued {L : Type 0} (happens : L → Step → L → Type 0) (old : Core) (before : L) (new : Core) (after : L) (By : Course → Course → Type 0) : Type 0 where
+  pub count : client_count new ≡ client_count old
+  pub led : HasLed happens before after
+  pub continues : Continues happens old before new after By

@@ -2,7 +2,7 @@ use Rattle.std.proofs.Common.{◌≡◌, ap, sym, ◌∙◌}
 use Rattle.rs_core.specs.Drives.Steps.{stops}
 use Rattle.rs_core.specs.declared.driving.Todo.TheVariants as todos
 use Rattle.rs_core.proofs.Drives.Continuing.{driven_on, driven_to_stop, not_driven, turned_then}
-use Rattle.rs_core.proofs.driving.drive.Goals as goal
+use Rattle.rs_core.proofs.driving.drive_by.Goals as goal
 
 pub loop-init : goal.loop-init
 loop-init g c = record { driven = not_driven g.L.Link.happens _ _ _ c.all-closing.ensures }
@@ -21,7 +21,7 @@ loop-preserved g c =
     record {
       driven = driven_on g.L.Link.happens _ _ _ _ _ _ _ _ _ c.next-event.result _ _ _ _ (ap stops turn) c.next-event.ensures c.note.ensures c.loop.invariant.driven
           (turned_then g.L.Link.happens _ _ _ _ _ _ c.next-event.result c.next-event.new.piece (g.L.Link.text c.next-event.new.self) turn same
-          (record { count = c.turn.ensures.count; led = c.turn.ensures.led; continues = c.turn.ensures.answers }))
+          (c.requires.turns _ _ _ _ c.do_turn.ensures))
           (record { count = c.end_closed-in-Turn.ensures.count; led = c.end_closed-in-Turn.ensures.led; continues = c.end_closed-in-Turn.ensures.ends });
     }
 

@@ -1,5 +1,5 @@
 use Rattle.rs_core.proofs.Drives.Continuing.{IsDriven}
-use Rattle.rs_core.proofs.driving.drive_with.Given as goal
+use Rattle.rs_core.proofs.driving.drive_by.Given as goal
 
 abbrev pub invariant-loop : goal.invariant-loop
 invariant-loop g l = record {
