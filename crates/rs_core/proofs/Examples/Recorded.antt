@@ -18,7 +18,7 @@ use Rattle.rs_core.specs.Told.Order.{TellsAt, TellsInOrder, TellsOneMore, told_b
 use Rattle.rs_core.specs.Told.Points.{Point, Offered, Value, dues_at, latest}
 use Rattle.rs_core.specs.Told.Telling.{updates_in}
 use Rattle.rs_core.specs.declared.links.Event.TheVariants.{Opened, Octets, Room}
-use Rattle.rs_core.proofs.Examples.DueRoutes.{keepalive, m, n24, u5_attributes}
+use Rattle.rs_core.proofs.Examples.DueRoutes.{keepalive, m, n24}
 
 -- ---- the octets
 
@@ -49,9 +49,6 @@ greets c opening steps =
 
 abbrev pub announces : Change
 announces = record { withdrawn = []; announced = n24 ∷ []; attributes = Some u1_attributes }
-
-abbrev pub announces_5 : Change
-announces_5 = record { withdrawn = []; announced = n24 ∷ []; attributes = Some u5_attributes }
 
 -- by its OPEN each client is spoken to like this: with AS numbers of four octets, in messages of at most 4,096
 abbrev pub four : Speech
