@@ -1,5 +1,5 @@
 -- What is owed to a client by its outlet, as messages begin and octets are taken.
-use Rattle.std.proofs.Common.{◌≡◌, inl, inr, ℕ, zero, suc, ◌<◌, ◌≤◌, ◌+◌, ◌-◌, ◌*◌, ◌==◌, ◌||◌, cond, Bool, true, false, List, [], ◌∷◌, length, drop, refl, sym, ◌∙◌, ap, subst, arith}
+use Rattle.std.proofs.Common.{◌≡◌, inl, inr, ℕ, zero, suc, ◌<◌, ◌≤◌, ◌+◌, ◌-◌, ◌*◌, ◌||◌, cond, Bool, true, false, List, [], ◌∷◌, length, drop, refl, sym, ◌∙◌, ap, subst, arith}
 use Rattle.std.specs.Prelude.{Option, Some, None, is_some}
 use Rattle.std.specs.List.{AllByRecursion}
 use Rattle.std.specs.Ordering.{eq_by_cmp}
@@ -7,7 +7,6 @@ use Rattle.std.specs.FinMap as fin
 use Rattle.std.specs.FinMap.{FinMap}
 use Rattle.std.proofs.lemmas.Nat.{mul-le}
 use Rattle.std.proofs.lemmas.List.{length-drop}
-use Rattle.std.proofs.lemmas.Bool.Decides.{nat_tests}
 use Rattle.rs_octets.specs.Prefixes.{Prefix, prefix_order}
 use Rattle.rs_open.specs.Notes.{limit_octets}
 use Rattle.rs_open.specs.declared.short.Limit.{Limit}
@@ -96,12 +95,6 @@ keeps rest all limit le = mul-le rest limit all limit le (omega arith)
 
 pub some_owed : (a b : ℕ) → a + b ≡ 0 → (a ≡ 0) × (b ≡ 0)
 some_owed a b e = (omega (arith, e), omega (arith, e))
-
-pub both_zero : (a b : ℕ) → (a ≡ 0 → b ≡ 0) → (b ≡ 0 → a ≡ 0) → (a == 0) ≡ (b == 0)
-both_zero zero zero f g = refl
-both_zero zero (suc b) f g = absurd (let e = f refl in omega (arith, e))
-both_zero (suc a) zero f g = absurd (let e = g refl in omega (arith, e))
-both_zero (suc a) (suc b) f g = grind (arith, nat_tests)
 
 pub no_length : (octets : List ℕ) → length octets ≡ 0 → octets ≡ []
 no_length [] e = refl
