@@ -4,13 +4,9 @@ use Rattle.rs_adjin.specs.declared.adj_ins.AdjIns.{AdjIns}
 use Rattle.rs_policy.specs.Configuration.{Configuration}
 use Rattle.rs_outlet.specs.Views.{View, bare}
 use Rattle.rs_outlet.specs.declared.answers.Last.TheVariants as lasts
-use Rattle.rs_workers.specs.Turned.{ArePlaced, AllTurnedAlone}
+use Rattle.rs_workers.specs.Turned.{AllTurnedAlone}
 use Rattle.rs_workers.proofs.Placing.{each_push}
 use Rattle.rs_core.specs.Run.Keeping.{AreBare, AreKept}
-
--- what a turn of all asks
-pub are_placed : (long : Bool) (config : Configuration) (xs : List View) → length xs ≡ length config.clients → AreKept long xs → ArePlaced config xs
-are_placed long config xs count each i d lt = subst (λ n. n < length config.clients) (sym (each i d lt).client) (subst (λ n. i < n) count lt)
 
 -- and leaves
 pub turned_kept : (long : Bool) (config : Configuration) (tables : AdjIns) (xs ys : List View) → length ys ≡ length xs → AllTurnedAlone config tables xs ys → AreKept long xs → AreKept long ys
