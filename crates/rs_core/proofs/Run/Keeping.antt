@@ -1,18 +1,9 @@
 -- Outlets stay those of their clients.
-use Rattle.std.proofs.Common.{◌≡◌, ◌<◌, ◌+◌, ℕ, Bool, List, [], ◌∷◌, ◌++◌, length, refl, sym, ◌∙◌, ap, subst, arith}
-use Rattle.rs_adjin.specs.declared.adj_ins.AdjIns.{AdjIns}
-use Rattle.rs_policy.specs.Configuration.{Configuration}
+use Rattle.std.proofs.Common.{◌≡◌, ◌+◌, ℕ, Bool, List, [], ◌∷◌, ◌++◌, length, refl, sym, ◌∙◌, ap, subst, arith}
 use Rattle.rs_outlet.specs.Views.{View, bare}
 use Rattle.rs_outlet.specs.declared.answers.Last.TheVariants as lasts
-use Rattle.rs_workers.specs.Turned.{AllTurnedAlone}
 use Rattle.rs_workers.proofs.Placing.{each_push}
 use Rattle.rs_core.specs.Run.Keeping.{AreBare, AreKept}
-
--- and leaves
-pub turned_kept : (long : Bool) (config : Configuration) (tables : AdjIns) (xs ys : List View) → length ys ≡ length xs → AllTurnedAlone config tables xs ys → AreKept long xs → AreKept long ys
-turned_kept long config tables xs ys count turned each c d lt =
-    let within : c < length xs = subst (λ n. c < n) count lt in
-    record { client = (turned c d within).client ∙ (each c d within).client; extended = (turned c d within).extended ∙ (each c d within).extended }
 
 pub push_length : {X : Type 0} (xs : List X) (v : X) → length (xs ++ v ∷ []) ≡ length xs + 1
 push_length [] v = refl
