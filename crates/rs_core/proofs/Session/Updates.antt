@@ -27,10 +27,6 @@ use Rattle.rs_core.proofs.Session.Limits.{reset_if}
 
 -- ---- by its mode and its effect
 
-pub update_unmoded : (new : Core) (s : Configuration) (c : ℕ) (h : Hearing) (body : List ℕ) → mode_in s c h ≡ None
-    → Knows new s c (takes_in s c (without_change (heard.Update None)) h) → Knows new s c (takes_in s c (body_said s c h kinds.Update body) h)
-update_unmoded new s c h body e knows = subst (λ m. Knows new s c (takes_in s c (update_said m (client_of s c).limit h.changes body) h)) (sym e) knows
-
 by_effect : (new : Core) (s : Configuration) (c : ℕ) (h : Hearing) (body : List ℕ) (mode : Mode) (e : Effect) → mode_in s c h ≡ Some mode → effect_of body mode ≡ e
     → Knows new s c (takes_in s c (effect_said (client_of s c).limit h.changes (faulted_by_fields mode (fields_of body)) e) h) → Knows new s c (takes_in s c (body_said s c h kinds.Update body) h)
 by_effect new s c h body mode e m is knows =
