@@ -120,9 +120,6 @@ pub record IsTouching (ins : AdjIns) (all left : List (Prefix × ℕ)) (v w : Vi
   pub touched : AreNumbered v ins → IsTouchedAt (keys_of done) v w
   pub numbered : AreNumbered v ins → AreNumbered w ins
 
-pub touching_begins : (ins : AdjIns) (all : List (Prefix × ℕ)) (v : View) → IsTouching ins all all v v
-touching_begins ins all v = record { done = []; split = refl; rest = refl; touched = λ h. none_more v; numbered = λ h. h }
-
 keys_more : (es : List (Prefix × ℕ)) (e : Prefix × ℕ) → keys_of (es ++ e ∷ []) ≡ keys_of es ++ e.0 ∷ []
 keys_more [] e = refl
 keys_more (x ∷ es) e = ap (λ ps. x.0 ∷ ps) (keys_more es e)
