@@ -30,9 +30,6 @@ value_of-front text i =
     ap value_of (sym (take-append-drop i text)) ∙ fold-append step 0 (take i text) (drop i text) in
     omega (arith, e, grows (drop i text) (value_of (take i text)))
 
-pub number_of-not_digit : (text : List ℕ) → list_all is_digit text ≡ false → number_of text ≡ None
-number_of-not_digit text h = rw h (elim (has_number_length text) as (λ b. (if b && false && nat_lt (value_of text) (2 ^ 64) then Some (value_of text) else None) ≡ None) [ true ↦ refl | false ↦ refl ])
-
 pub number_of-over : (text : List ℕ) → 2 ^ 64 ≤ value_of text → number_of text ≡ None
 number_of-over text h =
     let e : nat_lt (value_of text) (2 ^ 64) ≡ false = search rules in
