@@ -23,15 +23,6 @@ module _ (put : List ℕ → Type 0) (octets : List ℕ) where
   puts_all (Some (Fault Reading)) h p = let bad : true ≡ false = h in cc
   puts_all (Some (Fault Writing)) h p = let bad : true ≡ false = h in cc
 
-  pub all_put : (stop : Option Stop) → failed stop ≡ false → put octets → Puts put octets stop
-  all_put None h p = p
-  all_put (Some End) h p = p
-  all_put (Some (Table c)) h p = p
-  all_put (Some (Fault (Line m fault))) h p = p
-  all_put (Some (Fault Memory)) h p = let bad : true ≡ false = h in cc
-  all_put (Some (Fault Reading)) h p = let bad : true ≡ false = h in cc
-  all_put (Some (Fault Writing)) h p = let bad : true ≡ false = h in cc
-
   more_front : (wanted : List ℕ) → PutsFront put octets → PutsFront put (octets ++ wanted)
   more_front wanted p = (p.0, p.1 ++ wanted, ap (λ xs. xs ++ wanted) p.2 ∙ append_assoc p.0 p.1 wanted, p.3)
 
