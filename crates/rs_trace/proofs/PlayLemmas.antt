@@ -36,10 +36,6 @@ module _ (put : List ℕ → Type 0) (octets : List ℕ) where
   puts_no_more wanted (Some (Fault Reading)) h p = more_front wanted p
   puts_no_more wanted (Some (Fault Writing)) h p = more_front wanted p
 
-  -- all that was put is a front of more
-  pub front_of_more : (wanted : List ℕ) → put octets → PutsFront put (octets ++ wanted)
-  front_of_more wanted p = (octets, wanted, refl, p)
-
   -- and so it is with a part of what comes after it
   pub front_of_part : (wanted : List ℕ) (n : ℕ) → put (octets ++ take n wanted) → PutsFront put (octets ++ wanted)
   front_of_part wanted n p =
