@@ -41,16 +41,6 @@ module _ (put : List ℕ → Type 0) (octets : List ℕ) where
   front_of_part wanted n p =
       (octets ++ take n wanted, drop n wanted, ap (λ xs. octets ++ xs) (sym (take-append-drop n wanted)) ∙ sym (append_assoc octets (take n wanted) (drop n wanted)), p)
 
--- what goes on has met no failure
-pub none_read : (stop : Option Stop) (n : ℕ) → failed stop ≡ false → failures_read stop n ≡ n
-none_read None n h = refl
-none_read (Some End) n h = refl
-none_read (Some (Table c)) n h = refl
-none_read (Some (Fault (Line m fault))) n h = refl
-none_read (Some (Fault Memory)) n h = let bad : true ≡ false = h in cc
-none_read (Some (Fault Reading)) n h = let bad : true ≡ false = h in cc
-none_read (Some (Fault Writing)) n h = let bad : true ≡ false = h in cc
-
 pub none_written : (stop : Option Stop) (n : ℕ) → failed stop ≡ false → failures_written stop n ≡ n
 none_written None n h = refl
 none_written (Some End) n h = refl
