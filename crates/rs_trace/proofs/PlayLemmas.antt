@@ -41,15 +41,6 @@ module _ (put : List ℕ → Type 0) (octets : List ℕ) where
   front_of_part wanted n p =
       (octets ++ take n wanted, drop n wanted, ap (λ xs. octets ++ xs) (sym (take-append-drop n wanted)) ∙ sym (append_assoc octets (take n wanted) (drop n wanted)), p)
 
-pub none_written : (stop : Option Stop) (n : ℕ) → failed stop ≡ false → failures_written stop n ≡ n
-none_written None n h = refl
-none_written (Some End) n h = refl
-none_written (Some (Table c)) n h = refl
-none_written (Some (Fault (Line m fault))) n h = refl
-none_written (Some (Fault Memory)) n h = let bad : true ≡ false = h in cc
-none_written (Some (Fault Reading)) n h = let bad : true ≡ false = h in cc
-none_written (Some (Fault Writing)) n h = let bad : true ≡ false = h in cc
-
 module _ (place : List ℕ → Option ℕ) (text : List ℕ) (over : Type 0) (s : List LineMeaning) (n : ℕ) (r : lines.Reading) where
   -- wherever it stands, these meanings are what the text says first
   pub stands_first : (stop : Option Stop) → Stands place text over s n r stop → MeansFirst place text s
