@@ -65,25 +65,6 @@ module _ (place : List ℕ → Option ℕ) (text : List ℕ) (over : Type 0) (s 
   stands_listed read listed_lines (Some (Fault Reading)) h t = absurd t
   stands_listed read listed_lines (Some (Fault Writing)) h t = absurd t
 
--- a line of output is written
-pub sank : {R W : Type 0} (takes : R → List ℕ → R → Type 0) (at_end : R → Type 0) (fails : R → ℕ) (puts : W → List ℕ → W → Type 0) (loses : W → ℕ)
-    (place : List ℕ → Option ℕ) (first : R) (to : W) (meanings : List LineMeaning) (octets line : List ℕ) (reader : R) (writer written : W) (r : lines.Reading) (n : ℕ) (stop after : Option Stop)
-    → Plays takes at_end fails puts loses place first to meanings octets reader writer r n stop
-    → (Puts (λ xs. puts to xs writer) octets stop → Puts (λ xs. puts to xs written) (octets ++ line) after)
-    → ((text : List ℕ) → Stands place text (at_end reader) meanings n r stop → Stands place text (at_end reader) meanings n r after)
-    → ((k : ℕ) → failures_read after k ≡ failures_read stop k)
-    → ((k : ℕ) → loses writer ≡ failures_written stop k → loses written ≡ failures_written after k)
-    → Plays takes at_end fails puts loses place first to (meanings ++ []) (octets ++ line) reader written r n after
-sank takes at_end fails puts loses place first to meanings octets line reader writer written r n stop after p put stands reads writes =
-    record {
-      text = p.text;
-      taken = p.taken;
-      stands = subst (λ xs. Stands place p.text (at_end reader) xs n r after) (sym (append-nil meanings)) (stands p.text p.stands);
-      put = put p.put;
-      reads = p.reads ∙ sym (reads (fails first));
-      writes = writes (loses to) p.writes;
-    }
-
 -- nothing happens
 pub stays : {R W : Type 0} (takes : R → List ℕ → R → Type 0) (at_end : R → Type 0) (fails : R → ℕ) (puts : W → List ℕ → W → Type 0) (loses : W → ℕ)
     (place : List ℕ → Option ℕ) (first : R) (to : W) (meanings : List LineMeaning) (octets : List ℕ) (reader : R) (writer : W) (r : lines.Reading) (n : ℕ) (stop : Option Stop)
