@@ -65,14 +65,6 @@ module _ (place : List ℕ → Option ℕ) (text : List ℕ) (over : Type 0) (s 
   stands_listed read listed_lines (Some (Fault Reading)) h t = absurd t
   stands_listed read listed_lines (Some (Fault Writing)) h t = absurd t
 
--- nothing happens
-pub stays : {R W : Type 0} (takes : R → List ℕ → R → Type 0) (at_end : R → Type 0) (fails : R → ℕ) (puts : W → List ℕ → W → Type 0) (loses : W → ℕ)
-    (place : List ℕ → Option ℕ) (first : R) (to : W) (meanings : List LineMeaning) (octets : List ℕ) (reader : R) (writer : W) (r : lines.Reading) (n : ℕ) (stop : Option Stop)
-    → Plays takes at_end fails puts loses place first to meanings octets reader writer r n stop → Plays takes at_end fails puts loses place first to (meanings ++ []) (octets ++ []) reader writer r n stop
-stays takes at_end fails puts loses place first to meanings octets reader writer r n stop p =
-    subst (λ xs. Plays takes at_end fails puts loses place first to xs (octets ++ []) reader writer r n stop) (sym (append-nil meanings))
-    (subst (λ xs. Plays takes at_end fails puts loses place first to meanings xs reader writer r n stop) (sym (append-nil octets)) p)
-
 -- what the text says first stays so with nothing more
 pub still_first : (place : List ℕ → Option ℕ) (text : List ℕ) (s : List LineMeaning) → MeansFirst place text s → MeansFirst place text (s ++ [])
 still_first place text s h = subst (λ xs. MeansFirst place text xs) (sym (append-nil s)) h
