@@ -98,14 +98,6 @@ adds_line takes at_end fails puts loses names reads writes reader writer written
       };
     }
 
--- nothing is read
-pub reads_nothing : {R : Type 0} (takes : R → List ℕ → R → Type 0) (at_end : R → Type 0) (place : List ℕ → Option ℕ) (reader : R) (n : ℕ) (r : lines.Reading) → takes reader [] reader → ReadsOn takes at_end place reader n r reader n r [] None
-reads_nothing takes at_end place reader n r none text s h = (
-  [],
-  none,
-  subst (λ (xs : List ℕ). GoesOn place xs (at_end reader) (s ++ []) n r) (sym (append-nil text)) (subst (λ xs. GoesOn place text (at_end reader) xs n r) (sym (append-nil s)) h),
-)
-
 -- first what says nothing is read, and then more
 pub reads_twice : {R : Type 0} (takes : R → List ℕ → R → Type 0) (at_end : R → Type 0) (place : List ℕ → Option ℕ) → ((a b c : R) (xs ys : List ℕ) → takes a xs b → takes b ys c → takes a (xs ++ ys) c)
     → (one two three : R) (n m k : ℕ) (r q p : lines.Reading) (more : List LineMeaning) (stop : Option Stop) → ReadsOn takes at_end place one n r two m q [] None → ReadsOn takes at_end place two m q three k p more stop
