@@ -125,13 +125,6 @@ follows_line place text taken s n event old new follows step h more none =
     ∙ ap (behind s) (goes_on place (n + 1) (old.rest ++ taken) more new event step.steps h none)
     ∙ behind_on s event (n + 1) (outcome place (n + 1 + 1) (lines_of (new.rest ++ more)))
 
-pub follows_end : (place : List ℕ → Option ℕ) (text taken : List ℕ) (s : List LineMeaning) (n : ℕ) (old new : Reading) → FollowsOn place text s n old → IsStep false old new taken → outcome place 1 (lines_of (text ++ taken)) ≡ tells s None
-follows_end place text taken s n old new follows step =
-    ap (λ xs. outcome place 1 (lines_of xs)) (sym (append-nil (text ++ taken)))
-    ∙ here place text taken [] s n false old new follows step (λ over. refl)
-    ∙ ap (λ xs. behind s (outcome place (n + 1) (lines_of (xs ++ [])))) step.steps.none
-    ∙ ap (λ xs. tells xs None) (append-nil s)
-
 pub follows_fault : (place : List ℕ → Option ℕ) (text taken : List ℕ) (s : List LineMeaning) (n : ℕ) (fault : LineFault) (old new : Reading) → FollowsOn place text s n old → IsStep true old new taken → line_of place new.line ≡ Err fault
     → outcome place 1 (lines_of (text ++ taken)) ≡ tells s (Some (n + 1, fault))
 follows_fault place text taken s n fault old new follows step h =
