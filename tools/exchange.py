@@ -16,7 +16,8 @@ what stands in it besides letters, digits and hyphens is a hyphen in the name of
 The first becomes a list of prefixes, the second one of AS numbers. Where a file is missing its list is empty and is named on
 standard error: of such a member no route is heard. The list `bogons` has what no member may announce: reserved prefixes,
 those shorter than /8 and longer than /24. A member's import list drops what is among them or whose NEXT_HOP isn't its own, and
-passes what is in its lists.
+passes what is in its lists. Its export list uses the rules `actions`, which read and take away the action communities of
+examples/exchange.toml: large ones alone where the server's own AS number has four octets.
 
 The configuration is written to standard output. The status is 0, or 1 where a file can't be understood, and 2 for a faulty
 command line.
@@ -134,6 +135,23 @@ def named_list(name, prefixes, ases):
     return "\n".join(parts) + "\n"
 
 
+def actions(number):
+    """The rules by which members say to whom their routes go."""
+    is_short = number < 1 << 16
+    strip = f'strip = ["0:*", "{number}:*"], ' if is_short else ""
+    passes = f'action = "pass", {strip}strip_large = ["{number}:*:*"]'
+    rows = []
+    for short, large, action in (
+        (f"{number}:peer", f"{number}:1:peer", passes),
+        ("0:peer", f"{number}:0:peer", 'action = "drop"'),
+        (f"0:{number}", f"{number}:0:0", 'action = "drop"'),
+    ):
+        rows += [f'community = "{short}", {action}'] if is_short else []
+        rows.append(f'large_community = "{large}", {action}')
+    rows.append(passes)
+    return "\n".join(["[[rules]]", 'name = "actions"', "rules = [", *(f"    {{ {row} }}," for row in rows), "]"]) + "\n"
+
+
 def client(name, number, ipv4, listen, registered):
     limit = ipv4.get("max_prefix")
     limits = [f"limit = {int(limit)}"] if limit else []
@@ -145,11 +163,12 @@ def client(name, number, ipv4, listen, registered):
         f"    {{ prefix_in = {text(registered)}, origin_in = {text(registered)}, action = \"pass\" }},",
         '    { action = "drop" },',
         "]",
+        'export = [{ use = "actions" }]',
     ]) + "\n"
 
 
 def configuration(arguments):
-    """The parts of the configuration: the top, the lists, the clients."""
+    """The parts of the configuration: the top, the lists, the rules, the clients."""
     yield (f"as = {arguments.as_number}\nidentifier = {text(arguments.identifier)}\ndefault = \"pass\"\n"
            "extended = true\nrefresh = true\nmultiprotocol = true\n")
     yield named_list("bogons", BOGONS, None)
@@ -162,6 +181,7 @@ def configuration(arguments):
             lists[macro] = names.of(macro)
             prefixes = entries(arguments.registered, macro, "prefixes", ranged)
             yield named_list(lists[macro], prefixes, entries(arguments.registered, macro, "ases", int))
+    yield actions(arguments.as_number)
     for number, ipv4 in found:
         macro = ipv4.get("as_macro") or f"AS{number}"
         yield client(clients.of(f"AS{number}"), number, ipv4, arguments.listen, lists[macro])

@@ -23,9 +23,18 @@ MARKER = b"\xff" * 16
 NAMES = "abcd"
 PREFIXES = [(bits, length) for bits, length in ((0x0A000000, 8), (0x0A010000, 16), (0x0A010200, 24), (0xC6336400, 24), (0xC6336480, 25), (0, 0), (0xCB007101, 32))]
 LISTS = ["small", "large"]
+# Rules that others use: import lists use the first, in which no part is `peer`.
 SHARED = ["first", "second"]
-COMMUNITIES = ["64500:1", "64500:2", "65535:65281"]
 BIG = 4_200_000_000
+AS_TRANS = 23456
+AS_NUMBERS = [64496, 64497, 64498, BIG]
+# Communities that routes have, and patterns of them; those with `peer` stand where routes go out.
+COMMUNITIES = ["64500:1", "64500:2", "65535:65281", "0:64497", "64500:64498"]
+LARGE = ["64500:0:64497", "64500:1:64499", f"64500:0:{BIG}", f"{BIG}:4294967295:0"]
+PATTERNS = ["64500:*", "0:*"]
+LARGE_PATTERNS = ["64500:0:*", "64500:*:*", f"{BIG}:*:*"]
+OF_PEER = ["0:peer", "64500:peer", "peer:*", "peer:1"]
+LARGE_OF_PEER = ["64500:0:peer", "64500:peer:*", "peer:*:*", "64500:1:peer"]
 
 
 def message(kind, body):
@@ -50,16 +59,16 @@ class Peer:
     """A member, and how it spells AS numbers since its last connection."""
 
     def __init__(self, place):
-        self.name, self.number, self.address = NAMES[place], 64496 + place, 0xC000020B + place
+        self.name, self.number, self.address = NAMES[place], AS_NUMBERS[place], 0xC000020B + place
         self.is_four, self.is_long, self.identifier = True, False, self.address
 
     def open(self, draw):
-        self.is_four, self.is_long = draw.random() < 0.7, draw.random() < 0.5
+        self.is_four, self.is_long = self.number == BIG or draw.random() < 0.7, draw.random() < 0.5
         self.identifier = draw.choice([self.address, self.address, 0xC0000201 + draw.randrange(3)])
         capabilities = (b"\x41\x04" + struct.pack(">I", self.number) if self.is_four else b"") + (b"\x06\x00" if self.is_long else b"")
         parameters = bytes([2, len(capabilities)]) + capabilities if capabilities else b""
-        hold = draw.choice([0, 0, 90])
-        return message(1, struct.pack(">BHHIB", 4, self.number, hold, self.identifier, len(parameters)) + parameters)
+        hold, my_as = draw.choice([0, 0, 90]), AS_TRANS if self.number == BIG else self.number
+        return message(1, struct.pack(">BHHIB", 4, my_as, hold, self.identifier, len(parameters)) + parameters)
 
     def path(self, draw):
         numbers = [self.number] + [draw.choice([64496, 64497, 64500, 64999, 65000]) for _ in range(draw.randrange(3))]
@@ -87,6 +96,9 @@ class Peer:
             if draw.random() < 0.4:
                 chosen = draw.sample(COMMUNITIES, draw.choice([1, 2, 3]))
                 field += attribute(0xC0, 8, b"".join(struct.pack(">HH", *map(int, it.split(":"))) for it in chosen))
+            if draw.random() < 0.4:
+                chosen = draw.sample(LARGE, draw.choice([1, 2, 3]))
+                field += attribute(0xC0, 32, b"".join(struct.pack(">III", *map(int, it.split(":"))) for it in chosen))
             if draw.random() < 0.1:
                 field += attribute(0xC0, 99, b"\xab\xcd")
         return message(2, struct.pack(">H", len(withdrawn)) + withdrawn + struct.pack(">H", len(field)) + field + nlri)
@@ -101,9 +113,15 @@ def operators(length):
     return ["", "^+", "^32", f"^{length}-32", *(["^-"] if length < 32 else [])]
 
 
-def rule(draw):
-    """A rule as the configuration has it."""
+def stripped(draw, key, patterns):
+    """What a rule takes away of one type."""
+    return draw.choice([f'{key} = "all"', f"{key} = {draw.sample(patterns, draw.choice([1, 1, 2]))}"])
+
+
+def rule(draw, is_out):
+    """A rule as the configuration has it, of a list by which routes go out or of another."""
     words = []
+    patterns, large = COMMUNITIES + PATTERNS + OF_PEER * is_out, LARGE + LARGE_PATTERNS + LARGE_OF_PEER * is_out
     if draw.random() < 0.5:
         prefix = draw.choice(PREFIXES)
         words.append(f'prefix = "{dotted(prefix)}"')
@@ -118,7 +136,8 @@ def rule(draw):
         (0.2, f"origin_as = {draw.choice([64496, 64999, BIG])}"),
         (0.2, f'prefix_in = "{draw.choice(LISTS)}"'),
         (0.2, f'origin_in = "{draw.choice(LISTS)}"'),
-        (0.2, f'community = "{draw.choice(COMMUNITIES)}"'),
+        (0.2, f'community = "{draw.choice(patterns)}"'),
+        (0.2, f'large_community = "{draw.choice(large)}"'),
         (0.2, f"next_hop_is_peer = {draw.choice(['true', 'false'])}"),
     ):
         if draw.random() < chance:
@@ -128,7 +147,9 @@ def rule(draw):
     if passes and draw.random() < 0.5:
         words.append(f"preference = {draw.choice([50, 100, 200])}")
     if passes and draw.random() < 0.5:
-        words.append(draw.choice(['strip = "all"', f'strip = ["{draw.choice(COMMUNITIES)}"]']))
+        words.append(stripped(draw, "strip", COMMUNITIES + PATTERNS))
+    if passes and draw.random() < 0.5:
+        words.append(stripped(draw, "strip_large", LARGE + LARGE_PATTERNS))
     return "{ " + ", ".join(words) + " }"
 
 
@@ -139,11 +160,11 @@ def named_list(draw, name):
     return f'\n[[list]]\nname = "{name}"\nprefixes = [{", ".join(entries)}]\nases = [{", ".join(ases)}]\n'
 
 
-def rules(draw, of_client):
-    """An array of rules; of a client it may use others."""
-    tables = [rule(draw) for _ in range(draw.randrange(1, 4))]
-    if of_client and draw.random() < 0.3:
-        tables.insert(draw.randrange(len(tables) + 1), f'{{ use = "{draw.choice(SHARED)}" }}')
+def rules(draw, is_out, used):
+    """An array of rules, which may use others of these names."""
+    tables = [rule(draw, is_out) for _ in range(draw.randrange(1, 4))]
+    if used and draw.random() < 0.3:
+        tables.insert(draw.randrange(len(tables) + 1), f'{{ use = "{draw.choice(used)}" }}')
     return f"[{', '.join(tables)}]"
 
 
@@ -153,14 +174,14 @@ def configuration(draw, fixed):
     text = f'as = 64500\nidentifier = "192.0.2.1"\nhold = 90\ndefault = "{draw.choice(["pass", "pass", "pass", "drop"])}"\n'
     text += f"extended = {extended}\nrefresh = {refresh}\n"
     text += "".join(named_list(draw, name) for name in LISTS)
-    text += "".join(f'\n[[rules]]\nname = "{name}"\nrules = {rules(draw, False)}\n' for name in SHARED)
+    text += "".join(f'\n[[rules]]\nname = "{name}"\nrules = {rules(draw, name != SHARED[0], [])}\n' for name in SHARED)
     for place, name in enumerate(NAMES):
-        text += f'\n[[client]]\nname = "{name}"\nas = {64496 + place}\nlisten = "127.0.0.1:{17901 + place}"\npeer = "192.0.2.{11 + place}"\n'
+        text += f'\n[[client]]\nname = "{name}"\nas = {AS_NUMBERS[place]}\nlisten = "127.0.0.1:{17901 + place}"\npeer = "192.0.2.{11 + place}"\n'
         if draw.random() < 0.15:
             text += f"limit = {draw.randrange(1, 5)}\n"
-        for kind in ("import", "export"):
+        for kind, is_out, used in (("import", False, SHARED[:1]), ("export", True, SHARED)):
             if draw.random() < 0.3:
-                text += f"{kind} = {rules(draw, True)}\n"
+                text += f"{kind} = {rules(draw, is_out, used)}\n"
     return text
 
 

@@ -100,11 +100,6 @@ def number(value):
     return "-" if value is None else str(int(value))
 
 
-def community(text):
-    high, low = text.split(":")
-    return int(high) << 16 | int(low)
-
-
 def prefixes(entry):
     """The words of a list's entry: a prefix, with a range operator (RFC 2622, 2) or without."""
     prefix, _, operator = entry.partition("^")
@@ -121,11 +116,15 @@ def numbers(entry):
 
 
 def listed(config, it):
-    """The lines of the lists that a rule names."""
+    """The lines of the lists that a rule names, and of the patterns of communities that it asks for and takes away."""
     for test, key, words in (("prefix_in", "prefixes", prefixes), ("path_in", "ases", numbers), ("origin_in", "ases", numbers)):
         for one in config.get("list", []):
             if one["name"] == it.get(test):
                 yield " ".join([test, *map(words, one[key])])
+    for key in ("community", "large_community", "strip", "strip_large"):
+        if key in it:
+            patterns = it[key] if isinstance(it[key], list) else [it[key]]
+            yield " ".join([key, *(part for pattern in patterns for part in pattern.split(":"))])
 
 
 def rule(config, it):
@@ -137,18 +136,15 @@ def rule(config, it):
         words += [number(int(network.network_address)), number(network.prefixlen), number(least), number(it.get("max", least))]
     else:
         words += ["-"] * 4
-    strip = it.get("strip", [])
     words += [
         number(names(config).index(it["from"]) if "from" in it else None),
         number(it.get("path_has")),
         number(it.get("path_longer")),
         number(it.get("origin_as")),
         number(it.get("first_as_is_peer")),
-        number(community(it["community"]) if "community" in it else None),
         number(it.get("next_hop_is_peer")),
-        number(strip == "all"),
     ]
-    return " ".join(words + ([] if strip == "all" else [number(community(one)) for one in strip]))
+    return " ".join(words)
 
 
 def written_out(config, client, kind):

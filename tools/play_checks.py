@@ -60,10 +60,14 @@ ases = [64496]
 """
 
 AS_FORM = "an integer of 1 to 4294967295"
+COMMUNITY_FORM = '"N:M", both 0 to 65535 without leading zeros; M may be *'
+LARGE_FORM = '"N:L:M", each 0 to 4294967295 without leading zeros; M, or L and M, may be *'
+STRIP_FORM = '"all" or at most 64 communities "N:M" or "N:*", beside action = "pass"'
+STRIP_LARGE_FORM = '"all" or at most 64 large communities "N:L:M", "N:L:*" or "N:*:*", beside action = "pass"'
 CLIENT_KEYS = "name as listen peer limit import export"
 RULE_KEYS = (
-    "prefix min max prefix_in from path_has path_longer path_in origin_as origin_in first_as_is_peer community next_hop_is_peer "
-    "action preference strip"
+    "prefix min max prefix_in from path_has path_longer path_in origin_as origin_in first_as_is_peer community "
+    "large_community next_hop_is_peer action preference strip strip_large"
 )
 
 # What is changed, into what, the lines, and what stands at each line and column that they tell.
@@ -87,7 +91,7 @@ FAULTS = (
     ("path_has = 64496", "path_longer = -1", ["bad value client 1 import 2 path_longer", "@path_longer = -1; expected: an integer of 0 to 4294967295"], ["-1, action"]),
     ('path_in = "own"', 'path_in = "beta"', ["bad value client 1 import 2 path_in", '@path_in = "beta"; expected: the name of a list that has ases'], ['"beta", path_has']),
     ("path_has = 64496", "first_as_is_peer = 1", ["bad value client 1 import 2 first_as_is_peer", "@first_as_is_peer = 1; expected: true or false"], ["1, action"]),
-    ("'0:2'", "'0:70000'", ["bad value client 1 import 2 strip", """@strip = ["0:1", '0:70000']; expected: "all" or at most 64 communities "N:M", beside action = "pass\""""], ['["0:1"']),
+    ("'0:2'", "'0:70000'", ["bad value client 1 import 2 strip", f"""@strip = ["0:1", '0:70000']; expected: {STRIP_FORM}"""], ['["0:1"']),
     ('from = "beta"', 'from = "delta"', ["bad value client 2 import 1 from", '@from = "delta"; expected: the name of a client'], ['"delta"']),
     ('from = "beta"\naction = "drop"', 'from = "beta"', ["missing client 2 import 1 action", '@expected: action = "pass" or "drop"'], ['[[client.import]]\nfrom']),
     ("{ action = \"drop\" }", "{ }", ["missing client 1 import 3 action", '@expected: action = "pass" or "drop"'], ["{ },"]),
@@ -96,7 +100,19 @@ FAULTS = (
     ('name = "own"', 'name = "own"\nases = [1]\n[[list]]\nname = "own"', ["twice list 2", "@list 1 has this name too"], ['[[list]]\nname = "own"\nprefixes']),
     ("ases = [64496]", f"ases = {'x' * 70!r}", ["bad value list 1 ases", f"@ases = '{'x' * 59}..; expected: an array of at most 1048576 AS numbers"], ["'xxx"]),
     ("ases = [64496]", "ases = '''\nmuch'''", ["bad value list 1 ases", "@ases = '''..; expected: an array of at most 1048576 AS numbers"], ["'''\nmuch"]),
-    ("strip = [", 'strip = [' + '"1:1", ' * 63, ["too many client 1 import 2 strip", '@strip has 65; expected: "all" or at most 64 communities "N:M", beside action = "pass"'], ['["1:1"']),
+    ("strip = [", 'strip = [' + '"1:1", ' * 63, ["too many client 1 import 2 strip", f"@strip has 65; expected: {STRIP_FORM}"], ['["1:1"']),
+    ("path_has = 64496", 'community = "*:1"', ["bad value client 1 import 2 community", f'@community = "*:1"; expected: {COMMUNITY_FORM}'], ['"*:1"']),
+    ("path_has = 64496", 'large_community = "1:0:peer"', ["bad value client 1 import 2 large_community", f'@large_community = "1:0:peer"; expected: {LARGE_FORM}'], ['"1:0:peer"']),
+    ("path_has = 64999", 'community = "peer"', ["bad value rules 1 rules 1 community", f'@community = "peer"; expected: {COMMUNITY_FORM}, each may be peer'], ['"peer"']),
+    ("path_has = 64999", 'large_community = "1:*:0"', ["bad value rules 1 rules 1 large_community", f'@large_community = "1:*:0"; expected: {LARGE_FORM}, each may be peer'], ['"1:*:0"']),
+    ("strip = [", 'strip_large = ["1:1", ', ["bad value client 1 import 2 strip_large", f'''@strip_large = ["1:1", "0:1", '0:2']; expected: {STRIP_LARGE_FORM}'''], ['["1:1"']),
+    ("strip = [", 'strip_large = [' + '"1:1:1", ' * 63, ["too many client 1 import 2 strip_large", f"@strip_large has 65; expected: {STRIP_LARGE_FORM}"], ['["1:1:1"']),
+    (
+        '[[client.export]]\nuse = "last"\n\n[[rules]]\nname = "last"\nrules = [{ path_has = 64999',
+        '[[client.import]]\nuse = "last"\n\n[[rules]]\nname = "last"\nrules = [{ community = "0:peer"',
+        ["bad value client 2 import 3 use", '@use = "last"; expected: the name of rules that others use, none of which has peer'],
+        ['"last"\n\n[[rules]]'],
+    ),
     ('use = "last"', 'use = "least"', ["bad value client 2 export 1 use", '@use = "least"; expected: the name of rules that others use'], ['"least"']),
     ('use = "last"', 'use = "last"\naction = "drop"', ["bad value client 2 export 1 ?", "@not known here: action; known: use"], ['"drop"\n\n[[rules]]']),
     ("path_has = 64999", "path_has = 0", ["bad value rules 1 rules 1 path_has", f"@path_has = 0; expected: {AS_FORM}"], ["0, action"]),
@@ -150,7 +166,7 @@ FAULTS = (
             "bad value client 1 import 3 preference",
             '@preference = 1; expected: an integer of 0 to 4294967295, beside action = "pass"',
             "bad value client 1 import 3 strip",
-            '@strip = "all"; expected: "all" or at most 64 communities "N:M", beside action = "pass"',
+            f'@strip = "all"; expected: {STRIP_FORM}',
         ],
         ["8, max", "7, action", "1, strip", '"all"'],
     ),
@@ -169,6 +185,7 @@ WARNINGS = (
     ('    { prefix = "10.0.0.0/8", max = 32, ', '    { prefix = "0.0.0.0/0", min = 1, max = 32, ', [], []),
     ('from = "beta"\n', "", ["@client 2 import 2 is never reached: a rule before it matches every route"], ['[[client.import]]\naction = "pass"']),
     ('from = "beta"', "path_longer = 0", [], []),
+    ('from = "beta"', 'large_community = "64500:*:*"', [], []),
     ('from = "beta"', "first_as_is_peer = false", [], []),
     ('use = "last"', 'action = "drop"', ["@rules 1 are used by no client"], ["[[rules]]"]),
     ("[{ path_has = 64999", '[{ action = "pass" }, { path_has = 64999', ["@rules 1 rules 2 is never reached: a rule before it matches every route"], ["{ path_has = 64999"]),

@@ -24,7 +24,7 @@ from results import end, tell
 
 # The sentences of the definitions that some recorded session needs.
 READINGS = (
-    "last-mention", "established", "of-another", "servers-as", "import", "export", "stripped", "fits",
+    "last-mention", "established", "of-another", "servers-as", "import", "export", "receiver", "stripped", "fits",
     "preference", "path", "origin", "med", "identifier", "address",
 )
 MARKER = "ff" * 16

@@ -4,10 +4,12 @@ use Rattle.std.specs.List.{list_any}
 use Rattle.std.specs.Int.{w32, from_be_bytes}
 use Rattle.rs_attrs.specs.Meaning.{Attribute, get}
 use Rattle.rs_attrs.specs.Paths.{Segment, quads, path_length, path_has, origin_as}
+use Rattle.rs_attrs.specs.Patterns.{large_communities_in}
 use Rattle.rs_attrs.specs.Writing.{path_in}
 use Rattle.rs_attrs.specs.Table.{Row, row_of, is_kept, is_well_formed}
 use Rattle.rs_attrs.specs.declared.mode.Mode.TheVariants.{Four}
 use Rattle.rs_attrs.specs.declared.getters.AttributeRef.{AttributeRef}
+use Rattle.rs_attrs.specs.declared.patterns.LargeCommunity.{LargeCommunity}
 use Rattle.rs_attrs.specs.Types as types
 
 abbrev pub value_of : ℕ → List Attribute → Option (List ℕ)
@@ -32,6 +34,10 @@ med_of m = option_map (from_be_bytes w32) (value_of types.multi_exit_disc m)
 -- COMMUNITIES, each four octets (RFC 1997), none where there is no such attribute
 abbrev pub communities_of : List Attribute → List ℕ
 communities_of m = unwrap_or (option_map quads (value_of types.communities m)) []
+
+-- LARGE_COMMUNITY (RFC 8092, 3), none where there is no such attribute
+abbrev pub large_communities_of : List Attribute → List LargeCommunity
+large_communities_of m = unwrap_or (option_map large_communities_in (value_of types.large_community m)) []
 
 abbrev pub has_community : ℕ → List Attribute → Bool
 has_community community m = list_any (λ c. c == community) (communities_of m)

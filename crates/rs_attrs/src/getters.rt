@@ -1,16 +1,19 @@
 //! What the attributes of a route say. No call takes memory.
 
 ghost use Rattle.std.specs.Prelude.{◌≡◌, ◌≤◌, ◌<◌, ◌^◌, IfSome, length, is_some, option_map, sum_by, true, not};
+ghost use Rattle.std.specs.List.{list_any};
 ghost use Rattle.std.specs.Int.{w32, from_be_bytes};
 ghost use Rattle.rs_attrs.specs.Held.{attributes_in, values_size};
 ghost use Rattle.rs_attrs.specs.Effects.{lacks_mandatory, missing_of};
 ghost use Rattle.rs_attrs.specs.Meaning.{get};
 ghost use Rattle.rs_attrs.specs.Paths.{segment_length};
-ghost use Rattle.rs_attrs.specs.Getters.{attribute_at, IsWellFormedAs, value_of, origin_of, path_of, next_hop_of, med_of, communities_of, has_community, path_length_of, path_has_of, origin_as_of};
+ghost use Rattle.rs_attrs.specs.Patterns.{is_like, is_like_large};
+ghost use Rattle.rs_attrs.specs.Getters.{attribute_at, IsWellFormedAs, value_of, origin_of, path_of, next_hop_of, med_of, communities_of, large_communities_of, path_length_of, path_has_of, origin_as_of};
 
 use crate::attrs::{Attrs, Head};
+use crate::patterns::{CommunityPattern, LargeCommunities, LargeCommunityPattern};
 use crate::segments::{Numbers, Segments};
-use crate::types::{AS_PATH, COMMUNITIES, MULTI_EXIT_DISC, NEXT_HOP, ORIGIN};
+use crate::types::{AS_PATH, COMMUNITIES, LARGE_COMMUNITY, MULTI_EXIT_DISC, NEXT_HOP, ORIGIN};
 
 /// An attribute as it stands in `Attrs`: its type, its flags (RFC 4271, 4.3) and its value, with AS
 /// numbers in four octets.
@@ -169,10 +172,28 @@ impl Attrs {
         }
     }
 
-    /// Whether COMMUNITIES has this community (RFC 1997).
-    pub fn has_community(&self, community: u32) -> bool
-        ensures { result ≡ has_community community self.now }
+    /// The large communities, none where there is no LARGE_COMMUNITY (RFC 8092).
+    pub(crate) fn large_communities(&self) -> LargeCommunities<'_>
+        ensures { result ≡ large_communities_of self.now }
     {
-        self.communities().any(|c| c == community)
+        match self.value(LARGE_COMMUNITY) {
+            Some(value) => LargeCommunities::of(value),
+            None => LargeCommunities::of(&[]),
+        }
+    }
+
+    /// Whether COMMUNITIES has a community like this (RFC 1997).
+    pub fn has_community_like(&self, pattern: &CommunityPattern) -> bool
+        ensures { result ≡ list_any (is_like pattern.now) (communities_of self.now) }
+    {
+        self.communities().any(|community| pattern.fits(community))
+    }
+
+    /// Whether LARGE_COMMUNITY has a large community like this (RFC 8092).
+    pub fn has_large_community_like(&self, pattern: &LargeCommunityPattern) -> bool
+        ensures { result ≡ list_any (is_like_large pattern.now) (large_communities_of self.now) }
+    {
+        self.large_communities()
+            .any(|community| pattern.fits(community))
     }
 }

@@ -9,7 +9,8 @@
 //! - `reading` and its folder: `field` takes a field apart, `values` judges each attribute by the
 //!   table, `gathering` keeps what counts, `two` puts AS4_PATH and AS4_AGGREGATOR in their places.
 //! - `faults` says what is wrong with a field, for the UPDATE and for the log.
-//! - `attrs` says how attributes lie in memory; `getters` and `stripping` ask and change them.
+//! - `attrs` says how attributes lie in memory; `getters` and `stripping` ask and change them, by the
+//!   communities that are like `patterns`.
 //! - `segments` takes a path apart, for AS numbers in two octets and in four.
 //! - `writing` and its folder: `parts` is the list of what is to be written, by rising type, which
 //!   `size` counts and `write_into` writes; `head` spells what stands before a value, `narrow` the
@@ -24,6 +25,7 @@ mod faults;
 mod getters;
 mod laws;
 mod mode;
+mod patterns;
 mod reading;
 mod segments;
 mod stripping;
@@ -39,6 +41,7 @@ pub use laws::{
     slices_are_octets, spelling_reads_back,
 };
 pub use mode::Mode;
+pub use patterns::{CommunityPattern, LargeCommunityPattern};
 pub use reading::{Parsed, read};
 pub use segments::{Numbers, PathSegment, Segments};
 pub use stripping::{Strip, stripped};

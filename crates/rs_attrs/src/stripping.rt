@@ -1,70 +1,141 @@
 //! Communities that are taken out of a route before it is passed on.
 
-ghost use Rattle.std.specs.Prelude.{◌≡◌, ℕ, false, ◌<◌, ◌≤◌, ◌*◌, ◌^◌, ◌++◌, length, IsTrue, IfOk};
+ghost use Rattle.std.specs.Prelude.{◌≡◌, ◌≢◌, ℕ, false, ◌||◌, ◌<◌, ◌≤◌, ◌*◌, ◌^◌, ◌++◌, length, IsTrue, IfOk};
 ghost use Rattle.std.specs.List.{flat_map, list_any};
 ghost use Rattle.std.specs.Int.{w32, to_be_bytes};
+ghost use Rattle.rs_attrs.specs.declared.patterns.LargeCommunity.{LargeCommunity};
 ghost use Rattle.rs_attrs.specs.Held.{attribute_by, attributes_in, values_size};
-ghost use Rattle.rs_attrs.specs.Getters.{communities_of};
+ghost use Rattle.rs_attrs.specs.Getters.{communities_of, large_communities_of};
 ghost use Rattle.rs_attrs.specs.Meaning.{get};
 ghost use Rattle.rs_attrs.specs.Paths.{quads};
+ghost use Rattle.rs_attrs.specs.Patterns.{large_communities_in, parts_of};
 ghost use Rattle.rs_attrs.specs.Types as types;
-ghost use Rattle.rs_attrs.specs.Stripping.{is_stripped, left_of, lists_in, stripped_of, unstripped};
+ghost use Rattle.rs_attrs.specs.Stripping.{is_stripped, is_stripped_large, left_of, numbers_left, stripped_of, taken_by, unstripped, unstripped_large};
 
 use crate::attrs::{Attrs, Head};
+use crate::patterns::{
+    CommunityPattern, LargeCommunities, LargeCommunity, LargeCommunityPattern, fits_any,
+    large_fits_any,
+};
 use crate::segments::Numbers;
-use crate::types::COMMUNITIES;
+use crate::types::{COMMUNITIES, LARGE_COMMUNITY};
 use std::alloc::{AllocError, Global};
 
-/// What is taken out of COMMUNITIES (RFC 1997): the communities of both lists, or all.
+/// What is taken out of COMMUNITIES (RFC 1997) and out of LARGE_COMMUNITY (RFC 8092): of each what is
+/// like a pattern of either list, or all.
 #[derive(Clone, Copy, Debug)]
 pub struct Strip<'a> {
-    /// The communities that are taken out, as numbers of 32 bits.
-    pub lists: [&'a [u32]; 2],
-    /// All are, whatever the lists say.
-    pub all: bool,
+    /// Taken out of COMMUNITIES.
+    pub communities: [&'a [CommunityPattern]; 2],
+    /// All of COMMUNITIES is, whatever the patterns say.
+    pub all_communities: bool,
+    /// Taken out of LARGE_COMMUNITY.
+    pub large: [&'a [LargeCommunityPattern]; 2],
+    /// All of LARGE_COMMUNITY is, whatever the patterns say.
+    pub all_large: bool,
 }
 
 impl Strip<'_> {
     /// Whether no community is taken out, whatever it is.
-    fn is_empty(&self) -> bool
-        ensures { IsTrue result → (community : ℕ) → is_stripped (lists_in self.now) self.now.all community ≡ false }
+    fn takes_none(&self) -> bool
+        ensures { IsTrue result → (community : ℕ) → is_stripped (taken_by self.now) community ≡ false }
     {
-        !self.all && self.lists.iter().all(|list| list.is_empty())
+        !self.all_communities && self.communities.iter().all(|patterns| patterns.is_empty())
+    }
+
+    /// Whether no large community is taken out, whatever it is.
+    fn takes_none_large(&self) -> bool
+        ensures { IsTrue result → (community : LargeCommunity) → is_stripped_large (taken_by self.now) community ≡ false }
+    {
+        !self.all_large && self.large.iter().all(|patterns| patterns.is_empty())
     }
 
     /// Whether this community is taken out.
     fn takes(&self, community: u32) -> bool
-        ensures { result ≡ is_stripped (lists_in self.now) self.now.all community }
+        ensures { result ≡ is_stripped (taken_by self.now) community }
     {
-        self.all || self.lists.iter().any(|list| list.contains(&community))
+        self.all_communities
+            || self
+                .communities
+                .iter()
+                .any(|patterns| fits_any(community, patterns))
     }
 
-    /// Whether a community of these attributes is taken out. Where none is, `stripped` copies them.
-    pub fn changes(&self, attrs: &Attrs) -> bool
-        ensures value { result ≡ list_any (is_stripped (lists_in self.now) self.now.all) (communities_of attrs.now) }
-        ensures same { result ≡ false → stripped_of (lists_in self.now) self.now.all attrs.now ≡ attrs.now }
+    /// Whether this large community is taken out.
+    fn takes_large(&self, community: LargeCommunity) -> bool
+        ensures { result ≡ is_stripped_large (taken_by self.now) community }
     {
-        let _legal = &attrs.heads;
-        if self.is_empty() {
+        self.all_large
+            || self
+                .large
+                .iter()
+                .any(|patterns| large_fits_any(community, patterns))
+    }
+
+    /// Whether a community of these attributes is taken out.
+    fn changes_communities(&self, attrs: &Attrs) -> bool
+        ensures { result ≡ list_any (is_stripped (taken_by self.now)) (communities_of attrs.now) }
+    {
+        if self.takes_none() {
             return false;
         }
         attrs.communities().any(|community| self.takes(community))
     }
+
+    /// Whether a large community of these attributes is taken out.
+    fn changes_large(&self, attrs: &Attrs) -> bool
+        ensures { result ≡ list_any (is_stripped_large (taken_by self.now)) (large_communities_of attrs.now) }
+    {
+        if self.takes_none_large() {
+            return false;
+        }
+        attrs
+            .large_communities()
+            .any(|community| self.takes_large(community))
+    }
+
+    /// Whether something is taken out of these attributes. Where nothing is, `stripped` copies them.
+    pub fn changes(&self, attrs: &Attrs) -> bool
+        ensures value { result ≡ (list_any (is_stripped (taken_by self.now)) (communities_of attrs.now) || list_any (is_stripped_large (taken_by self.now)) (large_communities_of attrs.now)) }
+        ensures same { result ≡ false → stripped_of (taken_by self.now) attrs.now ≡ attrs.now }
+    {
+        let _legal = &attrs.heads;
+        self.changes_communities(attrs) || self.changes_large(attrs)
+    }
 }
 
-/// How many octets are left of a value of COMMUNITIES.
-fn left_size(value: &[u8], strip: &Strip<'_>) -> usize
-    ensures size { result ≡ 4 * length (unstripped (lists_in strip.now) strip.now.all (quads value.now)) }
+/// How many octets are left of a value of COMMUNITIES, or of LARGE_COMMUNITY.
+fn left_size(kind: u8, value: &[u8], strip: &Strip<'_>) -> usize
+    ensures size { result ≡ 4 * length (numbers_left (taken_by strip.now) kind (quads value.now)) }
     ensures most { result ≤ length value.now }
 {
-    4 * Numbers::of(value)
-        .filter(|community| !strip.takes(*community))
-        .count()
+    if kind == COMMUNITIES {
+        4 * Numbers::of(value)
+            .filter(|community| !strip.takes(*community))
+            .count()
+    } else {
+        12 * LargeCommunities::of(value)
+            .filter(|community| !strip.takes_large(*community))
+            .count()
+    }
+}
+
+/// How many attributes of this type go, and how many octets of their values.
+fn freed(kind: u8, attrs: &Attrs, strip: &Strip<'_>) -> (usize, usize)
+    ensures { result.0 ≤ 1 }
+{
+    match attrs.value(kind) {
+        Some(value) => {
+            let left = left_size(kind, value, strip);
+            (usize::from(left == 0), value.len() - left)
+        }
+        None => (0, 0),
+    }
 }
 
 /// Appends the communities of a value that stay.
 fn push_communities(values: &mut Vec<u8>, value: &[u8], strip: &Strip<'_>) -> Result<(), AllocError>
-    ensures { IfOk result (λ _. values.new.items ≡ values.old.items ++ flat_map (to_be_bytes w32) (unstripped (lists_in strip.now) strip.now.all (quads value.now))) }
+    ensures { IfOk result (λ _. values.new.items ≡ values.old.items ++ flat_map (to_be_bytes w32) (unstripped (taken_by strip.now) (quads value.now))) }
 {
     for community in Numbers::of(value) {
         if !strip.takes(community) {
@@ -72,6 +143,40 @@ fn push_communities(values: &mut Vec<u8>, value: &[u8], strip: &Strip<'_>) -> Re
         }
     }
     Ok(())
+}
+
+/// Appends the large communities of a value that stay.
+fn push_large_communities(
+    values: &mut Vec<u8>,
+    value: &[u8],
+    strip: &Strip<'_>,
+) -> Result<(), AllocError>
+    ensures { IfOk result (λ _. values.new.items ≡ values.old.items ++ flat_map (to_be_bytes w32) (flat_map parts_of (unstripped_large (taken_by strip.now) (large_communities_in value.now)))) }
+{
+    for community in LargeCommunities::of(value) {
+        if !strip.takes_large(community) {
+            values.extend_from_slice(&community.global.to_be_bytes())?;
+            values.extend_from_slice(&community.first.to_be_bytes())?;
+            values.extend_from_slice(&community.second.to_be_bytes())?;
+        }
+    }
+    Ok(())
+}
+
+/// Appends what is left of a value of COMMUNITIES, or of LARGE_COMMUNITY.
+fn push_value(
+    values: &mut Vec<u8>,
+    kind: u8,
+    value: &[u8],
+    strip: &Strip<'_>,
+) -> Result<(), AllocError>
+    ensures { IfOk result (λ _. values.new.items ≡ values.old.items ++ flat_map (to_be_bytes w32) (numbers_left (taken_by strip.now) kind (quads value.now))) }
+{
+    if kind == COMMUNITIES {
+        push_communities(values, value, strip)
+    } else {
+        push_large_communities(values, value, strip)
+    }
 }
 
 /// Appends what is left of an attribute.
@@ -86,42 +191,42 @@ fn push_left(
     requires fits { head.now.len < 2 ^ 32 }
     requires size { values_size heads.old.items ≡ length values.old.items }
     ensures size { IfOk result (λ _. values_size heads.new.items ≡ length values.new.items) }
-    ensures left { IfOk result (λ _. attributes_in heads.new.items values.new.items ≡ attributes_in heads.old.items values.old.items ++ left_of (lists_in strip.now) strip.now.all (attribute_by head.now value.now)) }
+    ensures left { IfOk result (λ _. attributes_in heads.new.items values.new.items ≡ attributes_in heads.old.items values.old.items ++ left_of (taken_by strip.now) (attribute_by head.now value.now)) }
 {
-    if head.kind != COMMUNITIES {
+    if head.kind != COMMUNITIES && head.kind != LARGE_COMMUNITY {
         heads.push(*head)?;
         values.extend_from_slice(value)?;
         return Ok(());
     }
-    let size = left_size(value, strip);
+    let size = left_size(head.kind, value, strip);
     if size > 0 {
         heads.push(Head {
             len: size as u32,
             ..*head
         })?;
-        push_communities(values, value, strip)?;
+        push_value(values, head.kind, value, strip)?;
     }
     Ok(())
 }
 
-/// The attributes without the communities that are taken out. COMMUNITIES keeps its flags, and goes
-/// where no community is left.
+/// The attributes without the communities that are taken out. COMMUNITIES and LARGE_COMMUNITY keep
+/// their flags, and go where no community is left.
 ///
 /// # Errors
 ///
 /// `AllocError` where memory was refused.
 pub fn stripped(alloc: Global, attrs: &Attrs, strip: &Strip<'_>) -> Result<Attrs, AllocError>
-    ensures value { IfOk result (λ a. a ≡ stripped_of (lists_in strip.now) strip.now.all attrs.now) }
-    ensures communities { IfOk result (λ a. communities_of a ≡ unstripped (lists_in strip.now) strip.now.all (communities_of attrs.now)) }
-    ensures others { IfOk result (λ a. (kind : ℕ) → (kind ≡ types.communities → ⊥) → get kind a ≡ get kind attrs.now) }
+    ensures value { IfOk result (λ a. a ≡ stripped_of (taken_by strip.now) attrs.now) }
+    ensures communities { IfOk result (λ a. communities_of a ≡ unstripped (taken_by strip.now) (communities_of attrs.now)) }
+    ensures large { IfOk result (λ a. large_communities_of a ≡ unstripped_large (taken_by strip.now) (large_communities_of attrs.now)) }
+    ensures others { IfOk result (λ a. (kind : ℕ) → kind ≢ types.communities → kind ≢ types.large_community → get kind a ≡ get kind attrs.now) }
 {
-    let (had, left) = match attrs.value(COMMUNITIES) {
-        Some(value) => (value.len(), left_size(value, strip)),
-        None => (0, 0),
-    };
-    let goes = left == 0 && had > 0;
-    let mut heads = Vec::with_capacity(alloc, attrs.heads.len().saturating_sub(usize::from(goes)))?;
-    let mut values = Vec::with_capacity(alloc, attrs.values.len().saturating_sub(had - left))?;
+    let (goes, octets) = freed(COMMUNITIES, attrs, strip);
+    let (large_goes, large_octets) = freed(LARGE_COMMUNITY, attrs, strip);
+    let heads_left = attrs.heads.len().saturating_sub(goes + large_goes);
+    let octets_left = attrs.values.len().saturating_sub(octets);
+    let mut heads = Vec::with_capacity(alloc, heads_left)?;
+    let mut values = Vec::with_capacity(alloc, octets_left.saturating_sub(large_octets))?;
     let mut rest: &[u8] = &attrs.values;
     for head in &attrs.heads {
         let (value, after) = rest.split_at(head.len as usize);

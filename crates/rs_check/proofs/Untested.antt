@@ -34,6 +34,7 @@ untested d e p clients lists place route =
     let after7 = right (has_key d K.OriginIn) _ after6 in
     let after8 = right (has_key d K.FirstAsIsPeer) _ after7 in
     let after9 = right (has_key d K.Community) _ after8 in
+    let after10 = right (has_key d K.LargeCommunity) _ after9 in
     let prefix = none (get (key_text K.Prefix) d) p in
     let prefix_in = none (get (key_text K.PrefixIn) d) (left (has_key d K.PrefixIn) _ e) in
     let from = none (get (key_text K.From) d) (left (has_key d K.From) _ after1) in
@@ -44,5 +45,6 @@ untested d e p clients lists place route =
     let origin_in = none (get (key_text K.OriginIn) d) (left (has_key d K.OriginIn) _ after6) in
     let first_as = none (get (key_text K.FirstAsIsPeer) d) (left (has_key d K.FirstAsIsPeer) _ after7) in
     let community = none (get (key_text K.Community) d) (left (has_key d K.Community) _ after8) in
-    let next_hop = none (get (key_text K.NextHopIsPeer) d) (left (has_key d K.NextHopIsPeer) _ after9) in
-    rw prefix (rw prefix_in (rw from (rw path_has (rw path_longer (rw path_in (rw origin_as (rw origin_in (rw first_as (rw community (rw next_hop refl))))))))))
+    let large = none (get (key_text K.LargeCommunity) d) (left (has_key d K.LargeCommunity) _ after9) in
+    let next_hop = none (get (key_text K.NextHopIsPeer) d) (left (has_key d K.NextHopIsPeer) _ after10) in
+    rw prefix (rw prefix_in (rw from (rw path_has (rw path_longer (rw path_in (rw origin_as (rw origin_in (rw first_as (rw community (rw large (rw next_hop refl)))))))))))

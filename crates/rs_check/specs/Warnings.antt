@@ -14,7 +14,7 @@ has_key d key = is_some (get (key_text key) d)
 
 -- the tests of a rule, but for its range
 abbrev pub test_keys : List Key
-test_keys = K.PrefixIn ∷ K.From ∷ K.PathHas ∷ K.PathLonger ∷ K.PathIn ∷ K.OriginAs ∷ K.OriginIn ∷ K.FirstAsIsPeer ∷ K.Community ∷ K.NextHopIsPeer ∷ []
+test_keys = K.PrefixIn ∷ K.From ∷ K.PathHas ∷ K.PathLonger ∷ K.PathIn ∷ K.OriginAs ∷ K.OriginIn ∷ K.FirstAsIsPeer ∷ K.Community ∷ K.LargeCommunity ∷ K.NextHopIsPeer ∷ []
 
 -- the rule of this table matches every route
 abbrev pub MatchesAll : Data → Type 0

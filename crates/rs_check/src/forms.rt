@@ -41,10 +41,12 @@ pub(crate) fn key_text(key: Key) -> &'static str
         Key::OriginIn => "origin_in",
         Key::FirstAsIsPeer => "first_as_is_peer",
         Key::Community => "community",
+        Key::LargeCommunity => "large_community",
         Key::NextHopIsPeer => "next_hop_is_peer",
         Key::Action => "action",
         Key::Preference => "preference",
         Key::Strip => "strip",
+        Key::StripLarge => "strip_large",
         Key::Use => "use",
         Key::Other => "?",
     }
@@ -79,7 +81,7 @@ const SHARED_KEYS: [Key; 2] = [Key::Name, Key::Rules];
 
 const USE_KEYS: [Key; 1] = [Key::Use];
 
-const RULE_KEYS: [Key; 16] = [
+const RULE_KEYS: [Key; 18] = [
     Key::Prefix,
     Key::Min,
     Key::Max,
@@ -92,10 +94,12 @@ const RULE_KEYS: [Key; 16] = [
     Key::OriginIn,
     Key::FirstAsIsPeer,
     Key::Community,
+    Key::LargeCommunity,
     Key::NextHopIsPeer,
     Key::Action,
     Key::Preference,
     Key::Strip,
+    Key::StripLarge,
 ];
 
 /// The keys that a table may have, which has `use` or not.
@@ -129,6 +133,11 @@ const TRUE_OR_FALSE: &str = "true or false";
 
 const RULES: &str = "an array of at most 64 tables";
 
+const COMMUNITY: &str = "\"N:M\", both 0 to 65535 without leading zeros; M may be *";
+
+const LARGE_COMMUNITY: &str =
+    "\"N:L:M\", each 0 to 4294967295 without leading zeros; M, or L and M, may be *";
+
 /// The form of the value at a place.
 pub(crate) fn form(place: &Place) -> &'static str {
     match (place.table, place.key) {
@@ -140,6 +149,11 @@ pub(crate) fn form(place: &Place) -> &'static str {
         }
         (Table::Client(_), Key::As) => AS_NUMBER,
         (Table::Top, Key::Rules) => "at most 256 tables [[rules]]",
+        (Table::Rule(_, List::Import, _), Key::Community) => COMMUNITY,
+        (Table::Rule(_, List::Import, _), Key::LargeCommunity) => LARGE_COMMUNITY,
+        (Table::Rule(_, List::Import, _), Key::Use) => {
+            "the name of rules that others use, none of which has peer"
+        }
         (_, key) => form_at(key),
     }
 }
@@ -178,9 +192,15 @@ fn form_of_rest(key: Key) -> &'static str {
         Key::PrefixIn => "the name of a list that has prefixes",
         Key::PathIn | Key::OriginIn => "the name of a list that has ases",
         Key::PathLonger => "an integer of 0 to 4294967295",
-        Key::Community => "\"N:M\", both 0 to 65535 without leading zeros",
+        Key::Community =>
+            "\"N:M\", both 0 to 65535 without leading zeros; M may be *, each may be peer",
+        Key::LargeCommunity =>
+            "\"N:L:M\", each 0 to 4294967295 without leading zeros; M, or L and M, may be *, each may be peer",
         Key::Preference => "an integer of 0 to 4294967295, beside action = \"pass\"",
-        Key::Strip => "\"all\" or at most 64 communities \"N:M\", beside action = \"pass\"",
+        Key::Strip =>
+            "\"all\" or at most 64 communities \"N:M\" or \"N:*\", beside action = \"pass\"",
+        Key::StripLarge =>
+            "\"all\" or at most 64 large communities \"N:L:M\", \"N:L:*\" or \"N:*:*\", beside action = \"pass\"",
         Key::Use => "the name of rules that others use",
         _ => "a key that is known there",
     }

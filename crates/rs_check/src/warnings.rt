@@ -102,7 +102,7 @@ fn values_at(table: &Value, key: Key) -> &[Value] {
 }
 
 /// The tests of a rule, but for its range.
-const TESTS: [Key; 10] = [
+const TESTS: [Key; 11] = [
     Key::PrefixIn,
     Key::From,
     Key::PathHas,
@@ -112,6 +112,7 @@ const TESTS: [Key; 10] = [
     Key::OriginIn,
     Key::FirstAsIsPeer,
     Key::Community,
+    Key::LargeCommunity,
     Key::NextHopIsPeer,
 ];
 

@@ -56,7 +56,9 @@ pub enum Report {
         last: Faulted,
     },
     /// A client sends routes in MP_REACH_NLRI (RFC 4760, 3), which are passed over.
-    PassedOver { client: usize },
+    PassedOver {
+        client: usize,
+    },
     /// A text of rules was accepted, or why it was not.
     Rules(Result<(), RulesFault>),
     /// The file of rules was not read.

@@ -40,10 +40,12 @@ key_text_short K.OriginAs = lit≤ tt
 key_text_short K.OriginIn = lit≤ tt
 key_text_short K.FirstAsIsPeer = lit≤ tt
 key_text_short K.Community = lit≤ tt
+key_text_short K.LargeCommunity = lit≤ tt
 key_text_short K.NextHopIsPeer = lit≤ tt
 key_text_short K.Action = lit≤ tt
 key_text_short K.Preference = lit≤ tt
 key_text_short K.Strip = lit≤ tt
+key_text_short K.StripLarge = lit≤ tt
 key_text_short K.Use = lit≤ tt
 key_text_short K.Other = lit≤ tt
 

@@ -4,7 +4,9 @@ mod Digits
 mod Documents
 pub mod Entries
 pub mod Fixed
+pub mod Imports
 pub mod Older
+mod OlderCommunities
 mod Others
 pub mod Passing
 mod Rows

@@ -1,6 +1,6 @@
 -- A rule, and a document, without the later keys means what it meant.
 use Rattle.std.proofs.Common.{◌≡◌, ◌+◌, ◌&&◌, ◌||◌, Bool, true, false, List, [], ◌∷◌, ◌++◌, map, Option, Some, None, Result, Ok, Err, refl, sym, ap, ◌∙◌, if◌then◌else◌}
-use Rattle.std.specs.Prelude.{ℕ, not, bytes_eq, option_map}
+use Rattle.std.specs.Prelude.{ℕ, ◌==◌, not, bytes_eq, option_map}
 use Rattle.std.specs.List.{list_any, list_all, AllByRecursion}
 use Rattle.std.specs.Ordering.{nat_cmp, is_eq, match_ordering}
 use Rattle.std.specs.declared.cmp.Ordering.{Ordering}
@@ -8,14 +8,16 @@ use Rattle.std.specs.declared.cmp.Ordering.TheVariants.{Less, Equal, Greater}
 use Rattle.std.specs.Cmp.Lexicographic.{slice_cmp}
 use Rattle.std.proofs.lemmas.Map.Text.{is_eq-slice_cmp}
 use Rattle.toml.specs.Data.{Data, Members, table, string, integer, float, boolean, datetime, array, no_members, member, get, get_member, as_bool}
+use Rattle.rs_attrs.specs.Getters.{has_community as has_number}
 use Rattle.rs_policy.specs.Keys.{key_text, is_among, top_keys, rule_keys}
 use Rattle.rs_policy.specs.Values.{keyed, optional, optional_at, maybe_at, are_among, has_only, stranger, fault_in, value_or, first_failing, or_fault, answer, optional_tables, tables_at, each_from, checks_from, text_as, integer_in}
-use Rattle.rs_policy.specs.Configuration.{Client, NamedList, SharedRules, Policy, Configuration, rules_in, written_out, policy_written}
+use Rattle.rs_policy.specs.Configuration.{Client, NamedList, SharedRules, Policy, Configuration, list_at, rules_in, written_out, policy_written}
 use Rattle.rs_policy.specs.NamedLists.{named_lists_checks, named_lists_from}
 use Rattle.rs_policy.specs.Documents.{the_top, clients_at, lists_at, all_shared_at, top_of, top_checks, clients_checks, clients_from, rule_place, all_shared_checks, all_shared_from, has_use, use_at, use_checks, item_checks, item_of, rules_at, list_checks, list_of_items, policy_checks, policy_from, policies_checks, policies_from, client_tables, list_tables, shared_tables, document_checks}
-use Rattle.rs_policy.specs.Rules.{ases_named, prefix_in_at, from_at, path_has_at, path_longer_at, path_in_at, origin_as_at, origin_in_at, first_as_is_peer_at, community_at, next_hop_is_peer_at, range_checks, test_checks, tests_of, action_checks, rule_checks, rule_of}
-use Rattle.rs_policy.specs.Verdicts.{AnnouncedRoute, attributes_match, matches}
-use Rattle.rs_policy.specs.Older.{IsOlder, older_keys, older_test_checks, older_checks, older_matches, MeansWhatItMeant, IsOlderDocument, uses_none, older_top_keys, older_list_checks, older_policy_checks, older_policy_from, older_configuration_of, AnswersAsBefore}
+use Rattle.rs_policy.specs.Texts.{large_community_of, large_pattern_of}
+use Rattle.rs_policy.specs.Rules.{has_receiver, ases_named, prefix_in_at, from_at, path_has_at, path_longer_at, path_in_at, origin_as_at, origin_in_at, first_as_is_peer_at, community_at, large_community_at, next_hop_is_peer_at, range_checks, test_checks, tests_of, disposition_at, disposition_in, preference_at, strip_found, stripping_at, strip_large_at, action_checks, rule_checks, rule_of}
+use Rattle.rs_policy.specs.Verdicts.{AnnouncedRoute, in_range, has_prefix, next_hop_is_peer, origin_as_is, origin_in, has_community, has_large_community, holds, path_matches, attributes_match, matches}
+use Rattle.rs_policy.specs.Older.{IsOlder, older_keys, older_community_at, older_strip_at, older_action_checks, older_test_checks, older_checks, older_matches, MeansWhatItMeant, IsOlderDocument, uses_none, older_top_keys, older_list_checks, older_policy_checks, older_policy_from, older_configuration_of, AnswersAsBefore}
 use Rattle.rs_policy.specs.declared.faults.Key.{Key}
 use Rattle.rs_policy.specs.declared.faults.Key.TheVariants as K
 use Rattle.rs_policy.specs.declared.faults.List.{List as RuleList}
@@ -23,8 +25,11 @@ use Rattle.rs_policy.specs.declared.faults.List.TheVariants.{Import, Export}
 use Rattle.rs_policy.specs.declared.faults.Place.{Place}
 use Rattle.rs_policy.specs.declared.faults.ConfigFault.{ConfigFault}
 use Rattle.rs_policy.specs.declared.faults.ConfigFault.TheVariants.{BadValue}
+use Rattle.rs_policy.specs.declared.rules.Disposition.{Disposition}
+use Rattle.rs_policy.specs.declared.rules.Stripping.TheVariants.{Named}
 use Rattle.rs_policy.specs.declared.rules.Rule.{Rule}
 use Rattle.rs_policy.specs.declared.rules.Item.TheVariants.{Own, Use}
+use Rattle.rs_policy.proofs.OlderCommunities.{community_fault, community_alike, strip_alike}
 
 -- ---- a key that isn't there is none of a table's
 
@@ -66,14 +71,19 @@ front = K.Prefix ∷ K.Min ∷ K.Max ∷ K.PrefixIn ∷ K.From ∷ K.PathHas ∷
 abbrev middle : List Key
 middle = K.OriginAs ∷ K.OriginIn ∷ []
 
+abbrev last : List Key
+last = K.NextHopIsPeer ∷ K.Action ∷ K.Preference ∷ K.Strip ∷ []
+
 abbrev behind : List Key
-behind = K.Community ∷ K.NextHopIsPeer ∷ K.Action ∷ K.Preference ∷ K.Strip ∷ []
+behind = K.Community ∷ K.LargeCommunity ∷ (last ++ (K.StripLarge ∷ []))
 
 only_alike : (d : Data) → IsOlder d → has_only rule_keys d ≡ has_only older_keys d
 only_alike d older =
     only_but front K.PathLonger (K.PathIn ∷ (middle ++ (K.FirstAsIsPeer ∷ behind))) d older.path_longer
     ∙ (only_but front K.PathIn (middle ++ (K.FirstAsIsPeer ∷ behind)) d older.path_in
-    ∙ only_but (front ++ middle) K.FirstAsIsPeer behind d older.first_as_is_peer)
+    ∙ (only_but (front ++ middle) K.FirstAsIsPeer behind d older.first_as_is_peer
+    ∙ (only_but (front ++ (middle ++ (K.Community ∷ []))) K.LargeCommunity (last ++ (K.StripLarge ∷ [])) d older.large_community
+    ∙ only_but (front ++ (middle ++ (K.Community ∷ last))) K.StripLarge [] d older.strip_large)))
 
 strangers_alike : (place : Place) (d : Data) → IsOlder d → fault_in (stranger rule_keys place d) ≡ fault_in (stranger older_keys place d)
 strangers_alike place d older = ap (λ b. fault_in {A = Unit {0}} (if b then Ok tt else Err (BadValue (keyed place K.Other)))) (only_alike d older)
@@ -92,28 +102,48 @@ behind_all (Some f ∷ xs) ys zs e = refl
 unfailing : (xs : List (Option ConfigFault)) (o : Option ConfigFault) (ys : List (Option ConfigFault)) → o ≡ None → first_failing (xs ++ (o ∷ ys)) ≡ first_failing (xs ++ ys)
 unfailing xs o ys e = ap (λ (x : Option ConfigFault). first_failing (xs ++ (x ∷ ys))) e ∙ behind_all xs (None ∷ ys) ys refl
 
+none_stripped : {A : Type 0} (reads : Data → Option A) (k : Key) (disposition : Disposition) (place : Place) (d : Data) → get (key_text k) d ≡ None → stripping_at reads k disposition place d ≡ Ok (Named [])
+unfolding stripping_at
+none_stripped reads k disposition place d e = ap (strip_found reads disposition (keyed place k)) e
+
 tests_alike : (clients : List Client) (lists : List NamedList) (place : Place) (d : Data) (more : List (Option ConfigFault)) → IsOlder d
     → first_failing (test_checks clients lists place d ++ more) ≡ first_failing (older_test_checks clients lists place d ++ more)
 unfolding test_checks
 tests_alike clients lists place d more older =
     let first : List (Option ConfigFault) = fault_in (prefix_in_at lists place d) ∷ fault_in (from_at clients place d) ∷ fault_in (path_has_at place d) ∷ [] in
     let origin : List (Option ConfigFault) = fault_in (origin_as_at place d) ∷ fault_in (origin_in_at lists place d) ∷ [] in
-    let last : List (Option ConfigFault) = fault_in (community_at place d) ∷ fault_in (next_hop_is_peer_at place d) ∷ more in
-    unfailing first (fault_in (path_longer_at place d)) (fault_in (path_in_at lists place d) ∷ (origin ++ (fault_in (first_as_is_peer_at place d) ∷ last)))
+    let last : List (Option ConfigFault) = fault_in (next_hop_is_peer_at place d) ∷ more in
+    let communities : List (Option ConfigFault) = fault_in (community_at place d) ∷ fault_in (large_community_at place d) ∷ last in
+    unfailing first (fault_in (path_longer_at place d)) (fault_in (path_in_at lists place d) ∷ (origin ++ (fault_in (first_as_is_peer_at place d) ∷ communities)))
     (ap fault_in (absent (integer_in 0 4294967295) place K.PathLonger d older.path_longer))
-    ∙ (unfailing first (fault_in (path_in_at lists place d)) (origin ++ (fault_in (first_as_is_peer_at place d) ∷ last))
+    ∙ (unfailing first (fault_in (path_in_at lists place d)) (origin ++ (fault_in (first_as_is_peer_at place d) ∷ communities))
     (ap fault_in (absent (text_as (ases_named lists)) place K.PathIn d older.path_in))
-    ∙ unfailing (first ++ origin) (fault_in (first_as_is_peer_at place d)) last
-    (ap fault_in (absent as_bool place K.FirstAsIsPeer d older.first_as_is_peer)))
+    ∙ (unfailing (first ++ origin) (fault_in (first_as_is_peer_at place d)) communities
+    (ap fault_in (absent as_bool place K.FirstAsIsPeer d older.first_as_is_peer))
+    ∙ (ap (λ (o : Option ConfigFault). first_failing ((first ++ origin) ++ (o ∷ fault_in (large_community_at place d) ∷ last))) (community_fault place d older.community)
+    ∙ unfailing ((first ++ origin) ++ (fault_in (older_community_at place d) ∷ [])) (fault_in (large_community_at place d)) last
+    (ap fault_in (absent (text_as (large_community_of (has_receiver place.table))) place K.LargeCommunity d older.large_community)))))
+
+actions_alike : (place : Place) (d : Data) (more : List (Option ConfigFault)) → IsOlder d
+    → first_failing (action_checks place d ++ more) ≡ first_failing (older_action_checks place d ++ more)
+unfolding action_checks
+actions_alike place d more older =
+    let disposition : Disposition = disposition_in place d in
+    let first : List (Option ConfigFault) = fault_in (disposition_at place d) ∷ fault_in (preference_at disposition place d) ∷ [] in
+    ap (λ (o : Option ConfigFault). first_failing (first ++ (o ∷ fault_in (strip_large_at disposition place d) ∷ more))) (strip_alike disposition place d older.strip).fault
+    ∙ unfailing (first ++ (fault_in (older_strip_at disposition place d) ∷ [])) (fault_in (strip_large_at disposition place d)) more
+    (ap fault_in (none_stripped (text_as large_pattern_of) K.StripLarge disposition place d older.strip_large))
 
 faults_alike : (clients : List Client) (lists : List NamedList) (place : Place) (d : Data) → IsOlder d
     → first_failing (rule_checks clients lists place d) ≡ first_failing (older_checks clients lists place d)
 faults_alike clients lists place d older =
-    let ends : List (Option ConfigFault) = action_checks place d ++ fault_in (stranger rule_keys place d) ∷ [] in
-    let older_ends : List (Option ConfigFault) = action_checks place d ++ fault_in (stranger older_keys place d) ∷ [] in
-    behind_all (range_checks place d) (test_checks clients lists place d ++ ends) (older_test_checks clients lists place d ++ older_ends)
+    let known : List (Option ConfigFault) = fault_in (stranger rule_keys place d) ∷ [] in
+    let ends : List (Option ConfigFault) = action_checks place d ++ known in
+    let older_ends : List (Option ConfigFault) = older_action_checks place d ++ known in
+    behind_all (range_checks place d) (test_checks clients lists place d ++ ends) (older_test_checks clients lists place d ++ (older_action_checks place d ++ fault_in (stranger older_keys place d) ∷ []))
     (tests_alike clients lists place d ends older
-    ∙ ap (λ (o : Option ConfigFault). first_failing (older_test_checks clients lists place d ++ (action_checks place d ++ o ∷ []))) (strangers_alike place d older))
+    ∙ (behind_all (older_test_checks clients lists place d) ends older_ends (actions_alike place d known older)
+    ∙ ap (λ (o : Option ConfigFault). first_failing (older_test_checks clients lists place d ++ (older_action_checks place d ++ o ∷ []))) (strangers_alike place d older)))
 
 -- ---- the routes that it matches
 
@@ -121,19 +151,38 @@ and_true : (b : Bool) → (b && true) ≡ b
 and_true true = refl
 and_true false = refl
 
-matches_alike : (lists : List NamedList) (rule : Rule) (r : AnnouncedRoute) → rule.tests.path_longer ≡ None → rule.tests.path_in ≡ None → rule.tests.first_as_is_peer ≡ None
-    → matches lists rule r ≡ older_matches lists rule r
+-- with this answer to the test of the community
+abbrev matches_by : Bool → List NamedList → Rule → AnnouncedRoute → Bool
+matches_by b lists rule r =
+    holds (λ range. in_range range r.prefix) rule.range
+    && (holds (λ n. has_prefix (list_at lists n) r.prefix) rule.tests.prefix_in
+    && (holds (λ c. c == r.from) rule.tests.from
+    && (holds (λ b. if b then next_hop_is_peer r else not (next_hop_is_peer r)) rule.tests.next_hop_is_peer
+    && (b
+    && (holds (λ t. has_large_community t r) rule.tests.large_community
+    && (holds (λ n. origin_as_is n r) rule.tests.origin_as
+    && (holds (λ n. origin_in (list_at lists n) r) rule.tests.origin_in
+    && path_matches lists rule.tests r)))))))
+
+matches_alike : (lists : List NamedList) (community : Option ℕ) (rule : Rule) (r : AnnouncedRoute) → rule.tests.path_longer ≡ None → rule.tests.path_in ≡ None → rule.tests.first_as_is_peer ≡ None
+    → rule.tests.large_community ≡ None → holds (λ t. has_community t r) rule.tests.community ≡ holds (λ n. has_number n r.attributes) community
+    → matches lists rule r ≡ older_matches lists community rule r
 unfolding matches attributes_match
-matches_alike lists rule r longer path_in first = rw (longer, path_in, first, and_true) refl
+matches_alike lists community rule r longer path_in first large same =
+    ap (λ b. matches_by b lists rule r) same ∙ rw (longer, path_in, first, large, and_true) refl
 
 pub means_what_it_meant : (clients : List Client) (lists : List NamedList) (place : Place) (d : Data) → IsOlder d → MeansWhatItMeant clients lists place d
 unfolding tests_of
 means_what_it_meant clients lists place d older = record {
   fault = faults_alike clients lists place d older;
-  routes = λ r. matches_alike lists (rule_of clients lists place d) r
+  routes = λ r. matches_alike lists (value_or None (older_community_at place d)) (rule_of clients lists place d) r
       (ap (value_or None) (absent (integer_in 0 4294967295) place K.PathLonger d older.path_longer))
       (ap (value_or None) (absent (text_as (ases_named lists)) place K.PathIn d older.path_in))
-      (ap (value_or None) (absent as_bool place K.FirstAsIsPeer d older.first_as_is_peer));
+      (ap (value_or None) (absent as_bool place K.FirstAsIsPeer d older.first_as_is_peer))
+      (ap (value_or None) (absent (text_as (large_community_of (has_receiver place.table))) place K.LargeCommunity d older.large_community))
+      (community_alike r place d older.community).routes;
+  strips = λ disposition. (strip_alike disposition place d older.strip).taken;
+  strips_no_large = λ disposition. none_stripped (text_as large_pattern_of) K.StripLarge disposition place d older.strip_large;
 }
 
 -- ---- a document

@@ -9,7 +9,7 @@ use Rattle.rs_policy.specs.Keys.{top_keys, client_keys, named_list_keys, shared_
 use Rattle.rs_policy.specs.Values.{keyed, list_place, has_only, fault_in, value_or, stranger, first_failing, or_fault, answer, each_from, checks_from}
 use Rattle.rs_policy.specs.Configuration.{Client, NamedList, SharedRules, Configuration}
 use Rattle.rs_policy.specs.NamedLists.{list_name_at, has_entries, entries_needed, prefixes_at, ases_at, named_list_from, named_lists_from, is_same_name, named_list_checks, named_lists_checks}
-use Rattle.rs_policy.specs.Rules.{prefix_at, prefix_in, min_at, min_in, max_at, max_in, range_checks, range_of, prefix_in_at, from_at, path_has_at, path_longer_at, path_in_at, origin_as_at, origin_in_at, first_as_is_peer_at, community_at, next_hop_is_peer_at, test_checks, tests_of, disposition_at, disposition_in, preference_at, strip_at, action_checks, action_of, rule_checks, rule_of}
+use Rattle.rs_policy.specs.Rules.{prefix_at, prefix_in, min_at, min_in, max_at, max_in, range_checks, range_of, prefix_in_at, from_at, path_has_at, path_longer_at, path_in_at, origin_as_at, origin_in_at, first_as_is_peer_at, community_at, large_community_at, next_hop_is_peer_at, test_checks, tests_of, disposition_at, disposition_in, preference_at, strip_at, strip_large_at, action_checks, action_of, rule_checks, rule_of}
 use Rattle.rs_policy.specs.Documents.{the_top, server_as_at, identifier_at, hold_at, default_at, flag_at, clients_at, lists_at, top_of, top_checks, client_place, name_at, client_as_at, listen_at, peer_at, limit_at, client_from, clients_from, is_same, client_checks, clients_checks, rule_place, rules_checks, shared_place, shared_name_at, shared_rules_at, shared_from, shared_checks, all_shared_at, all_shared_from, all_shared_checks, has_use, use_at, use_checks, item_checks, item_of, items_checks, rules_at, list_checks, list_of_items, policy_from, policy_checks, policies_from, policies_checks, client_tables, list_tables, shared_tables, document_checks, configuration_of, config_from, config_of}
 use Rattle.rs_policy.specs.Accepted.{SaysTop, SaysClient, SaysNamedList, SaysRange, SaysTests, SaysAction, SaysRule, SaysEach, SaysShared, SaysItem, SaysItems, SaysPolicy, Says, AcceptedSays}
 use Rattle.rs_policy.specs.declared.faults.Key.TheVariants as K
@@ -147,7 +147,8 @@ tests_say clients lists place d e =
       origin_in = was_read None (origin_in_at lists place d) h.1.1.1.1.1.1.0;
       first_as_is_peer = was_read None (first_as_is_peer_at place d) h.1.1.1.1.1.1.1.0;
       community = was_read None (community_at place d) h.1.1.1.1.1.1.1.1.0;
-      next_hop_is_peer = was_read None (next_hop_is_peer_at place d) h.1.1.1.1.1.1.1.1.1.0;
+      large_community = was_read None (large_community_at place d) h.1.1.1.1.1.1.1.1.1.0;
+      next_hop_is_peer = was_read None (next_hop_is_peer_at place d) h.1.1.1.1.1.1.1.1.1.1.0;
     }
 
 action_says : (place : Place) (d : Data) → Pass (action_checks place d) → SaysAction place d (action_of place d)
@@ -158,9 +159,11 @@ action_says place d e =
       disposition = disposition_in place d;
       preference = value_or None (preference_at (disposition_in place d) place d);
       strip = value_or (Named []) (strip_at (disposition_in place d) place d);
+      strip_large = value_or (Named []) (strip_large_at (disposition_in place d) place d);
       disposition_is = was_read D.Drop (disposition_at place d) h.0;
       preference_is = was_read None (preference_at (disposition_in place d) place d) h.1.0;
       strip_is = was_read (Named []) (strip_at (disposition_in place d) place d) h.1.1.0;
+      strip_large_is = was_read (Named []) (strip_large_at (disposition_in place d) place d) h.1.1.1.0;
       action_is = refl;
     }
 

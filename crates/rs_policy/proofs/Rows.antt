@@ -1,13 +1,17 @@
 -- Worked rows, by computation: documents with their faults, a configuration, verdicts, and what may change.
-use Rattle.std.specs.Prelude.{◌≡◌, ℕ, pos, true, false, List, [], ◌∷◌, replicate, codes, Option, Some, None, Result, Ok, Err, refl, ⊤}
+use Rattle.std.specs.Prelude.{◌≡◌, ℕ, pos, true, false, List, [], ◌∷◌, ◌++◌, replicate, codes, Option, Some, None, Result, Ok, Err, refl, ⊤}
 use Rattle.toml.specs.Data.{Data, string, integer, boolean, array, table, Items, no_items, item, Members, no_members, member}
 use Rattle.rs_octets.specs.Prefixes.{Prefix}
 use Rattle.rs_attrs.specs.Meaning.{Attribute}
-use Rattle.rs_policy.specs.Texts.{number_to, parted, address_of, endpoint_of, prefix_of, community_of, lengths_of, prefix_range_of, as_range_of}
+use Rattle.rs_attrs.specs.Stripping.{Taken}
+use Rattle.rs_attrs.specs.declared.patterns.CommunityPattern.{CommunityPattern}
+use Rattle.rs_attrs.specs.declared.patterns.LargeCommunityPattern.{LargeCommunityPattern}
+use Rattle.rs_policy.specs.Texts.{number_to, parted, address_of, endpoint_of, prefix_of, community_of, large_community_of, pattern_of, large_pattern_of, lengths_of, prefix_range_of, as_range_of}
+use Rattle.rs_policy.specs.Patterns.{tests_name_peer}
 use Rattle.rs_policy.specs.Values.{keyed, entries_at, entries_from, entry_place, list_place, required_at, optional_at, tables_at, needed_tables_at, some_tables_at, has_only, answer, each_from, checks_from}
 use Rattle.rs_policy.specs.Configuration.{Configuration, no_policy}
 use Rattle.rs_policy.specs.NamedLists.{entries_needed, named_list_checks, named_list_from}
-use Rattle.rs_policy.specs.Rules.{range_checks, range_of, strip_at, action_checks, action_of, test_checks, tests_of}
+use Rattle.rs_policy.specs.Rules.{range_checks, range_of, stripping_at, action_checks, action_of, test_checks, tests_of}
 use Rattle.rs_policy.specs.Documents.{the_top, top_of, top_checks, client_place, client_from, client_checks, rule_place, shared_place, shared_from, shared_checks, use_checks, item_checks, item_of, document_checks, configuration_of}
 use Rattle.rs_policy.specs.Verdicts.{Judgement, dropped, passed, attributes_match, matches, outcome, verdict}
 use Rattle.rs_policy.specs.Replacing.{other_in_top, other_in_client, other_in_clients, first_fixed}
@@ -35,6 +39,9 @@ items (d ∷ ds) = item d (items ds)
 abbrev strings : List (List ℕ) → List Data
 strings [] = []
 strings (t ∷ ts) = string t ∷ strings ts
+
+abbrev texts : List (List ℕ) → Data
+texts ts = array (items (strings ts))
 
 abbrev number : ℕ → Data
 number n = integer (pos n)
@@ -132,9 +139,17 @@ refused_rules =
     ∷ (importing (((codes "max", number 24) ∷ []) ∷ []), BadValue (at_rule K.Max))
     ∷ (importing (((codes "from", string (codes "c")) ∷ []) ∷ []), BadValue (at_rule K.From))
     ∷ (importing (((codes "community", string (codes "65536:1")) ∷ []) ∷ []), BadValue (at_rule K.Community))
+    ∷ (importing (((codes "community", string (codes "*:1")) ∷ []) ∷ []), BadValue (at_rule K.Community))
+    ∷ (importing (((codes "community", string (codes "0:peer")) ∷ []) ∷ []), BadValue (at_rule K.Community))
+    ∷ (importing (((codes "large_community", string (codes "64500:1:peer")) ∷ []) ∷ []), BadValue (at_rule K.LargeCommunity))
+    ∷ (importing (((codes "large_community", string (codes "64500:*:1")) ∷ []) ∷ []), BadValue (at_rule K.LargeCommunity))
+    ∷ (importing (((codes "large_community", string (codes "64500:1:4294967296")) ∷ []) ∷ []), BadValue (at_rule K.LargeCommunity))
     ∷ (importing ([] ∷ []), Missing (at_rule K.Action))
     ∷ (importing (((codes "action", string (codes "drop")) ∷ (codes "preference", number 5) ∷ []) ∷ []), BadValue (at_rule K.Preference))
     ∷ (importing (((codes "action", string (codes "drop")) ∷ (codes "strip", string (codes "all")) ∷ []) ∷ []), BadValue (at_rule K.Strip))
+    ∷ (importing (((codes "action", string (codes "drop")) ∷ (codes "strip_large", texts []) ∷ []) ∷ []), BadValue (at_rule K.StripLarge))
+    ∷ (importing (((codes "action", string (codes "pass")) ∷ (codes "strip", texts (codes "0:peer" ∷ [])) ∷ []) ∷ []), BadValue (at_rule K.Strip))
+    ∷ (importing (((codes "action", string (codes "pass")) ∷ (codes "strip_large", texts (codes "64500:1" ∷ [])) ∷ []) ∷ []), BadValue (at_rule K.StripLarge))
     ∷ (importing (((codes "action", string (codes "pass")) ∷ (codes "preference", number 4294967296) ∷ []) ∷ []), BadValue (at_rule K.Preference))
     ∷ (importing (((codes "action", string (codes "pass")) ∷ (codes "colour", number 1) ∷ []) ∷ []), BadValue (at_rule K.Other))
     ∷ []
@@ -142,9 +157,6 @@ refused_rules =
 -- lists before two clients
 abbrev listing : List Fields → Data
 listing lists = exchange ((codes "list", array_of lists) ∷ []) [] []
-
-abbrev texts : List (List ℕ) → Data
-texts ts = array (items (strings ts))
 
 abbrev named : List ℕ → Fields → Fields
 named name fields = (codes "name", string name) ∷ fields
@@ -174,6 +186,10 @@ shared name rules = named name ((codes "rules", array_of rules) ∷ [])
 abbrev using : List ℕ → Fields
 using name = (codes "use", string name) ∷ []
 
+-- a rule that drops by a test
+abbrev naming : List ℕ → List ℕ → Fields
+naming test text = (codes "action", string (codes "drop")) ∷ (test, string text) ∷ []
+
 abbrev refused_shared : List (Data × ConfigFault)
 refused_shared =
     (sharing ([] ∷ []) [], Missing (keyed (shared_place 1) K.Name))
@@ -184,28 +200,29 @@ refused_shared =
     ∷ (sharing (shared (codes "r") [] ∷ shared (codes "r") (using (codes "r") ∷ []) ∷ []) [], TwiceRules 2)
     ∷ (sharing (shared (codes "r") [] ∷ shared (codes "s") (using (codes "r") ∷ []) ∷ []) [], Missing (keyed (rule_place 2 Shared 1) K.Action))
     ∷ (sharing (shared (codes "r") [] ∷ []) (using (codes "s") ∷ []), BadValue (at_rule K.Use))
+    ∷ (sharing (shared (codes "r") (naming (codes "community") (codes "0:peer") ∷ []) ∷ []) (using (codes "r") ∷ []), BadValue (at_rule K.Use))
     ∷ (sharing (shared (codes "r") [] ∷ []) (((codes "use", string (codes "r")) ∷ (codes "action", string (codes "drop")) ∷ []) ∷ []), BadValue (at_rule K.Other))
     ∷ []
 
 shared_are_refused : AreRefused refused_shared
-unfolding answer shared_checks shared_from use_checks item_checks item_of needed_tables_at top_checks top_of client_checks client_from required_at optional_at tables_at some_tables_at has_only each_from checks_from number_to parted address_of endpoint_of prefix_of community_of range_checks range_of test_checks tests_of strip_at action_checks action_of
-shared_are_refused = (refl, (refl, (refl, (refl, (refl, (refl, (refl, (refl, (refl, tt)))))))))
+unfolding answer shared_checks shared_from use_checks tests_name_peer item_checks item_of needed_tables_at top_checks top_of client_checks client_from required_at optional_at tables_at some_tables_at has_only each_from checks_from number_to parted address_of endpoint_of prefix_of community_of range_checks range_of test_checks tests_of stripping_at pattern_of large_pattern_of large_community_of action_checks action_of
+shared_are_refused = (refl, (refl, (refl, (refl, (refl, (refl, (refl, (refl, (refl, (refl, tt))))))))))
 
 lists_are_refused : AreRefused refused_lists
-unfolding answer shared_checks shared_from use_checks item_checks item_of needed_tables_at top_checks top_of client_checks client_from named_list_checks named_list_from entries_needed entries_at entries_from required_at optional_at tables_at some_tables_at has_only each_from checks_from number_to parted address_of endpoint_of prefix_of prefix_range_of lengths_of as_range_of
+unfolding answer shared_checks shared_from use_checks tests_name_peer item_checks item_of needed_tables_at top_checks top_of client_checks client_from named_list_checks named_list_from entries_needed entries_at entries_from required_at optional_at tables_at some_tables_at has_only each_from checks_from number_to parted address_of endpoint_of prefix_of prefix_range_of lengths_of as_range_of
 lists_are_refused = (refl, (refl, (refl, (refl, (refl, (refl, (refl, (refl, tt))))))))
 
 tops_are_refused : AreRefused refused_tops
-unfolding answer shared_checks shared_from use_checks item_checks item_of needed_tables_at top_checks top_of client_checks client_from required_at optional_at tables_at some_tables_at has_only each_from checks_from number_to parted address_of endpoint_of
+unfolding answer shared_checks shared_from use_checks tests_name_peer item_checks item_of needed_tables_at top_checks top_of client_checks client_from required_at optional_at tables_at some_tables_at has_only each_from checks_from number_to parted address_of endpoint_of
 tops_are_refused = (refl, (refl, (refl, (refl, (refl, (refl, (refl, (refl, (refl, (refl, (refl, (refl, (refl, tt)))))))))))))
 
 clients_are_refused : AreRefused refused_clients
-unfolding answer shared_checks shared_from use_checks item_checks item_of needed_tables_at top_checks top_of client_checks client_from required_at optional_at tables_at some_tables_at has_only each_from checks_from number_to parted address_of endpoint_of
+unfolding answer shared_checks shared_from use_checks tests_name_peer item_checks item_of needed_tables_at top_checks top_of client_checks client_from required_at optional_at tables_at some_tables_at has_only each_from checks_from number_to parted address_of endpoint_of
 clients_are_refused = (refl, (refl, (refl, (refl, (refl, (refl, (refl, (refl, (refl, tt)))))))))
 
 rules_are_refused : AreRefused refused_rules
-unfolding answer shared_checks shared_from use_checks item_checks item_of needed_tables_at top_checks top_of client_checks client_from required_at optional_at tables_at some_tables_at has_only each_from checks_from number_to parted address_of endpoint_of prefix_of community_of range_checks range_of test_checks tests_of strip_at action_checks action_of
-rules_are_refused = (refl, (refl, (refl, (refl, (refl, (refl, (refl, (refl, (refl, (refl, (refl, (refl, tt))))))))))))
+unfolding answer shared_checks shared_from use_checks tests_name_peer item_checks item_of needed_tables_at top_checks top_of client_checks client_from required_at optional_at tables_at some_tables_at has_only each_from checks_from number_to parted address_of endpoint_of prefix_of community_of range_checks range_of test_checks tests_of stripping_at pattern_of large_pattern_of large_community_of action_checks action_of
+rules_are_refused = (refl, (refl, (refl, (refl, (refl, (refl, (refl, (refl, (refl, (refl, (refl, (refl, (refl, (refl, (refl, (refl, (refl, (refl, (refl, (refl, tt))))))))))))))))))))
 
 -- ---- a configuration
 
@@ -218,7 +235,7 @@ read_whole : answered (exchange [] [] ((codes "limit", number 5) ∷ []))
       lists = [];
       policies = no_policy ∷ no_policy ∷ [];
     })
-unfolding answer shared_checks shared_from use_checks item_checks item_of needed_tables_at top_checks top_of client_checks client_from required_at optional_at tables_at some_tables_at has_only each_from checks_from number_to parted address_of endpoint_of
+unfolding answer shared_checks shared_from use_checks tests_name_peer item_checks item_of needed_tables_at top_checks top_of client_checks client_from required_at optional_at tables_at some_tables_at has_only each_from checks_from number_to parted address_of endpoint_of
 read_whole = refl
 
 -- ---- verdicts on a route from a to b
@@ -250,8 +267,12 @@ abbrev judged : List Fields → List Fields → Prefix → List Attribute → Ju
 judged import export p m =
     verdict (configuration_of (exchange [] ((codes "import", array_of import) ∷ []) ((codes "export", array_of export) ∷ []))) 0 1 p m
 
+-- patterns that are taken away by the import list and by the export list, or nothing
+abbrev taking : List CommunityPattern → List LargeCommunityPattern → Taken
+taking communities large = record { communities = communities ∷ [] ∷ []; all_communities = false; large = large ∷ [] ∷ []; all_large = false }
+
 abbrev preferring : Judgement → ℕ → Type 0
-preferring judgement n = judgement ≡ passed n ([] ∷ [] ∷ []) false
+preferring judgement n = judgement ≡ passed n (taking [] [])
 
 abbrev drops : Fields → List Fields
 drops tests = ((codes "action", string (codes "drop")) ∷ tests) ∷ []
@@ -283,7 +304,7 @@ pub record AreInLists : Type 0 where
   pub no_origin_of_a_set : preferring (by_list ((codes "ases", texts (codes "64490-64499" ∷ [])) ∷ []) (codes "origin_in") net set) 100
 
 are_in_lists : AreInLists
-unfolding verdict shared_from item_of needed_tables_at outcome matches attributes_match top_of client_from named_list_from entries_at entries_from required_at optional_at tables_at some_tables_at each_from number_to parted address_of endpoint_of prefix_of prefix_range_of lengths_of as_range_of community_of range_of tests_of strip_at action_of
+unfolding verdict shared_from tests_name_peer item_of needed_tables_at outcome matches attributes_match top_of client_from named_list_from entries_at entries_from required_at optional_at tables_at some_tables_at each_from number_to parted address_of endpoint_of prefix_of prefix_range_of lengths_of as_range_of community_of range_of tests_of stripping_at pattern_of large_pattern_of large_community_of action_of
 are_in_lists = record {
   the_prefix_itself = refl;
   not_one_within = refl;
@@ -308,8 +329,71 @@ pub record AreUsed : Type 0 where
   pub none_is_used : preferring (by_use [] (using (codes "q") ∷ []) net plain) 100
 
 are_used : AreUsed
-unfolding verdict shared_from item_of needed_tables_at outcome matches attributes_match top_of client_from required_at optional_at tables_at some_tables_at each_from number_to parted address_of endpoint_of prefix_of community_of range_of tests_of strip_at action_of
+unfolding verdict shared_from tests_name_peer item_of needed_tables_at outcome matches attributes_match top_of client_from required_at optional_at tables_at some_tables_at each_from number_to parted address_of endpoint_of prefix_of community_of range_of tests_of stripping_at pattern_of large_pattern_of large_community_of action_of
 are_used = record { drops_there = refl; goes_on_behind = refl; an_earlier_one_decides = refl; none_is_used = refl }
+
+-- a route with these communities and these large communities
+abbrev tagged : List ℕ → List ℕ → List Attribute
+tagged communities large = plain ++ attribute 8 communities ∷ attribute 32 large ∷ []
+
+-- 64500:7, 64501:7, 0:64501, 0:59904
+abbrev of_64500 : List ℕ
+of_64500 = 251 ∷ 244 ∷ 0 ∷ 7 ∷ []
+
+abbrev of_64501 : List ℕ
+of_64501 = 251 ∷ 245 ∷ 0 ∷ 7 ∷ []
+
+abbrev not_to_64501 : List ℕ
+not_to_64501 = 0 ∷ 0 ∷ 251 ∷ 245 ∷ []
+
+abbrev not_to_59904 : List ℕ
+not_to_59904 = 0 ∷ 0 ∷ 234 ∷ 0 ∷ []
+
+-- 64500:1:4200000000
+abbrev large_to_4200000000 : List ℕ
+large_to_4200000000 = 0 ∷ 0 ∷ 251 ∷ 244 ∷ 0 ∷ 0 ∷ 0 ∷ 1 ∷ 250 ∷ 86 ∷ 234 ∷ 0 ∷ []
+
+-- where b has this AS number and this rule in its export list, or uses it there
+abbrev toward : ℕ → Fields → List Attribute → Judgement
+toward to_as rule m =
+    verdict (configuration_of (clients (a [] ∷ client (codes "b") to_as (codes "127.0.0.1:17902") (codes "192.0.2.12") ((codes "export", array_of (rule ∷ [])) ∷ []) ∷ []))) 0 1 net m
+
+abbrev toward_by_use : ℕ → Fields → List Attribute → Judgement
+toward_by_use to_as rule m =
+    verdict (configuration_of
+    (top ((codes "client", array_of (a [] ∷ client (codes "b") to_as (codes "127.0.0.1:17902") (codes "192.0.2.12") ((codes "export", array_of (using (codes "r") ∷ [])) ∷ []) ∷ []))
+    ∷ (codes "rules", array_of (shared (codes "r") (rule ∷ []) ∷ [])) ∷ []))) 0 1 net m
+
+abbrev strips_two : Fields
+strips_two = (codes "action", string (codes "pass")) ∷ (codes "strip", texts (codes "64500:*" ∷ [])) ∷ (codes "strip_large", texts (codes "64500:1:*" ∷ [])) ∷ []
+
+pub record AreLike : Type 0 where
+  pub any_of_64500 : judged [] (naming (codes "community") (codes "64500:*") ∷ []) net (tagged of_64500 []) ≡ dropped
+  pub none_of_64501 : preferring (judged [] (naming (codes "community") (codes "64500:*") ∷ []) net (tagged of_64501 [])) 100
+  pub not_to_its_peer : toward 64501 (naming (codes "community") (codes "0:peer")) (tagged not_to_64501 []) ≡ dropped
+  pub to_another : preferring (toward 64497 (naming (codes "community") (codes "0:peer")) (tagged not_to_64501 [])) 100
+  pub a_long_number_is_no_part : preferring (toward 4200000000 (naming (codes "community") (codes "0:peer")) (tagged not_to_59904 [])) 100
+  pub large_to_its_peer : toward 4200000000 (naming (codes "large_community") (codes "64500:1:peer")) (tagged of_64500 large_to_4200000000) ≡ dropped
+  pub large_to_another : preferring (toward 64501 (naming (codes "large_community") (codes "64500:1:peer")) (tagged of_64500 large_to_4200000000)) 100
+  pub large_of_any_data : toward 64501 (naming (codes "large_community") (codes "64500:*:*")) (tagged of_64500 large_to_4200000000) ≡ dropped
+  pub by_rules_that_stand_once : toward_by_use 64501 (naming (codes "community") (codes "0:peer")) (tagged not_to_64501 []) ≡ dropped
+  pub strips_patterns : judged (strips_two ∷ []) [] net plain
+      ≡ passed 100 (taking (record { high = Some 64500; low = None } ∷ []) (record { global = Some 64500; first = Some 1; second = None } ∷ []))
+
+are_like : AreLike
+unfolding verdict shared_from tests_name_peer item_of needed_tables_at outcome matches attributes_match top_of client_from required_at optional_at tables_at some_tables_at each_from number_to parted address_of endpoint_of prefix_of community_of range_of tests_of stripping_at pattern_of large_pattern_of large_community_of action_of
+are_like = record {
+  any_of_64500 = refl;
+  none_of_64501 = refl;
+  not_to_its_peer = refl;
+  to_another = refl;
+  a_long_number_is_no_part = refl;
+  large_to_its_peer = refl;
+  large_to_another = refl;
+  large_of_any_data = refl;
+  by_rules_that_stand_once = refl;
+  strips_patterns = refl;
+}
 
 pub record AreJudged : Type 0 where
   pub without_rules : preferring (judged [] [] net plain) 100
@@ -334,10 +418,10 @@ pub record AreJudged : Type 0 where
   pub no_longer : preferring (judged (drops ((codes "path_longer", number 2) ∷ [])) [] net set) 100
   pub first_that_matches : preferring (judged (((codes "action", string (codes "pass")) ∷ (codes "preference", number 1) ∷ []) ∷ drops []) [] net plain) 1
   pub strips : judged (((codes "action", string (codes "pass")) ∷ (codes "strip", array (items (string (codes "64500:1") ∷ []))) ∷ []) ∷ []) (((codes "action", string (codes "pass")) ∷ (codes "strip", string (codes "all")) ∷ []) ∷ []) net plain
-      ≡ passed 100 ((4227072001 ∷ []) ∷ [] ∷ []) true
+      ≡ passed 100 (record (taking (record { high = Some 64500; low = Some 1 } ∷ []) []) { all_communities = true })
 
 are_judged : AreJudged
-unfolding verdict shared_from item_of needed_tables_at outcome matches attributes_match top_of client_from required_at optional_at tables_at some_tables_at each_from number_to parted address_of endpoint_of prefix_of community_of range_of tests_of strip_at action_of
+unfolding verdict shared_from tests_name_peer item_of needed_tables_at outcome matches attributes_match top_of client_from required_at optional_at tables_at some_tables_at each_from number_to parted address_of endpoint_of prefix_of community_of range_of tests_of stripping_at pattern_of large_pattern_of large_community_of action_of
 are_judged = record {
   without_rules = refl;
   a_24_within = refl;

@@ -108,7 +108,7 @@ pub text_is : {A : Type 0} (P : A → Type 0) (reads : List ℕ → Option A) (d
     → ((text : List ℕ) (v : A) → reads text ≡ Some v → P v) → text_as reads d ≡ Some v → P v
 text_is P reads d v every e = text_by P reads (as_str d) v every e
 
-number_most : (high : ℕ) (text : List ℕ) (v : ℕ) → number_to high text ≡ Some v → v ≤ high
+pub number_most : (high : ℕ) (text : List ℕ) (v : ℕ) → number_to high text ≡ Some v → v ≤ high
 unfolding number_to
 number_most high text v e =
     let h : ((is_decimal text && nat_le (number_after 0 text) high) ≡ true) × (number_after 0 text ≡ v) =
@@ -126,7 +126,7 @@ pub then_by : {A B : Type 0} (P : B → Type 0) (f : A → Option B) (o : Option
 then_by P f None v every e = cc
 then_by P f (Some a) v every e = every a v refl e
 
-both_by : {A B : Type 0} (P : A → Type 0) (Q : B → Type 0) (left : List ℕ → Option A) (mark : ℕ) (right : List ℕ → Option B)
+pub both_by : {A B : Type 0} (P : A → Type 0) (Q : B → Type 0) (left : List ℕ → Option A) (mark : ℕ) (right : List ℕ → Option B)
     → ((text : List ℕ) (a : A) → left text ≡ Some a → P a) → ((text : List ℕ) (b : B) → right text ≡ Some b → Q b)
     → (text : List ℕ) (v : A × B) → both left mark right text ≡ Some v → P v.0 × Q v.1
 both_by {A} {B} P Q left mark right first second text v e =

@@ -9,15 +9,18 @@ use Rattle.std.proofs.lemmas.List.Quantifiers.{position-Some}
 use Rattle.std.proofs.lemmas.Slice.Eq.{bytes_eq-Decides}
 use Rattle.toml.specs.Data.{Data, table, get, as_array, as_str}
 use Rattle.rs_octets.specs.Prefixes.{Prefix}
+use Rattle.rs_attrs.specs.declared.patterns.CommunityPattern.{CommunityPattern}
+use Rattle.rs_attrs.specs.declared.patterns.LargeCommunityPattern.{LargeCommunityPattern}
 use Rattle.rs_policy.specs.Keys.{key_text}
-use Rattle.rs_policy.specs.Texts.{endpoint_of, prefix_of, is_name, community_of}
+use Rattle.rs_policy.specs.Texts.{endpoint_of, prefix_of, is_name, pattern_of, large_pattern_of}
 use Rattle.rs_policy.specs.Values.{integer_in, positive, hold_seconds, text_as, identifier, name_of, keyed, read_or_bad, list_of, list_place, prefix_entry, as_entry, answer}
 use Rattle.rs_policy.specs.Configuration.{Client, NamedList, SharedRules, Stated, Policy, Configuration, no_client, no_list, no_shared, rules_in, written_out, policy_written}
 use Rattle.rs_policy.specs.NamedLists.{is_same_name}
-use Rattle.rs_policy.specs.Rules.{prefix_at, min_at, max_at, range_with, ases_named, client_named, prefixes_named, communities_of, stripping_from, strippings, is_longer, strip_found, strip_at, action_with}
-use Rattle.rs_policy.specs.Documents.{the_top, client_place, is_same, shared_place, shared_named, list_key, rule_place, document_checks, configuration_of, config_of}
+use Rattle.rs_policy.specs.Rules.{prefix_at, min_at, max_at, range_with, ases_named, client_named, prefixes_named, has_receiver, each_read, stripping_from, strippings, is_longer, strip_found, stripping_at, action_with}
+use Rattle.rs_policy.specs.Documents.{the_top, client_place, is_same, shared_place, may_stand, shared_named, list_key, rule_place, document_checks, configuration_of, config_of}
 use Rattle.rs_policy.specs.Accepted.{SaysClient, SaysNamedList, SaysRule, SaysEach, SaysShared, SaysItem, SaysItems, SaysPolicy, Says}
-use Rattle.rs_policy.specs.Sound.{IsSoundClient, IsSoundRange, IsSoundList, StripsFew, IsSoundRule, AreSoundRules, IsSoundPolicy, AreOthers, AreOtherLists, IsSound}
+use Rattle.rs_policy.specs.Sound.{IsSoundClient, IsSoundRange, IsSoundList, IsFew, StripsFew, IsSoundRule, AreSoundRules, IsSoundPolicy, AreOthers, AreOtherLists, IsSound}
+use Rattle.rs_policy.specs.declared.faults.Key.{Key}
 use Rattle.rs_policy.specs.declared.faults.Key.TheVariants as K
 use Rattle.rs_policy.specs.declared.faults.List.{List as RuleList}
 use Rattle.rs_policy.specs.declared.faults.List.TheVariants.{Import, Export, Shared}
@@ -28,7 +31,6 @@ use Rattle.rs_policy.specs.declared.rules.Disposition.{Disposition}
 use Rattle.rs_policy.specs.declared.rules.Disposition.TheVariants as D
 use Rattle.rs_policy.specs.declared.rules.Stripping.{Stripping}
 use Rattle.rs_policy.specs.declared.rules.Stripping.TheVariants.{Named, All as Every}
-use Rattle.rs_policy.specs.declared.rules.Action.TheVariants as A
 use Rattle.rs_policy.specs.declared.rules.Rule.{Rule}
 use Rattle.rs_policy.specs.declared.rules.Item.{Item}
 use Rattle.rs_policy.specs.declared.rules.Item.TheVariants.{Own, Use}
@@ -58,56 +60,50 @@ prefixes_named_is lists name n e = (position-Some (λ (l : NamedList). bytes_eq 
 ases_named_is : (lists : List NamedList) (name : List ℕ) (n : ℕ) → ases_named lists name ≡ Some n → n < length lists
 ases_named_is lists name n e = (position-Some (λ (l : NamedList). bytes_eq l.name name && is_some l.ases) lists n no_list e).0
 
-length_read : (ds : List Data) (ns : List ℕ) → communities_of ds ≡ Some ns → length ns ≡ length ds
-length_read [] ns e = let f : ◌≡◌ {A = List ℕ} [] ns = cc in sym (ap length f)
-length_read (d ∷ ds) ns e =
-    then_by (λ (ns : List ℕ). length ns ≡ suc (length ds)) (λ (n : ℕ). option_map (λ (ns : List ℕ). n ∷ ns) (communities_of ds)) (text_as community_of d) ns
-    (λ n v f g. map_by (λ (ns : List ℕ). length ns ≡ suc (length ds)) (λ (ns : List ℕ). n ∷ ns) (communities_of ds) v (λ ns h. ap suc (length_read ds ns h)) g) e
+length_read : {A : Type 0} (reads : Data → Option A) (ds : List Data) (xs : List A) → each_read reads ds ≡ Some xs → length xs ≡ length ds
+length_read {A} reads [] xs e = let f : ◌≡◌ {A = List A} [] xs = cc in sym (ap length f)
+length_read {A} reads (d ∷ ds) xs e =
+    then_by (λ (xs : List A). length xs ≡ suc (length ds)) (λ (a : A). option_map (λ (rest : List A). a ∷ rest) (each_read reads ds)) (reads d) xs
+    (λ a v f g. map_by (λ (xs : List A). length xs ≡ suc (length ds)) (λ (rest : List A). a ∷ rest) (each_read reads ds) v (λ rest h. ap suc (length_read reads ds rest h)) g) e
 
-abbrev StripsFewOf : Stripping → Type 0
-StripsFewOf strip = StripsFew (A.Pass None strip)
-
-every_by : (b : Bool) (v : Stripping) → (if b then Some Every else None) ≡ Some v → Every ≡ v
+every_by : {A : Type 0} (b : Bool) (v : Stripping A) → (if b then Some Every else None) ≡ Some v → Every ≡ v
 every_by false v e = cc
 every_by true v e = cc
 
-strip_by : (array : Option (List Data)) (text : Option (List ℕ)) (v : Stripping) → is_longer 64 array ≡ false
-    → stripping_from array text ≡ Some v → StripsFewOf v
-strip_by (Some ds) text v long e =
+strip_by : {A : Type 0} (reads : Data → Option A) (array : Option (List Data)) (text : Option (List ℕ)) (v : Stripping A) → is_longer 64 array ≡ false
+    → stripping_from reads array text ≡ Some v → IsFew v
+strip_by {A} reads (Some ds) text v long e =
     let few : length ds ≤ 64 = ltb-false 64 (length ds) long in
-    map_by StripsFewOf Named (communities_of ds) v (λ ns f. let l : length ns ≡ length ds = length_read ds ns f in omega arith) e
-strip_by None (Some text) v long e =
-    subst StripsFewOf (every_by (bytes_eq text (codes "all")) v e) tt
-strip_by None None v long e = cc
+    map_by (IsFew {A = A}) Named (each_read reads ds) v (λ xs f. let l : length xs ≡ length ds = length_read reads ds xs f in omega arith) e
+strip_by {A} reads None (Some text) v long e =
+    subst (IsFew {A = A}) (every_by (bytes_eq text (codes "all")) v e) tt
+strip_by reads None None v long e = cc
 
-strip_read : (disposition : Disposition) (d : Data) (v : Stripping) → is_longer 64 (option_map list_of (as_array d)) ≡ false
-    → strippings disposition d ≡ Some v → StripsFewOf v
-strip_read D.Pass d v long e = strip_by (option_map list_of (as_array d)) (as_str d) v long e
-strip_read D.Drop d v long e = cc
+strip_read : {A : Type 0} (reads : Data → Option A) (disposition : Disposition) (d : Data) (v : Stripping A) → is_longer 64 (option_map list_of (as_array d)) ≡ false
+    → strippings reads disposition d ≡ Some v → IsFew v
+strip_read reads D.Pass d v long e = strip_by reads (option_map list_of (as_array d)) (as_str d) v long e
+strip_read reads D.Drop d v long e = cc
 
-longer_by : (b : Bool) (f : ConfigFault) (r : Result Stripping ConfigFault) (v : Stripping) → (if b then Err f else r) ≡ Ok v
+longer_by : {A : Type 0} (b : Bool) (f : ConfigFault) (r : Result (Stripping A) ConfigFault) (v : Stripping A) → (if b then Err f else r) ≡ Ok v
     → (b ≡ false) × (r ≡ Ok v)
 longer_by true f r v e = cc
 longer_by false f r v e = (refl, e)
 
-strip_in : (disposition : Disposition) (place : Place) (o : Option Data) (v : Stripping) → strip_found disposition place o ≡ Ok v → StripsFewOf v
-strip_in disposition place None v e = subst StripsFewOf (let f : Named [] ≡ v = cc in f) (omega arith)
-strip_in disposition place (Some d) v e =
-    let h : (is_longer 64 (option_map list_of (as_array d)) ≡ false) × (read_or_bad place (strippings disposition d) ≡ Ok v) =
-    longer_by (is_longer 64 (option_map list_of (as_array d))) (TooMany place) (read_or_bad place (strippings disposition d)) v e in
-    strip_read disposition d v h.0 (was_some (strippings disposition d) (BadValue place) v h.1)
+strip_in : {A : Type 0} (reads : Data → Option A) (disposition : Disposition) (place : Place) (o : Option Data) (v : Stripping A) → strip_found reads disposition place o ≡ Ok v → IsFew v
+strip_in {A} reads disposition place None v e = subst (IsFew {A = A}) (let f : ◌≡◌ {A = Stripping A} (Named []) v = cc in f) (omega arith)
+strip_in reads disposition place (Some d) v e =
+    let h : (is_longer 64 (option_map list_of (as_array d)) ≡ false) × (read_or_bad place (strippings reads disposition d) ≡ Ok v) =
+    longer_by (is_longer 64 (option_map list_of (as_array d))) (TooMany place) (read_or_bad place (strippings reads disposition d)) v e in
+    strip_read reads disposition d v h.0 (was_some (strippings reads disposition d) (BadValue place) v h.1)
 
-strip_few : (disposition : Disposition) (place : Place) (d : Data) (v : Stripping) → strip_at disposition place d ≡ Ok v → StripsFewOf v
-unfolding strip_at
-strip_few disposition place d v e = strip_in disposition (keyed place K.Strip) (get (key_text K.Strip) d) v e
+strip_few : {A : Type 0} (reads : Data → Option A) (key : Key) (disposition : Disposition) (place : Place) (d : Data) (v : Stripping A) → stripping_at reads key disposition place d ≡ Ok v → IsFew v
+unfolding stripping_at
+strip_few reads key disposition place d v e = strip_in reads disposition (keyed place key) (get (key_text key) d) v e
 
-any_preference : (preference : Option ℕ) (v : Stripping) → StripsFewOf v → StripsFew (A.Pass preference v)
-any_preference preference (Named communities) h = h
-any_preference preference Every h = h
-
-action_sound : (disposition : Disposition) (preference : Option ℕ) (v : Stripping) → StripsFewOf v → StripsFew (action_with disposition preference v)
-action_sound D.Drop preference v h = tt
-action_sound D.Pass preference v h = any_preference preference v h
+action_sound : (disposition : Disposition) (preference : Option ℕ) (v : Stripping CommunityPattern) (w : Stripping LargeCommunityPattern) → IsFew v → IsFew w
+    → StripsFew (action_with disposition preference v w)
+action_sound D.Drop preference v w h k = tt
+action_sound D.Pass preference v w h k = (h, k)
 
 rule_sound : (clients : List Client) (lists : List NamedList) (place : Place) (d : Data) (rule : Rule) → SaysRule clients lists place d rule
     → IsSoundRule (length clients) (length lists) rule
@@ -123,12 +119,14 @@ rule_sound clients lists place d rule h = record {
   from = at_maybe (λ c. c < length clients) (text_as (client_named clients)) place K.From d rule.tests.from
       (λ d v e. text_is (λ c. c < length clients) (client_named clients) d v (named_is clients) e) h.tests.from;
   strip = subst StripsFew (sym h.action.action_is)
-      (action_sound h.action.disposition h.action.preference h.action.strip (strip_few h.action.disposition place d h.action.strip h.action.strip_is));
+      (action_sound h.action.disposition h.action.preference h.action.strip h.action.strip_large
+      (strip_few (text_as pattern_of) K.Strip h.action.disposition place d h.action.strip h.action.strip_is)
+      (strip_few (text_as large_pattern_of) K.StripLarge h.action.disposition place d h.action.strip_large h.action.strip_large_is));
 }
 
 -- ---- lists
 
-each_all : {A : Type 0} (R : ℕ → Data → A → Type 0) (P : A → Type 0) → ((n : ℕ) (d : Data) (a : A) → R n d a → P a)
+pub each_all : {A : Type 0} (R : ℕ → Data → A → Type 0) (P : A → Type 0) → ((n : ℕ) (d : Data) (a : A) → R n d a → P a)
     → (n : ℕ) (ds : List Data) (xs : List A) → SaysEach R n ds xs → All P xs
 each_all R P f n [] [] h = All-nil P
 each_all R P f n [] (a ∷ xs) h = absurd h
@@ -156,8 +154,8 @@ shared_sound clients lists n d s h =
           (λ r d rule e. rule_sound clients lists (rule_place n Shared r) d rule e) 1 h.tables s.rules h.each,
     )
 
-shared_named_is : (shared : List SharedRules) (name : List ℕ) (n : ℕ) → shared_named shared name ≡ Some n → n < length shared
-shared_named_is shared name n e = (position-Some (λ (s : SharedRules). bytes_eq s.name name) shared n no_shared e).0
+shared_named_is : (receiver : Bool) (shared : List SharedRules) (name : List ℕ) (n : ℕ) → shared_named receiver shared name ≡ Some n → n < length shared
+shared_named_is receiver shared name n e = (position-Some (λ (s : SharedRules). bytes_eq s.name name && may_stand receiver s.rules) shared n no_shared e).0
 
 item_sound : (clients : List Client) (lists : List NamedList) (shared : List SharedRules) (place : Place) (d : Data) (item : Item)
     → All (λ s. AreFewSound (length clients) (length lists) s.rules) shared → SaysItem clients lists shared place d item
@@ -165,8 +163,9 @@ item_sound : (clients : List Client) (lists : List NamedList) (shared : List Sha
 item_sound clients lists shared place d (Own rule) all h =
     (omega arith, All-cons (IsSoundRule (length clients) (length lists)) rule [] (rule_sound clients lists place d rule h.1) (All-nil (IsSoundRule (length clients) (length lists))))
 item_sound clients lists shared place d (Use n) all h =
-    all n no_shared (at_required (λ n. n < length shared) (text_as (shared_named shared)) place K.Use d n
-    (λ d v e. text_is (λ n. n < length shared) (shared_named shared) d v (shared_named_is shared) e) h.0)
+    let receiver : Bool = has_receiver place.table in
+    all n no_shared (at_required (λ n. n < length shared) (text_as (shared_named receiver shared)) place K.Use d n
+    (λ d v e. text_is (λ n. n < length shared) (shared_named receiver shared) d v (shared_named_is receiver shared) e) h.0)
 
 -- so many tables, written out
 written_sound : (count lists : ℕ) (shared : List SharedRules) (items : List Item) → All (λ item. AreFewSound count lists (rules_in shared item)) items
@@ -205,7 +204,7 @@ policy_sound clients lists shared n d policy all h = record {
 }
 
 -- what holds of each as it is written out
-all_written : (P : Policy → Type 0) (shared : List SharedRules) (ps : List Stated) → All (λ p. P (policy_written shared p)) ps → All P (map (policy_written shared) ps)
+pub all_written : (P : Policy → Type 0) (shared : List SharedRules) (ps : List Stated) → All (λ p. P (policy_written shared p)) ps → All P (map (policy_written shared) ps)
 all_written P shared [] all = All-nil P
 all_written P shared (p ∷ ps) all = All-cons P (policy_written shared p) (map (policy_written shared) ps) (all 0 p (omega arith)) (all_written P shared ps (λ i d within. all (suc i) d (omega arith)))
 

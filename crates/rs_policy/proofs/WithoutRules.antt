@@ -15,5 +15,5 @@ pub default_decides : (s : Configuration) (from to : ℕ) (p : Prefix) (m : List
     → joined (passing_by_default s.top.default) (passing_by_default s.top.default) ≡ verdict s from to p m
 unfolding verdict
 default_decides s from to p m no_import no_export =
-    let r : AnnouncedRoute = announced_route s from p m in
+    let r : AnnouncedRoute = announced_route s from to p m in
     λ i. joined (sym (nothing_matches s.top.default s.lists (policy_of s from).import r no_import) i) (sym (nothing_matches s.top.default s.lists (policy_of s to).export r no_export) i)

@@ -4,11 +4,13 @@ use Rattle.std.specs.List.{AllPairs}
 use Rattle.toml.specs.Data.{Data, Members, table}
 use Rattle.toml.specs.Parse.{parse_document}
 use Rattle.rs_octets.specs.Prefixes.{Prefix}
+use Rattle.rs_attrs.specs.declared.patterns.CommunityPattern.{CommunityPattern}
+use Rattle.rs_attrs.specs.declared.patterns.LargeCommunityPattern.{LargeCommunityPattern}
 use Rattle.rs_policy.specs.Keys.{top_keys, client_keys, named_list_keys, shared_keys, rule_keys, use_keys}
 use Rattle.rs_policy.specs.Values.{has_only}
 use Rattle.rs_policy.specs.NamedLists.{list_name_at, has_entries, prefixes_at, ases_at, is_same_name}
 use Rattle.rs_policy.specs.Configuration.{Client, NamedList, SharedRules, Stated, Configuration, policy_written}
-use Rattle.rs_policy.specs.Rules.{prefix_at, min_at, max_at, range_with, prefix_in_at, from_at, path_has_at, path_longer_at, path_in_at, origin_as_at, origin_in_at, first_as_is_peer_at, community_at, next_hop_is_peer_at, disposition_at, preference_at, strip_at, action_with}
+use Rattle.rs_policy.specs.Rules.{prefix_at, min_at, max_at, range_with, prefix_in_at, from_at, path_has_at, path_longer_at, path_in_at, origin_as_at, origin_in_at, first_as_is_peer_at, community_at, large_community_at, next_hop_is_peer_at, disposition_at, preference_at, strip_at, strip_large_at, action_with}
 use Rattle.rs_policy.specs.Documents.{server_as_at, identifier_at, hold_at, default_at, flag_at, clients_at, lists_at, all_shared_at, name_at, client_as_at, listen_at, peer_at, limit_at, is_same, shared_name_at, shared_rules_at, has_use, use_at, rules_at, rule_place, config_of}
 use Rattle.rs_policy.specs.declared.faults.Key.TheVariants as K
 use Rattle.rs_policy.specs.declared.faults.List.{List as RuleList}
@@ -67,16 +69,19 @@ pub record SaysTests (clients : List Client) (lists : List NamedList) (place : P
   pub origin_in : origin_in_at lists place d ≡ Ok tests.origin_in
   pub first_as_is_peer : first_as_is_peer_at place d ≡ Ok tests.first_as_is_peer
   pub community : community_at place d ≡ Ok tests.community
+  pub large_community : large_community_at place d ≡ Ok tests.large_community
   pub next_hop_is_peer : next_hop_is_peer_at place d ≡ Ok tests.next_hop_is_peer
 
 pub record SaysAction (place : Place) (d : Data) (action : Action) : Type 0 where
   pub disposition : Disposition
   pub preference : Option ℕ
-  pub strip : Stripping
+  pub strip : Stripping CommunityPattern
+  pub strip_large : Stripping LargeCommunityPattern
   pub disposition_is : disposition_at place d ≡ Ok disposition
   pub preference_is : preference_at disposition place d ≡ Ok preference
   pub strip_is : strip_at disposition place d ≡ Ok strip
-  pub action_is : action ≡ action_with disposition preference strip
+  pub strip_large_is : strip_large_at disposition place d ≡ Ok strip_large
+  pub action_is : action ≡ action_with disposition preference strip strip_large
 
 pub record SaysRule (clients : List Client) (lists : List NamedList) (place : Place) (d : Data) (rule : Rule) : Type 0 where
   pub range : SaysRange place d rule.range

@@ -1,6 +1,6 @@
 -- What the text of a configuration means: the first check that fails, in order, each over the document's table alone,
 -- or the configuration where none fails.
-use Rattle.std.specs.Prelude.{ℕ, ◌-◌, take, map, position, is_some, ◌==◌, ◌&&◌, ◌||◌, Bool, false, List, [], ◌∷◌, ◌++◌, bytes_eq, Option, Some, None, Result, Ok, Err, if◌then◌else◌}
+use Rattle.std.specs.Prelude.{ℕ, ◌-◌, take, map, position, is_some, ◌==◌, ◌&&◌, ◌||◌, Bool, false, not, List, [], ◌∷◌, ◌++◌, bytes_eq, Option, Some, None, Result, Ok, Err, if◌then◌else◌}
 use Rattle.std.specs.List.{list_any}
 use Rattle.toml.specs.Data.{Data, Members, table, as_bool, get}
 use Rattle.toml.specs.Parse.{parse_document}
@@ -9,7 +9,8 @@ use Rattle.rs_policy.specs.Texts.{endpoint_of}
 use Rattle.rs_policy.specs.Values.{text_as, positive, hold_seconds, address, identifier, disposition_of, name_of, required_at, optional_at, maybe_at, tables_at, needed_tables_at, some_tables_at, fault_in, value_or, stranger, answer, each_from, checks_from}
 use Rattle.rs_policy.specs.Configuration.{Client, NamedList, SharedRules, Stated, Configuration, policy_written}
 use Rattle.rs_policy.specs.NamedLists.{named_lists_from, named_lists_checks}
-use Rattle.rs_policy.specs.Rules.{rule_checks, rule_of}
+use Rattle.rs_policy.specs.Patterns.{tests_name_peer}
+use Rattle.rs_policy.specs.Rules.{has_receiver, rule_checks, rule_of}
 use Rattle.rs_policy.specs.declared.faults.Key.{Key}
 use Rattle.rs_policy.specs.declared.faults.Key.TheVariants as K
 use Rattle.rs_policy.specs.declared.faults.List.{List as RuleList}
@@ -184,12 +185,19 @@ all_shared_checks clients lists ds = checks_from (λ n d. shared_checks clients 
 
 -- what stands at a place of a client's list: a rule, or the name of rules, alone
 
--- the place of the rules of this name, from 0
-abbrev pub shared_named : List SharedRules → List ℕ → Option ℕ
-shared_named shared name = position (λ s. bytes_eq s.name name) shared
+abbrev pub rules_name_peer : List Rule → Bool
+rules_name_peer rules = list_any (λ rule. tests_name_peer rule.tests) rules
+
+-- none of some rules names the receiver, or they may
+abbrev pub may_stand : Bool → List Rule → Bool
+may_stand receiver rules = receiver || not (rules_name_peer rules)
+
+-- the place of the rules of this name, from 0, where they may stand in a list that has a receiver or hasn't
+abbrev pub shared_named : Bool → List SharedRules → List ℕ → Option ℕ
+shared_named receiver shared name = position (λ s. bytes_eq s.name name && may_stand receiver s.rules) shared
 
 abbrev pub use_at : List SharedRules → Place → Data → Result ℕ ConfigFault
-use_at shared place d = required_at (text_as (shared_named shared)) place K.Use d
+use_at shared place d = required_at (text_as (shared_named (has_receiver place.table) shared)) place K.Use d
 
 unfoldable pub use_checks : List SharedRules → Place → Data → List (Option ConfigFault)
 use_checks shared place d = fault_in (use_at shared place d) ∷ fault_in (stranger use_keys place d) ∷ []

@@ -35,10 +35,12 @@ key_text K.OriginAs = codes "origin_as"
 key_text K.OriginIn = codes "origin_in"
 key_text K.FirstAsIsPeer = codes "first_as_is_peer"
 key_text K.Community = codes "community"
+key_text K.LargeCommunity = codes "large_community"
 key_text K.NextHopIsPeer = codes "next_hop_is_peer"
 key_text K.Action = codes "action"
 key_text K.Preference = codes "preference"
 key_text K.Strip = codes "strip"
+key_text K.StripLarge = codes "strip_large"
 key_text K.Use = codes "use"
 key_text K.Other = codes "?"
 
@@ -57,7 +59,7 @@ abbrev pub shared_keys : List Key
 shared_keys = K.Name ∷ K.Rules ∷ []
 
 abbrev pub rule_keys : List Key
-rule_keys = K.Prefix ∷ K.Min ∷ K.Max ∷ K.PrefixIn ∷ K.From ∷ K.PathHas ∷ K.PathLonger ∷ K.PathIn ∷ K.OriginAs ∷ K.OriginIn ∷ K.FirstAsIsPeer ∷ K.Community ∷ K.NextHopIsPeer ∷ K.Action ∷ K.Preference ∷ K.Strip ∷ []
+rule_keys = K.Prefix ∷ K.Min ∷ K.Max ∷ K.PrefixIn ∷ K.From ∷ K.PathHas ∷ K.PathLonger ∷ K.PathIn ∷ K.OriginAs ∷ K.OriginIn ∷ K.FirstAsIsPeer ∷ K.Community ∷ K.LargeCommunity ∷ K.NextHopIsPeer ∷ K.Action ∷ K.Preference ∷ K.Strip ∷ K.StripLarge ∷ []
 
 -- of a table that names such rules
 abbrev pub use_keys : List Key

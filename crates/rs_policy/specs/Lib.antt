@@ -7,6 +7,7 @@ pub mod Judged
 pub mod Keys
 pub mod NamedLists
 pub mod Older
+pub mod Patterns
 pub mod Replacing
 pub mod Rules
 pub mod Seen

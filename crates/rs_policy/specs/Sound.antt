@@ -4,6 +4,7 @@ use Rattle.std.specs.List.{All, AllPairs}
 use Rattle.rs_policy.specs.Texts.{is_name}
 use Rattle.rs_policy.specs.Configuration.{Client, NamedList, Policy, Configuration}
 use Rattle.rs_policy.specs.declared.rules.Range.{Range}
+use Rattle.rs_policy.specs.declared.rules.Stripping.{Stripping}
 use Rattle.rs_policy.specs.declared.rules.Stripping.TheVariants.{Named, All as Every}
 use Rattle.rs_policy.specs.declared.rules.Action.{Action}
 use Rattle.rs_policy.specs.declared.rules.Action.TheVariants as A
@@ -38,11 +39,14 @@ pub record IsSoundList (l : NamedList) : Type 0 where
   pub prefixes : IfSome l.prefixes (λ ranges. length ranges ≤ 1048576)
   pub ases : IfSome l.ases (λ ranges. length ranges ≤ 1048576)
 
--- the communities that are taken away by name
+-- the patterns of communities that are taken away
+abbrev pub IsFew : {A : Type 0} → Stripping A → Type 0
+IsFew (Named patterns) = length patterns ≤ 64
+IsFew Every = ⊤
+
 abbrev pub StripsFew : Action → Type 0
 StripsFew A.Drop = ⊤
-StripsFew (A.Pass preference (Named communities)) = length communities ≤ 64
-StripsFew (A.Pass preference Every) = ⊤
+StripsFew (A.Pass preference strip strip_large) = IsFew strip × IsFew strip_large
 
 -- a rule beside so many clients and lists
 pub record IsSoundRule (count lists : ℕ) (rule : Rule) : Type 0 where

@@ -1,8 +1,15 @@
 -- How the texts of a configuration are read: numbers, addresses, prefixes and ranges, communities, names.
-use Rattle.std.specs.Prelude.{ℕ, ◌+◌, ◌-◌, ◌*◌, ◌==◌, Bool, not, ◌&&◌, ◌||◌, List, [], ◌∷◌, length, nat_le, nat_lt, slice_index, take, drop, position, codes, bytes_eq, Option, Some, None, option_map, option_and_then, if◌then◌else◌}
+use Rattle.std.specs.Prelude.{ℕ, ◌+◌, ◌-◌, ◌*◌, ◌==◌, Bool, false, not, ◌&&◌, ◌||◌, List, [], ◌∷◌, length, nat_le, nat_lt, slice_index, take, drop, position, codes, bytes_eq, Option, Some, None, option_map, option_and_then, if◌then◌else◌}
 use Rattle.std.specs.List.{list_all}
 use Rattle.std.specs.Int.{w32, from_be_bytes}
 use Rattle.rs_octets.specs.Prefixes.{Prefix, masked}
+use Rattle.rs_attrs.specs.declared.patterns.CommunityPattern.{CommunityPattern}
+use Rattle.rs_attrs.specs.declared.patterns.LargeCommunityPattern.{LargeCommunityPattern}
+use Rattle.rs_policy.specs.Patterns.{pattern_for, large_pattern_for}
+use Rattle.rs_policy.specs.declared.rules.Part.{Part}
+use Rattle.rs_policy.specs.declared.rules.Part.TheVariants.{Number, Any, Peer}
+use Rattle.rs_policy.specs.declared.rules.CommunityTest.{CommunityTest}
+use Rattle.rs_policy.specs.declared.rules.LargeCommunityTest.{LargeCommunityTest}
 use Rattle.rs_policy.specs.declared.rules.Range.{Range}
 
 -- a decimal digit, in ASCII
@@ -96,9 +103,37 @@ prefix_range_of text = range_from text (parted caret text)
 unfoldable pub as_range_of : List ℕ → Option (ℕ × ℕ)
 as_range_of text = option_and_then (λ r. if nat_le r.0 r.1 then Some r else None) (both (number_to 4294967295) dash (number_to 4294967295) text)
 
--- two numbers of 16 bits (RFC 1997)
-unfoldable pub community_of : List ℕ → Option ℕ
-community_of text = option_map (λ p. 65536 * p.0 + p.1) (both (number_to 65535) colon (number_to 65535) text)
+-- communities
+
+-- a part of a community: a number, or `peer` where that may be one
+abbrev pub part_of : Bool → ℕ → List ℕ → Option Part
+part_of peer high text = if peer && bytes_eq text (codes "peer") then Some Peer else option_map Number (number_to high text)
+
+-- its last part may be any
+abbrev pub last_part_of : Bool → ℕ → List ℕ → Option Part
+last_part_of peer high text = if bytes_eq text (codes "*") then Some Any else part_of peer high text
+
+-- two parts of 16 bits (RFC 1997)
+unfoldable pub community_of : Bool → List ℕ → Option CommunityTest
+community_of peer text = option_map (λ p. record { high = p.0; low = p.1 }) (both (part_of peer 65535) colon (last_part_of peer 65535) text)
+
+-- the local data of a large community: two parts of which both, or the last, may be any
+abbrev pub local_data_of : Bool → List ℕ → Option (Part × Part)
+local_data_of peer text =
+    if bytes_eq text (codes "*:*") then Some (Any, Any)
+    else both (part_of peer 4294967295) colon (last_part_of peer 4294967295) text
+
+-- three parts of 32 bits (RFC 8092, 3)
+unfoldable pub large_community_of : Bool → List ℕ → Option LargeCommunityTest
+large_community_of peer text = option_map (λ p. record { global = p.0; first = p.1.0; second = p.1.1 }) (both (part_of peer 4294967295) colon (local_data_of peer) text)
+
+-- the same without `peer`, whose communities are the same whoever is sent them
+
+unfoldable pub pattern_of : List ℕ → Option CommunityPattern
+pattern_of text = option_map (pattern_for 0) (community_of false text)
+
+unfoldable pub large_pattern_of : List ℕ → Option LargeCommunityPattern
+large_pattern_of text = option_map (large_pattern_for 0) (large_community_of false text)
 
 -- ASCII letters, digits and hyphens
 abbrev pub is_name_octet : ℕ → Bool

@@ -1,27 +1,37 @@
 -- Which routes a rule matches, and what the rules make of a route.
 use Rattle.std.specs.List.{list_any}
-use Rattle.std.specs.Prelude.{ℕ, ◌-◌, ◌/◌, ◌^◌, ◌==◌, Bool, true, false, not, ◌&&◌, ◌||◌, nat_le, nat_lt, List, [], ◌∷◌, find, Option, Some, None, option_map, unwrap_or, if◌then◌else◌}
+use Rattle.std.specs.Prelude.{◌≡◌, ℕ, ◌<◌, ◌-◌, ◌/◌, ◌^◌, ◌==◌, Bool, true, false, not, ◌&&◌, ◌||◌, nat_le, nat_lt, List, [], ◌∷◌, length, find, Option, Some, None, option_map, unwrap_or, if◌then◌else◌}
 use Rattle.rs_octets.specs.Prefixes.{Prefix}
 use Rattle.rs_attrs.specs.Meaning.{Attribute}
 use Rattle.rs_attrs.specs.Paths.{Segment}
-use Rattle.rs_attrs.specs.Getters.{path_of, path_length_of, path_has_of, origin_as_of, has_community, next_hop_of}
+use Rattle.rs_attrs.specs.Patterns.{is_like, is_like_large}
+use Rattle.rs_attrs.specs.Stripping.{Taken}
+use Rattle.rs_attrs.specs.declared.patterns.CommunityPattern.{CommunityPattern}
+use Rattle.rs_attrs.specs.declared.patterns.LargeCommunityPattern.{LargeCommunityPattern}
+use Rattle.rs_attrs.specs.Getters.{path_of, path_length_of, path_has_of, origin_as_of, communities_of, large_communities_of, next_hop_of}
+use Rattle.rs_policy.specs.Patterns.{pattern_for, large_pattern_for}
 use Rattle.rs_policy.specs.Configuration.{NamedList, Configuration, client_of, list_at, policy_of}
 use Rattle.rs_policy.specs.declared.rules.Disposition.{Disposition}
 use Rattle.rs_policy.specs.declared.rules.Disposition.TheVariants as D
 use Rattle.rs_policy.specs.declared.rules.Range.{Range}
+use Rattle.rs_policy.specs.declared.rules.Stripping.{Stripping}
 use Rattle.rs_policy.specs.declared.rules.Stripping.TheVariants.{Named, All}
+use Rattle.rs_policy.specs.declared.rules.CommunityTest.{CommunityTest}
+use Rattle.rs_policy.specs.declared.rules.LargeCommunityTest.{LargeCommunityTest}
 use Rattle.rs_policy.specs.declared.rules.Action.{Action}
 use Rattle.rs_policy.specs.declared.rules.Action.TheVariants as A
 use Rattle.rs_policy.specs.declared.rules.Rule.{Rule}
 use Rattle.rs_policy.specs.declared.rules.Tests.{Tests}
 
--- a route as its sender announced it: the sender's place, address and AS number, the prefix and the attributes
+-- a route as its sender announced it: the sender's place, address and AS number, the prefix, the attributes, and the AS number of
+-- the client to which it goes
 pub record AnnouncedRoute : Type 0 where
   pub from : ℕ
   pub peer : ℕ
   pub peer_as : ℕ
   pub prefix : Prefix
   pub attributes : List Attribute
+  pub to_as : ℕ
 
 -- the first bits of an address
 abbrev pub front : ℕ → ℕ → ℕ
@@ -72,6 +82,14 @@ first_as (s ∷ path) = first_of s.numbers
 abbrev pub first_as_is_peer : AnnouncedRoute → Bool
 first_as_is_peer r = unwrap_or (option_map (λ n. n == r.peer_as) (first_as (path_of r.attributes))) false
 
+-- some community is as the test asks
+abbrev pub has_community : CommunityTest → AnnouncedRoute → Bool
+has_community t r = list_any (is_like (pattern_for r.to_as t)) (communities_of r.attributes)
+
+-- some large community is
+abbrev pub has_large_community : LargeCommunityTest → AnnouncedRoute → Bool
+has_large_community t r = list_any (is_like_large (large_pattern_for r.to_as t)) (large_communities_of r.attributes)
+
 -- a test that isn't there holds
 abbrev pub holds : {A : Type 0} → (A → Bool) → Option A → Bool
 holds test None = true
@@ -88,10 +106,11 @@ path_matches lists tests r =
 -- the tests that walk communities and paths
 unfoldable pub attributes_match : List NamedList → Tests → AnnouncedRoute → Bool
 attributes_match lists tests r =
-    holds (λ n. has_community n r.attributes) tests.community
+    holds (λ t. has_community t r) tests.community
+    && (holds (λ t. has_large_community t r) tests.large_community
     && (holds (λ n. origin_as_is n r) tests.origin_as
     && (holds (λ n. origin_in (list_at lists n) r) tests.origin_in
-    && path_matches lists tests r))
+    && path_matches lists tests r)))
 
 -- all tests of a rule hold, those that walk the attributes last
 unfoldable pub matches : List NamedList → Rule → AnnouncedRoute → Bool
@@ -105,17 +124,32 @@ matches lists rule r =
 -- how a list passes a route: the preference, if it gives one, and the communities that are taken away
 pub record Passing : Type 0 where
   pub preference : Option ℕ
-  pub communities : List ℕ
-  pub all : Bool
+  pub communities : List CommunityPattern
+  pub all_communities : Bool
+  pub large : List LargeCommunityPattern
+  pub all_large : Bool
+
+abbrev pub named_by : {A : Type 0} → Stripping A → List A
+named_by (Named patterns) = patterns
+named_by All = []
+
+abbrev pub takes_all : {A : Type 0} → Stripping A → Bool
+takes_all (Named patterns) = false
+takes_all All = true
 
 abbrev pub passing : Action → Option Passing
 passing A.Drop = None
-passing (A.Pass preference (Named communities)) = Some (record { preference = preference; communities = communities; all = false })
-passing (A.Pass preference All) = Some (record { preference = preference; communities = []; all = true })
+passing (A.Pass preference strip strip_large) = Some (record {
+  preference = preference;
+  communities = named_by strip;
+  all_communities = takes_all strip;
+  large = named_by strip_large;
+  all_large = takes_all strip_large;
+})
 
 abbrev pub passing_by_default : Disposition → Option Passing
 passing_by_default D.Drop = None
-passing_by_default D.Pass = Some (record { preference = None; communities = []; all = false })
+passing_by_default D.Pass = Some (record { preference = None; communities = []; all_communities = false; large = []; all_large = false })
 
 abbrev pub passing_by : Disposition → Option Rule → Option Passing
 passing_by default None = passing_by_default default
@@ -128,19 +162,38 @@ outcome default lists rules r = passing_by default (find (λ rule. matches lists
 -- what becomes of a route
 pub data Judgement : Type 0 where
   dropped : Judgement
-  passed : ℕ → List (List ℕ) → Bool → Judgement
+  passed : ℕ → Taken → Judgement
 
 -- both lists pass it; the receiver's preference goes before the sender's, and 100 is where there is none
 abbrev pub joined : Option Passing → Option Passing → Judgement
 joined (Some import) (Some export) =
-    passed (unwrap_or export.preference (unwrap_or import.preference 100)) (import.communities ∷ export.communities ∷ []) (import.all || export.all)
+    passed (unwrap_or export.preference (unwrap_or import.preference 100)) (record {
+      communities = import.communities ∷ export.communities ∷ [];
+      all_communities = import.all_communities || export.all_communities;
+      large = import.large ∷ export.large ∷ [];
+      all_large = import.all_large || export.all_large;
+    })
 joined _ _ = dropped
 
-abbrev pub announced_route : Configuration → ℕ → Prefix → List Attribute → AnnouncedRoute
-announced_route s from p m = record { from = from; peer = (client_of s from).peer; peer_as = (client_of s from).client_as; prefix = p; attributes = m }
+abbrev pub announced_route : Configuration → ℕ → ℕ → Prefix → List Attribute → AnnouncedRoute
+announced_route s from to p m = record {
+  from = from;
+  peer = (client_of s from).peer;
+  peer_as = (client_of s from).client_as;
+  prefix = p;
+  attributes = m;
+  to_as = (client_of s to).client_as;
+}
 
 -- by the sender's import list and the receiver's export list, both over the attributes as they were received (RFC 7947, 2.3)
 unfoldable pub verdict : Configuration → ℕ → ℕ → Prefix → List Attribute → Judgement
 verdict s from to p m =
-    let r = announced_route s from p m in
+    let r = announced_route s from to p m in
     joined (outcome s.top.default s.lists (policy_of s from).import r) (outcome s.top.default s.lists (policy_of s to).export r)
+
+-- what a client's import list makes of a route is the same, whoever is sent it
+abbrev pub AsksNoReceiver : Configuration → Type 0
+AsksNoReceiver s =
+    (from to other : ℕ) (p : Prefix) (m : List Attribute) → from < length s.clients
+    → let rules = (policy_of s from).import in
+    outcome s.top.default s.lists rules (announced_route s from to p m) ≡ outcome s.top.default s.lists rules (announced_route s from other p m)

@@ -9,7 +9,7 @@ ghost use Rattle.rs_policy.specs.Configuration.{Client, NamedList, Configuration
 ghost use Rattle.rs_policy.specs.Documents.{config_of};
 ghost use Rattle.rs_policy.specs.Replacing.{first_fixed, IsFixed};
 ghost use Rattle.rs_policy.specs.Sound.{IsSound};
-ghost use Rattle.rs_policy.specs.Verdicts.{has_prefix};
+ghost use Rattle.rs_policy.specs.Verdicts.{has_prefix, AsksNoReceiver};
 ghost use Rattle.rs_policy.specs.NamedLists.{listing};
 ghost use Rattle.rs_policy.specs.Older.{AnswersAsBefore, IsOlder, IsOlderDocument, MeansWhatItMeant};
 ghost use Rattle.rs_policy.specs.declared.faults.Place.{Place};
@@ -36,8 +36,8 @@ pub fn a_list_ignores_order()
         → (p : Prefix) → has_prefix (listing xs) p ≡ has_prefix (listing ys) p }
 {}
 
-/// A rule without `path_longer`, `path_in` and `first_as_is_peer` has the fault and matches the routes that
-/// it had before there were these keys.
+/// A rule without `path_longer`, `path_in`, `first_as_is_peer`, `large_community`, `strip_large`, `*` and
+/// `peer` has the fault, matches the routes and takes away the communities that it did before there were these.
 pub fn an_older_rule_means_what_it_meant()
     ensures { (clients : List Client) (lists : List NamedList) (place : Place) (d : Data) → IsOlder d → MeansWhatItMeant clients lists place d }
 {}
@@ -46,6 +46,12 @@ pub fn an_older_rule_means_what_it_meant()
 /// these keys.
 pub fn an_older_text_means_what_it_meant()
     ensures { (d : Data) → IsOlderDocument d → AnswersAsBefore d }
+{}
+
+/// What the import list of a client makes of a route is the same, whoever is sent it: no rule there asks for
+/// the receiver.
+pub fn an_import_list_asks_no_receiver()
+    ensures { (text : List ℕ) (s : Configuration) → config_of text ≡ Ok s → AsksNoReceiver s }
 {}
 
 /// What every configuration has: an identifier, no Hold Time of 1 or 2 seconds, 1 to 512 clients of

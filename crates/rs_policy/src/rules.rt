@@ -4,8 +4,11 @@ pub(crate) mod verdict;
 
 ghost use Rattle.std.specs.Prelude.{◌≡◌, true, []};
 ghost use Rattle.rs_policy.specs.Configuration.{written_out};
+ghost use Rattle.rs_policy.specs.Patterns.{number_for, is_peer, pattern_for, large_pattern_for, names_peer, large_names_peer, tests_name_peer};
+ghost use Rattle.rs_policy.specs.Verdicts.{named_by, takes_all};
 
 use crate::config::shared_rules::SharedRules;
+use rs_attrs::{CommunityPattern, LargeCommunityPattern};
 use rs_octets::Prefix;
 use std::marker::Model;
 
@@ -16,46 +19,145 @@ pub(crate) enum Disposition {
     Drop,
 }
 
-/// Communities (RFC 1997).
-#[derive(Debug, Drop)]
-pub(crate) struct Communities {
-    numbers: Vec<u32>,
+/// A part of a community that a rule tests.
+#[derive(Clone, Copy, Debug, PartialEq, Eq)]
+pub(crate) enum Part {
+    Number(u32),
+    /// Any number.
+    Any,
+    /// The AS number of the client to which the route goes.
+    Peer,
 }
 
-impl Model for Communities {
-    ghost use Rattle.std.specs.Prelude.{List, ℕ};
-
-    ghost Value = { List ℕ };
-
-    ghost view = { λ c. c.numbers.items };
+/// Which communities (RFC 1997) a rule asks for: the first and the last 16 bits.
+#[derive(Clone, Copy, Debug, PartialEq, Eq)]
+pub(crate) struct CommunityTest {
+    pub(crate) high: Part,
+    pub(crate) low: Part,
 }
 
-impl Communities {
-    pub(crate) fn of(numbers: Vec<u32>) -> Communities
-        ensures { result ≡ numbers.items }
+/// Which large communities (RFC 8092) a rule asks for: the Global Administrator and the local data.
+#[derive(Clone, Copy, Debug, PartialEq, Eq)]
+pub(crate) struct LargeCommunityTest {
+    pub(crate) global: Part,
+    pub(crate) first: Part,
+    pub(crate) second: Part,
+}
+
+impl Part {
+    /// The number that it has to be, on the way to a client with this AS number.
+    fn number_for(self, to_as: u32) -> Option<u32>
+        ensures { result ≡ number_for to_as self }
     {
-        Communities { numbers }
+        match self {
+            Part::Number(number) => Some(number),
+            Part::Any => None,
+            Part::Peer => Some(to_as),
+        }
     }
 
-    pub(crate) fn numbers(&self) -> &[u32]
+    fn is_peer(self) -> bool
+        ensures { result ≡ is_peer self }
+    {
+        matches!(self, Part::Peer)
+    }
+}
+
+impl CommunityTest {
+    /// What it asks for on the way to a client with this AS number.
+    pub(crate) fn pattern_for(self, to_as: u32) -> CommunityPattern
+        ensures { result ≡ pattern_for to_as self }
+    {
+        CommunityPattern {
+            high: self.high.number_for(to_as),
+            low: self.low.number_for(to_as),
+        }
+    }
+
+    fn names_peer(self) -> bool
+        ensures { result ≡ names_peer self }
+    {
+        self.high.is_peer() || self.low.is_peer()
+    }
+}
+
+impl LargeCommunityTest {
+    /// What it asks for on the way to a client with this AS number.
+    pub(crate) fn pattern_for(self, to_as: u32) -> LargeCommunityPattern
+        ensures { result ≡ large_pattern_for to_as self }
+    {
+        LargeCommunityPattern {
+            global: self.global.number_for(to_as),
+            first: self.first.number_for(to_as),
+            second: self.second.number_for(to_as),
+        }
+    }
+
+    fn names_peer(self) -> bool
+        ensures { result ≡ large_names_peer self }
+    {
+        self.global.is_peer() || self.first.is_peer() || self.second.is_peer()
+    }
+}
+
+/// Patterns of communities or of large communities.
+#[derive(Debug, Drop)]
+pub(crate) struct Patterns<P> {
+    patterns: Vec<P>,
+}
+
+impl<P> Model for Patterns<P> {
+    ghost use Rattle.std.specs.Prelude.{List};
+
+    ghost Value = { List P };
+
+    ghost view = { λ p. p.patterns.items };
+}
+
+impl<P> Patterns<P> {
+    pub(crate) fn of(patterns: Vec<P>) -> Patterns<P>
+        ensures { result ≡ patterns.items }
+    {
+        Patterns { patterns }
+    }
+
+    fn as_slice(&self) -> &[P]
         ensures { result.now ≡ self.now }
     {
-        &self.numbers
+        &self.patterns
     }
 }
 
-/// Which communities a rule takes away.
+/// Which communities, or which large communities, a rule takes away.
 #[derive(Debug, Drop)]
-pub(crate) enum Stripping {
-    Named(Communities),
+pub(crate) enum Stripping<P> {
+    Named(Patterns<P>),
     All,
+}
+
+impl<P> Stripping<P> {
+    /// The patterns of those that are taken away, where not all are.
+    pub(crate) fn named(&self) -> &[P]
+        ensures { result.now ≡ named_by self.now }
+    {
+        match self {
+            Stripping::Named(patterns) => patterns.as_slice(),
+            Stripping::All => &[],
+        }
+    }
+
+    pub(crate) fn takes_all(&self) -> bool
+        ensures { result ≡ takes_all self.now }
+    {
+        matches!(self, Stripping::All)
+    }
 }
 
 /// What a rule does with a route that it matches.
 #[derive(Debug, Drop)]
 pub(crate) enum Action {
     Drop,
-    Pass(Option<u32>, Stripping),
+    Pass(Option<u32>, Stripping<CommunityPattern>, Stripping<LargeCommunityPattern>),
 }
 
 /// The routes within a prefix whose lengths are from `min` to `max`.
@@ -81,8 +183,27 @@ pub(crate) struct Tests {
     /// The place of a list with AS numbers, from 0.
     pub(crate) origin_in: Option<usize>,
     pub(crate) first_as_is_peer: Option<bool>,
-    pub(crate) community: Option<u32>,
+    pub(crate) community: Option<CommunityTest>,
+    pub(crate) large_community: Option<LargeCommunityTest>,
     pub(crate) next_hop_is_peer: Option<bool>,
+}
+
+impl Tests {
+    /// Whether a part of one is `peer`.
+    #[tactic(auto, unfolding(crate::specs::Patterns::tests_name_peer))]
+    pub(crate) fn name_peer(&self) -> bool
+        ensures { result ≡ tests_name_peer self.now }
+    {
+        if let Some(test) = self.community
+            && test.names_peer()
+        {
+            return true;
+        }
+        match self.large_community {
+            None => false,
+            Some(test) => test.names_peer(),
+        }
+    }
 }
 
 /// A rule: it matches the routes of its range where all of its tests hold.

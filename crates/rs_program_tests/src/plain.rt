@@ -8,6 +8,7 @@
 mod asking;
 mod candidates;
 mod choice;
+mod communities;
 mod meaning;
 mod passing;
 mod rules;
@@ -32,6 +33,8 @@ enum Sentence {
     Import,
     /// The client's export rules pass it.
     Export,
+    /// In its export rules `peer` is its AS number.
+    Receiver,
     /// It is passed on without the communities that the rules take away.
     Stripped,
     /// The UPDATE that announces it is no longer than a message to the client may be.

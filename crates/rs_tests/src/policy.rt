@@ -4,6 +4,7 @@ mod examples;
 mod faults;
 mod lists;
 mod matching;
+mod patterns;
 mod replacing;
 mod routes;
 mod shared;

@@ -114,7 +114,7 @@ so_far_end mode field seen faulted done rest had stops =
     let all : done ≡ spellings_of field = so_far_all mode field seen faulted done rest had stops in
     let left : rest ≡ rest_of field = sym (had.behind ∙ stops.1) in
     let firsts : with_flaw faulted (cut_off rest) ≡ firsts_of (flaws_of field mode) =
-        (λ i. with_flaw ((had.firsts ∙ ap (λ ss. firsts_of (flaws_behind mode [] ss)) all) i) (cut_off (left i)))
-        ∙ sym (firsts_more (flaws_behind mode [] (spellings_of field)) (cut_off (rest_of field))) in
+    (λ i. with_flaw ((had.firsts ∙ ap (λ ss. firsts_of (flaws_behind mode [] ss)) all) i) (cut_off (left i)))
+    ∙ sym (firsts_more (flaws_behind mode [] (spellings_of field)) (cut_off (rest_of field))) in
     let came = had.came types.mp_reach_nlri ∙ ap (comes_among types.mp_reach_nlri) all in
     λ i. record (firsts i) { mp_reach = came i }

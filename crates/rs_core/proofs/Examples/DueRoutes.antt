@@ -142,7 +142,7 @@ reset = refl
 abbrev rule : Rule
 rule = record {
   range = None;
-  tests = record { prefix_in = None; from = Some 0; path_has = None; path_longer = None; path_in = None; origin_as = None; origin_in = None; first_as_is_peer = None; community = None; next_hop_is_peer = None };
+  tests = record { prefix_in = None; from = Some 0; path_has = None; path_longer = None; path_in = None; origin_as = None; origin_in = None; first_as_is_peer = None; community = None; large_community = None; next_hop_is_peer = None };
   action = actions.Drop;
 }
 

@@ -58,7 +58,7 @@ ranks_alike s n c p f g x y k (suc left) sum same = elim (equal_or k c) [
 
 place_by : (t : Held) (c from : ℕ) (m : List Attribute) (j : Judgement) (r : Rank) → from ≢ c → rank_by t from m j ≡ Some r → r.place ≢ c
 place_by t c from m dropped r ne e = absurd (let f : None ≡ Some r = e in (cc))
-place_by t c from m (passed preference lists all) r ne e = subst (λ k. k ≢ c) (ap (λ o. (unwrap_or o r).place) e) ne
+place_by t c from m (passed preference taken) r ne e = subst (λ k. k ≢ c) (ap (λ o. (unwrap_or o r).place) e) ne
 
 place_to : (t : Held) (c : ℕ) (p : Prefix) (h : ℕ × List Attribute) (b d : Bool) (r : Rank) → (h.0 == c) ≡ b → (if b || d then None else rank_by t h.0 h.1 (verdict t.settings h.0 c p h.1)) ≡ Some r → r.place ≢ c
 place_to t c p h true d r is e = absurd (let f : None ≡ Some r = e in (cc))
@@ -106,7 +106,7 @@ by_best s n c speech p f g x y (Some r) same = ap (λ w. route_from (held_as s n
 
 place_is_by : (t : Held) (from : ℕ) (m : List Attribute) (j : Judgement) (r : Rank) → rank_by t from m j ≡ Some r → r.place ≡ from
 place_is_by t from m dropped r e = absurd (let f : ◌≡◌ {A = Option Rank} None (Some r) = e in (cc))
-place_is_by t from m (passed preference lists all) r e = sym (ap (λ o. (unwrap_or o r).place) e)
+place_is_by t from m (passed preference taken) r e = sym (ap (λ o. (unwrap_or o r).place) e)
 
 place_is : (t : Held) (c : ℕ) (p : Prefix) (h : ℕ × List Attribute) (b : Bool) (r : Rank) → (if b then None else rank_by t h.0 h.1 (verdict t.settings h.0 c p h.1)) ≡ Some r → r.place ≡ h.0
 place_is t c p h true r e = absurd (let f : ◌≡◌ {A = Option Rank} None (Some r) = e in (cc))

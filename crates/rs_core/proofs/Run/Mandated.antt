@@ -4,7 +4,7 @@ use Rattle.std.specs.Prelude.{Option, Some, None, is_none, nat_le, length, [], �
 use Rattle.rs_octets.specs.Prefixes.{Prefix}
 use Rattle.rs_attrs.specs.Meaning.{Attribute}
 use Rattle.rs_attrs.specs.Effects.{lacks_mandatory}
-use Rattle.rs_attrs.specs.Stripping.{stripped_of}
+use Rattle.rs_attrs.specs.Stripping.{Taken, stripped_of}
 use Rattle.rs_attrs.proofs.Strips.StrippedLaws.{others_stay}
 use Rattle.rs_open.specs.Notes.{limit_octets}
 use Rattle.rs_adjin.specs.AdjIns.{held_of}
@@ -24,9 +24,9 @@ none_some m e = cc
 some_is : (k m : List Attribute) → ◌≡◌ {A = Option (List Attribute)} (Some k) (Some m) → k ≡ m
 some_is k m e = cc
 
-stripped_mandatory : (lists : List (List ℕ)) (all : Bool) (m : List Attribute) → lacks_mandatory (stripped_of lists all m) ≡ lacks_mandatory m
-stripped_mandatory lists all m =
-    λ i. is_none (others_stay lists all 1 m (λ e. cc) i) || is_none (others_stay lists all 2 m (λ e. cc) i) || is_none (others_stay lists all 3 m (λ e. cc) i)
+stripped_mandatory : (t : Taken) (m : List Attribute) → lacks_mandatory (stripped_of t m) ≡ lacks_mandatory m
+stripped_mandatory t m =
+    λ i. is_none (others_stay t 1 m (λ e. cc) (λ e. cc) i) || is_none (others_stay t 2 m (λ e. cc) (λ e. cc) i) || is_none (others_stay t 3 m (λ e. cc) (λ e. cc) i)
 
 held_mandatory : (ins : AdjIns) (from : ℕ) (p : Prefix) (m : List Attribute) → held_of ins from p ≡ Some m → lacks_mandatory m ≡ false
 unfolding held_of
@@ -38,9 +38,9 @@ fits_is false k m e = absurd (none_some m e)
 
 passed_mandatory : (speech : Speech) (p : Prefix) (n m : List Attribute) (j : Judgement) → lacks_mandatory n ≡ false → option_and_then (if_fits speech p) (passed_on n j) ≡ Some m → lacks_mandatory m ≡ false
 passed_mandatory speech p n m dropped has e = absurd (none_some m e)
-passed_mandatory speech p n m (passed preference lists all) has e =
-    let k : List Attribute = stripped_of lists all n in
-    ap lacks_mandatory (sym (fits_is (nat_le (length (announcement k speech.mode (p ∷ []))) (limit_octets speech.limit)) k m e)) ∙ stripped_mandatory lists all n ∙ has
+passed_mandatory speech p n m (passed preference taken) has e =
+    let k : List Attribute = stripped_of taken n in
+    ap lacks_mandatory (sym (fits_is (nat_le (length (announcement k speech.mode (p ∷ []))) (limit_octets speech.limit)) k m e)) ∙ stripped_mandatory taken n ∙ has
 
 route_mandatory : (config : Configuration) (ins : AdjIns) (c : ℕ) (speech : Speech) (p : Prefix) (from : ℕ) (m : List Attribute) → route_from (tables_of config ins) c speech p from ≡ Some m → lacks_mandatory m ≡ false
 route_mandatory config ins c speech p from m e = by_held (held_of ins from p) refl e where

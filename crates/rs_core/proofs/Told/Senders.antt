@@ -1,15 +1,16 @@
 -- Each route that is due to a client is another client's, as that one announced it.
-use Rattle.std.proofs.Common.{◌≡◌, ◌≢◌, ◌<◌, ◌==◌, ℕ, Bool, true, false, List, [], ◌∷◌, ◌++◌, length, refl, ◌∙◌, ap, subst, arith, eqb-true, slice_get}
+use Rattle.std.proofs.Common.{◌≡◌, ◌≢◌, ◌<◌, ◌==◌, ℕ, Bool, true, false, List, [], ◌∷◌, ◌++◌, length, refl, sym, ◌∙◌, ap, subst, arith, eq-eqb, eqb-true, inl, inr, slice_get}
 use Rattle.std.specs.Prelude.{Option, Some, None, nat_le, option_and_then, if◌then◌else◌}
 use Rattle.std.specs.List.{flat_map}
 use Rattle.std.specs.Int.{w32, to_be_bytes}
-use Rattle.std.proofs.lemmas.Bool.{ne_eqb}
 use Rattle.rs_octets.specs.Prefixes.{Prefix}
 use Rattle.rs_attrs.specs.Meaning.{Attribute, AllAbove, IsRising, get}
 use Rattle.rs_attrs.specs.Paths.{quads}
-use Rattle.rs_attrs.specs.Stripping.{stripped_of, unstripped, with_communities}
+use Rattle.rs_attrs.specs.Patterns.{large_communities_in, parts_of}
+use Rattle.rs_attrs.specs.Stripping.{Taken, left_of, numbers_left, stripped_of, unstripped, unstripped_large, with_numbers}
 use Rattle.rs_attrs.specs.Writing.{with_value}
-use Rattle.rs_attrs.proofs.Strips.StrippedLaws.{others_stay}
+use Rattle.rs_attrs.proofs.Strips.Communities.{left_is}
+use Rattle.rs_attrs.proofs.Strips.StrippedLaws.{get_above, get_skips, others_stay}
 use Rattle.rs_attrs.proofs.Strips.StrippedLegal.{stripped_above}
 use Rattle.rs_update.proofs.OneEffect.{mean_one_table}
 use Rattle.rs_open.specs.Notes.{limit_octets}
@@ -21,38 +22,42 @@ use Rattle.rs_outlet.specs.declared.answers.Speech.{Speech}
 use Rattle.rs_outlet.specs.Decided.Due.{holders_at, if_fits, passed_on, ranks_among, route_from}
 use Rattle.rs_core.specs.Run.Moves.{Move, config_in}
 use Rattle.rs_core.specs.Run.Meaning.{due_by, held_in, hearing, speech_in, table}
-use Rattle.rs_core.specs.Told.Senders.{ArePassedOn, DueRoutesAreTheSenders, IsSendersRoute, ToldRoutesAreTheSenders, communities_left}
+use Rattle.rs_core.specs.Told.Senders.{ArePassedOn, DueRoutesAreTheSenders, IsSendersRoute, ToldRoutesAreTheSenders, communities_left, large_communities_left}
 use Rattle.rs_core.proofs.Run.Dues.{best_kept, first_of_all, holders_below, others_among, ranks_below}
 use Rattle.rs_core.proofs.Session.RisingTypes.{held_rising}
 
--- ---- what is left of COMMUNITIES
+-- ---- what is left of COMMUNITIES and LARGE_COMMUNITY
 
-none_above : (kind : ℕ) (m : List Attribute) → AllAbove kind m → get kind m ≡ None
-none_above kind [] above = refl
-none_above kind (a ∷ m) above =
-    let higher : kind < a.kind = above.0 in
-    ap (λ b. if b then Some a else get kind m) (ne_eqb a.kind kind (λ e. absurd (omega (arith, e, higher)))) ∙ none_above kind m above.1
+here_left : (a : Attribute) (k : ℕ) (numbers : List ℕ) (m : List Attribute) → (a.kind == k) ≡ true → get k m ≡ None → get k (with_numbers a numbers ++ m) ≡ slice_get (with_numbers a numbers) 0
+here_left a k [] m here none = none
+here_left a k (n ∷ numbers) m here none = ap (λ b. if b then Some (with_value a (flat_map (to_be_bytes w32) (n ∷ numbers))) else get k m) here
 
-here_left : (a : Attribute) (communities : List ℕ) (m : List Attribute) → (a.kind == 8) ≡ true → get 8 m ≡ None → get 8 (with_communities a communities ++ m) ≡ slice_get (with_communities a communities) 0
-here_left a [] m here none = none
-here_left a (x ∷ communities) m here none = ap (λ b. if b then Some (with_value a (flat_map (to_be_bytes w32) (x ∷ communities))) else get 8 m) here
+module _ (t : Taken) (k : ℕ) (left : Attribute → List ℕ) (is : (a : Attribute) → a.kind ≡ k → left_of t a ≡ with_numbers a (left a)) where
+  left_at : (m : List Attribute) → IsRising m → get k (stripped_of t m) ≡ option_and_then (λ a. slice_get (with_numbers a (left a)) 0) (get k m)
+  left_at [] rising = refl
+  left_at (a ∷ m) rising = by_kind (a.kind == k) refl (left_at m rising.1) where
+    by_kind : (b : Bool) → (a.kind == k) ≡ b → get k (stripped_of t m) ≡ option_and_then (λ a. slice_get (with_numbers a (left a)) 0) (get k m)
+        → get k (left_of t a ++ stripped_of t m) ≡ option_and_then (λ a. slice_get (with_numbers a (left a)) 0) (if b then Some a else get k m)
+    by_kind true e later =
+        ap (λ kept. get k (kept ++ stripped_of t m)) (is a (eqb-true a.kind k e))
+        ∙ here_left a k (left a) (stripped_of t m) e (get_above k (stripped_of t m) (stripped_above t k m (subst (λ j. AllAbove j m) (eqb-true a.kind k e) rising.0)))
+    by_kind false e later = get_skips t k a (stripped_of t m) (λ same. absurd (let here : true ≡ false = sym (eq-eqb a.kind k same) ∙ e in (cc))) ∙ later
 
-communities_are : (lists : List (List ℕ)) (all : Bool) (m : List Attribute) → IsRising m → get 8 (stripped_of lists all m) ≡ communities_left lists all (get 8 m)
-communities_are lists all [] rising = refl
-communities_are lists all (a ∷ m) rising = by_kind (a.kind == 8) refl (communities_are lists all m rising.1) where
-  by_kind : (b : Bool) → (a.kind == 8) ≡ b → get 8 (stripped_of lists all m) ≡ communities_left lists all (get 8 m)
-      → get 8 ((if b then with_communities a (unstripped lists all (quads a.value)) else a ∷ []) ++ stripped_of lists all m) ≡ communities_left lists all (if b then Some a else get 8 m)
-  by_kind true e later = here_left a (unstripped lists all (quads a.value)) (stripped_of lists all m) e
-      (none_above 8 (stripped_of lists all m) (stripped_above lists all 8 m (subst (λ k. AllAbove k m) (eqb-true a.kind 8 e) rising.0)))
-  by_kind false e later = ap (λ b. if b then Some a else get 8 (stripped_of lists all m)) e ∙ later
+communities_are : (t : Taken) (m : List Attribute) → IsRising m → get 8 (stripped_of t m) ≡ communities_left t (get 8 m)
+communities_are t = left_at t 8 (λ a. unstripped t (quads a.value)) (λ a kind. left_is t a (inl kind) ∙ ap (λ k. with_numbers a (numbers_left t k (quads a.value))) kind)
 
-stripped_passed : (lists : List (List ℕ)) (all : Bool) (m : List Attribute) → IsRising m → ArePassedOn lists all m (stripped_of lists all m)
-stripped_passed lists all m rising = record {
-  next_hop = others_stay lists all 3 m (λ e. cc);
-  as_path = others_stay lists all 2 m (λ e. cc);
-  multi_exit_disc = others_stay lists all 4 m (λ e. cc);
-  others = λ kind other. others_stay lists all kind m other;
-  communities = communities_are lists all m rising;
+large_communities_are : (t : Taken) (m : List Attribute) → IsRising m → get 32 (stripped_of t m) ≡ large_communities_left t (get 32 m)
+large_communities_are t =
+    left_at t 32 (λ a. flat_map parts_of (unstripped_large t (large_communities_in a.value))) (λ a kind. left_is t a (inr kind) ∙ ap (λ k. with_numbers a (numbers_left t k (quads a.value))) kind)
+
+stripped_passed : (t : Taken) (m : List Attribute) → IsRising m → ArePassedOn t m (stripped_of t m)
+stripped_passed t m rising = record {
+  next_hop = others_stay t 3 m (λ e. cc) (λ e. cc);
+  as_path = others_stay t 2 m (λ e. cc) (λ e. cc);
+  multi_exit_disc = others_stay t 4 m (λ e. cc) (λ e. cc);
+  others = λ kind other another. others_stay t kind m other another;
+  communities = communities_are t m rising;
+  large_communities = large_communities_are t m rising;
 }
 
 -- ---- the route of a sender
@@ -68,19 +73,18 @@ module _ (run : List Move) (c : ℕ) (speech : Speech) (p : Prefix) (m : List At
   by_verdict : (from : ℕ) → from < length (config_in run).clients → from ≢ c → (n : List Attribute) → table run from p ≡ Some n → (j : Judgement) → verdict (config_in run) from c p n ≡ j
       → option_and_then (if_fits speech p) (passed_on n j) ≡ Some m → IsSendersRoute run c p m
   by_verdict from client another n holds dropped is e = absurd (none_some m e)
-  by_verdict from client another n holds (passed preference lists all) is e = record {
+  by_verdict from client another n holds (passed preference taken) is e = record {
     sender = from;
     client = client;
     another = another;
     announced = n;
     holds = holds;
     preference = preference;
-    lists = lists;
-    all = all;
+    taken = taken;
     rules = is;
-    attributes = subst (ArePassedOn lists all n)
-        (fits_is (nat_le (length (announcement (stripped_of lists all n) speech.mode (p ∷ []))) (limit_octets speech.limit)) (stripped_of lists all n) m e)
-        (stripped_passed lists all n (held_rising run from p n holds));
+    attributes = subst (ArePassedOn taken n)
+        (fits_is (nat_le (length (announcement (stripped_of taken n) speech.mode (p ∷ []))) (limit_octets speech.limit)) (stripped_of taken n) m e)
+        (stripped_passed taken n (held_rising run from p n holds));
   }
 
   by_sender : (from : ℕ) → from < length (config_in run).clients → from ≢ c → (w : Option (List Attribute)) → table run from p ≡ w

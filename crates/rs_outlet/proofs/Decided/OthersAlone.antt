@@ -61,7 +61,7 @@ module _ (settings : Configuration) (count c : ℕ) (p : Prefix) (held has : ℕ
 
   rank_alike : (k : ℕ) (m : List Attribute) (j : Judgement) → id k ≡ ident k → rank_by one k m j ≡ rank_by two k m j
   rank_alike k m dropped e = refl
-  rank_alike k m (passed preference lists all) e = λ i. Some (record {
+  rank_alike k m (passed preference taken) e = λ i. Some (record {
     preference = preference;
     path_len = path_length_of m;
     origin = unwrap_or (origin_of m) 0;

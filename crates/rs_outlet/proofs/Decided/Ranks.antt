@@ -25,7 +25,7 @@ use Rattle.rs_outlet.specs.Decided.Due.{Held, any_holds, rank_by, rank_of, rank_
 
 place_by : (t : Held) (from : ℕ) (m : List Attribute) (j : Judgement) (r : Rank) → rank_by t from m j ≡ Some r → r.place ≡ from
 place_by t from m dropped r e = cc e
-place_by t from m (passed preference lists all) r e = sym (ap (λ o. (unwrap_or o r).place) e)
+place_by t from m (passed preference taken) r e = sym (ap (λ o. (unwrap_or o r).place) e)
 
 place_if : (b : Bool) (t : Held) (from : ℕ) (m : List Attribute) (j : Judgement) (r : Rank) → (if b then None else rank_by t from m j) ≡ Some r → r.place ≡ from
 place_if true t from m j r e = cc e
@@ -175,7 +175,7 @@ best_of_one r =
 alone_by : (t : Held) (c : ℕ) (speech : Speech) (p : Prefix) (h : ℕ × List Attribute) (j : Judgement) → verdict t.settings h.0 c p h.1 ≡ j → t.held h.0 p ≡ Some h.1
     → from_best t c speech p (best_of (cons_option (rank_by t h.0 h.1 j) [])) ≡ option_and_then (if_fits speech p) (passed_on h.1 j)
 alone_by t c speech p h dropped is held = ap (from_best t c speech p) none_best
-alone_by t c speech p h (passed preference lists all) is held =
+alone_by t c speech p h (passed preference taken) is held =
     ap (from_best t c speech p) (best_of_one (rank_of t h.0 h.1 preference)) ∙ ap (passed_from t c speech p h.0) held
     ∙ ap (λ j. option_and_then (if_fits speech p) (passed_on h.1 j)) is
 

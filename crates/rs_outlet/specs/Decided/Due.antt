@@ -36,7 +36,7 @@ rank_of t from m preference = record {
 
 abbrev pub rank_by : Held → ℕ → List Attribute → Judgement → Option Rank
 rank_by t from m dropped = None
-rank_by t from m (passed preference lists all) = Some (rank_of t from m preference)
+rank_by t from m (passed preference taken) = Some (rank_of t from m preference)
 
 -- a candidate: not the client's own, without the server's AS in its path, and passed by the rules
 abbrev pub rank_to : Held → ℕ → Prefix → ℕ × List Attribute → Option Rank
@@ -54,7 +54,7 @@ holders_at t p = holders_from (λ d. t.held d p) 0 t.count
 -- without what the rules take away
 abbrev pub passed_on : List Attribute → Judgement → Option (List Attribute)
 passed_on m dropped = None
-passed_on m (passed preference lists all) = Some (stripped_of lists all m)
+passed_on m (passed preference taken) = Some (stripped_of taken m)
 
 -- what fits into a message to the client that announces this prefix alone
 abbrev pub if_fits : Speech → Prefix → List Attribute → Option (List Attribute)

@@ -4,23 +4,24 @@ ghost use Rattle.std.specs.Prelude.{◌≡◌, IfOk, option_map, position, bytes
 ghost use Rattle.toml.specs.View.{view};
 ghost use Rattle.rs_policy.specs.Seen.{data_of};
 ghost use Rattle.rs_policy.specs.Values.{list_of, text_as, answer, Answers, value_or};
-ghost use Rattle.rs_policy.specs.Rules.{ases_named, client_named, prefixes_named, range_checks, range_of, test_checks, tests_of, communities_of, stripping_of, strip_at, action_checks, action_of, rule_checks, rule_of};
-ghost use Rattle.rs_policy.specs.Documents.{shared_named, use_at, use_checks};
+ghost use Rattle.rs_policy.specs.Rules.{ases_named, client_named, prefixes_named, list_has_receiver, has_receiver, range_checks, range_of, test_checks, tests_of, each_read, stripping_of, stripping_at, strip_at, strip_large_at, action_checks, action_of, rule_checks, rule_of};
+ghost use Rattle.rs_policy.specs.Documents.{may_stand, rules_name_peer, shared_named, use_at, use_checks};
 
 use crate::config::arrays::{array_in, is_longer, refuse_others};
 use crate::config::clients::Client;
 use crate::config::named_lists::NamedList;
 use crate::config::shared_rules::SharedRules;
 use crate::config::values::{
-    ANY, CommunityText, Flag, Kind, Length, Nothing, POSITIVE, PassOrDrop, PrefixText, find, maybe,
-    optional, required,
+    ANY, CommunityText, Flag, Kind, LargeCommunityText, LargePatternText, Length, Nothing,
+    POSITIVE, PassOrDrop, PatternText, PrefixText, find, maybe, optional, required,
 };
-use crate::faults::{ConfigFault, Key, Place};
-use crate::rules::{Action, Communities, Disposition, Range, Rule, Stripping, Tests};
+use crate::faults::{ConfigFault, Key, List, Place, Table};
+use crate::rules::{Action, Disposition, Patterns, Range, Rule, Stripping, Tests};
+use rs_attrs::{CommunityPattern, LargeCommunityPattern};
 use std::alloc::{AllocError, Global};
 use toml::value::Value;
 
-const KEYS: [Key; 16] = [
+const KEYS: [Key; 18] = [
     Key::Prefix,
     Key::Min,
     Key::Max,
@@ -33,10 +34,12 @@ const KEYS: [Key; 16] = [
     Key::OriginIn,
     Key::FirstAsIsPeer,
     Key::Community,
+    Key::LargeCommunity,
     Key::NextHopIsPeer,
     Key::Action,
     Key::Preference,
     Key::Strip,
+    Key::StripLarge,
 ];
 
 /// Names of clients, as their places from 0.
@@ -101,26 +104,63 @@ fn as_list_of(lists: &[NamedList], name: &str) -> Option<usize>
         .position(|list| list.name.as_str() == name && list.ases.is_some())
 }
 
-/// Names of rules that others use, as their places from 0.
+/// Names of rules that may stand in a list, as their places from 0.
 #[derive(Clone, Copy)]
 struct SharedOf<'a> {
     shared: &'a [SharedRules],
+    /// Whether they may name the receiver.
+    receiver: bool,
 }
 
 impl Kind for SharedOf<'_> {
     type Out = usize;
 
-    ghost reads = { λ k. text_as (shared_named k.shared.now) };
+    ghost reads = { λ k. text_as (shared_named k.receiver k.shared.now) };
 
     fn read(&self, value: &Value) -> Option<usize> {
-        shared_of(self.shared, value.as_str()?)
+        shared_of(self.shared, self.receiver, value.as_str()?)
     }
 }
 
-fn shared_of(shared: &[SharedRules], name: &str) -> Option<usize>
-    ensures { result ≡ shared_named shared.now name.now }
+fn shared_of(shared: &[SharedRules], receiver: bool, name: &str) -> Option<usize>
+    ensures { result ≡ shared_named receiver shared.now name.now }
 {
-    shared.iter().position(|rules| rules.name.as_str() == name)
+    shared.iter().position(|used| used.name.as_str() == name && may_stand(&used.rules, receiver))
+}
+
+/// Whether a part of a test of these rules is `peer`.
+fn rules_name_peer(rules: &[Rule]) -> bool
+    ensures { result ≡ rules_name_peer rules.now }
+{
+    rules.iter().any(|rule| rule.tests.name_peer())
+}
+
+/// Whether these rules may stand in a list that has a receiver or hasn't.
+fn may_stand(rules: &[Rule], receiver: bool) -> bool
+    ensures { result ≡ may_stand receiver rules.now }
+{
+    receiver || !rules_name_peer(rules)
+}
+
+fn list_has_receiver(list: List) -> bool
+    ensures { result ≡ list_has_receiver list }
+{
+    match list {
+        List::Import => false,
+        List::Export => true,
+        List::Shared => true,
+    }
+}
+
+/// Whether a rule at this place is asked for one receiver: that of an import list is asked for all.
+fn has_receiver(here: Place) -> bool
+    ensures { result ≡ has_receiver here.table }
+{
+    match here.table {
+        Table::Rule(_, list, _) => list_has_receiver(list),
+        Table::Top | Table::Client(_) | Table::Rules(_) | Table::List(_) | Table::Entry(_, _) =>
+            false,
+    }
 }
 
 /// The client with this name, from 0.
@@ -160,6 +200,7 @@ fn read_tests(
 ) -> Result<Tests, ConfigFault>
     ensures { result ≡ answer (test_checks clients.now lists.now here (view table.now)) (tests_of clients.now lists.now here (view table.now)) }
 {
+    let peer = has_receiver(here);
     Ok(Tests {
         prefix_in: maybe(table, here, Key::PrefixIn, PrefixListOf { lists })?,
         from: maybe(table, here, Key::From, NameOf { clients })?,
@@ -169,31 +210,50 @@ fn read_tests(
         origin_as: maybe(table, here, Key::OriginAs, POSITIVE)?,
         origin_in: maybe(table, here, Key::OriginIn, AsListOf { lists })?,
         first_as_is_peer: maybe(table, here, Key::FirstAsIsPeer, Flag)?,
-        community: maybe(table, here, Key::Community, CommunityText)?,
+        community: maybe(table, here, Key::Community, CommunityText { peer })?,
+        large_community: maybe(
+            table,
+            here,
+            Key::LargeCommunity,
+            LargeCommunityText { peer },
+        )?,
         next_hop_is_peer: maybe(table, here, Key::NextHopIsPeer, Flag)?,
     })
 }
 
-fn communities_of(alloc: Global, values: &[Value]) -> Result<Option<Communities>, AllocError>
-    ensures { IfOk result (λ o. o ≡ communities_of (data_of values.now)) }
+/// What each of some values is, where each is one.
+fn each_read<K: Kind>(
+    alloc: Global,
+    values: &[Value],
+    kind: &K,
+) -> Result<Option<Patterns<K::Out>>, AllocError>
+where
+    K::Out: Drop,
+    ensures { IfOk result (λ o. o ≡ each_read (K.reads kind.now) (data_of values.now)) }
 {
-    let mut numbers = Vec::with_capacity(alloc, values.len())?;
+    let mut patterns = Vec::with_capacity(alloc, values.len())?;
     for value in values {
-        let Some(number) = CommunityText.read(value) else {
+        let Some(pattern) = kind.read(value) else {
             return Ok(None);
         };
-        numbers.push(number)?;
+        patterns.push(pattern)?;
     }
-    Ok(Some(Communities::of(numbers)))
+    Ok(Some(Patterns::of(patterns)))
 }
 
-fn stripping_of(alloc: Global, value: &Value) -> Result<Option<Stripping>, AllocError>
-    ensures { IfOk result (λ o. o ≡ stripping_of (view value.now)) }
+fn stripping_of<K: Kind>(
+    alloc: Global,
+    value: &Value,
+    kind: &K,
+) -> Result<Option<Stripping<K::Out>>, AllocError>
+where
+    K::Out: Drop,
+    ensures { IfOk result (λ o. o ≡ stripping_of (K.reads kind.now) (view value.now)) }
 {
     if let Some(values) = array_in(value) {
-        return match communities_of(alloc, values)? {
+        return match each_read(alloc, values, kind)? {
             None => Ok(None),
-            Some(communities) => Ok(Some(Stripping::Named(communities))),
+            Some(patterns) => Ok(Some(Stripping::Named(patterns))),
         };
     }
     match value.as_str() {
@@ -202,21 +262,23 @@ fn stripping_of(alloc: Global, value: &Value) -> Result<Option<Stripping>, Alloc
     }
 }
 
-#[tactic(auto, unfolding(crate::specs::Rules::strip_at))]
-fn read_strip(
+/// What a table has at `strip` or `strip_large`.
+#[tactic(auto, unfolding(crate::specs::Rules::stripping_at))]
+fn read_stripping<K: Kind>(
     alloc: Global,
     table: &Value,
     here: Place,
+    key: Key,
     disposition: Disposition,
-) -> Result<Stripping, ConfigFault>
-    ensures { Answers result (strip_at disposition here (view table.now)) }
+    kind: &K,
+) -> Result<Stripping<K::Out>, ConfigFault>
+where
+    K::Out: Drop,
+    ensures { Answers result (stripping_at (K.reads kind.now) key disposition here (view table.now)) }
 {
-    let place = Place {
-        key: Key::Strip,
-        ..here
-    };
-    let Some(value) = find(table, Key::Strip) else {
-        return Ok(Stripping::Named(Communities::of(Vec::new(alloc))));
+    let place = Place { key, ..here };
+    let Some(value) = find(table, key) else {
+        return Ok(Stripping::Named(Patterns::of(Vec::new(alloc))));
     };
     if is_longer(value, 64) {
         return Err(ConfigFault::TooMany(place));
@@ -224,10 +286,41 @@ fn read_strip(
     if let Disposition::Drop = disposition {
         return Err(ConfigFault::BadValue(place));
     }
-    match stripping_of(alloc, value)? {
+    match stripping_of(alloc, value, kind)? {
         None => Err(ConfigFault::BadValue(place)),
         Some(stripping) => Ok(stripping),
     }
+}
+
+/// What a table takes out of COMMUNITIES.
+fn read_strip(
+    alloc: Global,
+    table: &Value,
+    here: Place,
+    disposition: Disposition,
+) -> Result<Stripping<CommunityPattern>, ConfigFault>
+    ensures { Answers result (strip_at disposition here (view table.now)) }
+{
+    read_stripping(alloc, table, here, Key::Strip, disposition, &PatternText)
+}
+
+/// What a table takes out of LARGE_COMMUNITY.
+fn read_strip_large(
+    alloc: Global,
+    table: &Value,
+    here: Place,
+    disposition: Disposition,
+) -> Result<Stripping<LargeCommunityPattern>, ConfigFault>
+    ensures { Answers result (strip_large_at disposition here (view table.now)) }
+{
+    read_stripping(
+        alloc,
+        table,
+        here,
+        Key::StripLarge,
+        disposition,
+        &LargePatternText,
+    )
 }
 
 #[tactic(auto, unfolding(crate::specs::Values::answer, crate::specs::Rules::action_checks, crate::specs::Rules::action_of))]
@@ -239,12 +332,14 @@ fn read_action(alloc: Global, table: &Value, here: Place) -> Result<Action, Conf
         Disposition::Drop => {
             maybe(table, here, Key::Preference, Nothing)?;
             read_strip(alloc, table, here, Disposition::Drop)?;
+            read_strip_large(alloc, table, here, Disposition::Drop)?;
             Ok(Action::Drop)
         }
         Disposition::Pass => {
             let preference = maybe(table, here, Key::Preference, ANY)?;
-            let stripping = read_strip(alloc, table, here, Disposition::Pass)?;
-            Ok(Action::Pass(preference, stripping))
+            let strip = read_strip(alloc, table, here, Disposition::Pass)?;
+            let strip_large = read_strip_large(alloc, table, here, Disposition::Pass)?;
+            Ok(Action::Pass(preference, strip, strip_large))
         }
     }
 }
@@ -280,7 +375,8 @@ pub(crate) fn read_use(
 ) -> Result<usize, ConfigFault>
     ensures { result ≡ answer (use_checks shared.now here (view table.now)) (value_or 0 (use_at shared.now here (view table.now))) }
 {
-    let place = required(table, here, Key::Use, SharedOf { shared })?;
+    let receiver = has_receiver(here);
+    let place = required(table, here, Key::Use, SharedOf { shared, receiver })?;
     refuse_others(table, here, &[Key::Use])?;
     Ok(place)
 }

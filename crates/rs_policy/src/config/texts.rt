@@ -2,9 +2,10 @@
 
 ghost use Rattle.std.specs.Prelude.{◌≡◌, ◌<◌, ◌^◌, ◌≤◌, option_map, position, ◌==◌, IfSome};
 ghost use Rattle.std.specs.List.{list_all};
-ghost use Rattle.rs_policy.specs.Texts.{number_to, is_digit, is_decimal, parted, octet, address_of, as_range_of, endpoint_of, lengths_of, prefix_of, prefix_range_of, ranged, community_of, is_name_octet, is_name};
+ghost use Rattle.rs_policy.specs.Texts.{number_to, is_digit, is_decimal, parted, octet, address_of, as_range_of, endpoint_of, lengths_of, prefix_of, prefix_range_of, ranged, part_of, last_part_of, community_of, local_data_of, large_community_of, pattern_of, large_pattern_of, is_name_octet, is_name};
 
-use crate::rules::Range;
+use crate::rules::{CommunityTest, LargeCommunityTest, Part, Range};
+use rs_attrs::{CommunityPattern, LargeCommunityPattern};
 use rs_octets::Prefix;
 
 fn are_digits(text: &[u8]) -> bool
@@ -170,15 +171,88 @@ pub(crate) fn as_range(text: &[u8]) -> Option<(u32, u32)>
     if low <= high { Some((low, high)) } else { None }
 }
 
-/// Two numbers of 16 bits with a colon between (RFC 1997).
+/// A part of a community: a number up to the highest, or `peer` where that may be one.
+fn part(text: &[u8], peer: bool, high: u32) -> Option<Part>
+    ensures { result ≡ part_of peer high text.now }
+{
+    if peer && text == b"peer".as_slice() {
+        return Some(Part::Peer);
+    }
+    match number(text, high) {
+        None => None,
+        Some(number) => Some(Part::Number(number)),
+    }
+}
+
+/// The last part of a community, which may be any number.
+fn last_part(text: &[u8], peer: bool, high: u32) -> Option<Part>
+    ensures { result ≡ last_part_of peer high text.now }
+{
+    if text == b"*".as_slice() {
+        return Some(Part::Any);
+    }
+    part(text, peer, high)
+}
+
+/// Two parts of 16 bits with a colon between (RFC 1997).
 #[tactic(auto, unfolding(crate::specs::Texts::community_of))]
-pub(crate) fn community(text: &[u8]) -> Option<u32>
-    ensures { result ≡ community_of text.now }
+pub(crate) fn community(text: &[u8], peer: bool) -> Option<CommunityTest>
+    ensures { result ≡ community_of peer text.now }
 {
     let (high, low) = parted(text, b':')?;
-    let high = number(high, 65535)?;
-    let low = number(low, 65535)?;
-    Some(65536 * high + low)
+    let high = part(high, peer, 65535)?;
+    let low = last_part(low, peer, 65535)?;
+    Some(CommunityTest { high, low })
+}
+
+/// The two parts of the local data of a large community.
+fn local_data(text: &[u8], peer: bool) -> Option<(Part, Part)>
+    ensures { result ≡ local_data_of peer text.now }
+{
+    if text == b"*:*".as_slice() {
+        return Some((Part::Any, Part::Any));
+    }
+    let (first, second) = parted(text, b':')?;
+    let first = part(first, peer, 4_294_967_295)?;
+    let second = last_part(second, peer, 4_294_967_295)?;
+    Some((first, second))
+}
+
+/// Three parts of 32 bits with colons between (RFC 8092, 3).
+#[tactic(auto, unfolding(crate::specs::Texts::large_community_of))]
+pub(crate) fn large_community(text: &[u8], peer: bool) -> Option<LargeCommunityTest>
+    ensures { result ≡ large_community_of peer text.now }
+{
+    let (global, local) = parted(text, b':')?;
+    let global = part(global, peer, 4_294_967_295)?;
+    let (first, second) = local_data(local, peer)?;
+    Some(LargeCommunityTest {
+        global,
+        first,
+        second,
+    })
+}
+
+/// Communities of one form: none of their parts is `peer`.
+#[tactic(auto, unfolding(crate::specs::Texts::pattern_of))]
+pub(crate) fn pattern(text: &[u8]) -> Option<CommunityPattern>
+    ensures { result ≡ pattern_of text.now }
+{
+    match community(text, false) {
+        None => None,
+        Some(test) => Some(test.pattern_for(0)),
+    }
+}
+
+/// Large communities of one form.
+#[tactic(auto, unfolding(crate::specs::Texts::large_pattern_of))]
+pub(crate) fn large_pattern(text: &[u8]) -> Option<LargeCommunityPattern>
+    ensures { result ≡ large_pattern_of text.now }
+{
+    match large_community(text, false) {
+        None => None,
+        Some(test) => Some(test.pattern_for(0)),
+    }
 }
 
 fn is_name_octet(octet: u8) -> bool

@@ -4,12 +4,13 @@ ghost use Rattle.std.specs.Prelude.{◌≡◌, Option, option_map, option_and_th
 ghost use Rattle.toml.specs.Data.{Data, get, as_str, as_bool};
 ghost use Rattle.toml.specs.View.{view};
 ghost use Rattle.rs_policy.specs.Keys.{key_text};
-ghost use Rattle.rs_policy.specs.Texts.{address_of, endpoint_of, prefix_of, community_of};
+ghost use Rattle.rs_policy.specs.Texts.{address_of, endpoint_of, prefix_of, community_of, large_community_of, pattern_of, large_pattern_of};
 ghost use Rattle.rs_policy.specs.Values.{as_entry, integer_in, hold_seconds, prefix_entry, text_as, address, identifier, disposition_of, name_of, nothing, required_at, optional_at, maybe_at};
 
 use crate::config::texts;
 use crate::faults::{ConfigFault, Key, Place};
-use crate::rules::{Disposition, Range};
+use crate::rules::{CommunityTest, Disposition, LargeCommunityTest, Range};
+use rs_attrs::{CommunityPattern, LargeCommunityPattern};
 use rs_octets::{Prefix, is_refused_hold};
 use toml::value::Value;
 
@@ -219,16 +220,65 @@ impl Kind for AsEntry {
     }
 }
 
+/// A community that a rule tests.
 #[derive(Clone, Copy)]
-pub(crate) struct CommunityText;
+pub(crate) struct CommunityText {
+    /// Whether a part may be `peer`.
+    pub(crate) peer: bool,
+}
 
 impl Kind for CommunityText {
-    type Out = u32;
+    type Out = CommunityTest;
 
-    ghost reads = { λ k. text_as community_of };
+    ghost reads = { λ k. text_as (community_of k.peer) };
 
-    fn read(&self, value: &Value) -> Option<u32> {
-        texts::community(value.as_str()?.as_bytes())
+    fn read(&self, value: &Value) -> Option<CommunityTest> {
+        texts::community(value.as_str()?.as_bytes(), self.peer)
+    }
+}
+
+/// A large community that a rule tests.
+#[derive(Clone, Copy)]
+pub(crate) struct LargeCommunityText {
+    /// Whether a part may be `peer`.
+    pub(crate) peer: bool,
+}
+
+impl Kind for LargeCommunityText {
+    type Out = LargeCommunityTest;
+
+    ghost reads = { λ k. text_as (large_community_of k.peer) };
+
+    fn read(&self, value: &Value) -> Option<LargeCommunityTest> {
+        texts::large_community(value.as_str()?.as_bytes(), self.peer)
+    }
+}
+
+/// Communities that a rule takes away.
+#[derive(Clone, Copy)]
+pub(crate) struct PatternText;
+
+impl Kind for PatternText {
+    type Out = CommunityPattern;
+
+    ghost reads = { λ k. text_as pattern_of };
+
+    fn read(&self, value: &Value) -> Option<CommunityPattern> {
+        texts::pattern(value.as_str()?.as_bytes())
+    }
+}
+
+/// Large communities that a rule takes away.
+#[derive(Clone, Copy)]
+pub(crate) struct LargePatternText;
+
+impl Kind for LargePatternText {
+    type Out = LargeCommunityPattern;
+
+    ghost reads = { λ k. text_as large_pattern_of };
+
+    fn read(&self, value: &Value) -> Option<LargeCommunityPattern> {
+        texts::large_pattern(value.as_str()?.as_bytes())
     }
 }
 

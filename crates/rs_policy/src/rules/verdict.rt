@@ -3,15 +3,17 @@
 ghost use Rattle.std.specs.Prelude.{◌≡◌, ◌<◌, ◌≤◌, length, find, option_map};
 ghost use Rattle.std.specs.List.{list_any};
 ghost use Rattle.rs_attrs.specs.Getters.{path_of};
-ghost use Rattle.rs_policy.specs.Verdicts.{attributes_match, front, has_as, has_prefix, in_range, joined, matches, next_hop_is_peer, origin_as_is, origin_in, path_in, path_matches, first_as, first_as_is_peer, passing, passing_by_default, outcome, verdict};
+ghost use Rattle.rs_policy.specs.Verdicts.{attributes_match, front, has_as, has_prefix, in_range, joined, matches, next_hop_is_peer, origin_as_is, origin_in, path_in, path_matches, first_as, first_as_is_peer, has_community, has_large_community, passing, passing_by_default, outcome, verdict};
 ghost use Rattle.rs_policy.specs.Configuration.{list_at, rules_in};
 ghost use Rattle.rs_policy.specs.Judged.{offered, passed_as, judged};
 
 use crate::config::Config;
 use crate::config::named_lists::NamedList;
 use crate::config::shared_rules::SharedRules;
-use crate::rules::{Action, Disposition, Item, Range, Rule, Rules, Stripping, Tests};
-use rs_attrs::{Attrs, PathSegment, Strip};
+use crate::rules::{
+    Action, CommunityTest, Disposition, Item, LargeCommunityTest, Range, Rule, Rules, Tests,
+};
+use rs_attrs::{Attrs, CommunityPattern, LargeCommunityPattern, PathSegment, Strip};
 use rs_octets::Prefix;
 
 /// The preference of a route that no rule gives one.
@@ -40,14 +42,18 @@ struct Offer<'p, 'a> {
     peer_as: u32,
     prefix: &'p Prefix,
     attrs: &'a Attrs,
+    /// The AS number of the client to which it goes.
+    to_as: u32,
 }
 
 /// How a list of rules passes a route.
 #[derive(Clone, Copy)]
 struct Passed<'a> {
     preference: Option<u32>,
-    communities: &'a [u32],
-    all: bool,
+    communities: &'a [CommunityPattern],
+    all_communities: bool,
+    large: &'a [LargeCommunityPattern],
+    all_large: bool,
 }
 
 fn front(len: u8, bits: u32) -> u64
@@ -174,13 +180,32 @@ fn path_matches(lists: &[NamedList], tests: &Tests, offer: &Offer<'_, '_>) -> bo
     true
 }
 
+fn has_community(test: CommunityTest, offer: &Offer<'_, '_>) -> bool
+    ensures { result ≡ has_community test (offered offer.now) }
+{
+    let pattern = test.pattern_for(offer.to_as);
+    offer.attrs.has_community_like(&pattern)
+}
+
+fn has_large_community(test: LargeCommunityTest, offer: &Offer<'_, '_>) -> bool
+    ensures { result ≡ has_large_community test (offered offer.now) }
+{
+    let pattern = test.pattern_for(offer.to_as);
+    offer.attrs.has_large_community_like(&pattern)
+}
+
 /// The tests that walk communities and paths.
 #[tactic(auto, unfolding(crate::specs::Verdicts::attributes_match))]
 fn attributes_match(lists: &[NamedList], tests: &Tests, offer: &Offer<'_, '_>) -> bool
     ensures { result ≡ attributes_match lists.now tests.now (offered offer.now) }
 {
-    if let Some(community) = tests.community
-        && !offer.attrs.has_community(community)
+    if let Some(test) = tests.community
+        && !has_community(test, offer)
+    {
+        return false;
+    }
+    if let Some(test) = tests.large_community
+        && !has_large_community(test, offer)
     {
         return false;
     }
@@ -294,22 +319,21 @@ fn outcome<'a>(
 {
     match action_of(lists, rules, offer) {
         Some(Action::Drop) => None,
-        Some(Action::Pass(preference, Stripping::Named(communities))) => Some(Passed {
+        Some(Action::Pass(preference, strip, strip_large)) => Some(Passed {
             preference: *preference,
-            communities: communities.numbers(),
-            all: false,
-        }),
-        Some(Action::Pass(preference, Stripping::All)) => Some(Passed {
-            preference: *preference,
-            communities: &[],
-            all: true,
+            communities: strip.named(),
+            all_communities: strip.takes_all(),
+            large: strip_large.named(),
+            all_large: strip_large.takes_all(),
         }),
         None => match default {
             Disposition::Drop => None,
             Disposition::Pass => Some(Passed {
                 preference: None,
                 communities: &[],
-                all: false,
+                all_communities: false,
+                large: &[],
+                all_large: false,
             }),
         },
     }
@@ -324,8 +348,10 @@ fn judge_without_rules<'a>(default: Disposition) -> Verdict<'a>
         Disposition::Pass => Verdict::Pass {
             preference: DEFAULT_PREFERENCE,
             strip: Strip {
-                lists: [&[], &[]],
-                all: false,
+                communities: [&[], &[]],
+                all_communities: false,
+                large: [&[], &[]],
+                all_large: false,
             },
         },
     }
@@ -359,6 +385,7 @@ pub fn judge<'a>(
         peer_as: config.client_as(from),
         prefix,
         attrs,
+        to_as: config.client_as(to),
     };
     let Some(import) = outcome(default, lists, &imports, &offer) else {
         return Verdict::Drop;
@@ -369,8 +396,10 @@ pub fn judge<'a>(
     let given = export.preference.or(import.preference);
     let preference = given.unwrap_or(DEFAULT_PREFERENCE);
     let strip = Strip {
-        lists: [import.communities, export.communities],
-        all: import.all || export.all,
+        communities: [import.communities, export.communities],
+        all_communities: import.all_communities || export.all_communities,
+        large: [import.large, export.large],
+        all_large: import.all_large || export.all_large,
     };
     Verdict::Pass { preference, strip }
 }

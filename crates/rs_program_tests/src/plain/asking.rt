@@ -8,8 +8,11 @@
 //!     prefix_in BITS LENGTH MIN MAX ..       the list of prefixes of the next rule
 //!     path_in FIRST LAST ..                  its list of AS numbers for the path
 //!     origin_in FIRST LAST ..                its list of AS numbers for the origin
-//!     import PASSES PREFERENCE BITS LENGTH MIN MAX FROM PATH_HAS PATH_LONGER ORIGIN_AS FIRST_AS_IS_PEER COMMUNITY
-//!         NEXT_HOP_IS_PEER STRIPS_ALL STRIP..
+//!     community PART PART                    its pattern of communities; a part is a number, `*` or `peer`
+//!     large_community PART PART PART         its pattern of large communities
+//!     strip PART PART ..                     the patterns of communities that it takes away; `strip all`
+//!     strip_large PART PART PART ..          the patterns of large communities; `strip_large all`
+//!     import PASSES PREFERENCE BITS LENGTH MIN MAX FROM PATH_HAS PATH_LONGER ORIGIN_AS FIRST_AS_IS_PEER NEXT_HOP_IS_PEER
 //!     export ..                              a rule of the client above
 //!     heard HEX                              what came from it since its connection came
 //!     sent HEX                               what was sent to it since then
@@ -17,9 +20,10 @@
 //!     end                                    the case is to be answered
 
 use crate::plain::choice::due;
+use crate::plain::communities::Part;
 use crate::plain::meaning::{Meaning, Reader, read_octets};
 use crate::plain::passing::is_passed_on;
-use crate::plain::rules::{Numbers, Range, Rule};
+use crate::plain::rules::{Numbers, Range, Rule, Stripped};
 use crate::plain::{Client, Exchange, Filter, Route, Sentence, Session, route_at};
 use rs_attrs::Mode;
 use rs_octets::Prefix;
@@ -44,6 +48,10 @@ struct Case {
     prefix_in: Option<Vec<Range>>,
     path_in: Option<Vec<Numbers>>,
     origin_in: Option<Vec<Numbers>>,
+    community: Option<Vec<Part>>,
+    large_community: Option<Vec<Part>>,
+    strip: Option<Stripped>,
+    strip_large: Option<Stripped>,
     extended: bool,
     refresh: bool,
     without: Option<Sentence>,
@@ -78,6 +86,7 @@ fn sentence(name: &str) -> Option<Sentence> {
         ("servers-as", Sentence::ServersAs),
         ("import", Sentence::Import),
         ("export", Sentence::Export),
+        ("receiver", Sentence::Receiver),
         ("stripped", Sentence::Stripped),
         ("fits", Sentence::Fits),
         ("preference", Sentence::Filter(Filter::Preference)),
@@ -127,15 +136,43 @@ fn numbers(alloc: Global, words: &[&str]) -> Result<Vec<Numbers>, AllocError> {
     Ok(found)
 }
 
-/// The communities that a rule takes away, one for each word behind the others.
-fn strips(alloc: Global, words: &[&str]) -> Result<Vec<u32>, AllocError> {
+/// The part of a pattern that a word says.
+fn part(word: &str) -> Option<Part> {
+    match word {
+        "*" => Some(Part::Any),
+        "peer" => Some(Part::Peer),
+        _ => word.parse::<u32>().ok().map(|number| Part::Number(number)),
+    }
+}
+
+/// The parts behind the first word.
+fn parts(alloc: Global, words: &[&str]) -> Result<Vec<Part>, AllocError> {
     let mut found = Vec::new(alloc);
-    for at in 15..words.len() {
-        if let Some(community) = number(words, at) {
-            found.push(community)?;
+    for word in words.get(1..).unwrap_or(&[]) {
+        if let Some(part) = part(word) {
+            found.push(part)?;
         }
     }
     Ok(found)
+}
+
+/// What the words say is taken away.
+fn stripped(alloc: Global, words: &[&str]) -> Result<Stripped, AllocError> {
+    Ok(Stripped {
+        all: words.get(1).copied() == Some("all"),
+        patterns: parts(alloc, words)?,
+    })
+}
+
+/// These, or nothing.
+fn or_nothing(alloc: Global, stripped: Option<Stripped>) -> Stripped {
+    match stripped {
+        Some(stripped) => stripped,
+        None => Stripped {
+            all: false,
+            patterns: Vec::new(alloc),
+        },
+    }
 }
 
 /// The octets of a word of hexadecimal digits; none where it isn't there.
@@ -159,6 +196,10 @@ impl Case {
             prefix_in: None,
             path_in: None,
             origin_in: None,
+            community: None,
+            large_community: None,
+            strip: None,
+            strip_large: None,
             extended: false,
             refresh: false,
             without: None,
@@ -201,12 +242,13 @@ impl Case {
             origin_as: number(words, 10),
             origin_in: self.origin_in.take(),
             first_as_is_peer: yes(words, 11),
-            community: number(words, 12),
-            next_hop_is_peer: yes(words, 13),
+            community: self.community.take(),
+            large_community: self.large_community.take(),
+            next_hop_is_peer: yes(words, 12),
             passes: yes(words, 1) == Some(true),
             preference: number(words, 2),
-            strips_all: yes(words, 14) == Some(true),
-            strips: strips(self.alloc, words)?,
+            strip: or_nothing(self.alloc, self.strip.take()),
+            strip_large: or_nothing(self.alloc, self.strip_large.take()),
         };
         if let Some(client) = self.exchange.clients.last_mut() {
             let list = if is_import {
@@ -245,6 +287,10 @@ impl Case {
             "prefix_in" => self.prefix_in = Some(ranges(self.alloc, words)?),
             "path_in" => self.path_in = Some(numbers(self.alloc, words)?),
             "origin_in" => self.origin_in = Some(numbers(self.alloc, words)?),
+            "community" => self.community = Some(parts(self.alloc, words)?),
+            "large_community" => self.large_community = Some(parts(self.alloc, words)?),
+            "strip" => self.strip = Some(stripped(self.alloc, words)?),
+            "strip_large" => self.strip_large = Some(stripped(self.alloc, words)?),
             "import" => self.rule(words, true)?,
             "export" => self.rule(words, false)?,
             "heard" => self.link(words, true),

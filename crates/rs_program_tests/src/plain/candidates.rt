@@ -42,8 +42,13 @@ fn offer<'a>(
         address: sender.address,
         number: sender.number,
     };
-    let import = first_match(&sender.import, from, route);
-    let export = first_match(&to.export, from, route);
+    let import = first_match(&sender.import, from, None, route);
+    let peer = if without == Some(Sentence::Receiver) {
+        None
+    } else {
+        Some(to.number)
+    };
+    let export = first_match(&to.export, from, peer, route);
     if !passes(exchange, import) && without != Some(Sentence::Import) {
         return None;
     }

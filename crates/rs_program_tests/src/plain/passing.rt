@@ -2,6 +2,7 @@
 //! an UPDATE holds it.
 
 use crate::plain::candidates::Candidate;
+use crate::plain::communities::Sort;
 use crate::plain::rules::Rule;
 use crate::plain::{Sentence, Session};
 use rs_attrs::{Attrs, Mode};
@@ -11,25 +12,29 @@ const AS_PATH: u8 = 2;
 
 const AGGREGATOR: u8 = 7;
 
-const COMMUNITIES: u8 = 8;
-
-/// The rule takes this community away.
-fn strips(rule: Option<&Rule>, community: &[u8; 4]) -> bool {
-    let number = u32::from_be_bytes(*community);
-    rule.is_some_and(|rule| rule.strips_all || rule.strips.contains(&number))
+/// The rule takes this community of the type away.
+fn strips(rule: Option<&Rule>, sort: Sort, community: &[u8]) -> bool {
+    let Some(rule) = rule else {
+        return false;
+    };
+    let stripped = match sort {
+        Sort::Short => &rule.strip,
+        Sort::Large => &rule.strip_large,
+    };
+    stripped.all || sort.is_like_one(&stripped.patterns, community, None)
 }
 
-/// The octets of COMMUNITIES that are passed on.
+/// The octets of communities that are passed on.
 fn communities(
     alloc: Global,
     candidate: &Candidate<'_>,
+    sort: Sort,
     value: &[u8],
 ) -> Result<Vec<u8>, AllocError> {
     let mut kept = Vec::new(alloc);
-    for community in value.chunks_exact(4) {
-        if let Some(community) = community.first_chunk::<4>()
-            && !strips(candidate.import, community)
-            && !strips(candidate.export, community)
+    for community in value.chunks_exact(sort.size()) {
+        if !strips(candidate.import, sort, community)
+            && !strips(candidate.export, sort, community)
         {
             kept.extend_from_slice(community)?;
         }
@@ -46,10 +51,10 @@ fn passed_on(
     let Some(attribute) = candidate.route.attrs.get(kind) else {
         return Ok(None);
     };
-    if kind != COMMUNITIES {
+    let Some(sort) = Sort::of_kind(kind) else {
         return Ok(Some(Vec::from_slice(alloc, attribute.value)?));
-    }
-    let kept = communities(alloc, candidate, attribute.value)?;
+    };
+    let kept = communities(alloc, candidate, sort, attribute.value)?;
     Ok(if kept.is_empty() { None } else { Some(kept) })
 }
 

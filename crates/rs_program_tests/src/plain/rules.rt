@@ -1,6 +1,7 @@
 //! Rules (RFC 7947, 2.3): the first of a list that matches decides.
 
 use crate::plain::Route;
+use crate::plain::communities::{Part, Sort};
 use rs_octets::Prefix;
 
 const AS_PATH: u8 = 2;
@@ -20,6 +21,13 @@ pub(super) struct Numbers {
     pub(super) last: u32,
 }
 
+/// The communities of one type that a rule takes away: all, or those of these patterns, whose parts stand one behind the other.
+#[derive(Drop)]
+pub(super) struct Stripped {
+    pub(super) all: bool,
+    pub(super) patterns: Vec<Part>,
+}
+
 /// A rule: what a route must be for it to match, None where it asks nothing of it, and what it does with the route.
 #[derive(Drop)]
 pub(super) struct Rule {
@@ -32,12 +40,13 @@ pub(super) struct Rule {
     pub(super) origin_as: Option<u32>,
     pub(super) origin_in: Option<Vec<Numbers>>,
     pub(super) first_as_is_peer: Option<bool>,
-    pub(super) community: Option<u32>,
+    pub(super) community: Option<Vec<Part>>,
+    pub(super) large_community: Option<Vec<Part>>,
     pub(super) next_hop_is_peer: Option<bool>,
     pub(super) passes: bool,
     pub(super) preference: Option<u32>,
-    pub(super) strips_all: bool,
-    pub(super) strips: Vec<u32>,
+    pub(super) strip: Stripped,
+    pub(super) strip_large: Stripped,
 }
 
 /// The prefix lies within the range: cut to the length of the range's, it is the range's.
@@ -117,8 +126,18 @@ pub(super) struct Sender {
     pub(super) number: u32,
 }
 
-/// All that the rule asks of a route holds, which came from this client.
-fn matches(rule: &Rule, from: Sender, route: &Route) -> bool {
+/// The rule asks for no pattern of communities of this type, or the route has one that is of it.
+fn has_pattern(pattern: &Option<Vec<Part>>, sort: Sort, route: &Route, peer: Option<u32>) -> bool {
+    match (pattern, route.attrs.get(sort.kind())) {
+        (Some(pattern), Some(attribute)) => sort.has_like(pattern, attribute.value, peer),
+        (Some(_), None) => false,
+        (None, _) => true,
+    }
+}
+
+/// All that the rule asks of a route holds, which came from this client; `peer` is the AS number of the client to which
+/// it goes, and none where nobody asks for it.
+fn matches(rule: &Rule, from: Sender, peer: Option<u32>, route: &Route) -> bool {
     let attrs = &route.attrs;
     let is_peer = attrs.next_hop() == Some(from.address);
     let is_first = first_as(path(route)) == Some(from.number);
@@ -137,13 +156,17 @@ fn matches(rule: &Rule, from: Sender, route: &Route) -> bool {
         && rule
             .origin_as
             .is_none_or(|number| attrs.origin_as() == Some(number))
-        && rule
-            .community
-            .is_none_or(|community| attrs.has_community(community))
+        && has_pattern(&rule.community, Sort::Short, route, peer)
+        && has_pattern(&rule.large_community, Sort::Large, route, peer)
         && rule.next_hop_is_peer.is_none_or(|wanted| wanted == is_peer)
 }
 
 /// The first rule of the list that matches.
-pub(super) fn first_match<'a>(rules: &'a [Rule], from: Sender, route: &Route) -> Option<&'a Rule> {
-    rules.iter().find(|rule| matches(rule, from, route))
+pub(super) fn first_match<'a>(
+    rules: &'a [Rule],
+    from: Sender,
+    peer: Option<u32>,
+    route: &Route,
+) -> Option<&'a Rule> {
+    rules.iter().find(|rule| matches(rule, from, peer, route))
 }

@@ -120,7 +120,9 @@ fn holds(rt: &impl Abort, alloc: Global, mode: Mode, row: &(&str, &str, &str)) {
     let (shows, field, answer) = row;
     let field = octets(alloc, field).expect(rt, "octets");
     let Faulted {
-        withdraw, discard, ..
+        withdraw,
+        discard,
+        ..
     } = read(alloc, &field, mode).expect(rt, "attributes").faulted;
     let withdraw = in_words(alloc, withdraw).expect(rt, "a text");
     let discard = in_words(alloc, discard).expect(rt, "a text");

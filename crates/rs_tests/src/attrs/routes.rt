@@ -1,7 +1,9 @@
 //! Routes as clients send them, and what is asked of their attributes.
 
 use super::{ROUTE, attrs_of, put, route_with};
-use rs_attrs::{Attrs, Mode, Strip, size, size_at_most, stripped};
+use rs_attrs::{
+    Attrs, CommunityPattern, LargeCommunityPattern, Mode, Strip, size, size_at_most, stripped,
+};
 use std::alloc::Global;
 use std::cmp::Ordering;
 use std::hash::{DefaultHasher, Hash, Hasher};
@@ -42,9 +44,15 @@ fn has_number(rt: &impl Abort, attrs: &Attrs, number: u32, want: bool) {
     assert_eq!(rt; attrs.path_has(number), want, "{number}");
 }
 
-/// Whether a community is among them.
-fn has_community(rt: &impl Abort, attrs: &Attrs, community: u32, want: bool) {
-    assert_eq!(rt; attrs.has_community(community), want, "{community}");
+/// The pattern of communities with these parts.
+fn like(high: Option<u32>, low: Option<u32>) -> CommunityPattern {
+    CommunityPattern { high, low }
+}
+
+/// Whether a community like this is among them.
+fn has_like(rt: &impl Abort, attrs: &Attrs, high: Option<u32>, low: Option<u32>, want: bool) {
+    let pattern = like(high, low);
+    assert_eq!(rt; attrs.has_community_like(&pattern), want, "{pattern:?}");
 }
 
 /// An attribute of this type is not among them.
@@ -62,7 +70,7 @@ fn a_route_of_three_attributes(rt: HostRuntime) {
     gets(&rt, attrs.origin_as(), Some(64496));
     has_number(&rt, &attrs, 64496, true);
     has_number(&rt, &attrs, 64497, false);
-    has_community(&rt, &attrs, 64496, false);
+    has_like(&rt, &attrs, None, None, false);
     lacks(&rt, &attrs, 4);
 }
 
@@ -182,10 +190,58 @@ fn communities_stand_at_each_fourth_octet(rt: HostRuntime) {
         rt.alloc(),
         b"\xc0\x08\x08\xfb\xf0\x00\x01\xfb\xf0\x00\x02",
     );
-    has_community(&rt, &attrs, 0xfbf0_0001, true);
-    has_community(&rt, &attrs, 0xfbf0_0002, true);
-    has_community(&rt, &attrs, 0x0001_fbf0, false);
-    has_community(&rt, &attrs, 0xfbf0_0003, false);
+    has_like(&rt, &attrs, Some(64496), Some(1), true);
+    has_like(&rt, &attrs, Some(64496), Some(2), true);
+    has_like(&rt, &attrs, Some(1), Some(64496), false);
+    has_like(&rt, &attrs, Some(64496), Some(3), false);
+    has_like(&rt, &attrs, Some(64496), None, true);
+    has_like(&rt, &attrs, Some(64497), None, false);
+    has_like(&rt, &attrs, Some(64496), Some(0), false);
+    // a part that 16 bits do not hold
+    has_like(&rt, &attrs, Some(65536 + 64496), None, false);
+}
+
+/// Whether a large community like this is among them.
+fn has_large(rt: &impl Abort, attrs: &Attrs, pattern: LargeCommunityPattern, want: bool) {
+    assert_eq!(rt;
+        attrs.has_large_community_like(&pattern),
+        want,
+        "{pattern:?}"
+    );
+}
+
+/// 64496:1:2, 4200000000:0:4294967295.
+const LARGE: &[u8] =
+    b"\xc0\x20\x18\x00\x00\xfb\xf0\x00\x00\x00\x01\x00\x00\x00\x02\xfa\x56\xea\x00\x00\x00\x00\x00\xff\xff\xff\xff";
+
+/// Each row: the parts, None where one may be any, and whether a large community of them is there.
+const LARGE_LIKE: [(Option<u32>, Option<u32>, Option<u32>, bool); 10] = [
+    (Some(64496), Some(1), Some(2), true),
+    (Some(4_200_000_000), Some(0), Some(4_294_967_295), true),
+    (Some(64496), Some(1), None, true),
+    (Some(4_200_000_000), None, None, true),
+    (None, None, None, true),
+    (Some(64496), Some(1), Some(0), false),
+    (Some(64496), Some(2), None, false),
+    (Some(64496), Some(0), Some(4_294_967_295), false),
+    // at the fifth octet
+    (Some(1), Some(2), None, false),
+    (Some(64497), None, None, false),
+];
+
+#[test]
+fn large_communities_stand_at_each_twelfth_octet(rt: HostRuntime) {
+    let attrs = route_with(&rt, rt.alloc(), LARGE);
+    let none = attrs_of(&rt, rt.alloc(), &ROUTE);
+    for (global, first, second, want) in LARGE_LIKE {
+        let pattern = LargeCommunityPattern {
+            global,
+            first,
+            second,
+        };
+        has_large(&rt, &attrs, pattern, want);
+        has_large(&rt, &none, pattern, false);
+    }
 }
 
 fn hash_of(attrs: &Attrs) -> u64 {
@@ -248,13 +304,75 @@ fn equal_by_meaning(rt: HostRuntime) {
     compares(&rt, alloc, b"\xc0\x63\x00", b"", false);
 }
 
-// 64496:1, 64496:2, 64496:1, with the partial bit, and an unknown attribute behind them
+// 64496:1, 64496:2, 64496:1, with the partial bit; 64496:1:2, 64496:1:3; and an unknown attribute behind them
 const SENT: &[u8] =
+    b"\xe0\x08\x0c\xfb\xf0\x00\x01\xfb\xf0\x00\x02\xfb\xf0\x00\x01\xc0\x20\x18\x00\x00\xfb\xf0\x00\x00\x00\x01\x00\x00\x00\x02\x00\x00\xfb\xf0\x00\x00\x00\x01\x00\x00\x00\x03\xc0\x63\x02\xab\xcd";
+
+const WITHOUT_1: &[u8] =
+    b"\xe0\x08\x04\xfb\xf0\x00\x02\xc0\x20\x18\x00\x00\xfb\xf0\x00\x00\x00\x01\x00\x00\x00\x02\x00\x00\xfb\xf0\x00\x00\x00\x01\x00\x00\x00\x03\xc0\x63\x02\xab\xcd";
+
+const WITHOUT_COMMUNITIES: &[u8] =
+    b"\xc0\x20\x18\x00\x00\xfb\xf0\x00\x00\x00\x01\x00\x00\x00\x02\x00\x00\xfb\xf0\x00\x00\x00\x01\x00\x00\x00\x03\xc0\x63\x02\xab\xcd";
+
+const WITHOUT_1_2: &[u8] =
+    b"\xe0\x08\x0c\xfb\xf0\x00\x01\xfb\xf0\x00\x02\xfb\xf0\x00\x01\xc0\x20\x0c\x00\x00\xfb\xf0\x00\x00\x00\x01\x00\x00\x00\x03\xc0\x63\x02\xab\xcd";
+
+const WITHOUT_LARGE: &[u8] =
     b"\xe0\x08\x0c\xfb\xf0\x00\x01\xfb\xf0\x00\x02\xfb\xf0\x00\x01\xc0\x63\x02\xab\xcd";
 
-const WITHOUT_1: &[u8] = b"\xe0\x08\x04\xfb\xf0\x00\x02\xc0\x63\x02\xab\xcd";
-
 const WITHOUT_ANY: &[u8] = b"\xc0\x63\x02\xab\xcd";
+
+const NOTHING: Strip<'static> = Strip {
+    communities: [&[], &[]],
+    all_communities: false,
+    large: [&[], &[]],
+    all_large: false,
+};
+
+/// 64496:1
+const C_1: CommunityPattern = CommunityPattern {
+    high: Some(64496),
+    low: Some(1),
+};
+
+/// 64496:2
+const C_2: CommunityPattern = CommunityPattern {
+    high: Some(64496),
+    low: Some(2),
+};
+
+/// 64496:3
+const C_3: CommunityPattern = CommunityPattern {
+    high: Some(64496),
+    low: Some(3),
+};
+
+/// 64496:*
+const C_ANY: CommunityPattern = CommunityPattern {
+    high: Some(64496),
+    low: None,
+};
+
+/// 64496:1:2
+const L_1_2: LargeCommunityPattern = LargeCommunityPattern {
+    global: Some(64496),
+    first: Some(1),
+    second: Some(2),
+};
+
+/// 64496:1:*
+const L_1_ANY: LargeCommunityPattern = LargeCommunityPattern {
+    global: Some(64496),
+    first: Some(1),
+    second: None,
+};
+
+/// 64496:2:*
+const L_2_ANY: LargeCommunityPattern = LargeCommunityPattern {
+    global: Some(64496),
+    first: Some(2),
+    second: None,
+};
 
 /// A strip leaves just this of attributes, and says whether that is less.
 fn leaves(rt: &impl Abort, alloc: Global, strip: &Strip<'_>, attrs: &Attrs, left: &Attrs) {
@@ -263,30 +381,65 @@ fn leaves(rt: &impl Abort, alloc: Global, strip: &Strip<'_>, attrs: &Attrs, left
     assert!(rt; outcome == *left, "{strip:?}");
 }
 
-/// What is left of the communities sent where these lists are stripped, or all; a route without any
-/// is left as it is.
-fn strips(rt: &impl Abort, alloc: Global, lists: [&[u32]; 2], all: bool, left: &[u8]) {
-    let strip = Strip { lists, all };
+/// What is left of the communities sent; a route without any is left as it is.
+fn strips(rt: &impl Abort, alloc: Global, strip: &Strip<'_>, left: &[u8]) {
     let sent = route_with(rt, alloc, SENT);
     let left = route_with(rt, alloc, left);
-    leaves(rt, alloc, &strip, &sent, &left);
+    leaves(rt, alloc, strip, &sent, &left);
     let route = attrs_of(rt, alloc, &ROUTE);
-    leaves(rt, alloc, &strip, &route, &route);
+    leaves(rt, alloc, strip, &route, &route);
 }
+
+/// Each row: what is stripped of COMMUNITIES, by two lists or all, and what is left.
+const COMMUNITIES_STRIPPED: [([&[CommunityPattern]; 2], bool, &[u8]); 7] = [
+    ([&[], &[]], false, SENT),
+    ([&[C_3], &[C_3]], false, SENT),
+    ([&[C_1], &[]], false, WITHOUT_1),
+    ([&[], &[C_3, C_1]], false, WITHOUT_1),
+    ([&[C_2], &[C_1]], false, WITHOUT_COMMUNITIES),
+    ([&[C_ANY], &[]], false, WITHOUT_COMMUNITIES),
+    ([&[C_3], &[]], true, WITHOUT_COMMUNITIES),
+];
 
 #[test]
 fn strips_communities(rt: HostRuntime) {
-    let alloc = rt.alloc();
-    strips(&rt, alloc, [&[], &[]], false, SENT);
-    strips(&rt, alloc, [&[0x0001_fbf0, 7], &[8]], false, SENT);
-    strips(&rt, alloc, [&[0xfbf0_0001], &[]], false, WITHOUT_1);
-    strips(&rt, alloc, [&[], &[5, 0xfbf0_0001]], false, WITHOUT_1);
-    strips(
-        &rt,
-        alloc,
-        [&[0xfbf0_0002], &[0xfbf0_0001]],
-        false,
-        WITHOUT_ANY,
-    );
-    strips(&rt, alloc, [&[5], &[]], true, WITHOUT_ANY);
+    for (communities, all, left) in COMMUNITIES_STRIPPED {
+        let strip = Strip {
+            communities,
+            all_communities: all,
+            ..NOTHING
+        };
+        strips(&rt, rt.alloc(), &strip, left);
+    }
+}
+
+/// Each row: what is stripped of LARGE_COMMUNITY, by two lists or all, and what is left.
+const LARGE_STRIPPED: [([&[LargeCommunityPattern]; 2], bool, &[u8]); 5] = [
+    ([&[L_2_ANY], &[]], false, SENT),
+    ([&[L_1_2], &[]], false, WITHOUT_1_2),
+    ([&[], &[L_2_ANY, L_1_2]], false, WITHOUT_1_2),
+    ([&[L_2_ANY], &[L_1_ANY]], false, WITHOUT_LARGE),
+    ([&[], &[]], true, WITHOUT_LARGE),
+];
+
+#[test]
+fn strips_large_communities(rt: HostRuntime) {
+    for (large, all, left) in LARGE_STRIPPED {
+        let strip = Strip {
+            large,
+            all_large: all,
+            ..NOTHING
+        };
+        strips(&rt, rt.alloc(), &strip, left);
+    }
+}
+
+#[test]
+fn strips_both(rt: HostRuntime) {
+    let strip = Strip {
+        communities: [&[C_1], &[C_2]],
+        large: [&[L_1_ANY], &[]],
+        ..NOTHING
+    };
+    strips(&rt, rt.alloc(), &strip, WITHOUT_ANY);
 }

@@ -32,6 +32,9 @@ const OF_B: [u8; 20] = [
 /// COMMUNITIES with 64500:1 alone.
 const TAGGED: [u8; 7] = [0xc0, 8, 4, 0xfb, 0xf4, 0, 1];
 
+/// LARGE_COMMUNITY with 64500:1:64498 alone.
+const TAGGED_LARGE: [u8; 15] = [0xc0, 32, 12, 0, 0, 0xfb, 0xf4, 0, 0, 0, 1, 0, 0, 0xfb, 0xf2];
+
 /// Four members, with these lines after what is said of a and of c.
 fn members(rt: &impl Abort, alloc: Global, of_a: &str, of_c: &str) -> String {
     let text = format!(in alloc;
@@ -172,6 +175,20 @@ fn a_rule_strips_communities(rt: HostRuntime) {
     let exchange = heard(&rt, rt.alloc(), ("", of_c), (&tagged, &OF_A));
     exchange.tells(&rt, C, &OF_A);
     exchange.tells(&rt, D, &tagged);
+    exchange.let_go();
+}
+
+#[test]
+fn a_rule_strips_large_communities(rt: HostRuntime) {
+    let of_c = "export = [{ action = \"pass\", strip_large = [\"64500:1:*\"] }]\n";
+    let mut tagged = Vec::new(rt.alloc());
+    put(&rt, &mut tagged, &OF_A);
+    put(&rt, &mut tagged, &TAGGED);
+    let mut twice = tagged.clone().expect(&rt, "octets");
+    put(&rt, &mut twice, &TAGGED_LARGE);
+    let exchange = heard(&rt, rt.alloc(), ("", of_c), (&twice, &OF_A));
+    exchange.tells(&rt, C, &tagged);
+    exchange.tells(&rt, D, &twice);
     exchange.let_go();
 }
 

@@ -63,10 +63,11 @@ const EXCHANGE: &str =
     r#"# An exchange of three members. The server is 192.0.2.1 in the exchange's network 192.0.2.0/24.
 #
 # Each import list drops bogons, prefixes that are too short or too long, and routes whose NEXT_HOP
-# is not their sender. Each export list reads action communities, which it takes away:
-#   0:64500      to no member
-#   0:AS         not to the member of this AS
-#   64500:AS     to the member of this AS all the same
+# is not their sender. Each export list reads action communities, which it takes away; large ones
+# (RFC 8092) name members with a four-octet AS number too:
+#   0:64500     64500:0:0      to no member
+#   0:AS        64500:0:AS     not to the member of this AS
+#   64500:AS    64500:1:AS     to the member of this AS all the same
 
 as = 64500
 identifier = "192.0.2.1"
@@ -82,29 +83,8 @@ as = 64496
 listen = "192.0.2.1:179"
 peer = "192.0.2.11"
 limit = 20000
-import = [
-    { prefix = "0.0.0.0/8", max = 32, action = "drop" }, # this network (RFC 791)
-    { prefix = "10.0.0.0/8", max = 32, action = "drop" }, # private (RFC 1918)
-    { prefix = "100.64.0.0/10", max = 32, action = "drop" }, # shared by carriers (RFC 6598)
-    { prefix = "127.0.0.0/8", max = 32, action = "drop" }, # loopback (RFC 1122)
-    { prefix = "169.254.0.0/16", max = 32, action = "drop" }, # link local (RFC 3927)
-    { prefix = "172.16.0.0/12", max = 32, action = "drop" }, # private (RFC 1918)
-    { prefix = "192.0.0.0/24", max = 32, action = "drop" }, # protocol assignments (RFC 6890)
-    { prefix = "192.0.2.0/24", max = 32, action = "drop" }, # the exchange's own network
-    { prefix = "192.168.0.0/16", max = 32, action = "drop" }, # private (RFC 1918)
-    { prefix = "198.18.0.0/15", max = 32, action = "drop" }, # benchmarks (RFC 2544)
-    { prefix = "224.0.0.0/3", max = 32, action = "drop" }, # multicast and reserved (RFC 5771, RFC 1112)
-    { prefix = "0.0.0.0/0", max = 7, action = "drop" }, # shorter than /8
-    { prefix = "0.0.0.0/0", min = 25, max = 32, action = "drop" }, # longer than /24
-    { next_hop_is_peer = false, action = "drop" },
-    { path_has = 23456, action = "drop" }, # AS_TRANS (RFC 6793)
-]
-export = [
-    { community = "64500:64496", action = "pass", strip = ["0:64500", "0:64496", "0:64497", "0:64498", "64500:64496", "64500:64497", "64500:64498"] },
-    { community = "0:64496", action = "drop" },
-    { community = "0:64500", action = "drop" },
-    { action = "pass", strip = ["0:64496", "0:64497", "0:64498", "64500:64496", "64500:64497", "64500:64498"] },
-]
+import = [{ use = "filters" }]
+export = [{ use = "actions" }]
 
 [[client]]
 name = "beta"
@@ -112,37 +92,21 @@ as = 64497
 listen = "192.0.2.1:179"
 peer = "192.0.2.12"
 limit = 20000
-import = [
-    { prefix = "0.0.0.0/8", max = 32, action = "drop" }, # this network (RFC 791)
-    { prefix = "10.0.0.0/8", max = 32, action = "drop" }, # private (RFC 1918)
-    { prefix = "100.64.0.0/10", max = 32, action = "drop" }, # shared by carriers (RFC 6598)
-    { prefix = "127.0.0.0/8", max = 32, action = "drop" }, # loopback (RFC 1122)
-    { prefix = "169.254.0.0/16", max = 32, action = "drop" }, # link local (RFC 3927)
-    { prefix = "172.16.0.0/12", max = 32, action = "drop" }, # private (RFC 1918)
-    { prefix = "192.0.0.0/24", max = 32, action = "drop" }, # protocol assignments (RFC 6890)
-    { prefix = "192.0.2.0/24", max = 32, action = "drop" }, # the exchange's own network
-    { prefix = "192.168.0.0/16", max = 32, action = "drop" }, # private (RFC 1918)
-    { prefix = "198.18.0.0/15", max = 32, action = "drop" }, # benchmarks (RFC 2544)
-    { prefix = "224.0.0.0/3", max = 32, action = "drop" }, # multicast and reserved (RFC 5771, RFC 1112)
-    { prefix = "0.0.0.0/0", max = 7, action = "drop" }, # shorter than /8
-    { prefix = "0.0.0.0/0", min = 25, max = 32, action = "drop" }, # longer than /24
-    { next_hop_is_peer = false, action = "drop" },
-    { path_has = 23456, action = "drop" }, # AS_TRANS (RFC 6793)
-]
-export = [
-    { community = "64500:64497", action = "pass", strip = ["0:64500", "0:64496", "0:64497", "0:64498", "64500:64496", "64500:64497", "64500:64498"] },
-    { community = "0:64497", action = "drop" },
-    { community = "0:64500", action = "drop" },
-    { action = "pass", strip = ["0:64496", "0:64497", "0:64498", "64500:64496", "64500:64497", "64500:64498"] },
-]
+import = [{ use = "filters" }]
+export = [{ use = "actions" }]
 
 [[client]]
 name = "gamma"
-as = 64498
+as = 65551
 listen = "192.0.2.1:179"
 peer = "192.0.2.13"
 limit = 20000
-import = [
+import = [{ use = "filters" }]
+export = [{ use = "actions" }]
+
+[[rules]]
+name = "filters"
+rules = [
     { prefix = "0.0.0.0/8", max = 32, action = "drop" }, # this network (RFC 791)
     { prefix = "10.0.0.0/8", max = 32, action = "drop" }, # private (RFC 1918)
     { prefix = "100.64.0.0/10", max = 32, action = "drop" }, # shared by carriers (RFC 6598)
@@ -159,11 +123,17 @@ import = [
     { next_hop_is_peer = false, action = "drop" },
     { path_has = 23456, action = "drop" }, # AS_TRANS (RFC 6793)
 ]
-export = [
-    { community = "64500:64498", action = "pass", strip = ["0:64500", "0:64496", "0:64497", "0:64498", "64500:64496", "64500:64497", "64500:64498"] },
-    { community = "0:64498", action = "drop" },
+
+[[rules]]
+name = "actions"
+rules = [
+    { community = "64500:peer", action = "pass", strip = ["0:*", "64500:*"], strip_large = ["64500:*:*"] },
+    { large_community = "64500:1:peer", action = "pass", strip = ["0:*", "64500:*"], strip_large = ["64500:*:*"] },
+    { community = "0:peer", action = "drop" },
+    { large_community = "64500:0:peer", action = "drop" },
     { community = "0:64500", action = "drop" },
-    { action = "pass", strip = ["0:64496", "0:64497", "0:64498", "64500:64496", "64500:64497", "64500:64498"] },
+    { large_community = "64500:0:0", action = "drop" },
+    { action = "pass", strip = ["0:*", "64500:*"], strip_large = ["64500:*:*"] },
 ]
 "#;
 

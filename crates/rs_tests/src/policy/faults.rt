@@ -104,13 +104,19 @@ fn list_is_answered(rt: &impl Abort, alloc: Global, list: &str, of: &str, want: 
     behind_is_answered(rt, alloc, rest.as_str(), want);
 }
 
-/// A list that is too long, and a list of communities that is, in a rule of it.
+/// A list that is too long, and lists of communities that are, in a rule of it.
 fn list_is_too_long(rt: &impl Abort, alloc: Global, list: &str) {
     let ones = ones(rt, alloc, 65);
     let want = format!(in alloc; "too many client 1 {list}").expect(rt, "a text");
     list_is_answered(rt, alloc, list, ones.as_str(), want.as_str());
-    let rule = format!(in alloc; "{{ action = \"drop\", strip = [{ones}] }}").expect(rt, "a text");
-    let want = format!(in alloc; "too many client 1 {list} 1 strip").expect(rt, "a text");
+    strip_is_too_long(rt, alloc, list, "strip", ones.as_str());
+    strip_is_too_long(rt, alloc, list, "strip_large", ones.as_str());
+}
+
+/// A rule of a list takes away these, which are too many.
+fn strip_is_too_long(rt: &impl Abort, alloc: Global, list: &str, key: &str, ones: &str) {
+    let rule = format!(in alloc; "{{ action = \"drop\", {key} = [{ones}] }}").expect(rt, "a text");
+    let want = format!(in alloc; "too many client 1 {list} 1 {key}").expect(rt, "a text");
     list_is_answered(rt, alloc, list, rule.as_str(), want.as_str());
 }
 

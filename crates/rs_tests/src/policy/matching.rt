@@ -121,7 +121,7 @@ const ATTRIBUTES: [(&str, &[u8], bool); 28] = [
 
 /// A rule with this test drops a route with these attributes, or doesn't, from the import list and from the
 /// export list.
-fn is_tested(rt: &impl Abort, alloc: Global, test: &str, octets: &[u8], matches: bool) {
+pub(super) fn is_tested(rt: &impl Abort, alloc: Global, test: &str, octets: &[u8], matches: bool) {
     let route = Route::spelt(rt, alloc, octets);
     let rule = drops(rt, alloc, test);
     route.goes(rt, alloc, ("", rule.as_str(), ""), left(matches));

@@ -2,7 +2,7 @@
 
 use super::*;
 use crate::common::{ROUTE, attrs, prefix};
-use rs_attrs::{Attrs, Strip};
+use rs_attrs::{Attrs, CommunityPattern, Strip};
 use rs_octets::Prefix;
 use std::process::Abort;
 
@@ -31,8 +31,16 @@ pub(super) const COLOURED: &[u8] = &[
     0xf4, 0, 1, 0xfb, 0xf4, 0, 2,
 ];
 
+/// `ROUTE` with these octets behind it.
+pub(super) fn route_with(rt: &impl Abort, alloc: Global, rest: &[u8]) -> Attrs {
+    let mut octets = Vec::new(alloc);
+    octets.extend_from_slice(&ROUTE).expect(rt, "octets");
+    octets.extend_from_slice(rest).expect(rt, "octets");
+    attrs(alloc, &octets).expect(rt, "attributes")
+}
+
 /// A configuration of a and b with this at its top, in a's import list and in b's export list.
-fn config(rt: &impl Abort, alloc: Global, rules: (&str, &str, &str)) -> Config {
+pub(super) fn config(rt: &impl Abort, alloc: Global, rules: (&str, &str, &str)) -> Config {
     let (top, import, export) = rules;
     let text = format!(in alloc;
         "{TOP}{top}{CLIENT}import = [{import}]\n{OTHER}export = [{export}]\n"
@@ -65,7 +73,7 @@ impl Route {
     }
 
     /// The preference with which it goes to b, or None where it is dropped.
-    fn preference(&self, rt: &impl Abort, config: &Config) -> Option<u32> {
+    pub(super) fn preference(&self, rt: &impl Abort, config: &Config) -> Option<u32> {
         match self.judged(rt, config) {
             Verdict::Drop => None,
             Verdict::Pass { preference, .. } => Some(preference),
@@ -73,7 +81,7 @@ impl Route {
     }
 
     /// The preference with which it goes to b, and what is taken away, where it isn't dropped.
-    fn passed<'a>(&self, rt: &impl Abort, config: &'a Config) -> (u32, Strip<'a>) {
+    pub(super) fn passed<'a>(&self, rt: &impl Abort, config: &'a Config) -> (u32, Strip<'a>) {
         let passed = match self.judged(rt, config) {
             Verdict::Drop => None,
             Verdict::Pass { preference, strip } => Some((preference, strip)),
@@ -190,36 +198,60 @@ fn the_first_rule_that_matches_decides(rt: HostRuntime) {
 
 impl Route {
     /// By these rules it goes with this preference, and these communities are taken away by each list.
-    fn loses(&self, rt: &impl Abort, config: &Config, preference: u32, lists: [&[u32]; 2]) {
+    fn loses(
+        &self,
+        rt: &impl Abort,
+        config: &Config,
+        preference: u32,
+        lists: [&[CommunityPattern]; 2],
+    ) {
         let (found, strip) = self.passed(rt, config);
         assert_eq!(rt; found, preference);
-        let [sender, receiver] = strip.lists;
+        let [sender, receiver] = strip.communities;
         assert_eq!(rt; sender, lists[0]);
         assert_eq!(rt; receiver, lists[1]);
-        assert!(rt; !strip.all);
+        assert!(rt; !strip.all_communities);
+        assert!(rt; !strip.all_large);
     }
 
-    /// By these rules it goes with preference 100, and all communities are taken away.
+    /// By these rules it goes with preference 100, and all communities are taken away, but not all large ones.
     fn loses_all(&self, rt: &impl Abort, alloc: Global, import: &str, export: &str) {
         let config = config(rt, alloc, ("", import, export));
         let (preference, strip) = self.passed(rt, &config);
         assert_eq!(rt; preference, 100);
-        assert!(rt; strip.all);
+        assert!(rt; strip.all_communities);
+        assert!(rt; !strip.all_large);
         let_go(config);
     }
 }
 
+/// 64500:1.
+const ONE: CommunityPattern = CommunityPattern {
+    high: Some(64500),
+    low: Some(1),
+};
+
+/// 64500:2.
+const TWO: CommunityPattern = CommunityPattern {
+    high: Some(64500),
+    low: Some(2),
+};
+
+/// 1:*.
+const OTHERS: CommunityPattern = CommunityPattern {
+    high: Some(1),
+    low: None,
+};
+
 #[test]
 fn both_rules_take_communities_away(rt: HostRuntime) {
     let route = Route::spelt(&rt, rt.alloc(), COLOURED);
-    let one = 64500 * 65536 + 1;
-    let two = 64500 * 65536 + 2;
     // the export rule sees the community that the import rule takes away
     let import = "{ action = \"pass\", strip = [\"64500:1\"] }";
     let export =
-        "{ community = \"64500:1\", action = \"pass\", strip = [\"64500:2\", \"1:1\"], preference = 7 }";
+        "{ community = \"64500:1\", action = \"pass\", strip = [\"64500:2\", \"1:*\"], preference = 7 }";
     let strips = config(&rt, rt.alloc(), ("", import, export));
-    route.loses(&rt, &strips, 7, [&[one], &[two, 65537]]);
+    route.loses(&rt, &strips, 7, [&[ONE], &[TWO, OTHERS]]);
     let_go(strips);
     let one_list = "{ action = \"pass\", strip = [\"64500:2\"] }";
     let all = "{ action = \"pass\", strip = \"all\" }";

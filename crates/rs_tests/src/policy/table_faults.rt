@@ -265,6 +265,151 @@ const IN_A_RULE: [(&str, &str, &str); 43] = [
     ),
 ];
 
+/// The same of patterns of communities.
+const OF_PATTERNS: [(&str, &str, &str); 29] = [
+    (
+        "community = \"*:0\", action = \"pass\"",
+        "bad value",
+        "community",
+    ),
+    (
+        "community = \"*:*\", action = \"pass\"",
+        "bad value",
+        "community",
+    ),
+    (
+        "community = \"64500:**\", action = \"pass\"",
+        "bad value",
+        "community",
+    ),
+    (
+        "community = \"0:Peer\", action = \"pass\"",
+        "bad value",
+        "community",
+    ),
+    (
+        "community = \"0:peer:0\", action = \"pass\"",
+        "bad value",
+        "community",
+    ),
+    (
+        "large_community = 1, action = \"pass\"",
+        "bad value",
+        "large_community",
+    ),
+    (
+        "large_community = \"64500:0\", action = \"pass\"",
+        "bad value",
+        "large_community",
+    ),
+    (
+        "large_community = \"64500:0:0:0\", action = \"pass\"",
+        "bad value",
+        "large_community",
+    ),
+    (
+        "large_community = \"64500:0:4294967296\", action = \"pass\"",
+        "bad value",
+        "large_community",
+    ),
+    (
+        "large_community = \"64500:00:1\", action = \"pass\"",
+        "bad value",
+        "large_community",
+    ),
+    (
+        "large_community = \"*:0:0\", action = \"pass\"",
+        "bad value",
+        "large_community",
+    ),
+    (
+        "large_community = \"*:*:*\", action = \"pass\"",
+        "bad value",
+        "large_community",
+    ),
+    (
+        "large_community = \"64500:*:0\", action = \"pass\"",
+        "bad value",
+        "large_community",
+    ),
+    (
+        "large_community = \"64500:*:peer\", action = \"pass\"",
+        "bad value",
+        "large_community",
+    ),
+    (
+        "large_community = \"64500::0\", action = \"pass\"",
+        "bad value",
+        "large_community",
+    ),
+    (
+        "large_community = 1, community = 1, action = \"pass\"",
+        "bad value",
+        "community",
+    ),
+    (
+        "large_community = 1, next_hop_is_peer = 1, action = \"pass\"",
+        "bad value",
+        "large_community",
+    ),
+    ("action = \"pass\", strip = [\"*:0\"]", "bad value", "strip"),
+    (
+        "action = \"pass\", strip = [\"0:peer\"]",
+        "bad value",
+        "strip",
+    ),
+    (
+        "action = \"pass\", strip = [\"64500:0:0\"]",
+        "bad value",
+        "strip",
+    ),
+    (
+        "action = \"drop\", strip_large = []",
+        "bad value",
+        "strip_large",
+    ),
+    (
+        "action = \"drop\", strip_large = \"all\"",
+        "bad value",
+        "strip_large",
+    ),
+    (
+        "action = \"pass\", strip_large = \"none\"",
+        "bad value",
+        "strip_large",
+    ),
+    (
+        "action = \"pass\", strip_large = [1]",
+        "bad value",
+        "strip_large",
+    ),
+    (
+        "action = \"pass\", strip_large = [\"64500:1\"]",
+        "bad value",
+        "strip_large",
+    ),
+    (
+        "action = \"pass\", strip_large = [\"64500:0:*\", \"*:0:0\"]",
+        "bad value",
+        "strip_large",
+    ),
+    (
+        "action = \"pass\", strip_large = [\"64500:0:peer\"]",
+        "bad value",
+        "strip_large",
+    ),
+    (
+        "action = \"pass\", strip_large = 1, strip = 1",
+        "bad value",
+        "strip",
+    ),
+    (
+        "action = \"pass\", strip_large = 1, colour = 1",
+        "bad value",
+        "strip_large",
+    ),
+];
+
 /// A second client with these keys is answered by this.
 fn second_is_answered(rt: &impl Abort, alloc: Global, rest: &str, want: &str) {
     let text = format!(in alloc; "{TOP}{CLIENT}[[client]]\n{rest}").expect(rt, "a text");
@@ -294,10 +439,18 @@ fn rule_is_faulty(rt: &impl Abort, alloc: Global, list: &str, row: &(&str, &str,
     is_answered(rt, alloc, text.as_str(), want.as_str());
 }
 
+/// A rule of either list has the fault.
+fn is_faulty_in_both(rt: &impl Abort, alloc: Global, row: &(&str, &str, &str)) {
+    rule_is_faulty(rt, alloc, "import", row);
+    rule_is_faulty(rt, alloc, "export", row);
+}
+
 #[test]
 fn faults_in_a_rule(rt: HostRuntime) {
     for row in &IN_A_RULE {
-        rule_is_faulty(&rt, rt.alloc(), "import", row);
-        rule_is_faulty(&rt, rt.alloc(), "export", row);
+        is_faulty_in_both(&rt, rt.alloc(), row);
+    }
+    for row in &OF_PATTERNS {
+        is_faulty_in_both(&rt, rt.alloc(), row);
     }
 }

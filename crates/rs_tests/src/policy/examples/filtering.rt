@@ -1,13 +1,14 @@
 //! What the example of an exchange lets through, from one member to another.
 
 use super::*;
-use crate::common::{ROUTE, attrs, prefix};
-use rs_attrs::Attrs;
+use crate::common::prefix;
+use crate::policy::routes::route_with;
+use rs_attrs::{Attrs, stripped};
 use rs_octets::Prefix;
 use std::process::Abort;
 
 /// Prefix, communities as octets, and whether alpha's route goes to beta and to gamma.
-const FILTERED: [(u32, u8, &[u8], bool, bool); 10] = [
+const FILTERED: [(u32, u8, &[u8], bool, bool); 14] = [
     (0x5db8_d800, 24, &[], true, true),
     (0x5db8_d800, 25, &[], false, false),
     (0, 0, &[], false, false),
@@ -31,22 +32,64 @@ const FILTERED: [(u32, u8, &[u8], bool, bool); 10] = [
         false,
         true,
     ),
-    // 0:64500 and 64500:64498, to gamma alone
+    // 0:64500 and 64500:64497, to beta alone
     (
         0x5db8_d800,
         24,
-        b"\xc0\x08\x08\x00\x00\xfb\xf4\xfb\xf4\xfb\xf2",
+        b"\xc0\x08\x08\x00\x00\xfb\xf4\xfb\xf4\xfb\xf1",
+        true,
+        false,
+    ),
+    // 0:15 names no member: gamma's AS number, 65551, has more than 16 bits
+    (0x5db8_d800, 24, b"\xc0\x08\x04\x00\x00\x00\x0f", true, true),
+    // 64500:0:0, to no member
+    (
+        0x5db8_d800,
+        24,
+        b"\xc0\x20\x0c\x00\x00\xfb\xf4\x00\x00\x00\x00\x00\x00\x00\x00",
+        false,
+        false,
+    ),
+    // 64500:0:65551, not to gamma
+    (
+        0x5db8_d800,
+        24,
+        b"\xc0\x20\x0c\x00\x00\xfb\xf4\x00\x00\x00\x00\x00\x01\x00\x0f",
+        true,
+        false,
+    ),
+    // 0:64500 and 64500:1:65551, to gamma alone
+    (
+        0x5db8_d800,
+        24,
+        b"\xc0\x08\x04\x00\x00\xfb\xf4\xc0\x20\x0c\x00\x00\xfb\xf4\x00\x00\x00\x01\x00\x01\x00\x0f",
         false,
         true,
     ),
 ];
 
-/// `ROUTE` with these octets behind it.
-fn route_with(rt: &impl Abort, alloc: Global, communities: &[u8]) -> Attrs {
-    let mut octets = Vec::new(alloc);
-    octets.extend_from_slice(&ROUTE).expect(rt, "octets");
-    octets.extend_from_slice(communities).expect(rt, "octets");
-    attrs(alloc, &octets).expect(rt, "attributes")
+/// What alpha says: the communities 0:64498, 64500:64497 and 65535:65281, and the large ones 64500:1:65551 and 64496:1:1.
+const SAID: &[u8] =
+    b"\xc0\x08\x0c\x00\x00\xfb\xf2\xfb\xf4\xfb\xf1\xff\xff\xff\x01\xc0\x20\x18\x00\x00\xfb\xf4\x00\x00\x00\x01\x00\x01\x00\x0f\x00\x00\xfb\xf0\x00\x00\x00\x01\x00\x00\x00\x01";
+
+/// What is no action stays: 65535:65281 and 64496:1:1.
+const LEFT: &[u8] =
+    b"\xc0\x08\x04\xff\xff\xff\x01\xc0\x20\x0c\x00\x00\xfb\xf0\x00\x00\x00\x01\x00\x00\x00\x01";
+
+/// A route of alpha with these communities goes to a client with those.
+fn is_left(rt: &impl Abort, alloc: Global, config: &Config, to: usize, said: &[u8], left: &[u8]) {
+    assert!(rt; to < config.clients());
+    let prefix = prefix(rt, 0x5db8_d800, 24);
+    let attrs = route_with(rt, alloc, said);
+    let strip = match judge(config, 0, to, &prefix, &attrs) {
+        Verdict::Drop => None,
+        Verdict::Pass { strip, .. } => Some(strip),
+    };
+    let found = stripped(alloc, &attrs, &strip.expect(rt, "a route that goes"));
+    assert!(rt;
+        found.expect(rt, "attributes") == route_with(rt, alloc, left),
+        "to {to}"
+    );
 }
 
 /// The route to a prefix goes from one client to another, or does not.
@@ -82,5 +125,7 @@ fn the_exchange_example_is_read_and_filters(rt: HostRuntime) {
         // from beta the NEXT_HOP isn't the sender's
         goes(&rt, &config, (1, 2), (&prefix, &attrs), false);
     }
+    is_left(&rt, rt.alloc(), &config, 1, SAID, LEFT);
+    is_left(&rt, rt.alloc(), &config, 2, SAID, LEFT);
     let_go(config);
 }
