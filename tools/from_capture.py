@@ -18,7 +18,8 @@ a session that the server did not.
 
 The configuration has the server's AS number, BGP Identifier, Hold Time and capabilities from its first OPEN, and each
 member with its AS number; no rules: what the server filters has to be added by hand. NAME is the member's AS number and
-address. OUT.sent gets the messages that the server sent, as `sent NAME HEX`.
+address. OUT.sent gets what the server sent, for `rs_replay --compare`: the octets of its messages, `sent NAME HEX`; `open NAME`
+where a connection begins; and `after N` before what it sent behind line N of OUT.trace.
 
 From MRT: a session whose OPEN the dump has not gets one that is made up (no Hold Time), and so does a KEEPALIVE that is
 missing; each is said. Where no OPEN of the server is there its AS number is the one that the records have, or --as, and
@@ -126,7 +127,7 @@ def write(options, notes):
         raise Fault(f"no session of {', '.join(f'{a}:{p}' for a, p in options.server)} is there" + (f"; seen were {seen}" if seen else ""))
     with open(options.session, "w") as session, open(options.sent or os.devnull, "w") as sent:
         session.write("".join(f"# from {path}\n" for path in options.capture))
-        recorder = recorded.Recorder(lambda event: sent.write(f"sent {event.name} {event.octets.hex()}\n"))
+        recorder = recorded.Recorder(recorded.Sent(sent.write).tell, len(options.capture))
         session.writelines(f"{line}\n" for line in recorder.lines(itertools.chain([first], events)))
     told = described(options, said, dumped, notes)
     if len(known.known) > members.MOST:

@@ -61,9 +61,9 @@ ases = [64496]
 
 AS_FORM = "an integer of 1 to 4294967295"
 COMMUNITY_FORM = '"N:M", both 0 to 65535 without leading zeros; M may be *'
-LARGE_FORM = '"N:L:M", each 0 to 4294967295 without leading zeros; M, or L and M, may be *'
+LARGE_FORM = '"A:B:C", each 0 to 4294967295 without leading zeros; C, or B and C, may be *'
 STRIP_FORM = '"all" or at most 64 communities "N:M" or "N:*", beside action = "pass"'
-STRIP_LARGE_FORM = '"all" or at most 64 large communities "N:L:M", "N:L:*" or "N:*:*", beside action = "pass"'
+STRIP_LARGE_FORM = '"all" or at most 64 large communities "A:B:C", "A:B:*" or "A:*:*", beside action = "pass"'
 CLIENT_KEYS = "name as listen peer limit import export"
 RULE_KEYS = (
     "prefix min max prefix_in from path_has path_longer path_in origin_as origin_in first_as_is_peer community "

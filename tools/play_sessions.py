@@ -10,7 +10,7 @@ file: four_members.toml above the folder), what the program must write in NAME.o
 
 Where no NAME is given, one trace more is played with --progress: with a terminal on standard error it must be told there
 on one line how far the replay is, and without one nothing; what is written is the same. And one is played of which only the first
-line is read, as by `head -1`: the program must end with status 3, and say nothing.
+line is read, as by `head -1`: the program must end with status 3, and say nothing. Others are held against what another server may have sent.
 """
 import os
 import pathlib
@@ -94,6 +94,62 @@ def unread_differs(program, folder):
     return None if (status, told) == (3, b"") else f"status {status}, {told}"
 
 
+def compared(program, folder, sent, words=()):
+    """The status, what is written behind the octets, and what is said, where the first session is held against these octets."""
+    with tempfile.NamedTemporaryFile() as file:
+        file.write(sent)
+        file.flush()
+        words = [program, "--config", folder.parent / "four_members.toml", "--compare", file.name, *words]
+        with open(folder / "first_route.trace", "rb") as trace:
+            run = subprocess.run(words, stdin=trace, capture_output=True, timeout=60)
+    lines = [it for it in run.stdout.decode().splitlines() if not it.startswith("sent ")]
+    return run.returncode, lines, run.stderr.decode()
+
+
+def table(missing=0, not_due=0, other=0, sent=1):
+    """The rows of the two members, where the second one's is so."""
+    row = "compared {}: {} due, {} sent, {} missing, {} not due, {} with other attributes".format
+    return [row("a", 0, 0, 0, 0, 0), row("b", 1, sent, missing, not_due, other)]
+
+
+def comparisons(folder):
+    """What another server may have sent in the first session, by name, with the status and the lines that it must lead to."""
+    out = (folder / "first_route.out").read_bytes()
+    *before, update = out.splitlines(keepends=True)
+    front, head = b"".join(before), b"sent b " + b"ff" * 16
+    prefix = "198.51.100.0/24"
+    # The same route, announced with another beside it that is withdrawn again; and the attributes of the one are another's.
+    packed = update.replace(b"002f02", b"003302").replace(b"18c63364", b"18cb007118c63364")
+    withdrawn = head + b"001b02000418cb00710000\n"
+    yield "the same", out, (), (0, table(), "")
+    yield "otherwise packed", front + packed + withdrawn, (), (0, table(), "")
+    yield "in pieces", front + update[:61] + b"\nsent b " + update[61:], (), (0, table(), "")
+    yield "a connection before", update + b"open b\n" + out, (), (0, table(), "")
+    yield "missing", front, (), (1, [f"missing b {prefix}", *table(missing=1, sent=0)], "")
+    yield "withdrawn", out + head + b"001b02000418c633640000\n", (), (1, [f"missing b {prefix}", *table(missing=1, sent=0)], "")
+    yield "the session was ended", out + head + b"0015030602\n", (), (1, [f"missing b {prefix}", *table(missing=1, sent=0)], "")
+    yield "not due", front + packed, (), (1, ["not-due b 203.0.113.0/24", *table(not_due=1, sent=2)], "")
+    yield "other attributes", front + update.replace(b"0304c000020b", b"0304c0000263"), (), (1, [f"other b {prefix}", *table(other=1)], "")
+    yield "unreadable", out + head + b"001704000000ff\n", (), (1, ["unreadable b", table()[0]], "")
+    yield "a name that is none", b"sent z 00\n", (), (2, [], "compare: line 1: unknown client\n")
+    yield "no hex", out + b"sent b 0\n", (), (2, [], "compare: line 6: bad hex\n")
+    yield "words", b"sent b\n", (), (2, [], "compare: line 1: word count\n")
+    yield "a number", b"after x\n", (), (2, [], "compare: line 1: bad number\n")
+    until = front + b"after 14\n" + update
+    nothing = [it.replace("b: 1 due, 1 sent", "b: 0 due, 0 sent") for it in table()]
+    yield "up to a line", until, ("--until", "13"), (0, nothing, "")
+    yield "up to the last line", until, ("--until", "17"), (0, table(), "")
+
+
+def comparison_differs(program, folder):
+    """What is wrong with what --compare writes, or None."""
+    for name, sent, words, wanted in comparisons(folder):
+        found = compared(program, folder, sent, words)
+        if found != wanted:
+            return f"{name}: {found}, and not {wanted}"
+    return None
+
+
 def play(program, folder, names=()):
     """Plays the sessions: each, and what is wrong with it or None."""
     chosen, names = names, names or sorted(it.stem for it in folder.glob("*.trace"))
@@ -105,6 +161,7 @@ def play(program, folder, names=()):
     if not chosen:
         yield "what --progress tells", progress_differs(program, folder)
         yield "nobody reads on", unread_differs(program, folder)
+        yield "what --compare tells", comparison_differs(program, folder)
 
 
 if __name__ == "__main__":

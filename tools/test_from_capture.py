@@ -16,6 +16,8 @@ import tempfile
 import unittest
 
 import from_capture
+from capture import members
+from capture import recorded as recorded_session
 
 SESSIONS = pathlib.Path(__file__).resolve().parent.parent / "examples" / "sessions"
 SERVER, A, B = "192.0.2.1", "192.0.2.11", "192.0.2.12"
@@ -97,6 +99,11 @@ def pcapng(packets, order="<"):
     return octets
 
 
+def said_by(lines):
+    """The lines of octets among those of what the server sent."""
+    return [it for it in lines if it.startswith("sent ")]
+
+
 def made(*files, words=("--server", SERVER)):
     """What is made of files: the status, the lines of the session, of what was sent, of the configuration, and what is said."""
     with tempfile.TemporaryDirectory() as room, contextlib.redirect_stderr(io.StringIO()) as said:
@@ -146,13 +153,31 @@ PLAIN = [
 ]
 
 
+class Server(unittest.TestCase):
+    """What the server sent, and behind which line of the session."""
+
+    def test_lines_and_connections(self):
+        told = []
+        recorder, sent = recorded_session.Recorder(recorded_session.Sent(told.append).tell, 1), members.Event
+        events = [
+            sent(START, "open", "a", b"", "packet 1"),
+            sent(START, "sent", "a", b"\1" * 4097, "packet 2"),
+            sent(START, "octets", "a", b"\2", "packet 3"),
+            sent(START, "sent", "a", b"\3", "packet 4"),
+        ]
+        lines = list(recorder.lines(events))
+        self.assertEqual(lines[1:], ["moment 0", "# packet 1", "open a", "octets a 02", "turn", "room a 1000000000"])
+        wanted = ["after 5", "open a", "sent a " + "01" * 4096, "sent a 01", "after 6", "sent a 03"]
+        self.assertEqual("".join(told).splitlines(), wanted)
+
+
 class Links(unittest.TestCase):
     """The forms of captures and of what carries IPv4."""
 
     def whole(self, octets):
         status, session, sent, _, said = made(octets)
         self.assertEqual((status, session), (0, PLAIN), said)
-        self.assertEqual(sent, [f"sent {NAME_A} {it.hex()}" for it in (OPEN_SERVER, KEEPALIVE)])
+        self.assertEqual(said_by(sent), [f"sent {NAME_A} {it.hex()}" for it in (OPEN_SERVER, KEEPALIVE)])
 
     def test_ethernet(self):
         self.whole(pcap(plain()))
@@ -260,7 +285,7 @@ class Streams(unittest.TestCase):
         late = [(1, "server", 60, KEEPALIVE), (2, "member", 56, UPDATE)]
         status, session, sent, _, said = self.streamed([(0, OPEN_A + KEEPALIVE)], late)
         self.assertEqual((status, octets_of(session)), (0, OPEN_A + KEEPALIVE + UPDATE))
-        self.assertEqual(sent, [f"sent {NAME_A} {OPEN_SERVER.hex()}"])
+        self.assertEqual(said_by(sent), [f"sent {NAME_A} {OPEN_SERVER.hex()}"])
         self.assertIn("file0: packet 6: octets of the server to", said)
 
     def test_octets_that_came_twice_and_differ(self):
@@ -658,7 +683,7 @@ class Dumps(unittest.TestCase):
         turned = dict(peer=SERVER, local=A, peer_number=64500, local_number=64496)
         dump = bgp4mp(message(OPEN_SERVER, **turned)) + bgp4mp(message(OPEN_A)) + bgp4mp(message(KEEPALIVE), subtype=7)
         _, session, sent, config, _ = made(dump)
-        self.assertEqual(sent, [f"sent {NAME_A} {OPEN_SERVER.hex()}", f"sent {NAME_A} {KEEPALIVE.hex()}"])
+        self.assertEqual(said_by(sent), [f"sent {NAME_A} {OPEN_SERVER.hex()}", f"sent {NAME_A} {KEEPALIVE.hex()}"])
         self.assertEqual((octets_of(session), config[2]), (OPEN_A, "hold = 90"))
 
     def test_an_open_is_made_up(self):

@@ -15,21 +15,27 @@ class Recorder:
     after octets, and after each million octets.
     """
 
-    def __init__(self, tell):
-        """`tell` is told what the server sent."""
-        self.tell, self.first, self.second, self.up = tell, None, None, {}
+    def __init__(self, tell, before=0):
+        """`tell` is told of connections and of what the server sent, and behind which line; some lines may stand before."""
+        self.tell, self.first, self.second, self.up, self.number = tell, None, None, {}, before
         # The octets of one client that no line has yet; how many came since the last turn; whether a turn is due.
         self.name, self.held, self.since, self.due = None, bytearray(), 0, False
 
     def lines(self, events):
         """The lines of these events, the last turn included."""
+        for line in self.made(events):
+            self.number += 1
+            yield line
+
+    def made(self, events):
+        """The same, not counted. What the server sent comes behind the octets that it had heard, which may have no line yet."""
         does = {"open": self.open, "octets": self.octets, "lost": self.lost}
         for event in events:
-            if event.kind == "sent":
-                self.tell(event)
-            else:
+            if event.kind != "sent":
                 yield from self.time(event)
                 yield from does[event.kind](event)
+            if event.kind in ("open", "sent"):
+                self.tell(event, self.number + -(-len(self.held) // MOST))
         yield from self.turn()
 
     def time(self, event):
@@ -80,6 +86,23 @@ class Recorder:
         self.due = True
         yield f"# {event.place}"
         yield f"lost {event.name}"
+
+
+class Sent:
+    """Writes what the server sent, for `rs_replay --compare`: behind which line of the recorded session it came, which connections began, and the octets."""
+
+    def __init__(self, write):
+        self.write, self.number = write, None
+
+    def tell(self, event, number):
+        """A connection began, or octets were sent on it."""
+        if number != self.number:
+            self.number = number
+            self.write(f"after {number}\n")
+        if event.kind == "open":
+            self.write(f"open {event.name}\n")
+        for at in range(0, len(event.octets), MOST):
+            self.write(f"sent {event.name} {event.octets[at : at + MOST].hex()}\n")
 
 
 def configuration(server, members, heading):

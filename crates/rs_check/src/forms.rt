@@ -136,7 +136,7 @@ const RULES: &str = "an array of at most 64 tables";
 const COMMUNITY: &str = "\"N:M\", both 0 to 65535 without leading zeros; M may be *";
 
 const LARGE_COMMUNITY: &str =
-    "\"N:L:M\", each 0 to 4294967295 without leading zeros; M, or L and M, may be *";
+    "\"A:B:C\", each 0 to 4294967295 without leading zeros; C, or B and C, may be *";
 
 /// The form of the value at a place.
 pub(crate) fn form(place: &Place) -> &'static str {
@@ -195,12 +195,12 @@ fn form_of_rest(key: Key) -> &'static str {
         Key::Community =>
             "\"N:M\", both 0 to 65535 without leading zeros; M may be *, each may be peer",
         Key::LargeCommunity =>
-            "\"N:L:M\", each 0 to 4294967295 without leading zeros; M, or L and M, may be *, each may be peer",
+            "\"A:B:C\", each 0 to 4294967295 without leading zeros; C, or B and C, may be *, each may be peer",
         Key::Preference => "an integer of 0 to 4294967295, beside action = \"pass\"",
         Key::Strip =>
             "\"all\" or at most 64 communities \"N:M\" or \"N:*\", beside action = \"pass\"",
         Key::StripLarge =>
-            "\"all\" or at most 64 large communities \"N:L:M\", \"N:L:*\" or \"N:*:*\", beside action = \"pass\"",
+            "\"all\" or at most 64 large communities \"A:B:C\", \"A:B:*\" or \"A:*:*\", beside action = \"pass\"",
         Key::Use => "the name of rules that others use",
         _ => "a key that is known there",
     }

@@ -3,7 +3,7 @@
 use crate::Asked;
 use crate::arguments::{config, flag, number};
 use crate::version::VERSION;
-use clap::{ArgMatches, Command, Error};
+use clap::{Arg, ArgMatches, Command, Error};
 use std::alloc::{AllocError, Global};
 use std::io;
 
@@ -16,6 +16,10 @@ pub struct Options {
     pub workers: usize,
     /// How far the replay is, is printed on standard error where that is a terminal.
     pub progress: bool,
+    /// The file of what another server sent, which is held against what is due.
+    pub compare: Option<String>,
+    /// The last line of the trace that is played, from 1; all where there is none.
+    pub until: Option<u64>,
 }
 
 /// Reads the command line, and prints help or the version on standard output, or what is wrong with it
@@ -38,7 +42,16 @@ fn options_of(alloc: Global, matches: &ArgMatches<'_>) -> Result<Options, AllocE
         config: String::from_str(alloc, matches.get_str("config").unwrap_or(""))?,
         workers: matches.get_one::<usize>("workers").unwrap_or(1),
         progress: matches.get_flag("progress"),
+        compare: text_of(alloc, matches.get_str("compare"))?,
+        until: matches.get_one::<u64>("until"),
     })
+}
+
+fn text_of(alloc: Global, word: Option<&str>) -> Result<Option<String>, AllocError> {
+    match word {
+        Some(word) => Ok(Some(String::from_str(alloc, word)?)),
+        None => Ok(None),
+    }
 }
 
 /// The command line that is understood.
@@ -60,5 +73,14 @@ fn command<'a>(alloc: Global) -> Result<Command<'a>, AllocError> {
             alloc,
             "progress",
             "print on standard error, where it is a terminal, how many lines were read and UPDATEs heard",
-        ))
+        ))?
+        .arg(
+            Arg::new(alloc, "compare")
+                .long("compare")
+                .value_name("FILE")
+                .help(
+                    "hold what another server sent, as this file says, against what is due at the end",
+                ),
+        )?
+        .arg(number(alloc, "until", u32::MAX, "play only the first N lines"))
 }

@@ -6,7 +6,8 @@
 /// |---|---|---|---|
 /// | `Done` | 0 | the whole trace was played | `--sessions` sessions have ended, or the configuration is good (`--check`) |
 /// | `BadTrace` | 1 | a line of the trace has a fault | never |
-/// | `BadCommand` | 2 | the command line or the configuration has a fault | the same; to start the program again is of no use |
+/// | `Differs` | 1 | what another server sent differs from what is due (`--compare`) | never |
+/// | `BadCommand` | 2 | the command line, the configuration or the file to compare has a fault | the same; to start the program again is of no use |
 /// | `Failed` | 3 | memory was refused, or reading or writing failed | memory was refused, or listening, serving or writing failed |
 ///
 /// Both end with `Done` after help or the version was printed.
@@ -14,6 +15,7 @@
 pub enum Status {
     Done,
     BadTrace,
+    Differs,
     BadCommand,
     Failed,
 }
@@ -26,12 +28,13 @@ impl Status {
     pub fn number(self) -> u8
         ensures done { self ≡ statuses.Done → result ≡ 0 }
         ensures bad_trace { self ≡ statuses.BadTrace → result ≡ 1 }
+        ensures differs { self ≡ statuses.Differs → result ≡ 1 }
         ensures bad_command { self ≡ statuses.BadCommand → result ≡ 2 }
         ensures failed { self ≡ statuses.Failed → result ≡ 3 }
     {
         match self {
             Status::Done => 0,
-            Status::BadTrace => 1,
+            Status::BadTrace | Status::Differs => 1,
             Status::BadCommand => 2,
             Status::Failed => 3,
         }

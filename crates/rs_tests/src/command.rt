@@ -20,11 +20,13 @@ const HELP_TO_PLAY: &str =
 Usage: rs_replay [OPTIONS] --config <FILE>
 
 Options:
-  -c, --config <FILE>  the configuration, a TOML file
-      --workers <N>    how many workers share the work of a turn, 1 to 16 [default: 1]
-      --progress       print on standard error, where it is a terminal, how many lines were read and UPDATEs heard
-  -h, --help           Print help
-  -V, --version        Print version
+  -c, --config <FILE>   the configuration, a TOML file
+      --workers <N>     how many workers share the work of a turn, 1 to 16 [default: 1]
+      --progress        print on standard error, where it is a terminal, how many lines were read and UPDATEs heard
+      --compare <FILE>  hold what another server sent, as this file says, against what is due at the end
+      --until <N>       play only the first N lines
+  -h, --help            Print help
+  -V, --version         Print version
 ";
 
 const HELP_TO_SERVE: &str = "A BGP-4 route server for internet exchanges
@@ -118,13 +120,19 @@ fn is_played<R: Abort>(
     rt: &R,
     alloc: Global,
     line: &str,
-    wanted: (&str, usize, bool),
+    wanted: (&str, usize, bool, Option<&str>, Option<u64>),
 ) -> Result<(), Fail> {
     let streams = Streams::new(alloc);
     let words = words_of(alloc, line)?;
     let asked = replay::read_command(&streams, alloc, &words)?;
     let options = match &asked {
-        Asked::Run(it) => Some((it.config.as_str(), it.workers, it.progress)),
+        Asked::Run(it) => Some((
+            it.config.as_str(),
+            it.workers,
+            it.progress,
+            it.compare.as_deref(),
+            it.until,
+        )),
         Asked::End(_) => None,
     };
     assert_eq!(rt; options, Some(wanted), "{line}");
@@ -183,14 +191,25 @@ fn is_refused<R: Abort>(rt: &R, alloc: Global, line: &str) -> Result<(), Fail> {
 #[test]
 fn options_to_play_by(rt: HostRuntime) -> Result<(), Fail> {
     let alloc = rt.alloc();
-    is_played(&rt, alloc, "rs_replay --config a", ("a", 1, false))?;
+    is_played(
+        &rt,
+        alloc,
+        "rs_replay --config a",
+        ("a", 1, false, None, None),
+    )?;
+    is_played(
+        &rt,
+        alloc,
+        "rs_replay --config a --compare b --until 7",
+        ("a", 1, false, Some("b"), Some(7)),
+    )?;
     is_played(
         &rt,
         alloc,
         "rs_replay --progress --workers 16 --config=a",
-        ("a", 16, true),
+        ("a", 16, true, None, None),
     )?;
-    is_played(&rt, alloc, "rs_replay -c a", ("a", 1, false))
+    is_played(&rt, alloc, "rs_replay -c a", ("a", 1, false, None, None))
 }
 
 #[test]
@@ -339,6 +358,7 @@ fn versions_are_printed(rt: HostRuntime) -> Result<(), Fail> {
 fn statuses_have_these_numbers(rt: HostRuntime) {
     assert_eq!(rt; Status::Done.number(), 0);
     assert_eq!(rt; Status::BadTrace.number(), 1);
+    assert_eq!(rt; Status::Differs.number(), 1);
     assert_eq!(rt; Status::BadCommand.number(), 2);
     assert_eq!(rt; Status::Failed.number(), 3);
 }

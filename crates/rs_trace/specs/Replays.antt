@@ -193,6 +193,12 @@ pub record PlaysOut {R W : Type 0} (settings : Configuration) (takes : R → Lis
   pub took : AllTookAll acts
   pub over : IsOver takes at_end puts (place_in names) first to (lines_done acts) (written (name_in names) acts) reader writer answer
 
+-- So it ended, and its course came to this route server.
+pub record PlaysTo {R W : Type 0} (settings : Configuration) (takes : R → List ℕ → R → Type 0) (at_end : R → Type 0) (puts : W → List ℕ → W → Type 0)
+    (names : Names) (first : R) (to : W) (reader : R) (writer : W) (core : Core) (answer : Result (Unit {0}) ReplayFault) : Type 0 where
+  pub out : PlaysOut settings takes at_end puts names first to reader writer answer
+  pub at : out.course.core ≡ core
+
 -- Since the first reader and writer these acts were done, by a recording with these names, and now all stands so.
 pub record HasDone {R W G : Type 0} (takes : R → List ℕ → R → Type 0) (at_end : R → Type 0) (fails : R → ℕ) (puts : W → List ℕ → W → Type 0) (loses : W → ℕ)
     (names : Names) (reads writes : G) (first : R) (to : W) (acts : List Act)

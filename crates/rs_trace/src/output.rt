@@ -104,7 +104,7 @@ fn put_number(alloc: Global, line: &mut Vec<u8>, number: u32) -> Result<(), Allo
 }
 
 /// Puts a prefix at the end of a line, as `198.51.100.0/24`.
-fn put_prefix(alloc: Global, line: &mut Vec<u8>, prefix: &Prefix) -> Result<(), AllocError>
+pub fn put_prefix(alloc: Global, line: &mut Vec<u8>, prefix: &Prefix) -> Result<(), AllocError>
     ensures { OnOk result (line.new.items ≡ line.old.items ++ prefix_text prefix.now) }
 {
     let bits = prefix.bits();

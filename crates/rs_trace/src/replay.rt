@@ -6,7 +6,7 @@ ghost use Rattle.rs_core.specs.Core.{client_count};
 ghost use Rattle.rs_core.specs.Run.Moves.{Ruled};
 ghost use Rattle.rs_core.specs.Run.Agreeing.{Agrees};
 ghost use Rattle.rs_trace.specs.Played.{failures_read, failures_written};
-ghost use Rattle.rs_trace.specs.Replays.{HasPlayed, IsAtFirst, PlaysOut, end_of};
+ghost use Rattle.rs_trace.specs.Replays.{HasPlayed, IsAtFirst, PlaysTo, end_of};
 
 use crate::fault::{ReplayFault, Stop};
 use crate::progress::Watch;
@@ -46,8 +46,9 @@ pub fn replay<T: Threads + Wait + Sync, R: TextIn, W: TextOut, P: Watch>(
     play_on(rt, alloc, workers, &mut core, &mut recording)
 }
 
-/// Lets the core run until the recording is over, and lists routes where it stops for them.
-fn play_on<T: Threads + Wait + Sync, R: TextIn, W: TextOut, P: Watch>(
+/// Lets the core run until the recording is over, and lists routes where it stops for them. The core
+/// is then the one that the course came to.
+pub fn play_on<T: Threads + Wait + Sync, R: TextIn, W: TextOut, P: Watch>(
     rt: &T,
     alloc: Global,
     workers: usize,
@@ -58,7 +59,7 @@ fn play_on<T: Threads + Wait + Sync, R: TextIn, W: TextOut, P: Watch>(
     requires first { IsAtFirst recording.old.lines.now recording.old.number recording.old.stop }
     ensures reader { recording.new.reader.ghost_name ≡ recording.old.reader.ghost_name }
     ensures writer { recording.new.writer.ghost_name ≡ recording.old.writer.ghost_name }
-    ensures played { (settings : Configuration) → client_count core.old ≡ length settings.clients → Agrees core.old (Ruled settings ∷ []) → PlaysOut settings R.takes R.at_end W.puts recording.old.names.now recording.old.reader.now recording.old.writer.now recording.new.reader.now recording.new.writer.now result }
+    ensures played { (settings : Configuration) → client_count core.old ≡ length settings.clients → Agrees core.old (Ruled settings ∷ []) → PlaysTo settings R.takes R.at_end W.puts recording.old.names.now recording.old.reader.now recording.old.writer.now recording.new.reader.now recording.new.writer.now core.new result }
     ensures reads { R.failures recording.new.reader.now ≡ failures_read (end_of result) (R.failures recording.old.reader.now) }
     ensures writes { W.failures recording.new.writer.now ≡ failures_written (end_of result) (W.failures recording.old.writer.now) }
 {

@@ -16,7 +16,7 @@ use Rattle.rs_trace.specs.declared.fault.Stop.{Stop}
 use Rattle.rs_trace.specs.declared.fault.Stop.TheVariants.{End, Table}
 use Rattle.rs_trace.specs.declared.fault.ReplayFault.{ReplayFault}
 use Rattle.rs_trace.specs.Played.{Act, Did, ListedRoutes, lines_done, written, failures_read, failures_written}
-use Rattle.rs_trace.specs.Replays.{Adds, Begins, Happens, IsOver, Plays, PlaysOut, Tells, place_in, name_in}
+use Rattle.rs_trace.specs.Replays.{Adds, Begins, Happens, IsOver, Plays, PlaysTo, Tells, place_in, name_in}
 use Rattle.rs_trace.specs.Tables.{ListsOf}
 use Rattle.rs_trace.proofs.Replaying.{HasGone, did, listed_lines, done_first, gone_on, led_to_stop, over_at_end}
 use Rattle.rs_trace.proofs.replay.play_on.Given as given
@@ -88,16 +88,19 @@ played_to : (g : given.Over) (first last : Recording g.row.R.Denot g.row.W.Denot
     → HasGone (λ link acts. Does g first acts link) settings (name_in first.names.now) core last → last.stop ≡ Some stop
     → ((acts : List Act) → Plays g.R.TextIn.takes g.R.TextIn.at_end g.R.TextIn.failures g.W.TextOut.puts g.W.TextOut.failures (place_in last.names.now) first.reader.now first.writer.now (lines_done acts) (written (name_in first.names.now) acts) last.reader.now last.writer.now last.lines.now last.number (Some stop)
     → IsOver g.R.TextIn.takes g.R.TextIn.at_end g.W.TextOut.puts (place_in last.names.now) first.reader.now first.writer.now (lines_done acts) (written (name_in first.names.now) acts) reader writer answer)
-    → PlaysOut settings g.R.TextIn.takes g.R.TextIn.at_end g.W.TextOut.puts first.names.now first.reader.now first.writer.now reader writer answer
+    → PlaysTo settings g.R.TextIn.takes g.R.TextIn.at_end g.W.TextOut.puts first.names.now first.reader.now first.writer.now reader writer core answer
 played_to g first last settings core stop answer reader writer h at over = record {
-  acts = h.acts;
-  course = course core h.steps h.run h.agrees;
-  ran = h.ran;
-  took = h.done.took;
-  over = subst (λ ns. Plays g.R.TextIn.takes g.R.TextIn.at_end g.R.TextIn.failures g.W.TextOut.puts g.W.TextOut.failures (place_in ns) first.reader.now first.writer.now (lines_done h.acts) (written (name_in first.names.now) h.acts) last.reader.now last.writer.now last.lines.now last.number (Some stop)
-      → IsOver g.R.TextIn.takes g.R.TextIn.at_end g.W.TextOut.puts (place_in ns) first.reader.now first.writer.now (lines_done h.acts) (written (name_in first.names.now) h.acts) reader writer answer)
-      h.done.same_names (over h.acts)
-      (subst (λ x. Plays g.R.TextIn.takes g.R.TextIn.at_end g.R.TextIn.failures g.W.TextOut.puts g.W.TextOut.failures (place_in first.names.now) first.reader.now first.writer.now (lines_done h.acts) (written (name_in first.names.now) h.acts) last.reader.now last.writer.now last.lines.now last.number x) at h.done.plays);
+  out = record {
+    acts = h.acts;
+    course = course core h.steps h.run h.agrees;
+    ran = h.ran;
+    took = h.done.took;
+    over = subst (λ ns. Plays g.R.TextIn.takes g.R.TextIn.at_end g.R.TextIn.failures g.W.TextOut.puts g.W.TextOut.failures (place_in ns) first.reader.now first.writer.now (lines_done h.acts) (written (name_in first.names.now) h.acts) last.reader.now last.writer.now last.lines.now last.number (Some stop)
+        → IsOver g.R.TextIn.takes g.R.TextIn.at_end g.W.TextOut.puts (place_in ns) first.reader.now first.writer.now (lines_done h.acts) (written (name_in first.names.now) h.acts) reader writer answer)
+        h.done.same_names (over h.acts)
+        (subst (λ x. Plays g.R.TextIn.takes g.R.TextIn.at_end g.R.TextIn.failures g.W.TextOut.puts g.W.TextOut.failures (place_in first.names.now) first.reader.now first.writer.now (lines_done h.acts) (written (name_in first.names.now) h.acts) last.reader.now last.writer.now last.lines.now last.number x) at h.done.plays);
+  };
+  at = refl;
 }
 
 pub loop-init : goal.loop-init

@@ -15,7 +15,7 @@ returns-clause-played g c =
     let out : PlaysOut c.args.config g.R.TextIn.takes g.R.TextIn.at_end g.W.TextOut.puts made.names.now first to last.reader.now last.writer.now c.play_on.result =
     subst (λ a. PlaysOut c.args.config g.R.TextIn.takes g.R.TextIn.at_end g.W.TextOut.puts made.names.now a to last.reader.now last.writer.now c.play_on.result) c.new-recording.ensures.given
     (subst (λ b. PlaysOut c.args.config g.R.TextIn.takes g.R.TextIn.at_end g.W.TextOut.puts made.names.now made.reader.now b last.reader.now last.writer.now c.play_on.result) c.new-recording.ensures.lent
-    (c.play_on.ensures.played c.args.config c.in-Ok-new.ensures.count c.in-Ok-new.ensures.agrees)) in
+    (c.play_on.ensures.played c.args.config c.in-Ok-new.ensures.count c.in-Ok-new.ensures.agrees).out) in
     let played : IsPlayed c.args.config (λ text. g.R.TextIn.takes first text last.reader.now) (g.R.TextIn.at_end last.reader.now) (λ octets. g.W.TextOut.puts to octets last.writer.now) c.play_on.result =
     played_out g.R.TextIn.takes g.R.TextIn.at_end g.W.TextOut.puts c.args.config made.names.now first to last.reader.now last.writer.now c.play_on.result named out in
     inl (played_at g.R.TextIn.takes g.R.TextIn.at_end g.W.TextOut.puts c.args.config first to c.play_on.result last.reader.now _ last.writer.now _ (search rules) (search rules) played)

@@ -1,0 +1,4 @@
+pub mod Merged
+pub mod Stepped
+pub mod Hearing
+pub mod Listed

@@ -1,0 +1,111 @@
+//! What another server sent to a client on one connection: octets come in, piece after piece, and a
+//! table is kept.
+
+use rs_attrs::Mode;
+use rs_compare::Sent;
+use rs_octets::{Allowed, Front, Kind, read_front};
+use std::alloc::{AllocError, Global};
+
+/// A server may send long messages to whom takes them (RFC 8654).
+const ALLOWED: Allowed = Allowed {
+    long: true,
+    refresh: true,
+};
+
+/// What a server sent, from the beginning of the connection on.
+#[derive(Drop)]
+pub(crate) struct Connection {
+    /// The octets behind the last whole message.
+    rest: Vec<u8>,
+    sent: Sent,
+    is_readable: bool,
+}
+
+/// Hears a message, and answers whether the session goes on. By an OPEN it begins, and by a
+/// NOTIFICATION it ends: then nothing is held.
+fn hear_message(
+    alloc: Global,
+    kind: Kind,
+    body: &[u8],
+    mode: Mode,
+    sent: &mut Sent,
+) -> Result<bool, AllocError> {
+    match kind {
+        Kind::Update => sent.hear(alloc, body, mode),
+        Kind::Open | Kind::Note => {
+            *sent = Sent::new(alloc);
+            Ok(true)
+        }
+        Kind::Keepalive | Kind::Refresh => Ok(true),
+    }
+}
+
+/// Hears the messages at the front of octets. Answers how many octets are behind them, or nothing
+/// where something can't be read.
+fn hear_messages(
+    alloc: Global,
+    octets: &[u8],
+    mode: Mode,
+    sent: &mut Sent,
+) -> Result<Option<usize>, AllocError> {
+    let mut rest = octets;
+    for _ in 0..octets.len() {
+        match read_front(rest, ALLOWED) {
+            Front::Message {
+                kind,
+                body,
+                rest: behind,
+            } => {
+                if !hear_message(alloc, kind, body, mode, sent)? {
+                    return Ok(None);
+                }
+                rest = behind;
+            }
+            Front::Fault(_) => return Ok(None),
+            Front::Wants(_) => break,
+        }
+    }
+    Ok(Some(rest.len()))
+}
+
+impl Connection {
+    /// Nothing was sent yet.
+    pub(crate) fn new(alloc: Global) -> Connection {
+        Connection {
+            rest: Vec::new(alloc),
+            sent: Sent::new(alloc),
+            is_readable: true,
+        }
+    }
+
+    /// The table that was sent; none where something can't be read.
+    pub(crate) fn sent(&self) -> Option<&Sent> {
+        if self.is_readable {
+            Some(&self.sent)
+        } else {
+            None
+        }
+    }
+
+    /// Takes the octets that were sent next, in which AS numbers are spelt in this mode.
+    pub(crate) fn take(
+        &mut self,
+        alloc: Global,
+        octets: &[u8],
+        mode: Mode,
+    ) -> Result<(), AllocError> {
+        if !self.is_readable {
+            return Ok(());
+        }
+        self.rest.extend_from_slice(octets)?;
+        let Some(left) = hear_messages(alloc, &self.rest, mode, &mut self.sent)? else {
+            self.is_readable = false;
+            return Ok(());
+        };
+        let heard = self.rest.len().saturating_sub(left);
+        if heard > 0 {
+            self.rest.drain(..heard);
+        }
+        Ok(())
+    }
+}
