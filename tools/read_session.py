@@ -211,20 +211,25 @@ class Reader:
             self.tell(f"line {self.place}{self.clock.text()}: {name} {verb} {prefix}{more}")
 
 
-def main(words):
-    parser = argparse.ArgumentParser(description=__doc__.split("\n")[0])
-    parser.add_argument("--prefix", type=ipaddress.IPv4Network, help="only what overlaps this prefix")
-    parser.add_argument("--as", dest="number", type=int, help="only routes with this AS number in AS_PATH")
-    parser.add_argument("file", nargs="?", type=argparse.FileType("r"), default=sys.stdin)
-    asked = parser.parse_args(words)
-    reader = Reader(asked.prefix, asked.number, print)
-    for line in asked.file:
+def read_all(lines, tell, prefix=None, number=None):
+    """Tells the routes of these lines, and answers the status to end with."""
+    reader = Reader(prefix, number, tell)
+    for line in lines:
         try:
             reader.line(line.rstrip("\n"))
         except ValueError as fault:
             print(f"line {reader.place}: {fault}", file=sys.stderr)
             return 2
     return 0
+
+
+def main(words):
+    parser = argparse.ArgumentParser(description=__doc__.split("\n")[0])
+    parser.add_argument("--prefix", type=ipaddress.IPv4Network, help="only what overlaps this prefix")
+    parser.add_argument("--as", dest="number", type=int, help="only routes with this AS number in AS_PATH")
+    parser.add_argument("file", nargs="?", type=argparse.FileType("r"), default=sys.stdin)
+    asked = parser.parse_args(words)
+    return read_all(asked.file, print, asked.prefix, asked.number)
 
 
 if __name__ == "__main__":
