@@ -10,33 +10,33 @@ use Rattle.rs_decision.specs.Best.{HasDistinctPlaces, IsLevel, HasLowestMed, IsU
 use Rattle.rs_octets.proofs.Members.{Has, has, contains, ApartBy, apart_by, only}
 use Rattle.rs_decision.proofs.Filters.{from_unbeaten, to_unbeaten, unbeaten_apart, lowest_is_least, least_is_lowest, lowest_in, lowest_same, lowest_joins, highest_is_greatest, greatest_is_highest, highest_in, highest_same, highest_joins}
 
-abbrev preference : Rank → ℕ
+abbrev pub preference : Rank → ℕ
 preference r = r.preference
 
-abbrev path : Rank → ℕ
+abbrev pub path : Rank → ℕ
 path r = r.path_len
 
-abbrev origin : Rank → ℕ
+abbrev pub origin : Rank → ℕ
 origin r = r.origin
 
-abbrev identifier : Rank → ℕ
+abbrev pub identifier : Rank → ℕ
 identifier r = r.identifier
 
-abbrev address : Rank → ℕ
+abbrev pub address : Rank → ℕ
 address r = r.address
 
-abbrev place : Rank → ℕ
+abbrev pub place : Rank → ℕ
 place r = r.place
 
 -- ---- before MULTI_EXIT_DISC
 
-to_path : (ranks : List Rank) (b : Rank) → Has (by_origin ranks) b → Has (by_path ranks) b
+pub to_path : (ranks : List Rank) (b : Rank) → Has (by_origin ranks) b → Has (by_path ranks) b
 to_path ranks b h = lowest_in origin (by_path ranks) b h
 
-to_preference : (ranks : List Rank) (b : Rank) → Has (by_origin ranks) b → Has (by_preference ranks) b
+pub to_preference : (ranks : List Rank) (b : Rank) → Has (by_origin ranks) b → Has (by_preference ranks) b
 to_preference ranks b h = lowest_in path (by_preference ranks) b (to_path ranks b h)
 
-to_all : (ranks : List Rank) (b : Rank) → Has (by_origin ranks) b → Has ranks b
+pub to_all : (ranks : List Rank) (b : Rank) → Has (by_origin ranks) b → Has ranks b
 to_all ranks b h = highest_in preference ranks b (to_preference ranks b h)
 
 level : (ranks : List Rank) (b x : Rank) → Has (by_origin ranks) b → Has (by_origin ranks) x → IsLevel x b
@@ -63,15 +63,15 @@ not_lower_med n m a b h = grind (arith, nat_tests)
 abbrev has_lower : Rank → Rank → Bool
 has_lower a b = (a.neighbour == b.neighbour) && nat_lt (med_of a) (med_of b)
 
-to_origin : (ranks : List Rank) (b : Rank) → Has (by_med ranks) b → Has (by_origin ranks) b
+pub to_origin : (ranks : List Rank) (b : Rank) → Has (by_med ranks) b → Has (by_origin ranks) b
 to_origin ranks b h = (from_unbeaten has_lower (by_origin ranks) b h).0
 
-med_is_lowest : (ranks : List Rank) (b : Rank) → Has (by_med ranks) b → HasLowestMed ranks b
+pub med_is_lowest : (ranks : List Rank) (b : Rank) → Has (by_med ranks) b → HasLowestMed ranks b
 med_is_lowest ranks b h s hs same neighbour =
     at_most_med s.neighbour b.neighbour (med_of s) (med_of b)
     ((from_unbeaten has_lower (by_origin ranks) b h).1 s (joins ranks b s (to_origin ranks b h) (has ranks s hs) same)) neighbour
 
-lowest_is_med : (ranks : List Rank) (b : Rank) → Has (by_origin ranks) b → HasLowestMed ranks b → Has (by_med ranks) b
+pub lowest_is_med : (ranks : List Rank) (b : Rank) → Has (by_origin ranks) b → HasLowestMed ranks b → Has (by_med ranks) b
 lowest_is_med ranks b h low =
     to_unbeaten has_lower (by_origin ranks) b h
     (λ y hy. not_lower_med y.neighbour b.neighbour (med_of y) (med_of b) (low y (contains ranks y (to_all ranks y hy)) (level ranks b y h hy)))

@@ -178,10 +178,10 @@ not_lower_in_med a b h =
     let is_lower : med_of a < med_of b = grind (arith, nat_tests, lower) in
     omega arith)
 
-stays_has_lowest : (ranks : List Rank) (b : Rank) → loses ranks b ≡ false → HasLowestMed ranks b
+pub stays_has_lowest : (ranks : List Rank) (b : Rank) → loses ranks b ≡ false → HasLowestMed ranks b
 stays_has_lowest ranks b h s hs same neighbour = lower_in_med s b (none_of (λ r. has_lower_med r b) ranks h s (has ranks s hs)) same neighbour
 
-lowest_stays : (ranks : List Rank) (b : Rank) → HasLowestMed ranks b → loses ranks b ≡ false
+pub lowest_stays : (ranks : List Rank) (b : Rank) → HasLowestMed ranks b → loses ranks b ≡ false
 lowest_stays ranks b low = any_false (λ r. has_lower_med r b) ranks (λ s hs. not_lower_in_med s b (low s (contains ranks s hs)))
 
 -- a rank that is level with s and does not lose

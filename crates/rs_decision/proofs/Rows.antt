@@ -1,7 +1,9 @@
 -- What the definitions choose, by computation: each filter decides once, where all before it leave the routes level.
-use Rattle.std.specs.Prelude.{◌≡◌, ℕ, [], ◌∷◌, refl, Option, Some, None}
+use Rattle.std.specs.Prelude.{◌≡◌, ℕ, List, [], ◌∷◌, refl, Option, Some, None}
 use Rattle.rs_decision.specs.declared.rank.Rank.{Rank}
+use Rattle.rs_decision.specs.declared.losing.Step.TheVariants as S
 use Rattle.rs_decision.specs.Choice.{unbeaten, best_of}
+use Rattle.rs_decision.specs.Losing.{lost_by}
 
 -- preference, AS_PATH, ORIGIN, MULTI_EXIT_DISC and neighbouring AS, BGP Identifier, address, place
 abbrev rank : ℕ → ℕ → ℕ → Option ℕ → ℕ → ℕ → ℕ → ℕ → Rank
@@ -64,3 +66,17 @@ lower_place = refl
 set_at_once : best_of (rank 100 2 0 (Some 9) 64496 1 1 0 ∷ rank 100 2 0 (Some 5) 64496 3 3 1 ∷ rank 100 2 0 (Some 0) 64497 2 2 2 ∷ []) ≡ Some (rank 100 2 0 (Some 0) 64497 2 2 2)
 unfolding unbeaten
 set_at_once = refl
+
+-- the first of these is out by MULTI_EXIT_DISC, and the second by the BGP Identifier
+
+abbrev three : List Rank
+three = rank 100 2 0 (Some 9) 64496 1 1 0 ∷ rank 100 2 0 (Some 5) 64496 3 3 1 ∷ rank 100 2 0 (Some 0) 64497 2 2 2 ∷ []
+
+pub record AreLost : Type 0 where
+  pub first : lost_by three (rank 100 2 0 (Some 9) 64496 1 1 0) ≡ Some S.Med
+  pub second : lost_by three (rank 100 2 0 (Some 5) 64496 3 3 1) ≡ Some S.Identifier
+  pub third : lost_by three (rank 100 2 0 (Some 0) 64497 2 2 2) ≡ None
+
+are_lost : AreLost
+unfolding lost_by unbeaten
+are_lost = record { first = refl; second = refl; third = refl }

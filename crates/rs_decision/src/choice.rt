@@ -63,7 +63,7 @@ fn precedes(a: &Rank, b: &Rank) -> bool
 
 /// Whether a rank loses by step c: another one of the same neighbouring AS, alike by the steps
 /// before c, has a lower MULTI_EXIT_DISC.
-fn loses_by_med(ranks: &[Rank], rank: &Rank) -> bool
+pub(crate) fn loses_by_med(ranks: &[Rank], rank: &Rank) -> bool
     ensures { result ≡ list_any (λ r. has_lower_med r rank.now) ranks.now }
 {
     ranks.iter().any(|r| r.neighbour == rank.neighbour

@@ -8,6 +8,7 @@
 //!   the standard's steps (`specs/Choice.antt`). The code asks for the first rank by all steps but
 //!   c, MULTI_EXIT_DISC, and where that rank loses by c for the first that doesn't.
 //! - `exits` tells which ranks lose by c.
+//! - `losing` tells by which step a rank loses.
 //! - `laws` are contracts of functions that do nothing: the best is unbeaten, and the order of the
 //!   list doesn't matter.
 //! - `tests` have choices worked out by the standard's rules.
@@ -16,10 +17,12 @@
 mod choice;
 mod exits;
 mod laws;
+mod losing;
 mod rank;
 #[cfg(test)]
 mod tests;
 
 pub use choice::best;
 pub use laws::{best_ignores_order, best_is_unbeaten};
+pub use losing::{Step, lost_by};
 pub use rank::Rank;

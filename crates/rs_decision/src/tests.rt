@@ -1,6 +1,6 @@
 //! Worked choices, whose values come from the standard's rules and not from the program.
 
-use crate::{Rank, best};
+use crate::{Rank, Step, best, lost_by};
 use std::process::Abort;
 
 const EQUAL: Rank = Rank {
@@ -259,4 +259,144 @@ fn each_filter_decides_alone(rt: HostRuntime) {
     let earlier = Rank { place: 0, ..EQUAL };
     let later = Rank { place: 1, ..EQUAL };
     assert_eq!(rt; best_of_two(&rt, later, earlier), Some(1), "by place");
+}
+
+/// By which step the second of two ranks of different places loses.
+fn second_lost_by(rt: &impl Abort, first: Rank, second: Rank) -> Option<Step> {
+    assert!(rt; first.place != second.place);
+    lost_by(&[first, second], 1)
+}
+
+/// Ranks that lose beside `EQUAL`, each worse in one respect and better in those that come later, but for the place.
+const LOSERS: [(Rank, Step, &str); 7] = [
+    (
+        Rank {
+            preference: 99,
+            path_len: 1,
+            origin: 0,
+            med: Some(0),
+            neighbour: 64496,
+            identifier: 1,
+            address: 1,
+            place: 1,
+        },
+        Step::Preference,
+        "lower preference",
+    ),
+    (
+        Rank {
+            path_len: 3,
+            origin: 0,
+            med: Some(0),
+            identifier: 1,
+            address: 1,
+            place: 1,
+            ..EQUAL
+        },
+        Step::Path,
+        "longer AS_PATH",
+    ),
+    (
+        Rank {
+            origin: 2,
+            med: Some(0),
+            identifier: 1,
+            address: 1,
+            place: 1,
+            ..EQUAL
+        },
+        Step::Origin,
+        "higher ORIGIN",
+    ),
+    (
+        Rank {
+            med: Some(11),
+            identifier: 1,
+            address: 1,
+            place: 1,
+            ..EQUAL
+        },
+        Step::Med,
+        "higher MULTI_EXIT_DISC",
+    ),
+    // of another neighbouring AS it isn't compared
+    (
+        Rank {
+            med: Some(11),
+            neighbour: 64497,
+            identifier: 21,
+            address: 1,
+            place: 1,
+            ..EQUAL
+        },
+        Step::Identifier,
+        "higher BGP Identifier",
+    ),
+    (
+        Rank {
+            address: 31,
+            place: 1,
+            ..EQUAL
+        },
+        Step::Address,
+        "higher address",
+    ),
+    (
+        Rank { place: 1, ..EQUAL },
+        Step::Place,
+        "later place in the configuration",
+    ),
+];
+
+#[test]
+fn a_loser_knows_its_step(rt: HostRuntime) {
+    for (loser, step, text) in &LOSERS {
+        let found = second_lost_by(&rt, EQUAL, *loser);
+        assert_eq!(rt; found, Some(*step), "for {text}");
+        let best = second_lost_by(&rt, *loser, EQUAL);
+        assert_eq!(rt; best, None, "for {text}");
+        let line = format!(in rt.alloc(); "{step}").expect(&rt, "a text");
+        assert_eq!(rt; line.as_str(), *text);
+    }
+}
+
+/// By which step one of three ranks of different places loses.
+fn lost_of_three(rt: &impl Abort, ranks: &[Rank; 3], candidate: usize) -> Option<Step> {
+    let (first, second, third) = (ranks[0], ranks[1], ranks[2]);
+    assert!(rt; first.place != second.place);
+    assert!(rt; first.place != third.place);
+    assert!(rt; second.place != third.place);
+    assert!(rt; candidate < 3);
+    lost_by(&[first, second, third], candidate)
+}
+
+/// The first precedes the best by its BGP Identifier, but is out before by the second's MULTI_EXIT_DISC.
+#[test]
+fn a_rank_is_lost_to_one_that_loses(rt: HostRuntime) {
+    let ranks = [
+        Rank {
+            med: Some(10),
+            neighbour: 64496,
+            identifier: 1,
+            place: 0,
+            ..EQUAL
+        },
+        Rank {
+            med: Some(5),
+            neighbour: 64496,
+            identifier: 3,
+            place: 1,
+            ..EQUAL
+        },
+        Rank {
+            med: Some(20),
+            neighbour: 64497,
+            identifier: 2,
+            place: 2,
+            ..EQUAL
+        },
+    ];
+    assert_eq!(rt; lost_of_three(&rt, &ranks, 0), Some(Step::Med));
+    assert_eq!(rt; lost_of_three(&rt, &ranks, 1), Some(Step::Identifier));
+    assert_eq!(rt; lost_of_three(&rt, &ranks, 2), None);
 }
