@@ -1,5 +1,5 @@
 -- No rule of an import list names the receiver, so that what the list makes of a route is the same for all.
-use Rattle.std.proofs.Common.{◌≡◌, ℕ, ◌+◌, ◌==◌, length, ◌&&◌, ◌||◌, Bool, true, false, List, [], ◌∷◌, find, get_or, Option, Some, None, Ok, option_map, refl, sym, ap, subst, ◌∙◌, bytes_eq, arith, if◌then◌else◌}
+use Rattle.std.proofs.Common.{◌≡◌, ℕ, ◌+◌, ◌==◌, length, ◌&&◌, ◌||◌, Bool, true, false, List, [], ◌∷◌, find, get_or, Option, Some, None, Ok, option_map, refl, ap, subst, ◌∙◌, bytes_eq, arith, if◌then◌else◌}
 use Rattle.std.specs.Prelude.{IfSome, codes, not, unwrap_or}
 use Rattle.std.specs.List.{All, list_any}
 use Rattle.std.proofs.lemmas.Bool.{and_parts, or_parts}
@@ -11,7 +11,7 @@ use Rattle.rs_attrs.specs.Patterns.{is_like, is_like_large}
 use Rattle.rs_policy.specs.Texts.{number_to, both, colon, part_of, last_part_of, community_of, local_data_of, large_community_of}
 use Rattle.rs_policy.specs.Patterns.{number_for, pattern_for, large_pattern_for, is_peer, names_peer, large_names_peer, tests_name_peer}
 use Rattle.rs_policy.specs.Values.{text_as}
-use Rattle.rs_policy.specs.Configuration.{Client, NamedList, SharedRules, Policy, Configuration, client_of, list_at, no_shared, no_policy, policy_of, rules_in, written_out, policy_written}
+use Rattle.rs_policy.specs.Configuration.{Client, NamedList, SharedRules, Configuration, client_of, list_at, no_shared, no_policy, policy_of, rules_in, written_out, policy_written}
 use Rattle.rs_policy.specs.Documents.{rules_name_peer, may_stand, shared_named, rule_place, config_of}
 use Rattle.rs_policy.specs.Verdicts.{AnnouncedRoute, announced_route, in_range, has_prefix, next_hop_is_peer, origin_as_is, origin_in, has_community, has_large_community, holds, path_matches, attributes_match, matches, passing_by, outcome, AsksNoReceiver}
 use Rattle.rs_policy.specs.Accepted.{SaysRule, SaysEach, SaysItem, SaysPolicy, Says}
@@ -28,7 +28,7 @@ use Rattle.rs_policy.specs.declared.rules.Item.{Item}
 use Rattle.rs_policy.specs.declared.rules.Item.TheVariants.{Own, Use}
 use Rattle.rs_policy.proofs.Passing.{accepted_says}
 use Rattle.rs_policy.proofs.SoundKeys.{at_maybe, at_required, both_by, map_by, text_is}
-use Rattle.rs_policy.proofs.Soundness.{each_all, all_written, says_sound}
+use Rattle.rs_policy.proofs.Soundness.{each_all, says_sound}
 
 -- ---- a part that isn't `peer`
 
@@ -120,12 +120,10 @@ written_without clients lists shared n r (d ∷ ds) (item ∷ items) h =
     ∙ neither_true (rules_name_peer (rules_in shared item)) (rules_name_peer (written_out shared items))
     (item_without clients lists shared n r d item h.0) (written_without clients lists shared n (r + 1) ds items h.1)
 
-imports_without : (d : Data) (s : Configuration) → Says d s → All (λ policy. rules_name_peer policy.import ≡ false) s.policies
+imports_without : (d : Data) (s : Configuration) → Says d s → All (λ p. rules_name_peer (policy_written s.shared p).import ≡ false) s.policies
 imports_without d s h =
-    subst (All (λ (policy : Policy). rules_name_peer policy.import ≡ false)) (sym h.written)
-    (all_written (λ policy. rules_name_peer policy.import ≡ false) h.shared h.stated
-    (each_all (SaysPolicy s.clients s.lists h.shared) (λ p. rules_name_peer (policy_written h.shared p).import ≡ false)
-    (λ n d p e. written_without s.clients s.lists h.shared n 1 e.import.tables p.import e.import.each) 1 h.tables h.stated h.policies))
+    each_all (SaysPolicy s.clients s.lists s.shared) (λ p. rules_name_peer (policy_written s.shared p).import ≡ false)
+    (λ n d p e. written_without s.clients s.lists s.shared n 1 e.import.tables p.import e.import.each) 1 h.tables s.policies h.policies
 
 -- ---- it matches the same whoever is sent the route
 

@@ -9,6 +9,7 @@ pub mod Older
 mod OlderCommunities
 mod Others
 pub mod Passing
+mod Placed
 mod Rows
 mod Sets
 mod SharedRules

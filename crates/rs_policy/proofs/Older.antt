@@ -11,7 +11,7 @@ use Rattle.toml.specs.Data.{Data, Members, table, string, integer, float, boolea
 use Rattle.rs_attrs.specs.Getters.{has_community as has_number}
 use Rattle.rs_policy.specs.Keys.{key_text, is_among, top_keys, rule_keys}
 use Rattle.rs_policy.specs.Values.{keyed, optional, optional_at, maybe_at, are_among, has_only, stranger, fault_in, value_or, first_failing, or_fault, answer, optional_tables, tables_at, each_from, checks_from, text_as, integer_in}
-use Rattle.rs_policy.specs.Configuration.{Client, NamedList, SharedRules, Policy, Configuration, list_at, rules_in, written_out, policy_written}
+use Rattle.rs_policy.specs.Configuration.{Client, NamedList, SharedRules, Stated, Configuration, list_at}
 use Rattle.rs_policy.specs.NamedLists.{named_lists_checks, named_lists_from}
 use Rattle.rs_policy.specs.Documents.{the_top, clients_at, lists_at, all_shared_at, top_of, top_checks, clients_checks, clients_from, rule_place, all_shared_checks, all_shared_from, has_use, use_at, use_checks, item_checks, item_of, rules_at, list_checks, list_of_items, policy_checks, policy_from, policies_checks, policies_from, client_tables, list_tables, shared_tables, document_checks}
 use Rattle.rs_policy.specs.Texts.{large_community_of, large_pattern_of}
@@ -28,6 +28,7 @@ use Rattle.rs_policy.specs.declared.faults.ConfigFault.TheVariants.{BadValue}
 use Rattle.rs_policy.specs.declared.rules.Disposition.{Disposition}
 use Rattle.rs_policy.specs.declared.rules.Stripping.TheVariants.{Named}
 use Rattle.rs_policy.specs.declared.rules.Rule.{Rule}
+use Rattle.rs_policy.specs.declared.rules.Item.{Item}
 use Rattle.rs_policy.specs.declared.rules.Item.TheVariants.{Own, Use}
 use Rattle.rs_policy.proofs.OlderCommunities.{community_fault, community_alike, strip_alike}
 
@@ -191,8 +192,8 @@ both_parts : (a b : Bool) → (not a && b) ≡ true → (a ≡ false) × (b ≡ 
 both_parts false b e = (refl, e)
 both_parts true b e = cc
 
-abbrev policy_of_parts : List Rule → List Rule → Policy
-policy_of_parts import export = record { import = import; export = export }
+abbrev stated_by : List Item → List Item → Stated
+stated_by import export = record { import = import; export = export }
 
 no_use : (rule : Data) (rules : List Data) → list_all (λ rule. not (has_use rule)) (rule ∷ rules) ≡ true
     → (has_use rule ≡ false) × (list_all (λ rule. not (has_use rule)) rules ≡ true)
@@ -208,15 +209,15 @@ module _ (clients : List Client) (lists : List NamedList) (shared : List SharedR
       ap (λ b. (if b then use_checks shared (place r) rule else rule_checks clients lists (place r) rule) ++ checks_from (λ r d. item_checks clients lists shared (place r) d) (r + 1) rules) h.0
       ∙ ap (λ rest. rule_checks clients lists (place r) rule ++ rest) (items_checked place (r + 1) rules h.1)
 
-  items_written : (place : ℕ → Place) (r : ℕ) (rules : List Data) → list_all (λ rule. not (has_use rule)) rules ≡ true
-      → written_out shared (each_from (λ r d. item_of clients lists shared (place r) d) r rules) ≡ each_from (λ r d. rule_of clients lists (place r) d) r rules
+  items_owned : (place : ℕ → Place) (r : ℕ) (rules : List Data) → list_all (λ rule. not (has_use rule)) rules ≡ true
+      → each_from (λ r d. item_of clients lists shared (place r) d) r rules ≡ map Own (each_from (λ r d. rule_of clients lists (place r) d) r rules)
   unfolding each_from item_of
-  items_written place r [] e = refl
-  items_written place r (rule ∷ rules) e =
+  items_owned place r [] e = refl
+  items_owned place r (rule ∷ rules) e =
       let h : (has_use rule ≡ false) × (list_all (λ rule. not (has_use rule)) rules ≡ true) = no_use rule rules e in
-      ap (λ b. rules_in shared (if b then Use (value_or 0 (use_at shared (place r) rule)) else Own (rule_of clients lists (place r) rule))
-      ++ written_out shared (each_from (λ r d. item_of clients lists shared (place r) d) (r + 1) rules)) h.0
-      ∙ ap (λ rest. rule_of clients lists (place r) rule ∷ rest) (items_written place (r + 1) rules h.1)
+      ap (λ b. (if b then Use (value_or 0 (use_at shared (place r) rule)) else Own (rule_of clients lists (place r) rule))
+      ∷ each_from (λ r d. item_of clients lists shared (place r) d) (r + 1) rules) h.0
+      ∙ ap (λ rest. Own (rule_of clients lists (place r) rule) ∷ rest) (items_owned place (r + 1) rules h.1)
 
   lists_checked : (n : ℕ) (list : RuleList) (d : Data) → uses_none n list d ≡ true → list_checks clients lists shared n list d ≡ older_list_checks clients lists n list d
   lists_checked n list d e = ap (λ rest. fault_in (rules_at n list d) ∷ rest) (items_checked (rule_place n list) 1 (value_or [] (rules_at n list d)) e)
@@ -230,16 +231,16 @@ module _ (clients : List Client) (lists : List NamedList) (shared : List SharedR
       ∙ (ap (λ last. (older_list_checks clients lists n Import d ++ last) ++ checks_from (policy_checks clients lists shared) (n + 1) ds) (lists_checked n Export d (none n Export).0)
       ∙ ap (λ rest. older_policy_checks clients lists n d ++ rest) (policies_checked (n + 1) ds (λ m list. (none m list).1)))
 
-  policies_written : (n : ℕ) (ds : List Data) → ((n : ℕ) (list : RuleList) → AllByRecursion (λ d. uses_none n list d ≡ true) ds)
-      → map (policy_written shared) (each_from (policy_from clients lists shared) n ds) ≡ each_from (older_policy_from clients lists) n ds
+  policies_owned : (n : ℕ) (ds : List Data) → ((n : ℕ) (list : RuleList) → AllByRecursion (λ d. uses_none n list d ≡ true) ds)
+      → each_from (policy_from clients lists shared) n ds ≡ each_from (older_policy_from clients lists) n ds
   unfolding each_from
-  policies_written n [] none = refl
-  policies_written n (d ∷ ds) none =
-      let import : written_out shared (list_of_items clients lists shared n Import d) ≡ (older_policy_from clients lists n d).import =
-      items_written (rule_place n Import) 1 (value_or [] (rules_at n Import d)) (none n Import).0 in
-      let export : written_out shared (list_of_items clients lists shared n Export d) ≡ (older_policy_from clients lists n d).export =
-      items_written (rule_place n Export) 1 (value_or [] (rules_at n Export d)) (none n Export).0 in
-      λ i. policy_of_parts (import i) (export i) ∷ policies_written (n + 1) ds (λ m list. (none m list).1) i
+  policies_owned n [] none = refl
+  policies_owned n (d ∷ ds) none =
+      let import : list_of_items clients lists shared n Import d ≡ (older_policy_from clients lists n d).import =
+      items_owned (rule_place n Import) 1 (value_or [] (rules_at n Import d)) (none n Import).0 in
+      let export : list_of_items clients lists shared n Export d ≡ (older_policy_from clients lists n d).export =
+      items_owned (rule_place n Export) 1 (value_or [] (rules_at n Export d)) (none n Export).0 in
+      λ i. stated_by (import i) (export i) ∷ policies_owned (n + 1) ds (λ m list. (none m list).1) i
 
 no_rules : (d : Data) → get (key_text K.Rules) d ≡ None → all_shared_at d ≡ Ok []
 unfolding tables_at
@@ -258,8 +259,8 @@ checks_with d shared known policies =
     ++ (all_shared_checks (clients_from (client_tables d)) (named_lists_from (list_tables d)) (value_or [] shared)
     ++ policies)))
 
-abbrev configured : Data → List Policy → Configuration
-configured d ps = record { top = top_of d; clients = clients_from (client_tables d); lists = named_lists_from (list_tables d); policies = ps }
+abbrev configured : Data → List SharedRules → List Stated → Configuration
+configured d shared ps = record { top = top_of d; clients = clients_from (client_tables d); lists = named_lists_from (list_tables d); shared = shared; policies = ps }
 
 skipped : (xs : List (Option ConfigFault)) (a b : Option ConfigFault) (ys : List (Option ConfigFault)) → first_failing (xs ++ (a ∷ b ∷ None ∷ ys)) ≡ first_failing (xs ++ (a ∷ b ∷ ys))
 skipped xs a b ys = behind_all xs (a ∷ b ∷ None ∷ ys) (a ∷ b ∷ ys) (behind_all (a ∷ b ∷ []) (None ∷ ys) ys refl)
@@ -275,8 +276,10 @@ answers_as_before d older =
     let known : fault_in (stranger top_keys the_top d) ≡ fault_in (stranger older_top_keys the_top d) =
     ap (λ b. fault_in {A = Unit {0}} (if b then Ok tt else Err (BadValue (keyed the_top K.Other)))) (only_but older_top_keys K.Rules [] d older.rules) in
     let policies : policies_checks clients lists shared ds ≡ checks_from (older_policy_checks clients lists) 1 ds = policies_checked clients lists shared 1 ds older.uses in
-    let written : map (policy_written shared) (policies_from clients lists shared ds) ≡ each_from (older_policy_from clients lists) 1 ds = policies_written clients lists shared 1 ds older.uses in
-    ap (λ ps. or_fault (configured d ps) (first_failing (document_checks d))) written
+    let owned : policies_from clients lists shared ds ≡ each_from (older_policy_from clients lists) 1 ds = policies_owned clients lists shared 1 ds older.uses in
+    let none_shared : shared ≡ [] = ap (λ r. all_shared_from clients lists (value_or [] r)) none in
+    ap (λ ps. or_fault (configured d shared ps) (first_failing (document_checks d))) owned
+    ∙ ap (λ rules. or_fault (configured d rules (each_from (older_policy_from clients lists) 1 ds)) (first_failing (document_checks d))) none_shared
     ∙ ap (or_fault (older_configuration_of d))
     (ap (λ r. first_failing (checks_with d r (fault_in (stranger top_keys the_top d)) (policies_checks clients lists shared ds))) none
     ∙ (ap (λ o. first_failing (checks_with d (Ok []) o (policies_checks clients lists shared ds))) known

@@ -10,7 +10,7 @@ use Rattle.rs_policy.specs.Values.{keyed, list_place, has_only, fault_in, value_
 use Rattle.rs_policy.specs.Configuration.{Client, NamedList, SharedRules, Configuration}
 use Rattle.rs_policy.specs.NamedLists.{list_name_at, has_entries, entries_needed, prefixes_at, ases_at, named_list_from, named_lists_from, is_same_name, named_list_checks, named_lists_checks}
 use Rattle.rs_policy.specs.Rules.{prefix_at, prefix_in, min_at, min_in, max_at, max_in, range_checks, range_of, prefix_in_at, from_at, path_has_at, path_longer_at, path_in_at, origin_as_at, origin_in_at, first_as_is_peer_at, community_at, large_community_at, next_hop_is_peer_at, test_checks, tests_of, disposition_at, disposition_in, preference_at, strip_at, strip_large_at, action_checks, action_of, rule_checks, rule_of}
-use Rattle.rs_policy.specs.Documents.{the_top, server_as_at, identifier_at, hold_at, default_at, flag_at, clients_at, lists_at, top_of, top_checks, client_place, name_at, client_as_at, listen_at, peer_at, limit_at, client_from, clients_from, is_same, client_checks, clients_checks, rule_place, rules_checks, shared_place, shared_name_at, shared_rules_at, shared_from, shared_checks, all_shared_at, all_shared_from, all_shared_checks, has_use, use_at, use_checks, item_checks, item_of, items_checks, rules_at, list_checks, list_of_items, policy_from, policy_checks, policies_from, policies_checks, client_tables, list_tables, shared_tables, document_checks, configuration_of, config_from, config_of}
+use Rattle.rs_policy.specs.Documents.{the_top, server_as_at, identifier_at, hold_at, default_at, flag_at, clients_at, lists_at, top_of, top_checks, client_place, name_at, client_as_at, listen_at, peer_at, limit_at, client_from, clients_from, is_same, client_checks, clients_checks, rule_place, rules_checks, shared_place, shared_name_at, shared_rules_at, shared_from, shared_checks, all_shared_at, all_shared_from, all_shared_checks, has_use, use_at, use_checks, item_checks, item_of, items_checks, rules_at, list_checks, list_of_items, policy_from, policy_checks, policies_checks, client_tables, list_tables, shared_tables, document_checks, configuration_of, config_from, config_of}
 use Rattle.rs_policy.specs.Accepted.{SaysTop, SaysClient, SaysNamedList, SaysRange, SaysTests, SaysAction, SaysRule, SaysEach, SaysShared, SaysItem, SaysItems, SaysPolicy, Says, AcceptedSays}
 use Rattle.rs_policy.specs.declared.faults.Key.TheVariants as K
 use Rattle.rs_policy.specs.declared.faults.List.{List as RuleList}
@@ -332,7 +332,6 @@ document_says d e =
       no_list_twice = none_twice is_same_name ls lists
           (each_says named_list_from (λ n d. named_list_checks n (take (n - 1) lists) d) (IsAlone is_same_name lists)
           (λ n d p. list_alone n (take (n - 1) lists) d p) 1 ls listed);
-      shared = shared;
       shared_tables = us;
       shared_are = was_read [] (all_shared_at d) h.1.1.0;
       rules = each_says (shared_from all lists) (λ n d. shared_checks all lists n (take (n - 1) shared) d) (SaysShared all lists)
@@ -340,10 +339,8 @@ document_says d e =
       no_rules_twice = none_twice (λ (a b : SharedRules). bytes_eq a.name b.name) us shared
           (each_says (shared_from all lists) (λ n d. shared_checks all lists n (take (n - 1) shared) d) (IsAlone (λ (a b : SharedRules). bytes_eq a.name b.name) shared)
           (λ n d p. shared_alone all lists n (take (n - 1) shared) d p) 1 us shares);
-      stated = policies_from all lists shared ds;
       policies = each_says (policy_from all lists shared) (policy_checks all lists shared) (SaysPolicy all lists shared) (policy_says all lists shared) 1 ds
           (back_passes (all_shared_checks all lists us) last fourth);
-      written = refl;
     }
 
 pass_of_ok : {A : Type 0} (a v : A) (o : Option ConfigFault) → or_fault a o ≡ Ok v → (o ≡ None) × (a ≡ v)

@@ -14,6 +14,7 @@ use Rattle.rs_policy.specs.NamedLists.{entries_needed, named_list_checks, named_
 use Rattle.rs_policy.specs.Rules.{range_checks, range_of, stripping_at, action_checks, action_of, test_checks, tests_of}
 use Rattle.rs_policy.specs.Documents.{the_top, top_of, top_checks, client_place, client_from, client_checks, rule_place, shared_place, shared_from, shared_checks, use_checks, item_checks, item_of, document_checks, configuration_of}
 use Rattle.rs_policy.specs.Verdicts.{Judgement, dropped, passed, attributes_match, matches, outcome, verdict}
+use Rattle.rs_policy.specs.Reasons.{decider, reasons}
 use Rattle.rs_policy.specs.Replacing.{other_in_top, other_in_client, other_in_clients, first_fixed}
 use Rattle.rs_policy.specs.declared.faults.Key.{Key}
 use Rattle.rs_policy.specs.declared.faults.Key.TheVariants as K
@@ -22,6 +23,8 @@ use Rattle.rs_policy.specs.declared.faults.Place.{Place}
 use Rattle.rs_policy.specs.declared.faults.ConfigFault.{ConfigFault}
 use Rattle.rs_policy.specs.declared.faults.ConfigFault.TheVariants.{Missing, BadValue, Twice, TwiceList, TwiceRules, TooMany}
 use Rattle.rs_policy.specs.declared.rules.Disposition.TheVariants as D
+use Rattle.rs_policy.specs.declared.rules.reasons.Decider.TheVariants as W
+use Rattle.rs_policy.specs.declared.rules.reasons.Reasons.{Reasons}
 
 -- ---- documents: what TOML makes of a text
 
@@ -233,6 +236,7 @@ read_whole : answered (exchange [] [] ((codes "limit", number 5) ∷ []))
           ∷ record { name = codes "b"; client_as = 64497; listen = (0x7f000001, 17902); peer = 0xc000020c; limit = Some 5 }
           ∷ [];
       lists = [];
+      shared = [];
       policies = no_policy ∷ no_policy ∷ [];
     })
 unfolding answer shared_checks shared_from use_checks tests_name_peer item_checks item_of needed_tables_at top_checks top_of client_checks client_from required_at optional_at tables_at some_tables_at has_only each_from checks_from number_to parted address_of endpoint_of
@@ -331,6 +335,19 @@ pub record AreUsed : Type 0 where
 are_used : AreUsed
 unfolding verdict shared_from tests_name_peer item_of needed_tables_at outcome matches attributes_match top_of client_from required_at optional_at tables_at some_tables_at each_from number_to parted address_of endpoint_of prefix_of community_of range_of tests_of stripping_at pattern_of large_pattern_of large_community_of action_of
 are_used = record { drops_there = refl; goes_on_behind = refl; an_earlier_one_decides = refl; none_is_used = refl }
+
+-- which rules decide there
+abbrev decided : Fields → List Fields → Reasons
+decided tests import = reasons (configuration_of (sharing (shared (codes "q") [] ∷ shared (codes "r") (drops ((codes "path_has", number 64999) ∷ []) ++ drops tests) ∷ []) import)) 0 1 net plain
+
+pub record AreDecided : Type 0 where
+  pub by_the_second_that_is_used : decided [] (using (codes "q") ∷ using (codes "r") ∷ []) ≡ record { import = W.Used 2 2 2; export = None }
+  pub by_its_own : decided ((codes "path_longer", number 1) ∷ []) (using (codes "r") ∷ prefers 7) ≡ record { import = W.Own 2; export = Some W.Default }
+  pub by_none : decided [] (using (codes "q") ∷ []) ≡ record { import = W.Default; export = Some W.Default }
+
+are_decided : AreDecided
+unfolding reasons decider shared_from tests_name_peer item_of needed_tables_at outcome matches attributes_match top_of client_from required_at optional_at tables_at some_tables_at each_from number_to parted address_of endpoint_of prefix_of community_of range_of tests_of stripping_at pattern_of large_pattern_of large_community_of action_of
+are_decided = record { by_the_second_that_is_used = refl; by_its_own = refl; by_none = refl }
 
 -- a route with these communities and these large communities
 abbrev tagged : List ℕ → List ℕ → List Attribute

@@ -1,9 +1,8 @@
 -- Each rule and each client is sound, so that every configuration is.
-use Rattle.std.proofs.Common.{◌≡◌, ◌≢◌, ℕ, suc, ◌+◌, ◌<◌, ◌≤◌, ◌^◌, ◌==◌, ◌&&◌, Bool, true, false, List, [], ◌∷◌, ◌*◌, length, length-append, map, get_or, Option, Some, None, Result, Ok, Err, option_map, refl, sym, ap, subst, ◌∙◌, eq-eqb, bytes_eq, arith, if◌then◌else◌}
+use Rattle.std.proofs.Common.{◌≡◌, ◌≢◌, ℕ, suc, ◌+◌, ◌<◌, ◌≤◌, ◌^◌, ◌==◌, ◌&&◌, Bool, true, false, List, [], ◌∷◌, ◌*◌, length, length-append, get_or, Option, Some, None, Result, Ok, Err, option_map, refl, sym, ap, subst, ◌∙◌, eq-eqb, bytes_eq, arith, if◌then◌else◌}
 use Rattle.std.specs.Prelude.{IfSome, codes, is_some}
 use Rattle.std.specs.List.{All}
 use Rattle.std.proofs.lemmas.Bool.{ltb-false, or_parts}
-use Rattle.std.proofs.lemmas.List.{length-map}
 use Rattle.std.proofs.lemmas.List.Elements.{All-nil, All-cons, All-append}
 use Rattle.std.proofs.lemmas.List.Quantifiers.{position-Some}
 use Rattle.std.proofs.lemmas.Slice.Eq.{bytes_eq-Decides}
@@ -14,7 +13,7 @@ use Rattle.rs_attrs.specs.declared.patterns.LargeCommunityPattern.{LargeCommunit
 use Rattle.rs_policy.specs.Keys.{key_text}
 use Rattle.rs_policy.specs.Texts.{endpoint_of, prefix_of, is_name, pattern_of, large_pattern_of}
 use Rattle.rs_policy.specs.Values.{integer_in, positive, hold_seconds, text_as, identifier, name_of, keyed, read_or_bad, list_of, list_place, prefix_entry, as_entry, answer}
-use Rattle.rs_policy.specs.Configuration.{Client, NamedList, SharedRules, Stated, Policy, Configuration, no_client, no_list, no_shared, rules_in, written_out, policy_written}
+use Rattle.rs_policy.specs.Configuration.{Client, NamedList, SharedRules, Stated, Configuration, no_client, no_list, no_shared, rules_in, written_out, policy_written}
 use Rattle.rs_policy.specs.NamedLists.{is_same_name}
 use Rattle.rs_policy.specs.Rules.{prefix_at, min_at, max_at, range_with, ases_named, client_named, prefixes_named, has_receiver, each_read, stripping_from, strippings, is_longer, strip_found, stripping_at, action_with}
 use Rattle.rs_policy.specs.Documents.{the_top, client_place, is_same, shared_place, may_stand, shared_named, list_key, rule_place, document_checks, configuration_of, config_of}
@@ -203,11 +202,6 @@ policy_sound clients lists shared n d policy all h = record {
   export = items_sound clients lists shared n Export d policy.export all h.export;
 }
 
--- what holds of each as it is written out
-pub all_written : (P : Policy → Type 0) (shared : List SharedRules) (ps : List Stated) → All (λ p. P (policy_written shared p)) ps → All P (map (policy_written shared) ps)
-all_written P shared [] all = All-nil P
-all_written P shared (p ∷ ps) all = All-cons P (policy_written shared p) (map (policy_written shared) ps) (all 0 p (omega arith)) (all_written P shared ps (λ i d within. all (suc i) d (omega arith)))
-
 -- ---- the top, the clients and the lists
 
 list_sound : (n : ℕ) (d : Data) (l : NamedList) → SaysNamedList n d l → IsSoundList l
@@ -263,10 +257,9 @@ pub says_sound : (d : Data) (s : Configuration) → Says d s → IsSound s
 says_sound d s h =
     let some : (0 < length h.tables) × (length h.tables ≤ 512) = some_at 512 the_top K.Client d h.tables h.tables_are in
     let count : length s.clients ≡ length h.tables = each_count SaysClient 1 h.tables s.clients h.clients in
-    let stated : length h.stated ≡ length h.tables = each_count (SaysPolicy s.clients s.lists h.shared) 1 h.tables h.stated h.policies in
-    let policies : length s.policies ≡ length h.tables = ap length h.written ∙ (length-map h.stated (policy_written h.shared) ∙ stated) in
-    let shared : All (λ r. AreFewSound (length s.clients) (length s.lists) r.rules) h.shared =
-    each_all (SaysShared s.clients s.lists) (λ r. AreFewSound (length s.clients) (length s.lists) r.rules) (shared_sound s.clients s.lists) 1 h.shared_tables h.shared h.rules in
+    let policies : length s.policies ≡ length h.tables = each_count (SaysPolicy s.clients s.lists s.shared) 1 h.tables s.policies h.policies in
+    let shared : All (λ r. AreFewSound (length s.clients) (length s.lists) r.rules) s.shared =
+    each_all (SaysShared s.clients s.lists) (λ r. AreFewSound (length s.clients) (length s.lists) r.rules) (shared_sound s.clients s.lists) 1 h.shared_tables s.shared h.rules in
     let lists : length s.lists ≡ length h.lists_tables = each_count SaysNamedList 1 h.lists_tables s.lists h.lists in
     let fewer : length h.lists_tables ≤ 1024 = few_at 1024 the_top K.List d h.lists_tables h.lists_are in
     let number : IsNumber s.top.server_as = at_required IsNumber positive the_top K.As d s.top.server_as (integer_is 1 4294967295) h.top.server_as in
@@ -296,10 +289,8 @@ says_sound d s h =
       few_lists = omega arith;
       lists = each_all SaysNamedList IsSoundList list_sound 1 h.lists_tables s.lists h.lists;
       other_lists = λ i j x before within. other_names (get_or s.lists i x) (get_or s.lists j x) (h.no_list_twice i j x before within);
-      rules = subst (All (IsSoundPolicy (length s.clients) (length s.lists))) (sym h.written)
-          (all_written (IsSoundPolicy (length s.clients) (length s.lists)) h.shared h.stated
-          (each_all (SaysPolicy s.clients s.lists h.shared) (λ p. IsSoundPolicy (length s.clients) (length s.lists) (policy_written h.shared p))
-          (λ n d p e. policy_sound s.clients s.lists h.shared n d p shared e) 1 h.tables h.stated h.policies));
+      rules = each_all (SaysPolicy s.clients s.lists s.shared) (λ p. IsSoundPolicy (length s.clients) (length s.lists) (policy_written s.shared p))
+          (λ n d p e. policy_sound s.clients s.lists s.shared n d p shared e) 1 h.tables s.policies h.policies;
     }
 
 -- a configuration that passes every check

@@ -1,10 +1,10 @@
 -- How the parts of a configuration make the whole.
-use Rattle.std.proofs.Common.{◌≡◌, ℕ, ◌+◌, ◌-◌, List, ◌++◌, length, take, map, Option, Ok, sym, ap, ◌∙◌, arith}
+use Rattle.std.proofs.Common.{◌≡◌, ℕ, ◌+◌, ◌-◌, List, ◌++◌, length, take, Option, Ok, sym, ap, ◌∙◌, arith}
 use Rattle.toml.specs.Data.{Data}
 use Rattle.std.proofs.Math.Seq.{take-append_seam}
 use Rattle.rs_policy.specs.Keys.{top_keys}
 use Rattle.rs_policy.specs.Values.{answer, stranger}
-use Rattle.rs_policy.specs.Configuration.{Client, NamedList, SharedRules, Stated, policy_written}
+use Rattle.rs_policy.specs.Configuration.{Client, NamedList, SharedRules, Stated}
 use Rattle.rs_policy.specs.NamedLists.{named_lists_checks, named_lists_from}
 use Rattle.rs_policy.specs.Documents.{top_checks, top_of, the_top, clients_at, lists_at, all_shared_at, clients_checks, clients_from, all_shared_checks, all_shared_from, rules_at, items_checks, items_from, list_checks, list_of_items, policies_checks, policies_from, document_checks, configuration_of}
 use Rattle.rs_policy.specs.declared.faults.List.{List as RuleList}
@@ -84,7 +84,7 @@ pub document_passes : (d : Data) (top : Top) (ds ls us : List Data) (cs : List C
     → answer (clients_checks ds) (clients_from ds) ≡ Ok cs → answer (named_lists_checks ls) (named_lists_from ls) ≡ Ok ns
     → answer (all_shared_checks cs ns us) (all_shared_from cs ns us) ≡ Ok ss
     → answer (policies_checks cs ns ss ds) (policies_from cs ns ss ds) ≡ Ok ps
-    → answer (document_checks d) (configuration_of d) ≡ Ok (record { top = top; clients = cs; lists = ns; policies = map (policy_written ss) ps })
+    → answer (document_checks d) (configuration_of d) ≡ Ok (record { top = top; clients = cs; lists = ns; shared = ss; policies = ps })
 document_passes d top ds ls us cs ns ss ps h second third fourth fifth =
     let a : top_of d ≡ top = answer-value (top_checks d) (top_of d) top (sym h.first) in
     let b : clients_from ds ≡ cs = answer-value (clients_checks ds) (clients_from ds) cs second in

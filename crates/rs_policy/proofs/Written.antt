@@ -1,17 +1,12 @@
 -- Lists with the rules that they use written out.
-use Rattle.std.proofs.Common.{◌≡◌, ℕ, ◌+◌, ◌<◌, ◌≤◌, Bool, List, ◌++◌, map, length, drop, get_or, find, Option, Some, None, option_map, refl, sym, ap, ◌∙◌}
+use Rattle.std.proofs.Common.{◌≡◌, ℕ, ◌+◌, ◌<◌, ◌≤◌, Bool, List, ◌++◌, length, drop, get_or, find, Option, Some, None, option_map, refl, sym, ap, ◌∙◌}
 use Rattle.std.specs.Option.{option_or}
-use Rattle.std.proofs.lemmas.List.{drop_more, drop_all, get_or-map}
+use Rattle.std.proofs.lemmas.List.{drop_more, drop_all}
 use Rattle.std.proofs.lemmas.List.Folds.{find-append}
-use Rattle.rs_policy.specs.Configuration.{SharedRules, Stated, no_policy, rules_in, written_out, policy_written}
+use Rattle.rs_policy.specs.Configuration.{SharedRules, rules_in, written_out}
 use Rattle.rs_policy.specs.declared.rules.Action.{Action}
 use Rattle.rs_policy.specs.declared.rules.Item.{Item}
 use Rattle.rs_policy.specs.declared.rules.Rule.{Rule}
-
--- the policy of a place
-pub policy_at : (shared : List SharedRules) (ps : List Stated) (c : ℕ) (p : Stated) → c < length ps → p ≡ get_or ps c p
-    → get_or (map (policy_written shared) ps) c no_policy ≡ policy_written shared p
-policy_at shared ps c p within is = get_or-map (policy_written shared) ps c p no_policy within ∙ ap (policy_written shared) (sym is)
 
 abbrev pub action_by : (Rule → Bool) → List Rule → Option Action
 action_by test rules = option_map (λ rule. rule.action) (find test rules)

@@ -1,5 +1,5 @@
 -- What an accepted text says: at each key the value that its check reads there, and no key besides.
-use Rattle.std.specs.Prelude.{◌≡◌, ℕ, ◌+◌, true, false, List, [], ◌∷◌, map, bytes_eq, Option, Some, Ok, ⊤}
+use Rattle.std.specs.Prelude.{◌≡◌, ℕ, ◌+◌, true, false, List, [], ◌∷◌, bytes_eq, Option, Some, Ok, ⊤}
 use Rattle.std.specs.List.{AllPairs}
 use Rattle.toml.specs.Data.{Data, Members, table}
 use Rattle.toml.specs.Parse.{parse_document}
@@ -9,7 +9,7 @@ use Rattle.rs_attrs.specs.declared.patterns.LargeCommunityPattern.{LargeCommunit
 use Rattle.rs_policy.specs.Keys.{top_keys, client_keys, named_list_keys, shared_keys, rule_keys, use_keys}
 use Rattle.rs_policy.specs.Values.{has_only}
 use Rattle.rs_policy.specs.NamedLists.{list_name_at, has_entries, prefixes_at, ases_at, is_same_name}
-use Rattle.rs_policy.specs.Configuration.{Client, NamedList, SharedRules, Stated, Configuration, policy_written}
+use Rattle.rs_policy.specs.Configuration.{Client, NamedList, SharedRules, Stated, Configuration}
 use Rattle.rs_policy.specs.Rules.{prefix_at, min_at, max_at, range_with, prefix_in_at, from_at, path_has_at, path_longer_at, path_in_at, origin_as_at, origin_in_at, first_as_is_peer_at, community_at, large_community_at, next_hop_is_peer_at, disposition_at, preference_at, strip_at, strip_large_at, action_with}
 use Rattle.rs_policy.specs.Documents.{server_as_at, identifier_at, hold_at, default_at, flag_at, clients_at, lists_at, all_shared_at, name_at, client_as_at, listen_at, peer_at, limit_at, is_same, shared_name_at, shared_rules_at, has_use, use_at, rules_at, rule_place, config_of}
 use Rattle.rs_policy.specs.declared.faults.Key.TheVariants as K
@@ -128,14 +128,11 @@ pub record Says (d : Data) (s : Configuration) : Type 0 where
   pub lists_are : lists_at d ≡ Ok lists_tables
   pub lists : SaysEach SaysNamedList 1 lists_tables s.lists
   pub no_list_twice : AllPairs (λ earlier later. is_same_name later earlier ≡ false) s.lists
-  pub shared : List SharedRules
   pub shared_tables : List Data
   pub shared_are : all_shared_at d ≡ Ok shared_tables
-  pub rules : SaysEach (SaysShared s.clients s.lists) 1 shared_tables shared
-  pub no_rules_twice : AllPairs (λ earlier later. bytes_eq later.name earlier.name ≡ false) shared
-  pub stated : List Stated
-  pub policies : SaysEach (SaysPolicy s.clients s.lists shared) 1 tables stated
-  pub written : s.policies ≡ map (policy_written shared) stated
+  pub rules : SaysEach (SaysShared s.clients s.lists) 1 shared_tables s.shared
+  pub no_rules_twice : AllPairs (λ earlier later. bytes_eq later.name earlier.name ≡ false) s.shared
+  pub policies : SaysEach (SaysPolicy s.clients s.lists s.shared) 1 tables s.policies
 
 -- a text that is accepted is a document, and the configuration is what it says
 abbrev pub AcceptedSays : Type 0

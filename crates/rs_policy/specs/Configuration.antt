@@ -1,5 +1,5 @@
 -- What a configuration sets.
-use Rattle.std.specs.Prelude.{ℕ, List, [], ◌∷◌, slice_index_or, Option, None}
+use Rattle.std.specs.Prelude.{ℕ, ◌-◌, List, [], ◌∷◌, slice_index_or, Option, None}
 use Rattle.std.specs.List.{flat_map}
 use Rattle.rs_policy.specs.declared.rules.Range.{Range}
 use Rattle.rs_policy.specs.declared.rules.Rule.{Rule}
@@ -36,12 +36,13 @@ pub record Policy : Type 0 where
   pub import : List Rule
   pub export : List Rule
 
--- clients, lists and policies stand in the order of the configuration
+-- clients, lists, rules that others use, and what each client's lists state, in the order of the configuration
 pub record Configuration : Type 0 where
   pub top : Top
   pub clients : List Client
   pub lists : List NamedList
-  pub policies : List Policy
+  pub shared : List SharedRules
+  pub policies : List Stated
 
 abbrev pub no_client : Client
 no_client = record { name = []; client_as = 0; listen = (0, 0); peer = 0; limit = None }
@@ -57,12 +58,6 @@ no_list = record { name = []; prefixes = None; ases = None }
 abbrev pub list_at : List NamedList → ℕ → NamedList
 list_at lists n = slice_index_or lists n no_list
 
-abbrev pub no_policy : Policy
-no_policy = record { import = []; export = [] }
-
-abbrev pub policy_of : Configuration → ℕ → Policy
-policy_of s c = slice_index_or s.policies c no_policy
-
 abbrev pub no_shared : SharedRules
 no_shared = record { name = []; rules = [] }
 
@@ -77,3 +72,18 @@ written_out shared items = flat_map (rules_in shared) items
 
 abbrev pub policy_written : List SharedRules → Stated → Policy
 policy_written shared p = record { import = written_out shared p.import; export = written_out shared p.export }
+
+abbrev pub no_policy : Stated
+no_policy = record { import = []; export = [] }
+
+-- the rules that others use of this number, from 1
+abbrev pub shared_at : Configuration → ℕ → SharedRules
+shared_at s number = slice_index_or s.shared (number - 1) no_shared
+
+-- the lists of client number c, from 0, as they stand in the text
+abbrev pub stated_of : Configuration → ℕ → Stated
+stated_of s c = slice_index_or s.policies c no_policy
+
+-- and written out
+abbrev pub policy_of : Configuration → ℕ → Policy
+policy_of s c = policy_written s.shared (stated_of s c)

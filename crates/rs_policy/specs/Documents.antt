@@ -1,13 +1,13 @@
 -- What the text of a configuration means: the first check that fails, in order, each over the document's table alone,
 -- or the configuration where none fails.
-use Rattle.std.specs.Prelude.{ℕ, ◌-◌, take, map, position, is_some, ◌==◌, ◌&&◌, ◌||◌, Bool, false, not, List, [], ◌∷◌, ◌++◌, bytes_eq, Option, Some, None, Result, Ok, Err, if◌then◌else◌}
+use Rattle.std.specs.Prelude.{ℕ, ◌-◌, take, position, is_some, ◌==◌, ◌&&◌, ◌||◌, Bool, false, not, List, [], ◌∷◌, ◌++◌, bytes_eq, Option, Some, None, Result, Ok, Err, if◌then◌else◌}
 use Rattle.std.specs.List.{list_any}
 use Rattle.toml.specs.Data.{Data, Members, table, as_bool, get}
 use Rattle.toml.specs.Parse.{parse_document}
 use Rattle.rs_policy.specs.Keys.{key_text, top_keys, client_keys, shared_keys, use_keys}
 use Rattle.rs_policy.specs.Texts.{endpoint_of}
 use Rattle.rs_policy.specs.Values.{text_as, positive, hold_seconds, address, identifier, disposition_of, name_of, required_at, optional_at, maybe_at, tables_at, needed_tables_at, some_tables_at, fault_in, value_or, stranger, answer, each_from, checks_from}
-use Rattle.rs_policy.specs.Configuration.{Client, NamedList, SharedRules, Stated, Configuration, policy_written}
+use Rattle.rs_policy.specs.Configuration.{Client, NamedList, SharedRules, Stated, Configuration}
 use Rattle.rs_policy.specs.NamedLists.{named_lists_from, named_lists_checks}
 use Rattle.rs_policy.specs.Patterns.{tests_name_peer}
 use Rattle.rs_policy.specs.Rules.{has_receiver, rule_checks, rule_of}
@@ -266,14 +266,13 @@ document_checks d =
     ++ (all_shared_checks clients lists (shared_tables d)
     ++ policies_checks clients lists (all_shared_from clients lists (shared_tables d)) tables)))
 
--- the rules that lists use are written out in them
 abbrev pub configuration_of : Data → Configuration
 configuration_of d =
     let tables = client_tables d in
     let clients = clients_from tables in
     let lists = named_lists_from (list_tables d) in
     let shared = all_shared_from clients lists (shared_tables d) in
-    record { top = top_of d; clients = clients; lists = lists; policies = map (policy_written shared) (policies_from clients lists shared tables) }
+    record { top = top_of d; clients = clients; lists = lists; shared = shared; policies = policies_from clients lists shared tables }
 
 abbrev pub config_from : Option Members → Result Configuration ConfigFault
 config_from None = Err Syntax

@@ -8,6 +8,7 @@ pub mod Keys
 pub mod NamedLists
 pub mod Older
 pub mod Patterns
+pub mod Reasons
 pub mod Replacing
 pub mod Rules
 pub mod Seen

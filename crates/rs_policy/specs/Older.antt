@@ -1,6 +1,6 @@
 -- What a rule was before there were `path_longer`, `path_in`, `first_as_is_peer`, `large_community`, `strip_large`, `*` and `peer`, and a
 -- document before there were `rules` and `use`.
-use Rattle.std.specs.Prelude.{◌≡◌, ℕ, ◌+◌, ◌*◌, Bool, true, not, ◌&&◌, ◌||◌, List, [], ◌∷◌, ◌++◌, ◌==◌, bytes_eq, codes, Option, Some, None, IfSome, option_map, unwrap_or, Result, Ok, if◌then◌else◌}
+use Rattle.std.specs.Prelude.{◌≡◌, ℕ, ◌+◌, ◌*◌, Bool, true, not, ◌&&◌, ◌||◌, List, [], ◌∷◌, ◌++◌, ◌==◌, map, bytes_eq, codes, Option, Some, None, IfSome, option_map, unwrap_or, Result, Ok, if◌then◌else◌}
 use Rattle.std.specs.List.{list_all, list_any, AllByRecursion}
 use Rattle.toml.specs.Data.{Data, get, as_array, as_str}
 use Rattle.rs_attrs.specs.Patterns.{is_like}
@@ -9,7 +9,7 @@ use Rattle.rs_attrs.specs.Getters.{path_has_of, has_community}
 use Rattle.rs_policy.specs.Keys.{key_text}
 use Rattle.rs_policy.specs.Texts.{number_to, parted, both, colon}
 use Rattle.rs_policy.specs.Values.{text_as, list_of, maybe_at, fault_in, value_or, stranger, first_failing, answer, each_from, checks_from}
-use Rattle.rs_policy.specs.Configuration.{Client, NamedList, Policy, Configuration, list_at}
+use Rattle.rs_policy.specs.Configuration.{Client, NamedList, Stated, Configuration, list_at}
 use Rattle.rs_policy.specs.NamedLists.{named_lists_checks, named_lists_from}
 use Rattle.rs_policy.specs.Documents.{the_top, clients_at, lists_at, top_checks, top_of, clients_checks, clients_from, rules_at, rules_checks, rules_from, has_use, client_tables, list_tables, document_checks, configuration_of}
 use Rattle.rs_policy.specs.Rules.{range_checks, prefix_in_at, from_at, path_has_at, origin_as_at, origin_in_at, next_hop_is_peer_at, disposition_at, disposition_in, preference_at, stripping_at, strip_at, strip_large_at, rule_checks, rule_of}
@@ -24,6 +24,7 @@ use Rattle.rs_policy.specs.declared.rules.Disposition.{Disposition}
 use Rattle.rs_policy.specs.declared.rules.Stripping.{Stripping}
 use Rattle.rs_policy.specs.declared.rules.Stripping.TheVariants.{Named}
 use Rattle.rs_policy.specs.declared.rules.Rule.{Rule}
+use Rattle.rs_policy.specs.declared.rules.Item.TheVariants.{Own}
 
 -- neither part of a text is `*` or `peer`
 
@@ -131,10 +132,11 @@ older_list_checks clients lists n list d = fault_in (rules_at n list d) ∷ rule
 abbrev pub older_policy_checks : List Client → List NamedList → ℕ → Data → List (Option ConfigFault)
 older_policy_checks clients lists n d = older_list_checks clients lists n Import d ++ older_list_checks clients lists n Export d
 
-abbrev pub older_policy_from : List Client → List NamedList → ℕ → Data → Policy
+-- each rule is the list's own
+abbrev pub older_policy_from : List Client → List NamedList → ℕ → Data → Stated
 older_policy_from clients lists n d = record {
-  import = rules_from clients lists n Import (value_or [] (rules_at n Import d));
-  export = rules_from clients lists n Export (value_or [] (rules_at n Export d));
+  import = map Own (rules_from clients lists n Import (value_or [] (rules_at n Import d)));
+  export = map Own (rules_from clients lists n Export (value_or [] (rules_at n Export d)));
 }
 
 abbrev pub older_document_checks : Data → List (Option ConfigFault)
@@ -152,7 +154,7 @@ older_configuration_of d =
     let tables = client_tables d in
     let clients = clients_from tables in
     let lists = named_lists_from (list_tables d) in
-    record { top = top_of d; clients = clients; lists = lists; policies = each_from (older_policy_from clients lists) 1 tables }
+    record { top = top_of d; clients = clients; lists = lists; shared = []; policies = each_from (older_policy_from clients lists) 1 tables }
 
 -- it is the configuration that it was, or has the fault that it had
 abbrev pub AnswersAsBefore : Data → Type 0

@@ -2,7 +2,7 @@
 use Rattle.std.specs.Prelude.{◌≡◌, ◌≢◌, ℕ, ◌<◌, ◌≤◌, ◌^◌, true, List, length, IfSome, ⊤}
 use Rattle.std.specs.List.{All, AllPairs}
 use Rattle.rs_policy.specs.Texts.{is_name}
-use Rattle.rs_policy.specs.Configuration.{Client, NamedList, Policy, Configuration}
+use Rattle.rs_policy.specs.Configuration.{Client, NamedList, Policy, Configuration, policy_written}
 use Rattle.rs_policy.specs.declared.rules.Range.{Range}
 use Rattle.rs_policy.specs.declared.rules.Stripping.{Stripping}
 use Rattle.rs_policy.specs.declared.rules.Stripping.TheVariants.{Named, All as Every}
@@ -84,4 +84,4 @@ pub record IsSound (s : Configuration) : Type 0 where
   pub few_lists : length s.lists ≤ 1024
   pub lists : All IsSoundList s.lists
   pub other_lists : AllPairs AreOtherLists s.lists
-  pub rules : All (IsSoundPolicy (length s.clients) (length s.lists)) s.policies
+  pub rules : All (λ p. IsSoundPolicy (length s.clients) (length s.lists) (policy_written s.shared p)) s.policies

@@ -17,7 +17,7 @@ ghost use Rattle.toml.specs.Data.{table};
 ghost use Rattle.toml.specs.View.{view};
 ghost use Rattle.toml.specs.Parse.{parse_document};
 ghost use Rattle.rs_policy.specs.Values.{answer, Answers};
-ghost use Rattle.rs_policy.specs.Configuration.{client_of, policy_of};
+ghost use Rattle.rs_policy.specs.Configuration.{client_of, policy_of, shared_at, stated_of};
 ghost use Rattle.rs_policy.specs.Sound.{IsSound};
 ghost use Rattle.rs_policy.specs.Documents.{document_checks, configuration_of, config_of};
 
@@ -44,16 +44,15 @@ pub struct Config {
 }
 
 impl Model for Config {
-    ghost use Rattle.std.specs.Prelude.{map};
-    ghost use Rattle.rs_policy.specs.Configuration.{Configuration, policy_written};
+    ghost use Rattle.rs_policy.specs.Configuration.{Configuration};
 
     ghost Value = { Configuration };
 
     ghost use Rattle.rs_policy.specs.Sound.{IsSound};
 
-    ghost view = { λ c. record { top = c.top; clients = c.clients.items; lists = c.lists.items; policies = map (policy_written c.shared.items) c.policies.items } };
+    ghost view = { λ c. record { top = c.top; clients = c.clients.items; lists = c.lists.items; shared = c.shared.items; policies = c.policies.items } };
 
-    ghost invariant = { λ c. IsSound (record { top = c.top; clients = c.clients.items; lists = c.lists.items; policies = map (policy_written c.shared.items) c.policies.items }) };
+    ghost invariant = { λ c. IsSound (record { top = c.top; clients = c.clients.items; lists = c.lists.items; shared = c.shared.items; policies = c.policies.items }) };
 }
 
 impl Config {
@@ -221,6 +220,31 @@ impl Config {
     {
         let policy = &self.policies[c];
         Rules::of(&policy.export, &self.shared)
+    }
+
+    /// The lists of rules of a client, as they stand in the text.
+    pub(crate) fn stated(&self, c: usize) -> &Policy
+        requires { c < length self.now.clients }
+        ensures { result.now ≡ stated_of self.now c }
+    {
+        &self.policies[c]
+    }
+
+    /// The rules that lists use.
+    pub(crate) fn shared(&self) -> &[SharedRules]
+        ensures { result.now ≡ self.now.shared }
+    {
+        &self.shared
+    }
+
+    /// The name of the rules of this number, from 1, that lists use; empty where there are none.
+    pub fn rules_name(&self, number: usize) -> &str
+        ensures { result.now ≡ (shared_at self.now number).name }
+    {
+        match self.shared.get(number.saturating_sub(1)) {
+            None => "",
+            Some(rules) => rules.name.as_str(),
+        }
     }
 
     /// The lists that rules name.

@@ -7,6 +7,7 @@ ghost use Rattle.toml.specs.Data.{Data};
 ghost use Rattle.rs_policy.specs.Accepted.{AcceptedSays};
 ghost use Rattle.rs_policy.specs.Configuration.{Client, NamedList, Configuration};
 ghost use Rattle.rs_policy.specs.Documents.{config_of};
+ghost use Rattle.rs_policy.specs.Reasons.{DeciderDecides};
 ghost use Rattle.rs_policy.specs.Replacing.{first_fixed, IsFixed};
 ghost use Rattle.rs_policy.specs.Sound.{IsSound};
 ghost use Rattle.rs_policy.specs.Verdicts.{has_prefix, AsksNoReceiver};
@@ -52,6 +53,13 @@ pub fn an_older_text_means_what_it_meant()
 /// the receiver.
 pub fn an_import_list_asks_no_receiver()
     ensures { (text : List ℕ) (s : Configuration) → config_of text ≡ Ok s → AsksNoReceiver s }
+{}
+
+/// Where `reasons_for` says that a list decided stands the first rule of the list, written out, that matches; and
+/// none matches where it says that the default did. So it decided what becomes of the route.
+#[tactic(auto, using(crate::proofs::Placed::decider_decides))]
+pub fn the_decider_decides()
+    ensures { DeciderDecides }
 {}
 
 /// What every configuration has: an identifier, no Hold Time of 1 or 2 seconds, 1 to 512 clients of

@@ -2,12 +2,14 @@
 //!
 //! The text of a configuration comes in, and out go its settings, or the first fault with its
 //! place. A route and the two clients that it is between come in, and out goes the verdict of the
-//! rules: the route is dropped, or is passed with a preference and without some communities.
+//! rules: the route is dropped, or is passed with a preference and without some communities; and to
+//! whoever asks, which rules decided.
 //!
 //! - `config` and its folder read a text: `top` the keys at its top, `clients` and `policies` its
 //!   tables, `rule_tables` the rules, all by `arrays`, `values` and `texts`; `replacing` says
 //!   which configuration can take the place of one that is in use.
-//! - `rules` are rules as values; `rules/verdict` is what they make of a route.
+//! - `rules` are rules as values; of `rules/` `matching` says which routes a rule matches, `verdict` what
+//!   becomes of a route, and `reasons` which rules decided.
 //! - `faults` says what can be wrong and where, and writes it in words; `faults/line` is such a
 //!   line.
 //! - `laws` are contracts of functions that do nothing.
@@ -20,4 +22,5 @@ mod rules;
 
 pub use config::Config;
 pub use faults::{ConfigFault, Key, List, Place, RulesFault, Table};
+pub use rules::reasons::{Decider, Reasons, reasons_for};
 pub use rules::verdict::{Fate, Verdict, judge};

@@ -1,5 +1,7 @@
 //! Rules as values.
 
+mod matching;
+pub(crate) mod reasons;
 pub(crate) mod verdict;
 
 ghost use Rattle.std.specs.Prelude.{◌≡◌, true, []};

@@ -15,6 +15,7 @@ use Rattle.rs_session.specs.Sessions.{fate, act_of}
 use Rattle.rs_policy.specs.Configuration.{Client, Configuration, no_policy}
 use Rattle.rs_policy.specs.Verdicts.{attributes_match, matches, outcome, verdict}
 use Rattle.rs_policy.specs.declared.rules.Rule.{Rule}
+use Rattle.rs_policy.specs.declared.rules.Item.TheVariants.{Own}
 use Rattle.rs_policy.specs.declared.rules.Action.TheVariants as actions
 use Rattle.rs_policy.specs.declared.rules.Disposition.TheVariants as dispositions
 use Rattle.rs_decision.specs.Choice.{unbeaten}
@@ -34,6 +35,7 @@ base = record {
   top = record { server_as = 64500; identifier = 0xc0000201; hold = 90; default = dispositions.Pass; extended = false; refresh = false; multiprotocol = false };
   clients = client 0 64496 ∷ client 1 64497 ∷ client 2 64498 ∷ client 3 64499 ∷ [];
   lists = [];
+  shared = [];
   policies = replicate 4 no_policy;
 }
 
@@ -147,7 +149,7 @@ rule = record {
 }
 
 abbrev c_drops_a : Configuration
-c_drops_a = record base { policies = no_policy ∷ no_policy ∷ record { import = []; export = rule ∷ [] } ∷ no_policy ∷ [] }
+c_drops_a = record base { policies = no_policy ∷ no_policy ∷ record { import = []; export = Own rule ∷ [] } ∷ no_policy ∷ [] }
 
 abbrev both_announce : List Move
 both_announce = Heard 1 ub ∷ Heard 0 u1 ∷ up 3 open_d (up 2 open_c (up 1 open_b (up 0 open_a (Ruled c_drops_a ∷ []))))
@@ -235,7 +237,7 @@ refused = refl
 -- ---- other rules: no session ends
 
 abbrev to_b_nothing : Configuration
-to_b_nothing = record base { policies = no_policy ∷ record { import = []; export = record rule { tests = record rule.tests { from = None } } ∷ [] } ∷ no_policy ∷ no_policy ∷ [] }
+to_b_nothing = record base { policies = no_policy ∷ record { import = []; export = Own (record rule { tests = record rule.tests { from = None } }) ∷ [] } ∷ no_policy ∷ no_policy ∷ [] }
 
 ruled_out : due (Ruled to_b_nothing ∷ announced) 1 n24 ≡ None
 unfolding all_types attributes_match matches outcome verdict unbeaten

@@ -19,7 +19,7 @@ abbrev pub no_top : Top
 no_top = record { server_as = 0; identifier = 0; hold = 0; default = dispositions.Pass; extended = false; refresh = false; multiprotocol = false }
 
 abbrev pub no_config : Configuration
-no_config = record { top = no_top; clients = []; lists = []; policies = [] }
+no_config = record { top = no_top; clients = []; lists = []; shared = []; policies = [] }
 
 -- the configuration that was accepted last
 abbrev pub config_in : List Move → Configuration

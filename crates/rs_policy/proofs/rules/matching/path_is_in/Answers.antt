@@ -6,7 +6,7 @@ use Rattle.rs_attrs.specs.Getters.{path_of}
 use Rattle.rs_attrs.specs.Paths.{Segment}
 use Rattle.rs_policy.specs.Configuration.{list_at}
 use Rattle.rs_policy.specs.Verdicts.{has_as}
-use Rattle.rs_policy.proofs.rules.verdict.path_is_in.Goals as goal
+use Rattle.rs_policy.proofs.rules.matching.path_is_in.Goals as goal
 
 pub returns : goal.returns
 returns c =

@@ -3,7 +3,7 @@ use Rattle.std.proofs.lemmas.Iterator.Consumers.{YieldsList-from_first}
 use Rattle.std.proofs.lemmas.Iterator.Search.{any_from_yields_List}
 use Rattle.rs_policy.specs.Configuration.{list_at}
 use Rattle.rs_policy.specs.Verdicts.{has_as}
-use Rattle.rs_policy.proofs.rules.verdict.segment_is_in.Goals as goal
+use Rattle.rs_policy.proofs.rules.matching.segment_is_in.Goals as goal
 
 pub returns : goal.returns
 returns c =
