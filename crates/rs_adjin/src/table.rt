@@ -10,13 +10,15 @@ ghost use Rattle.rs_adjin.specs.Held.{has_number, Marks, SameSet};
 
 use crate::held::Held;
 use crate::numbers::Numbered;
+use crate::room::make_room;
 use crate::routes::{Route, place_of, replace};
 use rs_attrs::Attrs;
 use rs_octets::Prefix;
 use std::alloc::{AllocError, Global};
 use std::sync::Arc;
 
-/// Puts a client's first route for a prefix among those of others.
+/// Puts a client's first route for a prefix among those of others. Most prefixes have one holder, so the
+/// first one's route gets room for itself alone.
 fn add_at(
     routes: &mut Vec<Route>,
     place: usize,
@@ -36,6 +38,7 @@ fn add_at(
     ensures unmarked { OnErr result (SameSet held.old held.new) }
 {
     let attrs = attrs.clone()?;
+    make_room(routes, 1)?;
     held.add(number)?;
     let Ok(()) = routes.insert(place, Route { client, attrs }) else {
         held.remove(number);
