@@ -6,10 +6,10 @@ use Rattle.rs_trace.specs.declared.fault.ReplayFault.TheVariants.{Line, Memory, 
 use Rattle.rs_trace.specs.declared.fault.Stop.{Stop}
 use Rattle.rs_trace.specs.declared.names.Names.{Names}
 use Rattle.rs_trace.specs.declared.fault.Stop.TheVariants.{End, Table, Fault}
-use Rattle.rs_trace.specs.Lines as lines
+use Rattle.rs_trace.specs.declared.trace_lines.TraceLines.{TraceLines}
 use Rattle.rs_trace.specs.Trace.{LineMeaning, Listed}
 use Rattle.rs_trace.specs.Played.{MeansFirst, Stands, PutsFront, Puts, failed, failures_read, failures_written, GoesOn}
-use Rattle.rs_trace.specs.Replays.{Adds, Plays, PassesOn, FailsOn, ReadsOn, place_in}
+use Rattle.rs_trace.specs.Replays.{Adds, Plays, FailsOn, ReadsOn, place_in}
 use Rattle.rs_trace.proofs.ReplayLemmas.{means_first_now, means_all, means_less}
 
 module _ (put : List ℕ → Type 0) (octets : List ℕ) where
@@ -41,7 +41,7 @@ module _ (put : List ℕ → Type 0) (octets : List ℕ) where
   front_of_part wanted n p =
       (octets ++ take n wanted, drop n wanted, ap (λ xs. octets ++ xs) (sym (take-append-drop n wanted)) ∙ sym (append_assoc octets (take n wanted) (drop n wanted)), p)
 
-module _ (place : List ℕ → Option ℕ) (text : List ℕ) (over : Type 0) (s : List LineMeaning) (n : ℕ) (r : lines.Reading) where
+module _ (place : List ℕ → Option ℕ) (text : List ℕ) (over : Type 0) (s : List LineMeaning) (n : ℕ) (r : TraceLines) where
   -- wherever it stands, these meanings are what the text says first
   pub stands_first : (stop : Option Stop) → Stands place text over s n r stop → MeansFirst place text s
   stands_first None h = means_first_now place text s n r h.0
@@ -52,32 +52,19 @@ module _ (place : List ℕ → Option ℕ) (text : List ℕ) (over : Type 0) (s 
   stands_first (Some (Fault Reading)) h = h
   stands_first (Some (Fault Writing)) h = h
 
-  -- what was read was handed on
-  pub stands_listed : (read listed_lines : List LineMeaning) (stop : Option Stop) → GoesOn place text over (s ++ read) n r → PassesOn read listed_lines stop → Stands place text over (s ++ listed_lines) n r stop
-  stands_listed read listed_lines None h t = subst (λ xs. GoesOn place text over (s ++ xs) n r) (sym t) h
-  stands_listed read listed_lines (Some End) h t = absurd t
-  stands_listed read listed_lines (Some (Table c)) h t =
-      let same : s ++ read ≡ (s ++ listed_lines) ++ (Listed c ∷ []) = ap (λ xs. s ++ xs) t.1 ∙ ap (λ xs. xs ++ (Listed c ∷ [])) (sym (append-nil s) ∙ ap (λ xs. s ++ xs) (sym t.0)) in
-      subst (λ xs. GoesOn place text over xs n r) same h
-  stands_listed read listed_lines (Some (Fault (Line m fault))) h t = absurd t
-  stands_listed read listed_lines (Some (Fault Memory)) h t =
-      subst (λ xs. MeansFirst place text xs) (sym (append-nil s) ∙ ap (λ xs. s ++ xs) (sym t)) (means_less place text s read (means_first_now place text (s ++ read) n r h.0))
-  stands_listed read listed_lines (Some (Fault Reading)) h t = absurd t
-  stands_listed read listed_lines (Some (Fault Writing)) h t = absurd t
-
 -- what the text says first stays so with nothing more
 pub still_first : (place : List ℕ → Option ℕ) (text : List ℕ) (s : List LineMeaning) → MeansFirst place text s → MeansFirst place text (s ++ [])
 still_first place text s h = subst (λ xs. MeansFirst place text xs) (sym (append-nil s)) h
 
 -- where it stands after a line of output
-pub stands_after : (place : List ℕ → Option ℕ) (text : List ℕ) (over : Type 0) (s : List LineMeaning) (n : ℕ) (r : lines.Reading) (stop after : Option Stop) → FailsOn stop after → Stands place text over s n r stop → Stands place text over s n r after
+pub stands_after : (place : List ℕ → Option ℕ) (text : List ℕ) (over : Type 0) (s : List LineMeaning) (n : ℕ) (r : TraceLines) (stop after : Option Stop) → FailsOn stop after → Stands place text over s n r stop → Stands place text over s n r after
 stands_after place text over s n r stop after (inl e) h = subst (λ x. Stands place text over s n r x) (sym e) h
 stands_after place text over s n r stop after (inr (inl e)) h = subst (λ x. Stands place text over s n r x) (sym e.1) (stands_first place text over s n r stop h)
 stands_after place text over s n r stop after (inr (inr e)) h = subst (λ x. Stands place text over s n r x) (sym e.1) (stands_first place text over s n r stop h)
 
 -- a line of output is written that no step asks for
 pub adds_line : {R W G : Type 0} (takes : R → List ℕ → R → Type 0) (at_end : R → Type 0) (fails : R → ℕ) (puts : W → List ℕ → W → Type 0) (loses : W → ℕ)
-    (names : Names) (reads writes : G) (reader : R) (writer written : W) (r : lines.Reading) (n : ℕ) (stop after : Option Stop) (line : List ℕ)
+    (names : Names) (reads writes : G) (reader : R) (writer written : W) (r : TraceLines) (n : ℕ) (stop after : Option Stop) (line : List ℕ)
     → ((to : W) (octets : List ℕ) → Puts (λ xs. puts to xs writer) octets stop → Puts (λ xs. puts to xs written) (octets ++ line) after)
     → FailsOn stop after
     → ((k : ℕ) → failures_read after k ≡ failures_read stop k)
@@ -100,7 +87,7 @@ adds_line takes at_end fails puts loses names reads writes reader writer written
 
 -- first what says nothing is read, and then more
 pub reads_twice : {R : Type 0} (takes : R → List ℕ → R → Type 0) (at_end : R → Type 0) (place : List ℕ → Option ℕ) → ((a b c : R) (xs ys : List ℕ) → takes a xs b → takes b ys c → takes a (xs ++ ys) c)
-    → (one two three : R) (n m k : ℕ) (r q p : lines.Reading) (more : List LineMeaning) (stop : Option Stop) → ReadsOn takes at_end place one n r two m q [] None → ReadsOn takes at_end place two m q three k p more stop
+    → (one two three : R) (n m k : ℕ) (r q p : TraceLines) (more : List LineMeaning) (stop : Option Stop) → ReadsOn takes at_end place one n r two m q [] None → ReadsOn takes at_end place two m q three k p more stop
     → ReadsOn takes at_end place one n r three k p more stop
 reads_twice takes at_end place on one two three n m k r q p more stop first then_so text s h =
     let a = first text s h in
@@ -130,48 +117,14 @@ any_puts put octets (Some (Fault Memory)) p = (octets, [], refl, p)
 any_puts put octets (Some (Fault Reading)) p = (octets, [], refl, p)
 any_puts put octets (Some (Fault Writing)) p = (octets, [], refl, p)
 
-listed_reads : (read listed_lines : List LineMeaning) (stop : Option Stop) (n : ℕ) → PassesOn read listed_lines stop → n ≡ failures_read stop n
-listed_reads read listed_lines None n t = refl
-listed_reads read listed_lines (Some End) n t = refl
-listed_reads read listed_lines (Some (Table c)) n t = refl
-listed_reads read listed_lines (Some (Fault (Line m fault))) n t = refl
-listed_reads read listed_lines (Some (Fault Memory)) n t = refl
-listed_reads read listed_lines (Some (Fault Reading)) n t = absurd t
-listed_reads read listed_lines (Some (Fault Writing)) n t = refl
-
-listed_writes : (read listed_lines : List LineMeaning) (stop : Option Stop) (n : ℕ) → PassesOn read listed_lines stop → n ≡ failures_written stop n
-listed_writes read listed_lines None n t = refl
-listed_writes read listed_lines (Some End) n t = refl
-listed_writes read listed_lines (Some (Table c)) n t = refl
-listed_writes read listed_lines (Some (Fault (Line m fault))) n t = refl
-listed_writes read listed_lines (Some (Fault Memory)) n t = refl
-listed_writes read listed_lines (Some (Fault Reading)) n t = refl
-listed_writes read listed_lines (Some (Fault Writing)) n t = absurd t
-
 module _ {R W : Type 0} (takes : R → List ℕ → R → Type 0) (at_end : R → Type 0) (fails : R → ℕ) (puts : W → List ℕ → W → Type 0) (loses : W → ℕ)
     (place : List ℕ → Option ℕ) (on : (a b c : R) (xs ys : List ℕ) → takes a xs b → takes b ys c → takes a (xs ++ ys) c)
-    (first : R) (to : W) (meanings : List LineMeaning) (octets : List ℕ) (reader later : R) (writer : W) (r q : lines.Reading) (n m : ℕ) (stop after : Option Stop) where
-  -- a line was read, and the core is given it
-  pub listed_on : (read listed_lines : List LineMeaning) → Plays takes at_end fails puts loses place first to meanings octets reader writer r n stop → stop ≡ None
-      → ReadsOn takes at_end place reader n r later m q read None → fails later ≡ fails reader → PassesOn read listed_lines after
-      → Plays takes at_end fails puts loses place first to (meanings ++ listed_lines) (octets ++ []) later writer q m after
-  listed_on read listed_lines p none reads count tells =
-      let goes = subst (λ x. Stands place p.text (at_end reader) meanings n r x) none p.stands in
-      let so = reads p.text meanings goes in
-      record {
-        text = p.text ++ so.0;
-        taken = on first reader later p.text so.0 p.taken so.1;
-        stands = stands_listed place (p.text ++ so.0) (at_end later) meanings m q read listed_lines after so.2 tells;
-        put = any_puts (λ xs. puts to xs writer) octets after (subst (λ x. Puts (λ xs. puts to xs writer) octets x) none p.put);
-        reads = count ∙ (subst (λ x. fails reader ≡ failures_read x (fails first)) none p.reads) ∙ listed_reads read listed_lines after (fails first) tells;
-        writes = (subst (λ x. loses writer ≡ failures_written x (loses to)) none p.writes) ∙ listed_writes read listed_lines after (loses to) tells;
-      }
-
-  -- no further line asks for anything
-  pub stopped_on : Plays takes at_end fails puts loses place first to meanings octets reader writer r n stop → stop ≡ None
-      → ReadsOn takes at_end place reader n r later m q [] after → fails later ≡ failures_read after (fails reader) → ((k : ℕ) → k ≡ failures_written after k)
-      → Plays takes at_end fails puts loses place first to (meanings ++ []) (octets ++ []) later writer q m after
-  stopped_on p none reads count unwritten =
+    (first : R) (to : W) (meanings more : List LineMeaning) (octets : List ℕ) (reader later : R) (writer : W) (r q : TraceLines) (n m : ℕ) (stop after : Option Stop) where
+  -- a line was read, and the core is given what it says; or no further line asks for anything
+  pub read_on : Plays takes at_end fails puts loses place first to meanings octets reader writer r n stop → stop ≡ None
+      → ReadsOn takes at_end place reader n r later m q more after → fails later ≡ failures_read after (fails reader) → ((k : ℕ) → k ≡ failures_written after k)
+      → Plays takes at_end fails puts loses place first to (meanings ++ more) (octets ++ []) later writer q m after
+  read_on p none reads count unwritten =
       let goes = subst (λ x. Stands place p.text (at_end reader) meanings n r x) none p.stands in
       let so = reads p.text meanings goes in
       record {

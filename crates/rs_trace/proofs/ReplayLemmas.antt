@@ -7,12 +7,18 @@ use Rattle.rs_trace.specs.declared.trace.LineFault.{LineFault}
 use Rattle.rs_trace.specs.declared.trace.LineFault.TheVariants.{TooLong}
 use Rattle.rs_trace.specs.Words.{lengthen}
 use Rattle.rs_trace.specs.Lines.{Reading, IsEnded, IsLast, IsTooLong, IsFirstLine, IsStep}
-use Rattle.rs_trace.specs.Trace.{LineMeaning, line_of}
+use Rattle.rs_core.specs.declared.links.Event.{Event}
+use Rattle.rs_trace.specs.Trace.{LineMeaning, Listed, line_of}
 use Rattle.rs_trace.specs.declared.trace.Entry.{Entry}
-use Rattle.rs_trace.specs.Entries.{meaning_in, line_as_meaning}
-use Rattle.rs_trace.specs.Replays.{meanings_in}
-use Rattle.rs_trace.specs.Text.{lines_of, whole_lines, outcome, Outcome, tells, behind, on_line, IsRead}
-use Rattle.rs_trace.specs.Played.{FollowsOn, AreWhole, GoesOn, MeansFirst}
+use Rattle.rs_trace.specs.declared.trace_lines.TraceLines.{TraceLines}
+use Rattle.rs_trace.specs.declared.fault.ReplayFault.TheVariants.{Line, Memory, Reading as ReadingFails, Writing}
+use Rattle.rs_trace.specs.declared.fault.Stop.{Stop}
+use Rattle.rs_trace.specs.declared.fault.Stop.TheVariants.{End, Table, Fault}
+use Rattle.rs_trace.specs.Entries.{line_as_meaning, line_meant}
+use Rattle.rs_trace.specs.Replays.{meanings_in, stop_of}
+use Rattle.rs_trace.specs.TakingUp.{TakesUp}
+use Rattle.rs_trace.specs.Text.{lines_of, whole_lines, outcome, outcome_behind, Outcome, tells, behind, after, asks, said, IsRead}
+use Rattle.rs_trace.specs.Played.{FollowsOn, AreWhole, GoesOn, MeansFirst, Stands}
 use Rattle.rs_trace.proofs.LineLemmas.{ends}
 
 no_end : (x : ℕ) (xs : List ℕ) → list_any ends (x ∷ xs) ≡ false → (ends x ≡ false) × (list_any ends xs ≡ false)
@@ -68,40 +74,44 @@ abbrev pub listed : Option LineMeaning → List LineMeaning
 listed None = []
 listed (Some meant) = meant ∷ []
 
-pub follows_start : (place : List ℕ → Option ℕ) (r : Reading) → r.rest ≡ [] → FollowsOn place [] [] 0 r
-follows_start place r e more h = rw e refl
+pub follows_start : (place : List ℕ → Option ℕ) (r : TraceLines) → r.lines.rest ≡ [] → r.text.items ≡ [] → FollowsOn place [] [] 0 r
+follows_start place r e f more h = rw e (rw f refl)
 
 both_none : (xs ys : List ℕ) → xs ≡ [] → ys ≡ [] → xs ++ ys ≡ []
 both_none xs ys e f = rw e (rw f refl)
 
 -- the outcome of the text from the line that the reader came to
-here : (place : List ℕ → Option ℕ) (text taken more : List ℕ) (s : List LineMeaning) (n : ℕ) (is_line : Bool) (old new : Reading) → FollowsOn place text s n old → IsStep is_line old new taken → (new.is_over ≡ true → more ≡ [])
-    → outcome place 1 (lines_of ((text ++ taken) ++ more)) ≡ behind s (outcome place (n + 1) (lines_of ((old.rest ++ taken) ++ more)))
+here : (place : List ℕ → Option ℕ) (text taken more : List ℕ) (s : List LineMeaning) (n : ℕ) (is_line : Bool) (old : TraceLines) (new : Reading) → FollowsOn place text s n old → IsStep is_line old.lines new taken → (new.is_over ≡ true → more ≡ [])
+    → outcome place 1 (lines_of ((text ++ taken) ++ more)) ≡ behind s (outcome_behind place old.text.items (n + 1) (lines_of ((old.lines.rest ++ taken) ++ more)))
 here place text taken more s n is_line old new follows step h =
     ap (λ xs. outcome place 1 (lines_of xs)) (append_assoc text taken more)
     ∙ follows (taken ++ more) (λ over. both_none taken more (step.none_after_end over) (h (step.stays_over over)))
-    ∙ ap (λ xs. behind s (outcome place (n + 1) (lines_of xs))) (sym (append_assoc old.rest taken more))
+    ∙ ap (λ xs. behind s (outcome_behind place old.text.items (n + 1) (lines_of xs))) (sym (append_assoc old.lines.rest taken more))
+
+-- a line that is too long says nothing, behind whatever text
+too_long_said : (place : List ℕ → Option ℕ) (text line : List ℕ) → 8240 < length line → said text (line_of place line) ≡ Err TooLong
+too_long_said place text line h = ap (said text) (too_long_line place line h)
 
 -- the fault is that of the line, where it has one
-fault_at : (place : List ℕ → Option ℕ) (n : ℕ) (octets : List ℕ) (r : Reading) (fault : LineFault) → IsFirstLine octets r → line_of place r.line ≡ Err fault → outcome place n (lines_of octets) ≡ tells [] (Some (n, fault))
-fault_at place n octets r fault first h = cases first.kind
+fault_at : (place : List ℕ → Option ℕ) (text : List ℕ) (n : ℕ) (octets : List ℕ) (r : Reading) (fault : LineFault) → IsFirstLine octets r → said text (line_of place r.line) ≡ Err fault → outcome_behind place text n (lines_of octets) ≡ tells [] (Some (n, fault))
+fault_at place text n octets r fault first h = cases first.kind
   where
-    cases : IsEnded octets r ⊎ IsLast octets r ⊎ IsTooLong octets r → outcome place n (lines_of octets) ≡ tells [] (Some (n, fault))
+    cases : IsEnded octets r ⊎ IsLast octets r ⊎ IsTooLong octets r → outcome_behind place text n (lines_of octets) ≡ tells [] (Some (n, fault))
     cases (inl e) = rw e.parts (rw (lines_of-ended r.line r.rest first.one_line) (rw h refl))
     cases (inr (inl e)) = rw e.parts (rw (lines_of-last r.line first.one_line e.some) (rw h refl))
     cases (inr (inr e)) =
         let front = lines_of-front r.line r.rest first.one_line (omega (arith, e.too_long)) in
-        let long = too_long_line place (r.line ++ front.rest) (omega (arith, e.too_long, length-append r.line front.rest)) in
-        let same : line_of place r.line ≡ Err TooLong = too_long_line place r.line (omega (arith, e.too_long)) in
+        let long = too_long_said place text (r.line ++ front.rest) (omega (arith, e.too_long, length-append r.line front.rest)) in
+        let same : said text (line_of place r.line) ≡ Err TooLong = too_long_said place text r.line (omega (arith, e.too_long)) in
         let fault_is : TooLong ≡ fault = cc in
         rw e.parts (rw front.is (rw long (ap (λ f. tells [] (Some (n, f))) fault_is)))
 
--- and else what it says comes before what the lines after it say
-goes_on : (place : List ℕ → Option ℕ) (n : ℕ) (octets more : List ℕ) (r : Reading) (event : Option LineMeaning) → IsFirstLine octets r → line_of place r.line ≡ Ok event → (r.is_over ≡ true → more ≡ [])
-    → outcome place n (lines_of (octets ++ more)) ≡ on_line (Ok event) n (outcome place (n + 1) (lines_of (r.rest ++ more)))
-goes_on place n octets more r event first h none = cases first.kind
+-- and else what it asks for comes before what the lines after it say
+goes_on : (place : List ℕ → Option ℕ) (text : List ℕ) (n : ℕ) (octets more : List ℕ) (r : Reading) (asked : Option LineMeaning) (on : List ℕ) → IsFirstLine octets r → said text (line_of place r.line) ≡ asks asked on → (r.is_over ≡ true → more ≡ [])
+    → outcome_behind place text n (lines_of (octets ++ more)) ≡ after asked (outcome_behind place on (n + 1) (lines_of (r.rest ++ more)))
+goes_on place text n octets more r asked on first h none = cases first.kind
   where
-    cases : IsEnded octets r ⊎ IsLast octets r ⊎ IsTooLong octets r → outcome place n (lines_of (octets ++ more)) ≡ on_line (Ok event) n (outcome place (n + 1) (lines_of (r.rest ++ more)))
+    cases : IsEnded octets r ⊎ IsLast octets r ⊎ IsTooLong octets r → outcome_behind place text n (lines_of (octets ++ more)) ≡ after asked (outcome_behind place on (n + 1) (lines_of (r.rest ++ more)))
     cases (inl e) =
         let parts : octets ++ more ≡ r.line ++ (10 ∷ []) ++ (r.rest ++ more) = ap (λ xs. xs ++ more) e.parts ∙ append_assoc (r.line ++ (10 ∷ [])) r.rest more in
         rw parts (rw (lines_of-ended r.line (r.rest ++ more) first.one_line) (rw h refl))
@@ -111,34 +121,34 @@ goes_on place n octets more r event first h none = cases first.kind
         let behind_it : r.rest ++ more ≡ [] = both_none r.rest more e.none_left no_more in
         rw parts (rw behind_it (rw (lines_of-last r.line first.one_line e.some) (rw h refl)))
     cases (inr (inr e)) =
-        let bad : line_of place r.line ≡ Err TooLong = too_long_line place r.line (omega (arith, e.too_long)) in
+        let bad : said text (line_of place r.line) ≡ Err TooLong = too_long_said place text r.line (omega (arith, e.too_long)) in
         cc
 
-behind_on : (s : List LineMeaning) (event : Option LineMeaning) (n : ℕ) (later : Outcome) → behind s (on_line (Ok event) n later) ≡ behind (s ++ listed event) later
-behind_on s None n later = ap (λ xs. tells (xs ++ later.meanings) later.fault) (sym (append-nil s))
-behind_on s (Some meant) n later = ap (λ xs. tells xs later.fault) (sym (append_assoc s (meant ∷ []) later.meanings))
+behind_after : (s : List LineMeaning) (asked : Option LineMeaning) (later : Outcome) → behind s (after asked later) ≡ behind (s ++ listed asked) later
+behind_after s None later = ap (λ xs. tells (xs ++ later.meanings) later.fault) (sym (append-nil s))
+behind_after s (Some meant) later = ap (λ xs. tells xs later.fault) (sym (append_assoc s (meant ∷ []) later.meanings))
 
-pub follows_line : (place : List ℕ → Option ℕ) (text taken : List ℕ) (s : List LineMeaning) (n : ℕ) (event : Option LineMeaning) (old new : Reading) → FollowsOn place text s n old → IsStep true old new taken → line_of place new.line ≡ Ok event
-    → FollowsOn place (text ++ taken) (s ++ listed event) (n + 1) new
-follows_line place text taken s n event old new follows step h more none =
-    here place text taken more s n true old new follows step none
-    ∙ ap (behind s) (goes_on place (n + 1) (old.rest ++ taken) more new event step.steps h none)
-    ∙ behind_on s event (n + 1) (outcome place (n + 1 + 1) (lines_of (new.rest ++ more)))
+follows_line : (place : List ℕ → Option ℕ) (text taken : List ℕ) (s : List LineMeaning) (n : ℕ) (asked : Option LineMeaning) (old new : TraceLines) → FollowsOn place text s n old → IsStep true old.lines new.lines taken
+    → said old.text.items (line_of place new.lines.line) ≡ asks asked new.text.items → FollowsOn place (text ++ taken) (s ++ listed asked) (n + 1) new
+follows_line place text taken s n asked old new follows step h more none =
+    here place text taken more s n true old new.lines follows step none
+    ∙ ap (behind s) (goes_on place old.text.items (n + 1) (old.lines.rest ++ taken) more new.lines asked new.text.items step.steps h none)
+    ∙ behind_after s asked (outcome_behind place new.text.items (n + 1 + 1) (lines_of (new.lines.rest ++ more)))
 
-pub follows_fault : (place : List ℕ → Option ℕ) (text taken : List ℕ) (s : List LineMeaning) (n : ℕ) (fault : LineFault) (old new : Reading) → FollowsOn place text s n old → IsStep true old new taken → line_of place new.line ≡ Err fault
-    → outcome place 1 (lines_of (text ++ taken)) ≡ tells s (Some (n + 1, fault))
+follows_fault : (place : List ℕ → Option ℕ) (text taken : List ℕ) (s : List LineMeaning) (n : ℕ) (fault : LineFault) (old : TraceLines) (new : Reading) → FollowsOn place text s n old → IsStep true old.lines new taken
+    → said old.text.items (line_of place new.line) ≡ Err fault → outcome place 1 (lines_of (text ++ taken)) ≡ tells s (Some (n + 1, fault))
 follows_fault place text taken s n fault old new follows step h =
     ap (λ xs. outcome place 1 (lines_of xs)) (sym (append-nil (text ++ taken)))
     ∙ here place text taken [] s n true old new follows step (λ over. refl)
-    ∙ ap (λ xs. behind s (outcome place (n + 1) (lines_of xs))) (append-nil (old.rest ++ taken))
-    ∙ ap (behind s) (fault_at place (n + 1) (old.rest ++ taken) new fault step.steps h)
+    ∙ ap (λ xs. behind s (outcome_behind place old.text.items (n + 1) (lines_of xs))) (append-nil (old.lines.rest ++ taken))
+    ∙ ap (behind s) (fault_at place old.text.items (n + 1) (old.lines.rest ++ taken) new fault step.steps h)
     ∙ ap (λ xs. tells xs (Some (n + 1, fault))) (append-nil s)
 
 -- the meanings so far are what the text says first, also where more was taken
-pub means_first : (place : List ℕ → Option ℕ) (text taken : List ℕ) (s : List LineMeaning) (n : ℕ) (r : Reading) → FollowsOn place text s n r → (r.is_over ≡ true → taken ≡ []) → MeansFirst place (text ++ taken) s
-means_first place text taken s n r follows none = ((outcome place (n + 1) (lines_of (r.rest ++ taken))).meanings, ap (λ o. o.meanings) (follows taken none))
+pub means_first : (place : List ℕ → Option ℕ) (text taken : List ℕ) (s : List LineMeaning) (n : ℕ) (r : TraceLines) → FollowsOn place text s n r → (r.lines.is_over ≡ true → taken ≡ []) → MeansFirst place (text ++ taken) s
+means_first place text taken s n r follows none = ((outcome_behind place r.text.items (n + 1) (lines_of (r.lines.rest ++ taken))).meanings, ap (λ o. o.meanings) (follows taken none))
 
-pub means_first_now : (place : List ℕ → Option ℕ) (text : List ℕ) (s : List LineMeaning) (n : ℕ) (r : Reading) → FollowsOn place text s n r → MeansFirst place text s
+pub means_first_now : (place : List ℕ → Option ℕ) (text : List ℕ) (s : List LineMeaning) (n : ℕ) (r : TraceLines) → FollowsOn place text s n r → MeansFirst place text s
 means_first_now place text s n r follows = subst (λ (xs : List ℕ). MeansFirst place xs s) (append-nil text) (means_first place text [] s n r follows (λ over. refl))
 
 pub means_all : (place : List ℕ → Option ℕ) (text : List ℕ) (s : List LineMeaning) (fault : Option (ℕ × LineFault)) → outcome place 1 (lines_of text) ≡ tells s fault → MeansFirst place text s
@@ -159,7 +169,7 @@ whole_none : (xs : List ℕ) → list_any ends xs ≡ false → whole_lines xs �
 whole_none [] h = refl
 whole_none (x ∷ xs) h = let parts = no_end x xs h in rw parts.0 (whole_none xs parts.1)
 
-whole_ended : (line rest : List ℕ) → list_any ends line ≡ false → whole_lines (line ++ (10 ∷ []) ++ rest) ≡ 1 + whole_lines rest
+pub whole_ended : (line rest : List ℕ) → list_any ends line ≡ false → whole_lines (line ++ (10 ∷ []) ++ rest) ≡ 1 + whole_lines rest
 whole_ended line rest h =
     let parts : line ++ (10 ∷ []) ++ rest ≡ line ++ (10 ∷ rest) = append_assoc line (10 ∷ []) rest in
     rw parts (omega (arith, whole_append line (10 ∷ rest), whole_none line h, whole_end rest))
@@ -168,46 +178,72 @@ whole_ended line rest h =
     whole_end rest = refl
 
 -- the count of whole lines after a step to a line
-pub whole_step : (text taken : List ℕ) (n : ℕ) (old new : Reading) → AreWhole text n old → IsStep true old new taken → new.is_over ≡ true ⊎ length new.line ≡ 8241 ⊎ whole_lines (text ++ taken) ≡ (n + 1) + whole_lines new.rest
+whole_step : (text taken : List ℕ) (n : ℕ) (old : TraceLines) (new : Reading) → AreWhole text n old → IsStep true old.lines new taken → new.is_over ≡ true ⊎ length new.line ≡ 8241 ⊎ whole_lines (text ++ taken) ≡ (n + 1) + whole_lines new.rest
 whole_step text taken n old new whole step = cases whole step.steps.kind
   where
-    cases : AreWhole text n old → IsEnded (old.rest ++ taken) new ⊎ IsLast (old.rest ++ taken) new ⊎ IsTooLong (old.rest ++ taken) new → new.is_over ≡ true ⊎ length new.line ≡ 8241 ⊎ whole_lines (text ++ taken) ≡ (n + 1) + whole_lines new.rest
+    cases : AreWhole text n old → IsEnded (old.lines.rest ++ taken) new ⊎ IsLast (old.lines.rest ++ taken) new ⊎ IsTooLong (old.lines.rest ++ taken) new → new.is_over ≡ true ⊎ length new.line ≡ 8241 ⊎ whole_lines (text ++ taken) ≡ (n + 1) + whole_lines new.rest
     cases (inr over) kind = inl (step.stays_over over)
     cases (inl count) (inl e) =
-        let rest : whole_lines (old.rest ++ taken) ≡ 1 + whole_lines new.rest = ap whole_lines e.parts ∙ whole_ended new.line new.rest step.steps.one_line in
-        inr (inr (omega (arith, count, rest, whole_append text taken, whole_append old.rest taken)))
+        let rest : whole_lines (old.lines.rest ++ taken) ≡ 1 + whole_lines new.rest = ap whole_lines e.parts ∙ whole_ended new.line new.rest step.steps.one_line in
+        inr (inr (omega (arith, count, rest, whole_append text taken, whole_append old.lines.rest taken)))
     cases (inl count) (inr (inl e)) = inl e.over
     cases (inl count) (inr (inr e)) = inr (inl e.too_long)
 
-pub goes_on_line : (place : List ℕ → Option ℕ) (text taken : List ℕ) (before over : Type 0) (s : List LineMeaning) (n : ℕ) (event : Option LineMeaning) (old new : Reading) → GoesOn place text before s n old → IsStep true old new taken → ((old.is_over ≡ true → before) → new.is_over ≡ true → over)
-    → line_of place new.line ≡ Ok event → GoesOn place (text ++ taken) over (s ++ listed event) (n + 1) new
-goes_on_line place text taken before over s n event old new goes step ended h =
-    (follows_line place text taken s n event old new goes.0 step h, ended goes.1, counted (whole_step text taken n old new goes.2 step))
+goes_on_line : (place : List ℕ → Option ℕ) (text taken : List ℕ) (before over : Type 0) (s : List LineMeaning) (n : ℕ) (asked : Option LineMeaning) (old new : TraceLines) → GoesOn place text before s n old → IsStep true old.lines new.lines taken → ((old.lines.is_over ≡ true → before) → new.lines.is_over ≡ true → over)
+    → said old.text.items (line_of place new.lines.line) ≡ asks asked new.text.items → GoesOn place (text ++ taken) over (s ++ listed asked) (n + 1) new
+goes_on_line place text taken before over s n asked old new goes step ended h =
+    (follows_line place text taken s n asked old new goes.0 step h, ended goes.1, counted (whole_step text taken n old new.lines goes.2 step))
   where
-    counted : new.is_over ≡ true ⊎ length new.line ≡ 8241 ⊎ whole_lines (text ++ taken) ≡ (n + 1) + whole_lines new.rest → AreWhole (text ++ taken) (n + 1) new
+    counted : new.lines.is_over ≡ true ⊎ length new.lines.line ≡ 8241 ⊎ whole_lines (text ++ taken) ≡ (n + 1) + whole_lines new.lines.rest → AreWhole (text ++ taken) (n + 1) new
     counted (inl e) = inr e
     counted (inr (inl long)) =
-        let bad : line_of place new.line ≡ Err TooLong = too_long_line place new.line (omega (arith, long)) in
+        let bad : said old.text.items (line_of place new.lines.line) ≡ Err TooLong = too_long_said place old.text.items new.lines.line (omega (arith, long)) in
         cc
     counted (inr (inr e)) = inl e
 
-pub reads_fault : (place : List ℕ → Option ℕ) (text taken : List ℕ) (before over : Type 0) (s : List LineMeaning) (n : ℕ) (fault : LineFault) (old new : Reading) → GoesOn place text before s n old → IsStep true old new taken → ((old.is_over ≡ true → before) → new.is_over ≡ true → over)
-    → line_of place new.line ≡ Err fault → IsRead (text ++ taken) (n + 1) fault over
+reads_fault : (place : List ℕ → Option ℕ) (text taken : List ℕ) (before over : Type 0) (s : List LineMeaning) (n : ℕ) (fault : LineFault) (old : TraceLines) (new : Reading) → GoesOn place text before s n old → IsStep true old.lines new taken → ((old.lines.is_over ≡ true → before) → new.is_over ≡ true → over)
+    → said old.text.items (line_of place new.line) ≡ Err fault → IsRead (text ++ taken) (n + 1) fault over
 reads_fault place text taken before over s n fault old new goes step ended h = counted (whole_step text taken n old new goes.2 step)
   where
     counted : new.is_over ≡ true ⊎ length new.line ≡ 8241 ⊎ whole_lines (text ++ taken) ≡ (n + 1) + whole_lines new.rest → IsRead (text ++ taken) (n + 1) fault over
     counted (inl e) = inr (inl (ended goes.1 e))
     counted (inr (inl long)) =
-        let same : line_of place new.line ≡ Err TooLong = too_long_line place new.line (omega (arith, long)) in
+        let same : said old.text.items (line_of place new.line) ≡ Err TooLong = too_long_said place old.text.items new.line (omega (arith, long)) in
         let is : fault ≡ TooLong = cc in
         inr (inr is)
     counted (inr (inr e)) = inl (omega (arith, e))
 
--- a line that is read says something, or nothing, and has no fault
-pub line_faulty : (piece : List ℕ) (fault : LineFault) (r : Result (Option Entry) LineFault) (lines_done : Result (Option LineMeaning) LineFault) → r ≡ Err fault → line_as_meaning piece r ≡ lines_done → lines_done ≡ Err fault
-line_faulty piece fault r lines_done is e = sym e ∙ rw is refl
+-- a line has a fault, by itself or behind the text
+pub stands_at_fault : (place : List ℕ → Option ℕ) (text taken : List ℕ) (before over : Type 0) (s : List LineMeaning) (n : ℕ) (fault : LineFault) (old new : TraceLines) → GoesOn place text before s n old → IsStep true old.lines new.lines taken → ((old.lines.is_over ≡ true → before) → new.lines.is_over ≡ true → over)
+    → said old.text.items (line_of place new.lines.line) ≡ Err fault → Stands place (text ++ taken) over (s ++ []) (n + 1) new (Some (Fault (Line (n + 1) fault)))
+stands_at_fault place text taken before over s n fault old new goes step ended h = (
+  follows_fault place text taken s n fault old new.lines goes.0 step h ∙ ap (λ xs. tells xs (Some (n + 1, fault))) (sym (append-nil s)),
+  reads_fault place text taken before over s n fault old new.lines goes step ended h,
+)
 
-pub line_meant : (piece : List ℕ) (entry : Option Entry) (r : Result (Option Entry) LineFault) (lines_done : Result (Option LineMeaning) LineFault) → r ≡ Ok entry → line_as_meaning piece r ≡ lines_done
-    → (event : Option LineMeaning) × (lines_done ≡ Ok event) × (listed event ≡ meanings_in piece (Ok entry))
-line_meant piece None r lines_done is e = (None, sym e ∙ rw is refl, refl)
-line_meant piece (Some entry) r lines_done is e = (Some (meaning_in piece entry), sym e ∙ rw is refl, refl)
+-- a line that says something, or nothing, was taken up
+pub taken_up : (place : List ℕ → Option ℕ) (text taken : List ℕ) (before over : Type 0) (s : List LineMeaning) (n : ℕ) (meant : Option LineMeaning) (piece : List ℕ) (result : Result (Option Event) Stop) (old new : TraceLines)
+    → GoesOn place text before s n old → IsStep true old.lines new.lines taken → ((old.lines.is_over ≡ true → before) → new.lines.is_over ≡ true → over) → line_of place new.lines.line ≡ Ok meant
+    → TakesUp old.text.items meant (n + 1) piece result new.text.items new.rules.items
+    → Stands place (text ++ taken) over (s ++ meanings_in piece new.rules.items result) (n + 1) new (stop_of result)
+taken_up place text taken before over s n meant piece (Ok None) old new goes step ended is up =
+    goes_on_line place text taken before over s n None old new goes step ended (ap (said old.text.items) is ∙ up)
+taken_up place text taken before over s n meant piece (Ok (Some event)) old new goes step ended is up =
+    subst (λ xs. GoesOn place (text ++ taken) over (s ++ xs) (n + 1) new) (sym up.2) (goes_on_line place text taken before over s n (Some up.0) old new goes step ended (ap (said old.text.items) is ∙ up.1))
+taken_up place text taken before over s n meant piece (Err (Table c)) old new goes step ended is up =
+    subst (λ xs. GoesOn place (text ++ taken) over (xs ++ (Listed c ∷ [])) (n + 1) new) (sym (append-nil s)) (goes_on_line place text taken before over s n (Some (Listed c)) old new goes step ended (ap (said old.text.items) is ∙ up))
+taken_up place text taken before over s n meant piece (Err (Fault (Line m fault))) old new goes step ended is up =
+    subst (λ (k : ℕ). Stands place (text ++ taken) over (s ++ []) (n + 1) new (Some (Fault (Line k fault)))) (sym up.0) (stands_at_fault place text taken before over s n fault old new goes step ended (ap (said old.text.items) is ∙ up.1))
+taken_up place text taken before over s n meant piece (Err (Fault Memory)) old new goes step ended is up =
+    subst (λ xs. MeansFirst place (text ++ taken) xs) (sym (append-nil s)) (means_first place text taken s n old goes.0 step.none_after_end)
+taken_up place text taken before over s n meant piece (Err (Fault ReadingFails)) old new goes step ended is up = absurd up
+taken_up place text taken before over s n meant piece (Err (Fault Writing)) old new goes step ended is up = absurd up
+taken_up place text taken before over s n meant piece (Err End) old new goes step ended is up = absurd up
+
+-- a line that is read has a fault, or says something or nothing
+pub line_is_faulty : (piece : List ℕ) (fault : LineFault) (r : Result (Option Entry) LineFault) (means : Result (Option LineMeaning) LineFault) → r ≡ Err fault → line_as_meaning piece r ≡ means → means ≡ Err fault
+line_is_faulty piece fault r means is e = sym e ∙ rw is refl
+
+pub line_has_meant : (piece : List ℕ) (entry : Option Entry) (r : Result (Option Entry) LineFault) (means : Result (Option LineMeaning) LineFault) → r ≡ Ok entry → line_as_meaning piece r ≡ means → means ≡ Ok (line_meant piece entry)
+line_has_meant piece None r means is e = sym e ∙ rw is refl
+line_has_meant piece (Some entry) r means is e = sym e ∙ rw is refl

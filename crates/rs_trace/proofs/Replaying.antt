@@ -18,7 +18,7 @@ use Rattle.rs_trace.specs.declared.fault.ReplayFault.{ReplayFault}
 use Rattle.rs_trace.specs.declared.fault.ReplayFault.TheVariants.{Line, Memory, Reading, Writing}
 use Rattle.rs_trace.specs.declared.fault.Stop.{Stop}
 use Rattle.rs_trace.specs.declared.fault.Stop.TheVariants.{End, Table, Fault}
-use Rattle.rs_trace.specs.Lines as lines
+use Rattle.rs_trace.specs.declared.trace_lines.TraceLines.{TraceLines}
 use Rattle.rs_trace.specs.Output.{fault_line}
 use Rattle.rs_trace.specs.Trace.{LineMeaning, Listed}
 use Rattle.rs_trace.specs.Played.{Act, Did, ListedRoutes, lines_done, written, Puts, MeansFirst, TookAll, line_at, meaning_at}
@@ -39,8 +39,8 @@ led_on happens P step (s ∷ run) old new acts h p = step h.0 new s (steps_done 
 module _ {R W G : Type 0} (takes : R → List ℕ → R → Type 0) (at_end : R → Type 0) (fails : R → ℕ) (puts : W → List ℕ → W → Type 0) (loses : W → ℕ) where
   -- a step was done
   pub did : (names : Names) (reads writes : G) (first : R) (to : W) (acts : List Act) (step : links.Step)
-      (names1 : Names) (reads1 writes1 : G) (reader1 : R) (writer1 : W) (r1 : lines.Reading) (n1 : ℕ) (stop1 : Option Stop)
-      (names2 : Names) (reads2 writes2 : G) (reader2 : R) (writer2 : W) (r2 : lines.Reading) (n2 : ℕ) (stop2 : Option Stop)
+      (names1 : Names) (reads1 writes1 : G) (reader1 : R) (writer1 : W) (r1 : TraceLines) (n1 : ℕ) (stop1 : Option Stop)
+      (names2 : Names) (reads2 writes2 : G) (reader2 : R) (writer2 : W) (r2 : TraceLines) (n2 : ℕ) (stop2 : Option Stop)
       → Happens takes at_end fails puts loses names1 reads1 writes1 reader1 writer1 r1 n1 stop1 step names2 reads2 writes2 reader2 writer2 r2 n2 stop2
       → HasDone takes at_end fails puts loses names reads writes first to acts names1 reads1 writes1 reader1 writer1 r1 n1 stop1
       → HasDone takes at_end fails puts loses names reads writes first to (Did step ∷ acts) names2 reads2 writes2 reader2 writer2 r2 n2 stop2
@@ -58,8 +58,8 @@ module _ {R W G : Type 0} (takes : R → List ℕ → R → Type 0) (at_end : R 
 
   -- routes were listed after a line that asks for them
   pub listed_lines : (names : Names) (reads writes : G) (first : R) (to : W) (acts : List Act) (c : ℕ) (line : List ℕ)
-      (names1 : Names) (reads1 writes1 : G) (reader1 : R) (writer1 : W) (r1 : lines.Reading) (n1 : ℕ) (stop1 : Option Stop)
-      (names2 : Names) (reads2 writes2 : G) (reader2 : R) (writer2 : W) (r2 : lines.Reading) (n2 : ℕ) (stop2 : Option Stop)
+      (names1 : Names) (reads1 writes1 : G) (reader1 : R) (writer1 : W) (r1 : TraceLines) (n1 : ℕ) (stop1 : Option Stop)
+      (names2 : Names) (reads2 writes2 : G) (reader2 : R) (writer2 : W) (r2 : TraceLines) (n2 : ℕ) (stop2 : Option Stop)
       → stop1 ≡ Some (Table c)
       → Adds takes at_end fails puts loses names1 reads1 writes1 reader1 writer1 r1 n1 None line names2 reads2 writes2 reader2 writer2 r2 n2 stop2
       → HasDone takes at_end fails puts loses names reads writes first to acts names1 reads1 writes1 reader1 writer1 r1 n1 stop1
@@ -81,8 +81,8 @@ module _ {R W G : Type 0} (takes : R → List ℕ → R → Type 0) (at_end : R 
 
 -- the step's line of output was written, and the step comes from no line of the trace
 pub added_by : {R W G : Type 0} {takes : R → List ℕ → R → Type 0} {at_end : R → Type 0} {fails : R → ℕ} {puts : W → List ℕ → W → Type 0} {loses : W → ℕ}
-    {names : Names} {reads writes : G} {reader : R} {writer : W} {r : lines.Reading} {n : ℕ} {stop : Option Stop}
-    {names2 : Names} {reads2 writes2 : G} {reader2 : R} {writer2 : W} {r2 : lines.Reading} {n2 : ℕ} {stop2 : Option Stop}
+    {names : Names} {reads writes : G} {reader : R} {writer : W} {r : TraceLines} {n : ℕ} {stop : Option Stop}
+    {names2 : Names} {reads2 writes2 : G} {reader2 : R} {writer2 : W} {r2 : TraceLines} {n2 : ℕ} {stop2 : Option Stop}
     (step : links.Step) → TookAll step → meaning_at step ≡ []
     → Adds takes at_end fails puts loses names reads writes reader writer r n stop (line_at (name_in names) step) names2 reads2 writes2 reader2 writer2 r2 n2 stop2
     → Happens takes at_end fails puts loses names reads writes reader writer r n stop step names2 reads2 writes2 reader2 writer2 r2 n2 stop2
@@ -158,7 +158,7 @@ fault_in (Some (Table c)) = Memory
 fault_in (Some (Fault fault)) = fault
 
 module _ {R W : Type 0} (takes : R → List ℕ → R → Type 0) (at_end : R → Type 0) (fails : R → ℕ) (puts : W → List ℕ → W → Type 0) (loses : W → ℕ)
-    (place : List ℕ → Option ℕ) (first : R) (to : W) (meanings : List LineMeaning) (octets : List ℕ) (reader : R) (writer : W) (r : lines.Reading) (n : ℕ) where
+    (place : List ℕ → Option ℕ) (first : R) (to : W) (meanings : List LineMeaning) (octets : List ℕ) (reader : R) (writer : W) (r : TraceLines) (n : ℕ) where
   pub over_at_end : Plays takes at_end fails puts loses place first to meanings octets reader writer r n (Some End) → IsOver takes at_end puts place first to meanings octets reader writer (Ok tt)
   over_at_end p = record { text = p.text; taken = p.taken; ends = p.stands; gives = p.put }
 
@@ -208,7 +208,7 @@ module _ {R W : Type 0} (takes : R → List ℕ → R → Type 0) (at_end : R �
 
 -- nothing was done yet
 pub done_first : {R W G : Type 0} (takes : R → List ℕ → R → Type 0) (at_end : R → Type 0) (fails : R → ℕ) (puts : W → List ℕ → W → Type 0) (loses : W → ℕ)
-    (names : Names) (reads writes : G) (reader : R) (writer : W) (r : lines.Reading) (n : ℕ) (stop : Option Stop)
+    (names : Names) (reads writes : G) (reader : R) (writer : W) (r : TraceLines) (n : ℕ) (stop : Option Stop)
     → takes reader [] reader → puts writer [] writer → IsAtFirst r n stop
     → HasDone takes at_end fails puts loses names reads writes reader writer [] names reads writes reader writer r n stop
 done_first takes at_end fails puts loses names reads writes reader writer r n stop taken put f = record {
@@ -220,7 +220,7 @@ done_first takes at_end fails puts loses names reads writes reader writer r n st
       (subst (λ (k : ℕ). Plays takes at_end fails puts loses (place_in names) reader writer [] [] reader writer r k None) (sym f.number) (record {
         text = [];
         taken = taken;
-        stands = (follows_start (place_in names) r f.rest, λ e. absurd (true≢false (sym e ∙ f.goes)), inl (sym (ap (λ xs. 0 + whole_lines xs) f.rest)));
+        stands = (follows_start (place_in names) r f.rest f.no_text, λ e. absurd (true≢false (sym e ∙ f.goes)), inl (sym (ap (λ xs. 0 + whole_lines xs) f.rest)));
         put = put;
         reads = refl;
         writes = refl;

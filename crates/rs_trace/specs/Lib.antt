@@ -8,5 +8,7 @@ pub mod Tables
 pub mod Texts
 pub mod Text
 pub mod Played
+pub mod TakingUp
 pub mod Replays
+pub mod Through
 pub mod Serving

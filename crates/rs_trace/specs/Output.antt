@@ -1,7 +1,7 @@
 -- The lines of a replay's output.
 use Rattle.std.specs.Prelude.{ℕ, ◌/◌, ◌%◌, List, [], ◌∷◌, ◌++◌, codes, decimal}
 use Rattle.rs_trace.specs.declared.trace.LineFault.{LineFault}
-use Rattle.rs_trace.specs.declared.trace.LineFault.TheVariants.{TooLong, UnknownWord, WordCount, UnknownClient, BadNumber, BadHex}
+use Rattle.rs_trace.specs.declared.trace.LineFault.TheVariants.{TooLong, UnknownWord, WordCount, UnknownClient, BadNumber, BadHex, TextTooLong}
 use Rattle.rs_octets.specs.Prefixes.{Prefix}
 use Rattle.hex.specs.Hex.{encode_lower}
 
@@ -36,6 +36,7 @@ fault_text WordCount = codes "word count"
 fault_text UnknownClient = codes "unknown client"
 fault_text BadNumber = codes "bad number"
 fault_text BadHex = codes "bad hex"
+fault_text TextTooLong = codes "text too long"
 
 -- a line's fault, with the line's number in decimal digits
 abbrev pub fault_line : ℕ → LineFault → List ℕ

@@ -8,10 +8,10 @@ use Rattle.rs_core.specs.Drives.Steps as links
 use Rattle.rs_trace.specs.declared.fault.ReplayFault.TheVariants.{Line, Memory, Reading, Writing}
 use Rattle.rs_trace.specs.declared.fault.Stop.{Stop}
 use Rattle.rs_trace.specs.declared.fault.Stop.TheVariants.{End, Table, Fault}
-use Rattle.rs_trace.specs.Lines as lines
+use Rattle.rs_trace.specs.declared.trace_lines.TraceLines.{TraceLines}
 use Rattle.rs_trace.specs.Output.{client_line, sent_line, accepted_line, refused_line}
 use Rattle.rs_trace.specs.Trace.{LineMeaning, Opened, Heard, Offered, Passed, Turned, Left, Replaced, Listed}
-use Rattle.rs_trace.specs.Text.{lines_of, whole_lines, outcome, tells, behind, IsRead}
+use Rattle.rs_trace.specs.Text.{lines_of, whole_lines, outcome, outcome_behind, tells, behind, IsRead}
 
 pub data Act : Type 0 where
   -- the core's link did a step
@@ -86,25 +86,26 @@ steps_of [] = []
 steps_of (Did step ∷ acts) = step ∷ steps_of acts
 steps_of (ListedRoutes c listed_lines ∷ acts) = steps_of acts
 
--- What a reader of lines has still to give, with whatever may come, is what the text says after these meanings. n lines were read.
-abbrev pub FollowsOn : (List ℕ → Option ℕ) → List ℕ → List LineMeaning → ℕ → lines.Reading → Type 0
+-- What a reader of lines has still to give, with whatever may come, is what the text says after these meanings and the octets of a
+-- text that goes on. n lines were read.
+abbrev pub FollowsOn : (List ℕ → Option ℕ) → List ℕ → List LineMeaning → ℕ → TraceLines → Type 0
 FollowsOn place text meanings n r =
-    (more : List ℕ) → (r.is_over ≡ true → more ≡ []) → outcome place 1 (lines_of (text ++ more)) ≡ behind meanings (outcome place (n + 1) (lines_of (r.rest ++ more)))
+    (more : List ℕ) → (r.lines.is_over ≡ true → more ≡ []) → outcome place 1 (lines_of (text ++ more)) ≡ behind meanings (outcome_behind place r.text.items (n + 1) (lines_of (r.lines.rest ++ more)))
 
 -- the lines that were read are those that are whole, unless the last was not
-abbrev pub AreWhole : List ℕ → ℕ → lines.Reading → Type 0
-AreWhole text n r = (whole_lines text ≡ n + whole_lines r.rest) ⊎ (r.is_over ≡ true)
+abbrev pub AreWhole : List ℕ → ℕ → TraceLines → Type 0
+AreWhole text n r = (whole_lines text ≡ n + whole_lines r.lines.rest) ⊎ (r.lines.is_over ≡ true)
 
 -- the text says these first
 abbrev pub MeansFirst : (List ℕ → Option ℕ) → List ℕ → List LineMeaning → Type 0
 MeansFirst place text meanings = (others : List LineMeaning) × ((outcome place 1 (lines_of text)).meanings ≡ meanings ++ others)
 
 -- so far no line had a fault
-abbrev pub GoesOn : (List ℕ → Option ℕ) → List ℕ → Type 0 → List LineMeaning → ℕ → lines.Reading → Type 0
-GoesOn place text over meanings n r = FollowsOn place text meanings n r × (r.is_over ≡ true → over) × AreWhole text n r
+abbrev pub GoesOn : (List ℕ → Option ℕ) → List ℕ → Type 0 → List LineMeaning → ℕ → TraceLines → Type 0
+GoesOn place text over meanings n r = FollowsOn place text meanings n r × (r.lines.is_over ≡ true → over) × AreWhole text n r
 
 -- The text was read so far: what its lines have meant, and where the reading stands. `over` says that nothing more comes.
-abbrev pub Stands : (List ℕ → Option ℕ) → List ℕ → Type 0 → List LineMeaning → ℕ → lines.Reading → Option Stop → Type 0
+abbrev pub Stands : (List ℕ → Option ℕ) → List ℕ → Type 0 → List LineMeaning → ℕ → TraceLines → Option Stop → Type 0
 Stands place text over meanings n r None = GoesOn place text over meanings n r
 Stands place text over meanings n r (Some End) = (outcome place 1 (lines_of text) ≡ tells meanings None) × over
 Stands place text over meanings n r (Some (Table c)) = GoesOn place text over (meanings ++ (Listed c ∷ [])) n r

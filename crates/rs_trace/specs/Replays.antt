@@ -10,19 +10,18 @@ use Rattle.rs_core.specs.Drives.Answers.{Drives}
 use Rattle.rs_core.specs.Drives.Serving.{start}
 use Rattle.rs_core.specs.declared.route_server.Core.{Core}
 use Rattle.rs_trace.specs.declared.trace.LineFault.{LineFault}
-use Rattle.rs_trace.specs.declared.trace.Entry.{Entry}
+use Rattle.rs_core.specs.declared.links.Event.{Event}
 use Rattle.rs_trace.specs.declared.names.Names.{Names}
 use Rattle.rs_trace.specs.declared.fault.ReplayFault.{ReplayFault}
 use Rattle.rs_trace.specs.declared.fault.ReplayFault.TheVariants.{Line, Memory, Reading, Writing}
 use Rattle.rs_trace.specs.declared.fault.Stop.{Stop}
 use Rattle.rs_trace.specs.declared.fault.Stop.TheVariants.{End, Table, Fault}
-use Rattle.rs_trace.specs.Lines as lines
+use Rattle.rs_trace.specs.declared.trace_lines.TraceLines.{TraceLines}
 use Rattle.rs_trace.specs.Output.{fault_line}
 use Rattle.rs_trace.specs.Trace.{LineMeaning, Listed}
-use Rattle.rs_trace.specs.Entries.{meaning_in}
 use Rattle.rs_trace.specs.Tables.{ListsOf}
 use Rattle.rs_trace.specs.Text.{lines_of, outcome, tells, IsRead}
-use Rattle.rs_trace.specs.Played.{Act, Did, ListedRoutes, lines_done, written, meaning_at, line_at, TookAll, AllTookAll, MeansFirst, Stands, PutsFront, Puts, failed, failures_read, failures_written}
+use Rattle.rs_trace.specs.Played.{Act, Did, ListedRoutes, lines_done, written, meaning_at, meaning_of_event, line_at, TookAll, AllTookAll, MeansFirst, Stands, PutsFront, Puts, failed, failures_read, failures_written}
 
 -- the client of a name, and the name of a client
 abbrev pub place_in : Names → List ℕ → Option ℕ
@@ -39,18 +38,18 @@ abbrev pub stop_of : {A : Type 0} → Result A Stop → Option Stop
 stop_of (Ok value) = None
 stop_of (Err stop) = Some stop
 
--- what an entry says, where there is one
-abbrev pub meanings_in : List ℕ → Result (Option Entry) Stop → List LineMeaning
-meanings_in piece (Ok None) = []
-meanings_in piece (Ok (Some entry)) = meaning_in piece entry ∷ []
-meanings_in piece (Err stop) = []
+-- what the trace says of an event, where there is one
+abbrev pub meanings_in : List ℕ → List ℕ → Result (Option Event) Stop → List LineMeaning
+meanings_in piece rules (Ok None) = []
+meanings_in piece rules (Ok (Some event)) = meaning_of_event event (links.octets_of event piece rules)
+meanings_in piece rules (Err stop) = []
 
-abbrev pub meaning_read : List ℕ → Result Entry Stop → List LineMeaning
-meaning_read piece (Ok entry) = meaning_in piece entry ∷ []
-meaning_read piece (Err stop) = []
+abbrev pub meaning_read : List ℕ → List ℕ → Result Event Stop → List LineMeaning
+meaning_read piece rules (Ok event) = meaning_of_event event (links.octets_of event piece rules)
+meaning_read piece rules (Err stop) = []
 
 -- More octets were taken, and with them the text says this much more.
-abbrev pub ReadsOn : {R : Type 0} → (R → List ℕ → R → Type 0) → (R → Type 0) → (List ℕ → Option ℕ) → R → ℕ → lines.Reading → R → ℕ → lines.Reading → List LineMeaning → Option Stop → Type 0
+abbrev pub ReadsOn : {R : Type 0} → (R → List ℕ → R → Type 0) → (R → Type 0) → (List ℕ → Option ℕ) → R → ℕ → TraceLines → R → ℕ → TraceLines → List LineMeaning → Option Stop → Type 0
 ReadsOn takes at_end place old n r new m q more stop =
     (text : List ℕ) (meanings : List LineMeaning) → Stands place text (at_end old) meanings n r None →
     (taken : List ℕ) × takes old taken new × Stands place (text ++ taken) (at_end new) (meanings ++ more) m q stop
@@ -59,19 +58,9 @@ ReadsOn takes at_end place old n r new m q more stop =
 abbrev pub FailsOn : Option Stop → Option Stop → Type 0
 FailsOn stop after = (after ≡ stop) ⊎ ((failed stop ≡ false) × (after ≡ Some (Fault Memory))) ⊎ ((failed stop ≡ false) × (after ≡ Some (Fault Writing)))
 
--- What the core is given of what was read, and whether it is stopped.
-abbrev pub PassesOn : List LineMeaning → List LineMeaning → Option Stop → Type 0
-PassesOn read listed_lines None = listed_lines ≡ read
-PassesOn read listed_lines (Some End) = ⊥
-PassesOn read listed_lines (Some (Table c)) = (listed_lines ≡ []) × (read ≡ Listed c ∷ [])
-PassesOn read listed_lines (Some (Fault (Line m fault))) = ⊥
-PassesOn read listed_lines (Some (Fault Memory)) = listed_lines ≡ []
-PassesOn read listed_lines (Some (Fault Reading)) = ⊥
-PassesOn read listed_lines (Some (Fault Writing)) = ⊥
-
 -- Since the first reader and writer these lines were done and this output came of them, and now all stands so.
 pub record Plays {R W : Type 0} (takes : R → List ℕ → R → Type 0) (at_end : R → Type 0) (fails : R → ℕ) (puts : W → List ℕ → W → Type 0) (loses : W → ℕ)
-    (place : List ℕ → Option ℕ) (first : R) (to : W) (meanings : List LineMeaning) (octets : List ℕ) (reader : R) (writer : W) (r : lines.Reading) (n : ℕ) (stop : Option Stop) : Type 0 where
+    (place : List ℕ → Option ℕ) (first : R) (to : W) (meanings : List LineMeaning) (octets : List ℕ) (reader : R) (writer : W) (r : TraceLines) (n : ℕ) (stop : Option Stop) : Type 0 where
   pub text : List ℕ
   pub taken : takes first text reader
   pub stands : Stands place text (at_end reader) meanings n r stop
@@ -142,9 +131,10 @@ pub record IsPlayed (settings : Configuration) (takes : List ℕ → Type 0) (ov
   pub ran : HasRun settings (name_in names) acts course
 
 -- nothing was read yet, and the core was not stopped
-pub record IsAtFirst (r : lines.Reading) (n : ℕ) (stop : Option Stop) : Type 0 where
-  pub rest : r.rest ≡ []
-  pub goes : r.is_over ≡ false
+pub record IsAtFirst (r : TraceLines) (n : ℕ) (stop : Option Stop) : Type 0 where
+  pub rest : r.lines.rest ≡ []
+  pub goes : r.lines.is_over ≡ false
+  pub no_text : r.text.items ≡ []
   pub number : n ≡ 0
   pub running : stop ≡ None
 
@@ -156,8 +146,8 @@ HasPlayed settings takes over put result = IsPlayed settings takes over put resu
 -- offer all is taken; and what was done and written before is followed by the line of the trace that the step comes from, if any, and
 -- by the step's line of output.
 pub record Happens {R W G : Type 0} (takes : R → List ℕ → R → Type 0) (at_end : R → Type 0) (fails : R → ℕ) (puts : W → List ℕ → W → Type 0) (loses : W → ℕ)
-    (names : Names) (reads writes : G) (reader : R) (writer : W) (r : lines.Reading) (n : ℕ) (stop : Option Stop) (step : links.Step)
-    (names2 : Names) (reads2 writes2 : G) (reader2 : R) (writer2 : W) (r2 : lines.Reading) (n2 : ℕ) (stop2 : Option Stop) : Type 0 where
+    (names : Names) (reads writes : G) (reader : R) (writer : W) (r : TraceLines) (n : ℕ) (stop : Option Stop) (step : links.Step)
+    (names2 : Names) (reads2 writes2 : G) (reader2 : R) (writer2 : W) (r2 : TraceLines) (n2 : ℕ) (stop2 : Option Stop) : Type 0 where
   pub same_names : names2 ≡ names
   pub same_reader : reads2 ≡ reads
   pub same_writer : writes2 ≡ writes
@@ -168,8 +158,8 @@ pub record Happens {R W G : Type 0} (takes : R → List ℕ → R → Type 0) (a
 -- A recording goes on by a line of output that no step of the core's link asks for: what was done stays, and the line comes after what
 -- was written.
 pub record Adds {R W G : Type 0} (takes : R → List ℕ → R → Type 0) (at_end : R → Type 0) (fails : R → ℕ) (puts : W → List ℕ → W → Type 0) (loses : W → ℕ)
-    (names : Names) (reads writes : G) (reader : R) (writer : W) (r : lines.Reading) (n : ℕ) (stop : Option Stop) (line : List ℕ)
-    (names2 : Names) (reads2 writes2 : G) (reader2 : R) (writer2 : W) (r2 : lines.Reading) (n2 : ℕ) (stop2 : Option Stop) : Type 0 where
+    (names : Names) (reads writes : G) (reader : R) (writer : W) (r : TraceLines) (n : ℕ) (stop : Option Stop) (line : List ℕ)
+    (names2 : Names) (reads2 writes2 : G) (reader2 : R) (writer2 : W) (r2 : TraceLines) (n2 : ℕ) (stop2 : Option Stop) : Type 0 where
   pub same_names : names2 ≡ names
   pub same_reader : reads2 ≡ reads
   pub same_writer : writes2 ≡ writes
@@ -202,7 +192,7 @@ pub record PlaysTo {R W : Type 0} (settings : Configuration) (takes : R → List
 -- Since the first reader and writer these acts were done, by a recording with these names, and now all stands so.
 pub record HasDone {R W G : Type 0} (takes : R → List ℕ → R → Type 0) (at_end : R → Type 0) (fails : R → ℕ) (puts : W → List ℕ → W → Type 0) (loses : W → ℕ)
     (names : Names) (reads writes : G) (first : R) (to : W) (acts : List Act)
-    (names2 : Names) (reads2 writes2 : G) (reader : R) (writer : W) (r : lines.Reading) (n : ℕ) (stop : Option Stop) : Type 0 where
+    (names2 : Names) (reads2 writes2 : G) (reader : R) (writer : W) (r : TraceLines) (n : ℕ) (stop : Option Stop) : Type 0 where
   pub same_names : names2 ≡ names
   pub same_reader : reads2 ≡ reads
   pub same_writer : writes2 ≡ writes

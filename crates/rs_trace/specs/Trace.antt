@@ -5,7 +5,7 @@ use Rattle.hex.specs.Hex.{decode_of}
 use Rattle.rs_trace.specs.declared.trace.LineFault.{LineFault}
 use Rattle.rs_trace.specs.declared.trace.LineFault.TheVariants.{TooLong, UnknownWord, WordCount, UnknownClient, BadNumber, BadHex}
 use Rattle.rs_trace.specs.declared.trace.Word.{Word}
-use Rattle.rs_trace.specs.declared.trace.Word.TheVariants.{Open, Octets, Room, Moment, Turn, Lost, Rules, Table}
+use Rattle.rs_trace.specs.declared.trace.Word.TheVariants.{Open, Octets, Room, Moment, Turn, Lost, More, Rules, Table}
 use Rattle.rs_trace.specs.Words.{words_of}
 use Rattle.rs_trace.specs.Numbers.{number_of}
 
@@ -23,6 +23,8 @@ pub data LineMeaning : Type 0 where
   Turned : LineMeaning
   -- the client's connection is lost
   Left : ℕ → LineMeaning
+  -- a text goes on by these octets
+  Continued : List ℕ → LineMeaning
   -- the configuration is to be replaced by this text
   Replaced : List ℕ → LineMeaning
   -- the routes of the client's Loc-RIB are asked for
@@ -37,6 +39,7 @@ word_of text =
     else if bytes_eq text (codes "moment") then Some Moment
     else if bytes_eq text (codes "open") then Some Open
     else if bytes_eq text (codes "lost") then Some Lost
+    else if bytes_eq text (codes "more") then Some More
     else if bytes_eq text (codes "rules") then Some Rules
     else if bytes_eq text (codes "table") then Some Table
     else None
@@ -66,6 +69,7 @@ meaning_of place Room (name ∷ number ∷ []) =
 meaning_of place Moment (number ∷ []) = with_value (number_of number) BadNumber (λ t. Ok (Passed t))
 meaning_of place Turn [] = Ok Turned
 meaning_of place Lost (name ∷ []) = with_value (place name) UnknownClient (λ c. Ok (Left c))
+meaning_of place More (digits ∷ []) = with_value (text_of digits) BadHex (λ text. Ok (Continued text))
 meaning_of place Rules (digits ∷ []) = with_value (text_of digits) BadHex (λ text. Ok (Replaced text))
 meaning_of place Table (name ∷ []) = with_value (place name) UnknownClient (λ c. Ok (Listed c))
 meaning_of place _ _ = Err WordCount

@@ -1,6 +1,6 @@
 //! The names of the clients, by their places in the configuration.
 
-ghost use Rattle.std.specs.Prelude.{◌≡◌, IfOk, map};
+ghost use Rattle.std.specs.Prelude.{◌≡◌, IfOk, length, map};
 
 use crate::trace::Places;
 use rs_policy::Config;
@@ -24,6 +24,13 @@ impl Names {
             names.push(Vec::from_slice(alloc, config.name(c).as_bytes())?)?;
         }
         Ok(Names { names })
+    }
+
+    /// How many clients there are.
+    pub fn clients(&self) -> usize
+        ensures { result ≡ length self.now.names.items }
+    {
+        self.names.len()
     }
 
     /// The name of a client, and nothing where there is no such client.

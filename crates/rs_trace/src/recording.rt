@@ -10,14 +10,14 @@ ghost use Rattle.rs_trace.specs.Replays.{Adds, AreNamesOf, FailsOn, IsOver, Play
 ghost use Rattle.rs_trace.specs.declared.fault.Stop.TheVariants as stops;
 ghost use Rattle.rs_trace.specs.declared.fault.ReplayFault.TheVariants as faults;
 
-use crate::entries::{event_of, next_entry};
+use crate::entries::next_event;
 use crate::fault::{ReplayFault, Stop};
-use crate::lines::Lines;
 use crate::names::Names;
 use crate::output;
 use crate::progress::Watch;
 use crate::text::{TextIn, TextOut};
 use crate::trace::LineFault;
+use crate::trace_lines::TraceLines;
 use rs_core::{Event, Link, Sink, Source};
 use rs_policy::{Config, RulesFault};
 use std::alloc::{AllocError, Global};
@@ -63,9 +63,7 @@ fn write_line<W: TextOut>(
 #[derive(Drop)]
 pub struct Kept {
     names: Names,
-    lines: Lines,
-    /// The text of the last line `rules`.
-    rules: Vec<u8>,
+    lines: TraceLines,
     /// The line that is written.
     line: Vec<u8>,
 }
@@ -74,12 +72,11 @@ impl Kept {
     /// Before the first line. It has the clients of the configuration.
     pub fn new(alloc: Global, config: &Config) -> Result<Kept, AllocError>
         ensures names { IfOk result (λ kept. AreNamesOf kept.names config.now) }
-        ensures fresh { IfOk result (λ kept. (kept.lines.rest ≡ []) × (kept.lines.is_over ≡ false)) }
+        ensures fresh { IfOk result (λ kept. (kept.lines.lines.rest ≡ []) × (kept.lines.lines.is_over ≡ false) × (kept.lines.text.items ≡ [])) }
     {
         Ok(Kept {
             names: Names::new(alloc, config)?,
-            lines: Lines::new(alloc)?,
-            rules: Vec::new(alloc),
+            lines: TraceLines::new(alloc)?,
             line: Vec::new(alloc),
         })
     }
@@ -90,10 +87,9 @@ impl Kept {
 pub struct Recording<'a, R, W, P> {
     alloc: Global,
     names: &'a Names,
-    lines: &'a mut Lines,
+    lines: &'a mut TraceLines,
     /// How many lines were read.
     number: u64,
-    rules: &'a mut Vec<u8>,
     line: &'a mut Vec<u8>,
     stop: Option<Stop>,
     reader: &'a mut R,
@@ -123,7 +119,6 @@ impl<'a, R: TextIn, W: TextOut, P: Watch> Recording<'a, R, W, P> {
             names: &kept.names,
             lines: &mut kept.lines,
             number: 0,
-            rules: &mut kept.rules,
             line: &mut kept.line,
             stop: None,
             reader,
@@ -210,7 +205,7 @@ impl<'a, R: TextIn, W: TextOut, P: Watch> Link for Recording<'a, R, W, P> {
 
     ghost happens = { λ old step new. Happens R.takes R.at_end R.failures W.puts W.failures old.names.now old.reader.ghost_name old.writer.ghost_name old.reader.now old.writer.now old.lines.now old.number old.stop step new.names.now new.reader.ghost_name new.writer.ghost_name new.reader.now new.writer.now new.lines.now new.number new.stop };
 
-    ghost text = { λ r. r.rules.now.items };
+    ghost text = { λ r. r.lines.now.rules.items };
 }
 
 impl<'a, R: TextIn, W: TextOut, P: Watch> Source for Recording<'a, R, W, P> {
@@ -219,12 +214,8 @@ impl<'a, R: TextIn, W: TextOut, P: Watch> Source for Recording<'a, R, W, P> {
             return Event::Stop;
         }
         let (names, lines, number) = (self.names, &mut *self.lines, &mut self.number);
-        match next_entry(names, lines, number, self.reader, self.watch, piece) {
-            Ok(entry) => {
-                let (event, stop) = event_of(self.rules, entry, piece);
-                self.stop = stop;
-                event
-            }
+        match next_event(names, lines, number, self.reader, self.watch, piece) {
+            Ok(event) => event,
             Err(stop) => {
                 self.stop = Some(stop);
                 Event::Stop
@@ -233,7 +224,7 @@ impl<'a, R: TextIn, W: TextOut, P: Watch> Source for Recording<'a, R, W, P> {
     }
 
     fn rules(&self) -> &[u8] {
-        self.rules.as_slice()
+        self.lines.rules()
     }
 }
 

@@ -1,14 +1,16 @@
 //! Plays a recorded session through the core.
 
-ghost use Rattle.std.specs.Prelude.{◌≡◌, ◌<◌, ◌≤◌, [], ◌∷◌, length};
+ghost use Rattle.std.specs.Prelude.{◌≡◌, ◌<◌, ◌≤◌, [], ◌∷◌, length, IfOk};
 ghost use Rattle.rs_policy.specs.Configuration.{Configuration};
 ghost use Rattle.rs_core.specs.Core.{client_count};
 ghost use Rattle.rs_core.specs.Run.Moves.{Ruled};
 ghost use Rattle.rs_core.specs.Run.Agreeing.{Agrees};
 ghost use Rattle.rs_trace.specs.Played.{failures_read, failures_written};
 ghost use Rattle.rs_trace.specs.Replays.{HasPlayed, IsAtFirst, PlaysTo, end_of};
+ghost use Rattle.rs_trace.specs.Through.{PlaysThrough, answer_of};
 
 use crate::fault::{ReplayFault, Stop};
+use crate::names::Names;
 use crate::progress::Watch;
 use crate::recording::{Kept, Recording};
 use crate::tables::route_lines;
@@ -36,6 +38,40 @@ pub fn replay<T: Threads + Wait + Sync, R: TextIn, W: TextOut, P: Watch>(
     ensures reads { R.failures reader.new ≡ failures_read (end_of result) (R.failures reader.old) }
     ensures writes { W.failures writer.new ≡ failures_written (end_of result) (W.failures writer.old) }
 {
+    match play_through(rt, alloc, reader, writer, watch, config, workers) {
+        Ok(_) => Ok(()),
+        Err(fault) => Err(fault),
+    }
+}
+
+/// What is there when a trace was played to its end.
+#[derive(Drop)]
+pub struct Played {
+    /// The clients' names.
+    pub names: Names,
+    /// The route server, as the last line left it.
+    pub core: Core,
+}
+
+/// Plays a trace as `replay` does, and answers what is there then.
+pub fn play_through<T: Threads + Wait + Sync, R: TextIn, W: TextOut, P: Watch>(
+    rt: &T,
+    alloc: Global,
+    reader: &mut R,
+    writer: &mut W,
+    watch: &mut P,
+    config: Config,
+    workers: usize,
+) -> Result<Played, ReplayFault>
+    requires { (0 < workers) × (workers ≤ 16) }
+    ensures played { HasPlayed config (λ text. R.takes reader.old text reader.new) (R.at_end reader.new) (λ octets. W.puts writer.old octets writer.new) (answer_of result) }
+    ensures through { IfOk result (λ played. PlaysThrough config R.takes R.at_end W.puts reader.old writer.old reader.new writer.new played) }
+    ensures reads { R.failures reader.new ≡ failures_read (end_of (answer_of result)) (R.failures reader.old) }
+    ensures writes { W.failures writer.new ≡ failures_written (end_of (answer_of result)) (W.failures writer.old) }
+{
+    let Ok(names) = Names::new(alloc, &config) else {
+        return Err(ReplayFault::Memory);
+    };
     let Ok(mut kept) = Kept::new(alloc, &config) else {
         return Err(ReplayFault::Memory);
     };
@@ -43,7 +79,10 @@ pub fn replay<T: Threads + Wait + Sync, R: TextIn, W: TextOut, P: Watch>(
         return Err(ReplayFault::Memory);
     };
     let mut recording = Recording::new(alloc, &mut kept, reader, writer, watch);
-    play_on(rt, alloc, workers, &mut core, &mut recording)
+    match play_on(rt, alloc, workers, &mut core, &mut recording) {
+        Ok(()) => Ok(Played { names, core }),
+        Err(fault) => Err(fault),
+    }
 }
 
 /// Lets the core run until the recording is over, and lists routes where it stops for them. The core

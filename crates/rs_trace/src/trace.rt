@@ -17,6 +17,9 @@ pub const LONGEST_LINE: usize = 8240;
 /// The most octets that a line gives.
 pub const LONGEST_PIECE: usize = 4096;
 
+/// The most octets that a text of rules has: those of its line `rules`, and of the lines `more` before it.
+pub const LONGEST_TEXT: usize = 67108864;
+
 /// The fault of a line: the first, in this order, that it has.
 #[derive(Clone, Copy, Debug, Drop, Error, PartialEq, Eq)]
 #[error("{}", self.text())]
@@ -27,6 +30,7 @@ pub enum LineFault {
     UnknownClient,
     BadNumber,
     BadHex,
+    TextTooLong,
 }
 
 impl LineFault {
@@ -41,6 +45,7 @@ impl LineFault {
             LineFault::UnknownClient => "unknown client",
             LineFault::BadNumber => "bad number",
             LineFault::BadHex => "bad hex",
+            LineFault::TextTooLong => "text too long",
         }
     }
 }
@@ -54,6 +59,7 @@ pub enum Word {
     Moment,
     Turn,
     Lost,
+    More,
     Rules,
     Table,
 }
@@ -73,7 +79,10 @@ pub enum Entry {
     Turn,
     /// The client's connection is lost.
     Lost(usize),
-    /// The configuration is replaced by a text of so many octets, which stand at the front of a piece.
+    /// The text of a configuration goes on by so many octets, which stand at the front of a piece.
+    More(usize),
+    /// The configuration is replaced by a text that ends with so many octets, which stand at the front of a
+    /// piece.
     Rules(usize),
     /// The routes of the client's Loc-RIB are to be listed.
     Table(usize),
@@ -103,6 +112,8 @@ fn read_word(text: &[u8]) -> Option<Word>
         Some(Word::Open)
     } else if text == b"lost".as_slice() {
         Some(Word::Lost)
+    } else if text == b"more".as_slice() {
+        Some(Word::More)
     } else if text == b"rules".as_slice() {
         Some(Word::Rules)
     } else if text == b"table".as_slice() {
@@ -168,6 +179,9 @@ fn entry_of<P: Places>(
         }
         (Word::Open, Operands::One(name)) => Ok(Entry::Open(place(names, name)?)),
         (Word::Lost, Operands::One(name)) => Ok(Entry::Lost(place(names, name)?)),
+        (Word::More, Operands::One(digits)) => {
+            Ok(Entry::More(read_text(digits, piece).ok_or(LineFault::BadHex)?))
+        }
         (Word::Rules, Operands::One(digits)) => {
             Ok(Entry::Rules(read_text(digits, piece).ok_or(LineFault::BadHex)?))
         }

@@ -1,6 +1,6 @@
 use Rattle.std.proofs.Common.{◌≡◌, [], None}
 use Rattle.rs_trace.specs.Replays.{place_in, ReadsOn}
-use Rattle.rs_trace.proofs.entries.next_entry.Given as goal
+use Rattle.rs_trace.proofs.entries.next_event.Given as goal
 
 -- so far lines were read that say nothing
 abbrev pub invariant-loop : goal.invariant-loop
