@@ -8,13 +8,15 @@ file: four_members.toml above the folder), what the program must write in NAME.o
 (no such file: nothing), and the exit status that it must end with in NAME.status (no such file: 0). Each is played by
 1, 2, 3 and 16 workers.
 
-Where no NAME is given, one trace more is played with --progress: with a terminal on standard error it must be told there
-on one line how far the replay is, and without one nothing; what is written is the same. And one is played of which only the first
-line is read, as by `head -1`: the program must end with status 3, and say nothing. Others are held against what another server may have sent.
+Where no NAME is given, one trace more is played with --progress, from a pipe and from a file: with a terminal on standard
+error it must be told there on one line how far the replay is, and without one nothing; what is written is the same. And one is
+played of which only the first line is read, as by `head -1`: the program must end with status 3, and say nothing. Others are held
+against what another server may have sent, or are played with --table.
 """
 import os
 import pathlib
 import pty
+import re
 import subprocess
 import sys
 import tempfile
@@ -75,6 +77,78 @@ def progress_differs(program, folder):
     return None if watched.stdout == alone.stdout == output else "what is written is another than without --progress"
 
 
+def told_of_file(program, folder, trace, start, words=()):
+    """What is told of the progress of a trace that is a file, read from this octet on, as lines and parts of a thousand."""
+    words = [program, "--config", folder.parent / "four_members.toml", "--progress", *words]
+    ours, theirs = pty.openpty()
+    try:
+        with tempfile.TemporaryFile() as given:
+            given.write(trace)
+            given.seek(start)
+            subprocess.run(words, stdin=given, stdout=subprocess.DEVNULL, stderr=theirs, timeout=60, check=True)
+        seen = os.read(ours, 65_536).decode()
+    finally:
+        os.close(ours)
+        os.close(theirs)
+    one = re.compile(r"(\d+) lines read, 1 UPDATEs heard, (\d+)\.(\d) %, \d+ (?:s|min|h) left *")
+    found = [one.fullmatch(it) for it in seen.removesuffix("\r\n").split("\r")[1:]]
+    return [(int(it[1]), int(it[2]) * 10 + int(it[3])) for it in found] if found and all(found) else seen
+
+
+def part_differs(program, folder):
+    """What is wrong with the part of a file that is told to be done, or None."""
+    first = (folder / "first_route.trace").read_bytes()
+    lines = first.count(b"\n")
+    trace = first + b"#23456789\n" * 140_000 + b"moment 7\n"
+    # Up to 16,384 octets were read ahead.
+    ahead = 16_384 * 1000 // len(trace) + 1
+    for name, front, words, whole in [
+        ("from its beginning", b"", (), None),
+        ("from its middle", b"turns\n" * 50_000, (), None),
+        ("up to a line", b"", ("--until", "131100"), 131_100),
+        ("up to a line that isn't there", b"", ("--until", "1000000"), None),
+    ]:
+        told = told_of_file(program, folder, front + trace, len(front), words)
+        if isinstance(told, str) or [it[0] for it in told[:2]] != [65_536, 131_072]:
+            return f"{name}: {told}"
+        for line, part in told:
+            octets = len(first) + 10 * (line - lines)
+            least = line * 1000 // whole if whole else min(octets * 1000 // len(trace), 1000)
+            if not least <= part <= least + (0 if whole else ahead):
+                return f"{name}: line {line} is told to be {part} of 1000, and not {least}"
+    return None
+
+
+def listed(program, folder, trace, words):
+    """The status, the lines behind the octets, and what is said, where a trace is played with these words."""
+    words = [program, "--config", folder.parent / "four_members.toml", *words]
+    run = subprocess.run(words, input=trace, capture_output=True, timeout=60)
+    return run.returncode, [it for it in run.stdout.decode().splitlines() if not it.startswith("sent ")], run.stderr.decode()
+
+
+def tables_differ(program, folder):
+    """What is wrong with the tables that are listed at the end, or None."""
+    first = (folder / "first_route.trace").read_bytes()
+    route = "route b 198.51.100.0/24 4001010040020602010000fbf0400304c000020b"
+    same = ["compared a: 0 due, 0 sent, 0 missing, 0 not due, 0 with other attributes", "compared b: 1 due, 1 sent, 0 missing, 0 not due, 0 with other attributes"]
+    sent = ("--compare", str(folder / "first_route.out"))
+    for name, trace, words, wanted in [
+        ("one", first, ("--table", "b"), (0, [route], "")),
+        ("one without routes", first, ("--table", "a"), (0, [], "")),
+        ("several", first, ("--table=b", "--table", "a", "--table", "b"), (0, [route, route], "")),
+        ("behind a line without its end", first[:-1], ("--table", "b"), (0, [route], "")),
+        ("behind a table", first + b"table b", ("--table", "b"), (0, [route, route], "")),
+        ("before the route is due", first, ("--table", "b", "--until", "15"), (0, [], "")),
+        ("behind a fault", first + b"turns\n", ("--table", "b"), (1, ["line 18: unknown word"], "")),
+        ("before what is compared", first, ("--table", "b", *sent), (0, [route, *same], "")),
+        ("a name that is none", first, ("--table", "b", "--table", "z"), (2, [], "table: unknown client z\n")),
+    ]:
+        found = listed(program, folder, trace, words)
+        if found != wanted:
+            return f"{name}: {found}, and not {wanted}"
+    return None
+
+
 def unread_differs(program, folder):
     """What is wrong where nobody reads on behind the first line, or None."""
     first = (folder / "first_route.trace").read_bytes()
@@ -131,6 +205,11 @@ def comparisons(folder):
     yield "not due", front + packed, (), (1, ["not-due b 203.0.113.0/24", *table(not_due=1, sent=2)], "")
     yield "other attributes", front + update.replace(b"0304c000020b", b"0304c0000263"), (), (1, [f"other b {prefix}", *table(other=1)], "")
     yield "unreadable", out + head + b"001704000000ff\n", (), (1, ["unreadable b", table()[0]], "")
+    others = b"# by hand\n\nclose b\nbusy b\nmemory b\nroute b 192.0.2.0/24 00\nrules accepted\nrules refused: syntax\nline 3: bad hex\n"
+    written = b"unreadable b\nmissing b 192.0.2.0/24\nnot-due b 192.0.2.0/24\nother b 192.0.2.0/24\n" + "\n".join(table()).encode() + b"\n"
+    yield "what a replay writes", others + out + written, (), (0, table(), "")
+    yield "a word that is none", others + b"snet b 00\n", (), (2, [], "compare: line 10: unknown word\n")
+    yield "a word of a trace", out + b"octets b 00\n", (), (2, [], "compare: line 6: unknown word\n")
     yield "a name that is none", b"sent z 00\n", (), (2, [], "compare: line 1: unknown client\n")
     yield "no hex", out + b"sent b 0\n", (), (2, [], "compare: line 6: bad hex\n")
     yield "words", b"sent b\n", (), (2, [], "compare: line 1: word count\n")
@@ -160,8 +239,10 @@ def play(program, folder, names=()):
         yield f"session {name}", next((f"{it[0]} workers: {it[1]}" for it in wrong if it[1]), None)
     if not chosen:
         yield "what --progress tells", progress_differs(program, folder)
+        yield "what --progress tells of a file", part_differs(program, folder)
         yield "nobody reads on", unread_differs(program, folder)
         yield "what --compare tells", comparison_differs(program, folder)
+        yield "what --table lists", tables_differ(program, folder)
 
 
 if __name__ == "__main__":

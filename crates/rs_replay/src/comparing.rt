@@ -1,22 +1,25 @@
 //! What another server sent, held against what is due where a replay ends.
 
-ghost use Rattle.std.specs.Prelude.{◌≡◌, ◌<◌, true, List, IfOk};
+ghost use Rattle.std.specs.Prelude.{◌≡◌, ◌+◌, ◌++◌, ◌&&◌, ◌<◌, ℕ, true, length, List, IfOk, OnOk};
+ghost use Rattle.std.specs.List.{flat_map};
 ghost use Rattle.rs_octets.specs.Prefixes.{Prefix};
 ghost use Rattle.rs_core.specs.Core.{client_count};
 ghost use Rattle.rs_core.specs.Run.Agreeing.{Agrees};
 ghost use Rattle.rs_core.specs.Run.Moves.{Move};
 ghost use Rattle.rs_core.specs.Run.Meaning.{dues, is_established};
 ghost use Rattle.rs_core.specs.Told.Points.{latest};
-ghost use Rattle.rs_compare.specs.Differences.{AreDifferences, entries_of, reports_of};
+ghost use Rattle.rs_compare.specs.Differences.{entries_of, reports_of};
 ghost use Rattle.rs_compare.specs.Heard.{table_in};
+ghost use Rattle.rs_replay.specs.Findings.{AreCompared, Finding, IsFinding, finding_lines};
+ghost use Rattle.rs_replay.specs.Telling.{AreCounts, HasCounts, Tells, TellsUpTo, agrees_by, counted_row, row_line, sent_on};
 
 use crate::connection::Connection;
-use rs_compare::{Difference, Kind, Route, Sent, compare};
+use crate::findings::{Counts, Row, tell_differences, tell_rows, tell_unreadable};
+use rs_compare::{Difference, Route, Sent, compare};
 use rs_core::Core;
 use rs_outlet::Routes;
 use rs_trace::fault::ReplayFault;
 use rs_trace::names::Names;
-use rs_trace::output::{put, put_prefix};
 use rs_trace::text::TextOut;
 use std::alloc::{AllocError, Global};
 
@@ -34,109 +37,31 @@ fn listed(alloc: Global, routes: Routes<'_>) -> Result<Vec<Route>, AllocError>
     Ok(listed)
 }
 
-/// How a client's two tables differ, and how many routes each has.
+/// How a client's two tables differ.
 #[derive(Drop)]
 struct Found {
     differences: Vec<Difference>,
-    due: usize,
-    sent: usize,
+    counts: Counts,
 }
 
 /// Holds what was sent to a client against what is due to it.
 fn compare_client(alloc: Global, core: &Core, c: usize, sent: &Sent) -> Result<Found, AllocError>
     requires { c < client_count core.now }
-    ensures { IfOk result (λ found. (run : List Move) → Agrees core.now run → is_established run c ≡ true → AreDifferences (λ p. latest (dues run c p)) (table_in sent.now) (reports_of found.differences.items)) }
+    ensures compared { IfOk result (λ found. (run : List Move) → Agrees core.now run → is_established run c ≡ true → AreCompared (λ p. latest (dues run c p)) (table_in sent.now) found.counts.due found.counts.sent (reports_of found.differences.items)) }
+    ensures counted { IfOk result (λ found. AreCounts found.counts.due found.counts.sent (reports_of found.differences.items) found.counts) }
 {
     let due = listed(alloc, core.routes(c))?;
     let sent = sent.routes(alloc)?;
     let differences = compare(alloc, &due, &sent)?;
+    let counts = Counts::of(&differences, due.len(), sent.len());
     Ok(Found {
         differences,
-        due: due.len(),
-        sent: sent.len(),
+        counts,
     })
 }
 
-/// A line of the table at the end: a client's routes, and how many of them differ.
-#[derive(Clone, Copy)]
-struct Row {
-    client: usize,
-    due: usize,
-    sent: usize,
-    missing: usize,
-    not_due: usize,
-    other: usize,
-}
-
-/// How many differences are of this kind.
-fn count(differences: &[Difference], kind: Kind) -> usize {
-    differences.iter().filter(|it| it.kind == kind).count()
-}
-
-/// The row of what was found of a client.
-fn row_of(client: usize, found: &Found) -> Row {
-    Row {
-        client,
-        due: found.due,
-        sent: found.sent,
-        missing: count(&found.differences, Kind::Missing),
-        not_due: count(&found.differences, Kind::NotDue),
-        other: count(&found.differences, Kind::OtherAttributes),
-    }
-}
-
-/// The line of a client of which something was sent that can't be read.
-fn unreadable_line(alloc: Global, name: &[u8]) -> Result<Vec<u8>, AllocError> {
-    let mut line = Vec::from_slice(alloc, b"unreadable ")?;
-    line.extend_from_slice(name)?;
-    line.extend_from_slice(b"\n")?;
-    Ok(line)
-}
-
-/// The line of a difference, as `missing NAME PREFIX`.
-fn difference_line(
-    alloc: Global,
-    name: &[u8],
-    difference: &Difference,
-) -> Result<Vec<u8>, AllocError> {
-    let word = match difference.kind {
-        Kind::Missing => b"missing ".as_slice(),
-        Kind::NotDue => b"not-due ".as_slice(),
-        Kind::OtherAttributes => b"other ".as_slice(),
-    };
-    let mut line = Vec::from_slice(alloc, word)?;
-    line.extend_from_slice(name)?;
-    line.extend_from_slice(b" ")?;
-    put_prefix(alloc, &mut line, &difference.prefix)?;
-    line.extend_from_slice(b"\n")?;
-    Ok(line)
-}
-
-/// The line of a row.
-fn row_line(alloc: Global, name: &[u8], row: &Row) -> Result<Vec<u8>, AllocError> {
-    let (due, sent) = (row.due, row.sent);
-    let (missing, not_due, other) = (row.missing, row.not_due, row.other);
-    let told = format!(in alloc;
-        ": {due} due, {sent} sent, {missing} missing, {not_due} not due, {other} with other attributes\n"
-    )?;
-    let mut line = Vec::from_slice(alloc, b"compared ")?;
-    line.extend_from_slice(name)?;
-    line.extend_from_slice(told.as_bytes())?;
-    Ok(line)
-}
-
-/// Writes a line, where there was memory for it.
-fn write<W: TextOut>(writer: &mut W, line: Result<Vec<u8>, AllocError>) -> Result<(), ReplayFault> {
-    let Ok(line) = line else {
-        return Err(ReplayFault::Memory);
-    };
-    match put(writer, &line) {
-        Ok(()) => Ok(()),
-        Err(_) => Err(ReplayFault::Writing),
-    }
-}
-
-/// Writes the differences of a client, and answers its row; nothing where what was sent can't be read.
+/// Writes how what was sent to a client that is Established differs from what is due to it, and
+/// answers how many routes and differences there are; nothing where what was sent can't be read.
 fn tell_client<W: TextOut>(
     alloc: Global,
     core: &Core,
@@ -144,20 +69,70 @@ fn tell_client<W: TextOut>(
     name: &[u8],
     connection: &Connection,
     writer: &mut W,
-) -> Result<Option<Row>, ReplayFault>
+) -> Result<Option<Counts>, ReplayFault>
     requires { c < client_count core.now }
+    ensures { IfOk result (λ counts. (finding : Finding) × W.puts writer.old (finding_lines name.now finding) writer.new × HasCounts finding counts × ((run : List Move) → Agrees core.now run → is_established run c ≡ true → IsFinding (λ p. latest (dues run c p)) (sent_on connection.now) finding)) }
 {
     let Some(sent) = connection.sent() else {
-        write(writer, unreadable_line(alloc, name))?;
+        tell_unreadable(alloc, name, writer)?;
         return Ok(None);
     };
     let Ok(found) = compare_client(alloc, core, c, sent) else {
         return Err(ReplayFault::Memory);
     };
-    for difference in &found.differences {
-        write(writer, difference_line(alloc, name, difference))?;
+    tell_differences(alloc, name, &found.differences, writer)?;
+    Ok(Some(found.counts))
+}
+
+/// What was counted of the clients so far, and whether nothing differs.
+#[derive(Drop)]
+struct Told {
+    rows: Vec<Row>,
+    is_same: bool,
+}
+
+impl Told {
+    /// Notes what was counted of a client; nothing where what was sent to it can't be read.
+    fn note(&mut self, client: usize, counts: Option<Counts>) -> Result<(), AllocError>
+        ensures rows { (name : ℕ → List ℕ) → OnOk result (flat_map (row_line name) self.new.rows.items ≡ flat_map (row_line name) self.old.rows.items ++ counted_row (name client) counts) }
+        ensures same { OnOk result (self.new.is_same ≡ (self.old.is_same && agrees_by counts)) }
+    {
+        match counts {
+            Some(counts) => {
+                self.is_same = self.is_same && counts.are_same();
+                self.rows.push(Row { client, counts })?;
+                Ok(())
+            }
+            None => {
+                self.is_same = false;
+                Ok(())
+            }
+        }
     }
-    Ok(Some(row_of(c, &found)))
+}
+
+/// Writes how what was sent to the next client differs from what is due to it, if it is Established.
+fn tell_next<W: TextOut>(
+    alloc: Global,
+    core: &Core,
+    names: &Names,
+    connections: &[Connection],
+    c: usize,
+    writer: &mut W,
+    told: &mut Told,
+) -> Result<(), ReplayFault>
+    requires client { c < client_count core.now }
+    requires connections { length connections.now ≡ client_count core.now }
+    ensures { (to : W) → TellsUpTo W.puts core.now names.now connections.now to c told.old.rows.items told.old.is_same writer.old → OnOk result (TellsUpTo W.puts core.now names.now connections.now to (c + 1) told.new.rows.items told.new.is_same writer.new) }
+{
+    if !core.is_established(c) {
+        return Ok(());
+    }
+    let counts = tell_client(alloc, core, c, names.name(c), &connections[c], writer)?;
+    match told.note(c, counts) {
+        Ok(()) => Ok(()),
+        Err(_) => Err(ReplayFault::Memory),
+    }
 }
 
 /// Writes for each client that is Established how what was sent to it differs from what is due, and
@@ -168,28 +143,17 @@ pub(crate) fn tell<W: TextOut>(
     names: &Names,
     connections: &[Connection],
     writer: &mut W,
-) -> Result<bool, ReplayFault> {
-    let mut rows = Vec::new(alloc);
-    let mut is_same = true;
+) -> Result<bool, ReplayFault>
+    requires { length connections.now ≡ client_count core.now }
+    ensures { IfOk result (λ same. Tells W.puts core.now names.now connections.now writer.old same writer.new) }
+{
+    let mut told = Told {
+        rows: Vec::new(alloc),
+        is_same: true,
+    };
     for c in 0..core.clients() {
-        if core.mode(c).is_none() {
-            continue;
-        }
-        let Some(connection) = connections.get(c) else {
-            continue;
-        };
-        match tell_client(alloc, core, c, names.name(c), connection, writer)? {
-            Some(row) => {
-                is_same = is_same && row.missing == 0 && row.not_due == 0 && row.other == 0;
-                if rows.push(row).is_err() {
-                    return Err(ReplayFault::Memory);
-                }
-            }
-            None => is_same = false,
-        }
+        tell_next(alloc, core, names, connections, c, writer, &mut told)?;
     }
-    for row in &rows {
-        write(writer, row_line(alloc, names.name(row.client), row))?;
-    }
-    Ok(is_same)
+    tell_rows(alloc, names, &told.rows, writer)?;
+    Ok(told.is_same)
 }

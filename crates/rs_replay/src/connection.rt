@@ -1,6 +1,10 @@
 //! What another server sent to a client on one connection: octets come in, piece after piece, and a
 //! table is kept.
 
+ghost use Rattle.std.specs.Prelude.{◌≡◌, option_map};
+ghost use Rattle.rs_compare.specs.Heard.{table_in};
+ghost use Rattle.rs_replay.specs.Telling.{sent_on};
+
 use rs_attrs::Mode;
 use rs_compare::Sent;
 use rs_octets::{Allowed, Front, Kind, read_front};
@@ -79,7 +83,9 @@ impl Connection {
     }
 
     /// The table that was sent; none where something can't be read.
-    pub(crate) fn sent(&self) -> Option<&Sent> {
+    pub(crate) fn sent(&self) -> Option<&Sent>
+        ensures { option_map (λ sent. table_in sent.now) result ≡ sent_on self.now }
+    {
         if self.is_readable {
             Some(&self.sent)
         } else {

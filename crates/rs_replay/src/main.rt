@@ -3,31 +3,34 @@
 
 mod comparing;
 mod connection;
+mod findings;
+mod input;
 mod output;
+mod playing;
 mod sent;
+mod sent_lines;
+mod tables;
 mod until;
 
-use crate::comparing::tell;
+use crate::input::StandardInput;
 use crate::output::Output;
-use crate::sent::read_sent;
+use crate::playing::{Outcome, play_and_compare};
+use crate::tables::{table_lines, unknown_table};
 use crate::until::Until;
 use rs_command::configuration::read_configuration;
 use rs_command::replay::{Options, read_command};
 use rs_command::{Asked, Status};
-use rs_core::Core;
 use rs_policy::Config;
 use rs_trace::fault::ReplayFault;
-use rs_trace::names::Names;
-use rs_trace::progress::{Progress, Unwatched, Watch};
-use rs_trace::recording::{Kept, Recording};
-use rs_trace::replay::{play_on, replay};
-use rs_trace::text::{OverRead, OverWrite, TextIn, TextOut};
-use std::alloc::Global;
-use std::io::{BufWriter, ErrorKind, IsTerminal};
+use rs_trace::progress::{Measure, Progress, Unmeasured, Unwatched, Watch};
+use rs_trace::replay::replay;
+use rs_trace::text::{OverRead, OverWrite};
+use std::io::{BufWriter, ErrorKind, IsTerminal, Read};
 use std::process::ExitCode;
 use std::rt::{Env, Files};
 use std::sync::Wait;
 use std::thread::Threads;
+use std::time::Clock;
 use std::{fs, io};
 
 /// Reads the words of the command line, and prints help, the version or what is wrong with them.
@@ -58,53 +61,6 @@ enum Ended {
     Unread,
 }
 
-/// What comes of a trace that was played to its end.
-#[derive(Clone, Copy, Debug, Drop)]
-enum Outcome {
-    /// Nothing was compared, or nothing differs.
-    Good,
-    /// What another server sent differs from what is due.
-    Differs,
-    /// The file of what it sent can't be read, or has a fault.
-    BadFile(ReplayFault),
-}
-
-/// Plays a trace, and holds what another server sent, a text, against what is due then.
-fn play_and_compare<T: Threads + Wait + Sync, R: TextIn, W: TextOut, P: Watch, S: TextIn>(
-    rt: &T,
-    alloc: Global,
-    reader: &mut R,
-    writer: &mut W,
-    watch: &mut P,
-    config: Config,
-    options: &Options,
-    sent: &mut S,
-) -> Result<Outcome, ReplayFault> {
-    let Ok(names) = Names::new(alloc, &config) else {
-        return Err(ReplayFault::Memory);
-    };
-    let Ok(mut kept) = Kept::new(alloc, &config) else {
-        return Err(ReplayFault::Memory);
-    };
-    let Ok(mut core) = Core::new(alloc, config) else {
-        return Err(ReplayFault::Memory);
-    };
-    let mut recording = Recording::new(alloc, &mut kept, reader, writer, watch);
-    let workers = options.workers.clamp(1, 16);
-    play_on(rt, alloc, workers, &mut core, &mut recording)?;
-    let until = options.until.unwrap_or(u64::MAX);
-    let connections = match read_sent(alloc, &core, &names, sent, until) {
-        Ok(connections) => connections,
-        Err(ReplayFault::Memory) => return Err(ReplayFault::Memory),
-        Err(fault) => return Ok(Outcome::BadFile(fault)),
-    };
-    if tell(alloc, &core, &names, &connections, writer)? {
-        Ok(Outcome::Good)
-    } else {
-        Ok(Outcome::Differs)
-    }
-}
-
 /// Plays standard input to standard output.
 fn play<R: Files + Input + Print + AllocGlobal + Threads + Wait + Sync, P: Watch>(
     rt: &R,
@@ -116,14 +72,19 @@ fn play<R: Files + Input + Print + AllocGlobal + Threads + Wait + Sync, P: Watch
     let Ok(buffered) = BufWriter::new(alloc, io::writer(rt)) else {
         return Err(Ended::Fault(ReplayFault::Memory));
     };
+    let Ok(tables) = table_lines(alloc, &options.tables) else {
+        return Err(Ended::Fault(ReplayFault::Memory));
+    };
     let until = options.until.unwrap_or(u64::MAX);
-    let mut reader = OverRead::new(Until::new(rt.reader(), until));
+    let trace = Until::new(rt.reader(), until).chain(tables.as_slice());
+    let mut reader = OverRead::new(trace);
     let mut writer = OverWrite::new(Output::new(buffered));
     let workers = options.workers.clamp(1, 16);
     let played = match &options.compare {
-        None => replay(rt, alloc, &mut reader, &mut writer, watch, config, workers).map(
-            |()| Outcome::Good,
-        ),
+        None => match replay(rt, alloc, &mut reader, &mut writer, watch, config, workers) {
+            Ok(()) => Ok(Outcome::Good),
+            Err(fault) => Err(fault),
+        },
         Some(path) => {
             let Ok(file) = fs::open(rt, path) else {
                 return Ok(Outcome::BadFile(ReplayFault::Reading));
@@ -136,8 +97,9 @@ fn play<R: Files + Input + Print + AllocGlobal + Threads + Wait + Sync, P: Watch
                 &mut writer,
                 watch,
                 config,
-                options,
+                workers,
                 &mut sent,
+                until,
             )
         }
     };
@@ -154,17 +116,28 @@ fn play<R: Files + Input + Print + AllocGlobal + Threads + Wait + Sync, P: Watch
 }
 
 /// Plays standard input to standard output, and prints on standard error how far it is.
-fn play_watched<R: Files + Input + Print + Eprint + AllocGlobal + Threads + Wait + Sync>(
-    rt: &R,
-    config: Config,
-    options: &Options,
-) -> Result<Outcome, Ended> {
-    let Ok(mut progress) = Progress::new(rt, rt.alloc(), config.clients()) else {
+fn play_watched<
+    R: Files + Input + Print + Eprint + Clock + AllocGlobal + Threads + Wait + Sync,
+    M: Measure + Drop,
+>(rt: &R, measure: M, config: Config, options: &Options) -> Result<Outcome, Ended> {
+    let Ok(mut progress) = Progress::new(rt, rt.alloc(), measure, config.clients()) else {
         return Err(Ended::Fault(ReplayFault::Memory));
     };
     let played = play(rt, &mut progress, config, options);
     progress.finish();
     played
+}
+
+/// The same, with which part that is and how much is left where standard input is a regular file.
+fn play_measured<R: Files + Input + Print + Eprint + Clock + AllocGlobal + Threads + Wait + Sync>(
+    rt: &R,
+    config: Config,
+    options: &Options,
+) -> Result<Outcome, Ended> {
+    match StandardInput::new(rt, options.until) {
+        Some(input) => play_watched(rt, input, config, options),
+        None => play_watched(rt, Unmeasured, config, options),
+    }
 }
 
 fn status_of(played: Result<Outcome, Ended>) -> Status {
@@ -191,7 +164,7 @@ fn report_fault<R: Eprint>(rt: &R, played: Result<Outcome, Ended>) {
 
 /// Does what the command line asks for, and answers the status to end with. How far a replay is, is printed
 /// on a terminal alone.
-fn start<R: Env + Files + Input + Print + Eprint + AllocGlobal + Threads + Wait + Sync>(
+fn start<R: Env + Files + Input + Print + Eprint + Clock + AllocGlobal + Threads + Wait + Sync>(
     rt: &R,
     is_on_terminal: bool,
 ) -> Status {
@@ -200,12 +173,17 @@ fn start<R: Env + Files + Input + Print + Eprint + AllocGlobal + Threads + Wait 
         Ok(Asked::End(status)) => return status,
         Err(error) => return report_asking_fault(rt, &error),
     };
-    let config = match read_configuration(rt, rt.alloc(), &options.config) {
-        Ok(config) => config,
-        Err(fault) => return fault.report(rt),
+    let config = match read_configuration(rt, rt.alloc(), &options.configs) {
+        Ok(read) => read.config,
+        Err(fault) => return fault.report(rt, &options.configs),
     };
+    if let Some(name) = unknown_table(&config, &options.tables) {
+        // Where standard error is closed nobody can read it.
+        let _ = eprintln!(rt; "table: unknown client {name}");
+        return Status::BadCommand;
+    }
     let played = if options.progress && is_on_terminal {
-        play_watched(rt, config, &options)
+        play_measured(rt, config, &options)
     } else {
         play(rt, &mut Unwatched, config, &options)
     };

@@ -1,0 +1,4 @@
+pub mod Findings
+pub mod Telling
+pub mod Comparing
+pub mod SentLines

@@ -1,0 +1,61 @@
+//! Plays a trace, and holds what another server sent against what is due then.
+
+ghost use Rattle.std.specs.Prelude.{◌<◌, ◌≤◌, IfOk};
+ghost use Rattle.rs_replay.specs.Comparing.{HasCompared};
+
+use crate::comparing::tell;
+use crate::sent::read_sent;
+use rs_policy::Config;
+use rs_trace::fault::ReplayFault;
+use rs_trace::progress::Watch;
+use rs_trace::replay::play_through;
+use rs_trace::text::{TextIn, TextOut};
+use std::alloc::Global;
+use std::sync::Wait;
+use std::thread::Threads;
+
+/// What comes of a trace that was played to its end.
+#[derive(Clone, Copy, Debug, Drop)]
+pub(crate) enum Outcome {
+    /// Nothing was compared, or nothing differs.
+    Good,
+    /// What another server sent differs from what is due.
+    Differs,
+    /// The file of what it sent can't be read, or has a fault.
+    BadFile(ReplayFault),
+}
+
+/// Plays a trace, and then writes how what another server sent, a text, differs from what is due. What
+/// was sent behind line `until` of the trace is left out.
+pub(crate) fn play_and_compare<
+    T: Threads + Wait + Sync,
+    R: TextIn,
+    W: TextOut,
+    P: Watch,
+    S: TextIn,
+>(
+    rt: &T,
+    alloc: Global,
+    reader: &mut R,
+    writer: &mut W,
+    watch: &mut P,
+    config: Config,
+    workers: usize,
+    sent: &mut S,
+    until: u64,
+) -> Result<Outcome, ReplayFault>
+    requires { (0 < workers) × (workers ≤ 16) }
+    ensures { IfOk result (λ outcome. HasCompared config R.takes R.at_end W.puts reader.old writer.old reader.new writer.new outcome) }
+{
+    let played = play_through(rt, alloc, reader, writer, watch, config, workers)?;
+    let connections = match read_sent(alloc, &played.core, &played.names, sent, until) {
+        Ok(connections) => connections,
+        Err(ReplayFault::Memory) => return Err(ReplayFault::Memory),
+        Err(fault) => return Ok(Outcome::BadFile(fault)),
+    };
+    if tell(alloc, &played.core, &played.names, &connections, writer)? {
+        Ok(Outcome::Good)
+    } else {
+        Ok(Outcome::Differs)
+    }
+}

@@ -1,0 +1,128 @@
+//! The lines of a file of what another server sent: what each says, and the first fault of one that says
+//! nothing.
+
+ghost use Rattle.std.specs.Prelude.{◌≡◌, ℕ, List, option_map, take};
+ghost use Rattle.rs_trace.specs.Replays.{place_in};
+ghost use Rattle.rs_trace.specs.Trace.{octets_of};
+ghost use Rattle.rs_trace.specs.Words.{AreOperands};
+ghost use Rattle.rs_replay.specs.SentLines.{entry_as_said, is_output_word, said_by, said_of, word_of};
+
+use rs_trace::names::Names;
+use rs_trace::number::read_number;
+use rs_trace::trace::{LONGEST_LINE, LONGEST_PIECE, LineFault, Places};
+use rs_trace::words::{Operands, split_words};
+
+/// The word that a line begins with.
+#[derive(Clone, Copy)]
+enum Word {
+    Sent,
+    Open,
+    After,
+    /// One that a replay writes beside `sent`.
+    Output,
+}
+
+/// What a line says, by a client's place in the configuration.
+#[derive(Clone, Copy)]
+pub(crate) enum Entry {
+    /// A connection to the client is there.
+    Open(usize),
+    /// The server sends it so many octets, which stand at the front of a piece.
+    Sent(usize, usize),
+    /// What follows was sent behind this line of the trace.
+    After(u64),
+}
+
+/// Whether a replay writes lines with this word, beside those with `sent`.
+fn is_output_word(text: &[u8]) -> bool
+    ensures { result ≡ is_output_word text.now }
+{
+    text == b"close".as_slice()
+        || text == b"busy".as_slice()
+        || text == b"memory".as_slice()
+        || text == b"route".as_slice()
+        || text == b"rules".as_slice()
+        || text == b"line".as_slice()
+        || text == b"unreadable".as_slice()
+        || text == b"missing".as_slice()
+        || text == b"not-due".as_slice()
+        || text == b"other".as_slice()
+        || text == b"compared".as_slice()
+}
+
+fn read_word(text: &[u8]) -> Option<Word>
+    ensures { result ≡ word_of text.now }
+{
+    if text == b"sent".as_slice() {
+        Some(Word::Sent)
+    } else if text == b"open".as_slice() {
+        Some(Word::Open)
+    } else if text == b"after".as_slice() {
+        Some(Word::After)
+    } else if is_output_word(text) {
+        Some(Word::Output)
+    } else {
+        None
+    }
+}
+
+/// Reads hex to the front of the piece, and answers how many octets that makes.
+fn read_hex(digits: &[u8], piece: &mut [u8; 4096]) -> Option<usize>
+    ensures { option_map (λ n. take n piece.new) result ≡ octets_of digits.now }
+{
+    if digits.len() > 2 * LONGEST_PIECE {
+        return None;
+    }
+    let size = digits.len() / 2;
+    match hex::decode_to_slice(digits, &mut piece[..size]) {
+        Ok(()) => Some(size),
+        Err(_) => None,
+    }
+}
+
+fn entry_of(
+    names: &Names,
+    word: Word,
+    operands: Operands<'_>,
+    piece: &mut [u8; 4096],
+) -> Result<Option<Entry>, LineFault>
+    ensures { (ws : List (List ℕ)) → AreOperands operands.entry ws → entry_as_said piece.new result ≡ said_by (place_in names.now) word ws }
+{
+    match (word, operands) {
+        (Word::Sent, Operands::Two(name, digits)) => {
+            let client = names.place(name).ok_or(LineFault::UnknownClient)?;
+            let size = read_hex(digits, piece).ok_or(LineFault::BadHex)?;
+            Ok(Some(Entry::Sent(client, size)))
+        }
+        (Word::Open, Operands::One(name)) => {
+            let client = names.place(name).ok_or(LineFault::UnknownClient)?;
+            Ok(Some(Entry::Open(client)))
+        }
+        (Word::After, Operands::One(number)) => {
+            let line = read_number(number).ok_or(LineFault::BadNumber)?;
+            Ok(Some(Entry::After(line)))
+        }
+        (Word::Output, _) => Ok(None),
+        _ => Err(LineFault::WordCount),
+    }
+}
+
+/// Reads a line without its end. Octets that it gives stand at the front of the piece. Nothing is
+/// answered for an empty line, for a comment, and for what a replay writes beside `sent`.
+pub(crate) fn read_sent_line(
+    names: &Names,
+    line: &[u8],
+    piece: &mut [u8; 4096],
+) -> Result<Option<Entry>, LineFault>
+    ensures { entry_as_said piece.new result ≡ said_of (place_in names.now) line.now }
+{
+    if line.len() > LONGEST_LINE {
+        return Err(LineFault::TooLong);
+    }
+    if line.is_empty() || line[0] == b'#' {
+        return Ok(None);
+    }
+    let (first, operands) = split_words(line);
+    let word = read_word(first).ok_or(LineFault::UnknownWord)?;
+    entry_of(names, word, operands, piece)
+}
