@@ -13,7 +13,9 @@ from results import end, tell
 
 TOP = pathlib.Path(__file__).resolve().parent.parent
 TESTS = TOP / "crates/rs_tests/src/policy/examples.rt"
-EXAMPLES = {"FOUR_MEMBERS": "four_members.toml", "SMALL": "small.toml", "EXCHANGE": "exchange.toml"}
+EXAMPLES = {
+    "FOUR_MEMBERS": "four_members.toml", "SMALL": "small.toml", "EXCHANGE": "exchange.toml", "EXCHANGE_LISTS": "exchange.lists.toml",
+}
 COPY = TOP / "crates/rs_replay/data/four_members.toml"
 PAGE = TOP / "docs/REPLAY.md"
 LEAK = TOP / "examples/sessions"

@@ -1,7 +1,7 @@
 #!/usr/bin/env python3
 """Makes the configuration of an exchange from the list of its members and from what they registered.
 
-    exchange.py MEMBERS.json --as NUMBER --identifier ADDRESS --listen ADDRESS:PORT --registered FOLDER [--vlan ID]
+    exchange.py MEMBERS.json --as NUMBER --identifier ADDRESS --listen ADDRESS:PORT --registered FOLDER [--vlan ID] [--lists FOLDER]
 
 MEMBERS.json is the member list that exchanges publish (the member export of Euro-IX): of each connection with an IPv4
 address, and in this VLAN where --vlan is given, `asnum`, `ipv4.address`, `ipv4.as_macro` and `ipv4.max_prefix` are taken.
@@ -19,7 +19,12 @@ those shorter than /8 and longer than /24. A member's import list drops what is 
 passes what is in its lists. Its export list uses the rules `actions`, which read and take away the action communities of
 examples/exchange.toml: large ones alone where the server's own AS number has four octets.
 
-The configuration is written to standard output. The status is 0, or 1 where a file can't be understood, and 2 for a faulty
+The configuration is written to standard output. With --lists the list of each macro is a file of its own there, NAME.toml, by the name
+of the list; one that would be the same is left as it is, so that a server which reads all again by --reload reads what changed:
+
+    rs_served --config exchange.toml $(printf -- '--config %s ' LISTS/*.toml) --reload 1
+
+A file that is of no member any more is named on standard error, and stays. The status is 0, or 1 where a file can't be understood, and 2 for a faulty
 command line.
 """
 import argparse
@@ -167,8 +172,27 @@ def client(name, number, ipv4, listen, registered):
     ]) + "\n"
 
 
+def put(folder, name, part):
+    """Writes a part to a file of this name, in one step, unless it stands there."""
+    path, beside = folder / f"{name}.toml", folder / f".{name}.new"
+    try:
+        if path.exists() and path.read_text() == part:
+            return
+        beside.write_text(part)
+        beside.rename(path)
+    except (OSError, ValueError) as error:
+        raise Fault(f"{path}: {error}") from error
+
+
+def tell_others(folder, names):
+    """Names the files of a folder that are of none of these lists."""
+    for path in sorted(folder.glob("*.toml")):
+        if path.stem not in names:
+            print(f"{path} is of no member", file=sys.stderr)
+
+
 def configuration(arguments):
-    """The parts of the configuration: the top, the lists, the rules, the clients."""
+    """The parts of the configuration: the top, the lists, the rules, the clients; lists that have a folder go there."""
     yield (f"as = {arguments.as_number}\nidentifier = {text(arguments.identifier)}\ndefault = \"pass\"\n"
            "extended = true\nrefresh = true\nmultiprotocol = true\n")
     yield named_list("bogons", BOGONS, None)
@@ -180,7 +204,13 @@ def configuration(arguments):
         if macro not in lists:
             lists[macro] = names.of(macro)
             prefixes = entries(arguments.registered, macro, "prefixes", ranged)
-            yield named_list(lists[macro], prefixes, entries(arguments.registered, macro, "ases", int))
+            part = named_list(lists[macro], prefixes, entries(arguments.registered, macro, "ases", int))
+            if arguments.lists:
+                put(arguments.lists, lists[macro], part)
+            else:
+                yield part
+    if arguments.lists:
+        tell_others(arguments.lists, lists.values())
     yield actions(arguments.as_number)
     for number, ipv4 in found:
         macro = ipv4.get("as_macro") or f"AS{number}"
@@ -195,6 +225,7 @@ def main():
     parser.add_argument("--listen", required=True)
     parser.add_argument("--registered", type=pathlib.Path, required=True)
     parser.add_argument("--vlan", type=int)
+    parser.add_argument("--lists", type=pathlib.Path)
     arguments = parser.parse_args()
     try:
         parts = list(configuration(arguments))

@@ -1,40 +1,23 @@
 //! The line that says more of a fault: where it is, what stands there, and what is expected.
 
+use crate::files::{Files, Source};
 use crate::find::{Spot, Step};
 use crate::forms::{form, is_known, key_text, known_keys};
-use crate::place::{line_and_column, spot, steps_to, steps_to_table, value_at};
+use crate::place::{spot, steps_to, steps_to_table, value_at};
 use rs_policy::{ConfigFault, Key, Place, Table};
 use std::alloc::{AllocError, Global};
-use std::io;
-use std::io::ErrorKind;
 use toml::value::Value;
 
 /// How many characters of a value are shown.
 const SHOWN: usize = 60;
 
-/// Why a file can't be read.
-pub(crate) fn unread_line(alloc: Global, error: &io::Error) -> Result<String, AllocError> {
-    match error.kind() {
-        ErrorKind::NotFound => String::from_str(alloc, "there is no such file"),
-        ErrorKind::PermissionDenied => String::from_str(alloc, "there are no rights to read it"),
-        ErrorKind::IsADirectory => String::from_str(alloc, "it is a folder"),
-        _ => format!(in alloc; "{error}"),
-    }
-}
-
-/// The line and the column behind so many octets, as a line begins with them.
-pub(crate) fn position(alloc: Global, octets: &[u8], front: usize) -> Result<String, AllocError> {
-    let (line, column) = line_and_column(&octets[..front.min(octets.len())]);
-    format!(in alloc; "line {line}, column {column}: ")
-}
-
 /// Where octets are no UTF-8: behind so many.
 pub(crate) fn not_utf_8_line(
     alloc: Global,
-    octets: &[u8],
+    files: &Files<'_>,
     front: usize,
 ) -> Result<String, AllocError> {
-    let mut line = position(alloc, octets, front)?;
+    let mut line = files.position(alloc, front)?;
     line.push_str("not UTF-8")?;
     Ok(line)
 }
@@ -42,13 +25,13 @@ pub(crate) fn not_utf_8_line(
 /// Where a text is no TOML document, and why.
 pub(crate) fn syntax_line(
     alloc: Global,
-    text: &str,
+    files: &Files<'_>,
     error: &toml::de::Error,
 ) -> Result<String, AllocError> {
     let Some(span) = error.span() else {
         return Err(AllocError);
     };
-    let mut line = position(alloc, text.as_bytes(), span.start)?;
+    let mut line = files.position(alloc, span.start)?;
     line.push_str(error.message())?;
     Ok(line)
 }
@@ -67,27 +50,27 @@ fn shown(alloc: Global, text: &str) -> Result<String, AllocError> {
 }
 
 /// Where something stands, as a line begins with it; nothing where it wasn't found.
-fn position_at(alloc: Global, text: &str, spot: Option<Spot>) -> Result<String, AllocError> {
+fn position_at(alloc: Global, files: &Files<'_>, spot: Option<Spot>) -> Result<String, AllocError> {
     match spot {
         None => Ok(String::new(alloc)),
-        Some(Spot::Header { start, stop: _ }) => position(alloc, text.as_bytes(), start),
+        Some(Spot::Header { start, stop: _ }) => files.position(alloc, start),
         Some(
             Spot::Value {
                 key: _,
                 start,
                 stop: _,
             },
-        ) => position(alloc, text.as_bytes(), start),
+        ) => files.position(alloc, start),
     }
 }
 
 /// The same of what the steps lead to.
 pub(crate) fn position_of(
     alloc: Global,
-    text: &str,
+    source: &Source<'_>,
     steps: &[Step<'_>],
 ) -> Result<String, AllocError> {
-    position_at(alloc, text, spot(alloc, text, steps)?)
+    position_at(alloc, &source.files, spot(alloc, source.text, steps)?)
 }
 
 /// A value as it stands in the text; where it wasn't found there, as it is printed.
@@ -120,14 +103,14 @@ fn value_shown(
 /// The value that stands at a place, and the form that is expected there.
 fn value_line(
     alloc: Global,
-    text: &str,
+    source: &Source<'_>,
     document: &Value,
     place: &Place,
 ) -> Result<String, AllocError> {
     let steps = steps_to(alloc, place)?;
-    let spot = spot(alloc, text, &steps)?;
-    let at = position_at(alloc, text, spot)?;
-    let value = value_shown(alloc, text, spot, value_at(document, &steps))?;
+    let spot = spot(alloc, source.text, &steps)?;
+    let at = position_at(alloc, &source.files, spot)?;
+    let value = value_shown(alloc, source.text, spot, value_at(document, &steps))?;
     let form = form(place);
     match place.table {
         Table::Entry(_, _) => format!(in alloc; "{at}{value}; expected: {form}"),
@@ -138,7 +121,7 @@ fn value_line(
 /// The keys of a table that it may not have, and those that it may.
 fn unknown_line(
     alloc: Global,
-    text: &str,
+    source: &Source<'_>,
     document: &Value,
     table: Table,
 ) -> Result<String, AllocError> {
@@ -157,7 +140,7 @@ fn unknown_line(
             }
         }
     }
-    let mut line = position_of(alloc, text, &steps)?;
+    let mut line = position_of(alloc, source, &steps)?;
     let unknown = shown(alloc, unknown.as_str())?;
     line.push_str("not known here:")?;
     line.push_str(unknown.as_str())?;
@@ -170,21 +153,21 @@ fn unknown_line(
 }
 
 /// What is missing in a table, and its form.
-fn missing_line(alloc: Global, text: &str, place: &Place) -> Result<String, AllocError> {
+fn missing_line(alloc: Global, source: &Source<'_>, place: &Place) -> Result<String, AllocError> {
     let steps = steps_to_table(alloc, place.table)?;
-    let at = position_of(alloc, text, &steps)?;
+    let at = position_of(alloc, source, &steps)?;
     format!(in alloc; "{at}expected: {} = {}", key_text(place.key), form(place))
 }
 
 /// How many values an array has, and how many it may have.
 fn many_line(
     alloc: Global,
-    text: &str,
+    source: &Source<'_>,
     document: &Value,
     place: &Place,
 ) -> Result<String, AllocError> {
     let steps = steps_to(alloc, place)?;
-    let at = position_of(alloc, text, &steps)?;
+    let at = position_of(alloc, source, &steps)?;
     let count = match value_at(document, &steps).and_then(|value| value.as_array()) {
         None => 0,
         Some(values) => values.len(),
@@ -220,12 +203,12 @@ fn earlier(tables: &[Value], number: usize, keys: &[&str]) -> Option<usize> {
 /// What a table of an array has that an earlier one has too.
 fn twice_line(
     alloc: Global,
-    text: &str,
+    source: &Source<'_>,
     document: &Value,
     table: Table,
 ) -> Result<String, AllocError> {
     let steps = steps_to_table(alloc, table)?;
-    let at = position_of(alloc, text, &steps)?;
+    let at = position_of(alloc, source, &steps)?;
     let (array, number) = match table {
         Table::Client(number) => ("client", number),
         Table::List(number) => ("list", number),
@@ -247,21 +230,21 @@ fn twice_line(
 /// The line about a fault of a text, where there is more to say.
 pub(crate) fn line_about(
     alloc: Global,
-    text: &str,
+    source: &Source<'_>,
     document: &Value,
     fault: &ConfigFault,
 ) -> Result<Option<String>, AllocError> {
     let line = match fault {
         ConfigFault::BadValue(place) if place.key == Key::Other => {
-            unknown_line(alloc, text, document, place.table)?
+            unknown_line(alloc, source, document, place.table)?
         }
-        ConfigFault::BadValue(place) => value_line(alloc, text, document, place)?,
-        ConfigFault::Missing(place) => missing_line(alloc, text, place)?,
-        ConfigFault::TooMany(place) => many_line(alloc, text, document, place)?,
-        ConfigFault::Twice(client) => twice_line(alloc, text, document, Table::Client(*client))?,
-        ConfigFault::TwiceList(list) => twice_line(alloc, text, document, Table::List(*list))?,
+        ConfigFault::BadValue(place) => value_line(alloc, source, document, place)?,
+        ConfigFault::Missing(place) => missing_line(alloc, source, place)?,
+        ConfigFault::TooMany(place) => many_line(alloc, source, document, place)?,
+        ConfigFault::Twice(client) => twice_line(alloc, source, document, Table::Client(*client))?,
+        ConfigFault::TwiceList(list) => twice_line(alloc, source, document, Table::List(*list))?,
         ConfigFault::TwiceRules(rules) => {
-            twice_line(alloc, text, document, Table::Rules(*rules))?
+            twice_line(alloc, source, document, Table::Rules(*rules))?
         }
         ConfigFault::Syntax | ConfigFault::OutOfMemory => return Ok(None),
     };

@@ -124,6 +124,12 @@ fn key_and_value<'t>(alloc: Global, s: &'t str) -> Result<(Key, &'t str), Lost> 
     Ok((key, skip_ws(behind_octet(rest)?)))
 }
 
+/// What follows a pair of a key and a value.
+pub(crate) fn behind_pair<'t>(alloc: Global, s: &'t str) -> Result<&'t str, Lost> {
+    let (_, value) = key_and_value(alloc, s)?;
+    behind_value(alloc, value)
+}
+
 /// Whether a key is this one, without a dot.
 fn is_key(key: &Key, wanted: &str) -> bool {
     key.path.is_empty() && key.last.as_str() == wanted
@@ -256,6 +262,15 @@ impl Section {
             _ => None,
         }
     }
+}
+
+/// What follows the header at the front of a text.
+pub(crate) fn behind_header<'t>(alloc: Global, s: &'t str) -> Result<&'t str, Lost> {
+    let mut section = Section {
+        made: None,
+        seen: [0, 0],
+    };
+    section.enter(alloc, s, &[])
 }
 
 /// How many octets of a text stand before its end.

@@ -1,31 +1,36 @@
-//! What `--check` says of the file of a configuration: that it is good, and what is likely wrong in it
+//! What `--check` says of the files of a configuration: that it is good, and what is likely wrong in it
 //! all the same; or its faults, with where they are, what stands there and what is expected.
 //!
-//! `find` finds a value in the text of a document, and `place` the value at a place of a configuration;
+//! `files` knows in which file a place of the text lies that they are together, and `strays` what belongs to
+//! a table of the file before its own. `find` finds a value in the text of a document, and `place` the value at a place of a configuration;
 //! `forms` has the keys and the forms of their values, `details` the line about a fault, `mending` the text
 //! without it, by which the next one is found, and `warnings` what is good but likely wrong.
 #![tactic(auto)]
 
 mod details;
+mod files;
 mod find;
 mod forms;
 mod mending;
 mod place;
+mod strays;
 mod warnings;
 
 ghost use Rattle.std.specs.Prelude.{◌≡◌, ◌≢◌, Err, IfOk, IfSome, IsOk, IsErr, IsUtf8, string_bytes};
 ghost use Rattle.rs_policy.specs.Documents.{config_of};
 ghost use Rattle.rs_command.specs.declared.status.Status.TheVariants as statuses;
 
-use crate::details::{line_about, not_utf_8_line, syntax_line, unread_line};
+use crate::details::{line_about, not_utf_8_line, syntax_line};
+use crate::files::{Files, Source};
 use crate::mending::mended;
+use crate::strays::strays_of;
 use crate::warnings::warnings_of;
 use rs_command::Status;
-use rs_command::configuration::{ConfigurationFault, configuration_of, octets_of};
+use rs_command::configuration::{ConfigurationFault, Unconfigured, configuration_of, read_texts};
 use rs_policy::{Config, ConfigFault, Key, Place, Table};
+use rs_texts::Joined;
 use std::alloc::{AllocError, Global};
-use std::rt::Files;
-use std::{fs, io};
+use std::io;
 use toml::value::Value;
 
 /// The most faults that are told.
@@ -96,19 +101,19 @@ fn changes_names(fault: &ConfigFault) -> bool {
 fn tell_faults<R: Eprint>(
     rt: &R,
     alloc: Global,
-    text: &str,
+    source: &Source<'_>,
     first: ConfigFault,
 ) -> Result<(), AllocError> {
-    let document = match toml::table_from_str(alloc, text) {
+    let document = match toml::table_from_str(alloc, source.text) {
         Ok(document) => Value::Table(document),
         Err(error) if error.is_memory() => return Err(AllocError),
         Err(error) => {
-            tell(rt, syntax_line(alloc, text, &error)?.as_str());
+            tell(rt, syntax_line(alloc, &source.files, &error)?.as_str());
             return Ok(());
         }
     };
     let mut told = Vec::new(alloc);
-    let mut without = String::from_str(alloc, text)?;
+    let mut without = String::from_str(alloc, source.text)?;
     let mut fault = first;
     for _ in 0..MENDINGS {
         let comes_of_one = hangs_on(&told, &fault) || is_without_use(&told, &fault);
@@ -117,7 +122,7 @@ fn tell_faults<R: Eprint>(
                 tell(rt, "there are more");
                 break;
             }
-            tell_fault(rt, alloc, text, &document, &fault, told.is_empty())?;
+            tell_fault(rt, alloc, source, &document, &fault, told.is_empty())?;
             told.push(fault)?;
         }
         match next(alloc, &mut without, &fault)? {
@@ -132,7 +137,7 @@ fn tell_faults<R: Eprint>(
 fn tell_fault<R: Eprint>(
     rt: &R,
     alloc: Global,
-    text: &str,
+    source: &Source<'_>,
     document: &Value,
     fault: &ConfigFault,
     is_first: bool,
@@ -140,7 +145,7 @@ fn tell_fault<R: Eprint>(
     if !is_first {
         ConfigurationFault::Text(*fault).report(rt);
     }
-    if let Some(line) = line_about(alloc, text, document, fault)? {
+    if let Some(line) = line_about(alloc, source, document, fault)? {
         tell(rt, line.as_str());
     }
     Ok(())
@@ -169,19 +174,23 @@ fn next(
     Ok(next)
 }
 
-/// Tells more of a fault of a file of these octets.
+/// Tells more of a fault of files.
 fn tell_more<R: Eprint>(
     rt: &R,
     alloc: Global,
-    octets: &[u8],
+    files: Files<'_>,
     fault: ConfigurationFault,
 ) -> Result<(), AllocError> {
-    match (str::from_utf8(octets), fault) {
-        (Ok(text), ConfigurationFault::Text(fault)) => tell_faults(rt, alloc, text, fault),
+    match (str::from_utf8(&files.texts.octets), fault) {
+        (Ok(text), ConfigurationFault::Text(fault)) => {
+            let source = Source { files, text };
+            tell_faults(rt, alloc, &source, fault)?;
+            tell_strays(rt, alloc, &source)
+        }
         (Err(error), _) => {
             tell(
                 rt,
-                not_utf_8_line(alloc, octets, error.valid_up_to())?.as_str(),
+                not_utf_8_line(alloc, &files, error.valid_up_to())?.as_str(),
             );
             Ok(())
         }
@@ -189,23 +198,36 @@ fn tell_more<R: Eprint>(
     }
 }
 
-/// Tells what is likely wrong in a good configuration of these octets.
+/// Tells what stands at the front of a file and belongs to a table of an earlier one.
+fn tell_strays<R: Eprint>(rt: &R, alloc: Global, source: &Source<'_>) -> Result<(), AllocError> {
+    for front in &strays_of(alloc, source)? {
+        let at = source.files.position(alloc, *front)?;
+        let line = format!(in alloc;
+            "warning: {at}this belongs to the last table of the file before"
+        )?;
+        tell(rt, line.as_str());
+    }
+    Ok(())
+}
+
+/// Tells what is likely wrong in a good configuration.
 fn tell_warnings<R: Eprint>(
     rt: &R,
     alloc: Global,
-    octets: &[u8],
+    files: Files<'_>,
     config: &Config,
 ) -> Result<(), AllocError> {
-    let Ok(text) = str::from_utf8(octets) else {
+    let Ok(text) = str::from_utf8(&files.texts.octets) else {
         return Ok(());
     };
+    let source = Source { files, text };
     let Ok(document) = toml::table_from_str(alloc, text) else {
         return Err(AllocError);
     };
     for warning in &warnings_of(alloc, config, &Value::Table(document))? {
-        tell(rt, warning.line(alloc, text)?.as_str());
+        tell(rt, warning.line(alloc, &source)?.as_str());
     }
-    Ok(())
+    tell_strays(rt, alloc, &source)
 }
 
 /// Reports that memory was refused, where not all was told.
@@ -215,49 +237,54 @@ fn report_more<R: Eprint>(rt: &R, more: Result<(), AllocError>) {
     }
 }
 
-/// Prints whether a configuration of these octets is good, and what more there is to say of it; answers the
-/// status to end with.
-pub fn check_octets<R: Print + Eprint>(rt: &R, alloc: Global, octets: &[u8]) -> io::Result<Status>
-    ensures good { IfOk result (λ status. status ≡ statuses.Done → IsOk (config_of octets.now)) }
-    ensures faulty { IfOk result (λ status. status ≡ statuses.BadCommand → IsUtf8 octets.now → IsErr (config_of octets.now)) }
-    ensures text { IfOk result (λ status. status ≡ statuses.Done → IsUtf8 octets.now) }
+/// Prints whether the configuration is good whose text the files of these names are together, and what more
+/// there is to say of it; answers the status to end with.
+pub fn check_texts<R: Print + Eprint>(
+    rt: &R,
+    alloc: Global,
+    texts: &Joined,
+    names: &[String],
+) -> io::Result<Status>
+    ensures good { IfOk result (λ status. status ≡ statuses.Done → IsOk (config_of texts.now.octets.items)) }
+    ensures faulty { IfOk result (λ status. status ≡ statuses.BadCommand → IsUtf8 texts.now.octets.items → IsErr (config_of texts.now.octets.items)) }
+    ensures text { IfOk result (λ status. status ≡ statuses.Done → IsUtf8 texts.now.octets.items) }
     ensures untraced { IfOk result (λ status. status ≢ statuses.BadTrace) }
 {
-    match configuration_of(alloc, octets) {
+    let files = Files { texts, names };
+    match configuration_of(alloc, &texts.octets) {
         Ok(config) => {
             println!(rt; "configuration: good, {} clients", config.clients())?;
-            report_more(rt, tell_warnings(rt, alloc, octets, &config));
+            report_more(rt, tell_warnings(rt, alloc, files, &config));
             Ok(Status::Done)
         }
         Err(fault) => {
             let status = fault.report(rt);
-            report_more(rt, tell_more(rt, alloc, octets, fault));
+            report_more(rt, tell_more(rt, alloc, files, fault));
             Ok(status)
         }
     }
 }
 
-/// The same of the file at this path.
-pub fn check<R: Files + Print + Eprint>(rt: &R, alloc: Global, path: &str) -> io::Result<Status>
+/// The same of the files at these paths.
+pub fn check<R: std::rt::Files + Print + Eprint>(
+    rt: &R,
+    alloc: Global,
+    paths: &[String],
+) -> io::Result<Status>
     ensures { IfOk result (λ status. status ≢ statuses.BadTrace) }
 {
-    match read_octets(rt, alloc, path) {
-        Ok(Some(octets)) => check_octets(rt, alloc, &octets),
-        Ok(None) => Ok(ConfigurationFault::TooLarge.report(rt)),
-        Err(error) => {
-            let line = unread_line(alloc, &error);
-            let fault = ConfigurationFault::from(error);
-            let status = fault.report(rt);
-            if let (ConfigurationFault::Unreadable, Ok(line)) = (fault, line) {
-                tell(rt, line.as_str());
+    match read_texts(rt, alloc, paths) {
+        Ok(texts) => check_texts(rt, alloc, &texts, paths),
+        Err(fault) => {
+            let unread = Unconfigured::unjoined(fault);
+            let status = unread.report(rt, paths);
+            if paths.len() < 2
+                && let Some((_, why)) = &unread.unread
+            {
+                // Where standard error is closed nobody can read it.
+                let _ = eprintln!(rt; "{why}");
             }
             Ok(status)
         }
     }
-}
-
-/// The octets of a file; None where they are more than are read.
-fn read_octets<R: Files>(rt: &R, alloc: Global, path: &str) -> io::Result<Option<Vec<u8>>> {
-    let mut file = fs::open(rt, path)?;
-    octets_of(alloc, &mut file)
 }

@@ -7,6 +7,7 @@ ghost use Rattle.rs_policy.specs.declared.faults.Key.TheVariants as Key;
 ghost use Rattle.rs_check.specs.Warnings.{MatchesAll, has_key, test_keys};
 
 use crate::details::position_of;
+use crate::files::Source;
 use crate::find::Step;
 use crate::forms::key_text;
 use crate::place::{steps_to, steps_to_table};
@@ -86,9 +87,9 @@ impl Warning {
     }
 
     /// The line that tells it.
-    pub(crate) fn line(&self, alloc: Global, text: &str) -> Result<String, AllocError> {
+    pub(crate) fn line(&self, alloc: Global, source: &Source<'_>) -> Result<String, AllocError> {
         let steps = self.steps(alloc)?;
-        let at = position_of(alloc, text, &steps)?;
+        let at = position_of(alloc, source, &steps)?;
         format!(in alloc; "warning: {at}{self}")
     }
 }

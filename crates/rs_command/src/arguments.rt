@@ -1,16 +1,29 @@
 //! The kinds of arguments that command lines here have.
 
-use clap::{Arg, ArgAction, value_parser};
-use std::alloc::Global;
+use clap::{Arg, ArgAction, ArgMatches, value_parser};
+use std::alloc::{AllocError, Global};
 
-/// `--config FILE` or `-c FILE`, which has to be there.
+/// `--config FILE` or `-c FILE`, which has to be there, and may be there more than once.
 pub(crate) fn config<'a>(alloc: Global) -> Arg<'a> {
     Arg::new(alloc, "config")
         .short('c')
         .long("config")
         .value_name("FILE")
         .required(true)
-        .help("the configuration, a TOML file")
+        .action(ArgAction::Append)
+        .help("the configuration, a TOML file; the texts of several are joined in their order")
+}
+
+/// The files of the configuration, in their order.
+pub(crate) fn configs_of(
+    alloc: Global,
+    matches: &ArgMatches<'_>,
+) -> Result<Vec<String>, AllocError> {
+    let mut configs = Vec::new(alloc);
+    for config in matches.get_strs("config").unwrap_or(&[]) {
+        configs.push(String::from_str(alloc, config)?)?;
+    }
+    Ok(configs)
 }
 
 /// `--NAME N`, where N is 1 to `greatest`.

@@ -1,17 +1,17 @@
 //! The command line of rs_replay.
 
 use crate::Asked;
-use crate::arguments::{config, flag, number};
+use crate::arguments::{config, configs_of, flag, number};
 use crate::version::VERSION;
-use clap::{Arg, ArgMatches, Command, Error};
+use clap::{Arg, ArgAction, ArgMatches, Command, Error};
 use std::alloc::{AllocError, Global};
 use std::io;
 
 /// What to play.
 #[derive(Drop)]
 pub struct Options {
-    /// The file of the configuration.
-    pub config: String,
+    /// The files of the configuration, whose texts are joined in this order.
+    pub configs: Vec<String>,
     /// How many workers share the work of a turn, 1 to 16.
     pub workers: usize,
     /// How far the replay is, is printed on standard error where that is a terminal.
@@ -20,6 +20,8 @@ pub struct Options {
     pub compare: Option<String>,
     /// The last line of the trace that is played, from 1; all where there is none.
     pub until: Option<u64>,
+    /// The clients whose routes are listed at the end, one after the other.
+    pub tables: Vec<String>,
 }
 
 /// Reads the command line, and prints help or the version on standard output, or what is wrong with it
@@ -39,11 +41,12 @@ fn read_options(alloc: Global, words: &[String]) -> Result<Options, Error> {
 
 fn options_of(alloc: Global, matches: &ArgMatches<'_>) -> Result<Options, AllocError> {
     Ok(Options {
-        config: String::from_str(alloc, matches.get_str("config").unwrap_or(""))?,
+        configs: configs_of(alloc, matches)?,
         workers: matches.get_one::<usize>("workers").unwrap_or(1),
         progress: matches.get_flag("progress"),
         compare: text_of(alloc, matches.get_str("compare"))?,
         until: matches.get_one::<u64>("until"),
+        tables: texts_of(alloc, matches.get_strs("table").unwrap_or(&[]))?,
     })
 }
 
@@ -52,6 +55,14 @@ fn text_of(alloc: Global, word: Option<&str>) -> Result<Option<String>, AllocErr
         Some(word) => Ok(Some(String::from_str(alloc, word)?)),
         None => Ok(None),
     }
+}
+
+fn texts_of(alloc: Global, words: &[&str]) -> Result<Vec<String>, AllocError> {
+    let mut texts = Vec::new(alloc);
+    for word in words {
+        texts.push(String::from_str(alloc, word)?)?;
+    }
+    Ok(texts)
 }
 
 /// The command line that is understood.
@@ -72,7 +83,7 @@ fn command<'a>(alloc: Global) -> Result<Command<'a>, AllocError> {
         .arg(flag(
             alloc,
             "progress",
-            "print on standard error, where it is a terminal, how many lines were read and UPDATEs heard",
+            "print on standard error, where it is a terminal, how many lines were read and UPDATEs heard, and how much is left of a file",
         ))?
         .arg(
             Arg::new(alloc, "compare")
@@ -82,5 +93,12 @@ fn command<'a>(alloc: Global) -> Result<Command<'a>, AllocError> {
                     "hold what another server sent, as this file says, against what is due at the end",
                 ),
         )?
-        .arg(number(alloc, "until", u32::MAX, "play only the first N lines"))
+        .arg(number(alloc, "until", u32::MAX, "play only the first N lines"))?
+        .arg(
+            Arg::new(alloc, "table")
+                .long("table")
+                .value_name("NAME")
+                .action(ArgAction::Append)
+                .help("list the routes of this client at the end; may be given more than once"),
+        )
 }

@@ -1,7 +1,7 @@
 //! The command line of rs_served.
 
 use crate::Asked;
-use crate::arguments::{config, flag, number};
+use crate::arguments::{config, configs_of, flag, number};
 use crate::version::VERSION;
 use clap::{Arg, ArgMatches, Command, Error};
 use std::alloc::{AllocError, Global};
@@ -21,18 +21,25 @@ const LEVELS: &[&str] = &["error", "change", "route"];
 /// What to serve, and how long.
 #[derive(Drop)]
 pub struct Options {
-    /// The file of the configuration.
-    pub config: String,
+    /// The files of the configuration, whose texts are joined in this order.
+    pub configs: Vec<String>,
     /// How many workers share the work of a turn, 1 to 16.
     pub workers: usize,
     /// After how many sessions that have ended the server ends, from 1; never where there is none.
     pub sessions: Option<u64>,
     /// After how many rounds the configuration is read again, from 1; never where there is none.
     pub reload: Option<u16>,
+    /// The address and port at which the server shows itself over HTTP, if it does.
+    pub window: Option<String>,
     /// Which reports are printed on standard error; none where there is no level.
     pub log: Option<LogLevel>,
     /// They begin with the time of day.
     pub utc: bool,
+    /// The file that the run is recorded in, if it is.
+    pub record: Option<String>,
+    /// How many MiB a file of the record has when the next one is begun, from 1; one file has all of it where
+    /// there is none.
+    pub record_size: Option<u32>,
     /// The configuration is only to be read.
     pub check: bool,
 }
@@ -54,14 +61,28 @@ fn read_options(alloc: Global, words: &[String]) -> Result<Options, Error> {
 
 fn options_of(alloc: Global, matches: &ArgMatches<'_>) -> Result<Options, AllocError> {
     Ok(Options {
-        config: String::from_str(alloc, matches.get_str("config").unwrap_or(""))?,
+        configs: configs_of(alloc, matches)?,
         workers: matches.get_one::<usize>("workers").unwrap_or(1),
         sessions: matches.get_one::<u64>("sessions"),
         reload: matches.get_one::<u16>("reload"),
+        window: match matches.get_str("window") {
+            Some(address) => Some(String::from_str(alloc, address)?),
+            None => None,
+        },
         log: level_of(matches.get_str("log")),
         utc: matches.get_flag("utc"),
+        record: text_of(alloc, matches.get_str("record"))?,
+        record_size: matches.get_one::<u32>("record-size"),
         check: matches.get_flag("check"),
     })
+}
+
+/// A text of its own, where there is one.
+fn text_of(alloc: Global, text: Option<&str>) -> Result<Option<String>, AllocError> {
+    match text {
+        Some(text) => Ok(Some(String::from_str(alloc, text)?)),
+        None => Ok(None),
+    }
 }
 
 /// The level with this name.
@@ -85,6 +106,35 @@ fn log<'a>(alloc: Global) -> Arg<'a> {
         .help(
             "print on standard error what happens, and why: what goes wrong, what changes too, or all",
         )
+}
+
+/// `--record FILE`.
+fn record<'a>(alloc: Global) -> Arg<'a> {
+    Arg::new(alloc, "record")
+        .long("record")
+        .value_name("FILE")
+        .help(
+            "record the run for rs_replay in FILE, and the configuration in FILE.toml, which must not be there",
+        )
+}
+
+/// `--record-size N`.
+fn record_size<'a>(alloc: Global) -> Result<Arg<'a>, AllocError> {
+    number(
+        alloc,
+        "record-size",
+        u32::MAX,
+        "begin FILE.1, FILE.2 and so on, each behind N MiB",
+    )
+    .requires_arg("record")
+}
+
+/// `--window ADDRESS:PORT`.
+fn window<'a>(alloc: Global) -> Arg<'a> {
+    Arg::new(alloc, "window")
+        .long("window")
+        .value_name("ADDRESS:PORT")
+        .help("show the server over HTTP there, as at 127.0.0.1:8080, to read alone")
 }
 
 /// The command line that is understood.
@@ -111,12 +161,15 @@ fn command<'a>(alloc: Global) -> Result<Command<'a>, AllocError> {
             u32::from(u16::MAX),
             "read the configuration again every N rounds, and use its rules where they are good",
         ))?
+        .arg(window(alloc))?
         .arg(log(alloc))?
         .arg(flag(
             alloc,
             "utc",
             "begin these lines with the time of day, in place of the seconds since the start",
         ))?
+        .arg(record(alloc))?
+        .arg(record_size(alloc)?)?
         .arg(flag(
             alloc,
             "check",
