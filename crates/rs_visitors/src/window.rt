@@ -1,0 +1,163 @@
+//! The window: its listener, and those who have come.
+
+use crate::visitor::{INPUT, Visitor};
+use mio::net::TcpListener;
+use mio::{Interest, Poll, Token};
+use rs_window::page::{Pages, Piece};
+use slab::Slab;
+use std::alloc::Global;
+use std::io;
+use std::io::ErrorKind;
+use std::net::{Net, SocketAddr};
+
+/// The most visitors; others wait until one has gone.
+const VISITORS: usize = 16;
+
+/// The most heads and pieces that are written in a round, for all visitors together.
+const PIECES: usize = 4;
+
+/// For how many milliseconds nobody is let in after descriptors were wanting.
+const SHUT: u64 = 5000;
+
+/// The window, under a poll that knows its listener by one token, and its visitors by those that follow.
+#[derive(Drop)]
+pub struct Window {
+    first: usize,
+    listener: TcpListener,
+    /// Somebody may have come.
+    is_ready: bool,
+    visitors: Slab<Visitor>,
+    /// The visitor who goes on first.
+    next: usize,
+    /// Up to which moment nobody is let in.
+    shut_to: u64,
+    input: [u8; INPUT],
+    piece: Piece,
+}
+
+impl Window {
+    /// A window at this address, for tokens from `first` on.
+    pub fn open<R: Net>(
+        rt: &R,
+        alloc: Global,
+        poll: &Poll,
+        first: usize,
+        address: SocketAddr,
+    ) -> io::Result<Window> {
+        let mut listener = TcpListener::bind(rt, address)?;
+        poll.registry()
+            .register(&mut listener, Token(first), Interest::READABLE)?;
+        let mut visitors = Slab::new(alloc);
+        visitors.reserve(VISITORS)?;
+        Ok(Window {
+            first,
+            listener,
+            is_ready: true,
+            visitors,
+            next: 0,
+            shut_to: 0,
+            input: [0; INPUT],
+            piece: Piece::new(alloc)?,
+        })
+    }
+
+    /// Something may have become of the socket with this token.
+    pub fn note(&mut self, token: usize) {
+        match token.saturating_sub(self.first).checked_sub(1) {
+            None => self.is_ready = true,
+            Some(key) => {
+                if let Some(visitor) = self.visitors.get_mut(key) {
+                    visitor.note();
+                }
+            }
+        }
+    }
+
+    /// Closes all connections, so that others can have their descriptors, and lets nobody in for some time.
+    /// Answers whether there were any.
+    pub fn give_up(&mut self, poll: &Poll, now: u64) -> bool {
+        self.shut_to = now.saturating_add(SHUT);
+        let mut has_given = false;
+        for key in 0..VISITORS {
+            has_given |= self.dismiss(poll, key);
+        }
+        has_given
+    }
+
+    /// Closes the connection with this key, and answers whether there was one.
+    fn dismiss(&mut self, poll: &Poll, key: usize) -> bool {
+        match self.visitors.try_remove(key) {
+            Some(mut visitor) => {
+                visitor.dismiss(poll);
+                true
+            }
+            None => false,
+        }
+    }
+
+    /// Lets in those who have come, while there is room.
+    fn let_in(&mut self, poll: &Poll, alloc: Global, now: u64) {
+        for _ in 0..VISITORS {
+            if !self.is_ready || self.visitors.len() >= VISITORS || now < self.shut_to {
+                return;
+            }
+            match self.listener.accept() {
+                Ok((stream, _)) => {
+                    let token = self.first.saturating_add(1);
+                    let token = Token(token.saturating_add(self.visitors.vacant_key()));
+                    if let Ok(visitor) = Visitor::admit(alloc, poll, token, stream, now) {
+                        let _ = self.visitors.insert(visitor);
+                    }
+                }
+                Err(error) if error.kind() == ErrorKind::WouldBlock => self.is_ready = false,
+                Err(error) if error.kind() == ErrorKind::ConnectionAborted => {}
+                // Where descriptors are wanting, the next is for a member.
+                Err(_) => self.shut_to = now.saturating_add(SHUT),
+            }
+        }
+    }
+
+    /// Goes on with all visitors, in turn, by a bounded amount of work; while the server is busy no page is
+    /// written. Answers whether something was left undone.
+    pub fn go_on<P: Pages>(
+        &mut self,
+        poll: &Poll,
+        alloc: Global,
+        pages: &P,
+        is_busy: bool,
+        now: u64,
+    ) -> bool {
+        self.let_in(poll, alloc, now);
+        let mut pieces = if is_busy { 0 } else { PIECES };
+        let mut is_unfinished = false;
+        let first = self.next;
+        for turn in 0..VISITORS {
+            let key = first.wrapping_add(turn) % VISITORS;
+            is_unfinished |= self.go_on_with(poll, pages, key, &mut pieces, now);
+        }
+        is_unfinished
+    }
+
+    /// Goes on with the visitor with this key.
+    fn go_on_with<P: Pages>(
+        &mut self,
+        poll: &Poll,
+        pages: &P,
+        key: usize,
+        pieces: &mut usize,
+        now: u64,
+    ) -> bool {
+        let Some(visitor) = self.visitors.get_mut(key) else {
+            return false;
+        };
+        let had = *pieces;
+        let is_unfinished = visitor.go_on(pages, &mut self.input, &mut self.piece, pieces, now);
+        if *pieces < had {
+            self.next = key.wrapping_add(1) % VISITORS;
+        }
+        if visitor.is_gone() {
+            self.dismiss(poll, key);
+        }
+        is_unfinished
+    }
+}

@@ -1,0 +1,6 @@
+mod Sizes
+mod Bodies
+mod Fields
+mod Heads
+mod Starts
+mod Finding
