@@ -4,7 +4,7 @@
 Runs `rt ci` at the top of the repository and passes on what it prints. Meanwhile it looks, twice a
 second, at the processes of the prover and of the compilers; from that it prints how long each crate's
 proofs, tests and edits took. Then it plays each session of examples/sessions to the built rs_replay, and two members to the
-built rs_served, and gives it configurations to check. It holds what the members of these sessions are sent against the plain
+built rs_served, records one and plays the record, and gives it configurations to check. It holds what the members of these sessions are sent against the plain
 function of the tests: of their fronts, with losses, cut and changed octets, refused memory and without threads, and of random
 sessions. It plays hostile members to the built rs_served, those whose play takes seconds. It runs tests
 of calls that take no memory where requests are counted and a test of outlets where memory is refused, compares the example
@@ -30,9 +30,11 @@ from fuzz import CASES, fuzz
 from hostile.plays import play_short
 from play_checks import play_checks
 from play_server import play_members
+from play_record import play_records
 from play_refused import play_refused
 from play_sessions import play
 from play_sweeps import play_sweeps
+from play_window import play_window
 from play_without_memory import play_memory
 from play_without_threads import play_alone
 from results import tell
@@ -161,6 +163,8 @@ def play_all(crates, folder):
     yield from play_refused(replay, tests, folder)
     yield from fuzz(replay, tests, CASES, time.time_ns() % 2**32)
     yield from play_members(crates / "rs_served/out/rs_served")
+    yield from play_records(crates / "rs_served/out/rs_served", replay)
+    yield from play_window(crates / "rs_served/out/rs_served")
     yield from play_checks(crates / "rs_served/out/rs_served")
     yield from play_short(crates / "rs_served/out/rs_served", HOSTILE)
     yield from play_alone(crates, folder)

@@ -5,8 +5,9 @@ play_checks.py PROGRAM
 
 Each row of FAULTS makes one change to GOOD, a configuration in which nothing is wrong, and has the lines that must come on
 standard error, with status 2 and nothing on standard output. Where a line and a column are told, they are looked up in the
-text: there must stand what the row says. WARNINGS are rows of good configurations, likewise, with status 0. Then what can't be
-read: no file, a folder, a file without rights, one that isn't UTF-8; and more faults than are told.
+text: there must stand what the row says. WARNINGS are rows of good configurations, likewise, with status 0. All is asked again of
+the text cut into several files, whose last lines lack their ends: the file that a line names is where it is looked up. Then what
+can't be read: no file, a folder, a file without rights, one that isn't UTF-8, among several too; and more faults than are told.
 """
 import os
 import pathlib
@@ -196,8 +197,18 @@ WARNINGS = (
 )
 
 
-def asked(program, path, **more):
-    return subprocess.run([program, "--check", "--config", path], capture_output=True, timeout=60, **more)
+def asked(program, *paths, **more):
+    words = [word for path in paths for word in ("--config", path)]
+    return subprocess.run([program, "--check", *words], capture_output=True, timeout=60, **more)
+
+
+def cut(folder, text):
+    """A text cut into files before the second client and each list, without the ends of their last lines."""
+    parts = re.split(r"\n+(?=\[\[client\]\]\n|\[\[list\]\])", text)
+    paths = [pathlib.Path(folder, f"part-{at}.toml") for at in range(len(parts))]
+    for path, part in zip(paths, parts):
+        path.write_text(part)
+    return paths
 
 
 def offset(text, line, column):
@@ -206,58 +217,88 @@ def offset(text, line, column):
     return sum(len(it) + 1 for it in lines[: line - 1]) + column - 1
 
 
-def lines_differ(text, lines, wanted, stand):
-    """What is wrong with lines, of which those that are wanted with @ begin with a line and a column of the text; or None."""
+def placed(texts, line):
+    """What stands where a line says that something is, in one of several texts, and what it says of it; None where it tells no place."""
+    if len(texts) == 1:
+        at = re.fullmatch(r"()line (\d+), column (\d+): (.*)", line)
+    else:
+        at = re.fullmatch(r"(\S+), line (\d+), column (\d+): (.*)", line)
+    if not at:
+        return None
+    text = texts[at[1]] + "\n"
+    return text[offset(text, int(at[2]), int(at[3])) :], at[4]
+
+
+def lines_differ(texts, lines, wanted, stand):
+    """What is wrong with lines, of which those that are wanted with @ begin with a place in one of the texts; or None."""
     stand = list(stand)
     if len(lines) != len(wanted):
         return f"{lines} and not {wanted}"
     for line, want in zip(lines, wanted):
         if want.startswith("@"):
-            at = re.fullmatch(r"line (\d+), column (\d+): (.*)", line)
+            at = placed(texts, line)
             if not at:
                 return f"{line!r} tells no place"
-            there = text[offset(text, int(at[1]), int(at[2])) :]
+            there, line = at
             if not there.startswith(stand[0]):
                 return f"{line!r}: {there[:20]!r} stands there, and not {stand[0]!r}"
             stand.pop(0)
-            line, want = at[3], want[1:]
+            want = want[1:]
         if want != "MESSAGE" and line != want:
             return f"{line!r} and not {want!r}"
     return f"not told: {stand}" if stand else None
 
 
-def fault_differs(program, path, old, new, wanted, stand):
+def texts_of(paths):
+    """The text of each file by its path; that of one file by nothing."""
+    return {"" if len(paths) == 1 else str(path): path.read_text() for path in paths}
+
+
+def fault_differs(program, write, old, new, wanted, stand):
     """What is wrong with what is told of GOOD with a change, or None. Each second line names a fault."""
     text = GOOD.replace(old, new, 1)
     if text == GOOD or GOOD.count(old) != 1:
         return f"{old!r} doesn't stand once"
-    path.write_text(text)
-    run = asked(program, path)
+    paths = write(text)
+    run = asked(program, *paths)
     if (run.returncode, run.stdout) != (2, b""):
         return f"status {run.returncode}, {run.stdout}"
     lines = run.stderr.decode().splitlines()
     heads = [f"configuration: {it}" for it in wanted[::2]]
     if lines[::2] != heads:
         return f"{lines[::2]} and not {heads}: {lines[1::2]}"
-    return lines_differ(text, lines[1::2], wanted[1::2], stand)
+    return lines_differ(texts_of(paths), lines[1::2], wanted[1::2], stand)
 
 
-def warning_differs(program, path, old, new, wanted, stand):
+def warning_differs(program, write, old, new, wanted, stand):
     """What is wrong with the warnings of GOOD with a change, or None."""
-    text = GOOD.replace(old, new, 1) if old else GOOD
-    path.write_text(text)
-    run = asked(program, path)
+    paths = write(GOOD.replace(old, new, 1) if old else GOOD)
+    run = asked(program, *paths)
     if (run.returncode, run.stdout) != (0, b"configuration: good, 2 clients\n"):
         return f"status {run.returncode}, {run.stdout}, {run.stderr}"
     lines = run.stderr.decode().splitlines()
     if any(not it.startswith("warning: ") for it in lines):
         return f"{lines}"
-    return lines_differ(text, [it[len("warning: ") :] for it in lines], wanted, stand)
+    return lines_differ(texts_of(paths), [it[len("warning: ") :] for it in lines], wanted, stand)
 
 
-def unread(program, path, wanted, **more):
-    """What is wrong with what is told of a file that can't be read, or None."""
-    run = asked(program, path, **more)
+def stray_differs(program, folder):
+    """What is wrong with what is told of a file that begins with a key of the table before it, or None."""
+    top, rest = GOOD.split("\n\n", 1)
+    head, last = rest.rsplit("\n", 2)[0], "# of the list\n\n  " + rest.rsplit("\n", 2)[1]
+    paths = [pathlib.Path(folder, name) for name in ("top.toml", "more.toml", "rest.toml", "last.toml")]
+    for path, text in zip(paths, (top, "refresh = true\n", head, last)):
+        path.write_text(text)
+    run = asked(program, *paths)
+    told = f"warning: {paths[3]}, line 3, column 3: this belongs to the last table of the file before\n"
+    if (run.returncode, run.stdout, run.stderr.decode()) != (0, b"configuration: good, 2 clients\n", told):
+        return f"status {run.returncode}, {run.stdout}, {run.stderr} and not {told!r}"
+    return None
+
+
+def unread(program, path, wanted, *paths, **more):
+    """What is wrong with what is told of a file that can't be read, among these, or None."""
+    run = asked(program, *(paths or [path]), **more)
     told = f"configuration: unreadable\n{wanted}\n"
     if (run.returncode, run.stdout, run.stderr.decode()) != (2, b"", told):
         return f"status {run.returncode}, {run.stdout}, {run.stderr} and not {told!r}"
@@ -274,22 +315,29 @@ def many_differ(program, path):
     if lines[0:40:2] != heads or lines[40:] != ["there are more"]:
         return f"{lines}"
     wanted = [f"@path_has = {-at}; expected: {AS_FORM}" for at in range(20)]
-    return lines_differ(text, lines[1:40:2], wanted, [f"{-at}, action" for at in range(20)])
+    return lines_differ({"": text}, lines[1:40:2], wanted, [f"{-at}, action" for at in range(20)])
 
 
 def play_checks(program):
     """Tries all: what was tried, and what is wrong or None."""
     with tempfile.TemporaryDirectory() as folder:
         path = pathlib.Path(folder, "given.toml")
-        for old, new, wanted, stand in FAULTS:
-            yield f"--check: {', '.join(wanted[::2])}", fault_differs(program, path, old, new, wanted, stand)
-        for old, new, wanted, stand in WARNINGS:
-            yield f"--check warns: {wanted}", warning_differs(program, path, old, new, wanted, stand)
+        for kind, write in ("a file", lambda text: [path] if path.write_text(text) else []), ("files", lambda text: cut(folder, text)):
+            for old, new, wanted, stand in FAULTS:
+                yield f"--check of {kind}: {', '.join(wanted[::2])}", fault_differs(program, write, old, new, wanted, stand)
+            for old, new, wanted, stand in WARNINGS:
+                yield f"--check of {kind} warns: {wanted}", warning_differs(program, write, old, new, wanted, stand)
+        yield "--check warns of a key before the first table of a file", stray_differs(program, folder)
         yield "--check tells at most 20 faults", many_differ(program, path)
         yield "--check: no file", unread(program, path.with_name("none.toml"), "there is no such file")
         yield "--check: a folder", unread(program, folder, "it is a folder")
+        good = pathlib.Path(folder, "good.toml")
+        good.write_text(GOOD)
+        none = path.with_name("none.toml")
+        yield "--check: no second file", unread(program, none, f"{none}: there is no such file", good, none)
         path.write_bytes("# caf\u00e9 ".encode() + b"\xe9\n")
         yield "--check: not UTF-8", unread(program, path, "line 1, column 8: not UTF-8")
+        yield "--check: the third file isn't UTF-8", unread(program, path, f"{path}, line 1, column 8: not UTF-8", good, good, path)
         path.chmod(0)
         nobody = {} if os.geteuid() else {"user": 65534, "group": 65534}
         yield "--check: no rights", unread(program, path, "there are no rights to read it", **nobody)

@@ -4,6 +4,8 @@
 play_server.py PROGRAM
 
 Two members: each announces 10,000 routes and must be told the other's.
+Two files of a configuration: behind a second file that drops what one of two members sends, the other must be told that its routes
+are gone; then the first file is replaced too, and so must the one be.
 A silent member: one member announces 100,000 routes, another must be told them, while a third comes up and then reads
 nothing; the server's memory must stay below a bound, and the third's session must last.
 A server taken out: behind `default = "drop"` in place of its rules two members must be told that all routes are gone, and keep
@@ -22,6 +24,7 @@ server, which was started with --sessions, must end by itself with status 0. All
 import pathlib
 import struct
 import sys
+import tempfile
 import time
 
 import play_connections
@@ -78,6 +81,29 @@ def a_server_taken_out(program, until):
         return wrong or speak(members, until, lambda: time.monotonic() > still) or ends(server, members, until)
 
 
+def two_files(program, until):
+    """Two members, and two files of which first the second is replaced and then the first."""
+    clients = pair()
+    with tempfile.TemporaryDirectory(prefix="rules-") as room:
+        rules = pathlib.Path(room, "rules.toml")
+        rules.write_text("# no rules yet")
+        with serving(program, clients, 2, "--reload", "1", "--config", rules) as server:
+            alpha, beta = members = members_of(clients, 1_000)
+            if wrong := differs(server, members, members, until):
+                return wrong
+            for it in members:
+                it.may_lose = True
+            beside = rules.with_name("new")
+            beside.write_text('[[client.import]]\naction = "drop"')
+            beside.rename(rules)
+            if wrong := speak(members, until, lambda: not alpha.told):
+                return wrong
+            if len(beta.told) != 1_000:
+                return f"beta has {len(beta.told)} of alpha's routes"
+            replace(server, 'default = "drop"\n')
+            return speak(members, until, lambda: not beta.told) or ends(server, members, until)
+
+
 def a_silent_member(program, until):
     """One member of 100,000 routes, one that is told them, and one that reads nothing once it is up."""
     ports = free_ports(3)
@@ -112,6 +138,7 @@ def many_members(program, until):
 PLAYS = (
     ("two members of 10,000 routes each", two_members),
     ("a server that is taken out by its rules", a_server_taken_out),
+    ("two files of which the second is replaced and then the first", two_files),
     ("a member of 100,000 routes beside one that reads nothing", a_silent_member),
     ("512 members, of which 200 are connected", many_members),
     *play_connections.PLAYS,

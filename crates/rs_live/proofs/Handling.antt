@@ -43,6 +43,10 @@ did asked Is So p step f h = record { operations = h.operations; are = f h.opera
 pub more : {P : Type 0} (asked : P → List Call → Type 0) (Is So : List Operation → Type 0) (a b : P) (call : Call) → AsksMore asked a call b → ((operations : List Operation) → Is operations → So (Asked call ∷ operations)) → Has asked a Is → Has asked b So
 more asked Is So a b call m f h = record { operations = Asked call ∷ h.operations; are = f h.operations h.are; were = m (calls h.operations) h.were }
 
+-- none more
+pub none_more : {P : Type 0} (asked : P → List Call → Type 0) (Is : List Operation → Type 0) (a b : P) → ((cs : List Call) → asked a cs → asked b cs) → Has asked a Is → Has asked b Is
+none_more asked Is a b same h = record { operations = h.operations; are = h.are; were = same (calls h.operations) h.were }
+
 -- two calls more
 pub two_more : {P : Type 0} (asked : P → List Call → Type 0) (Is So : List Operation → Type 0) (a b : P) (first second : Call) → AsksTwo asked a first second b → ((operations : List Operation) → Is operations → So (Asked second ∷ Asked first ∷ operations)) → Has asked a Is → Has asked b So
 two_more asked Is So a b first second m f h = record { operations = Asked second ∷ Asked first ∷ h.operations; are = f h.operations h.are; were = m (calls h.operations) h.were }

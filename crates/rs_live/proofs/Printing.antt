@@ -28,6 +28,14 @@ goes_on takes a b c octets rest text last h k = record {
   all = append_assoc h.front k.front last ∙ ap (λ w. h.front ++ w) k.all ∙ sym (append_assoc h.front rest text) ∙ ap (λ w. w ++ text) h.all;
 }
 
+-- one part after the other was given
+pub goes_then : {S : Type 0} (takes : S → List ℕ → S → Type 0) (a b c : S) (octets rest last : List ℕ) → Goes takes a octets b rest → Goes takes b rest c last → Goes takes a octets c last
+goes_then takes a b c octets rest last h k = record {
+  front = h.front ++ k.front;
+  took = took_on takes a b c h.front k.front h.took k.took;
+  all = append_assoc h.front k.front last ∙ ap (λ w. h.front ++ w) k.all ∙ h.all;
+}
+
 -- a line that fitted after the count of those that were dropped waits behind all that waited
 pub line_waits : {S : Type 0} (takes : S → List ℕ → S → Type 0) (a b put_on c : S) (octets rest : List ℕ) (n m : ℕ) (line put last : List ℕ) → Goes takes a octets b rest → put_on ≡ b → n ≡ m → put ≡ rest ++ (count_line n ++ line) → Goes takes put_on put c last → Goes takes a (octets ++ (count_line m ++ line)) c last
 line_waits takes a b put_on c octets rest n m line put last h same count is k = goes_on takes a b c octets rest (count_line m ++ line) last h

@@ -13,3 +13,4 @@ pub mod Rounds
 pub mod Sending
 pub mod Tallies
 pub mod Waiting
+pub mod Watched

@@ -1,17 +1,19 @@
-//! The file of the configuration, which is read again while the server runs.
+//! The files of the configuration, which are read again while the server runs.
 
-use crate::file_watch::{FileFault, Found, Version, WatchedFile};
+use crate::file_watch::{FileFault, Found, Version, WatchedFiles};
+use rs_texts::{end_lines, read_on};
+use std::alloc::{AllocError, Global};
 use std::fs::{Metadata, OpenFile};
-use std::io::Read;
 use std::os::unix::fs::MetadataExt;
 use std::rt::Files;
 use std::{fs, io};
 
-/// The file at a path.
+/// The files at some paths, whose texts are joined in this order.
 #[derive(Drop)]
 pub(crate) struct Configuration<'a, R> {
     pub(crate) rt: &'a R,
-    pub(crate) path: &'a str,
+    pub(crate) alloc: Global,
+    pub(crate) paths: &'a [String],
 }
 
 /// What is known of a file by its metadata.
@@ -29,35 +31,69 @@ fn found(metadata: &Metadata) -> Found {
     }
 }
 
+/// What became of a file that was to be read behind a text.
+#[derive(Clone, Copy, Debug, PartialEq, Eq)]
+enum Behind {
+    Whole,
+    Changed,
+    TooLarge,
+}
+
 impl<R: Files> Configuration<'_, R> {
-    /// Reads the file, and answers whether it is this version, before and after.
-    fn read_version(&self, version: &Version, text: &mut Vec<u8>) -> io::Result<bool> {
-        let mut file = fs::open(self.rt, self.path)?;
-        if found(&file.metadata()?) != Found::File(*version) {
-            return Ok(false);
+    /// Reads the file at a path behind a text, on a new line, if it is this version, before and after.
+    fn read_version(&self, path: &str, version: &Found, text: &mut Vec<u8>) -> io::Result<Behind> {
+        let mut file = fs::open(self.rt, path)?;
+        if found(&file.metadata()?) != *version {
+            return Ok(Behind::Changed);
         }
-        (&mut file)
-            .take(version.size.saturating_add(1))
-            .read_to_end(text)?;
-        let is_same = found(&file.metadata()?) == Found::File(*version);
-        Ok(is_same && u64::try_from(text.len()) == Ok(version.size))
+        end_lines(text)?;
+        let front = text.len();
+        if !read_on(text, &mut file)? {
+            return Ok(Behind::TooLarge);
+        }
+        let own = text.len().saturating_sub(front) as u64;
+        match found(&file.metadata()?) {
+            Found::File(now) if Found::File(now) == *version && now.size == own => {
+                Ok(Behind::Whole)
+            }
+            _ => Ok(Behind::Changed),
+        }
+    }
+
+    /// Whether the files are these versions.
+    fn are(&mut self, versions: &[Found]) -> Result<bool, FileFault> {
+        match self.look() {
+            Ok(found) => Ok(found.as_slice() == versions),
+            Err(_) => Err(FileFault::Memory),
+        }
     }
 }
 
-impl<R: Files> WatchedFile for Configuration<'_, R> {
-    fn look(&mut self) -> Found {
-        match fs::metadata(self.rt, self.path) {
-            Ok(metadata) => found(&metadata),
-            Err(_) => Found::Nothing,
+impl<R: Files> WatchedFiles for Configuration<'_, R> {
+    fn look(&mut self) -> Result<Vec<Found>, AllocError> {
+        let mut all = Vec::new(self.alloc);
+        for path in self.paths {
+            all.push(match fs::metadata(self.rt, path) {
+                Ok(metadata) => found(&metadata),
+                Err(_) => Found::Nothing,
+            })?;
         }
+        Ok(all)
     }
 
-    fn read(&mut self, version: &Version, text: &mut Vec<u8>) -> Result<bool, FileFault> {
+    fn read(&mut self, versions: &[Found], text: &mut Vec<u8>) -> Result<bool, FileFault> {
         text.clear();
-        match self.read_version(version, text) {
-            Ok(is_whole) => Ok(is_whole),
-            Err(error) if error.kind() == io::ErrorKind::OutOfMemory => Err(FileFault::Memory),
-            Err(_) => Err(FileFault::Unreadable),
+        for (place, (path, version)) in self.paths.iter().zip(versions).enumerate() {
+            match self.read_version(path, version, text) {
+                Ok(Behind::Whole) => {}
+                Ok(Behind::Changed) => return Ok(false),
+                Ok(Behind::TooLarge) => return Err(FileFault::TooLarge),
+                Err(error) if error.kind() == io::ErrorKind::OutOfMemory => {
+                    return Err(FileFault::Memory);
+                }
+                Err(_) => return Err(FileFault::Unreadable(place)),
+            }
         }
+        self.are(versions)
     }
 }

@@ -1,12 +1,12 @@
-//! When the file of rules is read: at most once a second, and only where it is another than it was and has
-//! stood still for a second. So none is read that is being written, if its writer doesn't pause.
+//! When the files of rules are read: at most once a second, and only where one of them is another than it was
+//! and all have stood still for a second. So none is read that is being written, if its writer doesn't pause.
 
-ghost use Rattle.std.specs.Prelude.{◌≡◌, ◌≢◌, ◌↔◌, ◌⊎◌, ◌+◌, ◌≤◌, Some, None, Ok, false, IsSome, IsTrue};
+ghost use Rattle.std.specs.Prelude.{◌≡◌, ◌≢◌, ◌↔◌, ◌⊎◌, ◌+◌, ◌≤◌, Some, None, Ok, false, option_map, vec_items, IsSome, IsTrue, OnOk};
+ghost use Rattle.rs_live.specs.Watched.{AreSmall};
 
+use rs_texts::MOST;
+use std::alloc::AllocError;
 use thiserror::Error;
-
-/// The most octets of a file that is read: 64 MiB.
-pub const MOST: u64 = 67_108_864;
 
 /// Which file it is, and how it was when it was looked at: its size in octets, and when it was last modified.
 #[derive(Clone, Copy, Debug, PartialEq, Eq)]
@@ -28,42 +28,43 @@ pub enum Found {
     File(Version),
 }
 
-/// Why the file of rules was not read.
+/// Why the files of rules were not read; which one, counted from 0.
 #[derive(Clone, Copy, Debug, Drop, Error, PartialEq, Eq)]
 pub enum FileFault {
     #[error("unreadable")]
-    Unreadable,
+    Unreadable(usize),
     #[error("no regular file")]
-    NoFile,
+    NoFile(usize),
     #[error("larger than 64 MiB")]
     TooLarge,
     #[error("out of memory")]
     Memory,
 }
 
-/// A file that can be looked at and read.
-pub trait WatchedFile {
-    /// What stands at its path now.
-    fn look(&mut self) -> Found;
+/// Files that can be looked at and read, as one text.
+pub trait WatchedFiles {
+    /// What stands at their paths now, in their order.
+    fn look(&mut self) -> Result<Vec<Found>, AllocError>;
 
-    /// Reads the file, in place of what stands in `text`; answers whether it was this version before and after.
-    fn read(&mut self, version: &Version, text: &mut Vec<u8>) -> Result<bool, FileFault>
-        requires { version.now.size ≤ 67108864 };
+    /// Reads the files as one text, in place of what stands in `text`; answers whether they were these
+    /// versions, in their order, before and after.
+    fn read(&mut self, versions: &[Found], text: &mut Vec<u8>) -> Result<bool, FileFault>
+        requires { AreSmall 67108864 versions.now };
 }
 
-/// When the file was looked at last, what was found, since when, and whether that was taken up.
-#[derive(Clone, Copy, Debug, PartialEq, Eq)]
+/// When the files were looked at last, what was found, since when, and whether that was taken up.
+#[derive(Debug, Drop)]
 pub struct FileWatch {
-    /// In which second it was looked at last.
+    /// In which second they were looked at last.
     looked: Option<u64>,
-    found: Option<Found>,
+    found: Option<Vec<Found>>,
     /// In which second that was found first.
     since: u64,
     is_done: bool,
 }
 
 impl FileWatch {
-    /// The file was not looked at yet.
+    /// The files were not looked at yet.
     pub fn new() -> FileWatch
         ensures looked { result.looked ≡ None }
         ensures found { result.found ≡ None }
@@ -78,16 +79,17 @@ impl FileWatch {
 
     /// Notes what was found in this second, and answers whether it is to be taken up: it was found first
     /// more than a second ago and nothing else since, and it was not taken up yet.
-    pub fn note(&mut self, second: u64, found: Found) -> bool
+    pub fn note(&mut self, second: u64, found: Vec<Found>) -> bool
         ensures looked { self.new.looked ≡ Some second }
-        ensures found { self.new.found ≡ Some found }
-        ensures since { self.old.found ≡ Some found → self.new.since ≡ self.old.since }
-        ensures changed { self.old.found ≢ Some found → (self.new.since ≡ second) × (self.new.is_done ≡ false) }
-        ensures due { IsTrue result ↔ (self.old.found ≡ Some found) × (self.old.is_done ≡ false) × (self.old.since + 2 ≤ second) }
-        ensures done { self.old.found ≡ Some found → (IsTrue self.new.is_done ↔ (IsTrue self.old.is_done ⊎ IsTrue result)) }
+        ensures found { option_map vec_items self.new.found ≡ Some found.items }
+        ensures since { option_map vec_items self.old.found ≡ Some found.items → self.new.since ≡ self.old.since }
+        ensures changed { option_map vec_items self.old.found ≢ Some found.items → (self.new.since ≡ second) × (self.new.is_done ≡ false) }
+        ensures due { IsTrue result ↔ (option_map vec_items self.old.found ≡ Some found.items) × (self.old.is_done ≡ false) × (self.old.since + 2 ≤ second) }
+        ensures done { option_map vec_items self.old.found ≡ Some found.items → (IsTrue self.new.is_done ↔ (IsTrue self.old.is_done ⊎ IsTrue result)) }
     {
         self.looked = Some(second);
-        if self.found != Some(found) {
+        let is_same = is_found(&self.found, &found);
+        if !is_same {
             self.found = Some(found);
             self.since = second;
             self.is_done = false;
@@ -100,11 +102,11 @@ impl FileWatch {
         is_due
     }
 
-    /// Looks at the file, at most once in a second, and reads it where it is to be taken up. Answers whether
-    /// its text stands in `text` then; a fault once for what was found.
-    pub fn take_up<F: WatchedFile>(
+    /// Looks at the files, at most once in a second, and reads them where they are to be taken up. Answers
+    /// whether their text stands in `text` then; a fault once for what was found.
+    pub fn take_up<F: WatchedFiles>(
         &mut self,
-        file: &mut F,
+        files: &mut F,
         second: u64,
         text: &mut Vec<u8>,
     ) -> Result<bool, FileFault>
@@ -116,11 +118,18 @@ impl FileWatch {
         if self.looked == Some(second) {
             return Ok(false);
         }
-        let found = file.look();
+        self.looked = Some(second);
+        // Where memory is refused they are looked at again in the next second.
+        let Ok(found) = files.look() else {
+            return Ok(false);
+        };
         if !self.note(second, found) {
             return Ok(false);
         }
-        let is_read = read_found(file, found, text)?;
+        let is_read = match &self.found {
+            Some(found) => read_found(files, found, text)?,
+            None => false,
+        };
         if !is_read {
             self.found = None;
         }
@@ -128,16 +137,54 @@ impl FileWatch {
     }
 }
 
-/// Reads what was found, if it is a regular file of at most `MOST` octets; answers whether it stayed as it was.
-fn read_found<F: WatchedFile>(
-    file: &mut F,
-    found: Found,
+/// Whether this was found.
+fn is_found(known: &Option<Vec<Found>>, found: &[Found]) -> bool
+    ensures { IsTrue result ↔ (option_map vec_items known.now ≡ Some found.now) }
+{
+    match known {
+        None => false,
+        Some(known) => are_same(known, found),
+    }
+}
+
+/// Whether the same was found at each path.
+fn are_same(known: &[Found], found: &[Found]) -> bool
+    ensures { IsTrue result ↔ (known.now ≡ found.now) }
+{
+    match known {
+        [] => found.is_empty(),
+        [first, others @ ..] => match found {
+            [] => false,
+            [other, rest @ ..] => first == other && are_same(others, rest),
+        },
+    }
+}
+
+/// Answers why files are not read that were found, the first of this place: one is no regular file, or
+/// together they have more octets than there is room for.
+fn fit(found: &[Found], place: usize, room: u64) -> Result<(), FileFault>
+    ensures { OnOk result (AreSmall room found.now) }
+{
+    match found {
+        [] => Ok(()),
+        [Found::Nothing, ..] => Err(FileFault::Unreadable(place)),
+        [Found::Other, ..] => Err(FileFault::NoFile(place)),
+        [Found::File(version), ..] if version.size > room => Err(FileFault::TooLarge),
+        [Found::File(version), left @ ..] => fit(
+            left,
+            place.saturating_add(1),
+            room - version.size,
+        ),
+    }
+}
+
+/// Reads what was found, if all are regular files of at most `MOST` octets together; answers whether they
+/// stayed as they were.
+fn read_found<F: WatchedFiles>(
+    files: &mut F,
+    found: &[Found],
     text: &mut Vec<u8>,
 ) -> Result<bool, FileFault> {
-    match found {
-        Found::Nothing => Err(FileFault::Unreadable),
-        Found::Other => Err(FileFault::NoFile),
-        Found::File(version) if version.size > MOST => Err(FileFault::TooLarge),
-        Found::File(version) => file.read(&version, text),
-    }
+    fit(found, 0, MOST)?;
+    files.read(found, text)
 }

@@ -148,6 +148,9 @@ fn print_line<S: Stream>(output: &mut Printer<S>, names: &Names, line: &Line, co
         Line::Stranger => output.print("stranger"),
         Line::Rules(Ok(())) => output.print("rules accepted"),
         Line::Rules(Err(fault)) => output.print(format_args!("rules refused: {fault}")),
-        Line::File(fault) => output.print(format_args!("rules refused: {fault}")),
+        Line::File(fault) => {
+            let (path, colon) = names.before(fault);
+            output.print(format_args!("rules refused: {path}{colon}{fault}"));
+        }
     }
 }

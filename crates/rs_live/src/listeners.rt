@@ -3,9 +3,9 @@
 use crate::ports::PortFault;
 use mio::net::{TcpListener, TcpStream};
 use std::alloc::{AllocError, Global};
-use std::io;
 use std::io::ErrorKind;
 use std::net::SocketAddr;
+use std::{io, mem};
 
 /// How many connections that were given up one call passes over.
 const GIVEN_UP: usize = 64;
@@ -80,6 +80,8 @@ pub struct Listeners {
     next: usize,
     /// How many are to be asked still before there is no connection.
     unasked: usize,
+    /// For a connection that is there was no room.
+    lacks_room: bool,
 }
 
 impl Listeners {
@@ -88,6 +90,7 @@ impl Listeners {
             listeners: Vec::new(alloc),
             next: 0,
             unasked: 0,
+            lacks_room: false,
         }
     }
 
@@ -104,6 +107,11 @@ impl Listeners {
         if let Some(asked) = self.listeners.get_mut(listener) {
             asked.is_ready = true;
         }
+    }
+
+    /// Whether for a connection there was no room since the last call.
+    pub fn take_lack(&mut self) -> bool {
+        mem::replace(&mut self.lacks_room, false)
     }
 
     /// Each listener is to be asked anew.
@@ -139,7 +147,8 @@ impl Listeners {
                     }));
                 }
                 Err(NoConnection::Gone) => self.ask_all(),
-                Err(NoConnection::Nothing | NoConnection::NoRoom) => {}
+                Err(NoConnection::Nothing) => {}
+                Err(NoConnection::NoRoom) => self.lacks_room = true,
                 Err(NoConnection::Broken) => return Err(PortFault),
             }
         }

@@ -3,8 +3,8 @@
 //! once.
 
 ghost use Rattle.std.specs.Prelude.{◌≡◌, ◌<◌, ◌∷◌, true, false, List, [], Some, None, slice_get, IfSome, IsTrue, IsFalse};
-ghost use Rattle.rs_live.specs.Calls.{Call, Closed, Logged, Printed};
-ghost use Rattle.rs_live.specs.Handled.{Has, EndByWait, Keeps};
+ghost use Rattle.rs_live.specs.Calls.{Call, Closed, Logged, Printed, IsFailedAccept};
+ghost use Rattle.rs_live.specs.Handled.{Has, EndBy, EndByWait, Keeps};
 ghost use Rattle.rs_live.specs.Keeping.{IsFairBy, IsPlain, all_held, before, change, held_by, with_live};
 ghost use Rattle.rs_live.specs.Leaving.{LeavesClients, LeavesPorts, LeavesRound, SamePorts};
 ghost use Rattle.rs_live.specs.Levels.{level_of};
@@ -13,7 +13,9 @@ use crate::connections::ClientConnections;
 use crate::file_watch::FileFault;
 use crate::offers::Offered;
 use crate::ports::{Incoming, Line, Ports};
+use crate::record_file::RecordEnd;
 use crate::reports::Report;
+use rs_core::Core;
 use rs_policy::RulesFault;
 use std::mem;
 
@@ -331,6 +333,25 @@ impl<'a, P: Ports> LiveLink<'a, P> {
         if self.shows(report) {
             self.ports.log(report);
         }
+    }
+
+    /// Records lines of the run, behind which the record may end; answers whether it goes on.
+    pub(crate) fn record(&mut self, lines: &[u8], end: Option<RecordEnd>) -> bool
+        ensures leaves { LeavesClients self.old self.new }
+        ensures handled { Keeps P.asked self.old → Keeps P.asked self.new }
+        ensures halted { Has P.asked self.old.ports.now (EndBy IsFailedAccept) → Has P.asked self.new.ports.now (EndBy IsFailedAccept) }
+    {
+        self.ports.record(lines, end)
+    }
+
+    /// Goes on with those who look at the server. Where something was left undone, the next round doesn't
+    /// wait.
+    pub fn show(&mut self, core: &Core)
+        ensures leaves { LeavesClients self.old self.new }
+        ensures handled { Keeps P.asked self.old → Keeps P.asked self.new }
+    {
+        let is_unfinished = self.ports.show(core, self.has_more);
+        self.has_more |= is_unfinished;
     }
 
     /// Prints a line.

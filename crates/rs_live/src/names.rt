@@ -1,6 +1,7 @@
 //! The names and AS numbers of the clients, for what is printed of them while the core has the
-//! configuration.
+//! configuration; and the paths of its files.
 
+use crate::file_watch::FileFault;
 use rs_policy::Config;
 use std::alloc::{AllocError, Global};
 
@@ -9,6 +10,8 @@ use std::alloc::{AllocError, Global};
 pub struct Names {
     names: Vec<String>,
     numbers: Vec<u32>,
+    /// The paths of the files, where there are several.
+    files: Vec<String>,
 }
 
 impl Names {
@@ -20,7 +23,33 @@ impl Names {
             names.push(String::from_str(alloc, config.name(c))?)?;
             numbers.push(config.client_as(c))?;
         }
-        Ok(Names { names, numbers })
+        Ok(Names {
+            names,
+            numbers,
+            files: Vec::new(alloc),
+        })
+    }
+
+    /// The same, and the paths of the files of the configuration, which are told where there are several.
+    pub fn with_files(mut self, alloc: Global, paths: &[String]) -> Result<Names, AllocError> {
+        if paths.len() > 1 {
+            for path in paths {
+                self.files.push(String::from_str(alloc, path)?)?;
+            }
+        }
+        Ok(self)
+    }
+
+    /// What a fault of a file begins with: its path, where there are several.
+    pub fn before(&self, fault: &FileFault) -> (&str, &str) {
+        let place = match fault {
+            FileFault::Unreadable(place) | FileFault::NoFile(place) => *place,
+            FileFault::TooLarge | FileFault::Memory => return ("", ""),
+        };
+        match self.files.get(place) {
+            Some(path) => (path.as_str(), ": "),
+            None => ("", ""),
+        }
     }
 
     /// How many clients there are.

@@ -7,7 +7,9 @@ ghost use Rattle.rs_live.specs.declared.logging.Level.{Level};
 
 use crate::file_watch::FileFault;
 use crate::logging::Level;
+use crate::record_file::RecordEnd;
 use crate::reports::Report;
+use rs_core::Core;
 use rs_policy::RulesFault;
 
 /// A call on the ports failed.
@@ -87,6 +89,12 @@ pub trait Ports {
     fn print(&mut self, line: &Line)
         ensures { (calls : List Call) → asked self.old calls → asked self.new (Printed line.now ∷ calls) };
 
+    /// Goes on with those who look at the server, by a bounded amount of work, and less of it where the core
+    /// was left with some; answers whether something was left undone. It is no call that members are
+    /// served by.
+    fn show(&mut self, core: &Core, is_busy: bool) -> bool
+        ensures { (calls : List Call) → asked self.old calls → asked self.new calls };
+
     /// Whether an operator is shown reports of this level.
     fn shows(&self, level: Level) -> bool
         ensures { result ≡ shown self.now level };
@@ -94,4 +102,9 @@ pub trait Ports {
     /// Shows an operator what happened and why.
     fn log(&mut self, report: &Report)
         ensures { (calls : List Call) → asked self.old calls → asked self.new (Logged report.now ∷ calls) };
+
+    /// Records lines of the run, whole events, behind which the record may end; answers whether there is a
+    /// record that goes on. It is no call that members are served by.
+    fn record(&mut self, lines: &[u8], end: Option<RecordEnd>) -> bool
+        ensures { (calls : List Call) → asked self.old calls → asked self.new calls };
 }

@@ -337,7 +337,10 @@ impl fmt::Display for Worded<'_> {
             }
             Report::Rules(Ok(())) => write!(f, "rules accepted"),
             Report::Rules(Err(fault)) => write!(f, "rules refused: {fault}"),
-            Report::File(fault) => write!(f, "rules refused: {fault}"),
+            Report::File(fault) => {
+                let (path, colon) = names.before(fault);
+                write!(f, "rules refused: {path}{colon}{fault}")
+            }
             Report::LeftOut { client, count } => {
                 let reports = one_or_several(*count, "report", "reports");
                 write!(f, "{}: {count} {reports} left out", names.name(*client))

@@ -8,6 +8,7 @@ ghost use Rattle.rs_live.specs.Leaving.{SamePorts};
 use crate::connections::connections;
 use crate::live_link::{LiveLink, Stage};
 use crate::ports::Ports;
+use crate::recording::Recording;
 use crate::watch::Watch;
 use rs_core::{Core, drive, drive_with};
 use rs_policy::Config;
@@ -65,13 +66,16 @@ pub fn serve<R: Threads + Wait + Sync, P: Ports>(
     let Ok(mut watch) = Watch::new(alloc, config.clients()) else {
         return Err(ServeFault::Memory);
     };
+    let Ok(mut recording) = Recording::new(alloc, &config) else {
+        return Err(ServeFault::Memory);
+    };
     let Ok(mut core) = Core::new(alloc, config) else {
         return Err(ServeFault::Memory);
     };
     let mut text = Vec::new(alloc);
     let mut read = Vec::new(alloc);
     let mut link = LiveLink::new(ports, &mut connections, &mut text, &mut read);
-    serve_on(rt, limits, &mut watch, &mut core, &mut link)
+    serve_on(rt, limits, &mut watch, &mut recording, &mut core, &mut link)
 }
 
 /// Serves round by round.
@@ -79,6 +83,7 @@ fn serve_on<R: Threads + Wait + Sync, P: Ports>(
     rt: &R,
     limits: Limits,
     watch: &mut Watch,
+    recording: &mut Recording,
     core: &mut Core,
     link: &mut LiveLink<'_, P>,
 ) -> Result<(), ServeFault>
@@ -88,15 +93,17 @@ fn serve_on<R: Threads + Wait + Sync, P: Ports>(
     ensures ended { IsOk result → IsSome limits.sessions }
 {
     let mut rounds = 0;
+    recording.begin(link);
     for _ in rt.forever() {
         if !link.begin_round(core.quiet_until()) {
             return Err(ServeFault::Poll);
         }
         rounds = reload(rounds, limits.reload, link);
-        match play_round(rt, limits.workers, core, link) {
+        match play_round(rt, limits.workers, recording, core, link) {
             Ok(()) => watch.report(core, link),
             Err(_) => return Err(ServeFault::Listener),
         }
+        link.show(core);
         if is_done(limits.sessions, link) {
             return Ok(());
         }
@@ -132,6 +139,7 @@ fn is_done<P: Ports>(sessions: Option<u64>, link: &LiveLink<'_, P>) -> bool
 fn play_round<R: Threads + Wait + Sync, P: Ports>(
     rt: &R,
     workers: usize,
+    recording: &mut Recording,
     core: &mut Core,
     link: &mut LiveLink<'_, P>,
 ) -> Result<(), ServeFault>
@@ -142,7 +150,7 @@ fn play_round<R: Threads + Wait + Sync, P: Ports>(
     ensures err { IsErr result → IsRunning P.asked link.old → Has P.asked link.new.ports.now (EndBy IsFailedAccept) }
 {
     for _ in rt.forever() {
-        drive_on(rt, workers, core, link);
+        go_on(rt, workers, recording, core, link);
         if link.has_failed() {
             return Err(ServeFault::Listener);
         }
@@ -151,6 +159,27 @@ fn play_round<R: Threads + Wait + Sync, P: Ports>(
         }
     }
     unreachable!()
+}
+
+/// Drives the core until the link stops; and records the events, where a record goes on.
+fn go_on<R: Threads + Wait + Sync, P: Ports>(
+    rt: &R,
+    workers: usize,
+    recording: &mut Recording,
+    core: &mut Core,
+    link: &mut LiveLink<'_, P>,
+)
+    requires workers { (0 < workers) × (workers ≤ 16) }
+    ensures same_ports { SamePorts link.old link.new }
+    ensures handled { IsRunning P.asked link.old → link.new.has_failed ≡ false → Keeps P.asked link.new }
+    ensures halted { IsRunning P.asked link.old → link.new.has_failed ≡ true → Has P.asked link.new.ports.now (EndBy IsFailedAccept) }
+{
+    if recording.goes_on() {
+        record_on(rt, workers, recording, core, link);
+        recording.hand_on(link);
+    } else {
+        drive_on(rt, workers, core, link);
+    }
 }
 
 /// Drives the core until the link stops, with all workers where it asks for them.
@@ -169,6 +198,26 @@ fn drive_on<R: Threads + Wait + Sync, P: Ports>(
         drive_with(rt, workers, &Free, core, link);
     } else {
         drive(rt, core, link);
+    }
+}
+
+/// The same, recording the events.
+fn record_on<R: Threads + Wait + Sync, P: Ports>(
+    rt: &R,
+    workers: usize,
+    recording: &mut Recording,
+    core: &mut Core,
+    link: &mut LiveLink<'_, P>,
+)
+    requires workers { (0 < workers) × (workers ≤ 16) }
+    ensures same_ports { SamePorts link.old link.new }
+    ensures handled { IsRunning P.asked link.old → link.new.has_failed ≡ false → Keeps P.asked link.new }
+    ensures halted { IsRunning P.asked link.old → link.new.has_failed ≡ true → Has P.asked link.new.ports.now (EndBy IsFailedAccept) }
+{
+    if link.is_wide() {
+        recording.drive_with(rt, workers, core, link);
+    } else {
+        recording.drive(rt, core, link);
     }
 }
 

@@ -1,4 +1,4 @@
-//! The ports that are sockets of the system, its clock, the file of the configuration, and the
+//! The ports that are sockets of the system, its clock, the files of the configuration, and the
 //! standard streams.
 
 ghost use Rattle.rs_live.specs.Levels.{is_shown};
@@ -11,11 +11,16 @@ use crate::logging::{Level, Log, Stamp};
 use crate::names::Names;
 use crate::ports::{Incoming, Line, PortFault, Ports};
 use crate::printer::Printer;
+use crate::record::Record;
+use crate::record_file::RecordEnd;
 use crate::reports::Report;
 use crate::serve::ServeFault;
+use crate::status_page::StatusPage;
 use crate::streams::Descriptor;
 use mio::net::{TcpListener, TcpStream};
 use mio::{Events, Interest, Poll, Token};
+use rs_core::Core;
+use rs_visitors::window::Window;
 use slab::Slab;
 use std::alloc::{AllocError, Global};
 use std::io::{ErrorKind, Read, Write};
@@ -26,6 +31,9 @@ use std::{fmt, io};
 
 /// The tokens of listeners lie above those of connections.
 const FIRST_LISTENER: usize = 1 << 32;
+
+/// The tokens of the window lie above those of listeners.
+const WINDOW: usize = 1 << 33;
 
 /// A connection, and whether something may be there to read.
 #[derive(Drop)]
@@ -39,8 +47,9 @@ const UNKEPT: usize = 64;
 
 /// Listeners and connections under one poll.
 #[derive(Drop)]
-pub struct Sockets<'a, R> {
+pub struct Sockets<'a, R: Files> {
     rt: &'a R,
+    alloc: Global,
     configuration: Configuration<'a, R>,
     watch: FileWatch,
     names: &'a Names,
@@ -53,9 +62,12 @@ pub struct Sockets<'a, R> {
     events: Events,
     listeners: Listeners,
     streams: Slab<Connected>,
+    window: Option<Window>,
     start: Instant,
     /// The second for which it was marked what may be there.
     marked: Option<u64>,
+    /// The record of the run, while it goes on.
+    record: Option<Record<'a, R>>,
 }
 
 /// Why the server can't listen: at this address, or before any was tried.
@@ -143,7 +155,7 @@ impl<'a, R: Net + Clock + Files> Sockets<'a, R> {
     pub fn listen(
         rt: &'a R,
         alloc: Global,
-        path: &'a str,
+        paths: &'a [String],
         names: &'a Names,
         log: Log,
         addresses: &[(u32, u16)],
@@ -157,7 +169,8 @@ impl<'a, R: Net + Clock + Files> Sockets<'a, R> {
         streams.reserve(names.count().saturating_mul(2).saturating_add(1))?;
         Ok(Sockets {
             rt,
-            configuration: Configuration { rt, path },
+            alloc,
+            configuration: Configuration { rt, alloc, paths },
             watch: FileWatch::new(),
             names,
             lines: Lines::new(alloc, names)?,
@@ -168,16 +181,58 @@ impl<'a, R: Net + Clock + Files> Sockets<'a, R> {
             events,
             listeners,
             streams,
+            window: None,
             start: Instant::now(rt)?,
             marked: None,
+            record: None,
         })
     }
 
-    /// Prints all lines that wait, and why the server ended, where that was a fault.
+    /// From now on the run is recorded, where there is a record.
+    pub fn record_on(&mut self, record: Option<Record<'a, R>>) {
+        self.record = record;
+    }
+
+    /// Opens the window at an address, and says so, a line.
+    pub fn open_window(&mut self, address: SocketAddr) -> io::Result<()> {
+        let window = Window::open(self.rt, self.alloc, &self.poll, WINDOW, address)?;
+        self.window = Some(window);
+        self.output.print(format_args!("window {address}"));
+        Ok(())
+    }
+
+    /// Prints all lines that wait, and why the server ended, where that was a fault; the record is written
+    /// to its end.
     pub fn finish(&mut self, served: &Result<(), ServeFault>) {
+        if let Some(record) = &mut self.record
+            && let Err(why) = record.finish()
+        {
+            self.end_record(why);
+        }
         self.lines.print_waiting(&mut self.output, u64::MAX);
         if let Err(fault) = served {
             self.errors.print(*fault);
+        }
+    }
+
+    /// The milliseconds since the start.
+    fn passed_milliseconds(&self) -> u64 {
+        match self.start.elapsed(self.rt) {
+            Ok(passed) => u64::try_from(passed.as_millis()).unwrap_or(u64::MAX),
+            Err(_) => 0,
+        }
+    }
+
+    /// Where a member can't be accepted for want of descriptors, those of the window are given up. Answers
+    /// whether there were any.
+    fn give_up_window(&mut self) -> bool {
+        if !self.listeners.take_lack() {
+            return false;
+        }
+        let now = self.passed_milliseconds();
+        match &mut self.window {
+            Some(window) => window.give_up(&self.poll, now),
+            None => false,
         }
     }
 
@@ -195,7 +250,11 @@ impl<'a, R: Net + Clock + Files> Sockets<'a, R> {
             .poll(&mut self.events, Some(Duration::from_secs(most)))?;
         for event in self.events.iter() {
             let token = event.token().0;
-            if token >= FIRST_LISTENER {
+            if token >= WINDOW {
+                if let Some(window) = &mut self.window {
+                    window.note(token);
+                }
+            } else if token >= FIRST_LISTENER {
                 self.listeners.mark_ready(token - FIRST_LISTENER);
             } else if let Some(stream) = self.streams.get_mut(token) {
                 stream.is_ready = true;
@@ -212,15 +271,46 @@ impl<'a, R: Net + Clock + Files> Sockets<'a, R> {
         self.errors.flush();
     }
 
+    /// The time of day, in seconds since 1970-01-01T00:00:00Z; `None` where the system doesn't say it.
+    fn time_of_day(&self) -> Option<u64> {
+        let time = SystemTime::now(self.rt).ok()?;
+        let since = time.duration_since(UNIX_EPOCH).ok()?;
+        Some(since.as_secs())
+    }
+
     /// What a line of the log begins with now.
     fn stamp(&self) -> Stamp {
         if self.log.has_utc
-            && let Ok(time) = SystemTime::now(self.rt)
-            && let Ok(since) = time.duration_since(UNIX_EPOCH)
+            && let Some(second) = self.time_of_day()
         {
-            return Stamp::Utc(since.as_secs());
+            return Stamp::Utc(second);
         }
         Stamp::Seconds(self.passed())
+    }
+
+    /// The record ends before the run: its file says why, where it can be written, and so do both streams.
+    fn end_record(&mut self, why: RecordEnd) {
+        if let Some(mut record) = self.record.take() {
+            record.end(why);
+        }
+        self.output.print(format_args!("record ended: {why}"));
+        if self.log.shows(Level::Error) {
+            let stamp = self.stamp();
+            self.errors
+                .print(format_args!("{stamp} record ended: {why}"));
+        }
+    }
+
+    /// Records lines, behind which the record may end.
+    fn take_lines(&mut self, lines: &[u8], end: Option<RecordEnd>) -> Result<(), RecordEnd> {
+        let second = self.time_of_day();
+        if let Some(record) = &mut self.record {
+            record.take(second, lines)?;
+        }
+        match end {
+            Some(why) => Err(why),
+            None => Ok(()),
+        }
     }
 
     /// Keeps an accepted connection, under a key; `None` where it can't be kept.
@@ -272,11 +362,14 @@ impl<'a, R: Net + Clock + Files> Ports for Sockets<'a, R> {
 
     fn accept(&mut self) -> Result<Option<Incoming>, PortFault> {
         for _ in 0..UNKEPT {
-            let Some(accepted) = self.listeners.accept()? else {
-                return Ok(None);
-            };
-            if let Some(incoming) = self.keep(accepted) {
-                return Ok(Some(incoming));
+            match self.listeners.accept()? {
+                Some(accepted) => {
+                    if let Some(incoming) = self.keep(accepted) {
+                        return Ok(Some(incoming));
+                    }
+                }
+                None if self.give_up_window() => self.listeners.ask_all(),
+                None => return Ok(None),
             }
         }
         Ok(None)
@@ -330,12 +423,36 @@ impl<'a, R: Net + Clock + Files> Ports for Sockets<'a, R> {
 
     fn text(&mut self, text: &mut Vec<u8>) -> Result<bool, FileFault> {
         let second = self.passed();
-        self.watch.take_up(&mut self.configuration, second, text)
+        let is_read = self.watch.take_up(&mut self.configuration, second, text)?;
+        if is_read
+            && let Some(record) = &mut self.record
+            && let Err(why) = record.note_text(text)
+        {
+            self.end_record(why);
+        }
+        Ok(is_read)
     }
 
     fn print(&mut self, line: &Line) {
         let second = self.passed();
         self.lines.print(&mut self.output, second, line);
+        if let Line::Rules(Ok(())) = line
+            && let Some(record) = &mut self.record
+        {
+            record.replace();
+        }
+    }
+
+    fn show(&mut self, core: &Core, is_busy: bool) -> bool {
+        if self.window.is_none() {
+            return false;
+        }
+        let now = self.passed_milliseconds();
+        let pages = StatusPage::new(core, now / 1000);
+        match &mut self.window {
+            Some(window) => window.go_on(&self.poll, self.alloc, &pages, is_busy, now),
+            None => false,
+        }
     }
 
     fn shows(&self, level: Level) -> bool {
@@ -345,5 +462,18 @@ impl<'a, R: Net + Clock + Files> Ports for Sockets<'a, R> {
     fn log(&mut self, report: &Report) {
         let stamp = self.stamp();
         report.print(&mut self.errors, stamp, self.names);
+    }
+
+    fn record(&mut self, lines: &[u8], end: Option<RecordEnd>) -> bool {
+        if self.record.is_none() {
+            return false;
+        }
+        match self.take_lines(lines, end) {
+            Ok(()) => true,
+            Err(why) => {
+                self.end_record(why);
+                false
+            }
+        }
     }
 }

@@ -3,7 +3,9 @@
 mod hold_timers;
 mod loopback;
 mod rate_limits;
+mod recording;
 mod reloading;
 mod reports;
 mod rounds;
 mod script;
+mod watching;

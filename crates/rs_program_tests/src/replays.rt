@@ -94,6 +94,8 @@ fn faults_of_lines(rt: HostRuntime) -> Result<(), Fail> {
         ("moment 5 5", LineFault::WordCount),
         ("lost", LineFault::WordCount),
         ("lost a b", LineFault::WordCount),
+        ("more", LineFault::WordCount),
+        ("more 00 00", LineFault::WordCount),
         ("rules", LineFault::WordCount),
         ("rules 00 00", LineFault::WordCount),
         ("table", LineFault::WordCount),
@@ -121,6 +123,8 @@ fn faults_of_lines(rt: HostRuntime) -> Result<(), Fail> {
         ("octets a 0", LineFault::BadHex),
         ("octets a 0g", LineFault::BadHex),
         ("octets a 00\r", LineFault::BadHex),
+        ("more ", LineFault::BadHex),
+        ("more 0", LineFault::BadHex),
         ("rules ", LineFault::BadHex),
         ("rules 0", LineFault::BadHex),
     ] {

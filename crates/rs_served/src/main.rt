@@ -1,4 +1,4 @@
-//! The program of the live route server: reads the command line and the file of the configuration, and
+//! The program of the live route server: reads the command line and the files of the configuration, and
 //! serves over sockets.
 #![tactic(auto)]
 
@@ -10,11 +10,13 @@ use rs_command::{Asked, Status};
 use rs_live::connections::listen_addresses;
 use rs_live::logging::{Level, Log};
 use rs_live::names::Names;
+use rs_live::record::Record;
 use rs_live::serve::{Limits, serve};
 use rs_live::sockets::Sockets;
 use rs_policy::Config;
 use std::alloc::Global;
-use std::net::Net;
+use std::io;
+use std::net::{Net, SocketAddr};
 use std::process::ExitCode;
 use std::rt::{Clock, Env, Files};
 use std::sync::Wait;
@@ -34,39 +36,127 @@ fn log_of(options: &Options) -> Log {
     }
 }
 
-/// Serves, and answers the status to end with.
-fn run<R: Threads + Wait + Sync + Net + Clock + Files + Print + Eprint>(
+/// So many MiB, in octets.
+fn octets_of_size(size: u32) -> u64 {
+    u64::from(size) << 20
+}
+
+/// Begins the record of the run, if it is asked for, by the text of the configuration.
+fn begin_record<'a, R: Files>(
+    rt: &'a R,
+    alloc: Global,
+    options: &'a Options,
+    text: Vec<u8>,
+) -> io::Result<Option<Record<'a, R>>> {
+    let Some(path) = &options.record else {
+        return Ok(None);
+    };
+    let most = options.record_size.map(octets_of_size);
+    Ok(Some(Record::begin(rt, alloc, path, most, text)?))
+}
+
+/// The address of the window, where one was asked for; what is none is said, and answered as an error.
+fn window_of<R: Eprint>(rt: &R, options: &Options) -> Result<Result<Option<SocketAddr>, Status>> {
+    let Some(text) = &options.window else {
+        return Ok(Ok(None));
+    };
+    let Ok(address) = text.as_str().parse::<SocketAddr>() else {
+        eprintln!(rt; "--window: {text} is no ADDRESS:PORT, as 127.0.0.1:8080 is")?;
+        return Ok(Err(Status::BadCommand));
+    };
+    if !address.ip().is_loopback() {
+        eprintln!(rt;
+            "--window: {address} is no loopback address: whoever reaches it can read what is shown"
+        )?;
+    }
+    Ok(Ok(Some(address)))
+}
+
+/// Records the run, where that is asked for; answers whether it can be.
+fn record<'a, R: Net + Clock + Files + Eprint>(
+    rt: &'a R,
+    alloc: Global,
+    options: &'a Options,
+    text: Vec<u8>,
+    ports: &mut Sockets<'a, R>,
+) -> Result<bool> {
+    match begin_record(rt, alloc, options, text) {
+        Ok(record) => {
+            ports.record_on(record);
+            Ok(true)
+        }
+        Err(error) => {
+            eprintln!(rt; "recording failed: {error}")?;
+            Ok(false)
+        }
+    }
+}
+
+/// Opens the window, where there is to be one; answers whether it could be.
+fn open_window<R: Net + Clock + Files + Eprint>(
+    rt: &R,
+    window: Option<SocketAddr>,
+    ports: &mut Sockets<'_, R>,
+) -> Result<bool> {
+    let Some(address) = window else {
+        return Ok(true);
+    };
+    match ports.open_window(address) {
+        Ok(()) => Ok(true),
+        Err(error) => {
+            eprintln!(rt; "listening failed: {address}: {error}")?;
+            Ok(false)
+        }
+    }
+}
+
+/// Serves over ports that listen, and answers the status to end with.
+fn serve_on<R: Threads + Wait + Sync + Net + Clock + Files>(
     rt: &R,
     alloc: Global,
     options: &Options,
     config: Config,
-) -> Result<Status> {
-    let names = Names::of(alloc, &config)?;
-    let addresses = listen_addresses(alloc, &config)?;
-    let mut ports = match Sockets::listen(
-        rt,
-        alloc,
-        &options.config,
-        &names,
-        log_of(options),
-        &addresses,
-    ) {
-        Ok(ports) => ports,
-        Err(fault) => {
-            eprintln!(rt; "listening failed: {fault}")?;
-            return Ok(Status::Failed);
-        }
-    };
+    ports: &mut Sockets<'_, R>,
+) -> Status {
     let limits = Limits {
         workers: options.workers.clamp(1, 16),
         sessions: options.sessions,
         reload: options.reload,
     };
-    let served = serve(rt, alloc, &mut ports, config, limits);
+    let served = serve(rt, alloc, ports, config, limits);
     ports.finish(&served);
     match served {
-        Ok(()) => Ok(Status::Done),
-        Err(_) => Ok(Status::Failed),
+        Ok(()) => Status::Done,
+        Err(_) => Status::Failed,
+    }
+}
+
+/// Listens and serves, and answers the status to end with. The text of the configuration is for the record.
+fn run<R: Threads + Wait + Sync + Net + Clock + Files + Print + Eprint>(
+    rt: &R,
+    alloc: Global,
+    options: &Options,
+    window: Option<SocketAddr>,
+    config: Config,
+    text: Vec<u8>,
+) -> Result<Status> {
+    let names = Names::of(alloc, &config)?.with_files(alloc, &options.configs)?;
+    let addresses = listen_addresses(alloc, &config)?;
+    let log = log_of(options);
+    match Sockets::listen(rt, alloc, &options.configs, &names, log, &addresses) {
+        Ok(mut ports) => {
+            if record(rt, alloc, options, text, &mut ports)?
+                && open_window(rt, window, &mut ports)?
+            {
+                Ok(serve_on(rt, alloc, options, config, &mut ports))
+            } else {
+                Ok(Status::Failed)
+            }
+        }
+        Err(fault) => {
+            eprintln!(rt; "listening failed: {fault}")?;
+            Ok(Status::Failed)
+        }
     }
 }
 
@@ -81,13 +171,16 @@ fn start<R: Threads + Wait + Sync + Net + Clock + Env + Files + Print + Eprint +
         Asked::End(status) => return Ok(status),
     };
     if options.check {
-        return Ok(check(rt, alloc, &options.config)?);
+        return Ok(check(rt, alloc, &options.configs)?);
     }
-    let config = match read_configuration(rt, alloc, &options.config) {
-        Ok(config) => config,
-        Err(fault) => return Ok(fault.report(rt)),
+    let read = match read_configuration(rt, alloc, &options.configs) {
+        Ok(read) => read,
+        Err(fault) => return Ok(fault.report(rt, &options.configs)),
     };
-    run(rt, alloc, &options, config)
+    match window_of(rt, &options)? {
+        Ok(window) => run(rt, alloc, &options, window, read.config, read.texts.octets),
+        Err(status) => Ok(status),
+    }
 }
 
 fn main(rt: HostRuntime) -> ExitCode {

@@ -20,7 +20,7 @@ const HELP_TO_PLAY: &str =
 Usage: rs_replay [OPTIONS] --config <FILE>
 
 Options:
-  -c, --config <FILE>   the configuration, a TOML file
+  -c, --config <FILE>   the configuration, a TOML file; the texts of several are joined in their order
       --workers <N>     how many workers share the work of a turn, 1 to 16 [default: 1]
       --progress        print on standard error, where it is a terminal, how many lines were read and UPDATEs heard
       --compare <FILE>  hold what another server sent, as this file says, against what is due at the end
@@ -34,15 +34,18 @@ const HELP_TO_SERVE: &str = "A BGP-4 route server for internet exchanges
 Usage: rs_served [OPTIONS] --config <FILE>
 
 Options:
-  -c, --config <FILE>  the configuration, a TOML file
-      --workers <N>    how many threads decide where much has changed, 1 to 16 (1 if missing)
-      --sessions <N>   end once so many sessions have ended
-      --reload <N>     read the configuration again every N rounds, and use its rules where they are good
-      --log [<LEVEL>]  print on standard error what happens, and why: what goes wrong, what changes too, or all [possible values: error, change, route]
-      --utc            begin these lines with the time of day, in place of the seconds since the start
-      --check          only read the configuration, and say whether it is good
-  -h, --help           Print help
-  -V, --version        Print version
+  -c, --config <FILE>          the configuration, a TOML file; the texts of several are joined in their order
+      --workers <N>            how many threads decide where much has changed, 1 to 16 (1 if missing)
+      --sessions <N>           end once so many sessions have ended
+      --reload <N>             read the configuration again every N rounds, and use its rules where they are good
+      --window <ADDRESS:PORT>  show the server over HTTP there, as at 127.0.0.1:8080, to read alone
+      --log [<LEVEL>]          print on standard error what happens, and why: what goes wrong, what changes too, or all [possible values: error, change, route]
+      --utc                    begin these lines with the time of day, in place of the seconds since the start
+      --record <FILE>          record the run for rs_replay in FILE, and the configuration in FILE.toml, which must not be there
+      --record-size <N>        begin FILE.1, FILE.2 and so on, each behind N MiB
+      --check                  only read the configuration, and say whether it is good
+  -h, --help                   Print help
+  -V, --version                Print version
 ";
 
 const FAULT: &str = "error: invalid value '17' for '--workers <N>': 17 is not in 1..=16
@@ -115,6 +118,18 @@ fn words_of(alloc: Global, line: &str) -> Result<Vec<String>, AllocError> {
     Ok(words)
 }
 
+/// Words, one space apart.
+fn line_of(alloc: Global, words: &[String]) -> Result<String, AllocError> {
+    let mut line = String::new(alloc);
+    for word in words {
+        if !line.is_empty() {
+            line.push(' ')?;
+        }
+        line.push_str(word)?;
+    }
+    Ok(line)
+}
+
 /// By this line rs_replay plays, and nothing is printed.
 fn is_played<R: Abort>(
     rt: &R,
@@ -125,9 +140,13 @@ fn is_played<R: Abort>(
     let streams = Streams::new(alloc);
     let words = words_of(alloc, line)?;
     let asked = replay::read_command(&streams, alloc, &words)?;
+    let configs = match &asked {
+        Asked::Run(it) => line_of(alloc, &it.configs)?,
+        Asked::End(_) => String::new(alloc),
+    };
     let options = match &asked {
         Asked::Run(it) => Some((
-            it.config.as_str(),
+            configs.as_str(),
             it.workers,
             it.progress,
             it.compare.as_deref(),
@@ -156,9 +175,13 @@ fn is_served<R: Abort>(
     let streams = Streams::new(alloc);
     let words = words_of(alloc, line)?;
     let asked = serve::read_command(&streams, alloc, &words)?;
+    let configs = match &asked {
+        Asked::Run(it) => line_of(alloc, &it.configs)?,
+        Asked::End(_) => String::new(alloc),
+    };
     let options = match &asked {
         Asked::Run(it) => Some((
-            it.config.as_str(),
+            configs.as_str(),
             it.workers,
             it.sessions,
             it.reload,
@@ -209,7 +232,13 @@ fn options_to_play_by(rt: HostRuntime) -> Result<(), Fail> {
         "rs_replay --progress --workers 16 --config=a",
         ("a", 16, true, None, None),
     )?;
-    is_played(&rt, alloc, "rs_replay -c a", ("a", 1, false, None, None))
+    is_played(&rt, alloc, "rs_replay -c a", ("a", 1, false, None, None))?;
+    is_played(
+        &rt,
+        alloc,
+        "rs_replay --config b --workers 2 -c a -cb --config=c",
+        ("b a b c", 2, false, None, None),
+    )
 }
 
 #[test]
@@ -245,7 +274,39 @@ fn options_to_serve_by(rt: HostRuntime) -> Result<(), Fail> {
         alloc,
         "rs_served --check -ca",
         ("a", 1, None, None, None, true),
+    )?;
+    is_served(
+        &rt,
+        alloc,
+        "rs_served -c common --reload 1 --config lists",
+        ("common lists", 1, None, Some(1), None, false),
     )
+}
+
+#[test]
+fn options_to_record_by(rt: HostRuntime) -> Result<(), Fail> {
+    let alloc = rt.alloc();
+    let streams = Streams::new(alloc);
+    for (line, record, size) in [
+        ("rs_served -c a", None, None),
+        ("rs_served -c a --record r", Some("r"), None),
+        (
+            "rs_served -c a --record-size 64 --record=r",
+            Some("r"),
+            Some(64),
+        ),
+    ] {
+        let words = words_of(alloc, line)?;
+        let asked = serve::read_command(&streams, alloc, &words)?;
+        let options = match &asked {
+            Asked::Run(it) => Some((it.record.as_deref(), it.record_size)),
+            Asked::End(_) => None,
+        };
+        assert_eq!(rt; options, Some((record, size)), "{line}");
+    }
+    is_refused(&rt, alloc, "rs_served -c a --record-size 64")?;
+    is_refused(&rt, alloc, "rs_served -c a --record r --record-size 0")?;
+    is_refused(&rt, alloc, "rs_served -c a --record r --record s")
 }
 
 #[test]
@@ -269,8 +330,7 @@ fn faults_end_with_2(rt: HostRuntime) -> Result<(), Fail> {
     is_refused(&rt, alloc, "rs_served")?;
     is_refused(&rt, alloc, "rs_served --config")?;
     is_refused(&rt, alloc, "rs_served --config a b")?;
-    is_refused(&rt, alloc, "rs_served --config a --config b")?;
-    is_refused(&rt, alloc, "rs_served --config a -c b")?;
+    is_refused(&rt, alloc, "rs_served --config a --config")?;
     is_refused(&rt, alloc, "rs_served -c")?;
     is_refused(&rt, alloc, "rs_served --config a --unknown")?;
     is_refused(&rt, alloc, "rs_served --config a --workers two")?;

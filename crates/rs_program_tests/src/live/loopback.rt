@@ -49,7 +49,7 @@ fn a_route_goes_over_sockets(rt: HostRuntime) -> Result<(), Fail> {
     let config = Config::read(alloc, TWO)?;
     let names = Names::of(alloc, &config)?;
     let addresses = listen_addresses(alloc, &config)?;
-    let mut ports = Sockets::listen(&rt, alloc, "", &names, SILENT, &addresses).map_err(
+    let mut ports = Sockets::listen(&rt, alloc, &[], &names, SILENT, &addresses).map_err(
         |fault| fault.error,
     )?;
     let (served, heard) = thread::join(

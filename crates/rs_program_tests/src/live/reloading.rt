@@ -58,16 +58,16 @@ fn a_text_is_handed_over_at_first_and_when_it_changes(rt: HostRuntime) {
 #[test]
 fn a_file_that_is_not_read_is_told_and_the_rules_stay(rt: HostRuntime) {
     let mut ports = changing(&rt, rt.alloc());
-    ports.unread = Some(FileFault::NoFile);
+    ports.unread = Some(FileFault::NoFile(0));
     let limits = Limits {
         workers: 1,
         sessions: Some(2),
         reload: Some(2),
     };
     served(&rt, rt.alloc(), &mut ports, limits);
-    let told = Line::File(FileFault::NoFile);
+    let told = Line::File(FileFault::NoFile(0));
     assert_eq!(rt; ports.said.iter().filter(|line| **line == told).count(), 1);
-    assert!(rt; ports.reports.contains(&Report::File(FileFault::NoFile)));
+    assert!(rt; ports.reports.contains(&Report::File(FileFault::NoFile(0))));
     let answers = COMING_UP + UPDATE.len();
     sent(&rt, ports.heard(1).get(COMING_UP..answers), UPDATE);
     assert_eq!(rt; accepted(&ports.said), 2);

@@ -3,9 +3,11 @@
 ghost use Rattle.std.specs.Prelude.{◌≤◌};
 ghost use Rattle.rs_live.specs.Levels.{is_shown};
 
+use rs_core::Core;
 use rs_live::file_watch::FileFault;
 use rs_live::logging::{Level, Log};
 use rs_live::ports::{Incoming, Line, PortFault, Ports};
+use rs_live::record_file::RecordEnd;
 use rs_live::reports::Report;
 use std::alloc::Global;
 use std::process::Abort;
@@ -82,6 +84,9 @@ pub struct Script {
     pub said: Vec<Line>,
     pub log: Log,
     pub reports: Vec<Report>,
+    /// What was recorded, where anything is to be, and why the record ended.
+    pub record: Option<Vec<u8>>,
+    pub record_end: Option<RecordEnd>,
 }
 
 impl Script {
@@ -110,6 +115,8 @@ impl Script {
                 has_utc: false,
             },
             reports: Vec::new(alloc),
+            record: None,
+            record_end: None,
         }
     }
 
@@ -319,11 +326,23 @@ impl Ports for Script {
         let _ = self.said.push(*line);
     }
 
+    fn show(&mut self, _core: &Core, _is_busy: bool) -> bool {
+        false
+    }
+
     fn shows(&self, level: Level) -> bool {
         self.log.shows(level)
     }
 
     fn log(&mut self, report: &Report) {
         let _ = self.reports.push(*report);
+    }
+
+    fn record(&mut self, lines: &[u8], end: Option<RecordEnd>) -> bool {
+        let Some(record) = &mut self.record else {
+            return false;
+        };
+        self.record_end = end;
+        record.extend_from_slice(lines).is_ok() && end.is_none()
     }
 }

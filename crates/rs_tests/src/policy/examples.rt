@@ -60,11 +60,14 @@ peer = "127.0.0.1"
 "#;
 
 const EXCHANGE: &str =
-    r#"# An exchange of three members. The server is 192.0.2.1 in the exchange's network 192.0.2.0/24.
+    r#"# An exchange of three members. The server is 192.0.2.1 in the exchange's network 192.0.2.0/24. What the
+# members registered is a file of its own, which a job writes anew:
 #
-# Each import list drops bogons, prefixes that are too short or too long, and routes whose NEXT_HOP
-# is not their sender. Each export list reads action communities, which it takes away; large ones
-# (RFC 8092) name members with a four-octet AS number too:
+#   rs_served --config exchange.toml --config exchange.lists.toml --reload 1
+#
+# Each import list drops bogons, prefixes that are too short or too long, routes whose NEXT_HOP is not
+# their sender, and what the member has not registered. Each export list reads action communities, which
+# it takes away; large ones (RFC 8092) name members with a four-octet AS number too:
 #   0:64500     64500:0:0      to no member
 #   0:AS        64500:0:AS     not to the member of this AS
 #   64500:AS    64500:1:AS     to the member of this AS all the same
@@ -83,7 +86,11 @@ as = 64496
 listen = "192.0.2.1:179"
 peer = "192.0.2.11"
 limit = 20000
-import = [{ use = "filters" }]
+import = [
+    { use = "filters" },
+    { prefix_in = "alpha", origin_in = "alpha", action = "pass" },
+    { action = "drop" },
+]
 export = [{ use = "actions" }]
 
 [[client]]
@@ -92,7 +99,11 @@ as = 64497
 listen = "192.0.2.1:179"
 peer = "192.0.2.12"
 limit = 20000
-import = [{ use = "filters" }]
+import = [
+    { use = "filters" },
+    { prefix_in = "beta", origin_in = "beta", action = "pass" },
+    { action = "drop" },
+]
 export = [{ use = "actions" }]
 
 [[client]]
@@ -101,7 +112,11 @@ as = 65551
 listen = "192.0.2.1:179"
 peer = "192.0.2.13"
 limit = 20000
-import = [{ use = "filters" }]
+import = [
+    { use = "filters" },
+    { prefix_in = "gamma", origin_in = "gamma", action = "pass" },
+    { action = "drop" },
+]
 export = [{ use = "actions" }]
 
 [[rules]]
@@ -135,6 +150,26 @@ rules = [
     { large_community = "64500:0:0", action = "drop" },
     { action = "pass", strip = ["0:*", "64500:*"], strip_large = ["64500:*:*"] },
 ]
+"#;
+
+const EXCHANGE_LISTS: &str =
+    r#"# What the members of the exchange registered: the prefixes that they may announce, and the AS that they
+# may come from. Here documentation's own (RFC 5737, RFC 5398).
+
+[[list]]
+name = "alpha"
+prefixes = ["198.51.100.0/24"]
+ases = [64496]
+
+[[list]]
+name = "beta"
+prefixes = ["203.0.113.0/24"]
+ases = [64497, 64498]
+
+[[list]]
+name = "gamma"
+prefixes = []
+ases = [65551]
 "#;
 
 /// A client of this name stands at this place, or none does.

@@ -7,15 +7,22 @@ use Rattle.rs_live.proofs.Agreeing.{settled}
 use Rattle.rs_live.proofs.Handling.{at_phase, so}
 use Rattle.rs_live.proofs.serve.serve_on.Goals as goal
 
+pub loop-init : goal.loop-init
+loop-init g c = record {
+  same_ports = c.begin.ensures.leaves.same_ports;
+  phase = λ p. ap (λ (w : Phase). w.stage) c.begin.ensures.leaves.phase ∙ p;
+  handled = λ p r. (c.begin.ensures.leaves.failed ∙ r.0, c.begin.ensures.handled r.1);
+}
+
 pub loop-preserved : goal.loop-preserved
 loop-preserved g c = record {
-  same_ports = c.report.ensures.same_ports ∙ c.play_round.ensures.same_ports ∙ c.reload-rounds.ensures.same_ports ∙ c.begin_round.ensures.same_ports ∙ c.loop.invariant.same_ports;
-  phase = λ p. ap (λ (w : Phase). w.stage) c.report.ensures.phase ∙ c.in-Ok.ensures.over refl;
+  same_ports = c.show.ensures.leaves.same_ports ∙ c.report.ensures.same_ports ∙ c.play_round.ensures.same_ports ∙ c.reload-rounds.ensures.same_ports ∙ c.begin_round.ensures.same_ports ∙ c.loop.invariant.same_ports;
+  phase = λ p. ap (λ (w : Phase). w.stage) (c.show.ensures.leaves.phase ∙ c.report.ensures.phase) ∙ c.in-Ok.ensures.over refl;
   handled = λ p r.
       let i = c.loop.invariant.handled p r in
       let read = c.reload-rounds.ensures.handled c.begin_round.ensures.stage (c.if-not-begin_round.ensures.ready refl (c.loop.invariant.phase p) i.1) in
       let played = c.in-Ok.ensures.ok refl (c.reload-rounds.ensures.failed ∙ c.begin_round.ensures.failed ∙ i.0, read) in
-      (c.report.ensures.failed ∙ played.0, c.report.ensures.handled played.1);
+      (c.show.ensures.leaves.failed ∙ c.report.ensures.failed ∙ played.0, c.show.ensures.handled (c.report.ensures.handled played.1));
 }
 
 pub returns-then-not-begin_round-clause-served : goal.returns-then-not-begin_round-clause-served
@@ -26,4 +33,4 @@ returns-then-is_done-clause-served g c p r =
     let i = c.loop.invariant.handled p r in
     let read = c.reload-rounds.ensures.handled c.begin_round.ensures.stage (c.if-not-begin_round.ensures.ready refl (c.loop.invariant.phase p) i.1) in
     let played = c.in-Ok.ensures.ok refl (c.reload-rounds.ensures.failed ∙ c.begin_round.ensures.failed ∙ i.0, read) in
-    so g.P.Ports.asked (AreKept (held_of c.report.new.link.connections.now.items) (at stages.Over c.report.new.link.phase)) (IsServed (Ok tt)) _ (λ operations k. (k.0, settled _ c.report.new.link.phase operations k.1)) (at_phase g.P.Ports.asked c.report.new.link stages.Over (ap (λ (w : Phase). w.stage) c.report.ensures.phase ∙ c.in-Ok.ensures.over refl) (c.report.ensures.handled played.1))
+    so g.P.Ports.asked (AreKept (held_of c.show.new.self.connections.now.items) (at stages.Over c.show.new.self.phase)) (IsServed (Ok tt)) _ (λ operations k. (k.0, settled _ c.show.new.self.phase operations k.1)) (at_phase g.P.Ports.asked c.show.new.self stages.Over (ap (λ (w : Phase). w.stage) (c.show.ensures.leaves.phase ∙ c.report.ensures.phase) ∙ c.in-Ok.ensures.over refl) (c.show.ensures.handled (c.report.ensures.handled played.1)))

@@ -6,11 +6,14 @@ use crate::policy::routes::route_with;
 use rs_attrs::{Attrs, stripped};
 use rs_octets::Prefix;
 use std::process::Abort;
+use std::test::Fail;
 
 /// Prefix, communities as octets, and whether alpha's route goes to beta and to gamma.
-const FILTERED: [(u32, u8, &[u8], bool, bool); 14] = [
-    (0x5db8_d800, 24, &[], true, true),
-    (0x5db8_d800, 25, &[], false, false),
+const FILTERED: [(u32, u8, &[u8], bool, bool); 15] = [
+    (0xc633_6400, 24, &[], true, true),
+    (0xc633_6400, 25, &[], false, false),
+    // beta's, and not alpha's
+    (0xcb00_7100, 24, &[], false, false),
     (0, 0, &[], false, false),
     (0x0a01_0000, 16, &[], false, false),
     (0x6440_0000, 10, &[], false, false),
@@ -18,7 +21,7 @@ const FILTERED: [(u32, u8, &[u8], bool, bool); 14] = [
     (0xe000_0000, 8, &[], false, false),
     // 0:64500, to no member
     (
-        0x5db8_d800,
+        0xc633_6400,
         24,
         b"\xc0\x08\x04\x00\x00\xfb\xf4",
         false,
@@ -26,7 +29,7 @@ const FILTERED: [(u32, u8, &[u8], bool, bool); 14] = [
     ),
     // 0:64497, not to beta
     (
-        0x5db8_d800,
+        0xc633_6400,
         24,
         b"\xc0\x08\x04\x00\x00\xfb\xf1",
         false,
@@ -34,17 +37,17 @@ const FILTERED: [(u32, u8, &[u8], bool, bool); 14] = [
     ),
     // 0:64500 and 64500:64497, to beta alone
     (
-        0x5db8_d800,
+        0xc633_6400,
         24,
         b"\xc0\x08\x08\x00\x00\xfb\xf4\xfb\xf4\xfb\xf1",
         true,
         false,
     ),
     // 0:15 names no member: gamma's AS number, 65551, has more than 16 bits
-    (0x5db8_d800, 24, b"\xc0\x08\x04\x00\x00\x00\x0f", true, true),
+    (0xc633_6400, 24, b"\xc0\x08\x04\x00\x00\x00\x0f", true, true),
     // 64500:0:0, to no member
     (
-        0x5db8_d800,
+        0xc633_6400,
         24,
         b"\xc0\x20\x0c\x00\x00\xfb\xf4\x00\x00\x00\x00\x00\x00\x00\x00",
         false,
@@ -52,7 +55,7 @@ const FILTERED: [(u32, u8, &[u8], bool, bool); 14] = [
     ),
     // 64500:0:65551, not to gamma
     (
-        0x5db8_d800,
+        0xc633_6400,
         24,
         b"\xc0\x20\x0c\x00\x00\xfb\xf4\x00\x00\x00\x00\x00\x01\x00\x0f",
         true,
@@ -60,7 +63,7 @@ const FILTERED: [(u32, u8, &[u8], bool, bool); 14] = [
     ),
     // 0:64500 and 64500:1:65551, to gamma alone
     (
-        0x5db8_d800,
+        0xc633_6400,
         24,
         b"\xc0\x08\x04\x00\x00\xfb\xf4\xc0\x20\x0c\x00\x00\xfb\xf4\x00\x00\x00\x01\x00\x01\x00\x0f",
         false,
@@ -79,7 +82,7 @@ const LEFT: &[u8] =
 /// A route of alpha with these communities goes to a client with those.
 fn is_left(rt: &impl Abort, alloc: Global, config: &Config, to: usize, said: &[u8], left: &[u8]) {
     assert!(rt; to < config.clients());
-    let prefix = prefix(rt, 0x5db8_d800, 24);
+    let prefix = prefix(rt, 0xc633_6400, 24);
     let attrs = route_with(rt, alloc, said);
     let strip = match judge(config, 0, to, &prefix, &attrs) {
         Verdict::Drop => None,
@@ -110,8 +113,9 @@ fn goes(
 }
 
 #[test]
-fn the_exchange_example_is_read_and_filters(rt: HostRuntime) {
-    let config = read(&rt, rt.alloc(), EXCHANGE);
+fn the_exchange_example_is_read_and_filters(rt: HostRuntime) -> Result<(), Fail> {
+    let text = format!(in rt.alloc(); "{EXCHANGE}{EXCHANGE_LISTS}")?;
+    let config = read(&rt, rt.alloc(), text.as_str());
     assert_eq!(rt; config.clients(), 3);
     speaks_of(&rt, &config, true, true, true);
     is_named(&rt, &config, 2, "gamma");
@@ -128,4 +132,5 @@ fn the_exchange_example_is_read_and_filters(rt: HostRuntime) {
     is_left(&rt, rt.alloc(), &config, 1, SAID, LEFT);
     is_left(&rt, rt.alloc(), &config, 2, SAID, LEFT);
     let_go(config);
+    Ok(())
 }

@@ -1,0 +1,243 @@
+#!/usr/bin/env python3
+"""Looks through the window of a built rs_served while two members exchange routes, and says what went otherwise than it must.
+
+play_window.py PROGRAM [--long]
+
+Pages: /status by GET, by HEAD, by HTTP/1.0, four times on one connection, and a hundred times at once without waiting.
+Refusals: what is no request, another method, a body, a Host that is no name of this machine, a long target, a long head; the
+whole answer must come before the connection ends, though the server has not read all that was sent.
+Visitors: 16 who say nothing hold all places; a seventeenth waits, and is answered once one has gone.
+A descriptor: of a server that may open two connections more a visitor and a member have one each; a second member must come up,
+and the visitor lose its connection.
+With --long: a visitor who says nothing, one who says an octet each second, and one who reads nothing must lose their
+connections after 10 seconds and before 13.
+
+All the while two members announce 2,000 routes each, and must be told the other's, once and octet for octet. No answer may have
+Access-Control-Allow-Origin. All waiting is bounded.
+"""
+import contextlib
+import http.client
+import os
+import pathlib
+import resource
+import socket
+import sys
+import threading
+import time
+
+from members import Member, differs, ends, free_ports, routes, serving, speak
+from results import end, tell
+
+SECONDS = 60
+PLACES = 16
+
+
+def visitor(port):
+    """A connection to the window."""
+    return socket.create_connection(("127.0.0.1", port), timeout=20)
+
+
+def answer(port, said):
+    """All that is answered to these octets until the connection ends."""
+    with visitor(port) as connection:
+        connection.sendall(said)
+        got = b""
+        with contextlib.suppress(ConnectionResetError):
+            while piece := connection.recv(65536):
+                got += piece
+        return got
+
+
+def get(target, *fields, method="GET", version="1.1", host="localhost"):
+    """A request."""
+    lines = [f"{method} {target} HTTP/{version}", f"Host: {host}", *fields, "", ""]
+    return "\r\n".join(lines).encode()
+
+
+def is_status(body):
+    """Whether this is the page /status."""
+    return b"members 2\n" in body or b'"router_id"' in body
+
+
+def pages(port):
+    """What is wrong with pages that are there."""
+    connection = http.client.HTTPConnection("127.0.0.1", port, timeout=20)
+    for method in ("GET", "HEAD", "GET", "GET"):
+        connection.request(method, "/status")
+        response = connection.getresponse()
+        body = response.read()
+        if response.status != 200 or response.getheader("Transfer-Encoding") != "chunked":
+            return f"{method} /status is answered {response.status}"
+        if is_status(body) != (method == "GET"):
+            return f"{method} /status has the body {body!r}"
+        if response.getheader("Access-Control-Allow-Origin") or response.getheader("Cache-Control") != "no-store":
+            return f"/status is answered with {response.getheaders()}"
+    connection.close()
+    old = answer(port, get("/status", version="1.0"))
+    if not old.startswith(b"HTTP/1.1 200 ") or b"chunked" in old or not is_status(old):
+        return f"HTTP/1.0 is answered {old!r}"
+    many = answer(port, get("/status") * 99 + get("/status", "Connection: close"))
+    if many.count(b"HTTP/1.1 200 ") != 100 or not many.endswith(b"\r\n0\r\n\r\n"):
+        return f"of 100 requests at once {many.count(b'HTTP/1.1 200 ')} are answered"
+    return None
+
+
+def refusals(port):
+    """What is wrong with the answers to what is refused."""
+    cases = (
+        (400, b"\x16\x03\x01\x02\x00\x01\x00\x01\xfc" + bytes(3000)),
+        (400, b"GET /status HTTP/1.1\r\n\r\n"),
+        (400, get("/status", "Content-Length: 20000") + bytes(20000)),
+        (403, get("/status", host="example.org")),
+        (404, get("/none", "Connection: close")),
+        (405, get("/status", method="POST")),
+        (405, get("/status", method="OPTIONS")),
+        (414, get("/" + 30000 * "x")),
+        (431, get("/status", *["X: " + 900 * "x"] * 30)),
+    )
+    for status, said in cases:
+        got = answer(port, said)
+        head, _, body = got.partition(b"\r\n\r\n")
+        length = [line for line in head.split(b"\r\n") if line.startswith(b"Content-Length: ")]
+        if not got.startswith(b"HTTP/1.1 %d " % status) or len(body) != int(length[0].split()[1]) or not body.endswith(b".\n"):
+            return f"{said[:60]!r} is answered {got[:200]!r}, and not {status}"
+        if (b"\r\nAllow: GET, HEAD\r\n" in head) != (status == 405) or b"Access-Control" in head:
+            return f"{said[:60]!r} is answered {head!r}"
+    return None
+
+
+def seventeen_visitors(port):
+    """Sixteen who say nothing, and one who waits for a place."""
+    held = [visitor(port) for _ in range(PLACES)]
+    try:
+        # Each is let in before the next comes: it is answered.
+        for it in held:
+            it.sendall(get("/status"))
+            if not it.recv(4096).startswith(b"HTTP/1.1 200 "):
+                return "one of sixteen visitors is not answered"
+        with visitor(port) as late:
+            late.sendall(get("/status"))
+            late.settimeout(1.5)
+            with contextlib.suppress(TimeoutError):
+                return f"the seventeenth visitor is answered {late.recv(100)!r}"
+            late.settimeout(5)
+            held.pop().close()
+            if not late.recv(4096).startswith(b"HTTP/1.1 200 "):
+                return "the seventeenth visitor is not answered once there is a place"
+        return None
+    finally:
+        for it in held:
+            it.close()
+
+
+def slow_visitors(port):
+    """Visitors who say nothing, or little, or read nothing: how long they stay."""
+    began = time.monotonic()
+    silent, slow, deaf = visitor(port), visitor(port), visitor(port)
+    deaf.setsockopt(socket.SOL_SOCKET, socket.SO_RCVBUF, 4096)
+    deaf.setblocking(False)
+    many = get("/status") * 200
+    went = {}
+    while time.monotonic() < began + 30 and len(went) < 3:
+        for name, it in (("silent", silent), ("slow", slow), ("deaf", deaf)):
+            if name in went:
+                continue
+            try:
+                it.setblocking(False)
+                if name == "slow":
+                    it.send(b"G" if time.monotonic() < began + 1.5 else b"E")
+                if name == "deaf":
+                    with contextlib.suppress(BlockingIOError):
+                        for _ in range(1000):
+                            it.send(many)
+                elif it.recv(1, socket.MSG_PEEK) == b"":
+                    went[name] = time.monotonic() - began
+            except BlockingIOError:
+                pass
+            except OSError:
+                went[name] = time.monotonic() - began
+        time.sleep(0.5)
+        if not is_status(answer(port, get("/status", "Connection: close"))):
+            return "another visitor is not answered beside slow ones"
+    for name in ("silent", "slow", "deaf"):
+        if not 9.5 < went.get(name, 99) < 13:
+            return f"a {name} visitor stays {went.get(name, 99):.1f} seconds"
+    return None
+
+
+def while_members_speak(program, until, look):
+    """Two members who announce 2,000 routes each; meanwhile somebody looks through the window."""
+    *ports, port = free_ports(3)
+    clients = [("alpha", 64496, ports[0], "127.0.0.1"), ("beta", 64497, ports[1], "127.0.0.1")]
+    with serving(program, clients, 2, "--window", f"127.0.0.1:{port}") as server:
+        if server.stdout.readline() != f"window 127.0.0.1:{port}\n".encode():
+            return "no line says that there is a window"
+        seen = []
+
+        def looks():
+            try:
+                seen.append(look(port))
+            except OSError as fault:
+                seen.append(f"a visitor meets {fault!r}")
+
+        looking = threading.Thread(target=looks)
+        looking.start()
+        members = [
+            Member(name, number, f"192.0.2.{11 + at}", ("127.0.0.1", listen), routes(10 + at, 2_000))
+            for at, (name, number, listen, _) in enumerate(clients)
+        ]
+        wrong = differs(server, members, members, until) or speak(members, until, lambda: not looking.is_alive())
+        looking.join()
+        return seen[0] or wrong or ends(server, members, until)
+
+
+def a_descriptor(program, until):
+    """A server that may open two connections more: a member comes before a visitor who is there already."""
+    *ports, port = free_ports(3)
+    clients = [("alpha", 64496, ports[0], "127.0.0.1"), ("beta", 64497, ports[1], "127.0.0.1")]
+    with serving(program, clients, 2, "--window", f"127.0.0.1:{port}") as server:
+        server.stdout.readline()
+        most = len(os.listdir(f"/proc/{server.pid}/fd")) + 2
+        resource.prlimit(server.pid, resource.RLIMIT_NOFILE, (most, most))
+        with visitor(port) as guest:
+            guest.sendall(get("/status"))
+            guest.recv(4096)
+            members = [
+                Member(name, number, f"192.0.2.{11 + at}", ("127.0.0.1", listen), routes(10 + at, 10))
+                for at, (name, number, listen, _) in enumerate(clients)
+            ]
+            if wrong := differs(server, members, members, until):
+                return wrong
+            guest.settimeout(5)
+            with contextlib.suppress(ConnectionResetError):
+                while guest.recv(4096):
+                    pass
+            return ends(server, members, until)
+
+
+LOOKS = (
+    ("pages seen through the window", pages),
+    ("what the window refuses", refusals),
+    ("seventeen visitors at the window", seventeen_visitors),
+)
+
+LONG = (("slow visitors at the window", slow_visitors),)
+
+
+def play_window(program, looks=LOOKS):
+    """Plays all: what was tried, and what is wrong or None."""
+    words = [program] if isinstance(program, (str, pathlib.Path)) else list(program)
+    plays = [(name, lambda words, until, look=look: while_members_speak(words, until, look)) for name, look in looks]
+    for name, play in (*plays, ("a window on a server without a descriptor for a member", a_descriptor)):
+        try:
+            wrong = play(words, time.monotonic() + SECONDS)
+        except OSError as fault:
+            wrong = str(fault)
+        yield name, wrong
+
+
+if __name__ == "__main__":
+    words = [word for word in sys.argv[1:] if word != "--long"]
+    if not words:
+        sys.exit(__doc__)
+    end(*tell(play_window(words, LOOKS + LONG if "--long" in sys.argv else LOOKS)))
