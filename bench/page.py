@@ -27,11 +27,7 @@ connection, comes back and announces again); and a late client without routes.
 - **one**, **gone**: until the last client has a single announcement, or withdrawal: the middle (p50) and the 99th of a hundred.
 - **flap gone**, **back**: from the drop until nobody has its routes, from its first UPDATE after the return until all have. **late**: from Established until the late client has all.
 
-## How each server is set
-
-- `bird`: one table; a client whose own route is the best is told none (hidden paths). `bird-tables`: a table for each client, joined by pipes, its own routes with less preference.
-- `openbgpd`: `transparent-as yes`, `set nexthop no-modify`, `rde evaluate all`, and a rule against each client's own routes.
-- `frr`: `route-server-client`, one choice for all. `gobgp`: `route-server-client`, `external-compare-router-id`.
+`bird` has one table (a client whose own route is the best is told none: hidden paths), `bird-tables` one for each client; `bench/rsload/src/conf.rs` has how each is set.
 
 Times depend on what else runs on the machine: compare rows of one run alone.
 """

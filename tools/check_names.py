@@ -40,7 +40,7 @@ STRANGERS = {
         "bin/": "a folder of the toolchain", "out/": "where programs are built", "rs_served.toml": "the operator's configuration", "--help": "clap gives it to each program",
     },
     "docs/REPLAY.md": dict.fromkeys(
-        ("exchange.pcap", "exchange.toml", "exchange.trace", "exchange.sent", "exchange.due"), "a file that the reader makes"
+        ("exchange.pcap", "exchange.toml", "exchange.trace", "exchange.sent", "exchange.due", "day.toml", "day.1.toml"), "a file that the reader makes"
     ),
 }
 

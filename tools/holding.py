@@ -76,7 +76,7 @@ def play(program, text, lines, workers=1, environment=None, descriptors=()):
 
 def links(played):
     """The configuration that held last, what passed on each link that is connected, and on each that the server closed."""
-    config, found, closed = played.config, {}, {}
+    config, found, closed, text = played.config, {}, {}, b""
     for line, written in played.lines:
         word, *words = line.split(" ")
         if word == "open" and f"busy {words[0]}" not in written:
@@ -85,8 +85,12 @@ def links(played):
             found[words[0]].heard += bytes.fromhex(words[1])
         elif word == "lost":
             found.pop(words[0], None)
-        elif word == "rules" and "rules accepted" in written:
-            config = tomllib.loads(bytes.fromhex(words[0]).decode())
+        elif word == "more":
+            text += bytes.fromhex(words[0])
+        elif word == "rules":
+            if "rules accepted" in written:
+                config = tomllib.loads((text + bytes.fromhex(words[0])).decode())
+            text = b""
         for it in written:
             what, name, *octets = it.split(" ")
             if what == "sent" and name in found:

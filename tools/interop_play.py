@@ -24,23 +24,23 @@ LIGHT, HEAVY = Load(1000, 90, False), Load(20_000, 9, True)
 # What is looked at with a heavy load, each member alone beside the plain one.
 HEAVY_CHECKS = (
     ("comes up", "the daemon says that its first session is Established"),
-    ("long messages", "the server says that the session's messages may have 65,535 octets (RFC 8654)"),
-    ("hears all", "it shows just the 20,000 routes of the plain member, with their AS_PATH, NEXT_HOP, MED and communities"),
+    ("long messages", "messages may have 65,535 octets (RFC 8654)"),
+    ("hears all", "it shows just the plain member's routes, with their attributes"),
     ("is heard", "the plain member was told all of its routes, so"),
-    ("asks again", "by its command for ROUTE-REFRESH all routes come again, as it counts them, and its table is as before"),
-    ("Hold Time 9", "the session's Hold Time is 9, and it lasts 30 seconds in which no route changes"),
-    ("is ended and comes back", "by SIGKILL: the plain member is told that its routes are gone; then both have all routes again"),
-    ("the server is ended and comes back", "by SIGKILL: the session comes up again, and both have all routes again"),
+    ("asks again", "by ROUTE-REFRESH all routes come again, as it counts them, and its table is as before"),
+    ("Hold Time 9", "the session has it, and lasts 30 seconds in which no route changes"),
+    ("is ended and comes back", "by SIGKILL: its routes go from the plain member; then both have all again"),
+    ("the server is ended and comes back", "by SIGKILL: both have all routes again"),
 )
 CHECKS = (
     ("comes up", "the daemon says that its first session is Established"),
     ("hears all others", "it shows just the 1,000 routes of each other member"),
-    ("as they were sent", "with the AS_PATH, NEXT_HOP, MED and communities as sent (OpenBGPD shows a MED of 0 where there is none)"),
+    ("as they were sent", "with AS_PATH, NEXT_HOP, MED and communities as sent (OpenBGPD shows a missing MED as 0)"),
     ("is heard", "the plain member was told all of its routes, so"),
     ("withdrawal arrives", "the plain member withdraws a route, and it is gone here"),
-    ("withdraws", "it withdraws a route by its own command, and the plain member is told"),
-    ("faulty route stays out", "the plain member announces routes with a faulty ORIGIN, a new one and one in place of another: neither is here, and its session lasts"),
-    ("asks again", "by its command for ROUTE-REFRESH all routes come again, as it counts them, its table is as before, and the plain member hears nothing"),
+    ("withdraws", "it withdraws a route, and the plain member is told"),
+    ("faulty route stays out", "the plain member announces routes with a faulty ORIGIN, one new, one in place of another: neither is here, and its session lasts"),
+    ("asks again", "by ROUTE-REFRESH all routes come again, as it counts them, and its table is as before"),
     ("the server's stop", "by SIGTERM: the session is down, and no route of it is left here"),
 )
 
