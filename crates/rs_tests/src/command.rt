@@ -22,9 +22,10 @@ Usage: rs_replay [OPTIONS] --config <FILE>
 Options:
   -c, --config <FILE>   the configuration, a TOML file; the texts of several are joined in their order
       --workers <N>     how many workers share the work of a turn, 1 to 16 [default: 1]
-      --progress        print on standard error, where it is a terminal, how many lines were read and UPDATEs heard
+      --progress        print on standard error, where it is a terminal, how many lines were read and UPDATEs heard, and how much is left of a file
       --compare <FILE>  hold what another server sent, as this file says, against what is due at the end
       --until <N>       play only the first N lines
+      --table <NAME>    list the routes of this client at the end; may be given more than once
   -h, --help            Print help
   -V, --version         Print version
 ";
