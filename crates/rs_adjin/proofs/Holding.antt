@@ -32,7 +32,7 @@ use Rattle.rs_adjin.proofs.PrefixCounts.{counts_from, counts_marked, counts_same
 
 -- ---- routes by number
 
-number_cases : (table : Numbered) (n : ℕ) → (routes_of table n ≡ []) ⊎ ((p : Prefix) × (number_in table p ≡ Some n))
+pub number_cases : (table : Numbered) (n : ℕ) → (routes_of table n ≡ []) ⊎ ((p : Prefix) × (number_in table p ≡ Some n))
 number_cases table n = go (prefix_of_in table n) refl
   where
     go : (o : Option Prefix) → prefix_of_in table n ≡ o → (routes_of table n ≡ []) ⊎ ((p : Prefix) × (number_in table p ≡ Some n))

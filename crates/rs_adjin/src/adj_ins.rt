@@ -1,12 +1,14 @@
 //! The Adj-RIBs-In of all clients.
 #![tactic(auto, unfolding(crate::specs::AdjIns::client_count, crate::specs::AdjIns::identifier_of, crate::specs::AdjIns::held_of, crate::specs::AdjIns::number_of, crate::specs::AdjIns::prefix_of))]
 
-ghost use Rattle.std.specs.Prelude.{◌≡◌, true, false, IsTrue, ◌<◌, ℕ, Some, None, ◌↔◌, length, slice_get, is_some, IsSome, option_map, IfOk, OnOk, OnErr, All, Contains};
+ghost use Rattle.std.specs.Prelude.{T, if◌then◌else◌, ◌≡◌, true, false, IsTrue, ◌<◌, ℕ, Some, None, ◌↔◌, length, slice_get, is_some, IsSome, option_map, map, List, ◌≤◌, IfOk, IfSome, OnOk, OnErr, All, Contains};
 ghost use Rattle.std.specs.List.{AllPairs, IsDistinct};
 ghost use Rattle.std.specs.List.Sorted.{IsStrictlySortedBy};
 ghost use Rattle.std.specs.Map.{keys_of};
 ghost use Rattle.std.specs.Arc.{arc_value};
+ghost use Rattle.std.specs.FinMap.{find, is_sorted};
 ghost use Rattle.rs_octets.specs.Prefixes.{Prefix, prefix_order};
+ghost use Rattle.rs_attrs.specs.Meaning.{Attribute};
 ghost use Rattle.rs_attrs.specs.Effects.{has_prefix, same_prefix};
 ghost use Rattle.rs_adjin.specs.declared.routes.Route.{Route};
 ghost use Rattle.rs_adjin.specs.declared.held.Held.{Held};
@@ -14,10 +16,14 @@ ghost use Rattle.rs_adjin.specs.Table.{IsTable, IsOfClients, IsHeldBy, TellsChan
 ghost use Rattle.rs_adjin.specs.Mandatory.{HasMandatory, AllHaveMandatory};
 ghost use Rattle.rs_adjin.specs.Numbers.{routes_at};
 ghost use Rattle.rs_adjin.specs.Listing.{Counts};
+ghost use Rattle.rs_adjin.specs.Onward.{is_from};
 
 use crate::candidates::Candidates;
 use crate::held::Held;
-use crate::holders::Holders;
+use crate::held_routes::HeldRoutes;
+use crate::holders::{Holder, Holders, holder_in};
+use crate::notes::Notes;
+use crate::noting::note_all_in;
 use crate::numbers::Numbered;
 use crate::prefixes::{HeldByNumber, HeldPrefixes, NumberedPrefixes};
 use crate::routes::{Route, route_in};
@@ -42,13 +48,14 @@ pub struct AdjIns {
 }
 
 impl AdjIns {
-    ghost use Rattle.rs_adjin.specs.AdjIns.{client_count, identifier_of, held_of, is_held, Sets, Clears, Begins, Same, ListsHolders, SetsAt, TellsChangeAt, would_hold, candidates_of, number_of, prefix_of, KeepsNumbers, SameNumbers, SameNumbersBut, GivesUp};
+    ghost use Rattle.rs_adjin.specs.AdjIns.{client_count, identifier_of, held_of, is_held, note_of, AreNoted, KeepsNotes, PutsNote, PutsNoteAt, Sets, Clears, Begins, Same, ListsHolders, SetsAt, TellsChangeAt, would_hold, candidates_of, number_of, prefix_of, KeepsNumbers, SameNumbers, SameNumbersBut, GivesUp};
 
     /// Empty tables for so many clients.
     pub fn new(alloc: Global, clients: usize) -> Result<AdjIns, AllocError>
         ensures count { IfOk result (λ ins. client_count ins ≡ clients) }
         ensures identifiers { IfOk result (λ ins. (c : ℕ) → identifier_of ins c ≡ 0) }
         ensures empty { IfOk result (λ ins. (c : ℕ) (p : Prefix) → held_of ins c p ≡ None) }
+        ensures noted { (f : ℕ → Prefix → List Attribute → ℕ) → IfOk result (λ ins. AreNoted f ins) }
     {
         let identifiers = vec![in alloc; 0; clients]?;
         let mut held = Vec::with_capacity(alloc, clients)?;
@@ -83,22 +90,25 @@ impl AdjIns {
         requires { client < client_count self.old }
         ensures begins { Begins self.old self.new client identifier }
         ensures numbers { SameNumbers self.old self.new }
+        ensures noted { KeepsNotes self.old self.new }
     {
         self.clear(client);
         self.identifiers[client] = identifier;
     }
 
-    /// The client announces a route, and the answer says whether that changes what it has.
+    /// The client announces a route, beside which its note is kept, and the answer says whether that
+    /// changes what it has.
     ///
     /// # Errors
     ///
-    /// `AllocError` where memory was refused, or where no number of 32 bits is left: then no route
-    /// has changed, and no prefix has a number that it had not.
+    /// `AllocError` where memory was refused, or where no number of 32 bits is left, or the client's place
+    /// has more: then no route has changed, and no prefix has a number that it had not.
     pub fn put(
         &mut self,
         client: usize,
         prefix: Prefix,
         attrs: &Arc<Attrs>,
+        note: u32,
     ) -> Result<bool, AllocError>
         requires client { client < client_count self.old }
         requires mandatory { HasMandatory (arc_value attrs.now) }
@@ -109,9 +119,11 @@ impl AdjIns {
         ensures others { SameNumbersBut prefix self.old self.new }
         ensures numbered { OnOk result (IsSome (number_of self.new prefix)) }
         ensures unnumbered { OnErr result (SameNumbers self.old self.new) }
+        ensures noted { PutsNote self.old self.new client prefix (arc_value attrs.now) note }
     {
         let held = &mut self.held[client];
-        put_in(self.alloc, &mut self.table, held, client, prefix, attrs)
+        let table = &mut self.table;
+        put_in(self.alloc, table, held, client, prefix, attrs, note)
     }
 
     /// The number of a prefix, which gets one if it has none.
@@ -127,6 +139,7 @@ impl AdjIns {
         ensures others { SameNumbersBut prefix self.old self.new }
         ensures unnumbered { OnErr result (SameNumbers self.old self.new) }
         ensures same { Same self.old self.new }
+        ensures noted { KeepsNotes self.old self.new }
     {
         self.table.add(self.alloc, prefix)
     }
@@ -137,6 +150,7 @@ impl AdjIns {
         client: usize,
         number: u32,
         attrs: &Arc<Attrs>,
+        note: u32,
     ) -> Result<bool, AllocError>
         requires client { client < client_count self.old }
         requires number { IsSome (prefix_of self.old number) }
@@ -145,12 +159,13 @@ impl AdjIns {
         ensures changed { IfOk result (λ changed. TellsChangeAt changed self.old client number (Some (arc_value attrs.now))) }
         ensures err { OnErr result (Same self.old self.new) }
         ensures numbers { SameNumbers self.old self.new }
+        ensures noted { PutsNoteAt self.old self.new client number (arc_value attrs.now) note }
     {
         let Some(prefix) = self.table.prefix(number) else {
             return Err(AllocError);
         };
         let held = &mut self.held[client];
-        put_row(&mut self.table, number, held, client, prefix, attrs)
+        put_row(&mut self.table, number, held, client, prefix, attrs, note)
     }
 
     /// The client withdraws its route, and the answer says whether there was one.
@@ -159,6 +174,7 @@ impl AdjIns {
         ensures taken { result ≡ is_some (held_of self.old client prefix) }
         ensures withdrawn { Sets self.old self.new client prefix None }
         ensures numbers { SameNumbers self.old self.new }
+        ensures noted { KeepsNotes self.old self.new }
     {
         let held = &mut self.held[client];
         withdraw_in(&mut self.table, held, client, prefix)
@@ -172,6 +188,7 @@ impl AdjIns {
         ensures taken { (p : Prefix) → number_of self.old p ≡ Some number → result ≡ is_some (held_of self.old client p) }
         ensures withdrawn { SetsAt self.old self.new client number None }
         ensures numbers { SameNumbers self.old self.new }
+        ensures noted { KeepsNotes self.old self.new }
     {
         let Some(prefix) = self.table.prefix(number) else {
             return false;
@@ -180,11 +197,22 @@ impl AdjIns {
         withdraw_row(&mut self.table, number, held, client, prefix)
     }
 
+    /// Each route gets its note anew. It takes no memory.
+    pub fn note_all<N: Notes>(&mut self, notes: &N)
+        requires { client_count self.old ≤ N.known notes.now }
+        ensures noted { AreNoted (N.note_by notes.now) self.new }
+        ensures same { Same self.old self.new }
+        ensures numbers { SameNumbers self.old self.new }
+    {
+        note_all_in(&mut self.table, notes);
+    }
+
     /// The client's routes go, and its identifier stays.
     pub fn clear(&mut self, client: usize)
         requires { client < client_count self.old }
         ensures cleared { Clears self.old self.new client }
         ensures numbers { SameNumbers self.old self.new }
+        ensures noted { KeepsNotes self.old self.new }
     {
         clear_in(&mut self.table, &mut self.held[client], client);
     }
@@ -235,9 +263,11 @@ impl AdjIns {
         }
     }
 
-    /// The clients that hold a prefix, rising, each with the attributes that it announced.
+    /// The clients that hold a prefix, rising, each with the attributes that it announced and the note
+    /// beside them.
     pub fn at(&self, prefix: Prefix) -> Holders<'_>
-        ensures { ListsHolders self.now prefix result }
+        ensures holders { ListsHolders self.now prefix (map (λ h. h.0) result) }
+        ensures noted { (f : ℕ → Prefix → List Attribute → ℕ) → AreNoted f self.now → All (λ h. h.1 ≡ f h.0.0 prefix h.0.1) result }
     {
         Holders::new(self.routes(prefix))
     }
@@ -292,7 +322,8 @@ impl AdjIns {
 
     /// The clients that hold the prefix of a number, as `at` lists them.
     pub fn at_number(&self, number: u32) -> Holders<'_>
-        ensures { (p : Prefix) → number_of self.now p ≡ Some number → ListsHolders self.now p result }
+        ensures holders { (p : Prefix) → number_of self.now p ≡ Some number → ListsHolders self.now p (map (λ h. h.0) result) }
+        ensures noted { (f : ℕ → Prefix → List Attribute → ℕ) → AreNoted f self.now → (p : Prefix) → number_of self.now p ≡ Some number → All (λ h. h.1 ≡ f h.0.0 p h.0.1) result }
     {
         Holders::new(self.table.routes(number))
     }
@@ -302,6 +333,15 @@ impl AdjIns {
         ensures { (p : Prefix) → number_of self.now p ≡ Some number → option_map (λ attrs. arc_value attrs.now) result ≡ held_of self.now client p }
     {
         route_in(self.table.routes(number), client)
+    }
+
+    /// The client that holds the prefix of a number, as `at_number` has it; None where it holds none.
+    pub fn noted_at(&self, client: usize, number: u32) -> Option<Holder<'_>>
+        ensures client { IfSome result (λ holder. holder.client ≡ client) }
+        ensures route { (p : Prefix) → number_of self.now p ≡ Some number → option_map (λ holder. arc_value holder.attrs.now) result ≡ held_of self.now client p }
+        ensures noted { (f : ℕ → Prefix → List Attribute → ℕ) → AreNoted f self.now → (p : Prefix) → number_of self.now p ≡ Some number → IfSome result (λ holder. holder.note ≡ f client p (arc_value holder.attrs.now)) }
+    {
+        holder_in(self.table.routes(number), client)
     }
 
     /// Each prefix that has a number, rising, with it: each that any client holds is among them.
@@ -321,7 +361,46 @@ impl AdjIns {
         ensures kept { result ≡ false → SameNumbers self.old self.new }
         ensures numbers { GivesUp self.old self.new number }
         ensures same { Same self.old self.new }
+        ensures noted { KeepsNotes self.old self.new }
     {
         self.table.release(number)
+    }
+
+    /// Of what `held` lists the prefixes that are not before one. The walk doesn't go over those before.
+    pub fn held_from(&self, client: usize, from: Prefix) -> HeldPrefixes<'_>
+        requires { client < client_count self.now }
+        ensures rising { IsStrictlySortedBy prefix_order (keys_of result) }
+        ensures all { (p : Prefix) → Contains (keys_of result) p ↔ (IsTrue (is_from from p) × IsSome (held_of self.now client p)) }
+        ensures numbers { All (λ e. number_of self.now e.0 ≡ Some e.1) result }
+    {
+        HeldPrefixes::new(self.table.iter_from(from), &self.held[client])
+    }
+
+    /// Of what `iter` lists the prefixes that are not before one. The walk doesn't go over those before.
+    pub fn iter_from(&self, from: Prefix) -> NumberedPrefixes<'_>
+        ensures rising { IsStrictlySortedBy prefix_order (keys_of result) }
+        ensures numbers { All (λ e. number_of self.now e.0 ≡ Some e.1) result }
+        ensures each { (p : Prefix) → Contains (keys_of result) p ↔ (IsTrue (is_from from p) × IsSome (number_of self.now p)) }
+        ensures all { (c : ℕ) (p : Prefix) → IsTrue (is_from from p) → IsSome (held_of self.now c p) → Contains (keys_of result) p }
+    {
+        NumberedPrefixes::new(self.table.iter_from(from))
+    }
+
+    /// The client's Adj-RIB-In from a prefix on, by rising prefix. The walk doesn't go over the prefixes
+    /// before.
+    pub fn routes_from(&self, client: usize, from: Prefix) -> HeldRoutes<'_>
+        requires { client < client_count self.now }
+        ensures rising { T (is_sorted prefix_order result) }
+        ensures routes { (p : Prefix) → find prefix_order p result ≡ (if is_from from p then held_of self.now client p else None) }
+    {
+        HeldRoutes::new(self, client, self.held_from(client, from))
+    }
+
+    /// How many prefixes the client holds.
+    pub fn count(&self, client: usize) -> usize
+        requires { client < client_count self.now }
+        ensures { Counts (λ p. is_some (held_of self.now client p)) result }
+    {
+        self.held[client].count()
     }
 }

@@ -1,21 +1,44 @@
 //! The clients that hold a prefix, one after the other.
 
-ghost use Rattle.std.specs.Prelude.{◌≡◌, ◌==◌, length, map};
+ghost use Rattle.std.specs.Prelude.{◌≡◌, ◌==◌, length, map, IfSome, option_map};
 ghost use Rattle.std.specs.Iterator.{YieldsFirstBy, item_count};
 ghost use Rattle.std.specs.Arc.{arc_value};
-ghost use Rattle.rs_adjin.specs.Listing.{sent_by};
+ghost use Rattle.rs_adjin.specs.Listing.{noted_by};
+ghost use Rattle.rs_adjin.specs.Routes.{value_in, note_in, IsRising};
 
-use crate::routes::Route;
+use crate::routes::{Route, place_of};
 use rs_attrs::Attrs;
 use std::marker::Model;
 use std::sync::Arc;
 
-/// A client that holds a prefix, with the attributes that it announced.
+/// A client that holds a prefix, with the attributes that it announced, and the route's note.
 #[derive(Clone, Copy, Debug)]
 pub struct Holder<'a> {
     /// Its place, from 0.
     pub client: usize,
+    /// The number that was given with the route.
+    pub note: u32,
     pub attrs: &'a Arc<Attrs>,
+}
+
+/// A client among those for a prefix; None where it has no route.
+pub(crate) fn holder_in(routes: &[Route], client: usize) -> Option<Holder<'_>>
+    requires { IsRising routes.now }
+    ensures client { IfSome result (λ holder. holder.client ≡ client) }
+    ensures attrs { option_map (λ holder. arc_value holder.attrs.now) result ≡ value_in client routes.now }
+    ensures note { IfSome result (λ holder. holder.note ≡ note_in client routes.now) }
+{
+    match place_of(routes, client) {
+        Ok(place) => {
+            let route = routes.get(place)?;
+            Some(Holder {
+                client,
+                note: route.note,
+                attrs: &route.attrs,
+            })
+        }
+        Err(_) => None,
+    }
 }
 
 /// The holders that are left, by rising client.
@@ -27,16 +50,16 @@ pub struct Holders<'a> {
 impl<'a> Model for Holders<'a> {
     ghost use Rattle.std.specs.Prelude.{ℕ, List, map};
     ghost use Rattle.rs_attrs.specs.Meaning.{Attribute};
-    ghost use Rattle.rs_adjin.specs.Listing.{sent_by};
+    ghost use Rattle.rs_adjin.specs.Listing.{noted_by};
 
-    ghost Value = { List (ℕ × List Attribute) };
+    ghost Value = { List ((ℕ × List Attribute) × ℕ) };
 
-    ghost view = { λ it. map sent_by it.routes.now };
+    ghost view = { λ it. map noted_by it.routes.now };
 }
 
 impl<'a> Holders<'a> {
     pub(crate) fn new(routes: &'a [Route]) -> Holders<'a>
-        ensures { result ≡ map sent_by routes.now }
+        ensures { result ≡ map noted_by routes.now }
     {
         Holders { routes }
     }
@@ -59,7 +82,7 @@ impl<'a> Holders<'a> {
 impl<'a> Iterator for Holders<'a> {
     type Item = Holder<'a>;
 
-    ghost next_gives = { YieldsFirstBy (λ h. (h.client, arc_value h.attrs.now)) (λ left. left) };
+    ghost next_gives = { YieldsFirstBy (λ h. ((h.client, arc_value h.attrs.now), h.note)) (λ left. left) };
 
     ghost remaining = { item_count (λ left. left) };
 
@@ -67,7 +90,8 @@ impl<'a> Iterator for Holders<'a> {
         let (route, rest) = self.routes.split_first()?;
         self.routes = rest;
         Some(Holder {
-            client: route.client,
+            client: route.client as usize,
+            note: route.note,
             attrs: &route.attrs,
         })
     }

@@ -11,13 +11,13 @@ ghost use Rattle.rs_adjin.specs.Table.{held_prefix};
 use crate::held::Held;
 use crate::numbers::Numbered;
 use rs_octets::Prefix;
-use std::collections::btree_map::Iter;
+use std::collections::btree_map::Range;
 use std::marker::Model;
 
 /// The prefixes with a number that are left, by rising prefix.
 #[derive(Drop)]
 pub struct NumberedPrefixes<'a> {
-    numbers: Iter<'a, Prefix, u32>,
+    numbers: Range<'a, Prefix, u32>,
 }
 
 impl<'a> Model for NumberedPrefixes<'a> {
@@ -30,17 +30,10 @@ impl<'a> Model for NumberedPrefixes<'a> {
 }
 
 impl<'a> NumberedPrefixes<'a> {
-    pub(crate) fn new(numbers: Iter<'a, Prefix, u32>) -> NumberedPrefixes<'a>
+    pub(crate) fn new(numbers: Range<'a, Prefix, u32>) -> NumberedPrefixes<'a>
         ensures { result ≡ numbers.entry }
     {
         NumberedPrefixes { numbers }
-    }
-
-    /// How many are left.
-    pub fn len(&self) -> usize
-        ensures { result ≡ length self.now }
-    {
-        self.numbers.len()
     }
 }
 
@@ -60,7 +53,7 @@ impl<'a> Iterator for NumberedPrefixes<'a> {
 /// The prefixes that a client holds and that are left, by rising prefix.
 #[derive(Drop)]
 pub struct HeldPrefixes<'a> {
-    numbers: Iter<'a, Prefix, u32>,
+    numbers: Range<'a, Prefix, u32>,
     held: &'a Held,
 }
 
@@ -76,7 +69,7 @@ impl<'a> Model for HeldPrefixes<'a> {
 }
 
 impl<'a> HeldPrefixes<'a> {
-    pub(crate) fn new(numbers: Iter<'a, Prefix, u32>, held: &'a Held) -> HeldPrefixes<'a>
+    pub(crate) fn new(numbers: Range<'a, Prefix, u32>, held: &'a Held) -> HeldPrefixes<'a>
         ensures { result ≡ filter (λ e. has_number held.now e.1) numbers.entry }
     {
         HeldPrefixes { numbers, held }

@@ -3,15 +3,15 @@
 ghost use Rattle.std.specs.Prelude.{◌≡◌, ◌≢◌, ◌<◌, ◌≤◌, ℕ, true, false, Some, None, length, is_some, IsSome, IfOk, OnOk, OnErr};
 ghost use Rattle.std.specs.List.{count_by};
 ghost use Rattle.std.specs.Arc.{arc_value};
-ghost use Rattle.rs_adjin.specs.Routes.{value_in, IsRising, KeepsRoutes, SameRoutes, Changes, BelongsAt};
+ghost use Rattle.rs_adjin.specs.Routes.{value_in, IsRising, KeepsRoutes, KeepsNotesIn, PutsNoteIn, SameRoutes, Changes, BelongsAt};
 ghost use Rattle.rs_adjin.specs.Numbers.{number_in, routes_at, routes_of, KeepsNumbers, SameNumbers, SameNumbersBut};
-ghost use Rattle.rs_adjin.specs.Table.{IsTable, KeepsTable, Writes, IsSame, KeepsOthers, Clears, TellsChange, IsHeldBy, has_prefix_of};
+ghost use Rattle.rs_adjin.specs.Table.{IsTable, KeepsTable, KeepsNotes, PutsNote, Writes, IsSame, KeepsOthers, Clears, TellsChange, IsHeldBy, has_prefix_of};
 ghost use Rattle.rs_adjin.specs.Held.{has_number, Marks, SameSet};
 
 use crate::held::Held;
 use crate::numbers::Numbered;
 use crate::room::make_room;
-use crate::routes::{Route, place_of, replace};
+use crate::routes::{Route, new_route, place_of, replace};
 use rs_attrs::Attrs;
 use rs_octets::Prefix;
 use std::alloc::{AllocError, Global};
@@ -26,21 +26,23 @@ fn add_at(
     client: usize,
     number: u32,
     attrs: &Arc<Attrs>,
+    note: u32,
 ) -> Result<(), AllocError>
     requires rising { IsRising routes.old.items }
     requires place { BelongsAt client routes.old.items place }
     requires absent { has_number held.old number ≡ false }
     ensures kept { KeepsRoutes routes.old.items routes.new.items client }
+    ensures noted { PutsNoteIn routes.old.items routes.new.items client (arc_value attrs.now) note }
     ensures filled { 0 < length routes.old.items → 0 < length routes.new.items }
     ensures ok { OnOk result (Changes routes.old.items routes.new.items client (Some (arc_value attrs.now))) }
     ensures marked { OnOk result (Marks held.old held.new number true) }
     ensures err { OnErr result (SameRoutes routes.old.items routes.new.items) }
     ensures unmarked { OnErr result (SameSet held.old held.new) }
 {
-    let attrs = attrs.clone()?;
+    let route = new_route(client, attrs, note)?;
     make_room(routes, 1)?;
     held.add(number)?;
-    let Ok(()) = routes.insert(place, Route { client, attrs }) else {
+    let Ok(()) = routes.insert(place, route) else {
         held.remove(number);
         return Err(AllocError);
     };
@@ -54,10 +56,12 @@ fn put_among(
     client: usize,
     number: u32,
     attrs: &Arc<Attrs>,
+    note: u32,
 ) -> Result<bool, AllocError>
     requires rising { IsRising routes.old.items }
     requires tied { has_number held.old number ≡ is_some (value_in client routes.old.items) }
     ensures kept { KeepsRoutes routes.old.items routes.new.items client }
+    ensures noted { PutsNoteIn routes.old.items routes.new.items client (arc_value attrs.now) note }
     ensures filled { 0 < length routes.old.items → 0 < length routes.new.items }
     ensures ok { OnOk result (Changes routes.old.items routes.new.items client (Some (arc_value attrs.now))) }
     ensures changed { IfOk result (λ changed. TellsChange changed (value_in client routes.old.items) (Some (arc_value attrs.now))) }
@@ -66,9 +70,9 @@ fn put_among(
     ensures unmarked { OnErr result (SameSet held.old held.new) }
 {
     match place_of(routes, client) {
-        Ok(place) => replace(&mut routes[place], attrs),
+        Ok(place) => replace(&mut routes[place], attrs, note),
         Err(place) => {
-            add_at(routes, place, held, client, number, attrs)?;
+            add_at(routes, place, held, client, number, attrs, note)?;
             Ok(true)
         }
     }
@@ -83,11 +87,13 @@ pub(crate) fn put_row(
     client: usize,
     prefix: Prefix,
     attrs: &Arc<Attrs>,
+    note: u32,
 ) -> Result<bool, AllocError>
     requires table { IsTable table.old }
     requires tied { IsHeldBy client held.old table.old }
     requires number { number_in table.old prefix ≡ Some number }
     ensures kept { KeepsTable table.old table.new client }
+    ensures noted { PutsNote table.old table.new client prefix (arc_value attrs.now) note }
     ensures ok { OnOk result (Writes table.old table.new client prefix (Some (arc_value attrs.now))) }
     ensures changed { IfOk result (λ changed. TellsChange changed (value_in client (routes_at table.old prefix)) (Some (arc_value attrs.now))) }
     ensures tied { IsHeldBy client held.new table.new }
@@ -96,7 +102,7 @@ pub(crate) fn put_row(
 {
     let row = &mut table.rows[number as usize];
     let was_empty = row.routes.is_empty();
-    let put = put_among(&mut row.routes, held, client, number, attrs);
+    let put = put_among(&mut row.routes, held, client, number, attrs, note);
     let is_empty = row.routes.is_empty();
     table.used = table.used + usize::from(was_empty) - usize::from(is_empty);
     put
@@ -111,11 +117,13 @@ fn put_first(
     client: usize,
     prefix: Prefix,
     attrs: &Arc<Attrs>,
+    note: u32,
 ) -> Result<bool, AllocError>
     requires table { IsTable table.old }
     requires tied { IsHeldBy client held.old table.old }
     requires absent { number_in table.old prefix ≡ None }
     ensures kept { KeepsTable table.old table.new client }
+    ensures noted { PutsNote table.old table.new client prefix (arc_value attrs.now) note }
     ensures ok { OnOk result (Writes table.old table.new client prefix (Some (arc_value attrs.now))) }
     ensures changed { IfOk result (λ changed. TellsChange changed (value_in client (routes_at table.old prefix)) (Some (arc_value attrs.now))) }
     ensures tied { IsHeldBy client held.new table.new }
@@ -126,7 +134,7 @@ fn put_first(
     ensures unnumbered { OnErr result (SameNumbers table.old table.new) }
 {
     let number = table.add_new(alloc, prefix)?;
-    match put_row(table, number, held, client, prefix, attrs) {
+    match put_row(table, number, held, client, prefix, attrs, note) {
         Ok(changed) => Ok(changed),
         Err(refused) => {
             table.release(number);
@@ -143,10 +151,12 @@ pub(crate) fn put_in(
     client: usize,
     prefix: Prefix,
     attrs: &Arc<Attrs>,
+    note: u32,
 ) -> Result<bool, AllocError>
     requires table { IsTable table.old }
     requires tied { IsHeldBy client held.old table.old }
     ensures kept { KeepsTable table.old table.new client }
+    ensures noted { PutsNote table.old table.new client prefix (arc_value attrs.now) note }
     ensures ok { OnOk result (Writes table.old table.new client prefix (Some (arc_value attrs.now))) }
     ensures changed { IfOk result (λ changed. TellsChange changed (value_in client (routes_at table.old prefix)) (Some (arc_value attrs.now))) }
     ensures tied { IsHeldBy client held.new table.new }
@@ -157,8 +167,8 @@ pub(crate) fn put_in(
     ensures unnumbered { OnErr result (SameNumbers table.old table.new) }
 {
     match table.number(prefix) {
-        Some(number) => put_row(table, number, held, client, prefix, attrs),
-        None => put_first(alloc, table, held, client, prefix, attrs),
+        Some(number) => put_row(table, number, held, client, prefix, attrs, note),
+        None => put_first(alloc, table, held, client, prefix, attrs, note),
     }
 }
 
@@ -166,6 +176,7 @@ pub(crate) fn put_in(
 fn take_from(routes: &mut Vec<Route>, client: usize) -> bool
     requires { IsRising routes.old.items }
     ensures kept { KeepsRoutes routes.old.items routes.new.items client }
+    ensures noted { KeepsNotesIn routes.old.items routes.new.items }
     ensures taken { result ≡ is_some (value_in client routes.old.items) }
     ensures changes { Changes routes.old.items routes.new.items client None }
     ensures unchanged { result ≡ false → routes.new.items ≡ routes.old.items }
@@ -185,6 +196,7 @@ fn take_row(table: &mut Numbered, number: u32, client: usize, prefix: Prefix) ->
     requires table { IsTable table.old }
     requires number { number_in table.old prefix ≡ Some number }
     ensures kept { KeepsTable table.old table.new client }
+    ensures noted { KeepsNotes table.old table.new }
     ensures taken { result ≡ is_some (value_in client (routes_at table.old prefix)) }
     ensures writes { Writes table.old table.new client prefix None }
     ensures numbers { SameNumbers table.old table.new }
@@ -209,6 +221,7 @@ pub(crate) fn withdraw_row(
     requires tied { IsHeldBy client held.old table.old }
     requires number { number_in table.old prefix ≡ Some number }
     ensures kept { KeepsTable table.old table.new client }
+    ensures noted { KeepsNotes table.old table.new }
     ensures taken { result ≡ is_some (value_in client (routes_at table.old prefix)) }
     ensures writes { Writes table.old table.new client prefix None }
     ensures tied { IsHeldBy client held.new table.new }
@@ -231,6 +244,7 @@ pub(crate) fn withdraw_in(
     requires table { IsTable table.old }
     requires tied { IsHeldBy client held.old table.old }
     ensures kept { KeepsTable table.old table.new client }
+    ensures noted { KeepsNotes table.old table.new }
     ensures taken { result ≡ is_some (value_in client (routes_at table.old prefix)) }
     ensures writes { Writes table.old table.new client prefix None }
     ensures tied { IsHeldBy client held.new table.new }
@@ -246,6 +260,7 @@ pub(crate) fn withdraw_in(
 fn take_number(table: &mut Numbered, number: u32, client: usize)
     requires { IsTable table.old }
     ensures kept { KeepsTable table.old table.new client }
+    ensures noted { KeepsNotes table.old table.new }
     ensures numbers { SameNumbers table.old table.new }
     ensures others { KeepsOthers table.old table.new client }
     ensures gone { value_in client (routes_of table.new number) ≡ None }
@@ -262,6 +277,7 @@ pub(crate) fn clear_in(table: &mut Numbered, held: &mut Held, client: usize)
     requires table { IsTable table.old }
     requires tied { IsHeldBy client held.old table.old }
     ensures kept { KeepsTable table.old table.new client }
+    ensures noted { KeepsNotes table.old table.new }
     ensures tied { IsHeldBy client held.new table.new }
     ensures cleared { Clears table.old table.new client }
     ensures numbers { SameNumbers table.old table.new }

@@ -2,9 +2,9 @@
 
 use crate::files::{Files, Source};
 use crate::find::{Spot, Step};
-use crate::forms::{form, is_known, key_text, known_keys};
+use crate::forms::{form, is_known};
 use crate::place::{spot, steps_to, steps_to_table, value_at};
-use rs_policy::{ConfigFault, Key, Place, Table};
+use rs_policy::{ConfigFault, Key, Place, Table, known_keys};
 use std::alloc::{AllocError, Global};
 use toml::value::Value;
 
@@ -114,7 +114,7 @@ fn value_line(
     let form = form(place);
     match place.table {
         Table::Entry(_, _) => format!(in alloc; "{at}{value}; expected: {form}"),
-        _ => format!(in alloc; "{at}{} = {value}; expected: {form}", key_text(place.key)),
+        _ => format!(in alloc; "{at}{} = {value}; expected: {form}", place.key.text()),
     }
 }
 
@@ -147,7 +147,7 @@ fn unknown_line(
     line.push_str("; known:")?;
     for key in known_keys(table, uses) {
         line.push(' ')?;
-        line.push_str(key_text(*key))?;
+        line.push_str(key.text())?;
     }
     Ok(line)
 }
@@ -156,7 +156,7 @@ fn unknown_line(
 fn missing_line(alloc: Global, source: &Source<'_>, place: &Place) -> Result<String, AllocError> {
     let steps = steps_to_table(alloc, place.table)?;
     let at = position_of(alloc, source, &steps)?;
-    format!(in alloc; "{at}expected: {} = {}", key_text(place.key), form(place))
+    format!(in alloc; "{at}expected: {} = {}", place.key.text(), form(place))
 }
 
 /// How many values an array has, and how many it may have.
@@ -174,7 +174,7 @@ fn many_line(
     };
     format!(in alloc;
         "{at}{} has {count}; expected: {}",
-        key_text(place.key),
+        place.key.text(),
         form(place)
     )
 }

@@ -1,128 +1,15 @@
-//! The keys of a configuration as they are spelt, which each table has, and the form of each key's value.
+//! Whether a table of a configuration may have a key, and the form of each key's value.
 
 ghost use Rattle.std.specs.Prelude.{◌≡◌};
-ghost use Rattle.rs_policy.specs.Keys.{is_among, key_text};
-ghost use Rattle.rs_check.specs.Forms.{keys_of};
+ghost use Rattle.rs_policy.specs.Keys.{is_among, keys_of};
 
-use rs_policy::{Key, List, Place, Table};
-
-/// A key as a configuration spells it.
-pub(crate) fn key_text(key: Key) -> &'static str
-    ensures { result.now ≡ key_text key }
-{
-    match key {
-        Key::As => "as",
-        Key::Identifier => "identifier",
-        Key::Hold => "hold",
-        Key::Default => "default",
-        Key::Extended => "extended",
-        Key::Refresh => "refresh",
-        Key::Multiprotocol => "multiprotocol",
-        Key::Client => "client",
-        Key::List => "list",
-        Key::Rules => "rules",
-        Key::Name => "name",
-        Key::Listen => "listen",
-        Key::Peer => "peer",
-        Key::Limit => "limit",
-        Key::Import => "import",
-        Key::Export => "export",
-        Key::Prefixes => "prefixes",
-        Key::Ases => "ases",
-        Key::Prefix => "prefix",
-        Key::Min => "min",
-        Key::Max => "max",
-        Key::PrefixIn => "prefix_in",
-        Key::From => "from",
-        Key::PathHas => "path_has",
-        Key::PathLonger => "path_longer",
-        Key::PathIn => "path_in",
-        Key::OriginAs => "origin_as",
-        Key::OriginIn => "origin_in",
-        Key::FirstAsIsPeer => "first_as_is_peer",
-        Key::Community => "community",
-        Key::LargeCommunity => "large_community",
-        Key::NextHopIsPeer => "next_hop_is_peer",
-        Key::Action => "action",
-        Key::Preference => "preference",
-        Key::Strip => "strip",
-        Key::StripLarge => "strip_large",
-        Key::Use => "use",
-        Key::Other => "?",
-    }
-}
-
-const TOP_KEYS: [Key; 10] = [
-    Key::As,
-    Key::Identifier,
-    Key::Hold,
-    Key::Default,
-    Key::Extended,
-    Key::Refresh,
-    Key::Multiprotocol,
-    Key::Client,
-    Key::List,
-    Key::Rules,
-];
-
-const CLIENT_KEYS: [Key; 7] = [
-    Key::Name,
-    Key::As,
-    Key::Listen,
-    Key::Peer,
-    Key::Limit,
-    Key::Import,
-    Key::Export,
-];
-
-const LIST_KEYS: [Key; 3] = [Key::Name, Key::Prefixes, Key::Ases];
-
-const SHARED_KEYS: [Key; 2] = [Key::Name, Key::Rules];
-
-const USE_KEYS: [Key; 1] = [Key::Use];
-
-const RULE_KEYS: [Key; 18] = [
-    Key::Prefix,
-    Key::Min,
-    Key::Max,
-    Key::PrefixIn,
-    Key::From,
-    Key::PathHas,
-    Key::PathLonger,
-    Key::PathIn,
-    Key::OriginAs,
-    Key::OriginIn,
-    Key::FirstAsIsPeer,
-    Key::Community,
-    Key::LargeCommunity,
-    Key::NextHopIsPeer,
-    Key::Action,
-    Key::Preference,
-    Key::Strip,
-    Key::StripLarge,
-];
-
-/// The keys that a table may have, which has `use` or not.
-pub(crate) fn known_keys(table: Table, uses: bool) -> &'static [Key]
-    ensures { result.now ≡ keys_of table uses }
-{
-    match table {
-        Table::Top => &TOP_KEYS,
-        Table::Client(_) => &CLIENT_KEYS,
-        Table::List(_) | Table::Entry(_, _) => &LIST_KEYS,
-        Table::Rules(_) => &SHARED_KEYS,
-        Table::Rule(_, List::Import | List::Export, _) if uses => &USE_KEYS,
-        Table::Rule(_, _, _) => &RULE_KEYS,
-    }
-}
+use rs_policy::{Key, List, Place, Table, known_keys};
 
 /// Whether a table may have this key.
 pub(crate) fn is_known(table: Table, uses: bool, text: &str) -> bool
     ensures { result ≡ is_among (keys_of table uses) text.now }
 {
-    known_keys(table, uses)
-        .iter()
-        .any(|key| key_text(*key) == text)
+    known_keys(table, uses).iter().any(|key| key.text() == text)
 }
 
 const AS_NUMBER: &str = "an integer of 1 to 4294967295";

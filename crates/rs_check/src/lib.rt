@@ -71,14 +71,14 @@ fn hangs_on(told: &[ConfigFault], fault: &ConfigFault) -> bool {
     }) && told.iter().any(|earlier| changes_names(earlier))
 }
 
-/// Whether a fault is of a table of which a faulty `use` was told: without it another rule stands there.
-fn is_without_use(told: &[ConfigFault], fault: &ConfigFault) -> bool {
+/// Whether a fault is of a table whose faulty `use` was left out: without it another rule stands there.
+fn is_without_use(earlier: &[ConfigFault], fault: &ConfigFault) -> bool {
     place_of(fault).is_some_and(|place| {
         let used = ConfigFault::BadValue(Place {
             key: Key::Use,
             ..place
         });
-        told.iter().any(|earlier| *earlier == used)
+        earlier.contains(&used)
     })
 }
 
@@ -113,10 +113,11 @@ fn tell_faults<R: Eprint>(
         }
     };
     let mut told = Vec::new(alloc);
+    let mut found = Vec::new(alloc);
     let mut without = String::from_str(alloc, source.text)?;
     let mut fault = first;
     for _ in 0..MENDINGS {
-        let comes_of_one = hangs_on(&told, &fault) || is_without_use(&told, &fault);
+        let comes_of_one = hangs_on(&told, &fault) || is_without_use(&found, &fault);
         if !comes_of_one && !is_told(&told, &fault) {
             if told.len() == MOST {
                 tell(rt, "there are more");
@@ -125,6 +126,7 @@ fn tell_faults<R: Eprint>(
             tell_fault(rt, alloc, source, &document, &fault, told.is_empty())?;
             told.push(fault)?;
         }
+        found.push(fault)?;
         match next(alloc, &mut without, &fault)? {
             None => break,
             Some(next) => fault = next,

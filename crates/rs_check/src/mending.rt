@@ -1,7 +1,7 @@
 //! The text of a configuration with a fault mended, by which the next one is found.
 
 use crate::find::{Spot, Step};
-use crate::forms::{is_known, key_text};
+use crate::forms::is_known;
 use crate::place::{found, steps_to, steps_to_table, value_at, with};
 use rs_policy::{ConfigFault, Key, Place, Table};
 use std::alloc::{AllocError, Global};
@@ -62,7 +62,7 @@ fn inserted(
     key: Key,
     value: &str,
 ) -> Result<Option<String>, AllocError> {
-    let key = key_text(key);
+    let key = key.text();
     if table == Table::Top {
         let pair = format!(in alloc; "{key} = {value}\n")?;
         return with(alloc, text, 0, 0, pair.as_str());

@@ -7,7 +7,6 @@ ghost use Rattle.toml.specs.View.{view};
 ghost use Rattle.rs_check.specs.Positions.{data_at, data_in, goes_on, has_mark, is_mark, mark, mark_pair, place_behind, stands_at, stepped, with};
 
 use crate::find::{Lost, Spot, Step, find};
-use crate::forms::key_text;
 use rs_policy::{Key, List, Place, Table};
 use std::alloc::{AllocError, Global};
 use toml::value::Value;
@@ -19,7 +18,7 @@ const MARK_PAIR: &str = "\n\"?\" = \"?\"\n";
 
 /// Goes on to a table of an array, which is counted from 1.
 fn go_on<'a>(steps: &mut Vec<Step<'a>>, key: Key, number: usize) -> Result<(), AllocError> {
-    steps.push(Step::Key(key_text(key)))?;
+    steps.push(Step::Key(key.text()))?;
     steps.push(Step::Item(number.saturating_sub(1)))?;
     Ok(())
 }
@@ -50,7 +49,7 @@ pub(crate) fn steps_to<'a>(alloc: Global, place: &Place) -> Result<Vec<Step<'a>>
     let mut steps = steps_to_table(alloc, place.table)?;
     match place.table {
         Table::Entry(_, entry) => go_on(&mut steps, place.key, entry)?,
-        _ => steps.push(Step::Key(key_text(place.key)))?,
+        _ => steps.push(Step::Key(place.key.text()))?,
     }
     Ok(steps)
 }

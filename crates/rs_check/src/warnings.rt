@@ -9,7 +9,6 @@ ghost use Rattle.rs_check.specs.Warnings.{MatchesAll, has_key, test_keys};
 use crate::details::position_of;
 use crate::files::Source;
 use crate::find::Step;
-use crate::forms::key_text;
 use crate::place::{steps_to, steps_to_table};
 use rs_policy::{Config, Key, List, Place, Table};
 use std::alloc::{AllocError, Global};
@@ -96,7 +95,7 @@ impl Warning {
 
 /// The values of an array at a key of a table; none where there is no array.
 fn values_at(table: &Value, key: Key) -> &[Value] {
-    match table.get(key_text(key)).and_then(|value| value.as_array()) {
+    match table.get(key.text()).and_then(|value| value.as_array()) {
         None => &[],
         Some(values) => values,
     }
@@ -121,7 +120,7 @@ const TESTS: [Key; 11] = [
 fn has(table: &Value, key: Key) -> bool
     ensures { result ≡ has_key (view table.now) key }
 {
-    table.get(key_text(key)).is_some()
+    table.get(key.text()).is_some()
 }
 
 /// Whether a rule has one of the tests.
@@ -175,7 +174,7 @@ const USES: [Key; 1] = [Key::Use];
 /// Whether a rule has this name at one of these keys.
 fn rule_names(rule: &Value, keys: &[Key], name: &str) -> bool {
     keys.iter().any(|key| {
-        rule.get(key_text(*key))
+        rule.get(key.text())
             .and_then(|value| value.as_str())
             .is_some_and(|text| text == name)
     })

@@ -11,9 +11,11 @@ pub mod Loops
 pub mod Numbers
 pub mod Freshness
 pub mod KeptFresh
+pub mod Noting
 pub mod Changing
 pub mod Around
 pub mod Outgoing
 pub mod Mandated
 pub mod Spared
 pub mod Idling
+pub mod Asking

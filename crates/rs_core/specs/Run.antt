@@ -4,3 +4,4 @@ pub mod Moves
 pub mod Meaning
 pub mod Agreeing
 pub mod Parts
+pub mod Candidates

@@ -15,6 +15,7 @@ use rs_attrs::{Attrs, Mode};
 use rs_octets::Prefix;
 use rs_open::Limit;
 use rs_outlet::Outlet;
+use rs_policy::import_note;
 use std::alloc::AllocError;
 use std::sync::Arc;
 
@@ -37,9 +38,11 @@ impl Ribs {
 
     // ---- what a client announces
 
-    /// A client announces a route. Where that changes what it has, the others are touched. Where memory
+    /// A client announces a route, which its import rules judge at once. Where that changes what it has, the
+    /// others are touched. Where memory
     /// is refused, the number that the prefix may have got is given up at once, but not while an outlet
     /// has a row of it or prefixes that are touched by themselves: then the sweep gives it up.
+    #[tactic(auto, using(crate::proofs::Run::Noting::noted_put))]
     pub(crate) fn announce(
         &mut self,
         c: usize,
@@ -55,7 +58,8 @@ impl Ribs {
         ensures kept { KeepsFresh self.old self.new }
     {
         let number = self.tables.add(prefix)?;
-        match self.tables.put_at(c, number, attrs) {
+        let note = import_note(&self.config, c, &prefix, attrs);
+        match self.tables.put_at(c, number, attrs, note) {
             Ok(changed) => {
                 if changed {
                     self.touch_others(c, number, prefix);

@@ -14,7 +14,8 @@
 //! - Turns: `turning` decides what is touched, and `sweeping` gives up numbers that nobody uses.
 //! - Out: `outlets` has the calls of one client's outlet, `sending` begins messages, lends octets and
 //!   counts those taken; `endings` say why a session ended.
-//! - `rules` puts another configuration in; `queries` is what a caller can ask.
+//! - `rules` puts another configuration in; `queries` is what a caller can ask, and of the tables
+//!   `tables`.
 //! - `driving` drives all this by a link of `links`: `offering` offers it what is lent, and `closing`
 //!   knows whose connection may be to be closed; `laws` are contracts of functions that do nothing.
 #![tactic(auto, unfolding(crate::specs::Core::client_count, crate::specs::Core::lent_octets))]
@@ -37,6 +38,7 @@ mod rules;
 mod sending;
 mod sessions;
 mod sweeping;
+mod tables;
 mod turning;
 mod updates;
 

@@ -6,6 +6,8 @@
 ghost use Rattle.std.specs.Prelude.{◌≡◌, ℕ, None, length, IfOk};
 ghost use Rattle.rs_octets.specs.Prefixes.{Prefix};
 ghost use Rattle.rs_adjin.specs.AdjIns as adj_ins;
+ghost use Rattle.rs_adjin.specs.AdjIns.{AreNoted};
+ghost use Rattle.rs_policy.specs.Noted.{note_of_import};
 ghost use Rattle.rs_core.specs.Run.Keeping.{AreKept, AreBare};
 
 use rs_adjin::AdjIns;
@@ -30,6 +32,7 @@ pub(crate) struct Ribs {
     ghost outlets_len: { length outlets.items ≡ count },
     ghost kept: { AreKept extended outlets.items },
     ghost long: { extended ≡ config.top.extended },
+    ghost noted: { AreNoted (note_of_import config) tables },
 }
 
 /// Outlets of clients that are not Established.

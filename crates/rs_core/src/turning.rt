@@ -1,12 +1,13 @@
 //! Turns: what is touched is decided, for each client.
 
 ghost use Rattle.std.specs.Prelude.{◌≡◌, ◌<◌, ◌≤◌, ◌+◌, ℕ, true, false, List, ◌∷◌, length};
+ghost use Rattle.rs_adjin.specs.AdjIns as adj_ins;
 ghost use Rattle.rs_core.specs.Touched.Turns.{IsMarked, IsTurn, refused_in};
 ghost use Rattle.rs_workers.specs.Turned.{AllTurnedAlone};
 
 use crate::ribs::Ribs;
 use crate::route_server::Core;
-use rs_outlet::Last;
+use rs_outlet::{Last, note_all};
 use rs_policy::Config;
 use rs_workers::{Gate, turn_all};
 use std::sync::Wait;
@@ -139,14 +140,29 @@ impl Ribs {
         ensures count { outlet_count self.new ≡ outlet_count self.old }
         ensures extended { self.new.extended ≡ self.old.extended }
         ensures config { self.new.config ≡ config }
-        ensures tables { self.new.tables ≡ self.old.tables }
-        ensures touched { ChangesAll (λ c. IsMarked self.old.tables) self.old self.new }
+        ensures tables { adj_ins.Same self.old.tables self.new.tables }
+        ensures touched { ChangesAll (λ c. IsMarked self.new.tables) self.old self.new }
         ensures kept { KeepsFresh self.old self.new }
     {
-        self.config = config;
+        self.rule_by(config);
         for c in 0..self.count {
             self.touch_all(c);
         }
+    }
+
+    /// Another configuration, whose import rules judge each route.
+    fn rule_by(&mut self, config: Config)
+        requires clients { length config.clients ≡ outlet_count self.old }
+        requires extended { config.top.extended ≡ self.old.extended }
+        ensures count { outlet_count self.new ≡ outlet_count self.old }
+        ensures extended { self.new.extended ≡ self.old.extended }
+        ensures config { self.new.config ≡ config }
+        ensures tables { adj_ins.Same self.old.tables self.new.tables }
+        ensures numbers { adj_ins.SameNumbers self.old.tables self.new.tables }
+        ensures outlets { self.new.outlets ≡ self.old.outlets }
+    {
+        note_all(&mut self.tables, &config);
+        self.config = config;
     }
 
     /// All is to be decided anew for one client.

@@ -1,10 +1,11 @@
 //! What is due to a client at one prefix (RFC 4271, 9.1; RFC 7947, 2.3).
 
-ghost use Rattle.std.specs.Prelude.{◌≡◌, ◌<◌, ◌++◌, length, Some, None, IfOk, OnOk, All, option_map, option_and_then, slice_get};
+ghost use Rattle.std.specs.Prelude.{◌≡◌, ◌<◌, ◌++◌, length, map, Some, None, IfOk, OnOk, All, option_map, option_and_then, slice_get};
 ghost use Rattle.std.specs.List.{filter_map};
 ghost use Rattle.std.specs.Arc.{arc_value};
-ghost use Rattle.rs_adjin.specs.AdjIns.{client_count, held_of, identifier_of, number_of, ListsHolders};
+ghost use Rattle.rs_adjin.specs.AdjIns.{client_count, held_of, identifier_of, number_of, AreNoted, ListsHolders};
 ghost use Rattle.rs_policy.specs.Judged.{judged};
+ghost use Rattle.rs_policy.specs.Noted.{note_of_import};
 ghost use Rattle.rs_policy.specs.Verdicts.{verdict};
 ghost use Rattle.rs_decision.specs.Best.{HasDistinctPlaces};
 ghost use Rattle.rs_outlet.specs.Decided.Due.{Held, rank_of, rank_to, ranks_among, passed_on, if_fits, route_from, due_to};
@@ -17,7 +18,7 @@ use rs_attrs::{Attrs, stripped};
 use rs_decision::{Rank, best};
 use rs_octets::Prefix;
 use rs_packer::fits;
-use rs_policy::{Config, Fate, judge};
+use rs_policy::{Config, Fate, judge_noted};
 use std::alloc::{AllocError, Global};
 use std::sync::Arc;
 
@@ -90,17 +91,19 @@ fn rank_to(sources: &Sources<'_>, prefix: &Prefix, holder: &Holder<'_>) -> Optio
     requires client { sources.now.client < length sources.now.config.now.clients }
     requires known { holder.now.client < length sources.now.config.now.clients }
     requires count { client_count sources.now.ins.now ≡ length sources.now.config.now.clients }
+    requires noted { holder.now.note ≡ note_of_import sources.now.config.now holder.now.client prefix.now (arc_value holder.now.attrs.now) }
     ensures { result ≡ rank_to (held_by sources.now) sources.now.client prefix.now (holder.now.client, arc_value holder.now.attrs.now) }
 {
     if is_kept_back(sources, holder) {
         return None;
     }
-    match judge(
+    match judge_noted(
         sources.config,
         holder.client,
         sources.client,
         prefix,
         holder.attrs,
+        holder.note,
     ) {
         Fate::Drop => None,
         Fate::Pass { preference, .. } => Some(rank(sources, holder, preference)),
@@ -115,9 +118,10 @@ fn rank_all(
     ranks: &mut Vec<Rank>,
 ) -> Result<(), AllocError>
     requires client { sources.now.client < length sources.now.config.now.clients }
-    requires known { All (λ h. h.0 < length sources.now.config.now.clients) holders }
+    requires known { All (λ h. h.0.0 < length sources.now.config.now.clients) holders }
     requires count { client_count sources.now.ins.now ≡ length sources.now.config.now.clients }
-    ensures { OnOk result (ranks.new.items ≡ ranks_among (held_by sources.now) sources.now.client prefix.now holders.entry) }
+    requires noted { All (λ h. h.1 ≡ note_of_import sources.now.config.now h.0.0 prefix.now h.0.1) holders }
+    ensures { OnOk result (ranks.new.items ≡ ranks_among (held_by sources.now) sources.now.client prefix.now (map (λ h. h.0) holders.entry)) }
 {
     ranks.clear();
     for holder in holders {
@@ -137,14 +141,16 @@ fn pass_on<'a>(
 ) -> Result<Option<Passed<'a>>, AllocError>
     requires client { sources.now.client < length sources.now.config.now.clients }
     requires known { holder.now.client < length sources.now.config.now.clients }
+    requires noted { holder.now.note ≡ note_of_import sources.now.config.now holder.now.client prefix.now (arc_value holder.now.attrs.now) }
     ensures { IfOk result (λ passed. option_map attributes_passed passed ≡ passed_on (arc_value holder.now.attrs.now) (verdict sources.now.config.now holder.now.client sources.now.client prefix.now (arc_value holder.now.attrs.now))) }
 {
-    match judge(
+    match judge_noted(
         sources.config,
         holder.client,
         sources.client,
         prefix,
         holder.attrs,
+        holder.note,
     ) {
         Fate::Drop => Ok(None),
         Fate::Pass { strip, .. } => {
@@ -179,6 +185,7 @@ fn pass_fitting<'a>(
 ) -> Result<Option<Passed<'a>>, AllocError>
     requires client { sources.now.client < length sources.now.config.now.clients }
     requires known { holder.now.client < length sources.now.config.now.clients }
+    requires noted { holder.now.note ≡ note_of_import sources.now.config.now holder.now.client prefix.now (arc_value holder.now.attrs.now) }
     ensures { IfOk result (λ due. option_map attributes_passed due ≡ passed_fitting (held_by sources.now) sources.now.client speech prefix.now (holder.now.client, arc_value holder.now.attrs.now)) }
 {
     match pass_on(alloc, sources, prefix, holder)? {
@@ -197,6 +204,7 @@ fn decide_alone<'a>(
 ) -> Result<Option<Passed<'a>>, AllocError>
     requires client { sources.now.client < length sources.now.config.now.clients }
     requires known { holder.now.client < length sources.now.config.now.clients }
+    requires noted { holder.now.note ≡ note_of_import sources.now.config.now holder.now.client prefix.now (arc_value holder.now.attrs.now) }
     ensures { IfOk result (λ due. option_map attributes_passed due ≡ due_alone (held_by sources.now) sources.now.client speech prefix.now (holder.now.client, arc_value holder.now.attrs.now)) }
 {
     if is_kept_back(sources, holder) {
@@ -206,7 +214,7 @@ fn decide_alone<'a>(
 }
 
 /// What is due where these clients hold the prefix: the best of the candidates. Only the ranks of the
-/// candidates are kept, so the winner's route is looked up and judged a second time.
+/// candidates are kept, so the winner's route is looked up, and the client's export list asked a second time.
 fn decide_among<'a>(
     alloc: Global,
     sources: &Sources<'a>,
@@ -217,9 +225,11 @@ fn decide_among<'a>(
     ranks: &mut Vec<Rank>,
 ) -> Result<Option<Passed<'a>>, AllocError>
     requires number { number_of sources.now.ins.now prefix.now ≡ Some number }
-    requires holders { ListsHolders sources.now.ins.now prefix.now holders }
+    requires holders { ListsHolders sources.now.ins.now prefix.now (map (λ h. h.0) holders) }
     requires client { sources.now.client < length sources.now.config.now.clients }
     requires count { client_count sources.now.ins.now ≡ length sources.now.config.now.clients }
+    requires noted { AreNoted (note_of_import sources.now.config.now) sources.now.ins.now }
+    requires notes { All (λ h. h.1 ≡ note_of_import sources.now.config.now h.0.0 prefix.now h.0.1) holders }
     ensures { IfOk result (λ due. option_map attributes_passed due ≡ due_to (held_by sources.now) sources.now.client speech prefix.now) }
 {
     rank_all(sources, prefix, holders, ranks)?;
@@ -229,12 +239,8 @@ fn decide_among<'a>(
     let Some(rank) = ranks.get(index) else {
         return Ok(None);
     };
-    let Some(attrs) = sources.ins.route_at(rank.place, number) else {
+    let Some(holder) = sources.ins.noted_at(rank.place, number) else {
         return Ok(None);
-    };
-    let holder = Holder {
-        client: rank.place,
-        attrs,
     };
     pass_fitting(alloc, sources, speech, prefix, &holder)
 }
@@ -251,6 +257,7 @@ pub(crate) fn decide<'a>(
     requires number { number_of sources.now.ins.now prefix.now ≡ Some number }
     requires client { sources.now.client < length sources.now.config.now.clients }
     requires count { client_count sources.now.ins.now ≡ length sources.now.config.now.clients }
+    requires noted { AreNoted (note_of_import sources.now.config.now) sources.now.ins.now }
     ensures { IfOk result (λ due. option_map attributes_passed due ≡ due_to (held_by sources.now) sources.now.client speech prefix.now) }
 {
     let mut holders = sources.ins.at_number(number);

@@ -13,6 +13,7 @@
 //!   one. `marking` makes all that was told wait again.
 //! - `choosing` says which slots the next UPDATE is about, going along the `chains` of slots with the
 //!   same attributes; `sending` and `fill` begin the next message.
+//! - `noting` has routes noted by the import lists of a configuration, as a turn wants them.
 //! - `routes` shows the Loc-RIB; `laws` are contracts of functions that do nothing.
 #![tactic(auto)]
 
@@ -21,6 +22,7 @@ mod changes;
 mod deciding;
 mod fill;
 pub mod laws;
+mod noting;
 mod outlet;
 mod queries;
 mod routes;
@@ -33,5 +35,6 @@ mod turn;
 mod waiting;
 
 pub use answers::{Last, Speech, Turned};
+pub use noting::note_all;
 pub use outlet::Outlet;
 pub use routes::Routes;

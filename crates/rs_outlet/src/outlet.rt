@@ -8,7 +8,8 @@ ghost use Rattle.rs_outlet.specs.declared.answers.Speech.{Speech};
 ghost use Rattle.rs_outlet.specs.Decided.Due.{due_to};
 ghost use Rattle.rs_outlet.specs.Decided.HeldBy.{tables_of};
 ghost use Rattle.rs_adjin.specs.declared.adj_ins.AdjIns.{AdjIns};
-ghost use Rattle.rs_adjin.specs.AdjIns.{client_count, number_of};
+ghost use Rattle.rs_adjin.specs.AdjIns.{client_count, number_of, AreNoted};
+ghost use Rattle.rs_policy.specs.Noted.{note_of_import};
 ghost use Rattle.rs_open.specs.Writing.{server_open, keepalive};
 ghost use Rattle.rs_open.specs.declared.short.Short.{Short};
 ghost use Rattle.rs_outlet.specs.Message.Next.{note_octets};
@@ -220,6 +221,7 @@ impl Outlet {
     pub fn turn(&mut self, ins: &AdjIns, config: &Config) -> Result<Turned, AllocError>
         requires client { self.old.client < length config.now.clients }
         requires clients { client_count ins.now ≡ length config.now.clients }
+        requires noted { AreNoted (note_of_import config.now) ins.now }
         ensures client { self.new.client ≡ self.old.client }
         ensures extended { self.new.extended ≡ self.old.extended }
         ensures rest { self.new ≡ record self.old { loc = self.new.loc; told = self.new.told; touched = self.new.touched; stale = self.new.stale; marked = self.new.marked; waits = self.new.waits; numbers = self.new.numbers; last = self.new.last } }

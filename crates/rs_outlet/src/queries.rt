@@ -3,6 +3,8 @@
 ghost use Rattle.std.specs.Prelude.{◌≡◌, ◌↔◌, option_map, IsTrue};
 ghost use Rattle.std.specs.Arc.{arc_value};
 ghost use Rattle.std.specs.FinMap as map;
+ghost use Rattle.rs_adjin.specs.declared.adj_ins.AdjIns.{AdjIns};
+ghost use Rattle.rs_adjin.specs.Onward.{is_from};
 ghost use Rattle.rs_outlet.specs.Views.{AreNumbered, IsDrained, WaitsAreExact};
 ghost use Rattle.rs_outlet.specs.Pending.Left.{HasNothingLeft};
 
@@ -76,5 +78,19 @@ impl Outlet {
         ensures { AreNumbered self.now ins.now → result ≡ map.entries self.now.loc }
     {
         Routes::new(ins.iter(), &self.rows)
+    }
+
+    /// Of these the routes for prefixes that are not before one. The walk doesn't go over those before.
+    pub fn routes_from<'a>(&'a self, ins: &'a AdjIns, from: Prefix) -> Routes<'a>
+        ensures { AreNumbered self.now ins.now → result ≡ map.entries (map.retain_keys self.now.loc (is_from from)) }
+    {
+        Routes::new(ins.iter_from(from), &self.rows)
+    }
+
+    /// How many routes the Loc-RIB has.
+    pub fn count(&self) -> usize
+        ensures { (ins : AdjIns) → AreNumbered self.now ins → result ≡ map.len self.now.loc }
+    {
+        self.rows.used()
     }
 }

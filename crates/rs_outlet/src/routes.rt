@@ -45,8 +45,7 @@ fn next_route<'a>(
 ) -> Option<(Prefix, &'a Arc<Attrs>)>
     ensures { YieldsFirstBy (λ route. (route.0, arc_value route.1.now)) (routes_at rows.now.rows.items) numbers.old result numbers.new }
 {
-    for _ in 0..numbers.len() {
-        let (prefix, number) = numbers.next()?;
+    while let Some((prefix, number)) = numbers.next() {
         if let Some(row) = rows.get(number) {
             return Some((prefix, &row.attrs));
         }

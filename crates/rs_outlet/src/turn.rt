@@ -6,7 +6,8 @@ ghost use Rattle.std.specs.Map.{keys_of};
 ghost use Rattle.std.specs.FinMap as fin;
 ghost use Rattle.std.specs.FinSet as set;
 ghost use Rattle.rs_octets.specs.Prefixes.{Prefix};
-ghost use Rattle.rs_adjin.specs.AdjIns.{client_count, number_of, prefix_of};
+ghost use Rattle.rs_adjin.specs.AdjIns.{client_count, number_of, prefix_of, AreNoted};
+ghost use Rattle.rs_policy.specs.Noted.{note_of_import};
 ghost use Rattle.rs_outlet.specs.Views.{AreNumbered, HaveNumbers, IsCount, IsNumberOf, IsOneOf, Prefixes, WaitsAreExact, is_touched, is_whole};
 ghost use Rattle.rs_outlet.specs.Decided.Turns.{IsCurrent};
 ghost use Rattle.rs_outlet.specs.Decided.Due.{any_holds, due_to};
@@ -71,6 +72,7 @@ fn decide_one(
     requires number { number_of sources.now.ins.now prefix ≡ Some number }
     requires client { sources.now.client < length sources.now.config.now.clients }
     requires count { client_count sources.now.ins.now ≡ length sources.now.config.now.clients }
+    requires noted { AreNoted (note_of_import sources.now.config.now) sources.now.ins.now }
     ensures { OnOk result (IsDecidedAt sources.now.ins.now (due_to (held_by sources.now) sources.now.client speech) rows.now.rows.items number changes.old.items changes.new.items) }
 {
     let due = decide(alloc, sources, speech, number, &prefix, ranks)?;
@@ -105,6 +107,7 @@ fn decide_at(
 ) -> Result<(), AllocError>
     requires client { sources.now.client < length sources.now.config.now.clients }
     requires count { client_count sources.now.ins.now ≡ length sources.now.config.now.clients }
+    requires noted { AreNoted (note_of_import sources.now.config.now) sources.now.ins.now }
     ensures { OnOk result (IsDecidedAt sources.now.ins.now (due_to (held_by sources.now) sources.now.client speech) rows.now.rows.items number changes.old.items changes.new.items) }
 {
     let Some(prefix) = sources.ins.prefix(number) else {
@@ -124,6 +127,7 @@ fn decide_touched(
 ) -> Result<Vec<Change>, AllocError>
     requires client { sources.now.client < length sources.now.config.now.clients }
     requires count { client_count sources.now.ins.now ≡ length sources.now.config.now.clients }
+    requires noted { AreNoted (note_of_import sources.now.config.now) sources.now.ins.now }
     requires once { IsDistinct nat_eq (keys_of touched.now) }
     ensures { IfOk result (λ changes. AreDecided sources.now.ins.now (due_to (held_by sources.now) sources.now.client speech) rows.now.rows.items (is_numbered_in touched.now) changes.items) }
 {
@@ -172,6 +176,7 @@ fn decide_stale(
 ) -> Result<Decided, AllocError>
     requires client { sources.now.client < length sources.now.config.now.clients }
     requires count { client_count sources.now.ins.now ≡ length sources.now.config.now.clients }
+    requires noted { AreNoted (note_of_import sources.now.config.now) sources.now.ins.now }
     requires once { IsDistinct nat_eq (keys_of touched.now) }
     ensures changes { IfOk result (λ decided. AreDecided sources.now.ins.now (due_to (held_by sources.now) sources.now.client speech) rows.now.rows.items (is_numbered_in touched.now) decided.changes.items) }
     ensures whole { IfOk result (λ decided. decided.whole ≡ nat_lt 4096 (length touched.now)) }
@@ -210,6 +215,7 @@ fn decide_number(
 ) -> Result<bool, AllocError>
     requires client { sources.now.client < length sources.now.config.now.clients }
     requires count { client_count sources.now.ins.now ≡ length sources.now.config.now.clients }
+    requires noted { AreNoted (note_of_import sources.now.config.now) sources.now.ins.now }
     ensures changes { OnOk result (IsDecidedAt sources.now.ins.now (due_to (held_by sources.now) sources.now.client speech) rows.now.rows.items number changes.old.items changes.new.items) }
     ensures free { prefix_of sources.now.ins.now number ≡ None → IfOk result (λ decided. decided ≡ false) }
     ensures standing { (p : Prefix) → number_of sources.now.ins.now p ≡ Some number → IfOk result (λ decided. decided ≡ is_standing rows.now.rows.items (any_holds (held_by sources.now)) p number) }
@@ -234,6 +240,7 @@ fn decide_all(
 ) -> Result<Decided, AllocError>
     requires client { sources.now.client < length sources.now.config.now.clients }
     requires count { client_count sources.now.ins.now ≡ length sources.now.config.now.clients }
+    requires noted { AreNoted (note_of_import sources.now.config.now) sources.now.ins.now }
     ensures changes { IfOk result (λ decided. AreDecided sources.now.ins.now (due_to (held_by sources.now) sources.now.client speech) rows.now.rows.items (λ number. true) decided.changes.items) }
     ensures count { IfOk result (λ decided. IsNumberOf (is_counted sources.now.ins.now rows.now.rows.items (any_holds (held_by sources.now))) decided.count) }
     ensures whole { IfOk result (λ decided. decided.whole ≡ true) }
@@ -273,6 +280,7 @@ fn decide_all_touched(
 ) -> Result<Decided, AllocError>
     requires client { sources.now.client < length sources.now.config.now.clients }
     requires count { client_count sources.now.ins.now ≡ length sources.now.config.now.clients }
+    requires noted { AreNoted (note_of_import sources.now.config.now) sources.now.ins.now }
     ensures changes { IfOk result (λ decided. AreDecided sources.now.ins.now (due_to (held_by sources.now) sources.now.client speech) rows.now.rows.items (is_number_touched touched.now.all touched.now.prefixes.items) decided.changes.items) }
     ensures whole { HaveNumbers touched.now.prefixes.items sources.now.ins.now → IfOk result (λ decided. decided.whole ≡ is_whole (touched_of touched.now.all touched.now.prefixes.items)) }
     ensures count { HaveNumbers touched.now.prefixes.items sources.now.ins.now → IfOk result (λ decided. (prefixes : Prefixes) → touched_of touched.now.all touched.now.prefixes.items ≡ Some prefixes → decided.count ≡ set.len prefixes) }
@@ -296,6 +304,7 @@ impl Outlet {
         requires own { sources.now.client ≡ self.old.client }
         requires client { sources.now.client < length sources.now.config.now.clients }
         requires count { client_count sources.now.ins.now ≡ length sources.now.config.now.clients }
+        requires noted { AreNoted (note_of_import sources.now.config.now) sources.now.ins.now }
         ensures client { self.new.client ≡ self.old.client }
         ensures extended { self.new.extended ≡ self.old.extended }
         ensures rest { self.new ≡ record self.old { loc = self.new.loc; told = self.new.told; touched = self.new.touched; stale = self.new.stale; marked = self.new.marked; waits = self.new.waits; numbers = self.new.numbers; last = self.new.last } }

@@ -1,5 +1,5 @@
 -- No rule of an import list names the receiver, so that what the list makes of a route is the same for all.
-use Rattle.std.proofs.Common.{◌≡◌, ℕ, ◌+◌, ◌==◌, length, ◌&&◌, ◌||◌, Bool, true, false, List, [], ◌∷◌, find, get_or, Option, Some, None, Ok, option_map, refl, ap, subst, ◌∙◌, bytes_eq, arith, if◌then◌else◌}
+use Rattle.std.proofs.Common.{◌≡◌, ℕ, ◌+◌, ◌≤◌, ◌==◌, length, ◌&&◌, ◌||◌, Bool, true, false, List, [], ◌∷◌, find, get_or, Option, Some, None, Ok, option_map, refl, ap, subst, ◌∙◌, bytes_eq, arith, if◌then◌else◌}
 use Rattle.std.specs.Prelude.{IfSome, codes, not, unwrap_or}
 use Rattle.std.specs.List.{All, list_any}
 use Rattle.std.proofs.lemmas.Bool.{and_parts, or_parts}
@@ -10,14 +10,15 @@ use Rattle.rs_attrs.specs.Getters.{communities_of, large_communities_of}
 use Rattle.rs_attrs.specs.Patterns.{is_like, is_like_large}
 use Rattle.rs_policy.specs.Texts.{number_to, both, colon, part_of, last_part_of, community_of, local_data_of, large_community_of}
 use Rattle.rs_policy.specs.Patterns.{number_for, pattern_for, large_pattern_for, is_peer, names_peer, large_names_peer, tests_name_peer}
-use Rattle.rs_policy.specs.Values.{text_as}
-use Rattle.rs_policy.specs.Configuration.{Client, NamedList, SharedRules, Configuration, client_of, list_at, no_shared, no_policy, policy_of, rules_in, written_out, policy_written}
-use Rattle.rs_policy.specs.Documents.{rules_name_peer, may_stand, shared_named, rule_place, config_of}
+use Rattle.rs_policy.specs.Values.{text_as, answer}
+use Rattle.rs_policy.specs.Configuration.{Client, NamedList, SharedRules, Stated, Configuration, client_of, list_at, no_shared, no_policy, policy_of, rules_in, written_out, policy_written}
+use Rattle.rs_policy.specs.Documents.{rules_name_peer, may_stand, shared_named, client_place, shared_place, list_key, rule_place, document_checks, configuration_of, config_of}
 use Rattle.rs_policy.specs.Verdicts.{AnnouncedRoute, announced_route, in_range, has_prefix, next_hop_is_peer, origin_as_is, origin_in, has_community, has_large_community, holds, path_matches, attributes_match, matches, passing_by, outcome, AsksNoReceiver}
-use Rattle.rs_policy.specs.Accepted.{SaysRule, SaysEach, SaysItem, SaysPolicy, Says}
+use Rattle.rs_policy.specs.Accepted.{SaysRule, SaysEach, SaysItem, SaysShared, SaysPolicy, Says}
+use Rattle.rs_policy.specs.Noted.{IsRead}
 use Rattle.rs_policy.specs.Sound.{IsSound}
 use Rattle.rs_policy.specs.declared.faults.Key.TheVariants as K
-use Rattle.rs_policy.specs.declared.faults.List.TheVariants.{Import}
+use Rattle.rs_policy.specs.declared.faults.List.TheVariants.{Import, Shared}
 use Rattle.rs_policy.specs.declared.faults.Place.{Place}
 use Rattle.rs_policy.specs.declared.rules.CommunityTest.{CommunityTest}
 use Rattle.rs_policy.specs.declared.rules.LargeCommunityTest.{LargeCommunityTest}
@@ -26,9 +27,9 @@ use Rattle.rs_policy.specs.declared.rules.Part.TheVariants.{Number, Any, Peer}
 use Rattle.rs_policy.specs.declared.rules.Rule.{Rule}
 use Rattle.rs_policy.specs.declared.rules.Item.{Item}
 use Rattle.rs_policy.specs.declared.rules.Item.TheVariants.{Own, Use}
-use Rattle.rs_policy.proofs.Passing.{accepted_says}
-use Rattle.rs_policy.proofs.SoundKeys.{at_maybe, at_required, both_by, map_by, text_is}
-use Rattle.rs_policy.proofs.Soundness.{each_all, says_sound}
+use Rattle.rs_policy.proofs.Passing.{accepted_says, answer_says}
+use Rattle.rs_policy.proofs.SoundKeys.{few_at, few_needed, at_maybe, at_required, both_by, map_by, text_is}
+use Rattle.rs_policy.proofs.Soundness.{each_all, each_count, says_sound, answer_sound}
 
 -- ---- a part that isn't `peer`
 
@@ -186,11 +187,38 @@ found_alike lists (rule ∷ rules) r n e =
     ap (λ b. if b then Some rule else find (λ rule. matches lists rule r) rules) (matches_alike lists rule r n h.0)
     ∙ ap (λ o. if matches lists rule (sent_to r n) then Some rule else o) (found_alike lists rules r n h.1)
 
-pub asks_no_receiver : (text : List ℕ) (s : Configuration) → config_of text ≡ Ok s → AsksNoReceiver s
+says_alike : (d : Data) (s : Configuration) → Says d s → IsSound s → AsksNoReceiver s
 unfolding outcome
-asks_no_receiver text s e from to other p m within =
-    let h = accepted_says text s e in
-    let sound : IsSound s = says_sound (table h.0) s h.1.1 in
+says_alike d s h sound from to other p m within =
     let count : length s.policies ≡ length s.clients = sound.policies in
-    let none : rules_name_peer (policy_of s from).import ≡ false = imports_without (table h.0) s h.1.1 from no_policy (omega arith) in
+    let none : rules_name_peer (policy_of s from).import ≡ false = imports_without d s h from no_policy (omega arith) in
     ap (passing_by s.top.default) (found_alike s.lists (policy_of s from).import (announced_route s from to p m) (client_of s other).client_as none)
+
+pub asks_no_receiver : (text : List ℕ) (s : Configuration) → config_of text ≡ Ok s → AsksNoReceiver s
+asks_no_receiver text s e =
+    let h = accepted_says text s e in
+    says_alike (table h.0) s h.1.1 (says_sound (table h.0) s h.1.1)
+
+few_imports : (clients : List Client) (lists : List NamedList) (shared : List SharedRules) (n : ℕ) (d : Data) (p : Stated) → SaysPolicy clients lists shared n d p → length p.import ≤ 64
+few_imports clients lists shared n d p h =
+    let few : length h.import.tables ≤ 64 = few_at 64 (client_place n) (list_key Import) d h.import.tables h.import.tables_are in
+    let count : length p.import ≡ length h.import.tables = each_count (λ r d item. SaysItem clients lists shared (rule_place n Import r) d item) 1 h.import.tables p.import h.import.each in
+    omega arith
+
+few_used : (clients : List Client) (lists : List NamedList) (n : ℕ) (d : Data) (r : SharedRules) → SaysShared clients lists n d r → length r.rules ≤ 64
+few_used clients lists n d r h =
+    let few : length h.tables ≤ 64 = few_needed 64 (shared_place n) K.Rules d h.tables h.tables_are in
+    let count : length r.rules ≡ length h.tables = each_count (λ k d rule. SaysRule clients lists (rule_place n Shared k) d rule) 1 h.tables r.rules h.each in
+    omega arith
+
+-- a configuration that passes every check
+pub answer_read : (d : Data) (s : Configuration) → answer (document_checks d) (configuration_of d) ≡ Ok s → IsRead s
+answer_read d s e =
+    let h = answer_says d s e in
+    let sound : IsSound s = answer_sound d s e in
+    record {
+      sound = sound;
+      imports = says_alike d s h sound;
+      few = each_all (SaysPolicy s.clients s.lists s.shared) (λ p. length p.import ≤ 64) (few_imports s.clients s.lists s.shared) 1 h.tables s.policies h.policies;
+      few_used = each_all (SaysShared s.clients s.lists) (λ r. length r.rules ≤ 64) (few_used s.clients s.lists) 1 h.shared_tables s.shared h.rules;
+    }

@@ -5,6 +5,7 @@ mod Documents
 pub mod Entries
 pub mod Fixed
 pub mod Imports
+mod Noted
 pub mod Older
 mod OlderCommunities
 mod Others

@@ -132,7 +132,7 @@ each_all R P f n [] (a ∷ xs) h = absurd h
 each_all R P f n (d ∷ ds) [] h = absurd h
 each_all R P f n (d ∷ ds) (a ∷ xs) h = All-cons P a xs (f n d a h.0) (each_all R P f (n + 1) ds xs h.1)
 
-each_count : {A : Type 0} (R : ℕ → Data → A → Type 0) (n : ℕ) (ds : List Data) (xs : List A) → SaysEach R n ds xs
+pub each_count : {A : Type 0} (R : ℕ → Data → A → Type 0) (n : ℕ) (ds : List Data) (xs : List A) → SaysEach R n ds xs
     → length xs ≡ length ds
 each_count R n [] [] h = refl
 each_count R n [] (a ∷ xs) h = absurd h

@@ -1,8 +1,11 @@
 -- Each key of a configuration as it is spelt, and which keys a table has.
-use Rattle.std.specs.Prelude.{ℕ, List, [], ◌∷◌, codes, bytes_eq, Bool}
+use Rattle.std.specs.Prelude.{ℕ, List, [], ◌∷◌, codes, bytes_eq, Bool, if◌then◌else◌}
 use Rattle.std.specs.List.{list_any}
 use Rattle.rs_policy.specs.declared.faults.Key.{Key}
 use Rattle.rs_policy.specs.declared.faults.Key.TheVariants as K
+use Rattle.rs_policy.specs.declared.faults.List.TheVariants.{Import, Export, Shared}
+use Rattle.rs_policy.specs.declared.faults.Table.{Table}
+use Rattle.rs_policy.specs.declared.faults.Table.TheVariants as T
 
 abbrev pub key_text : Key → List ℕ
 key_text K.As = codes "as"
@@ -64,6 +67,17 @@ rule_keys = K.Prefix ∷ K.Min ∷ K.Max ∷ K.PrefixIn ∷ K.From ∷ K.PathHas
 -- of a table that names such rules
 abbrev pub use_keys : List Key
 use_keys = K.Use ∷ []
+
+-- in a client's list a table that has `use` may have no other key
+abbrev pub keys_of : Table → Bool → List Key
+keys_of T.Top uses = top_keys
+keys_of (T.Client client) uses = client_keys
+keys_of (T.Rules rules) uses = shared_keys
+keys_of (T.Rule client Import rule) uses = if uses then use_keys else rule_keys
+keys_of (T.Rule client Export rule) uses = if uses then use_keys else rule_keys
+keys_of (T.Rule rules Shared rule) uses = rule_keys
+keys_of (T.List list) uses = named_list_keys
+keys_of (T.Entry list entry) uses = named_list_keys
 
 abbrev pub is_among : List Key → List ℕ → Bool
 is_among keys text = list_any (λ k. bytes_eq (key_text k) text) keys

@@ -6,6 +6,7 @@ pub mod Indexed
 pub mod Judged
 pub mod Keys
 pub mod NamedLists
+pub mod Noted
 pub mod Older
 pub mod Patterns
 pub mod Reasons

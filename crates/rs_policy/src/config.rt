@@ -18,6 +18,7 @@ ghost use Rattle.toml.specs.View.{view};
 ghost use Rattle.toml.specs.Parse.{parse_document};
 ghost use Rattle.rs_policy.specs.Values.{answer, Answers};
 ghost use Rattle.rs_policy.specs.Configuration.{client_of, policy_of, shared_at, stated_of};
+ghost use Rattle.rs_policy.specs.Noted.{IsRead};
 ghost use Rattle.rs_policy.specs.Sound.{IsSound};
 ghost use Rattle.rs_policy.specs.Documents.{document_checks, configuration_of, config_of};
 
@@ -48,11 +49,11 @@ impl Model for Config {
 
     ghost Value = { Configuration };
 
-    ghost use Rattle.rs_policy.specs.Sound.{IsSound};
+    ghost use Rattle.rs_policy.specs.Noted.{IsRead};
 
     ghost view = { λ c. record { top = c.top; clients = c.clients.items; lists = c.lists.items; shared = c.shared.items; policies = c.policies.items } };
 
-    ghost invariant = { λ c. IsSound (record { top = c.top; clients = c.clients.items; lists = c.lists.items; shared = c.shared.items; policies = c.policies.items }) };
+    ghost invariant = { λ c. IsRead (record { top = c.top; clients = c.clients.items; lists = c.lists.items; shared = c.shared.items; policies = c.policies.items }) };
 }
 
 impl Config {
@@ -220,6 +221,14 @@ impl Config {
     {
         let policy = &self.policies[c];
         Rules::of(&policy.export, &self.shared)
+    }
+
+    /// What it keeps, beside what `clients` says: what an import list makes of a route is the same, whoever
+    /// is sent it, and lists are short. Nothing is done.
+    pub(crate) fn is_read(&self)
+        ensures { IsRead self.now }
+    {
+        let _read = &self.policies;
     }
 
     /// The lists of rules of a client, as they stand in the text.

@@ -59,7 +59,7 @@ pub enum Key {
 
 impl Key {
     /// The key as a configuration spells it.
-    pub(crate) fn text(self) -> &'static str
+    pub fn text(self) -> &'static str
         ensures { result.now ≡ key_text self }
     {
         match self {

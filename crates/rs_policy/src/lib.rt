@@ -9,18 +9,22 @@
 //!   tables, `rule_tables` the rules, all by `arrays`, `values` and `texts`; `replacing` says
 //!   which configuration can take the place of one that is in use.
 //! - `rules` are rules as values; of `rules/` `matching` says which routes a rule matches, `verdict` what
-//!   becomes of a route, and `reasons` which rules decided.
+//!   becomes of a route, `noting` keeps the import list's part of it as a number, and `reasons` says which
+//!   rules decided.
 //! - `faults` says what can be wrong and where, and writes it in words; `faults/line` is such a
-//!   line.
+//!   line; `keys` are those that each table may have.
 //! - `laws` are contracts of functions that do nothing.
 #![tactic(auto)]
 
 mod config;
 mod faults;
+mod keys;
 pub mod laws;
 mod rules;
 
 pub use config::Config;
 pub use faults::{ConfigFault, Key, List, Place, RulesFault, Table};
+pub use keys::known_keys;
+pub use rules::noting::{import_note, judge_noted};
 pub use rules::reasons::{Decider, Reasons, reasons_for};
 pub use rules::verdict::{Fate, Verdict, judge};

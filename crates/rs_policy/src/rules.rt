@@ -1,6 +1,7 @@
 //! Rules as values.
 
 mod matching;
+pub(crate) mod noting;
 pub(crate) mod reasons;
 pub(crate) mod verdict;
 

@@ -2,6 +2,9 @@
 //! `told` is what clients are told by the rules and by what they take, `refused` turns that memory
 //! was refused to, `asking` calls that take none.
 
+ghost use Rattle.rs_adjin.specs.AdjIns.{AreNoted};
+ghost use Rattle.rs_policy.specs.Noted.{note_of_import};
+
 mod asking;
 mod refused;
 mod told;
@@ -11,7 +14,7 @@ use rs_attrs::{Attrs, Mode, read};
 use rs_octets::Prefix;
 use rs_open::Limit;
 use rs_outlet::{Last, Outlet, Turned};
-use rs_policy::Config;
+use rs_policy::{Config, import_note};
 use std::alloc::{AllocError, Global};
 use std::process::Abort;
 use std::sync::Arc;
@@ -45,19 +48,6 @@ fn prefix(rt: &impl Abort, n: u32) -> Prefix {
     Prefix::new(bits, 24).expect(rt, "a prefix of 24 bits")
 }
 
-/// A member announces a prefix with a set of attributes.
-fn announce(
-    rt: &impl Abort,
-    tables: &mut AdjIns,
-    member: usize,
-    prefix: Prefix,
-    attrs: &Arc<Attrs>,
-) {
-    assert!(rt; member < tables.clients());
-    assert!(rt; attrs.has_mandatory());
-    tables.put(member, prefix, attrs).expect(rt, "a route");
-}
-
 /// A turn that went over so many touched prefixes.
 fn some(decided: usize) -> Turned {
     Turned {
@@ -80,6 +70,7 @@ struct Exchange {
     alloc: Global,
     config: Config,
     tables: AdjIns,
+    ghost noted: { AreNoted (note_of_import config) tables },
 }
 
 impl Exchange {
@@ -100,9 +91,26 @@ impl Exchange {
         let sets = [attrs(rt, alloc, 11), attrs(rt, alloc, 12)];
         for n in 0..count {
             let set = &sets[n as usize % 2];
-            announce(rt, &mut made.tables, SENDER, prefix(rt, n), set);
+            made.announce(rt, SENDER, prefix(rt, n), set);
         }
         made
+    }
+
+    /// A member announces a prefix with a set of attributes.
+    fn announce(&mut self, rt: &impl Abort, member: usize, prefix: Prefix, attrs: &Arc<Attrs>) {
+        assert!(rt; member < self.config.clients());
+        assert!(rt; member < self.tables.clients());
+        assert!(rt; attrs.has_mandatory());
+        let note = import_note(&self.config, member, &prefix, attrs);
+        self.tables
+            .put(member, prefix, attrs, note)
+            .expect(rt, "a route");
+    }
+
+    /// The sender withdraws a prefix. Answers whether it had announced it.
+    fn withdraw(&mut self, rt: &impl Abort, prefix: Prefix) -> bool {
+        assert!(rt; SENDER < self.tables.clients());
+        self.tables.withdraw(SENDER, prefix)
     }
 
     /// The outlet of a client of four octets, which takes messages of up to 4,096.
@@ -182,9 +190,7 @@ fn more_than_4096_touched_are_all(rt: HostRuntime) {
 /// The sender withdraws the first so many prefixes.
 fn withdraw(rt: &impl Abort, exchange: &mut Exchange, count: u32) {
     for n in 0..count {
-        let prefix = prefix(rt, n);
-        assert!(rt; SENDER < exchange.tables.clients());
-        exchange.tables.withdraw(SENDER, prefix);
+        exchange.withdraw(rt, prefix(rt, n));
     }
 }
 

@@ -8,4 +8,5 @@ mod exchange;
 mod link;
 mod routes;
 mod sessions;
+mod tables;
 mod turns;

@@ -9,7 +9,7 @@ use rs_adjin::AdjIns;
 use rs_attrs::{Attrs, Mode, read};
 use rs_octets::Prefix;
 use rs_open::Limit;
-use rs_outlet::{Last, Outlet, Turned};
+use rs_outlet::{Last, Outlet, Turned, note_all};
 use rs_policy::Config;
 use std::alloc::{AllocError, Global};
 use std::process::Abort;
@@ -111,7 +111,7 @@ fn announce(rt: &impl Abort, tables: &mut AdjIns, member: usize, n: u32, attrs: 
     let prefix = Prefix::new(0x0a00_0000 | (n & 0xffff) << 8, 24).expect(rt, "a prefix");
     assert!(rt; member < tables.clients());
     assert!(rt; attrs.has_mandatory());
-    tables.put(member, prefix, attrs).expect(rt, "a route");
+    tables.put(member, prefix, attrs, 0).expect(rt, "a route");
 }
 
 /// Of all members routes for their share of so many prefixes, by three sets of attributes.
@@ -165,7 +165,7 @@ impl Exchange {
 
     /// The outlets of all members, turned by so many workers.
     fn turned<R: Threads + Wait + Sync + Abort, G: Gate>(
-        &self,
+        &mut self,
         rt: &R,
         workers: usize,
         gate: &G,
@@ -173,6 +173,7 @@ impl Exchange {
         assert!(rt; workers > 0);
         assert!(rt; workers <= 16);
         assert!(rt; self.tables.clients() == self.config.clients());
+        note_all(&mut self.tables, &self.config);
         let mut all = outlets(self.alloc, &self.config).expect(rt, "outlets");
         turn_all(
             rt,
@@ -186,8 +187,9 @@ impl Exchange {
     }
 
     /// The same, turned one after the other.
-    fn turned_alone(&self, rt: &impl Abort) -> Vec<Outlet> {
+    fn turned_alone(&mut self, rt: &impl Abort) -> Vec<Outlet> {
         assert!(rt; self.tables.clients() == self.config.clients());
+        note_all(&mut self.tables, &self.config);
         let mut all = outlets(self.alloc, &self.config).expect(rt, "outlets");
         turn_share(&Free, 0, &self.tables, &self.config, all.as_mut_slice());
         all
@@ -237,7 +239,7 @@ fn are_alike(one: &mut Outlet, other: &mut Outlet) -> bool {
 #[test]
 fn both_shares_run(rt: HostRuntime) {
     let gate = Both::new();
-    let exchange = Exchange::new(&rt, rt.alloc(), 2, 10);
+    let mut exchange = Exchange::new(&rt, rt.alloc(), 2, 10);
     let all = exchange.turned(&rt, 2, &gate);
     assert!(rt; !gate.failed.load(Ordering::SeqCst));
     have_decided(&rt, &all, 2, 10);
@@ -252,7 +254,7 @@ fn has_shares<R: Threads + Wait + Sync + Abort>(
     shares: usize,
 ) {
     let gate = Counting::new(rt, alloc);
-    let exchange = Exchange::new(rt, alloc, members, 10);
+    let mut exchange = Exchange::new(rt, alloc, members, 10);
     exchange.turned(rt, workers, &gate);
     for (share, entries) in gate.shares.iter().enumerate() {
         let count = entries.load(Ordering::SeqCst);
@@ -272,7 +274,7 @@ fn shares_are_as_long_as_said(rt: HostRuntime) {
 }
 
 /// Turns by so many workers leave all seven outlets as turns one after the other do.
-fn is_the_same<R: Threads + Wait + Sync + Abort>(rt: &R, exchange: &Exchange, workers: usize) {
+fn is_the_same<R: Threads + Wait + Sync + Abort>(rt: &R, exchange: &mut Exchange, workers: usize) {
     let mut alone = exchange.turned_alone(rt);
     let mut all = exchange.turned(rt, workers, &Free);
     have_decided(rt, &all, 7, 10_000);
@@ -283,9 +285,9 @@ fn is_the_same<R: Threads + Wait + Sync + Abort>(rt: &R, exchange: &Exchange, wo
 
 #[test]
 fn any_number_of_workers_gives_the_same(rt: HostRuntime) {
-    let exchange = Exchange::new(&rt, rt.alloc(), 7, 10_000);
-    is_the_same(&rt, &exchange, 1);
-    is_the_same(&rt, &exchange, 2);
-    is_the_same(&rt, &exchange, 3);
-    is_the_same(&rt, &exchange, 16);
+    let mut exchange = Exchange::new(&rt, rt.alloc(), 7, 10_000);
+    is_the_same(&rt, &mut exchange, 1);
+    is_the_same(&rt, &mut exchange, 2);
+    is_the_same(&rt, &mut exchange, 3);
+    is_the_same(&rt, &mut exchange, 16);
 }

@@ -1,7 +1,8 @@
 //! Shares of neighbouring outlets, each turned by a thread of its own where one can be started.
 
 ghost use Rattle.std.specs.Prelude.{◌≡◌, ◌<◌, ◌≤◌, length};
-ghost use Rattle.rs_adjin.specs.AdjIns.{client_count};
+ghost use Rattle.rs_adjin.specs.AdjIns.{client_count, AreNoted};
+ghost use Rattle.rs_policy.specs.Noted.{note_of_import};
 ghost use Rattle.rs_workers.specs.Turned.{ArePlaced, AllTurnedAlone, TurnedAlone};
 
 use crate::gate::Gate;
@@ -24,6 +25,7 @@ pub fn turn_all<R: Threads + Wait + Sync, G: Gate>(
 )
     requires workers { (0 < workers) × (workers ≤ 16) }
     requires clients { client_count tables.now ≡ length config.now.clients }
+    requires noted { AreNoted (note_of_import config.now) tables.now }
     requires places { ArePlaced config.now outlets.old }
     ensures turned { AllTurnedAlone config.now tables.now outlets.old outlets.new }
     ensures count { length outlets.new ≡ length outlets.old }
@@ -33,7 +35,7 @@ pub fn turn_all<R: Threads + Wait + Sync, G: Gate>(
     }
     let size = outlets.len().div_ceil(workers);
     let turn = |start: usize, neighbours: &mut [Outlet]|
-        requires { (0 < size) × (client_count tables.now ≡ length config.now.clients) × ArePlaced config.now neighbours.now }
+        requires { (0 < size) × (client_count tables.now ≡ length config.now.clients) × AreNoted (note_of_import config.now) tables.now × ArePlaced config.now neighbours.now }
         ensures { AllTurnedAlone config.entry.now tables.entry.now neighbours.entry.now neighbours.exit.now }
     { turn_share(gate, start / size, tables, config, neighbours) };
     thread::for_each_chunk_mut(rt, outlets, size, &turn);
@@ -48,6 +50,7 @@ pub(crate) fn turn_share<G: Gate>(
     outlets: &mut [Outlet],
 )
     requires clients { client_count tables.now ≡ length config.now.clients }
+    requires noted { AreNoted (note_of_import config.now) tables.now }
     requires places { ArePlaced config.now outlets.old }
     ensures { AllTurnedAlone config.now tables.now outlets.old outlets.new }
 {
@@ -60,6 +63,7 @@ pub(crate) fn turn_share<G: Gate>(
 /// Turns one outlet. Whether memory was refused stands in its `last`.
 fn turn_one(outlet: &mut Outlet, tables: &AdjIns, config: &Config)
     requires clients { client_count tables.now ≡ length config.now.clients }
+    requires noted { AreNoted (note_of_import config.now) tables.now }
     requires place { outlet.old.client < length config.now.clients }
     ensures { TurnedAlone config.now tables.now outlet.old outlet.new }
 {

@@ -7,7 +7,7 @@ use Rattle.rs_attrs.specs.Effects.{table_since}
 use Rattle.rs_session.specs.declared.settings.Settings.{Settings}
 use Rattle.rs_session.specs.Sessions.{state_of, is_live, agreed_of, agreed_identifier}
 use Rattle.rs_session.specs.Hearing.{HasHeard}
-use Rattle.rs_adjin.specs.AdjIns.{held_of, identifier_of}
+use Rattle.rs_adjin.specs.AdjIns.{held_of, identifier_of, Same}
 use Rattle.rs_policy.specs.Configuration.{Configuration}
 use Rattle.rs_policy.specs.Replacing.{IsFixed}
 use Rattle.rs_core.specs.Run.Moves.{Move, Ruled, config_in}
@@ -52,12 +52,12 @@ waits_by s t c buffer h session allowed w = record {
 }
 
 pub knows_by : (old new : Core) (s t : Configuration) (c : ℕ) (h : Hearing) → session_in s c ≡ session_in t c
-    → new.sessions ≡ old.sessions → new.ribs.tables ≡ old.ribs.tables → (new.ribs.config ≡ t → (none : View) → SpeaksTo t c h (outlet_in new.ribs c none))
+    → new.sessions ≡ old.sessions → Same old.ribs.tables new.ribs.tables → (new.ribs.config ≡ t → (none : View) → SpeaksTo t c h (outlet_in new.ribs c none))
     → (new.ribs.config ≡ t → (none : View) → IsOrdered t c h (outlet_in new.ribs c none)) → new.watched ≡ old.watched → Knows old s c h → Knows new t c h
 knows_by old new s t c h session sessions tables outlet ordered watched w = record {
   session = λ x e. subst (λ k. HasHeard x k h.items) session (w.session x (ap (λ v. slice_get v.items c) (sym sessions) ∙ e));
-  table = λ p. ap (λ ins. held_of ins c p) tables ∙ w.table p ∙ ap (λ k. if is_up (state_of k h.items) then table_since h.changes p else None) session;
-  identifier = ap (λ ins. identifier_of ins c) tables ∙ w.identifier ∙ ap (λ k. if is_up (state_of k h.items) then agreed_identifier k h.items else 0) session;
+  table = λ p. tables.held c p ∙ w.table p ∙ ap (λ k. if is_up (state_of k h.items) then table_since h.changes p else None) session;
+  identifier = tables.identifiers c ∙ w.identifier ∙ ap (λ k. if is_up (state_of k h.items) then agreed_identifier k h.items else 0) session;
   outlet = outlet;
   ordered = ordered;
   watched = watched_still old.watched.items new.watched.items c h.endings h.faults (ap (λ v. v.items) watched) w.watched;
@@ -65,7 +65,7 @@ knows_by old new s t c h session sessions tables outlet ordered watched w = reco
 
 -- where nothing but what waits has changed, what is known is known
 pub unmoved : (old new : Core) (s : Configuration) (c : ℕ) (h : Hearing) → new.sessions ≡ old.sessions → new.ribs ≡ old.ribs → new.watched ≡ old.watched → Knows old s c h → Knows new s c h
-unmoved old new s c h sessions ribs watched w = knows_by old new s s c h refl sessions (ap (λ (r : Ribs). r.tables) ribs)
+unmoved old new s c h sessions ribs watched w = knows_by old new s s c h refl sessions (subst (λ (r : Ribs). Same old.ribs.tables r.tables) (sym ribs) (record { count = refl; identifiers = λ d. refl; held = λ d q. refl }))
     (λ config none. subst (λ r. SpeaksTo s c h (outlet_in r c none)) (sym ribs) (w.outlet (sym (ap (λ (r : Ribs). r.config) ribs) ∙ config) none))
     (λ config none. subst (λ r. IsOrdered s c h (outlet_in r c none)) (sym ribs) (w.ordered (sym (ap (λ (r : Ribs). r.config) ribs) ∙ config) none)) watched w
 
@@ -88,8 +88,8 @@ talks_fixed s t c h v w session opening alone talk = record {
 
 -- another configuration that leaves as it is what has to stay
 pub ruled : (old new : Core) (run : List Move) (config : Configuration) → IsFixed (config_in run) config
-    → new.count ≡ old.count → new.ribs.config ≡ config → new.sessions ≡ old.sessions → new.buffers ≡ old.buffers → new.watched ≡ old.watched → new.ribs.tables ≡ old.ribs.tables
-    → ChangesAll (λ c. IsMarked old.ribs.tables) old.ribs new.ribs → AgreesOnClients old run → AgreesOnClients new (Ruled config ∷ run)
+    → new.count ≡ old.count → new.ribs.config ≡ config → new.sessions ≡ old.sessions → new.buffers ≡ old.buffers → new.watched ≡ old.watched → Same old.ribs.tables new.ribs.tables
+    → ChangesAll (λ c. IsMarked new.ribs.tables) old.ribs new.ribs → AgreesOnClients old run → AgreesOnClients new (Ruled config ∷ run)
 ruled old new run config fixed count is sessions buffers watched tables marked h = record {
   config = is;
   clients = λ c lt.
@@ -100,10 +100,10 @@ ruled old new run config fixed count is sessions buffers watched tables marked h
         knows = knows_by old new (config_in run) config c (hearing c run) session sessions tables
             (λ _ none. spoken_on (config_in run) config c (hearing c run) (hearing c run) (outlet_in old.ribs c none) (outlet_in new.ribs c none) (speech_fixed (config_in run) config c (hearing c run) session)
             (λ l. ap (λ k. is_live (state_of k (hearing c run).items)) session ∙ l) refl
-            (same_again _ _ (marked_same old.ribs.tables _ _ (marked.each c none (subst (λ n. c < n) (sym old.ribs_len) there))))
+            (same_again _ _ (marked_same new.ribs.tables _ _ (marked.each c none (subst (λ n. c < n) (sym old.ribs_len) there))))
             (talks_fixed (config_in run) config c (hearing c run) (outlet_in old.ribs c none) (outlet_in new.ribs c none) session (open_fixed (config_in run) config fixed)
-            (marked_alone old.ribs.tables _ _ (marked.each c none (subst (λ n. c < n) (sym old.ribs_len) there))) (at.knows.outlet h.config none).talk) (at.knows.outlet h.config none))
-            (λ _ none. let same = marked_same old.ribs.tables _ _ (marked.each c none (subst (λ n. c < n) (sym old.ribs_len) there)) in
+            (marked_alone new.ribs.tables _ _ (marked.each c none (subst (λ n. c < n) (sym old.ribs_len) there))) (at.knows.outlet h.config none).talk) (at.knows.outlet h.config none))
+            (λ _ none. let same = marked_same new.ribs.tables _ _ (marked.each c none (subst (λ n. c < n) (sym old.ribs_len) there)) in
             let v = outlet_in old.ribs c none in
             ordered_on (config_in run) config c (hearing c run) (hearing c run) v (outlet_in new.ribs c none) refl
             (ap (λ (x : View). (hearing c run).taken ++ x.flight) same.is) (ap (λ (x : View). x.speech) same.is) (ap (λ (x : View). x.loc) same.is) (ap (λ (x : View). x.told) same.is) (ap (λ (x : View). x.marked) same.is)

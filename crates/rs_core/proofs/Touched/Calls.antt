@@ -134,7 +134,7 @@ keeps_touched c old new run count down same = record { each = λ d lt up. touche
   other d up e = absurd (let f : false ≡ true = sym down ∙ ap (λ k. is_established run k) (sym e) ∙ up in cc)
 
 -- another configuration
-pub touches_all : (old new : Core) (run : List Move) → new.count ≡ old.count → ChangesAll (λ c. IsMarked old.ribs.tables) old.ribs new.ribs → AgreesOnClients old run → TouchesAll run new
+pub touches_all : (old new : Core) (run : List Move) → new.count ≡ old.count → ChangesAll (λ c. IsMarked new.ribs.tables) old.ribs new.ribs → AgreesOnClients old run → TouchesAll run new
 unfolding client_count
 touches_all old new run count marked h = record {
   each = λ c lt up.

@@ -1,6 +1,7 @@
 -- The routes of the rows, by rising prefix, are the Loc-RIB.
 use Rattle.std.proofs.Common.{◌≡◌, ℕ, Bool, true, false, cond, ◌&&◌, ◌||◌, Option, None, Some, IsSome, List, [], ◌∷◌, T, refl, sym, ap, ◌∙◌, subst}
 use mathlib.Core.Bool.{true≢false}
+use Rattle.std.specs.Prelude.{◌↔◌, IsTrue}
 use Rattle.std.specs.FinMap as fin
 use Rattle.std.specs.FinMap.Entries.{below_all, find, is_sorted, same_entries}
 use Rattle.std.specs.List.{All, AllByRecursion, Contains, list_any}
@@ -10,12 +11,13 @@ use Rattle.std.specs.Ordering.{is_lt}
 use Rattle.std.specs.Cmp.{eq_by_cmp_equiv}
 use Rattle.std.specs.declared.cmp.Ordering.TheVariants.{Less}
 use Rattle.std.proofs.lemmas.List.Elements.{recursion_from_All}
-use Rattle.std.proofs.lemmas.Map.Views.{list_any-from_Contains}
+use Rattle.std.proofs.lemmas.Map.Views.{Contains-from_any, list_any-from_Contains, tells_apart}
 use Rattle.std.proofs.lemmas.Bool.{or_parts}
 use Rattle.rs_octets.specs.Prefixes.{Prefix, prefix_order}
 use Rattle.rs_attrs.specs.Meaning.{Attribute}
 use Rattle.rs_adjin.specs.declared.adj_ins.AdjIns.{AdjIns}
 use Rattle.rs_adjin.specs.AdjIns.{number_of}
+use Rattle.rs_adjin.specs.Onward.{is_from}
 use Rattle.rs_outlet.specs.declared.rows.Row.{Row}
 use Rattle.rs_outlet.specs.Inside.{attributes_at, loc_of}
 use Rattle.rs_outlet.specs.Listing.{routes_at, with_route}
@@ -74,19 +76,39 @@ module _ (rows : List (Option Row)) where
         | false ↦ λ is later. find_with q e.0 (attributes_at rows e.1) (routes_at rows es) false is refl ∙ listed ins q es up.1 h.1 later
       ] refl there
 
+  found : (ins : AdjIns) (q : Prefix) (es : List (Prefix × ℕ)) → IsStrictlySortedBy prefix_order (keys_of es) → AllByRecursion (λ e. number_of ins e.0 ≡ Some e.1) es → (IsSome (number_of ins q) → Contains (keys_of es) q)
+      → find prefix_order q (routes_at rows es) ≡ value_at rows (number_of ins q)
+  found ins q es up numbers each = go (number_of ins q) refl
+    where
+      none_there : (b : Bool) → list_any (same q) (keys_of es) ≡ b → number_of ins q ≡ None → find prefix_order q (routes_at rows es) ≡ value_at rows (number_of ins q)
+      none_there true there none = listed ins q es up numbers there
+      none_there false there none = unlisted q es there ∙ ap (value_at rows) (sym none)
+
+      go : (o : Option ℕ) → number_of ins q ≡ o → find prefix_order q (routes_at rows es) ≡ value_at rows (number_of ins q)
+      go None is = none_there (list_any (same q) (keys_of es)) refl is
+      go (Some n) is = listed ins q es up numbers (list_any-from_Contains (eq_by_cmp_equiv prefixes_total) q (keys_of es) (each (subst IsSome (sym is) refl)))
+
   pub routes_listed : (ins : AdjIns) (es : List (Prefix × ℕ)) → Numbered rows ins → IsStrictlySortedBy prefix_order (keys_of es) → All (λ e. number_of ins e.0 ≡ Some e.1) es
       → ((p : Prefix) → IsSome (number_of ins p) → Contains (keys_of es) p) → routes_at rows es ≡ fin.entries (loc_of rows)
   routes_listed ins es are up numbers each =
       same_entries prefix_order prefixes_total exact_prefixes (routes_at rows es) (fin.entries (loc_of rows)) (routes_rise es up) (fin.entries_sorted (loc_of rows))
-      (λ q. found q (number_of ins q) refl ∙ sym (by_number ins rows are q (number_of ins q) refl) ∙ fin.get-entries (loc_of rows) q)
+      (λ q. found ins q es up (recursion_from_All (λ e. number_of ins e.0 ≡ Some e.1) es numbers) (each q) ∙ sym (by_number ins rows are q (number_of ins q) refl) ∙ fin.get-entries (loc_of rows) q)
+
+  -- from a prefix on
+  pub routes_listed_from : (ins : AdjIns) (from : Prefix) (es : List (Prefix × ℕ)) → Numbered rows ins → IsStrictlySortedBy prefix_order (keys_of es) → All (λ e. number_of ins e.0 ≡ Some e.1) es
+      → ((p : Prefix) → Contains (keys_of es) p ↔ (IsTrue (is_from from p) × IsSome (number_of ins p))) → routes_at rows es ≡ fin.entries (fin.retain_keys (loc_of rows) (is_from from))
+  routes_listed_from ins from es are up numbers each =
+      same_entries prefix_order prefixes_total exact_prefixes (routes_at rows es) (fin.entries (fin.retain_keys (loc_of rows) (is_from from))) (routes_rise es up)
+      (fin.entries_sorted (fin.retain_keys (loc_of rows) (is_from from)))
+      (λ q. at q (is_from from q) refl ∙ sym (fin.get-retain_keys (loc_of rows) (is_from from) q (λ x e. ap (is_from from) (sym (exact_prefixes q x e)))) ∙ fin.get-entries (fin.retain_keys (loc_of rows) (is_from from)) q)
     where
       with_numbers : AllByRecursion (λ e. number_of ins e.0 ≡ Some e.1) es
       with_numbers = recursion_from_All (λ e. number_of ins e.0 ≡ Some e.1) es numbers
 
-      none_there : (q : Prefix) (b : Bool) → list_any (same q) (keys_of es) ≡ b → number_of ins q ≡ None → find prefix_order q (routes_at rows es) ≡ value_at rows (number_of ins q)
-      none_there q true there none = listed ins q es up with_numbers there
-      none_there q false there none = unlisted q es there ∙ ap (value_at rows) (sym none)
+      before : (q : Prefix) (t : Bool) → list_any (same q) (keys_of es) ≡ t → is_from from q ≡ false → find prefix_order q (routes_at rows es) ≡ None
+      before q true there out = absurd (true≢false (sym ((each q).0 (Contains-from_any (tells_apart exact_prefixes) q (keys_of es) there)).0 ∙ out))
+      before q false there out = unlisted q es there
 
-      found : (q : Prefix) (o : Option ℕ) → number_of ins q ≡ o → find prefix_order q (routes_at rows es) ≡ value_at rows (number_of ins q)
-      found q None is = none_there q (list_any (same q) (keys_of es)) refl is
-      found q (Some n) is = listed ins q es up with_numbers (list_any-from_Contains (eq_by_cmp_equiv prefixes_total) q (keys_of es) (each q (subst IsSome (sym is) refl)))
+      at : (q : Prefix) (b : Bool) → is_from from q ≡ b → find prefix_order q (routes_at rows es) ≡ cond (is_from from q) (fin.get (loc_of rows) q) None
+      at q true is = found ins q es up with_numbers (λ some. (each q).1 (is, some)) ∙ sym (by_number ins rows are q (number_of ins q) refl) ∙ ap (λ b. cond b (fin.get (loc_of rows) q) None) (sym is)
+      at q false is = before q (list_any (same q) (keys_of es)) refl is ∙ ap (λ b. cond b (fin.get (loc_of rows) q) None) (sym is)

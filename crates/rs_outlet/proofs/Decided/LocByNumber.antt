@@ -1,10 +1,11 @@
 -- The Loc-RIB as a table by prefix, read and written at a number.
 use Rattle.std.proofs.Common.{Bool, true, false, cond, ◌≡◌, ◌≢◌, ◌<◌, ◌+◌, ℕ, zero, suc, List, [], ◌∷◌, length, Option, None, Some, refl, sym, ◌∙◌, ap, subst, arith, inl, inr, slice_set}
-use Rattle.std.specs.Prelude.{slice_get}
+use Rattle.std.specs.Prelude.{count_by, is_some, slice_get}
 use Rattle.std.specs.FinMap as fin
 use Rattle.std.specs.Arc.{arc_value}
 use Rattle.std.specs.Ordering.{eq_by_cmp, is_eq}
 use Rattle.std.proofs.lemmas.Cmp.{tied_itself}
+use Rattle.std.proofs.lemmas.List.Sums.{sum_by-cons}
 use Rattle.std.proofs.lemmas.Option.{same_Some}
 use Rattle.std.proofs.lemmas.Bool.{cases_eq}
 use Rattle.rs_octets.specs.Prefixes.{Prefix, prefix_order}
@@ -131,3 +132,17 @@ module _ (ins : AdjIns) (rows : List (Option Row)) (n : ℕ) (x : Option Row) (b
       by_number ins (slice_set rows n x) (set_numbered are new) q (number_of ins q) refl
       ∙ set_at p q at (same q p) refl
       ∙ ap (cond (same q p) (shown x)) (sym (by_number ins rows are q (number_of ins q) refl))
+
+-- ---- how many routes there are
+
+pub loc_len : (ins : AdjIns) (k : ℕ) (rows : List (Option Row)) → HaveNumbers (numbers_from k rows) ins → fin.len (loc_of rows) ≡ count_by is_some rows
+loc_len ins k [] h = fin.len-empty prefix_order (List Attribute)
+loc_len ins k (None ∷ rows) h = loc_len ins (suc k) rows h
+loc_len ins k (Some r ∷ rows) h =
+    let none = find_none rows r.prefix (λ n s is same.
+    let e : suc k + n ≡ k = same_Some (suc k + n) k (sym (numbered_from ins (suc k) rows h.1 n s is) ∙ (ap (number_of ins) same ∙ h.0)) in
+    omega (arith, e)) in
+    let absent : is_some (fin.get (loc_of rows) r.prefix) ≡ false = ap is_some (loc_table rows r.prefix ∙ none) in
+    let more = fin.len-insert prefixes_total (loc_of rows) r.prefix (arc_value r.attrs) ∙ ap (λ b. cond b (fin.len (loc_of rows)) (fin.len (loc_of rows) + 1)) absent in
+    let one : count_by is_some (Some r ∷ rows) ≡ 1 + count_by is_some rows = sum_by-cons (λ (o : Option Row). cond (is_some o) 1 0) (Some r) rows in
+    omega (arith, more, one, loc_len ins (suc k) rows h.1)

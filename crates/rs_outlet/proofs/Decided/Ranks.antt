@@ -1,5 +1,5 @@
 -- The ranks of candidates have distinct places, and the route of a place is what its sender holds.
-use Rattle.std.proofs.Common.{◌≡◌, ◌<◌, ◌≤◌, ℕ, zero, suc, nat_lt, Bool, true, false, not, cond, ◌==◌, ◌&&◌, ◌||◌, Option, None, Some, List, [], ◌∷◌, ◌++◌, append_assoc, length, refl, sym, ap, ◌∙◌, subst, arith}
+use Rattle.std.proofs.Common.{◌≡◌, ◌<◌, ◌≤◌, ℕ, zero, suc, nat_lt, Bool, true, false, not, cond, ◌==◌, ◌&&◌, ◌||◌, Option, None, Some, List, [], ◌∷◌, ◌++◌, append_assoc, length, map, refl, sym, ap, ◌∙◌, subst, arith}
 use Rattle.std.proofs.lemmas.Bool.Decides.{nat_tests}
 use Rattle.std.proofs.lemmas.Option.{slice_get_read}
 use Rattle.std.specs.Prelude.{unwrap_or, option_and_then, slice_get, slice_index_or, if◌then◌else◌}
@@ -196,3 +196,17 @@ one_alone xs x (y ∷ rest) n is counted one =
 
 pub held_alone : (ins : AdjIns) (p : Prefix) (h : ℕ × List Attribute) → All (λ h. held_of ins h.0 p ≡ Some h.1) (h ∷ []) → held_of ins h.0 p ≡ Some h.1
 held_alone ins p h each = (recursion_from_All (λ h. held_of ins h.0 p ≡ Some h.1) (h ∷ []) each).0
+
+-- ---- routes without their notes
+
+abbrev pub sent : List ((ℕ × List Attribute) × ℕ) → List (ℕ × List Attribute)
+sent holders = map (λ h. h.0) holders
+
+-- their senders are clients that there are
+pub senders_known : (n m : ℕ) (holders : List ((ℕ × List Attribute) × ℕ)) → n ≡ m → All (λ h. h.0 < n) (sent holders) → All (λ h. h.0.0 < m) holders
+senders_known n m holders same known =
+    subst (λ k. All (λ h. h.0.0 < k) holders) same (All-from_recursion (λ h. h.0.0 < n) holders (each_sender n holders (recursion_from_All (λ h. h.0 < n) (sent holders) known)))
+  where
+    each_sender : (n : ℕ) (holders : List ((ℕ × List Attribute) × ℕ)) → AllByRecursion (λ h. h.0 < n) (sent holders) → AllByRecursion (λ h. h.0.0 < n) holders
+    each_sender n [] known = tt
+    each_sender n (h ∷ holders) known = (known.0, each_sender n holders known.1)

@@ -12,6 +12,7 @@ use crate::config::texts::is_name;
 use crate::config::top::TOP;
 use crate::config::values::{Address, Endpoint, POSITIVE, find, maybe, required};
 use crate::faults::{ConfigFault, Key, Place, Table};
+use crate::keys::CLIENT_KEYS;
 use std::alloc::Global;
 use std::marker::Model;
 use toml::value::Value;
@@ -34,16 +35,6 @@ impl Model for Client {
 
     ghost view = { λ c. record { name = string_bytes c.name; client_as = c.client_as; listen = c.listen; peer = c.peer; limit = c.limit } };
 }
-
-const KEYS: [Key; 7] = [
-    Key::Name,
-    Key::As,
-    Key::Listen,
-    Key::Peer,
-    Key::Limit,
-    Key::Import,
-    Key::Export,
-];
 
 /// The name in a table.
 #[tactic(auto, unfolding(crate::specs::Values::required_at))]
@@ -100,7 +91,7 @@ impl Client {
         let listen = required(table, here, Key::Listen, Endpoint)?;
         let peer = required(table, here, Key::Peer, Address)?;
         let limit = maybe(table, here, Key::Limit, POSITIVE)?;
-        refuse_others(table, here, &KEYS)?;
+        refuse_others(table, here, &CLIENT_KEYS)?;
         let client = Client {
             name: String::from_str(alloc, name)?,
             client_as,

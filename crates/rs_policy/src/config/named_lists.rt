@@ -18,14 +18,13 @@ use crate::config::clients::name_in;
 use crate::config::top::TOP;
 use crate::config::values::{AsEntry, Kind, PrefixEntry, find};
 use crate::faults::{ConfigFault, Key, Place, Table};
+use crate::keys::LIST_KEYS;
 use crate::rules::Range;
 use rs_lists::{Index, Span};
 use rs_octets::Prefix;
 use std::alloc::{AllocError, Global};
 use std::marker::Model;
 use toml::value::Value;
-
-const KEYS: [Key; 3] = [Key::Name, Key::Prefixes, Key::Ases];
 
 /// The most entries of an array.
 const MOST: usize = 1_048_576;
@@ -314,7 +313,7 @@ impl NamedList {
         need_entries(table, number)?;
         let prefixes = prefixes_in(alloc, table, number)?;
         let ases = ases_in(alloc, table, number)?;
-        refuse_others(table, here, &KEYS)?;
+        refuse_others(table, here, &LIST_KEYS)?;
         let list = NamedList {
             name: String::from_str(alloc, name)?,
             prefixes,

@@ -16,31 +16,11 @@ use crate::config::values::{
     POSITIVE, PassOrDrop, PatternText, PrefixText, find, maybe, optional, required,
 };
 use crate::faults::{ConfigFault, Key, List, Place, Table};
+use crate::keys::{RULE_KEYS, USE_KEYS};
 use crate::rules::{Action, Disposition, Patterns, Range, Rule, Stripping, Tests};
 use rs_attrs::{CommunityPattern, LargeCommunityPattern};
 use std::alloc::{AllocError, Global};
 use toml::value::Value;
-
-const KEYS: [Key; 18] = [
-    Key::Prefix,
-    Key::Min,
-    Key::Max,
-    Key::PrefixIn,
-    Key::From,
-    Key::PathHas,
-    Key::PathLonger,
-    Key::PathIn,
-    Key::OriginAs,
-    Key::OriginIn,
-    Key::FirstAsIsPeer,
-    Key::Community,
-    Key::LargeCommunity,
-    Key::NextHopIsPeer,
-    Key::Action,
-    Key::Preference,
-    Key::Strip,
-    Key::StripLarge,
-];
 
 /// Names of clients, as their places from 0.
 #[derive(Clone, Copy)]
@@ -358,7 +338,7 @@ pub(crate) fn read_rule(
     let range = read_range(table, here)?;
     let tests = read_tests(table, here, clients, lists)?;
     let action = read_action(alloc, table, here)?;
-    refuse_others(table, here, &KEYS)?;
+    refuse_others(table, here, &RULE_KEYS)?;
     Ok(Rule {
         range,
         tests,
@@ -377,6 +357,6 @@ pub(crate) fn read_use(
 {
     let receiver = has_receiver(here);
     let place = required(table, here, Key::Use, SharedOf { shared, receiver })?;
-    refuse_others(table, here, &[Key::Use])?;
+    refuse_others(table, here, &USE_KEYS)?;
     Ok(place)
 }

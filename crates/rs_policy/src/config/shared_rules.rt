@@ -13,12 +13,11 @@ use crate::config::named_lists::NamedList;
 use crate::config::policies::rules_of;
 use crate::config::top::TOP;
 use crate::faults::{ConfigFault, Key, List, Place, Table};
+use crate::keys::SHARED_KEYS;
 use crate::rules::Rule;
 use std::alloc::Global;
 use std::marker::Model;
 use toml::value::Value;
-
-const KEYS: [Key; 2] = [Key::Name, Key::Rules];
 
 /// Rules that lists of clients use.
 #[derive(Debug, Drop)]
@@ -61,7 +60,7 @@ impl SharedRules {
         };
         let name = name_in(table, here)?;
         let tables = needed_tables(table, 64, here, Key::Rules)?;
-        refuse_others(table, here, &KEYS)?;
+        refuse_others(table, here, &SHARED_KEYS)?;
         if is_among(name, earlier) {
             return Err(ConfigFault::TwiceRules(number));
         }

@@ -10,6 +10,7 @@ ghost use Rattle.rs_policy.specs.Values.{answer, stranger};
 use crate::config::arrays::{refuse_others, some_tables, tables};
 use crate::config::values::{Flag, HoldTime, Identifier, POSITIVE, PassOrDrop, optional, required};
 use crate::faults::{ConfigFault, Key, Place, Table};
+use crate::keys::TOP_KEYS;
 use crate::rules::Disposition;
 use toml::value::Value;
 
@@ -24,19 +25,6 @@ pub(crate) struct Top {
     pub(crate) refresh: bool,
     pub(crate) multiprotocol: bool,
 }
-
-const KEYS: [Key; 10] = [
-    Key::As,
-    Key::Identifier,
-    Key::Hold,
-    Key::Default,
-    Key::Extended,
-    Key::Refresh,
-    Key::Multiprotocol,
-    Key::Client,
-    Key::List,
-    Key::Rules,
-];
 
 pub(crate) const TOP: Place = Place {
     table: Table::Top,
@@ -91,5 +79,5 @@ pub(crate) fn shared_tables(document: &Value) -> Result<&[Value], ConfigFault>
 pub(crate) fn refuse_other_keys(document: &Value) -> Result<(), ConfigFault>
     ensures { result ≡ stranger top_keys the_top (view document.now) }
 {
-    refuse_others(document, TOP, &KEYS)
+    refuse_others(document, TOP, &TOP_KEYS)
 }

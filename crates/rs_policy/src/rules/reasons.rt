@@ -9,7 +9,7 @@ use crate::config::Config;
 use crate::config::named_lists::NamedList;
 use crate::config::shared_rules::SharedRules;
 use crate::rules::matching::{Offer, matches};
-use crate::rules::verdict::passes;
+use crate::rules::verdict::{offer_to, passes};
 use crate::rules::{Item, Rule};
 use rs_attrs::Attrs;
 use rs_octets::Prefix;
@@ -89,7 +89,7 @@ fn decider_at(
 }
 
 /// The first rule of a list that matches.
-fn first_decider(
+pub(super) fn first_decider(
     lists: &[NamedList],
     shared: &[SharedRules],
     items: &[Item],
@@ -120,14 +120,7 @@ pub fn reasons_for(
 {
     let lists = config.lists();
     let shared = config.shared();
-    let offer = Offer {
-        from,
-        peer: config.peer(from),
-        peer_as: config.client_as(from),
-        prefix,
-        attrs,
-        to_as: config.client_as(to),
-    };
+    let offer = offer_to(config, from, to, prefix, attrs);
     let import = first_decider(lists, shared, &config.stated(from).import, &offer);
     if !passes(config.default(), lists, &config.import(from), &offer) {
         return Reasons {

@@ -1,7 +1,8 @@
 //! What the rules make of a route.
 
-ghost use Rattle.std.specs.Prelude.{◌≡◌, ◌<◌, length, find, option_map, is_some};
-ghost use Rattle.rs_policy.specs.Verdicts.{joined, matches, passing_by_default, outcome, verdict};
+ghost use Rattle.std.specs.Prelude.{◌≡◌, ◌<◌, length, find, option_map, is_some, Some};
+ghost use Rattle.rs_policy.specs.Noted.{is_plain, plainly};
+ghost use Rattle.rs_policy.specs.Verdicts.{announced_route, joined, matches, passing, passing_by_default, outcome, verdict};
 ghost use Rattle.rs_policy.specs.Configuration.{rules_in};
 ghost use Rattle.rs_policy.specs.Judged.{offered, passed_as, judged};
 
@@ -30,12 +31,38 @@ pub type Verdict<'a> = Fate<Strip<'a>>;
 
 /// How a list of rules passes a route.
 #[derive(Clone, Copy)]
-struct Passed<'a> {
+pub(super) struct Passed<'a> {
     preference: Option<u32>,
     communities: &'a [CommunityPattern],
     all_communities: bool,
     large: &'a [LargeCommunityPattern],
     all_large: bool,
+}
+
+/// A list passes a route with no preference and all communities.
+pub(super) fn plainly<'a>() -> Passed<'a>
+    ensures { passed_as result ≡ plainly }
+{
+    Passed {
+        preference: None,
+        communities: &[],
+        all_communities: false,
+        large: &[],
+        all_large: false,
+    }
+}
+
+impl Passed<'_> {
+    /// Whether no preference is given, and no community taken away.
+    pub(super) fn is_plain(&self) -> bool
+        ensures { result ≡ is_plain (passed_as self.now) }
+    {
+        self.preference.is_none()
+            && !self.all_communities
+            && !self.all_large
+            && self.communities.is_empty()
+            && self.large.is_empty()
+    }
 }
 
 /// What the first rule that matches does.
@@ -95,9 +122,25 @@ fn action_of<'a>(
     None
 }
 
+/// How a rule that does this passes a route, and None where it drops it.
+pub(super) fn passed_by<'a>(action: &'a Action) -> Option<Passed<'a>>
+    ensures { option_map passed_as result ≡ passing action.now }
+{
+    match action {
+        Action::Drop => None,
+        Action::Pass(preference, strip, strip_large) => Some(Passed {
+            preference: *preference,
+            communities: strip.named(),
+            all_communities: strip.takes_all(),
+            large: strip_large.named(),
+            all_large: strip_large.takes_all(),
+        }),
+    }
+}
+
 /// How a list of rules passes a route, and None where it drops it.
 #[tactic(auto, unfolding(crate::specs::Verdicts::outcome))]
-fn outcome<'a>(
+pub(super) fn outcome<'a>(
     default: Disposition,
     lists: &[NamedList],
     rules: &Rules<'a>,
@@ -106,23 +149,10 @@ fn outcome<'a>(
     ensures { option_map passed_as result ≡ outcome default lists.now rules.now (offered offer.now) }
 {
     match action_of(lists, rules, offer) {
-        Some(Action::Drop) => None,
-        Some(Action::Pass(preference, strip, strip_large)) => Some(Passed {
-            preference: *preference,
-            communities: strip.named(),
-            all_communities: strip.takes_all(),
-            large: strip_large.named(),
-            all_large: strip_large.takes_all(),
-        }),
+        Some(action) => passed_by(action),
         None => match default {
             Disposition::Drop => None,
-            Disposition::Pass => Some(Passed {
-                preference: None,
-                communities: &[],
-                all_communities: false,
-                large: &[],
-                all_large: false,
-            }),
+            Disposition::Pass => Some(plainly()),
         },
     }
 }
@@ -157,6 +187,43 @@ fn judge_without_rules<'a>(default: Disposition) -> Verdict<'a>
     }
 }
 
+/// What becomes of a route that the sender's import list passes so, and the receiver's export list.
+pub(super) fn join<'a>(import: &Passed<'a>, export: &Passed<'a>) -> Verdict<'a>
+    ensures { judged result ≡ joined (Some (passed_as import.now)) (Some (passed_as export.now)) }
+{
+    let given = export.preference.or(import.preference);
+    let preference = given.unwrap_or(DEFAULT_PREFERENCE);
+    let strip = Strip {
+        communities: [import.communities, export.communities],
+        all_communities: import.all_communities || export.all_communities,
+        large: [import.large, export.large],
+        all_large: import.all_large || export.all_large,
+    };
+    Verdict::Pass { preference, strip }
+}
+
+/// A route of client `from` on its way to client `to`.
+pub(super) fn offer_to<'p, 'a>(
+    config: &Config,
+    from: usize,
+    to: usize,
+    prefix: &'p Prefix,
+    attrs: &'a Attrs,
+) -> Offer<'p, 'a>
+    requires from { from < length config.now.clients }
+    requires to { to < length config.now.clients }
+    ensures { offered result ≡ announced_route config.now from to prefix.now attrs.now }
+{
+    Offer {
+        from,
+        peer: config.peer(from),
+        peer_as: config.client_as(from),
+        prefix,
+        attrs,
+        to_as: config.client_as(to),
+    }
+}
+
 /// What becomes of a route of client `from` on its way to client `to`: the first rule that matches
 /// decides, in the sender's import list and in the receiver's export list, both over the attributes
 /// as they were received (RFC 7947, 2.3). It takes no memory.
@@ -179,27 +246,12 @@ pub fn judge<'a>(
         return judge_without_rules(default);
     }
     let lists = config.lists();
-    let offer = Offer {
-        from,
-        peer: config.peer(from),
-        peer_as: config.client_as(from),
-        prefix,
-        attrs,
-        to_as: config.client_as(to),
-    };
+    let offer = offer_to(config, from, to, prefix, attrs);
     let Some(import) = outcome(default, lists, &imports, &offer) else {
         return Verdict::Drop;
     };
     let Some(export) = outcome(default, lists, &exports, &offer) else {
         return Verdict::Drop;
     };
-    let given = export.preference.or(import.preference);
-    let preference = given.unwrap_or(DEFAULT_PREFERENCE);
-    let strip = Strip {
-        communities: [import.communities, export.communities],
-        all_communities: import.all_communities || export.all_communities,
-        large: [import.large, export.large],
-        all_large: import.all_large || export.all_large,
-    };
-    Verdict::Pass { preference, strip }
+    join(&import, &export)
 }

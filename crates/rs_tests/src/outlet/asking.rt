@@ -1,7 +1,7 @@
 //! Calls that take no memory. What counts their requests for it stands outside the program:
 //! `tools/play_without_memory.py` runs these tests, and wants none between two lines that they print.
 
-use super::{CLIENT, Exchange, SENDER, all, announce, attrs, drain, let_go, prefix, some};
+use super::{CLIENT, Exchange, SENDER, all, attrs, drain, let_go, prefix, some};
 use crate::common::{from_here, to_here};
 use rs_open::Short;
 use rs_outlet::Outlet;
@@ -11,7 +11,7 @@ use std::process::Abort;
 fn change(rt: &impl Abort, exchange: &mut Exchange, outlet: &mut Outlet, first: u32, count: u32) {
     let set = attrs(rt, exchange.alloc, 13);
     for n in first..first.saturating_add(count) {
-        announce(rt, &mut exchange.tables, SENDER, prefix(rt, n), &set);
+        exchange.announce(rt, SENDER, prefix(rt, n), &set);
     }
     exchange.touch(rt, outlet, first, count);
     exchange.decides(rt, outlet, some(count as usize));

@@ -2,7 +2,7 @@
 //! `tools/play_without_memory.py` runs this test once for each request for memory, and refuses that
 //! one.
 
-use super::{CLIENT, Exchange, SENDER, all, drain, let_go, prefix, some};
+use super::{CLIENT, Exchange, all, drain, let_go, prefix, some};
 use rs_octets::Prefix;
 use rs_outlet::{Last, Outlet};
 use std::process::Abort;
@@ -15,8 +15,7 @@ const NOW: u32 = 900;
 /// The sender withdraws 50 prefixes from this one on.
 fn withdraw(rt: &impl Abort, exchange: &mut Exchange, first: u32) {
     for n in first..first.saturating_add(50) {
-        assert!(rt; SENDER < exchange.tables.clients());
-        assert!(rt; exchange.tables.withdraw(SENDER, prefix(rt, n)));
+        assert!(rt; exchange.withdraw(rt, prefix(rt, n)));
     }
 }
 

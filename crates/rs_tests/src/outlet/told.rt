@@ -1,7 +1,7 @@
 //! What clients are told of the same routes, by their rules, by the mode that they speak and by the
 //! longest message that they take; and of 100,000 routes at once.
 
-use super::{CLIENT, Exchange, SENDER, all, announce, attrs, drain, let_go, prefix, some};
+use super::{CLIENT, Exchange, SENDER, all, attrs, drain, let_go, prefix, some};
 use rs_adjin::AdjIns;
 use rs_attrs::{Mode, read};
 use rs_octets::Prefix;
@@ -61,7 +61,7 @@ impl Exchange {
         let set = Arc::new(self.alloc, attrs).expect(rt, "attributes");
         assert!(rt; member < self.tables.clients());
         self.tables.begin(member, identifier);
-        announce(rt, &mut self.tables, member, announced(rt), &set);
+        self.announce(rt, member, announced(rt), &set);
     }
 
     /// All that a client is sent in its first turn.
@@ -235,7 +235,7 @@ fn messages_are_as_long_as_the_client_takes(rt: HostRuntime) {
 fn change(rt: &impl Abort, exchange: &mut Exchange, outlet: &mut Outlet, first: u32) {
     let set = attrs(rt, exchange.alloc, 13);
     for n in first..first.saturating_add(1_000) {
-        announce(rt, &mut exchange.tables, SENDER, prefix(rt, n), &set);
+        exchange.announce(rt, SENDER, prefix(rt, n), &set);
     }
     exchange.touch(rt, outlet, first, 1_000);
     exchange.decides(rt, outlet, some(1_000));

@@ -48,6 +48,14 @@ pub(super) fn config(rt: &impl Abort, alloc: Global, rules: (&str, &str, &str)) 
     read(rt, alloc, text.expect(rt, "a text").as_str())
 }
 
+/// The preference with which a route is passed.
+fn preference_of(verdict: &Verdict<'_>) -> Option<u32> {
+    match verdict {
+        Verdict::Drop => None,
+        Verdict::Pass { preference, .. } => Some(*preference),
+    }
+}
+
 /// A route of a, which may go to b.
 #[derive(Drop)]
 pub(super) struct Route {
@@ -72,21 +80,29 @@ impl Route {
         judge(config, 0, 1, &self.prefix, &self.attrs)
     }
 
+    /// The same, where the import list was asked before.
+    fn judged_by_note<'a>(&self, rt: &impl Abort, config: &'a Config) -> Verdict<'a> {
+        assert_eq!(rt; config.clients(), 2);
+        let note = import_note(config, 0, &self.prefix, &self.attrs);
+        judge_noted(config, 0, 1, &self.prefix, &self.attrs, note)
+    }
+
     /// The preference with which it goes to b, or None where it is dropped.
     pub(super) fn preference(&self, rt: &impl Abort, config: &Config) -> Option<u32> {
-        match self.judged(rt, config) {
-            Verdict::Drop => None,
-            Verdict::Pass { preference, .. } => Some(preference),
-        }
+        let found = preference_of(&self.judged(rt, config));
+        assert_eq!(rt; preference_of(&self.judged_by_note(rt, config)), found);
+        found
     }
 
     /// The preference with which it goes to b, and what is taken away, where it isn't dropped.
     pub(super) fn passed<'a>(&self, rt: &impl Abort, config: &'a Config) -> (u32, Strip<'a>) {
-        let passed = match self.judged(rt, config) {
+        let passed = match self.judged_by_note(rt, config) {
             Verdict::Drop => None,
             Verdict::Pass { preference, strip } => Some((preference, strip)),
         };
-        passed.expect(rt, "a route that goes to b")
+        let passed = passed.expect(rt, "a route that goes to b");
+        assert_eq!(rt; preference_of(&self.judged(rt, config)), Some(passed.0));
+        passed
     }
 
     /// By these rules it goes to b with this preference, or not at all.

@@ -4,7 +4,7 @@ use Rattle.rs_adjin.specs.Numbers.{prefix_of_in}
 use Rattle.std.specs.Prelude.{None}
 use Rattle.std.specs.Arc.{arc_value}
 use Rattle.rs_adjin.specs.Table.{KeepsTable}
-use Rattle.rs_adjin.proofs.Steps.{lists_kept, kept_more, lists_write}
+use Rattle.rs_adjin.proofs.Steps.{lists_kept, kept_more, lists_notes, lists_write}
 use Rattle.rs_adjin.proofs.Holding.{held_kept, held_left}
 use Rattle.rs_adjin.proofs.GivenBack.{undone, nobody, nobody_yet}
 use Rattle.rs_adjin.proofs.table.put_first.Goals as goal
@@ -50,3 +50,15 @@ pub returns-in-Err-clause-unnumbered : goal.returns-in-Err-clause-unnumbered
 returns-in-Err-clause-unnumbered c =
     let at = c.put_row.ensures.numbers c.args.prefix ∙ c.in_ok-number.ensures.number in
     undone c.args.table.now c.put_row.new.table c.release.new.self c.args.prefix c.in_ok-number.number c.requires.absent at (λ q ne. c.put_row.ensures.numbers q ∙ c.add_new.ensures.others q ne) c.release.ensures.numbers (given c)
+
+-- ---- the notes
+
+pub returns-in_err-number-clause-noted : goal.returns-in_err-number-clause-noted
+returns-in_err-number-clause-noted c f is h = lists_notes c.args.table.now c.add_new.new.self c.add_new.ensures.rows f h
+
+pub returns-in-Ok-clause-noted : goal.returns-in-Ok-clause-noted
+returns-in-Ok-clause-noted c f is h = c.put_row.ensures.noted f is (lists_notes c.args.table.now c.add_new.new.self c.add_new.ensures.rows f h)
+
+pub returns-in-Err-clause-noted : goal.returns-in-Err-clause-noted
+returns-in-Err-clause-noted c f is h =
+    lists_notes c.put_row.new.table c.release.new.self c.release.ensures.rows f (c.put_row.ensures.noted f is (lists_notes c.args.table.now c.add_new.new.self c.add_new.ensures.rows f h))

@@ -4,12 +4,13 @@ use Rattle.std.specs.Prelude.{option_copied}
 use Rattle.std.specs.Borrow.{Bor}
 use Rattle.std.specs.List.{list_any}
 use Rattle.std.proofs.lemmas.Bool.Decides.{nat_tests}
+use Rattle.rs_attrs.specs.Meaning.{Attribute}
 use Rattle.rs_outlet.specs.Decided.Due.{any_holds}
 use Rattle.rs_outlet.specs.Decided.HeldBy.{held_by}
 use Rattle.rs_outlet.specs.Inside.{attributes_at, shown}
 use Rattle.rs_outlet.specs.declared.rows.Row.{Row}
 use Rattle.rs_outlet.proofs.Decided.Numbering.{no_elements, number_back, number_there}
-use Rattle.rs_outlet.proofs.Decided.Ranks.{due_unheld}
+use Rattle.rs_outlet.proofs.Decided.Ranks.{due_unheld, sent}
 use Rattle.rs_outlet.proofs.turn.decide_number.Goals as goal
 use Rattle.rs_outlet.proofs.turn.decide_number.Goals.{else-is_empty-via-then-is_empty+else-is_none, else-is_empty-via-else-is_empty}
 
@@ -33,8 +34,8 @@ returns-then-is_none-clause-changes c =
     let n = c.args.number in
     let holders = c.at_number.result in
     let was : attributes_at c.args.rows.now.rows.items n ≡ None = ap shown (sym c.get.ensures) ∙ shown_none c.get.result (c.is_none.ensures ∙ ap not c.if-is_none.true) in
-    let none : [] ≡ holders = no_elements holders (zero_is (length holders) (sym c.is_empty.ensures ∙ c.if-is_empty.true)) in
-    inl (refl, λ p at. was ∙ sym (due_unheld t c.args.sources.now.client c.args.speech p (none ∙ (c.at_number.ensures p at).all)))
+    let none : [] ≡ sent holders = ap sent (no_elements holders (zero_is (length holders) (sym c.is_empty.ensures ∙ c.if-is_empty.true))) in
+    inl (refl, λ p at. was ∙ sym (due_unheld t c.args.sources.now.client c.args.speech p (none ∙ (c.at_number.ensures.holders p at).all)))
 
 pub returns-in_default-clause-standing : goal.returns-in_default-clause-standing
 returns-in_default-clause-standing c = λ p at.
@@ -44,9 +45,9 @@ some_copied : (r : Option (Bor Row)) → is_some r ≡ true → is_some (option_
 some_copied None h = absurd (true≢false (sym h))
 some_copied (Some row) h = refl
 
-any_of : {A : Type 0} (xs : List A) → (length xs == 0) ≡ false → list_any (λ x. true) xs ≡ true
-any_of [] h = absurd (true≢false h)
-any_of (x ∷ xs) h = refl
+any_of : (holders : List ((ℕ × List Attribute) × ℕ)) → (length holders == 0) ≡ false → list_any (λ h. true) (sent holders) ≡ true
+any_of [] none = absurd (true≢false none)
+any_of (h ∷ holders) none = refl
 
 or_true : (b c : Bool) → c ≡ true → true ≡ (b || c)
 or_true true c h = refl
@@ -60,5 +61,5 @@ returns-clause-standing c = λ p at.
           sym (ap (λ b. b || any_holds t p) (ap is_some (sym w.get.ensures) ∙ some_copied w.get.result (w.is_none.ensures ∙ ap not w.if-is_none.false)))
       | else-is_empty-via-else-is_empty w ↦
           or_true _ (any_holds t p)
-          (ap (list_any (λ h. true)) (sym (c.at_number.ensures p at).all) ∙ any_of c.at_number.result (sym c.is_empty.ensures ∙ w.if-is_empty.false))
+          (ap (list_any (λ h. true)) (sym (c.at_number.ensures.holders p at).all) ∙ any_of c.at_number.result (sym c.is_empty.ensures ∙ w.if-is_empty.false))
     ]

@@ -3,18 +3,20 @@ use Rattle.std.proofs.lemmas.Bool.Decides.{nat_tests}
 use Rattle.std.specs.Prelude.{option_copied}
 use Rattle.std.specs.Borrow.{Bor}
 use Rattle.std.specs.List.{list_any}
+use Rattle.rs_attrs.specs.Meaning.{Attribute}
 use Rattle.rs_outlet.specs.Decided.Due.{any_holds}
 use Rattle.rs_outlet.specs.Decided.HeldBy.{held_by}
 use Rattle.rs_outlet.specs.declared.rows.Row.{Row}
+use Rattle.rs_outlet.proofs.Decided.Ranks.{sent}
 use Rattle.rs_outlet.proofs.turn.is_left.Goals as goal
 
 some_copied : (r : Option (Bor Row)) → is_some r ≡ is_some (option_copied r)
 some_copied None = refl
 some_copied (Some row) = refl
 
-none_of : {A : Type 0} (xs : List A) → (length xs == 0) ≡ not (list_any (λ x. true) xs)
+none_of : (holders : List ((ℕ × List Attribute) × ℕ)) → (length holders == 0) ≡ not (list_any (λ h. true) (sent holders))
 none_of [] = refl
-none_of (x ∷ xs) = more (length xs)
+none_of (h ∷ holders) = more (length holders)
   where
     more : (n : ℕ) → (suc n == 0) ≡ false
     more n = grind (arith, nat_tests)
@@ -22,7 +24,7 @@ none_of (x ∷ xs) = more (length xs)
 pub returns-then-is_some : goal.returns-then-is_some
 returns-then-is_some c = λ p at.
     let there = sym (some_copied c.get.result ∙ ap is_some c.get.ensures) ∙ sym c.is_some.ensures ∙ c.if-is_some.true in
-    c.is_empty.ensures ∙ none_of c.at_number.result ∙ ap (λ hs. not (list_any (λ h. true) hs)) (c.at_number.ensures p at).all
+    c.is_empty.ensures ∙ none_of c.at_number.result ∙ ap (λ hs. not (list_any (λ h. true) hs)) (c.at_number.ensures.holders p at).all
     ∙ sym (ap (λ b. b && not (any_holds (held_by c.args.sources.now) p)) there)
 
 pub returns-else-is_some : goal.returns-else-is_some

@@ -3,6 +3,7 @@ use Rattle.std.proofs.Math.ListN.{length-set}
 use Rattle.rs_adjin.specs.AdjIns.{client_count}
 use Rattle.rs_adjin.proofs.Holding.{keeps_from_same}
 use Rattle.rs_adjin.proofs.Ties.{tied_after, writes_others, mandatory_written, none_mandatory}
+use Rattle.rs_adjin.proofs.Noted.{keeps_notes}
 use Rattle.rs_adjin.proofs.adj_ins.AdjIns.withdraw_at.Goals as goal
 
 pub invariant_of-self-2 : goal.invariant_of-self-2
@@ -16,3 +17,6 @@ invariant_of-self-2 c = record {
       tied_after c.args.self.now.held.items c.args.self.now.table c.withdraw_row.new.table c.args.client c.withdraw_row.new.held c.args.self.now.tied (keeps_from_same c.args.self.now.table c.withdraw_row.new.table c.withdraw_row.ensures.numbers)
       (writes_others c.args.self.now.table c.withdraw_row.new.table c.args.client c.in-Some.prefix None c.withdraw_row.ensures.writes) c.withdraw_row.ensures.tied;
 }
+
+pub returns-clause-noted : goal.returns-clause-noted
+returns-clause-noted c = keeps_notes c.args.self.now _ c.withdraw_row.ensures.noted

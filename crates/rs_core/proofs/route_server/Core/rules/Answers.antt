@@ -17,7 +17,7 @@ returns-clause-accepted c = λ run h.
       config = c.in_ok-config.config;
       replaces = replaces;
       agrees = ruled_agrees c.in_ok-config.config c.args.self.now _ run refl replaces.same (touches_all c.args.self.now _ run refl c.replace.ensures.touched on)
-          (marked_answers c.args.self.now.ribs.tables c.args.self.now.ribs c.replace.new.self c.replace.ensures.touched) h
+          (marked_answers c.replace.new.self.tables c.args.self.now.ribs c.replace.new.self c.replace.ensures.touched) h
           (ruled c.args.self.now _ run c.in_ok-config.config replaces.same refl c.replace.ensures.config refl refl refl c.replace.ensures.tables c.replace.ensures.touched on);
     }
 

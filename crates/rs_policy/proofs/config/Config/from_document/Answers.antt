@@ -1,7 +1,7 @@
 use Rattle.std.proofs.Common.{◌∙◌}
 use Rattle.rs_policy.proofs.Checks.{passes, fails, passes_one, fails_one, answer-append-err, answer-err_for, passed_on}
 use Rattle.rs_policy.proofs.Wholes.{top_is, top_passes, clients_pass, lists_pass, shared_pass, document_passes}
-use Rattle.rs_policy.proofs.Soundness.{answer_sound}
+use Rattle.rs_policy.proofs.Imports.{answer_read}
 use Rattle.rs_policy.proofs.config.Config.from_document.Goals as goal
 
 pub returns-in_err-top : goal.returns-in_err-top
@@ -64,7 +64,7 @@ returns c = (
 
 pub invariant_of-result : goal.invariant_of-result
 invariant_of-result c =
-    answer_sound _ _
+    answer_read _ _
     (document_passes _ _ _ _ _ _ _ _ _ (top_is _ _ _ _ _ c.in_ok-top.ensures c.in_ok-tables.ensures.tables c.in_ok-named.ensures.tables c.in_ok-used.ensures c.in_ok-refuse_other_keys.ensures) c.in_ok-clients.ensures.answers.0 c.in_ok-lists.ensures.0
     (rw (c.deref.ensures.value, c.deref-2.ensures.value) at c.in_ok-shared.ensures.0)
     (rw (c.deref-3.ensures.value, c.deref-4.ensures.value, c.deref-5.ensures.value) at c.in_ok-policies.ensures.answers.0))
