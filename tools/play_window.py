@@ -3,7 +3,9 @@
 
 play_window.py PROGRAM [--long]
 
-Pages: /status by GET, by HEAD, by HTTP/1.0, four times on one connection, and a hundred times at once without waiting.
+Pages: /status by GET, by HEAD, by HTTP/1.0, four times on one connection, and a hundred times at once without waiting; then each
+page, once both members are up and hold 2,000 routes: its fields, its routes once each and in order, in pieces of at most 32,768
+octets and by its own count, what becomes of a prefix, and names that there are not.
 Refusals: what is no request, another method, a body, a Host that is no name of this machine, a long target, a long head; the
 whole answer must come before the connection ends, though the server has not read all that was sent.
 Visitors: 16 who say nothing hold all places; a seventeenth waits, and is answered once one has gone.
@@ -17,6 +19,7 @@ Access-Control-Allow-Origin. All waiting is bounded.
 """
 import contextlib
 import http.client
+import json
 import os
 import pathlib
 import resource
@@ -30,6 +33,9 @@ from results import end, tell
 
 SECONDS = 60
 PLACES = 16
+# How many routes each member announces.
+ROUTES = 2_000
+NO_PAGES = ("/members/gamma", "/members/alpha/", "/members/%3Cb%3E", "/routes/protocol/", "/why?to=beta", "/members/beta/sent?count=10001")
 
 
 def visitor(port):
@@ -56,7 +62,7 @@ def get(target, *fields, method="GET", version="1.1", host="localhost"):
 
 def is_status(body):
     """Whether this is the page /status."""
-    return b"members 2\n" in body or b'"router_id"' in body
+    return b'"router_id":"192.0.2.1"' in body
 
 
 def pages(port):
@@ -80,6 +86,136 @@ def pages(port):
     if many.count(b"HTTP/1.1 200 ") != 100 or not many.endswith(b"\r\n0\r\n\r\n"):
         return f"of 100 requests at once {many.count(b'HTTP/1.1 200 ')} are answered"
     return None
+
+
+def told(port, target):
+    """The body of a page, or None where there is none."""
+    connection = http.client.HTTPConnection("127.0.0.1", port, timeout=20)
+    connection.request("GET", target)
+    response = connection.getresponse()
+    body = response.read().decode()
+    connection.close()
+    return body if response.status == 200 else None
+
+
+def chunks(port, target):
+    """How long the chunks of a page are."""
+    _, _, rest = answer(port, get(target, "Connection: close")).partition(b"\r\n\r\n")
+    sizes = []
+    while rest:
+        line, _, rest = rest.partition(b"\r\n")
+        sizes.append(int(line, 16))
+        rest = rest[sizes[-1] + 2 :]
+    return sizes
+
+
+def networks(first):
+    """The prefixes that a member announces, in order."""
+    return [f"{first}.{at >> 8}.{at & 255}.0/24" for at in range(ROUTES)]
+
+
+def protocols(port):
+    """What is wrong with /protocols/bgp, once both members hold all routes and are due the other's."""
+    until = time.monotonic() + 30
+    while time.monotonic() < until:
+        all_of = json.loads(told(port, "/protocols/bgp"))["protocols"]
+        if all(it["routes"] == {"imported": ROUTES, "exported": ROUTES} for it in all_of.values()):
+            break
+        time.sleep(0.2)
+    else:
+        return f"/protocols/bgp says {all_of}"
+    for name, number in (("alpha", 64496), ("beta", 64497)):
+        said = all_of.pop(name)
+        fixed = {"protocol": name, "state": "up", "description": name, "neighbor_address": "127.0.0.1", "neighbor_as": number}
+        fixed |= {"bgp_state": "Established", "last_error": ""}
+        if any(said[key] != value for key, value in fixed.items()) or not said["state_changed"].endswith("Z"):
+            return f"/protocols/bgp says {said}"
+        if not 0 <= said["uptime"] < SECONDS:
+            return f"/protocols/bgp says that {name} is up for {said['uptime']} seconds"
+    return f"/protocols/bgp has more members: {all_of}" if all_of else None
+
+
+def birdwatcher(port):
+    """What is wrong with birdwatcher's pages, but for /protocols/bgp."""
+    status = json.loads(told(port, "/status"))
+    if set(status) != {"api", "ttl", "status"} or status["api"]["result_from_cache"] is not False:
+        return f"/status says {status}"
+    if set(status["status"]) != {"router_id", "server_time", "last_reboot", "last_reconfig", "message", "version"}:
+        return f"/status says {status}"
+    routes = json.loads(told(port, "/routes/protocol/alpha"))["routes"]
+    if [it["network"] for it in routes] != networks(10):
+        return f"/routes/protocol/alpha lists {len(routes)} routes, and not just alpha's in order"
+    for it in routes:
+        if (it["from_protocol"], it["gateway"], it["learnt_from"]) != ("alpha", "192.0.2.11", "127.0.0.1"):
+            return f"/routes/protocol/alpha lists {it}"
+        if it["bgp"]["as_path"][0] != "64496" or it["bgp"]["next_hop"] != "192.0.2.11" or it["bgp"]["origin"] != "IGP":
+            return f"/routes/protocol/alpha lists {it}"
+        if it["type"] != ["BGP", "unicast", "univ"] or not {"age", "metric"} < set(it):
+            return f"/routes/protocol/alpha lists {it}"
+    sizes = chunks(port, "/routes/protocol/alpha")
+    if len(sizes) < 4 or max(sizes) > 32_768 or sizes[-1] != 0:
+        return f"/routes/protocol/alpha comes in chunks of {sizes} octets"
+    if json.loads(told(port, "/routes/count/protocol/beta"))["routes"] != ROUTES:
+        return "/routes/count/protocol/beta says another number"
+    at_prefix = json.loads(told(port, "/routes/prefix?prefix=11.0.9.0%2F24"))["routes"]
+    if [(it["network"], it["from_protocol"]) for it in at_prefix] != [("11.0.9.0/24", "beta")]:
+        return f"/routes/prefix says {at_prefix}"
+    if json.loads(told(port, "/routes/prefix?prefix=11.0.9.0/25"))["routes"]:
+        return "/routes/prefix says something of a prefix that nobody has"
+    return None
+
+
+def tables(port):
+    """What is wrong with our own pages of routes."""
+    for name, table, first in (("alpha", "received", 10), ("beta", "sent", 10), ("alpha", "sent", 11)):
+        listed, at = [], "0.0.0.0/0"
+        for _ in range(10):
+            page = json.loads(told(port, f"/members/{name}/{table}?from={at}&count=700"))
+            if (page["member"], page["table"]) != (name, table) or len(page["routes"]) > 700:
+                return f"/members/{name}/{table} is of {page['member']}, {page['table']}, with {len(page['routes'])} routes"
+            listed += [it["network"] for it in page["routes"]]
+            at = page["next"]
+            if at is None:
+                break
+        if listed != networks(first):
+            return f"/members/{name}/{table} lists {len(listed)} routes in all, and not just those in order"
+    return None
+
+
+def reasons(port):
+    """What is wrong with /why."""
+    for to, prefix, outcome in (("beta", "10.0.3.0/24", "chosen"), ("alpha", "10.0.3.0/24", "own")):
+        page = json.loads(told(port, f"/why?to={to}&prefix={prefix}"))
+        said = [(it["from"], it["as"], it["outcome"]) for it in page["candidates"]]
+        if (page["to"], page["prefix"], said) != (to, prefix, [("alpha", 64496, outcome)]):
+            return f"/why says {page}"
+    return None
+
+
+def texts(port):
+    """What is wrong with the pages that are no JSON."""
+    metrics = told(port, "/metrics").splitlines()
+    for line in ("rs_members 2", "rs_members_established 2", f"rs_prefix_rows {2 * ROUTES}", 'rs_member_up{member="beta"} 1'):
+        if metrics.count(line) != 1:
+            return f"/metrics lacks {line!r}"
+    for line in metrics:
+        if not line.startswith("# ") and not line.rpartition(" ")[2].isdecimal():
+            return f"/metrics has {line!r}"
+    home = told(port, "/")
+    for part in ("<!DOCTYPE html>", '<a href="/members/alpha">', '<a href="/members/beta">', "color-scheme:light dark"):
+        if part not in home:
+            return f"/ lacks {part!r}"
+    if "<script" in home or "/members/beta/sent" not in told(port, "/members/beta"):
+        return "a page for people is not as it should be"
+    for target in NO_PAGES:
+        if told(port, target) is not None:
+            return f"{target} is a page"
+    return None
+
+
+def sights(port):
+    """What is wrong with each page while two members are up."""
+    return protocols(port) or birdwatcher(port) or tables(port) or reasons(port) or texts(port)
 
 
 def refusals(port):
@@ -183,7 +319,7 @@ def while_members_speak(program, until, look):
         looking = threading.Thread(target=looks)
         looking.start()
         members = [
-            Member(name, number, f"192.0.2.{11 + at}", ("127.0.0.1", listen), routes(10 + at, 2_000))
+            Member(name, number, f"192.0.2.{11 + at}", ("127.0.0.1", listen), routes(10 + at, ROUTES))
             for at, (name, number, listen, _) in enumerate(clients)
         ]
         wrong = differs(server, members, members, until) or speak(members, until, lambda: not looking.is_alive())
@@ -217,6 +353,7 @@ def a_descriptor(program, until):
 
 LOOKS = (
     ("pages seen through the window", pages),
+    ("each page of the window", sights),
     ("what the window refuses", refusals),
     ("seventeen visitors at the window", seventeen_visitors),
 )

@@ -1,10 +1,10 @@
 -- What the server asks of its ports, each call with its answer.
 use Rattle.std.specs.Prelude.{◌≡◌, ℕ, List, Bool, Option, Some, None, Result, Ok, Err, IsErr, ⊤}
-use Rattle.rs_live.specs.declared.file_watch.FileFault.{FileFault}
+use Rattle.rs_streams.specs.declared.file_watch.FileFault.{FileFault}
 use Rattle.rs_live.specs.declared.ports.PortFault.{PortFault}
 use Rattle.rs_live.specs.declared.ports.Incoming.{Incoming}
 use Rattle.rs_live.specs.declared.ports.Line.{Line}
-use Rattle.rs_live.specs.declared.reports.Report.{Report}
+use Rattle.rs_reports.specs.declared.reports.Report.{Report}
 
 pub data Call : Type 0 where
   Waited : (answer : Result (Unit {0}) PortFault) → Call

@@ -1,16 +1,11 @@
 pub mod Calls
-pub mod Communications
 pub mod Operations
 pub mod Handled
 pub mod Keeping
 pub mod Keys
 pub mod Leaving
-pub mod Levels
 pub mod Moments
-pub mod Offers
-pub mod Printing
 pub mod Rounds
 pub mod Sending
 pub mod Tallies
 pub mod Waiting
-pub mod Watched

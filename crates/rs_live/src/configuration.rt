@@ -1,6 +1,6 @@
 //! The files of the configuration, which are read again while the server runs.
 
-use crate::file_watch::{FileFault, Found, Version, WatchedFiles};
+use rs_streams::file_watch::{FileFault, Found, Version, WatchedFiles};
 use rs_texts::{end_lines, read_on};
 use std::alloc::{AllocError, Global};
 use std::fs::{Metadata, OpenFile};

@@ -6,13 +6,13 @@ ghost use Rattle.rs_live.specs.Calls.{Call};
 ghost use Rattle.rs_live.specs.declared.live_link.Phase.{Phase};
 ghost use Rattle.rs_live.specs.Handled.{Has, AreKept};
 ghost use Rattle.rs_live.specs.Keeping.{Held, change, held_by, held_of, nothing, with_rest};
-ghost use Rattle.rs_live.specs.Offers.{IsOffered};
+ghost use Rattle.rs_reports.specs.Offers.{IsOffered};
 ghost use Rattle.rs_live.specs.Sending.{Broke, Sent};
 
-use crate::offers::Offered;
 use crate::outbox::Outbox;
 use crate::ports::Ports;
 use rs_policy::Config;
+use rs_reports::offers::Offered;
 use std::alloc::{AllocError, Global};
 use std::mem;
 

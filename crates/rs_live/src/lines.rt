@@ -2,12 +2,12 @@
 //! strangers, so that nobody can fill a disk by coming and going. None is left out: of what comes more
 //! often a later line has the count.
 
-use crate::names::Names;
 use crate::ports::Line;
-use crate::printer::Printer;
-use crate::rate_limits::RateLimit;
-use crate::streams::Stream;
 use crate::tally::Tally;
+use rs_reports::names::Names;
+use rs_reports::rate_limits::RateLimit;
+use rs_streams::printer::Printer;
+use rs_streams::streams::Stream;
 use std::alloc::{AllocError, Global};
 use std::{fmt, mem};
 

@@ -7,16 +7,16 @@ ghost use Rattle.rs_live.specs.Calls.{Call, Closed, Logged, Printed, IsFailedAcc
 ghost use Rattle.rs_live.specs.Handled.{Has, EndBy, EndByWait, Keeps};
 ghost use Rattle.rs_live.specs.Keeping.{IsFairBy, IsPlain, all_held, before, change, held_by, with_live};
 ghost use Rattle.rs_live.specs.Leaving.{LeavesClients, LeavesPorts, LeavesRound, SamePorts};
-ghost use Rattle.rs_live.specs.Levels.{level_of};
+ghost use Rattle.rs_reports.specs.Levels.{level_of};
 
 use crate::connections::ClientConnections;
-use crate::file_watch::FileFault;
-use crate::offers::Offered;
 use crate::ports::{Incoming, Line, Ports};
-use crate::record_file::RecordEnd;
-use crate::reports::Report;
 use rs_core::Core;
 use rs_policy::RulesFault;
+use rs_reports::offers::Offered;
+use rs_reports::reports::Report;
+use rs_streams::file_watch::FileFault;
+use rs_streams::record_file::RecordEnd;
 use std::mem;
 
 /// For so many seconds after a connection began, a session ended, or rules were replaced all workers turn:

@@ -3,14 +3,14 @@
 
 ghost use Rattle.std.specs.Prelude.{◌≡◌, ◌≤◌, ◌∷◌, ℕ, Bool, List, IfOk, IfSome, length};
 ghost use Rattle.rs_live.specs.Calls.{Call, Waited, Accepted, Read, Wrote, Closed, Timed, Fetched, Printed, Logged};
-ghost use Rattle.rs_live.specs.declared.logging.Level.{Level};
+ghost use Rattle.rs_reports.specs.declared.logging.Level.{Level};
 
-use crate::file_watch::FileFault;
-use crate::logging::Level;
-use crate::record_file::RecordEnd;
-use crate::reports::Report;
 use rs_core::Core;
 use rs_policy::RulesFault;
+use rs_reports::logging::Level;
+use rs_reports::reports::Report;
+use rs_streams::file_watch::FileFault;
+use rs_streams::record_file::RecordEnd;
 
 /// A call on the ports failed.
 #[derive(Clone, Copy, Debug, PartialEq, Eq)]

@@ -1,8 +1,8 @@
 //! The record of a run, on files: `FILE`, and behind it `FILE.1`, `FILE.2`, each with the text of the
 //! configuration that was in force when it was begun beside it. `rs_replay` plays them, one behind the other.
 
-use crate::logging::Stamp;
-use crate::record_file::{AppendedFile, ROOM, RecordEnd, RecordFile};
+use rs_reports::logging::Stamp;
+use rs_streams::record_file::{AppendedFile, ROOM, RecordEnd, RecordFile};
 use std::alloc::Global;
 use std::fs::OpenOptions;
 use std::io;

@@ -1,18 +1,22 @@
 //! The events of the core's link as lines, on their way to the ports. The ports are the link's while the core
 //! is driven, so the lines of a drive wait in a reel, and are handed on behind it.
 
-ghost use Rattle.std.specs.Prelude.{◌<◌, ◌≤◌};
+ghost use Rattle.std.specs.Prelude.{◌≡◌, ◌<◌, ◌≤◌, true};
+ghost use Rattle.rs_core.specs.Core.{client_count};
+ghost use Rattle.rs_core.specs.Drives.Answers.{Drives};
+ghost use Rattle.rs_core.specs.Drives.Courses.{Continues};
 ghost use Rattle.rs_core.specs.Drives.Steps.{HasStopped};
+ghost use Rattle.rs_record.specs.Records.{DrivesRecorded, goes};
 ghost use Rattle.rs_live.specs.Calls.{IsFailedAccept};
 ghost use Rattle.rs_live.specs.Handled.{EndBy, Has, Keeps};
 ghost use Rattle.rs_live.specs.Leaving.{LeavesClients};
 
 use crate::live_link::LiveLink;
 use crate::ports::Ports;
-use crate::record_file::RecordEnd;
-use rs_core::{Core, Sink, Source};
+use rs_core::{Core, Sink, Source, drive, drive_with};
 use rs_policy::Config;
 use rs_record::{RecordFault, Recorder, Reel, drive_recorded, drive_recorded_with};
+use rs_streams::record_file::RecordEnd;
 use rs_workers::Free;
 use std::alloc::{AllocError, Global};
 use std::sync::Wait;
@@ -47,11 +51,6 @@ impl Recording {
         self.goes_on = link.record(&[], None);
     }
 
-    /// There is a record that goes on.
-    pub(crate) fn goes_on(&self) -> bool {
-        self.goes_on
-    }
-
     /// Why the record can't go on.
     fn end(&self) -> Option<RecordEnd> {
         match self.recorder.fault() {
@@ -75,11 +74,18 @@ impl Recording {
         self.reel.clear();
     }
 
-    /// Drives the core by the link, and records the events.
+    /// Drives the core by the link until that stops, and records the events while the record goes on.
     pub(crate) fn drive<L: Source + Sink>(&mut self, rt: &impl Wait, core: &mut Core, link: &mut L)
+        ensures count { client_count core.new ≡ client_count core.old }
         ensures led { HasStopped L.happens link.old link.new }
+        ensures drives { Continues L.happens core.old link.old core.new link.new Drives }
+        ensures recorded { self.old.goes_on ≡ true → Continues L.happens core.old link.old core.new link.new (DrivesRecorded self.old.recorder.names.names (goes self.old.recorder.fault self.old.reel.is_over) self.new.recorder.fault self.new.reel.is_over self.old.reel.lines.items self.new.reel.lines.items) }
     {
-        drive_recorded(rt, core, link, &mut self.recorder, &mut self.reel);
+        if self.goes_on {
+            drive_recorded(rt, core, link, &mut self.recorder, &mut self.reel);
+        } else {
+            drive(rt, core, link);
+        }
     }
 
     /// The same with turns by 1 to 16 workers.
@@ -91,16 +97,16 @@ impl Recording {
         link: &mut L,
     )
         requires { (0 < workers) × (workers ≤ 16) }
+        ensures count { client_count core.new ≡ client_count core.old }
         ensures led { HasStopped L.happens link.old link.new }
+        ensures drives { Continues L.happens core.old link.old core.new link.new Drives }
+        ensures recorded { self.old.goes_on ≡ true → Continues L.happens core.old link.old core.new link.new (DrivesRecorded self.old.recorder.names.names (goes self.old.recorder.fault self.old.reel.is_over) self.new.recorder.fault self.new.reel.is_over self.old.reel.lines.items self.new.reel.lines.items) }
     {
-        drive_recorded_with(
-            rt,
-            workers,
-            &Free,
-            core,
-            link,
-            &mut self.recorder,
-            &mut self.reel,
-        );
+        if self.goes_on {
+            let (recorder, reel) = (&mut self.recorder, &mut self.reel);
+            drive_recorded_with(rt, workers, &Free, core, link, recorder, reel);
+        } else {
+            drive_with(rt, workers, &Free, core, link);
+        }
     }
 }

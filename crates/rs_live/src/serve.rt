@@ -10,9 +10,8 @@ use crate::live_link::{LiveLink, Stage};
 use crate::ports::Ports;
 use crate::recording::Recording;
 use crate::watch::Watch;
-use rs_core::{Core, drive, drive_with};
+use rs_core::Core;
 use rs_policy::Config;
-use rs_workers::Free;
 use std::alloc::Global;
 use std::sync::Wait;
 use std::thread::Threads;
@@ -161,7 +160,7 @@ fn play_round<R: Threads + Wait + Sync, P: Ports>(
     unreachable!()
 }
 
-/// Drives the core until the link stops; and records the events, where a record goes on.
+/// Drives the core until the link stops, and hands on what was recorded.
 fn go_on<R: Threads + Wait + Sync, P: Ports>(
     rt: &R,
     workers: usize,
@@ -174,35 +173,12 @@ fn go_on<R: Threads + Wait + Sync, P: Ports>(
     ensures handled { IsRunning P.asked link.old → link.new.has_failed ≡ false → Keeps P.asked link.new }
     ensures halted { IsRunning P.asked link.old → link.new.has_failed ≡ true → Has P.asked link.new.ports.now (EndBy IsFailedAccept) }
 {
-    if recording.goes_on() {
-        record_on(rt, workers, recording, core, link);
-        recording.hand_on(link);
-    } else {
-        drive_on(rt, workers, core, link);
-    }
+    drive_on(rt, workers, recording, core, link);
+    recording.hand_on(link);
 }
 
 /// Drives the core until the link stops, with all workers where it asks for them.
 fn drive_on<R: Threads + Wait + Sync, P: Ports>(
-    rt: &R,
-    workers: usize,
-    core: &mut Core,
-    link: &mut LiveLink<'_, P>,
-)
-    requires workers { (0 < workers) × (workers ≤ 16) }
-    ensures same_ports { SamePorts link.old link.new }
-    ensures handled { IsRunning P.asked link.old → link.new.has_failed ≡ false → Keeps P.asked link.new }
-    ensures halted { IsRunning P.asked link.old → link.new.has_failed ≡ true → Has P.asked link.new.ports.now (EndBy IsFailedAccept) }
-{
-    if link.is_wide() {
-        drive_with(rt, workers, &Free, core, link);
-    } else {
-        drive(rt, core, link);
-    }
-}
-
-/// The same, recording the events.
-fn record_on<R: Threads + Wait + Sync, P: Ports>(
     rt: &R,
     workers: usize,
     recording: &mut Recording,

@@ -1,25 +1,25 @@
 //! The ports that are sockets of the system, its clock, the files of the configuration, and the
 //! standard streams.
 
-ghost use Rattle.rs_live.specs.Levels.{is_shown};
+ghost use Rattle.rs_reports.specs.Levels.{is_shown};
 
 use crate::configuration::Configuration;
-use crate::file_watch::{FileFault, FileWatch};
 use crate::lines::Lines;
 use crate::listeners::{Accepted, Listeners};
-use crate::logging::{Level, Log, Stamp};
-use crate::names::Names;
 use crate::ports::{Incoming, Line, PortFault, Ports};
-use crate::printer::Printer;
 use crate::record::Record;
-use crate::record_file::RecordEnd;
-use crate::reports::Report;
 use crate::serve::ServeFault;
-use crate::status_page::StatusPage;
-use crate::streams::Descriptor;
+use crate::shown::Shown;
 use mio::net::{TcpListener, TcpStream};
 use mio::{Events, Interest, Poll, Token};
 use rs_core::Core;
+use rs_reports::logging::{Level, Log, Stamp};
+use rs_reports::names::Names;
+use rs_reports::reports::Report;
+use rs_streams::file_watch::{FileFault, FileWatch};
+use rs_streams::printer::Printer;
+use rs_streams::record_file::RecordEnd;
+use rs_streams::streams::Descriptor;
 use rs_visitors::window::Window;
 use slab::Slab;
 use std::alloc::{AllocError, Global};
@@ -62,7 +62,7 @@ pub struct Sockets<'a, R: Files> {
     events: Events,
     listeners: Listeners,
     streams: Slab<Connected>,
-    window: Option<Window>,
+    window: Option<Shown>,
     start: Instant,
     /// The second for which it was marked what may be there.
     marked: Option<u64>,
@@ -196,7 +196,11 @@ impl<'a, R: Net + Clock + Files> Sockets<'a, R> {
     /// Opens the window at an address, and says so, a line.
     pub fn open_window(&mut self, address: SocketAddr) -> io::Result<()> {
         let window = Window::open(self.rt, self.alloc, &self.poll, WINDOW, address)?;
-        self.window = Some(window);
+        let start = self
+            .time_of_day()
+            .unwrap_or(0)
+            .saturating_sub(self.passed());
+        self.window = Some(Shown::new(self.alloc, window, self.names.count(), start)?);
         self.output.print(format_args!("window {address}"));
         Ok(())
     }
@@ -441,6 +445,11 @@ impl<'a, R: Net + Clock + Files> Ports for Sockets<'a, R> {
         {
             record.replace();
         }
+        if let Line::Rules(Ok(())) = line
+            && let Some(window) = &mut self.window
+        {
+            window.note_rules(second);
+        }
     }
 
     fn show(&mut self, core: &Core, is_busy: bool) -> bool {
@@ -448,9 +457,8 @@ impl<'a, R: Net + Clock + Files> Ports for Sockets<'a, R> {
             return false;
         }
         let now = self.passed_milliseconds();
-        let pages = StatusPage::new(core, now / 1000);
         match &mut self.window {
-            Some(window) => window.go_on(&self.poll, self.alloc, &pages, is_busy, now),
+            Some(window) => window.go_on(&self.poll, self.alloc, core, is_busy, now),
             None => false,
         }
     }

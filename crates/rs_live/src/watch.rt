@@ -5,9 +5,9 @@ ghost use Rattle.rs_live.specs.Leaving.{KeepsOn};
 
 use crate::live_link::LiveLink;
 use crate::ports::Ports;
-use crate::rate_limits::RateLimit;
-use crate::reports::{Holder, Report};
 use rs_core::Core;
+use rs_reports::rate_limits::RateLimit;
+use rs_reports::reports::{Holder, Report};
 use std::alloc::{AllocError, Global};
 
 /// What was reported of a client.

@@ -8,12 +8,12 @@ use rs_command::configuration::read_configuration;
 use rs_command::serve::{LogLevel, Options, read_command};
 use rs_command::{Asked, Status};
 use rs_live::connections::listen_addresses;
-use rs_live::logging::{Level, Log};
-use rs_live::names::Names;
 use rs_live::record::Record;
 use rs_live::serve::{Limits, serve};
 use rs_live::sockets::Sockets;
 use rs_policy::Config;
+use rs_reports::logging::{Level, Log};
+use rs_reports::names::Names;
 use std::alloc::Global;
 use std::io;
 use std::net::{Net, SocketAddr};
@@ -131,6 +131,39 @@ fn serve_on<R: Threads + Wait + Sync + Net + Clock + Files>(
     }
 }
 
+/// Begins the record and opens the window, where they were asked for; answers whether that could be.
+fn make_ready<'a, R: Net + Clock + Files + Eprint>(
+    rt: &'a R,
+    alloc: Global,
+    options: &'a Options,
+    window: Option<SocketAddr>,
+    text: Vec<u8>,
+    ports: &mut Sockets<'a, R>,
+) -> Result<bool> {
+    if record(rt, alloc, options, text, ports)? {
+        open_window(rt, window, ports)
+    } else {
+        Ok(false)
+    }
+}
+
+/// Serves by ports that listen, with a record and a window where they were asked for.
+fn serve_by<'a, R: Threads + Wait + Sync + Net + Clock + Files + Eprint>(
+    rt: &'a R,
+    alloc: Global,
+    options: &'a Options,
+    window: Option<SocketAddr>,
+    config: Config,
+    text: Vec<u8>,
+    ports: &mut Sockets<'a, R>,
+) -> Result<Status> {
+    if make_ready(rt, alloc, options, window, text, ports)? {
+        Ok(serve_on(rt, alloc, options, config, ports))
+    } else {
+        Ok(Status::Failed)
+    }
+}
+
 /// Listens and serves, and answers the status to end with. The text of the configuration is for the record.
 fn run<R: Threads + Wait + Sync + Net + Clock + Files + Print + Eprint>(
     rt: &R,
@@ -144,15 +177,7 @@ fn run<R: Threads + Wait + Sync + Net + Clock + Files + Print + Eprint>(
     let addresses = listen_addresses(alloc, &config)?;
     let log = log_of(options);
     match Sockets::listen(rt, alloc, &options.configs, &names, log, &addresses) {
-        Ok(mut ports) => {
-            if record(rt, alloc, options, text, &mut ports)?
-                && open_window(rt, window, &mut ports)?
-            {
-                Ok(serve_on(rt, alloc, options, config, &mut ports))
-            } else {
-                Ok(Status::Failed)
-            }
-        }
+        Ok(mut ports) => serve_by(rt, alloc, options, window, config, text, &mut ports),
         Err(fault) => {
             eprintln!(rt; "listening failed: {fault}")?;
             Ok(Status::Failed)

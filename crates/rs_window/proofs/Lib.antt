@@ -1,6 +1,5 @@
 mod Sizes
 mod Bodies
 mod Fields
-mod Heads
 mod Starts
 mod Finding

@@ -14,9 +14,9 @@ const GUARDS: &[u8] =
 const FOUND: &[u8] = b"HTTP/1.1 200 OK\r\nContent-Type: ";
 
 const NOT_FOUND: &[u8] =
-    b"HTTP/1.1 404 Not Found\r\nContent-Type: text/plain; charset=utf-8\r\nContent-Length: 61\r\n";
+    b"HTTP/1.1 404 Not Found\r\nContent-Type: text/plain; charset=utf-8\r\nContent-Length: 28\r\n";
 
-const NO_PAGE: &[u8] = b"There is no such page here: / leads to those that there are.\n";
+const NO_PAGE: &[u8] = b"There is no such page here.\n";
 
 /// The last field of a head, and its end.
 const CLOSES: &[u8] = b"Connection: close\r\n\r\n";

@@ -2,11 +2,11 @@
 
 use crate::live::rounds::{COMING_UP, KEEPALIVE, OPEN_A, OPEN_B, UPDATE, until};
 use rs_live::connections::listen_addresses;
-use rs_live::logging::Log;
-use rs_live::names::Names;
 use rs_live::serve::serve;
 use rs_live::sockets::Sockets;
 use rs_policy::Config;
+use rs_reports::logging::Log;
+use rs_reports::names::Names;
 use std::io::{Read, Write};
 use std::net::{Ipv4Addr, SocketAddr, SocketAddrV4, TcpStream};
 use std::test::Fail;

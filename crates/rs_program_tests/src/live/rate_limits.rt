@@ -1,6 +1,6 @@
 //! What is told where more comes than a line in a second.
 
-use rs_live::rate_limits::{Due, RateLimit};
+use rs_reports::rate_limits::{Due, RateLimit};
 use std::process::Abort;
 
 /// What is due in this second: so many left out, and the last one.

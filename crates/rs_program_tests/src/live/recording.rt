@@ -6,9 +6,9 @@ use crate::live::rounds::{
 };
 use crate::live::script::Script;
 use rs_live::outbox::Outbox;
-use rs_live::record_file::{Appended, RecordEnd, RecordFile};
-use rs_live::streams::Stream;
 use rs_policy::Config;
+use rs_streams::record_file::{Appended, RecordEnd, RecordFile};
+use rs_streams::streams::Stream;
 use rs_trace::progress::Unwatched;
 use rs_trace::replay::replay;
 use rs_trace::text::{OverRead, OverWrite};

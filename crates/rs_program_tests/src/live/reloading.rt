@@ -4,10 +4,10 @@ use crate::live::rounds::{
     A, B, COMING_UP, OPEN_A, OPEN_B, THREE, UPDATE, WITHDRAWAL, behind, comes_up, served,
 };
 use crate::live::script::{Script, sent};
-use rs_live::file_watch::FileFault;
 use rs_live::ports::Line;
-use rs_live::reports::Report;
 use rs_live::serve::Limits;
+use rs_reports::reports::Report;
+use rs_streams::file_watch::FileFault;
 use std::alloc::Global;
 use std::process::Abort;
 

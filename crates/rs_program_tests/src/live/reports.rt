@@ -3,13 +3,13 @@
 use crate::live::rounds::THREE;
 use rs_attrs::{AttributeFault, Cause, Faulted, Mode};
 use rs_core::{Ending, NOTICE_MAX, Notice};
-use rs_live::communications::communication_in;
-use rs_live::logging::Stamp;
-use rs_live::names::Names;
-use rs_live::offers::Offered;
-use rs_live::reports::{Holder, Report, Worded};
 use rs_open::{Limit, Short};
 use rs_policy::Config;
+use rs_reports::communications::communication_in;
+use rs_reports::logging::Stamp;
+use rs_reports::names::Names;
+use rs_reports::offers::Offered;
+use rs_reports::reports::{Holder, Report, Worded};
 use std::alloc::Global;
 use std::process::Abort;
 use std::test::Fail;

@@ -1,14 +1,14 @@
 //! Ports in memory: members that say what a script has, and a call that fails where it is wanted.
 
 ghost use Rattle.std.specs.Prelude.{◌≤◌};
-ghost use Rattle.rs_live.specs.Levels.{is_shown};
+ghost use Rattle.rs_reports.specs.Levels.{is_shown};
 
 use rs_core::Core;
-use rs_live::file_watch::FileFault;
-use rs_live::logging::{Level, Log};
 use rs_live::ports::{Incoming, Line, PortFault, Ports};
-use rs_live::record_file::RecordEnd;
-use rs_live::reports::Report;
+use rs_reports::logging::{Level, Log};
+use rs_reports::reports::Report;
+use rs_streams::file_watch::FileFault;
+use rs_streams::record_file::RecordEnd;
 use std::alloc::Global;
 use std::process::Abort;
 

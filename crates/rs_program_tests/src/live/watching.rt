@@ -1,6 +1,6 @@
 //! When files of rules are read again, by what is found of them from second to second.
 
-use rs_live::file_watch::{FileFault, FileWatch, Found, Version, WatchedFiles};
+use rs_streams::file_watch::{FileFault, FileWatch, Found, Version, WatchedFiles};
 use rs_texts::end_lines;
 use std::alloc::{AllocError, Global};
 use std::process::Abort;

@@ -1,0 +1,121 @@
+//! The tables of the core, as the pages of the window ask for them.
+
+ghost use Rattle.std.specs.Prelude.{◌<◌};
+ghost use Rattle.rs_core.specs.Core.{client_count};
+
+use rs_attrs::Attrs;
+use rs_core::{Core, Ending};
+use rs_octets::Prefix;
+use rs_open::Short;
+use rs_pages::keys::{key, prefix_at};
+use rs_pages::tables::{Ended, Faults, Rib, Tables};
+use rs_policy::Config;
+use std::sync::Arc;
+
+/// The tables of a core.
+#[derive(Clone, Copy)]
+pub(crate) struct CoreTables<'a>(pub(crate) &'a Core);
+
+/// What a session ended with.
+fn ended_by(ending: Ending) -> Ended {
+    match ending {
+        Ending::Said(Short::Note { code, sub, .. }) => Ended::Sent(code, sub),
+        Ending::Said(_) | Ending::Lost => Ended::Lost,
+        // Hold Timer Expired (RFC 4271, 4.5).
+        Ending::HoldTimer => Ended::Sent(4, 0),
+        Ending::Heard(notice) => Ended::Heard(notice.code, notice.sub),
+        Ending::Memory => Ended::Memory,
+    }
+}
+
+impl<'a> CoreTables<'a> {
+    /// The first route of a member's Adj-RIB-In whose prefix has this number or a later one.
+    fn first_received(&self, member: usize, at: u64) -> Option<(Prefix, &Arc<Attrs>)>
+        requires { member < client_count self.now.0.now }
+    {
+        for (prefix, attrs) in self.0.received_from(member, prefix_at(at)) {
+            if key(&prefix) >= at {
+                return Some((prefix, attrs));
+            }
+        }
+        None
+    }
+
+    /// The same of its Loc-RIB.
+    fn first_sent(&self, member: usize, at: u64) -> Option<(Prefix, &Arc<Attrs>)>
+        requires { member < client_count self.now.0.now }
+    {
+        for (prefix, attrs) in self.0.routes_from(member, prefix_at(at)) {
+            if key(&prefix) >= at {
+                return Some((prefix, attrs));
+            }
+        }
+        None
+    }
+}
+
+impl Tables for CoreTables<'_> {
+    ghost first = { λ tables rib member at route. Unit {0} };
+
+    fn config(&self) -> &Config {
+        self.0.config()
+    }
+
+    fn is_established(&self, member: usize) -> bool {
+        member < self.0.clients() && self.0.is_established(member)
+    }
+
+    fn first_from(&self, rib: Rib, member: usize, at: u64) -> Option<(Prefix, &Arc<Attrs>)> {
+        if member >= self.0.clients() {
+            return None;
+        }
+        match rib {
+            Rib::Received => self.first_received(member, at),
+            Rib::Sent => self.first_sent(member, at),
+        }
+    }
+
+    fn count(&self, rib: Rib, member: usize) -> usize {
+        if member >= self.0.clients() {
+            return 0;
+        }
+        match rib {
+            Rib::Received => self.0.received_count(member),
+            Rib::Sent => self.0.routes_count(member),
+        }
+    }
+
+    fn held(&self, member: usize, prefix: &Prefix) -> Option<(u32, &Arc<Attrs>)> {
+        for candidate in self.0.candidates_at(*prefix) {
+            if candidate.client == member {
+                return Some((candidate.identifier, candidate.attrs));
+            }
+        }
+        None
+    }
+
+    fn ended(&self, member: usize) -> Option<Ended> {
+        if member >= self.0.clients() {
+            return None;
+        }
+        Some(ended_by(self.0.ending(member)?))
+    }
+
+    fn faults(&self, member: usize) -> Faults {
+        if member >= self.0.clients() {
+            return Faults {
+                at_fault: 0,
+                passed_over: 0,
+            };
+        }
+        let faulted = self.0.faulted(member);
+        Faults {
+            at_fault: faulted.count,
+            passed_over: faulted.mp_reach,
+        }
+    }
+
+    fn rows(&self) -> usize {
+        self.0.rows()
+    }
+}

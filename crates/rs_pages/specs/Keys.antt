@@ -1,0 +1,7 @@
+-- Prefixes as numbers, by which a page goes on.
+use Rattle.std.specs.Prelude.{ℕ, ◌*◌, ◌+◌}
+use Rattle.rs_octets.specs.Prefixes.{Prefix}
+
+-- the bits, and in six bits more the length: numbers rise as prefixes do
+abbrev pub key_of : Prefix → ℕ
+key_of p = p.bits * 64 + p.len

@@ -1,0 +1,149 @@
+//! The attributes of a route, as birdwatcher's JSON has them.
+//!
+//! Of a list of numbers the first 256 are shown, so that a row has room in a piece; `"cut"` says that there
+//! are more.
+
+ghost use Rattle.std.specs.Prelude.{◌≡◌, length};
+
+use crate::texts::{put_address, put_hex, put_number};
+use byteorder::{BigEndian, ByteOrder};
+use rs_attrs::{Attrs, EXTENDED_COMMUNITIES, LARGE_COMMUNITY};
+use std::alloc::{AllocError, Global};
+
+/// As many items of a list are shown.
+const MOST: usize = 256;
+
+/// Puts what stands between two items, before each but the first.
+fn put_comma(text: &mut Vec<u8>, index: usize) -> Result<(), AllocError> {
+    if index == 0 {
+        Ok(())
+    } else {
+        text.extend_from_slice(b",")
+    }
+}
+
+/// The name of an ORIGIN (RFC 4271, 5.1.1).
+fn origin_name(origin: u8) -> &'static [u8] {
+    match origin {
+        0 => b"IGP",
+        1 => b"EGP",
+        _ => b"Incomplete",
+    }
+}
+
+/// Puts the numbers of AS_PATH as strings, one behind the other, sets and sequences alike; answers whether
+/// all were put.
+fn put_path(text: &mut Vec<u8>, attrs: &Attrs) -> Result<bool, AllocError> {
+    let mut count = 0;
+    for segment in attrs.path() {
+        for number in segment.numbers() {
+            if count >= MOST {
+                return Ok(false);
+            }
+            put_comma(text, count)?;
+            text.extend_from_slice(b"\"")?;
+            put_number(text, u64::from(number))?;
+            text.extend_from_slice(b"\"")?;
+            count += 1;
+        }
+    }
+    Ok(true)
+}
+
+/// Puts the communities (RFC 1997), each as its two numbers; answers whether all were put.
+fn put_communities(text: &mut Vec<u8>, attrs: &Attrs) -> Result<bool, AllocError> {
+    let mut count = 0;
+    for community in attrs.communities() {
+        if count >= MOST {
+            return Ok(false);
+        }
+        put_comma(text, count)?;
+        text.extend_from_slice(b"[")?;
+        put_number(text, u64::from(community / 65536))?;
+        text.extend_from_slice(b",")?;
+        put_number(text, u64::from(community % 65536))?;
+        text.extend_from_slice(b"]")?;
+        count += 1;
+    }
+    Ok(true)
+}
+
+/// Puts a large community, twelve octets, as its three numbers.
+fn put_large_community(text: &mut Vec<u8>, community: &[u8]) -> Result<(), AllocError>
+    requires { length community.now ≡ 12 }
+{
+    text.extend_from_slice(b"[")?;
+    put_number(text, u64::from(BigEndian::read_u32(&community[0..4])))?;
+    text.extend_from_slice(b",")?;
+    put_number(text, u64::from(BigEndian::read_u32(&community[4..8])))?;
+    text.extend_from_slice(b",")?;
+    put_number(text, u64::from(BigEndian::read_u32(&community[8..12])))?;
+    text.extend_from_slice(b"]")
+}
+
+/// Puts the large communities (RFC 8092), each as its three numbers; answers whether all were put.
+fn put_large_communities(text: &mut Vec<u8>, value: &[u8]) -> Result<bool, AllocError> {
+    for (index, community) in value.chunks_exact(12).enumerate() {
+        if index >= MOST {
+            return Ok(false);
+        }
+        put_comma(text, index)?;
+        put_large_community(text, community)?;
+    }
+    Ok(true)
+}
+
+/// Puts the extended communities (RFC 4360), each as `generic` and its octets in two numbers; answers
+/// whether all were put.
+fn put_extended_communities(text: &mut Vec<u8>, value: &[u8]) -> Result<bool, AllocError> {
+    for (index, community) in value.chunks_exact(8).enumerate() {
+        if index >= MOST {
+            return Ok(false);
+        }
+        put_comma(text, index)?;
+        text.extend_from_slice(b"[\"generic\",\"")?;
+        put_hex(text, BigEndian::read_u32(&community[0..4]))?;
+        text.extend_from_slice(b"\",\"")?;
+        put_hex(text, BigEndian::read_u32(&community[4..8]))?;
+        text.extend_from_slice(b"\"]")?;
+    }
+    Ok(true)
+}
+
+/// The value of the attribute of a type, empty where there is none.
+fn value(attrs: &Attrs, kind: u8) -> &[u8] {
+    match attrs.get(kind) {
+        Some(attribute) => attribute.value,
+        None => &[],
+    }
+}
+
+/// Puts the object `bgp`: ORIGIN, AS_PATH, NEXT_HOP, MULTI_EXIT_DISC, the preference, and communities.
+fn put_bgp(text: &mut Vec<u8>, attrs: &Attrs) -> Result<(), AllocError> {
+    text.extend_from_slice(b"{\"origin\":\"")?;
+    text.extend_from_slice(origin_name(attrs.origin().unwrap_or(2)))?;
+    text.extend_from_slice(b"\",\"as_path\":[")?;
+    let has_path = put_path(text, attrs)?;
+    text.extend_from_slice(b"],\"next_hop\":\"")?;
+    put_address(text, attrs.next_hop().unwrap_or(0))?;
+    text.extend_from_slice(b"\",\"med\":\"")?;
+    put_number(text, u64::from(attrs.med().unwrap_or(0)))?;
+    text.extend_from_slice(b"\",\"local_pref\":\"100\",\"communities\":[")?;
+    let has_communities = put_communities(text, attrs)?;
+    text.extend_from_slice(b"],\"large_communities\":[")?;
+    let has_large = put_large_communities(text, value(attrs, LARGE_COMMUNITY))?;
+    text.extend_from_slice(b"],\"ext_communities\":[")?;
+    let has_extended = put_extended_communities(text, value(attrs, EXTENDED_COMMUNITIES))?;
+    if has_path && has_communities && has_large && has_extended {
+        text.extend_from_slice(b"]}")
+    } else {
+        text.extend_from_slice(b"],\"cut\":true}")
+    }
+}
+
+/// The text of the object `bgp`.
+pub(crate) fn bgp_text(alloc: Global, attrs: &Attrs) -> Result<Vec<u8>, AllocError> {
+    let mut text = Vec::new(alloc);
+    put_bgp(&mut text, attrs)?;
+    Ok(text)
+}

@@ -1,0 +1,362 @@
+//! Pages over tables in memory, piece by piece.
+
+use crate::keys::{key, prefix_at, read_prefix};
+use crate::moments::{Changes, Moments};
+use crate::server_pages::ServerPages;
+use crate::tables::{Ended, Faults, Rib, Tables};
+use crate::texts::{put_html, put_json};
+use rs_attrs::{Attrs, Mode, read};
+use rs_octets::Prefix;
+use rs_policy::Config;
+use rs_window::page::{Next, Pages, Piece};
+use std::alloc::Global;
+use std::process::Abort;
+use std::sync::Arc;
+
+const CONFIG: &str = "as = 64500
+identifier = \"192.0.2.1\"
+hold = 90
+[[client]]
+name = \"alpha\"
+as = 64496
+listen = \"127.0.0.1:17901\"
+peer = \"192.0.2.11\"
+[[client]]
+name = \"beta\"
+as = 64497
+listen = \"127.0.0.1:17902\"
+peer = \"192.0.2.12\"
+export = [{ prefix = \"198.51.100.0/24\", action = \"drop\" }]
+";
+
+/// ORIGIN IGP, AS_PATH 64496, NEXT_HOP 192.0.2.11, MED 7, community 64500:1.
+const ATTRIBUTES: [u8; 34] = [
+    0x40, 1, 1, 0, 0x40, 2, 6, 2, 1, 0, 0, 0xfb, 0xf0, 0x40, 3, 4, 192, 0, 2, 11, 0x80, 4, 4, 0, 0,
+    0, 7, 0xc0, 8, 4, 0xfb, 0xf4, 0, 1,
+];
+
+/// Tables in memory: alpha has announced so many prefixes of 24 bits from 198.51.100.0/24 on, by rising
+/// prefix, and beta is due all but the first.
+#[derive(Drop)]
+struct Memory {
+    config: Config,
+    routes: Vec<(Prefix, Arc<Attrs>)>,
+}
+
+impl Memory {
+    /// The routes of a table, by rising prefix.
+    fn routes(&self, rib: Rib, member: usize) -> &[(Prefix, Arc<Attrs>)] {
+        match (rib, member) {
+            (Rib::Received, 0) => &self.routes,
+            (Rib::Sent, 1) => self.routes.get(1..).unwrap_or(&[]),
+            _ => &[],
+        }
+    }
+}
+
+impl Tables for Memory {
+    ghost first = { λ tables rib member at route. Unit {0} };
+
+    fn config(&self) -> &Config {
+        &self.config
+    }
+
+    fn is_established(&self, member: usize) -> bool {
+        member < 2
+    }
+
+    fn first_from(&self, rib: Rib, member: usize, at: u64) -> Option<(Prefix, &Arc<Attrs>)> {
+        for (prefix, attrs) in self.routes(rib, member) {
+            if key(prefix) >= at {
+                return Some((*prefix, attrs));
+            }
+        }
+        None
+    }
+
+    fn count(&self, rib: Rib, member: usize) -> usize {
+        self.routes(rib, member).len()
+    }
+
+    fn held(&self, member: usize, prefix: &Prefix) -> Option<(u32, &Arc<Attrs>)> {
+        for (held, attrs) in self.routes(Rib::Received, member) {
+            if held == prefix {
+                return Some((0xc000_020b, attrs));
+            }
+        }
+        None
+    }
+
+    fn ended(&self, member: usize) -> Option<Ended> {
+        if member == 1 {
+            Some(Ended::Heard(6, 2))
+        } else {
+            None
+        }
+    }
+
+    fn faults(&self, _member: usize) -> Faults {
+        Faults {
+            at_fault: 0,
+            passed_over: 3,
+        }
+    }
+
+    fn rows(&self) -> usize {
+        self.routes.len()
+    }
+}
+
+fn server(rt: &impl Abort, alloc: Global, count: u32) -> Memory {
+    let config = Config::read(alloc, CONFIG).expect(rt, "a configuration");
+    let mut routes = Vec::new(alloc);
+    for at in 0..count {
+        let bits = 0xc633_6400_u32.wrapping_add(at << 8);
+        let attrs = read(alloc, &ATTRIBUTES, Mode::Four)
+            .expect(rt, "attributes")
+            .attrs;
+        let attrs = Arc::new(alloc, attrs).expect(rt, "memory");
+        let prefix = Prefix::new(bits, 24).expect(rt, "a prefix");
+        routes.push((prefix, attrs)).expect(rt, "memory");
+    }
+    Memory { config, routes }
+}
+
+/// The whole page at a target, and in how many pieces it was written; the text is empty where there is none.
+fn page(rt: &impl Abort, alloc: Global, tables: &Memory, target: &str) -> (String, usize) {
+    let mut changes = Changes::new(alloc, 2).expect(rt, "memory");
+    changes.look(tables, 5);
+    let moments = Moments {
+        start: 1_000_000_000,
+        now: 65,
+        rules: 0,
+        changes: &changes,
+    };
+    let pages = ServerPages::new(alloc, tables, &moments);
+    let mut text = Vec::new(alloc);
+    let mut pieces = 0_usize;
+    let mut next = pages.find(target.as_bytes());
+    for _ in 0..10_000 {
+        let Some(page) = next else {
+            break;
+        };
+        let mut piece = Piece::new(alloc).expect(rt, "a piece");
+        let behind = pages.write(page, &mut piece);
+        assert!(rt; !matches!(behind, Next::Cut));
+        text.extend_from_slice(piece.octets()).expect(rt, "octets");
+        pieces = pieces.saturating_add(1);
+        next = match behind {
+            Next::More(page) => Some(page),
+            Next::Last | Next::Cut => None,
+        };
+    }
+    let text = String::from_utf8(text).expect(rt, "UTF-8");
+    (text, pieces)
+}
+
+/// Targets of a server with two members, of which alpha has announced 198.51.100.0/24 and 198.51.101.0/24 and
+/// beta takes no 198.51.100.0/24; and what the page says.
+const SAID: [(&str, &str); 26] = [
+    (
+        "/",
+        "<a href=\"/members/alpha\">alpha</a><td>64496<td>192.0.2.11<td class=up>up<td>2001-09-09T01:46:45Z<td class=number>2<td class=number>0<td class=number>0</tr>",
+    ),
+    ("/", "<a href=\"/members/beta\">beta</a>"),
+    ("/members/beta", "<h1>beta</h1>"),
+    (
+        "/members/beta",
+        "The last session that ended: NOTIFICATION heard: Cease, Administrative Shutdown (6, 2).",
+    ),
+    (
+        "/members/beta",
+        "<input type=hidden name=to value=\"beta\">",
+    ),
+    (
+        "/status",
+        "\"status\":{\"router_id\":\"192.0.2.1\",\"server_time\":\"2001-09-09T01:47:45Z\",\"last_reboot\":\"2001-09-09T01:46:40Z\",\"last_reconfig\":\"2001-09-09T01:46:40Z\",\"message\":",
+    ),
+    (
+        "/protocols/bgp",
+        "\"protocols\":{\"alpha\":{\"protocol\":\"alpha\",\"bird_protocol\":\"BGP\",\"state\":\"up\",\"state_changed\":\"2001-09-09T01:46:45Z\",\"description\":\"alpha\",\"neighbor_address\":\"192.0.2.11\",\"neighbor_as\":64496,\"bgp_state\":\"Established\",\"uptime\":60,\"last_error\":\"\",\"routes\":{\"imported\":2,\"exported\":0}}",
+    ),
+    ("/protocols/bgp", ",\"beta\":{\"protocol\":\"beta\","),
+    (
+        "/protocols/bgp",
+        "\"routes\":{\"imported\":0,\"exported\":1}}",
+    ),
+    (
+        "/routes/protocol/alpha",
+        "\"routes\":[{\"network\":\"198.51.100.0/24\",\"gateway\":\"192.0.2.11\",\"from_protocol\":\"alpha\",\"learnt_from\":\"192.0.2.11\",\"age\":\"2001-09-09T01:46:45Z\",\"metric\":100,\"type\":[\"BGP\",\"unicast\",\"univ\"],\"bgp\":{\"origin\":\"IGP\",\"as_path\":[\"64496\"],\"next_hop\":\"192.0.2.11\",\"med\":\"7\",\"local_pref\":\"100\",\"communities\":[[64500,1]],\"large_communities\":[],\"ext_communities\":[]}}\n,{\"network\":\"198.51.101.0/24\",",
+    ),
+    ("/routes/protocol/beta", "\"routes\":[]}\n"),
+    ("/routes/count/protocol/alpha", "\"routes\":2}\n"),
+    (
+        "/routes/prefix?prefix=198.51.101.0/24",
+        "\"routes\":[{\"network\":\"198.51.101.0/24\",\"gateway\":\"192.0.2.11\",\"from_protocol\":\"alpha\"",
+    ),
+    (
+        "/routes/prefix?prefix=198.51.101.0%2F24",
+        "\"routes\":[{\"network\":\"198.51.101.0/24\"",
+    ),
+    ("/routes/prefix?prefix=198.51.101.0/25", "\"routes\":[]}\n"),
+    (
+        "/members/alpha/received?count=1",
+        "{\"member\":\"alpha\",\"table\":\"received\",\"routes\":[{\"network\":\"198.51.100.0/24\"",
+    ),
+    (
+        "/members/alpha/received?count=1",
+        "],\"next\":\"198.51.101.0/24\"}\n",
+    ),
+    (
+        "/members/alpha/received?from=198.51.100.128/25",
+        "\"routes\":[{\"network\":\"198.51.101.0/24\"",
+    ),
+    (
+        "/members/alpha/received?count=0",
+        "\"routes\":[],\"next\":\"198.51.100.0/24\"}\n",
+    ),
+    ("/members/alpha/received", "],\"next\":null}\n"),
+    (
+        "/members/beta/sent",
+        "\"table\":\"sent\",\"routes\":[{\"network\":\"198.51.101.0/24\",\"gateway\":\"192.0.2.11\",\"bgp\":{",
+    ),
+    (
+        "/why?to=beta&prefix=198.51.101.0/24",
+        "{\"to\":\"beta\",\"prefix\":\"198.51.101.0/24\",\"candidates\":[{\"from\":\"alpha\",\"as\":64496,\"next_hop\":\"192.0.2.11\",\"outcome\":\"chosen\",\"rules\":[{\"list\":\"import\",\"of\":\"alpha\",\"rule\":null,\"passes\":true},{\"list\":\"export\",\"of\":\"beta\",\"rule\":null,\"passes\":true}]}\n]}\n",
+    ),
+    (
+        "/why?to=beta&prefix=198.51.100.0/24",
+        "\"outcome\":\"dropped\",\"rules\":[{\"list\":\"import\",\"of\":\"alpha\",\"rule\":null,\"passes\":true},{\"list\":\"export\",\"of\":\"beta\",\"rule\":1,\"passes\":false}]}",
+    ),
+    (
+        "/why?to=alpha&prefix=198.51.100.0/24",
+        "\"outcome\":\"own\"}",
+    ),
+    ("/metrics", "rs_member_up{member=\"beta\"} 1\n"),
+    (
+        "/metrics",
+        "rs_member_received_prefixes{member=\"alpha\"} 2\n",
+    ),
+];
+
+/// Targets that name no page.
+const NONE: [&str; 14] = [
+    "",
+    "//",
+    "/status/",
+    "/none",
+    "/members/",
+    "/members/gamma",
+    "/members/alpha/",
+    "/members/alpha/told",
+    "/members/alpha/received?count=10001",
+    "/members/alpha/received?from=198.51.100.1/24",
+    "/routes/protocol/",
+    "/routes/prefix?prefix=198.51.100.0/33",
+    "/why?to=beta",
+    "/why?to=gamma&prefix=198.51.100.0/24",
+];
+
+#[test]
+fn each_page_says(rt: HostRuntime) {
+    let tables = server(&rt, rt.alloc(), 2);
+    for (target, said) in &SAID {
+        let (text, _) = page(&rt, rt.alloc(), &tables, *target);
+        assert!(rt; text.contains(*said), "{target} is {text}");
+    }
+}
+
+#[test]
+fn there_are_no_others(rt: HostRuntime) {
+    let tables = server(&rt, rt.alloc(), 1);
+    for target in &NONE {
+        let (_, pieces) = page(&rt, rt.alloc(), &tables, *target);
+        assert_eq!(rt; pieces, 0, "{target}");
+    }
+}
+
+/// How often a text stands in another.
+fn count_of(text: &str, part: &str) -> usize {
+    text.matches(part).count()
+}
+
+#[test]
+fn many_routes_come_in_pieces(rt: HostRuntime) {
+    let tables = server(&rt, rt.alloc(), 300);
+    let (text, pieces) = page(&rt, rt.alloc(), &tables, "/routes/protocol/alpha");
+    assert!(rt; pieces > 2);
+    let mut rows = text.split("\"network\":\"").skip(1);
+    for at in 0..300_u32 {
+        let [a, b, c, _] = (0xc633_6400_u32.wrapping_add(at << 8)).to_be_bytes();
+        let want = format!(in rt.alloc(); "{a}.{b}.{c}.0/24\",").expect(&rt, "a text");
+        let row = rows.next().expect(&rt, "a row");
+        assert!(rt; row.starts_with(want.as_str()), "{row}, not {want}");
+    }
+    assert!(rt; rows.next().is_none());
+    let (text, _) = page(
+        &rt,
+        rt.alloc(),
+        &tables,
+        "/members/alpha/received?count=200",
+    );
+    assert_eq!(rt; count_of(text.as_str(), "\"network\""), 200);
+    assert!(rt;
+        text.ends_with("],\"next\":\"198.52.44.0/24\"}\n"),
+        "{text}"
+    );
+}
+
+/// Texts of prefixes, and what they spell: bits and length.
+const PREFIXES: [(&str, Option<(u32, u8)>); 12] = [
+    ("0.0.0.0/0", Some((0, 0))),
+    ("192.0.2.0/24", Some((0xc000_0200, 24))),
+    ("192.0.2.0%2f24", Some((0xc000_0200, 24))),
+    ("192.0.2.1", Some((0xc000_0201, 32))),
+    ("255.255.255.255/32", Some((u32::MAX, 32))),
+    ("192.0.2.1/24", None),
+    ("192.0.2/24", None),
+    ("192.0.2.256/32", None),
+    ("192.0.2.0/33", None),
+    ("192.0.2.0.0/24", None),
+    ("2001:db8::/32", None),
+    ("", None),
+];
+
+#[test]
+fn prefixes_are_read(rt: HostRuntime) {
+    for (text, want) in &PREFIXES {
+        let read = read_prefix(text.as_bytes());
+        assert_eq!(rt;
+            read.as_ref().map(|prefix| (prefix.bits(), prefix.len())),
+            *want,
+            "{text}"
+        );
+        if let Some(prefix) = &read {
+            assert_eq!(rt; prefix_at(key(prefix)), *prefix);
+        }
+    }
+}
+
+/// Texts, as they are within a string of JSON and within HTML.
+const ESCAPED: [(&str, &str, &str); 4] = [
+    ("alpha-1", "alpha-1", "alpha-1"),
+    ("<b>", "\\u003cb\\u003e", "&#60;b&#62;"),
+    (
+        "\"\\\n\x7f",
+        "\\u0022\\u005c\\u000a\\u007f",
+        "&#34;&#92;&#10;&#127;",
+    ),
+    ("&'", "\\u0026\\u0027", "&#38;&#39;"),
+];
+
+#[test]
+fn texts_are_escaped(rt: HostRuntime) {
+    for (text, json, html) in &ESCAPED {
+        let mut octets = Vec::new(rt.alloc());
+        put_json(&mut octets, text.as_bytes()).expect(&rt, "octets");
+        assert_eq!(rt; octets.as_slice(), json.as_bytes());
+        octets.clear();
+        put_html(&mut octets, text.as_bytes()).expect(&rt, "octets");
+        assert_eq!(rt; octets.as_slice(), html.as_bytes());
+    }
+}

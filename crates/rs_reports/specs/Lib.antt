@@ -1,0 +1,3 @@
+pub mod Communications
+pub mod Levels
+pub mod Offers

@@ -1,0 +1,373 @@
+//! What is reported to an operator, on standard error: what happened and why, so that nobody needs a
+//! capture of packets to see it.
+
+ghost use Rattle.std.specs.Prelude.{◌≡◌};
+ghost use Rattle.rs_reports.specs.Levels.{level_of};
+
+use crate::communications::communication_in;
+use crate::logging::{Level, Stamp};
+use crate::names::Names;
+use crate::offers::Offered;
+use rs_attrs::{Faulted, Mode};
+use rs_core::{Ending, Notice};
+use rs_octets::Notification;
+use rs_open::{Limit, Short};
+use rs_policy::RulesFault;
+use rs_streams::file_watch::FileFault;
+use rs_streams::printer::Printer;
+use rs_streams::streams::Stream;
+use std::fmt;
+use std::net::Ipv4Addr;
+
+/// What happened.
+#[derive(Clone, Copy, Debug, PartialEq, Eq)]
+pub enum Report {
+    /// Connections came from addresses that are no client's: the first of them, and how many.
+    Strangers {
+        address: u32,
+        count: u64,
+    },
+    /// A client's session is Established.
+    Up {
+        client: usize,
+        mode: Mode,
+        limit: Limit,
+        hold: u16,
+    },
+    /// A client's session has ended; `None`: before anything was heard of it. What its OPEN offered, where
+    /// that came in one piece.
+    Down {
+        client: usize,
+        ending: Option<Ending>,
+        offered: Option<Offered>,
+    },
+    /// So many connections came from a client's address, and were closed since it has one.
+    Busy {
+        client: usize,
+        address: u32,
+        count: u64,
+        holder: Holder,
+    },
+    /// UPDATEs of a client were not taken as they came (RFC 7606, 2): how many since the last such
+    /// report, and what was wrong with the last.
+    Faulted {
+        client: usize,
+        count: u64,
+        last: Faulted,
+    },
+    /// A client sends routes in MP_REACH_NLRI (RFC 4760, 3), which are passed over.
+    PassedOver {
+        client: usize,
+    },
+    /// A text of rules was accepted, or why it was not.
+    Rules(Result<(), RulesFault>),
+    /// The file of rules was not read.
+    File(FileFault),
+    /// So many reports of a client were left out, since there was one in that second already.
+    LeftOut {
+        client: usize,
+        count: u64,
+    },
+}
+
+/// What has the place of a client's connection.
+#[derive(Clone, Copy, Debug, PartialEq, Eq)]
+pub enum Holder {
+    /// A session that is Established.
+    Session,
+    /// A connection whose session is not Established yet.
+    Connection,
+    /// Nothing any more.
+    Nothing,
+}
+
+/// How a NOTIFICATION of this error code and subcode is called.
+#[derive(Drop)]
+struct Called(u8, u8);
+
+impl fmt::Display for Called {
+    fn fmt<W: fmt::Write>(&self, f: &mut fmt::Formatter<W>) -> fmt::Result {
+        match Notification::named(self.0, self.1) {
+            Some(name) => write!(f, "{name}"),
+            None => write!(f, "error {}, {}", self.0, self.1),
+        }
+    }
+}
+
+/// Octets in hexadecimal, after a word.
+#[derive(Drop)]
+struct Data<'a>(&'a [u8]);
+
+impl fmt::Display for Data<'_> {
+    fn fmt<W: fmt::Write>(&self, f: &mut fmt::Formatter<W>) -> fmt::Result {
+        if !self.0.is_empty() {
+            write!(f, ", data ")?;
+        }
+        for octet in self.0 {
+            write!(f, "{octet:02x}")?;
+        }
+        Ok(())
+    }
+}
+
+/// What a NOTIFICATION of this error code and subcode says beside them: a text, or its data.
+#[derive(Drop)]
+struct Said<'a>(u8, u8, &'a [u8]);
+
+impl fmt::Display for Said<'_> {
+    fn fmt<W: fmt::Write>(&self, f: &mut fmt::Formatter<W>) -> fmt::Result {
+        let Said(code, sub, data) = *self;
+        match communication_in(code, sub, data) {
+            Some(it) if it.is_whole => write!(f, ", {:?}", it.text),
+            Some(it) => write!(f, ", {:?} and more", it.text),
+            None => write!(f, "{}", Data(data)),
+        }
+    }
+}
+
+/// A NOTIFICATION with its data, and whether it was sent or heard.
+#[derive(Drop)]
+struct Noted<'a> {
+    way: &'static str,
+    code: u8,
+    sub: u8,
+    data: &'a [u8],
+}
+
+impl fmt::Display for Noted<'_> {
+    fn fmt<W: fmt::Write>(&self, f: &mut fmt::Formatter<W>) -> fmt::Result {
+        let Noted {
+            way,
+            code,
+            sub,
+            data,
+        } = *self;
+        write!(
+            f,
+            "NOTIFICATION {way}: {}{}",
+            Called(code, sub),
+            Said(code, sub, data)
+        )
+    }
+}
+
+/// What a session ended with.
+fn sent(note: &Short) -> Option<Noted<'_>> {
+    match note {
+        Short::Note {
+            code,
+            sub,
+            extra,
+            count,
+        } => Some(Noted {
+            way: "sent",
+            code: *code,
+            sub: *sub,
+            data: extra.get(..usize::from(*count)).unwrap_or(extra),
+        }),
+        _ => None,
+    }
+}
+
+fn heard(notice: &Notice) -> Noted<'_> {
+    Noted {
+        way: "heard",
+        code: notice.code,
+        sub: notice.sub,
+        data: notice.data.get(..notice.count).unwrap_or(&notice.data),
+    }
+}
+
+/// What was offered by an OPEN that was refused by a NOTIFICATION of this subcode, and what it should
+/// have been (RFC 4271, 6.2).
+#[derive(Drop)]
+struct Refused<'a>(u8, &'a Offered, u32);
+
+impl fmt::Display for Refused<'_> {
+    fn fmt<W: fmt::Write>(&self, f: &mut fmt::Formatter<W>) -> fmt::Result {
+        let Refused(sub, offered, number) = *self;
+        match sub {
+            1 => write!(f, ": {}, not 4", offered.version),
+            2 => write!(f, ": {}, not {number}", offered.number),
+            3 => write!(f, ": {}", Ipv4Addr::from(offered.identifier)),
+            6 => write!(f, ": {}", offered.hold),
+            _ => Ok(()),
+        }
+    }
+}
+
+/// The error code of a fault of an OPEN (RFC 4271, 4.5).
+const OPEN_FAULT: u8 = 2;
+
+/// The subcode by which an OPEN was refused.
+fn refused_by(ending: &Option<Ending>) -> Option<u8> {
+    match ending {
+        Some(Ending::Said(Short::Note { code, sub, .. })) if *code == OPEN_FAULT => Some(*sub),
+        _ => None,
+    }
+}
+
+/// Why a session ended.
+#[derive(Drop)]
+struct Why<'a>(&'a Option<Ending>);
+
+impl fmt::Display for Why<'_> {
+    fn fmt<W: fmt::Write>(&self, f: &mut fmt::Formatter<W>) -> fmt::Result {
+        match self.0 {
+            Some(Ending::Said(note)) => match sent(note) {
+                Some(noted) => write!(f, "{noted}"),
+                None => write!(f, "a message was sent"),
+            },
+            Some(Ending::HoldTimer) => write!(
+                f,
+                "NOTIFICATION sent: {}",
+                Notification::HoldTimerExpired
+            ),
+            Some(Ending::Heard(notice)) => write!(f, "{}", heard(notice)),
+            None | Some(Ending::Lost) => write!(f, "the connection was lost"),
+            Some(Ending::Memory) => write!(f, "memory was refused"),
+        }
+    }
+}
+
+fn mode_text(mode: Mode) -> &'static str {
+    match mode {
+        Mode::Two => "two-octet",
+        Mode::Four => "four-octet",
+    }
+}
+
+/// How a client is spoken to.
+#[derive(Drop)]
+struct Agreed(Mode, Limit, u16);
+
+impl fmt::Display for Agreed {
+    fn fmt<W: fmt::Write>(&self, f: &mut fmt::Formatter<W>) -> fmt::Result {
+        write!(
+            f,
+            "{} AS numbers, messages of up to {} octets, Hold Time {}",
+            mode_text(self.0),
+            self.1.octets(),
+            self.2
+        )
+    }
+}
+
+fn holder_text(holder: Holder) -> &'static str {
+    match holder {
+        Holder::Session => "its session is up",
+        Holder::Connection => "its session is not up yet",
+        Holder::Nothing => "its session has ended since",
+    }
+}
+
+/// The words for one, or those for several.
+fn one_or_several(count: u64, one: &'static str, several: &'static str) -> &'static str {
+    if count == 1 { one } else { several }
+}
+
+/// A report in words, with the names of the clients: a line of the log but for its second.
+#[derive(Drop)]
+pub struct Worded<'a>(pub &'a Report, pub &'a Names);
+
+impl fmt::Display for Worded<'_> {
+    fn fmt<W: fmt::Write>(&self, f: &mut fmt::Formatter<W>) -> fmt::Result {
+        let Worded(report, names) = *self;
+        match report {
+            Report::Strangers { address, count } => {
+                let which = one_or_several(
+                    *count,
+                    "connection of a stranger,",
+                    "connections of strangers, the first",
+                );
+                write!(f, "{count} {which} from {}", Ipv4Addr::from(*address))
+            }
+            Report::Up {
+                client,
+                mode,
+                limit,
+                hold,
+            } => {
+                let (name, number) = (names.name(*client), names.number(*client));
+                write!(
+                    f,
+                    "{name} up: AS {number}, {}",
+                    Agreed(*mode, *limit, *hold)
+                )
+            }
+            Report::Down {
+                client,
+                ending,
+                offered,
+            } => {
+                write!(f, "{} down: {}", names.name(*client), Why(ending))?;
+                match (refused_by(ending), offered) {
+                    (Some(sub), Some(offered)) => {
+                        write!(f, "{}", Refused(sub, offered, names.number(*client)))
+                    }
+                    _ => Ok(()),
+                }
+            }
+            Report::Busy {
+                client,
+                address,
+                count,
+                holder,
+            } => {
+                let name = names.name(*client);
+                let which = one_or_several(*count, "connection", "connections");
+                let address = Ipv4Addr::from(*address);
+                write!(
+                    f,
+                    "{name} busy: {count} {which} from {address} closed, {}",
+                    holder_text(*holder)
+                )
+            }
+            Report::Faulted {
+                client,
+                count,
+                last,
+            } => {
+                let which = one_or_several(*count, "UPDATE at fault", "UPDATEs at fault, the last");
+                write!(f, "{}: {count} {which}: {last}", names.name(*client))
+            }
+            Report::PassedOver { client } => {
+                let name = names.name(*client);
+                write!(f, "{name}: routes in MP_REACH_NLRI (14) are passed over")
+            }
+            Report::Rules(Ok(())) => write!(f, "rules accepted"),
+            Report::Rules(Err(fault)) => write!(f, "rules refused: {fault}"),
+            Report::File(fault) => {
+                let (path, colon) = names.before(fault);
+                write!(f, "rules refused: {path}{colon}{fault}")
+            }
+            Report::LeftOut { client, count } => {
+                let reports = one_or_several(*count, "report", "reports");
+                write!(f, "{}: {count} {reports} left out", names.name(*client))
+            }
+        }
+    }
+}
+
+impl Report {
+    /// From which level of the log on it is printed.
+    pub fn level(&self) -> Level
+        ensures { result ≡ level_of self.now }
+    {
+        match self {
+            Report::Down { .. }
+            | Report::Busy { .. }
+            | Report::Strangers { .. }
+            | Report::Rules(Err(_))
+            | Report::File(_)
+            | Report::LeftOut { .. } => Level::Error,
+            Report::Up { .. } | Report::Rules(Ok(())) => Level::Change,
+            Report::Faulted { .. } | Report::PassedOver { .. } => Level::Route,
+        }
+    }
+
+    /// Prints a report as a line, after a stamp.
+    pub fn print<S: Stream>(&self, output: &mut Printer<S>, stamp: Stamp, names: &Names) {
+        output.print(format_args!("{stamp} {}", Worded(self, names)));
+    }
+}
