@@ -20,7 +20,7 @@ use Rattle.rs_replay.specs.declared.connection.Connection.{Connection}
 use Rattle.rs_replay.specs.declared.findings.Counts.{Counts}
 use Rattle.rs_replay.specs.declared.findings.Row.{Row}
 use Rattle.rs_replay.specs.Findings.{AreCompared, AreFindings, Compared, Down, Finding, IsFinding, OfNone, Table, Unreadable, Up, count_of, finding_lines, finding_row, is_same, nothing_differs, same_kind}
-use Rattle.rs_replay.specs.Telling.{AreCounts, HasCounts, Tells, TellsUpTo, agrees_by, counted_row, counts_line, row_line, sent_by}
+use Rattle.rs_replay.specs.Telling.{AreCounts, HasCounts, IsSentBy, Tells, TellsUpTo, agrees_by, counted_row, counts_line, row_line, sent_by}
 
 -- ---- counts
 
@@ -110,7 +110,7 @@ module _ {W : Type 0} (puts : W → List ℕ → W → Type 0) (puts_on : (a b c
       → TellsUpTo puts core names connections to c rows same writer → TellsUpTo puts core names connections to (c + 1) more after last
   told_up c rows more same after writer last finding counts up is put counted rows_are same_is t = record {
     findings = t.findings ++ (c, finding) ∷ [];
-    are = λ run agrees. Up c t.findings finding (t.are run agrees) (up run agrees) (is run agrees (up run agrees));
+    are = λ run agrees. Up c t.findings finding (sent_by connections c) (t.are run agrees) (up run agrees) refl (is run agrees (up run agrees));
     put = subst (λ xs. puts to xs last) (sym (flat_more (λ (f : ℕ × Finding). finding_lines (name_in names f.0) f.1) t.findings (c, finding))) (puts_on to writer last _ _ t.put put);
     rows_are = rows_are ∙ ap₂ (λ xs ys. xs ++ ys) t.rows_are (row_counted (name_in names c) finding counts counted)
         ∙ sym (flat_more (λ (f : ℕ × Finding). finding_row (name_in names f.0) f.1) t.findings (c, finding));
@@ -120,10 +120,10 @@ module _ {W : Type 0} (puts : W → List ℕ → W → Type 0) (puts_on : (a b c
   -- and then the rows
   pub told_all : (n : ℕ) (rows : List Row) (same : Bool) (writer last : W) → n ≡ client_count core
       → TellsUpTo puts core names connections to n rows same writer → puts writer (flat_map (row_line (name_in names)) rows) last
-      → Tells puts core names connections to same last
+      → Tells puts core names (λ run. IsSentBy connections) to same last
   told_all n rows same writer last all t put = record {
     findings = t.findings;
-    are = λ run agrees. subst (λ k. AreFindings run (sent_by connections) k t.findings) all (t.are run agrees);
+    are = λ run agrees. subst (λ k. AreFindings run (IsSentBy connections) k t.findings) all (t.are run agrees);
     put = puts_on to writer last _ _ t.put (subst (λ xs. puts writer xs last) t.rows_are put);
     same_is = t.same_is;
   }

@@ -40,12 +40,12 @@ IsFinding due (Some sent) Unreadable = ⊥
 IsFinding due (Some sent) (Compared due_count sent_count found) = AreCompared due sent due_count sent_count found
 
 -- What is found of the first so many clients, by their places: of each that is Established after the run, what was due to it at its
--- last turn is held against what was sent to it; of another nothing.
-pub data AreFindings (run : List Move) (sent : ℕ → Option Table) : ℕ → List (ℕ × Finding) → Type 0 where
-  OfNone : AreFindings run sent 0 []
-  Down : (c : ℕ) (findings : List (ℕ × Finding)) → AreFindings run sent c findings → is_established run c ≡ false → AreFindings run sent (c + 1) findings
-  Up : (c : ℕ) (findings : List (ℕ × Finding)) (finding : Finding) → AreFindings run sent c findings → is_established run c ≡ true
-      → IsFinding (λ p. latest (dues run c p)) (sent c) finding → AreFindings run sent (c + 1) (findings ++ (c, finding) ∷ [])
+-- last turn is held against the table that was sent to it; of another nothing. `IsSent` says which table that is.
+pub data AreFindings (run : List Move) (IsSent : ℕ → Option Table → Type 0) : ℕ → List (ℕ × Finding) → Type 0 where
+  OfNone : AreFindings run IsSent 0 []
+  Down : (c : ℕ) (findings : List (ℕ × Finding)) → AreFindings run IsSent c findings → is_established run c ≡ false → AreFindings run IsSent (c + 1) findings
+  Up : (c : ℕ) (findings : List (ℕ × Finding)) (finding : Finding) (sent : Option Table) → AreFindings run IsSent c findings → is_established run c ≡ true
+      → IsSent c sent → IsFinding (λ p. latest (dues run c p)) sent finding → AreFindings run IsSent (c + 1) (findings ++ (c, finding) ∷ [])
 
 -- ---- the lines
 

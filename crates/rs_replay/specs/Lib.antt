@@ -1,4 +1,7 @@
 pub mod Findings
-pub mod Telling
-pub mod Comparing
+pub mod Sendings
 pub mod SentLines
+pub mod Sent
+pub mod Telling
+pub mod Taking
+pub mod Comparing

@@ -27,6 +27,10 @@ sent_if (Some connection) = sent_on connection
 abbrev pub sent_by : List Connection → ℕ → Option Table
 sent_by connections c = sent_if (slice_get connections c)
 
+-- the table is the one that was sent on the client's connection
+abbrev pub IsSentBy : List Connection → ℕ → Option Table → Type 0
+IsSentBy connections c sent = sent ≡ sent_by connections c
+
 -- so many differences of each kind, and so many routes
 pub record AreCounts (due sent : ℕ) (found : List (Prefix × Kind)) (counts : Counts) : Type 0 where
   pub of_due : counts.due ≡ due
@@ -62,15 +66,15 @@ row_line name row = counts_line (name row.client) row.counts
 pub record TellsUpTo {W : Type 0} (puts : W → List ℕ → W → Type 0) (core : Core) (names : Names) (connections : List Connection) (to : W)
     (c : ℕ) (rows : List Row) (same : Bool) (writer : W) : Type 0 where
   pub findings : List (ℕ × Finding)
-  pub are : (run : List Move) → Agrees core run → AreFindings run (sent_by connections) c findings
+  pub are : (run : List Move) → Agrees core run → AreFindings run (IsSentBy connections) c findings
   pub put : puts to (flat_map (λ f. finding_lines (name_in names f.0) f.1) findings) writer
   pub rows_are : flat_map (row_line (name_in names)) rows ≡ flat_map (λ f. finding_row (name_in names f.0) f.1) findings
   pub same_is : same ≡ nothing_differs findings
 
--- what is found of all clients was written, and this is whether nothing differs
-pub record Tells {W : Type 0} (puts : W → List ℕ → W → Type 0) (core : Core) (names : Names) (connections : List Connection) (to : W)
+-- What is found of all clients was written, and this is whether nothing differs. `IsSent` says which table was sent to a client.
+pub record Tells {W : Type 0} (puts : W → List ℕ → W → Type 0) (core : Core) (names : Names) (IsSent : List Move → ℕ → Option Table → Type 0) (to : W)
     (same : Bool) (writer : W) : Type 0 where
   pub findings : List (ℕ × Finding)
-  pub are : (run : List Move) → Agrees core run → AreFindings run (sent_by connections) (client_count core) findings
+  pub are : (run : List Move) → Agrees core run → AreFindings run (IsSent run) (client_count core) findings
   pub put : puts to (told (name_in names) findings) writer
   pub same_is : same ≡ nothing_differs findings

@@ -11,7 +11,7 @@ ghost use Rattle.rs_core.specs.Told.Points.{latest};
 ghost use Rattle.rs_compare.specs.Differences.{entries_of, reports_of};
 ghost use Rattle.rs_compare.specs.Heard.{table_in};
 ghost use Rattle.rs_replay.specs.Findings.{AreCompared, Finding, IsFinding, finding_lines};
-ghost use Rattle.rs_replay.specs.Telling.{AreCounts, HasCounts, Tells, TellsUpTo, agrees_by, counted_row, row_line, sent_on};
+ghost use Rattle.rs_replay.specs.Telling.{AreCounts, HasCounts, IsSentBy, Tells, TellsUpTo, agrees_by, counted_row, row_line, sent_on};
 
 use crate::connection::Connection;
 use crate::findings::{Counts, Row, tell_differences, tell_rows, tell_unreadable};
@@ -145,7 +145,7 @@ pub(crate) fn tell<W: TextOut>(
     writer: &mut W,
 ) -> Result<bool, ReplayFault>
     requires { length connections.now ≡ client_count core.now }
-    ensures { IfOk result (λ same. Tells W.puts core.now names.now connections.now writer.old same writer.new) }
+    ensures { IfOk result (λ same. Tells W.puts core.now names.now (λ run. IsSentBy connections.now) writer.old same writer.new) }
 {
     let mut told = Told {
         rows: Vec::new(alloc),

@@ -1,8 +1,13 @@
 //! What another server sent to a client on one connection: octets come in, piece after piece, and a
 //! table is kept.
 
-ghost use Rattle.std.specs.Prelude.{◌≡◌, option_map};
+ghost use Rattle.std.specs.Prelude.{◌≡◌, ◌++◌, ℕ, List, [], IfOk, OnOk, drop, option_map};
+ghost use Rattle.rs_octets.specs.Messages.{IsMessageOf, body_of};
+ghost use Rattle.rs_attrs.specs.Effects.{MeansTable};
+ghost use Rattle.rs_attrs.specs.declared.mode.Mode.{Mode};
 ghost use Rattle.rs_compare.specs.Heard.{table_in};
+ghost use Rattle.rs_replay.specs.Sendings.{allowed, updates_since};
+ghost use Rattle.rs_replay.specs.Taking.{HasTaken, HearsAll, HearsMessage};
 ghost use Rattle.rs_replay.specs.Telling.{sent_on};
 
 use rs_attrs::Mode;
@@ -33,7 +38,9 @@ fn hear_message(
     body: &[u8],
     mode: Mode,
     sent: &mut Sent,
-) -> Result<bool, AllocError> {
+) -> Result<bool, AllocError>
+    ensures { IfOk result (λ goes_on. (before : List (List ℕ)) (message : List ℕ) → IsMessageOf allowed kind message → body.now ≡ body_of message → MeansTable (updates_since before) mode (table_in sent.old) → HearsMessage mode before message goes_on (table_in sent.new)) }
+{
     match kind {
         Kind::Update => sent.hear(alloc, body, mode),
         Kind::Open | Kind::Note => {
@@ -51,9 +58,11 @@ fn hear_messages(
     octets: &[u8],
     mode: Mode,
     sent: &mut Sent,
-) -> Result<Option<usize>, AllocError> {
+) -> Result<Option<usize>, AllocError>
+    ensures { IfOk result (λ left. (before : List (List ℕ)) → MeansTable (updates_since before) mode (table_in sent.old) → HearsAll mode before octets.now left (table_in sent.new)) }
+{
     let mut rest = octets;
-    for _ in 0..octets.len() {
+    while !rest.is_empty() {
         match read_front(rest, ALLOWED) {
             Front::Message {
                 kind,
@@ -66,15 +75,25 @@ fn hear_messages(
                 rest = behind;
             }
             Front::Fault(_) => return Ok(None),
-            Front::Wants(_) => break,
+            Front::Wants(_) => return Ok(Some(rest.len())),
         }
     }
-    Ok(Some(rest.len()))
+    Ok(Some(0))
+}
+
+/// Takes so many octets away from the front.
+fn take_away(octets: &mut Vec<u8>, count: usize)
+    ensures { octets.new.items ≡ drop count octets.old.items }
+{
+    let count = count.min(octets.len());
+    octets.drain(..count);
 }
 
 impl Connection {
     /// Nothing was sent yet.
-    pub(crate) fn new(alloc: Global) -> Connection {
+    pub(crate) fn new(alloc: Global) -> Connection
+        ensures { (mode : Mode) → HasTaken mode [] result }
+    {
         Connection {
             rest: Vec::new(alloc),
             sent: Sent::new(alloc),
@@ -99,7 +118,9 @@ impl Connection {
         alloc: Global,
         octets: &[u8],
         mode: Mode,
-    ) -> Result<(), AllocError> {
+    ) -> Result<(), AllocError>
+        ensures { OnOk result ((before : List ℕ) → HasTaken mode before self.old → HasTaken mode (before ++ octets.now) self.new) }
+    {
         if !self.is_readable {
             return Ok(());
         }
@@ -109,9 +130,7 @@ impl Connection {
             return Ok(());
         };
         let heard = self.rest.len().saturating_sub(left);
-        if heard > 0 {
-            self.rest.drain(..heard);
-        }
+        take_away(&mut self.rest, heard);
         Ok(())
     }
 }

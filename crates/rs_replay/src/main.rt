@@ -10,6 +10,8 @@ mod playing;
 mod sent;
 mod sent_lines;
 mod tables;
+#[cfg(test)]
+mod tests;
 mod until;
 
 use crate::input::StandardInput;
@@ -24,7 +26,7 @@ use rs_policy::Config;
 use rs_trace::fault::ReplayFault;
 use rs_trace::progress::{Measure, Progress, Unmeasured, Unwatched, Watch};
 use rs_trace::replay::replay;
-use rs_trace::text::{OverRead, OverWrite};
+use rs_trace::text::{OverRead, OverWrite, TextIn, TextOut};
 use std::io::{BufWriter, ErrorKind, IsTerminal, Read};
 use std::process::ExitCode;
 use std::rt::{Env, Files};
@@ -61,6 +63,32 @@ enum Ended {
     Unread,
 }
 
+/// Plays a trace, and where a file is named of what another server sent, holds that against what is due
+/// where it ends.
+fn play_text<R: Files + AllocGlobal + Threads + Wait + Sync, I: TextIn, O: TextOut, P: Watch>(
+    rt: &R,
+    reader: &mut I,
+    writer: &mut O,
+    watch: &mut P,
+    config: Config,
+    options: &Options,
+    until: u64,
+) -> Result<Outcome, ReplayFault> {
+    let alloc = rt.alloc();
+    let workers = options.workers.clamp(1, 16);
+    let Some(path) = &options.compare else {
+        replay(rt, alloc, reader, writer, watch, config, workers)?;
+        return Ok(Outcome::Good);
+    };
+    let Ok(file) = fs::open(rt, path) else {
+        return Ok(Outcome::BadFile(ReplayFault::Reading));
+    };
+    let mut sent = OverRead::new(file);
+    play_and_compare(
+        rt, alloc, reader, writer, watch, config, workers, &mut sent, until,
+    )
+}
+
 /// Plays standard input to standard output.
 fn play<R: Files + Input + Print + AllocGlobal + Threads + Wait + Sync, P: Watch>(
     rt: &R,
@@ -79,30 +107,7 @@ fn play<R: Files + Input + Print + AllocGlobal + Threads + Wait + Sync, P: Watch
     let trace = Until::new(rt.reader(), until).chain(tables.as_slice());
     let mut reader = OverRead::new(trace);
     let mut writer = OverWrite::new(Output::new(buffered));
-    let workers = options.workers.clamp(1, 16);
-    let played = match &options.compare {
-        None => match replay(rt, alloc, &mut reader, &mut writer, watch, config, workers) {
-            Ok(()) => Ok(Outcome::Good),
-            Err(fault) => Err(fault),
-        },
-        Some(path) => {
-            let Ok(file) = fs::open(rt, path) else {
-                return Ok(Outcome::BadFile(ReplayFault::Reading));
-            };
-            let mut sent = OverRead::new(file);
-            play_and_compare(
-                rt,
-                alloc,
-                &mut reader,
-                &mut writer,
-                watch,
-                config,
-                workers,
-                &mut sent,
-                until,
-            )
-        }
-    };
+    let played = play_text(rt, &mut reader, &mut writer, watch, config, options, until);
     let flushed = writer.flush();
     match played {
         Err(ReplayFault::Memory | ReplayFault::Reading) => {}

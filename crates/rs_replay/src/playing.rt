@@ -1,6 +1,6 @@
 //! Plays a trace, and holds what another server sent against what is due then.
 
-ghost use Rattle.std.specs.Prelude.{◌<◌, ◌≤◌, IfOk};
+ghost use Rattle.std.specs.Prelude.{◌≡◌, ◌≢◌, ◌<◌, ◌≤◌, IfOk};
 ghost use Rattle.rs_replay.specs.Comparing.{HasCompared};
 
 use crate::comparing::tell;
@@ -25,6 +25,16 @@ pub(crate) enum Outcome {
     BadFile(ReplayFault),
 }
 
+/// What comes of a file that could not be read to its end; want of memory is no fault of the file.
+fn bad_file(fault: ReplayFault) -> Result<Outcome, ReplayFault>
+    ensures { IfOk result (λ outcome. (outcome ≡ Outcome.BadFile fault) × (fault ≢ ReplayFault.Memory)) }
+{
+    match fault {
+        ReplayFault::Memory => Err(ReplayFault::Memory),
+        _ => Ok(Outcome::BadFile(fault)),
+    }
+}
+
 /// Plays a trace, and then writes how what another server sent, a text, differs from what is due. What
 /// was sent behind line `until` of the trace is left out.
 pub(crate) fn play_and_compare<
@@ -45,13 +55,12 @@ pub(crate) fn play_and_compare<
     until: u64,
 ) -> Result<Outcome, ReplayFault>
     requires { (0 < workers) × (workers ≤ 16) }
-    ensures { IfOk result (λ outcome. HasCompared config R.takes R.at_end W.puts reader.old writer.old reader.new writer.new outcome) }
+    ensures { IfOk result (λ outcome. HasCompared config R.takes R.at_end W.puts S.takes S.at_end S.failures until reader.old writer.old sent.old reader.new writer.new sent.new outcome) }
 {
     let played = play_through(rt, alloc, reader, writer, watch, config, workers)?;
     let connections = match read_sent(alloc, &played.core, &played.names, sent, until) {
         Ok(connections) => connections,
-        Err(ReplayFault::Memory) => return Err(ReplayFault::Memory),
-        Err(fault) => return Ok(Outcome::BadFile(fault)),
+        Err(fault) => return bad_file(fault),
     };
     if tell(alloc, &played.core, &played.names, &connections, writer)? {
         Ok(Outcome::Good)

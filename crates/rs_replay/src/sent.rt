@@ -1,7 +1,11 @@
 //! What another server sent, read from the lines of a file.
 
-ghost use Rattle.std.specs.Prelude.{◌≡◌, length, vec_len, IfOk};
+ghost use Rattle.std.specs.Prelude.{◌≡◌, ◌++◌, ◌∷◌, ℕ, List, [], Option, Some, length, slice_get, vec_len, IfOk, OnOk};
+ghost use Rattle.rs_attrs.specs.declared.mode.Mode.{Mode};
 ghost use Rattle.rs_core.specs.Core.{client_count};
+ghost use Rattle.rs_trace.specs.Replays.{place_in};
+ghost use Rattle.rs_replay.specs.SentLines.{Began, Gave, Said, said_in};
+ghost use Rattle.rs_replay.specs.Taking.{HaveTaken, ReadsNext, ReadsSent, ReadsUpTo, Stands, TakesLine, fails_by};
 
 use crate::connection::Connection;
 use crate::sent_lines::{Entry, read_sent_line};
@@ -14,7 +18,8 @@ use std::alloc::{AllocError, Global};
 
 /// A connection for each client, on which nothing was sent yet.
 fn connections_of(alloc: Global, core: &Core) -> Result<Vec<Connection>, AllocError>
-    ensures { IfOk result (λ connections. vec_len connections ≡ client_count core.now) }
+    ensures count { IfOk result (λ connections. vec_len connections ≡ client_count core.now) }
+    ensures none_taken { IfOk result (λ connections. HaveTaken core.now [] connections.items) }
 {
     let mut connections = Vec::new(alloc);
     for c in 0..core.clients() {
@@ -24,7 +29,10 @@ fn connections_of(alloc: Global, core: &Core) -> Result<Vec<Connection>, AllocEr
 }
 
 /// A connection to the client is there.
-fn begin(alloc: Global, connections: &mut [Connection], c: usize) {
+fn begin(alloc: Global, core: &Core, connections: &mut [Connection], c: usize)
+    requires { length connections.old ≡ client_count core.now }
+    ensures { (entries : List Said) → HaveTaken core.now entries connections.old → HaveTaken core.now (entries ++ Began c ∷ []) connections.new }
+{
     if c < connections.len() {
         connections[c] = Connection::new(alloc);
     }
@@ -39,6 +47,7 @@ fn take(
     octets: &[u8],
 ) -> Result<(), AllocError>
     requires { length connections.old ≡ client_count core.now }
+    ensures { OnOk result ((entries : List Said) → HaveTaken core.now entries connections.old → HaveTaken core.now (entries ++ Gave c octets.now ∷ []) connections.new) }
 {
     if c >= core.clients() {
         return Ok(());
@@ -58,10 +67,11 @@ fn hear(
     piece: &[u8; 4096],
 ) -> Result<(), AllocError>
     requires { length connections.old ≡ client_count core.now }
+    ensures { OnOk result ((entries : List Said) → HaveTaken core.now entries connections.old → HaveTaken core.now (entries ++ said_in piece.now entry ∷ []) connections.new) }
 {
     match entry {
         Entry::Open(c) => {
-            begin(alloc, connections, c);
+            begin(alloc, core, connections, c);
             Ok(())
         }
         Entry::Sent(c, size) => {
@@ -72,8 +82,80 @@ fn hear(
     }
 }
 
+/// What a line comes to.
+#[derive(Clone, Copy)]
+enum Next {
+    /// Nothing behind it counts, or there is no line any more.
+    Over,
+    /// It is passed over.
+    Passed,
+    Said(Entry),
+}
+
+/// Reads the next line, which has this number.
+fn next_line<R: TextIn>(
+    names: &Names,
+    lines: &mut Lines,
+    number: u64,
+    reader: &mut R,
+    piece: &mut [u8; 4096],
+    until: u64,
+) -> Result<Next, ReplayFault>
+    ensures on { (text : List ℕ) (entries : List Said) → Stands (place_in names.now) until text (R.at_end reader.old) entries number lines.old → (taken : List ℕ) × R.takes reader.old taken reader.new × ReadsNext (place_in names.now) until (text ++ taken) (R.at_end reader.new) entries number lines.new piece.new result }
+    ensures reads { R.failures reader.new ≡ fails_by result (R.failures reader.old) }
+{
+    match lines.advance(reader) {
+        Ok(true) => {}
+        Ok(false) => return Ok(Next::Over),
+        Err(_) => return Err(ReplayFault::Reading),
+    }
+    match read_sent_line(names, lines.line(), piece) {
+        Ok(Some(entry)) => {
+            if entry.is_later(until) {
+                Ok(Next::Over)
+            } else {
+                Ok(Next::Said(entry))
+            }
+        }
+        Ok(None) => Ok(Next::Passed),
+        Err(fault) => Err(ReplayFault::Line(number, fault)),
+    }
+}
+
+/// Reads the next line, which has this number, and takes what it says. Answers whether what follows counts.
+fn take_line<R: TextIn>(
+    alloc: Global,
+    core: &Core,
+    names: &Names,
+    connections: &mut [Connection],
+    lines: &mut Lines,
+    number: u64,
+    reader: &mut R,
+    piece: &mut [u8; 4096],
+    until: u64,
+) -> Result<bool, ReplayFault>
+    requires { length connections.old ≡ client_count core.now }
+    ensures on { (first : R) → R.failures reader.old ≡ R.failures first → ReadsUpTo R.takes R.at_end core.now (place_in names.now) until first reader.old number lines.old connections.old → TakesLine R.takes R.at_end R.failures core.now (place_in names.now) until first reader.new number lines.new connections.new result }
+    ensures reads { R.failures reader.new ≡ fails_by result (R.failures reader.old) }
+{
+    match next_line(names, lines, number, reader, piece, until) {
+        Err(fault) => Err(fault),
+        Ok(Next::Over) => Ok(false),
+        Ok(Next::Passed) => Ok(true),
+        Ok(Next::Said(entry)) => match hear(alloc, core, connections, entry, piece) {
+            Ok(()) => Ok(true),
+            Err(_) => Err(ReplayFault::Memory),
+        },
+    }
+}
+
 /// What was sent to each client since its last connection began, up to what was sent behind this line
 /// of the trace.
+///
+/// # Errors
+///
+/// The fault of the first line that has one, up to there; `Reading` where a call of the reader failed, and
+/// `Memory`.
 pub(crate) fn read_sent<R: TextIn>(
     alloc: Global,
     core: &Core,
@@ -81,7 +163,8 @@ pub(crate) fn read_sent<R: TextIn>(
     reader: &mut R,
     until: u64,
 ) -> Result<Vec<Connection>, ReplayFault>
-    ensures { IfOk result (λ connections. vec_len connections ≡ client_count core.now) }
+    ensures count { IfOk result (λ connections. vec_len connections ≡ client_count core.now) }
+    ensures sent { ReadsSent R.takes R.at_end R.failures core.now (place_in names.now) until reader.old reader.new result }
 {
     let Ok(mut connections) = connections_of(alloc, core) else {
         return Err(ReplayFault::Memory);
@@ -91,20 +174,18 @@ pub(crate) fn read_sent<R: TextIn>(
     };
     let mut piece = [0; 4096];
     for number in 1..u64::MAX {
-        match lines.advance(reader) {
-            Ok(true) => {}
-            Ok(false) => return Ok(connections),
-            Err(_) => return Err(ReplayFault::Reading),
-        }
-        match read_sent_line(names, lines.line(), &mut piece) {
-            Ok(Some(Entry::After(line))) if line > until => return Ok(connections),
-            Ok(Some(entry)) => {
-                if hear(alloc, core, &mut connections, entry, &piece).is_err() {
-                    return Err(ReplayFault::Memory);
-                }
-            }
-            Ok(None) => {}
-            Err(fault) => return Err(ReplayFault::Line(number, fault)),
+        if !take_line(
+            alloc,
+            core,
+            names,
+            &mut connections,
+            &mut lines,
+            number,
+            reader,
+            &mut piece,
+            until,
+        )? {
+            return Ok(connections);
         }
     }
     // The number of a further line has no room.

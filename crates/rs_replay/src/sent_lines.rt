@@ -33,6 +33,21 @@ pub(crate) enum Entry {
     After(u64),
 }
 
+impl Entry {
+    ghost use Rattle.rs_replay.specs.SentLines.{said_in};
+    ghost use Rattle.rs_replay.specs.Sent.{is_later};
+
+    /// Whether what follows was sent behind a later line of the trace than this.
+    pub(crate) fn is_later(self, until: u64) -> bool
+        ensures { (piece : List ℕ) → result ≡ is_later until (said_in piece self) }
+    {
+        match self {
+            Entry::After(line) => line > until,
+            Entry::Open(_) | Entry::Sent(_, _) => false,
+        }
+    }
+}
+
 /// Whether a replay writes lines with this word, beside those with `sent`.
 fn is_output_word(text: &[u8]) -> bool
     ensures { result ≡ is_output_word text.now }
