@@ -3,6 +3,12 @@ import csv
 import datetime
 import io
 
+# The work that is played without rules and with those of an exchange.
+RULES = ("members 10x15k", "rules 10x15k")
+RULES_WORDS = """
+Of ten members with 15,000 prefixes each, without rules and with those that `tools/exchange.py` writes (`bench/registered.py` makes up what
+is registered): bogons, NEXT_HOP, some 20,000 prefixes and 7,000 AS numbers of each member, action communities. All routes pass.
+"""
 WORDS = """
 ## What is played
 
@@ -14,6 +20,7 @@ Clients speak over 127.0.0.0/8, all in one process of two threads (`bench/rsload
 | `internet AxB` | 1 to 5 prefixes to a set; AS_PATH of 2 to 6 four-octet numbers; MED, communities, large communities, AGGREGATOR on some; a fifth of the clients in a four-octet AS |
 | `overlap AxB` | as `internet`, but three clients announce each prefix |
 | `deaf AxB` | as `internet`, with one client more that reads nothing once it is up |
+| `members AxB`, `rules AxB` | as `internet`; the second with rules, in all servers that play it |
 
 After the start (all announce at once) come single changes, one at a time beside the full table; a flap (a client closes its
 connection, comes back and announces again); and a late client without routes.
@@ -106,6 +113,25 @@ def table(rows):
             yield f"| {work} | {server} | " + " | ".join(found[it] for it in SHOWN) + f" | {wrong(report)} |"
 
 
+def ruled(rows):
+    """The figures with rules beside those without, and ours beside BIRD's."""
+    known = ("initial", "complete_s"), ("initial", "server_cpu_s"), ("whole", "server_peak_mb")
+    yield "| Server | converged s | with rules | ratio | CPU s | with rules | ratio | peak MB | with rules | ratio | wrong |"
+    yield "|---|" + "---:|" * 9 + "---|"
+    for server in dict.fromkeys(server for work, server, *_ in rows if work in RULES):
+        cells = []
+        for phase, name in known:
+            without, beside = (least(rows, work, server, phase, name) for work in RULES)
+            cells += [shown(without), shown(beside), shown(ratio(beside, without))]
+        found = dict.fromkeys(wrong(report) for work, who, report, _ in rows if work in RULES and who == server and "initial" in report)
+        yield f"| {server} | " + " | ".join(cells) + f" | {'; '.join(found) or '-'} |"
+    for other in ("bird", "bird-tables"):
+        cells = []
+        for phase, name in known:
+            cells += [shown(ratio(*(least(rows, work, who, phase, name) for who in ("ours", other)))) for work in RULES] + [""]
+        yield f"| ours to {other} | " + " | ".join(cells) + " | |"
+
+
 def data(rows):
     """All figures, as lines with commas between them."""
     text = io.StringIO()
@@ -160,7 +186,7 @@ def goals(rows, work):
     return found
 
 
-def page(rows, judged, met, seen, machine, versions, missing):
+def page(rows, judged, met, seen, alone, machine, versions, missing):
     """The whole page."""
     today = datetime.date.today()
     text = ["# Among other route servers", ""]
@@ -176,6 +202,10 @@ def page(rows, judged, met, seen, machine, versions, missing):
         text += ["", f"Where ours spends its processor time there, phase `{phase}`, by `perf` (clock samples):", ""]
         text += [f"    {it}" for it in lines.splitlines()]
     text += ["", "## Until all hold their tables, and afterwards", "", *table(rows)]
+    if any(work in RULES for work, *_ in rows):
+        text += ["", "## With the rules of an exchange", RULES_WORDS, *ruled(rows)]
+    if alone:
+        text += ["", "Lists alone (`bench/lists.py`):", "", *(f"- {it}" for it in alone)]
     if lines := list(faults(rows)):
         text += ["", "## What went wrong", "", *lines]
     return "\n".join(text) + "\n" + WORDS

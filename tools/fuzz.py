@@ -29,12 +29,15 @@ BIG = 4_200_000_000
 AS_TRANS = 23456
 AS_NUMBERS = [64496, 64497, 64498, BIG]
 # Communities that routes have, and patterns of them; those with `peer` stand where routes go out.
-COMMUNITIES = ["64500:1", "64500:2", "65535:65281", "0:64497", "64500:64498"]
-LARGE = ["64500:0:64497", "64500:1:64499", f"64500:0:{BIG}", f"{BIG}:4294967295:0"]
-PATTERNS = ["64500:*", "0:*"]
-LARGE_PATTERNS = ["64500:0:*", "64500:*:*", f"{BIG}:*:*"]
+# 59904 is what two octets hold of the greatest AS number: no community has that one as a part.
+COMMUNITIES = ["64500:1", "65535:65281", "0:64496", "0:64497", "0:64498", "64500:64496", "64500:64498", "64497:1", "64498:1", f"0:{BIG % 65_536}"]
+LARGE = ["64500:0:64497", "64500:0:64498", "64500:1:64496", f"64500:0:{BIG}", f"64500:{BIG}:1", f"{BIG}:4294967295:0", "64496:1:2"]
+PATTERNS = ["64500:*", "0:*", "64497:*", "65000:*"]
+LARGE_PATTERNS = ["64500:0:*", "64500:*:*", f"{BIG}:*:*", "64496:*:*", "64500:2:*"]
 OF_PEER = ["0:peer", "64500:peer", "peer:*", "peer:1"]
 LARGE_OF_PEER = ["64500:0:peer", "64500:peer:*", "peer:*:*", "64500:1:peer"]
+# Tests that hold of few routes, or come in several kinds: rules have them more often.
+SELDOM = ["prefix", "prefix_in", "from", "origin_as", "origin_as", "origin_in", *["community"] * 5, *["large_community"] * 5]
 
 
 def message(kind, body):
@@ -55,6 +58,10 @@ def attribute(flags, kind, value):
     return struct.pack(">BBB", flags, kind, len(value)) + value
 
 
+def update(withdrawn, field, nlri):
+    return message(2, struct.pack(">H", len(withdrawn)) + withdrawn + struct.pack(">H", len(field)) + field + nlri)
+
+
 class Peer:
     """A member, and how it spells AS numbers since its last connection."""
 
@@ -71,7 +78,7 @@ class Peer:
         return message(1, struct.pack(">BHHIB", 4, my_as, hold, self.identifier, len(parameters)) + parameters)
 
     def path(self, draw):
-        numbers = [self.number] + [draw.choice([64496, 64497, 64500, 64999, 65000]) for _ in range(draw.randrange(3))]
+        numbers = [self.number] + [draw.choice([64496, 64497, 64999, 64999, 65000, 64500][: 5 + (draw.random() < 0.3)]) for _ in range(draw.randrange(3))]
         if draw.random() < 0.1:
             numbers += [BIG if self.is_four else 64999] * draw.choice([200, 500, 700])
         elif draw.random() < 0.3 and self.is_four:
@@ -80,28 +87,30 @@ class Peer:
         pieces = [numbers[at : at + 255] for at in range(0, len(numbers), 255)]
         return b"".join(bytes([kind, len(it)]) + b"".join(struct.pack(code, one) for one in it) for it in pieces)
 
+    def attributes(self, draw):
+        """The attributes of a route, not all of them as they should be."""
+        field = attribute(0x40, 1, bytes([draw.choice([0, 0, 1, 2, 3] if draw.random() < 0.2 else [0, 0, 2])]))
+        field += attribute(0x40, 2, self.path(draw))
+        if draw.random() < 0.95:
+            field += attribute(0x40, 3, struct.pack(">I", draw.choice([self.address, 0xC000020C])))
+        if draw.random() < 0.4:
+            field += attribute(0x80, 4, struct.pack(">I", draw.randrange(3)))
+        if draw.random() < 0.2:
+            field += attribute(0xC0, 7, struct.pack(">II" if self.is_four else ">HI", 64496, self.address))
+        if draw.random() < 0.7:
+            chosen = draw.sample(COMMUNITIES, draw.choice([1, 4, 8]))
+            field += attribute(0xC0, 8, b"".join(struct.pack(">HH", *map(int, it.split(":"))) for it in chosen))
+        if draw.random() < 0.7:
+            chosen = draw.sample(LARGE, draw.choice([1, 3, 6]))
+            field += attribute(0xC0, 32, b"".join(struct.pack(">III", *map(int, it.split(":"))) for it in chosen))
+        if draw.random() < 0.1:
+            field += attribute(0xC0, 99, b"\xab\xcd")
+        return field
+
     def update(self, draw):
         withdrawn = b"".join(map(spelt, draw.sample(PREFIXES, draw.choice([0, 0, 1, 2]))))
         nlri = b"".join(map(spelt, draw.sample(PREFIXES, draw.choice([0, 1, 1, 2, 3]))))
-        field = b""
-        if nlri:
-            field += attribute(0x40, 1, bytes([draw.choice([0, 0, 1, 2, 3] if draw.random() < 0.2 else [0, 0, 2])]))
-            field += attribute(0x40, 2, self.path(draw))
-            if draw.random() < 0.95:
-                field += attribute(0x40, 3, struct.pack(">I", draw.choice([self.address, 0xC000020C])))
-            if draw.random() < 0.4:
-                field += attribute(0x80, 4, struct.pack(">I", draw.randrange(3)))
-            if draw.random() < 0.2:
-                field += attribute(0xC0, 7, struct.pack(">II" if self.is_four else ">HI", 64496, self.address))
-            if draw.random() < 0.4:
-                chosen = draw.sample(COMMUNITIES, draw.choice([1, 2, 3]))
-                field += attribute(0xC0, 8, b"".join(struct.pack(">HH", *map(int, it.split(":"))) for it in chosen))
-            if draw.random() < 0.4:
-                chosen = draw.sample(LARGE, draw.choice([1, 2, 3]))
-                field += attribute(0xC0, 32, b"".join(struct.pack(">III", *map(int, it.split(":"))) for it in chosen))
-            if draw.random() < 0.1:
-                field += attribute(0xC0, 99, b"\xab\xcd")
-        return message(2, struct.pack(">H", len(withdrawn)) + withdrawn + struct.pack(">H", len(field)) + field + nlri)
+        return update(withdrawn, self.attributes(draw) if nlri else b"", nlri)
 
 
 def dotted(prefix):
@@ -115,73 +124,78 @@ def operators(length):
 
 def stripped(draw, key, patterns):
     """What a rule takes away of one type."""
-    return draw.choice([f'{key} = "all"', f"{key} = {draw.sample(patterns, draw.choice([1, 1, 2]))}"])
+    return f'{key} = "all"' if draw.random() < 0.2 else f"{key} = {draw.sample(patterns, draw.choice([1, 1, 2]))}"
+
+
+def tests(draw, is_out):
+    """What a rule may ask of a route, by key; `peer` stands in a list by which routes go out."""
+    prefix = draw.choice(PREFIXES)
+    most = f", max = {draw.choice([32, draw.randrange(prefix[1], 33)])}" if draw.random() < 0.8 else ""
+    patterns, large = [COMMUNITIES, PATTERNS], [LARGE, LARGE_PATTERNS]
+    if is_out:
+        patterns, large = [*patterns, *[OF_PEER] * 3], [*large, *[LARGE_OF_PEER] * 3]
+    return {
+        "prefix": f'"{dotted(prefix)}"{most}',
+        "prefix_in": f'"{draw.choice(LISTS)}"',
+        "from": f'"{draw.choice(NAMES)}"',
+        "path_has": draw.choice([64999, 64497]),
+        "path_longer": draw.randrange(4),
+        "path_in": f'"{draw.choice(LISTS)}"',
+        "origin_as": draw.choice([64496, 64999, 64999, BIG]),
+        "origin_in": f'"{draw.choice(LISTS)}"',
+        "first_as_is_peer": draw.choice(["true", "false"]),
+        "community": f'"{draw.choice(draw.choice(patterns))}"',
+        "large_community": f'"{draw.choice(draw.choice(large))}"',
+        "next_hop_is_peer": draw.choice(["true", "false"]),
+    }
 
 
 def rule(draw, is_out):
     """A rule as the configuration has it, of a list by which routes go out or of another."""
-    words = []
-    patterns, large = COMMUNITIES + PATTERNS + OF_PEER * is_out, LARGE + LARGE_PATTERNS + LARGE_OF_PEER * is_out
-    if draw.random() < 0.5:
-        prefix = draw.choice(PREFIXES)
-        words.append(f'prefix = "{dotted(prefix)}"')
-        if draw.random() < 0.5:
-            words.append(f"max = {draw.randrange(prefix[1], 33)}")
-    for chance, word in (
-        (0.2, f'from = "{draw.choice(NAMES)}"'),
-        (0.2, f"path_has = {draw.choice([64999, 64497])}"),
-        (0.1, f"path_longer = {draw.randrange(4)}"),
-        (0.1, f'path_in = "{draw.choice(LISTS)}"'),
-        (0.1, f"first_as_is_peer = {draw.choice(['true', 'false'])}"),
-        (0.2, f"origin_as = {draw.choice([64496, 64999, BIG])}"),
-        (0.2, f'prefix_in = "{draw.choice(LISTS)}"'),
-        (0.2, f'origin_in = "{draw.choice(LISTS)}"'),
-        (0.2, f'community = "{draw.choice(patterns)}"'),
-        (0.2, f'large_community = "{draw.choice(large)}"'),
-        (0.2, f"next_hop_is_peer = {draw.choice(['true', 'false'])}"),
-    ):
-        if draw.random() < chance:
-            words.append(word)
-    passes = draw.random() < 0.7
+    asked = tests(draw, is_out)
+    keys = draw.sample([*asked, *SELDOM], draw.choice([0, 1, 1, 1, 1, 1, 1, 1, 2, 2, 3]))
+    words = [f"{key} = {asked[key]}" for key in dict.fromkeys(keys)]
+    passes = draw.random() < 0.75
     words.append(f'action = "{"pass" if passes else "drop"}"')
     if passes and draw.random() < 0.5:
         words.append(f"preference = {draw.choice([50, 100, 200])}")
-    if passes and draw.random() < 0.5:
-        words.append(stripped(draw, "strip", COMMUNITIES + PATTERNS))
-    if passes and draw.random() < 0.5:
-        words.append(stripped(draw, "strip_large", LARGE + LARGE_PATTERNS))
+    if passes and draw.random() < 0.7:
+        words.append(stripped(draw, "strip", draw.choice([COMMUNITIES, PATTERNS])))
+    if passes and draw.random() < 0.7:
+        words.append(stripped(draw, "strip_large", draw.choice([LARGE, LARGE_PATTERNS])))
     return "{ " + ", ".join(words) + " }"
 
 
 def named_list(draw, name):
     """A list as the configuration has it."""
-    entries = [f'"{dotted(it)}{draw.choice(operators(it[1]))}"' for it in draw.sample(PREFIXES, draw.randrange(4))]
+    entries = [f'"{dotted(it)}{draw.choice(operators(it[1]))}"' for it in draw.sample(PREFIXES, draw.randrange(5))]
     ases = [draw.choice(["64496", "64999", f'"64497-{BIG}"', str(BIG)]) for _ in range(draw.randrange(3))]
     return f'\n[[list]]\nname = "{name}"\nprefixes = [{", ".join(entries)}]\nases = [{", ".join(ases)}]\n'
 
 
-def rules(draw, is_out, used):
-    """An array of rules, which may use others of these names."""
-    tables = [rule(draw, is_out) for _ in range(draw.randrange(1, 4))]
+def rules(draw, is_out, most, used):
+    """An array of up to so many rules, which may use others of these names."""
+    tables = [rule(draw, is_out) for _ in range(draw.randint(1, most))]
     if used and draw.random() < 0.3:
         tables.insert(draw.randrange(len(tables) + 1), f'{{ use = "{draw.choice(used)}" }}')
     return f"[{', '.join(tables)}]"
 
 
-def configuration(draw, fixed):
-    """A text; what may not change while the server runs is `fixed`."""
+def configuration(draw, fixed, part=0.3, most=3, has_limits=True):
+    """A text, in which such a part of the members' lists has rules, up to so many, and members may have limits of prefixes; what may
+    not change while the server runs is `fixed`."""
     extended, refresh = fixed
     text = f'as = 64500\nidentifier = "192.0.2.1"\nhold = 90\ndefault = "{draw.choice(["pass", "pass", "pass", "drop"])}"\n'
     text += f"extended = {extended}\nrefresh = {refresh}\n"
     text += "".join(named_list(draw, name) for name in LISTS)
-    text += "".join(f'\n[[rules]]\nname = "{name}"\nrules = {rules(draw, name != SHARED[0], [])}\n' for name in SHARED)
+    text += "".join(f'\n[[rules]]\nname = "{name}"\nrules = {rules(draw, name != SHARED[0], most, [])}\n' for name in SHARED)
     for place, name in enumerate(NAMES):
         text += f'\n[[client]]\nname = "{name}"\nas = {AS_NUMBERS[place]}\nlisten = "127.0.0.1:{17901 + place}"\npeer = "192.0.2.{11 + place}"\n'
-        if draw.random() < 0.15:
+        if has_limits and draw.random() < 0.15:
             text += f"limit = {draw.randrange(1, 5)}\n"
         for kind, is_out, used in (("import", False, SHARED[:1]), ("export", True, SHARED)):
-            if draw.random() < 0.3:
-                text += f"{kind} = {rules(draw, is_out, used)}\n"
+            if draw.random() < part:
+                text += f"{kind} = {rules(draw, is_out, most, used)}\n"
     return text
 
 

@@ -29,9 +29,11 @@ from check_names import check_pages
 from fuzz import CASES, fuzz
 from hostile.plays import play_short
 from play_checks import play_checks
+from play_ignored import play_ignored
 from play_server import play_members
 from play_record import play_records
 from play_refused import play_refused
+from play_rules import ROUTES, SEED, play_rules
 from play_sessions import play
 from play_sweeps import play_sweeps
 from play_window import play_window
@@ -159,9 +161,11 @@ def play_all(crates, folder):
     """The result of each check on what was built."""
     replay, tests = crates / "rs_replay/out/rs_replay", crates / "rs_program_tests/out/rs_program_tests_tests"
     yield from play(replay, folder)
+    yield from play_ignored(replay, folder)
     yield from play_sweeps(replay, tests, folder)
     yield from play_refused(replay, tests, folder)
     yield from fuzz(replay, tests, CASES, time.time_ns() % 2**32)
+    yield from play_rules(replay, ROUTES, SEED)
     yield from play_members(crates / "rs_served/out/rs_served")
     yield from play_records(crates / "rs_served/out/rs_served", replay)
     yield from play_window(crates / "rs_served/out/rs_served")

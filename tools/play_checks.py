@@ -65,6 +65,13 @@ COMMUNITY_FORM = '"N:M", both 0 to 65535 without leading zeros; M may be *'
 LARGE_FORM = '"A:B:C", each 0 to 4294967295 without leading zeros; C, or B and C, may be *'
 STRIP_FORM = '"all" or at most 64 communities "N:M" or "N:*", beside action = "pass"'
 STRIP_LARGE_FORM = '"all" or at most 64 large communities "A:B:C", "A:B:*" or "A:*:*", beside action = "pass"'
+NAME_FORM = "a text of 1 to 32 ASCII letters, digits and hyphens"
+PREFIXES_FORM = "an array of at most 1048576 prefixes"
+ENTRY_FORM = 'a prefix, as "198.51.100.0/24", or one with a range of lengths, as "198.51.100.0/24^25-32"'
+NUMBERS_FORM = 'an integer of 0 to 4294967295, or a text of the least and the greatest, as "64512-65534"'
+# The list's prefixes, and the rule that is used, as GOOD has them.
+PREFIXES = 'prefixes = ["198.51.100.0/24", "203.0.113.0/24^25-26"]'
+LAST = 'path_has = 64999, action = "drop"'
 CLIENT_KEYS = "name as listen peer limit import export"
 RULE_KEYS = (
     "prefix min max prefix_in from path_has path_longer path_in origin_as origin_in first_as_is_peer community "
@@ -125,6 +132,39 @@ FAULTS = (
         ["missing rules 1 rules", "@expected: rules = an array of at most 64 tables", "bad value rules 1 ?", "@not known here: ruls; known: name rules"],
         ['[[rules]]', "[{ path_has"],
     ),
+    # Of lists and of rules that others use: each key's fault with its place, and arrays that are too long. The tables [[list]] are indented, so
+    # that each file has many.
+    ("[[list]]", "".join(f'  [[list]]\n  name = "l{at}"\n  ases = []\n' for at in range(1024)) + "[[list]]", ["too many list", "list has 1025; expected: at most 1024 tables [[list]]"], []),
+    ("[[rules]]", "".join(f'[[rules]]\nname = "r{at}"\nrules = []\n' for at in range(256)) + "[[rules]]", ["too many rules", "rules has 257; expected: at most 256 tables [[rules]]"], []),
+    ("rules = [{", "rules = [" + "{}, " * 64 + "{", ["too many rules 1 rules", "@rules has 65; expected: an array of at most 64 tables"], ["[{}, {}"]),
+    ('name = "own"\n', "", ["missing list 1 name", f"@expected: name = {NAME_FORM}"], ["[[list]]"]),
+    ('name = "last"\n', "", ["missing rules 1 name", f"@expected: name = {NAME_FORM}"], ["[[rules]]"]),
+    ('name = "last"\n', "name = 1\n", ["bad value rules 1 name", f"@name = 1; expected: {NAME_FORM}"], ["1\n"]),
+    ('name = "own"', 'name = "o wn"', ["bad value list 1 name", f'@name = "o wn"; expected: {NAME_FORM}'], ['"o wn"']),
+    (f"{PREFIXES}\nases = [64496]\n", "", ["missing list 1 prefixes", f"@expected: prefixes = {PREFIXES_FORM}"], ["[[list]]"]),
+    (PREFIXES, 'prefixes = "198.51.100.0/24"', ["bad value list 1 prefixes", f'@prefixes = "198.51.100.0/24"; expected: {PREFIXES_FORM}'], ['"198.51.100.0/24"\n']),
+    ('"198.51.100.0/24", "203', '"198.51.100.0/24^33", "203', ["bad value list 1 prefixes 1", f'@"198.51.100.0/24^33"; expected: {ENTRY_FORM}'], ['"198.51.100.0/24^33"']),
+    ('"198.51.100.0/24", "203', '"198.51.100.0/24^26-25", "203', ["bad value list 1 prefixes 1", f'@"198.51.100.0/24^26-25"; expected: {ENTRY_FORM}'], ['"198.51.100.0/24^26-25"']),
+    ('"198.51.100.0/24", "203', '"198.51.100.0^24", "203', ["bad value list 1 prefixes 1", f'@"198.51.100.0^24"; expected: {ENTRY_FORM}'], ['"198.51.100.0^24"']),
+    ("ases = [64496]", 'ases = ["64497-64496"]', ["bad value list 1 ases 1", f'@"64497-64496"; expected: {NUMBERS_FORM}'], ['"64497-64496"']),
+    ("ases = [64496]", "ases = [4294967296]", ["bad value list 1 ases 1", f"@4294967296; expected: {NUMBERS_FORM}"], ["4294967296"]),
+    ('rules = [{ path_has = 64999, action = "drop" }]', "rules = 1", ["bad value rules 1 rules", "@rules = 1; expected: an array of at most 64 tables"], ["1\n"]),
+    ('path_in = "own"', 'origin_in = "beta"', ["bad value client 1 import 2 origin_in", '@origin_in = "beta"; expected: the name of a list that has ases'], ['"beta", path_has']),
+    ('prefix_in = "own"', 'prefix_in = "beta"', ["bad value client 1 import 2 prefix_in", '@prefix_in = "beta"; expected: the name of a list that has prefixes'], ['"beta", path_in']),
+    ('prefix_in = "own"', "prefix_in = 1", ["bad value client 1 import 2 prefix_in", "@prefix_in = 1; expected: the name of a list that has prefixes"], ["1, path_in"]),
+    ('use = "last"', 'use = ["last"]', ["bad value client 2 export 1 use", '@use = ["last"]; expected: the name of rules that others use'], ['["last"]']),
+    ("path_has = 64496", 'community = "0:peer"', ["bad value client 1 import 2 community", f'@community = "0:peer"; expected: {COMMUNITY_FORM}'], ['"0:peer"']),
+    (LAST, 'action = "pass", strip = [' + '"1:1", ' * 65 + "]", ["too many rules 1 rules 1 strip", f"@strip has 65; expected: {STRIP_FORM}"], ['["1:1"']),
+    (LAST, 'action = "pass", strip_large = [' + '"1:1:1", ' * 65 + "]", ["too many rules 1 rules 1 strip_large", f"@strip_large has 65; expected: {STRIP_LARGE_FORM}"], ['["1:1:1"']),
+    (LAST, 'action = "pass", strip = ["0:peer"]', ["bad value rules 1 rules 1 strip", f'@strip = ["0:peer"]; expected: {STRIP_FORM}'], ['["0:peer"]']),
+    (LAST, 'action = "pass", strip_large = ["1:0:peer"]', ["bad value rules 1 rules 1 strip_large", f'@strip_large = ["1:0:peer"]; expected: {STRIP_LARGE_FORM}'], ['["1:0:peer"]']),
+    ("path_has = 64999", 'prefix_in = "last"', ["bad value rules 1 rules 1 prefix_in", '@prefix_in = "last"; expected: the name of a list that has prefixes'], ['"last", action']),
+    ("path_has = 64999", 'path_in = "last"', ["bad value rules 1 rules 1 path_in", '@path_in = "last"; expected: the name of a list that has ases'], ['"last", action']),
+    ("path_has = 64999", "origin_in = 64496", ["bad value rules 1 rules 1 origin_in", "@origin_in = 64496; expected: the name of a list that has ases"], ["64496, action"]),
+    ("path_has = 64999", "path_longer = 4294967296", ["bad value rules 1 rules 1 path_longer", "@path_longer = 4294967296; expected: an integer of 0 to 4294967295"], ["4294967296, action"]),
+    ("path_has = 64999", 'first_as_is_peer = "true"', ["bad value rules 1 rules 1 first_as_is_peer", '@first_as_is_peer = "true"; expected: true or false'], ['"true", action']),
+    ("path_has = 64999", 'community = "1:65536"', ["bad value rules 1 rules 1 community", f'@community = "1:65536"; expected: {COMMUNITY_FORM}, each may be peer'], ['"1:65536"']),
+    ("path_has = 64999", 'large_community = "1:0:4294967296"', ["bad value rules 1 rules 1 large_community", f'@large_community = "1:0:4294967296"; expected: {LARGE_FORM}, each may be peer'], ['"1:0:4294967296"']),
     # Several faults, told in the order in which they are found, none of which comes of how another was mended.
     (
         'identifier = "192.0.2.1"',

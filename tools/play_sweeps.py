@@ -12,14 +12,18 @@ TESTS is the built tests of rs_program_tests, whose plain function says what eac
 - What member a says in the recorded sessions, each OPEN, KEEPALIVE and UPDATE, cut behind each octet and then lost, and
   with each octet as 00, as ff and one greater, while its session is in OpenSent and in Established: no session but a's
   ends, and a's only where what it said is at fault. Many are played one behind the other, each by connections of its own.
+  Of sessions about rules, which differ in values alone, a message counts where none before it has its form.
 """
 import collections
 import itertools
 import pathlib
+import struct
 import sys
 import tomllib
 
 from holding import AT_ONCE, Played, ask, case, drain, names, play
+from play_ignored import LISTED
+from read_rules import AS_PATH, read_attributes
 from results import end, tell
 
 # The sentences of the definitions that some recorded session needs.
@@ -185,18 +189,30 @@ def split(octets):
     return messages, octets
 
 
+def form(message):
+    """The lengths of an UPDATE's fields, and of each attribute flags, type, length and how AS_PATH begins; any other message itself."""
+    if message[18] != 2 or message[19:21] != b"\0\0":
+        return message
+    field = message[23 : 23 + int.from_bytes(message[21:23])]
+    try:
+        return len(message), *((kind, flags, len(it), it[:2] * (kind == AS_PATH)) for kind, (flags, it) in read_attributes(field).items())
+    except (IndexError, struct.error):
+        return message
+
+
 def corpus(folder):
     """What a says in the recorded sessions, each message once: the session, whether a spells AS numbers in four octets, and the message."""
-    found = {}
-    for name, _, lines in sessions(folder):
+    found, forms_found = {}, set()
+    for name, text, lines in sorted(sessions(folder), key=lambda it: bool(LISTED.search(it[1]))):
         rest, is_four = b"", True
         for word, who, *more in (line.split(" ") for line in lines if line.split(" ")[:2] in (["open", "a"], ["octets", "a"])):
             messages, rest = split(rest + bytes.fromhex("".join(more))) if word == "octets" else ([], b"")
             for message in messages:
                 if message[18] == 1:
                     is_four = bytes.fromhex("4104") in message
-                if message[18] in (1, 2, 4):
+                if message[18] in (1, 2, 4) and not (LISTED.search(text) and (is_four, form(message)) in forms_found):
                     found.setdefault((is_four, message), name)
+                    forms_found.add((is_four, form(message)))
     return [(name, is_four, message) for (is_four, message), name in found.items()]
 
 

@@ -2,6 +2,7 @@
 
 mod changes;
 mod conf;
+mod members;
 mod net;
 mod numbering;
 mod octets;
@@ -24,8 +25,9 @@ use work::{Opts, Profile, Work};
 const HELP: &str = "\
 rsload run    [options]   play the clients against a server and measure
 rsload config [options]   print a configuration for the same clients
+rsload members [options]  print what the same clients announce, in JSON
 
-work (both run and config):
+work (of all three):
   --clients N        clients that announce (10)        --late N         clients that come late and announce nothing (0)
   --deaf N           clients that come up with the others, announce nothing and then read nothing (0)
   --prefixes P       prefixes per client (1000)        --profile X      packed | internet | overlap (internet)
@@ -152,7 +154,7 @@ fn json(label: &str, o: &Opts, reports: &[Report]) -> String {
 
 fn main() {
     let (cmd, a) = parse();
-    if cmd != "run" && cmd != "config" {
+    if !["run", "config", "members"].contains(&cmd.as_str()) {
         print!("{HELP}");
         return;
     }
@@ -178,6 +180,10 @@ fn main() {
     }
     if o.clients * o.prefixes + o.changes > 8_000_000 {
         die("at most 8000000 prefixes");
+    }
+    if cmd == "members" {
+        print!("{}", members::json(&Work::new(o)));
+        return;
     }
     let t = a.one("target").unwrap_or("127.0.0.2:1790");
     let (host, port) = t.split_once(':').unwrap_or_else(|| die("--target wants ADDRESS:PORT"));
