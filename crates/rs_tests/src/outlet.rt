@@ -255,3 +255,28 @@ fn routes_rise(rt: HostRuntime) {
     assert_eq!(rt; bits(&rt, &exchange, &outlet).as_slice(), rising.as_slice());
     let_go(exchange, outlet);
 }
+
+/// From a prefix on an outlet has so many routes.
+fn has_from(rt: &impl Abort, exchange: &Exchange, outlet: &Outlet, from: (u32, u8), want: usize) {
+    let from = Prefix::new(from.0, from.1).expect(rt, "a prefix");
+    let mut count = 0_usize;
+    for _ in outlet.routes_from(&exchange.tables, from) {
+        count = count.saturating_add(1);
+    }
+    assert_eq!(rt; count, want);
+}
+
+/// The prefixes are those of `routes_rise`.
+#[test]
+fn routes_from_a_prefix_on(rt: HostRuntime) {
+    let exchange = Exchange::with_routes(&rt, rt.alloc(), 6);
+    let mut outlet = exchange.outlet(&rt, CLIENT);
+    assert_eq!(rt; outlet.count(), 0);
+    exchange.decides(&rt, &mut outlet, all(6));
+    assert_eq!(rt; outlet.count(), 6);
+    has_from(&rt, &exchange, &outlet, (0, 0), 6);
+    has_from(&rt, &exchange, &outlet, (0x0a71_0f00, 24), 5);
+    has_from(&rt, &exchange, &outlet, (0x0a71_0f00, 25), 4);
+    has_from(&rt, &exchange, &outlet, (0x0bf4_0d00, 24), 0);
+    let_go(exchange, outlet);
+}

@@ -1,7 +1,7 @@
 //! What is asked of the tables: of who announced what, and of what is due.
 
 use crate::common;
-use crate::route_server::exchange::{A, B, Exchange};
+use crate::route_server::exchange::{A, B, Exchange, NO_ROUTE, ROUTE_B};
 use rs_octets::Prefix;
 use std::process::Abort;
 
@@ -12,6 +12,59 @@ const OF_B: (u32, u8) = (0xcb00_7100, 24);
 
 fn prefix(rt: &impl Abort, of: (u32, u8)) -> Prefix {
     common::prefix(rt, of.0, of.1)
+}
+
+/// The first prefixes that a client is known to hold, and that are due to it, from a prefix on.
+fn first_from(
+    rt: &impl Abort,
+    exchange: &Exchange,
+    c: usize,
+    from: (u32, u8),
+) -> (Option<(u32, u8)>, Option<(u32, u8)>) {
+    assert!(rt; c < exchange.core.clients());
+    let from = prefix(rt, from);
+    let mut received = None;
+    for (prefix, _) in exchange.core.received_from(c, from).take(1) {
+        received = Some((prefix.bits(), prefix.len()));
+    }
+    let mut due = None;
+    for (prefix, _) in exchange.core.routes_from(c, from).take(1) {
+        due = Some((prefix.bits(), prefix.len()));
+    }
+    (received, due)
+}
+
+/// A client is known to hold so many routes, and so many are due to it.
+fn counts(rt: &impl Abort, exchange: &Exchange, c: usize, received: usize, due: usize) {
+    assert!(rt; c < exchange.core.clients());
+    assert_eq!(rt; exchange.core.received_count(c), received);
+    assert_eq!(rt; exchange.core.routes_count(c), due);
+}
+
+#[test]
+fn routes_from_a_prefix_on(rt: HostRuntime) {
+    let mut exchange = Exchange::with_a_route(&rt, rt.alloc(), "");
+    exchange.hear_in_turn(&rt, B, ROUTE_B);
+    assert_eq!(rt;
+        first_from(&rt, &exchange, A, (0, 0)),
+        (Some(OF_A), Some(OF_B))
+    );
+    assert_eq!(rt;
+        first_from(&rt, &exchange, A, OF_A),
+        (Some(OF_A), Some(OF_B))
+    );
+    assert_eq!(rt; first_from(&rt, &exchange, A, OF_B), (None, Some(OF_B)));
+    assert_eq!(rt;
+        first_from(&rt, &exchange, B, OF_A),
+        (Some(OF_B), Some(OF_A))
+    );
+    assert_eq!(rt; first_from(&rt, &exchange, B, OF_B), (Some(OF_B), None));
+    counts(&rt, &exchange, A, 1, 1);
+    exchange.hear_in_turn(&rt, A, NO_ROUTE);
+    assert_eq!(rt; first_from(&rt, &exchange, A, (0, 0)), (None, Some(OF_B)));
+    counts(&rt, &exchange, A, 0, 1);
+    counts(&rt, &exchange, B, 1, 0);
+    exchange.let_go();
 }
 
 #[test]

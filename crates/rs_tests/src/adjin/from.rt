@@ -1,0 +1,94 @@
+//! Tables from a prefix on.
+
+use super::*;
+
+// 10.0.0.0/9, which nobody holds: it is between 10.0.0.0/8 and 10.0.0.0/16
+const BETWEEN: (u32, u8) = (0x0a00_0000, 9);
+
+// 0.0.0.0/0, the first of all prefixes, and the next behind 192.0.2.0/24
+const FIRST: (u32, u8) = (0, 0);
+
+const BEHIND: (u32, u8) = (0xc000_0200, 25);
+
+/// From a prefix on a client holds these, listed by rising prefix, with the last octet of the next hop.
+fn holds_from(
+    rt: &impl Abort,
+    alloc: Global,
+    ins: &AdjIns,
+    client: usize,
+    from: (u32, u8),
+    want: &[(u32, u8, u32)],
+) {
+    assert!(rt; client < ins.clients());
+    let from = prefix(rt, from);
+    let mut routes = Vec::new(alloc);
+    for (prefix, attrs) in ins.routes_from(client, from) {
+        let next_hop = attrs.next_hop().unwrap_or(0);
+        routes
+            .push((prefix.bits(), prefix.len(), next_hop % 256))
+            .expect(rt, "a route");
+    }
+    assert_eq!(rt; routes.as_slice(), want);
+    let mut listed = 0_usize;
+    for _ in ins.held_from(client, from) {
+        listed = listed.saturating_add(1);
+    }
+    assert_eq!(rt; listed, want.len());
+}
+
+#[test]
+fn what_is_held_from_a_prefix_on(rt: HostRuntime) {
+    let alloc = rt.alloc();
+    let ins = filled(&rt, alloc);
+    let all = [
+        (WIDE.0, WIDE.1, 1),
+        (INNER.0, INNER.1, 2),
+        (OTHER.0, OTHER.1, 1),
+    ];
+    holds_from(&rt, alloc, &ins, 0, FIRST, &all);
+    holds_from(&rt, alloc, &ins, 0, WIDE, &all);
+    holds_from(&rt, alloc, &ins, 0, BETWEEN, &all[1..]);
+    holds_from(&rt, alloc, &ins, 0, INNER, &all[1..]);
+    holds_from(&rt, alloc, &ins, 0, OTHER, &all[2..]);
+    holds_from(&rt, alloc, &ins, 0, BEHIND, &[]);
+    holds_from(&rt, alloc, &ins, 1, INNER, &[(OTHER.0, OTHER.1, 2)]);
+    holds_from(&rt, alloc, &ins, 2, INNER, &[]);
+    let_go(ins);
+}
+
+/// A client holds so many prefixes.
+fn counts(rt: &impl Abort, ins: &AdjIns, client: usize, want: usize) {
+    assert!(rt; client < ins.clients());
+    assert_eq!(rt; ins.count(client), want);
+}
+
+#[test]
+fn how_many_a_client_holds(rt: HostRuntime) {
+    let alloc = rt.alloc();
+    let mut ins = filled(&rt, alloc);
+    counts(&rt, &ins, 0, 3);
+    counts(&rt, &ins, 1, 2);
+    withdraw(&rt, &mut ins, 1, WIDE);
+    counts(&rt, &ins, 1, 1);
+    clear(&rt, &mut ins, 0);
+    counts(&rt, &ins, 0, 0);
+    counts(&rt, &ins, 2, 1);
+    let_go(ins);
+}
+
+/// A prefix that nobody holds has its number still, and is listed.
+#[test]
+fn numbered_prefixes_from_a_prefix_on(rt: HostRuntime) {
+    let alloc = rt.alloc();
+    let mut ins = filled(&rt, alloc);
+    clear(&rt, &mut ins, 0);
+    let mut listed = Vec::new(alloc);
+    for (prefix, number) in ins.iter_from(prefix(&rt, BETWEEN)) {
+        listed
+            .push((prefix.bits(), prefix.len(), number))
+            .expect(&rt, "a prefix");
+    }
+    let want = [(INNER.0, INNER.1, 2), (OTHER.0, OTHER.1, 1)];
+    assert_eq!(rt; listed.as_slice(), want.as_slice());
+    let_go(ins);
+}
