@@ -77,9 +77,6 @@ same_more findings finding = list_all-append (λ f. is_same f.1) findings (findi
 
 -- ---- what was sent on a connection
 
-pub found_unreadable : (due : Table) (sent : Option Table) → None ≡ sent → IsFinding due sent Unreadable
-found_unreadable due sent e = subst (λ o. IsFinding due o Unreadable) e tt
-
 pub found_compared : (due table : Table) (sent : Option Table) (n m : ℕ) (found : List (Prefix × Kind)) → Some table ≡ sent → AreCompared due table n m found
     → IsFinding due sent (Compared n m found)
 found_compared due table sent n m found e are = subst (λ o. IsFinding due o (Compared n m found)) e are
