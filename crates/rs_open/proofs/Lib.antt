@@ -5,3 +5,4 @@ pub mod Written
 pub mod Heard
 pub mod ShortMessages
 pub mod GoodOpens
+pub mod Texts

@@ -1,13 +1,18 @@
 -- What the definitions answer, by computation: bodies of OPENs as read, and our messages as written.
-use Rattle.std.specs.Prelude.{◌≡◌, ℕ, List, ◌++◌, refl, codes, replicate, Bool, true, false, Some, None, Ok, Err}
+use Rattle.std.specs.Prelude.{◌≡◌, ℕ, ◌-◌, ◌&&◌, List, [], ◌∷◌, ◌++◌, length, slice_index, nat_le, if◌then◌else◌, refl, codes, replicate, Bool, true, false, Some, None, Ok, Err, IsUtf8}
+use Rattle.std.proofs.Common.{zero, suc, ◌<◌, ap, ◌∙◌, arith}
+use Rattle.std.proofs.lemmas.Str.{IsUtf8-from_ascii}
+use Rattle.std.specs.Str.{is_utf8}
 use Rattle.rs_octets.proofs.Rows.{hex}
 use Rattle.rs_open.specs.declared.open.OpenFault.TheVariants.{Version, Malformed, Parameter, Hold, Identifier}
 use Rattle.rs_open.specs.declared.short.Short.TheVariants.{Keepalive}
+use Rattle.rs_open.specs.declared.shutdown.ShutdownText.{ShutdownText}
 use Rattle.rs_open.specs.declared.writing.ServerOpen.{ServerOpen}
-use Rattle.rs_open.specs.Notes.{note, note_1, note_2}
+use Rattle.rs_open.specs.Notes.{note, note_1, note_2, shutdown_text, shutdown_note}
 use Rattle.rs_open.specs.Opens.{open_of}
 use Rattle.rs_open.specs.Refreshes.{family_of}
 use Rattle.rs_open.specs.Writing.{server_open, short_octets}
+use Rattle.rs_open.proofs.Texts.{utf8_tested}
 
 four_octets : open_of (hex (codes "04 fbf0 005a c000020b 08 0206 4104 0000fbf0"))
     ≡ Ok (record { my_as = 64496; four = Some 64496; hold = 90; identifier = 0xc000020b; long = false })
@@ -151,6 +156,42 @@ bad_type = refl
 
 hold_timer : short_octets (said 64500 false false false) (note 4 0) ≡ m (codes "0015 03 04 00")
 hold_timer = refl
+
+-- ---- an end that the operator commands
+
+abbrev text_of : List ℕ → ShutdownText
+text_of octets = record { octets = octets ++ replicate (128 - length octets) 0; count = length octets }
+
+shutdown_alone : short_octets (said 64500 false false false) (shutdown_note (text_of [])) ≡ m (codes "0015 03 06 02")
+shutdown_alone = refl
+
+shutdown_with_text : short_octets (said 64500 false false false) (shutdown_note (text_of (hex (codes "627965")))) ≡ m (codes "0019 03 06 02 03 627965")
+shutdown_with_text = refl
+
+longest_shutdown : short_octets (said 64500 false false false) (shutdown_note (text_of (replicate 128 0x61)))
+    ≡ m (codes "0096 03 06 02 80") ++ replicate 128 0x61
+longest_shutdown = refl
+
+-- what is not too long, and is UTF-8
+taken : (octets : List ℕ) → nat_le (length octets) 128 ≡ true → IsUtf8 octets → shutdown_text octets ≡ Some (text_of octets)
+taken octets few is =
+    ap (λ b. if b && is_utf8 octets then Some (text_of octets) else None) few
+    ∙ ap (λ b. if b then Some (text_of octets) else None) (utf8_tested octets is)
+
+no_text : shutdown_text [] ≡ Some (text_of [])
+no_text = taken [] refl ([], (refl, refl))
+
+is_ascii : (i : ℕ) → slice_index (0x62 ∷ 0x79 ∷ 0x65 ∷ []) i < 128
+is_ascii zero = omega arith
+is_ascii (suc zero) = omega arith
+is_ascii (suc (suc zero)) = omega arith
+is_ascii (suc (suc (suc i))) = omega arith
+
+a_text : shutdown_text (hex (codes "627965")) ≡ Some (text_of (0x62 ∷ 0x79 ∷ 0x65 ∷ []))
+a_text = taken (0x62 ∷ 0x79 ∷ 0x65 ∷ []) refl (IsUtf8-from_ascii _ is_ascii)
+
+text_of_129 : shutdown_text (replicate 129 0x61) ≡ None
+text_of_129 = refl
 
 -- ---- ROUTE-REFRESH
 

@@ -25,9 +25,9 @@ open_most said =
 open_least : (said : ServerOpen) → 37 ≤ length (server_open said)
 open_least said = omega (arith, open_size said)
 
--- ---- a NOTIFICATION with two octets of data at most has 23 at most
+-- ---- a NOTIFICATION with 129 octets of data at most has 150 at most
 
-pub note_fits : (allowed : Allowed) (code sub : ℕ) (extra : List ℕ) (count : ℕ) → length (take count extra) ≤ 2 → Fits allowed (shorts.Note code sub extra count)
+pub note_fits : (allowed : Allowed) (code sub : ℕ) (extra : List ℕ) (count : ℕ) → length (take count extra) ≤ 129 → Fits allowed (shorts.Note code sub extra count)
 note_fits allowed code sub extra count h = let long = longest_least allowed.long in omega (arith, h)
 
 -- ---- messages

@@ -18,9 +18,9 @@ Fits allowed shorts.Open = ⊤
 Fits allowed shorts.Keepalive = ⊤
 Fits allowed (shorts.Note code sub extra count) = length (notification code sub (take count extra)) ≤ longest allowed
 
--- as is a NOTIFICATION with two octets of data at most
+-- as is a NOTIFICATION with 129 octets of data at most
 abbrev pub NoteFits : Type 0
-NoteFits = (allowed : Allowed) (code sub : ℕ) (extra : List ℕ) (count : ℕ) → length (take count extra) ≤ 2 → Fits allowed (shorts.Note code sub extra count)
+NoteFits = (allowed : Allowed) (code sub : ℕ) (extra : List ℕ) (count : ℕ) → length (take count extra) ≤ 129 → Fits allowed (shorts.Note code sub extra count)
 
 -- the type that stands in its header (RFC 4271, 4.1)
 abbrev pub kind_of : Short → Kind

@@ -7,7 +7,8 @@
 //! - `open` has what an OPEN says and what can be wrong with one; `reading` reads it by `triples`,
 //!   of which parameters and capabilities are made; `codes` has their numbers.
 //! - `refresh` reads a ROUTE-REFRESH.
-//! - `short` has the messages that a session says by itself, `writing` their octets.
+//! - `short` has the messages that a session says by itself, `shutdown` the text that an operator
+//!   ends one with, `writing` their octets.
 //! - `laws` are contracts of functions that do nothing.
 //! - `tests` and its folder have OPENs of other implementations and of the RFCs, and texts.
 #![tactic(auto)]
@@ -18,6 +19,7 @@ mod open;
 mod reading;
 mod refresh;
 mod short;
+mod shutdown;
 #[cfg(test)]
 mod tests;
 mod triples;
@@ -31,6 +33,8 @@ pub use open::{Open, OpenFault};
 pub use reading::read_open;
 pub use refresh::{AddressFamily, read_refresh};
 pub use short::{Limit, Short};
+pub use shutdown::{ShutdownText, TEXT_MAX};
 pub use writing::{
-    MAX_OPEN, ServerOpen, short_size, write_keepalive, write_note, write_open, write_short,
+    MAX_NOTE, MAX_OPEN, ServerOpen, short_size, write_keepalive, write_note, write_open,
+    write_short,
 };

@@ -2,9 +2,10 @@
 
 ghost use Rattle.std.specs.Prelude.{◌≡◌, IfSome, IfNone};
 ghost use Rattle.rs_octets.specs.declared.notification.Notification.{Notification};
-ghost use Rattle.rs_open.specs.Notes.{note_of, IsNameOf, limit_octets};
+ghost use Rattle.rs_open.specs.Notes.{note_of, IsNameOf, HasData, shutdown_note, shutdown_data, text_octets, limit_octets};
 ghost use Rattle.rs_open.specs.Notes as notes;
 
+use crate::shutdown::ShutdownText;
 use rs_octets::{Notification, longest_message};
 
 /// A message that a session says: any but an UPDATE.
@@ -18,7 +19,7 @@ pub enum Short {
     Note {
         code: u8,
         sub: u8,
-        extra: [u8; 2],
+        extra: [u8; 129],
         count: u8,
     },
 }
@@ -31,7 +32,7 @@ impl Short {
         Short::Note {
             code,
             sub,
-            extra: [0, 0],
+            extra: [0; 129],
             count: 0,
         }
     }
@@ -58,10 +59,12 @@ impl Short {
     pub fn note_1(code: u8, sub: u8, a: u8) -> Short
         ensures { result ≡ notes.note_1 code sub a }
     {
+        let mut extra = [0; 129];
+        extra[0] = a;
         Short::Note {
             code,
             sub,
-            extra: [a, 0],
+            extra,
             count: 1,
         }
     }
@@ -70,11 +73,32 @@ impl Short {
     pub fn note_2(code: u8, sub: u8, a: u8, b: u8) -> Short
         ensures { result ≡ notes.note_2 code sub a b }
     {
+        let mut extra = [0; 129];
+        extra[..2].copy_from_slice(&[a, b]);
         Short::Note {
             code,
             sub,
-            extra: [a, b],
+            extra,
             count: 2,
+        }
+    }
+
+    /// The NOTIFICATION of a session that the operator ends (RFC 4486, 4), with this text behind its
+    /// length as its data (RFC 9003, 2), or without data where there is no text.
+    pub fn shutdown(text: ShutdownText) -> Short
+        ensures note { result ≡ shutdown_note text }
+        ensures data { HasData result (shutdown_data (text_octets text)) }
+    {
+        let name = Notification::AdministrativeShutdown;
+        let length = text.count.min(128);
+        let mut extra = [0; 129];
+        extra[0] = length;
+        extra[1..].copy_from_slice(&text.octets);
+        Short::Note {
+            code: name.code(),
+            sub: name.sub(),
+            extra,
+            count: if length == 0 { 0 } else { length + 1 },
         }
     }
 }

@@ -17,6 +17,9 @@ use rs_octets::{AS_TRANS, Kind, put, put_header};
 /// The most octets that an OPEN of the server has.
 pub const MAX_OPEN: usize = 47;
 
+/// The most octets that a NOTIFICATION of the server has.
+pub const MAX_NOTE: usize = 150;
+
 /// What the server's OPEN says (RFC 4271, 4.2).
 #[derive(Clone, Copy, Debug, PartialEq, Eq)]
 pub struct ServerOpen {
@@ -62,15 +65,15 @@ pub fn write_keepalive(out: &mut [u8]) -> usize
 }
 
 /// The octets of a NOTIFICATION with the first `count` octets of `extra` as its data.
-fn note_size(extra: [u8; 2], count: u8) -> usize
+fn note_size(extra: [u8; 129], count: u8) -> usize
     ensures exact { result ≡ 21 + length (take count extra) }
-    ensures most { result ≤ 23 }
+    ensures most { result ≤ MAX_NOTE }
 {
     21 + extra.len().min(usize::from(count))
 }
 
 /// Writes a NOTIFICATION with the first `count` octets of `extra` as its data, and answers its octets.
-pub fn write_note(code: u8, sub: u8, extra: [u8; 2], count: u8, out: &mut [u8]) -> usize
+pub fn write_note(code: u8, sub: u8, extra: [u8; 129], count: u8, out: &mut [u8]) -> usize
     requires { length (notification code sub (take count extra)) ≤ length out.old }
     ensures end { result ≡ length (notification code sub (take count extra)) }
     ensures octets { Writes 0 (notification code sub (take count extra)) out.old out.new }
@@ -126,7 +129,8 @@ pub fn write_open(said: &ServerOpen, out: &mut [u8]) -> usize
 /// The octets of a message that a session says.
 pub fn short_size(short: &Short, said: &ServerOpen) -> usize
     ensures exact { result ≡ length (short_octets said.now short.now) }
-    ensures most { result ≤ MAX_OPEN }
+    ensures most { result ≤ MAX_NOTE }
+    ensures open { short.now ≡ Short.Open → result ≤ MAX_OPEN }
 {
     match short {
         Short::Open => 31 + usize::from(said.capabilities_size()),

@@ -1,12 +1,16 @@
 -- What is said at the end of a session.
-use Rattle.std.proofs.Common.{◌≡◌, ℕ, zero, suc, Bool, true, false, min, List, [], ◌∷◌, Some, None, Ok, Err, sym, subst, if◌then◌else◌, arith}
+use Rattle.std.proofs.Common.{◌≡◌, ◌≤◌, ℕ, zero, suc, Bool, true, false, min, List, [], ◌∷◌, length, take, Some, None, Ok, Err, sym, subst, if◌then◌else◌, arith}
+use Rattle.std.proofs.lemmas.List.{length-take}
 use Rattle.std.specs.Prelude.{⊤}
+use Rattle.rs_open.specs.Notes.{data_count}
 use Rattle.rs_octets.specs.declared.heads.HeaderFault.{HeaderFault}
 use Rattle.rs_octets.specs.declared.heads.HeaderFault.TheVariants as header
 use Rattle.rs_open.specs.declared.open.OpenFault.{OpenFault}
 use Rattle.rs_open.specs.declared.open.OpenFault.TheVariants as fault
 use Rattle.rs_open.specs.declared.short.Short.{Short}
 use Rattle.rs_open.specs.declared.short.Short.TheVariants as short
+use Rattle.rs_session.specs.declared.command.Command.{Command}
+use Rattle.rs_session.specs.declared.command.Command.TheVariants as commands
 use Rattle.rs_session.specs.declared.heard.Heard.{Heard}
 use Rattle.rs_session.specs.declared.heard.Heard.TheVariants as heard
 use Rattle.rs_session.specs.declared.act.Act.{Act}
@@ -16,10 +20,10 @@ use Rattle.rs_session.specs.declared.session.Session.{Session}
 use Rattle.rs_session.specs.declared.phase.Phase.{Phase}
 use Rattle.rs_session.specs.declared.phase.Phase.TheVariants as phases
 use Rattle.rs_session.specs.declared.phase.Peer.{Peer}
-use Rattle.rs_session.specs.Items.{Item, Came, Message, Moment, Left, greatest, hold_timer_since, message_count, open_heard}
-use Rattle.rs_session.specs.Endings.{Fate, GoesOn, Ends, IsBrief, IsBriefEnd, header_note, is_from_as, bad_peer_as, open_note, unexpected, first_fate, second_fate, later_fate, message_fate, open_wait, hold_time, is_past, expired, moment_fate}
+use Rattle.rs_session.specs.Items.{Item, Came, Message, Moment, Commanded, Left, greatest, hold_timer_since, message_count, open_heard}
+use Rattle.rs_session.specs.Endings.{Fate, GoesOn, Ends, IsBrief, IsBriefEnd, header_note, is_from_as, bad_peer_as, open_note, unexpected, first_fate, second_fate, later_fate, message_fate, open_wait, hold_time, is_past, expired, moment_fate, command_fate}
 use Rattle.rs_session.specs.Sessions.{fate, earlier, is_request, SaysBriefly}
-use Rattle.rs_session.specs.Steps.{step, second_step, later_step, message_step, moment_step}
+use Rattle.rs_session.specs.Steps.{step, second_step, later_step, message_step, moment_step, obey, command_step}
 use Rattle.rs_session.specs.Laws.{EndsBriefly}
 
 -- an end of an item
@@ -98,6 +102,15 @@ message_brief peer_as (suc (suc count)) m = later_brief m
 moment_brief : (time since now : ℕ) → IsBriefFate (moment_fate time since now)
 moment_brief time since now = where_brief (is_past time since now) expired (omega arith)
 
+-- a length octet and a text of 128 octets at most
+text_brief : (n : ℕ) (octets : List ℕ) → n ≤ 128 → length (take (data_count n) (n ∷ octets)) ≤ 129
+text_brief zero octets le = omega arith
+text_brief (suc n) octets le = omega (arith, length-take (suc n) octets)
+
+command_brief : (command : Command) → IsBriefFate (command_fate command)
+command_brief (commands.Stop text) = text_brief (min text.count 128) text.octets (omega arith)
+command_brief commands.Refresh = tt
+
 -- ---- the end
 
 earlier_brief : (f g : Fate) → IsBriefFate f → IsBriefFate g → IsBriefFate (earlier f g)
@@ -112,6 +125,7 @@ fate_brief s (Message m ∷ items) =
 fate_brief s (Moment t ∷ items) =
     earlier_brief (fate s items) _ (fate_brief s items)
     (moment_brief (hold_time s.hold (open_heard items)) (hold_timer_since items) (greatest (Moment t ∷ items)))
+fate_brief s (Commanded command ∷ items) = earlier_brief (fate s items) _ (fate_brief s items) (command_brief command)
 fate_brief s (Left ∷ items) = tt
 
 pub ends_briefly : EndsBriefly
@@ -165,3 +179,16 @@ pub moment_says : (old new : Session) (act : Act)
     → SaysBriefly act
 moment_says old new act e =
     subst (λ (x : Phase × Act). SaysBriefly x.1) (sym e) (moment_step_says old.phase old.settings.hold new.latest)
+
+obey_says : (phase : Phase) (established : Bool) (command : Command) → SaysBriefly (obey phase established command).1
+obey_says phase established command = step_says (command_fate command) phase _ (command_brief command) (request_says established)
+
+command_step_says : (phase : Phase) (command : Command) → SaysBriefly (command_step phase command).1
+command_step_says phases.Idle command = tt
+command_step_says (phases.OpenSent since) command = obey_says (phases.OpenSent since) false command
+command_step_says (phases.Agreed peer) command = obey_says (phases.Agreed peer) peer.confirmed command
+command_step_says phases.Closing command = tt
+
+pub command_says : (old new : Session) (command : Command) (act : Act)
+    → ◌≡◌ {A = Phase × Act} (new.phase, act) (command_step old.phase command) → SaysBriefly act
+command_says old new command act e = subst (λ (x : Phase × Act). SaysBriefly x.1) (sym e) (command_step_says old.phase command)

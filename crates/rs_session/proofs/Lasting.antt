@@ -11,9 +11,9 @@ use Rattle.rs_session.specs.declared.act.State.{State}
 use Rattle.rs_session.specs.declared.act.State.TheVariants as states
 use Rattle.rs_session.specs.declared.act.Act.TheVariants as acts
 use Rattle.rs_session.specs.declared.settings.Settings.{Settings}
-use Rattle.rs_session.specs.Items.{Item, Came, Message, Moment, Left, greatest, is_connected, message_count, restarts_hold_timer, hold_timer_since, open_in, open_heard}
+use Rattle.rs_session.specs.Items.{Item, Came, Message, Moment, Commanded, Left, greatest, is_connected, message_count, restarts_hold_timer, hold_timer_since, open_in, open_heard}
 use Rattle.rs_session.specs.Endings.{Fate, GoesOn, Ends, is_from_as, first_fate, second_fate, later_fate, message_fate, open_wait, moment_fate, hold_time, is_past}
-use Rattle.rs_session.specs.Sessions.{fate, item_fate, earlier, state_by, state_of, is_live, agreed_by, is_third_past, falls_by, keepalive_timer_since, falls_due, message_act, moment_act}
+use Rattle.rs_session.specs.Sessions.{fate, item_fate, earlier, state_by, state_of, is_live, agreed_by, is_third_past, falls_by, keepalive_timer_since, falls_due, message_act, moment_act, command_act}
 use Rattle.rs_session.specs.Laws.{messages_heard, BringsUp, KeepsTime, EndsOnce}
 use Rattle.rs_session.proofs.Phases.{state_at}
 
@@ -128,6 +128,7 @@ came s [] c e = cc
 came s (Came ∷ items) c e = refl
 came s (Left ∷ items) c e = cc
 came s (Moment t ∷ items) c e = came s items c (earlier_goes (fate s items) _ e).0
+came s (Commanded command ∷ items) c e = came s items c (earlier_goes (fate s items) _ e).0
 came s (Message m ∷ items) c e =
     let f : (fate s items ≡ GoesOn) × (message_fate s.peer_as (message_count items) m ≡ GoesOn) =
     earlier_goes (fate s items) _ e in
@@ -195,6 +196,7 @@ alive s [] c e = cc
 alive s (Came ∷ items) c e = none_passed open_wait (greatest items)
 alive s (Left ∷ items) c e = cc
 alive s (Moment t ∷ items) c e = is_within _ _ _ (earlier_goes (fate s items) _ e).1
+alive s (Commanded command ∷ items) c e = alive s items c (earlier_goes (fate s items) _ e).0
 alive s (Message m ∷ items) c e =
     let f : (fate s items ≡ GoesOn) × (message_fate s.peer_as (message_count items) m ≡ GoesOn) =
     earlier_goes (fate s items) _ e in
@@ -241,6 +243,7 @@ due s (Came ∷ items) c e = λ sent f n. cc
 due s (Left ∷ items) c e = cc
 due s (Moment t ∷ items) c e =
     due_moment (fate s (Moment t ∷ items)) s.hold (open_heard items) (keepalive_timer_since s items) (max (greatest items) t) e
+due s (Commanded command ∷ items) c e = due s items c (earlier_goes (fate s items) _ e).0
 due s (Message m ∷ items) c e =
     due_message (message_count items) s.hold m (open_heard items) (keepalive_timer_since s items) (greatest items)
     (due s items c (earlier_goes (fate s items) _ e).0)
@@ -288,6 +291,10 @@ ends_once s items e =
       untimed = λ t. ap
           (λ st. if is_live st then moment_act (item_fate s (Moment t) items) (falls_due s t items) else acts.None)
           e;
+      uncommanded = λ command. ap
+          (λ st. if is_live st then command_act (item_fate s (Commanded command) items) (message_count items) else acts.None)
+          e;
       behind_message = λ m. stays_closing _ _ _ _ _ h.0 h.2;
       behind_moment = λ t. stays_closing _ _ _ _ _ h.0 h.2;
+      behind_command = λ command. stays_closing _ _ _ _ _ h.0 h.2;
     }

@@ -1,16 +1,18 @@
 -- Worked rows, by computation: the definitions alone, at the values that a session is known to have.
-use Rattle.std.specs.Prelude.{◌≡◌, ℕ, false, List, [], ◌∷◌, Some, None, Ok, refl}
+use Rattle.std.specs.Prelude.{◌≡◌, ℕ, false, List, [], ◌∷◌, replicate, Some, None, Ok, refl}
 use Rattle.rs_octets.specs.declared.heads.HeaderFault.TheVariants as header
-use Rattle.rs_open.specs.Notes.{note, note_1, note_2}
+use Rattle.rs_open.specs.Notes.{note, note_1, note_2, no_text}
 use Rattle.rs_open.specs.declared.open.Open.{Open}
 use Rattle.rs_open.specs.declared.short.Short.TheVariants as short
+use Rattle.rs_open.specs.declared.shutdown.ShutdownText.{ShutdownText}
+use Rattle.rs_session.specs.declared.command.Command.TheVariants as commands
 use Rattle.rs_session.specs.declared.heard.Heard.TheVariants.{Update, Refresh, Note, Keepalive, Header}
 use Rattle.rs_session.specs.declared.heard.Heard.TheVariants as heard
 use Rattle.rs_session.specs.declared.act.State.TheVariants.{Idle, OpenSent, OpenConfirm, Established, Closing}
 use Rattle.rs_session.specs.declared.act.Act.{Act}
 use Rattle.rs_session.specs.declared.act.Act.TheVariants as acts
 use Rattle.rs_session.specs.declared.settings.Settings.{Settings}
-use Rattle.rs_session.specs.Items.{Item, Came, Message, Moment, Left}
+use Rattle.rs_session.specs.Items.{Item, Came, Message, Moment, Commanded, Left}
 use Rattle.rs_session.specs.Sessions.{act_of, state_of}
 
 -- client 64496, Hold Time 90
@@ -217,6 +219,81 @@ note_second = refl
 
 note_while_established : act_of a (Message Note) up ≡ acts.Down None
 note_while_established = refl
+
+-- ---- the operator ends the session (RFC 4271, 8.2.2; RFC 9003, 2)
+
+-- "bye"
+abbrev bye : ShutdownText
+bye = record { octets = 0x62 ∷ 0x79 ∷ 0x65 ∷ replicate 125 0; count = 3 }
+
+abbrev stop : ShutdownText → Item
+stop text = Commanded (commands.Stop text)
+
+abbrev says_bye : Act
+says_bye = acts.Down (Some (short.Note 6 2 (3 ∷ 0x62 ∷ 0x79 ∷ 0x65 ∷ replicate 125 0) 4))
+
+stop_in_opensent : act_of a (stop bye) came ≡ says_bye
+stop_in_opensent = refl
+
+stop_in_openconfirm : act_of a (stop bye) confirming ≡ says_bye
+stop_in_openconfirm = refl
+
+stop_while_established : act_of a (stop bye) up ≡ says_bye
+stop_while_established = refl
+
+stop_without_text : act_of a (stop no_text) up ≡ down 6 2
+stop_without_text = refl
+
+stopped_is_closing : state_of a (stop no_text ∷ up) ≡ Closing
+stopped_is_closing = refl
+
+stop_in_idle : act_of a (stop bye) (Left ∷ up) ≡ acts.None
+stop_in_idle = refl
+
+idle_stays_idle : state_of a (stop bye ∷ []) ≡ Idle
+idle_stays_idle = refl
+
+stop_twice : act_of a (stop bye) (stop no_text ∷ up) ≡ acts.None
+stop_twice = refl
+
+stop_after_an_end : act_of a (stop bye) (Message Note ∷ up) ≡ acts.None
+stop_after_an_end = refl
+
+the_stopped_hears_nothing : act_of a keepalive (stop bye ∷ confirming) ≡ acts.None
+the_stopped_hears_nothing = refl
+
+a_new_session_after_a_stop : state_of a (Came ∷ Left ∷ stop bye ∷ up) ≡ OpenSent
+a_new_session_after_a_stop = refl
+
+-- ---- the operator has the routes told again
+
+abbrev refresh : Item
+refresh = Commanded commands.Refresh
+
+refresh_while_established : act_of a refresh up ≡ acts.Again
+refresh_while_established = refl
+
+established_stays_so : state_of a (refresh ∷ up) ≡ Established
+established_stays_so = refl
+
+refresh_in_openconfirm : act_of a refresh confirming ≡ acts.None
+refresh_in_openconfirm = refl
+
+openconfirm_stays_so : act_of a keepalive (refresh ∷ confirming) ≡ acts.Up
+openconfirm_stays_so = refl
+
+refresh_in_opensent : act_of a refresh came ≡ acts.None
+refresh_in_opensent = refl
+
+refresh_in_idle : act_of a refresh [] ≡ acts.None
+refresh_in_idle = refl
+
+refresh_while_closing : act_of a refresh (stop bye ∷ up) ≡ acts.None
+refresh_while_closing = refl
+
+-- it restarts no timer
+a_refresh_of_ours_does_not : act_of a (Moment 90) (refresh ∷ Moment 20 ∷ up) ≡ down 4 0
+a_refresh_of_ours_does_not = refl
 
 -- ---- Idle and Closing hear nothing
 

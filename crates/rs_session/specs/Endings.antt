@@ -4,12 +4,14 @@ use Rattle.rs_octets.specs.declared.heads.HeaderFault.{HeaderFault}
 use Rattle.rs_octets.specs.declared.heads.HeaderFault.TheVariants as header
 use Rattle.rs_octets.specs.declared.notification.Notification.TheVariants as names
 use Rattle.rs_octets.specs.Names.{code_of, sub_of}
-use Rattle.rs_open.specs.Notes.{note, note_of, note_1, note_2}
+use Rattle.rs_open.specs.Notes.{note, note_of, note_1, note_2, shutdown_note}
 use Rattle.rs_open.specs.declared.open.Open.{Open}
 use Rattle.rs_open.specs.declared.open.OpenFault.{OpenFault}
 use Rattle.rs_open.specs.declared.open.OpenFault.TheVariants as fault
 use Rattle.rs_open.specs.declared.short.Short.{Short}
 use Rattle.rs_open.specs.declared.short.Short.TheVariants as short
+use Rattle.rs_session.specs.declared.command.Command.{Command}
+use Rattle.rs_session.specs.declared.command.Command.TheVariants as commands
 use Rattle.rs_session.specs.declared.heard.Heard.{Heard}
 use Rattle.rs_session.specs.declared.heard.Heard.TheVariants as heard
 
@@ -104,13 +106,18 @@ expired = note_of names.HoldTimerExpired
 abbrev pub moment_fate : ℕ → ℕ → ℕ → Fate
 moment_fate time since now = if is_past time since now then Ends (Some expired) else GoesOn
 
+-- the operator ends the session (RFC 4271, 8.2.2, ManualStop)
+abbrev pub command_fate : Command → Fate
+command_fate (commands.Stop text) = Ends (Some (shutdown_note text))
+command_fate commands.Refresh = GoesOn
+
 -- ---- what is said at an end
 
--- a NOTIFICATION with at most two octets of data
+-- a NOTIFICATION with at most 129 octets of data
 abbrev pub IsBrief : Short → Type 0
 IsBrief short.Open = ⊥
 IsBrief short.Keepalive = ⊥
-IsBrief (short.Note code sub extra count) = length (take count extra) ≤ 2
+IsBrief (short.Note code sub extra count) = length (take count extra) ≤ 129
 
 -- such a one, or nothing
 abbrev pub IsBriefEnd : Option Short → Type 0

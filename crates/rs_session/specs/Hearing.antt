@@ -107,7 +107,7 @@ pub record GoesDown (settings : Settings) (old new : List Item) (said : Option S
   pub now : state_of settings new ≡ states.Closing
   pub ends : fate settings new ≡ Ends said
 
--- the client asks for the routes again
+-- the client asks for the routes again, or the operator for it
 pub record Asks (settings : Settings) (old new : List Item) : Type 0 where
   pub before : state_of settings old ≡ states.Established
   pub same : Stays settings old new

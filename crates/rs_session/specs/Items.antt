@@ -1,6 +1,7 @@
 -- A session as the list of what befell it, the newest first.
 use Rattle.std.specs.Prelude.{ℕ, zero, suc, Bool, true, false, max, List, [], ◌∷◌, Option, Some, None, Ok, Err, if◌then◌else◌}
 use Rattle.rs_open.specs.declared.open.Open.{Open}
+use Rattle.rs_session.specs.declared.command.Command.{Command}
 use Rattle.rs_session.specs.declared.heard.Heard.{Heard}
 use Rattle.rs_session.specs.declared.heard.Heard.TheVariants as heard
 
@@ -8,6 +9,7 @@ pub data Item : Type 0 where
   Came : Item  -- a connection came
   Message : (message : Heard) → Item  -- a message was heard, or the fault of a header
   Moment : (t : ℕ) → Item  -- a moment was seen
+  Commanded : (command : Command) → Item  -- the operator gave this command
   Left : Item  -- the connection was lost
 
 -- the greatest moment so far; 0 before the first
@@ -16,6 +18,7 @@ greatest [] = 0
 greatest (Came ∷ items) = greatest items
 greatest (Message message ∷ items) = greatest items
 greatest (Moment t ∷ items) = max (greatest items) t
+greatest (Commanded command ∷ items) = greatest items
 greatest (Left ∷ items) = greatest items
 
 -- there is a connection: one came, and it was not lost since
@@ -24,6 +27,7 @@ is_connected [] = false
 is_connected (Came ∷ items) = true
 is_connected (Message message ∷ items) = is_connected items
 is_connected (Moment t ∷ items) = is_connected items
+is_connected (Commanded command ∷ items) = is_connected items
 is_connected (Left ∷ items) = false
 
 -- how many messages were heard since the connection came
@@ -32,6 +36,7 @@ message_count [] = 0
 message_count (Came ∷ items) = 0
 message_count (Message message ∷ items) = suc (message_count items)
 message_count (Moment t ∷ items) = message_count items
+message_count (Commanded command ∷ items) = message_count items
 message_count (Left ∷ items) = 0
 
 -- the message restarts the hold timer (RFC 4271, 8.2.2; a ROUTE-REFRESH does not)
@@ -50,6 +55,7 @@ hold_timer_since (Came ∷ items) = greatest items
 hold_timer_since (Message message ∷ items) =
     if restarts_hold_timer message then greatest items else hold_timer_since items
 hold_timer_since (Moment t ∷ items) = hold_timer_since items
+hold_timer_since (Commanded command ∷ items) = hold_timer_since items
 hold_timer_since (Left ∷ items) = 0
 
 -- the OPEN in a message
@@ -69,4 +75,5 @@ open_heard (Came ∷ items) = None
 open_heard (Message message ∷ items) =
     elim (message_count items) [ zero ↦ open_in message | suc count ↦ open_heard items ]
 open_heard (Moment t ∷ items) = open_heard items
+open_heard (Commanded command ∷ items) = open_heard items
 open_heard (Left ∷ items) = None

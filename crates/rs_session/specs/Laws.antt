@@ -3,12 +3,13 @@ use Rattle.std.specs.Prelude.{◌≡◌, ◌≢◌, ℕ, ◌-◌, ◌/◌, ◌<�
 use Rattle.rs_open.specs.Notes.{note}
 use Rattle.rs_open.specs.declared.open.Open.{Open}
 use Rattle.rs_open.specs.declared.short.Short.{Short}
+use Rattle.rs_session.specs.declared.command.Command.{Command}
 use Rattle.rs_session.specs.declared.heard.Heard.{Heard}
 use Rattle.rs_session.specs.declared.heard.Heard.TheVariants as heard
 use Rattle.rs_session.specs.declared.act.State.TheVariants as states
 use Rattle.rs_session.specs.declared.act.Act.TheVariants as acts
 use Rattle.rs_session.specs.declared.settings.Settings.{Settings}
-use Rattle.rs_session.specs.Items.{Item, Came, Message, Moment, Left, greatest, hold_timer_since, open_heard}
+use Rattle.rs_session.specs.Items.{Item, Came, Message, Moment, Commanded, Left, greatest, hold_timer_since, open_heard}
 use Rattle.rs_session.specs.Endings.{GoesOn, Ends, is_from_as, unexpected, later_fate, hold_time, IsBriefEnd}
 use Rattle.rs_session.specs.declared.session.Session.{Session}
 use Rattle.rs_session.specs.Hearing.{configured, HasHeard}
@@ -20,6 +21,7 @@ messages_heard [] = []
 messages_heard (Came ∷ items) = []
 messages_heard (Message message ∷ items) = message ∷ messages_heard items
 messages_heard (Moment t ∷ items) = messages_heard items
+messages_heard (Commanded command ∷ items) = messages_heard items
 messages_heard (Left ∷ items) = []
 
 -- an OPEN of the client's AS came first, then a KEEPALIVE, then messages that end nothing; and that OPEN is what is
@@ -54,15 +56,17 @@ KeepsTime =
 pub record IsOver (settings : Settings) (items : List Item) : Type 0 where
   pub unheard : (message : Heard) → act_of settings (Message message) items ≡ acts.None
   pub untimed : (t : ℕ) → act_of settings (Moment t) items ≡ acts.None
+  pub uncommanded : (command : Command) → act_of settings (Commanded command) items ≡ acts.None
   pub behind_message : (message : Heard) → state_of settings (Message message ∷ items) ≡ states.Closing
   pub behind_moment : (t : ℕ) → state_of settings (Moment t ∷ items) ≡ states.Closing
+  pub behind_command : (command : Command) → state_of settings (Commanded command ∷ items) ≡ states.Closing
 
 abbrev pub EndsOnce : Type 0
 EndsOnce =
     (settings : Settings) (items : List Item)
     → state_of settings items ≡ states.Closing → IsOver settings items
 
--- each end is said by a NOTIFICATION with at most two octets of data, or by nothing
+-- each end is said by a NOTIFICATION with at most 129 octets of data, or by nothing
 abbrev pub EndsBriefly : Type 0
 EndsBriefly =
     (settings : Settings) (items : List Item) (said : Option Short) → fate settings items ≡ Ends said → IsBriefEnd said

@@ -6,6 +6,8 @@ use Rattle.rs_open.specs.declared.open.Open.{Open}
 use Rattle.rs_open.specs.declared.short.Short.TheVariants as short
 use Rattle.rs_open.specs.declared.short.Limit.{Limit}
 use Rattle.rs_open.specs.declared.short.Limit.TheVariants as limits
+use Rattle.rs_session.specs.declared.command.Command.{Command}
+use Rattle.rs_session.specs.declared.command.Command.TheVariants as commands
 use Rattle.rs_session.specs.declared.heard.Heard.{Heard}
 use Rattle.rs_session.specs.declared.heard.Heard.TheVariants as heard
 use Rattle.rs_session.specs.declared.act.State.{State}
@@ -13,8 +15,8 @@ use Rattle.rs_session.specs.declared.act.State.TheVariants as states
 use Rattle.rs_session.specs.declared.act.Act.{Act}
 use Rattle.rs_session.specs.declared.act.Act.TheVariants as acts
 use Rattle.rs_session.specs.declared.settings.Settings.{Settings}
-use Rattle.rs_session.specs.Items.{Item, Came, Message, Moment, Left, greatest, is_connected, message_count, hold_timer_since, open_heard}
-use Rattle.rs_session.specs.Endings.{Fate, GoesOn, Ends, IsBriefEnd, message_fate, moment_fate, hold_time}
+use Rattle.rs_session.specs.Items.{Item, Came, Message, Moment, Commanded, Left, greatest, is_connected, message_count, hold_timer_since, open_heard}
+use Rattle.rs_session.specs.Endings.{Fate, GoesOn, Ends, IsBriefEnd, message_fate, moment_fate, command_fate, hold_time}
 
 -- ---- the end
 
@@ -24,6 +26,7 @@ item_fate settings Came items = GoesOn
 item_fate settings (Message message) items = message_fate settings.peer_as (message_count items) message
 item_fate settings (Moment t) items =
     moment_fate (hold_time settings.hold (open_heard items)) (hold_timer_since items) (greatest (Moment t ∷ items))
+item_fate settings (Commanded command) items = command_fate command
 item_fate settings Left items = GoesOn
 
 -- the first end counts
@@ -39,6 +42,8 @@ fate settings (Message message ∷ items) =
     earlier (fate settings items) (item_fate settings (Message message) items)
 fate settings (Moment t ∷ items) =
     earlier (fate settings items) (item_fate settings (Moment t) items)
+fate settings (Commanded command ∷ items) =
+    earlier (fate settings items) (item_fate settings (Commanded command) items)
 fate settings (Left ∷ items) = GoesOn
 
 -- ---- the state
@@ -137,6 +142,7 @@ keepalive_timer_since settings (Moment t ∷ items) =
     if falls_behind settings (Moment t ∷ items) (keepalive_timer_since settings items)
     then greatest (Moment t ∷ items)
     else keepalive_timer_since settings items
+keepalive_timer_since settings (Commanded command ∷ items) = keepalive_timer_since settings items
 keepalive_timer_since settings (Left ∷ items) = 0
 
 -- a KEEPALIVE falls due at this moment
@@ -165,6 +171,18 @@ abbrev pub moment_act : Fate → Bool → Act
 moment_act (Ends note) falls = acts.Down note
 moment_act GoesOn falls = if falls then acts.Say short.Keepalive else acts.None
 
+-- the client is to be told its routes again
+abbrev pub is_refresh : Command → Bool
+is_refresh (commands.Stop text) = false
+is_refresh commands.Refresh = true
+
+-- by how the session fares with the command, and how many messages were heard before it
+abbrev pub command_act : Fate → ℕ → Act
+command_act (Ends note) count = acts.Down note
+command_act GoesOn zero = acts.None
+command_act GoesOn (suc zero) = acts.None
+command_act GoesOn (suc (suc count)) = acts.Again
+
 -- what is to be done at an item after others; nothing where there is no session that lasts
 abbrev pub act_of : Settings → Item → List Item → Act
 act_of settings Came items = acts.Say short.Open
@@ -175,6 +193,10 @@ act_of settings (Message message) items =
 act_of settings (Moment t) items =
     if is_live (state_of settings items)
     then moment_act (item_fate settings (Moment t) items) (falls_due settings t items)
+    else acts.None
+act_of settings (Commanded command) items =
+    if is_live (state_of settings items)
+    then command_act (item_fate settings (Commanded command) items) (message_count items)
     else acts.None
 act_of settings Left items = acts.None
 

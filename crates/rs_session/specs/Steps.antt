@@ -1,6 +1,7 @@
--- What the code makes of its fields at a message and at a moment.
-use Rattle.std.specs.Prelude.{ℕ, zero, suc, ◌+◌, true, false, min, Ok, Err, if◌then◌else◌}
+-- What the code makes of its fields at a message, at a moment and at a command.
+use Rattle.std.specs.Prelude.{ℕ, zero, suc, ◌+◌, Bool, true, false, min, Ok, Err, if◌then◌else◌}
 use Rattle.rs_open.specs.declared.short.Short.TheVariants as short
+use Rattle.rs_session.specs.declared.command.Command.{Command}
 use Rattle.rs_session.specs.declared.heard.Heard.{Heard}
 use Rattle.rs_session.specs.declared.heard.Heard.TheVariants as heard
 use Rattle.rs_session.specs.declared.act.Act.{Act}
@@ -9,7 +10,7 @@ use Rattle.rs_session.specs.declared.phase.Phase.{Phase}
 use Rattle.rs_session.specs.declared.phase.Phase.TheVariants as phases
 use Rattle.rs_session.specs.declared.phase.Peer.{Peer}
 use Rattle.rs_session.specs.Items.{restarts_hold_timer}
-use Rattle.rs_session.specs.Endings.{Fate, GoesOn, Ends, first_fate, second_fate, later_fate, open_wait, moment_fate}
+use Rattle.rs_session.specs.Endings.{Fate, GoesOn, Ends, first_fate, second_fate, later_fate, open_wait, moment_fate, command_fate}
 use Rattle.rs_session.specs.Sessions.{is_request, is_third_past}
 
 abbrev pub step : Fate → Phase → Act → Phase × Act
@@ -65,6 +66,16 @@ moment_step phases.Idle hold now = (phases.Idle, acts.None)
 moment_step (phases.OpenSent since) hold now = wait since now
 moment_step (phases.Agreed peer) hold now = tick (min hold peer.sent.hold) peer now
 moment_step phases.Closing hold now = (phases.Closing, acts.None)
+
+-- a session that lasts, by whether it is Established
+abbrev pub obey : Phase → Bool → Command → Phase × Act
+obey phase established command = step (command_fate command) phase (if established then acts.Again else acts.None)
+
+abbrev pub command_step : Phase → Command → Phase × Act
+command_step phases.Idle command = (phases.Idle, acts.None)
+command_step (phases.OpenSent since) command = obey (phases.OpenSent since) false command
+command_step (phases.Agreed peer) command = obey (phases.Agreed peer) peer.confirmed command
+command_step phases.Closing command = (phases.Closing, acts.None)
 
 -- the greatest moment, as a u64 holds it, at which this many seconds have not passed since
 abbrev pub quiet_for : ℕ → ℕ → ℕ

@@ -26,7 +26,7 @@ pub enum Act {
     Up,
     /// The session has ended, with this NOTIFICATION or with none.
     Down(Option<Short>),
-    /// The client asks for all routes again (RFC 2918, 4).
+    /// The client asks for all routes again (RFC 2918, 4), or the operator for it.
     Again,
 }
 

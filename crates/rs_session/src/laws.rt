@@ -22,7 +22,7 @@ pub fn sessions_end_once()
     ensures { EndsOnce }
 {}
 
-/// A session ends with a NOTIFICATION that has at most two octets of data, or with none
+/// A session ends with a NOTIFICATION that has at most 129 octets of data, or with none
 /// (RFC 4271, 6).
 #[tactic(auto, using(crate::proofs::Briefs::ends_briefly))]
 pub fn sessions_end_briefly()

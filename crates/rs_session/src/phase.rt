@@ -1,10 +1,11 @@
-//! The phase of a session, and what a message or a moment makes of it.
+//! The phase of a session, and what a message, a moment or a command makes of it.
 
 ghost use Rattle.std.specs.Prelude.{◌≡◌, ◌-◌, nat_le, Some, None};
-ghost use Rattle.rs_session.specs.Steps.{first_step, second_step, later_step, quiet_for, tick, wait};
+ghost use Rattle.rs_session.specs.Steps.{first_step, second_step, later_step, quiet_for, tick, wait, obey};
 ghost use Rattle.rs_session.specs.declared.phase.Phase.TheVariants as phases;
 
 use crate::act::Act;
+use crate::command::Command;
 use crate::faults::{bad_peer_as, expired, header_note, is_from_as, open_note, unexpected};
 use crate::heard::Heard;
 use rs_open::{Open, Short};
@@ -159,4 +160,15 @@ pub fn ticked(hold: u16, mut peer: Peer, now: u64) -> (Phase, Act)
         return (Phase::Agreed(peer), Act::Say(Short::Keepalive));
     }
     (Phase::Agreed(peer), Act::None)
+}
+
+/// A command to a session that lasts.
+pub fn commanded(phase: Phase, established: bool, command: Command) -> (Phase, Act)
+    ensures { result ≡ obey phase established command }
+{
+    match command {
+        Command::Stop(text) => ended(Short::shutdown(text)),
+        Command::Refresh if established => (phase, Act::Again),
+        Command::Refresh => (phase, Act::None),
+    }
 }

@@ -3,8 +3,9 @@
 ghost use Rattle.std.specs.Prelude.{◌≡◌, ◌≢◌, ◌<◌, ◌≤◌, ℕ, Bool, true, false, max, List, [], ◌∷◌, IsSome, IfOk, OnErr};
 
 use crate::act::{Act, Busy, State};
+use crate::command::Command;
 use crate::heard::Heard;
-use crate::phase::{OPEN_WAIT, Phase, first, later, quiet_for, second, ticked, waited};
+use crate::phase::{OPEN_WAIT, Phase, commanded, first, later, quiet_for, second, ticked, waited};
 use crate::settings::Settings;
 use rs_attrs::Mode;
 use rs_open::{Limit, Open, Short};
@@ -19,8 +20,8 @@ pub struct Session {
 }
 
 impl Session {
-    ghost use Rattle.rs_session.specs.Steps.{message_step, moment_step};
-    ghost use Rattle.rs_session.specs.Items.{Came, Message, Moment, Left};
+    ghost use Rattle.rs_session.specs.Steps.{message_step, moment_step, command_step};
+    ghost use Rattle.rs_session.specs.Items.{Came, Message, Moment, Commanded, Left};
     ghost use Rattle.rs_session.specs.Sessions.{state_of, is_live, agreed_of};
     ghost use Rattle.rs_session.specs.Sessions.{agreed_hold, agreed_mode, agreed_identifier, agreed_limit, ends_at, SaysBriefly};
     ghost use Rattle.rs_session.specs.Hearing.{configured, HasHeard, Whenever, Shows, RespondsTo, Takes, Forgets};
@@ -90,6 +91,18 @@ impl Session {
         ensures configured { configured self.new ≡ configured self.old }
     {
         self.see(t)
+    }
+
+    /// The operator gives a command. Where there is no session that lasts, it changes nothing.
+    #[tactic(auto, unfolding(crate::specs::Hearing::configured))]
+    pub fn command(&mut self, command: Command) -> Act
+        ensures hears { RespondsTo self.old self.new (Commanded command) result }
+        ensures over { Whenever self.old (λ settings items.
+            is_live (state_of settings items) ≡ false → self.new ≡ self.old) }
+        ensures brief { SaysBriefly result }
+        ensures configured { configured self.new ≡ configured self.old }
+    {
+        self.obey(command)
     }
 
     /// The connection is lost. The greatest moment stays, and nothing else of what was heard counts.
@@ -233,6 +246,21 @@ impl Session {
                 peer,
                 self.latest,
             ),
+        };
+        self.phase = phase;
+        act
+    }
+
+    /// What a command makes of the phase, and the answer.
+    fn obey(&mut self, command: Command) -> Act
+        ensures phase { (self.new.phase, result) ≡ command_step self.old.phase command }
+        ensures latest { self.new.latest ≡ self.old.latest }
+        ensures settings { self.new.settings ≡ self.old.settings }
+    {
+        let (phase, act) = match self.phase {
+            Phase::Idle | Phase::Closing => (self.phase, Act::None),
+            Phase::OpenSent { .. } => commanded(self.phase, false, command),
+            Phase::Agreed(peer) => commanded(self.phase, peer.confirmed, command),
         };
         self.phase = phase;
         act

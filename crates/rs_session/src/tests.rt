@@ -5,10 +5,10 @@ mod opens;
 mod states;
 mod timers;
 
-use crate::{Act, Busy, Heard, Session, Settings, State};
+use crate::{Act, Busy, Command, Heard, Session, Settings, State};
 use rs_attrs::Mode;
 use rs_octets::HeaderFault;
-use rs_open::{Limit, Short, read_open};
+use rs_open::{Limit, Short, ShutdownText, read_open};
 use std::process::Abort;
 
 /// A client of AS 64496, and a Hold Time of 90.
@@ -31,6 +31,7 @@ enum Call {
     Open(&'static [u8]),
     Hear(Heard),
     At(u64),
+    Command(Command),
 }
 
 /// The answers to some calls, of which an OPEN has at least 10 octets.
@@ -43,6 +44,7 @@ fn play(rt: &impl Abort, name: &str, session: &mut Session, script: &[(Call, Act
             }
             Call::Hear(heard) => session.message(heard),
             Call::At(t) => session.moment(t),
+            Call::Command(command) => session.command(command),
         };
         assert_eq!(rt; act, *want, "{name}, call {place}");
     }

@@ -1,7 +1,10 @@
 //! Messages and their octets.
 
 use super::octets;
-use crate::{ServerOpen, Short, short_size, write_keepalive, write_note, write_open, write_short};
+use crate::{
+    ServerOpen, Short, ShutdownText, short_size, write_keepalive, write_note, write_open,
+    write_short,
+};
 use rs_octets::Notification;
 use std::test::Fail;
 
@@ -154,6 +157,27 @@ fn writes_opens(rt: HostRuntime) -> Result<(), Fail> {
 }
 
 #[test]
+fn writes_a_shutdown(rt: HostRuntime) {
+    let said = "[TICKET-1-1438367390] software upgrade; back in 2 hours";
+    let text = ShutdownText::of(said.as_bytes()).unwrap_or(ShutdownText::NONE);
+    let Short::Note {
+        code,
+        sub,
+        extra,
+        count,
+    } = Short::shutdown(text)
+    else {
+        return assert!(&rt; false, "no NOTIFICATION");
+    };
+    let mut out = [BLANK; 150];
+    assert_eq!(&rt; write_note(code, sub, extra, count, &mut out), 77);
+    assert!(&rt; out[..16] == [0xff; 16]);
+    assert!(&rt; out[16..22] == [0x00, 0x4d, 0x03, 0x06, 0x02, 0x37]);
+    assert!(&rt; &out[22..77] == said.as_bytes());
+    assert_eq!(&rt; out[77], BLANK);
+}
+
+#[test]
 fn writes_short_messages(rt: HostRuntime) -> Result<(), Fail> {
     let said = ServerOpen {
         server_as: 64500,
@@ -177,10 +201,10 @@ fn writes_short_messages(rt: HostRuntime) -> Result<(), Fail> {
             Short::Note {
                 code: 6,
                 sub: 1,
-                extra: [7, 8],
-                count: 9,
+                extra: [7; 129],
+                count: 3,
             },
-            "0017 03 06 01 0708",
+            "0018 03 06 01 070707",
         ),
         (Short::of(Notification::HoldTimerExpired), "0015 03 04 00"),
     ];
@@ -195,7 +219,7 @@ fn writes_short_messages(rt: HostRuntime) -> Result<(), Fail> {
     }
     let mut out = [BLANK; 50];
     assert_eq!(&rt; write_keepalive(&mut out), 19);
-    assert_eq!(&rt; write_note(6, 1, [7, 8], 1, &mut out), 22);
+    assert_eq!(&rt; write_note(6, 1, [7; 129], 1, &mut out), 22);
     assert!(&rt; &out[16..23] == [0x00, 0x16, 0x03, 0x06, 0x01, 0x07, BLANK].as_slice());
     Ok(())
 }

@@ -200,6 +200,45 @@ fn headers(rt: HostRuntime) {
 }
 
 #[test]
+fn commands_in_each_state(rt: HostRuntime) {
+    let stop = Call::Command(Command::Stop(ShutdownText::NONE));
+    let refresh = Call::Command(Command::Refresh);
+    play(
+        &rt,
+        "OpenSent",
+        &mut connected(&rt, SETTINGS),
+        &[(refresh, Act::None), (stop, down(6, 2)), (stop, Act::None)],
+    );
+    let mut confirming = connected(&rt, SETTINGS);
+    play(
+        &rt,
+        "OpenConfirm",
+        &mut confirming,
+        &[
+            (Call::Open(OPEN), SAY_KEEPALIVE),
+            (refresh, Act::None),
+            (stop, down(6, 2)),
+        ],
+    );
+    play(
+        &rt,
+        "Established",
+        &mut established(&rt),
+        &[
+            (refresh, Act::Again),
+            (stop, down(6, 2)),
+            (refresh, Act::None),
+        ],
+    );
+    play(
+        &rt,
+        "Idle",
+        &mut Session::new(SETTINGS),
+        &[(stop, Act::None), (refresh, Act::None)],
+    );
+}
+
+#[test]
 fn nothing_is_heard_without_a_session(rt: HostRuntime) {
     let deaf = [
         (Call::Open(OPEN), Act::None),

@@ -4,5 +4,5 @@ use Rattle.rs_open.proofs.writing.note_size.Goals as goal
 
 pub returns-clause-exact : goal.returns-clause-exact
 returns-clause-exact c =
-    let two : length c.args.extra ≡ 2 = search rules in
+    let size : length c.args.extra ≡ 129 = search rules in
     omega (arith, length-take c.args.count c.args.extra, c.min.ensures, c.from.ensures)
