@@ -7,6 +7,7 @@ mod KeptAlive
 mod LossInMidMessage
 mod HalfTaken
 mod Refreshed
+mod Commanded
 mod NeverSent
 mod FirstAnswers
 mod Senders

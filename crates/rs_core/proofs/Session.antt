@@ -1,5 +1,6 @@
 -- What is heard of clients, message by message, and which messages go to them.
 pub mod OperatorRecords
+pub mod Unheard
 pub mod Listening
 pub mod Cutting
 pub mod Filling

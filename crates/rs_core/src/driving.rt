@@ -7,12 +7,15 @@ ghost use Rattle.rs_core.specs.Drives.Courses.{Continues, memories};
 ghost use Rattle.rs_core.specs.Drives.Answers.{Answers, AreTurns, Drives, Ended, EndsAll};
 ghost use Rattle.rs_core.specs.Drives.Closing.{DoesAmong};
 
-use crate::closing::MayClose;
+mod closing;
+mod offering;
+
+use crate::driving::closing::MayClose;
+use crate::driving::offering::use_room;
 use crate::links::{Event, Sink, Source};
-use crate::offering::use_room;
 use crate::route_server::Core;
 use rs_outlet::Last;
-use rs_session::Busy;
+use rs_session::{Busy, Command};
 use rs_workers::Gate;
 use std::sync::Wait;
 use std::thread::Threads;
@@ -101,6 +104,7 @@ fn answer<L: Source + Sink>(core: &mut Core, link: &mut L, event: Event, piece: 
         Event::Opened(c) => open(core, link, c),
         Event::Octets(c, len) => hear(core, link, c, len, piece),
         Event::Moment(t) => core.moment(t),
+        Event::Commanded(c, command) => obey(core, link, c, command),
         Event::Turn => return Todo::Turn,
         Event::Room(c, room) => use_room(core, link, c, room),
         Event::Lost(c) => lose(core, link, c),
@@ -170,6 +174,17 @@ fn hear<L: Sink>(core: &mut Core, link: &mut L, c: usize, len: usize, piece: &[u
             link.memory(c);
             link.end(c);
         }
+    }
+}
+
+/// The operator commands this of a client's session.
+fn obey<L: Sink>(core: &mut Core, link: &mut L, c: usize, command: Command)
+    ensures count { client_count core.new ≡ client_count core.old }
+    ensures led { HasLed L.happens link.old link.new }
+    ensures answers { Continues L.happens core.old link.old core.new link.new (Answers [] (Event.Commanded c command)) }
+{
+    if c < core.clients() {
+        core.command(c, command);
     }
 }
 

@@ -86,6 +86,16 @@ pub(crate) fn expiry_by(act: Act) -> Option<Ending>
     }
 }
 
+/// Why a session ends that asks for this at a command of the operator's.
+pub(crate) fn command_ending(act: Act) -> Option<Ending>
+    ensures { result ≡ watching.command_ending act }
+{
+    match act {
+        Act::Down(Some(note)) => Some(Ending::Said(note)),
+        Act::None | Act::Say(_) | Act::Up | Act::Down(None) | Act::Again => None,
+    }
+}
+
 /// Why a session ends whose connection is cut off; none where it had ended before.
 pub(crate) fn ended_if(lasts: bool, why: Ending) -> Option<Ending>
     ensures { result ≡ watching.ended_if lasts why }

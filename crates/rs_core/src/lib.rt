@@ -11,17 +11,17 @@
 //! - Octets: `connections` are opened and lost; `hearing` cuts what comes; `sessions` hear
 //!   messages and `updates` the UPDATEs; `adj_rib_in` puts routes into the Adj-RIBs-In and touches
 //!   the outlets.
+//! - `commands` for a client's session, and another configuration, come from the operator.
 //! - Turns: `turning` decides what is touched, and `sweeping` gives up numbers that nobody uses.
 //! - Out: `outlets` has the calls of one client's outlet, `sending` begins messages, lends octets and
 //!   counts those taken; `endings` say why a session ended.
-//! - `rules` puts another configuration in; `queries` is what a caller can ask, and of the tables
-//!   `tables`.
-//! - `driving` drives all this by a link of `links`: `offering` offers it what is lent, and `closing`
+//! - `queries` is what a caller can ask, and of the tables `tables`.
+//! - `driving` drives all this by a link of `links`: its `offering` offers what is lent, and its `closing`
 //!   knows whose connection may be to be closed; `laws` are contracts of functions that do nothing.
 #![tactic(auto, unfolding(crate::specs::Core::client_count, crate::specs::Core::lent_octets))]
 
 mod adj_rib_in;
-mod closing;
+mod commands;
 mod connections;
 mod driving;
 mod endings;
@@ -29,12 +29,10 @@ mod hearing;
 pub mod laws;
 mod links;
 mod making;
-mod offering;
 mod outlets;
 mod queries;
 mod ribs;
 mod route_server;
-mod rules;
 mod sending;
 mod sessions;
 mod sweeping;

@@ -4,6 +4,7 @@ ghost use Rattle.std.specs.Prelude.{◌≡◌, ◌≤◌, ℕ, List, length, IfS
 ghost use Rattle.rs_core.specs.Drives.Steps.{Step, octets_of, Happened, Begin, Busy, Offer, Memory, End, Replaced};
 
 use rs_policy::RulesFault;
+use rs_session::Command;
 
 /// An event that comes from a source.
 #[derive(Clone, Copy, Debug, PartialEq, Eq)]
@@ -14,6 +15,8 @@ pub enum Event {
     Octets(usize, usize),
     /// The moment, in seconds.
     Moment(u64),
+    /// The operator commands this of a client's session.
+    Commanded(usize, Command),
     /// What is touched is to be decided.
     Turn,
     /// The link of a client has room for so many octets. What is not used is not kept.

@@ -6,6 +6,8 @@
 //! - `turning` has the call, `turn_all`: shares of neighbouring outlets, each turned by a thread of
 //!   its own where one can be started.
 //! - `gate` is what a worker passes before it turns its share: nothing, but in a test.
+//!
+//! The tests stand in `rs_tests`, in `src/workers.rt`.
 #![tactic(auto)]
 
 mod gate;
@@ -13,6 +15,3 @@ mod turning;
 
 pub use gate::{Free, Gate};
 pub use turning::turn_all;
-
-#[cfg(test)]
-mod tests;

@@ -1,16 +1,17 @@
 -- Which clients may be closing, call for call.
 use Rattle.std.proofs.Common.{◌≡◌, ◌<◌, ◌≤◌, ◌+◌, ◌==◌, inl, inr, ℕ, zero, suc, Bool, true, false, List, refl, sym, ◌∙◌, ap, subst, arith}
 use Rattle.std.specs.Prelude.{if◌then◌else◌}
+use Rattle.rs_session.specs.declared.command.Command.{Command}
 use Rattle.rs_policy.specs.Configuration.{Configuration}
 use Rattle.rs_core.specs.Run.Moves.{Move, config_in}
 use Rattle.rs_core.specs.Run.Meaning.{hearing}
 use Rattle.rs_core.specs.Run.Agreeing.{Agrees}
-use Rattle.rs_core.specs.Session.Hearing.{Hearing, state_in, is_closing, hears, begins, leaves, takes, offers}
+use Rattle.rs_core.specs.Session.Hearing.{Hearing, state_in, is_closing, hears, begins, commanded, leaves, takes, offers}
 use Rattle.rs_core.specs.Drives.Steps.{Step}
 use Rattle.rs_core.specs.Drives.Courses.{Course, course, Continues}
-use Rattle.rs_core.specs.Drives.Answers.{closes, Offers, Nothing, Fails, Takes, Gives, Used, Stopped, Goes_on, Answers, Passes, Begins, Declines, Hears, Drops, Sees, Turns, Fills, Loses, Rules, Keeps, Ended, Lasts, Owes, Closes, Ends}
+use Rattle.rs_core.specs.Drives.Answers.{closes, Offers, Nothing, Fails, Takes, Gives, Used, Stopped, Goes_on, Answers, Passes, Begins, Declines, Hears, Drops, Sees, Commands, Turns, Fills, Loses, Rules, Keeps, Ended, Lasts, Owes, Closes, Ends}
 use Rattle.rs_core.specs.Drives.Closing.{may_close, HasClosing, DoesAmong, Notes}
-use Rattle.rs_core.specs.declared.closing.MayClose.{MayClose}
+use Rattle.rs_core.specs.declared.driving.closing.MayClose.{MayClose}
 use Rattle.rs_core.specs.declared.endings.Ending.{Ending}
 use Rattle.rs_core.specs.declared.endings.Ending.TheVariants as reasons
 use Rattle.rs_core.specs.declared.links.Event.{Event}
@@ -55,6 +56,7 @@ ended_ends_none d x y (Closes u core after lent closing none gone) = λ c e. lef
 abbrev pub may_end : Event → Bool
 may_end (events.Octets c len) = true
 may_end (events.Moment t) = true
+may_end (events.Commanded c command) = true
 may_end events.Rules = true
 may_end (events.Opened c) = false
 may_end events.Turn = false
@@ -69,6 +71,7 @@ answers_end_none octets event x y (Declines d u lt busy) ne = λ c e. e
 answers_end_none octets event x y (Hears d len u core became lt le) ne = absurd (let f : true ≡ false = ne in cc)
 answers_end_none octets event x y (Drops d len u core became lt le) ne = absurd (let f : true ≡ false = ne in cc)
 answers_end_none octets event x y (Sees t u core became) ne = absurd (let f : true ≡ false = ne in cc)
+answers_end_none octets event x y (Commands d command u core became lt) ne = absurd (let f : true ≡ false = ne in cc)
 answers_end_none octets event x y (Turns refused u core became established) ne = λ c e. e
 answers_end_none octets event x y (Fills d room u v lt gives) ne = gives_end_none d room u v gives
 answers_end_none octets event x y (Loses d u core became lt) ne = λ c e. left (d == c) (config_in u.run) c reasons.Lost (hearing c u.run) e
@@ -96,6 +99,16 @@ notes_octets c len old new adds octets x y (Hears k n u core became lt le) has d
 ]
 notes_octets c len old new adds octets x y (Drops k n u core became lt le) has d few e =
     adds d few ∙ if_own (d == c) (may_close old d) (has d few (left (c == d) (config_in u.run) d reasons.Memory (hearing d u.run) e))
+
+-- a command for a client's session
+pub notes_command : (c : ℕ) (command : Command) (old new : MayClose) → ((d : ℕ) → d < 512 → may_close new d ≡ (if d == c then true else may_close old d)) → Notes (events.Commanded c command) old new
+notes_command c command old new adds octets x y (Passes event u over) has d few e = adds d few ∙ if_own (d == c) (may_close old d) (has d few e)
+notes_command c command old new adds octets x y (Commands k given u core became lt) has d few e = elim (equal_or d c) [
+  | inl is ↦ adds d few ∙ ap (λ b. if b then true else may_close old d) (ap (λ k. k == c) is ∙ is_own c)
+  | inr ne ↦
+      let other : closes u.run d ≡ true = subst (λ b. is_closing (state_in (config_in u.run) d (if b then commanded (config_in u.run) d command (hearing d u.run) else hearing d u.run)) ≡ true) (is_other c d (λ is. ne (sym is))) e in
+      adds d few ∙ if_own (d == c) (may_close old d) (has d few other)
+]
 
 -- ---- one client is asked
 

@@ -14,7 +14,7 @@ use Rattle.rs_core.specs.Drives.Steps.{Step, Happened, Memory, End, Replaced, Ha
 use Rattle.rs_core.specs.Drives.Courses.{Course, course, called, memories, Reaches, Continues, HasContinued}
 use Rattle.rs_core.specs.Drives.Answers.{is_passed_over, closes, AreEstablished, Answers, Passes, Turns, Rules, Keeps, EndsAll, Ended, Lasts, Owes, Closes, Gives, Goes_on, Offers, Rounds, Start, Round, Drives}
 use Rattle.rs_core.specs.Drives.Closing.{may_close, HasClosing, DoesAmong, Notes}
-use Rattle.rs_core.specs.declared.closing.MayClose.{MayClose}
+use Rattle.rs_core.specs.declared.driving.closing.MayClose.{MayClose}
 use Rattle.rs_core.specs.declared.links.Event.{Event}
 use Rattle.rs_core.specs.declared.links.Event.TheVariants as events
 use Rattle.rs_core.specs.declared.route_server.Core.{Core}

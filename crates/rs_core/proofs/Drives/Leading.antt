@@ -1,7 +1,7 @@
 -- Steps of a link, one after the other.
 use Rattle.std.proofs.Common.{◌≡◌, ℕ, true, false, List, [], ◌∷◌, ◌++◌, refl, subst}
 use Rattle.rs_core.specs.declared.links.Event.{Event}
-use Rattle.rs_core.specs.declared.links.Event.TheVariants.{Opened, Octets, Moment, Turn, Room, Lost, Rules, Stop}
+use Rattle.rs_core.specs.declared.links.Event.TheVariants.{Opened, Octets, Moment, Commanded, Turn, Room, Lost, Rules, Stop}
 use Rattle.rs_core.specs.Drives.Steps.{Step, Happened, Leads, stops, GoesOn, AllGoOn, HasLed, HasStopped}
 
 leads_on : {L : Type 0} (happens : L → Step → L → Type 0) (a : L) (r : List Step) (b : L) (s : List Step) (c : L) → Leads happens a r b → Leads happens b s c → Leads happens a (s ++ r) c
@@ -37,6 +37,7 @@ stop_is Stop e = refl
 stop_is (Opened c) e = let h : false ≡ true = e in cc
 stop_is (Octets c n) e = let h : false ≡ true = e in cc
 stop_is (Moment t) e = let h : false ≡ true = e in cc
+stop_is (Commanded c command) e = let h : false ≡ true = e in cc
 stop_is Turn e = let h : false ≡ true = e in cc
 stop_is (Room c n) e = let h : false ≡ true = e in cc
 stop_is (Lost c) e = let h : false ≡ true = e in cc

@@ -3,18 +3,19 @@ use Rattle.std.proofs.Common.{◌≡◌, ◌==◌, ◌≤◌, ℕ, zero, suc, Bo
 use Rattle.std.specs.Prelude.{Result, if◌then◌else◌}
 use Rattle.std.proofs.lemmas.List.{length-take, take-take}
 use Rattle.rs_octets.specs.declared.heads.HeaderFault.{HeaderFault}
+use Rattle.rs_session.specs.declared.command.Command.{Command}
 use Rattle.rs_session.specs.Items.{is_connected, message_count}
 use Rattle.rs_session.specs.Endings.{Fate}
 use Rattle.rs_session.specs.Sessions.{state_by, is_live, fate}
 use Rattle.rs_policy.specs.Configuration.{Configuration}
 use Rattle.rs_core.specs.Run.Moves.{config_in}
-use Rattle.rs_core.specs.Session.Hearing.{Hearing, session_in, state_in, is_up, said_in, takes_in, listens, listens_to, hears, begins, leaves, takes, offers, allowed_in}
+use Rattle.rs_core.specs.Session.Hearing.{Hearing, session_in, state_in, is_up, said_in, takes_in, listens, listens_to, hears, begins, commanded, leaves, takes, offers, allowed_in}
 use Rattle.rs_core.specs.Run.Meaning.{hearing, due}
 use Rattle.rs_core.specs.Told.Telling.{Speaks}
 use Rattle.rs_core.specs.Drives.Steps.{Step, Happened}
 use Rattle.rs_core.specs.Core.{client_count, lent_octets}
 use Rattle.rs_core.specs.Drives.Courses.{Course, called, memories}
-use Rattle.rs_core.specs.Drives.Answers.{Offers, Nothing, Fails, Takes, Gives, Used, Stopped, Goes_on, Answers, Passes, Begins, Declines, Hears, Drops, Sees, Turns, Fills, Loses, Rules, Keeps, Ended, Lasts, Owes, Closes, Ends, Rounds, Start, Round, Drives, Drove, Never, Again}
+use Rattle.rs_core.specs.Drives.Answers.{Offers, Nothing, Fails, Takes, Gives, Used, Stopped, Goes_on, Answers, Passes, Begins, Declines, Hears, Drops, Sees, Commands, Turns, Fills, Loses, Rules, Keeps, Ended, Lasts, Owes, Closes, Ends, Rounds, Start, Round, Drives, Drove, Never, Again}
 use Rattle.rs_core.specs.Drives.Serving.{taken_by, start, IsTakenBy, ServesByOffers}
 use Rattle.rs_core.specs.declared.endings.Ending.{Ending}
 use Rattle.rs_core.specs.declared.endings.Ending.TheVariants as reasons
@@ -65,6 +66,11 @@ heard true s c piece h octets so on =
     nothing.taken ∙ so (sym nothing.connected ∙ on)
 heard false s c piece h octets so on = so on
 
+obeyed : (own : Bool) (s : Configuration) (c : ℕ) (command : Command) (h : Hearing) (octets : List ℕ) → (is_connected h.items ≡ true → h.taken ≡ octets)
+    → is_connected (if own then commanded s c command h else h).items ≡ true → (if own then commanded s c command h else h).taken ≡ octets
+obeyed true s c command h octets so on = so on
+obeyed false s c command h octets so on = so on
+
 remembered : (c : ℕ) (refused : List ℕ) (steps : List Step) → taken_by c (memories refused steps) ≡ taken_by c steps
 remembered c [] steps = refl
 remembered c (d ∷ refused) steps = remembered c refused steps
@@ -93,6 +99,7 @@ answers_keep octets event c x y (Declines d u lt busy) so = so
 answers_keep octets event c x y (Hears d len u core became lt le) so = heard (d == c) (config_in u.run) c octets (hearing c u.run) (taken_by c u.steps) so
 answers_keep octets event c x y (Drops d len u core became lt le) so = left (d == c) (config_in u.run) c reasons.Memory (hearing c u.run) (taken_by c u.steps) so
 answers_keep octets event c x y (Sees t u core became) so = so
+answers_keep octets event c x y (Commands d command u core became lt) so = obeyed (d == c) (config_in u.run) c command (hearing c u.run) (taken_by c u.steps) so
 answers_keep octets event c x y (Turns refused u core became established) so = λ on. so on ∙ sym (remembered c refused u.steps)
 answers_keep octets event c x y (Fills d room u v lt gives) so = gives_keep d room c u v gives so
 answers_keep octets event c x y (Loses d u core became lt) so = left (d == c) (config_in u.run) c reasons.Lost (hearing c u.run) (taken_by c u.steps) so

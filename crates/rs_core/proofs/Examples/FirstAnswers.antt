@@ -6,11 +6,11 @@ use Rattle.std.proofs.lemmas.Bool.Decides.{nat_tests}
 use Rattle.std.proofs.lemmas.List.{append_assoc, length-append}
 use Rattle.rs_session.specs.declared.act.State.{State}
 use Rattle.rs_session.specs.declared.act.State.TheVariants as states
-use Rattle.rs_core.specs.Drives.Answers.{Offers, Nothing, Fails, Takes, Gives, Used, Stopped, Goes_on, Answers, Passes, Begins, Declines, Hears, Drops, Sees, Turns, Fills, Loses, Rules, Keeps, AreEstablished, IsIdle, is_passed_over}
+use Rattle.rs_core.specs.Drives.Answers.{Offers, Nothing, Fails, Takes, Gives, Used, Stopped, Goes_on, Answers, Passes, Begins, Declines, Hears, Drops, Sees, Commands, Turns, Fills, Loses, Rules, Keeps, AreEstablished, IsIdle, is_passed_over}
 use Rattle.rs_core.specs.Core.{client_count, lent_octets, owed}
 use Rattle.rs_core.specs.Drives.Courses.{Course, called, memories}
 use Rattle.rs_core.specs.Drives.Steps.{Step, Begin, Busy, Offer, Memory, End}
-use Rattle.rs_core.specs.Run.Moves.{Move, Ruled, Came, Heard, Saw, Left, Dropped, Turned}
+use Rattle.rs_core.specs.Run.Moves.{Move, Ruled, Came, Heard, Saw, Left, Dropped, Commanded, Turned}
 use Rattle.rs_core.specs.Owed.Sending.{HasLent}
 use Rattle.rs_core.specs.declared.links.Event.{Event}
 use Rattle.rs_core.specs.declared.links.Event.TheVariants as events
@@ -33,6 +33,7 @@ passed octets event x y over (Declines c u lt busy) = absurd (below (client_coun
 passed octets event x y over (Hears c len u core became lt le) = absurd (piece (client_count u.core) c len over lt le)
 passed octets event x y over (Drops c len u core became lt le) = absurd (piece (client_count u.core) c len over lt le)
 passed octets event x y over (Sees t u core became) = absurd (let f : false ≡ true = over in cc)
+passed octets event x y over (Commands c command u core became lt) = absurd (below (client_count u.core) c over lt)
 passed octets event x y over (Turns refused u core became established) = absurd (let f : false ≡ true = over in cc)
 passed octets event x y over (Fills c room u v lt gives) = absurd (below (client_count u.core) c over lt)
 passed octets event x y over (Loses c u core became lt) = absurd (below (client_count u.core) c over lt)
@@ -54,6 +55,7 @@ abbrev Answered : List ℕ → Event → Course → Course → Type 0
 Answered octets (events.Opened c) x y = (IsIdle x.run c × Goes (Came c) (Begin c ∷ []) x y) ⊎ ((IsIdle x.run c → ⊥) × (y ≡ called (Busy c) x))
 Answered octets (events.Octets c len) x y = Goes (Heard c octets) [] x y ⊎ Goes (Dropped c octets) (End c ∷ Memory c ∷ []) x y
 Answered octets (events.Moment t) x y = Goes (Saw t) [] x y
+Answered octets (events.Commanded c command) x y = Goes (Commanded c command) [] x y
 Answered octets events.Turn x y = (refused : List ℕ) × AreEstablished x.run (client_count x.core) refused × (y.run ≡ Turned refused ∷ x.run) × (y.steps ≡ memories refused x.steps)
 Answered octets (events.Room c room) x y = Gives c room x y
 Answered octets (events.Lost c) x y = Goes (Left c) [] x y
@@ -67,6 +69,7 @@ answered octets event x y not (Declines c u lt busy) = inr (busy, refl)
 answered octets event x y not (Hears c len u core became lt le) = inl (refl, refl)
 answered octets event x y not (Drops c len u core became lt le) = inr (refl, refl)
 answered octets event x y not (Sees t u core became) = (refl, refl)
+answered octets event x y not (Commands c command u core became lt) = (refl, refl)
 answered octets event x y not (Turns refused u core became established) = (refused, established, refl, refl)
 answered octets event x y not (Fills c room u v lt gives) = gives
 answered octets event x y not (Loses c u core became lt) = (refl, refl)

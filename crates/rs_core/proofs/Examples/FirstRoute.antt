@@ -104,7 +104,7 @@ not_served_yet yet = let t = (yet.told four refl).means in none_told t.0 t.1 (t.
 
 -- ---- in order
 
-in_order : InOrder (hearing 1 first_route).points (Some u1_attributes ∷ []) false
+pub in_order : InOrder (hearing 1 first_route).points (Some u1_attributes ∷ []) false
 unfolding all_types attributes_match matches outcome verdict unbeaten
 in_order = inl (inr (record {
   value = Some u1_attributes;

@@ -23,7 +23,7 @@ use Rattle.rs_core.specs.Ribs.{outlet_in}
 use Rattle.rs_core.specs.Drives.Steps.{Step, Happened, Offer}
 use Rattle.rs_core.specs.Owed.Sending.{HasLent, HasTaken}
 use Rattle.rs_core.specs.Drives.Courses.{Course, called, began, took}
-use Rattle.rs_core.specs.Drives.Answers.{is_passed_over, closes, Offers, Nothing, Fails, Takes, Gives, Used, Stopped, Goes_on, Answers, Passes, Begins, Declines, Hears, Drops, Sees, Turns, Fills, Loses, Rules, Keeps, Ended, Lasts, Owes, Closes, Ends}
+use Rattle.rs_core.specs.Drives.Answers.{is_passed_over, closes, Offers, Nothing, Fails, Takes, Gives, Used, Stopped, Goes_on, Answers, Passes, Begins, Declines, Hears, Drops, Sees, Commands, Turns, Fills, Loses, Rules, Keeps, Ended, Lasts, Owes, Closes, Ends}
 use Rattle.rs_core.specs.Owed.Draining.{IsDrained, TakesWhole, TakesAll, TurnsFor, RoomFor, Rooms, NoRoom, MoreRoom, RoomDrains}
 use Rattle.rs_core.specs.declared.links.Event.{Event}
 use Rattle.rs_core.specs.declared.links.Event.TheVariants as events
@@ -278,6 +278,7 @@ turn_settled octets event c x y (Declines d u lt1 busy) is lt up done = absurd (
 turn_settled octets event c x y (Hears d len u core heard lt1 le) is lt up done = absurd (let f : ◌≡◌ {A = Event} (events.Octets d len) events.Turn = is in cc)
 turn_settled octets event c x y (Drops d len u core dropped lt1 le) is lt up done = absurd (let f : ◌≡◌ {A = Event} (events.Octets d len) events.Turn = is in cc)
 turn_settled octets event c x y (Sees t u core saw) is lt up done = absurd (let f : ◌≡◌ {A = Event} (events.Moment t) events.Turn = is in cc)
+turn_settled octets event c x y (Commands d command u core became lt1) is lt up done = absurd (let f : ◌≡◌ {A = Event} (events.Commanded d command) events.Turn = is in cc)
 turn_settled octets event c x y (Fills d room u v lt1 gives) is lt up done = absurd (let f : ◌≡◌ {A = Event} (events.Room d room) events.Turn = is in cc)
 turn_settled octets event c x y (Loses d u core lost lt1) is lt up done = absurd (let f : ◌≡◌ {A = Event} (events.Lost d) events.Turn = is in cc)
 turn_settled octets event c x y (Rules config u core ruled replaces) is lt up done = absurd (let f : ◌≡◌ {A = Event} events.Rules events.Turn = is in cc)

@@ -4,22 +4,25 @@ use Rattle.std.specs.Prelude.{Option, Some, None, slice_get, slice_set, if◌the
 use Rattle.std.specs.List.{cons_option}
 use Rattle.std.proofs.lemmas.Bool.{false≢true}
 use Rattle.std.specs.Global.{Vec}
+use Rattle.rs_open.specs.Notes.{shutdown_note}
 use Rattle.rs_open.specs.declared.short.Short.TheVariants as short
 use Rattle.rs_session.specs.declared.act.Act.{Act}
 use Rattle.rs_session.specs.declared.act.Act.TheVariants as acts
 use Rattle.rs_session.specs.declared.session.Session.{Session}
 use Rattle.rs_session.specs.declared.settings.Settings.{Settings}
-use Rattle.rs_session.specs.Items.{Item, Came, Message, Moment, is_connected, message_count}
-use Rattle.rs_session.specs.Endings.{Fate, GoesOn, Ends, message_fate}
-use Rattle.rs_session.specs.Sessions.{state_of, state_by, is_live, is_request, fate, earlier, item_fate, falls_due, message_act, moment_act, act_of}
+use Rattle.rs_session.specs.Items.{Item, Came, Message, Moment, Commanded, is_connected, message_count}
+use Rattle.rs_session.specs.Endings.{Fate, GoesOn, Ends, message_fate, command_fate}
+use Rattle.rs_session.specs.Sessions.{state_of, state_by, is_live, is_request, is_refresh, fate, earlier, item_fate, falls_due, message_act, moment_act, command_act, act_of}
 use Rattle.rs_session.specs.Hearing.{HasHeard, Tells, RespondsTo, Opens}
 use Rattle.rs_adjin.specs.AdjIns.{held_of, identifier_of}
 use Rattle.rs_policy.specs.Configuration.{Configuration}
+use Rattle.rs_session.specs.declared.command.Command.{Command}
+use Rattle.rs_session.specs.declared.command.Command.TheVariants as commands
 use Rattle.rs_session.specs.declared.heard.Heard.{Heard}
 use Rattle.rs_session.specs.declared.heard.Heard.TheVariants as heard
-use Rattle.rs_core.specs.Session.Hearing.{Hearing, takes_in, session_in, state_in, is_up, begins, sees}
+use Rattle.rs_core.specs.Session.Hearing.{Hearing, takes_in, session_in, state_in, is_up, begins, sees, commanded}
 use Rattle.rs_core.specs.Told.Points.{asked_if}
-use Rattle.rs_core.specs.Session.OperatorRecords.{expiry_by, no_faults, IsWatched, NotesEnding}
+use Rattle.rs_core.specs.Session.OperatorRecords.{expiry_by, command_ending, no_faults, IsWatched, NotesEnding}
 use Rattle.rs_core.specs.declared.endings.Ending.{Ending}
 use Rattle.rs_core.specs.Run.Parts.{Follows, IsSpared, ActsOn}
 use Rattle.rs_core.specs.Run.Agreeing.{Knows, AgreesAt, Spares}
@@ -34,7 +37,7 @@ use Rattle.rs_core.proofs.Session.Keepalives.{first_keepalives}
 use Rattle.rs_core.proofs.Session.OperatorRecords.{watched_still}
 use Rattle.rs_core.proofs.Session.Conversing.{IsHeardOrSeen}
 use Rattle.rs_core.proofs.Session.Proceeding.{came_converses}
-use Rattle.rs_core.proofs.Told.BySession.{acted_spoken, greeted, never_open_by_moment}
+use Rattle.rs_core.proofs.Told.BySession.{acted_spoken, greeted, never_open_by_command, never_open_by_moment}
 use Rattle.rs_core.proofs.Told.Ordering.{acted_ordered, greeted_ordered}
 use Rattle.rs_core.proofs.Run.Holding.{Has, IsAlike, acted_has, both_down}
 
@@ -95,6 +98,35 @@ asked_by_no_moment s c t h = record {
   points = refl;
   only = λ e. absurd (false≢true e);
   again = λ e. absurd (never_again_by (is_live (state_of (session_in s c) h.items)) (item_fate (session_in s c) (Moment t) h.items) (falls_due (session_in s c) t h.items) e);
+}
+
+-- or where the operator commands it of one that is Established
+commands_by : (b : Bool) (was : Fate) (n : ℕ) (command : Command) → (if is_live (state_by b was n) then command_act (command_fate command) n else acts.None) ≡ acts.Again
+    → (is_up (state_by b was n) && is_refresh command) ≡ true
+commands_by false was n command e = absurd (let f : ◌≡◌ {A = Act} acts.None acts.Again = e in cc)
+commands_by true (Ends _) n command e = absurd (let f : ◌≡◌ {A = Act} acts.None acts.Again = e in cc)
+commands_by true GoesOn zero (commands.Stop text) e = absurd (let f : ◌≡◌ {A = Act} (acts.Down (Some (shutdown_note text))) acts.Again = e in cc)
+commands_by true GoesOn (suc zero) (commands.Stop text) e = absurd (let f : ◌≡◌ {A = Act} (acts.Down (Some (shutdown_note text))) acts.Again = e in cc)
+commands_by true GoesOn (suc (suc n)) (commands.Stop text) e = absurd (let f : ◌≡◌ {A = Act} (acts.Down (Some (shutdown_note text))) acts.Again = e in cc)
+commands_by true GoesOn zero commands.Refresh e = absurd (let f : ◌≡◌ {A = Act} acts.None acts.Again = e in cc)
+commands_by true GoesOn (suc zero) commands.Refresh e = absurd (let f : ◌≡◌ {A = Act} acts.None acts.Again = e in cc)
+commands_by true GoesOn (suc (suc n)) commands.Refresh e = refl
+
+commanded_is_told : (b : Bool) (was : Fate) (n : ℕ) (command : Command) → (is_up (state_by b was n) && is_refresh command) ≡ true
+    → (if is_live (state_by b was n) then command_act (command_fate command) n else acts.None) ≡ acts.Again
+commanded_is_told false was n command e = absurd (false≢true e)
+commanded_is_told true (Ends _) n command e = absurd (false≢true e)
+commanded_is_told true GoesOn zero command e = absurd (false≢true e)
+commanded_is_told true GoesOn (suc zero) command e = absurd (false≢true e)
+commanded_is_told true GoesOn (suc (suc n)) commands.Refresh e = refl
+commanded_is_told true GoesOn (suc (suc n)) (commands.Stop text) e = absurd (false≢true e)
+
+pub asked_by_command : (s : Configuration) (c : ℕ) (command : Command) (h : Hearing) → HasAskedIf (Commanded command) s c h (commanded s c command h)
+asked_by_command s c command h = record {
+  has_asked = is_up (state_in s c h) && is_refresh command;
+  points = refl;
+  again = commands_by (is_connected h.items) (fate (session_in s c) h.items) (message_count h.items) command;
+  only = commanded_is_told (is_connected h.items) (fate (session_in s c) h.items) (message_count h.items) command;
 }
 
 pub acted : (old new : Core) (act : Act) (item : Item) (x t : Session) (s : Configuration) (c : ℕ) (h next : Hearing)
@@ -176,6 +208,51 @@ seen old new act x after s c t h read lt sessions buffers responds does config o
     good = λ live. w.good (live_before (session_in s c) t h.items live);
   };
 }
+
+-- ---- a command
+
+never_up_at : (b : Bool) (f : Fate) (n : ℕ) → (if b then command_act f n else acts.None) ≡ acts.Up → ⊥
+never_up_at false f n e = cc
+never_up_at true (Ends _) n e = cc
+never_up_at true GoesOn zero e = cc
+never_up_at true GoesOn (suc zero) e = cc
+never_up_at true GoesOn (suc (suc n)) e = cc
+
+-- by a command no KEEPALIVE falls due
+falls_never : (b : Bool) (f : Fate) (n : ℕ) → asks_for_keepalive (if b then command_act f n else acts.None) ≡ false
+falls_never false f n = refl
+falls_never true (Ends _) n = refl
+falls_never true GoesOn zero = refl
+falls_never true GoesOn (suc zero) = refl
+falls_never true GoesOn (suc (suc n)) = refl
+
+pub obeyed : (old new : Core) (act : Act) (x after : Session) (s : Configuration) (c : ℕ) (command : Command) (h : Hearing)
+    → slice_get old.sessions.items c ≡ Some x → c < length old.sessions.items → new.sessions.items ≡ slice_set old.sessions.items c after → new.buffers ≡ old.buffers
+    → RespondsTo x after (Commanded command) act → ActsOn act c (slice_set old.sessions.items c after) old.ribs.tables new.ribs.tables
+    → new.ribs.config ≡ old.ribs.config → ((none : View) → ActsOnOutlet act old.ribs.extended c (slice_set old.sessions.items c after) (outlet_in old.ribs c none) (outlet_in new.ribs c none))
+    → NotesEnding c (command_ending act) old.watched.items new.watched.items → AgreesAt old s c h → AgreesAt new s c (commanded s c command h)
+obeyed old new act x after s c command h read lt sessions buffers responds does config others_alone notes at = record {
+  knows = acted old new act (Commanded command) x after s c h (commanded s c command h) tt read lt sessions responds does config others_alone (never_open_by_command (session_in s c) command h.items) refl none_fell refl (asked_by_command s c command h)
+      (λ down up. absurd (never_up_at lasts now n up)) (λ before now. refl) command_ending notes refl refl at.knows;
+  waits = λ y e. let w = at.waits y (ap (λ v. slice_get v.items c) (sym buffers) ∙ e) in record {
+    rest = λ live. w.rest (before live);
+    good = λ live. w.good (before live);
+  };
+} where
+  lasts : Bool
+  lasts = is_live (state_in s c h)
+
+  now : Fate
+  now = item_fate (session_in s c) (Commanded command) h.items
+
+  n : ℕ
+  n = message_count h.items
+
+  none_fell : h.keepalives ≡ fell_if (asks_for_keepalive (act_of (session_in s c) (Commanded command) h.items)) h.keepalives
+  none_fell = ap (λ b. fell_if b h.keepalives) (sym (falls_never lasts now n))
+
+  before : is_live (state_of (session_in s c) (Commanded command ∷ h.items)) ≡ true → is_live (state_in s c h) ≡ true
+  before live = live_by (is_connected h.items) (fate (session_in s c) h.items) now n live
 
 -- ---- a connection came
 

@@ -20,6 +20,11 @@ get_set_other (x ∷ xs) zero (suc j) v h = refl
 get_set_other (x ∷ xs) (suc i) zero v h = refl
 get_set_other (x ∷ xs) (suc i) (suc j) v h = get_set_other xs i j v (λ e. h (ap (λ n. suc n) e))
 
+pub set_same : {X : Type 0} (xs : List X) (i : ℕ) (v : X) → slice_get xs i ≡ Some v → slice_set xs i v ≡ xs
+set_same [] i v e = refl
+set_same (x ∷ xs) zero v e = ap (λ y. y ∷ xs) (sym (some_is x v e))
+set_same (x ∷ xs) (suc i) v e = ap (λ l. x ∷ l) (set_same xs i v e)
+
 -- one was written
 pub set_at : {X : Type 0} (xs : List X) (c : ℕ) (v : X) → c < length xs → SetsAt c v xs (slice_set xs c v)
 set_at xs c v lt = record {

@@ -20,9 +20,9 @@ use Rattle.rs_session.specs.declared.act.Act.{Act}
 use Rattle.rs_session.specs.declared.act.Act.TheVariants as acts
 use Rattle.rs_session.specs.declared.heard.Heard.{Heard}
 use Rattle.rs_session.specs.declared.settings.Settings.{Settings}
-use Rattle.rs_session.specs.Items.{Item, Came, Message, Moment, Left, is_connected, message_count}
+use Rattle.rs_session.specs.Items.{Item, Came, Message, Moment, Commanded, Left, is_connected, message_count}
 use Rattle.rs_session.specs.Endings.{Fate, GoesOn, Ends, IsBrief}
-use Rattle.rs_session.specs.Sessions.{state_of, state_by, is_live, is_request, fate, earlier, item_fate, falls_due, message_act, moment_act, act_of}
+use Rattle.rs_session.specs.Sessions.{state_of, state_by, is_live, is_request, fate, earlier, item_fate, falls_due, message_act, moment_act, command_act, act_of}
 use Rattle.rs_session.specs.Hearing.{Tells, Stays}
 use Rattle.rs_outlet.specs.declared.answers.Speech.{Speech}
 use Rattle.rs_outlet.specs.Message.Next.{note_octets}
@@ -114,6 +114,9 @@ not_yet settings (Message message ∷ items) live down =
 not_yet settings (Moment t ∷ items) live down =
     let was = still_by (is_connected items) (fate settings items) (item_fate settings (Moment t) items) (message_count items) live down in
     ap (λ b. if b then agreed_speech settings (Moment t ∷ items) else update_speech settings items) down ∙ not_yet settings items was.0 was.1
+not_yet settings (Commanded command ∷ items) live down =
+    let was = still_by (is_connected items) (fate settings items) (item_fate settings (Commanded command) items) (message_count items) live down in
+    ap (λ b. if b then agreed_speech settings (Commanded command ∷ items) else update_speech settings items) down ∙ not_yet settings items was.0 was.1
 not_yet settings (Left ∷ items) live down = refl
 
 -- while it is Established it is that of its OPEN
@@ -122,6 +125,7 @@ speech_up settings [] up = absurd (false≢true up)
 speech_up settings (Came ∷ items) up = absurd (false≢true up)
 speech_up settings (Message message ∷ items) up = ap (λ b. if b then agreed_speech settings (Message message ∷ items) else update_speech settings items) up
 speech_up settings (Moment t ∷ items) up = ap (λ b. if b then agreed_speech settings (Moment t ∷ items) else update_speech settings items) up
+speech_up settings (Commanded command ∷ items) up = ap (λ b. if b then agreed_speech settings (Commanded command ∷ items) else update_speech settings items) up
 speech_up settings (Left ∷ items) up = absurd (false≢true up)
 
 abbrev pub IsKept : Option Speech → Option Speech → Type 0
@@ -205,6 +209,16 @@ moment_act_by true GoesOn GoesOn zero falls = refl
 moment_act_by true GoesOn GoesOn (suc zero) falls = refl
 moment_act_by true GoesOn GoesOn (suc (suc n)) falls = refl
 
+command_act_by : (b : Bool) (was now : Fate) (n : ℕ) → (if is_live (state_by b was n) then command_act now n else acts.None) ≡ act_by b was now (command_act GoesOn n)
+command_act_by false was now n = refl
+command_act_by true (Ends ending) now n = refl
+command_act_by true GoesOn (Ends ending) zero = refl
+command_act_by true GoesOn (Ends ending) (suc zero) = refl
+command_act_by true GoesOn (Ends ending) (suc (suc n)) = refl
+command_act_by true GoesOn GoesOn zero = refl
+command_act_by true GoesOn GoesOn (suc zero) = refl
+command_act_by true GoesOn GoesOn (suc (suc n)) = refl
+
 message_goes_on : (n : ℕ) (message : Heard) → GoesOnBy (message_act GoesOn n message)
 message_goes_on zero message = tt
 message_goes_on (suc zero) message = tt
@@ -216,6 +230,11 @@ message_goes_on (suc (suc n)) message = by_test (is_request message) where
 moment_goes_on : (falls : Bool) → GoesOnBy (moment_act GoesOn falls)
 moment_goes_on true = tt
 moment_goes_on false = tt
+
+command_goes_on : (n : ℕ) → GoesOnBy (command_act GoesOn n)
+command_goes_on zero = tt
+command_goes_on (suc zero) = tt
+command_goes_on (suc (suc n)) = tt
 
 -- it stays while the session goes on, and once it has ended
 record KeepsSpeech (b : Bool) (was now : Fate) (before after : Option Speech) : Type 0 where
@@ -250,11 +269,12 @@ ended_down false f n ending e = refl
 ended_down true GoesOn n ending e = absurd (let f : ◌≡◌ {A = Fate} GoesOn (Ends ending) = e in cc)
 ended_down true (Ends other) n ending e = refl
 
--- a message was heard, or a moment seen
+-- a message was heard, a moment seen, or a command given
 abbrev pub IsHeardOrSeen : Item → Type 0
 IsHeardOrSeen Came = ⊥
 IsHeardOrSeen (Message message) = ⊤
 IsHeardOrSeen (Moment t) = ⊤
+IsHeardOrSeen (Commanded command) = ⊤
 IsHeardOrSeen Left = ⊥
 
 pub acted_converses : (item : Item) (act : Act) (settings : Settings) (said : ServerOpen) (items : List Item) (taken : List ℕ) (old new : Outgoing) → IsHeardOrSeen item → act ≡ act_of settings item items
@@ -292,5 +312,21 @@ acted_converses (Moment t) act settings said items taken old new is act_is tells
             ended = λ note e. ap (λ u. if u then agreed_speech settings (Moment t ∷ items) else update_speech settings items) (ended_down b (earlier was now) n note e);
           }) there (h.connected there);
       alone = λ none. ((h.alone none).0, alone_by b was now (moment_act GoesOn falls) old new does none ∙ (h.alone none).1);
+    }
+acted_converses (Commanded command) act settings said items taken old new is act_is tells moves h =
+    let b : Bool = is_connected items in
+    let was : Fate = fate settings items in
+    let now : Fate = item_fate settings (Commanded command) items in
+    let n : ℕ = message_count items in
+    let by : act ≡ act_by b was now (command_act GoesOn n) = act_is ∙ command_act_by b was now n in
+    let does = subst (λ a. Moves a old new) by moves in
+    record {
+      connected = λ there. concludes_on b was now (command_act GoesOn n) said (update_speech settings items) (update_speech settings (Commanded command ∷ items)) taken old new (command_goes_on n) does
+          (record {
+            on = λ there goes more. kept_speech (command_act GoesOn n) settings items (Commanded command ∷ items) (command_goes_on n)
+                (subst (λ a. Tells a settings items (Commanded command ∷ items)) (by ∙ (λ i. act_by (there i) (goes i) (more i) (command_act GoesOn n))) tells) (live_by b was n there goes);
+            ended = λ note e. ap (λ u. if u then agreed_speech settings (Commanded command ∷ items) else update_speech settings items) (ended_down b (earlier was now) n note e);
+          }) there (h.connected there);
+      alone = λ none. ((h.alone none).0, alone_by b was now (command_act GoesOn n) old new does none ∙ (h.alone none).1);
     }
 acted_converses Left act settings said items taken old new is act_is tells moves h = absurd is

@@ -19,8 +19,8 @@ use Rattle.rs_attrs.proofs.Fields.FirstOfTypeWalk.{types_all}
 use Rattle.rs_attrs.proofs.Fields.Meant.{gives_own, rising_from}
 use Rattle.rs_session.specs.Sessions.{is_live}
 use Rattle.rs_policy.specs.Configuration.{Configuration, client_of}
-use Rattle.rs_core.specs.Session.Hearing.{Hearing, Said, allowed_in, begins, body_said, effect_said, faulted_by_fields, is_up, hears, leaves, listens, listens_to, mode_in, said_by, said_in, state_in, takes, takes_in, update_said, with_change}
-use Rattle.rs_core.specs.Run.Moves.{Move, Ruled, Came, Heard, Saw, Left, Dropped, Turned, Began, Took, config_in}
+use Rattle.rs_core.specs.Session.Hearing.{Hearing, Said, allowed_in, begins, body_said, commanded, effect_said, faulted_by_fields, is_up, hears, leaves, listens, listens_to, mode_in, said_by, said_in, state_in, takes, takes_in, update_said, with_change}
+use Rattle.rs_core.specs.Run.Moves.{Move, Ruled, Came, Heard, Saw, Left, Dropped, Commanded, Turned, Began, Took, config_in}
 use Rattle.rs_core.specs.Run.Meaning.{hearing, table}
 use Rattle.rs_core.specs.declared.endings.Ending.TheVariants as reasons
 use Rattle.rs_core.proofs.Session.Listening.{Heards}
@@ -116,6 +116,7 @@ changes_good (Heard d octets ∷ run) c =
 changes_good (Saw t ∷ run) c = changes_good run c
 changes_good (Left d ∷ run) c = either_good (d == c) (leaves (config_in run) c reasons.Lost (hearing c run)) (hearing c run) tt (changes_good run c)
 changes_good (Dropped d octets ∷ run) c = either_good (d == c) (leaves (config_in run) c reasons.Memory (hearing c run)) (hearing c run) tt (changes_good run c)
+changes_good (Commanded d command ∷ run) c = either_good (d == c) (commanded (config_in run) c command (hearing c run)) (hearing c run) (changes_good run c) (changes_good run c)
 changes_good (Turned refused ∷ run) c = changes_good run c
 changes_good (Began d ∷ run) c = changes_good run c
 changes_good (Took d octets ∷ run) c = either_good (d == c) (takes octets (hearing c run)) (hearing c run) (changes_good run c) (changes_good run c)

@@ -10,9 +10,10 @@ use Rattle.rs_session.specs.declared.act.State.{State}
 use Rattle.rs_session.specs.declared.act.State.TheVariants as states
 use Rattle.rs_session.specs.declared.heard.Heard.{Heard}
 use Rattle.rs_session.specs.declared.settings.Settings.{Settings}
-use Rattle.rs_session.specs.Items.{Item, Message, Moment, message_count}
+use Rattle.rs_session.specs.declared.command.Command.{Command}
+use Rattle.rs_session.specs.Items.{Item, Message, Moment, Commanded, message_count}
 use Rattle.rs_session.specs.Endings.{Fate, GoesOn, Ends}
-use Rattle.rs_session.specs.Sessions.{state_of, is_live, agreed_of, limit_by, mode_in, mode_by, act_of, message_act, moment_act, item_fate, falls_due, is_request}
+use Rattle.rs_session.specs.Sessions.{state_of, is_live, agreed_of, limit_by, mode_in, mode_by, act_of, message_act, moment_act, command_act, item_fate, falls_due, is_request}
 use Rattle.rs_session.specs.Hearing.{HasHeard, Tells, Stays, Says, ComesUp}
 use Rattle.rs_open.specs.declared.short.Short.{Short}
 use Rattle.rs_open.specs.declared.short.Short.TheVariants as short
@@ -176,7 +177,7 @@ acted_spoken item act long s room sessions x c h next v w is act_is items keepal
           (kept_speech act (session_in s c) h.items next.items (goes_on_by act (session_in s c) h.items next.items tells live) tells was) (at.talk.keepalives was))));
     }) at
 
--- no message and no moment asks for an OPEN of ours
+-- no message, no moment and no command asks for an OPEN of ours
 
 request_open : (b : Bool) → (if b then acts.Again else acts.None) ≡ acts.Say short.Open → ⊥
 request_open true e = cc
@@ -195,11 +196,21 @@ moment_open true (Ends said) falls e = cc
 moment_open true GoesOn true e = cc
 moment_open true GoesOn false e = cc
 
+command_open : (b : Bool) (f : Fate) (n : ℕ) → (if b then command_act f n else acts.None) ≡ acts.Say short.Open → ⊥
+command_open false f n e = cc
+command_open true (Ends said) n e = cc
+command_open true GoesOn zero e = cc
+command_open true GoesOn (suc zero) e = cc
+command_open true GoesOn (suc (suc n)) e = cc
+
 pub never_open_by_message : (settings : Settings) (message : Heard) (items : List Item) → act_of settings (Message message) items ≡ acts.Say short.Open → ⊥
 never_open_by_message settings message items e = message_open (is_live (state_of settings items)) (item_fate settings (Message message) items) (message_count items) message e
 
 pub never_open_by_moment : (settings : Settings) (t : ℕ) (items : List Item) → act_of settings (Moment t) items ≡ acts.Say short.Open → ⊥
 never_open_by_moment settings t items e = moment_open (is_live (state_of settings items)) (item_fate settings (Moment t) items) (falls_due settings t items) e
+
+pub never_open_by_command : (settings : Settings) (command : Command) (items : List Item) → act_of settings (Commanded command) items ≡ acts.Say short.Open → ⊥
+never_open_by_command settings command items e = command_open (is_live (state_of settings items)) (item_fate settings (Commanded command) items) (message_count items) e
 
 -- ---- a connection came
 

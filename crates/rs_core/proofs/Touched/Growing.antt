@@ -5,12 +5,13 @@ use Rattle.std.specs.FinSet as set
 use Rattle.std.proofs.lemmas.Bool.{false≢true}
 use Rattle.rs_octets.specs.Prefixes.{Prefix}
 use Rattle.rs_session.specs.Endings.{Fate, GoesOn, Ends}
+use Rattle.rs_session.specs.declared.command.Command.{Command}
 use Rattle.rs_session.specs.Items.{Moment, is_connected, message_count}
 use Rattle.rs_session.specs.Sessions.{earlier, fate, item_fate, state_by, state_of}
 use Rattle.rs_policy.specs.Configuration.{Configuration}
 use Rattle.rs_policy.specs.Replacing.{IsFixed}
 use Rattle.rs_outlet.specs.Views.{Prefixes, View}
-use Rattle.rs_core.specs.Run.Moves.{Move, Ruled, Came, Heard, Saw, Left, Dropped, Turned, Began, Took, config_in}
+use Rattle.rs_core.specs.Run.Moves.{Move, Ruled, Came, Heard, Saw, Left, Dropped, Commanded, Turned, Began, Took, config_in}
 use Rattle.rs_core.specs.Session.Hearing.{is_up, session_in, state_in, takes}
 use Rattle.rs_core.specs.Run.Meaning.{hearing, is_established, is_listed}
 use Rattle.rs_core.specs.Core.{client_count, is_refused, last_of, touched_for}
@@ -108,6 +109,15 @@ left_agrees c old new run count same down others answers h on = grown_by (Left c
     (of_one (Left c) c old new run refl same
     (λ d lt ne up. by_others (IsChangedBy (Left c) run c) c d (touched_for old d) (touched_for new d) ne (others.others d lt ne up))
     (λ before behind e. by_itself (IsChangedBy (Left c) run c) c before behind e) (down_itself (Left c) c run old new down)) (last_still old new run count answers h)
+
+pub commanded_agrees : (c : ℕ) (command : Command) (old new : Core) (run : List Move) → new.count ≡ old.count → ((d : ℕ) → d ≢ c → hearing d (Commanded c command ∷ run) ≡ hearing d run)
+    → TouchesOthersWhere (IsChangedBy (Commanded c command) run c) c run old new → TouchesItself (Commanded c command) c run old new → KeepsAnswers old.ribs new.ribs → Agrees old run → AgreesOnClients new (Commanded c command ∷ run)
+    → Agrees new (Commanded c command ∷ run)
+unfolding client_count
+commanded_agrees c command old new run count same others itself answers h on = grown_by (Commanded c command) old new run count h on
+    (of_one (Commanded c command) c old new run refl same
+    (λ d lt ne up. by_others (IsChangedBy (Commanded c command) run c) c d (touched_for old d) (touched_for new d) ne (others.others d lt ne up))
+    (λ before behind e. by_itself (IsChangedBy (Commanded c command) run c) c before behind e) itself) (last_still old new run count answers h)
 
 -- octets for which memory was refused
 may_alter : (c d : ℕ) (octets : List ℕ) (run : List Move) (p : Prefix) → d ≢ c → MayBeChangedBy octets run c p → MayAlter (Dropped c octets) run d p

@@ -12,7 +12,7 @@ use Rattle.rs_octets.specs.Prefixes.{Prefix, prefix_order}
 use Rattle.rs_policy.specs.Configuration.{Configuration}
 use Rattle.rs_outlet.specs.declared.answers.Turned.{Turned}
 use Rattle.rs_outlet.specs.Views.{IsNumberOf, Prefixes, is_touched, is_whole, with_touch}
-use Rattle.rs_core.specs.Run.Moves.{Move, Ruled, Came, Heard, Saw, Left, Dropped, Began, Took}
+use Rattle.rs_core.specs.Run.Moves.{Move, Ruled, Came, Heard, Saw, Left, Dropped, Commanded, Began, Took}
 use Rattle.rs_core.specs.Run.Moves as moves
 use Rattle.rs_core.specs.Run.Meaning.{is_established, is_listed}
 use Rattle.rs_core.specs.Core.{client_count, touched_for}
@@ -201,6 +201,7 @@ any_behind c (Heard d octets) run before touched up it step = just_behind c (Hea
 any_behind c (Saw t) run before touched up it step = just_behind c (Saw t) run before touched (λ clients e. absurd (cc)) (no_more_asked c (Saw t) run up (λ config e. cc)) it step
 any_behind c (Left d) run before touched up it step = just_behind c (Left d) run before touched (λ clients e. absurd (cc)) (no_more_asked c (Left d) run up (λ config e. cc)) it step
 any_behind c (Dropped d octets) run before touched up it step = more_behind c (Dropped d octets) run before touched (λ clients e. absurd (cc)) (no_more_asked c (Dropped d octets) run up (λ config e. cc)) it step
+any_behind c (Commanded d command) run before touched up it step = just_behind c (Commanded d command) run before touched (λ clients e. absurd (cc)) (no_more_asked c (Commanded d command) run up (λ config e. cc)) it step
 any_behind c (moves.Turned refused) run before touched up it step = by_list (is_listed c refused) refl where
   unasked : AsksForAll c (moves.Turned refused) run → ⊥
   unasked = no_more_asked c (moves.Turned refused) run up (λ config e. cc)

@@ -2,10 +2,11 @@
 use Rattle.std.specs.Prelude.{◌≡◌, ◌≢◌, ◌<◌, ◌≤◌, ◌-◌, ◌||◌, ℕ, zero, suc, Bool, true, false, nat_le, nat_lt, List, [], ◌∷◌, length, take, Some, None, Ok, Err, ⊤}
 use Rattle.std.specs.Borrow.{MutBor}
 use Rattle.rs_session.specs.declared.act.State.TheVariants as states
+use Rattle.rs_session.specs.declared.command.Command.{Command}
 use Rattle.rs_policy.specs.Configuration.{Configuration}
 use Rattle.rs_policy.specs.Replacing.{Replaces, Refuses}
 use Rattle.rs_policy.specs.declared.faults.RulesFault.{RulesFault}
-use Rattle.rs_core.specs.Run.Moves.{Move, Ruled, Came, Heard, Saw, Left, Dropped, Turned, Began, config_in}
+use Rattle.rs_core.specs.Run.Moves.{Move, Ruled, Came, Heard, Saw, Left, Dropped, Commanded, Turned, Began, config_in}
 use Rattle.rs_core.specs.Session.Hearing.{state_in, is_closing}
 use Rattle.rs_core.specs.Run.Meaning.{hearing, is_established}
 use Rattle.rs_core.specs.Core.{client_count, lent_octets, owed}
@@ -53,6 +54,7 @@ abbrev pub is_passed_over : ℕ → Event → Bool
 is_passed_over n (events.Opened c) = nat_le n c
 is_passed_over n (events.Octets c len) = nat_le n c || nat_lt 4096 len
 is_passed_over n (events.Moment t) = false
+is_passed_over n (events.Commanded c command) = nat_le n c
 is_passed_over n events.Turn = false
 is_passed_over n (events.Room c room) = nat_le n c
 is_passed_over n (events.Lost c) = nat_le n c
@@ -76,6 +78,8 @@ pub data Answers (octets : List ℕ) : Event → Course → Course → Type 0 wh
   Drops : (c len : ℕ) (x : Course) (core : Core) (dropped : Becomes (Dropped c octets) x.run x.core core) → c < client_count x.core → len ≤ 4096
       → Answers octets (events.Octets c len) x (moved (Dropped c octets) (called (End c) (called (Memory c) x)) core dropped)
   Sees : (t : ℕ) (x : Course) (core : Core) (saw : Becomes (Saw t) x.run x.core core) → Answers octets (events.Moment t) x (moved (Saw t) x core saw)
+  Commands : (c : ℕ) (command : Command) (x : Course) (core : Core) (became : Becomes (Commanded c command) x.run x.core core) → c < client_count x.core
+      → Answers octets (events.Commanded c command) x (moved (Commanded c command) x core became)
   -- memory was refused for some of those that are Established; each is reported to the sink once, by rising place
   Turns : (refused : List ℕ) (x : Course) (core : Core) (turned : Becomes (Turned refused) x.run x.core core) → AreEstablished x.run (client_count x.core) refused
       → Answers octets events.Turn x (moved (Turned refused) (remembered refused x) core turned)

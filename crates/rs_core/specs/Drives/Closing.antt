@@ -4,7 +4,7 @@ use Rattle.rs_adjin.specs.Held.{bit_of}
 use Rattle.rs_core.specs.Run.Moves.{Move}
 use Rattle.rs_core.specs.Drives.Courses.{Course}
 use Rattle.rs_core.specs.Drives.Answers.{closes, Answers}
-use Rattle.rs_core.specs.declared.closing.MayClose.{MayClose}
+use Rattle.rs_core.specs.declared.driving.closing.MayClose.{MayClose}
 use Rattle.rs_core.specs.declared.links.Event.{Event}
 
 -- a client is in the set

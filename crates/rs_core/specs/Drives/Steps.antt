@@ -2,13 +2,14 @@
 use Rattle.std.specs.Prelude.{◌≡◌, ℕ, Bool, true, false, List, [], ◌∷◌, take, Option, Result, ⊤}
 use Rattle.rs_policy.specs.declared.faults.RulesFault.{RulesFault}
 use Rattle.rs_core.specs.declared.links.Event.{Event}
-use Rattle.rs_core.specs.declared.links.Event.TheVariants.{Opened, Octets, Moment, Turn, Room, Lost, Rules, Stop}
+use Rattle.rs_core.specs.declared.links.Event.TheVariants.{Opened, Octets, Moment, Commanded, Turn, Room, Lost, Rules, Stop}
 
 -- the octets of an event, where it left this in the piece and this is the text of the rules
 abbrev pub octets_of : Event → List ℕ → List ℕ → List ℕ
 octets_of (Octets c n) piece text = take n piece
 octets_of (Opened c) piece text = []
 octets_of (Moment t) piece text = []
+octets_of (Commanded c command) piece text = []
 octets_of Turn piece text = []
 octets_of (Room c n) piece text = []
 octets_of (Lost c) piece text = []
@@ -36,6 +37,7 @@ abbrev pub stops : Event → Bool
 stops (Opened c) = false
 stops (Octets c n) = false
 stops (Moment t) = false
+stops (Commanded c command) = false
 stops Turn = false
 stops (Room c n) = false
 stops (Lost c) = false

@@ -9,10 +9,10 @@ use Rattle.rs_session.specs.Sessions as sessions
 use Rattle.rs_policy.specs.Configuration.{Configuration}
 use Rattle.rs_outlet.specs.declared.answers.Speech.{Speech}
 use Rattle.rs_outlet.specs.Decided.Due.{Held, due_to}
-use Rattle.rs_core.specs.Run.Moves.{Move, Ruled, Came, Heard, Saw, Left, Dropped, Turned, Began, Took, config_in}
+use Rattle.rs_core.specs.Run.Moves.{Move, Ruled, Came, Heard, Saw, Left, Dropped, Commanded, Turned, Began, Took, config_in}
 use Rattle.rs_core.specs.Told.Telling.{Speaks}
 use Rattle.rs_core.specs.declared.endings.Ending.TheVariants as reasons
-use Rattle.rs_core.specs.Session.Hearing.{Hearing, silence, session_in, state_in, is_up, identifier_in, table_in, hears, begins, sees, leaves, takes, offers, decides}
+use Rattle.rs_core.specs.Session.Hearing.{Hearing, silence, session_in, state_in, is_up, identifier_in, table_in, hears, begins, sees, commanded, leaves, takes, offers, decides}
 use Rattle.rs_core.specs.Told.Points.{dues_at}
 
 -- ---- what is due to a client (RFC 7947, 2.3)
@@ -58,6 +58,7 @@ hearing c (Heard d octets ∷ run) = if d == c then hears (config_in run) c octe
 hearing c (Saw t ∷ run) = sees (config_in run) c t (hearing c run)
 hearing c (Left d ∷ run) = if d == c then leaves (config_in run) c reasons.Lost (hearing c run) else hearing c run
 hearing c (Dropped d octets ∷ run) = if d == c then leaves (config_in run) c reasons.Memory (hearing c run) else hearing c run
+hearing c (Commanded d command ∷ run) = if d == c then commanded (config_in run) c command (hearing c run) else hearing c run
 hearing c (Turned refused ∷ run) =
     decides (is_up (state_in (config_in run) c (hearing c run)) && not (is_listed c refused)) (due_among (config_in run) (λ d. hearing d run) c) (hearing c run)
 hearing c (Began d ∷ run) = offers (d == c) (hearing c run)

@@ -13,7 +13,7 @@ use Rattle.rs_open.specs.declared.writing.ServerOpen.{ServerOpen}
 use Rattle.rs_open.specs.Writing.{keepalive, server_open}
 use Rattle.rs_packer.specs.Denoted.{Holds}
 use Rattle.rs_session.specs.declared.settings.Settings.{Settings}
-use Rattle.rs_session.specs.Items.{Item, Came, Message, Moment, Left, is_connected}
+use Rattle.rs_session.specs.Items.{Item, Came, Message, Moment, Commanded, Left, is_connected}
 use Rattle.rs_session.specs.Endings.{Fate, GoesOn, Ends}
 use Rattle.rs_session.specs.Sessions.{state_of, agreed_of, fate}
 use Rattle.rs_policy.specs.Configuration.{Configuration}
@@ -79,6 +79,8 @@ update_speech settings (Message message ∷ items) =
     if is_up (state_of settings (Message message ∷ items)) then agreed_speech settings (Message message ∷ items) else update_speech settings items
 update_speech settings (Moment t ∷ items) =
     if is_up (state_of settings (Moment t ∷ items)) then agreed_speech settings (Moment t ∷ items) else update_speech settings items
+update_speech settings (Commanded command ∷ items) =
+    if is_up (state_of settings (Commanded command ∷ items)) then agreed_speech settings (Commanded command ∷ items) else update_speech settings items
 update_speech settings (Left ∷ items) = None
 
 -- ---- by the session

@@ -19,6 +19,7 @@ use Rattle.rs_open.specs.Opens.{open_of}
 use Rattle.rs_open.specs.Refreshes.{family_of}
 use Rattle.rs_open.specs.declared.refresh.AddressFamily.{AddressFamily}
 use Rattle.rs_open.specs.declared.short.Limit.{Limit}
+use Rattle.rs_session.specs.declared.command.Command.{Command}
 use Rattle.rs_session.specs.declared.heard.Heard.{Heard}
 use Rattle.rs_session.specs.declared.heard.Heard.TheVariants as heard
 use Rattle.rs_session.specs.declared.act.State.{State}
@@ -26,11 +27,11 @@ use Rattle.rs_session.specs.declared.act.State.TheVariants as states
 use Rattle.rs_session.specs.declared.settings.Settings.{Settings}
 use Rattle.rs_session.specs.Items as items
 use Rattle.rs_session.specs.Items.{Item}
-use Rattle.rs_session.specs.Sessions.{act_of, state_of, is_live, is_request, agreed_hold, agreed_mode, agreed_limit, agreed_identifier}
+use Rattle.rs_session.specs.Sessions.{act_of, state_of, is_live, is_request, is_refresh, agreed_hold, agreed_mode, agreed_limit, agreed_identifier}
 use Rattle.rs_policy.specs.Configuration.{Configuration, client_of}
 use Rattle.rs_core.specs.Session.Keepalives.{KeepaliveMove, Begun, asks_for_keepalive, fell_if}
 use Rattle.rs_core.specs.Told.Points.{Point, Value, Decided, Offered, asked_if}
-use Rattle.rs_core.specs.Session.OperatorRecords.{ending_by, expiry_by, ended_if, no_faults, with_faults, newest_ending, faulted_by}
+use Rattle.rs_core.specs.Session.OperatorRecords.{ending_by, expiry_by, command_ending, ended_if, no_faults, with_faults, newest_ending, faulted_by}
 use Rattle.rs_core.specs.declared.endings.Ending.{Ending}
 use Rattle.rs_core.specs.declared.endings.FaultedUpdates.{FaultedUpdates}
 
@@ -216,6 +217,19 @@ sees s c t h = record {
   points = h.points;
   keepalives = fell_if (asks_for_keepalive (act_of (session_in s c) (items.Moment t) h.items)) h.keepalives;
   endings = cons_option (expiry_by (act_of (session_in s c) (items.Moment t) h.items)) h.endings;
+  faults = h.faults;
+}
+
+-- the operator commands this of its session
+abbrev pub commanded : Configuration → ℕ → Command → Hearing → Hearing
+commanded s c command h = record {
+  octets = h.octets;
+  items = items.Commanded command ∷ h.items;
+  changes = h.changes;
+  taken = h.taken;
+  points = asked_if (is_up (state_in s c h) && is_refresh command) h.points;
+  keepalives = h.keepalives;
+  endings = cons_option (command_ending (act_of (session_in s c) (items.Commanded command) h.items)) h.endings;
   faults = h.faults;
 }
 

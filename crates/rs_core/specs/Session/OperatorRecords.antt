@@ -40,6 +40,15 @@ expiry_by acts.Up = None
 expiry_by (acts.Down said) = Some reasons.HoldTimer
 expiry_by acts.Again = None
 
+-- a command of the operator's by the NOTIFICATION that it asks for (RFC 4486, 4)
+abbrev pub command_ending : Act → Option Ending
+command_ending acts.None = None
+command_ending (acts.Say message) = None
+command_ending acts.Up = None
+command_ending (acts.Down None) = None
+command_ending (acts.Down (Some note)) = Some (reasons.Said note)
+command_ending acts.Again = None
+
 -- what cuts a connection ends a session only while that lasts
 abbrev pub ended_if : Bool → Ending → Option Ending
 ended_if lasts why = if lasts then Some why else None

@@ -9,7 +9,7 @@ Value = Option (List Attribute)
 
 pub data Point : Type 0 where
   Decided : (due : Prefix → Value) → Point  -- a turn that was not refused, while it was Established: this was due to it then
-  Asked : Point  -- it asked for all routes again (RFC 2918, 4)
+  Asked : Point  -- it asked for all routes again (RFC 2918, 4), or the operator did for it
   Offered : (taken : List ℕ) → Point  -- where none was in flight the next message to it began, if there was one; these octets were taken before
 
 -- what was due at a prefix at each of the turns, the newest first

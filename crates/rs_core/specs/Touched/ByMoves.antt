@@ -3,7 +3,7 @@ use Rattle.std.specs.Prelude.{◌≡◌, ◌≢◌, ◌⊎◌, ℕ, true, false,
 use Rattle.std.specs.FinSet as set
 use Rattle.rs_octets.specs.Prefixes.{Prefix}
 use Rattle.rs_outlet.specs.Views.{Prefixes}
-use Rattle.rs_core.specs.Run.Moves.{Move, Ruled, Came, Heard, Saw, Left, Dropped, Turned, Began, Took, config_in}
+use Rattle.rs_core.specs.Run.Moves.{Move, Ruled, Came, Heard, Saw, Left, Dropped, Commanded, Turned, Began, Took, config_in}
 use Rattle.rs_core.specs.Run.Meaning.{hearing, is_established, is_listed}
 use Rattle.rs_core.specs.Touched.Altering.{IsAlteredBy}
 use Rattle.rs_core.specs.Touched.ByRun.{IsChangedBy, IsChangedElsewhere, TouchesBetween, TouchesWhere}
@@ -19,6 +19,7 @@ Alters (Heard d octets) run c p = (d ≢ c) × IsAlteredBy (config_in run) d oct
 Alters (Saw t) run c p = IsChangedElsewhere (length (config_in run).clients) (Saw t) run c p
 Alters (Left d) run c p = (d ≢ c) × IsChangedBy (Left d) run d p
 Alters (Dropped d octets) run c p = (d ≢ c) × IsChangedBy (Dropped d octets) run d p
+Alters (Commanded d command) run c p = (d ≢ c) × IsChangedBy (Commanded d command) run d p
 Alters (Turned refused) run c p = ⊥
 Alters (Began d) run c p = ⊥
 Alters (Took d octets) run c p = ⊥
@@ -45,6 +46,7 @@ TouchesBehind (Heard d octets) run c old new = TouchesWhere (Alters (Heard d oct
 TouchesBehind (Saw t) run c old new = TouchesWhere (Alters (Saw t) run c) old new
 TouchesBehind (Left d) run c old new = TouchesWhere (Alters (Left d) run c) old new
 TouchesBehind (Dropped d octets) run c old new = TouchesBetween (Alters (Dropped d octets) run c) (MayAlter (Dropped d octets) run c) old new
+TouchesBehind (Commanded d command) run c old new = TouchesWhere (Alters (Commanded d command) run c) old new
 TouchesBehind (Turned refused) run c old new = new ≡ (if is_listed c refused then old else Some set.empty)
 TouchesBehind (Began d) run c old new = TouchesWhere (Alters (Began d) run c) old new
 TouchesBehind (Took d octets) run c old new = TouchesWhere (Alters (Took d octets) run c) old new

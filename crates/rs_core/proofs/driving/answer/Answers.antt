@@ -44,6 +44,17 @@ returns-in-Moment g c = record {
       (λ s run h. Sees c.in-Moment.t (course _ s run h) _ (record { count = c.moment.ensures.count; agrees = c.moment.ensures.saw run h })));
 }
 
+pub returns-in-Commanded : goal.returns-in-Commanded
+returns-in-Commanded g c = record {
+  stop = λ e. absurd (let f : todos.Nothing ≡ todos.Stop = e in cc);
+  turn = λ e. absurd (let f : todos.Nothing ≡ todos.Turn = e in cc);
+  goes_on = λ e. ap stops c.in-Commanded.is;
+  count = c.obey.ensures.count;
+  led = c.obey.ensures.led;
+  unchanged = λ ne. absurd (ne refl);
+  answers = λ e. as_event g.L.Link.happens _ _ _ _ c.args.event _ c.args.piece.now (g.L.Link.text c.args.link.now) c.in-Commanded.is c.obey.ensures.answers;
+}
+
 pub returns-in-Turn : goal.returns-in-Turn
 returns-in-Turn g c = record {
   stop = λ e. absurd (let f : todos.Turn ≡ todos.Stop = e in cc);

@@ -1,4 +1,4 @@
-use Rattle.std.proofs.Common.{T, ◌∙◌, ap}
+use Rattle.std.proofs.Common.{◌∙◌, ap}
 use Rattle.std.specs.Prelude.{None, if◌then◌else◌}
 use Rattle.rs_adjin.specs.Onward.{is_from}
 use Rattle.rs_core.specs.Core.{client_count}
