@@ -4,6 +4,8 @@ use Rattle.std.specs.Prelude.{nat_le, nat_lt, ◌||◌, codes, decimal}
 use Rattle.std.proofs.lemmas.Bool.Decides.{nat_tests}
 use Rattle.hex.specs.Hex.{encode_lower, IsBytes}
 use Rattle.rs_core.specs.declared.links.Event.TheVariants as events
+use Rattle.rs_session.specs.declared.command.Command.{Command}
+use Rattle.rs_session.specs.declared.command.Command.TheVariants as commands
 use Rattle.rs_trace.specs.Replays.{place_in}
 use Rattle.rs_trace.specs.Trace.{Passed, Turned, Replaced}
 use Rattle.rs_trace.specs.declared.names.Names.{Names}
@@ -15,9 +17,9 @@ use Rattle.rs_record.specs.Saying.{SaysOn, Says}
 use Rattle.rs_record.proofs.Saying.{says_then}
 use Rattle.rs_record.proofs.Recording.{adds_none}
 use Rattle.rs_record.proofs.Words.{name_is_word}
-use Rattle.rs_record.proofs.LineMeanings.{says_opened, says_lost, says_moment, says_turned, says_more, says_rules, says_heard, says_room, says_memory}
+use Rattle.rs_record.proofs.LineMeanings.{says_opened, says_lost, says_refresh, says_moment, says_turned, says_more, says_rules, says_heard, says_room, says_memory}
 
-there : (n c : ℕ) → c < n → nat_le n c ≡ false
+pub there : (n c : ℕ) → c < n → nat_le n c ≡ false
 there n c h = grind (arith, nat_tests)
 
 absent : (n c : ℕ) → n ≤ c → nat_le n c ≡ true
@@ -61,6 +63,9 @@ module _ (names : Names) (line more : List ℕ) where
     pub adds_lost : more ≡ line ++ one_operand (codes "lost") name → AddsLines names line more (event_says (count_of names) (events.Lost c) [])
     adds_lost is = record { lines = one_operand (codes "lost") name; is = is; says = rw (there (count_of names) c h) (says_lost (place_in names) name c (name_is_word name found.word) found.place) }
 
+    pub adds_refresh : more ≡ line ++ one_operand (codes "refresh") name → AddsLines names line more (event_says (count_of names) (events.Commanded c commands.Refresh) [])
+    adds_refresh is = record { lines = one_operand (codes "refresh") name; is = is; says = rw (there (count_of names) c h) (says_refresh (place_in names) name c (name_is_word name found.word) found.place) }
+
     pub adds_room : (room : ℕ) → room < 2 ^ 64 → more ≡ line ++ two_operands (codes "room") name (decimal room) → AddsLines names line more (event_says (count_of names) (events.Room c room) [])
     adds_room room l is = record { lines = two_operands (codes "room") name (decimal room); is = is; says = rw (there (count_of names) c h) (says_room (place_in names) name c room (name_is_word name found.word) found.place l) }
 
@@ -97,6 +102,9 @@ module _ (names : Names) (line : List ℕ) (c : ℕ) where
 
   pub no_lost : count_of names ≤ c → AddsLines names line line (event_says (count_of names) (events.Lost c) [])
   no_lost h = rw (absent (count_of names) c h) (adds_none names line)
+
+  pub no_command : (command : Command) → count_of names ≤ c → AddsLines names line line (event_says (count_of names) (events.Commanded c command) [])
+  no_command command h = rw (absent (count_of names) c h) (adds_none names line)
 
   pub no_room : (room : ℕ) → count_of names ≤ c → AddsLines names line line (event_says (count_of names) (events.Room c room) [])
   no_room room h = rw (absent (count_of names) c h) (adds_none names line)

@@ -6,3 +6,4 @@ pub mod Recording
 pub mod Found
 pub mod Happening
 pub mod EventLemmas
+pub mod Shutdowns

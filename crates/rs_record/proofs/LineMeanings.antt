@@ -3,8 +3,11 @@ use Rattle.std.proofs.Common.{◌≡◌, ℕ, ◌^◌, ◌<◌, ◌≤◌, List,
 use Rattle.std.specs.Prelude.{nat_lt, Ok, codes, decimal}
 use Rattle.std.proofs.lemmas.Bool.Decides.{nat_tests}
 use Rattle.hex.specs.Hex.{encode_lower, IsBytes}
+use Rattle.rs_open.specs.declared.shutdown.ShutdownText.{ShutdownText}
+use Rattle.rs_open.specs.Notes.{no_text, shutdown_text}
+use Rattle.rs_session.specs.declared.command.Command.TheVariants.{Stop, Refresh}
 use Rattle.rs_trace.specs.Words.{words_of}
-use Rattle.rs_trace.specs.Trace.{LineMeaning, Opened, Heard, Offered, Passed, Turned, Left, Continued, Replaced, line_of, is_passed_over, meaning_by_words}
+use Rattle.rs_trace.specs.Trace.{LineMeaning, Opened, Heard, Offered, Passed, Turned, Left, Commanded, Continued, Replaced, line_of, is_passed_over, meaning_by_words}
 use Rattle.rs_trace.specs.Text.{said}
 use Rattle.rs_trace.proofs.LineLemmas.{ends}
 use Rattle.rs_record.specs.Lines.{one_operand, two_operands}
@@ -30,6 +33,18 @@ says_lost place name c word found =
     let line = codes "lost" ++ (32 ∷ []) ++ name in
     says_line place [] line (Some (Left c)) [] word.no_end
     (ap (said []) (line_means place line (codes "lost" ∷ name ∷ []) (Left c) (omega (arith, word.short)) refl (rw (words_one name word.no_space) refl) (rw found refl)))
+
+pub says_refresh : (place : List ℕ → Option ℕ) (name : List ℕ) (c : ℕ) → IsWord name 32 → place name ≡ Some c → Says place (one_operand (codes "refresh") name) (Commanded c Refresh ∷ [])
+says_refresh place name c word found =
+    let line = codes "refresh" ++ (32 ∷ []) ++ name in
+    says_line place [] line (Some (Commanded c Refresh)) [] word.no_end
+    (ap (said []) (line_means place line (codes "refresh" ∷ name ∷ []) (Commanded c Refresh) (omega (arith, word.short)) refl (rw (words_one name word.no_space) refl) (rw found refl)))
+
+pub says_shutdown_alone : (place : List ℕ → Option ℕ) (name : List ℕ) (c : ℕ) → IsWord name 32 → place name ≡ Some c → Says place (one_operand (codes "shutdown") name) (Commanded c (Stop no_text) ∷ [])
+says_shutdown_alone place name c word found =
+    let line = codes "shutdown" ++ (32 ∷ []) ++ name in
+    says_line place [] line (Some (Commanded c (Stop no_text))) [] word.no_end
+    (ap (said []) (line_means place line (codes "shutdown" ∷ name ∷ []) (Commanded c (Stop no_text)) (omega (arith, word.short)) refl (rw (words_one name word.no_space) refl) (rw found refl)))
 
 pub says_moment : (place : List ℕ → Option ℕ) (t : ℕ) → t < 2 ^ 64 → Says place (one_operand (codes "moment") (decimal t)) (Passed t ∷ [])
 says_moment place t h =
@@ -73,6 +88,15 @@ says_heard place name octets c word found short bytes =
     let line = codes "octets" ++ (32 ∷ []) ++ name ++ (32 ∷ []) ++ hex in
     says_line place [] line (Some (Heard c octets)) [] (none_append ends (name ++ (32 ∷ [])) hex (none_append ends name (32 ∷ []) word.no_end refl) second.no_end)
     (ap (said []) (line_means place line (codes "octets" ∷ name ∷ hex ∷ []) (Heard c octets) (omega (arith, word.short, second.short, length-append (name ++ (32 ∷ [])) hex, length-append name (32 ∷ []))) refl (rw (words_two name hex word.no_space second.no_space) refl) (rw found (rw (hex_is_octets octets short bytes) refl))))
+
+pub says_shutdown : (place : List ℕ → Option ℕ) (name octets : List ℕ) (text : ShutdownText) (c : ℕ) → IsWord name 32 → place name ≡ Some c → 0 < length octets → length octets ≤ 4096 → IsBytes octets → shutdown_text octets ≡ Some text
+    → Says place (two_operands (codes "shutdown") name (encode_lower octets)) (Commanded c (Stop text) ∷ [])
+says_shutdown place name octets text c word found some short bytes is =
+    let hex = encode_lower octets in
+    let second = hex_is_word octets short bytes in
+    let line = codes "shutdown" ++ (32 ∷ []) ++ name ++ (32 ∷ []) ++ hex in
+    says_line place [] line (Some (Commanded c (Stop text))) [] (none_append ends (name ++ (32 ∷ [])) hex (none_append ends name (32 ∷ []) word.no_end refl) second.no_end)
+    (ap (said []) (line_means place line (codes "shutdown" ∷ name ∷ hex ∷ []) (Commanded c (Stop text)) (omega (arith, word.short, second.short, length-append (name ++ (32 ∷ [])) hex, length-append name (32 ∷ []))) refl (rw (words_two name hex word.no_space second.no_space) refl) (rw found (rw (hex_is_text octets some short bytes) (rw is refl)))))
 
 pub says_room : (place : List ℕ → Option ℕ) (name : List ℕ) (c n : ℕ) → IsWord name 32 → place name ≡ Some c → n < 2 ^ 64 → Says place (two_operands (codes "room") name (decimal n)) (Offered c n ∷ [])
 says_room place name c n word found h =

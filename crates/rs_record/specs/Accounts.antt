@@ -1,5 +1,9 @@
 -- What a record says of the steps of a link: the events, a room as it was used, and a connection that was lost without an event.
-use Rattle.std.specs.Prelude.{ℕ, ◌+◌, ◌==◌, ◌&&◌, min, true, false, if◌then◌else◌, List, [], ◌∷◌, ◌++◌, length, Option, Some, None}
+use Rattle.std.specs.Prelude.{ℕ, ◌+◌, ◌==◌, ◌&&◌, min, true, false, if◌then◌else◌, List, [], ◌∷◌, ◌++◌, length, Option, Some, None, unwrap_or}
+use Rattle.rs_open.specs.declared.shutdown.ShutdownText.{ShutdownText}
+use Rattle.rs_open.specs.Notes.{no_text, shutdown_text, text_octets}
+use Rattle.rs_session.specs.declared.command.Command.{Command}
+use Rattle.rs_session.specs.declared.command.Command.TheVariants as commands
 use Rattle.rs_core.specs.declared.links.Event.{Event}
 use Rattle.rs_core.specs.declared.links.Event.TheVariants as events
 use Rattle.rs_core.specs.Drives.Steps.{Step, Happened, Begin, Busy, Offer, Memory, End, Replaced}
@@ -15,9 +19,28 @@ abbrev pub said_octets : Event → List ℕ → List ℕ
 said_octets events.Rules [] = 10 ∷ []
 said_octets event octets = octets
 
+-- a text of an operator that no line gives is said as none
+abbrev pub said_text : ShutdownText → ShutdownText
+said_text text = unwrap_or (shutdown_text (text_octets text)) no_text
+
+abbrev pub said_command : Command → Command
+said_command (commands.Stop text) = commands.Stop (said_text text)
+said_command commands.Refresh = commands.Refresh
+
+abbrev pub said_event : Event → Event
+said_event (events.Opened c) = events.Opened c
+said_event (events.Octets c len) = events.Octets c len
+said_event (events.Moment t) = events.Moment t
+said_event events.Turn = events.Turn
+said_event (events.Room c room) = events.Room c room
+said_event (events.Lost c) = events.Lost c
+said_event (events.Commanded c command) = events.Commanded c (said_command command)
+said_event events.Rules = events.Rules
+said_event events.Stop = events.Stop
+
 -- the line of an event with these octets, beside n clients; none of an event that changes nothing, and of a stop
 abbrev pub event_says : ℕ → Event → List ℕ → List LineMeaning
-event_says n event octets = if is_passed_over n event then [] else meaning_of_event event (said_octets event octets)
+event_says n event octets = if is_passed_over n event then [] else meaning_of_event (said_event event) (said_octets event octets)
 
 -- what is said, and what the newest event waits for still
 pub record Account : Type 0 where
@@ -49,6 +72,7 @@ newest n (events.Opened c) octets = account_of (event_says n (events.Opened c) o
 newest n (events.Moment t) octets = account_of (event_says n (events.Moment t) octets) Nothing
 newest n events.Turn octets = account_of (event_says n events.Turn octets) Nothing
 newest n (events.Lost c) octets = account_of (event_says n (events.Lost c) octets) Nothing
+newest n (events.Commanded c command) octets = account_of (event_says n (events.Commanded c command) octets) Nothing
 newest n events.Rules octets = account_of (event_says n events.Rules octets) Nothing
 newest n events.Stop octets = account_of (event_says n events.Stop octets) Nothing
 

@@ -1,7 +1,10 @@
 -- What lines say, wherever they stand in a trace.
-use Rattle.std.specs.Prelude.{◌≡◌, ℕ, ◌+◌, List, [], ◌++◌, Option, None}
+use Rattle.std.specs.Prelude.{◌≡◌, ℕ, ◌+◌, List, [], ◌++◌, Option, Some, None}
+use Rattle.rs_open.specs.declared.shutdown.ShutdownText.{ShutdownText}
+use Rattle.rs_open.specs.Notes.{shutdown_text}
 use Rattle.rs_trace.specs.Trace.{LineMeaning}
 use Rattle.rs_trace.specs.Text.{lines_of, whole_lines, outcome, outcome_behind, behind, tells}
+use Rattle.rs_record.specs.Accounts.{said_text}
 
 -- These octets are whole lines without a fault. Behind the octets of a text they ask for this, whatever comes after them, and then these
 -- octets of a text go on.
@@ -20,3 +23,7 @@ SaysAll = (place : List ℕ → Option ℕ) (octets : List ℕ) (meanings : List
 -- and such lines, one after the other, ask for what the ones and then the others ask for
 abbrev pub SayInTurn : Type 0
 SayInTurn = (place : List ℕ → Option ℕ) (xs ys : List ℕ) (before after : List LineMeaning) → Says place xs before → Says place ys after → Says place (xs ++ ys) (before ++ after)
+
+-- each text of an operator is said as it is
+abbrev pub TextsAreSaid : Type 0
+TextsAreSaid = (octets : List ℕ) (text : ShutdownText) → shutdown_text octets ≡ Some text → said_text text ≡ text

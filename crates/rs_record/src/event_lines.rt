@@ -4,14 +4,18 @@ ghost use Rattle.std.specs.Prelude.{◌≡◌, ◌<◌, ◌≤◌, ◌++◌, ◌
 ghost use Rattle.hex.specs.Hex.{encode_lower};
 ghost use Rattle.rs_core.specs.Drives.Steps.{octets_of};
 ghost use Rattle.rs_trace.specs.Trace.{Passed, Replaced, Turned};
-ghost use Rattle.rs_record.specs.Accounts.{event_says, said_octets};
-ghost use Rattle.rs_record.specs.Lines.{one_operand, two_operands};
+ghost use Rattle.rs_open.specs.Notes.{text_octets};
+ghost use Rattle.rs_open.specs.declared.shutdown.ShutdownText.{ShutdownText};
+ghost use Rattle.rs_record.specs.Accounts.{event_says, said_octets, said_text};
+ghost use Rattle.rs_record.specs.Lines.{one_operand, two_operands, shutdown_line};
 ghost use Rattle.rs_record.specs.Named.{count_of};
 ghost use Rattle.rs_record.specs.Records.{AddsLines};
 
 use crate::client_names::ClientNames;
 use itoa::Buffer;
 use rs_core::Event;
+use rs_open::ShutdownText;
+use rs_session::Command;
 use rs_trace::trace::{LONGEST_PIECE, LONGEST_TEXT};
 use std::alloc::AllocError;
 use thiserror::Error;
@@ -70,12 +74,13 @@ fn put_text(line: &mut Vec<u8>, word: &[u8], octets: &[u8]) -> Result<(), AllocE
     line.extend_from_slice(b"\n")
 }
 
-/// Puts the line of octets that a client sends, `octets NAME HEX`.
-fn put_octets(line: &mut Vec<u8>, name: &[u8], octets: &[u8]) -> Result<(), AllocError>
+/// Puts a line of octets and a client, `WORD NAME HEX`.
+fn put_octets(line: &mut Vec<u8>, word: &[u8], name: &[u8], octets: &[u8]) -> Result<(), AllocError>
     requires { length octets.now ≤ 4096 }
-    ensures { OnOk result (line.new.items ≡ line.old.items ++ two_operands (codes "octets") name.now (encode_lower octets.now)) }
+    ensures { OnOk result (line.new.items ≡ line.old.items ++ two_operands word.now name.now (encode_lower octets.now)) }
 {
-    line.extend_from_slice(b"octets ")?;
+    line.extend_from_slice(word)?;
+    line.extend_from_slice(b" ")?;
     line.extend_from_slice(name)?;
     line.extend_from_slice(b" ")?;
     put_hex(line, octets)?;
@@ -100,6 +105,18 @@ fn put_moment(line: &mut Vec<u8>, second: u64) -> Result<(), AllocError>
 {
     let mut digits = Buffer::new();
     put_operand(line, b"moment", digits.format(second).as_bytes())
+}
+
+/// Puts the line of a session that the operator ends, `shutdown NAME HEX`, or `shutdown NAME` where there is no text.
+fn put_shutdown(line: &mut Vec<u8>, name: &[u8], text: &[u8]) -> Result<(), AllocError>
+    requires { length text.now ≤ 4096 }
+    ensures { OnOk result (line.new.items ≡ line.old.items ++ shutdown_line name.now text.now) }
+{
+    if text.is_empty() {
+        put_operand(line, b"shutdown", name)
+    } else {
+        put_octets(line, b"shutdown", name, text)
+    }
 }
 
 /// Puts the comment that memory was refused for a client, `# memory NAME`.
@@ -137,7 +154,7 @@ fn say_octets(
         return Ok(());
     }
     if let Some(name) = names.name(c) {
-        put_octets(line, name, &piece[..size])?;
+        put_octets(line, b"octets", name, &piece[..size])?;
     }
     Ok(())
 }
@@ -183,6 +200,54 @@ pub(crate) fn say_lost(line: &mut Vec<u8>, names: &ClientNames, c: usize) -> Res
 {
     if let Some(name) = names.name(c) {
         put_operand(line, b"lost", name)?;
+    }
+    Ok(())
+}
+
+/// An operator's text as a line gives it: none where it is no text.
+fn text_said(text: ShutdownText) -> ShutdownText
+    ensures { result ≡ said_text text }
+{
+    ShutdownText::of(text.octets()).unwrap_or(ShutdownText::NONE)
+}
+
+/// Says that the operator ends a client's session by a text that is said by these octets, where there is such a
+/// client.
+fn say_text(
+    line: &mut Vec<u8>,
+    names: &ClientNames,
+    c: usize,
+    octets: &[u8],
+) -> Result<(), RecordFault>
+    requires { length octets.now ≤ 4096 }
+    ensures { (text : ShutdownText) → text_octets (said_text text) ≡ octets.now → OnOk result (AddsLines names.now.names line.old.items line.new.items (event_says (count_of names.now.names) (Event.Commanded c (Command.Stop text)) [])) }
+{
+    if let Some(name) = names.name(c) {
+        put_shutdown(line, name, octets)?;
+    }
+    Ok(())
+}
+
+/// Says that the operator ends a client's session, where there is such a client.
+fn say_shutdown(
+    line: &mut Vec<u8>,
+    names: &ClientNames,
+    c: usize,
+    text: ShutdownText,
+) -> Result<(), RecordFault>
+    ensures { OnOk result (AddsLines names.now.names line.old.items line.new.items (event_says (count_of names.now.names) (Event.Commanded c (Command.Stop text)) [])) }
+{
+    let said = text_said(text);
+    say_text(line, names, c, said.octets())
+}
+
+/// Says that the operator has a client told its routes again, where there is such a client.
+#[tactic(auto, using(crate::proofs::EventLemmas::adds_refresh, crate::proofs::EventLemmas::no_command))]
+fn say_refresh(line: &mut Vec<u8>, names: &ClientNames, c: usize) -> Result<(), RecordFault>
+    ensures { OnOk result (AddsLines names.now.names line.old.items line.new.items (event_says (count_of names.now.names) (Event.Commanded c Command.Refresh) [])) }
+{
+    if let Some(name) = names.name(c) {
+        put_operand(line, b"refresh", name)?;
     }
     Ok(())
 }
@@ -252,6 +317,8 @@ pub fn put_event(
         Event::Turn => say_turn(line, names),
         Event::Room(c, room) => say_room(line, names, c, room),
         Event::Lost(c) => say_lost(line, names, c),
+        Event::Commanded(c, Command::Stop(text)) => say_shutdown(line, names, c, text),
+        Event::Commanded(c, Command::Refresh) => say_refresh(line, names, c),
         Event::Rules => put_rules(line, names, rules),
         Event::Stop => Ok(()),
     }

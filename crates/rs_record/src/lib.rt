@@ -21,7 +21,7 @@ mod tests;
 pub use client_names::ClientNames;
 pub use driving::{drive_recorded, drive_recorded_with};
 pub use event_lines::{RecordFault, put_event};
-pub use laws::{lines_say_in_turn, lines_say_their_events};
+pub use laws::{lines_say_in_turn, lines_say_their_events, texts_are_said};
 pub use recorded::Recorded;
 pub use recorder::{Pending, Recorder, UsedRoom};
 pub use tape::{Reel, Tape};

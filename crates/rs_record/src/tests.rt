@@ -3,7 +3,9 @@
 
 use crate::{ClientNames, RecordFault, Recorder, Reel, Tape, drive_recorded, put_event};
 use rs_core::{Core, Event, Link, Sink, Source};
+use rs_open::ShutdownText;
 use rs_policy::{Config, RulesFault};
+use rs_session::Command;
 use rs_trace::progress::Unwatched;
 use rs_trace::replay::replay;
 use rs_trace::text::{OverRead, OverWrite};
@@ -44,6 +46,7 @@ fn each_event_by_its_lines(rt: HostRuntime) -> Result<(), Fail> {
     let names = ClientNames::new(alloc, &config)?;
     let mut piece = [0u8; 4096];
     piece[..3].copy_from_slice(&[0xff, 0x00, 0x1b]);
+    let text = ShutdownText::of(b"bye").unwrap_or(ShutdownText::NONE);
     for (event, lines) in [
         (Event::Opened(0), "open a\n"),
         (Event::Opened(1), "open member-2\n"),
@@ -59,6 +62,16 @@ fn each_event_by_its_lines(rt: HostRuntime) -> Result<(), Fail> {
         (Event::Room(2, 1), ""),
         (Event::Lost(0), "lost a\n"),
         (Event::Lost(2), ""),
+        (
+            Event::Commanded(0, Command::Stop(ShutdownText::NONE)),
+            "shutdown a\n",
+        ),
+        (
+            Event::Commanded(1, Command::Stop(text)),
+            "shutdown member-2 627965\n",
+        ),
+        (Event::Commanded(1, Command::Refresh), "refresh member-2\n"),
+        (Event::Commanded(2, Command::Refresh), ""),
         (Event::Rules, "rules 61730a\n"),
         (Event::Stop, ""),
     ] {
@@ -197,7 +210,7 @@ fn sent_in(alloc: Global, output: &[u8], front: &[u8]) -> Result<Vec<u8>, Fail> 
     Ok(octets)
 }
 
-const SESSION: [(Event, &[u8]); 25] = [
+const SESSION: [(Event, &[u8]); 29] = [
     (Event::Opened(0), b""),
     (Event::Octets(0, 37), OPEN_A),
     (Event::Octets(0, 19), KEEPALIVE),
@@ -214,6 +227,8 @@ const SESSION: [(Event, &[u8]); 25] = [
     (Event::Turn, b""),
     (Event::Room(1, u64::MAX), b""),
     (Event::Room(1, u64::MAX), b""),
+    (Event::Commanded(1, Command::Refresh), b""),
+    (Event::Room(1, u64::MAX), b""),
     (Event::Opened(1), b""),
     (Event::Octets(2, 19), KEEPALIVE),
     (Event::Rules, b""),
@@ -221,6 +236,8 @@ const SESSION: [(Event, &[u8]); 25] = [
     (Event::Room(1, u64::MAX), b""),
     (Event::Room(1, u64::MAX), b""),
     (Event::Room(1, u64::MAX), b""),
+    (Event::Commanded(0, Command::Stop(ShutdownText::NONE)), b""),
+    (Event::Room(0, u64::MAX), b""),
     (Event::Lost(0), b""),
     (Event::Turn, b""),
 ];

@@ -10,8 +10,6 @@ mod playing;
 mod sent;
 mod sent_lines;
 mod tables;
-#[cfg(test)]
-mod tests;
 mod until;
 
 use crate::input::StandardInput;

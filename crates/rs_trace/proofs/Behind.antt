@@ -4,7 +4,7 @@ use Rattle.rs_core.specs.Run.Moves.{Turned}
 use Rattle.rs_core.specs.Core.{client_count}
 use Rattle.rs_core.specs.Drives.Steps.{Step, Happened, Memory}
 use Rattle.rs_core.specs.Drives.Courses.{Course, course, called, memories}
-use Rattle.rs_core.specs.Drives.Answers.{Offers, Nothing, Fails, Takes, Gives, Used, Stopped, Goes_on, Answers, Passes, Begins, Declines, Hears, Drops, Sees, Turns, Fills, Loses, Rules, Keeps, Ended, Lasts, Owes, Closes, Ends, Rounds, Start, Round, Drives}
+use Rattle.rs_core.specs.Drives.Answers.{Offers, Nothing, Fails, Takes, Gives, Used, Stopped, Goes_on, Answers, Passes, Begins, Declines, Hears, Drops, Sees, Commands, Turns, Fills, Loses, Rules, Keeps, Ended, Lasts, Owes, Closes, Ends, Rounds, Start, Round, Drives}
 use Rattle.rs_core.specs.declared.links.Event.{Event}
 use Rattle.rs_core.specs.declared.links.Event.TheVariants as events
 
@@ -34,6 +34,7 @@ answers_behind older octets event x y (Declines c u lt busy) = Declines c (behin
 answers_behind older octets event x y (Hears c len u core heard lt le) = Hears c len (behind older u) core heard lt le
 answers_behind older octets event x y (Drops c len u core dropped lt le) = Drops c len (behind older u) core dropped lt le
 answers_behind older octets event x y (Sees t u core saw) = Sees t (behind older u) core saw
+answers_behind older octets event x y (Commands c command u core became lt) = Commands c command (behind older u) core became lt
 answers_behind older octets event x y (Turns refused u core turned established) =
     subst (λ (s : List Step). Answers octets events.Turn (behind older u) (course core s (Turned refused ∷ u.run) turned.agrees)) (memories_behind refused u.steps older)
     (Turns refused (behind older u) core turned established)

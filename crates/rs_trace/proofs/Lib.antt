@@ -8,3 +8,4 @@ pub mod PlayLemmas
 pub mod Behind
 pub mod Replaying
 pub mod Serving
+pub mod OperatorTexts

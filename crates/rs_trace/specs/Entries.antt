@@ -2,8 +2,9 @@
 use Rattle.std.specs.Prelude.{ℕ, List, take, Option, Some, None, Result, Ok, Err}
 use Rattle.rs_trace.specs.declared.trace.LineFault.{LineFault}
 use Rattle.rs_trace.specs.declared.trace.Entry.{Entry}
+use Rattle.rs_trace.specs.declared.trace.Entry.TheVariants as entries
 use Rattle.rs_trace.specs.declared.trace.Entry.TheVariants.{Open, Octets, Room, Moment, Turn, Lost, More, Rules, Table}
-use Rattle.rs_trace.specs.Trace.{LineMeaning, Opened, Heard, Offered, Passed, Turned, Left, Continued, Replaced, Listed}
+use Rattle.rs_trace.specs.Trace.{LineMeaning, Opened, Heard, Offered, Passed, Turned, Left, Commanded, Continued, Replaced, Listed}
 
 abbrev pub meaning_in : List ℕ → Entry → LineMeaning
 meaning_in piece (Open c) = Opened c
@@ -12,6 +13,7 @@ meaning_in piece (Room c n) = Offered c n
 meaning_in piece (Moment t) = Passed t
 meaning_in piece Turn = Turned
 meaning_in piece (Lost c) = Left c
+meaning_in piece (entries.Commanded c command) = Commanded c command
 meaning_in piece (More n) = Continued (take n piece)
 meaning_in piece (Rules n) = Replaced (take n piece)
 meaning_in piece (Table c) = Listed c

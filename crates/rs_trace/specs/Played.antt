@@ -10,7 +10,7 @@ use Rattle.rs_trace.specs.declared.fault.Stop.{Stop}
 use Rattle.rs_trace.specs.declared.fault.Stop.TheVariants.{End, Table, Fault}
 use Rattle.rs_trace.specs.declared.trace_lines.TraceLines.{TraceLines}
 use Rattle.rs_trace.specs.Output.{client_line, sent_line, accepted_line, refused_line}
-use Rattle.rs_trace.specs.Trace.{LineMeaning, Opened, Heard, Offered, Passed, Turned, Left, Replaced, Listed}
+use Rattle.rs_trace.specs.Trace.{LineMeaning, Opened, Heard, Offered, Passed, Turned, Left, Commanded, Replaced, Listed}
 use Rattle.rs_trace.specs.Text.{lines_of, whole_lines, outcome, outcome_behind, tells, behind, IsRead}
 
 pub data Act : Type 0 where
@@ -27,6 +27,7 @@ meaning_of_event (events.Moment t) octets = Passed t ∷ []
 meaning_of_event events.Turn octets = Turned ∷ []
 meaning_of_event (events.Room c n) octets = Offered c n ∷ []
 meaning_of_event (events.Lost c) octets = Left c ∷ []
+meaning_of_event (events.Commanded c command) octets = Commanded c command ∷ []
 meaning_of_event events.Rules octets = Replaced octets ∷ []
 meaning_of_event events.Stop octets = []
 

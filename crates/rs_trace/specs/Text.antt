@@ -3,7 +3,7 @@ use Rattle.std.specs.Prelude.{◌≡◌, ℕ, ◌+◌, ◌≤◌, ◌==◌, ◌�
 use Rattle.rs_trace.specs.declared.trace.LineFault.{LineFault}
 use Rattle.rs_trace.specs.declared.trace.LineFault.TheVariants.{TooLong, TextTooLong}
 use Rattle.rs_trace.specs.Words.{lengthen}
-use Rattle.rs_trace.specs.Trace.{LineMeaning, Opened, Heard, Offered, Passed, Turned, Left, Continued, Replaced, Listed, line_of}
+use Rattle.rs_trace.specs.Trace.{LineMeaning, Opened, Heard, Offered, Passed, Turned, Left, Commanded, Continued, Replaced, Listed, line_of}
 
 -- what stands before each end of a line, and what stands after the last, if anything
 abbrev pub lines_of : List ℕ → List (List ℕ)
@@ -50,6 +50,7 @@ joined text (Some (Offered c n)) = asks (Some (Offered c n)) text
 joined text (Some (Passed t)) = asks (Some (Passed t)) text
 joined text (Some Turned) = asks (Some Turned) text
 joined text (Some (Left c)) = asks (Some (Left c)) text
+joined text (Some (Commanded c command)) = asks (Some (Commanded c command)) text
 joined text (Some (Listed c)) = asks (Some (Listed c)) text
 
 abbrev pub said : List ℕ → Result (Option LineMeaning) LineFault → Result Said LineFault

@@ -1,11 +1,16 @@
 -- What a line of a trace says.
 use Rattle.std.specs.Prelude.{ℕ, ◌==◌, nat_lt, Bool, true, if◌then◌else◌, List, [], ◌∷◌, length, codes, bytes_eq, Option, Some, None, Result, Ok, Err}
+use Rattle.std.specs.Option.{option_and_then}
 use Rattle.std.specs.Result.{result_ok}
 use Rattle.hex.specs.Hex.{decode_of}
+use Rattle.rs_open.specs.declared.shutdown.ShutdownText.{ShutdownText}
+use Rattle.rs_open.specs.Notes.{no_text, shutdown_text}
+use Rattle.rs_session.specs.declared.command.Command.{Command}
+use Rattle.rs_session.specs.declared.command.Command.TheVariants as commands
 use Rattle.rs_trace.specs.declared.trace.LineFault.{LineFault}
 use Rattle.rs_trace.specs.declared.trace.LineFault.TheVariants.{TooLong, UnknownWord, WordCount, UnknownClient, BadNumber, BadHex}
 use Rattle.rs_trace.specs.declared.trace.Word.{Word}
-use Rattle.rs_trace.specs.declared.trace.Word.TheVariants.{Open, Octets, Room, Moment, Turn, Lost, More, Rules, Table}
+use Rattle.rs_trace.specs.declared.trace.Word.TheVariants.{Open, Octets, Room, Moment, Turn, Lost, Shutdown, Refresh, More, Rules, Table}
 use Rattle.rs_trace.specs.Words.{words_of}
 use Rattle.rs_trace.specs.Numbers.{number_of}
 
@@ -23,6 +28,8 @@ pub data LineMeaning : Type 0 where
   Turned : LineMeaning
   -- the client's connection is lost
   Left : ℕ → LineMeaning
+  -- the operator gives the client's session a command
+  Commanded : ℕ → Command → LineMeaning
   -- a text goes on by these octets
   Continued : List ℕ → LineMeaning
   -- the configuration is to be replaced by this text
@@ -39,6 +46,8 @@ word_of text =
     else if bytes_eq text (codes "moment") then Some Moment
     else if bytes_eq text (codes "open") then Some Open
     else if bytes_eq text (codes "lost") then Some Lost
+    else if bytes_eq text (codes "shutdown") then Some Shutdown
+    else if bytes_eq text (codes "refresh") then Some Refresh
     else if bytes_eq text (codes "more") then Some More
     else if bytes_eq text (codes "rules") then Some Rules
     else if bytes_eq text (codes "table") then Some Table
@@ -58,6 +67,10 @@ abbrev pub text_of : List ℕ → Option (List ℕ)
 text_of [] = None
 text_of (digit ∷ digits) = octets_of (digit ∷ digits)
 
+-- an operator's text: the same, and 128 octets of UTF-8 at most (RFC 9003, 2)
+abbrev pub operator_text : List ℕ → Option ShutdownText
+operator_text digits = option_and_then shutdown_text (text_of digits)
+
 -- what each word makes of the words after it
 abbrev pub meaning_of : (List ℕ → Option ℕ) → Word → List (List ℕ) → Result LineMeaning LineFault
 meaning_of place Open (name ∷ []) = with_value (place name) UnknownClient (λ c. Ok (Opened c))
@@ -69,6 +82,10 @@ meaning_of place Room (name ∷ number ∷ []) =
 meaning_of place Moment (number ∷ []) = with_value (number_of number) BadNumber (λ t. Ok (Passed t))
 meaning_of place Turn [] = Ok Turned
 meaning_of place Lost (name ∷ []) = with_value (place name) UnknownClient (λ c. Ok (Left c))
+meaning_of place Shutdown (name ∷ []) = with_value (place name) UnknownClient (λ c. Ok (Commanded c (commands.Stop no_text)))
+meaning_of place Shutdown (name ∷ digits ∷ []) =
+    with_value (place name) UnknownClient (λ c. with_value (operator_text digits) BadHex (λ text. Ok (Commanded c (commands.Stop text))))
+meaning_of place Refresh (name ∷ []) = with_value (place name) UnknownClient (λ c. Ok (Commanded c commands.Refresh))
 meaning_of place More (digits ∷ []) = with_value (text_of digits) BadHex (λ text. Ok (Continued text))
 meaning_of place Rules (digits ∷ []) = with_value (text_of digits) BadHex (λ text. Ok (Replaced text))
 meaning_of place Table (name ∷ []) = with_value (place name) UnknownClient (λ c. Ok (Listed c))

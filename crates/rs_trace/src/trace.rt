@@ -2,13 +2,16 @@
 //! kind of line is a further row of `Word`, of `Entry` and of `entry_of`.
 
 ghost use Rattle.std.specs.Prelude.{◌≡◌, ℕ, List, Option, take, ok_or, option_map};
+ghost use Rattle.rs_open.specs.Notes.{shutdown_text};
 ghost use Rattle.rs_trace.specs.Words.{AreOperands};
 ghost use Rattle.rs_trace.specs.Output.{fault_text};
-ghost use Rattle.rs_trace.specs.Trace.{word_of, octets_of, text_of, meaning_of, line_of};
+ghost use Rattle.rs_trace.specs.Trace.{word_of, octets_of, text_of, operator_text, meaning_of, line_of};
 ghost use Rattle.rs_trace.specs.Entries.{entry_as_meaning, line_as_meaning};
 
 use crate::number::read_number;
 use crate::words::{Operands, split_words};
+use rs_open::ShutdownText;
+use rs_session::Command;
 use thiserror::Error;
 
 /// The longest line, in octets without its end.
@@ -59,6 +62,8 @@ pub enum Word {
     Moment,
     Turn,
     Lost,
+    Shutdown,
+    Refresh,
     More,
     Rules,
     Table,
@@ -79,6 +84,8 @@ pub enum Entry {
     Turn,
     /// The client's connection is lost.
     Lost(usize),
+    /// The operator gives the client's session a command.
+    Commanded(usize, Command),
     /// The text of a configuration goes on by so many octets, which stand at the front of a piece.
     More(usize),
     /// The configuration is replaced by a text that ends with so many octets, which stand at the front of a
@@ -112,6 +119,10 @@ fn read_word(text: &[u8]) -> Option<Word>
         Some(Word::Open)
     } else if text == b"lost".as_slice() {
         Some(Word::Lost)
+    } else if text == b"shutdown".as_slice() {
+        Some(Word::Shutdown)
+    } else if text == b"refresh".as_slice() {
+        Some(Word::Refresh)
     } else if text == b"more".as_slice() {
         Some(Word::More)
     } else if text == b"rules".as_slice() {
@@ -147,6 +158,25 @@ fn read_text(digits: &[u8], piece: &mut [u8; 4096]) -> Option<usize>
     read_hex(digits, piece)
 }
 
+/// The operator's text that stands at the front of the piece.
+#[tactic(auto, using(crate::proofs::OperatorTexts::least))]
+fn text_at_front(piece: &[u8; 4096], size: usize) -> Option<ShutdownText>
+    ensures { result ≡ shutdown_text (take size piece.now) }
+{
+    ShutdownText::of(&piece[..size.min(LONGEST_PIECE)])
+}
+
+/// Reads an operator's text: hex of 1 to 128 octets of UTF-8.
+#[tactic(auto, using(crate::proofs::OperatorTexts::no_text_read, crate::proofs::OperatorTexts::text_read))]
+fn read_operator_text(digits: &[u8], piece: &mut [u8; 4096]) -> Option<ShutdownText>
+    ensures { result ≡ operator_text digits.now }
+{
+    match read_text(digits, piece) {
+        Some(size) => text_at_front(piece, size),
+        None => None,
+    }
+}
+
 fn place<P: Places>(names: &P, name: &[u8]) -> Result<usize, LineFault>
     ensures { result ≡ ok_or (P.place_of names.now name.now) LineFault.UnknownClient }
 {
@@ -179,6 +209,18 @@ fn entry_of<P: Places>(
         }
         (Word::Open, Operands::One(name)) => Ok(Entry::Open(place(names, name)?)),
         (Word::Lost, Operands::One(name)) => Ok(Entry::Lost(place(names, name)?)),
+        (Word::Shutdown, Operands::One(name)) => {
+            let client = place(names, name)?;
+            Ok(Entry::Commanded(client, Command::Stop(ShutdownText::NONE)))
+        }
+        (Word::Shutdown, Operands::Two(name, digits)) => {
+            let client = place(names, name)?;
+            let text = read_operator_text(digits, piece).ok_or(LineFault::BadHex)?;
+            Ok(Entry::Commanded(client, Command::Stop(text)))
+        }
+        (Word::Refresh, Operands::One(name)) => {
+            Ok(Entry::Commanded(place(names, name)?, Command::Refresh))
+        }
         (Word::More, Operands::One(digits)) => {
             Ok(Entry::More(read_text(digits, piece).ok_or(LineFault::BadHex)?))
         }

@@ -81,6 +81,7 @@ impl TraceLines {
             Some(Entry::Moment(second)) => Ok(Some(Event::Moment(second))),
             Some(Entry::Turn) => Ok(Some(Event::Turn)),
             Some(Entry::Lost(c)) => Ok(Some(Event::Lost(c))),
+            Some(Entry::Commanded(c, command)) => Ok(Some(Event::Commanded(c, command))),
             Some(Entry::Table(c)) => Err(Stop::Table(c)),
             Some(Entry::More(size)) => {
                 self.go_on(number, &octets[..size.min(4096)])?;
