@@ -127,7 +127,7 @@ def profile(server, options, room, phases):
         words = ["perf", "report", "--stdio", "--no-children", "-i", data, "--time", times, "--percent-limit", "2", "-F", "overhead,symbol"]
         told = subprocess.run(words, capture_output=True, text=True, timeout=120).stdout
         lines = [it.strip(" -") for it in told.splitlines() if it.strip() and not it.startswith("#")]
-        seen[phase] = "\n".join(lines[:20]) or "perf told nothing."
+        seen[phase] = "\n".join(lines[:5]) or "perf told nothing."
     return seen
 
 

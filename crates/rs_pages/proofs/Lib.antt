@@ -1,2 +1,4 @@
+pub mod Firsts
 mod Items
+mod Noted
 mod Pieces

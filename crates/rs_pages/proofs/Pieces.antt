@@ -1,9 +1,9 @@
 -- What comes of a page, when an item was put into a piece.
-use Rattle.std.proofs.Common.{◌≡◌, ◌⊎◌, inl, inr, ℕ, ◌+◌, ◌<◌, List, [], ◌∷◌, ◌++◌, length, Option, Some, None, sym, subst, ap, ◌∙◌, append_assoc, append-nil, length-append}
+use Rattle.std.proofs.Common.{◌≡◌, ℕ, ◌+◌, ◌<◌, List, [], ◌∷◌, ◌++◌, length, Option, Some, None, sym, subst, ap, ◌∙◌, append_assoc, append-nil, length-append, arith}
 use Rattle.rs_window.specs.declared.page.Page.{Page}
 use Rattle.rs_window.specs.declared.page.Next.{Next}
 use Rattle.rs_window.specs.declared.page.Next.TheVariants.{More, Last, Cut}
-use Rattle.rs_pages.specs.Listings.{Writes, Full, CutOff, Ends, GoesOn}
+use Rattle.rs_pages.specs.Listings.{Writes, Full, CutOff, Ends, GoesOn, stopped}
 
 -- what comes of the page that is next comes of the whole, behind what was put
 abbrev pub Completes : (Page → List ℕ → Option Page → Type 0) → ℕ → Page → ℕ → List ℕ → Page → Type 0
@@ -17,19 +17,15 @@ begins item most page (o ∷ os) empty octets next w = absurd (cc)
 pub stops : (item : Page → List ℕ → Option Page → Type 0) (most : ℕ) (page at : Page) (n : ℕ) (piece : List ℕ) (next : Next) → Completes item most page n piece at → Writes item most n (length piece) at [] next → Writes item most 0 0 page piece next
 stops item most page at n piece next so w = subst (λ o. Writes item most 0 0 page o next) (append-nil piece) (so [] next w)
 
--- memory is refused before anything is put
-pub refused : (item : Page → List ℕ → Option Page → Type 0) (most : ℕ) (page : Page) (piece : List ℕ) → piece ≡ [] → Writes item most 0 0 page piece Cut
-refused item most page piece empty = subst (λ o. Writes item most 0 0 page o Cut) (sym empty) (CutOff 0 0 page)
-
 -- an item has no room
-pub fills : (item : Page → List ℕ → Option Page → Type 0) (most : ℕ) (page at : Page) (n : ℕ) (piece new octets text : List ℕ) (behind : Option Page) (next : Next) → Completes item most page n piece at → item at text behind → octets ≡ text → new ≡ piece → 32768 < length piece + length octets → (next ≡ Cut) ⊎ (next ≡ More at) → Writes item most 0 0 page new next
-fills item most page at n piece new octets text behind next so is read same room (inl cut) =
-    subst (λ x. Writes item most 0 0 page new x) (sym cut)
-    (subst (λ o. Writes item most 0 0 page o Cut) (sym same) (stops item most page at n piece Cut so (CutOff n (length piece) at)))
-fills item most page at n piece new octets text behind next so is read same room (inr more) =
-    subst (λ x. Writes item most 0 0 page new x) (sym more)
-    (subst (λ o. Writes item most 0 0 page o (More at)) (sym same)
-    (stops item most page at n piece (More at) so (Full n (length piece) at text behind is (subst (λ o. 32768 < length piece + length o) read room))))
+pub fills : (item : Page → List ℕ → Option Page → Type 0) (most : ℕ) (page at : Page) (n : ℕ) (piece new octets text : List ℕ) (behind : Option Page) → Completes item most page n piece at → item at text behind → octets ≡ text → new ≡ piece → 32768 < length piece + length octets → Writes item most 0 0 page new (stopped new at)
+fills item most page at n piece new octets text behind so is read same room =
+    subst (λ o. Writes item most 0 0 page o (stopped o at)) (sym same)
+    (none_fits piece so (subst (λ o. 32768 < length piece + length o) read room))
+  where
+    none_fits : (p : List ℕ) → Completes item most page n p at → 32768 < length p + length text → Writes item most 0 0 page p (stopped p at)
+    none_fits [] so more = stops item most page at n [] Cut so (CutOff n 0 at text behind is (omega arith))
+    none_fits (o ∷ os) so more = stops item most page at n (o ∷ os) (More at) so (Full n (length (o ∷ os)) at text behind is (omega arith) more)
 
 -- the last item is put
 pub ends : (item : Page → List ℕ → Option Page → Type 0) (most : ℕ) (page at : Page) (n : ℕ) (piece new octets text : List ℕ) (behind : Option Page) → Completes item most page n piece at → item at text behind → behind ≡ None → octets ≡ text → new ≡ piece ++ octets → Writes item most 0 0 page new Last

@@ -1,7 +1,10 @@
 -- Which page it is, and how far: what `which` of a page says.
 use Rattle.std.specs.Prelude.{ℕ, ◌+◌, ◌*◌, ◌/◌, ◌%◌, ◌==◌, List, [], Option, Some, None, option_map, if◌then◌else◌, codes}
+use Rattle.rs_window.specs.declared.page.Page.{Page}
 use Rattle.rs_pages.specs.declared.views.View.{View}
 use Rattle.rs_pages.specs.declared.views.View.TheVariants as views
+use Rattle.rs_pages.specs.declared.views.Listing.{Listing}
+use Rattle.rs_pages.specs.declared.views.Listing.TheVariants as listings
 use Rattle.rs_pages.specs.declared.views.Stage.{Stage}
 use Rattle.rs_pages.specs.declared.views.Stage.TheVariants as stages
 use Rattle.rs_pages.specs.declared.tables.Rib.{Rib}
@@ -13,12 +16,15 @@ view_number views.Member = 1
 view_number views.Status = 2
 view_number views.Protocols = 3
 view_number views.Routes = 4
-view_number views.Count = 5
-view_number views.AtPrefix = 6
-view_number views.Received = 7
-view_number views.Sent = 8
-view_number views.Why = 9
-view_number views.Metrics = 10
+view_number views.Filtered = 5
+view_number views.NoExport = 6
+view_number views.Count = 7
+view_number views.AtPrefix = 8
+view_number views.Received = 9
+view_number views.Sent = 10
+view_number views.Why = 11
+view_number views.Metrics = 12
+view_number views.Protocol = 13
 
 abbrev pub stage_number : Stage → ℕ
 stage_number stages.Head = 0
@@ -37,13 +43,16 @@ view_at number =
     else (if number == 2 then Some views.Status
     else (if number == 3 then Some views.Protocols
     else (if number == 4 then Some views.Routes
-    else (if number == 5 then Some views.Count
-    else (if number == 6 then Some views.AtPrefix
-    else (if number == 7 then Some views.Received
-    else (if number == 8 then Some views.Sent
-    else (if number == 9 then Some views.Why
-    else (if number == 10 then Some views.Metrics
-    else None))))))))))
+    else (if number == 5 then Some views.Filtered
+    else (if number == 6 then Some views.NoExport
+    else (if number == 7 then Some views.Count
+    else (if number == 8 then Some views.AtPrefix
+    else (if number == 9 then Some views.Received
+    else (if number == 10 then Some views.Sent
+    else (if number == 11 then Some views.Why
+    else (if number == 12 then Some views.Metrics
+    else (if number == 13 then Some views.Protocol
+    else None)))))))))))))
 
 abbrev pub stage_at : ℕ → Stage
 stage_at number = if number == 0 then stages.Head else (if number == 1 then stages.First else stages.Rest)
@@ -51,19 +60,60 @@ stage_at number = if number == 0 then stages.Head else (if number == 1 then stag
 abbrev pub read_which : ℕ → Option (View × Stage)
 read_which which = option_map (λ view. (view, stage_at (which % 3))) (view_at (which / 3))
 
--- the table that a page lists
-abbrev pub rib_of : View → Option Rib
-rib_of views.Routes = Some ribs.Received
-rib_of views.Received = Some ribs.Received
-rib_of views.Sent = Some ribs.Sent
-rib_of views.Home = None
-rib_of views.Member = None
-rib_of views.Status = None
-rib_of views.Protocols = None
-rib_of views.Count = None
-rib_of views.AtPrefix = None
-rib_of views.Why = None
-rib_of views.Metrics = None
+-- the routes that a page lists
+abbrev pub listing_of : View → Option Listing
+listing_of views.Routes = Some listings.Received
+listing_of views.Received = Some listings.Received
+listing_of views.Sent = Some listings.Sent
+listing_of views.Filtered = Some listings.Filtered
+listing_of views.NoExport = Some listings.NoExport
+listing_of views.Home = None
+listing_of views.Member = None
+listing_of views.Status = None
+listing_of views.Protocols = None
+listing_of views.Protocol = None
+listing_of views.Count = None
+listing_of views.AtPrefix = None
+listing_of views.Why = None
+listing_of views.Metrics = None
+
+-- the table that is gone through for them
+abbrev pub table_of : Listing → Rib
+table_of listings.Received = ribs.Received
+table_of listings.Sent = ribs.Sent
+table_of listings.Filtered = ribs.Received
+table_of listings.NoExport = ribs.Received
+
+-- the member whose table it is: the page's own, or each in turn
+abbrev pub owner_of : Listing → Page → ℕ
+owner_of listings.Received page = page.place
+owner_of listings.Sent page = page.place
+owner_of listings.Filtered page = page.place
+owner_of listings.NoExport page = page.member
+
+-- as many items a piece has at most
+abbrev pub most_of : View → ℕ
+most_of views.Home = 32
+most_of views.Member = 32
+most_of views.Status = 32
+most_of views.Protocols = 32
+most_of views.Protocol = 32
+most_of views.Routes = 32
+most_of views.Filtered = 32
+most_of views.NoExport = 32
+most_of views.Count = 32
+most_of views.AtPrefix = 32
+most_of views.Received = 32
+most_of views.Sent = 32
+most_of views.Why = 16
+most_of views.Metrics = 32
+
+abbrev pub most_at : Option (View × Stage) → ℕ
+most_at None = 1
+most_at (Some (view, stage)) = most_of view
+
+abbrev pub most_items : ℕ → ℕ
+most_items which = most_at (read_which which)
 
 -- what stands before an item
 abbrev pub comma_text : Stage → List ℕ

@@ -1,6 +1,7 @@
 //! Prefixes as numbers, by which pages go on, and as texts, by which they are asked for.
 
 ghost use Rattle.std.specs.Prelude.{◌≡◌, ◌≤◌, ◌<◌, IfSome};
+ghost use Rattle.rs_octets.specs.Prefixes.{IsIpv4Prefix};
 ghost use Rattle.rs_pages.specs.Keys.{key_of};
 
 use rs_octets::Prefix;
@@ -9,13 +10,15 @@ use rs_octets::Prefix;
 pub fn key(prefix: &Prefix) -> u64
     ensures value { result ≡ key_of prefix.now }
     ensures small { result < 274877906944 }
+    ensures prefix { IsIpv4Prefix prefix.now }
 {
     u64::from(prefix.bits()) * 64 + u64::from(prefix.len())
 }
 
 /// A prefix whose number is at most this one: the prefix of that number, where there is one.
 pub fn prefix_at(at: u64) -> Prefix
-    ensures { key_of result ≤ at }
+    ensures number { key_of result ≤ at }
+    ensures prefix { IsIpv4Prefix result }
 {
     let bits = (at / 64).min(u64::from(u32::MAX)) as u32;
     let len = (at % 64).min(32) as u8;

@@ -112,6 +112,9 @@ fn put_state<T: Tables>(
         0
     };
     put_number(text, uptime)?;
+    if moments.is_disabled(client) {
+        text.extend_from_slice(b",\"disabled\":true")?;
+    }
     text.extend_from_slice(b",\"last_error\":\"")?;
     put_ending(text, alloc, tables.ended(client))?;
     text.extend_from_slice(b"\",\"routes\":{\"imported\":")?;
@@ -139,7 +142,9 @@ pub(crate) fn put_origin<T: Tables>(
     put_address(text, config.peer(client))?;
     text.extend_from_slice(b"\",\"age\":\"")?;
     put_time(text, alloc, moments.time(moments.change(client)))?;
-    text.extend_from_slice(b"\",\"metric\":100,\"type\":[\"BGP\",\"unicast\",\"univ\"],")
+    text.extend_from_slice(
+        b"\",\"metric\":100,\"primary\":false,\"type\":[\"BGP\",\"unicast\",\"univ\"],",
+    )
 }
 
 /// Puts a member's row in the table of members.

@@ -15,14 +15,16 @@ pub struct Moments<'a> {
     pub changes: &'a Changes,
 }
 
-/// When the session of a member was last seen to come up or to end, and which.
+/// When the session of a member was last seen to come up or to end, and which; whether an operator keeps it
+/// down.
 #[derive(Clone, Copy, Debug)]
 struct Change {
     is_up: bool,
     second: u64,
+    is_disabled: bool,
 }
 
-/// When the session of each member was last seen to come up or to end.
+/// When the session of each member was last seen to come up or to end, and who is kept down.
 #[derive(Debug, Drop)]
 pub struct Changes {
     all: Vec<Change>,
@@ -34,6 +36,7 @@ impl Changes {
         let nothing = Change {
             is_up: false,
             second: 0,
+            is_disabled: false,
         };
         Ok(Changes {
             all: vec![in alloc; nothing; count]?,
@@ -45,8 +48,24 @@ impl Changes {
         for (client, change) in self.all.iter_mut().enumerate() {
             let is_up = tables.is_established(client);
             if is_up != change.is_up {
-                *change = Change { is_up, second };
+                change.is_up = is_up;
+                change.second = second;
             }
+        }
+    }
+
+    /// An operator keeps a member down, or no longer.
+    pub fn keep_down(&mut self, client: usize, is_disabled: bool) {
+        if let Some(change) = self.all.get_mut(client) {
+            change.is_disabled = is_disabled;
+        }
+    }
+
+    /// An operator keeps a member down.
+    fn is_disabled(&self, client: usize) -> bool {
+        match self.all.get(client) {
+            Some(change) => change.is_disabled,
+            None => false,
         }
     }
 
@@ -68,6 +87,11 @@ impl Moments<'_> {
     /// In which second a member's session was seen to come up or to end.
     pub(crate) fn change(&self, client: usize) -> u64 {
         self.changes.second(client)
+    }
+
+    /// An operator keeps a member down.
+    pub(crate) fn is_disabled(&self, client: usize) -> bool {
+        self.changes.is_disabled(client)
     }
 
     /// For how many seconds a member's session is as it is.

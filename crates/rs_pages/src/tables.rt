@@ -4,6 +4,7 @@ ghost use Rattle.std.specs.Prelude.{ℕ, List, Option, option_map};
 ghost use Rattle.std.specs.Arc.{arc_value};
 ghost use Rattle.rs_octets.specs.Prefixes.{Prefix};
 ghost use Rattle.rs_attrs.specs.Meaning.{Attribute};
+ghost use Rattle.rs_policy.specs.Configuration.{Configuration};
 ghost use Rattle.rs_pages.specs.declared.tables.Rib.{Rib};
 
 use rs_attrs::Attrs;
@@ -44,11 +45,15 @@ pub struct Faults {
 
 /// The tables of a route server, as they stand, and what it knows of its members, by their places in its
 /// configuration. `first tables rib member at route` says that this is the first route of a table from a
-/// number on, or that there is none; where it always holds, nothing is known.
+/// number on, or that there is none, `configured tables config` that this is the configuration; where they
+/// always hold, nothing is known.
 pub trait Tables {
     ghost first: { Self → Rib → ℕ → ℕ → Option (Prefix × List Attribute) → Type 0 };
 
-    fn config(&self) -> &Config;
+    ghost configured: { Self → Configuration → Type 0 };
+
+    fn config(&self) -> &Config
+        ensures { configured self.now result.now };
 
     /// A member's session is Established.
     fn is_established(&self, member: usize) -> bool;

@@ -50,6 +50,12 @@ fn routes_page<T: Tables>(tables: &T, rest: &[u8], query: &[u8]) -> Option<Page>
     if let Some(name) = rest.strip_prefix(b"protocol/".as_slice()) {
         return Some(View::Routes.page(member(tables, name)?, 0, u32::MAX));
     }
+    if let Some(name) = rest.strip_prefix(b"filtered/".as_slice()) {
+        return Some(View::Filtered.page(member(tables, name)?, 0, u32::MAX));
+    }
+    if let Some(name) = rest.strip_prefix(b"noexport/".as_slice()) {
+        return Some(View::NoExport.page(member(tables, name)?, 0, u32::MAX));
+    }
     if let Some(name) = rest.strip_prefix(b"count/protocol/".as_slice()) {
         return Some(View::Count.page(member(tables, name)?, 0, 0));
     }
@@ -75,6 +81,9 @@ pub(crate) fn find_page<T: Tables>(tables: &T, target: &[u8]) -> Option<Page> {
     }
     if let Some(rest) = path.strip_prefix(b"/routes/".as_slice()) {
         return routes_page(tables, rest, query);
+    }
+    if let Some(name) = path.strip_prefix(b"/protocols/bgp/".as_slice()) {
+        return Some(View::Protocol.page(member(tables, name)?, 0, 0));
     }
     if path == b"/why".as_slice() {
         return why_page(tables, query);

@@ -21,6 +21,7 @@ name = \"alpha\"
 as = 64496
 listen = \"127.0.0.1:17901\"
 peer = \"192.0.2.11\"
+import = [{ prefix = \"198.51.102.0/24\", action = \"drop\" }]
 [[client]]
 name = \"beta\"
 as = 64497
@@ -56,6 +57,8 @@ impl Memory {
 
 impl Tables for Memory {
     ghost first = { λ tables rib member at route. Unit {0} };
+
+    ghost configured = { λ tables config. Unit {0} };
 
     fn config(&self) -> &Config {
         &self.config
@@ -141,7 +144,7 @@ fn page(rt: &impl Abort, alloc: Global, tables: &Memory, target: &str) -> (Strin
             break;
         };
         let mut piece = Piece::new(alloc).expect(rt, "a piece");
-        let behind = pages.write(page, &mut piece);
+        let behind = pages.write(page, &mut piece).expect(rt, "memory");
         assert!(rt; !matches!(behind, Next::Cut));
         text.extend_from_slice(piece.octets()).expect(rt, "octets");
         pieces = pieces.saturating_add(1);
@@ -186,7 +189,7 @@ const SAID: [(&str, &str); 26] = [
     ),
     (
         "/routes/protocol/alpha",
-        "\"routes\":[{\"network\":\"198.51.100.0/24\",\"gateway\":\"192.0.2.11\",\"from_protocol\":\"alpha\",\"learnt_from\":\"192.0.2.11\",\"age\":\"2001-09-09T01:46:45Z\",\"metric\":100,\"type\":[\"BGP\",\"unicast\",\"univ\"],\"bgp\":{\"origin\":\"IGP\",\"as_path\":[\"64496\"],\"next_hop\":\"192.0.2.11\",\"med\":\"7\",\"local_pref\":\"100\",\"communities\":[[64500,1]],\"large_communities\":[],\"ext_communities\":[]}}\n,{\"network\":\"198.51.101.0/24\",",
+        "\"routes\":[{\"network\":\"198.51.100.0/24\",\"gateway\":\"192.0.2.11\",\"from_protocol\":\"alpha\",\"learnt_from\":\"192.0.2.11\",\"age\":\"2001-09-09T01:46:45Z\",\"metric\":100,\"primary\":false,\"type\":[\"BGP\",\"unicast\",\"univ\"],\"bgp\":{\"origin\":\"IGP\",\"as_path\":[\"64496\"],\"next_hop\":\"192.0.2.11\",\"med\":\"7\",\"local_pref\":\"100\",\"communities\":[[64500,1]],\"large_communities\":[],\"ext_communities\":[]}}\n,{\"network\":\"198.51.101.0/24\",",
     ),
     ("/routes/protocol/beta", "\"routes\":[]}\n"),
     ("/routes/count/protocol/alpha", "\"routes\":2}\n"),
@@ -239,6 +242,15 @@ const SAID: [(&str, &str); 26] = [
     ),
 ];
 
+/// Targets of a server to which alpha has announced 198.51.102.0/24 too, which its import list drops; and the
+/// one route that the page lists, if any.
+const KEPT: [(&str, Option<&str>); 4] = [
+    ("/routes/filtered/alpha", Some("198.51.102.0/24")),
+    ("/routes/filtered/beta", None),
+    ("/routes/noexport/alpha", None),
+    ("/routes/noexport/beta", Some("198.51.100.0/24")),
+];
+
 /// Targets that name no page.
 const NONE: [&str; 14] = [
     "",
@@ -263,6 +275,25 @@ fn each_page_says(rt: HostRuntime) {
     for (target, said) in &SAID {
         let (text, _) = page(&rt, rt.alloc(), &tables, *target);
         assert!(rt; text.contains(*said), "{target} is {text}");
+    }
+}
+
+#[test]
+fn what_rules_keep_is_listed(rt: HostRuntime) {
+    let tables = server(&rt, rt.alloc(), 3);
+    for (target, kept) in &KEPT {
+        let (text, _) = page(&rt, rt.alloc(), &tables, *target);
+        assert!(rt; text.starts_with("{\"api\":"), "{target} is {text}");
+        let said = match kept {
+            None => format!(in rt.alloc(); "\"routes\":[]}}\n").expect(&rt, "a text"),
+            Some(network) => format!(in rt.alloc();
+                "\"routes\":[{{\"network\":\"{network}\",\"gateway\":\"192.0.2.11\",\"from_protocol\":\"alpha\","
+            ).expect(&rt, "a text"),
+        };
+        assert!(rt; text.contains(said.as_str()), "{target} is {text}");
+        let count = if kept.is_some() { 1 } else { 0 };
+        assert_eq!(rt; count_of(text.as_str(), "\"network\""), count, "{target}");
+        assert!(rt; text.ends_with("]}\n"), "{target} is {text}");
     }
 }
 

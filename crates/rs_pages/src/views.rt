@@ -1,7 +1,7 @@
 //! Which pages there are, and how far one is: what `Page.which` says.
 
 ghost use Rattle.std.specs.Prelude.{◌≡◌};
-ghost use Rattle.rs_pages.specs.Views.{view_number, stage_number, which_of, rib_of, view_at, stage_at, read_which};
+ghost use Rattle.rs_pages.specs.Views.{view_number, stage_number, which_of, listing_of, most_of, most_items, table_of, owner_of, view_at, stage_at, read_which};
 
 use crate::tables::Rib;
 use rs_window::page::{Kind, Page};
@@ -17,20 +17,61 @@ pub(crate) enum View {
     Status,
     /// Birdwatcher's `/protocols/bgp`.
     Protocols,
+    /// One member of it, `/protocols/bgp/NAME`.
+    Protocol,
     /// Birdwatcher's `/routes/protocol/NAME`: the Adj-RIB-In of a member.
     Routes,
+    /// Birdwatcher's `/routes/filtered/NAME`: what its import list drops of it.
+    Filtered,
+    /// Birdwatcher's `/routes/noexport/NAME`: what its export list keeps from it.
+    NoExport,
     /// Birdwatcher's `/routes/count/protocol/NAME`.
     Count,
-    /// Birdwatcher's `/routes/prefix`: who holds a prefix. `Page.place` counts them.
+    /// Birdwatcher's `/routes/prefix`: who holds a prefix.
     AtPrefix,
     /// The Adj-RIB-In of a member.
     Received,
     /// The Loc-RIB of a member.
     Sent,
-    /// Why a member is sent one route for a prefix, and not another. `Page.left` counts the candidates.
+    /// Why a member is sent one route for a prefix, and not another.
     Why,
-    /// Prometheus. `Page.at` counts the metrics, `Page.place` the members.
+    /// Prometheus. `Page.at` counts the metrics.
     Metrics,
+}
+
+/// Which routes a page lists.
+#[derive(Clone, Copy, Debug, PartialEq, Eq)]
+pub(crate) enum Listing {
+    /// What a member announced.
+    Received,
+    /// What is due to it.
+    Sent,
+    /// What it announced and its import list drops.
+    Filtered,
+    /// What the others announced, their import lists pass and its export list drops.
+    NoExport,
+}
+
+impl Listing {
+    /// The table that is gone through.
+    pub(crate) fn table(self) -> Rib
+        ensures { result ≡ table_of self }
+    {
+        match self {
+            Listing::Received | Listing::Filtered | Listing::NoExport => Rib::Received,
+            Listing::Sent => Rib::Sent,
+        }
+    }
+
+    /// The member whose table it is.
+    pub(crate) fn owner(self, page: Page) -> usize
+        ensures { result ≡ owner_of self page }
+    {
+        match self {
+            Listing::Received | Listing::Sent | Listing::Filtered => page.place,
+            Listing::NoExport => page.member,
+        }
+    }
 }
 
 /// How far a page is.
@@ -76,12 +117,15 @@ impl View {
             View::Status => 2,
             View::Protocols => 3,
             View::Routes => 4,
-            View::Count => 5,
-            View::AtPrefix => 6,
-            View::Received => 7,
-            View::Sent => 8,
-            View::Why => 9,
-            View::Metrics => 10,
+            View::Filtered => 5,
+            View::NoExport => 6,
+            View::Count => 7,
+            View::AtPrefix => 8,
+            View::Received => 9,
+            View::Sent => 10,
+            View::Why => 11,
+            View::Metrics => 12,
+            View::Protocol => 13,
         }
     }
 
@@ -94,31 +138,60 @@ impl View {
             2 => Some(View::Status),
             3 => Some(View::Protocols),
             4 => Some(View::Routes),
-            5 => Some(View::Count),
-            6 => Some(View::AtPrefix),
-            7 => Some(View::Received),
-            8 => Some(View::Sent),
-            9 => Some(View::Why),
-            10 => Some(View::Metrics),
+            5 => Some(View::Filtered),
+            6 => Some(View::NoExport),
+            7 => Some(View::Count),
+            8 => Some(View::AtPrefix),
+            9 => Some(View::Received),
+            10 => Some(View::Sent),
+            11 => Some(View::Why),
+            12 => Some(View::Metrics),
+            13 => Some(View::Protocol),
             _ => None,
         }
     }
 
-    /// The table that it lists.
-    pub(crate) fn rib(self) -> Option<Rib>
-        ensures { result ≡ rib_of self }
+    /// The routes that it lists.
+    pub(crate) fn listing(self) -> Option<Listing>
+        ensures { result ≡ listing_of self }
     {
         match self {
-            View::Routes | View::Received => Some(Rib::Received),
-            View::Sent => Some(Rib::Sent),
+            View::Routes | View::Received => Some(Listing::Received),
+            View::Sent => Some(Listing::Sent),
+            View::Filtered => Some(Listing::Filtered),
+            View::NoExport => Some(Listing::NoExport),
             View::Home
             | View::Member
             | View::Status
             | View::Protocols
+            | View::Protocol
             | View::Count
             | View::AtPrefix
             | View::Why
             | View::Metrics => None,
+        }
+    }
+
+    /// How many of its items a piece has at most, so that members don't wait for it: fewer where each is compared
+    /// with all others.
+    fn most(self) -> usize
+        ensures { result ≡ most_of self }
+    {
+        match self {
+            View::Why => 16,
+            View::Filtered
+            | View::NoExport
+            | View::Home
+            | View::Member
+            | View::Status
+            | View::Protocols
+            | View::Protocol
+            | View::Routes
+            | View::Count
+            | View::AtPrefix
+            | View::Received
+            | View::Sent
+            | View::Metrics => 32,
         }
     }
 
@@ -128,7 +201,10 @@ impl View {
             View::Metrics => Kind::Metrics,
             View::Status
             | View::Protocols
+            | View::Protocol
             | View::Routes
+            | View::Filtered
+            | View::NoExport
             | View::Count
             | View::AtPrefix
             | View::Received
@@ -157,9 +233,20 @@ impl View {
         Page {
             which: self.at(Stage::Head),
             kind: self.kind(),
-            place: u32::try_from(place).unwrap_or(u32::MAX),
+            place,
+            member: 0,
             at,
             left,
         }
+    }
+}
+
+/// How many items a piece of the page with this number has at most.
+pub(crate) fn most_items(which: u32) -> usize
+    ensures { result ≡ most_items which }
+{
+    match View::read(which) {
+        None => 1,
+        Some((view, _)) => view.most(),
     }
 }

@@ -6,11 +6,11 @@
 //!
 //! - `reason` is what a list did with a route, and why; it writes itself as an operator reads it.
 //! - `why` asks both lists.
+//!
+//! The tests stand in `rs_tests`, in `src/reasons.rt`.
 #![tactic(auto)]
 
 mod reason;
-#[cfg(test)]
-mod tests;
 mod why;
 
 pub use reason::{Cause, Reason};

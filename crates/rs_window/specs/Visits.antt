@@ -68,16 +68,27 @@ pub record Takes (count : ℕ) (old new : Visit) : Type 0 where
   pub ended : has_ended new ≡ has_ended old
 
 -- one piece of the page is put, as it is sent; a page that is cut off is the last answer
-pub record GoesOn (writes : List ℕ → Next → Type 0) (old new : Visit) : Type 0 where
-  pub piece : List ℕ
-  pub next : Next
-  pub wrote : writes piece next
+pub record PutsPiece (piece : List ℕ) (next : Next) (old new : Visit) : Type 0 where
   pub framed : IsFramed old.is_chunked piece (is_end next) (unsent new)
   pub page_is : page_of new ≡ page_behind next
   pub said_is : said new ≡ said old
   pub chunked : new.is_chunked ≡ old.is_chunked
   pub last : is_last new ≡ (is_last old || is_cut next)
   pub ended : has_ended new ≡ has_ended old
+
+-- nothing is put, and it was the last answer
+pub record CutsOff (old new : Visit) : Type 0 where
+  pub unsent_is : unsent new ≡ []
+  pub page_is : page_of new ≡ None
+  pub said_is : said new ≡ said old
+  pub chunked : new.is_chunked ≡ old.is_chunked
+  pub last : is_last new ≡ true
+  pub ended : has_ended new ≡ has_ended old
+
+-- one piece of the page is put, unless memory is refused
+pub data GoesOn (writes : List ℕ → Next → Type 0) (old new : Visit) : Type 0 where
+  Wrote : (piece : List ℕ) (next : Next) → writes piece next → PutsPiece piece next old new → GoesOn writes old new
+  NoMemory : CutsOff old new → GoesOn writes old new
 
 -- what is put for a target that was found, or not
 abbrev pub status_for : Option Page → List ℕ

@@ -3,15 +3,14 @@
 //!
 //! `request` reads a request's head, `answers` are the heads and texts of what is answered, `chunks` frames
 //! the pieces of a `page`, an `outbox` holds what a visitor has not taken yet, and a `visit` is the course of
-//! one connection. What the pages say stands above this crate, behind the trait `Pages`.
+//! one connection. What the pages say stands above this crate, behind the trait `Pages`. The tests stand in
+//! `rs_tests`, in `src/window.rt`.
 #![tactic(auto)]
 
 mod answers;
 mod chunks;
 pub mod laws;
-mod outbox;
+pub mod outbox;
 pub mod page;
 mod request;
-#[cfg(test)]
-mod tests;
 pub mod visit;

@@ -1,6 +1,6 @@
 //! Pages, which are written a piece at a time.
 
-ghost use Rattle.std.specs.Prelude.{◌≡◌, ◌+◌, ◌≤◌, ◌<◌, ◌++◌, ℕ, List, [], length, Option, IfOk, IsTrue, IsFalse};
+ghost use Rattle.std.specs.Prelude.{◌≡◌, ◌==◌, ◌+◌, ◌≤◌, ◌<◌, ◌++◌, filter, not, ℕ, List, [], length, Option, IfOk, IsTrue, IsFalse};
 ghost use Rattle.rs_window.specs.declared.page.Next.{Next};
 ghost use Rattle.rs_window.specs.declared.page.Page.{Page};
 ghost use Rattle.rs_window.specs.Pages.{page_behind, is_end, is_cut};
@@ -17,7 +17,9 @@ pub struct Page {
     pub which: u32,
     pub kind: Kind,
     /// Whose page it is, as a member's place; 0 where it is nobody's.
-    pub place: u32,
+    pub place: usize,
+    /// The member that comes next, where it goes over members.
+    pub member: usize,
     /// Where its next piece begins: a key to go on from, and no index, since what is shown may change
     /// between two pieces.
     pub at: u64,
@@ -41,13 +43,13 @@ pub enum Next {
     More(Page),
     /// Nothing: it was the last.
     Last,
-    /// The page can't go on, as where memory was refused: what was written is not all of it.
+    /// The page can't go on: what was written is not all of it.
     Cut,
 }
 
 impl Next {
     /// The page with what comes behind.
-    pub(crate) fn page(self) -> Option<Page>
+    pub fn page(self) -> Option<Page>
         ensures { result ≡ page_behind self }
     {
         match self {
@@ -57,14 +59,14 @@ impl Next {
     }
 
     /// The page is whole.
-    pub(crate) fn is_end(self) -> bool
+    pub fn is_end(self) -> bool
         ensures { result ≡ is_end self }
     {
         matches!(self, Next::Last)
     }
 
     /// The page is cut off.
-    pub(crate) fn is_cut(self) -> bool
+    pub fn is_cut(self) -> bool
         ensures { result ≡ is_cut self }
     {
         matches!(self, Next::Cut)
@@ -102,6 +104,13 @@ impl Piece {
         ensures { self.new ≡ [] }
     {
         self.octets.clear();
+    }
+
+    /// Leaves out the ends of its lines.
+    pub fn join_lines(&mut self)
+        ensures { self.new ≡ filter (λ octet. not (octet == 10)) self.old }
+    {
+        self.octets.retain(|octet| *octet != b'\n');
     }
 
     /// What stands in it.
@@ -146,7 +155,7 @@ pub trait Pages {
         ensures { finds self.now target.now result };
 
     /// Puts the next piece of a page into `piece`, and answers what comes behind.
-    fn write(&self, page: Page, piece: &mut Piece) -> Next
+    fn write(&self, page: Page, piece: &mut Piece) -> Result<Next, AllocError>
         requires { piece.old ≡ [] }
-        ensures { writes self.now page piece.new result };
+        ensures { IfOk result (λ next. writes self.now page piece.new next) };
 }

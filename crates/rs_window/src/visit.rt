@@ -141,8 +141,7 @@ impl Visit {
         }
         match self.page {
             Some(page) => {
-                self.since = now;
-                self.go_on(pages, page, piece);
+                self.go_on(pages, page, piece, now);
                 true
             }
             None if self.is_last => false,
@@ -150,13 +149,18 @@ impl Visit {
         }
     }
 
-    /// Writes the next piece of the page.
-    fn go_on<P: Pages>(&mut self, pages: &P, page: Page, piece: &mut Piece)
+    /// Writes the next piece of the page; where memory is refused, the page is cut off.
+    fn go_on<P: Pages>(&mut self, pages: &P, page: Page, piece: &mut Piece, now: u64)
         requires { unsent self.old ≡ [] }
         ensures { GoesOn (P.writes pages.now page) self.old self.new }
     {
+        self.since = now;
         piece.clear();
-        let next = pages.write(page, piece);
+        let Ok(next) = pages.write(page, piece) else {
+            self.is_last = true;
+            self.page = None;
+            return;
+        };
         put_piece(
             &mut self.outbox,
             piece.octets(),

@@ -1,0 +1,102 @@
+//! The heads of pages in JSON: birdwatcher's, and our own.
+
+use crate::keys::prefix_at;
+use crate::moments::Moments;
+use crate::tables::{Rib, Tables};
+use crate::texts::{put_address, put_json, put_number, put_prefix, put_time};
+use rs_window::page::Page;
+use std::alloc::{AllocError, Global};
+
+/// What `/status` calls the program.
+const VERSION: &[u8] = b"Tivrazel 0.1.0";
+
+/// Puts what birdwatcher's answers begin with.
+pub(crate) fn put_api(
+    text: &mut Vec<u8>,
+    alloc: Global,
+    moments: &Moments<'_>,
+) -> Result<(), AllocError> {
+    let now = moments.time(moments.now);
+    text.extend_from_slice(b"{\"api\":{\"Version\":\"")?;
+    text.extend_from_slice(VERSION)?;
+    text.extend_from_slice(
+        b"\",\"result_from_cache\":false,\"cache_status\":{\"cached_at\":{\"date\":\"",
+    )?;
+    put_time(text, alloc, now)?;
+    text.extend_from_slice(b"\",\"timezone_type\":\"UTC\",\"timezone\":\"UTC\"}}},\"ttl\":\"")?;
+    put_time(text, alloc, now)?;
+    text.extend_from_slice(b"\",")
+}
+
+/// Puts birdwatcher's `/status`.
+pub(crate) fn put_status<T: Tables>(
+    text: &mut Vec<u8>,
+    alloc: Global,
+    tables: &T,
+    moments: &Moments<'_>,
+) -> Result<(), AllocError> {
+    put_api(text, alloc, moments)?;
+    text.extend_from_slice(b"\"status\":{\"router_id\":\"")?;
+    put_address(text, tables.config().identifier())?;
+    text.extend_from_slice(b"\",\"server_time\":\"")?;
+    put_time(text, alloc, moments.time(moments.now))?;
+    text.extend_from_slice(b"\",\"last_reboot\":\"")?;
+    put_time(text, alloc, moments.time(0))?;
+    text.extend_from_slice(b"\",\"last_reconfig\":\"")?;
+    put_time(text, alloc, moments.time(moments.rules))?;
+    text.extend_from_slice(b"\",\"message\":\"up and running\",\"version\":\"")?;
+    text.extend_from_slice(VERSION)?;
+    text.extend_from_slice(b"\"}}\n")
+}
+
+/// Puts how many routes a member announced, as birdwatcher has it.
+pub(crate) fn put_count<T: Tables>(
+    text: &mut Vec<u8>,
+    alloc: Global,
+    tables: &T,
+    moments: &Moments<'_>,
+    client: usize,
+) -> Result<(), AllocError> {
+    if client >= tables.config().clients() {
+        return Ok(());
+    }
+    put_api(text, alloc, moments)?;
+    text.extend_from_slice(b"\"routes\":")?;
+    put_number(text, tables.count(Rib::Received, client) as u64)?;
+    text.extend_from_slice(b"}\n")
+}
+
+/// Puts the head of one of our own pages of routes.
+pub(crate) fn put_table<T: Tables>(
+    text: &mut Vec<u8>,
+    tables: &T,
+    client: usize,
+    table: &[u8],
+) -> Result<(), AllocError> {
+    let config = tables.config();
+    if client >= config.clients() {
+        return Ok(());
+    }
+    text.extend_from_slice(b"{\"member\":\"")?;
+    put_json(text, config.name(client).as_bytes())?;
+    text.extend_from_slice(b"\",\"table\":\"")?;
+    text.extend_from_slice(table)?;
+    text.extend_from_slice(b"\",\"routes\":[")
+}
+
+/// Puts the head of `/why`.
+pub(crate) fn put_question<T: Tables>(
+    text: &mut Vec<u8>,
+    tables: &T,
+    page: Page,
+) -> Result<(), AllocError> {
+    let config = tables.config();
+    if page.place >= config.clients() {
+        return Ok(());
+    }
+    text.extend_from_slice(b"{\"to\":\"")?;
+    put_json(text, config.name(page.place).as_bytes())?;
+    text.extend_from_slice(b"\",\"prefix\":\"")?;
+    put_prefix(text, &prefix_at(page.at))?;
+    text.extend_from_slice(b"\",\"candidates\":[")
+}
