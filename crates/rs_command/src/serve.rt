@@ -21,7 +21,7 @@ const LEVELS: &[&str] = &["error", "change", "route"];
 /// What to serve, and how long.
 #[derive(Drop)]
 pub struct Options {
-    /// The files of the configuration, whose texts are joined in this order.
+    /// The files of the configuration, whose texts are joined in this order; none where a server is asked.
     pub configs: Vec<String>,
     /// How many workers share the work of a turn, 1 to 16.
     pub workers: usize,
@@ -31,6 +31,10 @@ pub struct Options {
     pub reload: Option<u16>,
     /// The address and port at which the server shows itself over HTTP, if it does.
     pub window: Option<String>,
+    /// The path of the control socket, if there is one.
+    pub control: Option<String>,
+    /// The command that the server with that socket is asked, in place of serving.
+    pub ask: Option<String>,
     /// Which reports are printed on standard error; none where there is no level.
     pub log: Option<LogLevel>,
     /// They begin with the time of day.
@@ -65,10 +69,9 @@ fn options_of(alloc: Global, matches: &ArgMatches<'_>) -> Result<Options, AllocE
         workers: matches.get_one::<usize>("workers").unwrap_or(1),
         sessions: matches.get_one::<u64>("sessions"),
         reload: matches.get_one::<u16>("reload"),
-        window: match matches.get_str("window") {
-            Some(address) => Some(String::from_str(alloc, address)?),
-            None => None,
-        },
+        window: text_of(alloc, matches.get_str("window"))?,
+        control: text_of(alloc, matches.get_str("control"))?,
+        ask: text_of(alloc, matches.get_str("ask"))?,
         log: level_of(matches.get_str("log")),
         utc: matches.get_flag("utc"),
         record: text_of(alloc, matches.get_str("record"))?,
@@ -137,12 +140,36 @@ fn window<'a>(alloc: Global) -> Arg<'a> {
         .help("show the server over HTTP there, as at 127.0.0.1:8080, to read alone")
 }
 
+/// `--control PATH`.
+fn control<'a>(alloc: Global) -> Arg<'a> {
+    Arg::new(alloc, "control")
+        .long("control")
+        .value_name("PATH")
+        .help("take commands at this Unix socket, which the server makes")
+}
+
+/// `--ask COMMAND`.
+fn ask<'a>(alloc: Global) -> Result<Arg<'a>, AllocError> {
+    Arg::new(alloc, "ask")
+        .long("ask")
+        .value_name("COMMAND")
+        .help(
+            "ask the server whose control socket it is, in place of serving: help lists the commands",
+        )
+        .conflicts_with("config")?
+        .requires_arg("control")
+}
+
 /// The command line that is understood.
 fn command<'a>(alloc: Global) -> Result<Command<'a>, AllocError> {
     Command::new(alloc, "rs_served")
         .version(VERSION)
         .about("A BGP-4 route server for internet exchanges")
-        .arg(config(alloc))?
+        .arg(
+            config(alloc)
+                .required(false)
+                .required_unless_present("ask")?,
+        )?
         .arg(number(
             alloc,
             "workers",
@@ -162,6 +189,8 @@ fn command<'a>(alloc: Global) -> Result<Command<'a>, AllocError> {
             "read the configuration again every N rounds, and use its rules where they are good",
         ))?
         .arg(window(alloc))?
+        .arg(control(alloc))?
+        .arg(ask(alloc)?)?
         .arg(log(alloc))?
         .arg(flag(
             alloc,

@@ -135,6 +135,29 @@ impl FileWatch {
         }
         Ok(is_read)
     }
+
+    /// Looks at the files and reads them at once, however long they have stood still. Answers whether their text
+    /// stands in `text` then: not where one was changed meanwhile.
+    pub fn take_now<F: WatchedFiles>(
+        &mut self,
+        files: &mut F,
+        second: u64,
+        text: &mut Vec<u8>,
+    ) -> Result<bool, FileFault>
+        ensures looked { self.new.looked ≡ Some second }
+        ensures done { IsTrue self.new.is_done }
+    {
+        self.looked = Some(second);
+        self.since = second;
+        self.is_done = true;
+        self.found = None;
+        let Ok(found) = files.look() else {
+            return Err(FileFault::Memory);
+        };
+        let is_read = read_found(files, &found, text)?;
+        self.found = Some(found);
+        Ok(is_read)
+    }
 }
 
 /// Whether this was found.

@@ -1,6 +1,13 @@
-//! The sockets of the window on the server: a listener, and the visitors who have come, under the poll of
-//! the server's other sockets. What is said is `rs_window`'s; here are readiness, turns, patience and ends.
+//! The sockets of those who look at the server, and of its operator, under the poll of the server's other
+//! sockets. What is said is `rs_window`'s and `rs_control`'s; here are readiness, turns, patience and ends.
+//!
+//! `window` is a listener, and a `visitor` a connection over HTTP; `control` the control socket, a `caller` a
+//! connection to it over a `wire`, and `ask` who calls.
 #![tactic(auto)]
 
+pub mod ask;
+mod caller;
+pub mod control;
 mod visitor;
 pub mod window;
+mod wire;

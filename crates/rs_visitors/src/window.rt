@@ -13,8 +13,9 @@ use std::net::{Net, SocketAddr};
 /// The most visitors; others wait until one has gone.
 const VISITORS: usize = 16;
 
-/// The most heads and pieces that are written in a round, for all visitors together.
-const PIECES: usize = 4;
+/// The most heads and pieces that are written in a round, for all visitors together: what a member says in
+/// the meantime waits for as long.
+const PIECES: usize = 1;
 
 /// For how many milliseconds nobody is let in after descriptors were wanting.
 const SHUT: u64 = 5000;

@@ -1,0 +1,6 @@
+pub mod Lines
+pub mod Orders
+pub mod Answers
+pub mod Talks
+pub mod Steps
+pub mod Fronts

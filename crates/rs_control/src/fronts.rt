@@ -1,0 +1,50 @@
+//! What stands at the front of what an operator said.
+
+ghost use Rattle.std.specs.Prelude.{◌≡◌, length};
+ghost use Rattle.rs_control.specs.Fronts.{IsWithin, front_in, front_without};
+
+use crate::lines::LINE;
+
+/// What stands at the front of what was heard.
+#[derive(Clone, Copy, Debug, PartialEq, Eq)]
+pub(crate) enum Front {
+    /// No whole line.
+    Part,
+    /// A line of so many octets, without its end.
+    Line(usize),
+    /// More than a line may have.
+    Long,
+}
+
+/// What stands behind the first end of a line; nothing where there is none.
+pub(crate) fn behind_line(octets: &[u8]) -> Option<&[u8]> {
+    match octets.iter().position(|octet| *octet == b'\n') {
+        Some(at) => Some(&octets[at + 1..]),
+        None => None,
+    }
+}
+
+/// What stands in so many octets that have no end of a line; where nothing more comes, a line needs none.
+fn front_without(count: usize, has_ended: bool) -> Front
+    ensures value { result ≡ front_without count has_ended }
+    ensures within { IsWithin count result }
+{
+    if count > LINE {
+        Front::Long
+    } else if has_ended && count > 0 {
+        Front::Line(count)
+    } else {
+        Front::Part
+    }
+}
+
+/// What stands at the front of what was heard.
+pub(crate) fn front_of(heard: &[u8], has_ended: bool) -> Front
+    ensures value { result ≡ front_in heard.now has_ended }
+    ensures within { IsWithin (length heard.now) result }
+{
+    match heard.iter().position(|octet| *octet == b'\n') {
+        Some(at) => Front::Line(at),
+        None => front_without(heard.len(), has_ended),
+    }
+}
