@@ -2,7 +2,13 @@
 use Rattle.std.proofs.Common.{◌≡◌, ◌≢◌, ◌<◌, ◌≤◌, ◌+◌, ℕ, zero, suc, Bool, true, false, List, [], ◌∷◌, length, set, take, drop, ◌++◌, Option, Some, None, Result, Ok, Err, refl, sym, subst, ap, ◌∙◌, arith}
 use Rattle.std.specs.Prelude.{IfOk, IfErr, IsOk, IsSome}
 use Rattle.std.proofs.lemmas.List.{append-nil}
-use Rattle.rs_core.specs.declared.links.Event.TheVariants.{Opened, Octets, Moment, Turn, Room, Stop}
+use Rattle.rs_core.specs.declared.links.Event.TheVariants.{Opened, Octets, Moment, Commanded, Turn, Room, Stop}
+use Rattle.rs_streams.specs.declared.file_watch.FileFault.{FileFault}
+use Rattle.rs_open.specs.declared.shutdown.ShutdownText.{ShutdownText}
+use Rattle.rs_open.specs.Notes.{text_octets}
+use Rattle.rs_session.specs.declared.command.Command.TheVariants as commands
+use Rattle.rs_control.specs.declared.order.Order.{Order}
+use Rattle.rs_control.specs.declared.order.Order.TheVariants as orders
 use Rattle.rs_core.specs.Drives.Steps.{Step, Happened, Begin, Busy, Offer, End}
 use Rattle.rs_live.specs.declared.ports.Incoming.{Incoming}
 use Rattle.rs_live.specs.declared.ports.PortFault.{PortFault}
@@ -11,16 +17,18 @@ use Rattle.rs_live.specs.declared.live_link.LiveLink.{LiveLink}
 use Rattle.rs_live.specs.declared.live_link.Phase.{Phase}
 use Rattle.rs_live.specs.declared.live_link.Stage.{Stage}
 use Rattle.rs_live.specs.declared.live_link.Stage.TheVariants as stages
-use Rattle.rs_live.specs.Calls.{Call, Waited, Accepted, Read, Wrote, Closed, Timed, Printed, IsLastRead, IsGood, FindsLost, IsFailedAccept}
+use Rattle.rs_live.specs.declared.live_link.Stopping.{Stopping}
+use Rattle.rs_live.specs.Calls.{Call, Waited, Accepted, Read, Wrote, Closed, Timed, Fetched, Ordered, Printed, IsLastRead, IsGood, FindsLost, IsFailedAccept, IsAccept, IsOrder}
 use Rattle.rs_live.specs.Operations.{Operation, Asked, WroteTo, WroteRest, ClosedRest, Spared, Did, calls}
 use Rattle.rs_live.specs.Keys.{come, key_of}
 use Rattle.rs_live.specs.Waiting.{waiting, rest_key, rest}
+use Rattle.rs_live.specs.Orders.{is_down}
 use Rattle.rs_live.specs.Sending.{taken, Writes, NoWrite, OneMore, Sent, Broke}
-use Rattle.rs_live.specs.Keeping.{Held, Agrees, IsAtStage, IsFairBy, IsInPhase, IsPlain, at, before, begun_at, change, given, held_by, held_of, key_at, key_come, nothing, passed, with_live, with_rest}
-use Rattle.rs_live.specs.Handled.{IsLossOf, IsNoLoss, AreHandled, Begun, Waits, Asks, Does, Opens, Refuses, TurnsAway, TurnsNoneAway, Hears, Spares, Times, Loses, Fails, Takes, Sends, Breaks, SendsRest, Drops, Closes, PassesOver, EndBy, By, EndByWrite, ByWrite, EndByWait, Has, AreKept, AreBroken, Keeps, IsRunning, Follows, On, Halts, Gives}
+use Rattle.rs_live.specs.Keeping.{Held, Agrees, HaveAll, IsAtStage, IsFairBy, IsInPhase, IsPast, IsPlain, at, before, begun_at, change, given, held_by, held_of, key_at, key_come, nothing, passed, to_end, with_down, with_live, with_rest}
+use Rattle.rs_live.specs.Handled.{IsLossOf, IsNoLoss, AreHandled, Begun, Waits, Asks, Does, Opens, Refuses, KeepsOut, Disables, Enables, Refreshes, Reloads, Quits, Stops, TurnsAway, TurnsNoneAway, Hears, Spares, Times, Loses, Fails, Takes, Sends, Breaks, SendsRest, Drops, Closes, PassesOver, EndBy, By, EndByWrite, ByWrite, EndByWait, Has, AreKept, AreEndedBy, AreBroken, Keeps, IsRunning, Follows, On, Halts, Gives}
 use Rattle.rs_live.specs.Leaving.{LeavesPorts}
 use Rattle.rs_live.proofs.Changing.{at_same, ended, ended_same, no_some}
-use Rattle.rs_live.proofs.Agreeing.{agrees_asked, agrees_lost, agrees_end, agrees_offer, handed_more, agrees_wrote, taken_from, agrees_wrote_rest, taken_from_rest, agrees_closed, IsStill, agrees_still, agrees_phase, agrees_begin, agrees_begin_none, agrees_busy, agrees_busy_none, agrees_opened, agrees_stranger, agrees_passed, agrees_read, agrees_octets, agrees_start, agrees_moment, fair_is, agrees_turn, agrees_room, agrees_handed, agrees_over, settled, agrees_waited, agrees_begun, come_is}
+use Rattle.rs_live.proofs.Agreeing.{agrees_asked, agrees_lost, agrees_end, agrees_offer, handed_more, agrees_wrote, taken_from, agrees_wrote_rest, taken_from_rest, agrees_closed, IsStill, agrees_still, agrees_phase, agrees_begin, agrees_begin_none, agrees_busy, agrees_busy_none, agrees_opened, agrees_stranger, agrees_passed, agrees_read, agrees_octets, agrees_start, agrees_moment, fair_is, agrees_turn, agrees_room, agrees_handed, agrees_over, settled, agrees_waited, agrees_begun, agrees_ordered, agrees_stop, agrees_refresh, agrees_enable, agrees_quit, agrees_stop_next, agrees_past_orders, come_is}
 use Rattle.rs_live.proofs.Places.{at_place, below_change, change_again, unchanged}
 
 -- the ports were asked one call more
@@ -54,10 +62,6 @@ two_more asked Is So a b first second m f h = record { operations = Asked second
 -- a call of which nothing comes, and what the link keeps
 pub asks : {P : Type 0} (asked : P → List Call → Type 0) (held : List Held) (phase : Phase) (a b : P) (call : Call) → AsksMore asked a call b → IsGood call → IsPlain call → Has asked a (AreKept held phase) → Has asked b (AreKept held phase)
 asks asked held phase a b call m good plain h = more asked (AreKept held phase) (AreKept held phase) a b call m (λ operations k. (Asks call operations good k.0, agrees_asked held phase call operations plain k.1)) h
-
--- the last of these operations is such a call, and what the link keeps agrees with them
-abbrev pub AreEndedBy : (Call → Type 0) → List Held → Phase → List Operation → Type 0
-AreEndedBy Is held phase operations = EndBy Is operations × Agrees held phase operations
 
 -- the last call was such a one
 pub ends : {P : Type 0} (asked : P → List Call → Type 0) (Is : Call → Type 0) (held : List Held) (phase : Phase) (a b : P) (call : Call) → AsksMore asked a call b → Is call → IsPlain call → Has asked a (AreKept held phase) → Has asked b (AreEndedBy Is held phase)
@@ -125,9 +129,9 @@ pub ends_session : {P : Type 0} (asked : P → List Call → Type 0) (held : Lis
 ends_session asked held phase c p h = did asked (AreKept held phase) (AreKept (change c ended held) phase) p (End c) (λ operations k. (Does (End c) operations tt k.0, agrees_end held phase c operations k.1)) h
 
 -- a connection that was just accepted
-pub opens : {P : Type 0} (asked : P → List Call → Type 0) (held : List Held) (w : Phase) (c : ℕ) (incoming : Incoming) (answer : Option Incoming) (a b : P) → answer ≡ Some incoming → c < length held → AsksMore asked a (Accepted (Ok answer)) b → Has asked a (AreKept held (at stages.Accept w)) → Has asked b (λ operations. AreKept held (at (stages.Come c incoming) w) (Did (Happened (Opened c) []) ∷ operations))
-opens asked held w c incoming answer a b is below m h = more asked (AreKept held (at stages.Accept w)) (λ operations. AreKept held (at (stages.Come c incoming) w) (Did (Happened (Opened c) []) ∷ operations)) a b (Accepted (Ok (Some incoming))) (subst (λ r. AsksMore asked a (Accepted (Ok r)) b) is m)
-    (λ operations k. (Opens c [] incoming operations k.0, agrees_opened held w c [] incoming operations below k.1)) h
+pub opens : {P : Type 0} (asked : P → List Call → Type 0) (held : List Held) (w : Phase) (c : ℕ) (incoming : Incoming) (answer : Option Incoming) (a b : P) → answer ≡ Some incoming → c < length held → (held_by c held).is_down ≡ false → AsksMore asked a (Accepted (Ok answer)) b → Has asked a (AreKept held (at stages.Accept w)) → Has asked b (λ operations. AreKept held (at (stages.Come c incoming) w) (Did (Happened (Opened c) []) ∷ operations))
+opens asked held w c incoming answer a b is below up m h = more asked (AreKept held (at stages.Accept w)) (λ operations. AreKept held (at (stages.Come c incoming) w) (Did (Happened (Opened c) []) ∷ operations)) a b (Accepted (Ok (Some incoming))) (subst (λ r. AsksMore asked a (Accepted (Ok r)) b) is m)
+    (λ operations k. (Opens c [] incoming operations (ap (λ x. x.is_down) (k.1.same c) ∙ up) k.0, agrees_opened held w c [] incoming operations below k.1)) h
 
 -- a client without a connection is passed over
 pub passes_by : {P : Type 0} (asked : P → List Call → Type 0) (held : List Held) (w : Phase) (c : ℕ) (p : P) → (held_by c held).key ≡ None → Has asked p (AreKept held (at stages.Read w)) → Has asked p (AreKept held (at stages.Read (passed c w)))
@@ -158,8 +162,8 @@ pub is_last : (answer : Option ℕ) (count : ℕ) → answer ≡ Some count → 
 is_last answer count is none = subst (λ r. IsLastRead (Ok r)) (sym is) none
 
 -- the first moment of a round, a fair one
-pub starts : {P : Type 0} (asked : P → List Call → Type 0) (held : List Held) (w : Phase) (t : ℕ) (p : P) → IsFairBy (length held) w t → Has asked p (AreKept held (at stages.Start w)) → Has asked p (λ operations. AreKept held (given stages.Accept t w) (Did (Happened (Moment t) []) ∷ operations))
-starts asked held w t p fair h = did asked (AreKept held (at stages.Start w)) (AreKept held (given stages.Accept t w)) p (Happened (Moment t) []) (λ operations k. (Times t [] operations (fair_is held (at stages.Start w) t operations fair k.1) k.0, agrees_start held w t [] operations k.1)) h
+pub starts : {P : Type 0} (asked : P → List Call → Type 0) (held : List Held) (w : Phase) (t : ℕ) (p : P) → IsFairBy (length held) w t → Has asked p (AreKept held (at stages.Start w)) → Has asked p (λ operations. AreKept held (given (stages.Orders 0) t w) (Did (Happened (Moment t) []) ∷ operations))
+starts asked held w t p fair h = did asked (AreKept held (at stages.Start w)) (AreKept held (given (stages.Orders 0) t w)) p (Happened (Moment t) []) (λ operations k. (Times t [] operations (fair_is held (at stages.Start w) t operations fair k.1) k.0, agrees_start held w t [] operations k.1)) h
 
 -- and a later one
 pub times : {P : Type 0} (asked : P → List Call → Type 0) (held : List Held) (w : Phase) (t : ℕ) (p : P) → IsFairBy (length held) w t → Has asked p (AreKept held (at stages.Moment w)) → Has asked p (λ operations. AreKept held (given stages.Turn t w) (Did (Happened (Moment t) []) ∷ operations))
@@ -173,22 +177,97 @@ turns asked held w p h = did asked (AreKept held (at stages.Turn w)) (AreKept he
 pub gives_room : {P : Type 0} (asked : P → List Call → Type 0) (held : List Held) (w : Phase) (from c : ℕ) (p : P) → ((d : ℕ) → from ≤ d → d < c → (held_by d held).key ≡ None) → Has asked p (AreKept held (at (stages.Room from) w)) → Has asked p (λ operations. AreKept held (at (stages.Handed c) w) (Did (Happened (Room c 18446744073709551615) []) ∷ operations))
 gives_room asked held w from c p none h = did asked (AreKept held (at (stages.Room from) w)) (AreKept held (at (stages.Handed c) w)) p (Happened (Room c 18446744073709551615) []) (λ operations k. (Does (Happened (Room c 18446744073709551615) []) operations tt k.0, agrees_room held w from c [] operations none k.1)) h
 
+refusing : (incoming : Incoming) (operations : List Operation) → EndBy (IsAccept incoming) operations → AreHandled (Asked (Closed incoming.key) ∷ Asked (Printed lines.Stranger) ∷ operations)
+refusing incoming _ (By call operations is handled) = subst (λ y. AreHandled (Asked (Closed incoming.key) ∷ Asked (Printed lines.Stranger) ∷ Asked y ∷ operations)) (sym is) (Refuses incoming operations handled)
+
 -- a connection that was just accepted is a stranger's, and closed
-pub refuses : {P : Type 0} (asked : P → List Call → Type 0) (held : List Held) (w : Phase) (incoming : Incoming) (answer : Option Incoming) (a m b : P) → answer ≡ Some incoming → AsksMore asked a (Accepted (Ok answer)) m → AsksTwo asked m (Printed lines.Stranger) (Closed incoming.key) b → Has asked a (AreKept held (at stages.Accept w)) → Has asked b (AreKept held (at stages.Accept w))
-refuses asked held w incoming answer a m b is first second h = record {
-  operations = Asked (Closed incoming.key) ∷ Asked (Printed lines.Stranger) ∷ Asked (Accepted (Ok (Some incoming))) ∷ h.operations;
-  are = (Refuses incoming h.operations h.are.0, agrees_asked held (at stages.Accept w) (Closed incoming.key) _ tt (agrees_stranger held (at stages.Accept w) (Asked (Accepted (Ok (Some incoming))) ∷ h.operations) (agrees_asked held (at stages.Accept w) (Accepted (Ok (Some incoming))) h.operations tt h.are.1)));
-  were = second (Accepted (Ok (Some incoming)) ∷ calls h.operations) (subst (λ r. AsksMore asked a (Accepted (Ok r)) m) is first (calls h.operations) h.were);
-}
+pub refuses : {P : Type 0} (asked : P → List Call → Type 0) (held : List Held) (w : Phase) (incoming : Incoming) (a b : P) → AsksTwo asked a (Printed lines.Stranger) (Closed incoming.key) b → Has asked a (AreEndedBy (IsAccept incoming) held (at stages.Accept w)) → Has asked b (AreKept held (at stages.Accept w))
+refuses asked held w incoming a b m h = two_more asked (AreEndedBy (IsAccept incoming) held (at stages.Accept w)) (AreKept held (at stages.Accept w)) a b (Printed lines.Stranger) (Closed incoming.key) m
+    (λ operations k. (refusing incoming operations k.0, agrees_asked held (at stages.Accept w) (Closed incoming.key) (Asked (Printed lines.Stranger) ∷ operations) tt (agrees_stranger held (at stages.Accept w) operations tt k.1)))
+    h
+
+keeping_out : (c : ℕ) (incoming : Incoming) (operations : List Operation) → is_down c operations ≡ true → EndBy (IsAccept incoming) operations → AreHandled (Asked (Closed incoming.key) ∷ Asked (Printed (lines.Disabled c)) ∷ operations)
+keeping_out c incoming _ down (By call operations is handled) = subst (λ y. AreHandled (Asked (Closed incoming.key) ∷ Asked (Printed (lines.Disabled c)) ∷ Asked y ∷ operations)) (sym is) (KeepsOut c incoming operations (subst (λ y. is_down c (Asked y ∷ operations) ≡ true) is down) handled)
+
+-- or of a client that is kept down
+pub keeps_out : {P : Type 0} (asked : P → List Call → Type 0) (held : List Held) (phase : Phase) (c : ℕ) (incoming : Incoming) (a b : P) → (held_by c held).is_down ≡ true → AsksTwo asked a (Printed (lines.Disabled c)) (Closed incoming.key) b → Has asked a (AreEndedBy (IsAccept incoming) held phase) → Has asked b (AreKept held phase)
+keeps_out asked held phase c incoming a b down m h = two_more asked (AreEndedBy (IsAccept incoming) held phase) (AreKept held phase) a b (Printed (lines.Disabled c)) (Closed incoming.key) m
+    (λ operations k. (keeping_out c incoming operations (ap (λ x. x.is_down) (k.1.same c) ∙ down) k.0, agrees_asked held phase (Closed incoming.key) (Asked (Printed (lines.Disabled c)) ∷ operations) tt (agrees_asked held phase (Printed (lines.Disabled c)) operations tt k.1)))
+    h
+
+-- the ports order to disable a client
+pub disables : {P : Type 0} (asked : P → List Call → Type 0) (held : List Held) (w : Phase) (n m c : ℕ) (text : ShutdownText) (answer : Option Order) (a b : P) → answer ≡ Some (orders.Disable c text) → c < length held → AsksMore asked a (Ordered answer) b → Has asked a (AreKept held (at (stages.Orders n) w)) →
+    Has asked b (λ operations. AreKept (change c (with_down true) held) (at (stages.Orders m) w) (Did (Happened (Commanded c (commands.Stop text)) []) ∷ operations))
+disables asked held w n m c text answer a b is below more_asked h =
+    let So : List Operation → Type 0 = λ operations. AreKept (change c (with_down true) held) (at (stages.Orders m) w) (Did (Happened (Commanded c (commands.Stop text)) []) ∷ operations) in
+    more asked (AreKept held (at (stages.Orders n) w)) So a b (Ordered (Some (orders.Disable c text))) (subst (λ r. AsksMore asked a (Ordered r) b) is more_asked)
+    (λ operations k. (Disables c text [] operations k.0, agrees_stop held w m c text [] (Asked (Ordered (Some (orders.Disable c text))) ∷ operations) below (agrees_ordered held w n m (Ordered (Some (orders.Disable c text))) operations tt tt k.1)))
+    h
+
+-- to enable one
+pub enables : {P : Type 0} (asked : P → List Call → Type 0) (held : List Held) (w : Phase) (n m c : ℕ) (answer : Option Order) (a b : P) → answer ≡ Some (orders.Enable c) → c < length held → AsksMore asked a (Ordered answer) b → Has asked a (AreKept held (at (stages.Orders n) w)) → Has asked b (AreKept (change c (with_down false) held) (at (stages.Orders m) w))
+enables asked held w n m c answer a b is below more_asked h = more asked (AreKept held (at (stages.Orders n) w)) (AreKept (change c (with_down false) held) (at (stages.Orders m) w)) a b (Ordered (Some (orders.Enable c))) (subst (λ r. AsksMore asked a (Ordered r) b) is more_asked)
+    (λ operations k. (Enables c operations k.0, agrees_enable held w n m c operations below k.1)) h
+
+-- to refresh one
+pub refreshes : {P : Type 0} (asked : P → List Call → Type 0) (held : List Held) (w : Phase) (n m c : ℕ) (answer : Option Order) (a b : P) → answer ≡ Some (orders.Refresh c) → AsksMore asked a (Ordered answer) b → Has asked a (AreKept held (at (stages.Orders n) w)) →
+    Has asked b (λ operations. AreKept held (at (stages.Orders m) w) (Did (Happened (Commanded c commands.Refresh) []) ∷ operations))
+refreshes asked held w n m c answer a b is more_asked h =
+    let So : List Operation → Type 0 = λ operations. AreKept held (at (stages.Orders m) w) (Did (Happened (Commanded c commands.Refresh) []) ∷ operations) in
+    more asked (AreKept held (at (stages.Orders n) w)) So a b (Ordered (Some (orders.Refresh c))) (subst (λ r. AsksMore asked a (Ordered r) b) is more_asked)
+    (λ operations k. (Refreshes c [] operations k.0, agrees_refresh held w m c [] (Asked (Ordered (Some (orders.Refresh c))) ∷ operations) (agrees_ordered held w n m (Ordered (Some (orders.Refresh c))) operations tt tt k.1)))
+    h
+
+-- to end
+pub quits : {P : Type 0} (asked : P → List Call → Type 0) (held : List Held) (w : Phase) (n m : ℕ) (s : Stopping) (answer : Option Order) (a b : P) → answer ≡ Some orders.End → s.since ≡ w.clock → s.told ≡ 0 → AsksMore asked a (Ordered answer) b → Has asked a (AreKept held (at (stages.Orders n) w)) → Has asked b (AreKept held (to_end s (at (stages.Orders m) w)))
+quits asked held w n m s answer a b is since none more_asked h = more asked (AreKept held (at (stages.Orders n) w)) (AreKept held (to_end s (at (stages.Orders m) w))) a b (Ordered (Some orders.End)) (subst (λ r. AsksMore asked a (Ordered r) b) is more_asked)
+    (λ operations k. (Quits operations k.0, agrees_quit held w n m s operations since none k.1)) h
+
+-- to read the rules again
+pub is_reload : {P : Type 0} (asked : P → List Call → Type 0) (held : List Held) (w : Phase) (n m : ℕ) (answer : Option Order) (a b : P) → answer ≡ Some orders.Reload → AsksMore asked a (Ordered answer) b → Has asked a (AreKept held (at (stages.Orders n) w)) → Has asked b (AreEndedBy (IsOrder orders.Reload) held (at (stages.Orders m) w))
+is_reload asked held w n m answer a b is more_asked h = more asked (AreKept held (at (stages.Orders n) w)) (AreEndedBy (IsOrder orders.Reload) held (at (stages.Orders m) w)) a b (Ordered (Some orders.Reload)) (subst (λ r. AsksMore asked a (Ordered r) b) is more_asked)
+    (λ operations k. (By (Ordered (Some orders.Reload)) operations refl k.0, agrees_ordered held w n m (Ordered (Some orders.Reload)) operations tt tt k.1)) h
+
+reloading : (text : List ℕ) (answer : Result Bool FileFault) (operations : List Operation) → EndBy (IsOrder orders.Reload) operations → AreHandled (Asked (Fetched text answer) ∷ operations)
+reloading text answer _ (By call operations is handled) = subst (λ y. AreHandled (Asked (Fetched text answer) ∷ Asked y ∷ operations)) (sym is) (Reloads text answer operations handled)
+
+-- then their text is asked for
+pub reloads : {P : Type 0} (asked : P → List Call → Type 0) (held : List Held) (phase : Phase) (text : List ℕ) (answer : Result Bool FileFault) (a b : P) → AsksMore asked a (Fetched text answer) b → Has asked a (AreEndedBy (IsOrder orders.Reload) held phase) → Has asked b (AreKept held phase)
+reloads asked held phase text answer a b m h = more asked (AreEndedBy (IsOrder orders.Reload) held phase) (AreKept held phase) a b (Fetched text answer) m (λ operations k. (reloading text answer operations k.0, agrees_asked held phase (Fetched text answer) operations tt k.1)) h
+
+-- the ports have no order
+pub orders_none : {P : Type 0} (asked : P → List Call → Type 0) (held : List Held) (w : Phase) (n : ℕ) (answer : Option Order) (a b : P) → answer ≡ None → AsksMore asked a (Ordered answer) b → Has asked a (AreKept held (at (stages.Orders n) w)) → Has asked b (AreKept held (at stages.Accept w))
+orders_none asked held w n answer a b is more_asked h = more asked (AreKept held (at (stages.Orders n) w)) (AreKept held (at stages.Accept w)) a b (Ordered None) (subst (λ r. AsksMore asked a (Ordered r) b) is more_asked)
+    (λ operations k. (Asks (Ordered None) operations refl k.0, agrees_past_orders held w n (Asked (Ordered None) ∷ operations) (λ e. tt) (agrees_ordered held w n n (Ordered None) operations tt tt k.1))) h
+
+-- the round has asked for enough
+pub orders_done : {P : Type 0} (asked : P → List Call → Type 0) (held : List Held) (w : Phase) (n : ℕ) (p : P) → 0 < n → Has asked p (AreKept held (at (stages.Orders n) w)) → Has asked p (AreKept held (at stages.Accept w))
+orders_done asked held w n p some h = so asked (AreKept held (at (stages.Orders n) w)) (AreKept held (at stages.Accept w)) p (λ operations k. (k.0, agrees_past_orders held w n operations (λ e. k.1.round.stage some) k.1)) h
+
+-- where the server is to end, the core is told to stop the next client
+pub stops_next : {P : Type 0} (asked : P → List Call → Type 0) (held : List Held) (w : Phase) (n : ℕ) (s r : Stopping) (text : ShutdownText) (p : P) → text_octets text ≡ [] → w.stopping ≡ Some s → r.since ≡ s.since → r.told ≡ s.told + 1 → s.told < length held → Has asked p (AreKept held (at (stages.Orders n) w)) →
+    Has asked p (λ operations. AreKept (change s.told (with_down true) held) (to_end r (at (stages.Orders n) w)) (Did (Happened (Commanded s.told (commands.Stop text)) []) ∷ operations))
+stops_next asked held w n s r text p no_text e since one below h = did asked (AreKept held (at (stages.Orders n) w)) (AreKept (change s.told (with_down true) held) (to_end r (at (stages.Orders n) w))) p (Happened (Commanded s.told (commands.Stop text)) [])
+    (λ operations k. (Stops s.told text [] operations no_text (subst (λ o. IsSome o) (sym (k.1.round.stopped.1 s e).0) refl) k.0, agrees_stop_next held w n s r text [] operations e since one below k.1)) h
+
+-- or was told to stop all
+pub stops_done : {P : Type 0} (asked : P → List Call → Type 0) (held : List Held) (w : Phase) (n : ℕ) (s : Stopping) (p : P) → w.stopping ≡ Some s → Has asked p (AreKept held (at (stages.Orders n) w)) → Has asked p (AreKept held (at stages.Accept w))
+stops_done asked held w n s p e h = so asked (AreKept held (at (stages.Orders n) w)) (AreKept held (at stages.Accept w)) p (λ operations k. (k.0, agrees_past_orders held w n operations (λ none. no_order none) k.1)) h
+  where
+    no_order : {X : Type 0} → w.stopping ≡ None → X
+    no_order none = absurd (let i : None ≡ Some s = sym none ∙ e in let j : ⊥ = cc in j)
 
 -- whose connection has come
 pub come_at : (phase : Phase) (c : ℕ) (incoming : Incoming) → phase.stage ≡ stages.Come c incoming → key_come c phase ≡ Some incoming.key
 come_at phase c incoming e = ap (λ s. key_come c (at s phase)) e ∙ at_same c c (Some incoming.key) None refl
 
+is_past : (c key : ℕ) (phase : Phase) → key_come c phase ≡ Some key → IsPast phase.stage
+is_past c key phase come = subst (λ s. IsPast s) (sym (come_is c key phase come).1) tt
+
 -- so one that the core has passed over
 pub passes_over : {P : Type 0} (asked : P → List Call → Type 0) (held : List Held) (phase : Phase) (c key : ℕ) (a b : P) → key_come c phase ≡ Some key → AsksTwo asked a (Printed lines.Stranger) (Closed key) b → Has asked a (AreKept held phase) → Has asked b (AreKept held (at stages.Accept phase))
 passes_over asked held phase c key a b come m h = two_more asked (AreKept held phase) (AreKept held (at stages.Accept phase)) a b (Printed lines.Stranger) (Closed key) m
-    (λ operations k. (PassesOver c key operations (k.1.fresh c ∙ come) k.0, agrees_asked held (at stages.Accept phase) (Closed key) (Asked (Printed lines.Stranger) ∷ operations) tt (agrees_stranger held phase operations k.1))) h
+    (λ operations k. (PassesOver c key operations (k.1.fresh c ∙ come) k.0, agrees_asked held (at stages.Accept phase) (Closed key) (Asked (Printed lines.Stranger) ∷ operations) tt (agrees_stranger held phase operations (is_past c key phase come) k.1))) h
 
 -- an offer takes some octets
 pub takes : {P : Type 0} (asked : P → List Call → Type 0) (held : List Held) (phase : Phase) (c n : ℕ) (octets : List ℕ) (p : P) → (length held ≤ c → take n octets ≡ []) → ((held_by c held).key ≡ None → n ≡ 0) → Has asked p (AreKept held phase) → Has asked p (λ operations. AreKept (change c (handed_more (take n octets)) held) phase (Did (Offer c octets (Some n)) ∷ operations))
@@ -380,9 +459,19 @@ pub goes_on : {P : Type 0} (asked : P → List Call → Type 0) (held : List Hel
 goes_on asked held phase next p same is h = so asked (AreKept held phase) (AreKept held next) p (λ operations k. (k.0, agrees_phase held phase next operations same (is operations k.1.round) k.1)) h
 
 -- from a stage of which nothing is known but how the round stands
-pub goes_to : {P : Type 0} (asked : P → List Call → Type 0) (held : List Held) (from next : Stage) (w : Phase) (p : P) → ((c : ℕ) → key_at c from ≡ key_at c next) → ((operations : List Operation) → IsAtStage held from operations → IsAtStage held next operations) → (next ≡ stages.Over → ⊥) → Has asked p (AreKept held (at from w)) → Has asked p (AreKept held (at next w))
-goes_to asked held from next w p same is not h = goes_on asked held (at from w) (at next w) p same
-    (λ operations k. record { stage = is operations k.stage; clocked = let c = k.clocked in record { asked = c.asked; clock = c.clock; quiet = c.quiet; told = c.told; read = c.read; over = λ e. absurd (not e) } }) h
+pub goes_to : {P : Type 0} (asked : P → List Call → Type 0) (held : List Held) (from next : Stage) (w : Phase) (p : P) → ((c : ℕ) → key_at c from ≡ key_at c next) → ((operations : List Operation) → IsAtStage held from operations → IsAtStage held next operations) → (next ≡ stages.Over → ⊥) → IsPast from → Has asked p (AreKept held (at from w)) → Has asked p (AreKept held (at next w))
+goes_to asked held from next w p same is not late h = goes_on asked held (at from w) (at next w) p same
+    (λ operations k. record { stage = is operations k.stage; clocked = let c = k.clocked in record { asked = c.asked; clock = c.clock; quiet = c.quiet; told = c.told; read = c.read; over = λ e. absurd (not e) }; stopped = k.stopped; ordered = λ s e. k.ordered late e }) h
+
+-- so a link that is running, in other words
+pub moves_to : {P : Type 0} (asked : P → List Call → Type 0) (link : LiveLink P) (from next : Stage) → ((c : ℕ) → key_at c from ≡ key_at c next) → ((operations : List Operation) → IsAtStage (held_of link.connections.now.items) from operations → IsAtStage (held_of link.connections.now.items) next operations) → (next ≡ stages.Over → ⊥) → IsPast from → link.phase.stage ≡ from → IsRunning asked link →
+    (link.has_failed ≡ false) × Has asked link.ports.now (AreKept (held_of link.connections.now.items) (at next link.phase))
+moves_to asked link from next same is not late e h = (h.0, goes_to asked (held_of link.connections.now.items) from next link.phase link.ports.now same is not late (subst (λ s. Has asked link.ports.now (AreKept (held_of link.connections.now.items) (at s link.phase))) e h.1))
+
+-- to a stage before the ports are asked for orders
+pub goes_early : {P : Type 0} (asked : P → List Call → Type 0) (held : List Held) (from next : Stage) (w : Phase) (p : P) → ((c : ℕ) → key_at c from ≡ key_at c next) → ((operations : List Operation) → IsAtStage held from operations → IsAtStage held next operations) → (next ≡ stages.Over → ⊥) → (IsPast next → ⊥) → Has asked p (AreKept held (at from w)) → Has asked p (AreKept held (at next w))
+goes_early asked held from next w p same is not early h = goes_on asked held (at from w) (at next w) p same
+    (λ operations k. record { stage = is operations k.stage; clocked = let c = k.clocked in record { asked = c.asked; clock = c.clock; quiet = c.quiet; told = c.told; read = c.read; over = λ e. absurd (not e) }; stopped = k.stopped; ordered = λ s. absurd (early s) }) h
 
 -- nothing was asked
 pub unasked : {P : Type 0} (asked : P → List Call → Type 0) (p : P) → asked p [] → Has asked p (λ operations. operations ≡ [])
@@ -394,6 +483,10 @@ begun asked held p none h = record { operations = []; are = (Begun, agrees_begun
 -- what a link at a stage keeps
 pub at_phase : {P : Type 0} (asked : P → List Call → Type 0) (link : LiveLink P) (stage : Stage) → link.phase.stage ≡ stage → Keeps asked link → Has asked link.ports.now (AreKept (held_of link.connections.now.items) (at stage link.phase))
 at_phase asked link stage e h = subst (λ s. Has asked link.ports.now (AreKept (held_of link.connections.now.items) (at s link.phase))) e h
+
+-- and where such a call was the last
+pub ended_at : {P : Type 0} (asked : P → List Call → Type 0) (Is : Call → Type 0) (link : LiveLink P) (stage : Stage) → link.phase.stage ≡ stage → Has asked link.ports.now (AreEndedBy Is (held_of link.connections.now.items) link.phase) → Has asked link.ports.now (AreEndedBy Is (held_of link.connections.now.items) (at stage link.phase))
+ended_at asked Is link stage e h = subst (λ s. Has asked link.ports.now (AreEndedBy Is (held_of link.connections.now.items) (at s link.phase))) e h
 
 -- a step of a link that has not failed, with these held, in this phase
 pub follows : {P : Type 0} (asked : P → List Call → Type 0) (step : Step) (link : LiveLink P) (has_failed : Bool) (held : List Held) (phase : Phase) → has_failed ≡ false → held_of link.connections.now.items ≡ held → link.phase ≡ phase → Has asked link.ports.now (λ operations. AreKept held phase (Did step ∷ operations)) → Follows asked step link has_failed
@@ -425,5 +518,5 @@ pub leaves : {P : Type 0} (asked : P → List Call → Type 0) (held : List Held
 leaves asked held w c from p within h = so asked (AreKept held (at (stages.Handed c) w)) (AreKept held (at (stages.Room from) w)) p (λ operations k. (k.0, agrees_handed held w c from operations within k.1)) h
 
 -- and all are done with
-pub is_over : {P : Type 0} (asked : P → List Call → Type 0) (held : List Held) (w : Phase) (from : ℕ) (p : P) → ((d : ℕ) → from ≤ d → (held_by d held).key ≡ None) → w.told ≡ w.clock → Has asked p (AreKept held (at (stages.Room from) w)) → Has asked p (AreKept held (at stages.Over w))
-is_over asked held w from p none on_time h = so asked (AreKept held (at (stages.Room from) w)) (AreKept held (at stages.Over w)) p (λ operations k. (k.0, agrees_over held w from operations none on_time k.1)) h
+pub is_over : {P : Type 0} (asked : P → List Call → Type 0) (held : List Held) (w : Phase) (from : ℕ) (p : P) → ((d : ℕ) → from ≤ d → (held_by d held).key ≡ None) → HaveAll (length held) w.stopping → w.told ≡ w.clock → Has asked p (AreKept held (at (stages.Room from) w)) → Has asked p (AreKept held (at stages.Over w))
+is_over asked held w from p none all on_time h = so asked (AreKept held (at (stages.Room from) w)) (AreKept held (at stages.Over w)) p (λ operations k. (k.0, agrees_over held w from operations none all on_time k.1)) h

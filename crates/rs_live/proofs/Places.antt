@@ -1,13 +1,13 @@
 -- What each client has, where one place is written.
-use Rattle.std.proofs.Common.{◌≡◌, ◌≤◌, ◌<◌, ℕ, zero, suc, List, [], ◌∷◌, length, set, Option, Some, refl, sym, subst, ap, ◌∙◌, arith}
+use Rattle.std.proofs.Common.{◌≡◌, ◌≤◌, ◌<◌, Bool, ℕ, zero, suc, List, [], ◌∷◌, length, set, Option, Some, refl, sym, subst, ap, ◌∙◌, arith}
 use Rattle.std.proofs.lemmas.List.{length-set}
 use Rattle.std.specs.Prelude.{slice_get}
 use Rattle.rs_live.specs.declared.connections.ClientConnections.{ClientConnections}
 use Rattle.rs_live.specs.declared.live_link.Phase.{Phase}
 use Rattle.rs_live.specs.Keeping.{Held, IsFairBy, change, held_by, held_in, held_of}
 
-abbrev pub holds : Option ℕ → List ℕ → Option ℕ → List ℕ → Held
-holds key waiting rest_key rest = record { key = key; waiting = waiting; rest_key = rest_key; rest = rest }
+abbrev pub holds : Option ℕ → List ℕ → Option ℕ → List ℕ → Bool → Held
+holds key waiting rest_key rest is_down = record { key = key; waiting = waiting; rest_key = rest_key; rest = rest; is_down = is_down }
 
 -- it is written with what it had
 pub held_same : (connections : List ClientConnections) (c : ℕ) (was own : ClientConnections) → slice_get connections c ≡ Some was → held_in own ≡ held_in was → held_of (set connections c own) ≡ held_of connections
@@ -54,6 +54,9 @@ below_held [] c below = absurd (omega arith)
 below_held (s ∷ connections) zero below = omega arith
 below_held (s ∷ connections) (suc c) below = omega (arith, below_held connections c (omega arith))
 
+pub below_count : (connections : List ClientConnections) (count c : ℕ) → count ≡ length connections → c < count → c < length (held_of connections)
+below_count connections count c e below = below_held connections c (subst (λ n. c < n) e below)
+
 -- what the client of a place has
 pub held_there : (connections : List ClientConnections) (c : ℕ) (own : ClientConnections) → slice_get connections c ≡ Some own → held_by c (held_of connections) ≡ held_in own
 held_there [] c own e = cc
@@ -69,5 +72,5 @@ pub fair_held : (connections : List ClientConnections) (phase : Phase) (t : ℕ)
 fair_held connections phase t h = subst (λ n. IsFairBy n phase t) (sym (held_count connections)) h
 
 -- each part is the same
-pub parts : {k l : Option ℕ} {w v : List ℕ} {r s : Option ℕ} {o p : List ℕ} → k ≡ l → w ≡ v → r ≡ s → o ≡ p → holds k w r o ≡ holds l v s p
-parts {k} {l} {w} {v} {r} {s} {o} {p} a b c d = ap (λ x. holds x w r o) a ∙ ap (λ x. holds l x r o) b ∙ ap (λ x. holds l v x o) c ∙ ap (λ x. holds l v s x) d
+pub parts : {k l : Option ℕ} {w v : List ℕ} {r s : Option ℕ} {o p : List ℕ} {d e : Bool} → k ≡ l → w ≡ v → r ≡ s → o ≡ p → d ≡ e → holds k w r o d ≡ holds l v s p e
+parts {k} {l} {w} {v} {r} {s} {o} {p} {d} {e} a b c f g = ap (λ x. holds x w r o d) a ∙ ap (λ x. holds l x r o d) b ∙ ap (λ x. holds l v x o d) c ∙ ap (λ x. holds l v s x d) f ∙ ap (λ x. holds l v s p x) g

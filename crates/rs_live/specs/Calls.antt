@@ -1,5 +1,6 @@
 -- What the server asks of its ports, each call with its answer.
 use Rattle.std.specs.Prelude.{◌≡◌, ℕ, List, Bool, Option, Some, None, Result, Ok, Err, IsErr, ⊤}
+use Rattle.rs_control.specs.declared.order.Order.{Order}
 use Rattle.rs_streams.specs.declared.file_watch.FileFault.{FileFault}
 use Rattle.rs_live.specs.declared.ports.PortFault.{PortFault}
 use Rattle.rs_live.specs.declared.ports.Incoming.{Incoming}
@@ -14,6 +15,7 @@ pub data Call : Type 0 where
   Closed : (key : ℕ) → Call
   Timed : (seconds : ℕ) → Call
   Fetched : (text : List ℕ) (answer : Result Bool FileFault) → Call
+  Ordered : (answer : Option Order) → Call
   Printed : (line : Line) → Call
   Logged : (report : Report) → Call
 
@@ -24,7 +26,7 @@ IsLastRead (Ok (Some count)) = count ≡ 0
 IsLastRead (Err fault) = ⊤
 
 -- nothing comes of this call: it is no wait, no write and no close, no accept that failed or gave a connection, and no read that is
--- a connection's last or gave octets
+-- a connection's last or gave octets; and no order was given
 abbrev pub IsGood : Call → Type 0
 IsGood (Waited answer) = ⊥
 IsGood (Accepted answer) = answer ≡ Ok None
@@ -33,6 +35,7 @@ IsGood (Wrote key octets answer) = ⊥
 IsGood (Closed key) = ⊥
 IsGood (Timed seconds) = ⊤
 IsGood (Fetched text answer) = ⊤
+IsGood (Ordered answer) = answer ≡ None
 IsGood (Printed line) = ⊤
 IsGood (Logged report) = ⊤
 
@@ -44,6 +47,7 @@ IsFailedWait (Wrote key octets answer) = ⊥
 IsFailedWait (Closed key) = ⊥
 IsFailedWait (Timed seconds) = ⊥
 IsFailedWait (Fetched text answer) = ⊥
+IsFailedWait (Ordered answer) = ⊥
 IsFailedWait (Printed line) = ⊥
 IsFailedWait (Logged report) = ⊥
 
@@ -55,6 +59,7 @@ IsFailedAccept (Wrote key octets answer) = ⊥
 IsFailedAccept (Closed key) = ⊥
 IsFailedAccept (Timed seconds) = ⊥
 IsFailedAccept (Fetched text answer) = ⊥
+IsFailedAccept (Ordered answer) = ⊥
 IsFailedAccept (Printed line) = ⊥
 IsFailedAccept (Logged report) = ⊥
 
@@ -67,5 +72,14 @@ FindsLost key (Wrote k octets answer) = ⊥
 FindsLost key (Closed k) = ⊥
 FindsLost key (Timed seconds) = ⊥
 FindsLost key (Fetched text answer) = ⊥
+FindsLost key (Ordered answer) = ⊥
 FindsLost key (Printed line) = ⊥
 FindsLost key (Logged report) = ⊥
+
+-- by this call this connection has come
+abbrev pub IsAccept : Incoming → Call → Type 0
+IsAccept incoming call = call ≡ Accepted (Ok (Some incoming))
+
+-- by this call the ports gave this order
+abbrev pub IsOrder : Order → Call → Type 0
+IsOrder order call = call ≡ Ordered (Some order)

@@ -1,5 +1,6 @@
 pub mod Calls
 pub mod Operations
+pub mod Orders
 pub mod Handled
 pub mod Keeping
 pub mod Keys
@@ -7,5 +8,6 @@ pub mod Leaving
 pub mod Moments
 pub mod Rounds
 pub mod Sending
+pub mod Shown
 pub mod Tallies
 pub mod Waiting

@@ -10,9 +10,10 @@ kind_of (lines.Busy c) = 1
 kind_of (lines.Close c) = 2
 kind_of (lines.Lost c) = 3
 kind_of (lines.Memory c) = 4
-kind_of lines.Stranger = 5
-kind_of (lines.Rules answer) = 5
-kind_of (lines.File fault) = 5
+kind_of (lines.Disabled c) = 5
+kind_of lines.Stranger = 6
+kind_of (lines.Rules answer) = 6
+kind_of (lines.File fault) = 6
 
 -- how many lines of its kind these counts have
 abbrev pub counted_in : Line → List ℕ → ℕ

@@ -235,6 +235,10 @@ pub struct ClientConnections {
     pub busy: u64,
     /// The last turns that were refused memory for the client.
     pub refused: Option<Refused>,
+    /// The operator keeps the client down: no connection of its is taken.
+    pub is_down: bool,
+    /// How many were closed for that since somebody has asked.
+    pub kept_out: u64,
 }
 
 impl ClientConnections {
@@ -243,6 +247,7 @@ impl ClientConnections {
         ensures key { self.new.live.key ≡ Some key }
         ensures empty { self.new.live.out ≡ [] }
         ensures closing { self.new.closing ≡ self.old.closing }
+        ensures down { self.new.is_down ≡ self.old.is_down }
         ensures silent { (self.new.is_silent ≡ true) × (self.new.offered ≡ None) }
     {
         self.live.begin(key);
@@ -254,6 +259,7 @@ impl ClientConnections {
     pub(crate) fn hear(&mut self, octets: &[u8])
         ensures live { self.new.live ≡ self.old.live }
         ensures closing { self.new.closing ≡ self.old.closing }
+        ensures down { self.new.is_down ≡ self.old.is_down }
         ensures silent { self.new.is_silent ≡ false }
         ensures first { self.old.is_silent ≡ true → IsOffered octets.now self.new.offered }
         ensures later { self.old.is_silent ≡ false → self.new.offered ≡ self.old.offered }
@@ -268,6 +274,7 @@ impl ClientConnections {
     pub(crate) fn take_busy(&mut self) -> Option<(u32, u64)>
         ensures live { self.new.live ≡ self.old.live }
         ensures closing { self.new.closing ≡ self.old.closing }
+        ensures down { self.new.is_down ≡ self.old.is_down }
         ensures taken { self.new.busy ≡ 0 }
         ensures none { self.old.busy ≡ 0 → result ≡ None }
         ensures some { 0 < self.old.busy → result ≡ Some (self.old.peer, self.old.busy) }
@@ -278,10 +285,27 @@ impl ClientConnections {
         }
     }
 
+    /// Its address, and how many of its connections were closed since the last call as it is kept down; `None`
+    /// where there were none.
+    pub(crate) fn take_kept_out(&mut self) -> Option<(u32, u64)>
+        ensures live { self.new.live ≡ self.old.live }
+        ensures closing { self.new.closing ≡ self.old.closing }
+        ensures down { self.new.is_down ≡ self.old.is_down }
+        ensures taken { self.new.kept_out ≡ 0 }
+        ensures none { self.old.kept_out ≡ 0 → result ≡ None }
+        ensures some { 0 < self.old.kept_out → result ≡ Some (self.old.peer, self.old.kept_out) }
+    {
+        match mem::replace(&mut self.kept_out, 0) {
+            0 => None,
+            count => Some((self.peer, count)),
+        }
+    }
+
     /// This turn was refused memory for the client.
     pub(crate) fn refuse(&mut self, now: u64, turn: u64)
         ensures live { self.new.live ≡ self.old.live }
         ensures closing { self.new.closing ≡ self.old.closing }
+        ensures down { self.new.is_down ≡ self.old.is_down }
     {
         let since = match self.refused {
             Some(before) if before.turn.saturating_add(1) >= turn => before.since,
@@ -305,6 +329,7 @@ impl ClientConnections {
         ensures empty { self.new.live.out ≡ [] }
         ensures rest_key { self.new.closing.key ≡ self.old.live.key }
         ensures rest { self.new.closing.out ≡ self.old.live.out }
+        ensures down { self.new.is_down ≡ self.old.is_down }
     {
         mem::swap(&mut self.live, &mut self.closing);
         self.live.forget();
@@ -346,6 +371,8 @@ pub fn connections(alloc: Global, config: &Config) -> Result<Vec<ClientConnectio
             offered: None,
             busy: 0,
             refused: None,
+            is_down: false,
+            kept_out: 0,
         })?;
     }
     Ok(all)

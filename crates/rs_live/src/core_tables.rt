@@ -1,7 +1,13 @@
 //! The tables of the core, as the pages of the window ask for them.
 
-ghost use Rattle.std.specs.Prelude.{◌<◌};
+ghost use Rattle.std.specs.Prelude.{◌<◌, List, option_map};
+ghost use Rattle.std.specs.Arc.{arc_value};
 ghost use Rattle.rs_core.specs.Core.{client_count};
+ghost use Rattle.rs_core.specs.Run.Agreeing.{Agrees};
+ghost use Rattle.rs_core.specs.Run.Meaning.{table};
+ghost use Rattle.rs_core.specs.Run.Moves.{Move};
+ghost use Rattle.rs_pages.specs.Firsts.{IsFirst};
+ghost use Rattle.rs_live.specs.Shown.{due_last};
 
 use rs_attrs::Attrs;
 use rs_core::{Core, Ending};
@@ -32,6 +38,7 @@ impl<'a> CoreTables<'a> {
     /// The first route of a member's Adj-RIB-In whose prefix has this number or a later one.
     fn first_received(&self, member: usize, at: u64) -> Option<(Prefix, &Arc<Attrs>)>
         requires { member < client_count self.now.0.now }
+        ensures { (run : List Move) → Agrees self.now.0.now run → IsFirst (table run member) at (option_map (λ route. (route.0, arc_value route.1.now)) result) }
     {
         for (prefix, attrs) in self.0.received_from(member, prefix_at(at)) {
             if key(&prefix) >= at {
@@ -44,6 +51,7 @@ impl<'a> CoreTables<'a> {
     /// The same of its Loc-RIB.
     fn first_sent(&self, member: usize, at: u64) -> Option<(Prefix, &Arc<Attrs>)>
         requires { member < client_count self.now.0.now }
+        ensures { (run : List Move) → Agrees self.now.0.now run → IsFirst (due_last run member) at (option_map (λ route. (route.0, arc_value route.1.now)) result) }
     {
         for (prefix, attrs) in self.0.routes_from(member, prefix_at(at)) {
             if key(&prefix) >= at {
@@ -55,7 +63,11 @@ impl<'a> CoreTables<'a> {
 }
 
 impl Tables for CoreTables<'_> {
-    ghost first = { λ tables rib member at route. Unit {0} };
+    ghost use Rattle.rs_live.specs.Shown.{IsFirstOf, IsConfigured};
+
+    ghost first = { λ tables rib member at route. IsFirstOf tables.0.now rib member at route };
+
+    ghost configured = { λ tables config. IsConfigured tables.0.now config };
 
     fn config(&self) -> &Config {
         self.0.config()

@@ -20,6 +20,7 @@ mod core_tables;
 pub mod lines;
 mod listeners;
 pub mod live_link;
+pub mod orders;
 pub mod outbox;
 pub mod ports;
 pub mod record;

@@ -90,24 +90,34 @@ impl<'a> Lines<'a> {
         match line {
             Line::Rules(_) | Line::File(_) => None,
             Line::Stranger => Some(self.names.count()),
-            Line::Begin(c) | Line::Busy(c) | Line::Close(c) | Line::Lost(c) | Line::Memory(c) =>
-                Some(*c),
+            Line::Begin(c)
+            | Line::Busy(c)
+            | Line::Disabled(c)
+            | Line::Close(c)
+            | Line::Lost(c)
+            | Line::Memory(c) => Some(*c),
         }
     }
 }
 
 /// A line of each kind as this one's place can have: the losses of service stand before a begin, unless the
 /// last line is one.
-fn kinds(line: &Line) -> [Line; 5] {
+fn kinds(line: &Line) -> [Line; 6] {
     match line {
-        Line::Begin(c) | Line::Busy(c) | Line::Close(c) | Line::Lost(c) | Line::Memory(c) => [
+        Line::Begin(c)
+        | Line::Busy(c)
+        | Line::Disabled(c)
+        | Line::Close(c)
+        | Line::Lost(c)
+        | Line::Memory(c) => [
             Line::Memory(*c),
             Line::Close(*c),
             Line::Lost(*c),
             Line::Busy(*c),
+            Line::Disabled(*c),
             Line::Begin(*c),
         ],
-        _ => [*line; 5],
+        _ => [*line; 6],
     }
 }
 
@@ -141,6 +151,7 @@ fn print_line<S: Stream>(output: &mut Printer<S>, names: &Names, line: &Line, co
     match line {
         Line::Begin(c) => output.print(Worded("begin", names.name(*c), count)),
         Line::Busy(c) => output.print(Worded("busy", names.name(*c), count)),
+        Line::Disabled(c) => output.print(Worded("disabled", names.name(*c), count)),
         Line::Close(c) => output.print(Worded("close", names.name(*c), count)),
         Line::Lost(c) => output.print(Worded("lost", names.name(*c), count)),
         Line::Memory(c) => output.print(Worded("memory", names.name(*c), count)),

@@ -2,15 +2,18 @@
 //! what the core calls goes to the ports (`sink`). Where a connection fails the core hears of its loss at
 //! once.
 
-ghost use Rattle.std.specs.Prelude.{◌≡◌, ◌<◌, ◌∷◌, true, false, List, [], Some, None, slice_get, IfSome, IsTrue, IsFalse};
+ghost use Rattle.std.specs.Prelude.{◌≡◌, ◌<◌, ◌≤◌, ◌+◌, ◌∷◌, true, false, ℕ, List, [], Some, None, slice_get, IfSome, IsTrue, IsFalse};
 ghost use Rattle.rs_live.specs.Calls.{Call, Closed, Logged, Printed, IsFailedAccept};
-ghost use Rattle.rs_live.specs.Handled.{Has, EndBy, EndByWait, Keeps};
-ghost use Rattle.rs_live.specs.Keeping.{IsFairBy, IsPlain, all_held, before, change, held_by, with_live};
+ghost use Rattle.rs_live.specs.Handled.{Has, EndBy, EndByWait, IsAskedFor, Keeps};
+ghost use Rattle.rs_live.specs.Keeping.{Agrees, IsApart, IsFairBy, IsPlain, all_held, before, change, held_by, with_down, with_live};
 ghost use Rattle.rs_live.specs.Leaving.{LeavesClients, LeavesPorts, LeavesRound, SamePorts};
+ghost use Rattle.rs_live.specs.Operations.{Operation};
+ghost use Rattle.rs_live.specs.Orders.{IsAtEnd};
 ghost use Rattle.rs_reports.specs.Levels.{level_of};
 
 use crate::connections::ClientConnections;
 use crate::ports::{Incoming, Line, Ports};
+use rs_control::order::Order;
 use rs_core::Core;
 use rs_policy::RulesFault;
 use rs_reports::offers::Offered;
@@ -23,6 +26,9 @@ use std::mem;
 /// a whole table may be to decide then, for one client or for all.
 pub(crate) const WIDE: u64 = 2;
 
+/// How many seconds a server that is to end has for its connections to be closed.
+pub(crate) const PARTING: u64 = 5;
+
 /// What a round does next.
 #[derive(Clone, Copy, Debug, PartialEq, Eq)]
 pub(crate) enum Stage {
@@ -30,6 +36,8 @@ pub(crate) enum Stage {
     Rules,
     /// Gives it the first moment of the round.
     Start,
+    /// Gives it what the operator orders; the ports were asked so often.
+    Orders(u32),
     Accept,
     /// A connection of this client has come, and the core is to answer.
     Come(usize, Incoming),
@@ -41,6 +49,15 @@ pub(crate) enum Stage {
     /// Writes what this client's connection was handed.
     Handed(usize),
     Over,
+}
+
+/// The server is to end.
+#[derive(Clone, Copy, Debug, PartialEq, Eq)]
+pub(crate) struct Stopping {
+    /// What the clock answered in the round in which it was ordered.
+    pub(crate) since: u64,
+    /// The core was told to stop each client below this one.
+    pub(crate) told: usize,
 }
 
 /// How far a round has come.
@@ -55,6 +72,17 @@ pub(crate) struct Phase {
     pub(crate) told: u64,
     /// Each client below this one that has a connection was read since.
     pub(crate) read_to: usize,
+    /// Whether the server is to end.
+    pub(crate) stopping: Option<Stopping>,
+}
+
+impl Stopping {
+    /// The time is up that connections have to be closed.
+    fn is_late(&self, clock: u64) -> bool
+        ensures { IsTrue result → self.now.since + 5 ≤ clock }
+    {
+        clock.saturating_sub(self.since) >= PARTING
+    }
 }
 
 impl Phase {
@@ -65,6 +93,7 @@ impl Phase {
         quiet: 0,
         told: 0,
         read_to: 0,
+        stopping: None,
     };
 
     /// The moment to give to the core now, beside so many clients. While one of them was not read since
@@ -93,8 +122,7 @@ pub struct LiveLink<'a, P> {
     /// How many pieces the round has read, and whether one since it began with the first client again.
     pub(crate) pieces: u32,
     pub(crate) has_heard: bool,
-    /// What was read since the last turn.
-    pub(crate) pieces_heard: u32,
+    /// How many octets were read since the last turn.
     pub(crate) octets_heard: usize,
     /// How often this connection was given room after this turn.
     pub(crate) rooms: u32,
@@ -138,7 +166,6 @@ impl<'a, P: Ports> LiveLink<'a, P> {
             reading: 0,
             pieces: 0,
             has_heard: false,
-            pieces_heard: 0,
             octets_heard: 0,
             rooms: 0,
             turns: 0,
@@ -186,6 +213,7 @@ impl<'a, P: Ports> LiveLink<'a, P> {
         ensures same_ports { SamePorts self.old self.new }
         ensures failed { self.new.has_failed ≡ self.old.has_failed }
         ensures handled { self.old.phase.stage ≡ Stage.Start → Keeps P.asked self.old → Keeps P.asked self.new }
+        ensures ordered { (asked : ℕ) → self.old.phase.stage ≡ Stage.Orders asked → IsAskedFor P.asked Order.Reload self.old → Keeps P.asked self.new }
     {
         if !self.fetch() {
             return;
@@ -203,6 +231,7 @@ impl<'a, P: Ports> LiveLink<'a, P> {
     fn fetch(&mut self) -> bool
         ensures leaves { LeavesClients self.old self.new }
         ensures handled { Keeps P.asked self.old → Keeps P.asked self.new }
+        ensures ordered { IsAskedFor P.asked Order.Reload self.old → Keeps P.asked self.new }
     {
         match self.ask_text() {
             Ok(is_new) => is_new,
@@ -217,6 +246,7 @@ impl<'a, P: Ports> LiveLink<'a, P> {
     fn ask_text(&mut self) -> Result<bool, FileFault>
         ensures leaves { LeavesClients self.old self.new }
         ensures handled { Keeps P.asked self.old → Keeps P.asked self.new }
+        ensures ordered { IsAskedFor P.asked Order.Reload self.old → Keeps P.asked self.new }
     {
         self.ports.text(self.read)
     }
@@ -272,6 +302,38 @@ impl<'a, P: Ports> LiveLink<'a, P> {
     /// No connection is being closed.
     pub fn has_closed_all(&self) -> bool {
         !self.connections.iter().any(|own| own.closing.is_open())
+    }
+
+    /// A client has a connection, or one that is being closed.
+    fn has_connection(&self, c: usize) -> bool
+        ensures { IsFalse result → IsApart (held_by c (all_held self.entry.now)) }
+    {
+        match self.connections.get(c) {
+            Some(own) => own.live.is_open() || own.closing.is_open(),
+            None => false,
+        }
+    }
+
+    /// No client has one.
+    fn is_alone(&self) -> bool
+        ensures { IsTrue result → (c : ℕ) → IsApart (held_by c (all_held self.entry.now)) }
+    {
+        for c in 0..self.connections.len() {
+            if self.has_connection(c) {
+                return false;
+            }
+        }
+        true
+    }
+
+    /// The server may end as it was ordered: no client has a connection any more, or the time for that is up.
+    pub fn is_at_end(&self) -> bool
+        ensures { IsTrue result → (operations : List Operation) → Agrees (all_held self.entry.now) self.entry.now.phase operations → IsAtEnd operations }
+    {
+        match self.phase.stopping {
+            Some(stopping) => self.is_alone() || stopping.is_late(self.phase.clock),
+            None => false,
+        }
     }
 
     /// The address of the first stranger since the last call, and how many there were.
@@ -380,6 +442,49 @@ impl<'a, P: Ports> LiveLink<'a, P> {
     {
         if let Some(own) = self.connections.get_mut(c) {
             own.busy = own.busy.saturating_add(1);
+        }
+    }
+
+    /// Its address, and how many of its connections were closed since the last call as it is kept down; `None`
+    /// where there were none.
+    pub fn take_kept_out(&mut self, c: usize) -> Option<(u32, u64)>
+        ensures leaves { LeavesPorts self.old self.new }
+        ensures none { IfSome (slice_get self.old.connections.now.items c) (λ own. own.kept_out ≡ 0 → result ≡ None) }
+        ensures some { IfSome (slice_get self.old.connections.now.items c) (λ own. 0 < own.kept_out → result ≡ Some (own.peer, own.kept_out)) }
+    {
+        match self.connections.get_mut(c) {
+            Some(own) => own.take_kept_out(),
+            None => None,
+        }
+    }
+
+    /// A connection of a client that is kept down is closed.
+    pub(crate) fn note_kept_out(&mut self, c: usize)
+        ensures { LeavesPorts self.old self.new }
+    {
+        if let Some(own) = self.connections.get_mut(c) {
+            own.kept_out = own.kept_out.saturating_add(1);
+        }
+    }
+
+    /// A client is kept down.
+    pub(crate) fn is_down(&self, c: usize) -> bool
+        ensures { result ≡ (held_by c (all_held self.entry.now)).is_down }
+    {
+        match self.connections.get(c) {
+            Some(own) => own.is_down,
+            None => false,
+        }
+    }
+
+    /// From now on a client is kept down, or no longer.
+    pub(crate) fn keep_down(&mut self, c: usize, is_down: bool)
+        ensures leaves { LeavesRound self.old self.new }
+        ensures held { all_held self.new ≡ change c (with_down is_down) (all_held self.old) }
+        ensures unasked { self.new.ports.now ≡ self.old.ports.now }
+    {
+        if let Some(own) = self.connections.get_mut(c) {
+            own.is_down = is_down;
         }
     }
 

@@ -2,9 +2,11 @@
 //! print. Nothing else of the crate but its sockets reaches further.
 
 ghost use Rattle.std.specs.Prelude.{◌≡◌, ◌≤◌, ◌∷◌, ℕ, Bool, List, IfOk, IfSome, length};
-ghost use Rattle.rs_live.specs.Calls.{Call, Waited, Accepted, Read, Wrote, Closed, Timed, Fetched, Printed, Logged};
+ghost use Rattle.rs_live.specs.Calls.{Call, Waited, Accepted, Read, Wrote, Closed, Timed, Fetched, Ordered, Printed, Logged};
+ghost use Rattle.rs_live.specs.Orders.{IsOf};
 ghost use Rattle.rs_reports.specs.declared.logging.Level.{Level};
 
+use rs_control::order::Order;
 use rs_core::Core;
 use rs_policy::RulesFault;
 use rs_reports::logging::Level;
@@ -32,6 +34,8 @@ pub enum Line {
     Begin(usize),
     /// A second connection of a client is closed.
     Busy(usize),
+    /// A connection of a client that is kept down is closed.
+    Disabled(usize),
     /// A connection of nobody's is closed.
     Stranger,
     /// The server closes the connection of a client.
@@ -84,6 +88,11 @@ pub trait Ports {
     /// not given already; what then stands in `text` is not said. A fault is answered once.
     fn text(&mut self, text: &mut Vec<u8>) -> Result<bool, FileFault>
         ensures { (calls : List Call) → asked self.old calls → asked self.new (Fetched text.new.items result ∷ calls) };
+
+    /// The next order of the operator's, to a server of so many clients; `None` where there is none now.
+    fn command(&mut self, clients: usize) -> Option<Order>
+        ensures client { IfSome result (λ order. IsOf clients order) }
+        ensures asked { (calls : List Call) → asked self.old calls → asked self.new (Ordered result ∷ calls) };
 
     /// Prints a line, now or later, or counts it among those that are left out.
     fn print(&mut self, line: &Line)

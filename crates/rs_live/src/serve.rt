@@ -1,9 +1,12 @@
 //! The loop of the server.
 
-ghost use Rattle.std.specs.Prelude.{◌≡◌, ◌≤◌, ◌<◌, [], false, true, IsOk, IsErr, IsSome, IsTrue};
+ghost use Rattle.std.specs.Prelude.{◌≡◌, ◌≤◌, ◌<◌, List, [], false, true, IsOk, IsErr, IsTrue};
 ghost use Rattle.rs_live.specs.Calls.{IsFailedAccept};
 ghost use Rattle.rs_live.specs.Handled.{Has, EndBy, IsRunning, IsServed, Keeps};
+ghost use Rattle.rs_live.specs.Keeping.{Agrees, all_held};
 ghost use Rattle.rs_live.specs.Leaving.{SamePorts};
+ghost use Rattle.rs_live.specs.Operations.{Operation};
+ghost use Rattle.rs_live.specs.Orders.{MayEnd};
 
 use crate::connections::connections;
 use crate::live_link::{LiveLink, Stage};
@@ -40,7 +43,8 @@ pub struct Limits {
 }
 
 /// Serves the clients of a configuration, over ports that listen already and were asked nothing yet.
-/// It ends without a fault once `sessions` begun sessions have ended and their connections are closed.
+/// It ends without a fault once `sessions` begun sessions have ended and their connections are closed; or, where
+/// the ports give the order to end, once no client has a connection, or five seconds later.
 ///
 /// # Errors
 ///
@@ -56,8 +60,7 @@ pub fn serve<R: Threads + Wait + Sync, P: Ports>(
     limits: Limits,
 ) -> Result<(), ServeFault>
     requires workers { (0 < limits.workers) × (limits.workers ≤ 16) }
-    ensures served { P.asked ports.old [] → Has P.asked ports.new (IsServed result) }
-    ensures ended { IsOk result → IsSome limits.sessions }
+    ensures served { P.asked ports.old [] → Has P.asked ports.new (IsServed limits.sessions result) }
 {
     let Ok(mut connections) = connections(alloc, &config) else {
         return Err(ServeFault::Memory);
@@ -88,8 +91,7 @@ fn serve_on<R: Threads + Wait + Sync, P: Ports>(
 ) -> Result<(), ServeFault>
     requires workers { (0 < limits.workers) × (limits.workers ≤ 16) }
     ensures same_ports { SamePorts link.old link.new }
-    ensures served { link.old.phase.stage ≡ Stage.Over → IsRunning P.asked link.old → Has P.asked link.new.ports.now (IsServed result) }
-    ensures ended { IsOk result → IsSome limits.sessions }
+    ensures served { link.old.phase.stage ≡ Stage.Over → IsRunning P.asked link.old → Has P.asked link.new.ports.now (IsServed limits.sessions result) }
 {
     let mut rounds = 0;
     recording.begin(link);
@@ -124,13 +126,14 @@ fn reload<P: Ports>(rounds: u16, every: Option<u16>, link: &mut LiveLink<'_, P>)
     next
 }
 
-/// As many sessions have ended as were asked for, and their connections are closed.
+/// As many sessions have ended as were asked for, and their connections are closed; or the server may end as
+/// it was ordered.
 fn is_done<P: Ports>(sessions: Option<u64>, link: &LiveLink<'_, P>) -> bool
-    ensures { IsTrue result → IsSome sessions }
+    ensures { IsTrue result → (operations : List Operation) → Agrees (all_held link.now) link.now.phase operations → MayEnd sessions operations }
 {
     match sessions {
-        Some(most) => link.ended() >= most && link.has_closed_all(),
-        None => false,
+        Some(most) if link.ended() >= most && link.has_closed_all() => true,
+        _ => link.is_at_end(),
     }
 }
 

@@ -6,20 +6,24 @@ ghost use Rattle.rs_reports.specs.Levels.{is_shown};
 use crate::configuration::Configuration;
 use crate::lines::Lines;
 use crate::listeners::{Accepted, Listeners};
+use crate::orders;
 use crate::ports::{Incoming, Line, PortFault, Ports};
 use crate::record::Record;
 use crate::serve::ServeFault;
 use crate::shown::Shown;
 use mio::net::{TcpListener, TcpStream};
 use mio::{Events, Interest, Poll, Token};
+use rs_control::order::Order;
+use rs_control::orders::Reloaded;
 use rs_core::Core;
 use rs_reports::logging::{Level, Log, Stamp};
 use rs_reports::names::Names;
-use rs_reports::reports::Report;
+use rs_reports::reports::{Report, Worded};
 use rs_streams::file_watch::{FileFault, FileWatch};
 use rs_streams::printer::Printer;
 use rs_streams::record_file::RecordEnd;
 use rs_streams::streams::Descriptor;
+use rs_visitors::control::{Control, remove};
 use rs_visitors::window::Window;
 use slab::Slab;
 use std::alloc::{AllocError, Global};
@@ -27,13 +31,16 @@ use std::io::{ErrorKind, Read, Write};
 use std::net::{IpAddr, Ipv4Addr, Net, SocketAddr, SocketAddrV4};
 use std::rt::{Clock, Files};
 use std::time::{Duration, Instant, SystemTime, UNIX_EPOCH};
-use std::{fmt, io};
+use std::{fmt, io, mem};
 
 /// The tokens of listeners lie above those of connections.
 const FIRST_LISTENER: usize = 1 << 32;
 
 /// The tokens of the window lie above those of listeners.
 const WINDOW: usize = 1 << 33;
+
+/// The tokens of the control socket lie above those of the window.
+const CONTROL: usize = 1 << 34;
 
 /// A connection, and whether something may be there to read.
 #[derive(Drop)]
@@ -62,7 +69,11 @@ pub struct Sockets<'a, R: Files> {
     events: Events,
     listeners: Listeners,
     streams: Slab<Connected>,
-    window: Option<Shown>,
+    shown: Shown,
+    /// The path of the control socket, where there is one.
+    control: Option<&'a str>,
+    /// The configuration is to be read at once.
+    is_hurried: bool,
     start: Instant,
     /// The second for which it was marked what may be there.
     marked: Option<u64>,
@@ -131,6 +142,13 @@ fn open_listener<R: Net>(
     Ok(listener)
 }
 
+/// The time of day, in seconds since 1970-01-01T00:00:00Z; `None` where the system doesn't say it.
+fn time_of_day<R: Clock>(rt: &R) -> Option<u64> {
+    let time = SystemTime::now(rt).ok()?;
+    let since = time.duration_since(UNIX_EPOCH).ok()?;
+    Some(since.as_secs())
+}
+
 /// Listens at these addresses.
 fn open_listeners<R: Net>(
     rt: &R,
@@ -181,7 +199,9 @@ impl<'a, R: Net + Clock + Files> Sockets<'a, R> {
             events,
             listeners,
             streams,
-            window: None,
+            shown: Shown::new(alloc, names.count(), time_of_day(rt).unwrap_or(0))?,
+            control: None,
+            is_hurried: false,
             start: Instant::now(rt)?,
             marked: None,
             record: None,
@@ -196,18 +216,26 @@ impl<'a, R: Net + Clock + Files> Sockets<'a, R> {
     /// Opens the window at an address, and says so, a line.
     pub fn open_window(&mut self, address: SocketAddr) -> io::Result<()> {
         let window = Window::open(self.rt, self.alloc, &self.poll, WINDOW, address)?;
-        let start = self
-            .time_of_day()
-            .unwrap_or(0)
-            .saturating_sub(self.passed());
-        self.window = Some(Shown::new(self.alloc, window, self.names.count(), start)?);
+        self.shown.open_window(window);
         self.output.print(format_args!("window {address}"));
         Ok(())
     }
 
+    /// Takes commands at the Unix socket at this path, and says so, a line.
+    pub fn open_control(&mut self, path: &'a str) -> io::Result<()> {
+        let control = Control::open(self.rt, self.alloc, &self.poll, CONTROL, path)?;
+        self.shown.open_control(control);
+        self.control = Some(path);
+        self.output.print(format_args!("control {path}"));
+        Ok(())
+    }
+
     /// Prints all lines that wait, and why the server ended, where that was a fault; the record is written
-    /// to its end.
+    /// to its end, and the control socket removed.
     pub fn finish(&mut self, served: &Result<(), ServeFault>) {
+        if let Some(path) = self.control {
+            remove(self.rt, path);
+        }
         if let Some(record) = &mut self.record
             && let Err(why) = record.finish()
         {
@@ -234,10 +262,7 @@ impl<'a, R: Net + Clock + Files> Sockets<'a, R> {
             return false;
         }
         let now = self.passed_milliseconds();
-        match &mut self.window {
-            Some(window) => window.give_up(&self.poll, now),
-            None => false,
-        }
+        self.shown.give_up(&self.poll, now)
     }
 
     /// The seconds since the start.
@@ -254,10 +279,10 @@ impl<'a, R: Net + Clock + Files> Sockets<'a, R> {
             .poll(&mut self.events, Some(Duration::from_secs(most)))?;
         for event in self.events.iter() {
             let token = event.token().0;
-            if token >= WINDOW {
-                if let Some(window) = &mut self.window {
-                    window.note(token);
-                }
+            if token >= CONTROL {
+                self.shown.note_control(token);
+            } else if token >= WINDOW {
+                self.shown.note(token);
             } else if token >= FIRST_LISTENER {
                 self.listeners.mark_ready(token - FIRST_LISTENER);
             } else if let Some(stream) = self.streams.get_mut(token) {
@@ -275,17 +300,46 @@ impl<'a, R: Net + Clock + Files> Sockets<'a, R> {
         self.errors.flush();
     }
 
-    /// The time of day, in seconds since 1970-01-01T00:00:00Z; `None` where the system doesn't say it.
-    fn time_of_day(&self) -> Option<u64> {
-        let time = SystemTime::now(self.rt).ok()?;
-        let since = time.duration_since(UNIX_EPOCH).ok()?;
-        Some(since.as_secs())
+    /// Says what came of a reload that an operator ordered, where a line says it.
+    fn tell_reload(&mut self, line: &Line) {
+        let names = self.names;
+        match line {
+            Line::Rules(Ok(())) => self.shown.tell(Reloaded::Replaced),
+            Line::Rules(answer) => {
+                self.refuse_reload(Worded(&Report::Rules(*answer), names));
+            }
+            Line::File(fault) => {
+                self.refuse_reload(Worded(&Report::File(*fault), names));
+            }
+            _ => {}
+        }
+    }
+
+    /// Says why a reload that an operator ordered was not done.
+    fn refuse_reload<D: fmt::Display + Drop>(&mut self, why: D) {
+        if self.shown.is_reloading() {
+            let text = format!(in self.alloc; "{why}").unwrap_or(String::new(self.alloc));
+            self.shown.tell(Reloaded::Refused(text));
+        }
+    }
+
+    /// Puts the text of the configuration in place of what stands there, at once or where it is time.
+    fn read_text(&mut self, text: &mut Vec<u8>) -> Result<bool, FileFault> {
+        let second = self.passed();
+        if !mem::replace(&mut self.is_hurried, false) {
+            return self.watch.take_up(&mut self.configuration, second, text);
+        }
+        let is_read = self.watch.take_now(&mut self.configuration, second, text)?;
+        if !is_read {
+            self.refuse_reload("rules refused: a file changed while it was read");
+        }
+        Ok(is_read)
     }
 
     /// What a line of the log begins with now.
     fn stamp(&self) -> Stamp {
         if self.log.has_utc
-            && let Some(second) = self.time_of_day()
+            && let Some(second) = time_of_day(self.rt)
         {
             return Stamp::Utc(second);
         }
@@ -307,7 +361,7 @@ impl<'a, R: Net + Clock + Files> Sockets<'a, R> {
 
     /// Records lines, behind which the record may end.
     fn take_lines(&mut self, lines: &[u8], end: Option<RecordEnd>) -> Result<(), RecordEnd> {
-        let second = self.time_of_day();
+        let second = time_of_day(self.rt);
         if let Some(record) = &mut self.record {
             record.take(second, lines)?;
         }
@@ -426,8 +480,7 @@ impl<'a, R: Net + Clock + Files> Ports for Sockets<'a, R> {
     }
 
     fn text(&mut self, text: &mut Vec<u8>) -> Result<bool, FileFault> {
-        let second = self.passed();
-        let is_read = self.watch.take_up(&mut self.configuration, second, text)?;
+        let is_read = self.read_text(text)?;
         if is_read
             && let Some(record) = &mut self.record
             && let Err(why) = record.note_text(text)
@@ -437,30 +490,35 @@ impl<'a, R: Net + Clock + Files> Ports for Sockets<'a, R> {
         Ok(is_read)
     }
 
+    fn command(&mut self, clients: usize) -> Option<Order> {
+        let order = self.shown.take_order()?;
+        if order == Order::Reload {
+            self.is_hurried = true;
+        }
+        orders::of(order, clients)
+    }
+
     fn print(&mut self, line: &Line) {
         let second = self.passed();
+        self.tell_reload(line);
         self.lines.print(&mut self.output, second, line);
         if let Line::Rules(Ok(())) = line
             && let Some(record) = &mut self.record
         {
             record.replace();
         }
-        if let Line::Rules(Ok(())) = line
-            && let Some(window) = &mut self.window
-        {
-            window.note_rules(second);
+        if let Line::Rules(Ok(())) = line {
+            self.shown.note_rules(second);
         }
     }
 
     fn show(&mut self, core: &Core, is_busy: bool) -> bool {
-        if self.window.is_none() {
-            return false;
+        if self.shown.is_reloading() && !self.is_hurried {
+            // It was read, and nothing was printed of it.
+            self.shown.tell(Reloaded::Same);
         }
         let now = self.passed_milliseconds();
-        match &mut self.window {
-            Some(window) => window.go_on(&self.poll, self.alloc, core, is_busy, now),
-            None => false,
-        }
+        self.shown.go_on(&self.poll, self.alloc, core, is_busy, now)
     }
 
     fn shows(&self, level: Level) -> bool {

@@ -1,28 +1,34 @@
-//! The events of a round, one at a time. A round gives a moment, accepts the connections that have come,
-//! then reads one piece of each connection that is ready, and again while there is more and few were
-//! ready. After every few pieces read, and once at the end, come a moment, a turn, and room for each
-//! connection. Turns so stay small: an outlet that was touched at more than 4,096 prefixes would decide
+//! The events of a round, one at a time. A round gives a moment, what the operator has ordered, accepts the
+//! connections that have come, then reads one piece of each connection that is ready, and again while there is more and few were
+//! ready. Once much was heard, and at the end, come a moment, a turn, and room for each connection. Turns so stay small: an outlet that was touched at more than 4,096 prefixes would decide
 //! its whole table.
 
-ghost use Rattle.std.specs.Prelude.{◌≡◌, ◌+◌, ◌<◌, ◌≤◌, ◌∷◌, ℕ, List, min, length, None, IfSome, IfErr, IsOk, IsNone, false};
+ghost use Rattle.std.specs.Prelude.{◌≡◌, ◌+◌, ◌<◌, ◌≤◌, ◌∷◌, ℕ, List, min, length, Some, None, IfSome, IfErr, IsOk, IsSome, IsNone, IsFalse, false};
 ghost use Rattle.rs_live.specs.Calls.{Call, Closed, Printed};
-ghost use Rattle.rs_live.specs.Handled.{IsBroken, IsRunning, Keeps, Follows, Answers, AnswersFrom};
-ghost use Rattle.rs_live.specs.Keeping.{all_held, held_by, passed};
+ghost use Rattle.rs_live.specs.Handled.{HasAccepted, IsBroken, IsRunning, Keeps, Follows, Answers, AnswersFrom};
+ghost use Rattle.rs_live.specs.Keeping.{HaveAll, all_held, held_by, passed};
 ghost use Rattle.rs_live.specs.Leaving.{KeepsOn, LeavesClients, LeavesPorts, LeavesRound, SamePorts};
 
-use crate::live_link::{LiveLink, Stage};
+use crate::live_link::{LiveLink, Stage, Stopping, WIDE};
 use crate::ports::{Incoming, Line, Ports};
+use rs_control::order::Order;
 use rs_core::{Event, Link, Source};
+use rs_open::ShutdownText;
+use rs_session::Command;
 
 /// How many connections a round accepts. More wait for the next round, which comes at once: so nobody
 /// who connects over and over keeps the server from those that are connected.
 const ACCEPTED: u32 = 64;
 
+/// For how many orders a round asks.
+const ORDERS: u32 = 16;
+
 /// Where a round has read so many pieces, it begins with the first connection no more.
 const PIECES: u32 = 16;
 
-/// How many pieces are read before a turn: three of 4,096 octets name some 3,000 prefixes of 24 bits.
-const PIECES_A_TURN: u32 = 3;
+/// While at most so many octets were heard since the last turn, more is read before the next: so it is at most
+/// three pieces of 4,096 octets, which name some 3,000 prefixes of 24 bits.
+const OCTETS_A_TURN: usize = 8192;
 
 /// How many times in a row one connection is given room after a turn.
 const ROOMS: u32 = 16;
@@ -51,6 +57,115 @@ impl<'a, P: Ports> LiveLink<'a, P> {
         self.strangers = Some((address, count.saturating_add(1)));
     }
 
+    /// Closes the connection with this key, which has come, of a client that is kept down.
+    fn keep_out(&mut self, c: usize, key: usize)
+        ensures leaves { LeavesClients self.old self.new }
+        ensures asked { (calls : List Call) → P.asked self.old.ports.now calls → P.asked self.new.ports.now (Closed key ∷ Printed (Line.Disabled c) ∷ calls) }
+    {
+        self.ports.print(&Line::Disabled(c));
+        self.ports.close(key);
+        self.note_kept_out(c);
+    }
+
+    /// The client whose connection has come, where it is to be taken; any other is closed.
+    fn welcome(&mut self, incoming: &Incoming) -> Option<usize>
+        ensures leaves { LeavesClients self.old self.new }
+        ensures client { IfSome result (λ c. c < length (all_held self.old)) }
+        ensures up { IfSome result (λ c. (held_by c (all_held self.old)).is_down ≡ false) }
+        ensures unasked { IsSome result → self.new.ports.now ≡ self.old.ports.now }
+        ensures closed { IsNone result → self.old.phase.stage ≡ Stage.Accept → HasAccepted P.asked incoming.now self.old → Keeps P.asked self.new }
+    {
+        let Some(c) = self.client_of(incoming) else {
+            self.refuse(incoming);
+            return None;
+        };
+        if self.is_down(c) {
+            self.keep_out(c, incoming.key);
+            return None;
+        }
+        Some(c)
+    }
+
+    /// Gives the core what the operator orders next, where the ports were asked so often in this round; or,
+    /// where the server is to end, the stop of a client.
+    fn ordered(&mut self, asked: u32) -> Option<Event>
+        ensures same_ports { SamePorts self.old self.new }
+        ensures answers { (piece : List ℕ) → AnswersFrom P.asked (Stage.Orders asked) result piece self.old self.new }
+    {
+        if let Some(stopping) = self.phase.stopping {
+            return self.stop_next(asked, stopping);
+        }
+        if asked >= ORDERS {
+            self.has_more = true;
+            self.phase.stage = Stage::Accept;
+            return None;
+        }
+        self.ask_order(asked)
+    }
+
+    /// Asks for an order, and gives it to the core.
+    fn ask_order(&mut self, asked: u32) -> Option<Event>
+        ensures same_ports { SamePorts self.old self.new }
+        ensures answers { (piece : List ℕ) → AnswersFrom P.asked (Stage.Orders asked) result piece self.old self.new }
+    {
+        self.phase.stage = Stage::Orders(asked.saturating_add(1));
+        match self.ports.command(self.connections.len()) {
+            Some(Order::Disable(c, text)) => {
+                self.wide_to = self.phase.told.saturating_add(WIDE);
+                self.keep_down(c, true);
+                Some(Event::Commanded(c, Command::Stop(text)))
+            }
+            Some(Order::Enable(c)) => {
+                self.keep_down(c, false);
+                None
+            }
+            Some(Order::Refresh(c)) => Some(Event::Commanded(c, Command::Refresh)),
+            Some(Order::Reload) => {
+                self.read_rules();
+                None
+            }
+            Some(Order::End) => {
+                self.phase.stopping = Some(Stopping {
+                    since: self.phase.clock,
+                    told: 0,
+                });
+                None
+            }
+            None => {
+                self.phase.stage = Stage::Accept;
+                None
+            }
+        }
+    }
+
+    /// Gives the core the stop of the next client, where the server is to end: it takes no more orders.
+    fn stop_next(&mut self, asked: u32, stopping: Stopping) -> Option<Event>
+        ensures same_ports { SamePorts self.old self.new }
+        ensures answers { (piece : List ℕ) → self.old.phase.stopping ≡ Some stopping → AnswersFrom P.asked (Stage.Orders asked) result piece self.old self.new }
+    {
+        let c = stopping.told;
+        if c >= self.connections.len() {
+            self.phase.stage = Stage::Accept;
+            return None;
+        }
+        self.phase.stopping = Some(Stopping {
+            since: stopping.since,
+            told: c + 1,
+        });
+        self.keep_down(c, true);
+        Some(Event::Commanded(c, Command::Stop(ShutdownText::NONE)))
+    }
+
+    /// A client is still to be stopped.
+    fn has_to_stop(&self) -> bool
+        ensures { IsFalse result → HaveAll (length (all_held self.entry.now)) self.entry.now.phase.stopping }
+    {
+        match self.phase.stopping {
+            Some(stopping) => stopping.told < self.connections.len(),
+            None => false,
+        }
+    }
+
     /// Accepts until a client's connection comes, none is left, or the round has accepted enough.
     fn accepted(&mut self) -> Option<Event>
         ensures same_ports { SamePorts self.old self.new }
@@ -68,11 +183,10 @@ impl<'a, P: Ports> LiveLink<'a, P> {
                 }
                 Ok(Some(incoming)) => {
                     self.accepted = self.accepted.saturating_add(1);
-                    if let Some(c) = self.client_of(&incoming) {
+                    if let Some(c) = self.welcome(&incoming) {
                         self.phase.stage = Stage::Come(c, incoming);
                         return Some(Event::Opened(c));
                     }
-                    self.refuse(&incoming);
                 }
             }
         }
@@ -130,7 +244,6 @@ impl<'a, P: Ports> LiveLink<'a, P> {
     {
         self.has_heard = true;
         self.pieces = self.pieces.saturating_add(1);
-        self.pieces_heard = self.pieces_heard.saturating_add(1);
         self.octets_heard = self.octets_heard.saturating_add(octets.len());
         if let Some(own) = self.connections.get_mut(c) {
             own.hear(octets);
@@ -142,7 +255,7 @@ impl<'a, P: Ports> LiveLink<'a, P> {
         ensures same_ports { SamePorts self.old self.new }
         ensures answers { AnswersFrom P.asked Stage.Read result piece.new self.old self.new }
     {
-        if self.pieces_heard < PIECES_A_TURN {
+        if self.octets_heard <= OCTETS_A_TURN {
             for _ in 0..self.connections.len() {
                 if !self.has_to_read() {
                     break;
@@ -179,7 +292,7 @@ impl<'a, P: Ports> LiveLink<'a, P> {
         ensures answers { (piece : List ℕ) → AnswersFrom P.asked Stage.Start result piece self.old self.new }
     {
         let clients = self.connections.len();
-        self.phase.stage = Stage::Accept;
+        self.phase.stage = Stage::Orders(0);
         self.phase.told = self.phase.fair_moment(clients);
         Some(Event::Moment(self.phase.told))
     }
@@ -204,7 +317,6 @@ impl<'a, P: Ports> LiveLink<'a, P> {
             self.is_wide = is_wide;
             return Some(Event::Stop);
         }
-        self.pieces_heard = 0;
         self.octets_heard = 0;
         self.turns = self.turns.saturating_add(1);
         self.phase.stage = Stage::Room(0);
@@ -236,10 +348,12 @@ impl<'a, P: Ports> LiveLink<'a, P> {
         }
         if self.has_to_read() {
             self.phase.stage = Stage::Read;
+        } else if self.has_to_stop() {
+            self.phase.stage = Stage::Orders(0);
         } else if self.phase.told != self.phase.clock {
             self.phase.stage = Stage::Moment;
         } else {
-            self.has_more = self.has_more || self.has_heard;
+            self.has_more |= self.has_heard;
             self.phase.stage = Stage::Over;
             self.finish_closing();
         }
@@ -349,6 +463,7 @@ impl<'a, P: Ports> LiveLink<'a, P> {
                 Some(Event::Rules)
             }
             Stage::Start => self.start(),
+            Stage::Orders(asked) => self.ordered(asked),
             Stage::Accept => self.accepted(),
             Stage::Come(_, incoming) => {
                 self.refuse(&incoming);

@@ -5,10 +5,10 @@ ghost use Rattle.rs_live.specs.Tallies.{kind_of, counted_in};
 
 use crate::ports::Line;
 
-/// How many lines of each kind came: `begin`, `busy`, `close`, `lost`, `memory` and all others.
+/// How many lines of each kind came: `begin`, `busy`, `close`, `lost`, `memory`, `disabled` and all others.
 #[derive(Clone, Copy, Debug, PartialEq, Eq)]
 pub struct Tally {
-    counts: [u64; 6],
+    counts: [u64; 7],
 }
 
 /// The kind of a line, by number.
@@ -21,7 +21,8 @@ fn kind(line: &Line) -> usize
         Line::Close(_) => 2,
         Line::Lost(_) => 3,
         Line::Memory(_) => 4,
-        Line::Stranger | Line::Rules(_) | Line::File(_) => 5,
+        Line::Disabled(_) => 5,
+        Line::Stranger | Line::Rules(_) | Line::File(_) => 6,
     }
 }
 
@@ -30,7 +31,7 @@ impl Tally {
     pub fn new() -> Tally
         ensures { (line : Line) → counted_in line result.counts ≡ 0 }
     {
-        Tally { counts: [0; 6] }
+        Tally { counts: [0; 7] }
     }
 
     /// A line has come.

@@ -158,6 +158,24 @@ impl Reported {
         }
     }
 
+    /// Reports the connections of a client that were closed as it is kept down, where there was no report in
+    /// this second.
+    fn report_kept_out<P: Ports>(&mut self, link: &mut LiveLink<'_, P>, client: usize)
+        ensures { KeepsOn P.asked link.old link.new }
+    {
+        if !self.reports.is_free(link.now()) {
+            return;
+        }
+        if let Some((address, count)) = link.take_kept_out(client) {
+            let report = Report::KeptOut {
+                client,
+                address,
+                count,
+            };
+            self.report(link, client, &report);
+        }
+    }
+
     /// Reports the UPDATEs that were not taken as they came, where there are more than were reported and
     /// there was no report in this second.
     fn report_faulted<P: Ports>(&mut self, core: &Core, link: &mut LiveLink<'_, P>, client: usize)
@@ -230,6 +248,7 @@ impl Watch {
             reported.report_faulted(core, link, client);
             reported.report_passed_over(core, link, client);
             reported.report_busy(link, client);
+            reported.report_kept_out(link, client);
         }
     }
 

@@ -48,6 +48,12 @@ pub enum Report {
         count: u64,
         holder: Holder,
     },
+    /// So many connections came from the address of a client that the operator keeps down, and were closed.
+    KeptOut {
+        client: usize,
+        address: u32,
+        count: u64,
+    },
     /// UPDATEs of a client were not taken as they came (RFC 7606, 2): how many since the last such
     /// report, and what was wrong with the last.
     Faulted {
@@ -207,6 +213,38 @@ fn refused_by(ending: &Option<Ending>) -> Option<u8> {
     }
 }
 
+/// The data of a NOTIFICATION by which the operator ended a session: that is the only sense in which the server
+/// says Administrative Shutdown (RFC 4486, 4).
+fn shut_down(note: &Short) -> Option<&[u8]> {
+    let name = Notification::AdministrativeShutdown;
+    match note {
+        Short::Note {
+            code,
+            sub,
+            extra,
+            count,
+        } if *code == name.code() && *sub == name.sub() => {
+            Some(extra.get(..usize::from(*count)).unwrap_or(extra))
+        }
+        _ => None,
+    }
+}
+
+/// How the operator ended a session, by the data of the NOTIFICATION.
+#[derive(Drop)]
+struct ShutDown<'a>(&'a [u8]);
+
+impl fmt::Display for ShutDown<'_> {
+    fn fmt<W: fmt::Write>(&self, f: &mut fmt::Formatter<W>) -> fmt::Result {
+        let name = Notification::AdministrativeShutdown;
+        write!(
+            f,
+            "session ended by the operator: {name}{}",
+            Said(name.code(), name.sub(), self.0)
+        )
+    }
+}
+
 /// Why a session ended.
 #[derive(Drop)]
 struct Why<'a>(&'a Option<Ending>);
@@ -214,9 +252,10 @@ struct Why<'a>(&'a Option<Ending>);
 impl fmt::Display for Why<'_> {
     fn fmt<W: fmt::Write>(&self, f: &mut fmt::Formatter<W>) -> fmt::Result {
         match self.0 {
-            Some(Ending::Said(note)) => match sent(note) {
-                Some(noted) => write!(f, "{noted}"),
-                None => write!(f, "a message was sent"),
+            Some(Ending::Said(note)) => match (shut_down(note), sent(note)) {
+                (Some(data), _) => write!(f, "{}", ShutDown(data)),
+                (None, Some(noted)) => write!(f, "{noted}"),
+                (None, None) => write!(f, "a message was sent"),
             },
             Some(Ending::HoldTimer) => write!(
                 f,
@@ -323,6 +362,16 @@ impl fmt::Display for Worded<'_> {
                     holder_text(*holder)
                 )
             }
+            Report::KeptOut {
+                client,
+                address,
+                count,
+            } => {
+                let name = names.name(*client);
+                let which = one_or_several(*count, "connection", "connections");
+                let address = Ipv4Addr::from(*address);
+                write!(f, "{name} disabled: {count} {which} from {address} closed")
+            }
             Report::Faulted {
                 client,
                 count,
@@ -357,6 +406,7 @@ impl Report {
         match self {
             Report::Down { .. }
             | Report::Busy { .. }
+            | Report::KeptOut { .. }
             | Report::Strangers { .. }
             | Report::Rules(Err(_))
             | Report::File(_)

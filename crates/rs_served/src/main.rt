@@ -10,10 +10,11 @@ use rs_command::{Asked, Status};
 use rs_live::connections::listen_addresses;
 use rs_live::record::Record;
 use rs_live::serve::{Limits, serve};
-use rs_live::sockets::Sockets;
+use rs_live::sockets::{ListenFault, Sockets};
 use rs_policy::Config;
 use rs_reports::logging::{Level, Log};
 use rs_reports::names::Names;
+use rs_visitors::ask::{ask, is_error, is_whole};
 use std::alloc::Global;
 use std::io;
 use std::net::{Net, SocketAddr};
@@ -131,7 +132,26 @@ fn serve_on<R: Threads + Wait + Sync + Net + Clock + Files>(
     }
 }
 
-/// Begins the record and opens the window, where they were asked for; answers whether that could be.
+/// Opens the control socket, where there is to be one; answers whether it could be.
+fn open_control<'a, R: Net + Clock + Files + Eprint>(
+    rt: &R,
+    options: &'a Options,
+    ports: &mut Sockets<'a, R>,
+) -> Result<bool> {
+    let Some(path) = &options.control else {
+        return Ok(true);
+    };
+    match ports.open_control(path) {
+        Ok(()) => Ok(true),
+        Err(error) => {
+            eprintln!(rt; "listening failed: {path}: {error}")?;
+            Ok(false)
+        }
+    }
+}
+
+/// Begins the record and opens the window and the control socket, where they were asked for; answers whether
+/// that could be.
 fn make_ready<'a, R: Net + Clock + Files + Eprint>(
     rt: &'a R,
     alloc: Global,
@@ -140,11 +160,11 @@ fn make_ready<'a, R: Net + Clock + Files + Eprint>(
     text: Vec<u8>,
     ports: &mut Sockets<'a, R>,
 ) -> Result<bool> {
-    if record(rt, alloc, options, text, ports)? {
-        open_window(rt, window, ports)
-    } else {
-        Ok(false)
-    }
+    Ok(
+        record(rt, alloc, options, text, ports)?
+            && open_window(rt, window, ports)?
+            && open_control(rt, options, ports)?,
+    )
 }
 
 /// Serves by ports that listen, with a record and a window where they were asked for.
@@ -164,6 +184,49 @@ fn serve_by<'a, R: Threads + Wait + Sync + Net + Clock + Files + Eprint>(
     }
 }
 
+/// Says why the server can't listen, and answers the status to end with.
+fn cannot_listen<R: Eprint>(rt: &R, fault: ListenFault) -> Result<Status> {
+    eprintln!(rt; "listening failed: {fault}")?;
+    Ok(Status::Failed)
+}
+
+/// Serves by ports of its own, which are closed behind it.
+fn serve_and_close<'a, R: Threads + Wait + Sync + Net + Clock + Files + Eprint>(
+    rt: &'a R,
+    alloc: Global,
+    options: &'a Options,
+    window: Option<SocketAddr>,
+    config: Config,
+    text: Vec<u8>,
+    mut ports: Sockets<'a, R>,
+) -> Result<Status> {
+    serve_by(rt, alloc, options, window, config, text, &mut ports)
+}
+
+/// Listens at these addresses and serves, and answers the status to end with.
+fn listen_and_serve<R: Threads + Wait + Sync + Net + Clock + Files + Print + Eprint>(
+    rt: &R,
+    alloc: Global,
+    options: &Options,
+    window: Option<SocketAddr>,
+    config: Config,
+    text: Vec<u8>,
+    names: &Names,
+    addresses: &[(u32, u16)],
+) -> Result<Status> {
+    match Sockets::listen(
+        rt,
+        alloc,
+        &options.configs,
+        names,
+        log_of(options),
+        addresses,
+    ) {
+        Ok(ports) => serve_and_close(rt, alloc, options, window, config, text, ports),
+        Err(fault) => cannot_listen(rt, fault),
+    }
+}
+
 /// Listens and serves, and answers the status to end with. The text of the configuration is for the record.
 fn run<R: Threads + Wait + Sync + Net + Clock + Files + Print + Eprint>(
     rt: &R,
@@ -175,11 +238,31 @@ fn run<R: Threads + Wait + Sync + Net + Clock + Files + Print + Eprint>(
 ) -> Result<Status> {
     let names = Names::of(alloc, &config)?.with_files(alloc, &options.configs)?;
     let addresses = listen_addresses(alloc, &config)?;
-    let log = log_of(options);
-    match Sockets::listen(rt, alloc, &options.configs, &names, log, &addresses) {
-        Ok(mut ports) => serve_by(rt, alloc, options, window, config, text, &mut ports),
-        Err(fault) => {
-            eprintln!(rt; "listening failed: {fault}")?;
+    listen_and_serve(rt, alloc, options, window, config, text, &names, &addresses)
+}
+
+/// Asks a running server at its control socket, prints what it answers, and answers the status to end with.
+fn ask_server<R: Net + Print + Eprint>(
+    rt: &R,
+    alloc: Global,
+    path: &str,
+    command: &str,
+) -> Result<Status> {
+    match ask(rt, alloc, path, command) {
+        Ok(answer) if !is_whole(&answer) => {
+            eprintln!(rt; "asking failed: {path}: the answer is not whole")?;
+            Ok(Status::Failed)
+        }
+        Ok(answer) => {
+            rt.write_all(&answer)?;
+            Ok(if is_error(&answer) {
+                Status::Refused
+            } else {
+                Status::Done
+            })
+        }
+        Err(error) => {
+            eprintln!(rt; "asking failed: {path}: {error}")?;
             Ok(Status::Failed)
         }
     }
@@ -195,6 +278,9 @@ fn start<R: Threads + Wait + Sync + Net + Clock + Env + Files + Print + Eprint +
         Asked::Run(options) => options,
         Asked::End(status) => return Ok(status),
     };
+    if let (Some(command), Some(path)) = (&options.ask, &options.control) {
+        return ask_server(rt, alloc, path, command);
+    }
     if options.check {
         return Ok(check(rt, alloc, &options.configs)?);
     }

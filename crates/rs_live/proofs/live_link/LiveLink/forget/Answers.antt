@@ -5,4 +5,4 @@ use Rattle.rs_live.proofs.Places.{held_changed, parts}
 use Rattle.rs_live.proofs.live_link.LiveLink.forget.Goals as goal
 
 pub returns-in-Some-clause-held : goal.returns-in-Some-clause-held
-returns-in-Some-clause-held g c = held_changed (with_live None []) _ _ c.in-Some.own.now _ (slice_get_read _ _ _ c.in-Some.own.now refl c.in-Some.ensures.item.3.0 c.in-Some.ensures.item.1) (parts c.forget.ensures.now c.forget.ensures.empty refl refl)
+returns-in-Some-clause-held g c = held_changed (with_live None []) _ _ c.in-Some.own.now _ (slice_get_read _ _ _ c.in-Some.own.now refl c.in-Some.ensures.item.3.0 c.in-Some.ensures.item.1) (parts c.forget.ensures.now c.forget.ensures.empty refl refl refl)

@@ -17,7 +17,7 @@ returns-in-Some-clause-ok g c =
 pub returns-in-Some-clause-broke : goal.returns-in-Some-clause-broke
 returns-in-Some-clause-broke g c =
     let was = (slice_get_read _ _ _ c.in-Some.own.now refl c.in-Some.ensures.item.3.0 c.in-Some.ensures.item.1) in
-    so_err _ _ c.offer.result (λ key answers h. subst (λ held. Has g.P.Ports.asked c.offer.new.ports (AreBroken c.args.c key held c.args.self.now.phase)) (sym (held_changed (waits_so c.offer.new.self.out) _ _ c.in-Some.own.now _ was (parts c.offer.ensures.key refl refl refl)))
+    so_err _ _ c.offer.result (λ key answers h. subst (λ held. Has g.P.Ports.asked c.offer.new.ports (AreBroken c.args.c key held c.args.self.now.phase)) (sym (held_changed (waits_so c.offer.new.self.out) _ _ c.in-Some.own.now _ was (parts c.offer.ensures.key refl refl refl refl)))
     (breaks_all g.P.Ports.asked _ _ c.args.c key _ _ _ _ _ (ap (λ x. x.key) (held_there c.args.self.now.connections.now.items c.args.c c.in-Some.own.now was)) (ap (λ x. x.waiting) (held_there c.args.self.now.connections.now.items c.args.c c.in-Some.own.now was)) answers h)) c.offer.ensures.broke
 
 pub returns-in_default-clause-ok : goal.returns-in_default-clause-ok

@@ -12,7 +12,7 @@ returns-in-Some g c =
       same_ports = refl;
       failed = refl;
       held = held_same _ _ c.in-Some.own.now _ (slice_get_read _ _ _ c.in-Some.own.now refl c.in-Some.ensures.item.3.0 c.in-Some.ensures.item.1)
-          (parts (ap (λ (x : Connection). x.key) live) (ap (λ (x : Connection). x.out) live) (ap (λ (x : Connection). x.key) closing) (ap (λ (x : Connection). x.out) closing));
+          (parts (ap (λ (x : Connection). x.key) live) (ap (λ (x : Connection). x.out) live) (ap (λ (x : Connection). x.key) closing) (ap (λ (x : Connection). x.out) closing) c.hear.ensures.down);
       phase = refl;
       unasked = refl;
     }

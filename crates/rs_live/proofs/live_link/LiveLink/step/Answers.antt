@@ -5,11 +5,11 @@ use Rattle.rs_live.specs.declared.live_link.Phase.{Phase}
 use Rattle.rs_live.specs.declared.live_link.Stage.TheVariants as stages
 use Rattle.rs_live.specs.Handled.{Has, AreKept}
 use Rattle.rs_live.specs.Keeping.{all_held, at}
-use Rattle.rs_live.proofs.Handling.{at_phase, come_at, does, follows, goes_to, passes_over}
+use Rattle.rs_live.proofs.Handling.{at_phase, come_at, does, follows, goes_early, passes_over}
 use Rattle.rs_live.proofs.live_link.LiveLink.step.Goals as goal
 
 pub returns-in-Rules-clause-answers : goal.returns-in-Rules-clause-answers
-returns-in-Rules-clause-answers g c r text = follows g.P.Ports.asked (Happened Rules text) _ _ _ _ r.0 refl refl (does g.P.Ports.asked _ _ (Happened Rules text) _ tt tt (goes_to g.P.Ports.asked _ stages.Rules stages.Start c.args.self.now.phase _ (λ k. refl) (λ operations x. tt) (λ (e : stages.Start ≡ stages.Over). cc) (at_phase g.P.Ports.asked c.args.self.now stages.Rules c.in-Rules.is r.1)))
+returns-in-Rules-clause-answers g c r text = follows g.P.Ports.asked (Happened Rules text) _ _ _ _ r.0 refl refl (does g.P.Ports.asked _ _ (Happened Rules text) _ tt tt (goes_early g.P.Ports.asked _ stages.Rules stages.Start c.args.self.now.phase _ (λ k. refl) (λ operations x. tt) (λ (e : stages.Start ≡ stages.Over). cc) (λ s. s) (at_phase g.P.Ports.asked c.args.self.now stages.Rules c.in-Rules.is r.1)))
 
 pub returns-in-Come-clause-answers : goal.returns-in-Come-clause-answers
 returns-in-Come-clause-answers g c r = (

@@ -9,7 +9,7 @@ use Rattle.rs_live.proofs.live_link.LiveLink.write_on.Goals as goal
 pub returns-in-Err-clause-broke : goal.returns-in-Err-clause-broke
 returns-in-Err-clause-broke g c h =
     let was = (slice_get_read _ _ _ c.in-Some.own.now refl c.in-Some.ensures.item.3.0 c.in-Some.ensures.item.1) in
-    subst (λ held. Has g.P.Ports.asked c.write.new.ports (AreBroken c.args.c c.in-Err.key held c.args.self.now.phase)) (sym (held_changed (waits_so c.write.new.self.out) _ _ c.in-Some.own.now _ was (parts c.write.ensures.key refl refl refl)))
+    subst (λ held. Has g.P.Ports.asked c.write.new.ports (AreBroken c.args.c c.in-Err.key held c.args.self.now.phase)) (sym (held_changed (waits_so c.write.new.self.out) _ _ c.in-Some.own.now _ was (parts c.write.ensures.key refl refl refl refl)))
     (breaks_all g.P.Ports.asked _ _ c.args.c _ _ _ _ _ _ (ap (λ x. x.key) (held_there c.args.self.now.connections.now.items c.args.c c.in-Some.own.now was)) (ap (λ x. x.waiting) (held_there c.args.self.now.connections.now.items c.args.c c.in-Some.own.now was)) c.in-Err.ensures.broke h)
 
 pub returns-then-was_full-clause-ok : goal.returns-then-was_full-clause-ok

@@ -1,0 +1,32 @@
+-- What the window is shown of the core: its tables, by what the run of its moves means.
+use Rattle.std.specs.Prelude.{◌≡◌, ◌≤◌, ◌<◌, ℕ, List, Option, None, if◌then◌else◌}
+use Rattle.rs_octets.specs.Prefixes.{Prefix}
+use Rattle.rs_attrs.specs.Meaning.{Attribute}
+use Rattle.rs_policy.specs.Configuration.{Configuration}
+use Rattle.rs_core.specs.Core.{client_count}
+use Rattle.rs_core.specs.Run.Agreeing.{Agrees}
+use Rattle.rs_core.specs.Run.Meaning.{dues, is_established, table}
+use Rattle.rs_core.specs.Run.Moves.{Move, config_in}
+use Rattle.rs_core.specs.Told.Points.{latest}
+use Rattle.rs_core.specs.declared.route_server.Core.{Core}
+use Rattle.rs_pages.specs.Firsts.{IsFirst}
+use Rattle.rs_pages.specs.declared.tables.Rib.{Rib}
+use Rattle.rs_pages.specs.declared.tables.Rib.TheVariants as ribs
+
+-- the Loc-RIB of a client: what was due to it at its last turn since it is Established
+abbrev pub due_last : List Move → ℕ → Prefix → Option (List Attribute)
+due_last run c p = if is_established run c then latest (dues run c p) else None
+
+-- a table of a client: its Adj-RIB-In is what its UPDATEs mean
+abbrev pub table_after : List Move → Rib → ℕ → Prefix → Option (List Attribute)
+table_after run ribs.Received c p = table run c p
+table_after run ribs.Sent c p = due_last run c p
+
+-- the first route of a client's table from a number on, or that there is none; none of who is no client
+pub record IsFirstOf (core : Core) (rib : Rib) (c : ℕ) (at : ℕ) (route : Option (Prefix × List Attribute)) : Type 0 where
+  pub client : (run : List Move) → Agrees core run → c < client_count core → IsFirst (table_after run rib c) at route
+  pub other : client_count core ≤ c → route ≡ None
+
+-- the configuration that was accepted last
+abbrev pub IsConfigured : Core → Configuration → Type 0
+IsConfigured core config = (run : List Move) → Agrees core run → config ≡ config_in run
