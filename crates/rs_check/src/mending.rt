@@ -105,7 +105,9 @@ fn good_value(alloc: Global, place: &Place) -> Result<Option<String>, AllocError
         (_, Key::Name) => format!(in alloc; "\"mended-{number}\""),
         (_, Key::Listen) => format!(in alloc; "\"0.0.0.0:{}\"", number.clamp(1, 65535)),
         (_, Key::Peer) => String::from_str(alloc, "\"0.0.0.0\""),
-        (_, Key::Prefixes) | (Table::Rules(_), Key::Rules) => String::from_str(alloc, "[]"),
+        (_, Key::Prefixes | Key::Ases) | (Table::Rules(_), Key::Rules) => String::from_str(
+            alloc, "[]",
+        ),
         (_, Key::Action) => String::from_str(alloc, "\"pass\""),
         _ => return Ok(None),
     };
