@@ -2,6 +2,7 @@
 
 mod hold_timers;
 mod loopback;
+mod orders;
 mod rate_limits;
 mod recording;
 mod reloading;

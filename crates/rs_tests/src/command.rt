@@ -32,7 +32,7 @@ Options:
 
 const HELP_TO_SERVE: &str = "A BGP-4 route server for internet exchanges
 
-Usage: rs_served [OPTIONS] --config <FILE>
+Usage: rs_served [OPTIONS]
 
 Options:
   -c, --config <FILE>          the configuration, a TOML file; the texts of several are joined in their order
@@ -40,6 +40,8 @@ Options:
       --sessions <N>           end once so many sessions have ended
       --reload <N>             read the configuration again every N rounds, and use its rules where they are good
       --window <ADDRESS:PORT>  show the server over HTTP there, as at 127.0.0.1:8080, to read alone
+      --control <PATH>         take commands at this Unix socket, which the server makes
+      --ask <COMMAND>          ask the server whose control socket it is, in place of serving: help lists the commands
       --log [<LEVEL>]          print on standard error what happens, and why: what goes wrong, what changes too, or all [possible values: error, change, route]
       --utc                    begin these lines with the time of day, in place of the seconds since the start
       --record <FILE>          record the run for rs_replay in FILE, and the configuration in FILE.toml, which must not be there
@@ -311,6 +313,32 @@ fn options_to_record_by(rt: HostRuntime) -> Result<(), Fail> {
 }
 
 #[test]
+fn options_to_control_by(rt: HostRuntime) -> Result<(), Fail> {
+    let alloc = rt.alloc();
+    let streams = Streams::new(alloc);
+    for (line, configs, control, command) in [
+        ("rs_served -c a --control c", 1, Some("c"), None),
+        (
+            "rs_served --ask show --control=c",
+            0,
+            Some("c"),
+            Some("show"),
+        ),
+    ] {
+        let words = words_of(alloc, line)?;
+        let asked = serve::read_command(&streams, alloc, &words)?;
+        let options = match &asked {
+            Asked::Run(it) => Some((it.configs.len(), it.control.as_deref(), it.ask.as_deref())),
+            Asked::End(_) => None,
+        };
+        assert_eq!(rt; options, Some((configs, control, command)), "{line}");
+    }
+    is_refused(&rt, alloc, "rs_served --control c")?;
+    is_refused(&rt, alloc, "rs_served --ask show")?;
+    is_refused(&rt, alloc, "rs_served -c a --ask show --control c")
+}
+
+#[test]
 fn levels_of_the_log(rt: HostRuntime) -> Result<(), Fail> {
     let alloc = rt.alloc();
     for (line, level) in [
@@ -420,6 +448,7 @@ fn statuses_have_these_numbers(rt: HostRuntime) {
     assert_eq!(rt; Status::Done.number(), 0);
     assert_eq!(rt; Status::BadTrace.number(), 1);
     assert_eq!(rt; Status::Differs.number(), 1);
+    assert_eq!(rt; Status::Refused.number(), 1);
     assert_eq!(rt; Status::BadCommand.number(), 2);
     assert_eq!(rt; Status::Failed.number(), 3);
 }

@@ -45,7 +45,7 @@ pub(crate) fn attrs(alloc: Global, field: &[u8]) -> Result<Attrs, AllocError> {
     Ok(read(alloc, field, Mode::Four)?.attrs)
 }
 
-/// From here on no memory is to be asked for. `tools/play_without_memory.py` counts what is.
+/// From here on no memory is to be asked for. `tools/plays/without_memory.py` counts what is.
 pub(crate) fn from_here<R: Abort + Print>(rt: &R) {
     println!(rt; "no memory is asked for from here").expect(rt, "a line");
 }

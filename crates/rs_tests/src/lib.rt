@@ -20,4 +20,10 @@ mod outlet;
 #[cfg(test)]
 mod policy;
 #[cfg(test)]
+mod reasons;
+#[cfg(test)]
 mod route_server;
+#[cfg(test)]
+mod window;
+#[cfg(test)]
+mod workers;

@@ -12,7 +12,7 @@ use std::alloc::Global;
 use std::process::Abort;
 
 /// The same members, and what a sends goes to nobody.
-const NOTHING_OF_A: &str = "as = 64500\nidentifier = \"192.0.2.1\"\n\
+pub const NOTHING_OF_A: &str = "as = 64500\nidentifier = \"192.0.2.1\"\n\
 [[client]]\nname = \"a\"\nas = 64496\nlisten = \"127.0.0.1:17901\"\npeer = \"192.0.2.11\"\nimport = [{ action = \"drop\" }]\n\
 [[client]]\nname = \"b\"\nas = 64497\nlisten = \"127.0.0.1:17902\"\npeer = \"192.0.2.12\"\n\
 [[client]]\nname = \"c\"\nas = 64498\nlisten = \"127.0.0.1:17902\"\npeer = \"192.0.2.13\"\n";
@@ -31,7 +31,7 @@ fn changing(rt: &impl Abort, alloc: Global) -> Script {
 }
 
 /// How often the server says that it took the rules that it read.
-fn accepted(said: &[Line]) -> usize {
+pub fn accepted(said: &[Line]) -> usize {
     said.iter()
         .filter(|line| **line == Line::Rules(Ok(())))
         .count()

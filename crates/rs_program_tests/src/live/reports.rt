@@ -3,7 +3,7 @@
 use crate::live::rounds::THREE;
 use rs_attrs::{AttributeFault, Cause, Faulted, Mode};
 use rs_core::{Ending, NOTICE_MAX, Notice};
-use rs_open::{Limit, Short};
+use rs_open::{Limit, Short, ShutdownText};
 use rs_policy::Config;
 use rs_reports::communications::communication_in;
 use rs_reports::logging::Stamp;
@@ -42,8 +42,18 @@ fn at_fault(
     }
 }
 
+/// The operator has ended b's session, with this text.
+fn disabled(text: &[u8]) -> Report {
+    let text = ShutdownText::of(text).unwrap_or(ShutdownText::NONE);
+    Report::Down {
+        client: 1,
+        ending: Some(Ending::Said(Short::shutdown(text))),
+        offered: None,
+    }
+}
+
 /// Reports, and how each reads.
-fn reports() -> [(Report, &'static str); 12] {
+fn reports() -> [(Report, &'static str); 15] {
     let address = 0xc000_024d;
     [
         (
@@ -66,10 +76,26 @@ fn reports() -> [(Report, &'static str); 12] {
         (
             Report::Down {
                 client: 1,
-                ending: Some(Ending::Said(Short::note(6, 2))),
+                ending: Some(Ending::Said(Short::note(6, 4))),
                 offered: None,
             },
-            "b down: NOTIFICATION sent: Cease, Administrative Shutdown (6, 2)",
+            "b down: NOTIFICATION sent: Cease, Administrative Reset (6, 4)",
+        ),
+        (
+            disabled(b""),
+            "b down: session ended by the operator: Cease, Administrative Shutdown (6, 2)",
+        ),
+        (
+            disabled(b"back at 10\n"),
+            "b down: session ended by the operator: Cease, Administrative Shutdown (6, 2), \"back at 10\\n\"",
+        ),
+        (
+            Report::KeptOut {
+                client: 1,
+                address,
+                count: 2,
+            },
+            "b disabled: 2 connections from 192.0.2.77 closed",
         ),
         (
             Report::Down {

@@ -415,7 +415,7 @@ fn a_member_that_takes_nothing_is_lost_behind_the_send_hold_time(rt: HostRuntime
     let mut ports = Script::new(rt.alloc(), 0);
     let [open, _] = comes_up(OPEN_HOLD_0);
     ports.wire(&rt, 0, A, &[open], 1);
-    ports.deafen(0);
+    ports.deafen(0, 0);
     ports.pace = 60;
     served(&rt, rt.alloc(), &mut ports, until(1));
     assert_eq!(rt; ports.said.len(), 2);

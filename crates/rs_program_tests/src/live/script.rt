@@ -3,7 +3,9 @@
 ghost use Rattle.std.specs.Prelude.{◌≤◌};
 ghost use Rattle.rs_reports.specs.Levels.{is_shown};
 
+use rs_control::order::Order;
 use rs_core::Core;
+use rs_live::orders;
 use rs_live::ports::{Incoming, Line, PortFault, Ports};
 use rs_reports::logging::{Level, Log};
 use rs_reports::reports::Report;
@@ -35,12 +37,21 @@ pub struct Wire {
     /// The member closes once it has said all and was sent so many octets, and not before this round.
     until: usize,
     stays: u64,
+    /// It comes in this round.
+    comes: u64,
     /// What it says in or after this round, once it has said all else.
     later: Option<(u64, &'static [u8])>,
-    /// It takes no octets.
-    is_deaf: bool,
+    /// From this round on it takes no octets.
+    deaf: u64,
     pub heard: Vec<u8>,
     pub is_open: bool,
+}
+
+/// An order, and the round in which it is given.
+#[derive(Clone, Copy)]
+struct DueOrder {
+    round: u64,
+    order: Order,
 }
 
 /// The call that failed.
@@ -75,7 +86,10 @@ pub struct Script {
     /// How many seconds pass in each round, and how many more before this one.
     pub pace: u64,
     pub stall: Option<(u64, u64)>,
-    rounds: u64,
+    pub rounds: u64,
+    /// What the operator orders, and how much of it was given.
+    orders: Vec<DueOrder>,
+    ordered: usize,
     pub text: &'static [u8],
     /// What the text is from this round on.
     pub later: Option<(u64, &'static [u8])>,
@@ -106,6 +120,8 @@ impl Script {
             pace: 0,
             stall: None,
             rounds: 0,
+            orders: Vec::new(alloc),
+            ordered: 0,
             text: b"",
             later: None,
             unread: None,
@@ -140,8 +156,9 @@ impl Script {
             given: 0,
             until,
             stays: 0,
+            comes: 0,
             later: None,
-            is_deaf: false,
+            deaf: u64::MAX,
             heard: Vec::new(self.alloc),
             is_open: false,
         };
@@ -162,11 +179,24 @@ impl Script {
         }
     }
 
-    /// The member of this connection takes no octets from now on.
-    pub fn deafen(&mut self, key: usize) {
+    /// The member of this connection takes no octets from this round on.
+    pub fn deafen(&mut self, key: usize, round: u64) {
         if let Some(wire) = self.wires.get_mut(key) {
-            wire.is_deaf = true;
+            wire.deaf = round;
         }
+    }
+
+    /// This connection, and each behind it, doesn't come before this round.
+    pub fn come(&mut self, key: usize, round: u64) {
+        if let Some(wire) = self.wires.get_mut(key) {
+            wire.comes = round;
+        }
+    }
+
+    /// The operator orders this in this round, behind all before.
+    pub fn order(&mut self, rt: &impl Abort, round: u64, order: Order) {
+        let due = DueOrder { round, order };
+        self.orders.push(due).expect(rt, "an order");
     }
 
     /// What was sent on a connection.
@@ -238,6 +268,7 @@ impl Ports for Script {
         let incoming = match self.wires.get_mut(self.accepted) {
             None if self.is_flooded => STRANGER,
             None => return Ok(None),
+            Some(wire) if self.rounds < wire.comes => return Ok(None),
             Some(wire) => {
                 self.accepted = self.accepted.saturating_add(1);
                 wire.is_open = true;
@@ -282,7 +313,7 @@ impl Ports for Script {
         let Some(wire) = self.wires.get_mut(key) else {
             return Ok(None);
         };
-        if wire.is_deaf {
+        if self.rounds >= wire.deaf {
             return Ok(None);
         }
         match wire.heard.extend_from_slice(octets) {
@@ -320,6 +351,15 @@ impl Ports for Script {
             Ok(()) => Ok(true),
             Err(_) => Err(FileFault::Memory),
         }
+    }
+
+    fn command(&mut self, clients: usize) -> Option<Order> {
+        let due = self.orders.get(self.ordered)?;
+        if self.rounds < due.round {
+            return None;
+        }
+        self.ordered = self.ordered.saturating_add(1);
+        orders::of(due.order, clients)
     }
 
     fn print(&mut self, line: &Line) {

@@ -1,4 +1,4 @@
-//! How much room attributes take. What counts it stands outside the program: `tools/play_without_memory.py` runs this
+//! How much room attributes take. What counts it stands outside the program: `tools/plays/without_memory.py` runs this
 //! test, and wants no more held between two lines that it prints than two blocks of just the size.
 
 use super::put;

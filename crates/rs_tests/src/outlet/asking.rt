@@ -1,5 +1,5 @@
 //! Calls that take no memory. What counts their requests for it stands outside the program:
-//! `tools/play_without_memory.py` runs these tests, and wants none between two lines that they print.
+//! `tools/plays/without_memory.py` runs these tests, and wants none between two lines that they print.
 
 use super::{CLIENT, Exchange, SENDER, all, attrs, drain, let_go, prefix, some};
 use crate::common::{from_here, to_here};

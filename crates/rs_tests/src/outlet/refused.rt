@@ -1,5 +1,5 @@
 //! A turn that memory is refused to. What refuses it stands outside the program:
-//! `tools/play_without_memory.py` runs this test once for each request for memory, and refuses that
+//! `tools/plays/without_memory.py` runs this test once for each request for memory, and refuses that
 //! one.
 
 use super::{CLIENT, Exchange, all, drain, let_go, prefix, some};

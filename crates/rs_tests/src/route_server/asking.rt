@@ -1,9 +1,11 @@
 //! Calls of the core that take no memory. What counts their requests for it stands outside the program:
-//! `tools/play_without_memory.py` runs these tests, and wants none between two lines that they print.
+//! `tools/plays/without_memory.py` runs these tests, and wants none between two lines that they print.
 
 use crate::common::{ROUTE, from_here, to_here};
 use crate::route_server::exchange::{A, B, Exchange, message, put};
 use rs_core::Core;
+use rs_open::ShutdownText;
+use rs_session::Command;
 use std::alloc::Global;
 use std::process::Abort;
 
@@ -72,6 +74,8 @@ fn how_a_session_begins_and_ends(rt: HostRuntime) {
     exchange.lose(&rt, B);
     exchange.open(&rt, B);
     take(&rt, &mut exchange.core, B);
+    exchange.command(&rt, B, Command::Stop(ShutdownText::NONE));
+    exchange.command(&rt, A, Command::Refresh);
     exchange.core.moment(1_000);
     take(&rt, &mut exchange.core, A);
     exchange.lose(&rt, A);

@@ -4,7 +4,7 @@ use crate::route_server::exchange::{
     A, B, KEEPALIVE, NO_ROUTE, OPEN_A, OPEN_B, OPEN_SERVER, ROUTE, server, text,
 };
 use crate::route_server::link::{Said, Tape};
-use crate::route_server::turns::Both;
+use crate::workers::Both;
 use rs_core::{Core, Event, drive, drive_with};
 use rs_workers::{Free, Gate};
 use std::alloc::Global;

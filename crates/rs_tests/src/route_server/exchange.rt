@@ -2,6 +2,7 @@
 
 use rs_core::Core;
 use rs_policy::Config;
+use rs_session::Command;
 use std::alloc::Global;
 use std::process::Abort;
 
@@ -156,6 +157,12 @@ impl Exchange {
     pub fn hear_in_turn(&mut self, rt: &impl Abort, c: usize, digits: &str) {
         self.hear(rt, c, digits);
         self.turn();
+    }
+
+    /// The operator commands this of a client's session.
+    pub fn command(&mut self, rt: &impl Abort, c: usize, command: Command) {
+        assert!(rt; c < self.core.clients());
+        self.core.command(c, command);
     }
 
     /// A connection of a client is lost.

@@ -41,27 +41,30 @@ fn counts(rt: &impl Abort, exchange: &Exchange, c: usize, received: usize, due: 
     assert_eq!(rt; exchange.core.routes_count(c), due);
 }
 
+/// From a prefix on the first that a client is known to hold is this one, and the first that is due to it that one.
+fn begin_so(
+    rt: &impl Abort,
+    exchange: &Exchange,
+    c: usize,
+    from: (u32, u8),
+    want: (Option<(u32, u8)>, Option<(u32, u8)>),
+) {
+    let found = first_from(rt, exchange, c, from);
+    assert_eq!(rt; found, want);
+}
+
 #[test]
 fn routes_from_a_prefix_on(rt: HostRuntime) {
     let mut exchange = Exchange::with_a_route(&rt, rt.alloc(), "");
     exchange.hear_in_turn(&rt, B, ROUTE_B);
-    assert_eq!(rt;
-        first_from(&rt, &exchange, A, (0, 0)),
-        (Some(OF_A), Some(OF_B))
-    );
-    assert_eq!(rt;
-        first_from(&rt, &exchange, A, OF_A),
-        (Some(OF_A), Some(OF_B))
-    );
-    assert_eq!(rt; first_from(&rt, &exchange, A, OF_B), (None, Some(OF_B)));
-    assert_eq!(rt;
-        first_from(&rt, &exchange, B, OF_A),
-        (Some(OF_B), Some(OF_A))
-    );
-    assert_eq!(rt; first_from(&rt, &exchange, B, OF_B), (Some(OF_B), None));
+    begin_so(&rt, &exchange, A, (0, 0), (Some(OF_A), Some(OF_B)));
+    begin_so(&rt, &exchange, A, OF_A, (Some(OF_A), Some(OF_B)));
+    begin_so(&rt, &exchange, A, OF_B, (None, Some(OF_B)));
+    begin_so(&rt, &exchange, B, OF_A, (Some(OF_B), Some(OF_A)));
+    begin_so(&rt, &exchange, B, OF_B, (Some(OF_B), None));
     counts(&rt, &exchange, A, 1, 1);
     exchange.hear_in_turn(&rt, A, NO_ROUTE);
-    assert_eq!(rt; first_from(&rt, &exchange, A, (0, 0)), (None, Some(OF_B)));
+    begin_so(&rt, &exchange, A, (0, 0), (None, Some(OF_B)));
     counts(&rt, &exchange, A, 0, 1);
     counts(&rt, &exchange, B, 1, 0);
     exchange.let_go();

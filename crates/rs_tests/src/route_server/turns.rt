@@ -1,50 +1,12 @@
 //! Turns by workers.
 
 use crate::route_server::exchange::{A, B, Exchange, ROUTE};
+use crate::workers::Both;
 use rs_workers::{Free, Gate};
 use std::alloc::Global;
 use std::process::Abort;
 use std::sync::Wait;
-use std::sync::atomic::{AtomicBool, Ordering};
-use std::thread;
 use std::thread::Threads;
-
-/// Holds each of shares 0 and 1 until the other has entered.
-#[derive(Drop)]
-pub struct Both {
-    entered: [AtomicBool; 2],
-    failed: AtomicBool,
-}
-
-impl Both {
-    pub fn new() -> Both {
-        Both {
-            entered: [AtomicBool::new(false), AtomicBool::new(false)],
-            failed: AtomicBool::new(false),
-        }
-    }
-
-    /// One of them was waited for in vain.
-    pub fn has_failed(&self) -> bool {
-        self.failed.load(Ordering::SeqCst)
-    }
-}
-
-impl Gate for Both {
-    fn enter(&self, share: usize) {
-        if share >= 2 {
-            return;
-        }
-        self.entered[share].store(true, Ordering::SeqCst);
-        for _ in 0..1_000_000u32 {
-            if self.entered[1 - share].load(Ordering::SeqCst) {
-                return;
-            }
-            thread::yield_now();
-        }
-        self.failed.store(true, Ordering::SeqCst);
-    }
-}
 
 /// An exchange to which a announces its route, turned by so many workers; b is sent it.
 fn turns_by<R: Threads + Wait + Sync + Abort, G: Gate>(

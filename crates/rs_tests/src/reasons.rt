@@ -1,0 +1,163 @@
+//! Reasons worked out by hand from a configuration's rules.
+
+use crate::common::ROUTE;
+use rs_attrs::{Attrs, Mode, read};
+use rs_octets::Prefix;
+use rs_policy::Config;
+use rs_reasons::explain;
+use std::alloc::Global;
+use std::process::Abort;
+
+/// Of alpha's routes its import list takes 203.0.113.0/24, drops what has the community 64500:666, and
+/// uses `bogons`; beta is sent nothing with 64511 in its path, nor what `bogons` drops.
+const CONFIG: &str = "as = 64500
+identifier = \"192.0.2.1\"
+[[rules]]
+name = \"empty\"
+rules = []
+[[rules]]
+name = \"bogons\"
+rules = [
+    { prefix = \"10.0.0.0/8\", max = 32, action = \"drop\" },
+    { prefix = \"192.168.0.0/16\", max = 32, action = \"drop\" },
+]
+[[client]]
+name = \"alpha\"
+as = 64496
+listen = \"127.0.0.1:17901\"
+peer = \"192.0.2.11\"
+import = [
+    { prefix = \"203.0.113.0/24\", action = \"pass\", strip = \"all\" },
+    { community = \"64500:666\", action = \"drop\" },
+    { use = \"empty\" },
+    { use = \"bogons\" },
+]
+[[client]]
+name = \"beta\"
+as = 64497
+listen = \"127.0.0.1:17902\"
+peer = \"192.0.2.12\"
+export = [{ path_has = 64511, action = \"drop\" }, { use = \"bogons\" }, { prefix = \"100.64.0.0/10\", action = \"pass\" }]
+";
+
+/// `ROUTE` with AS_PATH 64496 64511.
+const FAR: [u8; 24] = [
+    0x40, 1, 1, 0, 0x40, 2, 10, 2, 2, 0, 0, 0xfb, 0xf0, 0, 0, 0xfb, 0xff, 0x40, 3, 4, 192, 0, 2, 11,
+];
+
+/// `ROUTE` with the community 64500:666.
+const HOLED: [u8; 27] = [
+    0x40, 1, 1, 0, 0x40, 2, 6, 2, 1, 0, 0, 0xfb, 0xf0, 0x40, 3, 4, 192, 0, 2, 11, 0xc0, 8, 4, 0xfb,
+    0xf4, 2, 0x9a,
+];
+
+/// Prefixes with attributes from alpha to beta, and the reasons.
+const REASONS: [(u32, u8, &[u8], &str); 9] = [
+    // 192.168.1.0/24
+    (
+        0xc0a8_0100,
+        24,
+        &ROUTE,
+        "import rule 4 of alpha (uses bogons, rule 2): drop",
+    ),
+    // 10.0.0.0/8
+    (
+        0x0a00_0000,
+        8,
+        &ROUTE,
+        "import rule 4 of alpha (uses bogons, rule 1): drop",
+    ),
+    // the first rule that matches decides: 10.1.0.0/16 with the community
+    (0x0a01_0000, 16, &HOLED, "import rule 2 of alpha: drop"),
+    // 203.0.113.0/24 passes before the community is asked for
+    (
+        0xcb00_7100,
+        24,
+        &HOLED,
+        "import rule 1 of alpha: pass; no export rule of beta matches: pass",
+    ),
+    // it passes the import list, which takes all communities away, and the export list drops it
+    (
+        0xcb00_7100,
+        24,
+        &FAR,
+        "import rule 1 of alpha: pass; export rule 1 of beta: drop",
+    ),
+    // 198.51.100.0/24
+    (
+        0xc633_6400,
+        24,
+        &ROUTE,
+        "no import rule of alpha matches: pass; no export rule of beta matches: pass",
+    ),
+    (
+        0xc633_6400,
+        24,
+        &FAR,
+        "no import rule of alpha matches: pass; export rule 1 of beta: drop",
+    ),
+    (0xc633_6400, 24, &HOLED, "import rule 2 of alpha: drop"),
+    // 100.64.0.0/10
+    (
+        0x6440_0000,
+        10,
+        &ROUTE,
+        "no import rule of alpha matches: pass; export rule 3 of beta: pass",
+    ),
+];
+
+/// From the client of one place to that of the other the route has these reasons.
+fn is_said(
+    rt: &impl Abort,
+    alloc: Global,
+    config: &Config,
+    ends: (usize, usize),
+    route: (Prefix, &Attrs),
+    want: &str,
+) {
+    let (from, to) = ends;
+    let (prefix, attrs) = route;
+    assert!(rt; from < config.clients() && to < config.clients());
+    let answer = explain(config, from, to, &prefix, attrs);
+    let text = format!(in alloc; "{answer}").expect(rt, "a text");
+    assert_eq!(rt; text.as_str(), want);
+}
+
+#[test]
+fn each_list_tells_its_rule(rt: HostRuntime) {
+    let config = Config::read(rt.alloc(), CONFIG).expect(&rt, "a configuration");
+    for (bits, len, octets, want) in &REASONS {
+        let prefix = Prefix::new(*bits, *len).expect(&rt, "a length of at most 32");
+        let attrs = read(rt.alloc(), *octets, Mode::Four)
+            .expect(&rt, "attributes")
+            .attrs;
+        is_said(&rt, rt.alloc(), &config, (0, 1), (prefix, &attrs), *want);
+    }
+}
+
+/// Beta's own routes go by no import rule, and where the default drops, by that.
+#[test]
+fn the_default_is_told(rt: HostRuntime) {
+    let text = format!(in rt.alloc(); "default = \"drop\"\n{CONFIG}").expect(&rt, "a text");
+    let config = Config::read(rt.alloc(), text.as_str()).expect(&rt, "a configuration");
+    let attrs = read(rt.alloc(), &ROUTE, Mode::Four)
+        .expect(&rt, "attributes")
+        .attrs;
+    let prefix = Prefix::new(0xcb00_7100, 24).expect(&rt, "a length of at most 32");
+    is_said(
+        &rt,
+        rt.alloc(),
+        &config,
+        (1, 0),
+        (prefix, &attrs),
+        "no import rule of beta matches: drop",
+    );
+    is_said(
+        &rt,
+        rt.alloc(),
+        &config,
+        (0, 1),
+        (prefix, &attrs),
+        "import rule 1 of alpha: pass; no export rule of beta matches: drop",
+    );
+}

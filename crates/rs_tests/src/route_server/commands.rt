@@ -1,0 +1,97 @@
+//! What the operator commands of a client's session.
+
+use crate::route_server::exchange::{
+    A, B, Exchange, KEEPALIVE, NO_ROUTE, OPEN_A, OPEN_B, OPEN_SERVER, ROUTE, server,
+};
+use crate::route_server::link::{Said, Tape};
+use rs_core::{Ending, Event, drive};
+use rs_open::{Short, ShutdownText};
+use rs_session::Command;
+use std::process::Abort;
+
+/// Cease, Administrative Shutdown (RFC 4486, 4), with "back at 9" behind its length (RFC 9003, 2), and
+/// without a text.
+const SHUTDOWN: &str = "001f030602096261636b2061742039";
+
+const BARE_SHUTDOWN: &str = "0015030602";
+
+/// The text of that NOTIFICATION.
+fn back_at_9(rt: &impl Abort) -> ShutdownText {
+    ShutdownText::of(b"back at 9").expect(rt, "a text")
+}
+
+/// The last session of a client ended so, or none did.
+fn has_ended(rt: &impl Abort, exchange: &Exchange, c: usize, want: Option<Ending>) {
+    assert!(rt; c < exchange.core.clients());
+    assert_eq!(rt; exchange.core.ending(c), want, "client {c}");
+}
+
+#[test]
+fn a_session_is_ended_with_a_text(rt: HostRuntime) {
+    let text = back_at_9(&rt);
+    let mut exchange = Exchange::with_a_route(&rt, rt.alloc(), "");
+    exchange.sends(&rt, B, &[ROUTE]);
+    exchange.command(&rt, A, Command::Stop(text));
+    has_ended(&rt, &exchange, A, Some(Ending::Said(Short::shutdown(text))));
+    exchange.sends(&rt, A, &[SHUTDOWN]);
+    exchange.closes(&rt, A);
+    exchange.turn();
+    exchange.sends(&rt, B, &[NO_ROUTE]);
+    has_ended(&rt, &exchange, B, None);
+    exchange.let_go();
+}
+
+#[test]
+fn a_session_is_ended_before_it_is_up(rt: HostRuntime) {
+    let mut exchange = Exchange::new(&rt, rt.alloc(), "", "");
+    // Without a connection there is nothing to end.
+    exchange.command(&rt, A, Command::Stop(ShutdownText::NONE));
+    has_ended(&rt, &exchange, A, None);
+    exchange.open(&rt, A);
+    exchange.command(&rt, A, Command::Refresh);
+    exchange.command(&rt, A, Command::Stop(ShutdownText::NONE));
+    exchange.sends(&rt, A, &[OPEN_SERVER, BARE_SHUTDOWN]);
+    exchange.closes(&rt, A);
+    exchange.let_go();
+}
+
+#[test]
+fn a_client_is_told_its_routes_again(rt: HostRuntime) {
+    let mut exchange = Exchange::with_a_route(&rt, rt.alloc(), "");
+    exchange.sends(&rt, B, &[ROUTE]);
+    exchange.command(&rt, B, Command::Refresh);
+    exchange.sends(&rt, B, &[ROUTE]);
+    exchange.sends(&rt, B, &[]);
+    exchange.sends(&rt, A, &[]);
+    exchange.let_go();
+}
+
+#[test]
+fn a_link_tells_of_commands(rt: HostRuntime) {
+    const LAST: [Said; 5] = [
+        Said::Took(B, 47),
+        Said::Took(B, 47),
+        Said::Took(A, 31),
+        Said::End(A),
+        Said::Took(B, 27),
+    ];
+    let mut link = Tape::new(rt.alloc());
+    link.come_up(&rt, A, OPEN_A);
+    link.come_up(&rt, B, OPEN_B);
+    link.hear(&rt, A, ROUTE);
+    link.add(&rt, Event::Turn);
+    link.room(&rt, B, 5_000);
+    link.add(&rt, Event::Commanded(B, Command::Refresh));
+    link.room(&rt, B, 5_000);
+    link.add(&rt, Event::Commanded(A, Command::Stop(back_at_9(&rt))));
+    // There is no third client.
+    link.add(&rt, Event::Commanded(2, Command::Refresh));
+    link.room(&rt, A, 5_000);
+    link.add(&rt, Event::Turn);
+    link.room(&rt, B, 5_000);
+    let mut core = server(&rt, rt.alloc(), "", "");
+    drive(&rt, &mut core, &mut link);
+    link.was_told(&rt, 6, &LAST);
+    link.was_sent(&rt, A, &[OPEN_SERVER, KEEPALIVE, SHUTDOWN]);
+    link.was_sent(&rt, B, &[OPEN_SERVER, KEEPALIVE, ROUTE, ROUTE, NO_ROUTE]);
+}

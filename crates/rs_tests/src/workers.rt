@@ -1,0 +1,287 @@
+//! Turns of a small exchange by several workers, against the same turns by one. Both shares of two workers run.
+
+ghost use Rattle.std.specs.Prelude.{IfOk};
+ghost use Rattle.rs_workers.specs.Turned.{ArePlaced};
+
+use rs_adjin::AdjIns;
+use rs_attrs::{Attrs, Mode, read};
+use rs_octets::Prefix;
+use rs_open::Limit;
+use rs_outlet::{Last, Outlet, Turned, note_all};
+use rs_policy::Config;
+use rs_workers::{Free, Gate, turn_all};
+use std::alloc::{AllocError, Global};
+use std::process::Abort;
+use std::sync::atomic::{AtomicBool, AtomicU64, Ordering};
+use std::sync::{Arc, Wait};
+use std::thread;
+use std::thread::Threads;
+
+/// Holds each of shares 0 and 1 until the other has entered.
+#[derive(Drop)]
+pub(crate) struct Both {
+    entered: [AtomicBool; 2],
+    failed: AtomicBool,
+}
+
+impl Both {
+    pub(crate) fn new() -> Both {
+        Both {
+            entered: [AtomicBool::new(false), AtomicBool::new(false)],
+            failed: AtomicBool::new(false),
+        }
+    }
+
+    /// One of them was waited for in vain.
+    pub(crate) fn has_failed(&self) -> bool {
+        self.failed.load(Ordering::SeqCst)
+    }
+}
+
+impl Gate for Both {
+    fn enter(&self, share: usize) {
+        if share >= 2 {
+            return;
+        }
+        self.entered[share].store(true, Ordering::SeqCst);
+        for _ in 0..1_000_000u32 {
+            if self.entered[1 - share].load(Ordering::SeqCst) {
+                return;
+            }
+            thread::yield_now();
+        }
+        self.failed.store(true, Ordering::SeqCst);
+    }
+}
+
+/// Counts the entries of each share.
+#[derive(Drop)]
+struct Counting {
+    shares: Vec<AtomicU64>,
+}
+
+impl Counting {
+    /// None of 16 shares has entered.
+    fn new(rt: &impl Abort, alloc: Global) -> Counting {
+        let mut shares = Vec::new(alloc);
+        for _ in 0..16u8 {
+            shares.push(AtomicU64::new(0)).expect(rt, "a share");
+        }
+        Counting { shares }
+    }
+}
+
+impl Gate for Counting {
+    fn enter(&self, share: usize) {
+        if let Some(count) = self.shares.get(share) {
+            count.fetch_add(1, Ordering::SeqCst);
+        }
+    }
+}
+
+/// Puts what is said of one member, AS 64512 or a greater one, at the end of the configuration.
+fn put_member(rt: &impl Abort, alloc: Global, text: &mut String, n: u8) {
+    let number = 64512 + u32::from(n);
+    let member = format!(in alloc;
+        "[[client]]\nname = \"m{n}\"\nas = {number}\nlisten = \"127.0.0.1:17901\"\npeer = \"127.0.1.{n}\"\n"
+    );
+    let member = member.expect(rt, "a member");
+    text.push_str(member.as_str()).expect(rt, "a member");
+}
+
+/// The configuration of so many members.
+fn configuration(rt: &impl Abort, alloc: Global, members: u8) -> Config {
+    let top = "as = 64500\nidentifier = \"192.0.2.1\"\n";
+    let mut text = String::from_str(alloc, top).expect(rt, "a text");
+    for n in 0..members {
+        put_member(rt, alloc, &mut text, n);
+    }
+    Config::read(alloc, text.as_str()).expect(rt, "a configuration")
+}
+
+/// ORIGIN IGP, AS_PATH 64496 and NEXT_HOP 192.0.2.`host`.
+fn attrs(rt: &impl Abort, alloc: Global, host: u8) -> Arc<Attrs> {
+    let field = [
+        0x40, 1, 1, 0, 0x40, 2, 6, 2, 1, 0, 0, 0xfb, 0xf0, 0x40, 3, 4, 0xc0, 0, 2, host,
+    ];
+    let attrs = read(alloc, &field, Mode::Four)
+        .expect(rt, "attributes")
+        .attrs;
+    Arc::new(alloc, attrs).expect(rt, "attributes")
+}
+
+/// A member announces one of 65,536 prefixes of 24 bits from 10.0.0.0 on.
+fn announce(rt: &impl Abort, tables: &mut AdjIns, member: usize, n: u32, attrs: &Arc<Attrs>) {
+    let prefix = Prefix::new(0x0a00_0000 | (n & 0xffff) << 8, 24).expect(rt, "a prefix");
+    assert!(rt; member < tables.clients());
+    assert!(rt; attrs.has_mandatory());
+    tables.put(member, prefix, attrs, 0).expect(rt, "a route");
+}
+
+/// Of all members routes for their share of so many prefixes, by three sets of attributes.
+fn tables(rt: &impl Abort, alloc: Global, config: &Config, prefixes: u32) -> AdjIns {
+    let mut made = AdjIns::new(alloc, config.clients()).expect(rt, "tables");
+    let sets = [
+        attrs(rt, alloc, 11),
+        attrs(rt, alloc, 12),
+        attrs(rt, alloc, 13),
+    ];
+    for n in 0..prefixes {
+        let from = n as usize % config.clients().max(1);
+        let set = &sets[n as usize / 100 % 3];
+        announce(rt, &mut made, from, n, set);
+    }
+    made
+}
+
+/// The outlets of all members, each up.
+fn outlets(alloc: Global, config: &Config) -> Result<Vec<Outlet>, AllocError>
+    ensures { IfOk result (λ all. ArePlaced config.now all.items) }
+{
+    let mut all = Vec::new(alloc);
+    for client in 0..config.clients() {
+        let mut outlet = Outlet::new(alloc, client, false)?;
+        outlet.up(Mode::Four, Limit::Short);
+        all.push(outlet)?;
+    }
+    Ok(all)
+}
+
+/// The members' configuration, and what they announce.
+#[derive(Drop)]
+struct Exchange {
+    alloc: Global,
+    config: Config,
+    tables: AdjIns,
+}
+
+impl Exchange {
+    /// One of so many members, which announce so many prefixes.
+    fn new(rt: &impl Abort, alloc: Global, members: u8, prefixes: u32) -> Exchange {
+        let config = configuration(rt, alloc, members);
+        let tables = tables(rt, alloc, &config, prefixes);
+        Exchange {
+            alloc,
+            config,
+            tables,
+        }
+    }
+
+    /// The outlets of all members, turned by so many workers.
+    fn turned<R: Threads + Wait + Sync + Abort, G: Gate>(
+        &mut self,
+        rt: &R,
+        workers: usize,
+        gate: &G,
+    ) -> Vec<Outlet> {
+        assert!(rt; workers > 0);
+        assert!(rt; workers <= 16);
+        assert!(rt; self.tables.clients() == self.config.clients());
+        note_all(&mut self.tables, &self.config);
+        let mut all = outlets(self.alloc, &self.config).expect(rt, "outlets");
+        turn_all(
+            rt,
+            workers,
+            &self.tables,
+            &self.config,
+            all.as_mut_slice(),
+            gate,
+        );
+        all
+    }
+}
+
+/// Each of so many outlets has decided all prefixes, which are so many.
+fn have_decided(rt: &impl Abort, all: &[Outlet], count: usize, decided: usize) {
+    let done = Last::Done(Turned {
+        decided,
+        whole: true,
+    });
+    assert_eq!(rt; all.len(), count);
+    for outlet in all {
+        assert_eq!(rt; outlet.last(), done);
+    }
+}
+
+/// Takes one message from each of two outlets. Whether both gave the same octets, or both none.
+fn give_the_same(one: &mut Outlet, other: &mut Outlet) -> bool {
+    one.begin();
+    other.begin();
+    let is_same = one.lent() == other.lent();
+    let taken = one.lent().len();
+    one.took(taken);
+    let taken = other.lent().len();
+    other.took(taken);
+    is_same
+}
+
+/// Whether two outlets answered the same and send the same messages, until both are drained.
+fn are_alike(one: &mut Outlet, other: &mut Outlet) -> bool {
+    if one.last() != other.last() {
+        return false;
+    }
+    for _ in 0..100_000u32 {
+        if !give_the_same(one, other) {
+            return false;
+        }
+        if one.is_drained() || other.is_drained() {
+            return one.is_drained() && other.is_drained();
+        }
+    }
+    false
+}
+
+#[test]
+fn both_shares_run(rt: HostRuntime) {
+    let gate = Both::new();
+    let mut exchange = Exchange::new(&rt, rt.alloc(), 2, 10);
+    let all = exchange.turned(&rt, 2, &gate);
+    assert!(rt; !gate.has_failed());
+    have_decided(&rt, &all, 2, 10);
+}
+
+/// The outlets of so many members are turned by so many workers in so many shares.
+fn has_shares<R: Threads + Wait + Sync + Abort>(
+    rt: &R,
+    alloc: Global,
+    members: u8,
+    workers: usize,
+    shares: usize,
+) {
+    let gate = Counting::new(rt, alloc);
+    let mut exchange = Exchange::new(rt, alloc, members, 10);
+    exchange.turned(rt, workers, &gate);
+    for (share, entries) in gate.shares.iter().enumerate() {
+        let count = entries.load(Ordering::SeqCst);
+        let want = u64::from(share < shares);
+        assert_eq!(rt; count, want, "share {share} of {members} by {workers}");
+    }
+}
+
+#[test]
+fn shares_are_as_long_as_said(rt: HostRuntime) {
+    // members, workers, shares
+    has_shares(&rt, rt.alloc(), 1, 16, 1);
+    has_shares(&rt, rt.alloc(), 5, 4, 3);
+    has_shares(&rt, rt.alloc(), 16, 16, 16);
+    has_shares(&rt, rt.alloc(), 7, 2, 2);
+    has_shares(&rt, rt.alloc(), 6, 1, 1);
+}
+
+/// Turns by so many workers leave all seven outlets as turns by one do.
+fn is_the_same<R: Threads + Wait + Sync + Abort>(rt: &R, exchange: &mut Exchange, workers: usize) {
+    let mut alone = exchange.turned(rt, 1, &Free);
+    let mut all = exchange.turned(rt, workers, &Free);
+    have_decided(rt, &all, 7, 10_000);
+    for (one, other) in alone.iter_mut().zip(all.iter_mut()) {
+        assert!(rt; are_alike(one, other), "{workers} workers");
+    }
+}
+
+#[test]
+fn any_number_of_workers_gives_the_same(rt: HostRuntime) {
+    let mut exchange = Exchange::new(&rt, rt.alloc(), 7, 10_000);
+    is_the_same(&rt, &mut exchange, 2);
+    is_the_same(&rt, &mut exchange, 3);
+    is_the_same(&rt, &mut exchange, 16);
+}
