@@ -23,8 +23,8 @@ build: ## prove what the programs stand on, and leave them in out/
 		echo "out/$$program"; \
 	done
 
-package: ## make a Debian package of what `make build` proved (by debhelper and pandoc); tools/try_package.py tries it
-	@python3 tools/package.py
+package: ## make a Debian package of what `make build` proved (by debhelper and pandoc); tools/packages/try_package.py tries it
+	@python3 tools/packages/package.py
 
 serve: ## run the live server for the two members of examples/small.toml, on loopback (make build first)
 	@[ -x out/rs_served ] || { echo "out/rs_served isn't there: make build makes it"; exit 1; }
@@ -33,9 +33,10 @@ serve: ## run the live server for the two members of examples/small.toml, on loo
 test: ## the gate: every proof from nothing, must-fail edits, tests, recorded sessions
 	@python3 tools/gate.py
 
-interop: ## try BIRD, OpenBGPD, FRR, GoBGP and ExaBGP as members, and write docs/INTEROP.md (MEMBER=bird: that one alone, no page)
+interop: ## try BIRD, OpenBGPD, FRR, GoBGP and ExaBGP as members, Prometheus, curl and Chromium at the window, and write docs/INTEROP.md (MEMBER=bird: that one alone, no page)
 	@[ -x out/rs_served ] || { echo "out/rs_served isn't there: make build makes it"; exit 1; }
 	@python3 tools/interop.py out/rs_served $(if $(MEMBER),--member $(MEMBER),--page docs/INTEROP.md)
+	@$(if $(MEMBER),:,python3 tools/lookers.py out/rs_served)
 
 bench: ## measure the server among BIRD, OpenBGPD, FRR and GoBGP, and write docs/BENCH.md (FULL=1: all works, about an hour)
 	@[ -x out/rs_served ] || { echo "out/rs_served isn't there: make build makes it"; exit 1; }
@@ -55,4 +56,4 @@ examples: ## compare the example configurations with those that are tested
 	@python3 tools/check_examples.py
 
 clean: ## remove all that was built
-	rm -rf out crates/*/out tools/__pycache__ tools/hostile/__pycache__ tools/routers/__pycache__ bench/__pycache__
+	rm -rf out crates/*/out tools/__pycache__ tools/*/__pycache__ bench/__pycache__

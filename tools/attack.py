@@ -3,8 +3,8 @@
 
 attack.py [CRATE..]
 
-attacks/CRATE/*.edit are edits like those of crates/CRATE/must-fail: a text of the crate and what stands in
-its place. Each crate is proved first as it is, since an edit of a crate that isn't proved shows nothing; then
+attacks/CRATE, with its folders, has edits like those of crates/CRATE/must-fail: a text of the crate and what
+stands in its place. Each crate is proved first as it is, since an edit of a crate that isn't proved shows nothing; then
 each of its edits must be refused. All is done in a copy of the repository outside it, in which the attacks
 stand in the must-fail folder of their crate, the one that `rt must-fail` reads. Crates are tried side by side,
 as many as there are processors (`taskset -c 0 tools/attack.py` takes one).
@@ -33,7 +33,9 @@ def copy_repository(room):
     for attacks in (room / "attacks").iterdir():
         crate = room / "crates" / attacks.name
         if crate.is_dir():
-            shutil.copytree(attacks, crate / "must-fail")
+            (crate / "must-fail").mkdir()
+            for it in attacks.rglob("*.edit"):
+                shutil.copy(it, crate / "must-fail")
 
 
 def run(words, folder):
@@ -44,7 +46,7 @@ def run(words, folder):
 
 def tries(room, crate):
     """Tries a crate's attacks: each by its name, and what is wrong with it or None."""
-    names = {f"{crate}/{it.stem}" for it in (room / "attacks" / crate).glob("*.edit")}
+    names = {f"{crate}/{it.stem}" for it in (room / "attacks" / crate).rglob("*.edit")}
     said = run(["must-fail", crate], room)[1]
     print(said, end="", flush=True)
     found = {}

@@ -4,8 +4,8 @@
 fuzz.py PROGRAM TESTS [CASES [SEED]]
 
 A case is a configuration (rules, lists, limits, long messages, ROUTE-REFRESH) and a session: members that come up, as two-octet
-or four-octet peers, and come again; routes, withdrawals and faults, in any pieces; turns, rooms of any size, losses, moments and
-replaced rules. The seed is printed, by which the same cases come again. Where a case differs, the smallest session that
+or four-octet peers, and come again; routes, withdrawals and faults, in any pieces; turns, rooms of any size, losses, moments, the
+operator's commands and replaced rules. The seed is printed, by which the same cases come again. Where a case differs, the smallest session that
 still does, found by leaving out lines, is printed with its configuration.
 """
 import pathlib
@@ -15,7 +15,7 @@ import sys
 import time
 import tomllib
 
-from holding import ask, case, drain, play
+from plays.holding import ask, case, drain, play
 from results import end, tell
 
 CASES = 100
@@ -209,6 +209,20 @@ def pieces(draw, name, octets):
         before = cut
 
 
+def again(draw, peer):
+    """The lines by which a member loses its connection and comes again."""
+    return [f"lost {peer.name}", f"open {peer.name}", *pieces(draw, peer.name, peer.open(draw) + KEEPALIVE)]
+
+
+def commanded(draw, peer):
+    """The lines of a command of the operator; behind an end, whose NOTIFICATION may be taken, the member may come again."""
+    if draw.random() < 0.5:
+        return [f"refresh {peer.name}"]
+    text = draw.choice(["", f" {b'maintenance'.hex()}", f" {b'a'.hex() * 128}"])
+    lines = [f"shutdown {peer.name}{text}", *draw.choice([[], [f"room {peer.name} {draw.choice([10, 1000])}"]])]
+    return lines + (again(draw, peer) if draw.random() < 0.7 else [])
+
+
 def session(draw):
     """A configuration, and the lines of a session."""
     fixed = draw.choice(["true", "false"]), draw.choice(["true", "false"])
@@ -224,12 +238,14 @@ def session(draw):
             lines.append("turn")
         elif chance < 0.8:
             lines.append(f"room {peer.name} {draw.choice([1, 19, 50, 1000, 100_000, draw.randrange(1, 300)])}")
-        elif chance < 0.86:
-            lines += [f"lost {peer.name}", f"open {peer.name}", *pieces(draw, peer.name, peer.open(draw) + KEEPALIVE)]
-        elif chance < 0.9:
+        elif chance < 0.85:
+            lines += again(draw, peer)
+        elif chance < 0.89:
             moment += draw.choice([1, 29, 30])
             lines.append(f"moment {moment}")
-        elif chance < 0.94:
+        elif chance < 0.92:
+            lines += commanded(draw, peer)
+        elif chance < 0.95:
             lines.append(f"rules {configuration(draw, fixed).encode().hex()}")
         elif chance < 0.97:
             lines.append(f"octets {peer.name} {(message(5, bytes([0, 1, 0, 1])) if fixed[1] == 'true' else KEEPALIVE).hex()}")

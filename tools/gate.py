@@ -28,17 +28,18 @@ from check_examples import check
 from check_names import check_pages
 from fuzz import CASES, fuzz
 from hostile.plays import play_short
-from play_checks import play_checks
-from play_ignored import play_ignored
-from play_server import play_members
-from play_record import play_records
-from play_refused import play_refused
-from play_rules import ROUTES, SEED, play_rules
-from play_sessions import play
-from play_sweeps import play_sweeps
-from play_window import play_window
-from play_without_memory import play_memory
-from play_without_threads import play_alone
+from plays.checks import play_checks
+from plays.control import play_control
+from plays.ignored import play_ignored
+from plays.record import play_records
+from plays.refused import play_refused
+from plays.rules import ROUTES, SEED, play_rules
+from plays.server import play_members
+from plays.sessions import play
+from plays.sweeps import play_sweeps
+from plays.window import play_window
+from plays.without_memory import play_memory
+from plays.without_threads import play_alone
 from results import tell
 
 TOP = pathlib.Path(__file__).resolve().parent.parent
@@ -169,6 +170,7 @@ def play_all(crates, folder):
     yield from play_members(crates / "rs_served/out/rs_served")
     yield from play_records(crates / "rs_served/out/rs_served", replay)
     yield from play_window(crates / "rs_served/out/rs_served")
+    yield from play_control(crates / "rs_served/out/rs_served")
     yield from play_checks(crates / "rs_served/out/rs_served")
     yield from play_short(crates / "rs_served/out/rs_served", HOSTILE)
     yield from play_alone(crates, folder)

@@ -10,21 +10,19 @@ What is not installed is skipped with a word, and a skip is not counted as passe
 what was seen.
 """
 import argparse
-import collections
 import contextlib
 import datetime
 import os
 import pathlib
 import platform
 import signal
-import subprocess
 import sys
 import tempfile
 import time
 
-from interop_play import CHECKS, HEAVY, HEAVY_CHECKS, LIGHT, HeavyPlay, Play
 from results import end
 from routers import ALL
+from routers.plays import CHECKS, HEAVY, HEAVY_CHECKS, LIGHT, HeavyPlay, Play
 
 # All of it, in seconds.
 MOST = 1800
@@ -64,11 +62,11 @@ def write_page(page, members, plays, heavy, missing):
     for title, seen in plays:
         text += ["", f"## {title}", *(["", "All as above."] if seen in shown else table([*names, "plain"], CHECKS, seen))]
         shown.append(seen)
-    text += ["", "### What a line says", ""] + [f"- **{check}**: {words}" for check, words in CHECKS]
+    text += ["", "### What a line says", ""] + [f"- **{check}**: {words}" for check, words in CHECKS if words]
     text += ["", f"## {HEAVY.count:,} routes, Hold Time {HEAVY.hold}, long messages", ""]
     text += ["Each alone beside the plain member, each of both with as many routes, `hold = 9` and `extended` set."]
     text += table(names, HEAVY_CHECKS, heavy)
-    text += ["", "### What else a line says", ""] + [f"- **{check}**: {words}" for check, words in HEAVY_CHECKS if (check, words) not in CHECKS]
+    text += ["", "### What else a line says", ""] + [f"- **{check}**: {words}" for check, words in HEAVY_CHECKS if words and (check, words) not in CHECKS]
     kept = page.read_text().partition(KEPT)[1:] if page.exists() else ()
     page.write_text("\n".join(text) + "\n" + "".join(["\n", *kept] if any(kept) else []))
 

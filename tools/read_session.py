@@ -26,7 +26,7 @@ import struct
 import sys
 
 from capture import bgp
-from speaker import prefixes
+from peers.speaker import prefixes
 
 AS_PATH, NEXT_HOP, MED, COMMUNITIES, LARGE_COMMUNITIES = 2, 3, 4, 8, 32
 AS_SET = 1

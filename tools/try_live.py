@@ -17,7 +17,7 @@ import sys
 import tempfile
 import time
 
-from members import Member, exchange
+from peers.members import Member, exchange
 
 TOP = pathlib.Path(__file__).resolve().parent.parent
 PORTS = {"alpha": 17901, "beta": 17902}

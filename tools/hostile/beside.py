@@ -7,7 +7,7 @@ import multiprocessing
 import struct
 import time
 
-from speaker import attribute, attributes, update
+from peers.speaker import attribute, attributes, update
 
 from .members import Listener, Member, announced, come_up, lost, next_hop, number, speak
 

@@ -5,7 +5,7 @@ import signal
 import socket
 import time
 
-from speaker import KEEPALIVE, ROUTE_REFRESH, attribute, attributes, message, update
+from peers.speaker import KEEPALIVE, ROUTE_REFRESH, attribute, attributes, message, update
 
 from .beside import Beside, probe, quantile, witnesses, working
 from .members import REFRESH, Counting, Member, announced, come_up, next_hop, number, slash24, slash24s, speak, withdrawn

@@ -3,7 +3,7 @@ import os
 import signal
 import time
 
-from speaker import KEEPALIVE, message
+from peers.speaker import KEEPALIVE, message
 
 from .members import Member, announced, come_up, lost, speak
 from .playing import Seen, counted

@@ -6,7 +6,7 @@ import socket
 import struct
 import time
 
-from speaker import IPV4_UNICAST, MARKER, NOTIFICATION, Speaker, attributes, prefixes, update
+from peers.speaker import IPV4_UNICAST, MARKER, NOTIFICATION, Speaker, attributes, prefixes, update
 
 REFRESH = b"\2\0"
 

@@ -11,9 +11,9 @@ import signal
 import subprocess
 import time
 
-from .beside import Beside, probe, quantile, witnesses, working
-from .members import Member, Table, announced, come_up, lost, speak
-from .playing import Seen, counted, shown
+from .beside import Beside, probe, witnesses, working
+from .members import Member, Table, announced, come_up, speak
+from .playing import Seen, shown
 from .targets import Exchange, ours
 
 TOP = pathlib.Path(__file__).resolve().parent.parent.parent
@@ -278,7 +278,7 @@ def starved(target, clients, most):
     with Exchange(target, 2) as exchange:
         room, program = exchange.room, pathlib.Path(target.words(exchange.room)[0])
         library, config = room / "refuse.so", room / "many"
-        subprocess.run(["cc", "-O2", "-shared", "-fPIC", "-o", library, TOP / "tools/refuse_memory.c"], check=True, capture_output=True)
+        subprocess.run(["cc", "-O2", "-shared", "-fPIC", "-o", library, TOP / "tools/plays/refuse_memory.c"], check=True, capture_output=True)
         config.write_text(ours(room, exchange.port, clients, 90))
         runs = {"rs_served": [program, "--config", config, "--check"]}
         if other := replayer(program):

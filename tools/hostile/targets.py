@@ -12,7 +12,7 @@ import time
 
 sys.path.append(str(pathlib.Path(__file__).resolve().parent.parent.parent / "bench"))
 
-from members import SERVER_AS, free_ports
+from peers.members import SERVER_AS, free_ports
 from servers import installed, version_of
 from try_live import listens
 

@@ -4,7 +4,7 @@ import shutil
 import socket
 import struct
 
-from speaker import attributes
+from peers.speaker import attributes
 
 from .router import Route, Router, loaded, run
 

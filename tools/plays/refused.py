@@ -1,7 +1,6 @@
-#!/usr/bin/env python3
 """Plays recorded sessions to a built rs_replay where a request for memory is refused, and says what went otherwise than it must.
 
-play_refused.py PROGRAM TESTS FOLDER
+play.py refused PROGRAM TESTS FOLDER
 
 Of the requests for memory of a session, by 1 and by 2 workers, each is refused in a run of its own. It must show as a
 line `memory NAME`, with `close NAME` where octets came and without at a turn; as `rules refused: out of memory`; or as status 3
@@ -13,14 +12,13 @@ Established client must hold what the plain function of the tests says (`holding
 import collections
 import pathlib
 import subprocess
-import sys
 import tempfile
 import tomllib
 
-from holding import ask, case, drain, play
-from play_sweeps import session
-from preloading import built, preloaded
-from results import end, tell
+from .holding import ask, case, drain, play
+from .preloading import built, preloaded
+from .sweeps import session
+
 
 REFUSED = (
     "first_route", "origin_out_of_range_withdraws", "rule_hides_a_path_from_one", "withdrawn_before_it_was_sent",
@@ -154,7 +152,8 @@ def play_refused(program, tests, folder):
         yield "memory refused", str(fault)
 
 
-if __name__ == "__main__":
-    if len(sys.argv) != 4:
-        sys.exit(__doc__)
-    end(*tell(play_refused(*(pathlib.Path(it).resolve() for it in sys.argv[1:]))))
+def by_words(words):
+    """The results, by the words of a command behind the play's name; None where these are others."""
+    if len(words) == 3:
+        return play_refused(*(pathlib.Path(it).resolve() for it in words))
+    return None

@@ -11,7 +11,7 @@ import re
 import subprocess
 import sys
 
-TOP = pathlib.Path(__file__).resolve().parent.parent
+TOP = pathlib.Path(__file__).resolve().parent.parent.parent
 OPERATING, REPLAY = "docs/OPERATING.md", "crates/rs_replay/README.md"
 # Each man page: its name and section, what it is, and the page and the sections of it that it is made of.
 PAGES = (

@@ -1,7 +1,6 @@
-#!/usr/bin/env python3
 """Looks through the window of a built rs_served while two members exchange routes, and says what went otherwise than it must.
 
-play_window.py PROGRAM [--long]
+play.py window PROGRAM [--long]
 
 Pages: /status by GET, by HEAD, by HTTP/1.0, four times on one connection, and a hundred times at once without waiting; then each
 page, once both members are up and hold 2,000 routes: its fields, its routes once each and in order, in pieces of at most 32,768
@@ -24,12 +23,10 @@ import os
 import pathlib
 import resource
 import socket
-import sys
 import threading
 import time
 
-from members import Member, differs, ends, free_ports, routes, serving, speak
-from results import end, tell
+from peers.members import Member, differs, ends, free_ports, routes, serving, speak
 
 SECONDS = 60
 PLACES = 16
@@ -150,7 +147,7 @@ def birdwatcher(port):
             return f"/routes/protocol/alpha lists {it}"
         if it["bgp"]["as_path"][0] != "64496" or it["bgp"]["next_hop"] != "192.0.2.11" or it["bgp"]["origin"] != "IGP":
             return f"/routes/protocol/alpha lists {it}"
-        if it["type"] != ["BGP", "unicast", "univ"] or not {"age", "metric"} < set(it):
+        if it["type"] != ["BGP", "unicast", "univ"] or not {"age", "metric", "primary"} < set(it):
             return f"/routes/protocol/alpha lists {it}"
     sizes = chunks(port, "/routes/protocol/alpha")
     if len(sizes) < 4 or max(sizes) > 32_768 or sizes[-1] != 0:
@@ -373,8 +370,9 @@ def play_window(program, looks=LOOKS):
         yield name, wrong
 
 
-if __name__ == "__main__":
-    words = [word for word in sys.argv[1:] if word != "--long"]
-    if not words:
-        sys.exit(__doc__)
-    end(*tell(play_window(words, LOOKS + LONG if "--long" in sys.argv else LOOKS)))
+def by_words(words):
+    """The results, by the words of a command behind the play's name; None where these are others."""
+    program = [word for word in words if word != "--long"]
+    if program:
+        return play_window(program, LOOKS + LONG if "--long" in words else LOOKS)
+    return None

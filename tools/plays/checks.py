@@ -1,7 +1,6 @@
-#!/usr/bin/env python3
 """Gives files of configurations to `rs_served --check`, and says what it answers otherwise than it must.
 
-play_checks.py PROGRAM
+play.py checks PROGRAM
 
 Each row of FAULTS makes one change to GOOD, a configuration in which nothing is wrong, and has the lines that must come on
 standard error, with status 2 and nothing on standard output. Where a line and a column are told, they are looked up in the
@@ -13,10 +12,8 @@ import os
 import pathlib
 import re
 import subprocess
-import sys
 import tempfile
 
-from results import end, tell
 
 GOOD = """\
 as = 64500
@@ -214,6 +211,8 @@ FAULTS = (
     # A rule names a list that has no prefixes: that comes of the list.
     ("prefixes = [", "prefixs = [", ["bad value list 1 ?", "@not known here: prefixs; known: name prefixes ases"], ['["198']),
     ("ases = [", "as = [", ["bad value list 1 ?", "@not known here: as; known: name prefixes ases"], ["[64496]"]),
+    # A list that has only ases is not told to lack prefixes where these are bad.
+    (f"{PREFIXES}\nases = [64496]", "ases = 1", ["bad value list 1 ases", "@ases = 1; expected: an array of at most 1048576 AS numbers"], ["1\n"]),
 )
 
 WARNINGS = (
@@ -383,7 +382,8 @@ def play_checks(program):
         yield "--check: no rights", unread(program, path, "there are no rights to read it", **nobody)
 
 
-if __name__ == "__main__":
-    if len(sys.argv) != 2:
-        sys.exit(__doc__)
-    end(*tell(play_checks(pathlib.Path(sys.argv[1]).resolve())))
+def by_words(words):
+    """The results, by the words of a command behind the play's name; None where these are others."""
+    if len(words) == 1:
+        return play_checks(pathlib.Path(words[0]).resolve())
+    return None

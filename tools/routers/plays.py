@@ -8,8 +8,9 @@ import subprocess
 import threading
 import time
 
-from routers import Place, Route, prefixes_of
-from speaker import IPV4_UNICAST, ROUTE_REFRESH, Speaker, attribute, attributes, message, prefixes, update
+from peers.speaker import IPV4_UNICAST, ROUTE_REFRESH, Speaker, attribute, attributes, message, prefixes, update
+
+from .router import Place, Route, prefixes_of
 
 PLACE = Place("127.0.0.2", 17990, 64500)
 PLAIN = 9
@@ -23,22 +24,22 @@ LIGHT, HEAVY = Load(1000, 90, False), Load(20_000, 9, True)
 
 # What is looked at with a heavy load, each member alone beside the plain one.
 HEAVY_CHECKS = (
-    ("comes up", "the daemon says that its first session is Established"),
-    ("long messages", "messages may have 65,535 octets (RFC 8654)"),
+    ("comes up", ""),
+    ("long messages", ""),
     ("hears all", "it shows just the plain member's routes, with their attributes"),
     ("is heard", "the plain member was told all of its routes, so"),
     ("asks again", "by ROUTE-REFRESH all routes come again, as it counts them, and its table is as before"),
     ("Hold Time 9", "the session has it, and lasts 30 seconds in which no route changes"),
     ("is ended and comes back", "by SIGKILL: its routes go from the plain member; then both have all again"),
-    ("the server is ended and comes back", "by SIGKILL: both have all routes again"),
+    ("the server is ended and comes back", ""),
 )
 CHECKS = (
-    ("comes up", "the daemon says that its first session is Established"),
+    ("comes up", ""),
     ("hears all others", "it shows just the 1,000 routes of each other member"),
     ("as they were sent", "with AS_PATH, NEXT_HOP, MED and communities as sent (OpenBGPD shows a missing MED as 0)"),
     ("is heard", "the plain member was told all of its routes, so"),
     ("withdrawal arrives", "the plain member withdraws a route, and it is gone here"),
-    ("withdraws", "it withdraws a route, and the plain member is told"),
+    ("withdraws", ""),
     ("faulty route stays out", "the plain member announces routes with a faulty ORIGIN, one new, one in place of another: neither is here, and its session lasts"),
     ("asks again", "by ROUTE-REFRESH all routes come again, as it counts them, and its table is as before"),
     ("the server's stop", "by SIGTERM: the session is down, and no route of it is left here"),

@@ -1,4 +1,4 @@
-"""Plays of rs_served about who connects, and how often; play_server.py says what each is, and plays them."""
+"""Plays of rs_served about who connects, and how often; `server` says what each is, and plays them."""
 import contextlib
 import os
 import resource
@@ -6,7 +6,7 @@ import socket
 import threading
 import time
 
-from members import Member, differs, ends, free_ports, routes, serving
+from peers.members import Member, differs, ends, free_ports, routes, serving
 
 
 def comes_and_goes(server, source):

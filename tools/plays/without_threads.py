@@ -1,7 +1,6 @@
-#!/usr/bin/env python3
 """Runs tests, and plays recorded sessions, where no thread can be started, and says what went otherwise than it must.
 
-play_without_threads.py CRATES FOLDER
+play.py without_threads CRATES FOLDER
 
 CRATES has the crates with their built tests and programs, FOLDER the recorded sessions. Turns by several workers, and what
 drives them, replays them and serves by them, must do the same on the thread that there is; and the tests by which two
@@ -10,19 +9,17 @@ workers must run at once must fail, which shows that there was no second thread.
 """
 import pathlib
 import subprocess
-import sys
 import tempfile
 
-from holding import play
-from play_sweeps import sessions
-from preloading import built, preloaded, run_test
-from results import end, tell
+from .holding import play
+from .preloading import built, preloaded, run_test
+from .sweeps import sessions
 
 SECONDS = 120
 # Each test by its crate, and whether it passes without threads.
 TESTS = (
-    ("rs_workers", "tests::any_number_of_workers_gives_the_same", True),
-    ("rs_workers", "tests::both_shares_run", False),
+    ("rs_tests", "workers::any_number_of_workers_gives_the_same", True),
+    ("rs_tests", "workers::both_shares_run", False),
     ("rs_tests", "route_server::turns::many_workers_turn", True),
     ("rs_tests", "route_server::turns::both_shares_run", False),
     ("rs_tests", "route_server::driving::many_workers_drive_a_link", True),
@@ -69,7 +66,8 @@ def play_alone(crates, folder):
         yield "without threads", str(fault)
 
 
-if __name__ == "__main__":
-    if len(sys.argv) != 3:
-        sys.exit(__doc__)
-    end(*tell(play_alone(*(pathlib.Path(it).resolve() for it in sys.argv[1:]))))
+def by_words(words):
+    """The results, by the words of a command behind the play's name; None where these are others."""
+    if len(words) == 2:
+        return play_alone(*(pathlib.Path(it).resolve() for it in words))
+    return None

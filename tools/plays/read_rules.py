@@ -1,4 +1,4 @@
-"""What rules make of a route: a reading of "A rule" of docs/OPERATING.md in plain Python, for play_rules.py.
+"""What rules make of a route: a reading of "A rule" of docs/OPERATING.md in plain Python, for `rules`.
 
 It stands on that page's words and on the standards behind them, and shares nothing with the server, its definitions or the plain
 function of the tests: AS_PATH and its length (RFC 4271, 4.3 and 9.1.2.2), COMMUNITIES (RFC 1997), LARGE_COMMUNITY (RFC 8092, 3),

@@ -1,7 +1,6 @@
-#!/usr/bin/env python3
 """Plays recorded sessions to a built rs_replay, and says which come out otherwise than written down.
 
-play_sessions.py PROGRAM FOLDER [NAME..]
+play.py sessions PROGRAM FOLDER [NAME..]
 
 A session NAME is FOLDER/NAME.trace, given on standard input, with the configuration NAME.toml (no such
 file: four_members.toml above the folder), what the program must write in NAME.out and on standard error in NAME.err
@@ -18,10 +17,8 @@ import pathlib
 import pty
 import re
 import subprocess
-import sys
 import tempfile
 
-from results import end, tell
 
 WORKERS = ["1", "2", "3", "16"]
 
@@ -204,7 +201,11 @@ def comparisons(folder):
     yield "the session was ended", out + head + b"0015030602\n", (), (1, [f"missing b {prefix}", *table(missing=1, sent=0)], "")
     yield "not due", front + packed, (), (1, ["not-due b 203.0.113.0/24", *table(not_due=1, sent=2)], "")
     yield "other attributes", front + update.replace(b"0304c000020b", b"0304c0000263"), (), (1, [f"other b {prefix}", *table(other=1)], "")
+    # A NOTIFICATION of no data, with which a session ends.
+    cease = head + b"0015030600\n"
+    yield "ended before, and in the middle of a message", cease + out + update[:43] + b"\n", (), (0, table(), "")
     yield "unreadable", out + head + b"001704000000ff\n", (), (1, ["unreadable b", table()[0]], "")
+    yield "no marker, and then an end", out + b"sent b " + b"00" * 19 + b"\n" + cease, (), (1, ["unreadable b", table()[0]], "")
     others = b"# by hand\n\nclose b\nbusy b\nmemory b\nroute b 192.0.2.0/24 00\nrules accepted\nrules refused: syntax\nline 3: bad hex\n"
     written = b"unreadable b\nmissing b 192.0.2.0/24\nnot-due b 192.0.2.0/24\nother b 192.0.2.0/24\n" + "\n".join(table()).encode() + b"\n"
     yield "what a replay writes", others + out + written, (), (0, table(), "")
@@ -245,7 +246,8 @@ def play(program, folder, names=()):
         yield "what --table lists", tables_differ(program, folder)
 
 
-if __name__ == "__main__":
-    if len(sys.argv) < 3:
-        sys.exit(__doc__)
-    end(*tell(play(pathlib.Path(sys.argv[1]).resolve(), pathlib.Path(sys.argv[2]), sys.argv[3:])))
+def by_words(words):
+    """The results, by the words of a command behind the play's name; None where these are others."""
+    if len(words) >= 2:
+        return play(pathlib.Path(words[0]).resolve(), pathlib.Path(words[1]), words[2:])
+    return None

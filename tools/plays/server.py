@@ -1,7 +1,6 @@
-#!/usr/bin/env python3
 """Plays members to a built rs_served over sockets on loopback, and says what went otherwise than it must.
 
-play_server.py PROGRAM
+play.py server PROGRAM
 
 Two members: each announces 10,000 routes and must be told the other's.
 Two files of a configuration: behind a second file that drops what one of two members sends, the other must be told that its routes
@@ -23,13 +22,12 @@ server, which was started with --sessions, must end by itself with status 0. All
 """
 import pathlib
 import struct
-import sys
 import tempfile
 import time
 
-import play_connections
-from members import Member, differs, ends, free_ports, replace, routes, serving, speak
-from results import end, tell
+from peers.members import Member, differs, ends, free_ports, replace, routes, serving, speak
+
+from . import connections
 
 SECONDS = 120
 # What the server may take in the play with a silent member, in KiB.
@@ -141,7 +139,7 @@ PLAYS = (
     ("two files of which the second is replaced and then the first", two_files),
     ("a member of 100,000 routes beside one that reads nothing", a_silent_member),
     ("512 members, of which 200 are connected", many_members),
-    *play_connections.PLAYS,
+    *connections.PLAYS,
 )
 
 
@@ -156,7 +154,8 @@ def play_members(program):
         yield name, wrong
 
 
-if __name__ == "__main__":
-    if len(sys.argv) < 2:
-        sys.exit(__doc__)
-    end(*tell(play_members(sys.argv[1:])))
+def by_words(words):
+    """The results, by the words of a command behind the play's name; None where these are others."""
+    if words:
+        return play_members(words)
+    return None

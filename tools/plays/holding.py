@@ -83,7 +83,8 @@ def links(played):
             found[words[0]] = Link()
         elif word == "octets" and words[0] in found and len(words) > 1:
             found[words[0]].heard += bytes.fromhex(words[1])
-        elif word == "lost":
+        elif word in ("lost", "shutdown"):
+            # Nothing that comes after the end of a session counts until the next connection.
             found.pop(words[0], None)
         elif word == "more":
             text += bytes.fromhex(words[0])

@@ -1,7 +1,6 @@
-#!/usr/bin/env python3
 """Runs tests of rs_tests where their requests for memory are counted, or one is refused, and says what went wrong.
 
-play_without_memory.py TESTS
+play.py without_memory TESTS
 
 TESTS is the built tests of rs_tests. Those of calls that take no memory print a line before such calls and one behind
 them: between the two no memory may be asked for.
@@ -15,11 +14,10 @@ changed. Where memory is refused before or behind the turn the test can't go on,
 """
 import pathlib
 import subprocess
-import sys
 import tempfile
 
-from preloading import built, run_test
-from results import end, tell
+from .preloading import built, run_test
+
 
 TEST = "outlet::refused::a_refused_turn_changes_nothing_but_last"
 SAID = b"memory was refused to a turn"
@@ -111,5 +109,8 @@ def play_memory(program):
         yield "without memory", str(fault)
 
 
-if __name__ == "__main__":
-    end(*tell(play_memory(pathlib.Path(sys.argv[1]))))
+def by_words(words):
+    """The results, by the words of a command behind the play's name; None where these are others."""
+    if len(words) == 1:
+        return play_memory(pathlib.Path(words[0]))
+    return None

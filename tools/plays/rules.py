@@ -1,7 +1,6 @@
-#!/usr/bin/env python3
 """Plays generated routes to a built rs_replay, and holds what its clients are sent against the reading of read_rules.py.
 
-play_rules.py PROGRAM [ROUTES [SEED]]
+play.py rules PROGRAM [ROUTES [SEED]]
 
 The gate plays ROUTES by SEED, so that the counts below are the same in each run; another seed brings other routes.
 
@@ -14,13 +13,12 @@ import collections
 import pathlib
 import random
 import subprocess
-import sys
 import tempfile
 import tomllib
 
 from fuzz import KEEPALIVE, NAMES, PREFIXES, Peer, configuration, dotted, spelt, update
-from read_rules import Way, passed_on, read_attributes, read_prefixes
-from results import end, tell
+
+from .read_rules import Way, passed_on, read_attributes, read_prefixes
 
 ROUTES, SEED = 1_000, 1
 # Of each key one route in so many, at least, is on either side.
@@ -138,9 +136,10 @@ def play_rules(program, number, seed):
         yield f"rules: {key}: {match} routes match, {miss} don't", f"fewer than {routes // PART}" if few else None
 
 
-if __name__ == "__main__":
-    if len(sys.argv) < 2:
-        sys.exit(__doc__)
-    number = int(sys.argv[2]) if len(sys.argv) > 2 else ROUTES
-    chosen = int(sys.argv[3]) if len(sys.argv) > 3 else SEED
-    end(*tell(play_rules(pathlib.Path(sys.argv[1]).resolve(), number, chosen)))
+def by_words(words):
+    """The results, by the words of a command behind the play's name; None where these are others."""
+    if not 1 <= len(words) <= 3:
+        return None
+    number = int(words[1]) if len(words) > 1 else ROUTES
+    chosen = int(words[2]) if len(words) > 2 else SEED
+    return play_rules(pathlib.Path(words[0]).resolve(), number, chosen)

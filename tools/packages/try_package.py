@@ -19,9 +19,11 @@ import sys
 import tempfile
 import time
 
+TOP = pathlib.Path(__file__).resolve().parent.parent.parent
+sys.path.append(str(TOP / "tools"))
+
 from results import end, tell
 
-TOP = pathlib.Path(__file__).resolve().parent.parent
 NEEDED = ("debootstrap", "systemd-nspawn", "nsenter", "lintian")
 UNIT, FILE = "rs_served", "etc/tivrazel/rs_served.toml"
 # The port of BGP, which the unit's user may only take by the one privilege that it has.

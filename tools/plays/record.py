@@ -1,8 +1,7 @@
-#!/usr/bin/env python3
 """Records a built rs_served, and plays the record to a built rs_replay: each member must have been sent, octet for octet, what
 the replay sends it.
 
-play_record.py SERVED REPLAY
+play.py record SERVED REPLAY
 
 A recorded run: two members of 200 routes make 3,600 changes, as many as an hour has at one a second, as fast as they come; one of
 them stops reading for some of them, so that the server's outbox is full; it breaks off in the middle of a message and comes
@@ -16,13 +15,11 @@ import pathlib
 import random
 import struct
 import subprocess
-import sys
 import tempfile
 import time
 
-from members import Member, differs, ends, free_ports, replace, routes, serving
-from results import end, tell
-from speaker import MARKER, attributes, update
+from peers.members import Member, differs, ends, free_ports, replace, routes, serving
+from peers.speaker import MARKER, attributes, update
 
 SECONDS = 60
 CHANGES = 3600
@@ -291,5 +288,8 @@ def play_records(served, replay):
         yield f"rs_served --record: {name}", wrong
 
 
-if __name__ == "__main__":
-    end(*tell(play_records(*sys.argv[1:3])))
+def by_words(words):
+    """The results, by the words of a command behind the play's name; None where these are others."""
+    if len(words) == 2:
+        return play_records(*words)
+    return None

@@ -1,9 +1,8 @@
-#!/usr/bin/env python3
 """Plays recorded sessions to a built rs_replay with a key of lists and rules left out, which must show in what comes out.
 
-play_ignored.py PROGRAM FOLDER
+play.py ignored PROGRAM FOLDER
 
-Of each configuration of FOLDER (play_sessions.py) one test of a rule, one key of communities that are taken away, one `use`, one range of
+Of each configuration of FOLDER (`sessions`) one test of a rule, one key of communities that are taken away, one `use`, one range of
 lengths or one entry of a list is left out at a time, and the session is played by what is left: were the server to pass over that
 key, it would do the same. What is written must differ from NAME.out, for each key of the session at one of its places or more. At
 least SESSIONS sessions must use these keys.
@@ -11,10 +10,8 @@ least SESSIONS sessions must use these keys.
 import pathlib
 import re
 import subprocess
-import sys
 import tempfile
 
-from results import end, tell
 
 SESSIONS = 30
 # The keys of rules that came with lists. Each value is a text, a number, true or false, or an array of texts.
@@ -69,7 +66,8 @@ def play_ignored(program, folder):
     yield f"{used} sessions use keys of lists and rules", None if used >= SESSIONS else f"fewer than {SESSIONS}"
 
 
-if __name__ == "__main__":
-    if len(sys.argv) != 3:
-        sys.exit(__doc__)
-    end(*tell(play_ignored(pathlib.Path(sys.argv[1]).resolve(), pathlib.Path(sys.argv[2]))))
+def by_words(words):
+    """The results, by the words of a command behind the play's name; None where these are others."""
+    if len(words) == 2:
+        return play_ignored(pathlib.Path(words[0]).resolve(), pathlib.Path(words[1]))
+    return None

@@ -3,13 +3,13 @@ import os
 import pathlib
 import subprocess
 
-TOOLS = pathlib.Path(__file__).resolve().parent
+HERE = pathlib.Path(__file__).resolve().parent
 
 
 def built(folder, name):
     """The library of this C file, built in this folder."""
     library = pathlib.Path(folder) / f"{name}.so"
-    subprocess.run(["cc", "-O2", "-shared", "-fPIC", "-o", library, TOOLS / f"{name}.c"], check=True)
+    subprocess.run(["cc", "-O2", "-shared", "-fPIC", "-o", library, HERE / f"{name}.c"], check=True)
     return library
 
 

@@ -8,7 +8,7 @@ import subprocess
 import tempfile
 import time
 
-from speaker import Speaker, attributes, prefixes, update
+from .speaker import Speaker, attributes, prefixes, update
 
 SERVER_AS = 64500
 

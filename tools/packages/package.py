@@ -12,7 +12,7 @@ import subprocess
 import sys
 import tempfile
 
-TOP = pathlib.Path(__file__).resolve().parent.parent
+TOP = pathlib.Path(__file__).resolve().parent.parent.parent
 PROGRAMS = ("rs_served", "rs_replay")
 # What the package is made of, beside the programs.
 PARTS = ("debian", "docs", "examples", "tools", "crates/rs_replay/README.md", "README.md", "CHANGELOG.md", "SECURITY.md", "LICENSE")

@@ -1,7 +1,6 @@
-#!/usr/bin/env python3
 """Plays many forms of the recorded sessions to a built rs_replay, and says where clients hold otherwise than they are to.
 
-play_sweeps.py PROGRAM TESTS FOLDER
+play.py sweeps PROGRAM TESTS FOLDER
 
 TESTS is the built tests of rs_program_tests, whose plain function says what each client is to hold (`holding.py`).
 
@@ -18,13 +17,12 @@ import collections
 import itertools
 import pathlib
 import struct
-import sys
 import tomllib
 
-from holding import AT_ONCE, Played, ask, case, drain, names, play
-from play_ignored import LISTED
-from read_rules import AS_PATH, read_attributes
-from results import end, tell
+from .holding import AT_ONCE, Played, ask, case, drain, names, play
+from .ignored import LISTED
+from .read_rules import AS_PATH, read_attributes
+
 
 # The sentences of the definitions that some recorded session needs.
 READINGS = (
@@ -256,7 +254,8 @@ def play_sweeps(program, tests, folder):
     yield from cuts(program, tests, folder)
 
 
-if __name__ == "__main__":
-    if len(sys.argv) != 4:
-        sys.exit(__doc__)
-    end(*tell(play_sweeps(*(pathlib.Path(it).resolve() for it in sys.argv[1:]))))
+def by_words(words):
+    """The results, by the words of a command behind the play's name; None where these are others."""
+    if len(words) == 3:
+        return play_sweeps(*(pathlib.Path(it).resolve() for it in words))
+    return None
