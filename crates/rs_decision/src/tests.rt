@@ -180,91 +180,97 @@ fn a_missing_med_counts_zero(rt: HostRuntime) {
     assert_eq!(rt; best_of_two(&rt, missing, zero), Some(1));
 }
 
-/// In each row the second is better in one respect alone, and worse in all that come behind it.
+/// Worse than `EQUAL` in all but its preference.
+const WORSE: Rank = Rank {
+    preference: 100,
+    path_len: 3,
+    origin: 2,
+    med: Some(11),
+    neighbour: 64496,
+    identifier: 21,
+    address: 31,
+    place: 1,
+};
+
+/// Ranks that are better than `EQUAL` in one respect alone, and worse in all that come behind it.
+const BETTER: [(&str, Rank); 6] = [
+    (
+        "preference",
+        Rank {
+            preference: 101,
+            ..WORSE
+        },
+    ),
+    (
+        "AS_PATH",
+        Rank {
+            path_len: 1,
+            ..WORSE
+        },
+    ),
+    (
+        "ORIGIN",
+        Rank {
+            path_len: 2,
+            origin: 0,
+            ..WORSE
+        },
+    ),
+    (
+        "MED",
+        Rank {
+            path_len: 2,
+            origin: 1,
+            med: Some(9),
+            ..WORSE
+        },
+    ),
+    (
+        "identifier",
+        Rank {
+            path_len: 2,
+            origin: 1,
+            med: Some(10),
+            identifier: 19,
+            ..WORSE
+        },
+    ),
+    (
+        "address",
+        Rank {
+            path_len: 2,
+            origin: 1,
+            med: Some(10),
+            identifier: 20,
+            address: 29,
+            ..WORSE
+        },
+    ),
+];
+
+/// This rank is better than `EQUAL`, whichever comes first.
+fn is_better(rt: &impl Abort, better: Rank, respect: &str) {
+    let second = best_of_two(rt, EQUAL, better);
+    assert_eq!(rt; second, Some(1), "by {respect}");
+    let first = best_of_two(rt, better, EQUAL);
+    assert_eq!(rt; first, Some(0), "by {respect}");
+}
+
 #[test]
 fn each_filter_decides_alone(rt: HostRuntime) {
-    let worse = Rank {
-        preference: 100,
-        path_len: 3,
-        origin: 2,
-        med: Some(11),
-        neighbour: 64496,
-        identifier: 21,
-        address: 31,
-        place: 1,
-    };
-    let rows = [
-        (
-            "preference",
-            Rank {
-                preference: 101,
-                ..worse
-            },
-        ),
-        (
-            "AS_PATH",
-            Rank {
-                path_len: 1,
-                ..worse
-            },
-        ),
-        (
-            "ORIGIN",
-            Rank {
-                path_len: 2,
-                origin: 0,
-                ..worse
-            },
-        ),
-        (
-            "MED",
-            Rank {
-                path_len: 2,
-                origin: 1,
-                med: Some(9),
-                ..worse
-            },
-        ),
-        (
-            "identifier",
-            Rank {
-                path_len: 2,
-                origin: 1,
-                med: Some(10),
-                identifier: 19,
-                ..worse
-            },
-        ),
-        (
-            "address",
-            Rank {
-                path_len: 2,
-                origin: 1,
-                med: Some(10),
-                identifier: 20,
-                address: 29,
-                ..worse
-            },
-        ),
-    ];
-    for (respect, second) in rows {
-        let second = Rank { place: 1, ..second };
-        assert_eq!(rt; best_of_two(&rt, EQUAL, second), Some(1), "by {respect}");
-        assert_eq!(rt;
-            best_of_two(&rt, second, EQUAL),
-            Some(0),
-            "by {respect}, the other way round"
-        );
+    for (respect, better) in &BETTER {
+        is_better(&rt, *better, *respect);
     }
-    let earlier = Rank { place: 0, ..EQUAL };
     let later = Rank { place: 1, ..EQUAL };
-    assert_eq!(rt; best_of_two(&rt, later, earlier), Some(1), "by place");
+    assert_eq!(rt; best_of_two(&rt, later, EQUAL), Some(1), "by place");
 }
 
 /// By which step the second of two ranks of different places loses.
 fn second_lost_by(rt: &impl Abort, first: Rank, second: Rank) -> Option<Step> {
     assert!(rt; first.place != second.place);
-    lost_by(&[first, second], 1)
+    let ranks: &[Rank] = &[first, second];
+    assert!(rt; 1 < ranks.len());
+    lost_by(ranks, 1)
 }
 
 /// Ranks that lose beside `EQUAL`, each worse in one respect and better in those that come later, but for the place.
@@ -366,8 +372,9 @@ fn lost_of_three(rt: &impl Abort, ranks: &[Rank; 3], candidate: usize) -> Option
     assert!(rt; first.place != second.place);
     assert!(rt; first.place != third.place);
     assert!(rt; second.place != third.place);
-    assert!(rt; candidate < 3);
-    lost_by(&[first, second, third], candidate)
+    let ranks: &[Rank] = &[first, second, third];
+    assert!(rt; candidate < ranks.len());
+    lost_by(ranks, candidate)
 }
 
 /// The first precedes the best by its BGP Identifier, but is out before by the second's MULTI_EXIT_DISC.
