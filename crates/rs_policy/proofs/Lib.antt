@@ -1,22 +1,7 @@
-mod Checks
-mod Decimals
-mod Digits
-mod Documents
-pub mod Entries
-pub mod Fixed
-pub mod Imports
-mod Noted
+pub mod Reading
+pub mod Accepted
+pub mod Judging
 pub mod Older
-mod OlderCommunities
-mod Others
-pub mod Passing
-mod Placed
+pub mod Replacing
+mod Decimals
 mod Rows
-mod Sets
-mod SharedRules
-pub mod SoundKeys
-pub mod Soundness
-mod Spans
-mod Wholes
-mod WithoutRules
-mod Written

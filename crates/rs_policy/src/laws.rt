@@ -18,14 +18,14 @@ ghost use Rattle.rs_policy.specs.declared.rules.Range.{Range};
 
 /// A configuration may replace another exactly where all but the default, the limits and the rules is
 /// what it was.
-#[tactic(auto, using(crate::proofs::Fixed::nothing_fixed))]
+#[tactic(auto, using(crate::proofs::Replacing::Fixed::nothing_fixed))]
 pub fn a_replacement_keeps_what_is_fixed()
     ensures { (old new : Configuration) → (first_fixed old new ≡ None) ↔ IsFixed old new }
 {}
 
 /// Each key of an accepted text was read as its check reads it: no value in a configuration stands for
 /// a fault.
-#[tactic(auto, using(crate::proofs::Passing::accepted_says))]
+#[tactic(auto, using(crate::proofs::Accepted::Passing::accepted_says))]
 pub fn an_accepted_text_says_each_value()
     ensures { AcceptedSays }
 {}
@@ -57,7 +57,7 @@ pub fn an_import_list_asks_no_receiver()
 
 /// Where `reasons_for` says that a list decided stands the first rule of the list, written out, that matches; and
 /// none matches where it says that the default did. So it decided what becomes of the route.
-#[tactic(auto, using(crate::proofs::Placed::decider_decides))]
+#[tactic(auto, using(crate::proofs::Judging::Placed::decider_decides))]
 pub fn the_decider_decides()
     ensures { DeciderDecides }
 {}

@@ -14,7 +14,7 @@ use crate::config::values::find;
 use crate::faults::{ConfigFault, Key, Place};
 use toml::value::{Table, Value};
 
-#[tactic(auto, using(crate::proofs::Documents::list_of_view))]
+#[tactic(auto, using(crate::proofs::Reading::Documents::list_of_view))]
 pub(crate) fn array_in(value: &Value) -> Option<&[Value]>
     ensures { option_map (λ vs. data_of vs.now) result ≡ option_map list_of (as_array (view value.now)) }
 {
@@ -25,7 +25,7 @@ pub(crate) fn array_in(value: &Value) -> Option<&[Value]>
 }
 
 /// Whether a value is an array of more values than these.
-#[tactic(auto, using(crate::proofs::Documents::length_seen))]
+#[tactic(auto, using(crate::proofs::Reading::Documents::length_seen))]
 pub(crate) fn is_longer(value: &Value, most: usize) -> bool
     ensures { result ≡ is_longer most (option_map list_of (as_array (view value.now))) }
 {
@@ -41,7 +41,7 @@ fn are_tables(values: &[Value]) -> bool
     values.iter().all(|value| value.is_table())
 }
 
-#[tactic(auto, using(crate::proofs::Documents::list_all_seen))]
+#[tactic(auto, using(crate::proofs::Reading::Documents::list_all_seen))]
 fn tables_in(value: &Value, most: usize, place: Place) -> Result<&[Value], ConfigFault>
     ensures tables { seen result ≡ tables_in most place (view value.now) }
     ensures few { IfOk result (λ ds. length ds.now ≤ most) }
@@ -122,7 +122,7 @@ fn are_among(entries: &Table, keys: &[Key]) -> bool
 }
 
 /// Whether a table has these keys alone.
-#[tactic(auto, using(crate::proofs::Documents::are_among_view), unfolding(crate::specs::Values::has_only))]
+#[tactic(auto, using(crate::proofs::Reading::Documents::are_among_view), unfolding(crate::specs::Values::has_only))]
 fn has_only(table: &Value, keys: &[Key]) -> bool
     ensures { result ≡ has_only keys.now (view table.now) }
 {

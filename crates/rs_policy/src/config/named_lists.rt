@@ -8,7 +8,7 @@ ghost use Rattle.toml.specs.Data.{as_array};
 ghost use Rattle.toml.specs.View.{view};
 ghost use Rattle.rs_policy.specs.Seen.{data_of, seen};
 ghost use Rattle.rs_policy.specs.declared.faults.Key.TheVariants as Key;
-ghost use Rattle.rs_policy.specs.Values.{answer, Answers, AnswersItems, array_at, as_entry, entries_from, list_of, prefix_entry};
+ghost use Rattle.rs_policy.specs.Values.{answer, Answers, AnswersItems, array_at, entries_from, list_of};
 ghost use Rattle.rs_policy.specs.Indexed.{AreAsesIndexed, AreIndexed};
 ghost use Rattle.rs_policy.specs.Verdicts.{has_as, has_prefix, in_as_range, in_range};
 ghost use Rattle.rs_policy.specs.NamedLists.{ases_at, entries_needed, is_same_name, named_list_checks, named_list_from, named_lists_checks, named_lists_from, prefixes_at};
@@ -169,7 +169,7 @@ impl Ases {
 }
 
 /// The array at a key of a list, at most so long.
-#[tactic(auto, using(crate::proofs::Documents::length_seen))]
+#[tactic(auto, using(crate::proofs::Reading::Documents::length_seen))]
 fn array_of(value: &Value, list: usize, key: Key) -> Result<&[Value], ConfigFault>
     ensures array { seen result ≡ array_at list key (option_map list_of (as_array (view value.now))) }
     ensures few { IfOk result (λ vs. length vs.now ≤ 1048576) }
@@ -187,35 +187,25 @@ fn array_of(value: &Value, list: usize, key: Key) -> Result<&[Value], ConfigFaul
     Ok(values)
 }
 
-/// What each entry of `prefixes` is, or the place of the first that is none.
-fn prefix_entries(alloc: Global, values: &[Value], list: usize) -> Result<Vec<Range>, ConfigFault>
-    ensures entries { AnswersItems result (entries_from prefix_entry list Key.Prefixes 1 (data_of values.now)) }
+/// What each entry of such an array is, or the place of the first that is none.
+fn entries_of<K: Kind + Drop>(
+    alloc: Global,
+    values: &[Value],
+    list: usize,
+    key: Key,
+    kind: K,
+) -> Result<Vec<K::Out>, ConfigFault>
+where
+    K::Out: Drop,
+    ensures entries { AnswersItems result (entries_from (K.reads kind) list key 1 (data_of values.now)) }
     ensures count { IfOk result (λ v. length v.items ≡ length values.now) }
 {
     let mut entries = Vec::with_capacity(alloc, values.len())?;
     for (index, value) in values.iter().enumerate() {
-        let Some(entry) = PrefixEntry.read(value) else {
+        let Some(entry) = kind.read(value) else {
             return Err(ConfigFault::BadValue(Place {
                 table: Table::Entry(list, index + 1),
-                key: Key::Prefixes,
-            }));
-        };
-        entries.push(entry)?;
-    }
-    Ok(entries)
-}
-
-/// The same of `ases`.
-fn as_entries(alloc: Global, values: &[Value], list: usize) -> Result<Vec<(u32, u32)>, ConfigFault>
-    ensures entries { AnswersItems result (entries_from as_entry list Key.Ases 1 (data_of values.now)) }
-    ensures count { IfOk result (λ v. length v.items ≡ length values.now) }
-{
-    let mut entries = Vec::with_capacity(alloc, values.len())?;
-    for (index, value) in values.iter().enumerate() {
-        let Some(entry) = AsEntry.read(value) else {
-            return Err(ConfigFault::BadValue(Place {
-                table: Table::Entry(list, index + 1),
-                key: Key::Ases,
+                key,
             }));
         };
         entries.push(entry)?;
@@ -231,7 +221,7 @@ fn prefixes_in(alloc: Global, table: &Value, list: usize) -> Result<Option<Prefi
         return Ok(None);
     };
     let values = array_of(value, list, Key::Prefixes)?;
-    let ranges = prefix_entries(alloc, values, list)?;
+    let ranges = entries_of(alloc, values, list, Key::Prefixes, PrefixEntry)?;
     Ok(Some(Prefixes::of(alloc, ranges)?))
 }
 
@@ -243,7 +233,7 @@ fn ases_in(alloc: Global, table: &Value, list: usize) -> Result<Option<Ases>, Co
         return Ok(None);
     };
     let values = array_of(value, list, Key::Ases)?;
-    let ranges = as_entries(alloc, values, list)?;
+    let ranges = entries_of(alloc, values, list, Key::Ases, AsEntry)?;
     Ok(Some(Ases::of(alloc, ranges)?))
 }
 

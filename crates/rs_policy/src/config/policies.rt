@@ -4,7 +4,7 @@ ghost use Rattle.std.specs.Prelude.{◌≡◌, length, IfOk};
 ghost use Rattle.toml.specs.View.{view};
 ghost use Rattle.rs_policy.specs.Seen.{data_of};
 ghost use Rattle.rs_policy.specs.Values.{answer, Answers, AnswersItems};
-ghost use Rattle.rs_policy.specs.Documents.{rules_from, rules_checks, item_checks, item_of, items_from, items_checks, list_checks, list_of_items, list_key, policy_checks, policy_from, policies_checks, policies_from};
+ghost use Rattle.rs_policy.specs.Documents.{rules_from, rules_checks, item_checks, item_of, list_checks, list_of_items, list_key, policy_checks, policy_from, policies_checks, policies_from};
 
 use crate::config::arrays::tables;
 use crate::config::clients::Client;
@@ -77,30 +77,6 @@ fn read_item(
     Ok(Item::Own(read_rule(alloc, table, here, clients, lists)?))
 }
 
-fn items_of(
-    alloc: Global,
-    tables: &[Value],
-    client: usize,
-    list: List,
-    clients: &[Client],
-    lists: &[NamedList],
-    shared: &[SharedRules],
-) -> Result<Vec<Item>, ConfigFault>
-    ensures { AnswersItems result
-        (answer (items_checks clients.now lists.now shared.now client list (data_of tables.now)) (items_from clients.now lists.now shared.now client list (data_of tables.now))) }
-{
-    let mut items = Vec::with_capacity(alloc, tables.len())?;
-    for (index, table) in tables.iter().enumerate() {
-        let here = Place {
-            table: Table::Rule(client, list, index + 1),
-            key: Key::Other,
-        };
-        let item = read_item(alloc, table, here, clients, lists, shared)?;
-        items.push(item)?;
-    }
-    Ok(items)
-}
-
 fn list_key(list: List) -> Key
     ensures { result ≡ list_key list }
 {
@@ -127,8 +103,17 @@ fn read_list(
         table: Table::Client(client),
         ..TOP
     };
-    let items = tables(table, 64, here, list_key(list))?;
-    items_of(alloc, items, client, list, clients, lists, shared)
+    let tables = tables(table, 64, here, list_key(list))?;
+    let mut items = Vec::with_capacity(alloc, tables.len())?;
+    for (index, table) in tables.iter().enumerate() {
+        let here = Place {
+            table: Table::Rule(client, list, index + 1),
+            key: Key::Other,
+        };
+        let item = read_item(alloc, table, here, clients, lists, shared)?;
+        items.push(item)?;
+    }
+    Ok(items)
 }
 
 impl Policy {

@@ -86,7 +86,7 @@ impl Config {
     }
 
     /// Reads the configuration that replaces this one while a server runs, or answers why it can't.
-    #[tactic(auto, using(crate::proofs::Fixed::fixed_same))]
+    #[tactic(auto, using(crate::proofs::Replacing::Fixed::fixed_same))]
     pub fn replacement(&self, alloc: Global, octets: &[u8]) -> Result<Config, RulesFault>
         ensures accepted { IfOk result (Replaces self.now octets.now) }
         ensures refused { IfErr result (Refuses self.now octets.now) }

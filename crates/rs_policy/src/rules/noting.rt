@@ -1,7 +1,7 @@
 //! What the sender's import list makes of a route, as a number that stands beside the route: the list is asked when
 //! the route is heard, and not anew for each receiver.
 
-ghost use Rattle.std.specs.Prelude.{◌≡◌, ℕ, ◌+◌, ◌*◌, ◌<◌, ◌≤◌, List, length, option_map, Some};
+ghost use Rattle.std.specs.Prelude.{◌≡◌, ℕ, ◌+◌, ◌*◌, ◌<◌, ◌≤◌, List, length, option_map};
 ghost use Rattle.rs_octets.specs.Prefixes.{Prefix};
 ghost use Rattle.rs_attrs.specs.Meaning.{Attribute};
 ghost use Rattle.rs_policy.specs.Configuration.{stated_of};
@@ -14,7 +14,7 @@ use crate::config::Config;
 use crate::config::shared_rules::SharedRules;
 use crate::rules::matching::Offer;
 use crate::rules::reasons::{Decider, first_decider};
-use crate::rules::verdict::{Passed, Verdict, join, offer_to, outcome, passed_by, plainly};
+use crate::rules::verdict::{Passed, Verdict, export_to, offer_to, outcome, passed_by, plainly};
 use crate::rules::{Action, Item};
 use rs_attrs::Attrs;
 use rs_octets::Prefix;
@@ -126,30 +126,8 @@ fn passed_noted<'a>(config: &'a Config, from: usize, note: u32) -> Option<Passed
     }
 }
 
-/// What becomes of a route that the import list passes so.
-#[tactic(auto, unfolding(crate::specs::Verdicts::verdict))]
-fn judge_passed<'a>(
-    config: &'a Config,
-    from: usize,
-    to: usize,
-    prefix: &Prefix,
-    attrs: &Attrs,
-    import: &Passed<'a>,
-) -> Verdict<'a>
-    requires from { from < length config.now.clients }
-    requires to { to < length config.now.clients }
-    requires import { import_outcome config.now from to prefix.now attrs.now ≡ Some (passed_as import.now) }
-    ensures { judged result ≡ verdict config.now from to prefix.now attrs.now }
-{
-    let exports = config.export(to);
-    let offer = offer_to(config, from, to, prefix, attrs);
-    let Some(export) = outcome(config.default(), config.lists(), &exports, &offer) else {
-        return Verdict::Drop;
-    };
-    join(import, &export)
-}
-
 /// What `judge` answers, of a route that has this note: the export list alone is asked. It takes no memory.
+#[tactic(auto, unfolding(crate::specs::Verdicts::verdict))]
 pub fn judge_noted<'a>(
     config: &'a Config,
     from: usize,
@@ -165,6 +143,9 @@ pub fn judge_noted<'a>(
 {
     match passed_noted(config, from, note) {
         None => Verdict::Drop,
-        Some(import) => judge_passed(config, from, to, prefix, attrs, &import),
+        Some(import) => {
+            let offer = offer_to(config, from, to, prefix, attrs);
+            export_to(config, to, &offer, &import)
+        }
     }
 }

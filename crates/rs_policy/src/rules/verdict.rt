@@ -3,7 +3,7 @@
 ghost use Rattle.std.specs.Prelude.{◌≡◌, ◌<◌, length, find, option_map, is_some, Some};
 ghost use Rattle.rs_policy.specs.Noted.{is_plain, plainly};
 ghost use Rattle.rs_policy.specs.Verdicts.{announced_route, joined, matches, passing, passing_by_default, outcome, verdict};
-ghost use Rattle.rs_policy.specs.Configuration.{rules_in};
+ghost use Rattle.rs_policy.specs.Configuration.{policy_of, rules_in};
 ghost use Rattle.rs_policy.specs.Judged.{offered, passed_as, judged};
 
 use crate::config::Config;
@@ -188,7 +188,7 @@ fn judge_without_rules<'a>(default: Disposition) -> Verdict<'a>
 }
 
 /// What becomes of a route that the sender's import list passes so, and the receiver's export list.
-pub(super) fn join<'a>(import: &Passed<'a>, export: &Passed<'a>) -> Verdict<'a>
+fn join<'a>(import: &Passed<'a>, export: &Passed<'a>) -> Verdict<'a>
     ensures { judged result ≡ joined (Some (passed_as import.now)) (Some (passed_as export.now)) }
 {
     let given = export.preference.or(import.preference);
@@ -224,6 +224,23 @@ pub(super) fn offer_to<'p, 'a>(
     }
 }
 
+/// What becomes of a route that the sender's import list passes so, by the export list of client `to`.
+pub(super) fn export_to<'a>(
+    config: &'a Config,
+    to: usize,
+    offer: &Offer<'_, '_>,
+    import: &Passed<'a>,
+) -> Verdict<'a>
+    requires { to < length config.now.clients }
+    ensures { judged result ≡ joined (Some (passed_as import.now)) (outcome config.now.top.default config.now.lists (policy_of config.now to).export (offered offer.now)) }
+{
+    let exports = config.export(to);
+    match outcome(config.default(), config.lists(), &exports, offer) {
+        None => Verdict::Drop,
+        Some(export) => join(import, &export),
+    }
+}
+
 /// What becomes of a route of client `from` on its way to client `to`: the first rule that matches
 /// decides, in the sender's import list and in the receiver's export list, both over the attributes
 /// as they were received (RFC 7947, 2.3). It takes no memory.
@@ -245,13 +262,9 @@ pub fn judge<'a>(
     if imports.is_empty() && exports.is_empty() {
         return judge_without_rules(default);
     }
-    let lists = config.lists();
     let offer = offer_to(config, from, to, prefix, attrs);
-    let Some(import) = outcome(default, lists, &imports, &offer) else {
-        return Verdict::Drop;
-    };
-    let Some(export) = outcome(default, lists, &exports, &offer) else {
-        return Verdict::Drop;
-    };
-    join(&import, &export)
+    match outcome(default, config.lists(), &imports, &offer) {
+        None => Verdict::Drop,
+        Some(import) => export_to(config, to, &offer, &import),
+    }
 }

@@ -1,4 +1,4 @@
-use Rattle.rs_policy.proofs.Soundness.{config_sound}
+use Rattle.rs_policy.proofs.Accepted.Soundness.{config_sound}
 use Rattle.rs_policy.proofs.laws.every_configuration_is_sound.Goals as goal
 
 pub returns : goal.returns

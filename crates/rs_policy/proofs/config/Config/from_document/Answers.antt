@@ -1,7 +1,7 @@
 use Rattle.std.proofs.Common.{◌∙◌}
-use Rattle.rs_policy.proofs.Checks.{passes, fails, passes_one, fails_one, answer-append-err, answer-err_for, passed_on}
-use Rattle.rs_policy.proofs.Wholes.{top_is, top_passes, clients_pass, lists_pass, shared_pass, document_passes}
-use Rattle.rs_policy.proofs.Imports.{answer_read}
+use Rattle.rs_policy.proofs.Reading.Checks.{passes, fails, passes_one, fails_one, answer-append-err, answer-err_for, passed_on}
+use Rattle.rs_policy.proofs.Reading.Wholes.{top_is, top_passes, clients_pass, lists_pass, shared_pass, document_passes}
+use Rattle.rs_policy.proofs.Accepted.Imports.{answer_read}
 use Rattle.rs_policy.proofs.config.Config.from_document.Goals as goal
 
 pub returns-in_err-top : goal.returns-in_err-top

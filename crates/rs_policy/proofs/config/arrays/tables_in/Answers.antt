@@ -1,6 +1,6 @@
 use Rattle.std.proofs.Common.{true, false, sym, ◌∙◌, ap}
 use Rattle.rs_policy.specs.Values.{tables_of}
-use Rattle.rs_policy.proofs.Documents.{tables_of-small}
+use Rattle.rs_policy.proofs.Reading.Documents.{tables_of-small}
 use Rattle.rs_policy.proofs.config.arrays.tables_in.Goals as goal
 
 pub returns-then-not-are_tables-clause-tables : goal.returns-then-not-are_tables-clause-tables

@@ -1,9 +1,9 @@
 use Rattle.std.proofs.Common.{◌≡◌, ◌+◌, ◌-◌, ◌++◌, ◌∷◌, [], take, ◌∙◌, arith, length-append}
 use Rattle.rs_policy.specs.Seen.{data_of}
 use Rattle.rs_policy.specs.Documents.{client_checks, client_from, clients_from}
-use Rattle.rs_policy.proofs.Checks.{passed_on_items, answer-value, each-next, walk-next, walk-fails, walk-end}
-use Rattle.rs_policy.proofs.Documents.{data_of-drop, data_of-end}
-use Rattle.rs_policy.proofs.Wholes.{earlier as those_earlier}
+use Rattle.rs_policy.proofs.Reading.Checks.{passed_on_items, answer-value, each-next, walk-next, walk-fails, walk-end}
+use Rattle.rs_policy.proofs.Reading.Documents.{data_of-drop, data_of-end}
+use Rattle.rs_policy.proofs.Reading.Wholes.{earlier as those_earlier}
 use Rattle.rs_policy.proofs.config.clients.read_clients.Goals as goal
 
 pub returns-in_err-client-clause-answers : goal.returns-in_err-client-clause-answers

@@ -1,9 +1,9 @@
 use Rattle.std.proofs.Common.{◌≡◌, ◌+◌, ◌-◌, ◌++◌, ◌∷◌, [], take, ◌∙◌, arith, length-append}
 use Rattle.rs_policy.specs.Seen.{data_of}
 use Rattle.rs_policy.specs.NamedLists.{named_list_checks, named_list_from, named_lists_from}
-use Rattle.rs_policy.proofs.Checks.{passed_on_items, answer-value, each-next, walk-next, walk-fails, walk-end}
-use Rattle.rs_policy.proofs.Documents.{data_of-drop, data_of-end}
-use Rattle.rs_policy.proofs.Wholes.{earlier as those_earlier}
+use Rattle.rs_policy.proofs.Reading.Checks.{passed_on_items, answer-value, each-next, walk-next, walk-fails, walk-end}
+use Rattle.rs_policy.proofs.Reading.Documents.{data_of-drop, data_of-end}
+use Rattle.rs_policy.proofs.Reading.Wholes.{earlier as those_earlier}
 use Rattle.rs_policy.proofs.config.named_lists.read_named_lists.Goals as goal
 
 pub returns-in_err-list : goal.returns-in_err-list

@@ -1,5 +1,5 @@
 use Rattle.std.proofs.Common.{◌∙◌, ◌+◌, ◌-◌, ◌*◌, ◌%◌, ◌^◌, ◌<◌, arith}
-use Rattle.rs_policy.proofs.Spans.{last_of, span_covers}
+use Rattle.rs_policy.proofs.Judging.Spans.{last_of, span_covers}
 use Rattle.rs_policy.proofs.config.named_lists.span_of.Goals as goal
 
 pub overflow_cast-last : goal.overflow_cast-last

@@ -1,8 +1,8 @@
 use Rattle.std.proofs.Common.{◌≡◌, true, false, ◌∙◌}
 use Rattle.toml.specs.View.{view}
 use Rattle.rs_policy.specs.Documents.{has_use}
-use Rattle.rs_policy.proofs.Checks.{passed_on}
-use Rattle.rs_policy.proofs.SharedRules.{is_there, item_uses, item_uses_none, item_owns, item_owns_none}
+use Rattle.rs_policy.proofs.Reading.Checks.{passed_on}
+use Rattle.rs_policy.proofs.Reading.SharedRules.{is_there, item_uses, item_uses_none, item_owns, item_owns_none}
 use Rattle.rs_policy.proofs.config.policies.read_item.Goals as goal
 
 pub returns-in_err-read_use : goal.returns-in_err-read_use

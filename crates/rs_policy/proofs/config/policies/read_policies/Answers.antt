@@ -1,7 +1,7 @@
 use Rattle.std.proofs.Common.{◌≡◌, ◌++◌, ◌∷◌, [], length-append, ◌∙◌, arith}
 use Rattle.rs_policy.specs.Documents.{policy_checks, policy_from}
-use Rattle.rs_policy.proofs.Checks.{passed_on_items, walk-next, walk-fails, walk-end}
-use Rattle.rs_policy.proofs.Documents.{data_of-drop, data_of-end}
+use Rattle.rs_policy.proofs.Reading.Checks.{passed_on_items, walk-next, walk-fails, walk-end}
+use Rattle.rs_policy.proofs.Reading.Documents.{data_of-drop, data_of-end}
 use Rattle.rs_policy.proofs.config.policies.read_policies.Goals as goal
 
 pub returns-in_err-policy-clause-answers : goal.returns-in_err-policy-clause-answers

@@ -1,8 +1,8 @@
 use Rattle.std.proofs.Common.{◌≡◌, ◌++◌, ◌∷◌, [], ◌∙◌, arith}
 use Rattle.rs_policy.specs.Rules.{rule_checks, rule_of}
 use Rattle.rs_policy.specs.Documents.{rule_place}
-use Rattle.rs_policy.proofs.Checks.{passed_on_items, walk-next, walk-fails, walk-end}
-use Rattle.rs_policy.proofs.Documents.{data_of-drop, data_of-end}
+use Rattle.rs_policy.proofs.Reading.Checks.{passed_on_items, walk-next, walk-fails, walk-end}
+use Rattle.rs_policy.proofs.Reading.Documents.{data_of-drop, data_of-end}
 use Rattle.rs_policy.proofs.config.policies.rules_of.Goals as goal
 
 pub returns-in_err-rule : goal.returns-in_err-rule

@@ -1,7 +1,7 @@
 use Rattle.std.proofs.Common.{◌+◌, ◌∙◌, sym, ap, drop, arith}
 use Rattle.rs_policy.specs.Documents.{client_place}
 use Rattle.rs_policy.specs.Replacing.{place_or, other_in_clients}
-use Rattle.rs_policy.proofs.Others.{other_in_clients-next, other_in_clients-end, other_in_all-same}
+use Rattle.rs_policy.proofs.Replacing.Others.{other_in_clients-next, other_in_clients-end, other_in_all-same}
 use Rattle.rs_policy.proofs.config.replacing.other_in_clients.Goals as goal
 
 pub returns-in-Some : goal.returns-in-Some

@@ -3,7 +3,7 @@ use Rattle.rs_policy.specs.declared.rules.Range.{Range}
 use Rattle.rs_policy.specs.declared.rules.Tests.{Tests}
 use Rattle.rs_policy.specs.declared.rules.Action.{Action}
 use Rattle.rs_policy.specs.declared.rules.Rule.{Rule}
-use Rattle.rs_policy.proofs.Checks.{passes, fails, passes_one, fails_one, answer-none, answer-value, answer-append-ok, answer-append-err, passed_on}
+use Rattle.rs_policy.proofs.Reading.Checks.{passes, fails, passes_one, fails_one, answer-none, answer-value, answer-append-ok, answer-append-err, passed_on}
 use Rattle.rs_policy.proofs.config.rule_tables.read_rule.Goals as goal
 
 pub returns-in_err-range : goal.returns-in_err-range

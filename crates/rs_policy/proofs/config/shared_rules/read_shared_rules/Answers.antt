@@ -1,9 +1,9 @@
 use Rattle.std.proofs.Common.{◌≡◌, ◌+◌, ◌-◌, ◌++◌, ◌∷◌, [], take, ◌∙◌, arith, length-append}
 use Rattle.rs_policy.specs.Seen.{data_of}
 use Rattle.rs_policy.specs.Documents.{shared_checks, shared_from, all_shared_from}
-use Rattle.rs_policy.proofs.Checks.{passed_on_items, answer-value, each-next, walk-next, walk-fails, walk-end}
-use Rattle.rs_policy.proofs.Documents.{data_of-drop, data_of-end}
-use Rattle.rs_policy.proofs.Wholes.{earlier as those_earlier}
+use Rattle.rs_policy.proofs.Reading.Checks.{passed_on_items, answer-value, each-next, walk-next, walk-fails, walk-end}
+use Rattle.rs_policy.proofs.Reading.Documents.{data_of-drop, data_of-end}
+use Rattle.rs_policy.proofs.Reading.Wholes.{earlier as those_earlier}
 use Rattle.rs_policy.proofs.config.shared_rules.read_shared_rules.Goals as goal
 
 pub returns-in_err-rules : goal.returns-in_err-rules

@@ -1,5 +1,5 @@
 use Rattle.std.proofs.Common.{arith, sym}
-use Rattle.rs_policy.proofs.Digits.{number_to-over}
+use Rattle.rs_policy.proofs.Reading.Digits.{number_to-over}
 use Rattle.rs_policy.proofs.config.texts.number.Goals as goal
 
 pub returns-then-value-from-clause-value : goal.returns-then-value-from-clause-value

@@ -4,7 +4,7 @@ use Rattle.rs_policy.specs.Judged.{passed_as}
 use Rattle.rs_policy.specs.Noted.{import_outcome, is_plain, place_of, rule_of}
 use Rattle.rs_policy.specs.Reasons.{decider}
 use Rattle.rs_policy.specs.Verdicts.{outcome}
-use Rattle.rs_policy.proofs.Noted.{decider_small}
+use Rattle.rs_policy.proofs.Judging.Noted.{decider_small}
 use Rattle.rs_policy.proofs.rules.noting.import_note.Goals as goal
 
 pub note_of-requires-clause-place : goal.note_of-requires-clause-place

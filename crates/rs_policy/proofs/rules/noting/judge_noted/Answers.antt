@@ -1,4 +1,4 @@
-use Rattle.rs_policy.proofs.Noted.{drops}
+use Rattle.rs_policy.proofs.Judging.Noted.{drops}
 use Rattle.rs_policy.proofs.rules.noting.judge_noted.Goals as goal
 
 pub returns-in-None : goal.returns-in-None

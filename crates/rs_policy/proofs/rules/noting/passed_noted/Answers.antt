@@ -1,7 +1,7 @@
 use Rattle.std.proofs.Common.{◌≡◌, ◌≢◌, ◌∙◌, Some, sym, ap}
 use Rattle.rs_policy.specs.Configuration.{stated_of}
 use Rattle.rs_policy.specs.Noted.{rule_noted}
-use Rattle.rs_policy.proofs.Noted.{none_noted, plain_noted, rule_is_noted, acts_alike, none_acts}
+use Rattle.rs_policy.proofs.Judging.Noted.{none_noted, plain_noted, rule_is_noted, acts_alike, none_acts}
 use Rattle.rs_policy.proofs.rules.noting.passed_noted.Goals as goal
 
 pub returns-then-note-eq-DROPPED : goal.returns-then-note-eq-DROPPED

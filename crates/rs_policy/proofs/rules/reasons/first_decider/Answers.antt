@@ -3,7 +3,7 @@ use Rattle.rs_policy.specs.Judged.{offered}
 use Rattle.rs_policy.specs.Reasons.{at_of, decider}
 use Rattle.rs_policy.specs.Verdicts.{matches}
 use Rattle.rs_policy.specs.declared.rules.Rule.{Rule}
-use Rattle.rs_policy.proofs.Placed.{placed_here, placed_further, placed_end}
+use Rattle.rs_policy.proofs.Judging.Placed.{placed_here, placed_further, placed_end}
 use Rattle.rs_policy.proofs.rules.reasons.first_decider.Goals as goal
 
 pub returns-in-Some : goal.returns-in-Some

@@ -2,7 +2,7 @@ use Rattle.std.proofs.Common.{◌≡◌, ◌+◌, drop}
 use Rattle.rs_policy.specs.Judged.{offered}
 use Rattle.rs_policy.specs.Reasons.{placed_from}
 use Rattle.rs_policy.specs.Verdicts.{matches}
-use Rattle.rs_policy.proofs.Placed.{found}
+use Rattle.rs_policy.proofs.Judging.Placed.{found}
 use Rattle.rs_policy.proofs.rules.reasons.first_decider.Given as goal
 
 abbrev pub invariant-loop-index : goal.invariant-loop-index

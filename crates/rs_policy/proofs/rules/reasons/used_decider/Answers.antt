@@ -3,7 +3,7 @@ use Rattle.rs_policy.specs.Judged.{offered}
 use Rattle.rs_policy.specs.Reasons.{Placed}
 use Rattle.rs_policy.specs.Verdicts.{matches}
 use Rattle.rs_policy.specs.declared.rules.Rule.{Rule}
-use Rattle.rs_policy.proofs.Placed.{used_here, used_further, used_end}
+use Rattle.rs_policy.proofs.Judging.Placed.{used_here, used_further, used_end}
 use Rattle.rs_policy.proofs.rules.reasons.used_decider.Goals as goal
 
 pub returns-then-matches : goal.returns-then-matches

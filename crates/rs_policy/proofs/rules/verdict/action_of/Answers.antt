@@ -2,7 +2,7 @@ use Rattle.std.proofs.Common.{◌∙◌, sym, ap, option_map, arith}
 use Rattle.rs_policy.specs.Verdicts.{matches}
 use Rattle.rs_policy.specs.Judged.{offered}
 use Rattle.rs_policy.specs.declared.rules.Rule.{Rule}
-use Rattle.rs_policy.proofs.Written.{action_by, none_there, some_there, none_left}
+use Rattle.rs_policy.proofs.Judging.Written.{action_by, none_there, some_there, none_left}
 use Rattle.rs_policy.proofs.rules.verdict.action_of.Goals as goal
 
 pub returns-in-Some : goal.returns-in-Some

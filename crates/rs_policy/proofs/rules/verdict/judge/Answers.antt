@@ -1,7 +1,7 @@
 use Rattle.std.proofs.Common.{◌≡◌, ◌∙◌, [], sym, ap}
 use Rattle.rs_policy.specs.Configuration.{policy_of}
 use Rattle.rs_policy.specs.Verdicts.{joined, passing_by_default}
-use Rattle.rs_policy.proofs.WithoutRules.{default_decides}
+use Rattle.rs_policy.proofs.Judging.WithoutRules.{default_decides}
 use Rattle.rs_policy.proofs.rules.verdict.judge.Goals as goal
 
 pub returns-then-is_empty-2 : goal.returns-then-is_empty-2

@@ -1,7 +1,7 @@
 use Rattle.std.proofs.Common.{◌≡◌, ◌∙◌, ap, Ok, List}
 use Rattle.rs_policy.specs.Configuration.{Stated}
 use Rattle.rs_policy.specs.declared.rules.Item.{Item}
-use Rattle.rs_policy.proofs.Checks.{answer-value, answer-append-ok, answer-append-err, answer-ok_for, answer-err_for, passed_on}
+use Rattle.rs_policy.proofs.Reading.Checks.{answer-value, answer-append-ok, answer-append-err, answer-ok_for, answer-err_for, passed_on}
 use Rattle.rs_policy.proofs.config.policies.Policy.read.Goals as goal
 
 pub returns-in_err-import : goal.returns-in_err-import

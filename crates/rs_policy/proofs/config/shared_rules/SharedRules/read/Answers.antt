@@ -1,7 +1,7 @@
 use Rattle.std.proofs.Common.{true, sym, ◌∙◌}
 use Rattle.rs_policy.specs.Documents.{shared_checks}
-use Rattle.rs_policy.proofs.Checks.{passed_on, passes_one, fails_one}
-use Rattle.rs_policy.proofs.SharedRules.{twice_if, head_is, shared_fails, shared_passes}
+use Rattle.rs_policy.proofs.Reading.Checks.{passed_on, passes_one, fails_one}
+use Rattle.rs_policy.proofs.Reading.SharedRules.{twice_if, head_is, shared_fails, shared_passes}
 use Rattle.rs_policy.proofs.config.shared_rules.SharedRules.read.Goals as goal
 
 pub returns-in_err-name : goal.returns-in_err-name

@@ -27,9 +27,9 @@ use Rattle.rs_policy.specs.declared.rules.Part.TheVariants.{Number, Any, Peer}
 use Rattle.rs_policy.specs.declared.rules.Rule.{Rule}
 use Rattle.rs_policy.specs.declared.rules.Item.{Item}
 use Rattle.rs_policy.specs.declared.rules.Item.TheVariants.{Own, Use}
-use Rattle.rs_policy.proofs.Passing.{accepted_says, answer_says}
-use Rattle.rs_policy.proofs.SoundKeys.{few_at, few_needed, at_maybe, at_required, both_by, map_by, text_is}
-use Rattle.rs_policy.proofs.Soundness.{each_all, each_count, says_sound, answer_sound}
+use Rattle.rs_policy.proofs.Accepted.Passing.{accepted_says, answer_says}
+use Rattle.rs_policy.proofs.Accepted.SoundKeys.{few_at, few_needed, at_maybe, at_required, both_by, map_by, text_is}
+use Rattle.rs_policy.proofs.Accepted.Soundness.{each_all, each_count, says_sound, answer_sound}
 
 -- ---- a part that isn't `peer`
 

@@ -33,8 +33,8 @@ use Rattle.rs_policy.specs.declared.rules.Stripping.TheVariants.{Named, All as E
 use Rattle.rs_policy.specs.declared.rules.Rule.{Rule}
 use Rattle.rs_policy.specs.declared.rules.Item.{Item}
 use Rattle.rs_policy.specs.declared.rules.Item.TheVariants.{Own, Use}
-use Rattle.rs_policy.proofs.Passing.{answer_says, accepted_says}
-use Rattle.rs_policy.proofs.SoundKeys.{IsHold, few_entries, at_maybe, at_optional, at_required, few_at, few_needed, hold_is, identifier_is, integer_is, map_by, name_is, port_is, prefix_is, some_at, text_is, then_by, was_some}
+use Rattle.rs_policy.proofs.Accepted.Passing.{answer_says, accepted_says}
+use Rattle.rs_policy.proofs.Accepted.SoundKeys.{IsHold, few_entries, at_maybe, at_optional, at_required, few_at, few_needed, hold_is, identifier_is, integer_is, map_by, name_is, port_is, prefix_is, some_at, text_is, then_by, was_some}
 
 -- ---- a rule
 

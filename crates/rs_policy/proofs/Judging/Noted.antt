@@ -19,7 +19,7 @@ use Rattle.rs_policy.specs.declared.rules.Item.{Item}
 use Rattle.rs_policy.specs.declared.rules.Item.TheVariants.{Own, Use}
 use Rattle.rs_policy.specs.declared.rules.reasons.Decider.{Decider}
 use Rattle.rs_policy.specs.declared.rules.reasons.Decider.TheVariants as D
-use Rattle.rs_policy.proofs.Placed.{decider_decides}
+use Rattle.rs_policy.proofs.Judging.Placed.{decider_decides}
 
 -- ---- a plain passing
 

@@ -10,7 +10,7 @@ use Rattle.rs_policy.specs.Documents.{top_checks, top_of, the_top, clients_at, l
 use Rattle.rs_policy.specs.declared.faults.List.{List as RuleList}
 use Rattle.rs_policy.specs.declared.faults.ConfigFault.{ConfigFault}
 use Rattle.rs_policy.specs.declared.config.top.Top.{Top}
-use Rattle.rs_policy.proofs.Checks.{passes, passes_one, answer-value, answer-append-ok, answer-ok_for}
+use Rattle.rs_policy.proofs.Reading.Checks.{passes, passes_one, answer-value, answer-append-ok, answer-ok_for}
 
 -- those before number i, from 0
 pub earlier : {A : Type 0} (all items rest : List A) (i : ℕ) → all ≡ items ++ rest → length items ≡ i → items ≡ take (i + 1 - 1) all

@@ -26,7 +26,7 @@ use Rattle.rs_policy.specs.declared.rules.Part.{Part}
 use Rattle.rs_policy.specs.declared.rules.Part.TheVariants.{Number, Any, Peer}
 use Rattle.rs_policy.specs.declared.rules.Stripping.{Stripping}
 use Rattle.rs_policy.specs.declared.rules.Stripping.TheVariants.{Named, All}
-use Rattle.rs_policy.proofs.SoundKeys.{number_most}
+use Rattle.rs_policy.proofs.Accepted.SoundKeys.{number_most}
 
 -- ---- a text
 

@@ -14,7 +14,7 @@ use Rattle.rs_policy.specs.declared.faults.ConfigFault.{ConfigFault}
 use Rattle.rs_policy.specs.declared.faults.ConfigFault.TheVariants.{TwiceRules}
 use Rattle.rs_policy.specs.declared.rules.Rule.{Rule}
 use Rattle.rs_policy.specs.declared.rules.Item.TheVariants.{Own, Use}
-use Rattle.rs_policy.proofs.Checks.{passes_one, answer-value, answer-ok_for, answer-err_for}
+use Rattle.rs_policy.proofs.Reading.Checks.{passes_one, answer-value, answer-ok_for, answer-err_for}
 
 -- a name, and whether it is one of those before
 pub twice_if : (n : ℕ) (earlier : List SharedRules) (name : List ℕ) (r : Result (List ℕ) ConfigFault) (b : Bool) → Ok name ≡ r

@@ -1,0 +1,7 @@
+-- Which rule decides, and what becomes of a route.
+pub mod Sets
+pub mod Spans
+pub mod Written
+pub mod WithoutRules
+pub mod Placed
+pub mod Noted

@@ -1,0 +1,3 @@
+-- What may differ from the configuration before.
+pub mod Fixed
+pub mod Others
