@@ -3,13 +3,13 @@
 ghost use Rattle.std.specs.Prelude.{◌≡◌, ◌<◌, ◌++◌, length, map, Some, None, IfOk, OnOk, All, option_map, option_and_then, slice_get};
 ghost use Rattle.std.specs.List.{filter_map};
 ghost use Rattle.std.specs.Arc.{arc_value};
-ghost use Rattle.rs_adjin.specs.AdjIns.{client_count, held_of, identifier_of, number_of, AreNoted, ListsHolders};
+ghost use Rattle.rs_adjin.specs.AdjIns.{client_count, held_of, identifier_of, number_of, ListsHolders};
 ghost use Rattle.rs_policy.specs.Judged.{judged};
 ghost use Rattle.rs_policy.specs.Noted.{note_of_import};
 ghost use Rattle.rs_policy.specs.Verdicts.{verdict};
 ghost use Rattle.rs_decision.specs.Best.{HasDistinctPlaces};
 ghost use Rattle.rs_outlet.specs.Decided.Due.{Held, rank_of, rank_to, ranks_among, passed_on, if_fits, route_from, due_to};
-ghost use Rattle.rs_outlet.specs.Decided.HeldBy.{held_by};
+ghost use Rattle.rs_outlet.specs.Decided.HeldBy.{held_by, AreOfOneServer};
 ghost use Rattle.rs_outlet.specs.Decided.Passing.{attributes_passed, due_alone, is_kept_back, passed_fitting};
 
 use crate::answers::Speech;
@@ -226,9 +226,7 @@ fn decide_among<'a>(
 ) -> Result<Option<Passed<'a>>, AllocError>
     requires number { number_of sources.now.ins.now prefix.now ≡ Some number }
     requires holders { ListsHolders sources.now.ins.now prefix.now (map (λ h. h.0) holders) }
-    requires client { sources.now.client < length sources.now.config.now.clients }
-    requires count { client_count sources.now.ins.now ≡ length sources.now.config.now.clients }
-    requires noted { AreNoted (note_of_import sources.now.config.now) sources.now.ins.now }
+    requires server { AreOfOneServer sources.now }
     requires notes { All (λ h. h.1 ≡ note_of_import sources.now.config.now h.0.0 prefix.now h.0.1) holders }
     ensures { IfOk result (λ due. option_map attributes_passed due ≡ due_to (held_by sources.now) sources.now.client speech prefix.now) }
 {
@@ -255,9 +253,7 @@ pub(crate) fn decide<'a>(
     ranks: &mut Vec<Rank>,
 ) -> Result<Option<Passed<'a>>, AllocError>
     requires number { number_of sources.now.ins.now prefix.now ≡ Some number }
-    requires client { sources.now.client < length sources.now.config.now.clients }
-    requires count { client_count sources.now.ins.now ≡ length sources.now.config.now.clients }
-    requires noted { AreNoted (note_of_import sources.now.config.now) sources.now.ins.now }
+    requires server { AreOfOneServer sources.now }
     ensures { IfOk result (λ due. option_map attributes_passed due ≡ due_to (held_by sources.now) sources.now.client speech prefix.now) }
 {
     let mut holders = sources.ins.at_number(number);

@@ -87,6 +87,14 @@ impl Outlet {
         Routes::new(ins.iter_from(from), &self.rows)
     }
 
+    /// How many prefixes wait for a message; 0 just where none does.
+    pub fn waiting(&self) -> usize
+        ensures none { result ≡ 0 → self.now.waits ≡ map.empty }
+        ensures some { self.now.waits ≡ map.empty → result ≡ 0 }
+    {
+        self.waits.len()
+    }
+
     /// How many routes the Loc-RIB has.
     pub fn count(&self) -> usize
         ensures { (ins : AdjIns) → AreNumbered self.now ins → result ≡ map.len self.now.loc }

@@ -1,18 +1,17 @@
 //! A turn: what is touched is decided anew, and what the client was not told so waits.
 
-ghost use Rattle.std.specs.Prelude.{◌≡◌, ◌<◌, ◌+◌, Option, None, Some, true, false, nat_eq, nat_lt, count_by, option_copied, option_map, length, if◌then◌else◌, IsTrue, IfOk, OnOk, OnErr};
+ghost use Rattle.std.specs.Prelude.{◌≡◌, Option, None, Some, true, false, nat_eq, nat_lt, count_by, option_copied, option_map, length, if◌then◌else◌, IsTrue, IfOk, OnOk, OnErr};
 ghost use Rattle.std.specs.List.{IsDistinct};
 ghost use Rattle.std.specs.Map.{keys_of};
 ghost use Rattle.std.specs.FinMap as fin;
 ghost use Rattle.std.specs.FinSet as set;
 ghost use Rattle.rs_octets.specs.Prefixes.{Prefix};
-ghost use Rattle.rs_adjin.specs.AdjIns.{client_count, number_of, prefix_of, AreNoted};
-ghost use Rattle.rs_policy.specs.Noted.{note_of_import};
+ghost use Rattle.rs_adjin.specs.AdjIns.{number_of, prefix_of};
 ghost use Rattle.rs_outlet.specs.Views.{AreNumbered, HaveNumbers, IsCount, IsNumberOf, IsOneOf, Prefixes, WaitsAreExact, is_touched, is_whole};
 ghost use Rattle.rs_outlet.specs.Decided.Turns.{IsCurrent};
 ghost use Rattle.rs_outlet.specs.Decided.Due.{any_holds, due_to};
 ghost use Rattle.rs_outlet.specs.Decided.Counted.{is_counted, is_left, is_standing};
-ghost use Rattle.rs_outlet.specs.Decided.HeldBy.{held_by};
+ghost use Rattle.rs_outlet.specs.Decided.HeldBy.{held_by, AreOfOneServer};
 ghost use Rattle.rs_outlet.specs.Inside.{AreDecided, AreFresh, IsDecidedAt, IsOwn, shown};
 ghost use Rattle.rs_outlet.specs.Decided.Touching.{is_number_touched, is_numbered_in, touched_of};
 ghost use Rattle.rs_outlet.specs.Decided.Passing.{attributes_passed};
@@ -70,9 +69,7 @@ fn decide_one(
     changes: &mut Vec<Change>,
 ) -> Result<(), AllocError>
     requires number { number_of sources.now.ins.now prefix ≡ Some number }
-    requires client { sources.now.client < length sources.now.config.now.clients }
-    requires count { client_count sources.now.ins.now ≡ length sources.now.config.now.clients }
-    requires noted { AreNoted (note_of_import sources.now.config.now) sources.now.ins.now }
+    requires server { AreOfOneServer sources.now }
     ensures { OnOk result (IsDecidedAt sources.now.ins.now (due_to (held_by sources.now) sources.now.client speech) rows.now.rows.items number changes.old.items changes.new.items) }
 {
     let due = decide(alloc, sources, speech, number, &prefix, ranks)?;
@@ -95,27 +92,6 @@ fn decide_one(
     Ok(())
 }
 
-/// Decides the prefix of a number.
-fn decide_at(
-    alloc: Global,
-    sources: &Sources<'_>,
-    speech: Speech,
-    rows: &Rows,
-    number: u32,
-    ranks: &mut Vec<Rank>,
-    changes: &mut Vec<Change>,
-) -> Result<(), AllocError>
-    requires client { sources.now.client < length sources.now.config.now.clients }
-    requires count { client_count sources.now.ins.now ≡ length sources.now.config.now.clients }
-    requires noted { AreNoted (note_of_import sources.now.config.now) sources.now.ins.now }
-    ensures { OnOk result (IsDecidedAt sources.now.ins.now (due_to (held_by sources.now) sources.now.client speech) rows.now.rows.items number changes.old.items changes.new.items) }
-{
-    let Some(prefix) = sources.ins.prefix(number) else {
-        return Ok(());
-    };
-    decide_one(alloc, sources, speech, rows, number, prefix, ranks, changes)
-}
-
 /// Decides what was touched by itself: at each number the prefix that the tables have there. That is the
 /// prefix that was touched as long as it keeps its number, and no condition asks for that here.
 fn decide_touched(
@@ -125,16 +101,14 @@ fn decide_touched(
     rows: &Rows,
     touched: &[(u32, Prefix)],
 ) -> Result<Vec<Change>, AllocError>
-    requires client { sources.now.client < length sources.now.config.now.clients }
-    requires count { client_count sources.now.ins.now ≡ length sources.now.config.now.clients }
-    requires noted { AreNoted (note_of_import sources.now.config.now) sources.now.ins.now }
+    requires server { AreOfOneServer sources.now }
     requires once { IsDistinct nat_eq (keys_of touched.now) }
     ensures { IfOk result (λ changes. AreDecided sources.now.ins.now (due_to (held_by sources.now) sources.now.client speech) rows.now.rows.items (is_numbered_in touched.now) changes.items) }
 {
     let mut ranks = Vec::new(alloc);
     let mut changes = Vec::new(alloc);
     for (number, _) in touched {
-        decide_at(
+        decide_number(
             alloc,
             sources,
             speech,
@@ -174,9 +148,7 @@ fn decide_stale(
     rows: &Rows,
     touched: &[(u32, Prefix)],
 ) -> Result<Decided, AllocError>
-    requires client { sources.now.client < length sources.now.config.now.clients }
-    requires count { client_count sources.now.ins.now ≡ length sources.now.config.now.clients }
-    requires noted { AreNoted (note_of_import sources.now.config.now) sources.now.ins.now }
+    requires server { AreOfOneServer sources.now }
     requires once { IsDistinct nat_eq (keys_of touched.now) }
     ensures changes { IfOk result (λ decided. AreDecided sources.now.ins.now (due_to (held_by sources.now) sources.now.client speech) rows.now.rows.items (is_numbered_in touched.now) decided.changes.items) }
     ensures whole { IfOk result (λ decided. decided.whole ≡ nat_lt 4096 (length touched.now)) }
@@ -213,9 +185,7 @@ fn decide_number(
     ranks: &mut Vec<Rank>,
     changes: &mut Vec<Change>,
 ) -> Result<bool, AllocError>
-    requires client { sources.now.client < length sources.now.config.now.clients }
-    requires count { client_count sources.now.ins.now ≡ length sources.now.config.now.clients }
-    requires noted { AreNoted (note_of_import sources.now.config.now) sources.now.ins.now }
+    requires server { AreOfOneServer sources.now }
     ensures changes { OnOk result (IsDecidedAt sources.now.ins.now (due_to (held_by sources.now) sources.now.client speech) rows.now.rows.items number changes.old.items changes.new.items) }
     ensures free { prefix_of sources.now.ins.now number ≡ None → IfOk result (λ decided. decided ≡ false) }
     ensures standing { (p : Prefix) → number_of sources.now.ins.now p ≡ Some number → IfOk result (λ decided. decided ≡ is_standing rows.now.rows.items (any_holds (held_by sources.now)) p number) }
@@ -238,9 +208,7 @@ fn decide_all(
     speech: Speech,
     rows: &Rows,
 ) -> Result<Decided, AllocError>
-    requires client { sources.now.client < length sources.now.config.now.clients }
-    requires count { client_count sources.now.ins.now ≡ length sources.now.config.now.clients }
-    requires noted { AreNoted (note_of_import sources.now.config.now) sources.now.ins.now }
+    requires server { AreOfOneServer sources.now }
     ensures changes { IfOk result (λ decided. AreDecided sources.now.ins.now (due_to (held_by sources.now) sources.now.client speech) rows.now.rows.items (λ number. true) decided.changes.items) }
     ensures count { IfOk result (λ decided. IsNumberOf (is_counted sources.now.ins.now rows.now.rows.items (any_holds (held_by sources.now))) decided.count) }
     ensures whole { IfOk result (λ decided. decided.whole ≡ true) }
@@ -278,9 +246,7 @@ fn decide_all_touched(
     rows: &Rows,
     touched: &Touched,
 ) -> Result<Decided, AllocError>
-    requires client { sources.now.client < length sources.now.config.now.clients }
-    requires count { client_count sources.now.ins.now ≡ length sources.now.config.now.clients }
-    requires noted { AreNoted (note_of_import sources.now.config.now) sources.now.ins.now }
+    requires server { AreOfOneServer sources.now }
     ensures changes { IfOk result (λ decided. AreDecided sources.now.ins.now (due_to (held_by sources.now) sources.now.client speech) rows.now.rows.items (is_number_touched touched.now.all touched.now.prefixes.items) decided.changes.items) }
     ensures whole { HaveNumbers touched.now.prefixes.items sources.now.ins.now → IfOk result (λ decided. decided.whole ≡ is_whole (touched_of touched.now.all touched.now.prefixes.items)) }
     ensures count { HaveNumbers touched.now.prefixes.items sources.now.ins.now → IfOk result (λ decided. (prefixes : Prefixes) → touched_of touched.now.all touched.now.prefixes.items ≡ Some prefixes → decided.count ≡ set.len prefixes) }
@@ -302,9 +268,7 @@ impl Outlet {
     ) -> Result<Turned, AllocError>
         requires speech { self.old.speech ≡ Some speech }
         requires own { sources.now.client ≡ self.old.client }
-        requires client { sources.now.client < length sources.now.config.now.clients }
-        requires count { client_count sources.now.ins.now ≡ length sources.now.config.now.clients }
-        requires noted { AreNoted (note_of_import sources.now.config.now) sources.now.ins.now }
+        requires server { AreOfOneServer sources.now }
         ensures client { self.new.client ≡ self.old.client }
         ensures extended { self.new.extended ≡ self.old.extended }
         ensures rest { self.new ≡ record self.old { loc = self.new.loc; told = self.new.told; touched = self.new.touched; stale = self.new.stale; marked = self.new.marked; waits = self.new.waits; numbers = self.new.numbers; last = self.new.last } }

@@ -5,8 +5,9 @@ use Rattle.std.specs.FinMap as fin
 use Rattle.std.specs.Arc.{arc_value}
 use Rattle.rs_outlet.specs.declared.rows.Row.{Row}
 use Rattle.rs_outlet.specs.declared.changes.Change.{Change}
-use Rattle.rs_outlet.specs.Views.{Table, HaveNumbers}
-use Rattle.rs_outlet.specs.Inside.{row_at, loc_of, numbers_from, ArePlaced, HaveRows, IsNoNumberOf}
+use Rattle.rs_outlet.specs.declared.outlet.Outlet.TheInside.{Inside}
+use Rattle.rs_outlet.specs.Views.{Table, View, AreNumbered, HaveNumbers}
+use Rattle.rs_outlet.specs.Inside.{row_at, loc_of, numbers_from, view_of, ArePlaced, HaveRows, IsNoNumberOf}
 use Rattle.std.specs.List.{AllByRecursion}
 use Rattle.std.proofs.lemmas.Option.{same_Some}
 use Rattle.rs_octets.specs.Prefixes.{Prefix}
@@ -34,6 +35,17 @@ all_front P (x ∷ xs) ys h = (h.0, all_front P xs ys h.1)
 pub all_both : {X : Type 0} (P : X → Type 0) (xs ys : List X) → AllByRecursion P xs → AllByRecursion P ys → AllByRecursion P (xs ++ ys)
 all_both P [] ys h k = k
 all_both P (x ∷ xs) ys h k = (h.0, all_both P xs ys h.1 k)
+
+-- the rows and the touched prefixes of an outlet whose prefixes have their numbers
+module _ (ins : AdjIns) (a : Inside) (v : View) (is : view_of a ≡ v) (are : AreNumbered v ins) where
+  both_numbered : HaveNumbers (numbers_from 0 a.rows.rows.items ++ a.touched.prefixes.items) ins
+  both_numbered = subst (λ (v : View). AreNumbered v ins) (sym is) are
+
+  pub rows_numbered : HaveNumbers (numbers_from 0 a.rows.rows.items) ins
+  rows_numbered = all_front (λ (e : ℕ × Prefix). number_of ins e.1 ≡ Some e.0) (numbers_from 0 a.rows.rows.items) a.touched.prefixes.items both_numbered
+
+  pub touched_numbered : HaveNumbers a.touched.prefixes.items ins
+  touched_numbered = all_behind (λ (e : ℕ × Prefix). number_of ins e.1 ≡ Some e.0) (numbers_from 0 a.rows.rows.items) a.touched.prefixes.items both_numbered
 
 pub all_nil : {X : Type 0} (xs : List X) → xs ++ [] ≡ xs
 all_nil [] = refl

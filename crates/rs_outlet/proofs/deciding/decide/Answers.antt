@@ -16,7 +16,7 @@ decide_alone-requires-clause-noted c =
     let p = c.args.prefix.now in
     let IsNoted : (ℕ × List Attribute) × ℕ → Type 0 = λ h. h.1 ≡ f h.0.0 p h.0.1 in
     All-head IsNoted ((c.in-Some.holder.client, arc_value c.in-Some.holder.attrs.now), c.in-Some.holder.note) c.next.new.self
-    (subst (All IsNoted) c.in-Some.ensures.steps (c.at_number-holders.ensures.noted f c.requires.noted p c.requires.number))
+    (subst (All IsNoted) c.in-Some.ensures.steps (c.at_number-holders.ensures.noted f c.requires.server.noted p c.requires.number))
 
 pub returns-in-Some : goal.returns-in-Some
 returns-in-Some c =

@@ -34,20 +34,20 @@ returns-in_default-noted_at c =
 pub rank_all-requires-clause-known : goal.rank_all-requires-clause-known
 rank_all-requires-clause-known c =
     let listed : ListsHolders c.args.sources.now.ins.now c.args.prefix.now (sent c.args.holders) = c.requires.holders in
-    senders_known _ _ c.args.holders c.requires.count listed.known
+    senders_known _ _ c.args.holders c.requires.server.count listed.known
 
 pub pass_fitting-requires-clause-known : goal.pass_fitting-requires-clause-known
 pass_fitting-requires-clause-known c =
     let listed : ListsHolders c.args.sources.now.ins.now c.args.prefix.now (sent c.args.holders) = c.requires.holders in
     let ranked : c.deref.result.now ≡ ranks_among (held_by c.args.sources.now) c.args.sources.now.client c.args.prefix.now (sent c.args.holders) = c.deref.ensures.value ∙ c.in_ok-rank_all.ensures in
     let stands = ranked_at c.deref.result.now c.deref-2.result.now c.in-Some.index c.in-Some-get.rank.now (c.deref.ensures.value ∙ sym c.deref-2.ensures.value) c.in-Some-get.ensures.lookup.3.0 c.in-Some-get.ensures.lookup.1 in
-    let place = subst (λ n. c.in-Some-get.rank.now.place < n) c.requires.count (known_place _ (held_by c.args.sources.now) _ _ (sent c.args.holders) _ c.in-Some.index c.in-Some-get.rank.now listed.known ranked stands) in
+    let place = subst (λ n. c.in-Some-get.rank.now.place < n) c.requires.server.count (known_place _ (held_by c.args.sources.now) _ _ (sent c.args.holders) _ c.in-Some.index c.in-Some-get.rank.now listed.known ranked stands) in
     subst (λ d. d < length c.args.sources.now.config.now.clients) (sym c.in-Some-noted_at.ensures.client) place
 
 pub pass_fitting-requires-clause-noted : goal.pass_fitting-requires-clause-noted
 pass_fitting-requires-clause-noted c =
     let f = note_of_import c.args.sources.now.config.now in
-    c.in-Some-noted_at.ensures.noted f c.requires.noted c.args.prefix.now c.requires.number
+    c.in-Some-noted_at.ensures.noted f c.requires.server.noted c.args.prefix.now c.requires.number
     ∙ ap (λ d. f d c.args.prefix.now (arc_value c.in-Some-noted_at.holder.attrs.now)) (sym c.in-Some-noted_at.ensures.client)
 
 pub returns : goal.returns

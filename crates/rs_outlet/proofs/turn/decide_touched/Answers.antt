@@ -19,5 +19,5 @@ loop-number-preserved c =
     one_more_decided c.args.sources.now.ins.now (due_to (held_by c.args.sources.now) c.args.sources.now.client c.args.speech) c.args.rows.now.rows.items
     (is_numbered_in (take i es)) (is_numbered_in (take (i + 1) es)) e.0 c.loop-number.changes.items _ c.loop-number.invariant
     (entry_new es i e c.requires.once below c.loop-number-item.is)
-    c.in_ok-decide_at.ensures
+    c.in_ok-decide_number.ensures.changes
     (entry_more es i e below c.loop-number-item.is)

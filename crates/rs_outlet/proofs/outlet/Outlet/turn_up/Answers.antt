@@ -1,4 +1,4 @@
-use Rattle.std.proofs.Common.{◌≡◌, ◌∙◌, ◌++◌, cond, ap, arith, ℕ, List, [], false, length, Option, Some, refl, sym, subst}
+use Rattle.std.proofs.Common.{◌≡◌, ◌∙◌, cond, ap, arith, ℕ, List, [], false, length, Option, Some, sym, subst}
 use Rattle.std.proofs.lemmas.Bool.{and_parts}
 use Rattle.std.proofs.lemmas.Bool.Decides.{nat_tests}
 use Rattle.std.specs.FinMap as fin
@@ -6,9 +6,11 @@ use Rattle.rs_outlet.specs.Decided.Due.{any_holds, due_to}
 use Rattle.rs_outlet.specs.Decided.HeldBy.{held_by}
 use Rattle.std.specs.List.{AllByRecursion}
 use Rattle.rs_octets.specs.Prefixes.{Prefix}
+use Rattle.rs_attrs.specs.Meaning.{Attribute}
 use Rattle.rs_adjin.specs.AdjIns.{number_of}
 use Rattle.rs_adjin.specs.declared.adj_ins.AdjIns.{AdjIns}
 use Rattle.rs_outlet.specs.declared.outlet.Outlet.TheInside.{Inside}
+use Rattle.rs_outlet.specs.declared.changes.Change.{Change}
 use Rattle.rs_outlet.specs.declared.rows.Row.{Row}
 use Rattle.rs_outlet.specs.declared.table.Rows.{Rows}
 use Rattle.rs_outlet.specs.declared.waiting.Wait.{Wait}
@@ -23,7 +25,7 @@ use Rattle.rs_outlet.specs.Decided.Turns.{IsCurrent}
 use Rattle.rs_outlet.specs.Decided.HeldBy.{tables_of}
 use Rattle.rs_outlet.specs.declared.answers.Speech.{Speech}
 use Rattle.rs_policy.specs.Configuration.{Configuration}
-use Rattle.rs_outlet.proofs.Decided.Numbering.{all_front, all_behind, all_both, have_rows, no_elements}
+use Rattle.rs_outlet.proofs.Decided.Numbering.{all_both, have_rows, no_elements, rows_numbered, touched_numbered}
 use Rattle.rs_outlet.proofs.Pending.Carrying.{distinct_prefixes, keeps_both, keeps_same}
 use Rattle.rs_outlet.proofs.Pending.Unchanged.{asked_same, told_kept, marked_kept, exact_kept}
 use Rattle.rs_outlet.proofs.Pending.Chains.{same_chained}
@@ -43,12 +45,11 @@ commit-requires-clause-once c =
     distinct_prefixes c.args.sources.now.ins.now c.in_ok-changes.field-0.changes.items decided.placed decided.once
 
 pub returns-clause-numbered : goal.returns-clause-numbered
-returns-clause-numbered c = λ numbered.
+returns-clause-numbered c = λ are.
     let ins = c.args.sources.now.ins.now in
     let P = λ (e : ℕ × Prefix). number_of ins e.1 ≡ Some e.0 in
-    let was = subst (λ (v : View). AreNumbered v ins) (sym c.self.view_is) numbered in
     all_both P (numbers_from 0 c.commit.new.rows.rows.items) _
-    (c.commit.ensures.numbered ins c.in_ok-changes.ensures.changes.placed (subst (λ es. HaveNumbers es ins) (sym c.make_room.ensures.numbers) (all_front P (numbers_from 0 c.self.inside.rows.rows.items) _ was)))
+    (c.commit.ensures.numbered ins c.in_ok-changes.ensures.changes.placed (subst (λ es. HaveNumbers es ins) (sym c.make_room.ensures.numbers) (rows_numbered ins c.self.inside c.args.self.now c.self.view_is are)))
     (subst (AllByRecursion P) (sym c.clear.ensures.prefixes) tt)
 
 -- what is not stale is due
@@ -59,42 +60,37 @@ as_due config ins a v speech client is up own current p out =
     ∙ current speech up p (sym (ap (λ (x : View). is_touched x.stale p) is) ∙ out)
     ∙ ap (λ k. due_to (tables_of config ins) k speech p) (sym own)
 
+-- what the Loc-RIB has once the changes are carried out
+changed : (ins : AdjIns) (a : Inside) (v : View) (due_at : Prefix → Option (List Attribute)) (cs : List Change) (rows1 rows2 : List (Option Row)) → view_of a ≡ v → numbers_from 0 rows1 ≡ numbers_from 0 a.rows.rows.items → loc_of rows1 ≡ loc_of a.rows.rows.items
+    → (HaveNumbers (numbers_from 0 rows1) ins → (q : Prefix) → fin.get (loc_of rows2) q ≡ cond (is_changed cs q) (due_at q) (fin.get (loc_of rows1) q))
+    → AreNumbered v ins → (p : Prefix) → fin.get (loc_of rows2) p ≡ cond (is_changed cs p) (due_at p) (fin.get (loc_of a.rows.rows.items) p)
+changed ins a v due_at cs rows1 rows2 is numbers loc carried are p =
+    carried (subst (λ es. HaveNumbers es ins) (sym numbers) (rows_numbered ins a v is are)) p
+    ∙ ap (λ t. cond (is_changed cs p) (due_at p) (fin.get t p)) loc
+
 pub returns-clause-due : goal.returns-clause-due
 returns-clause-due c = λ are p.
     let ins = c.args.sources.now.ins.now in
     let a = c.self.inside in
-    let rows = a.rows.rows.items in
-    let es = a.touched.prefixes.items in
     let due_at = due_to (held_by c.args.sources.now) c.args.sources.now.client c.args.speech in
-    let P = λ (e : ℕ × Prefix). number_of ins e.1 ≡ Some e.0 in
-    let was = subst (λ (v : View). AreNumbered v ins) (sym c.self.view_is) are in
-    let h : HaveNumbers (numbers_from 0 rows) ins = all_front P (numbers_from 0 rows) es was in
-    let k : HaveNumbers es ins = all_behind P (numbers_from 0 rows) es was in
-    let there = subst (λ es. HaveNumbers es ins) (sym c.make_room.ensures.numbers) h in
-    let decided = c.in_ok-changes.ensures.changes in
-    one_of (is_touched (stale_of a.touched.all es) p) _ _ _
-    (stale_at ins rows es a.touched.all due_at c.in_ok-changes.field-0.changes.items h k decided
-    (λ q none. due_unnumbered c.args.sources.now.config.now ins c.args.sources.now.client c.args.speech q none)
-    p _ (c.commit.ensures.loc ins due_at decided.placed decided.due there p ∙ ap (λ t. cond (is_changed c.in_ok-changes.field-0.changes.items p) (due_at p) (fin.get t p)) c.make_room.ensures.loc)
-    ∙ ap (λ (v : View). cond (is_touched (stale_of a.touched.all es) p) (due_at p) (fin.get v.loc p)) c.self.view_is)
+    one_of (is_touched (stale_of a.touched.all a.touched.prefixes.items) p) _ _ _
+    (stale_at ins a.rows.rows.items a.touched.prefixes.items a.touched.all due_at c.in_ok-changes.field-0.changes.items
+    (rows_numbered ins a c.args.self.now c.self.view_is are) (touched_numbered ins a c.args.self.now c.self.view_is are) c.in_ok-changes.ensures.changes
+    (due_unnumbered c.args.sources.now.config.now ins c.args.sources.now.client c.args.speech)
+    p _ (changed ins a c.args.self.now due_at c.in_ok-changes.field-0.changes.items c.make_room.new.rows.rows.items c.commit.new.rows.rows.items c.self.view_is c.make_room.ensures.numbers c.make_room.ensures.loc (c.commit.ensures.loc ins due_at c.in_ok-changes.ensures.changes.placed c.in_ok-changes.ensures.changes.due) are p)
+    ∙ ap (λ (v : View). cond (is_touched (stale_of a.touched.all a.touched.prefixes.items) p) (due_at p) (fin.get v.loc p)) c.self.view_is)
 
 pub returns-clause-loc : goal.returns-clause-loc
 returns-clause-loc c = λ are current p.
+    let config = c.args.sources.now.config.now in
     let ins = c.args.sources.now.ins.now in
     let a = c.self.inside in
-    let rows = a.rows.rows.items in
-    let es = a.touched.prefixes.items in
     let due_at = due_to (held_by c.args.sources.now) c.args.sources.now.client c.args.speech in
-    let P = λ (e : ℕ × Prefix). number_of ins e.1 ≡ Some e.0 in
-    let was = subst (λ (v : View). AreNumbered v ins) (sym c.self.view_is) are in
-    let h : HaveNumbers (numbers_from 0 rows) ins = all_front P (numbers_from 0 rows) es was in
-    let k : HaveNumbers es ins = all_behind P (numbers_from 0 rows) es was in
-    let there = subst (λ es. HaveNumbers es ins) (sym c.make_room.ensures.numbers) h in
-    let decided = c.in_ok-changes.ensures.changes in
-    turned_at ins rows es a.touched.all due_at c.in_ok-changes.field-0.changes.items h k decided
-    (λ q none. due_unnumbered c.args.sources.now.config.now ins c.args.sources.now.client c.args.speech q none)
-    (as_due c.args.sources.now.config.now ins a c.args.self.now c.args.speech c.args.sources.now.client c.self.view_is c.requires.speech c.requires.own current)
-    p _ (c.commit.ensures.loc ins due_at decided.placed decided.due there p ∙ ap (λ t. cond (is_changed c.in_ok-changes.field-0.changes.items p) (due_at p) (fin.get t p)) c.make_room.ensures.loc)
+    turned_at ins a.rows.rows.items a.touched.prefixes.items a.touched.all due_at c.in_ok-changes.field-0.changes.items
+    (rows_numbered ins a c.args.self.now c.self.view_is are) (touched_numbered ins a c.args.self.now c.self.view_is are) c.in_ok-changes.ensures.changes
+    (due_unnumbered config ins c.args.sources.now.client c.args.speech)
+    (as_due config ins a c.args.self.now c.args.speech c.args.sources.now.client c.self.view_is c.requires.speech c.requires.own current)
+    p _ (changed ins a c.args.self.now due_at c.in_ok-changes.field-0.changes.items c.make_room.new.rows.rows.items c.commit.new.rows.rows.items c.self.view_is c.make_room.ensures.numbers c.make_room.ensures.loc (c.commit.ensures.loc ins due_at c.in_ok-changes.ensures.changes.placed c.in_ok-changes.ensures.changes.due) are p)
     ∙ ap (λ (v : View). cond (is_touched v.touched p) (due_at p) (fin.get v.loc p)) c.self.view_is
 
 pub returns-clause-count : goal.returns-clause-count
@@ -107,29 +103,18 @@ returns-clause-count c = λ are current.
     let held = any_holds (held_by c.args.sources.now) in
     let count = c.in_ok-changes.field-0.count in
     let due_at = due_to (held_by c.args.sources.now) c.args.sources.now.client c.args.speech in
-    let P = λ (e : ℕ × Prefix). number_of ins e.1 ≡ Some e.0 in
-    let was = subst (λ (v : View). AreNumbered v ins) (sym c.self.view_is) are in
-    let there = all_behind P (numbers_from 0 rows) es was in
+    let stand = rows_numbered ins a c.args.self.now c.self.view_is are in
+    let there = touched_numbered ins a c.args.self.now c.self.view_is are in
     subst (λ (v : View). IsCount held v.loc v.touched count) c.self.view_is
     (count_touched held (loc_of rows) (touched_of a.touched.all es) count
-    (λ all. counted_by_prefix ins rows held count (numbered ins rows (all_front P (numbers_from 0 rows) es was)) (none_holds config ins)
-    (c.in_ok-changes.ensures.all there (fresh_rows ins rows es a.touched.all due_at [] (all_front P (numbers_from 0 rows) es was) there
+    (λ all. counted_by_prefix ins rows held count (numbered ins rows stand) (none_holds config ins)
+    (c.in_ok-changes.ensures.all there (fresh_rows ins rows es a.touched.all due_at [] stand there
     (as_due config ins a c.args.self.now c.args.speech c.args.sources.now.client c.self.view_is c.requires.speech c.requires.own current)) (c.in_ok-changes.ensures.whole there ∙ all)))
     (c.in_ok-changes.ensures.count there))
 
 pub returns-clause-whole : goal.returns-clause-whole
 returns-clause-whole c = λ are.
-    let ins = c.args.sources.now.ins.now in
-    let a = c.self.inside in
-    let P = λ (e : ℕ × Prefix). number_of ins e.1 ≡ Some e.0 in
-    let was = subst (λ (v : View). AreNumbered v ins) (sym c.self.view_is) are in
-    c.in_ok-changes.ensures.whole (all_behind P (numbers_from 0 a.rows.rows.items) a.touched.prefixes.items was) ∙ ap (λ (v : View). is_whole v.touched) c.self.view_is
-
--- the rows have their numbers when the changes are carried out
-there : (ins : AdjIns) (v w : View) (rows es ns : List (ℕ × Prefix)) → v ≡ w → v.numbers ≡ rows ++ es → ns ≡ rows → AreNumbered w ins → HaveNumbers ns ins
-there ins v w rows es ns is numbers same are =
-    let P = λ (e : ℕ × Prefix). number_of ins e.1 ≡ Some e.0 in
-    subst (AllByRecursion P) (sym same) (all_front P rows es (subst (AllByRecursion P) numbers (subst (λ (v : View). AreNumbered v ins) (sym is) are)))
+    c.in_ok-changes.ensures.whole (touched_numbered c.args.sources.now.ins.now c.self.inside c.args.self.now c.self.view_is are) ∙ ap (λ (v : View). is_whole v.touched) c.self.view_is
 
 -- what each prefix keeps, from before room is made until the changes are carried out
 keeps : (ins : AdjIns) (a : Inside) (v : View) (rows1 rows2 : List (Option Row)) (ws1 ws2 : List Wait) → view_of a ≡ v → numbers_from 0 rows1 ≡ numbers_from 0 a.rows.rows.items → loc_of rows1 ≡ loc_of a.rows.rows.items → ws1 ≡ a.waits.slots.items
@@ -137,7 +122,7 @@ keeps : (ins : AdjIns) (a : Inside) (v : View) (rows1 rows2 : List (Option Row))
     → AreNumbered v ins → (q : Prefix) → Keeps (open_at q a.waits.slots.items) (fin.get (loc_of a.rows.rows.items) q) (open_at q ws2) (fin.get (loc_of rows2) q)
 keeps ins a v rows1 rows2 ws1 ws2 is numbers loc waits kept are q =
     keeps_both _ _ _ _ _ _ (keeps_same _ _ _ _ (ap (open_at q) waits) (ap (λ t. fin.get t q) loc))
-    (kept (there ins (view_of a) v (numbers_from 0 a.rows.rows.items) a.touched.prefixes.items _ is refl numbers are) q)
+    (kept (subst (λ es. HaveNumbers es ins) (sym numbers) (rows_numbered ins a v is are)) q)
 
 pub returns-clause-told : goal.returns-clause-told
 returns-clause-told c = λ are.
