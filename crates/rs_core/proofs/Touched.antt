@@ -12,5 +12,6 @@ pub mod Moments
 pub mod Growing
 pub mod Room
 pub mod TurnAnswers
+pub mod TurnsOfAll
 pub mod Since
 pub mod LastTurns

@@ -3,6 +3,7 @@ pub mod Session
 pub mod Run
 pub mod Touched
 pub mod Ribs
+pub mod Others
 pub mod Owed
 pub mod Core
 pub mod Told

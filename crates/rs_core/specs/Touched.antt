@@ -7,3 +7,4 @@ pub mod ByMoves
 pub mod Answering
 pub mod SinceLastTurn
 pub mod LastTurns
+pub mod TurnsOfAll

@@ -9,7 +9,11 @@ ghost use Rattle.rs_open.specs.declared.short.Limit.TheVariants as limits;
 ghost use Rattle.rs_outlet.specs.Views.{AreNumbered, begun};
 ghost use Rattle.rs_core.specs.Touched.Touches.{IsTouchedAt, IsTouchedWhereHeld};
 
+mod dropped;
+
+use crate::adj_rib_in::dropped::DROPPED;
 use crate::ribs::Ribs;
+pub(crate) use dropped::Dropped;
 use rs_adjin::AdjIns;
 use rs_attrs::{Attrs, Mode};
 use rs_octets::Prefix;
@@ -58,9 +62,11 @@ impl Ribs {
         ensures kept { KeepsFresh self.old self.new }
     {
         let number = self.tables.add(prefix)?;
+        let was_dropped = self.drops(c, number);
         let note = import_note(&self.config, c, &prefix, attrs);
         match self.tables.put_at(c, number, attrs, note) {
             Ok(changed) => {
+                self.dropped.note(c, was_dropped, note == DROPPED);
                 if changed {
                     self.touch_others(c, number, prefix);
                 }
@@ -84,8 +90,18 @@ impl Ribs {
         let Some(number) = self.tables.number(prefix) else {
             return;
         };
+        let was_dropped = self.drops(c, number);
         if self.tables.withdraw(c, prefix) {
+            self.dropped.note(c, was_dropped, false);
             self.touch_others(c, number, prefix);
+        }
+    }
+
+    /// A client's import rules drop its route for the prefix of a number.
+    fn drops(&self, c: usize, number: u32) -> bool {
+        match self.tables.noted_at(c, number) {
+            Some(holder) => holder.note == DROPPED,
+            None => false,
         }
     }
 
@@ -142,6 +158,7 @@ impl Ribs {
         ensures kept { KeepsFresh self.old self.new }
     {
         self.touch_held(c);
+        self.dropped.clear(c);
         self.tables.begin(c, 0);
     }
 

@@ -25,6 +25,7 @@ fn server_open(config: &Config) -> ServerOpen
 ghost use Rattle.std.specs.Prelude.{◌≢◌, ℕ, List, [], ◌∷◌, Some, slice_get, OnOk, OnErr};
 ghost use Rattle.std.specs.Global.{Vec};
 ghost use Rattle.rs_session.specs.Sessions.{is_live};
+ghost use Rattle.rs_core.specs.Others.{KeepsOthers};
 ghost use Rattle.rs_core.specs.Run.Moves.{Move, Came, Left, config_in};
 ghost use Rattle.rs_core.specs.Session.Hearing.{Hearing, state_in, leaves};
 ghost use Rattle.rs_core.specs.Run.Meaning.{hearing};
@@ -81,7 +82,7 @@ impl Core {
         ensures config { self.new.ribs.config ≡ self.old.ribs.config }
         ensures tables { self.new.ribs.tables ≡ self.old.ribs.tables }
         ensures emptied { (x : Vec ℕ) → slice_get self.new.buffers.items c ≡ Some x → x.items ≡ [] }
-        ensures others { (d : ℕ) → d ≢ c → slice_get self.new.buffers.items d ≡ slice_get self.old.buffers.items d }
+        ensures others { KeepsOthers c self.old.buffers.items self.new.buffers.items }
         ensures watched { self.new.watched ≡ self.old.watched }
         ensures others_alone { LeavesOthersAlone c self.old.ribs self.new.ribs }
         ensures own { (none : View) → IsGreeting (own_open self.old.ribs.config) (outlet_in self.new.ribs c none) }
@@ -102,7 +103,7 @@ impl Core {
         ensures ribs { self.new.ribs ≡ self.old.ribs }
         ensures watched { self.new.watched ≡ self.old.watched }
         ensures emptied { (x : Vec ℕ) → slice_get self.new.buffers.items c ≡ Some x → x.items ≡ [] }
-        ensures others { (d : ℕ) → d ≢ c → slice_get self.new.buffers.items d ≡ slice_get self.old.buffers.items d }
+        ensures others { KeepsOthers c self.old.buffers.items self.new.buffers.items }
     {
         let buffer = &mut self.buffers[c];
         buffer.clear();

@@ -178,6 +178,7 @@ fn hear<L: Sink>(core: &mut Core, link: &mut L, c: usize, len: usize, piece: &[u
 }
 
 /// The operator commands this of a client's session.
+#[tactic(auto, using(crate::proofs::Drives::Leading::led_same))]
 fn obey<L: Sink>(core: &mut Core, link: &mut L, c: usize, command: Command)
     ensures count { client_count core.new ≡ client_count core.old }
     ensures led { HasLed L.happens link.old link.new }
@@ -189,6 +190,7 @@ fn obey<L: Sink>(core: &mut Core, link: &mut L, c: usize, command: Command)
 }
 
 /// A connection of a client is lost.
+#[tactic(auto, using(crate::proofs::Drives::Leading::led_same))]
 fn lose<L: Sink>(core: &mut Core, link: &mut L, c: usize)
     ensures count { client_count core.new ≡ client_count core.old }
     ensures led { HasLed L.happens link.old link.new }

@@ -1,6 +1,6 @@
 //! Octets of a client, in any pieces, and moments: what its session hears.
 
-ghost use Rattle.std.specs.Prelude.{◌≡◌, ◌≢◌, ◌<◌, ◌≤◌, ℕ, true, false, List, ◌∷◌, ◌++◌, Some, length, slice_get, IfOk, OnOk, OnErr};
+ghost use Rattle.std.specs.Prelude.{◌≡◌, ◌<◌, ◌≤◌, ℕ, true, false, List, ◌∷◌, ◌++◌, Some, length, slice_get, IfOk, OnOk, OnErr};
 ghost use Rattle.std.specs.Global.{Vec};
 
 use crate::endings::{Ending, expiry_by};
@@ -47,6 +47,7 @@ ghost use Rattle.rs_core.specs.Run.Parts.{FillsUp};
 
 impl Core {
     ghost use Rattle.rs_core.specs.Core.{client_count};
+    ghost use Rattle.rs_core.specs.Others.{KeepsOthers};
     ghost use Rattle.rs_core.specs.Run.Moves as moves;
     ghost use Rattle.rs_core.specs.Run.Moves.{Move, Saw, Dropped, config_in};
     ghost use Rattle.rs_core.specs.Session.Hearing.{Hearing, hears, sees, state_in};
@@ -195,7 +196,7 @@ impl Core {
         ensures ribs { self.new.ribs ≡ self.old.ribs }
         ensures watched { self.new.watched ≡ self.old.watched }
         ensures behind { OnOk result ((x y : Vec ℕ) → slice_get self.old.buffers.items c ≡ Some x → slice_get self.new.buffers.items c ≡ Some y → y.items ≡ x.items ++ octets.now) }
-        ensures others { (d : ℕ) → d ≢ c → slice_get self.new.buffers.items d ≡ slice_get self.old.buffers.items d }
+        ensures others { KeepsOthers c self.old.buffers.items self.new.buffers.items }
     {
         let buffer = &mut self.buffers[c];
         buffer.extend_from_slice(octets)
@@ -209,7 +210,7 @@ impl Core {
         ensures ribs { self.new.ribs ≡ self.old.ribs }
         ensures watched { self.new.watched ≡ self.old.watched }
         ensures taken { slice_get self.old.buffers.items c ≡ Some result }
-        ensures others { (d : ℕ) → d ≢ c → slice_get self.new.buffers.items d ≡ slice_get self.old.buffers.items d }
+        ensures others { KeepsOthers c self.old.buffers.items self.new.buffers.items }
     {
         let none = Vec::new(self.alloc);
         let buffer = &mut self.buffers[c];
@@ -224,7 +225,7 @@ impl Core {
         ensures ribs { self.new.ribs ≡ self.old.ribs }
         ensures watched { self.new.watched ≡ self.old.watched }
         ensures put { (x : Vec ℕ) → slice_get self.new.buffers.items c ≡ Some x → x.items ≡ octets.items }
-        ensures others { (d : ℕ) → d ≢ c → slice_get self.new.buffers.items d ≡ slice_get self.old.buffers.items d }
+        ensures others { KeepsOthers c self.old.buffers.items self.new.buffers.items }
     {
         let buffer = &mut self.buffers[c];
         *buffer = octets;

@@ -3,7 +3,8 @@
 ghost use Rattle.std.specs.Prelude.{ℕ, Some, ◌≡◌, ◌==◌, ◌&&◌, ◌<◌, ◌≤◌, T, true, false, List, [], ◌∷◌, length, IfSome, IsTrue};
 ghost use Rattle.std.specs.FinMap.{find, is_sorted};
 ghost use Rattle.rs_octets.specs.Prefixes.{Prefix, prefix_order};
-ghost use Rattle.rs_adjin.specs.AdjIns.{number_of};
+ghost use Rattle.rs_adjin.specs.AdjIns.{is_held, number_of};
+ghost use Rattle.rs_adjin.specs.Listing.{Counts};
 
 use crate::endings::{Ending, FaultedUpdates};
 use crate::route_server::Core;
@@ -170,6 +171,13 @@ impl Core {
         self.ribs.tables.numbers()
     }
 
+    /// How many prefixes any client holds.
+    pub fn prefixes(&self) -> usize
+        ensures { Counts (is_held self.now.ribs.tables) result }
+    {
+        self.ribs.tables.held_prefixes()
+    }
+
     /// The Loc-RIB of a client, by rising prefix: what was due to it at its last turn, and nothing where
     /// it is not Established.
     pub fn routes(&self, c: usize) -> Routes<'_>
@@ -201,6 +209,14 @@ impl Core {
     {
         let outlet = &self.ribs.outlets[c];
         outlet.is_drained()
+    }
+
+    /// How many prefixes wait to be sent to a client, for the operator: no contract says so.
+    pub fn waiting(&self, c: usize) -> usize
+        requires { c < client_count self.now }
+    {
+        let outlet = &self.ribs.outlets[c];
+        outlet.waiting()
     }
 
     /// Whether the session of a client has ended, and its connection has not.

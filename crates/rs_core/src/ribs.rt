@@ -10,6 +10,7 @@ ghost use Rattle.rs_adjin.specs.AdjIns.{AreNoted};
 ghost use Rattle.rs_policy.specs.Noted.{note_of_import};
 ghost use Rattle.rs_core.specs.Run.Keeping.{AreKept, AreBare};
 
+use crate::adj_rib_in::Dropped;
 use rs_adjin::AdjIns;
 use rs_outlet::Outlet;
 use rs_policy::Config;
@@ -24,6 +25,8 @@ pub(crate) struct Ribs {
     pub(crate) extended: bool,
     pub(crate) config: Config,
     pub(crate) tables: AdjIns,
+    /// Of each client how many of its routes its import rules drop.
+    pub(crate) dropped: Dropped,
     pub(crate) outlets: Vec<Outlet>,
     /// The number of the prefix that is swept next.
     pub(crate) swept: u32,
@@ -65,11 +68,13 @@ impl Ribs {
         let extended = config.extended();
         let tables = AdjIns::new(alloc, count)?;
         let outlets = outlets(alloc, &config)?;
+        let dropped = Dropped::new(alloc, count)?;
         Ok(Ribs {
             count,
             extended,
             config,
             tables,
+            dropped,
             outlets,
             swept: 0,
         })

@@ -21,7 +21,7 @@ impl Core {
     ghost use Rattle.rs_core.specs.Told.Outlets.{IsFinished, LeavesOthersAlone, ActsOnOutlet};
     ghost use Rattle.rs_core.specs.Run.Parts.{AltersWithin, CutsShort, Follows, Hears, IsSpared, ActsOn, KeepsOwnTouches};
 
-    /// Hears a whole message.
+    /// Hears a whole message (RFC 4271, 4.2 to 4.5; ROUTE-REFRESH: RFC 2918, 3).
     pub(crate) fn hear_message(
         &mut self,
         c: usize,
@@ -39,52 +39,16 @@ impl Core {
         ensures keeps { KeepsOwnTouches c self.old self.new }
     {
         match kind {
-            Kind::Open => self.hear_open(c, body),
+            Kind::Open => self.session_hears(c, Heard::Open(read_open(body))),
             Kind::Update => return self.hear_update(c, body),
-            Kind::Note => self.hear_note(c, body),
+            Kind::Note => self.session_hears_with(c, Heard::Note, body),
             Kind::Keepalive => self.session_hears(c, Heard::Keepalive),
-            Kind::Refresh => self.hear_refresh(c, body),
+            Kind::Refresh => {
+                let AddressFamily { afi, safi } = read_refresh(body);
+                self.session_hears(c, Heard::Refresh { afi, safi });
+            }
         }
         Ok(())
-    }
-
-    /// An OPEN (RFC 4271, 4.2).
-    fn hear_open(&mut self, c: usize, body: &[u8])
-        requires client { c < client_count self.old }
-        requires body { 10 ≤ length body.now }
-        ensures spares { Spares c self.old self.new }
-        ensures buffers { self.new.buffers ≡ self.old.buffers }
-        ensures heard { Hears Kind.Open body.now c self.old self.new }
-        ensures others_touched { TouchesOthersAtChange c self.old.ribs self.new.ribs }
-        ensures keeps { KeepsOwnTouches c self.old self.new }
-    {
-        self.session_hears(c, Heard::Open(read_open(body)));
-    }
-
-    /// A NOTIFICATION (RFC 4271, 4.5).
-    fn hear_note(&mut self, c: usize, body: &[u8])
-        requires { c < client_count self.old }
-        ensures spares { Spares c self.old self.new }
-        ensures buffers { self.new.buffers ≡ self.old.buffers }
-        ensures heard { Hears Kind.Note body.now c self.old self.new }
-        ensures others_touched { TouchesOthersAtChange c self.old.ribs self.new.ribs }
-        ensures keeps { KeepsOwnTouches c self.old self.new }
-    {
-        self.session_hears_with(c, Heard::Note, body);
-    }
-
-    /// A ROUTE-REFRESH (RFC 2918, 3).
-    fn hear_refresh(&mut self, c: usize, body: &[u8])
-        requires client { c < client_count self.old }
-        requires body { 4 ≤ length body.now }
-        ensures spares { Spares c self.old self.new }
-        ensures buffers { self.new.buffers ≡ self.old.buffers }
-        ensures heard { Hears Kind.Refresh body.now c self.old self.new }
-        ensures others_touched { TouchesOthersAtChange c self.old.ribs self.new.ribs }
-        ensures keeps { KeepsOwnTouches c self.old self.new }
-    {
-        let AddressFamily { afi, safi } = read_refresh(body);
-        self.session_hears(c, Heard::Refresh { afi, safi });
     }
 
     /// The session hears this, and what it asks for is done.

@@ -45,6 +45,11 @@ impl Core {
         self.ribs.tables.count(c)
     }
 
+    /// How many of these its import rules drop. No contract says so.
+    pub fn dropped_count(&self, c: usize) -> usize {
+        self.ribs.dropped.count(c)
+    }
+
     /// Of what `routes` lists the routes for prefixes that are not before one. The walk doesn't go over
     /// those before.
     pub fn routes_from(&self, c: usize, from: Prefix) -> Routes<'_>

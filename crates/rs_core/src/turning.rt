@@ -1,6 +1,6 @@
 //! Turns: what is touched is decided, for each client.
 
-ghost use Rattle.std.specs.Prelude.{◌≡◌, ◌<◌, ◌≤◌, ◌+◌, ℕ, true, false, List, ◌∷◌, length};
+ghost use Rattle.std.specs.Prelude.{◌≡◌, ◌<◌, ◌≤◌, ◌+◌, length};
 ghost use Rattle.rs_adjin.specs.AdjIns as adj_ins;
 ghost use Rattle.rs_core.specs.Touched.Turns.{IsMarked, IsTurn, refused_in};
 ghost use Rattle.rs_workers.specs.Turned.{AllTurnedAlone};
@@ -21,24 +21,12 @@ pub struct Turns {
 }
 
 impl Core {
-    ghost use Rattle.rs_core.specs.Core.{client_count, is_decided, is_refused, refused_below, refused_clients, touched_for};
-    ghost use Rattle.rs_core.specs.Run.Moves.{Move, Turned};
-    ghost use Rattle.rs_core.specs.Run.Agreeing.{Agrees};
-    ghost use Rattle.rs_core.specs.Run.Meaning.{is_established};
-    ghost use Rattle.rs_core.specs.Touched.ByRun.{DecidesTouched};
+    ghost use Rattle.rs_core.specs.Touched.TurnsOfAll.{HasTurnedAll};
 
     /// A turn of all clients, one after the other. Memory is refused only for those that are
     /// Established.
-    #[tactic(auto, unfolding(crate::specs::Core::client_count, crate::specs::Core::refused_clients))]
     pub fn turn(&mut self) -> Turns
-        ensures clients { client_count self.new ≡ client_count self.old }
-        ensures refused { result.refused ≡ refused_clients self.new }
-        ensures all { result.done + result.refused ≡ client_count self.new }
-        ensures turned { (run : List Move) → Agrees self.old run → Agrees self.new (Turned (refused_below self.new (client_count self.new)) ∷ run) }
-        ensures decided { (c : ℕ) (run : List Move) → c < client_count self.old → Agrees self.old run → is_established run c ≡ true → is_refused self.new c ≡ false → is_decided self.new c ≡ true }
-        ensures touched { (c : ℕ) (run : List Move) → c < client_count self.old → Agrees self.old run → is_established run c ≡ true → is_refused self.new c ≡ false → DecidesTouched run c self.old self.new }
-        ensures refusal { (c : ℕ) → c < client_count self.old → is_refused self.new c ≡ true → touched_for self.new c ≡ touched_for self.old c }
-        ensures refused_only_up { (c : ℕ) (run : List Move) → c < client_count self.old → Agrees self.old run → is_refused self.new c ≡ true → is_established run c ≡ true }
+        ensures { HasTurnedAll result self.old self.new }
     {
         self.ribs.turn();
         self.ribs.sweep();
@@ -47,7 +35,6 @@ impl Core {
 
     /// A turn of all clients by 1 to 16 workers. Memory is refused only for those that are
     /// Established.
-    #[tactic(auto, unfolding(crate::specs::Core::client_count, crate::specs::Core::refused_clients))]
     pub fn turn_with<R: Threads + Wait + Sync, G: Gate>(
         &mut self,
         rt: &R,
@@ -55,14 +42,7 @@ impl Core {
         gate: &G,
     ) -> Turns
         requires { (0 < workers) × (workers ≤ 16) }
-        ensures clients { client_count self.new ≡ client_count self.old }
-        ensures refused { result.refused ≡ refused_clients self.new }
-        ensures all { result.done + result.refused ≡ client_count self.new }
-        ensures turned { (run : List Move) → Agrees self.old run → Agrees self.new (Turned (refused_below self.new (client_count self.new)) ∷ run) }
-        ensures decided { (c : ℕ) (run : List Move) → c < client_count self.old → Agrees self.old run → is_established run c ≡ true → is_refused self.new c ≡ false → is_decided self.new c ≡ true }
-        ensures touched { (c : ℕ) (run : List Move) → c < client_count self.old → Agrees self.old run → is_established run c ≡ true → is_refused self.new c ≡ false → DecidesTouched run c self.old self.new }
-        ensures refusal { (c : ℕ) → c < client_count self.old → is_refused self.new c ≡ true → touched_for self.new c ≡ touched_for self.old c }
-        ensures refused_only_up { (c : ℕ) (run : List Move) → c < client_count self.old → Agrees self.old run → is_refused self.new c ≡ true → is_established run c ≡ true }
+        ensures { HasTurnedAll result self.old self.new }
     {
         self.ribs.turn_with(rt, workers, gate);
         self.ribs.sweep();
@@ -162,6 +142,7 @@ impl Ribs {
         ensures outlets { self.new.outlets ≡ self.old.outlets }
     {
         note_all(&mut self.tables, &config);
+        self.dropped.count_all(&self.tables);
         self.config = config;
     }
 

@@ -22,7 +22,7 @@ use Rattle.rs_core.specs.Touched.ByMoves.{Alters}
 use Rattle.rs_core.specs.declared.endings.Ending.TheVariants as reasons
 use Rattle.rs_core.proofs.Examples.DueRoutes.{base, m, n24}
 use Rattle.rs_core.proofs.Examples.FirstRoute.{first_route, in_order}
-use Rattle.rs_core.proofs.Examples.Recorded.{announces, keepalive_sent, route, said, tells, InOrder}
+use Rattle.rs_core.proofs.Examples.Recorded.{announces, keepalive_sent, route, said, tells, tells_more, InOrder}
 
 -- the text "ok", and none
 abbrev text : ShutdownText
@@ -108,18 +108,8 @@ again = Began 1 ∷ Took 1 route ∷ Began 1 ∷ Commanded 1 Refresh ∷ first_r
 
 told_twice : InOrder (hearing 1 again).points (Some u1_attributes ∷ Some u1_attributes ∷ []) false
 unfolding all_types attributes_match matches outcome verdict unbeaten
-told_twice = inl (inr (record {
-  value = Some u1_attributes;
-  earlier = Some u1_attributes ∷ [];
-  was_asked = true;
-  are = refl;
-  before = (refl, false, in_order);
-  taken_tells = tells (said ++ keepalive_sent ++ route) (announces ∷ []) refl (refl, tt);
-  whole = refl;
-  due = refl;
-  news = inr refl;
-  answered = refl;
-}))
+told_twice = inl (tells_more (hearing 1 (Commanded 1 Refresh ∷ first_route)).points (said ++ keepalive_sent ++ route) (Some u1_attributes) (Some u1_attributes ∷ []) true (refl, false, in_order)
+    (tells (said ++ keepalive_sent ++ route) (announces ∷ []) refl (refl, tt)) refl refl (inr refl))
 
 -- not where it isn't Established, nor by a stop
 none_asked : (hearing 2 (Commanded 2 Refresh ∷ first_route)).points ≡ (hearing 2 first_route).points

@@ -23,7 +23,7 @@ use Rattle.rs_core.specs.Told.Telling.{Speaks}
 use Rattle.rs_core.specs.declared.links.Event.TheVariants.{Octets, Turn, Room}
 use Rattle.rs_core.proofs.Run.Dues.{IsSameSent, due_below}
 use Rattle.rs_core.proofs.Examples.DueRoutes.{base, n24, open_a, open_b, u1, up}
-use Rattle.rs_core.proofs.Examples.Recorded.{announces, keepalive_sent, bodies, four, greeted, greets, means, route, said, tells, InOrder}
+use Rattle.rs_core.proofs.Examples.Recorded.{announces, keepalive_sent, bodies, four, greeted, greets, means, route, said, tells, tells_route, InOrder}
 
 abbrev pub both_up : List Move
 both_up = greeted 1 said (up 1 open_b (greeted 0 said (up 0 open_a (Ruled base ∷ []))))
@@ -106,15 +106,4 @@ not_served_yet yet = let t = (yet.told four refl).means in none_told t.0 t.1 (t.
 
 pub in_order : InOrder (hearing 1 first_route).points (Some u1_attributes ∷ []) false
 unfolding all_types attributes_match matches outcome verdict unbeaten
-in_order = inl (inr (record {
-  value = Some u1_attributes;
-  earlier = [];
-  was_asked = false;
-  are = refl;
-  before = inl (inl (inl (refl, refl)));
-  taken_tells = tells (said ++ keepalive_sent) [] refl tt;
-  whole = refl;
-  due = refl;
-  news = inl (λ e. let f : ◌≡◌ {A = Option (List Attribute)} (Some u1_attributes) None = e in cc);
-  answered = refl;
-}))
+in_order = inl (tells_route (hearing 1 decided).points (said ++ keepalive_sent) (inl (inl (inl (refl, refl)))) (tells (said ++ keepalive_sent) [] refl tt) refl refl)

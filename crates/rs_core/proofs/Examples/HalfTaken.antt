@@ -1,9 +1,9 @@
 -- A sender is lost and comes again with another route while an UPDATE to another member is half taken, by computation, as the
 -- recorded session new_route_in_place_of_the_old has it: that UPDATE goes on as it began, and the next one tells the other route.
-use Rattle.std.proofs.Common.{◌≡◌, Bool, false, List, [], ◌∷◌, ◌++◌, take, drop, refl, inl, inr}
-use Rattle.std.specs.Prelude.{Option, Some, None}
+use Rattle.std.proofs.Common.{◌≡◌, Bool, false, List, [], ◌∷◌, ◌++◌, take, drop, refl, inl}
+use Rattle.std.specs.Prelude.{Some}
 use Rattle.rs_octets.specs.Messages.{body_of}
-use Rattle.rs_attrs.specs.Meaning.{Attribute, all_types}
+use Rattle.rs_attrs.specs.Meaning.{all_types}
 use Rattle.rs_attrs.proofs.Rows.{u1_attributes}
 use Rattle.rs_policy.specs.Verdicts.{attributes_match, matches, outcome, verdict}
 use Rattle.rs_decision.specs.Choice.{unbeaten}
@@ -11,7 +11,7 @@ use Rattle.rs_core.specs.Run.Moves.{Move, Heard, Left, Turned, Began, Took}
 use Rattle.rs_core.specs.Told.Points.{Value}
 use Rattle.rs_core.specs.Run.Meaning.{hearing, dues}
 use Rattle.rs_core.proofs.Examples.DueRoutes.{n24, open_a, u5, u5_attributes, up}
-use Rattle.rs_core.proofs.Examples.Recorded.{announces, keepalive_sent, bodies, route, route_5, said, tells, InOrder, OneMore}
+use Rattle.rs_core.proofs.Examples.Recorded.{announces, keepalive_sent, bodies, route, route_5, said, tells, tells_more, tells_route, InOrder, OneMore}
 use Rattle.rs_core.proofs.Examples.FirstRoute.{decided}
 
 abbrev half : List Move
@@ -43,26 +43,6 @@ none_begins values asked more = let f : take 20 route ≡ [] = more.whole in cc
 
 in_order : InOrder (hearing 1 both_told).points (Some u5_attributes ∷ Some u1_attributes ∷ []) false
 unfolding all_types attributes_match matches outcome verdict unbeaten
-in_order = inl (inr (record {
-  value = Some u5_attributes;
-  earlier = Some u1_attributes ∷ [];
-  was_asked = false;
-  are = refl;
-  before = inl (inr (record {
-    value = Some u1_attributes;
-    earlier = [];
-    was_asked = false;
-    are = refl;
-    before = inl (inl (inl (refl, refl)));
-    taken_tells = tells (said ++ keepalive_sent) [] refl tt;
-    whole = refl;
-    due = refl;
-    news = inl (λ e. let f : ◌≡◌ {A = Option (List Attribute)} (Some u1_attributes) None = e in cc);
-    answered = refl;
-  }));
-  taken_tells = tells (said ++ keepalive_sent ++ route) (announces ∷ []) refl (refl, tt);
-  whole = refl;
-  due = refl;
-  news = inl (λ e. let f : ◌≡◌ {A = Option (List Attribute)} (Some u5_attributes) (Some u1_attributes) = e in cc);
-  answered = refl;
-}))
+in_order = inl (tells_more (hearing 1 whole).points (said ++ keepalive_sent ++ route) (Some u5_attributes) (Some u1_attributes ∷ []) false
+    (inl (tells_route (hearing 1 decided).points (said ++ keepalive_sent) (inl (inl (inl (refl, refl)))) (tells (said ++ keepalive_sent) [] refl tt) refl refl))
+    (tells (said ++ keepalive_sent ++ route) (announces ∷ []) refl (refl, tt)) refl refl (inl (λ e. let f : ◌≡◌ {A = Value} (Some u5_attributes) (Some u1_attributes) = e in cc)))

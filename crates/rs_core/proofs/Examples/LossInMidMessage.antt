@@ -1,9 +1,9 @@
 -- A connection is lost in the midst of an UPDATE, by computation, as the recorded session lost_in_mid_message has it: what was
 -- taken of the UPDATE tells nothing, and the next connection begins anew.
-use Rattle.std.proofs.Common.{◌≡◌, false, List, [], ◌∷◌, ◌++◌, take, refl, inl, inr}
-use Rattle.std.specs.Prelude.{Option, Some, None}
+use Rattle.std.proofs.Common.{◌≡◌, false, List, [], ◌∷◌, ◌++◌, take, refl, inl}
+use Rattle.std.specs.Prelude.{Some, None}
 use Rattle.rs_octets.specs.Messages.{body_of, rest_of}
-use Rattle.rs_attrs.specs.Meaning.{Attribute, all_types}
+use Rattle.rs_attrs.specs.Meaning.{all_types}
 use Rattle.rs_attrs.proofs.Rows.{u1_attributes}
 use Rattle.rs_open.specs.declared.short.Limit.TheVariants as limits
 use Rattle.rs_session.specs.Items.{is_connected}
@@ -16,7 +16,7 @@ use Rattle.rs_core.specs.Drives.Serving.{taken_by}
 use Rattle.rs_core.specs.Told.Telling.{allowed_to}
 use Rattle.rs_core.specs.declared.links.Event.TheVariants.{Lost, Opened, Room, Turn}
 use Rattle.rs_core.proofs.Examples.DueRoutes.{n24, open_b, up}
-use Rattle.rs_core.proofs.Examples.Recorded.{keepalive_sent, bodies, greeted, greets, route, said, tells, InOrder}
+use Rattle.rs_core.proofs.Examples.Recorded.{keepalive_sent, bodies, greeted, greets, route, said, tells, tells_route, InOrder}
 use Rattle.rs_core.proofs.Examples.FirstRoute.{decided, steps_before}
 
 -- ten octets of the UPDATE are taken
@@ -54,8 +54,11 @@ not_connected = refl
 
 -- ---- the next connection, and the whole route
 
+abbrev decided_anew : List Move
+decided_anew = Turned [] ∷ greeted 1 said (up 1 open_b lost)
+
 abbrev back : List Move
-back = Began 1 ∷ Took 1 route ∷ Began 1 ∷ Turned [] ∷ greeted 1 said (up 1 open_b lost)
+back = Began 1 ∷ Took 1 route ∷ Began 1 ∷ decided_anew
 
 taken_anew : (hearing 1 back).taken ≡ said ++ keepalive_sent ++ route
 taken_anew = refl
@@ -70,18 +73,7 @@ due_anew = refl
 -- though a turn before the loss had decided it, too
 in_order : InOrder (hearing 1 back).points (Some u1_attributes ∷ []) false
 unfolding all_types attributes_match matches outcome verdict unbeaten
-in_order = inl (inr (record {
-  value = Some u1_attributes;
-  earlier = [];
-  was_asked = false;
-  are = refl;
-  before = inl (inl (inl (refl, refl)));
-  taken_tells = tells (said ++ keepalive_sent) [] refl tt;
-  whole = refl;
-  due = refl;
-  news = inl (λ e. let f : ◌≡◌ {A = Option (List Attribute)} (Some u1_attributes) None = e in cc);
-  answered = refl;
-}))
+in_order = inl (tells_route (hearing 1 decided_anew).points (said ++ keepalive_sent) (inl (inl (inl (refl, refl)))) (tells (said ++ keepalive_sent) [] refl tt) refl refl)
 
 -- ---- by the steps of the link
 

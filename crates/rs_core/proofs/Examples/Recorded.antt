@@ -1,10 +1,11 @@
 -- What links took in recorded sessions of a small exchange (examples/sessions), for the worked examples of what a client was told:
 -- the octets, what the UPDATEs among them change, and what alone is in order where 198.51.100.0/24 was told once, or not at all.
-use Rattle.std.proofs.Common.{◌≡◌, ◌⊎◌, ℕ, Bool, true, false, List, [], ◌∷◌, ap, sym, ◌∙◌, refl, subst, inl, inr}
+use Rattle.std.proofs.Common.{◌≡◌, ◌≢◌, ◌⊎◌, ℕ, Bool, true, false, List, [], ◌∷◌, ap, sym, ◌∙◌, refl, subst, inl, inr}
 use Rattle.std.specs.Prelude.{codes, nat_lt, Some, None, reverse, ◌&&◌}
 use Rattle.std.specs.List.{AllZip}
 use Rattle.std.specs.Cmp.{first_so, second_so}
 use Rattle.std.proofs.lemmas.Bool.{ltb-true, false≢true}
+use Rattle.rs_octets.specs.Messages.{rest_of}
 use Rattle.rs_attrs.specs.Spellings.{AreOctets}
 use Rattle.rs_attrs.specs.declared.mode.Mode.TheVariants as modes
 use Rattle.rs_attrs.specs.Effects.{Change, Changes, HasEffect, MeansTable, effect_of, table_of}
@@ -16,7 +17,7 @@ use Rattle.rs_core.specs.Drives.Steps.{Step, Happened, Begin, Offer}
 use Rattle.rs_core.specs.Run.Moves.{Move, Began, Took}
 use Rattle.rs_core.specs.Told.Order.{TellsAt, TellsInOrder, TellsOneMore, told_by}
 use Rattle.rs_core.specs.Told.Points.{Point, Offered, Value, dues_at, latest}
-use Rattle.rs_core.specs.Told.Telling.{updates_in}
+use Rattle.rs_core.specs.Told.Telling.{allowed_to, updates_in}
 use Rattle.rs_core.specs.declared.links.Event.TheVariants.{Opened, Octets, Room}
 use Rattle.rs_core.proofs.Examples.DueRoutes.{keepalive, m, n24}
 
@@ -103,6 +104,30 @@ means all changes small are = (changes, effects_are all changes small are, λ p.
 -- and tell at 198.51.100.0/24 what these changes do
 pub tells : (octets : List ℕ) (changes : List Change) → all_octets (bodies octets) ≡ true → AreChanges (bodies octets) changes → Tells octets (told_by (reverse changes) n24)
 tells octets changes small are = record { changes = changes; have = effects_are (bodies octets) changes small are; are = refl }
+
+-- ---- one value more
+
+-- the value that is due is told, by a message that began after these octets, where it wasn't told last or was asked for
+pub tells_more : (points : List Point) (taken : List ℕ) (value : Value) (earlier : List Value) (was_asked : Bool) → InOrder points earlier was_asked → Tells taken earlier
+    → rest_of (allowed_to limits.Short) taken ≡ [] → value ≡ latest (dues_at points n24) → (value ≢ latest earlier) ⊎ (was_asked ≡ true) → InOrder (Offered taken ∷ points) (value ∷ earlier) false
+tells_more points taken value earlier was_asked before told whole due news = inr (record {
+  value = value;
+  earlier = earlier;
+  was_asked = was_asked;
+  are = refl;
+  before = before;
+  taken_tells = told;
+  whole = whole;
+  due = due;
+  news = news;
+  answered = refl;
+})
+
+-- a's route is told, where none was told before
+pub tells_route : (points : List Point) (taken : List ℕ) → InOrder points [] false → Tells taken [] → rest_of (allowed_to limits.Short) taken ≡ [] → Some u1_attributes ≡ latest (dues_at points n24)
+    → InOrder (Offered taken ∷ points) (Some u1_attributes ∷ []) false
+tells_route points taken before told whole due =
+    tells_more points taken (Some u1_attributes) [] false before told whole due (inl (λ e. let f : ◌≡◌ {A = Value} (Some u1_attributes) None = e in cc))
 
 -- ---- what alone is in order
 

@@ -1,9 +1,9 @@
 -- A client asks for all routes again (RFC 2918, 4), by computation, as the recorded session route_refresh has it: it is told a route
 -- again that it was told before, and is not where it did not ask.
 use Rattle.std.proofs.Common.{◌≡◌, ℕ, Bool, true, false, List, [], ◌∷◌, ◌++◌, refl, inl, inr}
-use Rattle.std.specs.Prelude.{codes, Option, Some, None}
+use Rattle.std.specs.Prelude.{codes, Some}
 use Rattle.std.proofs.lemmas.Bool.{false≢true}
-use Rattle.rs_attrs.specs.Meaning.{Attribute, all_types}
+use Rattle.rs_attrs.specs.Meaning.{all_types}
 use Rattle.rs_attrs.proofs.Rows.{u1_attributes}
 use Rattle.rs_policy.specs.Configuration.{Configuration}
 use Rattle.rs_policy.specs.Verdicts.{attributes_match, matches, outcome, verdict}
@@ -13,7 +13,7 @@ use Rattle.rs_core.specs.Run.Moves.{Move, Ruled, Heard, Turned, Began, Took}
 use Rattle.rs_core.specs.Told.Points.{Offered, Value}
 use Rattle.rs_core.specs.Run.Meaning.{hearing}
 use Rattle.rs_core.proofs.Examples.DueRoutes.{base, m, n24, open_a, open_b, u1, up}
-use Rattle.rs_core.proofs.Examples.Recorded.{announces, keepalive_sent, four, greeted, nothing_more, no_more_than_once, once_more, route, tells, InOrder, NothingAlone, Once}
+use Rattle.rs_core.proofs.Examples.Recorded.{announces, keepalive_sent, four, greeted, nothing_more, no_more_than_once, once_more, route, tells, tells_more, tells_route, InOrder, NothingAlone, Once}
 
 abbrev with_refresh : Configuration
 with_refresh = record base { top = record base.top { refresh = true } }
@@ -40,18 +40,7 @@ told run = Began 1 ∷ Took 1 route ∷ Began 1 ∷ run
 
 once : InOrder (hearing 1 (told decided)).points (Some u1_attributes ∷ []) false
 unfolding all_types attributes_match matches outcome verdict unbeaten
-once = inl (inr (record {
-  value = Some u1_attributes;
-  earlier = [];
-  was_asked = false;
-  are = refl;
-  before = inl (inl (inl (refl, refl)));
-  taken_tells = tells (said ++ keepalive_sent) [] refl tt;
-  whole = refl;
-  due = refl;
-  news = inl (λ e. let f : ◌≡◌ {A = Option (List Attribute)} (Some u1_attributes) None = e in cc);
-  answered = refl;
-}))
+once = inl (tells_route (hearing 1 decided).points (said ++ keepalive_sent) (inl (inl (inl (refl, refl)))) (tells (said ++ keepalive_sent) [] refl tt) refl refl)
 
 abbrev again : List Move
 again = told (Heard 1 request ∷ told decided)
@@ -61,18 +50,8 @@ taken = refl
 
 twice : InOrder (hearing 1 again).points (Some u1_attributes ∷ Some u1_attributes ∷ []) false
 unfolding all_types attributes_match matches outcome verdict unbeaten
-twice = inl (inr (record {
-  value = Some u1_attributes;
-  earlier = Some u1_attributes ∷ [];
-  was_asked = true;
-  are = refl;
-  before = (refl, false, once);
-  taken_tells = tells (said ++ keepalive_sent ++ route) (announces ∷ []) refl (refl, tt);
-  whole = refl;
-  due = refl;
-  news = inr refl;
-  answered = refl;
-}))
+twice = inl (tells_more (hearing 1 (Heard 1 request ∷ told decided)).points (said ++ keepalive_sent ++ route) (Some u1_attributes) (Some u1_attributes ∷ []) true (refl, false, once)
+    (tells (said ++ keepalive_sent ++ route) (announces ∷ []) refl (refl, tt)) refl refl (inr refl))
 
 answered : HasBeenAnswered four (hearing 1 again).points (hearing 1 again).taken n24 (Some u1_attributes)
 unfolding all_types

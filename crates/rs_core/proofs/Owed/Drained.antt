@@ -123,29 +123,29 @@ drained_exactly core run c b lt exact h = iff b _ whole part where
 
 -- ---- after a turn
 
+-- what a turn of all made of one outlet
+pub turned_outlet : (c : ℕ) (old new : Core) (mid : Ribs) → c < old.count → ChangesAll (λ d. IsTurn old.ribs.config old.ribs.tables) old.ribs mid → new.ribs.outlets ≡ mid.outlets
+    → IsTurn old.ribs.config old.ribs.tables (outlet_in old.ribs c nobody) (outlet_in new.ribs c nobody)
+turned_outlet c old new mid lt turned same =
+    subst (λ w. IsTurn old.ribs.config old.ribs.tables (outlet_in old.ribs c nobody) w) (sym (ap (λ (x : Vec View). slice_index_or x.items c nobody) same)) (turned.each c nobody (within old c lt))
+
 -- nothing is touched any more for an Established client, unless its turn was refused
 pub turned_decided : (c : ℕ) (old new : Core) (mid : Ribs) (run : List Move) → c < old.count → new.count ≡ old.count → ChangesAll (λ d. IsTurn old.ribs.config old.ribs.tables) old.ribs mid → new.ribs.outlets ≡ mid.outlets
     → Agrees old run → is_established run c ≡ true → is_refused new c ≡ false → is_decided new c ≡ true
 unfolding is_refused
-turned_decided c old new mid run lt count turned same h up done = decided_is new c now ∙ by_turn (turned.each c nobody (within old c lt)) where
+turned_decided c old new mid run lt count turned same h up done = decided_is new c now ∙ by_turn (turned_outlet c old new mid lt turned same) where
   now : c < new.count
   now = subst (λ n. c < n) (sym count) lt
 
-  v : View
-  v = outlet_in old.ribs c nobody
-
   w : View
-  w = outlet_in mid c nobody
-
-  is : outlet_in new.ribs c nobody ≡ w
-  is = ap (λ (x : Vec View). slice_index_or x.items c nobody) same
+  w = outlet_in new.ribs c nobody
 
   heard : (speech : Speech) × (speech_in (config_in run) c (hearing c run) ≡ Some speech)
   heard = established_spoken run c up
 
-  by_turn : IsTurn old.ribs.config old.ribs.tables v w → is_none (outlet_in new.ribs c nobody).touched ≡ true
-  by_turn (inl d) = ap (λ (x : View). is_none x.touched) is
-      ∙ none_touched w.touched ((d.decided (old.numbered.each c nobody (within old c lt)) (is_current old.ribs c nobody (within old c lt) old.fresh)).touched (subst IsSome (sym (((h.clients c lt).knows.outlet h.config nobody).speech ∙ heard.1)) refl))
+  by_turn : IsTurn old.ribs.config old.ribs.tables (outlet_in old.ribs c nobody) w → is_none w.touched ≡ true
+  by_turn (inl d) =
+      none_touched w.touched ((d.decided (old.numbered.each c nobody (within old c lt)) (is_current old.ribs c nobody (within old c lt) old.fresh)).touched (subst IsSome (sym (((h.clients c lt).knows.outlet h.config nobody).speech ∙ heard.1)) refl))
   by_turn (inr refused) = absurd (
-      let last : (outlet_in new.ribs c nobody).last ≡ lasts.Refused = ap (λ (x : View). x.last) is ∙ ap (λ (x : View). x.last) refused.rest in
+      let last : w.last ≡ lasts.Refused = ap (λ (x : View). x.last) refused.rest in
       let f : true ≡ false = sym (ap refusal_in (outlet_is new c now) ∙ ap is_refusal last) ∙ done in cc)

@@ -1,8 +1,9 @@
 -- What a session asks for is done: what is known of its client then.
-use Rattle.std.proofs.Common.{◌≡◌, ◌≢◌, ◌<◌, ℕ, zero, suc, Bool, true, false, ◌&&◌, List, [], ◌∷◌, length, refl, sym, ◌∙◌, ap, subst}
+use Rattle.std.proofs.Common.{◌≡◌, ◌<◌, ℕ, zero, suc, Bool, true, false, ◌&&◌, List, [], ◌∷◌, length, get_or, refl, sym, ◌∙◌, ap, subst}
 use Rattle.std.specs.Prelude.{Option, Some, None, slice_get, slice_set, if◌then◌else◌}
 use Rattle.std.specs.List.{cons_option}
 use Rattle.std.proofs.lemmas.Bool.{false≢true}
+use Rattle.std.proofs.lemmas.Option.{slice_get_read}
 use Rattle.std.specs.Global.{Vec}
 use Rattle.rs_open.specs.Notes.{shutdown_note}
 use Rattle.rs_open.specs.declared.short.Short.TheVariants as short
@@ -20,10 +21,15 @@ use Rattle.rs_session.specs.declared.command.Command.{Command}
 use Rattle.rs_session.specs.declared.command.Command.TheVariants as commands
 use Rattle.rs_session.specs.declared.heard.Heard.{Heard}
 use Rattle.rs_session.specs.declared.heard.Heard.TheVariants as heard
-use Rattle.rs_core.specs.Session.Hearing.{Hearing, takes_in, session_in, state_in, is_up, begins, sees, commanded}
+use Rattle.rs_attrs.specs.Effects.{Change}
+use Rattle.rs_core.specs.Session.Hearing.{Hearing, takes_in, with_change, session_in, state_in, is_up, begins, sees, commanded}
 use Rattle.rs_core.specs.Told.Points.{asked_if}
-use Rattle.rs_core.specs.Session.OperatorRecords.{expiry_by, command_ending, no_faults, IsWatched, NotesEnding}
+use Rattle.rs_core.specs.Session.OperatorRecords.{expiry_by, command_ending, no_faults, watched_by, IsWatched, NotesEnding}
+use Rattle.rs_attrs.specs.declared.faults.Faulted.{Faulted}
+use Rattle.rs_core.specs.Core.{client_count}
+use Rattle.rs_core.specs.Others.{KeepsOthers}
 use Rattle.rs_core.specs.declared.endings.Ending.{Ending}
+use Rattle.rs_core.specs.declared.endings.Watched.{Watched}
 use Rattle.rs_core.specs.Run.Parts.{Follows, IsSpared, ActsOn}
 use Rattle.rs_core.specs.Run.Agreeing.{Knows, AgreesAt, Spares}
 use Rattle.rs_outlet.specs.Views.{View}
@@ -34,7 +40,7 @@ use Rattle.rs_core.specs.declared.route_server.Core.{Core}
 use Rattle.rs_core.proofs.Run.Lists.{get_set_same, set_at}
 use Rattle.rs_core.specs.Session.Keepalives.{asks_for_keepalive, fell_if}
 use Rattle.rs_core.proofs.Session.Keepalives.{first_keepalives}
-use Rattle.rs_core.proofs.Session.OperatorRecords.{watched_still}
+use Rattle.rs_core.proofs.Session.OperatorRecords.{noted_by, watched_still}
 use Rattle.rs_core.proofs.Session.Conversing.{IsHeardOrSeen}
 use Rattle.rs_core.proofs.Session.Proceeding.{came_converses}
 use Rattle.rs_core.proofs.Told.BySession.{acted_spoken, greeted, never_open_by_command, never_open_by_moment}
@@ -42,6 +48,38 @@ use Rattle.rs_core.proofs.Told.Ordering.{acted_ordered, greeted_ordered}
 use Rattle.rs_core.proofs.Run.Holding.{Has, IsAlike, acted_has, both_down}
 
 -- ---- a session has heard one item more, and what it asked for is done
+
+-- the session of client c was x and is t after this item, by which it asks for act; that is done, and whether it ended so is noted
+pub record HasActed (old new : Core) (c : ℕ) (item : Item) (act : Act) (x t : Session) (ending : Option Ending) : Type 0 where
+  pub read : slice_get old.sessions.items c ≡ Some x
+  pub here : c < length old.sessions.items
+  pub sessions : new.sessions.items ≡ slice_set old.sessions.items c t
+  pub buffers : new.buffers ≡ old.buffers
+  pub config : new.ribs.config ≡ old.ribs.config
+  pub responds : RespondsTo x t item act
+  pub tables : ActsOn act c (slice_set old.sessions.items c t) old.ribs.tables new.ribs.tables
+  pub own : (none : View) → ActsOnOutlet act old.ribs.extended c (slice_set old.sessions.items c t) (outlet_in old.ribs c none) (outlet_in new.ribs c none)
+  pub notes : NotesEnding c ending old.watched.items new.watched.items
+
+-- the session and what is kept for the operator were u and are w then
+pub has_acted : (old new : Core) (c : ℕ) (item : Item) (act : Act) (x t : Session) (u w : Watched) (found ending : Option Ending) → c < client_count old → x ≡ get_or old.sessions.items c x → u ≡ get_or old.watched.items c u
+    → RespondsTo x t item act → found ≡ ending → ((endings : List Ending) (faults : List Faulted) → u ≡ watched_by endings faults → w ≡ watched_by (cons_option found endings) faults)
+    → new.sessions.items ≡ slice_set old.sessions.items c t → new.watched.items ≡ slice_set old.watched.items c w → new.buffers ≡ old.buffers → new.ribs.config ≡ old.ribs.config
+    → ActsOn act c (slice_set old.sessions.items c t) old.ribs.tables new.ribs.tables
+    → ((none : View) → ActsOnOutlet act old.ribs.extended c (slice_set old.sessions.items c t) (outlet_in old.ribs c none) (outlet_in new.ribs c none))
+    → HasActed old new c item act x t ending
+unfolding client_count
+has_acted old new c item act x t u w found ending lt x_is u_is responds is by sessions watched buffers config tables own = record {
+  read = slice_get_read old.sessions.items old.count c x (sym old.sessions_len) lt x_is;
+  here = subst (λ n. c < n) (sym old.sessions_len) lt;
+  sessions = sessions;
+  buffers = buffers;
+  config = config;
+  responds = responds;
+  tables = tables;
+  own = own;
+  notes = noted_by old.watched.items new.watched.items c u w found ending (slice_get_read old.watched.items old.count c u (sym old.watched_len) lt u_is) (subst (λ n. c < n) (sym old.watched_len) lt) watched is by;
+}
 
 -- the client asked for all routes again by this item, or it did not
 pub record HasAskedIf (item : Item) (s : Configuration) (c : ℕ) (h next : Hearing) : Type 0 where
@@ -129,39 +167,37 @@ asked_by_command s c command h = record {
   only = commanded_is_told (is_connected h.items) (fate (session_in s c) h.items) (message_count h.items) command;
 }
 
-pub acted : (old new : Core) (act : Act) (item : Item) (x t : Session) (s : Configuration) (c : ℕ) (h next : Hearing)
-    → IsHeardOrSeen item → slice_get old.sessions.items c ≡ Some x → c < length old.sessions.items → new.sessions.items ≡ slice_set old.sessions.items c t
-    → RespondsTo x t item act → ActsOn act c (slice_set old.sessions.items c t) old.ribs.tables new.ribs.tables
-    → new.ribs.config ≡ old.ribs.config → ((none : View) → ActsOnOutlet act old.ribs.extended c (slice_set old.sessions.items c t) (outlet_in old.ribs c none) (outlet_in new.ribs c none))
+pub acted : (old new : Core) (act : Act) (item : Item) (x t : Session) (s : Configuration) (c : ℕ) (h next : Hearing) (ending : Act → Option Ending)
+    → IsHeardOrSeen item → HasActed old new c item act x t (ending act)
     → (act_of (session_in s c) item h.items ≡ acts.Say short.Open → ⊥) → next.items ≡ item ∷ h.items → next.keepalives ≡ fell_if (asks_for_keepalive (act_of (session_in s c) item h.items)) h.keepalives → next.taken ≡ h.taken → HasAskedIf item s c h next
     → (is_up (state_in s c h) ≡ false → act_of (session_in s c) item h.items ≡ acts.Up → next.changes ≡ [])
     → (is_up (state_in s c h) ≡ true → is_up (state_in s c next) ≡ true → next.changes ≡ h.changes)
-    → (ending : Act → Option Ending) → NotesEnding c (ending act) old.watched.items new.watched.items → next.endings ≡ cons_option (ending (act_of (session_in s c) item h.items)) h.endings → next.faults ≡ h.faults
+    → next.endings ≡ cons_option (ending (act_of (session_in s c) item h.items)) h.endings → next.faults ≡ h.faults
     → Knows old s c h → Knows new s c next
-acted old new act item x t s c h next is_item read lt sessions responds does config others_alone never items keepalives taken asked fresh same ending notes endings faults knows =
-    let it = responds (session_in s c) h.items (knows.session x read) in
+acted old new act item x t s c h next ending is_item done never items keepalives taken asked fresh same endings faults knows =
+    let it = done.responds (session_in s c) h.items (knows.session x done.read) in
     let heard : HasHeard t (session_in s c) next.items = subst (λ l. HasHeard t (session_in s c) l) (sym items) it.heard in
     let tells : Tells act (session_in s c) h.items next.items = subst (λ l. Tells act (session_in s c) h.items l) (sym items) it.tells in
-    let got = get_set_same old.sessions.items c t lt in
+    let got = get_set_same old.sessions.items c t done.here in
     let has : Has new.ribs.tables s c next =
-    acted_has act old.ribs.tables new.ribs.tables (slice_set old.sessions.items c t) t s c h next does got heard tells
+    acted_has act old.ribs.tables new.ribs.tables (slice_set old.sessions.items c t) t s c h next done.tables got heard tells
     (λ down up. fresh down (sym it.act_is ∙ up)) same (record { table = knows.table; identifier = knows.identifier }) in
     record {
-      session = λ y e. subst (λ z. HasHeard z (session_in s c) next.items) (sym ((set_at old.sessions.items c t lt).own y (ap (λ l. slice_get l c) (sym sessions) ∙ e))) heard;
+      session = λ y e. subst (λ z. HasHeard z (session_in s c) next.items) (sym ((set_at old.sessions.items c t done.here).own y (ap (λ l. slice_get l c) (sym done.sessions) ∙ e))) heard;
       table = has.table;
       identifier = has.identifier;
-      outlet = λ is none. acted_spoken item act old.ribs.extended s (old.ribs.long ∙ ap (λ (k : Configuration). k.top.extended) (sym config ∙ is)) (slice_set old.sessions.items c t) t c h next (outlet_in old.ribs c none) (outlet_in new.ribs c none)
-          is_item it.act_is items keepalives (others_alone none) got heard tells
-          (λ e. never (sym it.act_is ∙ e)) taken (knows.outlet (sym config ∙ is) none);
-      ordered = λ is none. acted_ordered act old.ribs.extended (slice_set old.sessions.items c t) t s c h next (outlet_in old.ribs c none) (outlet_in new.ribs c none) asked.has_asked (knows.outlet (sym config ∙ is) none).order asked.points
-          (λ e. asked.again (sym it.act_is ∙ e)) (λ e. it.act_is ∙ asked.only e) (others_alone none) got heard tells (λ e. never (sym it.act_is ∙ e)) taken (knows.ordered (sym config ∙ is) none);
+      outlet = λ is none. acted_spoken item act old.ribs.extended s (old.ribs.long ∙ ap (λ (k : Configuration). k.top.extended) (sym done.config ∙ is)) (slice_set old.sessions.items c t) t c h next (outlet_in old.ribs c none) (outlet_in new.ribs c none)
+          is_item it.act_is items keepalives (done.own none) got heard tells
+          (λ e. never (sym it.act_is ∙ e)) taken (knows.outlet (sym done.config ∙ is) none);
+      ordered = λ is none. acted_ordered act old.ribs.extended (slice_set old.sessions.items c t) t s c h next (outlet_in old.ribs c none) (outlet_in new.ribs c none) asked.has_asked (knows.outlet (sym done.config ∙ is) none).order asked.points
+          (λ e. asked.again (sym it.act_is ∙ e)) (λ e. it.act_is ∙ asked.only e) (done.own none) got heard tells (λ e. never (sym it.act_is ∙ e)) taken (knows.ordered (sym done.config ∙ is) none);
       watched = subst (λ fs. IsWatched new.watched.items c next.endings fs) (sym faults) (subst (λ es. IsWatched new.watched.items c es h.faults) (ap (λ a. cons_option (ending a) h.endings) it.act_is ∙ sym endings)
-          (notes.own h.endings h.faults knows.watched));
+          (done.notes.own h.endings h.faults knows.watched));
     }
 
 pub acted_spares : (old new : Core) (c : ℕ) (t : Session) → new.count ≡ old.count → new.ribs.config ≡ old.ribs.config → c < length old.sessions.items
     → new.sessions.items ≡ slice_set old.sessions.items c t → new.buffers ≡ old.buffers → IsSpared c old.ribs.tables new.ribs.tables → LeavesOthersAlone c old.ribs new.ribs
-    → ((d : ℕ) → d ≢ c → slice_get new.watched.items d ≡ slice_get old.watched.items d) → KeepsAnswers old.ribs new.ribs → Spares c old new
+    → KeepsOthers c old.watched.items new.watched.items → KeepsAnswers old.ribs new.ribs → Spares c old new
 acted_spares old new c t count config lt sessions buffers spared others_alone watched answers = record {
   count = count;
   config = config;
@@ -196,14 +232,11 @@ live_before : (settings : Settings) (t : ℕ) (items : List Item) → is_live (s
 live_before settings t items e = live_by (is_connected items) (fate settings items) (item_fate settings (Moment t) items) (message_count items) e
 
 pub seen : (old new : Core) (act : Act) (x after : Session) (s : Configuration) (c t : ℕ) (h : Hearing)
-    → slice_get old.sessions.items c ≡ Some x → c < length old.sessions.items → new.sessions.items ≡ slice_set old.sessions.items c after → new.buffers ≡ old.buffers
-    → RespondsTo x after (Moment t) act → ActsOn act c (slice_set old.sessions.items c after) old.ribs.tables new.ribs.tables
-    → new.ribs.config ≡ old.ribs.config → ((none : View) → ActsOnOutlet act old.ribs.extended c (slice_set old.sessions.items c after) (outlet_in old.ribs c none) (outlet_in new.ribs c none))
-    → NotesEnding c (expiry_by act) old.watched.items new.watched.items → AgreesAt old s c h → AgreesAt new s c (sees s c t h)
-seen old new act x after s c t h read lt sessions buffers responds does config others_alone notes at = record {
-  knows = acted old new act (Moment t) x after s c h (sees s c t h) tt read lt sessions responds does config others_alone (never_open_by_moment (session_in s c) t h.items) refl refl refl (asked_by_no_moment s c t h)
-      (λ down up. absurd (never_up (session_in s c) t h.items up)) (λ before now. refl) expiry_by notes refl refl at.knows;
-  waits = λ y e. let w = at.waits y (ap (λ v. slice_get v.items c) (sym buffers) ∙ e) in record {
+    → HasActed old new c (Moment t) act x after (expiry_by act) → AgreesAt old s c h → AgreesAt new s c (sees s c t h)
+seen old new act x after s c t h done at = record {
+  knows = acted old new act (Moment t) x after s c h (sees s c t h) expiry_by tt done (never_open_by_moment (session_in s c) t h.items) refl refl refl (asked_by_no_moment s c t h)
+      (λ down up. absurd (never_up (session_in s c) t h.items up)) (λ before now. refl) refl refl at.knows;
+  waits = λ y e. let w = at.waits y (ap (λ v. slice_get v.items c) (sym done.buffers) ∙ e) in record {
     rest = λ live. w.rest (live_before (session_in s c) t h.items live);
     good = λ live. w.good (live_before (session_in s c) t h.items live);
   };
@@ -227,14 +260,11 @@ falls_never true GoesOn (suc zero) = refl
 falls_never true GoesOn (suc (suc n)) = refl
 
 pub obeyed : (old new : Core) (act : Act) (x after : Session) (s : Configuration) (c : ℕ) (command : Command) (h : Hearing)
-    → slice_get old.sessions.items c ≡ Some x → c < length old.sessions.items → new.sessions.items ≡ slice_set old.sessions.items c after → new.buffers ≡ old.buffers
-    → RespondsTo x after (Commanded command) act → ActsOn act c (slice_set old.sessions.items c after) old.ribs.tables new.ribs.tables
-    → new.ribs.config ≡ old.ribs.config → ((none : View) → ActsOnOutlet act old.ribs.extended c (slice_set old.sessions.items c after) (outlet_in old.ribs c none) (outlet_in new.ribs c none))
-    → NotesEnding c (command_ending act) old.watched.items new.watched.items → AgreesAt old s c h → AgreesAt new s c (commanded s c command h)
-obeyed old new act x after s c command h read lt sessions buffers responds does config others_alone notes at = record {
-  knows = acted old new act (Commanded command) x after s c h (commanded s c command h) tt read lt sessions responds does config others_alone (never_open_by_command (session_in s c) command h.items) refl none_fell refl (asked_by_command s c command h)
-      (λ down up. absurd (never_up_at lasts now n up)) (λ before now. refl) command_ending notes refl refl at.knows;
-  waits = λ y e. let w = at.waits y (ap (λ v. slice_get v.items c) (sym buffers) ∙ e) in record {
+    → HasActed old new c (Commanded command) act x after (command_ending act) → AgreesAt old s c h → AgreesAt new s c (commanded s c command h)
+obeyed old new act x after s c command h done at = record {
+  knows = acted old new act (Commanded command) x after s c h (commanded s c command h) command_ending tt done (never_open_by_command (session_in s c) command h.items) refl none_fell refl (asked_by_command s c command h)
+      (λ down up. absurd (never_up_at lasts now n up)) (λ before now. refl) refl refl at.knows;
+  waits = λ y e. let w = at.waits y (ap (λ v. slice_get v.items c) (sym done.buffers) ∙ e) in record {
     rest = λ live. w.rest (before live);
     good = λ live. w.good (before live);
   };
@@ -285,15 +315,21 @@ came old new act x t s c h read lt sessions emptied tables config greets respond
       greets_as : new.ribs.config ≡ s → (none : View) → IsGreeting (own_open s) (outlet_in new.ribs c none)
       greets_as is none = subst (λ k. IsGreeting (own_open k) (outlet_in new.ribs c none)) (sym config ∙ is) (greets none)
 
--- a message that changes nothing
-pub alone_follows : (s : Configuration) (c : ℕ) (message : Heard) (notice : List ℕ) (h : Hearing) → Follows s c message notice h (takes_in s c (record { message = message; change = None; notice = notice; faulted = no_faults }) h)
-alone_follows s c message notice h = record {
+-- a message that changes nothing while the session lasts
+pub said_follows : (s : Configuration) (c : ℕ) (message : Heard) (change : Option Change) (notice : List ℕ) (h : Hearing)
+    → let next = takes_in s c (record { message = message; change = change; notice = notice; faulted = no_faults }) h in
+    (is_up (state_in s c h) ≡ true → is_up (state_in s c next) ≡ true → next.changes ≡ h.changes) → Follows s c message notice h next
+said_follows s c message change notice h same = record {
   items = refl;
   taken = refl;
   points = refl;
   keepalives = refl;
   endings = refl;
   faults = refl;
-  fresh = λ down. ap (λ b. if b then h.changes else []) down;
-  same = λ up now. ap (λ b. if b then h.changes else []) up;
+  fresh = λ down. ap (λ b. if b then with_change change h.changes else []) down;
+  same = same;
 }
+
+-- nor at all
+pub alone_follows : (s : Configuration) (c : ℕ) (message : Heard) (notice : List ℕ) (h : Hearing) → Follows s c message notice h (takes_in s c (record { message = message; change = None; notice = notice; faulted = no_faults }) h)
+alone_follows s c message notice h = said_follows s c message None notice h (λ up now. ap (λ b. if b then h.changes else []) up)

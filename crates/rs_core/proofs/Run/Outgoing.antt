@@ -1,5 +1,5 @@
 -- What goes out to clients leaves what was heard of them.
-use Rattle.std.proofs.Common.{◌≡◌, ◌<◌, ℕ, Bool, true, not, ◌&&◌, List, ◌∷◌, ◌++◌, length, take, drop, refl, sym, ◌∙◌, ap, subst}
+use Rattle.std.proofs.Common.{◌≡◌, ◌<◌, ℕ, Bool, not, ◌&&◌, List, ◌∷◌, ◌++◌, length, take, drop, refl, sym, ◌∙◌, ap, subst}
 use Rattle.std.specs.Prelude.{Option, Some, is_some, slice_get, slice_index_or}
 use Rattle.std.specs.FinMap as fin
 use Rattle.std.specs.FinSet as set
@@ -13,6 +13,8 @@ use Rattle.rs_outlet.specs.declared.answers.Speech.{Speech}
 use Rattle.rs_outlet.specs.Views.{View, is_touched}
 use Rattle.rs_core.specs.Run.Moves.{Move, Turned, Began, Took, config_in}
 use Rattle.rs_core.specs.Session.Hearing.{Hearing, state_in, is_up, takes, offers, decides}
+use Rattle.rs_core.specs.Session.Keepalives.{KeepaliveMove, Begun}
+use Rattle.rs_core.specs.Told.Points.{Point, Offered}
 use Rattle.rs_core.specs.Run.Meaning.{hearing, due, is_listed}
 use Rattle.rs_core.specs.Core.{is_refusal}
 use Rattle.rs_core.specs.Told.Order.{IsOrdered}
@@ -59,10 +61,14 @@ moved_spares c Is old new m answered = record {
   answers = own_answers c Is old.ribs new.ribs m.outlet answered;
 }
 
-moved_at : (c : ℕ) (octets : List ℕ) (Is : View → View → Type 0) (old new : Core) (s : Configuration) (h : Hearing) → MovesOutlet c Is old new
-    → (new.ribs.config ≡ s → (none : View) → SpeaksTo s c (takes octets h) (outlet_in new.ribs c none))
-    → (new.ribs.config ≡ s → (none : View) → IsOrdered s c (takes octets h) (outlet_in new.ribs c none)) → AgreesAt old s c h → AgreesAt new s c (takes octets h)
-moved_at c octets Is old new s h m outlet ordered at = record {
+-- what was heard is the same, but for what was taken and offered
+abbrev heard_still : List ℕ → List Point → List KeepaliveMove → Hearing → Hearing
+heard_still taken points keepalives h = record { octets = h.octets; items = h.items; changes = h.changes; taken = taken; points = points; keepalives = keepalives; endings = h.endings; faults = h.faults }
+
+moved_at : (c : ℕ) (taken : List ℕ) (points : List Point) (keepalives : List KeepaliveMove) (Is : View → View → Type 0) (old new : Core) (s : Configuration) (h : Hearing) → MovesOutlet c Is old new
+    → (new.ribs.config ≡ s → (none : View) → SpeaksTo s c (heard_still taken points keepalives h) (outlet_in new.ribs c none))
+    → (new.ribs.config ≡ s → (none : View) → IsOrdered s c (heard_still taken points keepalives h) (outlet_in new.ribs c none)) → AgreesAt old s c h → AgreesAt new s c (heard_still taken points keepalives h)
+moved_at c taken points keepalives Is old new s h m outlet ordered at = record {
   knows = record {
     session = λ x e. at.knows.session x (ap (λ v. slice_get v.items c) (sym m.sessions) ∙ e);
     table = λ p. ap (λ t. held_of t c p) m.tables ∙ at.knows.table p;
@@ -78,21 +84,6 @@ moved_at c octets Is old new s h m outlet ordered at = record {
 decided_says : (s : Configuration) (c : ℕ) (h : Hearing) (turned : Bool) (due : Prefix → Option (List Attribute)) (v : View) → SpeaksTo s c h v → SpeaksTo s c (decides turned due h) v
 decided_says s c h turned due v at = record { speech = at.speech; quiet = at.quiet; before = at.before; since = at.since; order = at.order; talk = record { messages = at.talk.messages; keepalives = at.talk.keepalives } }
 
-still_at : (c : ℕ) (Is : View → View → Type 0) (old new : Core) (s : Configuration) (h : Hearing) → MovesOutlet c Is old new
-    → (new.ribs.config ≡ s → (none : View) → SpeaksTo s c (offers true h) (outlet_in new.ribs c none)) → (new.ribs.config ≡ s → (none : View) → IsOrdered s c (offers true h) (outlet_in new.ribs c none))
-    → AgreesAt old s c h → AgreesAt new s c (offers true h)
-still_at c Is old new s h m outlet ordered at = record {
-  knows = record {
-    session = λ x e. at.knows.session x (ap (λ v. slice_get v.items c) (sym m.sessions) ∙ e);
-    table = λ p. ap (λ t. held_of t c p) m.tables ∙ at.knows.table p;
-    identifier = ap (λ t. identifier_of t c) m.tables ∙ at.knows.identifier;
-    outlet = outlet;
-    ordered = ordered;
-    watched = watched_still old.watched.items new.watched.items c h.endings h.faults (ap (λ v. v.items) m.watched) at.knows.watched;
-  };
-  waits = λ x e. let w = at.waits x (ap (λ v. slice_get v.items c) (sym m.buffers) ∙ e) in record { rest = w.rest; good = w.good };
-}
-
 pub within : (old : Core) (c : ℕ) → c < old.count → c < old.ribs.count
 within old c lt = subst (λ n. c < n) (sym old.ribs_len) lt
 
@@ -106,7 +97,7 @@ begun_agrees c old new run lt m h =
     let it = hearing c run in
     grown old new c run (Began c ∷ run) refl (λ d ne. ap (λ b. offers b (hearing d run)) (is_other c d (λ e. ne (sym e)))) h (moved_spares c HasBegun old new m begun_last)
     (subst (λ k. AgreesAt new (config_in run) c k) (sym (ap (λ b. offers b it) (is_own c)))
-    (still_at c HasBegun old new (config_in run) it m
+    (moved_at c it.taken (Offered it.taken ∷ it.points) (Begun it.taken ∷ it.keepalives) HasBegun old new (config_in run) it m
     (λ config none. begun_spoken (config_in run) c it old.ribs.tables (outlet_in old.ribs c none) (outlet_in new.ribs c none) (old.numbered.each c none (within old c lt)) (m.outlet.own none (within old c lt))
     ((h.clients c lt).knows.outlet h.config none))
     (λ config none. begun_ordered (config_in run) c it old.ribs.tables (outlet_in old.ribs c none) (outlet_in new.ribs c none) (old.numbered.each c none (within old c lt)) (m.outlet.own none (within old c lt))
@@ -131,7 +122,7 @@ pub took_agrees : (c n : ℕ) (old new : Core) (run : List Move) (octets : List 
 took_agrees c n old new run octets lt are m h =
     grown old new c run (Took c octets ∷ run) refl (λ d ne. other c d (takes octets (hearing d run)) (hearing d run) ne) h (moved_spares c (IsTakenFrom n) old new m (taken_last n))
     (subst (λ k. AgreesAt new (config_in run) c k) (sym (own c (takes octets (hearing c run)) (hearing c run)))
-    (moved_at c octets (IsTakenFrom n) old new (config_in run) (hearing c run) m
+    (moved_at c ((hearing c run).taken ++ octets) (hearing c run).points (hearing c run).keepalives (IsTakenFrom n) old new (config_in run) (hearing c run) m
     (λ config none. took_spoken (config_in run) c n (hearing c run) (takes octets (hearing c run)) (outlet_in old.ribs c none) (outlet_in new.ribs c none) (m.outlet.own none (within old c lt)) refl
     (ap (λ o. (hearing c run).taken ++ o) (are none)) refl ((h.clients c lt).knows.outlet h.config none))
     (λ config none. took_ordered (config_in run) c n (hearing c run) (takes octets (hearing c run)) (outlet_in old.ribs c none) (outlet_in new.ribs c none) (m.outlet.own none (within old c lt)) refl

@@ -1,7 +1,9 @@
 -- What is kept of one client is written, and the others are spared.
-use Rattle.std.proofs.Common.{◌≡◌, ◌≢◌, ◌<◌, ℕ, length, ap}
+use Rattle.std.proofs.Common.{◌≡◌, ◌<◌, ℕ, length, sym, ap, subst}
 use Rattle.std.specs.Prelude.{Option, slice_get, slice_set}
 use Rattle.rs_adjin.specs.AdjIns.{held_of, identifier_of}
+use Rattle.rs_core.specs.Core.{client_count}
+use Rattle.rs_core.specs.Others.{KeepsOthers}
 use Rattle.rs_core.specs.Run.Agreeing.{Spares}
 use Rattle.rs_core.specs.Ribs.{outlet_in}
 use Rattle.rs_core.specs.Session.OperatorRecords.{NotesEnding}
@@ -15,7 +17,7 @@ use Rattle.rs_core.proofs.Session.OperatorRecords.{others_kept}
 
 -- it alone is another
 written : (c : ℕ) (old new : Core) → new.count ≡ old.count → new.sessions ≡ old.sessions → new.buffers ≡ old.buffers → new.ribs ≡ old.ribs
-    → ((d : ℕ) → d ≢ c → slice_get new.watched.items d ≡ slice_get old.watched.items d) → Spares c old new
+    → KeepsOthers c old.watched.items new.watched.items → Spares c old new
 written c old new count sessions buffers ribs others =
     record {
       count = count;
@@ -41,7 +43,8 @@ put_spares c old mid new w lt count sessions buffers ribs set spared =
     spares_both c old mid new spared (written c mid new count sessions buffers ribs (others_kept mid.watched.items new.watched.items c w lt set))
 
 -- a value was put in first
-pub kept_spares : (c : ℕ) (old mid new : Core) (w : Watched) → c < length old.watched.items → mid.count ≡ old.count → mid.sessions ≡ old.sessions → mid.buffers ≡ old.buffers → mid.ribs ≡ old.ribs
+pub kept_spares : (c : ℕ) (old mid new : Core) (w : Watched) → c < client_count old → mid.count ≡ old.count → mid.sessions ≡ old.sessions → mid.buffers ≡ old.buffers → mid.ribs ≡ old.ribs
     → mid.watched.items ≡ slice_set old.watched.items c w → Spares c mid new → Spares c old new
+unfolding client_count
 kept_spares c old mid new w lt count sessions buffers ribs set spared =
-    spares_both c old mid new (written c old mid count sessions buffers ribs (others_kept old.watched.items mid.watched.items c w lt set)) spared
+    spares_both c old mid new (written c old mid count sessions buffers ribs (others_kept old.watched.items mid.watched.items c w (subst (λ n. c < n) (sym old.watched_len) lt) set)) spared

@@ -1,5 +1,5 @@
 -- Pieces of octets that are heard message by message, and what then waits.
-use Rattle.std.proofs.Common.{◌≡◌, ◌≢◌, ◌<◌, ℕ, zero, suc, Bool, true, false, List, [], ◌∷◌, ◌++◌, length, refl, sym, ◌∙◌, ap, subst, arith, get_or, ◌==◌}
+use Rattle.std.proofs.Common.{◌≡◌, ◌<◌, ℕ, zero, suc, Bool, true, false, List, [], ◌∷◌, ◌++◌, length, refl, sym, ◌∙◌, ap, subst, arith, get_or, ◌==◌}
 use Rattle.std.specs.Prelude.{Some, Result, Ok, Err, slice_get, if◌then◌else◌}
 use Rattle.std.specs.Global.{Vec}
 use Rattle.std.proofs.lemmas.Bool.{false≢true}
@@ -21,6 +21,7 @@ use Rattle.rs_session.specs.Sessions.{state_of, state_by, is_live, fate, earlier
 use Rattle.rs_adjin.specs.AdjIns.{held_of, identifier_of}
 use Rattle.rs_policy.specs.Configuration.{Configuration}
 use Rattle.rs_core.specs.Session.Hearing.{Hearing, allowed_in, session_in, state_in, without_change, body_said, said_by, said_in, takes_in, listens_to, with_octets, hears}
+use Rattle.rs_core.specs.Others.{KeepsOthers}
 use Rattle.rs_core.specs.Run.Parts.{IsBetween}
 use Rattle.rs_core.specs.Run.Agreeing.{Knows, Waits, AgreesAt, IsCutShort, Spares}
 use Rattle.rs_core.specs.Ribs.{outlet_in}
@@ -47,7 +48,7 @@ with_others core s c octets h knows = record {
 }
 
 pub waiting_spares : (old new : Core) (c : ℕ) → new.count ≡ old.count → new.sessions ≡ old.sessions → new.ribs ≡ old.ribs → new.watched ≡ old.watched
-    → ((d : ℕ) → d ≢ c → slice_get new.buffers.items d ≡ slice_get old.buffers.items d) → Spares c old new
+    → KeepsOthers c old.buffers.items new.buffers.items → Spares c old new
 waiting_spares old new c count sessions ribs watched others = record {
   count = count;
   config = ap (λ r. r.config) ribs;
@@ -194,6 +195,11 @@ deaf_agrees core s c octets h dead knows =
       knows = with_others core s c (h.octets ++ octets) h knows;
       waits = λ x f. over s c x.items (with_octets (h.octets ++ octets) h) dead;
     })
+
+-- what is said of a session that doesn't last holds of one that lasts
+pub not_deaf : {A : Type 0} (core : Core) (c : ℕ) (live : Bool) → ((s : Configuration) (h : Hearing) → Knows core s c h → live ≡ is_live (state_in s c h)) → live ≡ true
+    → (s : Configuration) (h : Hearing) → Knows core s c h → is_live (state_in s c h) ≡ false → A
+not_deaf core c live tells lasts s h knows dead = absurd (false≢true (sym dead ∙ sym (tells s h knows) ∙ lasts))
 
 -- no octet waits in the client's buffer
 pub none_waits : (core : Core) (s : Configuration) (c : ℕ) (h : Hearing) (x : Vec ℕ) → c < client_count core → x ≡ get_or core.buffers.items c x → (x.len == 0) ≡ true → AgreesAt core s c h → IsBetween core s c h

@@ -1,9 +1,11 @@
 -- An UPDATE was found to be at fault before it is heard.
-use Rattle.std.proofs.Common.{◌≡◌, ◌<◌, ℕ, List, length, refl, sym, ◌∙◌, ap, subst}
-use Rattle.std.specs.Prelude.{Some, slice_get, slice_set}
+use Rattle.std.proofs.Common.{◌≡◌, ◌<◌, ℕ, List, get_or, refl, sym, ◌∙◌, ap, subst}
+use Rattle.std.specs.Prelude.{slice_get, slice_set}
+use Rattle.std.proofs.lemmas.Option.{slice_get_read}
 use Rattle.rs_adjin.specs.AdjIns.{held_of, identifier_of}
 use Rattle.rs_attrs.specs.declared.faults.Faulted.{Faulted}
 use Rattle.rs_policy.specs.Configuration.{Configuration}
+use Rattle.rs_core.specs.Core.{client_count}
 use Rattle.rs_core.specs.Run.Agreeing.{Knows, IsCutShort}
 use Rattle.rs_core.specs.Session.Hearing.{Hearing}
 use Rattle.rs_core.specs.Told.Order.{IsOrdered}
@@ -23,10 +25,11 @@ abbrev pub found : Faulted → Hearing → Hearing
 found faulted h = record { octets = h.octets; items = h.items; changes = h.changes; taken = h.taken; points = h.points; keepalives = h.keepalives; endings = h.endings; faults = with_faults faulted h.faults }
 
 pub found_knows : (old new : Core) (s : Configuration) (c : ℕ) (h : Hearing) (x w : Watched) (faulted : Faulted) → new.sessions ≡ old.sessions → new.ribs ≡ old.ribs
-    → slice_get old.watched.items c ≡ Some x → c < length old.watched.items → new.watched.items ≡ slice_set old.watched.items c w
+    → c < client_count old → x ≡ get_or old.watched.items c x → new.watched.items ≡ slice_set old.watched.items c w
     → ((endings : List Ending) (faults : List Faulted) → x ≡ watched_by endings faults → w ≡ watched_by endings (with_faults faulted faults))
     → Knows old s c h → Knows new s c (found faulted h)
-found_knows old new s c h x w faulted sessions ribs read lt set by knows = record {
+unfolding client_count
+found_knows old new s c h x w faulted sessions ribs lt x_is set by knows = record {
   session = λ y e. knows.session y (ap (λ v. slice_get v.items c) (sym sessions) ∙ e);
   table = λ p. ap (λ r. held_of r.tables c p) ribs ∙ knows.table p;
   identifier = ap (λ r. identifier_of r.tables c) ribs ∙ knows.identifier;
@@ -40,7 +43,8 @@ found_knows old new s c h x w faulted sessions ribs read lt set by knows = recor
       let was = knows.ordered (ap (λ r. r.config) (sym ribs) ∙ config) none in
       subst (λ r. IsOrdered s c (found faulted h) (outlet_in r c none)) (sym ribs)
       (ordered_on s s c h (found faulted h) v v refl refl refl refl refl refl (λ l d. (l, d)) was);
-  watched = watched_set old.watched.items new.watched.items c x w h.endings h.endings h.faults (with_faults faulted h.faults) read lt set (by h.endings h.faults) knows.watched;
+  watched = watched_set old.watched.items new.watched.items c x w h.endings h.endings h.faults (with_faults faulted h.faults) (slice_get_read old.watched.items old.count c x (sym old.watched_len) lt x_is)
+      (subst (λ n. c < n) (sym old.watched_len) lt) set (by h.endings h.faults) knows.watched;
 }
 
 -- memory was refused then

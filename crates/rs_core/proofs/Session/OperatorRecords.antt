@@ -1,8 +1,15 @@
 -- What is kept of clients for the operator.
-use Rattle.std.proofs.Common.{◌≡◌, ◌≢◌, ◌<◌, ℕ, zero, suc, List, [], length, sym, ◌∙◌, ap, subst}
+use Rattle.std.proofs.Common.{◌≡◌, ◌<◌, ℕ, zero, suc, List, [], length, get_or, sym, ◌∙◌, ap, subst}
 use Rattle.std.specs.Prelude.{Option, Some, replicate, slice_get, slice_set}
 use Rattle.std.specs.List.{cons_option}
+use Rattle.std.proofs.lemmas.Option.{slice_get_read}
 use Rattle.rs_attrs.specs.declared.faults.Faulted.{Faulted}
+use Rattle.rs_core.specs.Core.{client_count}
+use Rattle.rs_core.specs.Others.{KeepsOthers}
+use Rattle.rs_core.specs.Run.Moves.{Move}
+use Rattle.rs_core.specs.Run.Meaning.{hearing}
+use Rattle.rs_core.specs.Run.Agreeing.{Agrees}
+use Rattle.rs_core.specs.declared.route_server.Core.{Core}
 use Rattle.rs_core.specs.declared.endings.Ending.{Ending}
 use Rattle.rs_core.specs.declared.endings.Watched.{Watched}
 use Rattle.rs_core.specs.Session.OperatorRecords.{newest_ending, faulted_by, watched_by, IsWatched, NotesEnding}
@@ -14,8 +21,8 @@ pub watched_set : (old new : List Watched) (c : ℕ) (x w : Watched) (endings mo
     → IsWatched old c endings faults → IsWatched new c more then
 watched_set old new c x w endings more faults then read lt set by was y e = (set_at old c w lt).own y (ap (λ l. slice_get l c) (sym set) ∙ e) ∙ by (was x read)
 
-pub others_kept : (old new : List Watched) (c : ℕ) (w : Watched) → c < length old → new ≡ slice_set old c w → (d : ℕ) → d ≢ c → slice_get new d ≡ slice_get old d
-others_kept old new c w lt set d ne = ap (λ l. slice_get l d) set ∙ (set_at old c w lt).others d ne
+pub others_kept : (old new : List Watched) (c : ℕ) (w : Watched) → c < length old → new ≡ slice_set old c w → KeepsOthers c old new
+others_kept old new c w lt set = λ d ne. ap (λ l. slice_get l d) set ∙ (set_at old c w lt).others d ne
 
 -- an ending was noted
 pub noted : (old new : List Watched) (c : ℕ) (x w : Watched) (ending : Option Ending) → slice_get old c ≡ Some x → c < length old → new ≡ slice_set old c w
@@ -41,6 +48,9 @@ none_watched (suc n) zero x e = sym (some_is (watched_by [] []) x e)
 none_watched (suc n) (suc c) x e = none_watched n c x e
 
 -- what is asked of it
-pub ending_read : (watched : List Watched) (c : ℕ) (x : Watched) (endings : List Ending) (faults : List Faulted) → slice_get watched c ≡ Some x → IsWatched watched c endings faults
-    → (x.ending ≡ newest_ending endings) × (x.faulted ≡ faulted_by faults)
-ending_read watched c x endings faults read was = let is = was x read in (ap (λ (w : Watched). w.ending) is, ap (λ (w : Watched). w.faulted) is)
+pub watched_read : (core : Core) (run : List Move) (c : ℕ) (x : Watched) → c < client_count core → x ≡ get_or core.watched.items c x → Agrees core run
+    → (x.ending ≡ newest_ending (hearing c run).endings) × (x.faulted ≡ faulted_by (hearing c run).faults)
+unfolding client_count
+watched_read core run c x lt read h =
+    let is = (h.clients c lt).knows.watched x (slice_get_read core.watched.items core.count c x (sym core.watched_len) lt read) in
+    (ap (λ (w : Watched). w.ending) is, ap (λ (w : Watched). w.faulted) is)

@@ -58,8 +58,17 @@ over_at core s c command h lt dead at =
     let there = there_is core.sessions.items c lt in
     let x = there.0 in
     let read = there.1 in
-    obeyed core core acts.None x x s c command h read lt (sym (set_same core.sessions.items c x read)) refl (answers_nothing x _ h.items command dead (at.knows.session x read)) refl refl (λ none. refl)
-    (record { own = λ endings faults was. was; others = λ d ne. refl }) at
+    obeyed core core acts.None x x s c command h (record {
+      read = read;
+      here = lt;
+      sessions = sym (set_same core.sessions.items c x read);
+      buffers = refl;
+      config = refl;
+      responds = answers_nothing x _ h.items command dead (at.knows.session x read);
+      tables = refl;
+      own = λ none. refl;
+      notes = record { own = λ endings faults was. was; others = λ d ne. refl };
+    }) at
 
 -- ---- all of them
 

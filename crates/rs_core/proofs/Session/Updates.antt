@@ -1,7 +1,10 @@
 -- What an UPDATE says to a session, as the code finds it.
-use Rattle.std.proofs.Common.{◌≡◌, ◌≢◌, inl, inr, ℕ, zero, suc, Bool, true, false, List, [], ◌∷◌, length, refl, sym, ◌∙◌, ap, subst}
+use Rattle.std.proofs.Common.{◌≡◌, ◌≢◌, inl, inr, ℕ, zero, suc, Bool, true, false, List, [], ◌∷◌, length, refl, sym, ◌∙◌, ap, subst, Global}
 use Rattle.std.specs.Prelude.{Option, Some, None, IsSome, is_none, is_some, nat_lt, option_map, if◌then◌else◌}
 use Rattle.std.proofs.lemmas.Bool.{false≢true}
+use Rattle.std.specs.Arc.{arc_value}
+use Rattle.std.specs.Global.{Vec}
+use Rattle.std.specs.declared.sync.Arc.{Arc}
 use Rattle.rs_octets.specs.declared.heads.Kind.TheVariants as kinds
 use Rattle.rs_octets.specs.Prefixes.{Prefix}
 use Rattle.rs_attrs.specs.declared.mode.Mode.{Mode}
@@ -10,6 +13,9 @@ use Rattle.rs_attrs.specs.declared.faults.Faulted.{Faulted}
 use Rattle.rs_attrs.specs.Effects.{Fields, IsBody, Effect, Reset, Changes, Change, HasEffect, has_prefix, is_empty, fields_of, effect_of, faulted_in}
 use Rattle.rs_update.proofs.BodyFields.{fields_of_body}
 use Rattle.rs_update.specs.Laws.{IsSameChange, IsSameEffect}
+use Rattle.rs_update.specs.Outcomes.{effect_seen, HasItsAttributes, NamesFaults}
+use Rattle.rs_update.specs.declared.outcome.Outcome.{Outcome}
+use Rattle.rs_update.specs.declared.outcome.Outcome.TheVariants as outcomes
 use Rattle.rs_session.specs.declared.heard.Heard.TheVariants as heard
 use Rattle.rs_session.specs.declared.settings.Settings.{Settings}
 use Rattle.rs_session.specs.Items.{Item, Message, is_connected, message_count}
@@ -21,7 +27,8 @@ use Rattle.rs_core.specs.Run.Parts.{Follows, IsAnnouncing}
 use Rattle.rs_core.specs.Session.OperatorRecords.{no_faults}
 use Rattle.rs_core.specs.Run.Agreeing.{Knows}
 use Rattle.rs_core.specs.declared.route_server.Core.{Core}
-use Rattle.rs_core.proofs.Session.Updating.{is_reset}
+use Rattle.rs_core.proofs.Run.Acting.{said_follows}
+use Rattle.rs_core.proofs.Session.Updating.{is_change, is_reset}
 use Rattle.rs_core.proofs.Session.Faulting.{found}
 use Rattle.rs_core.proofs.Session.Limits.{reset_if}
 
@@ -59,7 +66,7 @@ update_within s c h body mode change faulted p m is beyond differs = λ same.
     differs (ap (λ x. table_in s c (takes_in s c x h) p) (sym said) ∙ same)
 
 -- what the operator is shown of it is read off its fields
-pub at_fault : (body : List ℕ) (mode : Mode) (x : Change) (faulted : Faulted) → HasEffect body mode (Changes x)
+at_fault : (body : List ℕ) (mode : Mode) (x : Change) (faulted : Faulted) → HasEffect body mode (Changes x)
     → ((fields : Fields) → IsBody body fields → faulted ≡ faulted_in fields mode) → faulted ≡ faulted_by_fields mode (fields_of body)
 at_fault body mode x faulted has told = elim has [
   | inl none ↦ absurd (let e : ◌≡◌ {A = Effect} (Changes x) (Reset 3 1) = none.1 in cc)
@@ -104,16 +111,7 @@ reset_ends settings reset items = reset_ends_by (is_connected items) (fate setti
 -- a change that resets the session changes nothing any more
 pub reset_follows : (s : Configuration) (c : ℕ) (h : Hearing) (reset : ℕ × ℕ) (change : Change)
     → Follows s c (heard.Update (Some reset)) [] h (takes_in s c (changing (Some reset) change no_faults) h)
-reset_follows s c h reset change = record {
-  items = refl;
-  taken = refl;
-  points = refl;
-  keepalives = refl;
-  endings = refl;
-  faults = refl;
-  fresh = λ down. ap (λ b. if b then change ∷ h.changes else []) down;
-  same = λ up now. absurd (false≢true (sym (reset_ends (session_in s c) reset h.items) ∙ now));
-}
+reset_follows s c h reset change = said_follows s c (heard.Update (Some reset)) (Some change) [] h (λ up now. absurd (false≢true (sym (reset_ends (session_in s c) reset h.items) ∙ now)))
 
 -- ---- the lists of the code
 
@@ -125,10 +123,40 @@ mapped_some : {X Y : Type 0} (f : X → Y) (o : Option X) → is_none o ≡ fals
 mapped_some f None e = absurd (cc)
 mapped_some f (Some x) e = refl
 
-pub announcing : {X : Type 0} (f : X → List Attribute) (attrs : Option X) (W A : List Prefix) (change : Change) → is_none attrs ≡ is_empty A
+announcing : {X : Type 0} (f : X → List Attribute) (attrs : Option X) (W A : List Prefix) (change : Change) → is_none attrs ≡ is_empty A
     → IsSameChange (record { withdrawn = W; announced = A; attributes = option_map f attrs }) change → IsAnnouncing W A change
 announcing f attrs W A change there same = record {
   withdrawn_are = λ p. sym (same.withdrawn p);
   announced_are = λ p. sym (same.announced p);
   with_attributes = λ p e. subst IsSome same.attributes (mapped_some f attrs (there ∙ announced_some p A e));
 }
+
+-- the change that an UPDATE is, where these are the routes and the faults that the code found
+pub record IsFound (body : List ℕ) (mode : Mode) (withdrawn announced : List Prefix) (attributes : Option (List Attribute)) (faulted : Faulted) : Type 0 where
+  pub change : Change
+  pub is : effect_of body mode ≡ Changes change
+  pub same : IsSameChange (record { withdrawn = withdrawn; announced = announced; attributes = attributes }) change
+  pub announces : IsAnnouncing withdrawn announced change
+  pub noted : faulted ≡ faulted_by_fields mode (fields_of body)
+
+pub is_found : (body : List ℕ) (mode : Mode) (o : Outcome) (withdrawn announced : Vec Prefix) (attrs : Option (Arc (List Attribute) Global)) (faulted : Faulted) → o ≡ outcomes.Change withdrawn announced attrs faulted
+    → IsSameEffect (effect_seen o) (effect_of body mode) → HasEffect body mode (effect_seen o) → NamesFaults body mode o → HasItsAttributes o → IsFound body mode withdrawn.items announced.items (option_map arc_value attrs) faulted
+is_found body mode o withdrawn announced attrs faulted is computed effect named its =
+    let it = is_change _ (effect_of body mode) (subst (λ x. IsSameEffect (effect_seen x) (effect_of body mode)) is computed) in
+    record {
+      change = it.change;
+      is = it.is;
+      same = it.same;
+      announces = announcing arc_value attrs withdrawn.items announced.items it.change (subst HasItsAttributes is its) it.same;
+      noted = at_fault body mode _ faulted (subst (λ x. HasEffect body mode (effect_seen x)) is effect) (subst (λ x. NamesFaults body mode x) is named);
+    }
+
+-- as slices have the lists
+pub announcing_as : (W A w a : List Prefix) (change : Change) → w ≡ W → a ≡ A → IsAnnouncing W A change → IsAnnouncing w a change
+announcing_as W A w a change withdrawn announced is = subst (λ x. IsAnnouncing w x change) (sym announced) (subst (λ x. IsAnnouncing x A change) (sym withdrawn) is)
+
+pub same_change_as : (W A w a : List Prefix) (attributes : Option (List Attribute)) (change : Change) → w ≡ W → a ≡ A → IsSameChange (record { withdrawn = W; announced = A; attributes = attributes }) change
+    → IsSameChange (record { withdrawn = w; announced = a; attributes = attributes }) change
+same_change_as W A w a attributes change withdrawn announced is =
+    subst (λ x. IsSameChange (record { withdrawn = w; announced = x; attributes = attributes }) change) (sym announced)
+    (subst (λ x. IsSameChange (record { withdrawn = x; announced = A; attributes = attributes }) change) (sym withdrawn) is)

@@ -1,6 +1,6 @@
 -- What a client is told over a run.
-use Rattle.std.proofs.Common.{◌≡◌, ◌≢◌, ◌⊎◌, inl, inr, ◌<◌, ◌≤◌, ℕ, Bool, true, false, List, [], ◌∷◌, ◌++◌, length, length-append, nat_lt, take, refl, sym, ◌∙◌, ap, subst, arith}
-use Rattle.std.specs.Prelude.{Some, None, Result, Ok, Err, IsOkAnd, reverse, if◌then◌else◌}
+use Rattle.std.proofs.Common.{◌≡◌, ◌≢◌, ◌⊎◌, inl, inr, ◌<◌, ◌≤◌, ℕ, Bool, true, false, List, [], ◌∷◌, ◌++◌, length, length-append, get_or, nat_lt, take, refl, sym, ◌∙◌, ap, subst, arith}
+use Rattle.std.specs.Prelude.{Some, None, Result, Ok, Err, IsOkAnd, reverse, slice_get, if◌then◌else◌}
 use Rattle.std.specs.FinMap as fin
 use Rattle.std.specs.List.{AllByRecursion, AllZip, flat_map}
 use Rattle.std.proofs.lemmas.Bool.{false≢true, ltb-false}
@@ -18,7 +18,7 @@ use Rattle.rs_session.proofs.Lasting.{brings_up}
 use Rattle.rs_policy.specs.Configuration.{Configuration}
 use Rattle.rs_open.specs.declared.short.Limit.{Limit}
 use Rattle.rs_outlet.specs.declared.answers.Speech.{Speech}
-use Rattle.rs_outlet.specs.Views.{View, bare}
+use Rattle.rs_outlet.specs.Views.{View, AreNumbered, bare}
 use Rattle.rs_outlet.specs.declared.answers.Last.TheVariants as lasts
 use Rattle.rs_core.specs.Core.{client_count, loc_in, loc_rib}
 use Rattle.rs_core.specs.Session.Hearing.{Hearing, session_in, state_in}
@@ -207,3 +207,17 @@ pub loc_empty : (core : Core) (run : List Move) (c : ℕ) (none : View) → c < 
 loc_empty core run c none lt h down =
     let at = (h.clients c lt).knows.outlet h.config none in
     at.order.down (at.speech ∙ down_speech (config_in run) c (hearing c run) down)
+
+-- a client's outlet, as calls read it
+pub record IsOutlet (core : Core) (c : ℕ) (v : View) : Type 0 where
+  pub read : slice_get core.ribs.outlets.items c ≡ Some v
+  pub numbered : AreNumbered v core.ribs.tables
+  pub down : (run : List Move) → Agrees core run → is_established run c ≡ false → v.loc ≡ fin.empty
+
+pub outlet_read : (core : Core) (c : ℕ) (v : View) → c < client_count core → v ≡ get_or core.ribs.outlets.items c v → IsOutlet core c v
+unfolding client_count
+outlet_read core c v here is = record {
+  read = slice_get_read core.ribs.outlets.items core.count c v (sym (core.ribs.outlets_len ∙ core.ribs_len)) here is;
+  numbered = subst (λ o. AreNumbered o core.ribs.tables) (sym is) (core.numbered.each c v (subst (λ n. c < n) (sym core.ribs_len) here));
+  down = λ run h down. subst (λ (o : View). o.loc ≡ fin.empty) (sym is) (loc_empty core run c v here h down);
+}

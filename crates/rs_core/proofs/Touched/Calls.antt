@@ -1,8 +1,7 @@
 -- What calls make of what is touched for the clients, by the run, and what a turn decides of it.
 use Rattle.std.proofs.Common.{◌≡◌, ◌≢◌, inl, inr, ◌<◌, ◌+◌, ◌||◌, ℕ, zero, suc, Bool, true, false, List, [], ◌∷◌, length, refl, sym, ◌∙◌, ap, subst, arith}
-use Rattle.std.specs.Prelude.{Option, Some, None, IsSome, is_some, slice_index_or, if◌then◌else◌}
+use Rattle.std.specs.Prelude.{Option, Some, None, IsSome, is_some, if◌then◌else◌}
 use Rattle.std.specs.List.{list_any}
-use Rattle.std.specs.Global.{Vec}
 use Rattle.std.specs.FinMap as map
 use Rattle.rs_octets.specs.Prefixes.{Prefix}
 use Rattle.rs_attrs.specs.Meaning.{Attribute}
@@ -30,7 +29,7 @@ use Rattle.rs_core.specs.declared.ribs.Ribs.{Ribs}
 use Rattle.rs_core.specs.declared.route_server.Core.{Core}
 use Rattle.rs_core.proofs.Touched.Turned.{is_current}
 use Rattle.rs_core.proofs.Run.Agreeing.{AgreesOnClients, on_clients}
-use Rattle.rs_core.proofs.Owed.Drained.{established_spoken}
+use Rattle.rs_core.proofs.Owed.Drained.{established_spoken, turned_outlet}
 use Rattle.rs_core.proofs.Told.InTurn.{has_what_was_due}
 use Rattle.rs_core.proofs.Run.Outgoing.{within}
 use Rattle.rs_core.proofs.Owed.Sending.{last_is, nobody, outlet_is, touched_is}
@@ -167,18 +166,15 @@ count_by loc held is_in (Some s) n same h = h
 pub decides_touched : (c : ℕ) (old new : Core) (mid : Ribs) (run : List Move) → c < old.count → new.count ≡ old.count → ChangesAll (λ d. IsTurn old.ribs.config old.ribs.tables) old.ribs mid → new.ribs.outlets ≡ mid.outlets
     → Agrees old run → is_established run c ≡ true → is_refused new c ≡ false → DecidesTouched run c old new
 unfolding client_count is_refused
-decides_touched c old new mid run lt count turned same h up done = by_turn (turned.each c nobody (within old c lt)) where
-  now : c < new.count
-  now = subst (λ n. c < n) (sym count) lt
-
+decides_touched c old new mid run lt count turned same h up done = by_turn (turned_outlet c old new mid lt turned same) where
   v : View
   v = outlet_in old.ribs c nobody
 
   w : View
-  w = outlet_in mid c nobody
+  w = outlet_in new.ribs c nobody
 
-  is : outlet_in new.ribs c nobody ≡ w
-  is = ap (λ (x : Vec View). slice_index_or x.items c nobody) same
+  now : c < new.count
+  now = subst (λ n. c < n) (sym count) lt
 
   speech : Speech
   speech = (spoken_outlet old run c lt (on_clients old run h) up).0
@@ -204,38 +200,34 @@ decides_touched c old new mid run lt count turned same h up done = by_turn (turn
   by_done : (d : IsDone old.ribs.config old.ribs.tables v w) → HasTurned old.ribs.config old.ribs.tables v w d.turned → DecidesTouched run c old new
   by_done d t = record {
     turned = d.turned;
-    last = last_is new c now ∙ ap (λ (x : View). x.last) is ∙ d.last;
+    last = last_is new c now ∙ d.last;
     whole = t.whole some ∙ ap is_whole (sym was);
     count = subst (λ o. IsCountOf (stands run c) o d.turned.decided) (sym was)
         (count_by v.loc (any_holds (tables_of old.ribs.config old.ribs.tables)) (stands run c) v.touched d.turned.decided (λ p. (λ i. is_some (stood p i) || holds_alike old run p h i)) (t.count some));
     decided = λ p touched.
-        loc_is new c p now ∙ ap (λ (x : View). map.get x.loc p) is ∙ t.loc speech spoken p
+        loc_is new c p now ∙ t.loc speech spoken p
         ∙ ap (λ b. if b then due_to (tables_of old.ribs.config old.ribs.tables) v.client speech p else map.get v.loc p) (ap (λ o. is_touched o p) (sym was) ∙ touched) ∙ due_here p;
     kept = λ p untouched.
-        loc_is new c p now ∙ ap (λ (x : View). map.get x.loc p) is ∙ t.loc speech spoken p
+        loc_is new c p now ∙ t.loc speech spoken p
         ∙ ap (λ b. if b then due_to (tables_of old.ribs.config old.ribs.tables) v.client speech p else map.get v.loc p) (ap (λ o. is_touched o p) (sym was) ∙ untouched) ∙ sym (loc_is old c p lt);
-    none_left = touched_is new c now ∙ ap (λ (x : View). x.touched) is ∙ t.touched some;
+    none_left = touched_is new c now ∙ t.touched some;
   }
 
   by_turn : IsTurn old.ribs.config old.ribs.tables v w → DecidesTouched run c old new
   by_turn (inl d) = by_done d (d.decided (old.numbered.each c nobody (within old c lt)) (is_current old.ribs c nobody (within old c lt) old.fresh))
   by_turn (inr refused) = absurd (
-      let last : (outlet_in new.ribs c nobody).last ≡ lasts.Refused = ap (λ (x : View). x.last) is ∙ ap (λ (x : View). x.last) refused.rest in
+      let last : w.last ≡ lasts.Refused = ap (λ (x : View). x.last) refused.rest in
       let f : true ≡ false = sym (ap refusal_in (outlet_is new c now) ∙ ap is_refusal last) ∙ done in cc)
 
 -- where memory was refused for a client, nothing was decided for it
 pub refusal_keeps : (c : ℕ) (old new : Core) (mid : Ribs) → c < old.count → new.count ≡ old.count → ChangesAll (λ d. IsTurn old.ribs.config old.ribs.tables) old.ribs mid → new.ribs.outlets ≡ mid.outlets
     → is_refused new c ≡ true → touched_for new c ≡ touched_for old c
 unfolding is_refused
-refusal_keeps c old new mid lt count turned same refused = by_turn (turned.each c nobody (within old c lt)) where
+refusal_keeps c old new mid lt count turned same refused = by_turn (turned_outlet c old new mid lt turned same) where
   now : c < new.count
   now = subst (λ n. c < n) (sym count) lt
 
-  is : outlet_in new.ribs c nobody ≡ outlet_in mid c nobody
-  is = ap (λ (x : Vec View). slice_index_or x.items c nobody) same
-
-  by_turn : IsTurn old.ribs.config old.ribs.tables (outlet_in old.ribs c nobody) (outlet_in mid c nobody) → touched_for new c ≡ touched_for old c
+  by_turn : IsTurn old.ribs.config old.ribs.tables (outlet_in old.ribs c nobody) (outlet_in new.ribs c nobody) → touched_for new c ≡ touched_for old c
   by_turn (inl d) = absurd (
-      let last : (outlet_in new.ribs c nobody).last ≡ lasts.Done d.turned = ap (λ (x : View). x.last) is ∙ d.last in
-      let f : false ≡ true = sym (ap refusal_in (outlet_is new c now) ∙ ap is_refusal last) ∙ refused in cc)
-  by_turn (inr refused) = touched_is new c now ∙ ap (λ (x : View). x.touched) (is ∙ refused.rest) ∙ sym (touched_is old c lt)
+      let f : false ≡ true = sym (ap refusal_in (outlet_is new c now) ∙ ap is_refusal d.last) ∙ refused in cc)
+  by_turn (inr refused) = touched_is new c now ∙ ap (λ (x : View). x.touched) refused.rest ∙ sym (touched_is old c lt)

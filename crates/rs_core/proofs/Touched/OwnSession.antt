@@ -1,5 +1,5 @@
 -- What a client's own session makes of what is touched for it.
-use Rattle.std.proofs.Common.{◌≡◌, ◌<◌, ℕ, zero, suc, Bool, true, false, List, [], ◌∷◌, length, refl, sym, ◌∙◌, ap, subst}
+use Rattle.std.proofs.Common.{◌≡◌, ℕ, zero, suc, Bool, true, false, List, [], ◌∷◌, refl, sym, ◌∙◌, ap, subst}
 use Rattle.std.specs.Prelude.{Option, Some, None, IsSome, slice_get, slice_set, if◌then◌else◌}
 use Rattle.std.proofs.lemmas.Bool.{false≢true}
 use Rattle.rs_octets.specs.Messages.{newly_heard}
@@ -10,7 +10,7 @@ use Rattle.rs_session.specs.Endings.{Fate, GoesOn, Ends}
 use Rattle.rs_session.specs.Items.{Item, is_connected, message_count}
 use Rattle.rs_session.specs.Items as items
 use Rattle.rs_session.specs.Sessions.{state_by, is_live, fate, earlier, item_fate}
-use Rattle.rs_session.specs.Hearing.{HasHeard, RespondsTo, Tells}
+use Rattle.rs_session.specs.Hearing.{HasHeard, Tells}
 use Rattle.rs_policy.specs.Configuration.{Configuration}
 use Rattle.rs_outlet.specs.declared.answers.Speech.{Speech}
 use Rattle.rs_outlet.specs.Views.{View}
@@ -20,8 +20,12 @@ use Rattle.rs_core.specs.Ribs.{outlet_in}
 use Rattle.rs_core.specs.Touched.Touches.{KeepsTouches}
 use Rattle.rs_core.specs.Told.Outlets.{ActsOnOutlet}
 use Rattle.rs_core.specs.Run.Agreeing.{Knows}
+use Rattle.rs_core.specs.Run.Parts.{KeepsOwnTouches}
+use Rattle.rs_core.specs.declared.endings.Ending.{Ending}
+use Rattle.rs_core.specs.declared.ribs.Ribs.{Ribs}
 use Rattle.rs_core.specs.declared.route_server.Core.{Core}
 use Rattle.rs_core.proofs.Owed.Drained.{up_spoken}
+use Rattle.rs_core.proofs.Run.Acting.{HasActed}
 use Rattle.rs_core.proofs.Run.Lists.{get_set_same}
 use Rattle.rs_core.proofs.Session.Listening.{Heards, deaf}
 use Rattle.rs_core.proofs.Told.Serving.{spoken}
@@ -48,13 +52,16 @@ acted_keeps acts.Up long s sessions x c h new v w others_alone read heard tells 
 acted_keeps (acts.Down _) long s sessions x c h new v w others_alone read heard tells speech = keeps_none v w others_alone.speech
 acted_keeps acts.Again long s sessions x c h new v w others_alone read heard tells speech = keeps_same v w others_alone.speech others_alone.touched
 
-pub item_keeps : (old new : Core) (act : Act) (item : Item) (x t : Session) (s : Configuration) (c : ℕ) (h : Hearing) → slice_get old.sessions.items c ≡ Some x → c < length old.sessions.items → RespondsTo x t item act
-    → ((none : View) → ActsOnOutlet act old.ribs.extended c (slice_set old.sessions.items c t) (outlet_in old.ribs c none) (outlet_in new.ribs c none)) → old.ribs.config ≡ s → Knows old s c h → (none : View)
-    → KeepsTouches (outlet_in old.ribs c none) (outlet_in new.ribs c none)
-item_keeps old new act item x t s c h read lt responds others_alone config knows none =
-    let it = responds (session_in s c) h.items (knows.session x read) in
-    acted_keeps act old.ribs.extended s (slice_set old.sessions.items c t) t c h (item ∷ h.items) (outlet_in old.ribs c none) (outlet_in new.ribs c none) (others_alone none) (get_set_same old.sessions.items c t lt) it.heard it.tells
+pub item_keeps : (old new : Core) (c : ℕ) (item : Item) (act : Act) (x t : Session) (ending : Option Ending) → HasActed old new c item act x t ending → KeepsOwnTouches c old new
+item_keeps old new c item act x t ending done = λ s h config knows none.
+    let it = done.responds (session_in s c) h.items (knows.session x done.read) in
+    acted_keeps act old.ribs.extended s (slice_set old.sessions.items c t) t c h (item ∷ h.items) (outlet_in old.ribs c none) (outlet_in new.ribs c none) (done.own none) (get_set_same old.sessions.items c t done.here) it.heard it.tells
     (knows.outlet config none).speech
+
+-- the buffer was taken before and put back after
+pub keeps_between : (c : ℕ) (old taken heard new : Ribs) (none : View) → taken ≡ old → new ≡ heard → KeepsTouches (outlet_in taken c none) (outlet_in heard c none) → KeepsTouches (outlet_in old c none) (outlet_in new c none)
+keeps_between c old taken heard new none before behind keeps =
+    subst (λ r. KeepsTouches (outlet_in old c none) (outlet_in r c none)) (sym behind) (subst (λ r. KeepsTouches (outlet_in r c none) (outlet_in heard c none)) before keeps)
 
 -- ---- a session that lasts and was Established is so
 

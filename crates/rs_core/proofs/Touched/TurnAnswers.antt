@@ -1,7 +1,6 @@
 -- What a turn answers for a client, by the run.
 use Rattle.std.proofs.Common.{◌≡◌, inl, inr, ◌<◌, ℕ, Bool, true, false, List, refl, sym, ◌∙◌, ap, subst}
-use Rattle.std.specs.Prelude.{Option, Some, None, is_some, slice_get, slice_index_or}
-use Rattle.std.specs.Global.{Vec}
+use Rattle.std.specs.Prelude.{Option, Some, None, is_some, slice_get}
 use Rattle.std.proofs.lemmas.Bool.{false≢true}
 use Rattle.rs_outlet.specs.declared.answers.Last.{Last}
 use Rattle.rs_outlet.specs.declared.answers.Last.TheVariants as lasts
@@ -17,6 +16,7 @@ use Rattle.rs_core.specs.Run.Agreeing.{Agrees}
 use Rattle.rs_core.specs.declared.ribs.Ribs.{Ribs}
 use Rattle.rs_core.specs.declared.route_server.Core.{Core}
 use Rattle.rs_core.proofs.Run.Outgoing.{within}
+use Rattle.rs_core.proofs.Owed.Drained.{turned_outlet}
 use Rattle.rs_core.proofs.Owed.Sending.{last_is, nobody}
 use Rattle.rs_core.proofs.Touched.Calls.{decides_touched}
 use Rattle.rs_core.proofs.Touched.Turned.{is_current}
@@ -42,18 +42,12 @@ nothing = record { decided = 0; whole = false }
 
 down_last : (c : ℕ) (old new : Core) (mid : Ribs) (run : List Move) → c < old.count → new.count ≡ old.count → ChangesAll (λ d. IsTurn old.ribs.config old.ribs.tables) old.ribs mid → new.ribs.outlets ≡ mid.outlets
     → Agrees old run → is_established run c ≡ false → last_of new c ≡ lasts.Done nothing
-down_last c old new mid run lt count turned same h down = last_is new c now ∙ ap (λ (x : View). x.last) is ∙ by_turn (turned.each c nobody (within old c lt)) where
-  now : c < new.count
-  now = subst (λ n. c < n) (sym count) lt
-
+down_last c old new mid run lt count turned same h down = last_is new c (subst (λ n. c < n) (sym count) lt) ∙ by_turn (turned_outlet c old new mid lt turned same) where
   v : View
   v = outlet_in old.ribs c nobody
 
   w : View
-  w = outlet_in mid c nobody
-
-  is : outlet_in new.ribs c nobody ≡ w
-  is = ap (λ (x : Vec View). slice_index_or x.items c nobody) same
+  w = outlet_in new.ribs c nobody
 
   silent : v.speech ≡ None
   silent = ((h.clients c lt).knows.outlet h.config nobody).speech ∙ down_speech (config_in run) c (hearing c run) down

@@ -11,6 +11,7 @@ use Rattle.rs_adjin.specs.AdjIns.{held_of, identifier_of}
 use Rattle.rs_outlet.specs.Views.{View}
 use Rattle.rs_policy.specs.Configuration.{Configuration}
 use Rattle.rs_policy.specs.Replacing.{Replaces}
+use Rattle.rs_core.specs.Others.{KeepsOthers}
 use Rattle.rs_core.specs.Run.Moves.{Move, Ruled, config_in}
 use Rattle.rs_core.specs.Session.Hearing.{Hearing, allowed_in, session_in, state_in, identifier_in, table_in}
 use Rattle.rs_core.specs.Core.{last_of, touched_for}
@@ -69,10 +70,10 @@ pub record IsRuled (octets : List ℕ) (core : Core) (run : List Move) : Type 0 
 pub record Spares (c : ℕ) (old new : Core) : Type 0 where
   pub count : new.count ≡ old.count
   pub config : new.ribs.config ≡ old.ribs.config
-  pub sessions : (d : ℕ) → d ≢ c → slice_get new.sessions.items d ≡ slice_get old.sessions.items d
-  pub buffers : (d : ℕ) → d ≢ c → slice_get new.buffers.items d ≡ slice_get old.buffers.items d
+  pub sessions : KeepsOthers c old.sessions.items new.sessions.items
+  pub buffers : KeepsOthers c old.buffers.items new.buffers.items
   pub held : (d : ℕ) (p : Prefix) → d ≢ c → held_of new.ribs.tables d p ≡ held_of old.ribs.tables d p
   pub identifiers : (d : ℕ) → d ≢ c → identifier_of new.ribs.tables d ≡ identifier_of old.ribs.tables d
   pub others_alone : LeavesOthersAlone c old.ribs new.ribs
-  pub watched : (d : ℕ) → d ≢ c → slice_get new.watched.items d ≡ slice_get old.watched.items d
+  pub watched : KeepsOthers c old.watched.items new.watched.items
   pub answers : KeepsAnswers old.ribs new.ribs

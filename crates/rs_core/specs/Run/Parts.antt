@@ -10,6 +10,7 @@ use Rattle.rs_attrs.specs.Meaning.{Attribute}
 use Rattle.rs_attrs.specs.Effects.{Change, has_prefix}
 use Rattle.rs_update.specs.Laws.{IsSameChange}
 use Rattle.rs_session.specs.Sessions.{act_of, is_live, is_request}
+use Rattle.rs_core.specs.Others.{KeepsOthers}
 use Rattle.rs_core.specs.Session.Keepalives.{asks_for_keepalive, fell_if}
 use Rattle.rs_core.specs.Told.Points.{asked_if}
 use Rattle.rs_core.specs.Session.OperatorRecords.{ending_by, no_faults}
@@ -37,7 +38,7 @@ use Rattle.rs_core.specs.Session.Hearing.{Hearing, allowed_in, session_in, state
 -- the value of client c is v, and those of the others are what they were
 pub record SetsAt {X : Type 0} (c : ℕ) (v : X) (old new : List X) : Type 0 where
   pub own : (x : X) → slice_get new c ≡ Some x → x ≡ v
-  pub others : (d : ℕ) → d ≢ c → slice_get new d ≡ slice_get old d
+  pub others : KeepsOthers c old new
 
 -- one message more was heard, with this body where it is a NOTIFICATION, which changed nothing, or ends the session
 pub record Follows (s : Configuration) (c : ℕ) (message : Heard) (notice : List ℕ) (h next : Hearing) : Type 0 where

@@ -1,9 +1,10 @@
 -- What is kept of a client for the operator: why its sessions ended, and which of its UPDATEs were not taken as they came.
-use Rattle.std.specs.Prelude.{◌≡◌, ◌≢◌, ℕ, ◌-◌, min, Bool, false, ◌||◌, List, filter, [], ◌∷◌, ◌++◌, length, take, replicate, Option, Some, None, is_some, slice_get, if◌then◌else◌}
+use Rattle.std.specs.Prelude.{◌≡◌, ℕ, ◌-◌, min, Bool, false, ◌||◌, List, filter, [], ◌∷◌, ◌++◌, length, take, replicate, Option, Some, None, is_some, slice_get, if◌then◌else◌}
 use Rattle.std.specs.List.{cons_option}
 use Rattle.rs_attrs.specs.declared.faults.Faulted.{Faulted}
 use Rattle.rs_session.specs.declared.act.Act.{Act}
 use Rattle.rs_session.specs.declared.act.Act.TheVariants as acts
+use Rattle.rs_core.specs.Others.{KeepsOthers}
 use Rattle.rs_core.specs.declared.endings.Ending.{Ending}
 use Rattle.rs_core.specs.declared.endings.Ending.TheVariants as reasons
 use Rattle.rs_core.specs.declared.endings.FaultedUpdates.{FaultedUpdates}
@@ -98,4 +99,4 @@ IsWatched watched c endings faults = (x : Watched) → slice_get watched c ≡ S
 -- of client c alone it was noted that its session ended so, or did not end
 pub record NotesEnding (c : ℕ) (ending : Option Ending) (old new : List Watched) : Type 0 where
   pub own : (endings : List Ending) (faults : List Faulted) → IsWatched old c endings faults → IsWatched new c (cons_option ending endings) faults
-  pub others : (d : ℕ) → d ≢ c → slice_get new d ≡ slice_get old d
+  pub others : KeepsOthers c old new

@@ -4,15 +4,8 @@ use Rattle.rs_core.specs.Run.Moves.{Commanded}
 use Rattle.rs_core.specs.Drives.Courses.{course}
 use Rattle.rs_core.specs.Drives.Answers.{Answers, Commands}
 use Rattle.rs_core.specs.declared.links.Event.TheVariants as events
-use Rattle.rs_core.proofs.Drives.Leading.{led_same}
 use Rattle.rs_core.proofs.Drives.Continuing.{goes, passes, over_client}
 use Rattle.rs_core.proofs.driving.obey.Goals as goal
-
-pub returns-then-c-clients-clause-led : goal.returns-then-c-clients-clause-led
-returns-then-c-clients-clause-led g c = led_same g.L.Link.happens _
-
-pub returns-else-c-clients-clause-led : goal.returns-else-c-clients-clause-led
-returns-else-c-clients-clause-led g c = led_same g.L.Link.happens _
 
 pub returns-then-c-clients-clause-answers : goal.returns-then-c-clients-clause-answers
 returns-then-c-clients-clause-answers g c =

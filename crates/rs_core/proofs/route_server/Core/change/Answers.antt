@@ -15,8 +15,7 @@ use Rattle.rs_core.specs.Session.Hearing.{session_in, changing, takes_in}
 use Rattle.rs_core.specs.Session.OperatorRecords.{ending_by, no_faults}
 use Rattle.rs_core.specs.declared.endings.Watched.{Watched}
 use Rattle.rs_core.proofs.Run.Lists.{on_err, map_ok}
-use Rattle.rs_core.proofs.Session.OperatorRecords.{noted_by, others_kept}
-use Rattle.rs_core.proofs.Run.Acting.{acted, acted_spares, asked_by_message}
+use Rattle.rs_core.proofs.Run.Acting.{acted, acted_spares, asked_by_message, has_acted}
 use Rattle.rs_core.proofs.Told.BySession.{never_open_by_message}
 use Rattle.rs_core.proofs.Run.Around.{others_alone_on}
 use Rattle.rs_core.proofs.Touched.KeptAnswers.{answers_on, routes_answers}
@@ -37,26 +36,21 @@ returns-in-Some-clause-refused c =
 pub returns-in_default : goal.returns-in_default
 unfolding client_count
 returns-in_default c =
-    let lt : c.args.c < length c.args.self.now.sessions.items = subst (λ k. c.args.c < k) (sym c.args.self.now.sessions_len) c.requires.client in
-    let read = slice_get_read _ _ _ _ (sym c.args.self.now.sessions_len) c.requires.client c.index_mut.ensures.value in
-    let set = ap (λ (v : Vec Session). v.items) c.act.ensures.sessions in
-    let kept = c.args.self.now.watched.items in
-    let there : c.args.c < length kept = subst (λ k. c.args.c < k) (sym c.args.self.now.watched_len) c.requires.client in
-    let was = slice_get_read _ _ _ _ (sym c.args.self.now.watched_len) c.requires.client c.index_mut-in_default.ensures.value in
-    let noting = ap (λ (v : Vec Watched). v.items) c.act.ensures.watched in
+    let old = c.args.self.now in
+    let new = c.act.new.self in
+    let done = has_acted old new c.args.c (Message (heard.Update None)) c.message.result c.index_mut.result.now c.message.new.self c.index_mut-in_default.result.now c.end.new.self c.ending_by.result (ending_by [] c.message.result) c.requires.client
+    c.index_mut.ensures.value c.index_mut-in_default.ensures.value c.message.ensures.hears c.ending_by.ensures c.end.ensures
+    (ap (λ (v : Vec Session). v.items) c.act.ensures.sessions) (ap (λ (v : Vec Watched). v.items) c.act.ensures.watched) c.act.ensures.buffers c.act.ensures.config c.act.ensures.tables c.act.ensures.own in
     record {
-      spares = acted_spares c.args.self.now c.act.new.self c.args.c c.message.new.self c.act.ensures.count c.act.ensures.config lt set c.act.ensures.buffers c.act.ensures.others c.act.ensures.others_alone
-          (others_kept kept c.act.new.self.watched.items c.args.c c.end.new.self there noting) c.act.ensures.answers;
+      spares = acted_spares old new c.args.c c.message.new.self c.act.ensures.count c.act.ensures.config done.here done.sessions done.buffers c.act.ensures.others c.act.ensures.others_alone done.notes.others c.act.ensures.answers;
       buffers = c.act.ensures.buffers;
-      heard = λ s h change live knows same. acted c.args.self.now c.act.new.self c.message.result (Message (heard.Update None)) c.index_mut.result.now c.message.new.self s c.args.c h
-          (takes_in s c.args.c (changing None change no_faults) h) tt read lt set c.message.ensures.hears c.act.ensures.tables c.act.ensures.config c.act.ensures.own (never_open_by_message (session_in s c.args.c) (heard.Update None) h.items) refl refl refl (asked_by_message s c.args.c (heard.Update None) h _ refl)
+      heard = λ s h change live knows same. acted old new _ (Message (heard.Update None)) _ _ s c.args.c h (takes_in s c.args.c (changing None change no_faults) h) (ending_by []) tt done (never_open_by_message (session_in s c.args.c) (heard.Update None) h.items) refl refl refl (asked_by_message s c.args.c (heard.Update None) h _ refl)
           (λ down up. ap (λ b. if b then change ∷ h.changes else []) down)
-          (λ up now. absurd (not_taken c.args.self.now c.index_mut.result.now c.message.new.self s c.args.c h c.message.result read c.message.ensures.hears live up knows c.in_default.not-None))
-          (ending_by []) (noted_by kept c.act.new.self.watched.items c.args.c c.index_mut-in_default.result.now c.end.new.self c.ending_by.result (ending_by [] c.message.result) was there noting c.ending_by.ensures c.end.ensures) refl refl knows;
+          (λ up now. absurd (not_taken old c.index_mut.result.now c.message.new.self s c.args.c h c.message.result done.read c.message.ensures.hears live up knows c.in_default.not-None)) refl refl knows;
       refused = tt;
       part = tt;
       others_touched = λ apart. c.act.ensures.others_touched;
-      keeps = λ s h config knows none. item_keeps c.args.self.now c.act.new.self c.message.result (Message (heard.Update None)) c.index_mut.result.now c.message.new.self s c.args.c h read lt c.message.ensures.hears c.act.ensures.own config knows none;
+      keeps = item_keeps _ _ _ _ _ _ _ _ done;
     }
 
 pub returns-in-None-attrs-clause-heard : goal.returns-in-None-attrs-clause-heard

@@ -1,20 +1,16 @@
-use Rattle.std.proofs.Common.{◌<◌, ℕ, ◌∷◌, length, refl, sym, ◌∙◌, subst, ap}
-use Rattle.std.specs.Prelude.{Some, None, option_map}
-use Rattle.std.specs.Arc.{arc_value}
-use Rattle.std.proofs.lemmas.Option.{slice_get_read}
-use Rattle.rs_attrs.specs.Effects.{HasEffect, effect_of, has_prefix}
-use Rattle.rs_update.specs.Laws.{IsSameChange, IsSameEffect}
-use Rattle.rs_update.specs.Outcomes.{effect_seen, HasItsAttributes, NamesFaults, AreApart}
+use Rattle.std.proofs.Common.{ℕ, ◌∷◌, refl, sym, ◌∙◌, subst, ap}
+use Rattle.std.specs.Prelude.{Some, None}
+use Rattle.rs_attrs.specs.Effects.{effect_of, has_prefix}
+use Rattle.rs_update.specs.Laws.{IsSameEffect}
+use Rattle.rs_update.specs.Outcomes.{effect_seen, AreApart}
 use Rattle.rs_policy.specs.Configuration.{client_of}
 use Rattle.rs_core.specs.Core.{client_count}
 use Rattle.rs_core.specs.Session.Hearing.{changing, takes_in}
-use Rattle.rs_core.specs.Run.Parts.{IsAnnouncing}
 use Rattle.rs_core.specs.Session.OperatorRecords.{no_faults}
 use Rattle.rs_core.proofs.Run.Lists.{on_err, map_ok, map_err}
 use Rattle.rs_core.proofs.Run.Agreeing.{cut_short}
 use Rattle.rs_core.proofs.Session.Faulting.{found, found_knows, cut_found}
-use Rattle.rs_core.proofs.Session.Updating.{is_change}
-use Rattle.rs_core.proofs.Session.Updates.{update_reset, update_changes, at_fault, moded_up, is_reset_beyond, is_none_beyond, reset_follows, announcing, update_within}
+use Rattle.rs_core.proofs.Session.Updates.{update_reset, update_changes, moded_up, is_found, is_reset_beyond, is_none_beyond, reset_follows, announcing_as, same_change_as, update_within}
 use Rattle.rs_core.proofs.Touched.ChangedPrefixes.{touches_others_same}
 use Rattle.rs_core.proofs.Touched.OwnSession.{keeps_same}
 use Rattle.rs_core.proofs.Run.Spared.{kept_spares}
@@ -33,46 +29,31 @@ pub returns-then-is_beyond-clause-heard : goal.returns-then-is_beyond-clause-hea
 unfolding client_count
 returns-then-is_beyond-clause-heard c = λ s h config live knows.
     let mode = sym (c.in-Some.ensures s h knows) in
-    let it = is_change _ (effect_of c.args.body.now c.in-Some.mode) (subst (λ o. IsSameEffect (effect_seen o) (effect_of c.args.body.now c.in-Some.mode)) c.in-Change.is c.in_ok-code.ensures.computed) in
-    let there : c.args.c < length c.args.self.now.watched.items = subst (λ k. c.args.c < k) (sym c.args.self.now.watched_len) c.requires in
-    let was = slice_get_read _ _ _ _ (sym c.args.self.now.watched_len) c.requires c.index_mut.ensures.value in
-    let as_noted = found_knows c.args.self.now _ s c.args.c h c.index_mut.result.now c.note.new.self c.in-Change.faulted refl refl was there refl c.note.ensures knows in
-    let next = found c.in-Change.faulted h in
-    let has = subst (λ o. HasEffect c.args.body.now c.in-Some.mode (effect_seen o)) c.in-Change.is c.in_ok-code.ensures.effect in
-    let noted = at_fault c.args.body.now c.in-Some.mode _ c.in-Change.faulted has (subst (λ o. NamesFaults c.args.body.now c.in-Some.mode o) c.in-Change.is c.in_ok-code.ensures.faults_noted) in
-    let says = c.is_beyond.ensures s next it.change config (moded_up s c.args.c h c.in-Some.mode mode) as_noted
-    (subst (λ a. IsAnnouncing c.deref.result.now a it.change) (sym c.deref-in-Change.ensures.value) (subst (λ w. IsAnnouncing w c.in-Change.announced.items it.change) (sym c.deref.ensures.value) (announcing arc_value c.in-Change.attrs c.in-Change.withdrawn.items c.in-Change.announced.items it.change (subst HasItsAttributes c.in-Change.is c.in_ok-code.ensures.attributes) it.same))) in
+    let it = is_found c.args.body.now c.in-Some.mode _ _ _ _ _ c.in-Change.is c.in_ok-code.ensures.computed c.in_ok-code.ensures.effect c.in_ok-code.ensures.faults_noted c.in_ok-code.ensures.attributes in
+    let as_noted = found_knows c.args.self.now _ s c.args.c h c.index_mut.result.now c.note.new.self c.in-Change.faulted refl refl c.requires c.index_mut.ensures.value refl c.note.ensures knows in
+    let says = c.is_beyond.ensures s (found c.in-Change.faulted h) it.change config (moded_up s c.args.c h c.in-Some.mode mode) as_noted (announcing_as _ _ _ _ it.change c.deref.ensures.value c.deref-in-Change.ensures.value it.announces) in
     let reset : ℕ × ℕ = (c.code.result, c.sub.result) in
     let beyond = is_reset_beyond (client_of s c.args.c).limit (it.change ∷ h.changes) (sym says ∙ c.if-is_beyond.true) in
-    update_changes c.session_hears-then-is_beyond.new.self s c.args.c h c.args.body.now c.in-Some.mode it.change (Some reset) c.in-Change.faulted mode it.is (beyond ∙ (λ i. Some (sym c.code.ensures i, sym c.sub.ensures i))) noted
-    (c.session_hears-then-is_beyond.ensures.heard s next (takes_in s c.args.c (changing (Some reset) it.change no_faults) next) (reset_follows s c.args.c next reset it.change) as_noted)
+    update_changes c.session_hears-then-is_beyond.new.self s c.args.c h c.args.body.now c.in-Some.mode it.change (Some reset) c.in-Change.faulted mode it.is (beyond ∙ (λ i. Some (sym c.code.ensures i, sym c.sub.ensures i))) it.noted
+    (let next = found c.in-Change.faulted h in c.session_hears-then-is_beyond.ensures.heard s next (takes_in s c.args.c (changing (Some reset) it.change no_faults) next) (reset_follows s c.args.c next reset it.change) as_noted)
 
 pub returns-else-is_beyond-clause-heard : goal.returns-else-is_beyond-clause-heard
 unfolding client_count
 returns-else-is_beyond-clause-heard c = map_ok c.change.result c.change.ensures.heard (λ changes s h config live knows.
     let mode = sym (c.in-Some.ensures s h knows) in
-    let it = is_change _ (effect_of c.args.body.now c.in-Some.mode) (subst (λ o. IsSameEffect (effect_seen o) (effect_of c.args.body.now c.in-Some.mode)) c.in-Change.is c.in_ok-code.ensures.computed) in
-    let there : c.args.c < length c.args.self.now.watched.items = subst (λ k. c.args.c < k) (sym c.args.self.now.watched_len) c.requires in
-    let was = slice_get_read _ _ _ _ (sym c.args.self.now.watched_len) c.requires c.index_mut.ensures.value in
-    let as_noted = found_knows c.args.self.now _ s c.args.c h c.index_mut.result.now c.note.new.self c.in-Change.faulted refl refl was there refl c.note.ensures knows in
-    let next = found c.in-Change.faulted h in
-    let has = subst (λ o. HasEffect c.args.body.now c.in-Some.mode (effect_seen o)) c.in-Change.is c.in_ok-code.ensures.effect in
-    let noted = at_fault c.args.body.now c.in-Some.mode _ c.in-Change.faulted has (subst (λ o. NamesFaults c.args.body.now c.in-Some.mode o) c.in-Change.is c.in_ok-code.ensures.faults_noted) in
-    let says = c.is_beyond.ensures s next it.change config (moded_up s c.args.c h c.in-Some.mode mode) as_noted
-    (subst (λ a. IsAnnouncing c.deref.result.now a it.change) (sym c.deref-in-Change.ensures.value) (subst (λ w. IsAnnouncing w c.in-Change.announced.items it.change) (sym c.deref.ensures.value) (announcing arc_value c.in-Change.attrs c.in-Change.withdrawn.items c.in-Change.announced.items it.change (subst HasItsAttributes c.in-Change.is c.in_ok-code.ensures.attributes) it.same))) in
+    let it = is_found c.args.body.now c.in-Some.mode _ _ _ _ _ c.in-Change.is c.in_ok-code.ensures.computed c.in_ok-code.ensures.effect c.in_ok-code.ensures.faults_noted c.in_ok-code.ensures.attributes in
+    let as_noted = found_knows c.args.self.now _ s c.args.c h c.index_mut.result.now c.note.new.self c.in-Change.faulted refl refl c.requires c.index_mut.ensures.value refl c.note.ensures knows in
+    let says = c.is_beyond.ensures s (found c.in-Change.faulted h) it.change config (moded_up s c.args.c h c.in-Some.mode mode) as_noted (announcing_as _ _ _ _ it.change c.deref.ensures.value c.deref-in-Change.ensures.value it.announces) in
     update_changes c.change.new.self s c.args.c h c.args.body.now c.in-Some.mode it.change None c.in-Change.faulted mode it.is
-    (is_none_beyond (client_of s c.args.c).limit (it.change ∷ h.changes) (sym says ∙ c.if-is_beyond.false)) noted
-    (changes s next it.change live as_noted
-    (subst (λ a. IsSameChange (record { withdrawn = c.deref-in-Change-2.result.now; announced = a; attributes = option_map arc_value c.in-Change.attrs }) it.change) (sym c.deref-in-Change-3.ensures.value)
-    (subst (λ w. IsSameChange (record { withdrawn = w; announced = c.in-Change.announced.items; attributes = option_map arc_value c.in-Change.attrs }) it.change) (sym c.deref-in-Change-2.ensures.value) it.same))))
+    (is_none_beyond (client_of s c.args.c).limit (it.change ∷ h.changes) (sym says ∙ c.if-is_beyond.false)) it.noted
+    (changes s (found c.in-Change.faulted h) it.change live as_noted
+    (same_change_as _ _ _ _ _ it.change c.deref-in-Change-2.ensures.value c.deref-in-Change-3.ensures.value it.same)))
 
 pub returns-else-is_beyond-clause-refused : goal.returns-else-is_beyond-clause-refused
 unfolding client_count
 returns-else-is_beyond-clause-refused c = map_err c.change.result c.change.ensures.refused (λ refused s h knows.
-    let there : c.args.c < length c.args.self.now.watched.items = subst (λ k. c.args.c < k) (sym c.args.self.now.watched_len) c.requires in
-    let was = slice_get_read _ _ _ _ (sym c.args.self.now.watched_len) c.requires c.index_mut.ensures.value in
     cut_found c.change.new.self s c.args.c h c.in-Change.faulted
-    (refused s (found c.in-Change.faulted h) (found_knows c.args.self.now _ s c.args.c h c.index_mut.result.now c.note.new.self c.in-Change.faulted refl refl was there refl c.note.ensures knows)))
+    (refused s (found c.in-Change.faulted h) (found_knows c.args.self.now _ s c.args.c h c.index_mut.result.now c.note.new.self c.in-Change.faulted refl refl c.requires c.index_mut.ensures.value refl c.note.ensures knows)))
 
 pub returns-in_err-code-clause-part : goal.returns-in_err-code-clause-part
 returns-in_err-code-clause-part c = on_err c.from_residual.result (λ s h config live knows p differs. absurd (differs refl))
@@ -81,17 +62,12 @@ pub returns-else-is_beyond-clause-part : goal.returns-else-is_beyond-clause-part
 unfolding client_count
 returns-else-is_beyond-clause-part c = map_err c.change.result c.change.ensures.part (λ part s h config live knows p differs.
     let mode = sym (c.in-Some.ensures s h knows) in
-    let it = is_change _ (effect_of c.args.body.now c.in-Some.mode) (subst (λ o. IsSameEffect (effect_seen o) (effect_of c.args.body.now c.in-Some.mode)) c.in-Change.is c.in_ok-code.ensures.computed) in
-    let there : c.args.c < length c.args.self.now.watched.items = subst (λ k. c.args.c < k) (sym c.args.self.now.watched_len) c.requires in
-    let was = slice_get_read _ _ _ _ (sym c.args.self.now.watched_len) c.requires c.index_mut.ensures.value in
-    let as_noted = found_knows c.args.self.now _ s c.args.c h c.index_mut.result.now c.note.new.self c.in-Change.faulted refl refl was there refl c.note.ensures knows in
-    let next = found c.in-Change.faulted h in
-    let says = c.is_beyond.ensures s next it.change config (moded_up s c.args.c h c.in-Some.mode mode) as_noted
-    (subst (λ a. IsAnnouncing c.deref.result.now a it.change) (sym c.deref-in-Change.ensures.value) (subst (λ w. IsAnnouncing w c.in-Change.announced.items it.change) (sym c.deref.ensures.value) (announcing arc_value c.in-Change.attrs c.in-Change.withdrawn.items c.in-Change.announced.items it.change (subst HasItsAttributes c.in-Change.is c.in_ok-code.ensures.attributes) it.same))) in
+    let it = is_found c.args.body.now c.in-Some.mode _ _ _ _ _ c.in-Change.is c.in_ok-code.ensures.computed c.in_ok-code.ensures.effect c.in_ok-code.ensures.faults_noted c.in_ok-code.ensures.attributes in
+    let as_noted = found_knows c.args.self.now _ s c.args.c h c.index_mut.result.now c.note.new.self c.in-Change.faulted refl refl c.requires c.index_mut.ensures.value refl c.note.ensures knows in
+    let says = c.is_beyond.ensures s (found c.in-Change.faulted h) it.change config (moded_up s c.args.c h c.in-Some.mode mode) as_noted (announcing_as _ _ _ _ it.change c.deref.ensures.value c.deref-in-Change.ensures.value it.announces) in
     update_within s c.args.c h c.args.body.now c.in-Some.mode it.change c.in-Change.faulted p mode it.is (is_none_beyond (client_of s c.args.c).limit (it.change ∷ h.changes) (sym says ∙ c.if-is_beyond.false))
-    (part (λ q has. ap (has_prefix q) c.deref-in-Change-3.ensures.value ∙ subst AreApart c.in-Change.is c.in_ok-code.ensures.apart q (ap (has_prefix q) (sym c.deref-in-Change-2.ensures.value) ∙ has)) s next it.change live as_noted
-    (subst (λ a. IsSameChange (record { withdrawn = c.deref-in-Change-2.result.now; announced = a; attributes = option_map arc_value c.in-Change.attrs }) it.change) (sym c.deref-in-Change-3.ensures.value)
-    (subst (λ w. IsSameChange (record { withdrawn = w; announced = c.in-Change.announced.items; attributes = option_map arc_value c.in-Change.attrs }) it.change) (sym c.deref-in-Change-2.ensures.value) it.same)) p differs))
+    (part (λ q has. ap (has_prefix q) c.deref-in-Change-3.ensures.value ∙ subst AreApart c.in-Change.is c.in_ok-code.ensures.apart q (ap (has_prefix q) (sym c.deref-in-Change-2.ensures.value) ∙ has)) s (found c.in-Change.faulted h) it.change live as_noted
+    (same_change_as _ _ _ _ _ it.change c.deref-in-Change-2.ensures.value c.deref-in-Change-3.ensures.value it.same) p differs))
 
 pub returns-in_err-code-clause-others_touched : goal.returns-in_err-code-clause-others_touched
 returns-in_err-code-clause-others_touched c = touches_others_same c.args.c c.args.self.now.ribs c.args.self.now.ribs refl
@@ -107,25 +83,17 @@ returns-in_err-code-clause-keeps c = λ s h config knows none. keeps_same _ _ re
 pub returns-then-is_beyond-clause-keeps : goal.returns-then-is_beyond-clause-keeps
 unfolding client_count
 returns-then-is_beyond-clause-keeps c = λ s h config knows none.
-    let there : c.args.c < length c.args.self.now.watched.items = subst (λ k. c.args.c < k) (sym c.args.self.now.watched_len) c.requires in
-    let was = slice_get_read _ _ _ _ (sym c.args.self.now.watched_len) c.requires c.index_mut.ensures.value in
-    c.session_hears-then-is_beyond.ensures.keeps s (found c.in-Change.faulted h) config (found_knows c.args.self.now _ s c.args.c h c.index_mut.result.now c.note.new.self c.in-Change.faulted refl refl was there refl c.note.ensures knows) none
+    c.session_hears-then-is_beyond.ensures.keeps s (found c.in-Change.faulted h) config (found_knows c.args.self.now _ s c.args.c h c.index_mut.result.now c.note.new.self c.in-Change.faulted refl refl c.requires c.index_mut.ensures.value refl c.note.ensures knows) none
 
 pub returns-else-is_beyond-clause-keeps : goal.returns-else-is_beyond-clause-keeps
 unfolding client_count
 returns-else-is_beyond-clause-keeps c = λ s h config knows none.
-    let there : c.args.c < length c.args.self.now.watched.items = subst (λ k. c.args.c < k) (sym c.args.self.now.watched_len) c.requires in
-    let was = slice_get_read _ _ _ _ (sym c.args.self.now.watched_len) c.requires c.index_mut.ensures.value in
-    c.change.ensures.keeps s (found c.in-Change.faulted h) config (found_knows c.args.self.now _ s c.args.c h c.index_mut.result.now c.note.new.self c.in-Change.faulted refl refl was there refl c.note.ensures knows) none
+    c.change.ensures.keeps s (found c.in-Change.faulted h) config (found_knows c.args.self.now _ s c.args.c h c.index_mut.result.now c.note.new.self c.in-Change.faulted refl refl c.requires c.index_mut.ensures.value refl c.note.ensures knows) none
 
 pub returns-else-is_beyond-clause-spares : goal.returns-else-is_beyond-clause-spares
 unfolding client_count
-returns-else-is_beyond-clause-spares c =
-    let there : c.args.c < length c.args.self.now.watched.items = subst (λ k. c.args.c < k) (sym c.args.self.now.watched_len) c.requires in
-    kept_spares c.args.c c.args.self.now _ c.change.new.self c.note.new.self there refl refl refl refl refl c.change.ensures.spares
+returns-else-is_beyond-clause-spares c = kept_spares c.args.c c.args.self.now _ c.change.new.self c.note.new.self c.requires refl refl refl refl refl c.change.ensures.spares
 
 pub returns-then-is_beyond-clause-spares : goal.returns-then-is_beyond-clause-spares
 unfolding client_count
-returns-then-is_beyond-clause-spares c =
-    let there : c.args.c < length c.args.self.now.watched.items = subst (λ k. c.args.c < k) (sym c.args.self.now.watched_len) c.requires in
-    kept_spares c.args.c c.args.self.now _ c.session_hears-then-is_beyond.new.self c.note.new.self there refl refl refl refl refl c.session_hears-then-is_beyond.ensures.spares
+returns-then-is_beyond-clause-spares c = kept_spares c.args.c c.args.self.now _ c.session_hears-then-is_beyond.new.self c.note.new.self c.requires refl refl refl refl refl c.session_hears-then-is_beyond.ensures.spares

@@ -1,45 +1,25 @@
-use Rattle.std.proofs.Common.{◌<◌, length, sym, ap, subst}
+use Rattle.std.proofs.Common.{ap}
 use Rattle.std.specs.Global.{Vec}
-use Rattle.std.proofs.lemmas.Option.{slice_get_read}
 use Rattle.rs_session.specs.declared.session.Session.{Session}
+use Rattle.rs_session.specs.Items.{Moment}
 use Rattle.rs_core.specs.Core.{client_count}
 use Rattle.rs_core.specs.Session.OperatorRecords.{expiry_by}
 use Rattle.rs_core.specs.declared.endings.Watched.{Watched}
-use Rattle.rs_core.proofs.Run.Acting.{seen, acted_spares}
-use Rattle.rs_core.proofs.Session.OperatorRecords.{noted_by, others_kept}
-use Rattle.rs_session.specs.Items.{Moment}
+use Rattle.rs_core.proofs.Run.Acting.{acted_spares, has_acted, seen}
 use Rattle.rs_core.proofs.Touched.OwnSession.{item_keeps}
 use Rattle.rs_core.proofs.route_server.Core.see.Goals as goal
 
-pub returns-clause-spares : goal.returns-clause-spares
+pub returns : goal.returns
 unfolding client_count
-returns-clause-spares c =
-    let lt : c.args.c < length c.args.self.now.sessions.items = subst (λ k. c.args.c < k) (sym c.args.self.now.sessions_len) c.requires in
-    let kept = c.args.self.now.watched.items in
-    let there : c.args.c < length kept = subst (λ k. c.args.c < k) (sym c.args.self.now.watched_len) c.requires in
-    let set = ap (λ (v : Vec Watched). v.items) c.act.ensures.watched in
-    acted_spares c.args.self.now c.act.new.self c.args.c c.moment-act.new.self c.act.ensures.count c.act.ensures.config lt (ap (λ (v : Vec Session). v.items) c.act.ensures.sessions) c.act.ensures.buffers c.act.ensures.others c.act.ensures.others_alone
-    (others_kept kept c.act.new.self.watched.items c.args.c c.end.new.self there set) c.act.ensures.answers
-
-pub returns-clause-seen : goal.returns-clause-seen
-unfolding client_count
-returns-clause-seen c = λ s h at.
-    let lt : c.args.c < length c.args.self.now.sessions.items = subst (λ k. c.args.c < k) (sym c.args.self.now.sessions_len) c.requires in
-    let read = slice_get_read _ _ _ _ (sym c.args.self.now.sessions_len) c.requires c.index_mut.ensures.value in
-    let kept = c.args.self.now.watched.items in
-    let there : c.args.c < length kept = subst (λ k. c.args.c < k) (sym c.args.self.now.watched_len) c.requires in
-    let was = slice_get_read _ _ _ _ (sym c.args.self.now.watched_len) c.requires c.index_mut-2.ensures.value in
-    let set = ap (λ (v : Vec Watched). v.items) c.act.ensures.watched in
-    seen c.args.self.now c.act.new.self c.moment-act.result c.index_mut.result.now c.moment-act.new.self s c.args.c c.args.t h read lt
-    (ap (λ (v : Vec Session). v.items) c.act.ensures.sessions) c.act.ensures.buffers c.moment-act.ensures.hears c.act.ensures.tables c.act.ensures.config c.act.ensures.own
-    (noted_by kept c.act.new.self.watched.items c.args.c c.index_mut-2.result.now c.end.new.self c.expiry_by.result (expiry_by c.moment-act.result) was there set c.expiry_by.ensures c.end.ensures) at
-
-pub returns-clause-keeps : goal.returns-clause-keeps
-unfolding client_count
-returns-clause-keeps c = λ s h config knows none.
-    let lt : c.args.c < length c.args.self.now.sessions.items = subst (λ k. c.args.c < k) (sym c.args.self.now.sessions_len) c.requires in
-    let read = slice_get_read _ _ _ _ (sym c.args.self.now.sessions_len) c.requires c.index_mut.ensures.value in
-    item_keeps c.args.self.now c.act.new.self c.moment-act.result (Moment c.args.t) c.index_mut.result.now c.moment-act.new.self s c.args.c h read lt c.moment-act.ensures.hears c.act.ensures.own config knows none
-
-pub returns-clause-others_touched : goal.returns-clause-others_touched
-returns-clause-others_touched c = c.act.ensures.others_touched
+returns c =
+    let old = c.args.self.now in
+    let new = c.act.new.self in
+    let done = has_acted old new c.args.c (Moment c.args.t) c.moment-act.result c.index_mut.result.now c.moment-act.new.self c.index_mut-2.result.now c.end.new.self c.expiry_by.result (expiry_by c.moment-act.result) c.requires
+    c.index_mut.ensures.value c.index_mut-2.ensures.value c.moment-act.ensures.hears c.expiry_by.ensures c.end.ensures
+    (ap (λ (v : Vec Session). v.items) c.act.ensures.sessions) (ap (λ (v : Vec Watched). v.items) c.act.ensures.watched) c.act.ensures.buffers c.act.ensures.config c.act.ensures.tables c.act.ensures.own in
+    record {
+      spares = acted_spares old new c.args.c c.moment-act.new.self c.act.ensures.count c.act.ensures.config done.here done.sessions done.buffers c.act.ensures.others c.act.ensures.others_alone done.notes.others c.act.ensures.answers;
+      seen = λ s h at. seen old new _ _ _ s c.args.c c.args.t h done at;
+      others_touched = c.act.ensures.others_touched;
+      keeps = item_keeps _ _ _ _ _ _ _ _ done;
+    }
