@@ -1,5 +1,6 @@
 -- What a link around another did, the other did.
 use Rattle.std.proofs.Common.{◌≡◌, List, [], ◌∷◌, ◌++◌, refl, sym, ◌∙◌, ap, subst}
+use Rattle.std.specs.Prelude.{⊤}
 use Rattle.rs_core.specs.Drives.Steps.{Step, Leads, HasLed, HasStopped}
 use Rattle.rs_core.specs.Drives.Courses.{Course, course, Continues}
 use Rattle.rs_core.specs.Drives.Answers.{Drives}
@@ -30,19 +31,6 @@ module _ {W L : Type 0} (outer : W → Step → W → Type 0) (inner : L → Ste
   pub stopped_inner : (old new : W) → HasStopped outer old new → HasStopped inner (link old) (link new)
   stopped_inner old new h = record { before = link h.before; octets = h.octets; led = led_inner old h.before h.led; stops = step h.before new _ h.stops }
 
-  pub drives_inner : (core : Core) (old : W) (later : Core) (new : W) → Continues outer core old later new Drives → Continues inner core (link old) later (link new) Drives
-  drives_inner core old later new c = record {
-    on = λ first steps run agrees leads.
-        let on = c.on old [] run agrees refl in
-        record {
-          steps = on.steps ++ steps;
-          run = on.run;
-          agrees = on.agrees;
-          leads = leads_on inner on.steps steps first (link old) (link new) leads (leads_inner on.steps old new on.leads);
-          is = drives_behind steps (course core [] run agrees) (course later on.steps on.run on.agrees) on.is;
-        };
-  }
-
   -- and so with what each step adds to: P, of the steps so far
   module _ (P : W → List Step → Type 0) (adds : (a b : W) (s : Step) (steps : List Step) → outer a s b → P a steps → P b (s ∷ steps)) where
     adds_led : (run : List Step) (old new : W) → Leads outer old run new → P old [] → P new run
@@ -65,6 +53,9 @@ module _ {W L : Type 0} (outer : W → Step → W → Type 0) (inner : L → Ste
                 on.steps refl (adds_led on.steps old new on.leads p);
           };
     }
+
+  pub drives_inner : (core : Core) (old : W) (later : Core) (new : W) → Continues outer core old later new Drives → Continues inner core (link old) later (link new) Drives
+  drives_inner core old later new c = adds_driven (λ wrapped steps. ⊤) (λ a b s steps happens told. tt) Drives core old later new (λ x y drives more steps told. drives) tt c
 
 -- by whatever names the links go
 pub stopped_at : {L : Type 0} (happens : L → Step → L → Type 0) (a b old new : L) → a ≡ old → b ≡ new → HasStopped happens a b → HasStopped happens old new

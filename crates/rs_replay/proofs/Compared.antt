@@ -15,9 +15,11 @@ use Rattle.rs_core.proofs.Run.Holding.{up_is}
 use Rattle.rs_trace.specs.declared.fault.ReplayFault.{ReplayFault}
 use Rattle.rs_trace.specs.declared.fault.ReplayFault.TheVariants.{Line, Memory, Reading, Writing}
 use Rattle.rs_trace.specs.declared.names.Names.{Names}
+use Rattle.rs_trace.specs.declared.replay.Played.{Played}
 use Rattle.rs_replay.specs.declared.connection.Connection.{Connection}
 use Rattle.rs_replay.specs.declared.playing.Outcome.{Outcome}
-use Rattle.rs_replay.specs.declared.playing.Outcome.TheVariants.{BadFile}
+use Rattle.rs_replay.specs.declared.playing.Outcome.TheVariants.{BadFile, Differs, Good}
+use Rattle.rs_replay.specs.Comparing.{Compares, ComparesBy}
 use Rattle.rs_replay.specs.Findings.{AreFindings, Down, Finding, OfNone, Table, Up}
 use Rattle.rs_replay.specs.Sent.{IsSent, sent_to}
 use Rattle.rs_replay.specs.Sendings.{MeansSent}
@@ -75,3 +77,10 @@ pub of_bad : (result : Result Outcome ReplayFault) (fault : ReplayFault) → IfO
     → ((fault ≡ Memory → ⊥) → P (BadFile fault)) → IfOk result P
 of_bad (Ok outcome) fault is P bad = subst P (sym is.0) (bad is.1)
 of_bad (Err e) fault is P bad = tt
+
+-- what was told, by its outcome
+pub compares_by : {W S : Type 0} (puts : W → List ℕ → W → Type 0) (sends : S → List ℕ → S → Type 0) (at_end : S → Type 0) (fails : S → ℕ) (until : ℕ) (played : Played) (sent sent_read : S) (to : W)
+    (same : Bool) (writer : W) → Compares puts sends at_end until played sent sent_read to same writer
+    → ComparesBy puts sends at_end fails until played sent sent_read to (if same then Good else Differs) writer
+compares_by puts sends at_end fails until played sent sent_read to true writer compares = compares
+compares_by puts sends at_end fails until played sent sent_read to false writer compares = compares

@@ -1,16 +1,17 @@
 -- The lines of a text as a reader of lines comes to them, and what they say of another server.
 use Rattle.std.proofs.Common.{◌≡◌, ◌∙◌, ◌⊎◌, inl, inr, ◌+◌, ◌<◌, ℕ, Bool, true, false, cond, List, [], ◌∷◌, ◌++◌, length, refl, sym, ap, arith, rules, append_assoc, length-append}
-use Rattle.std.specs.Prelude.{nat_lt, Option, Some, None, Result, Ok, Err}
+use Rattle.std.specs.Prelude.{nat_lt, Option, Some, None, Result, Ok, Err, if◌then◌else◌}
 use Rattle.std.proofs.lemmas.List.{append-nil}
 use Rattle.rs_trace.specs.declared.trace.LineFault.{LineFault}
 use Rattle.rs_trace.specs.declared.trace.LineFault.TheVariants.{TooLong}
 use Rattle.rs_trace.specs.Lines.{Reading, IsEnded, IsLast, IsTooLong, IsFirstLine, IsStep}
 use Rattle.rs_trace.specs.Text.{lines_of}
 use Rattle.rs_trace.proofs.ReplayLemmas.{lines_of-ended, lines_of-front, lines_of-last}
+use Rattle.rs_replay.specs.declared.sent.Next.TheVariants as nexts
 use Rattle.rs_replay.specs.declared.sent_lines.Entry.{Entry}
 use Rattle.rs_replay.specs.Sent.{Account, Says, account, account_of, behind, is_later, on_line}
 use Rattle.rs_replay.specs.SentLines.{Said, entry_as_said, said_in, said_of}
-use Rattle.rs_replay.specs.Taking.{Stands}
+use Rattle.rs_replay.specs.Taking.{ReadsNext, Stands}
 
 -- ---- a line that was read
 
@@ -82,7 +83,7 @@ module _ (place : List ℕ → Option ℕ) (until : ℕ) where
         ∙ ap (λ es. account es (Some (n, fault))) (append-nil entries)
 
     -- at one behind which nothing counts
-    pub says_later : (said : Said) → IsStep true old new taken → said_of place new.line ≡ Ok (Some said) → is_later until said ≡ true → Says place until (text ++ taken) over (account entries None)
+    says_later : (said : Said) → IsStep true old new taken → said_of place new.line ≡ Ok (Some said) → is_later until said ≡ true → Says place until (text ++ taken) over (account entries None)
     says_later said step is later more none =
         let rest : Account = account_of place until (n + 1) (lines_of (new.rest ++ more)) in
         by_line more step (λ is. none (ends stands.ended is)) ∙ ap (λ s. behind entries (on_line until s n rest)) is
@@ -104,7 +105,7 @@ module _ (place : List ℕ → Option ℕ) (until : ℕ) where
     }
 
     -- behind one that says something
-    pub stands_said : (said : Said) → IsStep true old new taken → said_of place new.line ≡ Ok (Some said) → is_later until said ≡ false
+    stands_said : (said : Said) → IsStep true old new taken → said_of place new.line ≡ Ok (Some said) → is_later until said ≡ false
         → Stands place until (text ++ taken) over (entries ++ said ∷ []) (n + 1) new
     stands_said said step is later = record {
       follows = λ more none.
@@ -114,3 +115,12 @@ module _ (place : List ℕ → Option ℕ) (until : ℕ) where
           ∙ ap (λ es. account es rest.fault) (sym (append_assoc entries (said ∷ []) rest.entries));
       ended = ends stands.ended;
     }
+
+    -- what a line comes to that says something
+    pub reads_said_next : (piece : List ℕ) (entry : Entry) → IsStep true old new taken → said_of place new.line ≡ Ok (Some (said_in piece entry))
+        → ReadsNext place until (text ++ taken) over entries n new piece (Ok (if is_later until (said_in piece entry) then nexts.Over else nexts.Said entry))
+    reads_said_next piece entry step is = by (is_later until (said_in piece entry)) refl
+      where
+        by : (later : Bool) → is_later until (said_in piece entry) ≡ later → ReadsNext place until (text ++ taken) over entries n new piece (Ok (if later then nexts.Over else nexts.Said entry))
+        by true later = says_later (said_in piece entry) step is later
+        by false later = stands_said (said_in piece entry) step is later

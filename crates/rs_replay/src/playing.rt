@@ -1,6 +1,6 @@
 //! Plays a trace, and holds what another server sent against what is due then.
 
-ghost use Rattle.std.specs.Prelude.{◌≡◌, ◌≢◌, ◌<◌, ◌≤◌, IfOk};
+ghost use Rattle.std.specs.Prelude.{◌≡◌, ◌≢◌, ◌<◌, ◌≤◌, IfOk, if◌then◌else◌};
 ghost use Rattle.rs_replay.specs.Comparing.{HasCompared};
 
 use crate::comparing::tell;
@@ -35,6 +35,17 @@ fn bad_file(fault: ReplayFault) -> Result<Outcome, ReplayFault>
     }
 }
 
+/// What comes of a text that was compared.
+fn outcome_of(is_same: bool) -> Outcome
+    ensures { result ≡ (if is_same then Outcome.Good else Outcome.Differs) }
+{
+    if is_same {
+        Outcome::Good
+    } else {
+        Outcome::Differs
+    }
+}
+
 /// Plays a trace, and then writes how what another server sent, a text, differs from what is due. What
 /// was sent behind line `until` of the trace is left out.
 pub(crate) fn play_and_compare<
@@ -62,9 +73,6 @@ pub(crate) fn play_and_compare<
         Ok(connections) => connections,
         Err(fault) => return bad_file(fault),
     };
-    if tell(alloc, &played.core, &played.names, &connections, writer)? {
-        Ok(Outcome::Good)
-    } else {
-        Ok(Outcome::Differs)
-    }
+    let is_same = tell(alloc, &played.core, &played.names, &connections, writer)?;
+    Ok(outcome_of(is_same))
 }

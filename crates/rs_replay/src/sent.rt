@@ -1,9 +1,10 @@
 //! What another server sent, read from the lines of a file.
 
-ghost use Rattle.std.specs.Prelude.{◌≡◌, ◌++◌, ◌∷◌, ℕ, List, [], Option, Some, length, slice_get, vec_len, IfOk, OnOk};
+ghost use Rattle.std.specs.Prelude.{◌≡◌, ◌++◌, ◌∷◌, ℕ, List, [], Option, Some, length, slice_get, vec_len, IfOk, OnOk, if◌then◌else◌};
 ghost use Rattle.rs_attrs.specs.declared.mode.Mode.{Mode};
 ghost use Rattle.rs_core.specs.Core.{client_count};
 ghost use Rattle.rs_trace.specs.Replays.{place_in};
+ghost use Rattle.rs_replay.specs.Sent.{is_later};
 ghost use Rattle.rs_replay.specs.SentLines.{Began, Gave, Said, said_in};
 ghost use Rattle.rs_replay.specs.Taking.{HaveTaken, ReadsNext, ReadsSent, ReadsUpTo, Stands, TakesLine, fails_by};
 
@@ -92,6 +93,17 @@ enum Next {
     Said(Entry),
 }
 
+/// What a line comes to that says this.
+fn next_of(entry: Entry, until: u64) -> Next
+    ensures { (piece : List ℕ) → result ≡ (if is_later until (said_in piece entry) then Next.Over else Next.Said entry) }
+{
+    if entry.is_later(until) {
+        Next::Over
+    } else {
+        Next::Said(entry)
+    }
+}
+
 /// Reads the next line, which has this number.
 fn next_line<R: TextIn>(
     names: &Names,
@@ -110,13 +122,7 @@ fn next_line<R: TextIn>(
         Err(_) => return Err(ReplayFault::Reading),
     }
     match read_sent_line(names, lines.line(), piece) {
-        Ok(Some(entry)) => {
-            if entry.is_later(until) {
-                Ok(Next::Over)
-            } else {
-                Ok(Next::Said(entry))
-            }
-        }
+        Ok(Some(entry)) => Ok(next_of(entry, until)),
         Ok(None) => Ok(Next::Passed),
         Err(fault) => Err(ReplayFault::Line(number, fault)),
     }

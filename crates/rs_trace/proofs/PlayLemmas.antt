@@ -2,14 +2,16 @@
 use Rattle.std.proofs.Common.{◌≡◌, ℕ, List, [], ◌∷◌, ◌++◌, take, drop, refl, sym, ◌∙◌, ap, true, false, inl, inr, Option, Some, None, append_assoc, subst}
 use Rattle.std.specs.Prelude.{Result, Ok, Err, OnOk, is_ok}
 use Rattle.std.proofs.lemmas.List.{append-nil, take-append-drop}
+use Rattle.rs_core.specs.Drives.Steps as links
+use Rattle.rs_core.specs.declared.links.Event.{Event}
 use Rattle.rs_trace.specs.declared.fault.ReplayFault.TheVariants.{Line, Memory, Reading, Writing}
 use Rattle.rs_trace.specs.declared.fault.Stop.{Stop}
 use Rattle.rs_trace.specs.declared.names.Names.{Names}
 use Rattle.rs_trace.specs.declared.fault.Stop.TheVariants.{End, Table, Fault}
 use Rattle.rs_trace.specs.declared.trace_lines.TraceLines.{TraceLines}
 use Rattle.rs_trace.specs.Trace.{LineMeaning, Listed}
-use Rattle.rs_trace.specs.Played.{MeansFirst, Stands, PutsFront, Puts, failed, failures_read, failures_written, GoesOn}
-use Rattle.rs_trace.specs.Replays.{Adds, Plays, FailsOn, ReadsOn, place_in}
+use Rattle.rs_trace.specs.Played.{MeansFirst, Stands, PutsFront, Puts, failed, failures_read, failures_written, meaning_of_event}
+use Rattle.rs_trace.specs.Replays.{Adds, Happens, Plays, FailsOn, ReadsOn, meaning_read, place_in, stop_of}
 use Rattle.rs_trace.proofs.ReplayLemmas.{means_first_now, means_all, means_less}
 
 module _ (put : List ℕ → Type 0) (octets : List ℕ) where
@@ -117,21 +119,28 @@ any_puts put octets (Some (Fault Memory)) p = (octets, [], refl, p)
 any_puts put octets (Some (Fault Reading)) p = (octets, [], refl, p)
 any_puts put octets (Some (Fault Writing)) p = (octets, [], refl, p)
 
-module _ {R W : Type 0} (takes : R → List ℕ → R → Type 0) (at_end : R → Type 0) (fails : R → ℕ) (puts : W → List ℕ → W → Type 0) (loses : W → ℕ)
-    (place : List ℕ → Option ℕ) (on : (a b c : R) (xs ys : List ℕ) → takes a xs b → takes b ys c → takes a (xs ++ ys) c)
-    (first : R) (to : W) (meanings more : List LineMeaning) (octets : List ℕ) (reader later : R) (writer : W) (r q : TraceLines) (n m : ℕ) (stop after : Option Stop) where
-  -- a line was read, and the core is given what it says; or no further line asks for anything
-  pub read_on : Plays takes at_end fails puts loses place first to meanings octets reader writer r n stop → stop ≡ None
-      → ReadsOn takes at_end place reader n r later m q more after → fails later ≡ failures_read after (fails reader) → ((k : ℕ) → k ≡ failures_written after k)
-      → Plays takes at_end fails puts loses place first to (meanings ++ more) (octets ++ []) later writer q m after
-  read_on p none reads count unwritten =
-      let goes = subst (λ x. Stands place p.text (at_end reader) meanings n r x) none p.stands in
-      let so = reads p.text meanings goes in
-      record {
-        text = p.text ++ so.0;
-        taken = on first reader later p.text so.0 p.taken so.1;
-        stands = so.2;
-        put = any_puts (λ xs. puts to xs writer) octets after (subst (λ x. Puts (λ xs. puts to xs writer) octets x) none p.put);
-        reads = count ∙ ap (failures_read after) (subst (λ x. fails reader ≡ failures_read x (fails first)) none p.reads);
-        writes = (subst (λ x. loses writer ≡ failures_written x (loses to)) none p.writes) ∙ unwritten (loses to);
-      }
+module _ {R W G : Type 0} (takes : R → List ℕ → R → Type 0) (at_end : R → Type 0) (fails : R → ℕ) (puts : W → List ℕ → W → Type 0) (loses : W → ℕ)
+    (on : (a b c : R) (xs ys : List ℕ) → takes a xs b → takes b ys c → takes a (xs ++ ys) c)
+    (names : Names) (reads_by writes_by : G) (reader later : R) (writer : W) (r q : TraceLines) (n m : ℕ) (stop after : Option Stop) (piece : List ℕ) (read : Result Event Stop) (event : Event) where
+  -- a line was read, and the core is given the event that it says; or no further line asks for anything, and the event says so
+  pub read_on : stop ≡ None → stop_of read ≡ after → meaning_read piece q.rules.items read ≡ meaning_of_event event (links.octets_of event piece q.rules.items)
+      → ReadsOn takes at_end (place_in names) reader n r later m q (meaning_read piece q.rules.items read) (stop_of read)
+      → fails later ≡ failures_read (stop_of read) (fails reader) → ((k : ℕ) → k ≡ failures_written (stop_of read) k)
+      → Happens takes at_end fails puts loses names reads_by writes_by reader writer r n stop (links.Happened event (links.octets_of event piece q.rules.items)) names reads_by writes_by later writer q m after
+  read_on none ends says reads count unwritten = record {
+    same_names = refl;
+    same_reader = refl;
+    same_writer = refl;
+    took = tt;
+    goes = λ first to meanings octets p.
+        let so = reads p.text meanings (subst (λ x. Stands (place_in names) p.text (at_end reader) meanings n r x) none p.stands) in
+        subst (λ x. Plays takes at_end fails puts loses (place_in names) first to (meanings ++ meaning_of_event event (links.octets_of event piece q.rules.items)) (octets ++ []) later writer q m x) ends
+        (record {
+          text = p.text ++ so.0;
+          taken = on first reader later p.text so.0 p.taken so.1;
+          stands = subst (λ xs. Stands (place_in names) (p.text ++ so.0) (at_end later) (meanings ++ xs) m q (stop_of read)) says so.2;
+          put = any_puts (λ xs. puts to xs writer) octets (stop_of read) (subst (λ x. Puts (λ xs. puts to xs writer) octets x) none p.put);
+          reads = count ∙ ap (failures_read (stop_of read)) (subst (λ x. fails reader ≡ failures_read x (fails first)) none p.reads);
+          writes = (subst (λ x. loses writer ≡ failures_written x (loses to)) none p.writes) ∙ unwritten (loses to);
+        });
+  }

@@ -15,10 +15,10 @@ use Rattle.rs_trace.specs.declared.names.Names.{Names}
 use Rattle.rs_trace.specs.declared.fault.ReplayFault.{ReplayFault}
 use Rattle.rs_trace.specs.declared.fault.ReplayFault.TheVariants.{Line, Memory, Reading, Writing}
 use Rattle.rs_trace.specs.declared.fault.Stop.{Stop}
-use Rattle.rs_trace.specs.declared.fault.Stop.TheVariants.{End, Table, Fault}
+use Rattle.rs_trace.specs.declared.fault.Stop.TheVariants.{End, Fault}
 use Rattle.rs_trace.specs.declared.trace_lines.TraceLines.{TraceLines}
 use Rattle.rs_trace.specs.Output.{fault_line}
-use Rattle.rs_trace.specs.Trace.{LineMeaning, Listed}
+use Rattle.rs_trace.specs.Trace.{LineMeaning}
 use Rattle.rs_trace.specs.Tables.{ListsOf}
 use Rattle.rs_trace.specs.Text.{lines_of, outcome, tells, IsRead}
 use Rattle.rs_trace.specs.Played.{Act, Did, ListedRoutes, lines_done, written, meaning_at, meaning_of_event, line_at, TookAll, AllTookAll, MeansFirst, Stands, PutsFront, Puts, failed, failures_read, failures_written}

@@ -135,7 +135,7 @@ fn read_word(text: &[u8]) -> Option<Word>
 }
 
 /// Reads hex to the front of the piece, and answers how many octets that makes.
-fn read_hex(digits: &[u8], piece: &mut [u8; 4096]) -> Option<usize>
+pub fn read_hex(digits: &[u8], piece: &mut [u8; 4096]) -> Option<usize>
     ensures { option_map (λ n. take n piece.new) result ≡ octets_of digits.now }
 {
     if digits.len() > 2 * LONGEST_PIECE {

@@ -1,12 +1,9 @@
 use Rattle.std.proofs.Common.{◌≡◌, List, length, refl, subst, sym, ap, arith}
-use Rattle.std.specs.Prelude.{Err}
 use Rattle.rs_core.specs.Core.{client_count}
 use Rattle.rs_trace.specs.Replays.{place_in}
-use Rattle.rs_replay.specs.Comparing.{HasCompared}
-use Rattle.rs_replay.specs.Sent.{IsSent}
-use Rattle.rs_replay.specs.Taking.{HaveTaken, ReadsSent}
-use Rattle.rs_replay.specs.Telling.{Tells}
-use Rattle.rs_replay.proofs.Compared.{is_bad, of_bad, tells_sent}
+use Rattle.rs_replay.specs.Comparing.{ComparesBy, HasCompared}
+use Rattle.rs_replay.specs.Taking.{HaveTaken}
+use Rattle.rs_replay.proofs.Compared.{compares_by, is_bad, of_bad, tells_sent}
 use Rattle.rs_replay.proofs.playing.play_and_compare.Goals as goal
 
 pub returns-in-Err : goal.returns-in-Err
@@ -26,26 +23,6 @@ returns-in-Err g c =
       );
     })
 
-pub returns-then-branch : goal.returns-then-branch
-returns-then-branch g c =
-    let played = c.in_ok-played.played in
-    let before = c.play_through.new.writer in
-    let connections = c.deref.result.now in
-    let sent = c.in-Ok.ensures.sent in
-    let have : HaveTaken played.core sent.0 connections = subst (λ xs. HaveTaken played.core sent.0 xs) (sym c.deref.ensures.value) sent.2 in
-    let count : length connections ≡ client_count played.core = omega (arith, ap length c.deref.ensures.value, c.in-Ok.ensures.count, c.in-Ok.connections.ok.0) in
-    record {
-      played = played;
-      before = before;
-      through = c.in_ok-played.ensures.through;
-      compares = record {
-        entries = sent.0;
-        reads = sent.1;
-        tells = subst (λ same. Tells g.W.TextOut.puts played.core played.names (λ run. IsSent run sent.0) before same c.tell.new.writer) c.if-branch.true
-            (tells_sent g.W.TextOut.puts played.core played.names connections sent.0 before _ c.tell.new.writer count have c.in_ok-tell.ensures);
-      };
-    }
-
 pub returns : goal.returns
 returns g c =
     let played = c.in_ok-played.played in
@@ -58,10 +35,11 @@ returns g c =
       played = played;
       before = before;
       through = c.in_ok-played.ensures.through;
-      compares = record {
-        entries = sent.0;
-        reads = sent.1;
-        tells = subst (λ same. Tells g.W.TextOut.puts played.core played.names (λ run. IsSent run sent.0) before same c.tell.new.writer) c.if-branch.false
-            (tells_sent g.W.TextOut.puts played.core played.names connections sent.0 before _ c.tell.new.writer count have c.in_ok-tell.ensures);
-      };
+      compares = subst (λ outcome. ComparesBy g.W.TextOut.puts g.S.TextIn.takes g.S.TextIn.at_end g.S.TextIn.failures c.args.until played c.args.sent.now c.read_sent.new.reader before outcome c.tell.new.writer)
+          (sym c.outcome_of.ensures)
+          (compares_by g.W.TextOut.puts g.S.TextIn.takes g.S.TextIn.at_end g.S.TextIn.failures c.args.until played c.args.sent.now c.read_sent.new.reader before _ c.tell.new.writer (record {
+            entries = sent.0;
+            reads = sent.1;
+            tells = tells_sent g.W.TextOut.puts played.core played.names connections sent.0 before _ c.tell.new.writer count have c.in_ok-is_same.ensures;
+          }));
     }

@@ -1,4 +1,4 @@
-use Rattle.std.proofs.Common.{◌≡◌, [], ◌∷◌, ◌++◌, ◌∙◌, Option, Some, None, subst}
+use Rattle.std.proofs.Common.{◌≡◌, [], ◌++◌, ◌∙◌, Option, Some, None, subst}
 use Rattle.std.specs.Prelude.{Result, Ok}
 use Rattle.rs_core.specs.declared.links.Event.{Event}
 use Rattle.rs_trace.specs.declared.fault.Stop.{Stop}

@@ -1,5 +1,5 @@
 use Rattle.std.proofs.Common.{◌≡◌, ◌∙◌, ℕ, List, [], ◌∷◌, Some, None, subst, sym, ap, refl}
-use Rattle.std.specs.Prelude.{Result, Ok, Err, IfOk}
+use Rattle.std.specs.Prelude.{Result, Ok, Err, IfOk, length}
 use Rattle.std.specs.Global.{Vec}
 use Rattle.std.specs.declared.alloc.AllocError.{AllocError}
 use Rattle.rs_policy.specs.Configuration.{Configuration}
@@ -83,6 +83,28 @@ listed_gone g first old new c lines settings core one lists h =
       clients = h.clients;
     }
 
+-- a drive stopped for a client's routes, and they were listed: what held before it holds again
+holds_on : (g : given.Over) (first before last resumed new : Recording g.row.R.Denot g.row.W.Denot g.row.P.Denot) (c : ℕ) (name : List ℕ) (lines : Result (Vec ℕ) AllocError) (begun old core : Core)
+    → last.stop ≡ Some (Table c) → resumed ≡ record last { stop = None } → name ≡ name_in resumed.names.now c
+    → ((acts : List Act) × Does g first acts before) × ((settings : Configuration) → client_count begun ≡ length settings.clients → Agrees begun (Ruled settings ∷ []) → HasGone (λ link acts. Does g first acts link) settings (name_in first.names.now) old before)
+    → HasStopped (Stepped g) before last → client_count core ≡ client_count old → Continues (Stepped g) old before core last Drives
+    → ((run : List Move) → Agrees core run → (listed_lines : List ℕ) × ListsOf (client_count core) run c name listed_lines × IfOk lines (λ made. made.items ≡ listed_lines))
+    → ((listed_lines : List ℕ) → IfOk lines (λ made. made.items ≡ listed_lines) → Adds g.R.TextIn.takes g.R.TextIn.at_end g.R.TextIn.failures g.W.TextOut.puts g.W.TextOut.failures
+    resumed.names.now resumed.reader.ghost_name resumed.writer.ghost_name resumed.reader.now resumed.writer.now resumed.lines.now resumed.number resumed.stop listed_lines
+    new.names.now new.reader.ghost_name new.writer.ghost_name new.reader.now new.writer.now new.lines.now new.number new.stop)
+    → ((acts : List Act) × Does g first acts new) × ((settings : Configuration) → client_count begun ≡ length settings.clients → Agrees begun (Ruled settings ∷ []) → HasGone (λ link acts. Does g first acts link) settings (name_in first.names.now) core new)
+holds_on g first before last resumed new c name lines begun old core stop resumes names held drove count drives lists adds =
+    let done = led g first before last held.0 drove in
+    let named : name ≡ name_in first.names.now c = names ∙ ap (λ (r : Recording g.row.R.Denot g.row.W.Denot g.row.P.Denot). name_in r.names.now c) resumes ∙ ap (λ ns. name_in ns c) done.1.same_names in
+    let one : (listed_lines : List ℕ) → IfOk lines (λ made. made.items ≡ listed_lines) → (acts : List Act) → Does g first acts last → Does g first (ListedRoutes c listed_lines ∷ acts) new =
+    λ listed_lines is acts did. listed_one g first last resumed new c listed_lines acts stop resumes (adds listed_lines is) did in
+    let some = some_listed lines in (
+      (_, one some.0 some.1 done.0 done.1),
+      λ settings clients agrees. listed_gone g first last new c lines settings core one
+          (subst (λ n. (run : List Move) → Agrees core run → (listed_lines : List ℕ) × ListsOf (client_count core) run c n listed_lines × IfOk lines (λ made. made.items ≡ listed_lines)) named lists)
+          (gone g first before last settings old core count drives (held.1 settings clients agrees)),
+    )
+
 -- the replay is over, at this stop
 played_to : (g : given.Over) (first last : Recording g.row.R.Denot g.row.W.Denot g.row.P.Denot) (settings : Configuration) (core : Core) (stop : Stop) (answer : Result (Unit {0}) ReplayFault) (reader : g.row.R.Denot) (writer : g.row.W.Denot)
     → HasGone (λ link acts. Does g first acts link) settings (name_in first.names.now) core last → last.stop ≡ Some stop
@@ -118,41 +140,13 @@ loop-preserved-in-None-stop g c = (
 
 pub loop-preserved-in-Some-Table : goal.loop-preserved-in-Some-Table
 loop-preserved-in-Some-Table g c =
-    let first = c.args.recording.now in
-    let last = c.drive_with.new.link in
-    let at = c.in-Some-Table.c in
-    let lines = c.route_lines-lines.result in
-    let stop : last.stop ≡ Some (Table at) = sym c.stop.ensures ∙ c.in-Some-Table.is ∙ ap Some c.in-Some-Table.field-0-is in
-    let before = led g first c.loop.recording last c.loop.invariant.0 c.drive_with.ensures.led in
-    let name : c.name.result.now ≡ name_in first.names.now at =
-    c.name.ensures ∙ ap (λ (r : Recording g.row.R.Denot g.row.W.Denot g.row.P.Denot). name_in r.names.now at) c.resume.ensures ∙ ap (λ ns. name_in ns at) before.1.same_names in
-    let one : (listed_lines : List ℕ) → IfOk lines (λ made. made.items ≡ listed_lines) → (acts : List Act) → Does g first acts last → Does g first (ListedRoutes at listed_lines ∷ acts) c.list_routes.new.self =
-    λ listed_lines is acts done. listed_one g first last c.resume.new.self c.list_routes.new.self at listed_lines acts stop c.resume.ensures (c.list_routes.ensures listed_lines is) done in
-    let some = some_listed lines in (
-      (_, one some.0 some.1 before.0 before.1),
-      λ settings clients agrees. listed_gone g first last c.list_routes.new.self at lines settings c.drive_with.new.core one
-          (subst (λ n. (run : List Move) → Agrees c.drive_with.new.core run → (listed_lines : List ℕ) × ListsOf (client_count c.drive_with.new.core) run at n listed_lines × IfOk lines (λ made. made.items ≡ listed_lines)) name c.route_lines-lines.ensures)
-          (gone g first c.loop.recording last settings c.loop.core c.drive_with.new.core c.drive_with.ensures.count c.drive_with.ensures.drives (c.loop.invariant.1 settings clients agrees)),
-    )
+    holds_on g c.args.recording.now c.loop.recording c.drive_with.new.link c.resume.new.self c.list_routes.new.self c.in-Some-Table.c c.name.result.now c.route_lines-lines.result c.args.core.now c.loop.core c.drive_with.new.core
+    (sym c.stop.ensures ∙ c.in-Some-Table.is ∙ ap Some c.in-Some-Table.field-0-is) c.resume.ensures c.name.ensures c.loop.invariant c.drive_with.ensures.led c.drive_with.ensures.count c.drive_with.ensures.drives c.route_lines-lines.ensures c.list_routes.ensures
 
 pub loop-preserved : goal.loop-preserved
 loop-preserved g c =
-    let first = c.args.recording.now in
-    let last = c.drive_with.new.link in
-    let at = c.in-Some-Table.c in
-    let lines = c.route_lines-lines.result in
-    let stop : last.stop ≡ Some (Table at) = sym c.stop.ensures ∙ c.in-Some-Table.is ∙ ap Some c.in-Some-Table.field-0-is in
-    let before = led g first c.loop.recording last c.loop.invariant.0 c.drive_with.ensures.led in
-    let name : c.name.result.now ≡ name_in first.names.now at =
-    c.name.ensures ∙ ap (λ (r : Recording g.row.R.Denot g.row.W.Denot g.row.P.Denot). name_in r.names.now at) c.resume.ensures ∙ ap (λ ns. name_in ns at) before.1.same_names in
-    let one : (listed_lines : List ℕ) → IfOk lines (λ made. made.items ≡ listed_lines) → (acts : List Act) → Does g first acts last → Does g first (ListedRoutes at listed_lines ∷ acts) c.list_routes.new.self =
-    λ listed_lines is acts done. listed_one g first last c.resume.new.self c.list_routes.new.self at listed_lines acts stop c.resume.ensures (c.list_routes.ensures listed_lines is) done in
-    let some = some_listed lines in (
-      (_, one some.0 some.1 before.0 before.1),
-      λ settings clients agrees. listed_gone g first last c.list_routes.new.self at lines settings c.drive_with.new.core one
-          (subst (λ n. (run : List Move) → Agrees c.drive_with.new.core run → (listed_lines : List ℕ) × ListsOf (client_count c.drive_with.new.core) run at n listed_lines × IfOk lines (λ made. made.items ≡ listed_lines)) name c.route_lines-lines.ensures)
-          (gone g first c.loop.recording last settings c.loop.core c.drive_with.new.core c.drive_with.ensures.count c.drive_with.ensures.drives (c.loop.invariant.1 settings clients agrees)),
-    )
+    holds_on g c.args.recording.now c.loop.recording c.drive_with.new.link c.resume.new.self c.list_routes.new.self c.in-Some-Table.c c.name.result.now c.route_lines-lines.result c.args.core.now c.loop.core c.drive_with.new.core
+    (sym c.stop.ensures ∙ c.in-Some-Table.is ∙ ap Some c.in-Some-Table.field-0-is) c.resume.ensures c.name.ensures c.loop.invariant c.drive_with.ensures.led c.drive_with.ensures.count c.drive_with.ensures.drives c.route_lines-lines.ensures c.list_routes.ensures
 
 pub returns-in-Some-End-clause-reader : goal.returns-in-Some-End-clause-reader
 returns-in-Some-End-clause-reader g c = (led g c.args.recording.now c.loop.recording c.drive_with.new.link c.loop.invariant.0 c.drive_with.ensures.led).1.same_reader
