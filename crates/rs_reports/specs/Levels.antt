@@ -11,6 +11,7 @@ level_of (reports.Up client mode limit hold) = levels.Change
 level_of (reports.Down client ending offered) = levels.Error
 level_of (reports.Busy client address count holder) = levels.Error
 level_of (reports.KeptOut client address count) = levels.Error
+level_of (reports.Enabled client) = levels.Change
 level_of (reports.Faulted client count last) = levels.Route
 level_of (reports.PassedOver client) = levels.Route
 level_of (reports.Rules (Ok accepted)) = levels.Change

@@ -54,6 +54,10 @@ pub enum Report {
         address: u32,
         count: u64,
     },
+    /// The operator ordered that connections of a client are taken again.
+    Enabled {
+        client: usize,
+    },
     /// UPDATEs of a client were not taken as they came (RFC 7606, 2): how many since the last such
     /// report, and what was wrong with the last.
     Faulted {
@@ -305,6 +309,22 @@ fn one_or_several(count: u64, one: &'static str, several: &'static str) -> &'sta
     if count == 1 { one } else { several }
 }
 
+/// So many connections that were closed, and the address that the first came from.
+#[derive(Drop)]
+struct Closed(u64, u32);
+
+impl fmt::Display for Closed {
+    fn fmt<W: fmt::Write>(&self, f: &mut fmt::Formatter<W>) -> fmt::Result {
+        let which = one_or_several(self.0, "connection", "connections");
+        write!(
+            f,
+            "{} {which} from {} closed",
+            self.0,
+            Ipv4Addr::from(self.1)
+        )
+    }
+}
+
 /// A report in words, with the names of the clients: a line of the log but for its second.
 #[derive(Drop)]
 pub struct Worded<'a>(pub &'a Report, pub &'a Names);
@@ -353,12 +373,11 @@ impl fmt::Display for Worded<'_> {
                 count,
                 holder,
             } => {
-                let name = names.name(*client);
-                let which = one_or_several(*count, "connection", "connections");
-                let address = Ipv4Addr::from(*address);
                 write!(
                     f,
-                    "{name} busy: {count} {which} from {address} closed, {}",
+                    "{} busy: {}, {}",
+                    names.name(*client),
+                    Closed(*count, *address),
                     holder_text(*holder)
                 )
             }
@@ -367,10 +386,11 @@ impl fmt::Display for Worded<'_> {
                 address,
                 count,
             } => {
-                let name = names.name(*client);
-                let which = one_or_several(*count, "connection", "connections");
-                let address = Ipv4Addr::from(*address);
-                write!(f, "{name} disabled: {count} {which} from {address} closed")
+                let closed = Closed(*count, *address);
+                write!(f, "{} disabled: {closed}", names.name(*client))
+            }
+            Report::Enabled { client } => {
+                write!(f, "{} enabled by the operator", names.name(*client))
             }
             Report::Faulted {
                 client,
@@ -411,7 +431,7 @@ impl Report {
             | Report::Rules(Err(_))
             | Report::File(_)
             | Report::LeftOut { .. } => Level::Error,
-            Report::Up { .. } | Report::Rules(Ok(())) => Level::Change,
+            Report::Up { .. } | Report::Enabled { .. } | Report::Rules(Ok(())) => Level::Change,
             Report::Faulted { .. } | Report::PassedOver { .. } => Level::Route,
         }
     }
