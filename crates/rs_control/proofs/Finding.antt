@@ -1,8 +1,7 @@
--- Where a space was found, or was not.
+-- Where an octet was found, or was not.
 use Rattle.std.proofs.Common.{◌≡◌, ℕ, ◌+◌, ◌-◌, ◌≤◌, Bool, true, false, List, [], length, take, drop, Option, Some, None, cond, ltb, refl, sym, ap, ◌∙◌, arith}
 use Rattle.std.proofs.lemmas.List.{take_all, drop_all}
 use Rattle.std.proofs.lemmas.Grind.{common_steps}
-use Rattle.rs_control.specs.Lines.{unspaced}
 
 at_place : (b : Bool) (n at : ℕ) (r : Option ℕ) → r ≡ cond b (Some n) None → r ≡ Some at → at ≡ n
 at_place true n at r e f = cc
@@ -19,16 +18,12 @@ not_less n m h = grind (arith, common_steps)
 pub before : (n at : ℕ) (octets front : List ℕ) (r : Option ℕ) → r ≡ cond (ltb n (length octets)) (Some n) None → r ≡ Some at → front ≡ take at octets → front ≡ take n octets
 before n at octets front r e f g = g ∙ ap (λ m. take m octets) (at_place (ltb n (length octets)) n at r e f)
 
--- what stands behind it, without spaces
-pub behind : (n at : ℕ) (octets rest : List ℕ) (r : Option ℕ) → r ≡ cond (ltb n (length octets)) (Some n) None → r ≡ Some at → rest ≡ unspaced (drop (at + 1) octets) → rest ≡ unspaced (drop (n + 1) octets)
-behind n at octets rest r e f g = g ∙ ap (λ m. unspaced (drop (m + 1) octets)) (at_place (ltb n (length octets)) n at r e f)
-
 rest_fits : (at : ℕ) (octets : List ℕ) → length (drop (at + 1) octets) ≤ length octets - (at + 1)
 rest_fits at octets = grind (arith, common_steps)
 
--- from a place on to the end
-pub whole_rest : (at : ℕ) (octets rest : List ℕ) → rest ≡ unspaced (take (length octets - (at + 1)) (drop (at + 1) octets)) → rest ≡ unspaced (drop (at + 1) octets)
-whole_rest at octets rest e = e ∙ ap unspaced (take_all (length octets - (at + 1)) (drop (at + 1) octets) (rest_fits at octets))
+-- what stands behind it, up to the end
+pub behind : (n at : ℕ) (octets : List ℕ) (r : Option ℕ) → r ≡ cond (ltb n (length octets)) (Some n) None → r ≡ Some at → take (length octets - (at + 1)) (drop (at + 1) octets) ≡ drop (n + 1) octets
+behind n at octets r e f = take_all (length octets - (at + 1)) (drop (at + 1) octets) (rest_fits at octets) ∙ ap (λ m. drop (m + 1) octets) (at_place (ltb n (length octets)) n at r e f)
 
 -- all, where nothing was found
 pub all_before : (n : ℕ) (octets : List ℕ) (r : Option ℕ) → r ≡ cond (ltb n (length octets)) (Some n) None → r ≡ None → octets ≡ take n octets
@@ -38,5 +33,5 @@ longer : (n m : ℕ) → m ≤ n → m ≤ n + 1
 longer n m h = omega arith
 
 -- and nothing behind
-pub none_behind : (n : ℕ) (octets : List ℕ) (r : Option ℕ) → r ≡ cond (ltb n (length octets)) (Some n) None → r ≡ None → [] ≡ unspaced (drop (n + 1) octets)
-none_behind n octets r e f = ap unspaced (sym (drop_all (n + 1) octets (longer n (length octets) (not_less n (length octets) (at_none (ltb n (length octets)) n r e f)))))
+pub none_behind : (n : ℕ) (octets : List ℕ) (r : Option ℕ) → r ≡ cond (ltb n (length octets)) (Some n) None → r ≡ None → [] ≡ drop (n + 1) octets
+none_behind n octets r e f = sym (drop_all (n + 1) octets (longer n (length octets) (not_less n (length octets) (at_none (ltb n (length octets)) n r e f))))

@@ -2,20 +2,11 @@
 use Rattle.std.proofs.Common.{◌≡◌, ℕ, Bool, true, false, List, [], Option, None, refl, ap, ◌∙◌, cond}
 use Rattle.std.specs.Prelude.{IsUtf8}
 use Rattle.std.specs.Str.{is_utf8}
-use Rattle.std.proofs.lemmas.Str.{IsUtf8-from_is_utf8, is_utf8-from_IsUtf8}
+use Rattle.rs_open.proofs.Texts.{utf8_tested, utf8_refuted}
 use Rattle.rs_policy.specs.Configuration.{Configuration}
 use Rattle.rs_policy.specs.Rules.{client_named}
 use Rattle.rs_control.specs.declared.lines.Cause.TheVariants.{NotUtf8}
 use Rattle.rs_control.specs.Lines.{Meaning, Refused, member_named, command_meaning, word_of, behind_word, unspaced, line_meaning}
-
-pub tested : (octets : List ℕ) → IsUtf8 octets → is_utf8 octets ≡ true
-tested octets is = is_utf8-from_IsUtf8 octets is
-
-pub refuted : (octets : List ℕ) → (IsUtf8 octets → ⊥) → is_utf8 octets ≡ false
-refuted octets not = by_test (is_utf8 octets) refl where
-  by_test : (b : Bool) → is_utf8 octets ≡ b → b ≡ false
-  by_test false e = refl
-  by_test true e = absurd (not (IsUtf8-from_is_utf8 octets e))
 
 chosen : (b : Bool) (found : Option ℕ) → b ≡ true → found ≡ cond b found None
 chosen true found e = refl
@@ -26,10 +17,10 @@ passed false found e = refl
 passed true found e = cc
 
 pub named : (config : Configuration) (name text : List ℕ) (r : Option ℕ) → IsUtf8 name → text ≡ name → r ≡ client_named config.clients text → r ≡ member_named config name
-named config name text r is e f = f ∙ (ap (λ t. client_named config.clients t) e ∙ chosen (is_utf8 name) (client_named config.clients name) (tested name is))
+named config name text r is e f = f ∙ (ap (λ t. client_named config.clients t) e ∙ chosen (is_utf8 name) (client_named config.clients name) (utf8_tested name is))
 
 pub unnamed : (config : Configuration) (name : List ℕ) → (IsUtf8 name → ⊥) → None ≡ member_named config name
-unnamed config name not = passed (is_utf8 name) (client_named config.clients name) (refuted name not)
+unnamed config name not = passed (is_utf8 name) (client_named config.clients name) (utf8_refuted name not)
 
 chosen_meaning : (b : Bool) (meaning other : Meaning) → b ≡ true → meaning ≡ cond b meaning other
 chosen_meaning true meaning other e = refl
@@ -40,10 +31,10 @@ passed_meaning false meaning other e = refl
 passed_meaning true meaning other e = cc
 
 pub commanded : (config : Configuration) (line : List ℕ) (r : Meaning) → IsUtf8 line → r ≡ command_meaning config (word_of (unspaced line)) (behind_word (unspaced line)) → r ≡ line_meaning config line
-commanded config line r is e = e ∙ chosen_meaning (is_utf8 line) (command_meaning config (word_of (unspaced line)) (behind_word (unspaced line))) (Refused NotUtf8 []) (tested line is)
+commanded config line r is e = e ∙ chosen_meaning (is_utf8 line) (command_meaning config (word_of (unspaced line)) (behind_word (unspaced line))) (Refused NotUtf8 []) (utf8_tested line is)
 
 pub no_text : (config : Configuration) (line : List ℕ) → (IsUtf8 line → ⊥) → Refused NotUtf8 [] ≡ line_meaning config line
-no_text config line not = passed_meaning (is_utf8 line) (command_meaning config (word_of (unspaced line)) (behind_word (unspaced line))) (Refused NotUtf8 []) (refuted line not)
+no_text config line not = passed_meaning (is_utf8 line) (command_meaning config (word_of (unspaced line)) (behind_word (unspaced line))) (Refused NotUtf8 []) (utf8_refuted line not)
 
 pub by_words : (config : Configuration) (text whole word rest : List ℕ) (r : Meaning) → text ≡ whole → word ≡ word_of text → rest ≡ behind_word text → r ≡ command_meaning config word rest → r ≡ command_meaning config (word_of whole) (behind_word whole)
 by_words config text whole word rest r e f g h =

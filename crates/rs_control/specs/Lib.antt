@@ -4,3 +4,4 @@ pub mod Answers
 pub mod Talks
 pub mod Steps
 pub mod Fronts
+pub mod Courses

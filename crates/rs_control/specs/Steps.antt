@@ -1,20 +1,25 @@
 -- What comes of a line.
-use Rattle.std.specs.Prelude.{◌≡◌, ◌<◌, ⊤, ℕ, ◌+◌, List, [], ◌∷◌, ◌++◌, length, codes, Option, Some, None}
+use Rattle.std.specs.Prelude.{◌≡◌, ◌<◌, ℕ, ◌+◌, List, [], ◌∷◌, ◌++◌, length, codes, Option, Some, None}
 use Rattle.rs_policy.specs.Configuration.{Configuration, client_of}
 use Rattle.rs_window.specs.declared.page.Page.{Page}
 use Rattle.rs_control.specs.declared.order.Order.{Order}
 use Rattle.rs_control.specs.declared.orders.Orders.{Orders}
 use Rattle.rs_control.specs.declared.steps.Outcome.{Outcome}
 use Rattle.rs_control.specs.declared.steps.Outcome.TheVariants as outcomes
+use Rattle.rs_control.specs.Answers.{SaysSomething, IsError}
 use Rattle.rs_control.specs.Lines.{Meaning, Help, Show, ShowMember, Why, Ordered, Refused}
 use Rattle.rs_control.specs.Orders.{due, given_of, IsShut}
 
--- the answer is a text
+-- the answer is a text such as this
+abbrev pub IsTextThat : (List ℕ → Type 0) → Outcome → Type 0
+IsTextThat Is (outcomes.Page page) = ⊥
+IsTextThat Is (outcomes.Text text) = Is text.items
+IsTextThat Is (outcomes.Fixed text) = Is text.now
+IsTextThat Is (outcomes.Owed owed) = ⊥
+
+-- it is a text that says something
 abbrev pub IsText : Outcome → Type 0
-IsText (outcomes.Page page) = ⊥
-IsText (outcomes.Text text) = ⊤
-IsText (outcomes.Fixed text) = ⊤
-IsText (outcomes.Owed owed) = ⊥
+IsText outcome = IsTextThat SaysSomething outcome
 
 -- the page that was found, or a text where there is none
 abbrev pub IsFound : Option Page → Outcome → Type 0
@@ -44,4 +49,4 @@ ComesOf finds config Show old new outcome = (due new ≡ due old) × Shows finds
 ComesOf finds config (ShowMember c) old new outcome = (due new ≡ due old) × (c < length config.clients → Shows finds (member_target config c) outcome)
 ComesOf finds config (Why c prefix) old new outcome = (due new ≡ due old) × (c < length config.clients → Shows finds (why_target config c prefix) outcome)
 ComesOf finds config (Ordered order) old new outcome = Puts order old new outcome
-ComesOf finds config (Refused cause word) old new outcome = (due new ≡ due old) × IsText outcome
+ComesOf finds config (Refused cause word) old new outcome = (due new ≡ due old) × IsTextThat IsError outcome

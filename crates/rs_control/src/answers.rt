@@ -1,7 +1,7 @@
 //! The answers to lines, but for pages: one object of JSON, in a line.
 
 ghost use Rattle.std.specs.Prelude.{◌≡◌, ◌++◌, ◌∷◌, [], codes, IfOk};
-ghost use Rattle.rs_control.specs.Answers.{error_line};
+ghost use Rattle.rs_control.specs.Answers.{IsError, SaysSomething, error_line};
 
 use crate::lines::Cause;
 use json::Writer;
@@ -57,7 +57,8 @@ impl fmt::Display for Refusal<'_> {
 
 /// The line that says an error.
 pub(crate) fn error_line(alloc: Global, text: &str) -> Result<Vec<u8>, AllocError>
-    ensures { IfOk result (λ line. line.items ≡ error_line text.now) }
+    ensures value { IfOk result (λ line. line.items ≡ error_line text.now) }
+    ensures says { IfOk result (λ line. SaysSomething line.items) }
 {
     let mut writer = Writer::new(Vec::new(alloc));
     writer.begin_object()?;
@@ -70,18 +71,19 @@ pub(crate) fn error_line(alloc: Global, text: &str) -> Result<Vec<u8>, AllocErro
 }
 
 /// The line that says why a line is refused.
-pub(crate) fn refusal_line(
-    alloc: Global,
-    cause: Cause,
-    word: &[u8],
-) -> Result<Vec<u8>, AllocError> {
+pub(crate) fn refusal_line(alloc: Global, cause: Cause, word: &[u8]) -> Result<Vec<u8>, AllocError>
+    ensures error { IfOk result (λ line. IsError line.items) }
+    ensures says { IfOk result (λ line. SaysSomething line.items) }
+{
     let word = str::from_utf8(word).unwrap_or("");
     let text = format!(in alloc; "{}", Refusal { cause, word })?;
     error_line(alloc, text.as_str())
 }
 
 /// The line that says that a command was done for a member.
-pub(crate) fn done_line(alloc: Global, command: &str, member: &str) -> Result<Vec<u8>, AllocError> {
+pub(crate) fn done_line(alloc: Global, command: &str, member: &str) -> Result<Vec<u8>, AllocError>
+    ensures { IfOk result (λ line. SaysSomething line.items) }
+{
     let mut writer = Writer::new(Vec::new(alloc));
     writer.begin_object()?;
     writer.key("done")?;

@@ -1,7 +1,8 @@
 //! What stands at the front of what an operator said.
 
 ghost use Rattle.std.specs.Prelude.{◌≡◌, length};
-ghost use Rattle.rs_control.specs.Fronts.{IsWithin, front_in, front_without};
+ghost use Rattle.std.specs.List.{after_first};
+ghost use Rattle.rs_control.specs.Fronts.{IsWithin, is_end, front_in, front_without};
 
 use crate::lines::LINE;
 
@@ -16,11 +17,18 @@ pub(crate) enum Front {
     Long,
 }
 
+/// An end of a line stands in it.
+pub(crate) fn has_line(octets: &[u8]) -> bool {
+    octets.contains(&b'\n')
+}
+
 /// What stands behind the first end of a line; nothing where there is none.
-pub(crate) fn behind_line(octets: &[u8]) -> Option<&[u8]> {
+pub(crate) fn behind_line(octets: &[u8]) -> &[u8]
+    ensures { result.now ≡ after_first is_end octets.now }
+{
     match octets.iter().position(|octet| *octet == b'\n') {
-        Some(at) => Some(&octets[at + 1..]),
-        None => None,
+        Some(at) => &octets[at + 1..],
+        None => &[],
     }
 }
 

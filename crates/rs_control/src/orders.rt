@@ -39,7 +39,7 @@ pub struct Orders {
 }
 
 impl Orders {
-    ghost use Rattle.rs_control.specs.Orders.{due, given_of, IsShut};
+    ghost use Rattle.rs_control.specs.Orders.{due, given_of, IsReloading, IsShut};
 
     /// No orders.
     pub fn new(alloc: Global) -> Result<Orders, AllocError>
@@ -102,7 +102,9 @@ impl Orders {
     }
 
     /// A reload was given of which it is not known what came of it.
-    pub fn is_reloading(&self) -> bool {
+    pub fn is_reloading(&self) -> bool
+        ensures { IsTrue result ↔ IsReloading self.now }
+    {
         self.told < self.reloads
     }
 

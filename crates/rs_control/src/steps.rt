@@ -1,6 +1,7 @@
 //! What comes of a line: a page, a text, or an order, whose answer is owed until it was given.
 
 ghost use Rattle.std.specs.Prelude.{◌≡◌, ◌<◌, length, IfOk, OnErr};
+ghost use Rattle.rs_control.specs.Answers.{SaysSomething};
 ghost use Rattle.rs_control.specs.Lines.{meaning_of, line_meaning};
 ghost use Rattle.rs_control.specs.Orders.{due};
 ghost use Rattle.rs_control.specs.Steps.{IsFound, Shows, Puts, ComesOf, member_target, why_target};
@@ -42,6 +43,7 @@ pub(crate) enum Outcome {
 
 /// A page where it was found; else this text.
 fn page_or(found: Option<Page>, text: &'static [u8]) -> Outcome
+    requires { SaysSomething text.now }
     ensures { IsFound found result }
 {
     match found {
@@ -127,12 +129,9 @@ pub(crate) fn step<P: Pages>(
 }
 
 /// The answer to a command for a member.
-fn done_for(
-    alloc: Global,
-    config: &Config,
-    command: &str,
-    c: usize,
-) -> Result<Vec<u8>, AllocError> {
+fn done_for(alloc: Global, config: &Config, command: &str, c: usize) -> Result<Vec<u8>, AllocError>
+    ensures { IfOk result (λ text. SaysSomething text.items) }
+{
     if c < config.clients() {
         done_line(alloc, command, config.name(c))
     } else {
@@ -146,7 +145,9 @@ pub(crate) fn done(
     config: &Config,
     orders: &Orders,
     order: Order,
-) -> Result<Vec<u8>, AllocError> {
+) -> Result<Vec<u8>, AllocError>
+    ensures { IfOk result (λ text. SaysSomething text.items) }
+{
     match order {
         Order::Disable(c, _) => done_for(alloc, config, "disable", c),
         Order::Enable(c) => done_for(alloc, config, "enable", c),

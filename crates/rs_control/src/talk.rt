@@ -1,9 +1,9 @@
 //! A talk: the course of one connection of an operator.
 
-ghost use Rattle.std.specs.Prelude.{◌≡◌, ◌≤◌, ◌+◌, [], None, false, length, min, take, drop, vec_capacity};
+ghost use Rattle.std.specs.Prelude.{◌≡◌, ◌≤◌, ◌+◌, [], None, false, length, min, take, drop, vec_capacity, IfOk, IfSome, if◌then◌else◌, ◌∷◌};
 
 use crate::answers::{LONG_LINE, NO_MEMORY};
-use crate::fronts::{Front, behind_line, front_of};
+use crate::fronts::{Front, behind_line, front_of, has_line};
 use crate::lines::LINE;
 use crate::order::Order;
 use crate::orders::Orders;
@@ -18,6 +18,14 @@ pub const PATIENCE: u64 = 60_000;
 
 /// The most octets that are kept of what was heard: a line and its end.
 const HEARD: usize = LINE + 1;
+
+/// The end of a line, or nothing.
+fn line_end(is_end: bool) -> &'static [u8]
+    ensures value { result.now ≡ (if is_end then 10 ∷ [] else []) }
+    ensures bound { length result.now ≤ 1 }
+{
+    if is_end { b"\n" } else { b"" }
+}
 
 /// A talk.
 #[derive(Drop)]
@@ -45,12 +53,15 @@ pub struct Talk {
 }
 
 impl Talk {
+    ghost use Rattle.rs_control.specs.Answers.{no_memory};
     ghost use Rattle.rs_control.specs.Fronts.{front_in};
     ghost use Rattle.rs_control.specs.Orders.{due};
-    ghost use Rattle.rs_control.specs.Talks.{Begins, IsBusy, Obeys, TakesUp, has_ended, is_last, owed_of, page_of, said, unsent};
+    ghost use Rattle.rs_control.specs.Talks.{Begins, Ends, GoesOn, Hears, IsAnswered, IsBusy, IsFresh, Obeys, Pays, Takes, TakesUp, has_ended, is_last, owed_of, page_of, said, unsent};
 
     /// A talk that begins now.
-    pub fn new(alloc: Global, now: u64) -> Result<Talk, AllocError> {
+    pub fn new(alloc: Global, now: u64) -> Result<Talk, AllocError>
+        ensures { IfOk result IsFresh }
+    {
         Ok(Talk {
             heard: Vec::with_capacity(alloc, HEARD)?,
             is_passing: false,
@@ -81,17 +92,14 @@ impl Talk {
 
     /// The operator said this; what there is no room for is passed over, and what is left of a line that is
     /// too long.
-    pub fn hear(&mut self, octets: &[u8], now: u64) {
+    pub fn hear(&mut self, octets: &[u8], now: u64)
+        ensures { Hears octets.now self.old self.new }
+    {
         self.since = now;
         self.is_read = false;
         let octets = if self.is_passing {
-            match behind_line(octets) {
-                Some(behind) => {
-                    self.is_passing = false;
-                    behind
-                }
-                None => &[],
-            }
+            self.is_passing = !has_line(octets);
+            behind_line(octets)
         } else {
             octets
         };
@@ -101,18 +109,24 @@ impl Talk {
     }
 
     /// The operator says nothing more. What was heard is answered still.
-    pub fn end(&mut self) {
+    pub fn end(&mut self)
+        ensures { Ends self.old self.new }
+    {
         self.has_ended = true;
         self.is_read = false;
     }
 
     /// What waits to be sent.
-    pub fn waiting(&self) -> &[u8] {
+    pub fn waiting(&self) -> &[u8]
+        ensures { result.now ≡ unsent self.now }
+    {
         self.outbox.waiting()
     }
 
     /// So many of those octets were sent, now.
-    pub fn took(&mut self, count: usize, now: u64) {
+    pub fn took(&mut self, count: usize, now: u64)
+        ensures { Takes count self.old self.new }
+    {
         self.outbox.took(count);
         if count > 0 {
             self.since = now;
@@ -146,6 +160,8 @@ impl Talk {
         piece: &mut Piece,
     ) -> bool
         ensures begins { unsent self.old ≡ [] → page_of self.old ≡ None → owed_of self.old ≡ None → is_last self.old ≡ false → Begins (P.finds server.now.pages.now) server.now.config.now (front_in (said self.old) (has_ended self.old)) orders.old orders.new self.old self.new }
+        ensures goes_on { unsent self.old ≡ [] → IfSome (page_of self.old) (λ page. GoesOn (P.writes server.now.pages.now page) self.old self.new) }
+        ensures pays { unsent self.old ≡ [] → page_of self.old ≡ None → IfSome (owed_of self.old) (λ owed. Pays orders.old owed self.old self.new) }
         ensures busy { IsBusy self.old → due orders.new ≡ due orders.old }
     {
         if !self.outbox.is_empty() {
@@ -167,6 +183,7 @@ impl Talk {
     /// Writes the next piece of the page, without its ends of lines; the answer is one line.
     fn go_on<P: Pages>(&mut self, pages: &P, page: Page, piece: &mut Piece)
         requires { unsent self.old ≡ [] }
+        ensures { GoesOn (P.writes pages.now page) self.old self.new }
     {
         piece.clear();
         let Ok(next) = pages.write(page, piece) else {
@@ -176,9 +193,7 @@ impl Talk {
         };
         piece.join_lines();
         self.outbox.put(piece.octets());
-        if next.is_end() {
-            self.outbox.put(b"\n");
-        }
+        self.outbox.put(line_end(next.is_end()));
         self.is_last |= next.is_cut();
         self.page = next.page();
     }
@@ -186,6 +201,7 @@ impl Talk {
     /// Answers an order, once it was given and it is known what came of it.
     fn pay(&mut self, alloc: Global, config: &Config, orders: &Orders, owed: Owed) -> bool
         requires { unsent self.old ≡ [] }
+        ensures { Pays orders.now owed self.old self.new }
     {
         if !orders.is_given(owed.number) || owed.order == Order::Reload && orders.is_reloading() {
             return false;
@@ -194,7 +210,7 @@ impl Talk {
         self.is_ending |= owed.order == Order::End;
         match done(alloc, config, orders, owed.order) {
             Ok(text) => self.put(&text),
-            Err(_) => self.put(NO_MEMORY),
+            Err(_) => self.put_no_memory(),
         }
         true
     }
@@ -202,14 +218,26 @@ impl Talk {
     /// Puts an answer into the outbox; one that has no room there is the last.
     fn put(&mut self, text: &[u8])
         requires { unsent self.old ≡ [] }
-        ensures text { length text.now ≤ 34816 → unsent self.new ≡ text.now }
+        ensures answered { IsAnswered text.now self.new }
         ensures said { said self.new ≡ said self.old }
+        ensures owed { owed_of self.new ≡ owed_of self.old }
     {
         if text.len() > ROOM {
             self.is_last = true;
         } else {
             self.outbox.put(text);
         }
+    }
+
+    /// Puts the answer where memory was refused.
+    fn put_no_memory(&mut self)
+        requires { unsent self.old ≡ [] }
+        ensures text { unsent self.new ≡ no_memory }
+        ensures answered { IsAnswered no_memory self.new }
+        ensures said { said self.new ≡ said self.old }
+        ensures owed { owed_of self.new ≡ owed_of self.old }
+    {
+        self.outbox.put(NO_MEMORY);
     }
 
     /// Answers the line that was heard, if it is whole.
@@ -226,7 +254,7 @@ impl Talk {
             Front::Long => {
                 self.heard.clear();
                 self.is_passing = true;
-                self.put(LONG_LINE);
+                self.outbox.put(LONG_LINE);
                 true
             }
             Front::Line(count) => {
@@ -249,7 +277,7 @@ impl Talk {
         self.heard.drain(..(count + 1).min(len));
         match next {
             Ok(outcome) => self.take_up(outcome),
-            Err(_) => self.put(NO_MEMORY),
+            Err(_) => self.put_no_memory(),
         }
     }
 
