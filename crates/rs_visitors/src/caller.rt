@@ -1,7 +1,8 @@
 //! A caller: a connection of an operator to the control socket, and the talk over it.
 
-use crate::visitor::INPUT;
-use crate::wire::Wire;
+ghost use Rattle.rs_control.specs.Courses.{Course, Listens, Sends};
+
+use crate::wire::{INPUT, Wire};
 use mio::net::UnixStream;
 use mio::{Interest, Poll, Token};
 use rs_control::orders::Orders;
@@ -17,7 +18,7 @@ const STEPS: usize = 4;
 /// A caller.
 #[derive(Drop)]
 pub(crate) struct Caller {
-    wire: Wire,
+    wire: Wire<UnixStream>,
     talk: Talk,
 }
 
@@ -55,7 +56,9 @@ impl Caller {
     }
 
     /// Reads once what the caller says. Answers whether more may be there.
-    fn read(&mut self, input: &mut [u8; INPUT], now: u64) -> bool {
+    fn read(&mut self, input: &mut [u8; INPUT], now: u64) -> bool
+        ensures { Listens self.old.talk self.new.talk }
+    {
         let most = self.talk.room().min(INPUT);
         let Some(room) = input.get_mut(..most) else {
             return false;
@@ -74,10 +77,69 @@ impl Caller {
     }
 
     /// Writes once what waits. Answers whether something was taken.
-    fn write(&mut self, now: u64) -> bool {
+    fn write(&mut self, now: u64) -> bool
+        ensures { Sends self.old.talk self.new.talk }
+    {
         let count = self.wire.write(self.talk.waiting());
         self.talk.took(count, now);
         count > 0
+    }
+
+    /// Goes on with the talk, where pieces are left. Answers whether something came of it.
+    fn advance<P: Pages>(
+        &mut self,
+        server: &Server<'_, P>,
+        orders: &mut Orders,
+        piece: &mut Piece,
+        pieces: &mut usize,
+    ) -> bool
+        ensures { Course (P.finds server.now.pages.now) (P.writes server.now.pages.now) server.now.config.now orders.old self.old.talk orders.new self.new.talk }
+    {
+        if *pieces == 0 {
+            return false;
+        }
+        if !self.talk.advance(server, orders, piece) {
+            return false;
+        }
+        *pieces = pieces.saturating_sub(1);
+        true
+    }
+
+    /// Reads, goes on and writes once. Answers whether something came of it.
+    fn step<P: Pages>(
+        &mut self,
+        server: &Server<'_, P>,
+        orders: &mut Orders,
+        input: &mut [u8; INPUT],
+        piece: &mut Piece,
+        pieces: &mut usize,
+        now: u64,
+    ) -> bool
+        ensures { Course (P.finds server.now.pages.now) (P.writes server.now.pages.now) server.now.config.now orders.old self.old.talk orders.new self.new.talk }
+    {
+        let has_read = self.read(input, now);
+        let has_advanced = self.advance(server, orders, piece, pieces);
+        let has_written = self.write(now);
+        !self.wire.is_broken & (has_read | has_advanced | has_written)
+    }
+
+    /// Takes some steps, while something comes of them.
+    fn steps<P: Pages>(
+        &mut self,
+        server: &Server<'_, P>,
+        orders: &mut Orders,
+        input: &mut [u8; INPUT],
+        piece: &mut Piece,
+        pieces: &mut usize,
+        now: u64,
+    )
+        ensures { Course (P.finds server.now.pages.now) (P.writes server.now.pages.now) server.now.config.now orders.old self.old.talk orders.new self.new.talk }
+    {
+        for _ in 0..STEPS {
+            if !self.step(server, orders, input, piece, pieces, now) {
+                return;
+            }
+        }
     }
 
     /// Goes on by a bounded amount of work, of which so many pieces are left for all callers together. Answers
@@ -90,18 +152,10 @@ impl Caller {
         piece: &mut Piece,
         pieces: &mut usize,
         now: u64,
-    ) -> bool {
-        for _ in 0..STEPS {
-            let has_read = self.read(input, now);
-            let has_advanced = *pieces > 0 && self.talk.advance(server, orders, piece);
-            if has_advanced {
-                *pieces = pieces.saturating_sub(1);
-            }
-            let has_written = self.write(now);
-            if self.wire.is_broken || !(has_read || has_advanced || has_written) {
-                break;
-            }
-        }
+    ) -> bool
+        ensures { Course (P.finds server.now.pages.now) (P.writes server.now.pages.now) server.now.config.now orders.old self.old.talk orders.new self.new.talk }
+    {
+        self.steps(server, orders, input, piece, pieces, now);
         self.is_undone()
     }
 

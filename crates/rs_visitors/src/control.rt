@@ -1,10 +1,13 @@
 //! The control socket: its file, its listener, and those who have come.
 
+ghost use Rattle.std.specs.Prelude.{◌≡◌, ◌++◌, option_to_list};
+
 use crate::caller::Caller;
-use crate::visitor::INPUT;
+use crate::wire::{INPUT, PIECES, SHUT};
 use mio::net::UnixListener;
 use mio::{Interest, Poll, Token};
-use rs_control::orders::Orders;
+use rs_control::order::Order;
+use rs_control::orders::{Orders, Reloaded};
 use rs_control::steps::Server;
 use rs_window::page::{Pages, Piece};
 use slab::Slab;
@@ -19,9 +22,6 @@ use std::{fs, io};
 /// The most callers; others wait until one has gone.
 const CALLERS: usize = 4;
 
-/// The most lines and pieces that are answered in a round, for all callers together.
-const PIECES: usize = 4;
-
 /// How many connections that were made before the file had its mode are closed at most.
 const EARLY: usize = 4096;
 
@@ -35,6 +35,8 @@ pub struct Control {
     callers: Slab<Caller>,
     /// The caller who goes on first.
     next: usize,
+    /// Up to which moment nobody is let in.
+    shut_to: u64,
     orders: Orders,
     input: [u8; INPUT],
     piece: Piece,
@@ -60,6 +62,10 @@ pub fn remove<R: Files>(rt: &R, path: &str) {
 }
 
 impl Control {
+    ghost use Rattle.rs_control.specs.Courses.{Serves};
+    ghost use Rattle.rs_control.specs.Orders.{due};
+    ghost use Rattle.rs_visitors.specs.Dues.{due_at};
+
     /// A control socket at this path, for tokens from `first` on. Its file has the mode 0600.
     pub fn open<R: Net + Files>(
         rt: &R,
@@ -87,6 +93,7 @@ impl Control {
             is_ready: true,
             callers,
             next: 0,
+            shut_to: 0,
             orders: Orders::new(alloc)?,
             input: [0; INPUT],
             piece: Piece::new(alloc)?,
@@ -98,9 +105,18 @@ impl Control {
         self.orders.is_reloading()
     }
 
-    /// The orders that wait, and what became of them.
-    pub fn orders(&mut self) -> &mut Orders {
-        &mut self.orders
+    /// The next order, which waits no longer.
+    pub fn take_order(&mut self) -> Option<Order>
+        ensures { due_at self.old ≡ option_to_list result ++ due_at self.new }
+    {
+        self.orders.take()
+    }
+
+    /// This came of all reloads that were given.
+    pub fn tell(&mut self, reloaded: Reloaded)
+        ensures { due_at self.new ≡ due_at self.old }
+    {
+        self.orders.tell(reloaded);
     }
 
     /// Something may have become of the socket with this token.
@@ -115,10 +131,36 @@ impl Control {
         }
     }
 
+    /// Closes all connections, so that others can have their descriptors, and lets nobody in for some time.
+    /// Answers whether there were any.
+    pub fn give_up(&mut self, poll: &Poll, now: u64) -> bool {
+        self.shut_to = now.saturating_add(SHUT);
+        let mut has_given = false;
+        for key in 0..CALLERS {
+            has_given |= self.dismiss(poll, key);
+        }
+        has_given
+    }
+
+    /// Closes the connection with this key, and answers whether there was one.
+    fn dismiss(&mut self, poll: &Poll, key: usize) -> bool
+        ensures { self.new.orders ≡ self.old.orders }
+    {
+        match self.callers.try_remove(key) {
+            Some(mut caller) => {
+                caller.dismiss(poll);
+                true
+            }
+            None => false,
+        }
+    }
+
     /// Lets in those who have come, while there is room.
-    fn let_in(&mut self, poll: &Poll, alloc: Global, now: u64) {
+    fn let_in(&mut self, poll: &Poll, alloc: Global, now: u64)
+        ensures { self.new.orders ≡ self.old.orders }
+    {
         for _ in 0..CALLERS {
-            if !self.is_ready || self.callers.len() >= CALLERS {
+            if !self.is_ready || self.callers.len() >= CALLERS || now < self.shut_to {
                 return;
             }
             match self.listener.accept() {
@@ -130,23 +172,20 @@ impl Control {
                     }
                 }
                 Err(error) if error.kind() == ErrorKind::WouldBlock => self.is_ready = false,
-                // Where descriptors are wanting it is tried again in the next round.
-                Err(_) => return,
+                Err(error) if error.kind() == ErrorKind::ConnectionAborted => {}
+                // Where descriptors are wanting, the next is for a member.
+                Err(_) => self.shut_to = now.saturating_add(SHUT),
             }
         }
     }
 
-    /// Goes on with all callers, in turn, by a bounded amount of work; while the server is busy, by less.
-    /// Answers whether something was left undone.
-    pub fn go_on<P: Pages>(
-        &mut self,
-        poll: &Poll,
-        server: &Server<'_, P>,
-        is_busy: bool,
-        now: u64,
-    ) -> bool {
+    /// Goes on with all callers, in turn, by a bounded amount of work, also while the server is busy. Answers
+    /// whether something was left undone.
+    pub fn go_on<P: Pages>(&mut self, poll: &Poll, server: &Server<'_, P>, now: u64) -> bool
+        ensures { Serves (P.finds server.now.pages.now) (P.writes server.now.pages.now) server.now.config.now self.old.orders self.new.orders }
+    {
         self.let_in(poll, server.alloc, now);
-        let mut pieces = if is_busy { 1 } else { PIECES };
+        let mut pieces = PIECES;
         let mut is_unfinished = false;
         let first = self.next;
         for turn in 0..CALLERS {
@@ -164,7 +203,9 @@ impl Control {
         key: usize,
         pieces: &mut usize,
         now: u64,
-    ) -> bool {
+    ) -> bool
+        ensures { Serves (P.finds server.now.pages.now) (P.writes server.now.pages.now) server.now.config.now self.old.orders self.new.orders }
+    {
         let Some(caller) = self.callers.get_mut(key) else {
             return false;
         };
@@ -178,14 +219,27 @@ impl Control {
             pieces,
             now,
         );
-        if *pieces < had {
+        let is_gone = caller.is_gone(now);
+        self.pass_on(key, *pieces < had);
+        self.let_go(poll, key, is_gone);
+        is_unfinished
+    }
+
+    /// Where this caller was answered, the next one goes on first.
+    fn pass_on(&mut self, key: usize, was_answered: bool)
+        ensures { self.new.orders ≡ self.old.orders }
+    {
+        if was_answered {
             self.next = key.wrapping_add(1) % CALLERS;
         }
-        if caller.is_gone(now)
-            && let Some(mut gone) = self.callers.try_remove(key)
-        {
-            gone.dismiss(poll);
+    }
+
+    /// Closes the connection with this key, where it is to be closed.
+    fn let_go(&mut self, poll: &Poll, key: usize, is_gone: bool)
+        ensures { self.new.orders ≡ self.old.orders }
+    {
+        if is_gone {
+            self.dismiss(poll, key);
         }
-        is_unfinished
     }
 }

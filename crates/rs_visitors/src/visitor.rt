@@ -1,19 +1,16 @@
 //! A visitor: a connection, the visit over it, and how it ends.
 
+use crate::wire::{INPUT, Wire};
 use mio::net::TcpStream;
 use mio::{Interest, Poll, Token};
 use rs_window::page::{Pages, Piece};
 use rs_window::visit::Visit;
 use std::alloc::Global;
 use std::io;
-use std::io::{ErrorKind, Read, Write};
 use std::net::Shutdown;
 
 /// How often a visitor is read, and written, in a round.
 const STEPS: usize = 4;
-
-/// The most octets that are read at once.
-pub const INPUT: usize = 4096;
 
 /// For how many milliseconds octets that come after the last answer are passed over. A connection that is
 /// closed while some lie there is reset, and the visitor may lose that answer.
@@ -28,19 +25,17 @@ enum Stage {
     Gone,
 }
 
-/// A visitor, and what the poll has said of the connection.
+/// A visitor.
 #[derive(Drop)]
-pub struct Visitor {
-    stream: TcpStream,
+pub(crate) struct Visitor {
+    wire: Wire<TcpStream>,
     visit: Visit,
     stage: Stage,
-    is_readable: bool,
-    is_writable: bool,
 }
 
 impl Visitor {
     /// A visitor who has come now, under this token.
-    pub fn admit(
+    pub(crate) fn admit(
         alloc: Global,
         poll: &Poll,
         token: Token,
@@ -51,46 +46,25 @@ impl Visitor {
         let both = Interest::READABLE | Interest::WRITABLE;
         poll.registry().register(&mut stream, token, both)?;
         Ok(Visitor {
-            stream,
+            wire: Wire::new(stream),
             visit,
             stage: Stage::Visits,
-            is_readable: true,
-            is_writable: true,
         })
     }
 
     /// The poll is to forget the connection.
-    pub fn dismiss(&mut self, poll: &Poll) {
-        let _ = poll.registry().deregister(&mut self.stream);
+    pub(crate) fn dismiss(&mut self, poll: &Poll) {
+        let _ = poll.registry().deregister(&mut self.wire.stream);
     }
 
     /// Something may have become of the connection.
-    pub fn note(&mut self) {
-        self.is_readable = true;
-        self.is_writable = true;
+    pub(crate) fn note(&mut self) {
+        self.wire.note();
     }
 
     /// The connection is to be closed.
-    pub fn is_gone(&self) -> bool {
-        self.stage == Stage::Gone
-    }
-
-    /// Reads once into this room, where something may be there. `None`: nothing is there now.
-    fn read_into(&mut self, room: &mut [u8]) -> Option<usize> {
-        if !self.is_readable || room.is_empty() {
-            return None;
-        }
-        match (&self.stream).read(room) {
-            Ok(count) => Some(count),
-            Err(error) if error.kind() == ErrorKind::WouldBlock => {
-                self.is_readable = false;
-                None
-            }
-            Err(_) => {
-                self.stage = Stage::Gone;
-                None
-            }
-        }
+    pub(crate) fn is_gone(&self) -> bool {
+        self.wire.is_broken || self.stage == Stage::Gone
     }
 
     /// Reads once what the visitor says. Answers whether more may be there.
@@ -99,7 +73,7 @@ impl Visitor {
         let Some(room) = input.get_mut(..most) else {
             return false;
         };
-        match self.read_into(room) {
+        match self.wire.read(room) {
             None => false,
             Some(0) => {
                 self.visit.end();
@@ -112,25 +86,13 @@ impl Visitor {
         }
     }
 
-    /// Writes once, where something waits and may be taken. Answers whether something was taken.
+    /// Writes once what waits. Answers whether something was taken.
     fn write(&mut self, now: u64) -> bool {
-        if !self.is_writable || self.visit.waiting().is_empty() {
-            return false;
+        let count = self.wire.write(self.visit.waiting());
+        if count > 0 {
+            self.visit.took(count, now);
         }
-        match (&self.stream).write(self.visit.waiting()) {
-            Ok(count) => {
-                self.visit.took(count, now);
-                count > 0
-            }
-            Err(error) if error.kind() == ErrorKind::WouldBlock => {
-                self.is_writable = false;
-                false
-            }
-            Err(_) => {
-                self.stage = Stage::Gone;
-                false
-            }
-        }
+        count > 0
     }
 
     /// Passes over what comes after the last answer.
@@ -139,7 +101,7 @@ impl Visitor {
             self.stage = Stage::Gone;
         }
         for _ in 0..STEPS {
-            match self.read_into(input) {
+            match self.wire.read(input) {
                 None => return,
                 Some(0) => self.stage = Stage::Gone,
                 Some(_) => {}
@@ -163,7 +125,7 @@ impl Visitor {
                 *pieces = pieces.saturating_sub(1);
             }
             let has_written = self.write(now);
-            if self.stage != Stage::Visits || !(has_read || may_advance || has_written) {
+            if self.wire.is_broken || !(has_read || may_advance || has_written) {
                 break;
             }
         }
@@ -172,11 +134,11 @@ impl Visitor {
 
     /// Where the visit is over, the connection is half closed; where the visitor is too slow, closed.
     fn end_visit(&mut self, now: u64) {
-        if self.stage != Stage::Visits {
+        if self.wire.is_broken {
             return;
         }
         if self.visit.is_done() {
-            let _ = self.stream.shutdown(Shutdown::Write);
+            let _ = self.wire.stream.shutdown(Shutdown::Write);
             self.stage = Stage::Lingers(now.saturating_add(LINGER));
         } else if self.visit.is_late(now) {
             self.stage = Stage::Gone;
@@ -184,7 +146,7 @@ impl Visitor {
     }
 
     /// Goes on by a bounded amount of work. Answers whether something was left undone.
-    pub fn go_on<P: Pages>(
+    pub(crate) fn go_on<P: Pages>(
         &mut self,
         pages: &P,
         input: &mut [u8; INPUT],
@@ -203,12 +165,13 @@ impl Visitor {
     /// Something can be done without waiting for the visitor.
     fn is_undone(&self) -> bool {
         match self.stage {
+            _ if self.is_gone() => false,
             Stage::Visits => {
                 self.visit.can_advance()
-                    || self.is_writable && !self.visit.waiting().is_empty()
-                    || self.is_readable && self.visit.room() > 0
+                    || self.wire.is_writable && !self.visit.waiting().is_empty()
+                    || self.wire.is_readable && self.visit.room() > 0
             }
-            Stage::Lingers(_) => self.is_readable,
+            Stage::Lingers(_) => self.wire.is_readable,
             Stage::Gone => false,
         }
     }

@@ -1,6 +1,7 @@
 //! The window: its listener, and those who have come.
 
-use crate::visitor::{INPUT, Visitor};
+use crate::visitor::Visitor;
+use crate::wire::{INPUT, PIECES, SHUT};
 use mio::net::TcpListener;
 use mio::{Interest, Poll, Token};
 use rs_window::page::{Pages, Piece};
@@ -12,13 +13,6 @@ use std::net::{Net, SocketAddr};
 
 /// The most visitors; others wait until one has gone.
 const VISITORS: usize = 16;
-
-/// The most heads and pieces that are written in a round, for all visitors together: what a member says in
-/// the meantime waits for as long.
-const PIECES: usize = 1;
-
-/// For how many milliseconds nobody is let in after descriptors were wanting.
-const SHUT: u64 = 5000;
 
 /// The window, under a poll that knows its listener by one token, and its visitors by those that follow.
 #[derive(Drop)]

@@ -25,6 +25,10 @@ pub struct Page {
     pub at: u64,
     /// How many items are still to come, at most.
     pub left: u32,
+    /// How many it has at most.
+    pub most: u32,
+    /// How many were counted so far, where it counts.
+    pub counted: u64,
 }
 
 /// What a page is.
