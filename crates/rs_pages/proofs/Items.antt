@@ -9,17 +9,17 @@ use Rattle.rs_pages.specs.declared.tables.Rib.{Rib}
 use Rattle.rs_pages.specs.declared.views.View.{View}
 use Rattle.rs_pages.specs.declared.views.Listing.{Listing}
 use Rattle.rs_pages.specs.declared.views.Stage.{Stage}
-use Rattle.rs_pages.specs.Listings.{First, IsListed, IsNext, IsRouteItem, IsBehindTable, IsEnd, IsLast, Lists, Row, PassedOver, Behind, Onward, End, behind_route, passing_over, next_table, first_of}
+use Rattle.rs_pages.specs.Listings.{First, IsRow, IsNext, IsRouteItem, IsBehindTable, IsEnd, IsLast, Lists, Row, PassedOver, Behind, Onward, End, behind_route, passing_over, next_table, first_of}
 
 module _ (firsts : Rib → ℕ → First) (configured : Configuration → Type 0) (view : View) (listing : Listing) (page : Page) where
   -- the row of a route, which was read and put as the same
-  pub row_item : (stage : Stage) (behind : Page) (text : List ℕ) (listed : Bool) (p q : Prefix) (m n o : List Attribute) → IsNext (first_of firsts listing page) page (Some (p, m)) → Lists configured listing page q n listed → listed ≡ true → IsListed stage q o text
+  pub row_item : (stage : Stage) (behind : Page) (text : List ℕ) (listed : Bool) (p q : Prefix) (m n o : List Attribute) → IsNext (first_of firsts listing page) page (Some (p, m)) → Lists configured listing page q n listed → listed ≡ true → IsRow view stage q o text
       → behind ≡ behind_route view page q → p ≡ q → n ≡ m → o ≡ m → IsRouteItem firsts configured view listing stage page text (Some behind)
   row_item stage behind text listed p q m n o is lists so row e a b d =
       subst (λ x. IsRouteItem firsts configured view listing stage page text (Some x)) (sym e)
       (Row q m (subst (λ x. IsNext (first_of firsts listing page) page (Some (x, m))) a is)
       (subst (λ x. Lists configured listing page q x true) b (subst (Lists configured listing page q n) so lists))
-      (subst (λ x. IsListed stage q x text) d row))
+      (subst (λ x. IsRow view stage q x text) d row))
 
   -- a route that isn't listed
   pub passed_item : (stage : Stage) (behind : Page) (text : List ℕ) (listed : Bool) (p q : Prefix) (m n : List Attribute) → IsNext (first_of firsts listing page) page (Some (p, m)) → Lists configured listing page q n listed → listed ≡ false → text ≡ []
@@ -34,7 +34,7 @@ module _ (firsts : Rib → ℕ → First) (configured : Configuration → Type 0
   onward behind text last is so empty e =
       subst (λ x. IsBehindTable firsts configured view listing page text (Some x)) (sym e) (Onward (subst (IsLast configured listing page) so is) empty)
 
-  pub ended : (text : List ℕ) (last : Bool) → IsLast configured listing page last → last ≡ true → IsEnd view (first_of firsts listing page) page.at text → IsBehindTable firsts configured view listing page text None
+  pub ended : (text : List ℕ) (last : Bool) → IsLast configured listing page last → last ≡ true → IsEnd view (first_of firsts listing page) page text → IsBehindTable firsts configured view listing page text None
   ended text last is so end = End (subst (IsLast configured listing page) so is) end
 
   -- what comes behind a table, where no route of it is left

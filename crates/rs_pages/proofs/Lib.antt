@@ -1,4 +1,8 @@
+mod ByPrefix
 pub mod Firsts
+mod CountItems
 mod Items
 mod Noted
 mod Pieces
+mod Placed
+mod Counted

@@ -1,5 +1,5 @@
 -- What the rules keep from members.
-use Rattle.std.specs.Prelude.{ℕ, ◌==◌, nat_lt, Bool, true, false, not, ◌&&◌, List, length, is_some}
+use Rattle.std.specs.Prelude.{◌≡◌, ℕ, ◌==◌, nat_lt, Bool, true, false, not, ◌&&◌, List, length, is_some}
 use Rattle.rs_octets.specs.Prefixes.{Prefix}
 use Rattle.rs_attrs.specs.Meaning.{Attribute}
 use Rattle.rs_policy.specs.Configuration.{Configuration}
@@ -10,9 +10,19 @@ use Rattle.rs_policy.specs.Verdicts.{Judgement, dropped, passed, verdict}
 abbrev pub is_client : Configuration → ℕ → Bool
 is_client s c = nat_lt c (length s.clients)
 
+-- an answer that the configuration gives
+pub record IsGiven (configured : Configuration → Type 0) (answer : Configuration → Bool) (given : Bool) : Type 0 where
+  pub config : Configuration
+  pub is : configured config
+  pub given_is : given ≡ answer config
+
 abbrev pub is_dropped : Judgement → Bool
 is_dropped dropped = true
 is_dropped (passed preference taken) = false
+
+-- a client's import list passes what it announced
+abbrev pub is_accepted : Configuration → ℕ → Prefix → List Attribute → Bool
+is_accepted s from p m = is_client s from && is_some (import_outcome s from from p m)
 
 -- a client's import list drops what it announced
 abbrev pub is_filtered : Configuration → ℕ → Prefix → List Attribute → Bool

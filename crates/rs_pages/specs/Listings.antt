@@ -13,11 +13,15 @@ use Rattle.rs_pages.specs.declared.views.Listing.TheVariants as listings
 use Rattle.rs_pages.specs.declared.views.Stage.{Stage}
 use Rattle.rs_pages.specs.declared.views.Stage.TheVariants as stages
 use Rattle.rs_pages.specs.declared.tables.Rib.{Rib}
-use Rattle.rs_pages.specs.Keys.{key_of}
-use Rattle.rs_pages.specs.Rows.{row_text}
-use Rattle.rs_pages.specs.Judging.{is_filtered, is_kept_from}
+use Rattle.rs_pages.specs.Keys.{key_of, IsAt}
+use Rattle.rs_pages.specs.Holders.{Holding}
+use Rattle.rs_pages.specs.Candidates.{next_holder, next_candidate}
+use Rattle.rs_pages.specs.Why.{candidate_text}
+use Rattle.rs_pages.specs.Rows.{row_text, table_row, more_text}
+use Rattle.rs_pages.specs.Judging.{IsGiven, is_accepted, is_filtered, is_kept_from}
+use Rattle.rs_pages.specs.Counting.{IsCountItem}
 use Rattle.rs_pages.specs.Texts.{prefix_text}
-use Rattle.rs_pages.specs.Views.{which_of, read_which, listing_of, table_of, owner_of, comma_text}
+use Rattle.rs_pages.specs.Views.{is_head, which_of, read_which, listing_of, counted_of, table_of, owner_of, comma_text}
 
 -- of a table: the first route from a number on, or that there is none
 abbrev pub First : Type 1
@@ -40,16 +44,11 @@ passing_over page p = record page { at = key_of p + 1 }
 abbrev pub next_table : Page → Page
 next_table page = record page { member = page.member + 1; at = 0 }
 
--- an answer that the configuration gives
-pub record IsGiven (configured : Configuration → Type 0) (answer : Configuration → Bool) (given : Bool) : Type 0 where
-  pub config : Configuration
-  pub is : configured config
-  pub given_is : given ≡ answer config
-
 -- whether a page lists a route of the table that it goes through
 abbrev pub Lists : (Configuration → Type 0) → Listing → Page → Prefix → List Attribute → Bool → Type 0
 Lists configured listings.Received page p m listed = listed ≡ true
 Lists configured listings.Sent page p m listed = listed ≡ true
+Lists configured listings.Imported page p m listed = IsGiven configured (λ s. is_accepted s page.place p m) listed
 Lists configured listings.Filtered page p m listed = IsGiven configured (λ s. is_filtered s page.place p m) listed
 Lists configured listings.NoExport page p m listed = IsGiven configured (λ s. is_kept_from s page.member page.place p m) listed
 
@@ -57,6 +56,7 @@ Lists configured listings.NoExport page p m listed = IsGiven configured (λ s. i
 abbrev pub IsLast : (Configuration → Type 0) → Listing → Page → Bool → Type 0
 IsLast configured listings.Received page last = last ≡ true
 IsLast configured listings.Sent page last = last ≡ true
+IsLast configured listings.Imported page last = last ≡ true
 IsLast configured listings.Filtered page last = last ≡ true
 IsLast configured listings.NoExport page last = IsGiven configured (λ s. nat_le (length s.clients) (page.member + 1)) last
 
@@ -70,27 +70,40 @@ pub record IsOwnEnd (first : First) (at : ℕ) (text : List ℕ) : Type 0 where
   pub first_is : first at route
   pub whole : text ≡ ends_with route
 
-abbrev pub IsEnd : View → First → ℕ → List ℕ → Type 0
-IsEnd views.Routes first at text = text ≡ codes "]}\n"
-IsEnd views.Filtered first at text = text ≡ codes "]}\n"
-IsEnd views.NoExport first at text = text ≡ codes "]}\n"
-IsEnd views.Home first at text = IsOwnEnd first at text
-IsEnd views.Member first at text = IsOwnEnd first at text
-IsEnd views.Status first at text = IsOwnEnd first at text
-IsEnd views.Protocols first at text = IsOwnEnd first at text
-IsEnd views.Protocol first at text = IsOwnEnd first at text
-IsEnd views.Count first at text = IsOwnEnd first at text
-IsEnd views.AtPrefix first at text = IsOwnEnd first at text
-IsEnd views.Received first at text = IsOwnEnd first at text
-IsEnd views.Sent first at text = IsOwnEnd first at text
-IsEnd views.Why first at text = IsOwnEnd first at text
-IsEnd views.Metrics first at text = IsOwnEnd first at text
+-- the end of one for people, with a link to those that come
+abbrev pub table_end : List ℕ → ℕ → Option (Prefix × List Attribute) → List ℕ
+table_end target most None = codes "</table>\n</html>\n"
+table_end target most (Some route) = codes "</table>\n" ++ more_text target route.0 most ++ codes "</html>\n"
+
+pub record IsTableEnd (first : First) (page : Page) (text : List ℕ) : Type 0 where
+  pub route : Option (Prefix × List Attribute)
+  pub first_is : first page.at route
+  pub target : List ℕ
+  pub whole : text ≡ table_end target page.most route
+
+abbrev pub IsEnd : View → First → Page → List ℕ → Type 0
+IsEnd views.Routes first page text = text ≡ codes "]}\n"
+IsEnd views.Filtered first page text = text ≡ codes "]}\n"
+IsEnd views.NoExport first page text = text ≡ codes "]}\n"
+IsEnd views.ReceivedTable first page text = IsTableEnd first page text
+IsEnd views.SentTable first page text = IsTableEnd first page text
+IsEnd view first page text = IsOwnEnd first page.at text
 
 -- the text is the row of a route, behind a comma where it is not the first
 pub record IsListed (stage : Stage) (p : Prefix) (m : List Attribute) (text : List ℕ) : Type 0 where
   pub common : List ℕ
   pub bgp : List ℕ
   pub whole : text ≡ comma_text stage ++ row_text common bgp p m
+
+-- the text is the row of a route, for people
+pub record IsTableRow (p : Prefix) (m : List Attribute) (text : List ℕ) : Type 0 where
+  pub cells : List ℕ
+  pub whole : text ≡ table_row cells p m
+
+abbrev pub IsRow : View → Stage → Prefix → List Attribute → List ℕ → Type 0
+IsRow views.ReceivedTable stage p m text = IsTableRow p m text
+IsRow views.SentTable stage p m text = IsTableRow p m text
+IsRow view stage p m text = IsListed stage p m text
 
 -- of a table that a page goes through, the first route from a number on
 abbrev pub first_of : (Rib → ℕ → First) → Listing → Page → First
@@ -99,12 +112,12 @@ first_of firsts listing page = firsts (table_of listing) (owner_of listing page)
 -- what comes where no route is left: the start of the next table, or the end
 pub data IsBehindTable (firsts : Rib → ℕ → First) (configured : Configuration → Type 0) (view : View) (listing : Listing) (page : Page) (text : List ℕ) : Option Page → Type 0 where
   Onward : IsLast configured listing page false → text ≡ [] → IsBehindTable firsts configured view listing page text (Some (next_table page))
-  End : IsLast configured listing page true → IsEnd view (first_of firsts listing page) page.at text → IsBehindTable firsts configured view listing page text None
+  End : IsLast configured listing page true → IsEnd view (first_of firsts listing page) page text → IsBehindTable firsts configured view listing page text None
 
 -- the next item of a page that lists routes, and the page behind it: the row of the next route, or nothing where it isn't listed,
 -- or what comes behind the table
 pub data IsRouteItem (firsts : Rib → ℕ → First) (configured : Configuration → Type 0) (view : View) (listing : Listing) (stage : Stage) (page : Page) (text : List ℕ) : Option Page → Type 0 where
-  Row : (p : Prefix) (m : List Attribute) → IsNext (first_of firsts listing page) page (Some (p, m)) → Lists configured listing page p m true → IsListed stage p m text → IsRouteItem firsts configured view listing stage page text (Some (behind_route view page p))
+  Row : (p : Prefix) (m : List Attribute) → IsNext (first_of firsts listing page) page (Some (p, m)) → Lists configured listing page p m true → IsRow view stage p m text → IsRouteItem firsts configured view listing stage page text (Some (behind_route view page p))
   PassedOver : (p : Prefix) (m : List Attribute) → IsNext (first_of firsts listing page) page (Some (p, m)) → Lists configured listing page p m false → text ≡ [] → IsRouteItem firsts configured view listing stage page text (Some (passing_over page p))
   Behind : (next : Option Page) → IsNext (first_of firsts listing page) page None → IsBehindTable firsts configured view listing page text next → IsRouteItem firsts configured view listing stage page text next
 
@@ -112,19 +125,60 @@ pub data IsRouteItem (firsts : Rib → ℕ → First) (configured : Configuratio
 abbrev pub behind_head : View → Page → Page
 behind_head view page = record page { which = which_of view stages.First }
 
--- behind the head of a page that lists routes come its items
-abbrev pub IsHead : View → Page → Option Page → Type 0
-IsHead view page next = (listing : Listing) → listing_of view ≡ Some listing → next ≡ Some (behind_head view page)
+-- behind the head of a page that lists or counts routes, or goes over the holders of a prefix, come its items
+pub record IsHead (view : View) (page : Page) (next : Option Page) : Type 0 where
+  pub listed : (listing : Listing) → listing_of view ≡ Some listing → next ≡ Some (behind_head view page)
+  pub counted : (c : ℕ) → counted_of view page ≡ Some c → next ≡ Some (behind_head view page)
+  pub held : view ≡ views.AtPrefix → next ≡ Some (behind_head view page)
+  pub why : view ≡ views.Why → next ≡ Some (behind_head view page)
 
--- the next item at a stage of a page
-abbrev pub IsAtStage : (Rib → ℕ → First) → (Configuration → Type 0) → View → Listing → Stage → Page → List ℕ → Option Page → Type 0
-IsAtStage firsts configured view listing stages.Head page text next = next ≡ Some (behind_head view page)
-IsAtStage firsts configured view listing stages.First page text next = IsRouteItem firsts configured view listing stages.First page text next
-IsAtStage firsts configured view listing stages.Rest page text next = IsRouteItem firsts configured view listing stages.Rest page text next
+-- the page behind what is shown of a member: from the next on
+abbrev pub behind_member : View → Page → ℕ → Page
+behind_member view page c = record page { which = which_of view stages.Rest; member = c + 1 }
 
--- the next item of a page by the tables of a server; of the texts of heads, and of pages that list no routes, nothing is said
-abbrev pub IsItem : (Rib → ℕ → First) → (Configuration → Type 0) → Page → List ℕ → Option Page → Type 0
-IsItem firsts configured page text next = (view : View) (stage : Stage) (listing : Listing) → read_which page.which ≡ Some (view, stage) → listing_of view ≡ Some listing → IsAtStage firsts configured view listing stage page text next
+abbrev pub behind_holder : View → Page → Option Holding → Option Page
+behind_holder view page None = None
+behind_holder view page (Some h) = Some (behind_member view page h.member)
+
+-- the row of one who holds a prefix, or the end
+abbrev pub IsHolderRow : Stage → Prefix → Option Holding → List ℕ → Type 0
+IsHolderRow stage p None text = text ≡ codes "]}\n"
+IsHolderRow stage p (Some h) text = IsListed stage p h.attributes text
+
+-- the next item of the page of who holds a prefix
+pub record IsHolderItem (configured : Configuration → Type 0) (holders : Prefix → List Holding → Type 0) (stage : Stage) (page : Page) (p : Prefix) (text : List ℕ) (next : Option Page) : Type 0 where
+  pub config : Configuration
+  pub is : configured config
+  pub held : List Holding
+  pub are : holders p held
+  pub row : IsHolderRow stage p (next_holder config held page.member) text
+  pub behind : next ≡ behind_holder views.AtPrefix page (next_holder config held page.member)
+
+-- what becomes of one's route on its way to a member, and why; or the end
+abbrev pub why_text : Configuration → ℕ → Prefix → List Holding → Stage → Option Holding → List ℕ
+why_text s to p held stage None = codes "]}\n"
+why_text s to p held stage (Some h) = comma_text stage ++ candidate_text s to p held h
+
+-- the next item of `/why`
+pub record IsWhyItem (configured : Configuration → Type 0) (holders : Prefix → List Holding → Type 0) (stage : Stage) (page : Page) (p : Prefix) (text : List ℕ) (next : Option Page) : Type 0 where
+  pub config : Configuration
+  pub is : configured config
+  pub held : List Holding
+  pub are : holders p held
+  pub told : text ≡ why_text config page.place p held stage (next_candidate config page.place held page.member)
+  pub behind : next ≡ behind_holder views.Why page (next_candidate config page.place held page.member)
+
+-- the next item of a page whose head was written
+pub record IsBehindHead (firsts : Rib → ℕ → First) (configured : Configuration → Type 0) (holders : Prefix → List Holding → Type 0) (view : View) (stage : Stage) (page : Page) (text : List ℕ) (next : Option Page) : Type 0 where
+  pub listed : (listing : Listing) → listing_of view ≡ Some listing → IsRouteItem firsts configured view listing stage page text next
+  pub counted : (c : ℕ) → counted_of view page ≡ Some c → IsCountItem firsts configured holders view page c text next
+  pub held : view ≡ views.AtPrefix → (p : Prefix) → IsAt page.at p → IsHolderItem configured holders stage page p text next
+  pub why : view ≡ views.Why → (p : Prefix) → IsAt page.at p → IsWhyItem configured holders stage page p text next
+
+-- the next item of a page by the tables of a server; of the texts of heads, and of other pages, nothing is said
+pub record IsItem (firsts : Rib → ℕ → First) (configured : Configuration → Type 0) (holders : Prefix → List Holding → Type 0) (page : Page) (text : List ℕ) (next : Option Page) : Type 0 where
+  pub head : (view : View) → read_which page.which ≡ Some (view, stages.Head) → IsHead view page next
+  pub item : (view : View) (stage : Stage) → read_which page.which ≡ Some (view, stage) → is_head stage ≡ false → IsBehindHead firsts configured holders view stage page text next
 
 -- what comes behind a piece of a page in which the next item has no room: where it is empty, the item has room in none
 abbrev pub stopped : List ℕ → Page → Next

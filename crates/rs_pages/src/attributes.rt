@@ -1,7 +1,7 @@
-//! The attributes of a route, as birdwatcher's JSON has them.
+//! The attributes of a route, as birdwatcher's JSON and the pages for people have them.
 //!
-//! Of a list of numbers the first 256 are shown, so that a row has room in a piece; `"cut"` says that there
-//! are more.
+//! Of a list of numbers the first 256 are shown, so that a row has room in a piece; `"cut"`, or three points
+//! for people, says that there are more.
 
 ghost use Rattle.std.specs.Prelude.{◌≡◌, length};
 
@@ -13,12 +13,45 @@ use std::alloc::{AllocError, Global};
 /// As many items of a list are shown.
 const MOST: usize = 256;
 
-/// Puts what stands between two items, before each but the first.
-fn put_comma(text: &mut Vec<u8>, index: usize) -> Result<(), AllocError> {
-    if index == 0 {
-        Ok(())
-    } else {
-        text.extend_from_slice(b",")
+/// How lists of numbers are written.
+#[derive(Clone, Copy)]
+struct Style {
+    /// Round an AS number.
+    quote: &'static [u8],
+    /// Before a community, between its numbers, and behind it.
+    open: &'static [u8],
+    point: &'static [u8],
+    close: &'static [u8],
+    /// Between two items of a list.
+    between: &'static [u8],
+}
+
+/// As in JSON.
+const JSON: Style = Style {
+    quote: b"\"",
+    open: b"[",
+    point: b",",
+    close: b"]",
+    between: b",",
+};
+
+/// As operators write them.
+const PLAIN: Style = Style {
+    quote: b"",
+    open: b"",
+    point: b":",
+    close: b"",
+    between: b" ",
+};
+
+impl Style {
+    /// Puts what stands between two items, before each but the first.
+    fn put_between(&self, text: &mut Vec<u8>, index: usize) -> Result<(), AllocError> {
+        if index == 0 {
+            Ok(())
+        } else {
+            text.extend_from_slice(self.between)
+        }
     }
 }
 
@@ -31,19 +64,19 @@ fn origin_name(origin: u8) -> &'static [u8] {
     }
 }
 
-/// Puts the numbers of AS_PATH as strings, one behind the other, sets and sequences alike; answers whether
-/// all were put.
-fn put_path(text: &mut Vec<u8>, attrs: &Attrs) -> Result<bool, AllocError> {
+/// Puts the AS numbers of AS_PATH, one behind the other, sets and sequences alike; answers whether all were
+/// put.
+fn put_path(text: &mut Vec<u8>, attrs: &Attrs, style: &Style) -> Result<bool, AllocError> {
     let mut count = 0;
     for segment in attrs.path() {
         for number in segment.numbers() {
             if count >= MOST {
                 return Ok(false);
             }
-            put_comma(text, count)?;
-            text.extend_from_slice(b"\"")?;
+            style.put_between(text, count)?;
+            text.extend_from_slice(style.quote)?;
             put_number(text, u64::from(number))?;
-            text.extend_from_slice(b"\"")?;
+            text.extend_from_slice(style.quote)?;
             count += 1;
         }
     }
@@ -51,44 +84,52 @@ fn put_path(text: &mut Vec<u8>, attrs: &Attrs) -> Result<bool, AllocError> {
 }
 
 /// Puts the communities (RFC 1997), each as its two numbers; answers whether all were put.
-fn put_communities(text: &mut Vec<u8>, attrs: &Attrs) -> Result<bool, AllocError> {
+fn put_communities(text: &mut Vec<u8>, attrs: &Attrs, style: &Style) -> Result<bool, AllocError> {
     let mut count = 0;
     for community in attrs.communities() {
         if count >= MOST {
             return Ok(false);
         }
-        put_comma(text, count)?;
-        text.extend_from_slice(b"[")?;
+        style.put_between(text, count)?;
+        text.extend_from_slice(style.open)?;
         put_number(text, u64::from(community / 65536))?;
-        text.extend_from_slice(b",")?;
+        text.extend_from_slice(style.point)?;
         put_number(text, u64::from(community % 65536))?;
-        text.extend_from_slice(b"]")?;
+        text.extend_from_slice(style.close)?;
         count += 1;
     }
     Ok(true)
 }
 
 /// Puts a large community, twelve octets, as its three numbers.
-fn put_large_community(text: &mut Vec<u8>, community: &[u8]) -> Result<(), AllocError>
+fn put_large_community(
+    text: &mut Vec<u8>,
+    community: &[u8],
+    style: &Style,
+) -> Result<(), AllocError>
     requires { length community.now ≡ 12 }
 {
-    text.extend_from_slice(b"[")?;
+    text.extend_from_slice(style.open)?;
     put_number(text, u64::from(BigEndian::read_u32(&community[0..4])))?;
-    text.extend_from_slice(b",")?;
+    text.extend_from_slice(style.point)?;
     put_number(text, u64::from(BigEndian::read_u32(&community[4..8])))?;
-    text.extend_from_slice(b",")?;
+    text.extend_from_slice(style.point)?;
     put_number(text, u64::from(BigEndian::read_u32(&community[8..12])))?;
-    text.extend_from_slice(b"]")
+    text.extend_from_slice(style.close)
 }
 
 /// Puts the large communities (RFC 8092), each as its three numbers; answers whether all were put.
-fn put_large_communities(text: &mut Vec<u8>, value: &[u8]) -> Result<bool, AllocError> {
+fn put_large_communities(
+    text: &mut Vec<u8>,
+    value: &[u8],
+    style: &Style,
+) -> Result<bool, AllocError> {
     for (index, community) in value.chunks_exact(12).enumerate() {
         if index >= MOST {
             return Ok(false);
         }
-        put_comma(text, index)?;
-        put_large_community(text, community)?;
+        style.put_between(text, index)?;
+        put_large_community(text, community, style)?;
     }
     Ok(true)
 }
@@ -100,7 +141,7 @@ fn put_extended_communities(text: &mut Vec<u8>, value: &[u8]) -> Result<bool, Al
         if index >= MOST {
             return Ok(false);
         }
-        put_comma(text, index)?;
+        JSON.put_between(text, index)?;
         text.extend_from_slice(b"[\"generic\",\"")?;
         put_hex(text, BigEndian::read_u32(&community[0..4]))?;
         text.extend_from_slice(b"\",\"")?;
@@ -123,15 +164,15 @@ fn put_bgp(text: &mut Vec<u8>, attrs: &Attrs) -> Result<(), AllocError> {
     text.extend_from_slice(b"{\"origin\":\"")?;
     text.extend_from_slice(origin_name(attrs.origin().unwrap_or(2)))?;
     text.extend_from_slice(b"\",\"as_path\":[")?;
-    let has_path = put_path(text, attrs)?;
+    let has_path = put_path(text, attrs, &JSON)?;
     text.extend_from_slice(b"],\"next_hop\":\"")?;
     put_address(text, attrs.next_hop().unwrap_or(0))?;
     text.extend_from_slice(b"\",\"med\":\"")?;
     put_number(text, u64::from(attrs.med().unwrap_or(0)))?;
     text.extend_from_slice(b"\",\"local_pref\":\"100\",\"communities\":[")?;
-    let has_communities = put_communities(text, attrs)?;
+    let has_communities = put_communities(text, attrs, &JSON)?;
     text.extend_from_slice(b"],\"large_communities\":[")?;
-    let has_large = put_large_communities(text, value(attrs, LARGE_COMMUNITY))?;
+    let has_large = put_large_communities(text, value(attrs, LARGE_COMMUNITY), &JSON)?;
     text.extend_from_slice(b"],\"ext_communities\":[")?;
     let has_extended = put_extended_communities(text, value(attrs, EXTENDED_COMMUNITIES))?;
     if has_path && has_communities && has_large && has_extended {
@@ -145,5 +186,34 @@ fn put_bgp(text: &mut Vec<u8>, attrs: &Attrs) -> Result<(), AllocError> {
 pub(crate) fn bgp_text(alloc: Global, attrs: &Attrs) -> Result<Vec<u8>, AllocError> {
     let mut text = Vec::new(alloc);
     put_bgp(&mut text, attrs)?;
+    Ok(text)
+}
+
+/// Puts the cells of a row in HTML behind NEXT_HOP: AS_PATH, MULTI_EXIT_DISC, communities and large communities.
+fn put_cells(text: &mut Vec<u8>, attrs: &Attrs) -> Result<(), AllocError> {
+    text.extend_from_slice(b"<td>")?;
+    let has_path = put_path(text, attrs, &PLAIN)?;
+    text.extend_from_slice(b"<td class=number>")?;
+    if let Some(med) = attrs.med() {
+        put_number(text, u64::from(med))?;
+    }
+    text.extend_from_slice(b"<td>")?;
+    let has_communities = put_communities(text, attrs, &PLAIN)?;
+    let large = value(attrs, LARGE_COMMUNITY);
+    if !large.is_empty() {
+        text.extend_from_slice(b" ")?;
+    }
+    let has_large = put_large_communities(text, large, &PLAIN)?;
+    if has_path && has_communities && has_large {
+        Ok(())
+    } else {
+        text.extend_from_slice(b" ...")
+    }
+}
+
+/// The text of those cells.
+pub(crate) fn cells_text(alloc: Global, attrs: &Attrs) -> Result<Vec<u8>, AllocError> {
+    let mut text = Vec::new(alloc);
+    put_cells(&mut text, attrs)?;
     Ok(text)
 }

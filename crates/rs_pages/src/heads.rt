@@ -1,8 +1,9 @@
 //! The heads of pages in JSON: birdwatcher's, and our own.
 
 use crate::keys::prefix_at;
+use crate::members::{imported, member_at};
 use crate::moments::Moments;
-use crate::tables::{Rib, Tables};
+use crate::tables::Tables;
 use crate::texts::{put_address, put_json, put_number, put_prefix, put_time};
 use rs_window::page::Page;
 use std::alloc::{AllocError, Global};
@@ -49,20 +50,20 @@ pub(crate) fn put_status<T: Tables>(
     text.extend_from_slice(b"\"}}\n")
 }
 
-/// Puts how many routes a member announced, as birdwatcher has it.
+/// Puts how many of a member's routes its import list passes, as birdwatcher has it.
 pub(crate) fn put_count<T: Tables>(
     text: &mut Vec<u8>,
     alloc: Global,
     tables: &T,
     moments: &Moments<'_>,
-    client: usize,
+    place: usize,
 ) -> Result<(), AllocError> {
-    if client >= tables.config().clients() {
+    let Some(member) = member_at(tables, place) else {
         return Ok(());
-    }
+    };
     put_api(text, alloc, moments)?;
     text.extend_from_slice(b"\"routes\":")?;
-    put_number(text, tables.count(Rib::Received, client) as u64)?;
+    put_number(text, imported(tables, &member))?;
     text.extend_from_slice(b"}\n")
 }
 
@@ -70,15 +71,14 @@ pub(crate) fn put_count<T: Tables>(
 pub(crate) fn put_table<T: Tables>(
     text: &mut Vec<u8>,
     tables: &T,
-    client: usize,
+    place: usize,
     table: &[u8],
 ) -> Result<(), AllocError> {
-    let config = tables.config();
-    if client >= config.clients() {
+    let Some(member) = member_at(tables, place) else {
         return Ok(());
-    }
+    };
     text.extend_from_slice(b"{\"member\":\"")?;
-    put_json(text, config.name(client).as_bytes())?;
+    put_json(text, member.name)?;
     text.extend_from_slice(b"\",\"table\":\"")?;
     text.extend_from_slice(table)?;
     text.extend_from_slice(b"\",\"routes\":[")
@@ -90,12 +90,11 @@ pub(crate) fn put_question<T: Tables>(
     tables: &T,
     page: Page,
 ) -> Result<(), AllocError> {
-    let config = tables.config();
-    if page.place >= config.clients() {
+    let Some(member) = member_at(tables, page.place) else {
         return Ok(());
-    }
+    };
     text.extend_from_slice(b"{\"to\":\"")?;
-    put_json(text, config.name(page.place).as_bytes())?;
+    put_json(text, member.name)?;
     text.extend_from_slice(b"\",\"prefix\":\"")?;
     put_prefix(text, &prefix_at(page.at))?;
     text.extend_from_slice(b"\",\"candidates\":[")

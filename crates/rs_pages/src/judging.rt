@@ -3,7 +3,7 @@
 ghost use Rattle.std.specs.Prelude.{◌≡◌, ◌<◌, is_some, length};
 ghost use Rattle.rs_policy.specs.Noted.{import_outcome};
 ghost use Rattle.rs_policy.specs.Verdicts.{verdict};
-ghost use Rattle.rs_pages.specs.Judging.{is_dropped, is_filtered, is_kept_from};
+ghost use Rattle.rs_pages.specs.Judging.{is_accepted, is_dropped, is_filtered, is_kept_from};
 
 use rs_attrs::Attrs;
 use rs_octets::Prefix;
@@ -12,7 +12,7 @@ use rs_policy::{Config, Fate, import_note, judge};
 /// The note of a route that the import list drops.
 const DROPPED: u32 = 0;
 
-/// A client's import list passes what it announced.
+/// The import list of one of the clients passes what it announced.
 fn is_imported(config: &Config, from: usize, prefix: &Prefix, attrs: &Attrs) -> bool
     requires { from < length config.now.clients }
     ensures { result ≡ is_some (import_outcome config.now from from prefix.now attrs.now) }
@@ -30,6 +30,13 @@ fn is_dropped(config: &Config, from: usize, to: usize, prefix: &Prefix, attrs: &
         Fate::Drop => true,
         Fate::Pass { .. } => false,
     }
+}
+
+/// A client's import list passes what it announced.
+pub(crate) fn is_accepted(config: &Config, from: usize, prefix: &Prefix, attrs: &Attrs) -> bool
+    ensures { result ≡ is_accepted config.now from prefix.now attrs.now }
+{
+    from < config.clients() && is_imported(config, from, prefix, attrs)
 }
 
 /// A client's import list drops what it announced.

@@ -1,8 +1,8 @@
 //! Prefixes as numbers, by which pages go on, and as texts, by which they are asked for.
 
 ghost use Rattle.std.specs.Prelude.{◌≡◌, ◌≤◌, ◌<◌, IfSome};
-ghost use Rattle.rs_octets.specs.Prefixes.{IsIpv4Prefix};
-ghost use Rattle.rs_pages.specs.Keys.{key_of};
+ghost use Rattle.rs_octets.specs.Prefixes.{Prefix, IsIpv4Prefix};
+ghost use Rattle.rs_pages.specs.Keys.{key_of, IsAt};
 
 use rs_octets::Prefix;
 
@@ -19,6 +19,7 @@ pub fn key(prefix: &Prefix) -> u64
 pub fn prefix_at(at: u64) -> Prefix
     ensures number { key_of result ≤ at }
     ensures prefix { IsIpv4Prefix result }
+    ensures exact { (p : Prefix) → IsAt at p → result ≡ p }
 {
     let bits = (at / 64).min(u64::from(u32::MAX)) as u32;
     let len = (at % 64).min(32) as u8;

@@ -1,10 +1,41 @@
 //! What is shown of a member.
 
+ghost use Rattle.std.specs.Prelude.{◌≡◌, ◌<◌, ◌++◌, is_some, IfSome, OnOk};
+ghost use Rattle.rs_pages.specs.Counting.{counts_text, numbered};
+ghost use Rattle.rs_pages.specs.Judging.{IsGiven, is_client};
+
 use crate::moments::Moments;
 use crate::tables::{Ended, Rib, Tables};
 use crate::texts::{put_address, put_html, put_json, put_number, put_time};
 use rs_octets::Notification;
 use std::alloc::{AllocError, Global};
+
+/// A member, as the configuration has it.
+#[derive(Clone, Copy, Debug)]
+pub(crate) struct Member<'a> {
+    pub(crate) place: usize,
+    pub(crate) name: &'a [u8],
+    pub(crate) client_as: u32,
+    pub(crate) peer: u32,
+}
+
+/// The member at a place; `None` where it is none of the configuration.
+pub(crate) fn member_at<T: Tables>(tables: &T, place: usize) -> Option<Member<'_>>
+    ensures given { IsGiven (T.configured tables.now) (λ s. is_client s place) (is_some result) }
+    ensures place { IfSome result (λ member. member.place ≡ place) }
+    ensures bound { IfSome result (λ member. place < usize.MAX) }
+{
+    let config = tables.config();
+    if place >= config.clients() {
+        return None;
+    }
+    Some(Member {
+        place,
+        name: config.name(place).as_bytes(),
+        client_as: config.client_as(place),
+        peer: config.peer(place),
+    })
+}
 
 /// Puts the name of a NOTIFICATION's error code and subcode.
 fn put_notification(
@@ -51,45 +82,72 @@ pub(crate) fn put_ending(
 /// The words for a member whose session is Established, or those for another.
 fn up_or_down<T: Tables>(
     tables: &T,
-    client: usize,
+    member: &Member<'_>,
     up: &'static [u8],
     down: &'static [u8],
 ) -> &'static [u8] {
-    if client < tables.config().clients() && tables.is_established(client) {
+    if tables.is_established(member.place) {
         up
     } else {
         down
     }
 }
 
-/// Puts a member as birdwatcher's `/protocols/bgp` has it: its name, and what is known of it.
+/// Puts a name and a number.
+fn put_numbered(text: &mut Vec<u8>, name: &[u8], number: u64) -> Result<(), AllocError>
+    ensures { OnOk result (text.new.items ≡ text.old.items ++ numbered name.now number) }
+{
+    text.extend_from_slice(name)?;
+    put_number(text, number)
+}
+
+/// How many of its routes a member's import list passes.
+pub(crate) fn imported<T: Tables>(tables: &T, member: &Member<'_>) -> u64 {
+    let received = tables.count(Rib::Received, member.place);
+    received.saturating_sub(tables.dropped(member.place)) as u64
+}
+
+/// Puts how many routes a member has, as birdwatcher has it.
+#[tactic(auto, unfolding(crate::specs::Counting::counts_text))]
+pub(crate) fn put_counts(
+    text: &mut Vec<u8>,
+    imported: u64,
+    filtered: u64,
+    exported: u64,
+    preferred: u64,
+) -> Result<(), AllocError>
+    ensures { OnOk result (text.new.items ≡ text.old.items ++ counts_text imported filtered exported preferred) }
+{
+    put_numbered(text, b"\"routes\":{\"imported\":", imported)?;
+    put_numbered(text, b",\"filtered\":", filtered)?;
+    put_numbered(text, b",\"exported\":", exported)?;
+    put_numbered(text, b",\"preferred\":", preferred)?;
+    text.extend_from_slice(b"}}\n")
+}
+
+/// Puts a member as birdwatcher's `/protocols/bgp` has it, but for the counts: its name, and what is known of it.
 pub(crate) fn put_protocol<T: Tables>(
     text: &mut Vec<u8>,
     alloc: Global,
     tables: &T,
     moments: &Moments<'_>,
-    client: usize,
+    member: &Member<'_>,
 ) -> Result<(), AllocError> {
-    let config = tables.config();
-    if client >= config.clients() {
-        return Ok(());
-    }
-    let name = config.name(client).as_bytes();
     text.extend_from_slice(b"\"")?;
-    put_json(text, name)?;
+    put_json(text, member.name)?;
     text.extend_from_slice(b"\":{\"protocol\":\"")?;
-    put_json(text, name)?;
+    put_json(text, member.name)?;
     text.extend_from_slice(b"\",\"bird_protocol\":\"BGP\",\"state\":\"")?;
-    text.extend_from_slice(up_or_down(tables, client, b"up", b"down"))?;
+    text.extend_from_slice(up_or_down(tables, member, b"up", b"down"))?;
     text.extend_from_slice(b"\",\"state_changed\":\"")?;
-    put_time(text, alloc, moments.time(moments.change(client)))?;
+    put_time(text, alloc, moments.time(moments.change(member.place)))?;
     text.extend_from_slice(b"\",\"description\":\"")?;
-    put_json(text, name)?;
+    put_json(text, member.name)?;
     text.extend_from_slice(b"\",\"neighbor_address\":\"")?;
-    put_address(text, config.peer(client))?;
+    put_address(text, member.peer)?;
     text.extend_from_slice(b"\",\"neighbor_as\":")?;
-    put_number(text, u64::from(config.client_as(client)))?;
-    put_state(text, alloc, tables, moments, client)
+    put_number(text, u64::from(member.client_as))?;
+    put_state(text, alloc, tables, moments, member)
 }
 
 /// Puts the rest of it.
@@ -98,53 +156,50 @@ fn put_state<T: Tables>(
     alloc: Global,
     tables: &T,
     moments: &Moments<'_>,
-    client: usize,
+    member: &Member<'_>,
 ) -> Result<(), AllocError> {
-    if client >= tables.config().clients() {
-        return Ok(());
-    }
     text.extend_from_slice(b",\"bgp_state\":\"")?;
-    text.extend_from_slice(up_or_down(tables, client, b"Established", b"Down"))?;
+    text.extend_from_slice(up_or_down(tables, member, b"Established", b"Down"))?;
     text.extend_from_slice(b"\",\"uptime\":")?;
-    let uptime = if tables.is_established(client) {
-        moments.since(client)
+    let uptime = if tables.is_established(member.place) {
+        moments.since(member.place)
     } else {
         0
     };
     put_number(text, uptime)?;
-    if moments.is_disabled(client) {
+    if moments.is_disabled(member.place) {
         text.extend_from_slice(b",\"disabled\":true")?;
     }
     text.extend_from_slice(b",\"last_error\":\"")?;
-    put_ending(text, alloc, tables.ended(client))?;
-    text.extend_from_slice(b"\",\"routes\":{\"imported\":")?;
-    put_number(text, tables.count(Rib::Received, client) as u64)?;
-    text.extend_from_slice(b",\"exported\":")?;
-    put_number(text, tables.count(Rib::Sent, client) as u64)?;
-    text.extend_from_slice(b"}}\n")
+    put_ending(text, alloc, tables.ended(member.place))?;
+    text.extend_from_slice(b"\",")
 }
 
 /// Puts what all routes of a member have in common, as birdwatcher has it.
-pub(crate) fn put_origin<T: Tables>(
+pub(crate) fn put_origin(
     text: &mut Vec<u8>,
     alloc: Global,
-    tables: &T,
     moments: &Moments<'_>,
-    client: usize,
+    member: &Member<'_>,
 ) -> Result<(), AllocError> {
-    let config = tables.config();
-    if client >= config.clients() {
-        return Ok(());
-    }
     text.extend_from_slice(b"\"from_protocol\":\"")?;
-    put_json(text, config.name(client).as_bytes())?;
+    put_json(text, member.name)?;
     text.extend_from_slice(b"\",\"learnt_from\":\"")?;
-    put_address(text, config.peer(client))?;
+    put_address(text, member.peer)?;
     text.extend_from_slice(b"\",\"age\":\"")?;
-    put_time(text, alloc, moments.time(moments.change(client)))?;
+    put_time(text, alloc, moments.time(moments.change(member.place)))?;
     text.extend_from_slice(
         b"\",\"metric\":100,\"primary\":false,\"type\":[\"BGP\",\"unicast\",\"univ\"],",
     )
+}
+
+/// Puts a member's name, with a link to its page.
+pub(crate) fn put_named(text: &mut Vec<u8>, member: &Member<'_>) -> Result<(), AllocError> {
+    text.extend_from_slice(b"<a href=\"/members/")?;
+    put_html(text, member.name)?;
+    text.extend_from_slice(b"\">")?;
+    put_html(text, member.name)?;
+    text.extend_from_slice(b"</a>")
 }
 
 /// Puts a member's row in the table of members.
@@ -153,33 +208,28 @@ pub(crate) fn put_member_row<T: Tables>(
     alloc: Global,
     tables: &T,
     moments: &Moments<'_>,
-    client: usize,
+    member: &Member<'_>,
 ) -> Result<(), AllocError> {
-    let config = tables.config();
-    if client >= config.clients() {
-        return Ok(());
-    }
-    let name = config.name(client).as_bytes();
-    text.extend_from_slice(b"<tr><td><a href=\"/members/")?;
-    put_html(text, name)?;
-    text.extend_from_slice(b"\">")?;
-    put_html(text, name)?;
-    text.extend_from_slice(b"</a><td>")?;
-    put_number(text, u64::from(config.client_as(client)))?;
+    text.extend_from_slice(b"<tr><td>")?;
+    put_named(text, member)?;
     text.extend_from_slice(b"<td>")?;
-    put_address(text, config.peer(client))?;
+    put_number(text, u64::from(member.client_as))?;
+    text.extend_from_slice(b"<td>")?;
+    put_address(text, member.peer)?;
     text.extend_from_slice(up_or_down(
         tables,
-        client,
+        member,
         b"<td class=up>up<td>",
         b"<td class=down>down<td>",
     ))?;
-    put_time(text, alloc, moments.time(moments.change(client)))?;
+    put_time(text, alloc, moments.time(moments.change(member.place)))?;
     text.extend_from_slice(b"<td class=number>")?;
-    put_number(text, tables.count(Rib::Received, client) as u64)?;
+    put_number(text, tables.count(Rib::Received, member.place) as u64)?;
     text.extend_from_slice(b"<td class=number>")?;
-    put_number(text, tables.faults(client).at_fault)?;
+    put_number(text, tables.dropped(member.place) as u64)?;
     text.extend_from_slice(b"<td class=number>")?;
-    put_number(text, tables.count(Rib::Sent, client) as u64)?;
+    put_number(text, tables.faults(member.place).at_fault)?;
+    text.extend_from_slice(b"<td class=number>")?;
+    put_number(text, tables.count(Rib::Sent, member.place) as u64)?;
     text.extend_from_slice(b"</tr>\n")
 }

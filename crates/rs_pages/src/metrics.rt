@@ -1,8 +1,10 @@
 //! What Prometheus is told.
 
+use crate::counts::Direction;
+use crate::counts::histogram::{BOUNDS, Histogram};
 use crate::moments::Moments;
 use crate::tables::{Rib, Tables};
-use crate::texts::{put_json, put_number};
+use crate::texts::{put_json, put_number, put_seconds};
 use std::alloc::AllocError;
 
 /// A number that is told of each member.
@@ -11,9 +13,15 @@ pub(crate) enum Metric {
     Up,
     Since,
     Received,
+    Refused,
     Sent,
     Faulted,
     PassedOver,
+    UpdatesReceived,
+    UpdatesSent,
+    BytesReceived,
+    BytesSent,
+    Waiting,
 }
 
 impl Metric {
@@ -23,9 +31,15 @@ impl Metric {
             0 => Some(Metric::Up),
             1 => Some(Metric::Since),
             2 => Some(Metric::Received),
-            3 => Some(Metric::Sent),
-            4 => Some(Metric::Faulted),
-            5 => Some(Metric::PassedOver),
+            3 => Some(Metric::Refused),
+            4 => Some(Metric::Sent),
+            5 => Some(Metric::Faulted),
+            6 => Some(Metric::PassedOver),
+            7 => Some(Metric::UpdatesReceived),
+            8 => Some(Metric::UpdatesSent),
+            9 => Some(Metric::BytesReceived),
+            10 => Some(Metric::BytesSent),
+            11 => Some(Metric::Waiting),
             _ => None,
         }
     }
@@ -39,11 +53,23 @@ impl Metric {
                 b"# HELP rs_member_changed_timestamp_seconds When its session came up or ended.\n# TYPE rs_member_changed_timestamp_seconds gauge\n",
             Metric::Received =>
                 b"# HELP rs_member_received_prefixes The prefixes of its Adj-RIB-In.\n# TYPE rs_member_received_prefixes gauge\n",
+            Metric::Refused =>
+                b"# HELP rs_member_refused_prefixes The prefixes of its Adj-RIB-In that its import list drops.\n# TYPE rs_member_refused_prefixes gauge\n",
             Metric::Sent =>
                 b"# HELP rs_member_sent_prefixes The prefixes of its Loc-RIB.\n# TYPE rs_member_sent_prefixes gauge\n",
             Metric::Faulted =>
                 b"# HELP rs_member_faulted_updates_total UPDATEs at fault: routes withdrawn or attributes discarded for a fault (RFC 7606), or routes in MP_REACH_NLRI passed over.\n# TYPE rs_member_faulted_updates_total counter\n",
             Metric::PassedOver => b"",
+            Metric::UpdatesReceived =>
+                b"# HELP rs_member_received_updates_total The UPDATEs that it sent.\n# TYPE rs_member_received_updates_total counter\n",
+            Metric::UpdatesSent =>
+                b"# HELP rs_member_sent_updates_total The UPDATEs that were sent to it.\n# TYPE rs_member_sent_updates_total counter\n",
+            Metric::BytesReceived =>
+                b"# HELP rs_member_received_bytes_total The octets that its sessions were given.\n# TYPE rs_member_received_bytes_total counter\n",
+            Metric::BytesSent =>
+                b"# HELP rs_member_sent_bytes_total The octets that its connections took.\n# TYPE rs_member_sent_bytes_total counter\n",
+            Metric::Waiting =>
+                b"# HELP rs_member_waiting_prefixes The prefixes that wait to be sent to it.\n# TYPE rs_member_waiting_prefixes gauge\n",
         }
     }
 
@@ -52,17 +78,23 @@ impl Metric {
             Metric::Up => b"rs_member_up",
             Metric::Since => b"rs_member_changed_timestamp_seconds",
             Metric::Received => b"rs_member_received_prefixes",
+            Metric::Refused => b"rs_member_refused_prefixes",
             Metric::Sent => b"rs_member_sent_prefixes",
             Metric::Faulted | Metric::PassedOver => b"rs_member_faulted_updates_total",
+            Metric::UpdatesReceived => b"rs_member_received_updates_total",
+            Metric::UpdatesSent => b"rs_member_sent_updates_total",
+            Metric::BytesReceived => b"rs_member_received_bytes_total",
+            Metric::BytesSent => b"rs_member_sent_bytes_total",
+            Metric::Waiting => b"rs_member_waiting_prefixes",
         }
     }
 
     /// What is labelled beside the member.
     fn label(self) -> &'static [u8] {
         match self {
-            Metric::Up | Metric::Since | Metric::Received | Metric::Sent => b"\"} ",
             Metric::Faulted => b"\",outcome=\"withdrawn_or_discarded\"} ",
             Metric::PassedOver => b"\",outcome=\"passed_over\"} ",
+            _ => b"\"} ",
         }
     }
 
@@ -74,9 +106,15 @@ impl Metric {
             Metric::Up => u64::from(tables.is_established(client)),
             Metric::Since => moments.time(moments.change(client)),
             Metric::Received => tables.count(Rib::Received, client) as u64,
+            Metric::Refused => tables.dropped(client) as u64,
             Metric::Sent => tables.count(Rib::Sent, client) as u64,
             Metric::Faulted => tables.faults(client).at_fault,
             Metric::PassedOver => tables.faults(client).passed_over,
+            Metric::UpdatesReceived => moments.traffic(Direction::Heard, client).updates(),
+            Metric::UpdatesSent => moments.traffic(Direction::Sent, client).updates(),
+            Metric::BytesReceived => moments.traffic(Direction::Heard, client).octets(),
+            Metric::BytesSent => moments.traffic(Direction::Sent, client).octets(),
+            Metric::Waiting => tables.waiting(client) as u64,
         }
     }
 
@@ -117,19 +155,64 @@ pub(crate) fn established<T: Tables>(tables: &T) -> u64 {
     count
 }
 
-/// Puts a metric of the server: its name, what it is, and its value.
-fn put_gauge(text: &mut Vec<u8>, name: &[u8], help: &[u8], value: u64) -> Result<(), AllocError> {
+/// Puts what a metric of the server is, and of which type.
+fn put_type(
+    text: &mut Vec<u8>,
+    name: &[u8],
+    help: &[u8],
+    metric_type: &[u8],
+) -> Result<(), AllocError> {
     text.extend_from_slice(b"# HELP ")?;
     text.extend_from_slice(name)?;
     text.extend_from_slice(b" ")?;
     text.extend_from_slice(help)?;
     text.extend_from_slice(b"\n# TYPE ")?;
     text.extend_from_slice(name)?;
-    text.extend_from_slice(b" gauge\n")?;
+    text.extend_from_slice(b" ")?;
+    text.extend_from_slice(metric_type)?;
+    text.extend_from_slice(b"\n")
+}
+
+/// Puts a sample of the server: its name, with what it is labelled, and its value.
+fn put_value(text: &mut Vec<u8>, name: &[u8], value: u64) -> Result<(), AllocError> {
     text.extend_from_slice(name)?;
     text.extend_from_slice(b" ")?;
     put_number(text, value)?;
     text.extend_from_slice(b"\n")
+}
+
+/// Puts a metric of the server that rises and falls.
+fn put_gauge(text: &mut Vec<u8>, name: &[u8], help: &[u8], value: u64) -> Result<(), AllocError> {
+    put_type(text, name, help, b"gauge")?;
+    put_value(text, name, value)
+}
+
+/// Puts one that only rises.
+fn put_counter(text: &mut Vec<u8>, name: &[u8], help: &[u8], value: u64) -> Result<(), AllocError> {
+    put_type(text, name, help, b"counter")?;
+    put_value(text, name, value)
+}
+
+/// Puts how long turns took: how many within each bound, and all.
+fn put_turns(text: &mut Vec<u8>, turns: &Histogram) -> Result<(), AllocError> {
+    put_type(
+        text,
+        b"rs_turn_duration_seconds",
+        b"How long turns took.",
+        b"histogram",
+    )?;
+    for (at, (_, bound)) in BOUNDS.iter().enumerate() {
+        text.extend_from_slice(b"rs_turn_duration_seconds_bucket{le=\"")?;
+        text.extend_from_slice(bound.as_bytes())?;
+        text.extend_from_slice(b"\"}")?;
+        put_value(text, b"", turns.within(at.saturating_add(1)))?;
+    }
+    let all = turns.within(usize::MAX);
+    put_value(text, b"rs_turn_duration_seconds_bucket{le=\"+Inf\"}", all)?;
+    text.extend_from_slice(b"rs_turn_duration_seconds_sum ")?;
+    put_seconds(text, turns.sum())?;
+    text.extend_from_slice(b"\n")?;
+    put_value(text, b"rs_turn_duration_seconds_count", all)
 }
 
 /// Puts the metrics of the server.
@@ -161,5 +244,24 @@ pub(crate) fn put_server<T: Tables>(
         b"rs_prefix_rows",
         b"The rows of the table of prefixes, used or free.",
         tables.rows() as u64,
-    )
+    )?;
+    put_gauge(
+        text,
+        b"rs_prefixes",
+        b"The prefixes that have routes.",
+        tables.prefixes() as u64,
+    )?;
+    put_counter(
+        text,
+        b"rs_memory_refused_total",
+        b"How often memory was refused for a member.",
+        moments.changes.counts.refusals(),
+    )?;
+    put_counter(
+        text,
+        b"rs_stranger_connections_total",
+        b"Connections that were no member's and were closed.",
+        moments.changes.counts.strangers(),
+    )?;
+    put_turns(text, moments.changes.counts.turns())
 }

@@ -1,5 +1,7 @@
-//! What the live server knows beside its tables: when.
+//! What the live server knows beside its tables: when, and what was counted.
 
+use crate::counts::traffic::Traffic;
+use crate::counts::{Counts, Direction};
 use crate::tables::Tables;
 use std::alloc::{AllocError, Global};
 
@@ -24,10 +26,12 @@ struct Change {
     is_disabled: bool,
 }
 
-/// When the session of each member was last seen to come up or to end, and who is kept down.
+/// When the session of each member was last seen to come up or to end, and who is kept down; and what was
+/// counted since the start.
 #[derive(Debug, Drop)]
 pub struct Changes {
     all: Vec<Change>,
+    pub counts: Counts,
 }
 
 impl Changes {
@@ -40,6 +44,7 @@ impl Changes {
         };
         Ok(Changes {
             all: vec![in alloc; nothing; count]?,
+            counts: Counts::new(alloc, count)?,
         })
     }
 
@@ -82,6 +87,11 @@ impl Moments<'_> {
     /// The time of day in this second, in seconds since 1970-01-01T00:00:00Z.
     pub(crate) fn time(&self, second: u64) -> u64 {
         self.start.saturating_add(second)
+    }
+
+    /// What went in a direction of a member's sessions.
+    pub(crate) fn traffic(&self, direction: Direction, client: usize) -> Traffic {
+        self.changes.counts.traffic(direction, client)
     }
 
     /// In which second a member's session was seen to come up or to end.

@@ -1,9 +1,13 @@
 //! The pages for people: plain HTML and CSS.
 
-use crate::members::{put_ending, put_member_row};
+use crate::members::{Member, member_at, put_ending, put_member_row, put_named};
 use crate::moments::Moments;
 use crate::tables::Tables;
-use crate::texts::{put_address, put_html, put_number, put_time};
+use crate::texts::{put_address, put_html, put_number, put_prefix, put_time};
+use crate::views::Listing;
+use rs_attrs::Attrs;
+use rs_octets::Prefix;
+use rs_window::page::Page;
 use std::alloc::{AllocError, Global};
 
 /// What each page begins with.
@@ -11,10 +15,10 @@ const TOP: &[u8] =
     b"<!DOCTYPE html>\n<html lang=en>\n<meta charset=utf-8>\n<meta name=viewport content=\"width=device-width\">\n<style>\n:root{color-scheme:light dark;font:16px/1.5 system-ui,sans-serif}\nbody{max-width:64rem;margin:1rem auto;padding:0 1rem}\ntable{border-collapse:collapse;width:100%}\nth,td{text-align:left;padding:.25rem .75rem .25rem 0;border-bottom:1px solid #8886}\n.number{text-align:right;font-variant-numeric:tabular-nums}\n.up{color:light-dark(#060,#6d6)}.down{color:light-dark(#a00,#f88)}\n</style>\n";
 
 const SEARCH: &[u8] =
-    b"<form action=\"/routes/prefix\"><label>Who announces the prefix <input name=prefix placeholder=192.0.2.0/24 required></label> <button>Search</button></form>\n";
+    b"<form action=\"/search\"><label>Who announces the prefix <input name=prefix placeholder=192.0.2.0/24 required></label> <button>Search</button></form>\n";
 
 const COLUMNS: &[u8] =
-    b"<table>\n<tr><th>Member<th>AS<th>Address<th>State<th>Since<th class=number>Received<th class=number>UPDATEs at fault<th class=number>Sent</tr>\n";
+    b"<table>\n<tr><th>Member<th>AS<th>Address<th>State<th>Since<th class=number>Received<th class=number>Refused<th class=number>UPDATEs at fault<th class=number>Sent</tr>\n";
 
 /// Puts the front of the page of all members.
 pub(crate) fn put_home<T: Tables>(
@@ -36,37 +40,42 @@ pub(crate) fn put_home<T: Tables>(
     text.extend_from_slice(COLUMNS)
 }
 
+/// Puts what the page of a thing of this name begins with.
+fn put_top(text: &mut Vec<u8>, name: &[u8], rest: &[u8]) -> Result<(), AllocError> {
+    text.extend_from_slice(TOP)?;
+    text.extend_from_slice(b"<title>")?;
+    put_html(text, name)?;
+    text.extend_from_slice(rest)?;
+    text.extend_from_slice(b"</title>\n<h1>")?;
+    put_html(text, name)?;
+    text.extend_from_slice(rest)?;
+    text.extend_from_slice(b"</h1>\n<p><a href=\"/\">All members</a></p>\n")
+}
+
 /// Puts a member's page.
 pub(crate) fn put_member<T: Tables>(
     text: &mut Vec<u8>,
     alloc: Global,
     tables: &T,
     moments: &Moments<'_>,
-    client: usize,
+    place: usize,
 ) -> Result<(), AllocError> {
-    let config = tables.config();
-    if client >= config.clients() {
+    let Some(member) = member_at(tables, place) else {
         return Ok(());
-    }
-    let name = config.name(client).as_bytes();
-    text.extend_from_slice(TOP)?;
-    text.extend_from_slice(b"<title>")?;
-    put_html(text, name)?;
-    text.extend_from_slice(b"</title>\n<h1>")?;
-    put_html(text, name)?;
-    text.extend_from_slice(b"</h1>\n<p><a href=\"/\">All members</a></p>\n")?;
+    };
+    put_top(text, member.name, b"")?;
     text.extend_from_slice(COLUMNS)?;
-    put_member_row(text, alloc, tables, moments, client)?;
+    put_member_row(text, alloc, tables, moments, &member)?;
     text.extend_from_slice(b"</table>\n<p>")?;
-    put_last(text, alloc, tables, client)?;
-    text.extend_from_slice(b"</p>\n<p><a href=\"/members/")?;
-    put_html(text, name)?;
-    text.extend_from_slice(b"/received\">Routes received</a>, <a href=\"/members/")?;
-    put_html(text, name)?;
+    put_last(text, alloc, tables, &member)?;
+    text.extend_from_slice(b"</p>\n<p><a href=\"")?;
+    put_target(text, &member, RECEIVED)?;
+    text.extend_from_slice(b"\">Routes received</a>, <a href=\"")?;
+    put_target(text, &member, SENT)?;
     text.extend_from_slice(
-        b"/sent\">routes sent</a></p>\n<form action=\"/why\"><input type=hidden name=to value=\"",
+        b"\">routes sent</a></p>\n<form action=\"/why\"><input type=hidden name=to value=\"",
     )?;
-    put_html(text, name)?;
+    put_html(text, member.name)?;
     text.extend_from_slice(
         b"\"><label>Why it is sent what it is for <input name=prefix placeholder=192.0.2.0/24 required></label> <button>Ask</button></form>\n</html>\n",
     )
@@ -77,16 +86,101 @@ fn put_last<T: Tables>(
     text: &mut Vec<u8>,
     alloc: Global,
     tables: &T,
-    client: usize,
+    member: &Member<'_>,
 ) -> Result<(), AllocError> {
-    if client >= tables.config().clients() {
-        return Ok(());
-    }
-    let ended = tables.ended(client);
+    let ended = tables.ended(member.place);
     if ended.is_none() {
         return text.extend_from_slice(b"No session has ended.");
     }
     text.extend_from_slice(b"The last session that ended: ")?;
     put_ending(text, alloc, ended)?;
     text.extend_from_slice(b".")
+}
+
+/// What the pages of a member's routes are called, behind its name.
+const RECEIVED: &[u8] = b"/received.html";
+
+const SENT: &[u8] = b"/sent.html";
+
+/// Puts the target of a page below a member's.
+fn put_target(text: &mut Vec<u8>, member: &Member<'_>, page: &[u8]) -> Result<(), AllocError> {
+    text.extend_from_slice(b"/members/")?;
+    put_html(text, member.name)?;
+    text.extend_from_slice(page)
+}
+
+/// The target of a page of a member's routes, within HTML.
+pub(crate) fn target_of<T: Tables>(
+    alloc: Global,
+    tables: &T,
+    listing: Listing,
+    page: Page,
+) -> Result<Vec<u8>, AllocError> {
+    let mut target = Vec::new(alloc);
+    if let Some(member) = member_at(tables, page.place) {
+        match listing {
+            Listing::Sent => put_target(&mut target, &member, SENT)?,
+            _ => put_target(&mut target, &member, RECEIVED)?,
+        }
+    }
+    Ok(target)
+}
+
+/// Puts the front of a page of a member's routes.
+pub(crate) fn put_routes<T: Tables>(
+    text: &mut Vec<u8>,
+    tables: &T,
+    listing: Listing,
+    page: Page,
+) -> Result<(), AllocError> {
+    let Some(member) = member_at(tables, page.place) else {
+        return Ok(());
+    };
+    match listing {
+        Listing::Sent => put_top(text, member.name, b": routes sent")?,
+        _ => put_top(text, member.name, b": routes received")?,
+    }
+    text.extend_from_slice(b"<p>")?;
+    put_named(text, &member)?;
+    text.extend_from_slice(b"</p>\n<table>\n<tr><th>Prefix")?;
+    text.extend_from_slice(CELLS)?;
+    text.extend_from_slice(b"</tr>\n")
+}
+
+/// The columns that show a route's attributes.
+const CELLS: &[u8] = b"<th>Next hop<th>AS path<th class=number>MED<th>Communities";
+
+/// Puts the front of the page of who announces a prefix.
+pub(crate) fn put_found(
+    text: &mut Vec<u8>,
+    alloc: Global,
+    prefix: &Prefix,
+) -> Result<(), AllocError> {
+    let mut name = Vec::new(alloc);
+    put_prefix(&mut name, prefix)?;
+    put_top(text, &name, b"")?;
+    text.extend_from_slice(SEARCH)?;
+    text.extend_from_slice(b"<table>\n<tr><th>Announced by")?;
+    text.extend_from_slice(CELLS)?;
+    text.extend_from_slice(b"<th>It is sent</tr>\n")
+}
+
+/// Puts the row of who announces a prefix.
+pub(crate) fn put_holder(
+    text: &mut Vec<u8>,
+    member: &Member<'_>,
+    prefix: &Prefix,
+    attrs: &Attrs,
+    cells: &[u8],
+) -> Result<(), AllocError> {
+    text.extend_from_slice(b"<tr><td>")?;
+    put_named(text, member)?;
+    text.extend_from_slice(b"<td>")?;
+    put_address(text, attrs.next_hop().unwrap_or(0))?;
+    text.extend_from_slice(cells)?;
+    text.extend_from_slice(b"<td><a href=\"/why?to=")?;
+    put_html(text, member.name)?;
+    text.extend_from_slice(b"&amp;prefix=")?;
+    put_prefix(text, prefix)?;
+    text.extend_from_slice(b"\">why</a></tr>\n")
 }

@@ -1,111 +1,23 @@
 //! Why a member is sent one route for a prefix, and not another.
 
-ghost use Rattle.std.specs.Prelude.{◌≡◌, ◌<◌, length, IfOk, IfSome};
+ghost use Rattle.std.specs.Prelude.{◌≡◌, ◌<◌, ◌++◌, length, option_map, OnOk};
 ghost use Rattle.rs_decision.specs.Best.{HasDistinctPlaces};
+ghost use Rattle.rs_reasons.specs.Why.{cause_said, said};
+ghost use Rattle.rs_pages.specs.Candidates.{outcome_of};
+ghost use Rattle.rs_pages.specs.Holders.{holding};
+ghost use Rattle.rs_pages.specs.Why.{account_text, asked_text, cause_text, export_text, list_text, outcome_text, passes_text, rules_text, sender_text, step_text, told_text};
 
-use crate::tables::Tables;
+use crate::candidates::{Outcome, Question, outcome_of};
+use crate::tables::Holder;
 use crate::texts::{put_address, put_json, put_number};
-use rs_attrs::Attrs;
-use rs_decision::{Rank, Step, lost_by};
-use rs_octets::Prefix;
-use rs_policy::{Fate, List, judge};
+use rs_decision::{Rank, Step};
+use rs_policy::{Config, List};
 use rs_reasons::{Cause, Reason, explain};
-use std::alloc::{AllocError, Global};
+use std::alloc::AllocError;
 
-/// For whom a prefix is decided.
-#[derive(Clone, Copy)]
-pub(crate) struct Question<'a, T> {
-    pub(crate) tables: &'a T,
-    pub(crate) to: usize,
-    pub(crate) prefix: Prefix,
-}
-
-/// A route that a member announced for the prefix.
-#[derive(Clone, Copy)]
-pub(crate) struct Candidate<'a> {
-    pub(crate) member: usize,
-    pub(crate) identifier: u32,
-    pub(crate) attrs: &'a Attrs,
-}
-
-/// The rank of a route, where it is a candidate for the member (RFC 4271, 9.1.2; RFC 7947, 2.3).
-fn rank<T: Tables>(question: &Question<'_, T>, candidate: &Candidate<'_>) -> Option<Rank>
-    ensures { IfSome result (λ rank. rank.place ≡ candidate.now.member) }
+fn list_name(list: List) -> &'static [u8]
+    ensures { result.now ≡ list_text list }
 {
-    let config = question.tables.config();
-    let from = candidate.member;
-    if from >= config.clients() || question.to >= config.clients() {
-        return None;
-    }
-    if from == question.to || candidate.attrs.path_has(config.server_as()) {
-        return None;
-    }
-    match judge(config, from, question.to, &question.prefix, candidate.attrs) {
-        Fate::Drop => None,
-        Fate::Pass { preference, .. } => Some(Rank {
-            preference,
-            path_len: candidate.attrs.path_len(),
-            origin: candidate.attrs.origin().unwrap_or(0),
-            med: candidate.attrs.med(),
-            neighbour: config.client_as(from),
-            identifier: candidate.identifier,
-            address: config.peer(from),
-            place: from,
-        }),
-    }
-}
-
-/// The route of a member, where it announced one.
-fn held_by<'a, T: Tables>(question: &Question<'a, T>, member: usize) -> Option<Candidate<'a>>
-    ensures { IfSome result (λ candidate. candidate.member ≡ member) }
-{
-    let tables = question.tables;
-    let (identifier, attrs) = tables.held(member, &question.prefix)?;
-    Some(Candidate {
-        member,
-        identifier,
-        attrs,
-    })
-}
-
-/// The first route of a member from this one on.
-pub(crate) fn candidate_from<'a, T: Tables>(
-    question: &Question<'a, T>,
-    first: usize,
-) -> Option<Candidate<'a>> {
-    for member in first..question.tables.config().clients() {
-        if let Some(candidate) = held_by(question, member) {
-            return Some(candidate);
-        }
-    }
-    None
-}
-
-/// The rank of a member's route, where it is a candidate.
-fn rank_of<T: Tables>(question: &Question<'_, T>, member: usize) -> Option<Rank>
-    ensures { IfSome result (λ rank. rank.place ≡ member) }
-{
-    let candidate = held_by(question, member)?;
-    rank(question, &candidate)
-}
-
-/// The ranks of all candidates.
-pub(crate) fn ranks<T: Tables>(
-    alloc: Global,
-    question: &Question<'_, T>,
-) -> Result<Vec<Rank>, AllocError>
-    ensures { IfOk result (λ ranks. HasDistinctPlaces ranks.items) }
-{
-    let mut ranks = Vec::new(alloc);
-    for member in 0..question.tables.config().clients() {
-        if let Some(rank) = rank_of(question, member) {
-            ranks.push(rank)?;
-        }
-    }
-    Ok(ranks)
-}
-
-fn list_name(list: List) -> &'static [u8] {
     match list {
         List::Import => b"import",
         List::Export => b"export",
@@ -113,59 +25,87 @@ fn list_name(list: List) -> &'static [u8] {
     }
 }
 
-/// Puts the rule that decided in a list: the list, its member, the rule's place, and the name of the rules
-/// that it is among.
-fn put_reason(text: &mut Vec<u8>, reason: &Reason<'_>) -> Result<(), AllocError> {
-    text.extend_from_slice(b"{\"list\":\"")?;
-    text.extend_from_slice(list_name(reason.list))?;
-    text.extend_from_slice(b"\",\"of\":\"")?;
-    put_json(text, reason.client.as_bytes())?;
-    text.extend_from_slice(b"\",\"rule\":")?;
-    match reason.cause {
-        Cause::Default => text.extend_from_slice(b"null")?,
-        Cause::Own(place) => put_number(text, place as u64)?,
+/// Puts the rule that decided: its place, and the name of the rules that it is among.
+fn put_cause(text: &mut Vec<u8>, cause: &Cause<'_>) -> Result<(), AllocError>
+    ensures { OnOk result (text.new.items ≡ text.old.items ++ cause_text (cause_said cause.now)) }
+{
+    match *cause {
+        Cause::Default => text.extend_from_slice(b"null"),
+        Cause::Own(place) => put_number(text, place as u64),
         Cause::Used { place, name, rule } => {
             put_number(text, place as u64)?;
             text.extend_from_slice(b",\"uses\":\"")?;
             put_json(text, name.as_bytes())?;
             text.extend_from_slice(b"\",\"rule_there\":")?;
-            put_number(text, rule as u64)?;
+            put_number(text, rule as u64)
         }
     }
-    text.extend_from_slice(if reason.passes {
-        b",\"passes\":true}".as_slice()
-    } else {
-        b",\"passes\":false}".as_slice()
-    })
 }
 
-/// Puts what the rules say.
-fn put_rules<T: Tables>(
-    text: &mut Vec<u8>,
-    question: &Question<'_, T>,
-    candidate: &Candidate<'_>,
-) -> Result<(), AllocError> {
-    let config = question.tables.config();
-    if candidate.member >= config.clients() || question.to >= config.clients() {
-        return Ok(());
+fn passes_name(passes: bool) -> &'static [u8]
+    ensures { result.now ≡ passes_text passes }
+{
+    if passes {
+        b",\"passes\":true}"
+    } else {
+        b",\"passes\":false}"
     }
+}
+
+/// Puts what a list did: the list, its member, and the rule that decided.
+#[tactic(auto, unfolding(crate::specs::Why::account_text))]
+fn put_reason(text: &mut Vec<u8>, reason: &Reason<'_>) -> Result<(), AllocError>
+    ensures { OnOk result (text.new.items ≡ text.old.items ++ account_text (said reason.now)) }
+{
+    text.extend_from_slice(b"{\"list\":\"")?;
+    text.extend_from_slice(list_name(reason.list))?;
+    text.extend_from_slice(b"\",\"of\":\"")?;
+    put_json(text, reason.client.as_bytes())?;
+    text.extend_from_slice(b"\",\"rule\":")?;
+    put_cause(text, &reason.cause)?;
+    text.extend_from_slice(passes_name(reason.passes))
+}
+
+/// Puts what the export list did, where it was asked.
+fn put_export(text: &mut Vec<u8>, export: &Option<Reason<'_>>) -> Result<(), AllocError>
+    ensures { OnOk result (text.new.items ≡ text.old.items ++ export_text (option_map said export.now)) }
+{
+    match export {
+        None => Ok(()),
+        Some(reason) => {
+            text.extend_from_slice(b",")?;
+            put_reason(text, reason)
+        }
+    }
+}
+
+/// Puts what the rules did.
+#[tactic(auto, unfolding(crate::specs::Why::rules_text))]
+fn put_rules(
+    text: &mut Vec<u8>,
+    question: &Question<'_>,
+    holder: &Holder<'_>,
+) -> Result<(), AllocError>
+    requires from { holder.now.member < length question.now.config.now.clients }
+    requires to { question.now.to < length question.now.config.now.clients }
+    ensures { OnOk result (text.new.items ≡ text.old.items ++ rules_text question.now.config.now question.now.to question.now.prefix (holding holder.now)) }
+{
     let why = explain(
-        config,
-        candidate.member,
+        question.config,
+        holder.member,
         question.to,
         &question.prefix,
-        candidate.attrs,
+        holder.attrs,
     );
     text.extend_from_slice(b",\"rules\":[")?;
     put_reason(text, &why.import)?;
-    if let Some(export) = &why.export {
-        text.extend_from_slice(b",")?;
-        put_reason(text, export)?;
-    }
+    put_export(text, &why.export)?;
     text.extend_from_slice(b"]")
 }
 
-fn step_name(step: Step) -> &'static [u8] {
+fn step_name(step: Step) -> &'static [u8]
+    ensures { result.now ≡ step_text step }
+{
     match step {
         Step::Preference => b"preference",
         Step::Path => b"path",
@@ -177,63 +117,73 @@ fn step_name(step: Step) -> &'static [u8] {
     }
 }
 
-/// Where a member's rank stands.
-fn place_among(ranks: &[Rank], client: usize) -> Option<usize>
-    ensures { IfSome result (λ i. i < length ranks.now) }
+/// Puts what becomes of a route.
+fn put_outcome(text: &mut Vec<u8>, outcome: Outcome) -> Result<(), AllocError>
+    ensures { OnOk result (text.new.items ≡ text.old.items ++ outcome_text outcome) }
 {
-    ranks.iter().position(|rank| rank.place == client)
+    match outcome {
+        Outcome::Own => text.extend_from_slice(b"\"own\""),
+        Outcome::ServerAs => text.extend_from_slice(b"\"server AS\""),
+        Outcome::Dropped => text.extend_from_slice(b"\"dropped\""),
+        Outcome::Lost(step) => {
+            text.extend_from_slice(b"\"lost\",\"by\":\"")?;
+            text.extend_from_slice(step_name(step))?;
+            text.extend_from_slice(b"\"")
+        }
+        Outcome::Chosen => text.extend_from_slice(b"\"chosen\""),
+    }
 }
 
-/// Puts what becomes of a route: the member's own, with the server's AS, dropped, lost by a step, or chosen.
-fn put_outcome<T: Tables>(
+/// Puts what the rules did, where they were asked.
+fn put_asked(
     text: &mut Vec<u8>,
-    question: &Question<'_, T>,
-    ranks: &[Rank],
-    candidate: &Candidate<'_>,
+    question: &Question<'_>,
+    holder: &Holder<'_>,
+    outcome: Outcome,
 ) -> Result<(), AllocError>
-    requires { HasDistinctPlaces ranks.now }
+    requires from { holder.now.member < length question.now.config.now.clients }
+    requires to { question.now.to < length question.now.config.now.clients }
+    ensures { OnOk result (text.new.items ≡ text.old.items ++ asked_text outcome (rules_text question.now.config.now question.now.to question.now.prefix (holding holder.now))) }
 {
-    let server_as = question.tables.config().server_as();
-    if candidate.member == question.to {
-        return text.extend_from_slice(b"\"own\"");
+    match outcome {
+        Outcome::Own | Outcome::ServerAs => Ok(()),
+        Outcome::Dropped | Outcome::Lost(_) | Outcome::Chosen => {
+            put_rules(text, question, holder)
+        }
     }
-    if candidate.attrs.path_has(server_as) {
-        return text.extend_from_slice(b"\"server AS\"");
-    }
-    match place_among(ranks, candidate.member) {
-        None => text.extend_from_slice(b"\"dropped\"")?,
-        Some(place) => match lost_by(ranks, place) {
-            None => text.extend_from_slice(b"\"chosen\"")?,
-            Some(step) => {
-                text.extend_from_slice(b"\"lost\",\"by\":\"")?;
-                text.extend_from_slice(step_name(step))?;
-                text.extend_from_slice(b"\"")?;
-            }
-        },
-    }
-    put_rules(text, question, candidate)
+}
+
+/// Puts whose route it is.
+#[tactic(auto, unfolding(crate::specs::Why::sender_text))]
+fn put_sender(text: &mut Vec<u8>, config: &Config, holder: &Holder<'_>) -> Result<(), AllocError>
+    requires { holder.now.member < length config.now.clients }
+    ensures { OnOk result (text.new.items ≡ text.old.items ++ sender_text config.now (holding holder.now)) }
+{
+    text.extend_from_slice(b"{\"from\":\"")?;
+    put_json(text, config.name(holder.member).as_bytes())?;
+    text.extend_from_slice(b"\",\"as\":")?;
+    put_number(text, u64::from(config.client_as(holder.member)))?;
+    text.extend_from_slice(b",\"next_hop\":\"")?;
+    put_address(text, holder.attrs.next_hop().unwrap_or(0))?;
+    text.extend_from_slice(b"\",\"outcome\":")
 }
 
 /// Puts a candidate, and what becomes of it.
-pub(crate) fn put_candidate<T: Tables>(
+#[tactic(auto, unfolding(crate::specs::Why::told_text))]
+pub(crate) fn put_candidate(
     text: &mut Vec<u8>,
-    question: &Question<'_, T>,
+    question: &Question<'_>,
     ranks: &[Rank],
-    candidate: &Candidate<'_>,
+    holder: &Holder<'_>,
 ) -> Result<(), AllocError>
-    requires { HasDistinctPlaces ranks.now }
+    requires distinct { HasDistinctPlaces ranks.now }
+    requires from { holder.now.member < length question.now.config.now.clients }
+    requires to { question.now.to < length question.now.config.now.clients }
+    ensures { OnOk result (text.new.items ≡ text.old.items ++ told_text question.now.config.now question.now.to question.now.prefix (holding holder.now) (outcome_of question.now.config.now question.now.to ranks.now (holding holder.now))) }
 {
-    let config = question.tables.config();
-    if candidate.member >= config.clients() {
-        return Ok(());
-    }
-    text.extend_from_slice(b"{\"from\":\"")?;
-    put_json(text, config.name(candidate.member).as_bytes())?;
-    text.extend_from_slice(b"\",\"as\":")?;
-    put_number(text, u64::from(config.client_as(candidate.member)))?;
-    text.extend_from_slice(b",\"next_hop\":\"")?;
-    put_address(text, candidate.attrs.next_hop().unwrap_or(0))?;
-    text.extend_from_slice(b"\",\"outcome\":")?;
-    put_outcome(text, question, ranks, candidate)?;
+    let outcome = outcome_of(question, ranks, holder);
+    put_sender(text, question.config, holder)?;
+    put_outcome(text, outcome)?;
+    put_asked(text, question, holder, outcome)?;
     text.extend_from_slice(b"}\n")
 }

@@ -1,15 +1,17 @@
 //! What the pages are made of: the tables of a route server, as a trait.
 
-ghost use Rattle.std.specs.Prelude.{ℕ, List, Option, option_map};
+ghost use Rattle.std.specs.Prelude.{ℕ, List, Option, option_map, map, IfOk};
 ghost use Rattle.std.specs.Arc.{arc_value};
 ghost use Rattle.rs_octets.specs.Prefixes.{Prefix};
 ghost use Rattle.rs_attrs.specs.Meaning.{Attribute};
 ghost use Rattle.rs_policy.specs.Configuration.{Configuration};
 ghost use Rattle.rs_pages.specs.declared.tables.Rib.{Rib};
+ghost use Rattle.rs_pages.specs.Holders.{Holding, holding};
 
 use rs_attrs::Attrs;
 use rs_octets::Prefix;
 use rs_policy::Config;
+use std::alloc::{AllocError, Global};
 use std::sync::Arc;
 
 /// A table of routes of a member.
@@ -19,6 +21,14 @@ pub enum Rib {
     Received,
     /// What is due to it: its Loc-RIB (RFC 7947, 2.3).
     Sent,
+}
+
+/// A route that a member announced, and the BGP Identifier of the member's session.
+#[derive(Clone, Copy, Debug)]
+pub struct Holder<'a> {
+    pub member: usize,
+    pub identifier: u32,
+    pub attrs: &'a Arc<Attrs>,
 }
 
 /// Why the last session of a member ended.
@@ -45,12 +55,14 @@ pub struct Faults {
 
 /// The tables of a route server, as they stand, and what it knows of its members, by their places in its
 /// configuration. `first tables rib member at route` says that this is the first route of a table from a
-/// number on, or that there is none, `configured tables config` that this is the configuration; where they
-/// always hold, nothing is known.
+/// number on, or that there is none, `configured tables config` that this is the configuration, and
+/// `holders tables prefix held` that these are the routes for a prefix; where they always hold, nothing is known.
 pub trait Tables {
     ghost first: { Self → Rib → ℕ → ℕ → Option (Prefix × List Attribute) → Type 0 };
 
     ghost configured: { Self → Configuration → Type 0 };
+
+    ghost holders: { Self → Prefix → List Holding → Type 0 };
 
     fn config(&self) -> &Config
         ensures { configured self.now result.now };
@@ -65,8 +77,16 @@ pub trait Tables {
     /// How many routes a table has.
     fn count(&self, rib: Rib, member: usize) -> usize;
 
-    /// What a member announced for a prefix, and the BGP Identifier of its session.
-    fn held(&self, member: usize, prefix: &Prefix) -> Option<(u32, &Arc<Attrs>)>;
+    /// How many of the routes that a member announced its import list drops.
+    fn dropped(&self, member: usize) -> usize;
+
+    /// The routes for a prefix, by rising member.
+    fn holders_of<'b>(
+        &'b self,
+        alloc: Global,
+        prefix: &Prefix,
+    ) -> Result<Vec<Holder<'b>>, AllocError>
+        ensures { IfOk result (λ held. holders self.now prefix.now (map holding held.items)) };
 
     /// Why the last session of a member that ended did so.
     fn ended(&self, member: usize) -> Option<Ended>;
@@ -75,4 +95,10 @@ pub trait Tables {
 
     /// How many rows the table of prefixes has, used or free.
     fn rows(&self) -> usize;
+
+    /// How many prefixes have routes.
+    fn prefixes(&self) -> usize;
+
+    /// How many prefixes wait to be sent to a member.
+    fn waiting(&self, member: usize) -> usize;
 }

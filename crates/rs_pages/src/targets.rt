@@ -40,6 +40,10 @@ fn member_page<T: Tables>(tables: &T, rest: &[u8], query: &[u8]) -> Option<Page>
         listing(View::Received, place, query)
     } else if table == b"sent".as_slice() {
         listing(View::Sent, place, query)
+    } else if table == b"received.html".as_slice() {
+        listing(View::ReceivedTable, place, query)
+    } else if table == b"sent.html".as_slice() {
+        listing(View::SentTable, place, query)
     } else {
         None
     }
@@ -60,10 +64,15 @@ fn routes_page<T: Tables>(tables: &T, rest: &[u8], query: &[u8]) -> Option<Page>
         return Some(View::Count.page(member(tables, name)?, 0, 0));
     }
     if rest == b"prefix".as_slice() {
-        let prefix = read_prefix(parameter(query, b"prefix")?)?;
-        return Some(View::AtPrefix.page(0, key(&prefix), u32::MAX));
+        return prefix_page(View::AtPrefix, query);
     }
     None
+}
+
+/// A page of the prefix that a query names.
+fn prefix_page(view: View, query: &[u8]) -> Option<Page> {
+    let prefix = read_prefix(parameter(query, b"prefix")?)?;
+    Some(view.page(0, key(&prefix), u32::MAX))
 }
 
 /// The page `/why`.
@@ -87,6 +96,9 @@ pub(crate) fn find_page<T: Tables>(tables: &T, target: &[u8]) -> Option<Page> {
     }
     if path == b"/why".as_slice() {
         return why_page(tables, query);
+    }
+    if path == b"/search".as_slice() {
+        return prefix_page(View::Search, query);
     }
     if path == b"/".as_slice() {
         Some(View::Home.page(0, 0, 0))

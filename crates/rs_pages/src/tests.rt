@@ -1,15 +1,18 @@
 //! Pages over tables in memory, piece by piece.
 
-use crate::keys::{key, prefix_at, read_prefix};
+mod texts;
+mod traffic;
+
+use crate::keys::key;
 use crate::moments::{Changes, Moments};
 use crate::server_pages::ServerPages;
-use crate::tables::{Ended, Faults, Rib, Tables};
-use crate::texts::{put_html, put_json};
+use crate::tables::{Ended, Faults, Holder, Rib, Tables};
+use crate::tests::traffic::count;
 use rs_attrs::{Attrs, Mode, read};
 use rs_octets::Prefix;
 use rs_policy::Config;
 use rs_window::page::{Next, Pages, Piece};
-use std::alloc::Global;
+use std::alloc::{AllocError, Global};
 use std::process::Abort;
 use std::sync::Arc;
 
@@ -36,12 +39,21 @@ const ATTRIBUTES: [u8; 34] = [
     0, 7, 0xc0, 8, 4, 0xfb, 0xf4, 0, 1,
 ];
 
+/// ORIGIN IGP, an empty AS_PATH, NEXT_HOP 192.0.2.12.
+const SHORTER: [u8; 14] = [0x40, 1, 1, 0, 0x40, 2, 0, 0x40, 3, 4, 192, 0, 2, 12];
+
+/// ORIGIN IGP, AS_PATH 64497 64498, NEXT_HOP 192.0.2.12.
+const LONGER: [u8; 24] = [
+    0x40, 1, 1, 0, 0x40, 2, 10, 2, 2, 0, 0, 0xfb, 0xf1, 0, 0, 0xfb, 0xf2, 0x40, 3, 4, 192, 0, 2, 12,
+];
+
 /// Tables in memory: alpha has announced so many prefixes of 24 bits from 198.51.100.0/24 on, by rising
-/// prefix, and beta is due all but the first.
+/// prefix, and beta is due all but the first; beta has announced its own.
 #[derive(Drop)]
 struct Memory {
     config: Config,
     routes: Vec<(Prefix, Arc<Attrs>)>,
+    others: Vec<(Prefix, Arc<Attrs>)>,
 }
 
 impl Memory {
@@ -49,6 +61,7 @@ impl Memory {
     fn routes(&self, rib: Rib, member: usize) -> &[(Prefix, Arc<Attrs>)] {
         match (rib, member) {
             (Rib::Received, 0) => &self.routes,
+            (Rib::Received, 1) => &self.others,
             (Rib::Sent, 1) => self.routes.get(1..).unwrap_or(&[]),
             _ => &[],
         }
@@ -59,6 +72,8 @@ impl Tables for Memory {
     ghost first = { λ tables rib member at route. Unit {0} };
 
     ghost configured = { λ tables config. Unit {0} };
+
+    ghost holders = { λ tables prefix held. Unit {0} };
 
     fn config(&self) -> &Config {
         &self.config
@@ -81,13 +96,29 @@ impl Tables for Memory {
         self.routes(rib, member).len()
     }
 
-    fn held(&self, member: usize, prefix: &Prefix) -> Option<(u32, &Arc<Attrs>)> {
-        for (held, attrs) in self.routes(Rib::Received, member) {
-            if held == prefix {
-                return Some((0xc000_020b, attrs));
+    fn dropped(&self, member: usize) -> usize {
+        let third = self.routes.get(2..3).unwrap_or(&[]);
+        if member == 0 { third.len() } else { 0 }
+    }
+
+    fn holders_of<'b>(
+        &'b self,
+        alloc: Global,
+        prefix: &Prefix,
+    ) -> Result<Vec<Holder<'b>>, AllocError> {
+        let mut holders = Vec::new(alloc);
+        for member in 0..2_usize {
+            for (held, attrs) in self.routes(Rib::Received, member) {
+                if held == prefix {
+                    holders.push(Holder {
+                        member,
+                        identifier: 0xc000_020b_u32.wrapping_add(member as u32),
+                        attrs,
+                    })?;
+                }
             }
         }
-        None
+        Ok(holders)
     }
 
     fn ended(&self, member: usize) -> Option<Ended> {
@@ -108,27 +139,51 @@ impl Tables for Memory {
     fn rows(&self) -> usize {
         self.routes.len()
     }
+
+    fn prefixes(&self) -> usize {
+        self.routes.len()
+    }
+
+    fn waiting(&self, member: usize) -> usize {
+        member
+    }
+}
+
+/// Puts a route behind the others: this many 24-bit prefixes behind 198.51.100.0/24.
+fn announce(
+    rt: &impl Abort,
+    alloc: Global,
+    routes: &mut Vec<(Prefix, Arc<Attrs>)>,
+    at: u32,
+    attributes: &[u8],
+) {
+    let bits = 0xc633_6400_u32.wrapping_add(at << 8);
+    let attrs = read(alloc, attributes, Mode::Four)
+        .expect(rt, "attributes")
+        .attrs;
+    let attrs = Arc::new(alloc, attrs).expect(rt, "memory");
+    let prefix = Prefix::new(bits, 24).expect(rt, "a prefix");
+    routes.push((prefix, attrs)).expect(rt, "memory");
 }
 
 fn server(rt: &impl Abort, alloc: Global, count: u32) -> Memory {
     let config = Config::read(alloc, CONFIG).expect(rt, "a configuration");
     let mut routes = Vec::new(alloc);
     for at in 0..count {
-        let bits = 0xc633_6400_u32.wrapping_add(at << 8);
-        let attrs = read(alloc, &ATTRIBUTES, Mode::Four)
-            .expect(rt, "attributes")
-            .attrs;
-        let attrs = Arc::new(alloc, attrs).expect(rt, "memory");
-        let prefix = Prefix::new(bits, 24).expect(rt, "a prefix");
-        routes.push((prefix, attrs)).expect(rt, "memory");
+        announce(rt, alloc, &mut routes, at, &ATTRIBUTES);
     }
-    Memory { config, routes }
+    Memory {
+        config,
+        routes,
+        others: Vec::new(alloc),
+    }
 }
 
 /// The whole page at a target, and in how many pieces it was written; the text is empty where there is none.
 fn page(rt: &impl Abort, alloc: Global, tables: &Memory, target: &str) -> (String, usize) {
     let mut changes = Changes::new(alloc, 2).expect(rt, "memory");
     changes.look(tables, 5);
+    count(&mut changes.counts);
     let moments = Moments {
         start: 1_000_000_000,
         now: 65,
@@ -159,10 +214,10 @@ fn page(rt: &impl Abort, alloc: Global, tables: &Memory, target: &str) -> (Strin
 
 /// Targets of a server with two members, of which alpha has announced 198.51.100.0/24 and 198.51.101.0/24 and
 /// beta takes no 198.51.100.0/24; and what the page says.
-const SAID: [(&str, &str); 26] = [
+const SAID: [(&str, &str); 34] = [
     (
         "/",
-        "<a href=\"/members/alpha\">alpha</a><td>64496<td>192.0.2.11<td class=up>up<td>2001-09-09T01:46:45Z<td class=number>2<td class=number>0<td class=number>0</tr>",
+        "<a href=\"/members/alpha\">alpha</a><td>64496<td>192.0.2.11<td class=up>up<td>2001-09-09T01:46:45Z<td class=number>2<td class=number>0<td class=number>0<td class=number>0</tr>",
     ),
     ("/", "<a href=\"/members/beta\">beta</a>"),
     ("/members/beta", "<h1>beta</h1>"),
@@ -180,12 +235,12 @@ const SAID: [(&str, &str); 26] = [
     ),
     (
         "/protocols/bgp",
-        "\"protocols\":{\"alpha\":{\"protocol\":\"alpha\",\"bird_protocol\":\"BGP\",\"state\":\"up\",\"state_changed\":\"2001-09-09T01:46:45Z\",\"description\":\"alpha\",\"neighbor_address\":\"192.0.2.11\",\"neighbor_as\":64496,\"bgp_state\":\"Established\",\"uptime\":60,\"last_error\":\"\",\"routes\":{\"imported\":2,\"exported\":0}}",
+        "\"protocols\":{\"alpha\":{\"protocol\":\"alpha\",\"bird_protocol\":\"BGP\",\"state\":\"up\",\"state_changed\":\"2001-09-09T01:46:45Z\",\"description\":\"alpha\",\"neighbor_address\":\"192.0.2.11\",\"neighbor_as\":64496,\"bgp_state\":\"Established\",\"uptime\":60,\"last_error\":\"\",\"routes\":{\"imported\":2,\"filtered\":0,\"exported\":0,\"preferred\":2}}",
     ),
     ("/protocols/bgp", ",\"beta\":{\"protocol\":\"beta\","),
     (
         "/protocols/bgp",
-        "\"routes\":{\"imported\":0,\"exported\":1}}",
+        "\"routes\":{\"imported\":0,\"filtered\":0,\"exported\":1,\"preferred\":0}}\n}}\n",
     ),
     (
         "/routes/protocol/alpha",
@@ -223,6 +278,25 @@ const SAID: [(&str, &str); 26] = [
         "/members/beta/sent",
         "\"table\":\"sent\",\"routes\":[{\"network\":\"198.51.101.0/24\",\"gateway\":\"192.0.2.11\",\"bgp\":{",
     ),
+    ("/", "<form action=\"/search\">"),
+    (
+        "/members/alpha",
+        "<a href=\"/members/alpha/received.html\">Routes received</a>, <a href=\"/members/alpha/sent.html\">routes sent</a>",
+    ),
+    (
+        "/members/alpha/received.html",
+        "<tr><td>198.51.100.0/24<td>192.0.2.11<td>64496<td class=number>7<td>64500:1</tr>\n<tr><td>198.51.101.0/24<td>",
+    ),
+    (
+        "/members/alpha/received.html?count=1",
+        "64500:1</tr>\n</table>\n<p><a href=\"/members/alpha/received.html?from=198.51.101.0/24&amp;count=1\">More</a></p>\n</html>\n",
+    ),
+    ("/members/beta/sent.html", "<h1>beta: routes sent</h1>"),
+    (
+        "/search?prefix=198.51.101.0%2F24",
+        "<tr><td><a href=\"/members/alpha\">alpha</a><td>192.0.2.11<td>64496<td class=number>7<td>64500:1<td><a href=\"/why?to=alpha&amp;prefix=198.51.101.0/24\">why</a></tr>\n</table>\n</html>\n",
+    ),
+    ("/search?prefix=198.51.101.0/25", "<h1>198.51.101.0/25</h1>"),
     (
         "/why?to=beta&prefix=198.51.101.0/24",
         "{\"to\":\"beta\",\"prefix\":\"198.51.101.0/24\",\"candidates\":[{\"from\":\"alpha\",\"as\":64496,\"next_hop\":\"192.0.2.11\",\"outcome\":\"chosen\",\"rules\":[{\"list\":\"import\",\"of\":\"alpha\",\"rule\":null,\"passes\":true},{\"list\":\"export\",\"of\":\"beta\",\"rule\":null,\"passes\":true}]}\n]}\n",
@@ -238,13 +312,18 @@ const SAID: [(&str, &str); 26] = [
     ("/metrics", "rs_member_up{member=\"beta\"} 1\n"),
     (
         "/metrics",
+        "rs_member_refused_prefixes{member=\"beta\"} 0\n",
+    ),
+    (
+        "/metrics",
         "rs_member_received_prefixes{member=\"alpha\"} 2\n",
     ),
 ];
 
 /// Targets of a server to which alpha has announced 198.51.102.0/24 too, which its import list drops; and the
 /// one route that the page lists, if any.
-const KEPT: [(&str, Option<&str>); 4] = [
+const KEPT: [(&str, Option<&str>); 5] = [
+    ("/routes/protocol/beta", None),
     ("/routes/filtered/alpha", Some("198.51.102.0/24")),
     ("/routes/filtered/beta", None),
     ("/routes/noexport/alpha", None),
@@ -252,7 +331,7 @@ const KEPT: [(&str, Option<&str>); 4] = [
 ];
 
 /// Targets that name no page.
-const NONE: [&str; 14] = [
+const NONE: [&str; 16] = [
     "",
     "//",
     "/status/",
@@ -263,6 +342,8 @@ const NONE: [&str; 14] = [
     "/members/alpha/told",
     "/members/alpha/received?count=10001",
     "/members/alpha/received?from=198.51.100.1/24",
+    "/members/alpha/received.html?count=10001",
+    "/search",
     "/routes/protocol/",
     "/routes/prefix?prefix=198.51.100.0/33",
     "/why?to=beta",
@@ -306,6 +387,60 @@ fn there_are_no_others(rt: HostRuntime) {
     }
 }
 
+/// What becomes of alpha's routes for 198.51.100.0/24, which is longer than beta's, 198.51.101.0/24, which is
+/// shorter, and 198.51.102.0/24, which its import list drops; and of beta's three.
+const ROUTES_COUNTED: [(&str, &str); 5] = [
+    (
+        "/protocols/bgp/alpha",
+        ",\"routes\":{\"imported\":2,\"filtered\":1,\"exported\":0,\"preferred\":1}}\n}}\n",
+    ),
+    (
+        "/protocols/bgp/beta",
+        ",\"routes\":{\"imported\":3,\"filtered\":0,\"exported\":2,\"preferred\":2}}\n}}\n",
+    ),
+    (
+        "/protocols/bgp",
+        ",\"routes\":{\"imported\":3,\"filtered\":0,\"exported\":2,\"preferred\":2}}\n}}\n",
+    ),
+    ("/routes/count/protocol/alpha", ",\"routes\":2}\n"),
+    ("/routes/count/protocol/beta", ",\"routes\":3}\n"),
+];
+
+#[test]
+fn routes_are_counted(rt: HostRuntime) {
+    let mut tables = server(&rt, rt.alloc(), 3);
+    for (at, attributes) in [&SHORTER[..], &LONGER[..], &LONGER[..]].iter().enumerate() {
+        announce(&rt, rt.alloc(), &mut tables.others, at as u32, attributes);
+    }
+    for (target, said) in &ROUTES_COUNTED {
+        let (text, _) = page(&rt, rt.alloc(), &tables, *target);
+        assert!(rt; text.ends_with(*said), "{target} is {text}");
+    }
+    let (text, _) = page(&rt, rt.alloc(), &tables, "/");
+    assert!(rt;
+        text.contains(
+            "<td class=number>3<td class=number>1<td class=number>0<td class=number>0</tr>"
+        ),
+        "{text}"
+    );
+    let (text, _) = page(&rt, rt.alloc(), &tables, "/protocols/bgp");
+    assert!(rt;
+        text.contains("\"imported\":2,\"filtered\":1,\"exported\":0,\"preferred\":1}}\n,\"beta\""),
+        "{text}"
+    );
+}
+
+#[test]
+fn many_routes_are_counted_in_pieces(rt: HostRuntime) {
+    let tables = server(&rt, rt.alloc(), 300);
+    let (text, pieces) = page(&rt, rt.alloc(), &tables, "/protocols/bgp/alpha");
+    assert!(rt; pieces > 15, "{pieces}");
+    assert!(rt;
+        text.contains("{\"imported\":299,\"filtered\":1,\"exported\":0,\"preferred\":299}"),
+        "{text}"
+    );
+}
+
 /// How often a text stands in another.
 fn count_of(text: &str, part: &str) -> usize {
     text.matches(part).count()
@@ -314,7 +449,7 @@ fn count_of(text: &str, part: &str) -> usize {
 #[test]
 fn many_routes_come_in_pieces(rt: HostRuntime) {
     let tables = server(&rt, rt.alloc(), 300);
-    let (text, pieces) = page(&rt, rt.alloc(), &tables, "/routes/protocol/alpha");
+    let (text, pieces) = page(&rt, rt.alloc(), &tables, "/members/alpha/received");
     assert!(rt; pieces > 2);
     let mut rows = text.split("\"network\":\"").skip(1);
     for at in 0..300_u32 {
@@ -335,59 +470,4 @@ fn many_routes_come_in_pieces(rt: HostRuntime) {
         text.ends_with("],\"next\":\"198.52.44.0/24\"}\n"),
         "{text}"
     );
-}
-
-/// Texts of prefixes, and what they spell: bits and length.
-const PREFIXES: [(&str, Option<(u32, u8)>); 12] = [
-    ("0.0.0.0/0", Some((0, 0))),
-    ("192.0.2.0/24", Some((0xc000_0200, 24))),
-    ("192.0.2.0%2f24", Some((0xc000_0200, 24))),
-    ("192.0.2.1", Some((0xc000_0201, 32))),
-    ("255.255.255.255/32", Some((u32::MAX, 32))),
-    ("192.0.2.1/24", None),
-    ("192.0.2/24", None),
-    ("192.0.2.256/32", None),
-    ("192.0.2.0/33", None),
-    ("192.0.2.0.0/24", None),
-    ("2001:db8::/32", None),
-    ("", None),
-];
-
-#[test]
-fn prefixes_are_read(rt: HostRuntime) {
-    for (text, want) in &PREFIXES {
-        let read = read_prefix(text.as_bytes());
-        assert_eq!(rt;
-            read.as_ref().map(|prefix| (prefix.bits(), prefix.len())),
-            *want,
-            "{text}"
-        );
-        if let Some(prefix) = &read {
-            assert_eq!(rt; prefix_at(key(prefix)), *prefix);
-        }
-    }
-}
-
-/// Texts, as they are within a string of JSON and within HTML.
-const ESCAPED: [(&str, &str, &str); 4] = [
-    ("alpha-1", "alpha-1", "alpha-1"),
-    ("<b>", "\\u003cb\\u003e", "&#60;b&#62;"),
-    (
-        "\"\\\n\x7f",
-        "\\u0022\\u005c\\u000a\\u007f",
-        "&#34;&#92;&#10;&#127;",
-    ),
-    ("&'", "\\u0026\\u0027", "&#38;&#39;"),
-];
-
-#[test]
-fn texts_are_escaped(rt: HostRuntime) {
-    for (text, json, html) in &ESCAPED {
-        let mut octets = Vec::new(rt.alloc());
-        put_json(&mut octets, text.as_bytes()).expect(&rt, "octets");
-        assert_eq!(rt; octets.as_slice(), json.as_bytes());
-        octets.clear();
-        put_html(&mut octets, text.as_bytes()).expect(&rt, "octets");
-        assert_eq!(rt; octets.as_slice(), html.as_bytes());
-    }
 }

@@ -16,6 +16,19 @@ pub(crate) fn put_number(text: &mut Vec<u8>, number: u64) -> Result<(), AllocErr
     text.extend_from_slice(digits.format(number).as_bytes())
 }
 
+/// Puts so many microseconds, in seconds: `0.002500`.
+pub(crate) fn put_seconds(text: &mut Vec<u8>, micros: u64) -> Result<(), AllocError> {
+    put_number(text, micros / 1_000_000)?;
+    text.extend_from_slice(b".")?;
+    // A one stands before the six digits, so that none is left out.
+    let mut digits = Buffer::new();
+    let padded = digits.format(1_000_000 + micros % 1_000_000).as_bytes();
+    match padded.split_first() {
+        Some((_, fraction)) => text.extend_from_slice(fraction),
+        None => Ok(()),
+    }
+}
+
 /// Puts an address, `192.0.2.1`.
 #[tactic(auto, unfolding(crate::specs::Texts::address_text))]
 pub(crate) fn put_address(text: &mut Vec<u8>, address: u32) -> Result<(), AllocError>

@@ -1,7 +1,7 @@
 //! Which pages there are, and how far one is: what `Page.which` says.
 
 ghost use Rattle.std.specs.Prelude.{◌≡◌};
-ghost use Rattle.rs_pages.specs.Views.{view_number, stage_number, which_of, listing_of, most_of, most_items, table_of, owner_of, view_at, stage_at, read_which};
+ghost use Rattle.rs_pages.specs.Views.{is_head, view_number, stage_number, which_of, listing_of, counted_of, most_of, most_items, table_of, owner_of, view_at, stage_at, read_which};
 
 use crate::tables::Rib;
 use rs_window::page::{Kind, Page};
@@ -19,13 +19,13 @@ pub(crate) enum View {
     Protocols,
     /// One member of it, `/protocols/bgp/NAME`.
     Protocol,
-    /// Birdwatcher's `/routes/protocol/NAME`: the Adj-RIB-In of a member.
+    /// Birdwatcher's `/routes/protocol/NAME`: what its import list passes of a member's Adj-RIB-In.
     Routes,
     /// Birdwatcher's `/routes/filtered/NAME`: what its import list drops of it.
     Filtered,
     /// Birdwatcher's `/routes/noexport/NAME`: what its export list keeps from it.
     NoExport,
-    /// Birdwatcher's `/routes/count/protocol/NAME`.
+    /// Birdwatcher's `/routes/count/protocol/NAME`: how many those are.
     Count,
     /// Birdwatcher's `/routes/prefix`: who holds a prefix.
     AtPrefix,
@@ -33,6 +33,12 @@ pub(crate) enum View {
     Received,
     /// The Loc-RIB of a member.
     Sent,
+    /// `Received`, for people.
+    ReceivedTable,
+    /// `Sent`, for people.
+    SentTable,
+    /// Who holds a prefix, for people.
+    Search,
     /// Why a member is sent one route for a prefix, and not another.
     Why,
     /// Prometheus. `Page.at` counts the metrics.
@@ -46,6 +52,8 @@ pub(crate) enum Listing {
     Received,
     /// What is due to it.
     Sent,
+    /// What it announced and its import list passes.
+    Imported,
     /// What it announced and its import list drops.
     Filtered,
     /// What the others announced, their import lists pass and its export list drops.
@@ -58,7 +66,9 @@ impl Listing {
         ensures { result ≡ table_of self }
     {
         match self {
-            Listing::Received | Listing::Filtered | Listing::NoExport => Rib::Received,
+            Listing::Received | Listing::Imported | Listing::Filtered | Listing::NoExport => {
+                Rib::Received
+            }
             Listing::Sent => Rib::Sent,
         }
     }
@@ -68,7 +78,7 @@ impl Listing {
         ensures { result ≡ owner_of self page }
     {
         match self {
-            Listing::Received | Listing::Sent | Listing::Filtered => page.place,
+            Listing::Received | Listing::Sent | Listing::Imported | Listing::Filtered => page.place,
             Listing::NoExport => page.member,
         }
     }
@@ -86,6 +96,16 @@ pub(crate) enum Stage {
 }
 
 impl Stage {
+    /// Nothing was written.
+    pub(crate) fn is_head(self) -> bool
+        ensures { result ≡ is_head self }
+    {
+        match self {
+            Stage::Head => true,
+            Stage::First | Stage::Rest => false,
+        }
+    }
+
     fn number(self) -> u32
         ensures { result ≡ stage_number self }
     {
@@ -126,6 +146,9 @@ impl View {
             View::Why => 11,
             View::Metrics => 12,
             View::Protocol => 13,
+            View::ReceivedTable => 14,
+            View::SentTable => 15,
+            View::Search => 16,
         }
     }
 
@@ -147,6 +170,9 @@ impl View {
             11 => Some(View::Why),
             12 => Some(View::Metrics),
             13 => Some(View::Protocol),
+            14 => Some(View::ReceivedTable),
+            15 => Some(View::SentTable),
+            16 => Some(View::Search),
             _ => None,
         }
     }
@@ -156,8 +182,9 @@ impl View {
         ensures { result ≡ listing_of self }
     {
         match self {
-            View::Routes | View::Received => Some(Listing::Received),
-            View::Sent => Some(Listing::Sent),
+            View::Received | View::ReceivedTable => Some(Listing::Received),
+            View::Sent | View::SentTable => Some(Listing::Sent),
+            View::Routes => Some(Listing::Imported),
             View::Filtered => Some(Listing::Filtered),
             View::NoExport => Some(Listing::NoExport),
             View::Home
@@ -167,6 +194,32 @@ impl View {
             | View::Protocol
             | View::Count
             | View::AtPrefix
+            | View::Search
+            | View::Why
+            | View::Metrics => None,
+        }
+    }
+
+    /// The member whose preferred routes it counts.
+    pub(crate) fn counted(self, page: Page) -> Option<usize>
+        ensures { result ≡ counted_of self page }
+    {
+        match self {
+            View::Protocols => Some(page.member),
+            View::Protocol => Some(page.place),
+            View::Home
+            | View::Count
+            | View::Member
+            | View::Status
+            | View::Routes
+            | View::Filtered
+            | View::NoExport
+            | View::AtPrefix
+            | View::Received
+            | View::Sent
+            | View::ReceivedTable
+            | View::SentTable
+            | View::Search
             | View::Why
             | View::Metrics => None,
         }
@@ -178,26 +231,29 @@ impl View {
         ensures { result ≡ most_of self }
     {
         match self {
-            View::Why => 16,
+            View::Why | View::Protocols | View::Protocol => 16,
             View::Filtered
+            | View::Count
             | View::NoExport
             | View::Home
             | View::Member
             | View::Status
-            | View::Protocols
-            | View::Protocol
             | View::Routes
-            | View::Count
             | View::AtPrefix
             | View::Received
             | View::Sent
+            | View::ReceivedTable
+            | View::SentTable
+            | View::Search
             | View::Metrics => 32,
         }
     }
 
     fn kind(self) -> Kind {
         match self {
-            View::Home | View::Member => Kind::Html,
+            View::Home | View::Member | View::ReceivedTable | View::SentTable | View::Search => {
+                Kind::Html
+            }
             View::Metrics => Kind::Metrics,
             View::Status
             | View::Protocols
@@ -237,6 +293,8 @@ impl View {
             member: 0,
             at,
             left,
+            most: left,
+            counted: 0,
         }
     }
 }

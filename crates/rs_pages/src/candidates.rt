@@ -1,0 +1,173 @@
+//! What becomes of the routes for a prefix on their way to a member (RFC 4271, 9.1; RFC 7947, 2.3).
+
+ghost use Rattle.std.specs.Prelude.{◌≡◌, ◌<◌, ◌==◌, find, length, map, option_map, position, IfOk, IfSome};
+ghost use Rattle.rs_decision.specs.Best.{HasDistinctPlaces};
+ghost use Rattle.rs_pages.specs.Candidates.{by_rank, has_server_as, next_candidate, next_holder, outcome_of, rank_to, rank_with, ranks_to};
+ghost use Rattle.rs_pages.specs.Holders.{holding};
+
+use crate::tables::Holder;
+use rs_decision::{Rank, Step, lost_by};
+use rs_octets::Prefix;
+use rs_policy::{Config, Fate, judge};
+use std::alloc::{AllocError, Global};
+
+/// To which member a route for which prefix is to go.
+#[derive(Clone, Copy)]
+pub(crate) struct Question<'a> {
+    pub(crate) config: &'a Config,
+    pub(crate) to: usize,
+    pub(crate) prefix: Prefix,
+}
+
+/// What becomes of a route.
+#[derive(Clone, Copy, Debug, PartialEq, Eq)]
+pub(crate) enum Outcome {
+    /// It is the member's own.
+    Own,
+    /// Its AS_PATH has the server's AS.
+    ServerAs,
+    /// The rules drop it.
+    Dropped,
+    /// Another is better, by this step of the choice.
+    Lost(Step),
+    /// It is the best.
+    Chosen,
+}
+
+/// The first of those who hold a prefix from a member on.
+pub(crate) fn next_holder<'a>(
+    config: &Config,
+    holders: &[Holder<'a>],
+    from: usize,
+) -> Option<Holder<'a>>
+    ensures value { option_map holding result ≡ next_holder config.now (map holding holders.now) from }
+    ensures within { IfSome result (λ h. h.member < length config.now.clients) }
+    ensures bound { IfSome result (λ h. h.member < usize.MAX) }
+{
+    for holder in holders {
+        if from <= holder.member && holder.member < config.clients() {
+            return Some(*holder);
+        }
+    }
+    None
+}
+
+/// The same, where the question is of a member.
+pub(crate) fn next_candidate<'a>(
+    question: &Question<'_>,
+    holders: &[Holder<'a>],
+    from: usize,
+) -> Option<Holder<'a>>
+    ensures value { option_map holding result ≡ next_candidate question.now.config.now question.now.to (map holding holders.now) from }
+    ensures within { IfSome result (λ h. h.member < length question.now.config.now.clients) }
+    ensures bound { IfSome result (λ h. h.member < usize.MAX) }
+    ensures to { IfSome result (λ h. question.now.to < length question.now.config.now.clients) }
+{
+    if question.to < question.config.clients() {
+        next_holder(question.config, holders, from)
+    } else {
+        None
+    }
+}
+
+/// Its AS_PATH has the server's AS.
+fn has_server_as(config: &Config, holder: &Holder<'_>) -> bool
+    ensures { result ≡ has_server_as config.now (holding holder.now) }
+{
+    holder.attrs.path_has(config.server_as())
+}
+
+/// What the choice looks at in a route.
+pub(crate) fn rank_with(config: &Config, holder: &Holder<'_>, preference: u32) -> Rank
+    requires { holder.now.member < length config.now.clients }
+    ensures { result ≡ rank_with config.now (holding holder.now) preference }
+{
+    let attrs = &**holder.attrs;
+    Rank {
+        preference,
+        path_len: attrs.path_len(),
+        origin: attrs.origin().unwrap_or(0),
+        med: attrs.med(),
+        neighbour: config.client_as(holder.member),
+        identifier: holder.identifier,
+        address: config.peer(holder.member),
+        place: holder.member,
+    }
+}
+
+/// The rank of a route, where it is a candidate.
+fn rank_to(question: &Question<'_>, holder: &Holder<'_>) -> Option<Rank>
+    ensures value { result ≡ rank_to question.now.config.now question.now.to question.now.prefix (holding holder.now) }
+    ensures bound { IfSome result (λ rank. rank.place < usize.MAX) }
+{
+    let config = question.config;
+    let from = holder.member;
+    if from >= config.clients() || question.to >= config.clients() {
+        return None;
+    }
+    if from == question.to || has_server_as(config, holder) {
+        return None;
+    }
+    match judge(config, from, question.to, &question.prefix, holder.attrs) {
+        Fate::Drop => None,
+        Fate::Pass { preference, .. } => Some(rank_with(config, holder, preference)),
+    }
+}
+
+/// The ranks of all candidates.
+pub(crate) fn ranks_to(
+    alloc: Global,
+    question: &Question<'_>,
+    holders: &[Holder<'_>],
+) -> Result<Vec<Rank>, AllocError>
+    ensures value { IfOk result (λ ranks. ranks.items ≡ ranks_to question.now.config.now question.now.to question.now.prefix (map holding holders.now)) }
+    ensures distinct { IfOk result (λ ranks. HasDistinctPlaces ranks.items) }
+{
+    let mut ranks = Vec::new(alloc);
+    let mut next = 0;
+    for holder in holders {
+        if let Some(rank) = rank_to(question, holder) {
+            if rank.place >= next {
+                next = rank.place + 1;
+                ranks.push(rank)?;
+            }
+        }
+    }
+    Ok(ranks)
+}
+
+/// Where the rank of a member stands.
+fn place_among(ranks: &[Rank], member: usize) -> Option<usize>
+    ensures within { IfSome result (λ i. i < length ranks.now) }
+    ensures place { result ≡ position (λ rank. rank.place == member) ranks.now }
+{
+    ranks.iter().position(|rank| rank.place == member)
+}
+
+/// What becomes of a candidate that has the rank of this member, if any has.
+fn outcome_by_rank(ranks: &[Rank], member: usize) -> Outcome
+    requires { HasDistinctPlaces ranks.now }
+    ensures { result ≡ by_rank ranks.now (find (λ rank. rank.place == member) ranks.now) }
+{
+    match place_among(ranks, member) {
+        None => Outcome::Dropped,
+        Some(place) => match lost_by(ranks, place) {
+            None => Outcome::Chosen,
+            Some(step) => Outcome::Lost(step),
+        },
+    }
+}
+
+/// What becomes of a route, by the ranks of all candidates.
+pub(crate) fn outcome_of(question: &Question<'_>, ranks: &[Rank], holder: &Holder<'_>) -> Outcome
+    requires { HasDistinctPlaces ranks.now }
+    ensures { result ≡ outcome_of question.now.config.now question.now.to ranks.now (holding holder.now) }
+{
+    if holder.member == question.to {
+        return Outcome::Own;
+    }
+    if has_server_as(question.config, holder) {
+        return Outcome::ServerAs;
+    }
+    outcome_by_rank(ranks, holder.member)
+}
