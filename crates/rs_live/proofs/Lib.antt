@@ -5,3 +5,4 @@ pub mod Places
 pub mod Rounds
 pub mod Sending
 pub mod Showing
+pub mod Noticed

@@ -11,3 +11,4 @@ pub mod Sending
 pub mod Shown
 pub mod Tallies
 pub mod Waiting
+pub mod Given

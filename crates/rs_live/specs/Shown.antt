@@ -1,15 +1,18 @@
 -- What the window is shown of the core: its tables, by what the run of its moves means.
-use Rattle.std.specs.Prelude.{◌≡◌, ◌≤◌, ◌<◌, ℕ, List, Option, None, if◌then◌else◌}
+use Rattle.std.specs.Prelude.{◌≡◌, ◌≤◌, ◌<◌, ℕ, List, map, Option, None, if◌then◌else◌}
 use Rattle.rs_octets.specs.Prefixes.{Prefix}
 use Rattle.rs_attrs.specs.Meaning.{Attribute}
+use Rattle.rs_adjin.specs.Listing.{Sent}
 use Rattle.rs_policy.specs.Configuration.{Configuration}
 use Rattle.rs_core.specs.Core.{client_count}
 use Rattle.rs_core.specs.Run.Agreeing.{Agrees}
+use Rattle.rs_core.specs.Run.Candidates.{candidates_in}
 use Rattle.rs_core.specs.Run.Meaning.{dues, is_established, table}
 use Rattle.rs_core.specs.Run.Moves.{Move, config_in}
 use Rattle.rs_core.specs.Told.Points.{latest}
 use Rattle.rs_core.specs.declared.route_server.Core.{Core}
 use Rattle.rs_pages.specs.Firsts.{IsFirst}
+use Rattle.rs_pages.specs.Holders.{Holding}
 use Rattle.rs_pages.specs.declared.tables.Rib.{Rib}
 use Rattle.rs_pages.specs.declared.tables.Rib.TheVariants as ribs
 
@@ -30,3 +33,10 @@ pub record IsFirstOf (core : Core) (rib : Rib) (c : ℕ) (at : ℕ) (route : Opt
 -- the configuration that was accepted last
 abbrev pub IsConfigured : Core → Configuration → Type 0
 IsConfigured core config = (run : List Move) → Agrees core run → config ≡ config_in run
+
+abbrev pub holding_of : Sent → Holding
+holding_of s = record { member = s.client; identifier = s.identifier; attributes = s.attrs }
+
+-- the routes for a prefix, each with its client and the BGP Identifier of the client's session, by rising client
+abbrev pub AreHeld : Core → Prefix → List Holding → Type 0
+AreHeld core p held = (run : List Move) → Agrees core run → held ≡ map holding_of (candidates_in run p)

@@ -14,8 +14,9 @@ use rs_core::{Core, Ending};
 use rs_octets::Prefix;
 use rs_open::Short;
 use rs_pages::keys::{key, prefix_at};
-use rs_pages::tables::{Ended, Faults, Rib, Tables};
+use rs_pages::tables::{Ended, Faults, Holder, Rib, Tables};
 use rs_policy::Config;
+use std::alloc::{AllocError, Global};
 use std::sync::Arc;
 
 /// The tables of a core.
@@ -63,11 +64,13 @@ impl<'a> CoreTables<'a> {
 }
 
 impl Tables for CoreTables<'_> {
-    ghost use Rattle.rs_live.specs.Shown.{IsFirstOf, IsConfigured};
+    ghost use Rattle.rs_live.specs.Shown.{AreHeld, IsFirstOf, IsConfigured};
 
     ghost first = { λ tables rib member at route. IsFirstOf tables.0.now rib member at route };
 
     ghost configured = { λ tables config. IsConfigured tables.0.now config };
+
+    ghost holders = { λ tables prefix held. AreHeld tables.0.now prefix held };
 
     fn config(&self) -> &Config {
         self.0.config()
@@ -97,13 +100,24 @@ impl Tables for CoreTables<'_> {
         }
     }
 
-    fn held(&self, member: usize, prefix: &Prefix) -> Option<(u32, &Arc<Attrs>)> {
+    fn dropped(&self, member: usize) -> usize {
+        self.0.dropped_count(member)
+    }
+
+    fn holders_of<'b>(
+        &'b self,
+        alloc: Global,
+        prefix: &Prefix,
+    ) -> Result<Vec<Holder<'b>>, AllocError> {
+        let mut held = Vec::new(alloc);
         for candidate in self.0.candidates_at(*prefix) {
-            if candidate.client == member {
-                return Some((candidate.identifier, candidate.attrs));
-            }
+            held.push(Holder {
+                member: candidate.client,
+                identifier: candidate.identifier,
+                attrs: candidate.attrs,
+            })?;
         }
-        None
+        Ok(held)
     }
 
     fn ended(&self, member: usize) -> Option<Ended> {
@@ -129,5 +143,16 @@ impl Tables for CoreTables<'_> {
 
     fn rows(&self) -> usize {
         self.0.rows()
+    }
+
+    fn prefixes(&self) -> usize {
+        self.0.prefixes()
+    }
+
+    fn waiting(&self, member: usize) -> usize {
+        if member >= self.0.clients() {
+            return 0;
+        }
+        self.0.waiting(member)
     }
 }

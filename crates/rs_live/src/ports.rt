@@ -50,6 +50,19 @@ pub enum Line {
     File(FileFault),
 }
 
+/// What happens, as those who look at the server are told of it by counts.
+#[derive(Clone, Copy, Debug)]
+pub enum Observed<'a> {
+    /// The core is given these octets of a client.
+    Heard(usize, &'a [u8]),
+    /// These were taken for a client's connection.
+    Sent(usize, &'a [u8]),
+    /// The core is given a turn.
+    TurnBegins,
+    /// It was done.
+    TurnEnds,
+}
+
 /// Listeners, connections, a clock, a file of rules and places to print. `asked ports calls` says that
 /// the ports were asked these calls, the newest first; where it always holds, nothing is known.
 /// `shown ports level` says whether an operator is shown reports of a level.
@@ -102,6 +115,10 @@ pub trait Ports {
     /// was left with some; answers whether something was left undone. It is no call that members are
     /// served by.
     fn show(&mut self, core: &Core, is_busy: bool) -> bool
+        ensures { (calls : List Call) → asked self.old calls → asked self.new calls };
+
+    /// Notes what happens, for those who look at the server. It is no call that members are served by.
+    fn observe(&mut self, what: Observed<'_>)
         ensures { (calls : List Call) → asked self.old calls → asked self.new calls };
 
     /// Whether an operator is shown reports of this level.

@@ -1,12 +1,16 @@
 //! The window and the control socket, with what they show beside the core: when sessions came up or ended, who
-//! is kept down, and when rules were accepted.
+//! is kept down, when rules were accepted, and what was counted.
+
+ghost use Rattle.std.specs.Prelude.{◌≡◌, ◌++◌, option_to_list};
 
 use crate::core_tables::CoreTables;
+use crate::ports::{Line, Observed};
 use mio::Poll;
 use rs_control::order::Order;
 use rs_control::orders::Reloaded;
 use rs_control::steps::Server;
 use rs_core::Core;
+use rs_pages::counts::Direction;
 use rs_pages::moments::{Changes, Moments};
 use rs_pages::server_pages::ServerPages;
 use rs_visitors::control::Control;
@@ -23,9 +27,13 @@ pub(crate) struct Shown {
     /// In which second since then a text of rules was accepted last.
     rules: u64,
     changes: Changes,
+    /// When the turn began that goes on, in microseconds since the start.
+    turn: Option<u64>,
 }
 
 impl Shown {
+    ghost use Rattle.rs_live.specs.Given.{due_to};
+
     /// A server of so many members, which is shown nowhere yet.
     pub(crate) fn new(alloc: Global, members: usize, start: u64) -> Result<Shown, AllocError> {
         Ok(Shown {
@@ -34,6 +42,7 @@ impl Shown {
             start,
             rules: 0,
             changes: Changes::new(alloc, members)?,
+            turn: None,
         })
     }
 
@@ -62,14 +71,33 @@ impl Shown {
     }
 
     /// The next order, of which it is noted who is kept down then.
-    pub(crate) fn take_order(&mut self) -> Option<Order> {
-        let order = self.control.as_mut()?.orders().take()?;
+    pub(crate) fn take_order(&mut self) -> Option<Order>
+        ensures { due_to self.old ≡ option_to_list result ++ due_to self.new }
+    {
+        let order = self.next_order()?;
+        self.note_order(order);
+        Some(order)
+    }
+
+    /// The next order, which waits no longer.
+    fn next_order(&mut self) -> Option<Order>
+        ensures { due_to self.old ≡ option_to_list result ++ due_to self.new }
+    {
+        match &mut self.control {
+            Some(control) => control.take_order(),
+            None => None,
+        }
+    }
+
+    /// Notes who is kept down by an order.
+    fn note_order(&mut self, order: Order)
+        ensures { due_to self.new ≡ due_to self.old }
+    {
         match order {
             Order::Disable(c, _) => self.changes.keep_down(c, true),
             Order::Enable(c) => self.changes.keep_down(c, false),
             Order::Refresh(_) | Order::Reload | Order::End => {}
         }
-        Some(order)
     }
 
     /// A reload was ordered of which it is not known what came of it.
@@ -81,21 +109,54 @@ impl Shown {
     }
 
     /// This came of the reload that was ordered.
-    pub(crate) fn tell(&mut self, reloaded: Reloaded) {
+    pub(crate) fn tell(&mut self, reloaded: Reloaded)
+        ensures { due_to self.new ≡ due_to self.old }
+    {
         if let Some(control) = &mut self.control {
-            control.orders().tell(reloaded);
+            control.tell(reloaded);
         }
     }
 
-    /// A text of rules was accepted in this second.
-    pub(crate) fn note_rules(&mut self, second: u64) {
-        self.rules = second;
+    /// It is shown somewhere.
+    pub(crate) fn is_open(&self) -> bool {
+        self.window.is_some() || self.control.is_some()
     }
 
-    /// Gives up the connections of all visitors, and answers whether there were any.
+    /// Counts what happens, so many microseconds after the start.
+    pub(crate) fn observe(&mut self, what: Observed<'_>, now: u64) {
+        match what {
+            Observed::Heard(c, octets) => self.changes.counts.pass(Direction::Heard, c, octets),
+            Observed::Sent(c, octets) => self.changes.counts.pass(Direction::Sent, c, octets),
+            Observed::TurnBegins => self.turn = Some(now),
+            Observed::TurnEnds => {
+                if let Some(began) = self.turn.take() {
+                    self.changes.counts.turn(now.saturating_sub(began));
+                }
+            }
+        }
+    }
+
+    /// What a line says happened in this second.
+    pub(crate) fn note_line(&mut self, line: &Line, second: u64) {
+        match line {
+            Line::Begin(c) => self.changes.counts.begin(*c),
+            Line::Memory(_) => self.changes.counts.refuse_memory(),
+            Line::Stranger => self.changes.counts.refuse_stranger(),
+            Line::Rules(Ok(())) => self.rules = second,
+            _ => {}
+        }
+    }
+
+    /// Gives up the connections of all visitors, or where there are none of all operators, and answers whether
+    /// there were any.
     pub(crate) fn give_up(&mut self, poll: &Poll, now: u64) -> bool {
-        match &mut self.window {
-            Some(window) => window.give_up(poll, now),
+        if let Some(window) = &mut self.window
+            && window.give_up(poll, now)
+        {
+            return true;
+        }
+        match &mut self.control {
+            Some(control) => control.give_up(poll, now),
             None => false,
         }
     }
@@ -110,7 +171,7 @@ impl Shown {
         is_busy: bool,
         now: u64,
     ) -> bool {
-        if self.window.is_none() && self.control.is_none() {
+        if !self.is_open() {
             return false;
         }
         let tables = CoreTables(core);
@@ -132,7 +193,7 @@ impl Shown {
                 config: core.config(),
                 pages: &pages,
             };
-            is_unfinished |= control.go_on(poll, &server, is_busy, now);
+            is_unfinished |= control.go_on(poll, &server, now);
         }
         is_unfinished
     }

@@ -10,7 +10,7 @@ ghost use Rattle.rs_live.specs.Keeping.{all_held, at, held_by, key_come};
 ghost use Rattle.rs_live.specs.Leaving.{LeavesRound, SamePorts};
 
 use crate::live_link::{LiveLink, Stage, WIDE};
-use crate::ports::{Line, Ports};
+use crate::ports::{Line, Observed, Ports};
 use rs_core::Sink;
 use rs_policy::RulesFault;
 
@@ -104,7 +104,10 @@ impl<'a, P: Ports> Sink for LiveLink<'a, P> {
 
     fn offer(&mut self, c: usize, octets: &[u8]) -> Option<usize> {
         match self.hand(c, octets) {
-            Ok(n) => Some(n),
+            Ok(n) => {
+                self.observe(Observed::Sent(c, &octets[..n]));
+                Some(n)
+            }
             Err(key) => {
                 self.lose(c, key);
                 None

@@ -1,17 +1,23 @@
 //! The ports that are sockets of the system, its clock, the files of the configuration, and the
 //! standard streams.
 
+ghost use Rattle.std.specs.Prelude.{IfSome};
+ghost use Rattle.rs_live.specs.Orders.{IsOf};
 ghost use Rattle.rs_reports.specs.Levels.{is_shown};
+
+mod listening;
 
 use crate::configuration::Configuration;
 use crate::lines::Lines;
 use crate::listeners::{Accepted, Listeners};
 use crate::orders;
-use crate::ports::{Incoming, Line, PortFault, Ports};
+use crate::ports::{Incoming, Line, Observed, PortFault, Ports};
 use crate::record::Record;
 use crate::serve::ServeFault;
 use crate::shown::Shown;
-use mio::net::{TcpListener, TcpStream};
+pub use crate::sockets::listening::ListenFault;
+use crate::sockets::listening::{FIRST_LISTENER, open_listeners};
+use mio::net::TcpStream;
 use mio::{Events, Interest, Poll, Token};
 use rs_control::order::Order;
 use rs_control::orders::Reloaded;
@@ -26,15 +32,12 @@ use rs_streams::streams::Descriptor;
 use rs_visitors::control::{Control, remove};
 use rs_visitors::window::Window;
 use slab::Slab;
-use std::alloc::{AllocError, Global};
+use std::alloc::Global;
 use std::io::{ErrorKind, Read, Write};
-use std::net::{IpAddr, Ipv4Addr, Net, SocketAddr, SocketAddrV4};
+use std::net::{IpAddr, Net, SocketAddr};
 use std::rt::{Clock, Files};
 use std::time::{Duration, Instant, SystemTime, UNIX_EPOCH};
 use std::{fmt, io, mem};
-
-/// The tokens of listeners lie above those of connections.
-const FIRST_LISTENER: usize = 1 << 32;
 
 /// The tokens of the window lie above those of listeners.
 const WINDOW: usize = 1 << 33;
@@ -81,90 +84,11 @@ pub struct Sockets<'a, R: Files> {
     record: Option<Record<'a, R>>,
 }
 
-/// Why the server can't listen: at this address, or before any was tried.
-#[derive(Clone, Copy, Debug, Drop)]
-pub struct ListenFault {
-    pub address: Option<SocketAddrV4>,
-    pub error: io::Error,
-}
-
-impl ListenFault {
-    /// A fault at this address.
-    fn at(address: (u32, u16), error: io::Error) -> ListenFault {
-        ListenFault {
-            address: Some(SocketAddrV4::new(Ipv4Addr::from(address.0), address.1)),
-            error,
-        }
-    }
-}
-
-impl From<io::Error> for ListenFault {
-    fn from(error: io::Error) -> ListenFault {
-        ListenFault {
-            address: None,
-            error,
-        }
-    }
-}
-
-impl From<AllocError> for ListenFault {
-    fn from(error: AllocError) -> ListenFault {
-        ListenFault {
-            address: None,
-            error: error.into(),
-        }
-    }
-}
-
-impl fmt::Display for ListenFault {
-    fn fmt<W: fmt::Write>(&self, f: &mut fmt::Formatter<W>) -> fmt::Result {
-        match self.address {
-            Some(address) => write!(f, "{address}: {}", self.error),
-            None => write!(f, "{}", self.error),
-        }
-    }
-}
-
-/// Listens at an address and says so, a line. The poll knows the listener by its place.
-fn open_listener<R: Net>(
-    rt: &R,
-    poll: &Poll,
-    output: &mut Printer<Descriptor>,
-    place: usize,
-    address: (u32, u16),
-) -> io::Result<TcpListener> {
-    let address = SocketAddrV4::new(Ipv4Addr::from(address.0), address.1);
-    let mut listener = TcpListener::bind(rt, SocketAddr::V4(address))?;
-    let token = Token(FIRST_LISTENER.saturating_add(place));
-    poll.registry()
-        .register(&mut listener, token, Interest::READABLE)?;
-    output.print(format_args!("listening {address}"));
-    Ok(listener)
-}
-
 /// The time of day, in seconds since 1970-01-01T00:00:00Z; `None` where the system doesn't say it.
 fn time_of_day<R: Clock>(rt: &R) -> Option<u64> {
     let time = SystemTime::now(rt).ok()?;
     let since = time.duration_since(UNIX_EPOCH).ok()?;
     Some(since.as_secs())
-}
-
-/// Listens at these addresses.
-fn open_listeners<R: Net>(
-    rt: &R,
-    alloc: Global,
-    poll: &Poll,
-    output: &mut Printer<Descriptor>,
-    addresses: &[(u32, u16)],
-) -> Result<Listeners, ListenFault> {
-    let mut listeners = Listeners::new(alloc);
-    for (place, address) in addresses.iter().enumerate() {
-        match open_listener(rt, poll, output, place, *address) {
-            Ok(listener) => listeners.add(listener)?,
-            Err(error) => return Err(ListenFault::at(*address, error)),
-        }
-    }
-    Ok(listeners)
 }
 
 impl<'a, R: Net + Clock + Files> Sockets<'a, R> {
@@ -255,9 +179,17 @@ impl<'a, R: Net + Clock + Files> Sockets<'a, R> {
         }
     }
 
-    /// Where a member can't be accepted for want of descriptors, those of the window are given up. Answers
-    /// whether there were any.
-    fn give_up_window(&mut self) -> bool {
+    /// The microseconds since the start.
+    fn passed_microseconds(&self) -> u64 {
+        match self.start.elapsed(self.rt) {
+            Ok(passed) => u64::try_from(passed.as_micros()).unwrap_or(u64::MAX),
+            Err(_) => 0,
+        }
+    }
+
+    /// Where a member can't be accepted for want of descriptors, those of visitors or operators are given up.
+    /// Answers whether there were any.
+    fn give_up_shown(&mut self) -> bool {
         if !self.listeners.take_lack() {
             return false;
         }
@@ -334,6 +266,15 @@ impl<'a, R: Net + Clock + Files> Sockets<'a, R> {
             self.refuse_reload("rules refused: a file changed while it was read");
         }
         Ok(is_read)
+    }
+
+    /// The next order of the operator's, to a server of so many clients. One to reload hurries.
+    fn next_order(&mut self, clients: usize) -> Option<Order>
+        ensures { IfSome result (λ order. IsOf clients order) }
+    {
+        let order = self.shown.take_order()?;
+        self.is_hurried |= order == Order::Reload;
+        orders::of(order, clients)
     }
 
     /// What a line of the log begins with now.
@@ -426,7 +367,7 @@ impl<'a, R: Net + Clock + Files> Ports for Sockets<'a, R> {
                         return Ok(Some(incoming));
                     }
                 }
-                None if self.give_up_window() => self.listeners.ask_all(),
+                None if self.give_up_shown() => self.listeners.ask_all(),
                 None => return Ok(None),
             }
         }
@@ -491,11 +432,7 @@ impl<'a, R: Net + Clock + Files> Ports for Sockets<'a, R> {
     }
 
     fn command(&mut self, clients: usize) -> Option<Order> {
-        let order = self.shown.take_order()?;
-        if order == Order::Reload {
-            self.is_hurried = true;
-        }
-        orders::of(order, clients)
+        self.next_order(clients)
     }
 
     fn print(&mut self, line: &Line) {
@@ -507,9 +444,7 @@ impl<'a, R: Net + Clock + Files> Ports for Sockets<'a, R> {
         {
             record.replace();
         }
-        if let Line::Rules(Ok(())) = line {
-            self.shown.note_rules(second);
-        }
+        self.shown.note_line(line, second);
     }
 
     fn show(&mut self, core: &Core, is_busy: bool) -> bool {
@@ -519,6 +454,13 @@ impl<'a, R: Net + Clock + Files> Ports for Sockets<'a, R> {
         }
         let now = self.passed_milliseconds();
         self.shown.go_on(&self.poll, self.alloc, core, is_busy, now)
+    }
+
+    fn observe(&mut self, what: Observed<'_>) {
+        if self.shown.is_open() {
+            let now = self.passed_microseconds();
+            self.shown.observe(what, now);
+        }
     }
 
     fn shows(&self, level: Level) -> bool {

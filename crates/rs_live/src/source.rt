@@ -1,27 +1,22 @@
 //! The events of a round, one at a time. A round gives a moment, what the operator has ordered, accepts the
-//! connections that have come, then reads one piece of each connection that is ready, and again while there is more and few were
-//! ready. Once much was heard, and at the end, come a moment, a turn, and room for each connection. Turns so stay small: an outlet that was touched at more than 4,096 prefixes would decide
-//! its whole table.
+//! connections that have come, then reads one piece of each connection that is ready, and again while there is
+//! more and few were ready. Once much was heard, and at the end, come a moment, a turn, and room for each
+//! connection. Turns so stay small: an outlet that was touched at more than 4,096 prefixes would decide its
+//! whole table.
 
-ghost use Rattle.std.specs.Prelude.{◌≡◌, ◌+◌, ◌<◌, ◌≤◌, ◌∷◌, ℕ, List, min, length, Some, None, IfSome, IfErr, IsOk, IsSome, IsNone, IsFalse, false};
+ghost use Rattle.std.specs.Prelude.{◌≡◌, ◌+◌, ◌<◌, ◌≤◌, ◌∷◌, ℕ, List, min, length, Some, None, IfSome, IfErr, IsOk, IsSome, IsNone, false};
 ghost use Rattle.rs_live.specs.Calls.{Call, Closed, Printed};
 ghost use Rattle.rs_live.specs.Handled.{HasAccepted, IsBroken, IsRunning, Keeps, Follows, Answers, AnswersFrom};
-ghost use Rattle.rs_live.specs.Keeping.{HaveAll, all_held, held_by, passed};
+ghost use Rattle.rs_live.specs.Keeping.{all_held, held_by, passed};
 ghost use Rattle.rs_live.specs.Leaving.{KeepsOn, LeavesClients, LeavesPorts, LeavesRound, SamePorts};
 
-use crate::live_link::{LiveLink, Stage, Stopping, WIDE};
+use crate::live_link::{LiveLink, Stage};
 use crate::ports::{Incoming, Line, Ports};
-use rs_control::order::Order;
 use rs_core::{Event, Link, Source};
-use rs_open::ShutdownText;
-use rs_session::Command;
 
 /// How many connections a round accepts. More wait for the next round, which comes at once: so nobody
 /// who connects over and over keeps the server from those that are connected.
 const ACCEPTED: u32 = 64;
-
-/// For how many orders a round asks.
-const ORDERS: u32 = 16;
 
 /// Where a round has read so many pieces, it begins with the first connection no more.
 const PIECES: u32 = 16;
@@ -84,86 +79,6 @@ impl<'a, P: Ports> LiveLink<'a, P> {
             return None;
         }
         Some(c)
-    }
-
-    /// Gives the core what the operator orders next, where the ports were asked so often in this round; or,
-    /// where the server is to end, the stop of a client.
-    fn ordered(&mut self, asked: u32) -> Option<Event>
-        ensures same_ports { SamePorts self.old self.new }
-        ensures answers { (piece : List ℕ) → AnswersFrom P.asked (Stage.Orders asked) result piece self.old self.new }
-    {
-        if let Some(stopping) = self.phase.stopping {
-            return self.stop_next(asked, stopping);
-        }
-        if asked >= ORDERS {
-            self.has_more = true;
-            self.phase.stage = Stage::Accept;
-            return None;
-        }
-        self.ask_order(asked)
-    }
-
-    /// Asks for an order, and gives it to the core.
-    fn ask_order(&mut self, asked: u32) -> Option<Event>
-        ensures same_ports { SamePorts self.old self.new }
-        ensures answers { (piece : List ℕ) → AnswersFrom P.asked (Stage.Orders asked) result piece self.old self.new }
-    {
-        self.phase.stage = Stage::Orders(asked.saturating_add(1));
-        match self.ports.command(self.connections.len()) {
-            Some(Order::Disable(c, text)) => {
-                self.wide_to = self.phase.told.saturating_add(WIDE);
-                self.keep_down(c, true);
-                Some(Event::Commanded(c, Command::Stop(text)))
-            }
-            Some(Order::Enable(c)) => {
-                self.keep_down(c, false);
-                None
-            }
-            Some(Order::Refresh(c)) => Some(Event::Commanded(c, Command::Refresh)),
-            Some(Order::Reload) => {
-                self.read_rules();
-                None
-            }
-            Some(Order::End) => {
-                self.phase.stopping = Some(Stopping {
-                    since: self.phase.clock,
-                    told: 0,
-                });
-                None
-            }
-            None => {
-                self.phase.stage = Stage::Accept;
-                None
-            }
-        }
-    }
-
-    /// Gives the core the stop of the next client, where the server is to end: it takes no more orders.
-    fn stop_next(&mut self, asked: u32, stopping: Stopping) -> Option<Event>
-        ensures same_ports { SamePorts self.old self.new }
-        ensures answers { (piece : List ℕ) → self.old.phase.stopping ≡ Some stopping → AnswersFrom P.asked (Stage.Orders asked) result piece self.old self.new }
-    {
-        let c = stopping.told;
-        if c >= self.connections.len() {
-            self.phase.stage = Stage::Accept;
-            return None;
-        }
-        self.phase.stopping = Some(Stopping {
-            since: stopping.since,
-            told: c + 1,
-        });
-        self.keep_down(c, true);
-        Some(Event::Commanded(c, Command::Stop(ShutdownText::NONE)))
-    }
-
-    /// A client is still to be stopped.
-    fn has_to_stop(&self) -> bool
-        ensures { IsFalse result → HaveAll (length (all_held self.entry.now)) self.entry.now.phase.stopping }
-    {
-        match self.phase.stopping {
-            Some(stopping) => stopping.told < self.connections.len(),
-            None => false,
-        }
     }
 
     /// Accepts until a client's connection comes, none is left, or the round has accepted enough.
@@ -488,9 +403,13 @@ impl<'a, P: Ports> Link for LiveLink<'a, P> {
 
 impl<'a, P: Ports> Source for LiveLink<'a, P> {
     fn next(&mut self, piece: &mut [u8; 4096]) -> Event {
+        self.observe_turn();
         for _ in 0..8 {
             match self.step(piece) {
-                Some(event) => return event,
+                Some(event) => {
+                    self.observe_event(event, piece);
+                    return event;
+                }
                 None => {}
             }
         }

@@ -24,9 +24,9 @@ returns-in-Some-Enable-clause-answers g c piece p r =
     let w = c.args.self.now.phase in
     let count : c.len.result ≡ length c.args.self.now.connections.now.items = search (rules, arith) in
     let below = below_count c.args.self.now.connections.now.items _ a.c count (subst (λ o. IsOf c.len.result o) a.field-0-is a.ensures.client) in (
-      c.keep_down-in-Some-Enable.ensures.leaves.failed ∙ r.0,
-      keeps_at g.P.Ports.asked c.keep_down-in-Some-Enable.new.self _ _ _ c.keep_down-in-Some-Enable.ensures.held c.keep_down-in-Some-Enable.ensures.leaves.phase c.keep_down-in-Some-Enable.ensures.unasked
-          (enables g.P.Ports.asked _ w c.args.asked _ a.c _ _ _ (ap (λ o. Some o) a.field-0-is) below a.ensures.asked (at_phase g.P.Ports.asked c.args.self.now (stages.Orders c.args.asked) p r.1)),
+      c.log.ensures.leaves.failed ∙ c.keep_down-in-Some-Enable.ensures.leaves.failed ∙ r.0,
+      c.log.ensures.handled (keeps_at g.P.Ports.asked c.keep_down-in-Some-Enable.new.self _ _ _ c.keep_down-in-Some-Enable.ensures.held c.keep_down-in-Some-Enable.ensures.leaves.phase c.keep_down-in-Some-Enable.ensures.unasked
+          (enables g.P.Ports.asked _ w c.args.asked _ a.c _ _ _ (ap (λ o. Some o) a.field-0-is) below a.ensures.asked (at_phase g.P.Ports.asked c.args.self.now (stages.Orders c.args.asked) p r.1))),
     )
 
 pub returns-in-Some-Refresh-clause-answers : goal.returns-in-Some-Refresh-clause-answers

@@ -1,10 +1,15 @@
 use Rattle.std.proofs.Common.{refl, ◌∙◌, Some, None}
 use Rattle.rs_core.specs.Drives.Steps.{Offer}
 use Rattle.rs_live.proofs.Handling.{breaks_down, follows}
+use Rattle.rs_live.proofs.Noticed.{still_follows}
 use Rattle.rs_live.proofs.sink.LiveLinkSink.offer.Goals as goal
 
 pub returns-in-Ok-clause-step : goal.returns-in-Ok-clause-step
-returns-in-Ok-clause-step g c = (c.hand.ensures.leaves.same_ports, λ f h. follows g.P.Ports.asked (Offer _ _ (Some c.in-Ok.n)) _ _ _ _ (c.hand.ensures.leaves.failed ∙ f) refl refl (c.in-Ok.ensures.ok h))
+returns-in-Ok-clause-step g c = (
+  c.observe.ensures.leaves.same_ports ∙ c.hand.ensures.leaves.same_ports,
+  λ f h. still_follows g.P.Ports.asked _ _ (Offer _ _ (Some c.in-Ok.n)) c.observe.ensures.leaves c.observe.ensures.asked
+      (follows g.P.Ports.asked (Offer _ _ (Some c.in-Ok.n)) _ _ _ _ (c.hand.ensures.leaves.failed ∙ f) refl refl (c.in-Ok.ensures.ok h)),
+)
 
 pub returns-in-Err-clause-step : goal.returns-in-Err-clause-step
 returns-in-Err-clause-step g c = (

@@ -2,10 +2,20 @@ use Rattle.std.proofs.Common.{[], refl, ◌∙◌}
 use Rattle.rs_core.specs.declared.links.Event.TheVariants.{Stop}
 use Rattle.rs_core.specs.Drives.Steps.{Happened}
 use Rattle.rs_live.proofs.Handling.{does, follows}
+use Rattle.rs_live.proofs.Noticed.{still_follows, still_running}
 use Rattle.rs_live.proofs.source.LiveLinkSource.next.Goals as goal
 
+pub loop-init : goal.loop-init
+loop-init g c = record {
+  same_ports = c.observe_turn.ensures.leaves.same_ports;
+  answers = λ r. still_running g.P.Ports.asked _ _ c.observe_turn.ensures.leaves c.observe_turn.ensures.asked r;
+}
+
 pub returns-in-Some : goal.returns-in-Some
-returns-in-Some g c = (c.in-Some.ensures.same_ports ∙ c.loop.invariant.same_ports, λ f h. c.in-Some.ensures.answers (c.loop.invariant.answers (f, h)) _)
+returns-in-Some g c = (
+  c.observe_event.ensures.leaves.same_ports ∙ c.in-Some.ensures.same_ports ∙ c.loop.invariant.same_ports,
+  λ f h. still_follows g.P.Ports.asked _ _ _ c.observe_event.ensures.leaves c.observe_event.ensures.asked (c.in-Some.ensures.answers (c.loop.invariant.answers (f, h)) _),
+)
 
 pub loop-preserved : goal.loop-preserved
 loop-preserved g c = record {
