@@ -18,6 +18,8 @@ const TEXT: Page = Page {
     member: 0,
     at: 0,
     left: 0,
+    most: 0,
+    counted: 0,
 };
 
 const LETTERS: u32 = 10;

@@ -92,6 +92,7 @@ fn a_member_is_kept_down_until_it_is_enabled(rt: HostRuntime) {
         count: 1,
     };
     assert!(rt; ports.reports.contains(&kept_out));
+    assert!(rt; ports.reports.contains(&Report::Enabled { client: 0 }));
     assert!(rt; ports.wires.iter().all(|wire| !wire.is_open));
     ports.let_go();
 }

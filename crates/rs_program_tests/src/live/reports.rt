@@ -53,7 +53,7 @@ fn disabled(text: &[u8]) -> Report {
 }
 
 /// Reports, and how each reads.
-fn reports() -> [(Report, &'static str); 15] {
+fn reports() -> [(Report, &'static str); 16] {
     let address = 0xc000_024d;
     [
         (
@@ -97,6 +97,7 @@ fn reports() -> [(Report, &'static str); 15] {
             },
             "b disabled: 2 connections from 192.0.2.77 closed",
         ),
+        (Report::Enabled { client: 1 }, "b enabled by the operator"),
         (
             Report::Down {
                 client: 1,

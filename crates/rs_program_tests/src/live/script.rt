@@ -6,7 +6,7 @@ ghost use Rattle.rs_reports.specs.Levels.{is_shown};
 use rs_control::order::Order;
 use rs_core::Core;
 use rs_live::orders;
-use rs_live::ports::{Incoming, Line, PortFault, Ports};
+use rs_live::ports::{Incoming, Line, Observed, PortFault, Ports};
 use rs_reports::logging::{Level, Log};
 use rs_reports::reports::Report;
 use rs_streams::file_watch::FileFault;
@@ -369,6 +369,8 @@ impl Ports for Script {
     fn show(&mut self, _core: &Core, _is_busy: bool) -> bool {
         false
     }
+
+    fn observe(&mut self, _what: Observed<'_>) {}
 
     fn shows(&self, level: Level) -> bool {
         self.log.shows(level)

@@ -1,7 +1,7 @@
 //! What is asked of the tables: of who announced what, and of what is due.
 
 use crate::common;
-use crate::route_server::exchange::{A, B, Exchange, NO_ROUTE, ROUTE_B};
+use crate::route_server::exchange::{A, B, Exchange, NO_ROUTE, ROUTE, ROUTE_B, text};
 use rs_octets::Prefix;
 use std::process::Abort;
 
@@ -67,6 +67,40 @@ fn routes_from_a_prefix_on(rt: HostRuntime) {
     begin_so(&rt, &exchange, A, (0, 0), (None, Some(OF_B)));
     counts(&rt, &exchange, A, 0, 1);
     counts(&rt, &exchange, B, 1, 0);
+    exchange.let_go();
+}
+
+/// The import rules of a are replaced by these.
+fn import_by(rt: &impl Abort, exchange: &mut Exchange, rules: &str) {
+    let text = text(rt, exchange.alloc, "", rules, "");
+    assert!(rt; exchange.core.rules(text.as_str().as_bytes()).is_ok());
+}
+
+/// So many routes of a and of b are dropped by their own import rules.
+fn are_dropped(rt: &impl Abort, exchange: &Exchange, of_a: usize, of_b: usize) {
+    assert_eq!(rt; exchange.core.dropped_count(A), of_a);
+    assert_eq!(rt; exchange.core.dropped_count(B), of_b);
+}
+
+#[test]
+fn routes_that_import_rules_drop_are_counted(rt: HostRuntime) {
+    let drop_all = "import = [{ action = \"drop\" }]";
+    let mut exchange = Exchange::with_a_route(&rt, rt.alloc(), "");
+    exchange.hear_in_turn(&rt, B, ROUTE_B);
+    are_dropped(&rt, &exchange, 0, 0);
+    import_by(&rt, &mut exchange, drop_all);
+    are_dropped(&rt, &exchange, 1, 0);
+    exchange.hear_in_turn(&rt, A, ROUTE);
+    are_dropped(&rt, &exchange, 1, 0);
+    exchange.hear_in_turn(&rt, A, NO_ROUTE);
+    are_dropped(&rt, &exchange, 0, 0);
+    exchange.hear_in_turn(&rt, A, ROUTE);
+    are_dropped(&rt, &exchange, 1, 0);
+    import_by(&rt, &mut exchange, "");
+    are_dropped(&rt, &exchange, 0, 0);
+    import_by(&rt, &mut exchange, drop_all);
+    exchange.lose(&rt, A);
+    are_dropped(&rt, &exchange, 0, 0);
     exchange.let_go();
 }
 
