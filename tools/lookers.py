@@ -3,10 +3,11 @@
 
 lookers.py PROGRAM [--pictures FOLDER]
 
-Fifty members are up, of which the first announces 10,000 routes and the others 20 each. Prometheus scrapes /metrics each second:
+Fifty members are up, of which the first announces 10,000 routes and the others 20 each; and one more, of whose 30 routes its import list
+drops eight, and five lose against the first's. Prometheus scrapes /metrics each second:
 its own `up` must be 1, without an error, and its figures right; promtool must find nothing wrong with the text. A reader written
 from the fields that Alice-LG's source for birdwatcher asks for must find each field of birdwatcher's pages, with the right value.
-curl must be given each page, and Chromium show the pages for people, light and dark; with --pictures it leaves what it showed
+curl must be given each page, and Chromium show the pages for people, one of 10,000 routes too, light and dark; with --pictures it leaves what it showed
 in FOLDER. What is not installed is skipped with a word, and a skip is not counted as passed. All waiting is bounded.
 """
 import argparse
@@ -23,12 +24,25 @@ import urllib.parse
 import urllib.request
 
 from peers.members import Member, differs, free_ports, routes, serving, speak
+from peers.speaker import attributes
 from results import end, tell
 
 SECONDS = 240
 MEMBERS = 50
 MANY, FEW = 10_000, 20
-SHOWN = {"m0": MANY, **{f"m{k}": FEW for k in range(1, MEMBERS)}}
+# Who comes last: its import list drops its first routes, and its last ones, for the first's prefixes, have longer paths.
+LATE = "late"
+LATE_ROUTES = routes(99, 25) + routes(20, 5)
+DROPPED, LOSING = 8, 5
+RULES = {LATE: 'import = [{ prefix = "99.0.0.0/21", max = 24, action = "drop" }]\n'}
+SHOWN = {"m0": MANY, **{f"m{k}": FEW for k in range(1, MEMBERS)}, LATE: len(LATE_ROUTES)}
+# How many prefixes anybody announces; of these each is sent all but those that are dropped and those that nobody else has.
+PREFIXES = sum(SHOWN.values()) - LOSING
+SENT = {name: PREFIXES - DROPPED - count for name, count in SHOWN.items()} | {"m0": PREFIXES - DROPPED - MANY + LOSING}
+SENT[LATE] = PREFIXES - (len(LATE_ROUTES) - LOSING)
+# What is imported, filtered, exported and preferred of each.
+COUNTS = {name: [count, 0, SENT[name], count] for name, count in SHOWN.items()}
+COUNTS[LATE] = [len(LATE_ROUTES) - DROPPED, DROPPED, SENT[LATE], len(LATE_ROUTES) - DROPPED - LOSING]
 # What Chromium is told, so that a page asks for its light or dark colours.
 COLOURS = {"light": "preferredColorScheme=1", "dark": "preferredColorScheme=0"}
 
@@ -62,13 +76,17 @@ def scraped(port, own, until):
         return f"it says {target['health']}, {target['lastError']}"
     wanted = {
         "up": {"": 1},
-        "rs_members": {"": MEMBERS},
-        "rs_members_established": {"": MEMBERS},
-        "sum(rs_member_up)": {"": MEMBERS},
+        "rs_members": {"": len(SHOWN)},
+        "rs_members_established": {"": len(SHOWN)},
+        "sum(rs_member_up)": {"": len(SHOWN)},
         "rs_member_received_prefixes": SHOWN,
-        "rs_member_sent_prefixes": {name: sum(SHOWN.values()) - count for name, count in SHOWN.items()},
+        "rs_member_refused_prefixes": {name: counts[1] for name, counts in COUNTS.items()},
+        "rs_member_sent_prefixes": SENT,
         "sum(rs_member_faulted_updates_total)": {"": 0},
-        "rs_prefix_rows": {"": sum(SHOWN.values())},
+        "rs_member_received_updates_total": {name: -(-count // 10) for name, count in SHOWN.items()},
+        "sum(rs_member_sent_bytes_total) > bool 0": {"": 1},
+        "rs_turn_duration_seconds_count == bool ignoring(le) rs_turn_duration_seconds_bucket{le='+Inf'}": {"": 1},
+        "rs_prefix_rows": {"": PREFIXES},
     }
     for query, values in wanted.items():
         if (said := asked(own, query)) != values:
@@ -125,7 +143,7 @@ def read_protocol(it):
         "id": text(it["protocol"]),
         "state": (text(it["state"]), text(it["bgp_state"]), text(it["last_error"]), uptime >= 0),
         "neighbour": (text(it["description"]), text(it["neighbor_address"]), number(it["neighbor_as"])),
-        "routes": [number(counts.get(name, 0)) for name in ("imported", "filtered", "exported", "preferred")],
+        "routes": [number(counts[name]) for name in ("imported", "filtered", "exported", "preferred")],
     }
 
 
@@ -154,14 +172,17 @@ def alice(port, room):
         return f"/status is {status}"
     page = json.loads(told(port, "/protocols/bgp"))
     read_api(page)
+    if list(page["protocols"]) != list(SHOWN):
+        return f"/protocols/bgp lists {list(page['protocols'])}"
     for at, (name, it) in enumerate(page["protocols"].items()):
         wanted = {
-            "id": f"m{at}",
+            "id": name,
             "state": ("up", "Established", "", True),
             "neighbour": (name, f"127.0.1.{at + 1}", 64512 + at),
-            "routes": [SHOWN[name], 0, sum(SHOWN.values()) - SHOWN[name], 0],
+            "routes": COUNTS[name],
         }
-        if name != f"m{at}" or read_protocol(it) != wanted:
+        alone = json.loads(told(port, f"/protocols/bgp/{name}"))["protocols"]
+        if read_protocol(it) != wanted or [read_protocol(one) for one in alone.values()] != [wanted]:
             return f"/protocols/bgp says {it}"
     for name, prefixes in (("m0", [f"20.{at >> 8}.{at & 255}.0/24" for at in range(MANY)]), ("m1", [f"21.0.{at}.0/24" for at in range(FEW)])):
         page = json.loads(told(port, f"/routes/protocol/{name}"))
@@ -175,10 +196,10 @@ def alice(port, room):
                 return f"/routes/protocol/{name} lists {it}"
             if it["bgp"][0] != "IGP" or it["bgp"][1][0] != 64512 + at or it["bgp"][2] != f"192.0.2.{11 + at}":
                 return f"/routes/protocol/{name} lists {it}"
-    for table in ("filtered", "noexport"):
-        page = json.loads(told(port, f"/routes/{table}/m0"))
-        if read_api(page) is not False or page["routes"] != []:
-            return f"/routes/{table}/m0 is {page}"
+    for table, name, count in (("filtered", "m0", 0), ("noexport", "m0", 0), ("filtered", LATE, DROPPED), ("protocol", LATE, COUNTS[LATE][0])):
+        page = json.loads(told(port, f"/routes/{table}/{name}"))
+        if read_api(page) is not False or len([read_route(it) for it in page["routes"]]) != count:
+            return f"/routes/{table}/{name} is {page}"
     return None
 
 
@@ -187,7 +208,7 @@ def alice(port, room):
 PAGES = (
     *("/status", "/protocols/bgp", "/routes/protocol/m0", "/routes/filtered/m0", "/routes/noexport/m0", "/routes/count/protocol/m0"),
     *("/routes/prefix?prefix=20.0.0.0/24", "/members/m0/received", "/members/m1/sent?count=10", "/why?to=m1&prefix=20.0.0.0/24"),
-    *("/", "/members/m0", "/metrics"),
+    *("/", "/members/m0", "/members/m0/received.html", "/members/m1/sent.html?count=10", "/search?prefix=20.0.0.0/24", "/metrics"),
 )
 
 
@@ -221,11 +242,17 @@ def shown(port, target, room, colour, picture):
 
 
 def chromium(port, room, pictures=None):
-    """Chromium shows the members, and one with its routes."""
+    """Chromium shows the members, one of them, its routes, and who announces a prefix."""
+    sights = (
+        ("members", "/", len(SHOWN), len(SHOWN)),
+        ("member", "/members/m0", 1, 1),
+        ("routes", "/members/m0/received.html", MANY, 0),
+        ("search", "/search?prefix=20.0.0.0/24", 2, 0),
+    )
     for colour in COLOURS:
-        for name, target, rows in (("members", "/", MEMBERS), ("member", "/members/m0", 1)):
+        for name, target, rows, up in sights:
             page = shown(port, target, room, colour, pictures and pictures / f"{name}-{colour}.png")
-            if page.count("<tr>") != rows + 1 or page.count(">up<") != rows:
+            if page.count("<tr>") != rows + 1 or page.count(">up<") != up:
                 return f"{target} has {page.count('<tr>')} rows"
     return None
 
@@ -252,19 +279,31 @@ def look(port, pictures):
         yield name, wrong
 
 
+class Longer(Member):
+    """A member whose paths have a second AS number."""
+
+    def attributes(self, group):
+        return attributes([self.number, 64999], self.address, group)
+
+
 def play(program, pictures):
     """The server with its members; yields what each who looks saw."""
     until = time.monotonic() + SECONDS
     listen, port = free_ports(2)
-    clients = [(f"m{k}", 64512 + k, listen, f"127.0.1.{k + 1}") for k in range(MEMBERS)]
-    with serving(program, clients, MEMBERS, "--window", f"127.0.0.1:{port}") as server:
+    clients = [(name, 64512 + k, listen, f"127.0.1.{k + 1}") for k, name in enumerate(SHOWN)]
+    with serving(program, clients, len(SHOWN), "--window", f"127.0.0.1:{port}", rules=RULES) as server:
         server.stdout.readline()
         members = [
             Member(name, number, f"192.0.2.{11 + k}", ("127.0.0.1", listen), routes(20 + k, SHOWN[name]), source)
-            for k, (name, number, _, source) in enumerate(clients)
+            for k, (name, number, _, source) in enumerate(clients[:MEMBERS])
         ]
         if wrong := differs(server, members, members, until):
             yield "fifty members", wrong
+            return
+        late = Longer(LATE, 64512 + MEMBERS, f"192.0.2.{11 + MEMBERS}", ("127.0.0.1", listen), LATE_ROUTES, f"127.0.1.{MEMBERS + 1}")
+        members.append(late)
+        if wrong := speak(members, until, lambda: len(late.told) == SENT[LATE]):
+            yield "one more member", wrong
             return
         over, said = threading.Event(), []
         speaking = threading.Thread(target=lambda: said.append(speak(members, until + SECONDS, over.is_set)))

@@ -2,6 +2,10 @@
 //! prefix by a tree, the routes by number, and what a client holds as bits by number. It prints
 //! the nanoseconds a route, as `held.rt.txt` does.
 
+#[path = "../common/attrs.rs"]
+mod attrs;
+
+use attrs::{Attrs, Head};
 use std::collections::BTreeMap;
 use std::hint::black_box;
 use std::rc::Rc;
@@ -14,22 +18,6 @@ const PREFIXES: u32 = 100_000;
 struct Prefix {
     bits: u32,
     len: u8,
-}
-
-#[derive(Clone, Copy, PartialEq)]
-#[allow(dead_code)]
-struct Head {
-    kind: u8,
-    optional: bool,
-    transitive: bool,
-    partial: bool,
-    len: u32,
-}
-
-#[derive(PartialEq)]
-struct Attrs {
-    heads: Vec<Head>,
-    values: Vec<u8>,
 }
 
 struct Route {

@@ -2,6 +2,10 @@
 //! bitmap of the types that came, what is kept in a short list by rising type, two heap blocks.
 //! Four-octet peers alone. It prints the nanoseconds of a call, as `read.rt.txt` does.
 
+#[path = "../common/attrs.rs"]
+mod attrs;
+
+use attrs::{Attrs, Head};
 use std::hint::black_box;
 use std::time::Instant;
 
@@ -34,21 +38,6 @@ struct Found<'a> {
     flags: u8,
     kind: u8,
     value: &'a [u8],
-}
-
-#[allow(dead_code)]
-struct Head {
-    kind: u8,
-    optional: bool,
-    transitive: bool,
-    partial: bool,
-    len: u32,
-}
-
-#[allow(dead_code)]
-struct Attrs {
-    heads: Vec<Head>,
-    values: Vec<u8>,
 }
 
 #[derive(Default)]

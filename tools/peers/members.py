@@ -122,11 +122,13 @@ def replace(server, head):
 
 
 @contextlib.contextmanager
-def serving(program, clients, sessions, *options):
-    """A server for these clients, each a name, an AS, a port and an address, by these options; it listens already."""
+def serving(program, clients, sessions, *options, rules=None):
+    """A server for these clients, each a name, an AS, a port and an address, with the rules of some by their names, by these options; it
+    listens already."""
     text = f'as = {SERVER_AS}\nidentifier = "192.0.2.1"\n'
     for name, number, port, peer in clients:
         text += f'[[client]]\nname = "{name}"\nas = {number}\nlisten = "127.0.0.1:{port}"\npeer = "{peer}"\n'
+        text += (rules or {}).get(name, "")
     with tempfile.TemporaryDirectory(prefix="served-") as room:
         config = pathlib.Path(room) / "config.toml"
         config.write_text(text)
@@ -147,3 +149,14 @@ def free_ports(count):
     for it in held:
         it.close()
     return ports
+
+
+def each_played(program, plays, seconds):
+    """Plays each, by a program's path or a command's words, within so many seconds: its name, and what is wrong or None."""
+    words = [program] if isinstance(program, (str, pathlib.Path)) else list(program)
+    for name, play in plays:
+        try:
+            wrong = play(words, time.monotonic() + seconds)
+        except OSError as fault:
+            wrong = str(fault)
+        yield name, wrong

@@ -25,7 +25,7 @@ import struct
 import tempfile
 import time
 
-from peers.members import Member, differs, ends, free_ports, replace, routes, serving, speak
+from peers.members import Member, differs, each_played, ends, free_ports, replace, routes, serving, speak
 
 from . import connections
 
@@ -145,13 +145,7 @@ PLAYS = (
 
 def play_members(program):
     """Plays all: what was tried, and what is wrong or None."""
-    words = [program] if isinstance(program, (str, pathlib.Path)) else list(program)
-    for name, play in PLAYS:
-        try:
-            wrong = play(words, time.monotonic() + SECONDS)
-        except OSError as fault:
-            wrong = str(fault)
-        yield name, wrong
+    return each_played(program, PLAYS, SECONDS)
 
 
 def by_words(words):

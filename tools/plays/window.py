@@ -4,7 +4,8 @@ play.py window PROGRAM [--long]
 
 Pages: /status by GET, by HEAD, by HTTP/1.0, four times on one connection, and a hundred times at once without waiting; then each
 page, once both members are up and hold 2,000 routes: its fields, its routes once each and in order, in pieces of at most 32,768
-octets and by its own count, what becomes of a prefix, and names that there are not.
+octets and by its own count, in HTML by its links, what becomes of a prefix, and names that there are not.
+Counts: of two members who announce the same prefixes, of which the import list of one drops some, what is imported, filtered and preferred.
 Refusals: what is no request, another method, a body, a Host that is no name of this machine, a long target, a long head; the
 whole answer must come before the connection ends, though the server has not read all that was sent.
 Visitors: 16 who say nothing hold all places; a seventeenth waits, and is answered once one has gone.
@@ -26,7 +27,8 @@ import socket
 import threading
 import time
 
-from peers.members import Member, differs, ends, free_ports, routes, serving, speak
+from peers.members import Member, differs, each_played, ends, free_ports, routes, serving, speak
+from peers.speaker import attributes, update
 
 SECONDS = 60
 PLACES = 16
@@ -116,7 +118,7 @@ def protocols(port):
     until = time.monotonic() + 30
     while time.monotonic() < until:
         all_of = json.loads(told(port, "/protocols/bgp"))["protocols"]
-        if all(it["routes"] == {"imported": ROUTES, "exported": ROUTES} for it in all_of.values()):
+        if all(it["routes"] == {"imported": ROUTES, "filtered": 0, "exported": ROUTES, "preferred": ROUTES} for it in all_of.values()):
             break
         time.sleep(0.2)
     else:
@@ -189,20 +191,45 @@ def reasons(port):
     return None
 
 
+def counted(metrics):
+    """What is wrong with these lines of metrics, where each member has announced its routes by ten in an UPDATE and was told the other's."""
+    values = dict(line.rsplit(" ", 1) for line in metrics if not line.startswith("# "))
+    wanted = {"rs_members": 2, "rs_members_established": 2, "rs_prefix_rows": 2 * ROUTES, "rs_stranger_connections_total": 0, "rs_memory_refused_total": 0}
+    announced = update(field=attributes([64496], "192.0.2.11", 0), nlri=b"".join(b"\x18" + it for it in routes(10, 10)))
+    for name in ("alpha", "beta"):
+        wanted |= {f'rs_member_up{{member="{name}"}}': 1, f'rs_member_received_updates_total{{member="{name}"}}': ROUTES // 10}
+    for name, value in wanted.items():
+        if values.get(name) != str(value):
+            return f"/metrics has {name} {values.get(name)}, not {value}"
+    at_least = {
+        'rs_member_sent_updates_total{member="beta"}': ROUTES // 10,
+        'rs_member_received_bytes_total{member="alpha"}': ROUTES // 10 * len(announced),
+        'rs_member_sent_bytes_total{member="beta"}': ROUTES // 10 * len(announced),
+        "rs_turn_duration_seconds_count": 1,
+    }
+    for name, value in at_least.items():
+        if int(values.get(name, 0)) < value:
+            return f"/metrics has {name} {values.get(name)}, less than {value}"
+    buckets = [int(value) for name, value in values.items() if name.startswith("rs_turn_duration_seconds_bucket")]
+    if len(buckets) != 12 or buckets != sorted(buckets) or buckets[-1] != int(values["rs_turn_duration_seconds_count"]):
+        return f"/metrics has the buckets {buckets}"
+    if len(values) != sum(1 for line in metrics if not line.startswith("# ")):
+        return "/metrics has a series twice"
+    for name, value in values.items():
+        if not (value.replace(".", "", 1) if name.endswith("_sum") else value).isdecimal():
+            return f"/metrics has {name} {value}"
+    return None
+
+
 def texts(port):
     """What is wrong with the pages that are no JSON."""
-    metrics = told(port, "/metrics").splitlines()
-    for line in ("rs_members 2", "rs_members_established 2", f"rs_prefix_rows {2 * ROUTES}", 'rs_member_up{member="beta"} 1'):
-        if metrics.count(line) != 1:
-            return f"/metrics lacks {line!r}"
-    for line in metrics:
-        if not line.startswith("# ") and not line.rpartition(" ")[2].isdecimal():
-            return f"/metrics has {line!r}"
+    if wrong := counted(told(port, "/metrics").splitlines()):
+        return wrong
     home = told(port, "/")
     for part in ("<!DOCTYPE html>", '<a href="/members/alpha">', '<a href="/members/beta">', "color-scheme:light dark"):
         if part not in home:
             return f"/ lacks {part!r}"
-    if "<script" in home or "/members/beta/sent" not in told(port, "/members/beta"):
+    if "<script" in home or '<a href="/members/beta/sent.html">' not in told(port, "/members/beta"):
         return "a page for people is not as it should be"
     for target in NO_PAGES:
         if told(port, target) is not None:
@@ -210,9 +237,38 @@ def texts(port):
     return None
 
 
+def shown(port):
+    """What is wrong with the pages of routes for people, each followed by its link to the next, and with the search."""
+    for name, table, first, number in (("alpha", "received", 10, 64496), ("beta", "sent", 10, 64496), ("alpha", "sent", 11, 64497)):
+        target, listed = f"/members/{name}/{table}.html?count=700", []
+        for _ in range(10):
+            page = told(port, target)
+            rows = [it.split("<td>") for it in page.split("\n") if it.startswith("<tr><td>")]
+            if f"<h1>{name}: routes {table}</h1>" not in page or "<script" in page or len(rows) > 700:
+                return f"{target} begins with {page[:1000]}"
+            for at, (_, network, next_hop, path, *rest) in enumerate(rows, len(listed)):
+                listed.append(network)
+                # Ten routes have one MED.
+                if next_hop != f"192.0.2.{first + 1}" or path != f"{number}<td class=number>{at // 10}" or rest != ["</tr>"]:
+                    return f"{target} has the row {network}, {next_hop}, {path}, {rest}"
+            link = page.partition('<p><a href="/members/' + f"{name}/{table}.html?")[2].partition('">More</a></p>')[0]
+            if not link:
+                break
+            target = f"/members/{name}/{table}.html?" + link.replace("&amp;", "&")
+        if listed != networks(first):
+            return f"{target} is the last, and {len(listed)} routes in all are listed, and not just those in order"
+    found = told(port, "/search?prefix=11.0.9.0%2F24")
+    for part in ("<h1>11.0.9.0/24</h1>", '<a href="/members/beta">', '<a href="/why?to=beta&amp;prefix=11.0.9.0/24">'):
+        if part not in found or "alpha" in found:
+            return f"/search says {found}"
+    if "<tr><td>" in told(port, "/search?prefix=11.0.9.0/25") or told(port, "/search?prefix=11.0.9.0/33") is not None:
+        return "/search says something of a prefix that nobody has"
+    return None
+
+
 def sights(port):
     """What is wrong with each page while two members are up."""
-    return protocols(port) or birdwatcher(port) or tables(port) or reasons(port) or texts(port)
+    return protocols(port) or birdwatcher(port) or tables(port) or shown(port) or reasons(port) or texts(port)
 
 
 def refusals(port):
@@ -324,6 +380,50 @@ def while_members_speak(program, until, look):
         return seen[0] or wrong or ends(server, members, until)
 
 
+class Longer(Member):
+    """A member whose paths have a second AS number."""
+
+    def attributes(self, group):
+        return attributes([self.number, 64999], self.address, group)
+
+
+# Alpha announces 30 prefixes, of which its import list drops the first eight; beta the first twenty of them, by longer paths.
+DROPPED, ALIKE, ALL = 8, 20, 30
+RULES = {"alpha": 'import = [{ prefix = "10.0.0.0/21", max = 24, action = "drop" }]\n'}
+COUNTED = {
+    "alpha": {"imported": ALL - DROPPED, "filtered": DROPPED, "exported": ALIKE, "preferred": ALL - DROPPED},
+    "beta": {"imported": ALIKE, "filtered": 0, "exported": ALL - DROPPED, "preferred": DROPPED},
+}
+
+
+def is_counted(port):
+    """Whether all pages of counts say what they must."""
+    counted = {name: it["routes"] for name, it in json.loads(told(port, "/protocols/bgp"))["protocols"].items()}
+    for name, counts in COUNTED.items():
+        alone = json.loads(told(port, f"/protocols/bgp/{name}"))["protocols"]
+        listed = [len(json.loads(told(port, f"/routes/{table}/{name}"))["routes"]) for table in ("protocol", "filtered")]
+        count = json.loads(told(port, f"/routes/count/protocol/{name}"))["routes"]
+        if [it["routes"] for it in alone.values()] != [counts] or [*listed, count] != [counts["imported"], counts["filtered"], counts["imported"]]:
+            return False
+    return counted == COUNTED
+
+
+def counts(program, until):
+    """Two members who announce the same prefixes, of which the import list of one drops some: what is counted of each."""
+    *ports, port = free_ports(3)
+    clients = [("alpha", 64496, ports[0], "127.0.0.1"), ("beta", 64497, ports[1], "127.0.0.1")]
+    with serving(program, clients, 2, "--window", f"127.0.0.1:{port}", rules=RULES) as server:
+        server.stdout.readline()
+        members = [
+            Member("alpha", 64496, "192.0.2.11", ("127.0.0.1", ports[0]), routes(10, ALL)),
+            Longer("beta", 64497, "192.0.2.12", ("127.0.0.1", ports[1]), routes(10, ALIKE)),
+        ]
+        wrong = speak(members, min(until, time.monotonic() + 20), lambda: is_counted(port))
+        if wrong:
+            return f"{wrong}: /protocols/bgp says {told(port, '/protocols/bgp')}"
+        return ends(server, members, until)
+
+
 def a_descriptor(program, until):
     """A server that may open two connections more: a member comes before a visitor who is there already."""
     *ports, port = free_ports(3)
@@ -360,14 +460,9 @@ LONG = (("slow visitors at the window", slow_visitors),)
 
 def play_window(program, looks=LOOKS):
     """Plays all: what was tried, and what is wrong or None."""
-    words = [program] if isinstance(program, (str, pathlib.Path)) else list(program)
     plays = [(name, lambda words, until, look=look: while_members_speak(words, until, look)) for name, look in looks]
-    for name, play in (*plays, ("a window on a server without a descriptor for a member", a_descriptor)):
-        try:
-            wrong = play(words, time.monotonic() + SECONDS)
-        except OSError as fault:
-            wrong = str(fault)
-        yield name, wrong
+    plays += [("what the window counts of routes", counts), ("a window on a server without a descriptor for a member", a_descriptor)]
+    return each_played(program, plays, SECONDS)
 
 
 def by_words(words):
