@@ -1,10 +1,11 @@
 -- Equality, order and hash of attributes: over their types, flags and values, with AS numbers in four octets.
-use Rattle.std.specs.Prelude.{ℕ, ◌==◌, Bool, ◌&&◌, List, [], ◌∷◌, ◌++◌, length, bytes_eq}
-use Rattle.std.specs.List.{flat_map}
+use Rattle.std.specs.Prelude.{ℕ, ◌%◌, ◌^◌, ◌==◌, Bool, ◌&&◌, List, [], ◌∷◌, ◌++◌, length, bytes_eq}
+use Rattle.std.specs.List.{flat_map, fold}
 use Rattle.std.specs.Cmp.Lexicographic.{pointwise, slice_cmp}
 use Rattle.std.specs.Ordering.{nat_cmp, bool_cmp, on, then_cmp}
 use Rattle.std.specs.declared.cmp.Ordering.{Ordering}
 use Rattle.std.specs.Hash as fed
+use Rattle.std.specs.Hash.FoldHasher as folding
 use mathlib.Core.Bool.{beq}
 use Rattle.rs_attrs.specs.Meaning.{Attribute}
 
@@ -40,3 +41,7 @@ head_writes a =
 
 abbrev pub attributes_writes : List Attribute → List (List ℕ)
 attributes_writes m = fed.slice head_writes m ++ octets_of m ∷ []
+
+-- the hash that is kept with them: 32 bits of what a hasher with a fixed seed makes of that
+abbrev pub attributes_hash : List Attribute → ℕ
+attributes_hash m = folding.finish (fold folding.write folding.initial (attributes_writes m)) % 2 ^ 32

@@ -2,18 +2,21 @@
 //!
 //! A head for each attribute, by rising type, and one run of octets, their values one after the
 //! other: two heap blocks, however many attributes there are. Whatever makes an `Attrs` proves that
-//! the heads have the lengths of the values and that the attributes are legal.
+//! the heads have the lengths of the values and that the attributes are legal. Their hash is made with
+//! them, and kept.
 
-ghost use Rattle.std.specs.Prelude.{◌≡◌, ◌↔◌, IsTrue, refl};
+ghost use Rattle.std.specs.Prelude.{◌≡◌, ◌↔◌, IsTrue, length, refl};
 ghost use Rattle.std.specs.Ordering.{as_partial_cmp};
 ghost use Rattle.std.specs.Cmp.{po};
 ghost use Rattle.std.specs.Cmp;
-ghost use Rattle.rs_attrs.specs.Comparing.{same_attributes, attributes_cmp, attributes_writes};
+ghost use Rattle.rs_attrs.specs.Comparing.{same_attributes, attributes_cmp, attributes_writes, attributes_hash};
 ghost use Rattle.rs_attrs.specs.ComparisonLaws.{same_attributes_equiv, attributes_cmp_total, attributes_ties, same_attributes_writes};
+ghost use Rattle.rs_attrs.specs.Held.{attributes_in, values_size};
+ghost use Rattle.rs_attrs.specs.Writing.{IsLegal};
 
 use std::alloc::AllocError;
 use std::cmp::Ordering;
-use std::hash::{Hash, Hasher};
+use std::hash::{FoldHasher, Hash, Hasher};
 use std::marker::Model;
 
 /// An attribute but for its value.
@@ -32,6 +35,8 @@ pub(crate) struct Head {
 pub struct Attrs {
     pub(crate) heads: Vec<Head>,
     pub(crate) values: Vec<u8>,
+    /// The hash of all of them, computed once, where they are made.
+    hash: u32,
 }
 
 impl Model for Attrs {
@@ -44,7 +49,42 @@ impl Model for Attrs {
 
     ghost view = { λ a. attributes_in a.heads.items a.values.items };
 
-    ghost invariant = { λ a. IsHeld a.heads.items a.values.items };
+    ghost invariant = { λ a. IsHeld a.heads.items a.values.items a.hash };
+}
+
+/// The hash of the attributes that lie so.
+fn hash_of(heads: &[Head], values: &[u8]) -> u32
+    requires { values_size heads.now ≡ length values.now }
+    ensures { result ≡ attributes_hash (attributes_in heads.now values.now) }
+{
+    let mut state = FoldHasher::default();
+    heads.hash(&mut state);
+    state.write(values);
+    (state.finish() % 0x1_0000_0000) as u32
+}
+
+impl Attrs {
+    /// The attributes that lie so. It hashes them.
+    pub(crate) fn of(heads: Vec<Head>, values: Vec<u8>) -> Attrs
+        requires size { values_size heads.items ≡ length values.items }
+        requires legal { IsLegal (attributes_in heads.items values.items) }
+        ensures { result ≡ attributes_in heads.items values.items }
+    {
+        let hash = hash_of(&heads, &values);
+        Attrs {
+            heads,
+            values,
+            hash,
+        }
+    }
+
+    /// The hash of all of them, of four octets, as it was computed where they were made. Equal
+    /// attributes have one hash; others may have it too.
+    pub fn kept_hash(&self) -> u32
+        ensures { result ≡ attributes_hash self.now }
+    {
+        self.hash
+    }
 }
 
 impl Clone for Attrs {
@@ -54,11 +94,13 @@ impl Clone for Attrs {
         Ok(Attrs {
             heads: self.heads.clone()?,
             values: self.values.clone()?,
+            hash: self.hash,
         })
     }
 }
 
-/// Equal where both have the same types, with the same flags and values.
+/// Equal where both have the same types, with the same flags and values. Most that differ are told
+/// apart by their hashes.
 impl PartialEq for Attrs {
     ghost eq = { same_attributes };
 
@@ -68,6 +110,9 @@ impl PartialEq for Attrs {
         ensures value { result ≡ same_attributes self.now other.now }
         ensures decides { IsTrue result ↔ (self.now ≡ other.now) }
     {
+        if self.hash != other.hash {
+            return false;
+        }
         self.heads == other.heads && self.values == other.values
     }
 }

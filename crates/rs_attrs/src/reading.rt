@@ -94,7 +94,7 @@ fn attributes_of(alloc: Global, mode: Mode, kept: &[Found<'_>]) -> Result<Attrs,
             heads.push(head_of(found, len as u32))?;
         }
     }
-    Ok(Attrs { heads, values })
+    Ok(Attrs::of(heads, values))
 }
 
 /// What a field means, and what is wrong with it.

@@ -233,5 +233,5 @@ pub fn stripped(alloc: Global, attrs: &Attrs, strip: &Strip<'_>) -> Result<Attrs
         push_left(&mut heads, &mut values, head, value, strip)?;
         rest = after;
     }
-    Ok(Attrs { heads, values })
+    Ok(Attrs::of(heads, values))
 }

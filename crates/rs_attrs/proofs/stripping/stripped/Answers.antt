@@ -1,5 +1,4 @@
 use Rattle.std.proofs.Common.{◌≡◌, sym, ap, ◌∙◌, subst}
-use Rattle.rs_attrs.specs.Held.{attributes_in}
 use Rattle.rs_attrs.specs.Meaning.{get}
 use Rattle.rs_attrs.specs.Writing.{IsLegal}
 use Rattle.rs_attrs.specs.Getters.{communities_of, large_communities_of}
@@ -9,17 +8,17 @@ use Rattle.rs_attrs.proofs.Strips.StrippedLegal.{stripped_legal}
 use Rattle.rs_attrs.proofs.Strips.StrippedLaws.{others_stay, stripped_communities, stripped_large}
 use Rattle.rs_attrs.proofs.stripping.stripped.Goals as goal
 
-held : (c : goal.After-loop-head) → attributes_in c.loop-head.heads.items c.loop-head.values.items ≡ stripped_of (taken_by c.args.strip.now) c.args.attrs.now
-held c = left_whole (taken_by c.args.strip.now) _ _ _ _ _ c.loop-head-test.false c.loop-head.invariant.left
+-- what is made is what is meant
+held : (c : goal.After-of) → c.of.result ≡ stripped_of (taken_by c.args.strip.now) c.args.attrs.now
+held c = c.of.ensures ∙ left_whole (taken_by c.args.strip.now) _ _ _ _ _ c.loop-head-test.false c.loop-head.invariant.left
 
-legal : (c : goal.After-loop-head) → IsLegal c.args.attrs.now
+legal : (c : goal.After-of) → IsLegal c.args.attrs.now
 legal c = subst IsLegal c.attrs.view_is c.attrs.invariant.legal
 
-pub invariant_of-result : goal.invariant_of-result
-invariant_of-result c = record {
-  size = c.loop-head.invariant.size;
-  legal = subst IsLegal (sym (held c)) (stripped_legal (taken_by c.args.strip.now) c.args.attrs.now (legal c));
-}
+pub of-requires-clause-legal : goal.of-requires-clause-legal
+of-requires-clause-legal c =
+    let whole = left_whole (taken_by c.args.strip.now) _ _ _ _ _ c.loop-head-test.false c.loop-head.invariant.left in
+    subst IsLegal (sym whole) (stripped_legal (taken_by c.args.strip.now) c.args.attrs.now (subst IsLegal c.attrs.view_is c.attrs.invariant.legal))
 
 pub returns-clause-communities : goal.returns-clause-communities
 returns-clause-communities c = ap communities_of (held c) ∙ stripped_communities (taken_by c.args.strip.now) c.args.attrs.now (legal c)

@@ -1,9 +1,15 @@
-use Rattle.std.proofs.Common.{◌≡◌, Bool, ◌&&◌, sym, ap, ◌∙◌, nat_eq}
+use Rattle.std.proofs.Common.{rules, ◌≡◌, Bool, ◌&&◌, false, sym, ap, ◌∙◌, nat_eq}
+use Rattle.std.specs.Bool.{Decides}
 use Rattle.std.specs.Cmp.Lexicographic.{pointwise}
 use Rattle.std.proofs.lemmas.Bool.Decides.{Decides-at, same_from_decides}
 use Rattle.rs_attrs.specs.ComparisonLaws.{attributes_decides}
 use Rattle.rs_attrs.proofs.HeldComparison.{same_head, held_decides}
 use Rattle.rs_attrs.proofs.attrs.AttrsPartialEq.eq.Goals as goal
+
+pub returns-then-self-other-clause-value : goal.returns-then-self-other-clause-value
+returns-then-self-other-clause-value c =
+    let decides : Decides false (c.args.self.now ≡ c.args.other.now) = search rules in
+    same_from_decides _ _ decides (attributes_decides c.args.self.now c.args.other.now)
 
 pub returns-then-eq : goal.returns-then-eq
 returns-then-eq c =
