@@ -9,6 +9,7 @@ use Rattle.std.specs.FinSet as set
 use Rattle.rs_octets.specs.Numbers.{longest_where}
 use Rattle.rs_octets.specs.Prefixes.{Prefix, prefix_order}
 use Rattle.rs_attrs.specs.Meaning.{Attribute}
+use Rattle.rs_attrs.specs.Comparing.{attributes_hash}
 use Rattle.rs_open.specs.declared.short.Limit.TheVariants as limits
 use Rattle.rs_outlet.specs.declared.answers.Speech.{Speech}
 use Rattle.rs_outlet.specs.declared.rows.Row.{Row}
@@ -23,7 +24,6 @@ use Rattle.rs_open.specs.Notes.{limit_octets}
 use Rattle.rs_packer.specs.Packed.{announcement}
 use Rattle.rs_outlet.specs.declared.waiting.Due.{Due}
 use Rattle.rs_outlet.specs.declared.waiting.Due.TheVariants as due
-use Rattle.rs_outlet.specs.Pending.Hashing.{attributes_hash}
 use Rattle.rs_outlet.specs.Pending.Slots.{open_at, told_of, marked_told, is_withdrawal, withdrawn_count}
 
 -- ---- rows

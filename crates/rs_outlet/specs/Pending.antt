@@ -4,6 +4,5 @@ pub mod Slots
 pub mod Parts
 pub mod Marking
 pub mod Owed
-pub mod Hashing
 pub mod Chains
 pub mod Choosing

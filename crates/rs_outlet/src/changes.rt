@@ -7,6 +7,7 @@ ghost use Rattle.std.specs.FinMap as fin;
 ghost use Rattle.std.specs.Ordering.{eq_by_cmp};
 ghost use Rattle.rs_octets.specs.Prefixes.{Prefix, prefix_order};
 ghost use Rattle.rs_attrs.specs.Meaning.{Attribute};
+ghost use Rattle.rs_attrs.specs.Comparing.{attributes_hash};
 ghost use Rattle.rs_adjin.specs.declared.adj_ins.AdjIns.{AdjIns};
 ghost use Rattle.rs_adjin.specs.AdjIns.{number_of};
 ghost use Rattle.rs_outlet.specs.Views.{HaveNumbers};
@@ -15,11 +16,10 @@ ghost use Rattle.rs_outlet.specs.Pending.Slots.{open_at, open_count, withdrawn_c
 ghost use Rattle.rs_outlet.specs.Pending.Owed.{IsBeside, IsCarriedOut, IsOpenAt, IsOwed, Keeps, listed, prefixes_of};
 ghost use Rattle.rs_outlet.specs.declared.answers.Speech.{Speech};
 ghost use Rattle.rs_outlet.specs.declared.waiting.Due.{Due};
-ghost use Rattle.rs_outlet.specs.Pending.Hashing.{attributes_hash};
 ghost use Rattle.rs_outlet.specs.Inside.{AreBacked, AreChained, AreDue, AreOwn, ArePlaced, ChangesFit, FitsAlone, HaveRows, IsOwn, RowsFit, attributes_at, is_changed, numbers_of, row_at, loc_of, numbers_from};
 
 use crate::table::Rows;
-use crate::waiting::{Due, Told, Wait, Waits, hash_of};
+use crate::waiting::{Due, Told, Wait, Waits};
 use rs_adjin::AdjIns;
 use rs_attrs::Attrs;
 use rs_octets::Prefix;
@@ -81,7 +81,7 @@ fn announced_wait(
     ensures slot { IfSome result (IsOpenAt prefix) }
 {
     let told = told_beside(due, told, marked)?;
-    let hash = hash_of(due);
+    let hash = due.kept_hash();
     Some(Wait {
         prefix,
         due: Due::Announced { number, hash },

@@ -28,12 +28,12 @@ impl Rows {
         }
     }
 
+    /// There are no rows, and all memory is given back.
     pub(crate) fn clear(&mut self)
         ensures rows { self.new.rows.items ≡ [] }
         ensures used { self.new.used ≡ 0 }
     {
-        self.rows.clear();
-        self.used = 0;
+        *self = Rows::new(*self.rows.allocator());
     }
 
     /// How many rows have a route.

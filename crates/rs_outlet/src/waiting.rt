@@ -2,9 +2,9 @@
 //! asked for again. Each has a slot. The slots stand in two `parts`, each in rising order, so that a turn
 //! does not go over all that waits for a client that takes nothing.
 //!
-//! Before a message begins, one part is made of both, and each slot that is to be announced is chained
-//! to the next one that has the same attributes (`chains`). A message is read off along such a chain,
-//! and nothing is looked for in the Loc-RIB.
+//! Before a message begins, one part is made of both. From the second message on, each slot that is to be
+//! announced is chained to the next one that has the same attributes (`chains`), and a message is read off
+//! along such a chain.
 
 ghost use Rattle.std.specs.Prelude.{List, ◌≡◌, ◌≤◌, ◌<◌, ◌+◌, ℕ, Option, None, Some, [], true, false, drop, length, take, vec_len, slice_get, slice_set, option_map, if◌then◌else◌, IfSome, OnOk, ◌++◌};
 ghost use Rattle.std.specs.List.{AllWithin, Contains, IsDistinct, list_any};
@@ -15,7 +15,6 @@ ghost use Rattle.std.proofs.Props.{props};
 ghost use Rattle.std.specs.Vec.{vec_capacity};
 ghost use Rattle.rs_octets.specs.Prefixes.{Prefix, prefix_order};
 ghost use Rattle.rs_outlet.specs.declared.waiting.Wait.{Wait};
-ghost use Rattle.rs_outlet.specs.Pending.Hashing.{attributes_hash};
 ghost use Rattle.rs_outlet.specs.Pending.Slots.{AreFresh, IsOpenSlot, prefixes_at, open_count, withdrawn_count, is_withdrawn, is_announced, open_at, told_of, told_by, marked_by};
 
 mod chains;
@@ -29,7 +28,6 @@ use crate::waiting::parts::{slot_of, sort_from};
 use rs_attrs::Attrs;
 use rs_octets::Prefix;
 use std::alloc::{AllocError, Global};
-use std::hash::{BuildHasher, BuildHasherDefault, FoldHasher};
 use std::sync::Arc;
 
 /// What the client was told of a prefix that waits.
@@ -68,7 +66,7 @@ pub(crate) struct Waits {
     pub(crate) slots: Vec<Wait>,
     /// How many slots are in the first part.
     pub(crate) sorted: usize,
-    /// There is one part, and its slots are chained.
+    /// There is one part, and a message of it began.
     pub(crate) ready: bool,
     /// For each slot the next one that has its attributes; none where slots are not chained.
     pub(crate) chains: Vec<u32>,
@@ -111,18 +109,12 @@ impl Waits {
         }
     }
 
+    /// Nothing waits, and all memory is given back.
     pub(crate) fn clear(&mut self)
         ensures slots { self.new.slots.items ≡ [] }
         ensures chains { self.new.chains.items ≡ [] }
     {
-        self.slots.clear();
-        self.sorted = 0;
-        self.ready = false;
-        self.chains.clear();
-        self.order.clear();
-        self.gone = 0;
-        self.news = 0;
-        self.waiting = 0;
+        *self = Waits::new(self.alloc);
     }
 
     /// How many prefixes wait.
@@ -254,12 +246,4 @@ pub(crate) fn put_in_order(slots: &mut Vec<Wait>)
 {
     sort_from(None, slots, 0);
     slots.dedup_by_key(|wait| wait.prefix);
-}
-
-/// A hash of attributes.
-pub(crate) fn hash_of(attrs: &Attrs) -> u32
-    ensures { result ≡ attributes_hash attrs.now }
-{
-    let hash = BuildHasherDefault::<FoldHasher>::new().hash_one(attrs);
-    (hash % 0x1_0000_0000) as u32
 }

@@ -13,7 +13,7 @@ use Rattle.std.proofs.lemmas.List.Sorted.{Contains-permutation, IsPermutation-sy
 use Rattle.std.proofs.lemmas.List.Elements.{Contains-append_left, Contains-append_right, Contains-append_cases}
 use Rattle.rs_octets.specs.Prefixes.{Prefix}
 use Rattle.rs_attrs.specs.Meaning.{Attribute}
-use Rattle.rs_attrs.specs.Comparing.{attributes_cmp, same_attributes}
+use Rattle.rs_attrs.specs.Comparing.{attributes_cmp, attributes_hash, same_attributes}
 use Rattle.rs_attrs.specs.ComparisonLaws.{attributes_cmp_decides, attributes_cmp_total, attributes_decides}
 use Rattle.rs_adjin.proofs.TableRows.{set_apart, set_here, some_row}
 use Rattle.rs_outlet.specs.declared.rows.Row.{Row}
@@ -24,7 +24,6 @@ use Rattle.rs_outlet.specs.declared.waiting.chains.Hashed.{Hashed}
 use Rattle.rs_outlet.specs.Inside.{AreBacked, AreChained, IsBacked, prefix_and_hash, row_at, row_by, shown}
 use Rattle.rs_outlet.specs.Message.Next.{has_attributes}
 use Rattle.rs_outlet.specs.Pending.Slots.{prefixes_at}
-use Rattle.rs_outlet.specs.Pending.Hashing.{attributes_hash}
 use Rattle.rs_outlet.specs.Pending.Chains.{AreHashed, AreLinked, IsBefore, IsHashed, Leads, AreInOrder, by_rows, due_there, or_none}
 use Rattle.rs_outlet.specs.Pending.Choosing.{shares}
 use Rattle.rs_outlet.proofs.Decided.LocByNumber.{same}
@@ -88,6 +87,9 @@ shares_other rows m z ne = go z.open refl
 
 pub not_less : (m : List Attribute) → attributes_cmp m m ≡ Less → ⊥
 not_less m h = let f : Equal ≡ Less = sym (tied_itself attributes_cmp_total m) ∙ h in cc
+
+pub level_at : (m n : List Attribute) → m ≡ n → Equal ≡ attributes_cmp m n
+level_at m n e = sym (ap (attributes_cmp m) (sym e) ∙ tied_itself attributes_cmp_total m)
 
 pub level_is : (m n : List Attribute) → attributes_cmp m n ≡ Equal → m ≡ n
 level_is m n h = (attributes_cmp_decides m n).0 (ap is_eq h)

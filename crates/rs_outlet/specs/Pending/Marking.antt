@@ -2,9 +2,9 @@
 use Rattle.std.specs.Prelude.{◌≡◌, ◌⊎◌, ℕ, Bool, true, false, Option, None, Some, IsSome, List, [], ◌∷◌, ◌++◌}
 use Rattle.std.specs.FinMap as fin
 use Rattle.rs_attrs.specs.Meaning.{Attribute}
+use Rattle.rs_attrs.specs.Comparing.{attributes_hash}
 use Rattle.rs_outlet.specs.declared.rows.Row.{Row}
 use Rattle.std.specs.Arc.{arc_value}
-use Rattle.rs_outlet.specs.Pending.Hashing.{attributes_hash}
 use Rattle.rs_outlet.specs.declared.waiting.Due.TheVariants as due
 use Rattle.rs_outlet.specs.declared.waiting.Told.{Told}
 use Rattle.rs_outlet.specs.declared.waiting.Told.TheVariants as told

@@ -101,6 +101,10 @@ fn compare_due(rows: &Rows, slots: &[Wait], a: &Hashed, b: &Hashed) -> Option<Or
 {
     let first = due_at(rows, slots, a)?;
     let second = due_at(rows, slots, b)?;
+    // most slots of one hash have the same attributes, and that is told sooner than an order
+    if first == second {
+        return Some(Ordering::Equal);
+    }
     Some(first.cmp(second))
 }
 

@@ -251,9 +251,12 @@ fn waits_for(rows: &Rows, wait: &Wait, attrs: &Attrs) -> bool
     ensures all { WaitsFor rows.now.rows.items attrs.now wait.now → result ≡ true }
     ensures just { IsBacked rows.now.rows.items wait.now.prefix wait.now.due → result ≡ has_attributes (shown (row_by rows.now.rows.items wait.now.due)) attrs.now }
 {
-    let Due::Announced { number, .. } = wait.due else {
+    let Due::Announced { number, hash } = wait.due else {
         return false;
     };
+    if hash != attrs.kept_hash() {
+        return false;
+    }
     let Some(row) = rows.get(number) else {
         return false;
     };

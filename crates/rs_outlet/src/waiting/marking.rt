@@ -14,7 +14,7 @@ ghost use Rattle.rs_outlet.specs.Pending.Marking.{MayAddRow, MayWaitAgain, is_to
 use crate::rows::Row;
 use crate::table::Rows;
 use crate::waiting::parts::drop_shut;
-use crate::waiting::{Due, Told, Wait, Waits, count_open, hash_of, put_in_order};
+use crate::waiting::{Due, Told, Wait, Waits, count_open, put_in_order};
 use rs_octets::Prefix;
 
 impl Waits {
@@ -99,7 +99,7 @@ fn add_row(slots: &mut Vec<Wait>, waited: usize, number: u32, row: &Row)
         prefix: row.prefix,
         due: Due::Announced {
             number,
-            hash: hash_of(&row.attrs),
+            hash: row.attrs.kept_hash(),
         },
         told: Told::Same,
         marked: true,

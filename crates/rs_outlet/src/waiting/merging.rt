@@ -17,6 +17,21 @@ use std::alloc::Global;
 /// slot that is added costs a share of the merge that falls as the root of what waits.
 const LATE: usize = 1000;
 
+/// Where more slots than these were there and none of them waits, their memory is given back.
+const MANY: usize = 4096;
+
+/// Empties a vector, and puts fresh room of the same size in its place, which takes no memory before it
+/// is written. Where that is refused, the old room stays.
+fn renew<T: Drop>(alloc: Global, room: &mut Vec<T>)
+    ensures items { room.new.items ≡ [] }
+    ensures capacity { vec_capacity room.new ≡ vec_capacity room.old }
+{
+    room.clear();
+    if let Ok(fresh) = Vec::with_capacity(alloc, room.capacity()) {
+        *room = fresh;
+    }
+}
+
 impl Waits {
     /// Adds slots, for which there is room once those that wait no more are dropped. Where a message
     /// began since others were added, the next one may begin soon, and one part is made for it here:
@@ -48,7 +63,24 @@ impl Waits {
         if !self.is_crowded(more) {
             return;
         }
+        let were_many = self.slots.len() > MANY;
         self.merge(Some(self.alloc));
+        if were_many {
+            self.give_back();
+        }
+    }
+
+    /// Gives back the memory that slots took, where there are none. There is still room for as many.
+    fn give_back(&mut self)
+        ensures slots { self.new.slots.items ≡ self.old.slots.items }
+        ensures capacity { vec_capacity self.new.slots ≡ vec_capacity self.old.slots }
+    {
+        if !self.slots.is_empty() {
+            return;
+        }
+        renew(self.alloc, &mut self.slots);
+        renew(self.alloc, &mut self.chains);
+        renew(self.alloc, &mut self.order);
     }
 
     /// Whether one part is to be made before so many slots are added: there is no room behind the
@@ -118,8 +150,9 @@ impl Waits {
         self.merge(buffers);
     }
 
-    /// Makes the slots ready for a message: they are one part, and chained. They stay so till others
-    /// are added. It takes no memory.
+    /// Makes the slots ready for a message: they are one part, and from the second message on chained. They
+    /// stay so till others are added. So a client that takes one message between two turns has its slots
+    /// gone through once for it, and not put in order anew. It takes no memory.
     pub(crate) fn prepare(&mut self, rows: &Rows)
         requires backed { AreBacked rows.now.rows.items self.old.slots.items }
         requires chained { AreChained rows.now.rows.items self.old.slots.items self.old.chains.items }
@@ -129,11 +162,12 @@ impl Waits {
         ensures withdrawn { withdrawn_count self.new.slots.items ≡ withdrawn_count self.old.slots.items }
         ensures capacity { vec_capacity self.new.slots ≡ vec_capacity self.old.slots }
     {
-        if self.ready {
-            return;
+        if !self.ready {
+            self.make_one_part(None);
+            self.chains.clear();
+            self.ready = true;
+        } else if self.chains.is_empty() {
+            self.chain(rows);
         }
-        self.make_one_part(None);
-        self.chain(rows);
-        self.ready = true;
     }
 }
