@@ -10,6 +10,7 @@ use Rattle.rs_adjin.specs.declared.routes.Route.{Route}
 use Rattle.rs_adjin.specs.declared.numbers.Row.{Row}
 use Rattle.rs_adjin.specs.declared.numbers.Numbered.{Numbered}
 use Rattle.rs_adjin.specs.Held.{one_if}
+use Rattle.rs_adjin.specs.Sets.{uses_of, uses_in}
 use Rattle.rs_adjin.specs.Routes.{value_in, IsRising}
 use Rattle.rs_adjin.specs.Numbering.{prefix_at, routes_in, routes_by, are_some, has_routes, AreVacant}
 use Rattle.rs_adjin.specs.Numbers.{number_in, routes_at}
@@ -98,6 +99,33 @@ noted_count f (r ∷ old) (s ∷ new) h =
     let left : count_by has_routes (s ∷ new) ≡ one_of s + count_by has_routes new = sum_by-cons one_of s new in
     let right : count_by has_routes (r ∷ old) ≡ one_of r + count_by has_routes old = sum_by-cons one_of r old in
     omega (arith, one, left, right, noted_count f old new h.1)
+
+abbrev route_uses : ℕ → Route → ℕ
+route_uses s r = one_if (r.set == s)
+
+uses_noted : (s : ℕ) (g : ℕ → List Attribute → ℕ) (rs : List Route) → uses_of s (map (with_note g) rs) ≡ uses_of s rs
+uses_noted s g [] = refl
+uses_noted s g (r ∷ rs) =
+    let left : uses_of s (map (with_note g) (r ∷ rs)) ≡ route_uses s r + uses_of s (map (with_note g) rs) = sum_by-cons (route_uses s) (with_note g r) (map (with_note g) rs) in
+    let right : uses_of s (r ∷ rs) ≡ route_uses s r + uses_of s rs = sum_by-cons (route_uses s) r rs in
+    omega (arith, left, right, uses_noted s g rs)
+
+row_uses_noted : (s : ℕ) (f : Giver) (o : Option Prefix) (rs : List Route) → uses_of s (with_notes f o rs) ≡ uses_of s rs
+row_uses_noted s f None rs = refl
+row_uses_noted s f (Some p) rs = uses_noted s (λ c m. f c p m) rs
+
+abbrev row_uses : ℕ → Row → ℕ
+row_uses s row = uses_of s row.routes.items
+
+pub noted_uses : (f : Giver) (s : ℕ) (old new : List Row) → RowsNote f old new → uses_in s new ≡ uses_in s old
+noted_uses f s [] [] h = refl
+noted_uses f s [] (t ∷ new) h = absurd h
+noted_uses f s (r ∷ old) [] h = absurd h
+noted_uses f s (r ∷ old) (t ∷ new) h =
+    let one : row_uses s t ≡ row_uses s r = ap (uses_of s) h.0.routes ∙ row_uses_noted s f r.prefix r.routes.items in
+    let left : uses_in s (t ∷ new) ≡ row_uses s t + uses_in s new = sum_by-cons (row_uses s) t new in
+    let right : uses_in s (r ∷ old) ≡ row_uses s r + uses_in s old = sum_by-cons (row_uses s) r old in
+    omega (arith, one, left, right, noted_uses f s old new h.1)
 
 pub noted_vacant : (f : Giver) (old new : List Row) → RowsNote f old new → AreVacant old → AreVacant new
 noted_vacant f old new h vacant m none =

@@ -1,5 +1,5 @@
 -- The routes of listed prefixes, as a table.
-use Rattle.std.proofs.Common.{Bool, true, false, cond, ◌≡◌, ◌&&◌, ◌||◌, ◌<◌, ℕ, List, [], ◌∷◌, T, refl, sym, ◌∙◌, ap, subst, inl, inr}
+use Rattle.std.proofs.Common.{Bool, true, false, cond, ◌≡◌, ◌&&◌, ◌||◌, ℕ, List, [], ◌∷◌, T, refl, sym, ◌∙◌, ap, subst, inl, inr}
 use Rattle.std.specs.Prelude.{Option, Some, None, IsSome, IsTrue, All, Contains, ◌↔◌, option_map, if◌then◌else◌}
 use Rattle.std.specs.FinMap.{find, is_sorted}
 use Rattle.std.specs.FinMap.Entries.{below_all}

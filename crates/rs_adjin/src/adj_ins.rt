@@ -48,7 +48,7 @@ pub struct AdjIns {
 }
 
 impl AdjIns {
-    ghost use Rattle.rs_adjin.specs.AdjIns.{client_count, identifier_of, held_of, is_held, note_of, AreNoted, KeepsNotes, PutsNote, PutsNoteAt, Sets, Clears, Begins, Same, ListsHolders, SetsAt, TellsChangeAt, would_hold, candidates_of, number_of, prefix_of, KeepsNumbers, SameNumbers, SameNumbersBut, GivesUp};
+    ghost use Rattle.rs_adjin.specs.AdjIns.{client_count, identifier_of, held_of, is_held, note_of, AreNoted, KeepsNotes, PutsNote, PutsNoteAt, Sets, Clears, Begins, Same, ListsHolders, SetsAt, TellsChangeAt, would_hold, candidates_of, number_of, prefix_of, KeepsNumbers, SameNumbers, SameNumbersBut, GivesUp, IsUnused, CountsSets};
 
     /// Empty tables for so many clients.
     pub fn new(alloc: Global, clients: usize) -> Result<AdjIns, AllocError>
@@ -96,8 +96,8 @@ impl AdjIns {
         self.identifiers[client] = identifier;
     }
 
-    /// The client announces a route, beside which its note is kept, and the answer says whether that
-    /// changes what it has.
+    /// The client announces a route, beside which its note is kept and the set that its attributes are of
+    /// (`unused_set`), and the answer says whether that changes what it has.
     ///
     /// # Errors
     ///
@@ -109,6 +109,7 @@ impl AdjIns {
         prefix: Prefix,
         attrs: &Arc<Attrs>,
         note: u32,
+        set: u32,
     ) -> Result<bool, AllocError>
         requires client { client < client_count self.old }
         requires mandatory { HasMandatory (arc_value attrs.now) }
@@ -123,7 +124,7 @@ impl AdjIns {
     {
         let held = &mut self.held[client];
         let table = &mut self.table;
-        put_in(self.alloc, table, held, client, prefix, attrs, note)
+        put_in(self.alloc, table, held, client, prefix, attrs, note, set)
     }
 
     /// The number of a prefix, which gets one if it has none.
@@ -151,6 +152,7 @@ impl AdjIns {
         number: u32,
         attrs: &Arc<Attrs>,
         note: u32,
+        set: u32,
     ) -> Result<bool, AllocError>
         requires client { client < client_count self.old }
         requires number { IsSome (prefix_of self.old number) }
@@ -165,10 +167,20 @@ impl AdjIns {
             return Err(AllocError);
         };
         let held = &mut self.held[client];
-        put_row(&mut self.table, number, held, client, prefix, attrs, note)
+        put_row(
+            &mut self.table,
+            number,
+            held,
+            client,
+            prefix,
+            attrs,
+            note,
+            set,
+        )
     }
 
-    /// The client withdraws its route, and the answer says whether there was one.
+    /// The client withdraws its route, and the answer says whether there was one. The route server withdraws
+    /// by number (`withdraw_at`); only the tests withdraw by prefix.
     pub fn withdraw(&mut self, client: usize, prefix: Prefix) -> bool
         requires { client < client_count self.old }
         ensures taken { result ≡ is_some (held_of self.old client prefix) }
@@ -181,7 +193,7 @@ impl AdjIns {
     }
 
     /// The client withdraws its route for the prefix of a number, as `withdraw` has it, for a caller that
-    /// has looked the number up already. Only the tests call it.
+    /// has looked the number up already.
     pub fn withdraw_at(&mut self, client: usize, number: u32) -> bool
         requires client { client < client_count self.old }
         requires number { IsSome (prefix_of self.old number) }
@@ -318,6 +330,25 @@ impl AdjIns {
         ensures { Counts (is_held self.now) result }
     {
         self.table.used()
+    }
+
+    /// A number of a set of attributes that no route has: for the routes of one UPDATE, which share their
+    /// attributes. No other route gets it until one is put with it.
+    ///
+    /// # Errors
+    ///
+    /// `AllocError` where no number of 32 bits is left.
+    pub fn unused_set(&self) -> Result<u32, AllocError>
+        ensures { IfOk result (IsUnused self.now) }
+    {
+        self.table.sets.unused()
+    }
+
+    /// How many sets of attributes routes have, by the numbers that they were put with.
+    pub fn set_count(&self) -> usize
+        ensures { CountsSets self.now result }
+    {
+        self.table.sets.held()
     }
 
     /// The clients that hold the prefix of a number, as `at` lists them.

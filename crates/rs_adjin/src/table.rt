@@ -7,11 +7,13 @@ ghost use Rattle.rs_adjin.specs.Routes.{value_in, IsRising, KeepsRoutes, KeepsNo
 ghost use Rattle.rs_adjin.specs.Numbers.{number_in, routes_at, routes_of, KeepsNumbers, SameNumbers, SameNumbersBut};
 ghost use Rattle.rs_adjin.specs.Table.{IsTable, KeepsTable, KeepsNotes, PutsNote, Writes, IsSame, KeepsOthers, Clears, TellsChange, IsHeldBy, has_prefix_of};
 ghost use Rattle.rs_adjin.specs.Held.{has_number, Marks, SameSet};
+ghost use Rattle.rs_adjin.specs.Sets.{HasRoom, AreCovered, Recounts};
 
 use crate::held::Held;
 use crate::numbers::Numbered;
 use crate::room::make_room;
 use crate::routes::{Route, new_route, place_of, replace};
+use crate::sets::Sets;
 use rs_attrs::Attrs;
 use rs_octets::Prefix;
 use std::alloc::{AllocError, Global};
@@ -23,11 +25,14 @@ fn add_at(
     routes: &mut Vec<Route>,
     place: usize,
     held: &mut Held,
+    sets: &mut Sets,
     client: usize,
     number: u32,
     attrs: &Arc<Attrs>,
     note: u32,
+    set: u32,
 ) -> Result<(), AllocError>
+    requires room { HasRoom sets.old set }
     requires rising { IsRising routes.old.items }
     requires place { BelongsAt client routes.old.items place }
     requires absent { has_number held.old number ≡ false }
@@ -38,14 +43,16 @@ fn add_at(
     ensures marked { OnOk result (Marks held.old held.new number true) }
     ensures err { OnErr result (SameRoutes routes.old.items routes.new.items) }
     ensures unmarked { OnErr result (SameSet held.old held.new) }
+    ensures recounts { Recounts sets.old sets.new routes.old.items routes.new.items }
 {
-    let route = new_route(client, attrs, note)?;
+    let route = new_route(client, attrs, note, set)?;
     make_room(routes, 1)?;
     held.add(number)?;
     let Ok(()) = routes.insert(place, route) else {
         held.remove(number);
         return Err(AllocError);
     };
+    sets.add(set);
     Ok(())
 }
 
@@ -53,11 +60,15 @@ fn add_at(
 fn put_among(
     routes: &mut Vec<Route>,
     held: &mut Held,
+    sets: &mut Sets,
     client: usize,
     number: u32,
     attrs: &Arc<Attrs>,
     note: u32,
+    set: u32,
 ) -> Result<bool, AllocError>
+    requires room { HasRoom sets.old set }
+    requires covered { AreCovered sets.old routes.old.items }
     requires rising { IsRising routes.old.items }
     requires tied { has_number held.old number ≡ is_some (value_in client routes.old.items) }
     ensures kept { KeepsRoutes routes.old.items routes.new.items client }
@@ -68,11 +79,12 @@ fn put_among(
     ensures marked { OnOk result (Marks held.old held.new number true) }
     ensures err { OnErr result (SameRoutes routes.old.items routes.new.items) }
     ensures unmarked { OnErr result (SameSet held.old held.new) }
+    ensures recounts { Recounts sets.old sets.new routes.old.items routes.new.items }
 {
     match place_of(routes, client) {
-        Ok(place) => replace(&mut routes[place], attrs, note),
+        Ok(place) => replace(&mut routes[place], sets, attrs, note, set),
         Err(place) => {
-            add_at(routes, place, held, client, number, attrs, note)?;
+            add_at(routes, place, held, sets, client, number, attrs, note, set)?;
             Ok(true)
         }
     }
@@ -88,6 +100,7 @@ pub(crate) fn put_row(
     prefix: Prefix,
     attrs: &Arc<Attrs>,
     note: u32,
+    set: u32,
 ) -> Result<bool, AllocError>
     requires table { IsTable table.old }
     requires tied { IsHeldBy client held.old table.old }
@@ -100,9 +113,20 @@ pub(crate) fn put_row(
     ensures err { OnErr result (IsSame table.old table.new) }
     ensures numbers { SameNumbers table.old table.new }
 {
+    table.sets.make_room_for(set)?;
     let row = &mut table.rows[number as usize];
+    let sets = &mut table.sets;
     let was_empty = row.routes.is_empty();
-    let put = put_among(&mut row.routes, held, client, number, attrs, note);
+    let put = put_among(
+        &mut row.routes,
+        held,
+        sets,
+        client,
+        number,
+        attrs,
+        note,
+        set,
+    );
     let is_empty = row.routes.is_empty();
     table.used = table.used + usize::from(was_empty) - usize::from(is_empty);
     put
@@ -118,6 +142,7 @@ fn put_first(
     prefix: Prefix,
     attrs: &Arc<Attrs>,
     note: u32,
+    set: u32,
 ) -> Result<bool, AllocError>
     requires table { IsTable table.old }
     requires tied { IsHeldBy client held.old table.old }
@@ -134,7 +159,7 @@ fn put_first(
     ensures unnumbered { OnErr result (SameNumbers table.old table.new) }
 {
     let number = table.add_new(alloc, prefix)?;
-    match put_row(table, number, held, client, prefix, attrs, note) {
+    match put_row(table, number, held, client, prefix, attrs, note, set) {
         Ok(changed) => Ok(changed),
         Err(refused) => {
             table.release(number);
@@ -152,6 +177,7 @@ pub(crate) fn put_in(
     prefix: Prefix,
     attrs: &Arc<Attrs>,
     note: u32,
+    set: u32,
 ) -> Result<bool, AllocError>
     requires table { IsTable table.old }
     requires tied { IsHeldBy client held.old table.old }
@@ -167,23 +193,26 @@ pub(crate) fn put_in(
     ensures unnumbered { OnErr result (SameNumbers table.old table.new) }
 {
     match table.number(prefix) {
-        Some(number) => put_row(table, number, held, client, prefix, attrs, note),
-        None => put_first(alloc, table, held, client, prefix, attrs, note),
+        Some(number) => put_row(table, number, held, client, prefix, attrs, note, set),
+        None => put_first(alloc, table, held, client, prefix, attrs, note, set),
     }
 }
 
 /// Takes a client's route from those for a prefix, and answers whether there was one.
-fn take_from(routes: &mut Vec<Route>, client: usize) -> bool
-    requires { IsRising routes.old.items }
+fn take_from(routes: &mut Vec<Route>, sets: &mut Sets, client: usize) -> bool
+    requires rising { IsRising routes.old.items }
+    requires covered { AreCovered sets.old routes.old.items }
     ensures kept { KeepsRoutes routes.old.items routes.new.items client }
     ensures noted { KeepsNotesIn routes.old.items routes.new.items }
     ensures taken { result ≡ is_some (value_in client routes.old.items) }
     ensures changes { Changes routes.old.items routes.new.items client None }
     ensures unchanged { result ≡ false → routes.new.items ≡ routes.old.items }
+    ensures recounts { Recounts sets.old sets.new routes.old.items routes.new.items }
 {
     match place_of(routes, client) {
         Ok(place) => {
-            routes.remove(place);
+            let route = routes.remove(place);
+            sets.remove(route.set);
             true
         }
         Err(_) => false,
@@ -203,7 +232,7 @@ fn take_row(table: &mut Numbered, number: u32, client: usize, prefix: Prefix) ->
 {
     let row = &mut table.rows[number as usize];
     let was_empty = row.routes.is_empty();
-    let taken = take_from(&mut row.routes, client);
+    let taken = take_from(&mut row.routes, &mut table.sets, client);
     let is_empty = row.routes.is_empty();
     table.used = table.used + usize::from(was_empty) - usize::from(is_empty);
     taken

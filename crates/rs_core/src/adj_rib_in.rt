@@ -42,9 +42,8 @@ impl Ribs {
 
     // ---- what a client announces
 
-    /// A client announces a route, which its import rules judge at once. Where that changes what it has, the
-    /// others are touched. Where memory
-    /// is refused, the number that the prefix may have got is given up at once, but not while an outlet
+    /// A client announces a route of an UPDATE, whose set of attributes has a number, and its import rules
+    /// judge it at once. Where that changes what it has, the others are touched. Where memory is refused, the number that the prefix may have got is given up at once, but not while an outlet
     /// has a row of it or prefixes that are touched by themselves: then the sweep gives it up.
     #[tactic(auto, using(crate::proofs::Run::Noting::noted_put))]
     pub(crate) fn announce(
@@ -52,6 +51,7 @@ impl Ribs {
         c: usize,
         prefix: Prefix,
         attrs: &Arc<Attrs>,
+        set: u32,
     ) -> Result<(), AllocError>
         requires client { c < outlet_count self.old }
         requires mandatory { HasMandatory (arc_value attrs.now) }
@@ -64,7 +64,7 @@ impl Ribs {
         let number = self.tables.add(prefix)?;
         let was_dropped = self.drops(c, number);
         let note = import_note(&self.config, c, &prefix, attrs);
-        match self.tables.put_at(c, number, attrs, note) {
+        match self.tables.put_at(c, number, attrs, note, set) {
             Ok(changed) => {
                 self.dropped.note(c, was_dropped, note == DROPPED);
                 if changed {
@@ -91,7 +91,7 @@ impl Ribs {
             return;
         };
         let was_dropped = self.drops(c, number);
-        if self.tables.withdraw(c, prefix) {
+        if self.tables.withdraw_at(c, number) {
             self.dropped.note(c, was_dropped, false);
             self.touch_others(c, number, prefix);
         }

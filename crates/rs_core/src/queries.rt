@@ -236,10 +236,21 @@ impl Core {
         ensures unchanged { (run : List Move) → Agrees self.old run → is_closing (state_in (config_in run) c (hearing c run)) ≡ false → self.new ≡ self.old }
         ensures lends { (run : List Move) → Agrees self.old run → is_closing (state_in (config_in run) c (hearing c run)) ≡ true → HasLent c self.old (lent_octets self.new c) self.new }
     {
-        if !is_closing(self.sessions[c].state()) {
+        if !self.is_closing(c) {
             return false;
         }
         self.begin(c);
         self.lent(c).is_empty()
+    }
+}
+
+impl Core {
+    ghost use Rattle.rs_adjin.specs.AdjIns.{CountsSets};
+
+    /// How many sets of attributes the routes of the Adj-RIBs-In have: one of each UPDATE whose routes stand.
+    pub fn attribute_sets(&self) -> usize
+        ensures { CountsSets self.now.ribs.tables result }
+    {
+        self.ribs.tables.set_count()
     }
 }

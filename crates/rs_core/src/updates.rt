@@ -121,6 +121,7 @@ impl Core {
         }
     }
 
+    /// The routes of an UPDATE share its attributes: one set.
     fn announce_all(
         &mut self,
         c: usize,
@@ -133,8 +134,9 @@ impl Core {
         ensures held { OnOk result (HasOverlaid c prefixes.now (Some (arc_value attrs.now)) self.old.ribs.tables self.new.ribs.tables) }
         ensures part { HasOverlaidSome c prefixes.now (Some (arc_value attrs.now)) self.old.ribs.tables self.new.ribs.tables }
     {
+        let set = self.ribs.tables.unused_set()?;
         for prefix in prefixes {
-            self.ribs.announce(c, *prefix, attrs)?;
+            self.ribs.announce(c, *prefix, attrs, set)?;
         }
         Ok(())
     }

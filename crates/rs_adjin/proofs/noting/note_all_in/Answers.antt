@@ -1,6 +1,6 @@
-use Rattle.std.proofs.Common.{◌∙◌, refl}
+use Rattle.std.proofs.Common.{◌∙◌, refl, sym}
 use Rattle.rs_adjin.proofs.TableRows.{inverse_same}
-use Rattle.rs_adjin.proofs.NotedRows.{noted_prefix, noted_count, noted_vacant, noted_table, rows_known}
+use Rattle.rs_adjin.proofs.NotedRows.{noted_prefix, noted_count, noted_uses, noted_vacant, noted_table, rows_known}
 use Rattle.rs_adjin.proofs.noting.note_all_in.Goals as goal
 
 pub note_rows-requires : goal.note_rows-requires
@@ -15,6 +15,7 @@ invariant_of-table g c =
       inverse = inverse_same c.args.table.now.numbers old new (noted_prefix f old new c.note_rows.ensures) c.args.table.now.inverse;
       vacant = noted_vacant f old new c.note_rows.ensures c.args.table.now.vacant;
       counted = noted_count f old new c.note_rows.ensures ∙ c.args.table.now.counted;
+      shared = λ s. c.args.table.now.shared s ∙ sym (noted_uses f s old new c.note_rows.ensures);
     }
 
 pub returns : goal.returns
