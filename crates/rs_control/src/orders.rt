@@ -77,9 +77,10 @@ impl Orders {
         }
     }
 
-    /// The next order, which waits no longer.
+    /// The order that has waited longest, which waits no longer; `None` where none waits.
     pub fn take(&mut self) -> Option<Order>
-        ensures { due self.old ≡ option_to_list result ++ due self.new }
+        ensures due { due self.old ≡ option_to_list result ++ due self.new }
+        ensures none { IsNone result → due self.old ≡ [] }
     {
         let order = self.waiting.pop_front()?;
         self.given += 1;

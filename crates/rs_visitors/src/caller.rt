@@ -1,14 +1,17 @@
 //! A caller: a connection of an operator to the control socket, and the talk over it.
 
+ghost use Rattle.std.specs.Prelude.{IfOk};
 ghost use Rattle.rs_control.specs.Courses.{Course, Listens, Sends};
+ghost use Rattle.rs_control.specs.Talks.{IsFresh};
 
+use crate::round::Round;
 use crate::wire::{INPUT, Wire};
 use mio::net::UnixStream;
 use mio::{Interest, Poll, Token};
 use rs_control::orders::Orders;
 use rs_control::steps::Server;
 use rs_control::talk::Talk;
-use rs_window::page::{Pages, Piece};
+use rs_window::page::Pages;
 use std::alloc::Global;
 use std::io;
 
@@ -30,7 +33,9 @@ impl Caller {
         token: Token,
         mut stream: UnixStream,
         now: u64,
-    ) -> io::Result<Caller> {
+    ) -> io::Result<Caller>
+        ensures { IfOk result (λ caller. IsFresh caller.talk) }
+    {
         let talk = Talk::new(alloc, now)?;
         let both = Interest::READABLE | Interest::WRITABLE;
         poll.registry().register(&mut stream, token, both)?;
@@ -90,77 +95,43 @@ impl Caller {
         &mut self,
         server: &Server<'_, P>,
         orders: &mut Orders,
-        piece: &mut Piece,
-        pieces: &mut usize,
+        round: &mut Round,
     ) -> bool
         ensures { Course (P.finds server.now.pages.now) (P.writes server.now.pages.now) server.now.config.now orders.old self.old.talk orders.new self.new.talk }
     {
-        if *pieces == 0 {
+        let pieces = round.pieces;
+        if pieces == 0 {
             return false;
         }
-        if !self.talk.advance(server, orders, piece) {
+        if !self.talk.advance(server, orders, &mut round.piece) {
             return false;
         }
-        *pieces = pieces.saturating_sub(1);
+        round.take_piece();
         true
     }
 
-    /// Reads, goes on and writes once. Answers whether something came of it.
-    fn step<P: Pages>(
+    /// Goes on by a bounded amount of work: reads, advances and writes, while something comes of it.
+    pub(crate) fn go_on<P: Pages>(
         &mut self,
         server: &Server<'_, P>,
         orders: &mut Orders,
-        input: &mut [u8; INPUT],
-        piece: &mut Piece,
-        pieces: &mut usize,
-        now: u64,
-    ) -> bool
-        ensures { Course (P.finds server.now.pages.now) (P.writes server.now.pages.now) server.now.config.now orders.old self.old.talk orders.new self.new.talk }
-    {
-        let has_read = self.read(input, now);
-        let has_advanced = self.advance(server, orders, piece, pieces);
-        let has_written = self.write(now);
-        !self.wire.is_broken & (has_read | has_advanced | has_written)
-    }
-
-    /// Takes some steps, while something comes of them.
-    fn steps<P: Pages>(
-        &mut self,
-        server: &Server<'_, P>,
-        orders: &mut Orders,
-        input: &mut [u8; INPUT],
-        piece: &mut Piece,
-        pieces: &mut usize,
-        now: u64,
+        round: &mut Round,
     )
         ensures { Course (P.finds server.now.pages.now) (P.writes server.now.pages.now) server.now.config.now orders.old self.old.talk orders.new self.new.talk }
     {
         for _ in 0..STEPS {
-            if !self.step(server, orders, input, piece, pieces, now) {
+            let has_read = self.read(&mut round.input, round.now);
+            let has_advanced = self.advance(server, orders, round);
+            let has_written = self.write(round.now);
+            let goes_on = !self.wire.is_broken & (has_read | has_advanced | has_written);
+            if !goes_on {
                 return;
             }
         }
     }
 
-    /// Goes on by a bounded amount of work, of which so many pieces are left for all callers together. Answers
-    /// whether something was left undone.
-    pub(crate) fn go_on<P: Pages>(
-        &mut self,
-        server: &Server<'_, P>,
-        orders: &mut Orders,
-        input: &mut [u8; INPUT],
-        piece: &mut Piece,
-        pieces: &mut usize,
-        now: u64,
-    ) -> bool
-        ensures { Course (P.finds server.now.pages.now) (P.writes server.now.pages.now) server.now.config.now orders.old self.old.talk orders.new self.new.talk }
-    {
-        self.steps(server, orders, input, piece, pieces, now);
-        self.is_undone()
-    }
-
-    /// Something can be done without waiting for the caller.
-    fn is_undone(&self) -> bool {
+    /// Something was left undone, and can be done without waiting for the caller.
+    pub(crate) fn is_undone(&self) -> bool {
         if self.wire.is_broken {
             return false;
         }

@@ -1,15 +1,16 @@
 //! The control socket: its file, its listener, and those who have come.
 
-ghost use Rattle.std.specs.Prelude.{◌≡◌, ◌++◌, option_to_list};
+ghost use Rattle.std.specs.Prelude.{◌≡◌, ◌++◌, [], option_to_list, IsNone};
 
 use crate::caller::Caller;
-use crate::wire::{INPUT, PIECES, SHUT};
-use mio::net::UnixListener;
+use crate::round::Round;
+use crate::wire::{PIECES, SHUT};
+use mio::net::{UnixListener, UnixStream as Connection};
 use mio::{Interest, Poll, Token};
 use rs_control::order::Order;
 use rs_control::orders::{Orders, Reloaded};
 use rs_control::steps::Server;
-use rs_window::page::{Pages, Piece};
+use rs_window::page::Pages;
 use slab::Slab;
 use std::alloc::Global;
 use std::io::ErrorKind;
@@ -38,8 +39,7 @@ pub struct Control {
     /// Up to which moment nobody is let in.
     shut_to: u64,
     orders: Orders,
-    input: [u8; INPUT],
-    piece: Piece,
+    round: Round,
 }
 
 /// Removes the file of a socket at which nobody listens any more. Where somebody does, or the file is none of a
@@ -62,8 +62,9 @@ pub fn remove<R: Files>(rt: &R, path: &str) {
 }
 
 impl Control {
-    ghost use Rattle.rs_control.specs.Courses.{Serves};
+    ghost use Rattle.rs_control.specs.Courses.{AreOfThese, Serves};
     ghost use Rattle.rs_control.specs.Orders.{due};
+    ghost use Rattle.rs_visitors.specs.Callers.{talks_at};
     ghost use Rattle.rs_visitors.specs.Dues.{due_at};
 
     /// A control socket at this path, for tokens from `first` on. Its file has the mode 0600.
@@ -95,8 +96,7 @@ impl Control {
             next: 0,
             shut_to: 0,
             orders: Orders::new(alloc)?,
-            input: [0; INPUT],
-            piece: Piece::new(alloc)?,
+            round: Round::new(alloc)?,
         })
     }
 
@@ -105,9 +105,10 @@ impl Control {
         self.orders.is_reloading()
     }
 
-    /// The next order, which waits no longer.
+    /// The order that has waited longest, which waits no longer; `None` where none waits.
     pub fn take_order(&mut self) -> Option<Order>
-        ensures { due_at self.old ≡ option_to_list result ++ due_at self.new }
+        ensures due { due_at self.old ≡ option_to_list result ++ due_at self.new }
+        ensures none { IsNone result → due_at self.old ≡ [] }
     {
         self.orders.take()
     }
@@ -120,7 +121,9 @@ impl Control {
     }
 
     /// Something may have become of the socket with this token.
-    pub fn note(&mut self, token: usize) {
+    pub fn note(&mut self, token: usize)
+        ensures { self.new.orders ≡ self.old.orders }
+    {
         match token.saturating_sub(self.first).checked_sub(1) {
             None => self.is_ready = true,
             Some(key) => {
@@ -133,7 +136,9 @@ impl Control {
 
     /// Closes all connections, so that others can have their descriptors, and lets nobody in for some time.
     /// Answers whether there were any.
-    pub fn give_up(&mut self, poll: &Poll, now: u64) -> bool {
+    pub fn give_up(&mut self, poll: &Poll, now: u64) -> bool
+        ensures { self.new.orders ≡ self.old.orders }
+    {
         self.shut_to = now.saturating_add(SHUT);
         let mut has_given = false;
         for key in 0..CALLERS {
@@ -144,7 +149,8 @@ impl Control {
 
     /// Closes the connection with this key, and answers whether there was one.
     fn dismiss(&mut self, poll: &Poll, key: usize) -> bool
-        ensures { self.new.orders ≡ self.old.orders }
+        ensures orders { self.new.orders ≡ self.old.orders }
+        ensures talks { AreOfThese (talks_at self.old) (talks_at self.new) }
     {
         match self.callers.try_remove(key) {
             Some(mut caller) => {
@@ -155,22 +161,29 @@ impl Control {
         }
     }
 
+    /// Lets one in who has come, where that can be.
+    fn admit(&mut self, poll: &Poll, alloc: Global, stream: Connection, now: u64)
+        ensures orders { self.new.orders ≡ self.old.orders }
+        ensures talks { AreOfThese (talks_at self.old) (talks_at self.new) }
+    {
+        let token = self.first.saturating_add(1);
+        let token = Token(token.saturating_add(self.callers.vacant_key()));
+        if let Ok(caller) = Caller::admit(alloc, poll, token, stream, now) {
+            let _ = self.callers.insert(caller);
+        }
+    }
+
     /// Lets in those who have come, while there is room.
     fn let_in(&mut self, poll: &Poll, alloc: Global, now: u64)
-        ensures { self.new.orders ≡ self.old.orders }
+        ensures orders { self.new.orders ≡ self.old.orders }
+        ensures talks { AreOfThese (talks_at self.old) (talks_at self.new) }
     {
         for _ in 0..CALLERS {
             if !self.is_ready || self.callers.len() >= CALLERS || now < self.shut_to {
                 return;
             }
             match self.listener.accept() {
-                Ok((stream, _)) => {
-                    let token = self.first.saturating_add(1);
-                    let token = Token(token.saturating_add(self.callers.vacant_key()));
-                    if let Ok(caller) = Caller::admit(alloc, poll, token, stream, now) {
-                        let _ = self.callers.insert(caller);
-                    }
-                }
+                Ok((stream, _)) => self.admit(poll, alloc, stream, now),
                 Err(error) if error.kind() == ErrorKind::WouldBlock => self.is_ready = false,
                 Err(error) if error.kind() == ErrorKind::ConnectionAborted => {}
                 // Where descriptors are wanting, the next is for a member.
@@ -182,52 +195,39 @@ impl Control {
     /// Goes on with all callers, in turn, by a bounded amount of work, also while the server is busy. Answers
     /// whether something was left undone.
     pub fn go_on<P: Pages>(&mut self, poll: &Poll, server: &Server<'_, P>, now: u64) -> bool
-        ensures { Serves (P.finds server.now.pages.now) (P.writes server.now.pages.now) server.now.config.now self.old.orders self.new.orders }
+        ensures { Serves (P.finds server.now.pages.now) (P.writes server.now.pages.now) server.now.config.now self.old.orders (talks_at self.old) self.new.orders (talks_at self.new) }
     {
         self.let_in(poll, server.alloc, now);
-        let mut pieces = PIECES;
+        self.round.begin(PIECES, now);
         let mut is_unfinished = false;
         let first = self.next;
         for turn in 0..CALLERS {
             let key = first.wrapping_add(turn) % CALLERS;
-            is_unfinished |= self.go_on_with(poll, server, key, &mut pieces, now);
+            is_unfinished |= self.go_on_with(poll, server, key);
         }
         is_unfinished || self.orders.has_waiting()
     }
 
     /// Goes on with the caller with this key.
-    fn go_on_with<P: Pages>(
-        &mut self,
-        poll: &Poll,
-        server: &Server<'_, P>,
-        key: usize,
-        pieces: &mut usize,
-        now: u64,
-    ) -> bool
-        ensures { Serves (P.finds server.now.pages.now) (P.writes server.now.pages.now) server.now.config.now self.old.orders self.new.orders }
+    fn go_on_with<P: Pages>(&mut self, poll: &Poll, server: &Server<'_, P>, key: usize) -> bool
+        ensures { Serves (P.finds server.now.pages.now) (P.writes server.now.pages.now) server.now.config.now self.old.orders (talks_at self.old) self.new.orders (talks_at self.new) }
     {
         let Some(caller) = self.callers.get_mut(key) else {
             return false;
         };
-        let had = *pieces;
-        let orders = &mut self.orders;
-        let is_unfinished = caller.go_on(
-            server,
-            orders,
-            &mut self.input,
-            &mut self.piece,
-            pieces,
-            now,
-        );
-        let is_gone = caller.is_gone(now);
-        self.pass_on(key, *pieces < had);
+        let had = self.round.pieces;
+        caller.go_on(server, &mut self.orders, &mut self.round);
+        let is_unfinished = caller.is_undone();
+        let is_gone = caller.is_gone(self.round.now);
+        self.pass_on(key, self.round.pieces < had);
         self.let_go(poll, key, is_gone);
         is_unfinished
     }
 
     /// Where this caller was answered, the next one goes on first.
     fn pass_on(&mut self, key: usize, was_answered: bool)
-        ensures { self.new.orders ≡ self.old.orders }
+        ensures orders { self.new.orders ≡ self.old.orders }
+        ensures callers { self.new.callers ≡ self.old.callers }
     {
         if was_answered {
             self.next = key.wrapping_add(1) % CALLERS;
@@ -236,7 +236,8 @@ impl Control {
 
     /// Closes the connection with this key, where it is to be closed.
     fn let_go(&mut self, poll: &Poll, key: usize, is_gone: bool)
-        ensures { self.new.orders ≡ self.old.orders }
+        ensures orders { self.new.orders ≡ self.old.orders }
+        ensures talks { AreOfThese (talks_at self.old) (talks_at self.new) }
     {
         if is_gone {
             self.dismiss(poll, key);

@@ -1,9 +1,10 @@
 //! A visitor: a connection, the visit over it, and how it ends.
 
+use crate::round::Round;
 use crate::wire::{INPUT, Wire};
 use mio::net::TcpStream;
 use mio::{Interest, Poll, Token};
-use rs_window::page::{Pages, Piece};
+use rs_window::page::Pages;
 use rs_window::visit::Visit;
 use std::alloc::Global;
 use std::io;
@@ -96,12 +97,12 @@ impl Visitor {
     }
 
     /// Passes over what comes after the last answer.
-    fn linger(&mut self, input: &mut [u8; INPUT], until: u64, now: u64) {
-        if now >= until {
+    fn linger(&mut self, round: &mut Round, until: u64) {
+        if round.now >= until {
             self.stage = Stage::Gone;
         }
         for _ in 0..STEPS {
-            match self.wire.read(input) {
+            match self.wire.read(&mut round.input) {
                 None => return,
                 Some(0) => self.stage = Stage::Gone,
                 Some(_) => {}
@@ -110,26 +111,19 @@ impl Visitor {
     }
 
     /// Goes on with the visit, by at most so many heads and pieces; takes off those that were written.
-    fn visit<P: Pages>(
-        &mut self,
-        pages: &P,
-        input: &mut [u8; INPUT],
-        piece: &mut Piece,
-        pieces: &mut usize,
-        now: u64,
-    ) {
+    fn visit<P: Pages>(&mut self, pages: &P, round: &mut Round) {
         for _ in 0..STEPS {
-            let has_read = self.read(input);
-            let may_advance = *pieces > 0 && self.visit.can_advance();
-            if may_advance && self.visit.advance(pages, piece, now) {
-                *pieces = pieces.saturating_sub(1);
+            let has_read = self.read(&mut round.input);
+            let may_advance = round.pieces > 0 && self.visit.can_advance();
+            if may_advance && self.visit.advance(pages, &mut round.piece, round.now) {
+                round.take_piece();
             }
-            let has_written = self.write(now);
+            let has_written = self.write(round.now);
             if self.wire.is_broken || !(has_read || may_advance || has_written) {
                 break;
             }
         }
-        self.end_visit(now);
+        self.end_visit(round.now);
     }
 
     /// Where the visit is over, the connection is half closed; where the visitor is too slow, closed.
@@ -146,17 +140,10 @@ impl Visitor {
     }
 
     /// Goes on by a bounded amount of work. Answers whether something was left undone.
-    pub(crate) fn go_on<P: Pages>(
-        &mut self,
-        pages: &P,
-        input: &mut [u8; INPUT],
-        piece: &mut Piece,
-        pieces: &mut usize,
-        now: u64,
-    ) -> bool {
+    pub(crate) fn go_on<P: Pages>(&mut self, pages: &P, round: &mut Round) -> bool {
         match self.stage {
-            Stage::Visits => self.visit(pages, input, piece, pieces, now),
-            Stage::Lingers(until) => self.linger(input, until, now),
+            Stage::Visits => self.visit(pages, round),
+            Stage::Lingers(until) => self.linger(round, until),
             Stage::Gone => {}
         }
         self.is_undone()

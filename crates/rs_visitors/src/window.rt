@@ -1,10 +1,11 @@
 //! The window: its listener, and those who have come.
 
+use crate::round::Round;
 use crate::visitor::Visitor;
-use crate::wire::{INPUT, PIECES, SHUT};
+use crate::wire::{PIECES, SHUT};
 use mio::net::TcpListener;
 use mio::{Interest, Poll, Token};
-use rs_window::page::{Pages, Piece};
+use rs_window::page::Pages;
 use slab::Slab;
 use std::alloc::Global;
 use std::io;
@@ -26,8 +27,7 @@ pub struct Window {
     next: usize,
     /// Up to which moment nobody is let in.
     shut_to: u64,
-    input: [u8; INPUT],
-    piece: Piece,
+    round: Round,
 }
 
 impl Window {
@@ -51,8 +51,7 @@ impl Window {
             visitors,
             next: 0,
             shut_to: 0,
-            input: [0; INPUT],
-            piece: Piece::new(alloc)?,
+            round: Round::new(alloc)?,
         })
     }
 
@@ -123,31 +122,24 @@ impl Window {
         now: u64,
     ) -> bool {
         self.let_in(poll, alloc, now);
-        let mut pieces = if is_busy { 0 } else { PIECES };
+        self.round.begin(if is_busy { 0 } else { PIECES }, now);
         let mut is_unfinished = false;
         let first = self.next;
         for turn in 0..VISITORS {
             let key = first.wrapping_add(turn) % VISITORS;
-            is_unfinished |= self.go_on_with(poll, pages, key, &mut pieces, now);
+            is_unfinished |= self.go_on_with(poll, pages, key);
         }
         is_unfinished
     }
 
     /// Goes on with the visitor with this key.
-    fn go_on_with<P: Pages>(
-        &mut self,
-        poll: &Poll,
-        pages: &P,
-        key: usize,
-        pieces: &mut usize,
-        now: u64,
-    ) -> bool {
+    fn go_on_with<P: Pages>(&mut self, poll: &Poll, pages: &P, key: usize) -> bool {
         let Some(visitor) = self.visitors.get_mut(key) else {
             return false;
         };
-        let had = *pieces;
-        let is_unfinished = visitor.go_on(pages, &mut self.input, &mut self.piece, pieces, now);
-        if *pieces < had {
+        let had = self.round.pieces;
+        let is_unfinished = visitor.go_on(pages, &mut self.round);
+        if self.round.pieces < had {
             self.next = key.wrapping_add(1) % VISITORS;
         }
         if visitor.is_gone() {

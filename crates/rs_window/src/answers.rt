@@ -44,7 +44,7 @@ fn coding(is_chunked: bool) -> &'static [u8]
     }
 }
 
-/// The end of a head, which says whether the connection is closed behind the answer.
+/// The end of a head, which says whether the connection is closed after the answer.
 fn head_end(stays: bool) -> &'static [u8]
     ensures { length result.now ≤ 64 }
 {
