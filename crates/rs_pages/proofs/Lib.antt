@@ -6,3 +6,4 @@ mod Noted
 mod Pieces
 mod Placed
 mod Counted
+mod Rows

@@ -1,13 +1,17 @@
 -- What becomes of the routes for a prefix on their way to a member (RFC 4271, 9.1; RFC 7947, 2.3).
-use Rattle.std.specs.Prelude.{ℕ, ◌+◌, ◌==◌, ◌&&◌, ◌||◌, nat_le, nat_lt, Bool, not, List, [], ◌∷◌, find, Option, Some, None, unwrap_or, if◌then◌else◌}
+use Rattle.std.specs.Prelude.{ℕ, ◌+◌, ◌==◌, ◌&&◌, ◌||◌, nat_le, nat_lt, Bool, not, false, List, [], ◌∷◌, find, Option, Some, None, is_none, unwrap_or, if◌then◌else◌}
 use Rattle.std.specs.List.{filter_map}
 use Rattle.rs_octets.specs.Prefixes.{Prefix}
 use Rattle.rs_attrs.specs.Getters.{origin_of, med_of, path_length_of, path_has_of}
+use Rattle.rs_attrs.specs.Meaning.{Attribute}
+use Rattle.rs_attrs.specs.Stripping.{stripped_of}
 use Rattle.rs_policy.specs.Configuration.{Configuration, client_of}
 use Rattle.rs_policy.specs.Verdicts.{Judgement, dropped, passed, verdict}
 use Rattle.rs_decision.specs.declared.rank.Rank.{Rank}
 use Rattle.rs_decision.specs.declared.losing.Step.{Step}
 use Rattle.rs_decision.specs.Losing.{lost_by}
+use Rattle.rs_outlet.specs.declared.answers.Speech.{Speech}
+use Rattle.rs_outlet.specs.Decided.Due.{if_fits}
 use Rattle.rs_pages.specs.declared.candidates.Outcome.{Outcome}
 use Rattle.rs_pages.specs.declared.candidates.Outcome.TheVariants as outcomes
 use Rattle.rs_pages.specs.Holders.{Holding}
@@ -76,3 +80,26 @@ outcome_of s to ranks h =
     if h.member == to then outcomes.Own
     else (if has_server_as s h then outcomes.ServerAs
     else by_rank ranks (find (λ r. r.place == h.member) ranks))
+
+-- a route that the rules pass, without what they take away, doesn't fit into a message to a member who is spoken to so: nothing is due then
+abbrev pub lacks_room : Speech → Prefix → List Attribute → Judgement → Bool
+lacks_room speech p m dropped = false
+lacks_room speech p m (passed preference taken) = is_none (if_fits speech p (stripped_of taken m))
+
+-- the same of who holds the prefix; of a member that isn't Established it isn't known
+abbrev pub is_too_long : Configuration → ℕ → Option Speech → Prefix → Holding → Bool
+is_too_long s to None p h = false
+is_too_long s to (Some speech) p h = lacks_room speech p h.attributes (verdict s h.member to p h.attributes)
+
+-- what becomes of a route, where this is asked of the best alone
+abbrev pub sent_as : Bool → Outcome → Outcome
+sent_as too_long outcomes.Own = outcomes.Own
+sent_as too_long outcomes.ServerAs = outcomes.ServerAs
+sent_as too_long outcomes.Dropped = outcomes.Dropped
+sent_as too_long (outcomes.Lost step) = outcomes.Lost step
+sent_as too_long outcomes.Chosen = if too_long then outcomes.TooLong else outcomes.Chosen
+sent_as too_long outcomes.TooLong = outcomes.TooLong
+
+-- what becomes of a route on its way into a message
+abbrev pub sent_outcome : Configuration → ℕ → Option Speech → Prefix → List Rank → Holding → Outcome
+sent_outcome s to speech p ranks h = sent_as (is_too_long s to speech p h) (outcome_of s to ranks h)

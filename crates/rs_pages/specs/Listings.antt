@@ -3,6 +3,7 @@ use Rattle.std.specs.Prelude.{◌≡◌, ℕ, ◌+◌, ◌-◌, ◌≤◌, ◌<�
 use Rattle.rs_octets.specs.Prefixes.{Prefix}
 use Rattle.rs_attrs.specs.Meaning.{Attribute}
 use Rattle.rs_policy.specs.Configuration.{Configuration}
+use Rattle.rs_outlet.specs.declared.answers.Speech.{Speech}
 use Rattle.rs_window.specs.declared.page.Page.{Page}
 use Rattle.rs_window.specs.declared.page.Next.{Next}
 use Rattle.rs_window.specs.declared.page.Next.TheVariants.{More, Last, Cut}
@@ -155,30 +156,32 @@ pub record IsHolderItem (configured : Configuration → Type 0) (holders : Prefi
   pub behind : next ≡ behind_holder views.AtPrefix page (next_holder config held page.member)
 
 -- what becomes of one's route on its way to a member, and why; or the end
-abbrev pub why_text : Configuration → ℕ → Prefix → List Holding → Stage → Option Holding → List ℕ
-why_text s to p held stage None = codes "]}\n"
-why_text s to p held stage (Some h) = comma_text stage ++ candidate_text s to p held h
+abbrev pub why_text : Configuration → ℕ → Option Speech → Prefix → List Holding → Stage → Option Holding → List ℕ
+why_text s to speech p held stage None = codes "]}\n"
+why_text s to speech p held stage (Some h) = comma_text stage ++ candidate_text s to speech p held h
 
 -- the next item of `/why`
-pub record IsWhyItem (configured : Configuration → Type 0) (holders : Prefix → List Holding → Type 0) (stage : Stage) (page : Page) (p : Prefix) (text : List ℕ) (next : Option Page) : Type 0 where
+pub record IsWhyItem (configured : Configuration → Type 0) (holders : Prefix → List Holding → Type 0) (speaks : ℕ → Option Speech → Type 0) (stage : Stage) (page : Page) (p : Prefix) (text : List ℕ) (next : Option Page) : Type 0 where
   pub config : Configuration
   pub is : configured config
   pub held : List Holding
   pub are : holders p held
-  pub told : text ≡ why_text config page.place p held stage (next_candidate config page.place held page.member)
+  pub speech : Option Speech
+  pub spoken : speaks page.place speech
+  pub told : text ≡ why_text config page.place speech p held stage (next_candidate config page.place held page.member)
   pub behind : next ≡ behind_holder views.Why page (next_candidate config page.place held page.member)
 
 -- the next item of a page whose head was written
-pub record IsBehindHead (firsts : Rib → ℕ → First) (configured : Configuration → Type 0) (holders : Prefix → List Holding → Type 0) (view : View) (stage : Stage) (page : Page) (text : List ℕ) (next : Option Page) : Type 0 where
+pub record IsBehindHead (firsts : Rib → ℕ → First) (configured : Configuration → Type 0) (holders : Prefix → List Holding → Type 0) (speaks : ℕ → Option Speech → Type 0) (view : View) (stage : Stage) (page : Page) (text : List ℕ) (next : Option Page) : Type 0 where
   pub listed : (listing : Listing) → listing_of view ≡ Some listing → IsRouteItem firsts configured view listing stage page text next
   pub counted : (c : ℕ) → counted_of view page ≡ Some c → IsCountItem firsts configured holders view page c text next
   pub held : view ≡ views.AtPrefix → (p : Prefix) → IsAt page.at p → IsHolderItem configured holders stage page p text next
-  pub why : view ≡ views.Why → (p : Prefix) → IsAt page.at p → IsWhyItem configured holders stage page p text next
+  pub why : view ≡ views.Why → (p : Prefix) → IsAt page.at p → IsWhyItem configured holders speaks stage page p text next
 
 -- the next item of a page by the tables of a server; of the texts of heads, and of other pages, nothing is said
-pub record IsItem (firsts : Rib → ℕ → First) (configured : Configuration → Type 0) (holders : Prefix → List Holding → Type 0) (page : Page) (text : List ℕ) (next : Option Page) : Type 0 where
+pub record IsItem (firsts : Rib → ℕ → First) (configured : Configuration → Type 0) (holders : Prefix → List Holding → Type 0) (speaks : ℕ → Option Speech → Type 0) (page : Page) (text : List ℕ) (next : Option Page) : Type 0 where
   pub head : (view : View) → read_which page.which ≡ Some (view, stages.Head) → IsHead view page next
-  pub item : (view : View) (stage : Stage) → read_which page.which ≡ Some (view, stage) → is_head stage ≡ false → IsBehindHead firsts configured holders view stage page text next
+  pub item : (view : View) (stage : Stage) → read_which page.which ≡ Some (view, stage) → is_head stage ≡ false → IsBehindHead firsts configured holders speaks view stage page text next
 
 -- what comes behind a piece of a page in which the next item has no room: where it is empty, the item has room in none
 abbrev pub stopped : List ℕ → Page → Next

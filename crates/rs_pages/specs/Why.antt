@@ -7,10 +7,11 @@ use Rattle.rs_policy.specs.declared.faults.List.{List as RuleList}
 use Rattle.rs_policy.specs.declared.faults.List.TheVariants as lists
 use Rattle.rs_decision.specs.declared.losing.Step.{Step}
 use Rattle.rs_decision.specs.declared.losing.Step.TheVariants as steps
+use Rattle.rs_outlet.specs.declared.answers.Speech.{Speech}
 use Rattle.rs_reasons.specs.Why.{Account, Told, by_default, by_own, by_used, import_account, export_account}
 use Rattle.rs_pages.specs.declared.candidates.Outcome.{Outcome}
 use Rattle.rs_pages.specs.declared.candidates.Outcome.TheVariants as outcomes
-use Rattle.rs_pages.specs.Candidates.{outcome_of, ranks_to}
+use Rattle.rs_pages.specs.Candidates.{ranks_to, sent_outcome}
 use Rattle.rs_pages.specs.Holders.{Holding}
 use Rattle.rs_pages.specs.Texts.{address_text, json_text}
 
@@ -60,6 +61,7 @@ outcome_text outcomes.ServerAs = codes "\"server AS\""
 outcome_text outcomes.Dropped = codes "\"dropped\""
 outcome_text (outcomes.Lost step) = codes "\"lost\",\"by\":\"" ++ step_text step ++ codes "\""
 outcome_text outcomes.Chosen = codes "\"chosen\""
+outcome_text outcomes.TooLong = codes "\"too long for a message\""
 
 -- what the rules did, where they were asked: not of the member's own, nor of a route with the server's AS
 abbrev pub asked_text : Outcome → List ℕ → List ℕ
@@ -68,6 +70,7 @@ asked_text outcomes.ServerAs rules = []
 asked_text outcomes.Dropped rules = rules
 asked_text (outcomes.Lost step) rules = rules
 asked_text outcomes.Chosen rules = rules
+asked_text outcomes.TooLong rules = rules
 
 -- whose route it is
 unfoldable pub sender_text : Configuration → Holding → List ℕ
@@ -81,6 +84,6 @@ sender_text s h =
 unfoldable pub told_text : Configuration → ℕ → Prefix → Holding → Outcome → List ℕ
 told_text s to p h outcome = sender_text s h ++ outcome_text outcome ++ asked_text outcome (rules_text s to p h) ++ codes "}\n"
 
--- the same, by all who hold the prefix
-abbrev pub candidate_text : Configuration → ℕ → Prefix → List Holding → Holding → List ℕ
-candidate_text s to p held h = told_text s to p h (outcome_of s to (ranks_to s to p held) h)
+-- the same, by all who hold the prefix, and how the member is spoken to
+abbrev pub candidate_text : Configuration → ℕ → Option Speech → Prefix → List Holding → Holding → List ℕ
+candidate_text s to speech p held h = told_text s to p h (sent_outcome s to speech p (ranks_to s to p held) h)

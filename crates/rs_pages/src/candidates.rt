@@ -2,20 +2,24 @@
 
 ghost use Rattle.std.specs.Prelude.{◌≡◌, ◌<◌, ◌==◌, find, length, map, option_map, position, IfOk, IfSome};
 ghost use Rattle.rs_decision.specs.Best.{HasDistinctPlaces};
-ghost use Rattle.rs_pages.specs.Candidates.{by_rank, has_server_as, next_candidate, next_holder, outcome_of, rank_to, rank_with, ranks_to};
+ghost use Rattle.rs_pages.specs.Candidates.{by_rank, has_server_as, is_too_long, next_candidate, next_holder, outcome_of, rank_to, rank_with, ranks_to, sent_outcome};
 ghost use Rattle.rs_pages.specs.Holders.{holding};
 
 use crate::tables::Holder;
+use rs_attrs::stripped;
 use rs_decision::{Rank, Step, lost_by};
 use rs_octets::Prefix;
+use rs_outlet::Speech;
+use rs_packer::fits;
 use rs_policy::{Config, Fate, judge};
 use std::alloc::{AllocError, Global};
 
-/// To which member a route for which prefix is to go.
+/// To which member a route for which prefix is to go, and how that member is spoken to while it is Established.
 #[derive(Clone, Copy)]
 pub(crate) struct Question<'a> {
     pub(crate) config: &'a Config,
     pub(crate) to: usize,
+    pub(crate) speech: Option<Speech>,
     pub(crate) prefix: Prefix,
 }
 
@@ -32,6 +36,8 @@ pub(crate) enum Outcome {
     Lost(Step),
     /// It is the best.
     Chosen,
+    /// It is the best, and does not fit into a message to the member: nothing is sent.
+    TooLong,
 }
 
 /// The first of those who hold a prefix from a member on.
@@ -159,7 +165,7 @@ fn outcome_by_rank(ranks: &[Rank], member: usize) -> Outcome
 }
 
 /// What becomes of a route, by the ranks of all candidates.
-pub(crate) fn outcome_of(question: &Question<'_>, ranks: &[Rank], holder: &Holder<'_>) -> Outcome
+fn outcome_of(question: &Question<'_>, ranks: &[Rank], holder: &Holder<'_>) -> Outcome
     requires { HasDistinctPlaces ranks.now }
     ensures { result ≡ outcome_of question.now.config.now question.now.to ranks.now (holding holder.now) }
 {
@@ -170,4 +176,54 @@ pub(crate) fn outcome_of(question: &Question<'_>, ranks: &[Rank], holder: &Holde
         return Outcome::ServerAs;
     }
     outcome_by_rank(ranks, holder.member)
+}
+
+/// A route, as the rules pass it on, does not fit into a message to the member (RFC 4271, 4.1; RFC 8654, 4).
+fn is_too_long(
+    alloc: Global,
+    question: &Question<'_>,
+    holder: &Holder<'_>,
+) -> Result<bool, AllocError>
+    requires from { holder.now.member < length question.now.config.now.clients }
+    requires to { question.now.to < length question.now.config.now.clients }
+    ensures { IfOk result (λ long. long ≡ is_too_long question.now.config.now question.now.to question.now.speech question.now.prefix (holding holder.now)) }
+{
+    let Some(speech) = question.speech else {
+        return Ok(false);
+    };
+    let (from, to) = (holder.member, question.to);
+    match judge(question.config, from, to, &question.prefix, holder.attrs) {
+        Fate::Drop => Ok(false),
+        Fate::Pass { strip, .. } => {
+            let rest = stripped(alloc, holder.attrs, &strip)?;
+            let most = speech.limit.octets();
+            Ok(!fits(&rest, speech.mode, &question.prefix, most))
+        }
+    }
+}
+
+/// What becomes of a route on its way into a message, by the ranks of all candidates.
+pub(crate) fn sent_outcome(
+    alloc: Global,
+    question: &Question<'_>,
+    ranks: &[Rank],
+    holder: &Holder<'_>,
+) -> Result<Outcome, AllocError>
+    requires distinct { HasDistinctPlaces ranks.now }
+    requires from { holder.now.member < length question.now.config.now.clients }
+    requires to { question.now.to < length question.now.config.now.clients }
+    ensures { IfOk result (λ outcome. outcome ≡ sent_outcome question.now.config.now question.now.to question.now.speech question.now.prefix ranks.now (holding holder.now)) }
+{
+    let outcome = outcome_of(question, ranks, holder);
+    match outcome {
+        Outcome::Own | Outcome::ServerAs | Outcome::Dropped | Outcome::Lost(_) | Outcome::TooLong =>
+            Ok(outcome),
+        Outcome::Chosen => {
+            if is_too_long(alloc, question, holder)? {
+                Ok(Outcome::TooLong)
+            } else {
+                Ok(Outcome::Chosen)
+            }
+        }
+    }
 }

@@ -2,7 +2,7 @@
 
 use crate::keys::prefix_at;
 use crate::members::{imported, member_at};
-use crate::moments::Moments;
+use crate::server_pages::ServerPages;
 use crate::tables::Tables;
 use crate::texts::{put_address, put_json, put_number, put_prefix, put_time};
 use rs_window::page::Page;
@@ -11,60 +11,47 @@ use std::alloc::{AllocError, Global};
 /// What `/status` calls the program.
 const VERSION: &[u8] = b"Tivrazel 0.1.0";
 
-/// Puts what birdwatcher's answers begin with.
-pub(crate) fn put_api(
-    text: &mut Vec<u8>,
-    alloc: Global,
-    moments: &Moments<'_>,
-) -> Result<(), AllocError> {
-    let now = moments.time(moments.now);
-    text.extend_from_slice(b"{\"api\":{\"Version\":\"")?;
-    text.extend_from_slice(VERSION)?;
-    text.extend_from_slice(
-        b"\",\"result_from_cache\":false,\"cache_status\":{\"cached_at\":{\"date\":\"",
-    )?;
-    put_time(text, alloc, now)?;
-    text.extend_from_slice(b"\",\"timezone_type\":\"UTC\",\"timezone\":\"UTC\"}}},\"ttl\":\"")?;
-    put_time(text, alloc, now)?;
-    text.extend_from_slice(b"\",")
-}
+impl<T: Tables> ServerPages<'_, T> {
+    /// Puts what birdwatcher's answers begin with.
+    pub(crate) fn put_api(&self, text: &mut Vec<u8>) -> Result<(), AllocError> {
+        let now = self.moments.time(self.moments.now);
+        text.extend_from_slice(b"{\"api\":{\"Version\":\"")?;
+        text.extend_from_slice(VERSION)?;
+        text.extend_from_slice(
+            b"\",\"result_from_cache\":false,\"cache_status\":{\"cached_at\":{\"date\":\"",
+        )?;
+        put_time(text, self.alloc, now)?;
+        text.extend_from_slice(b"\",\"timezone_type\":\"UTC\",\"timezone\":\"UTC\"}}},\"ttl\":\"")?;
+        put_time(text, self.alloc, now)?;
+        text.extend_from_slice(b"\",")
+    }
 
-/// Puts birdwatcher's `/status`.
-pub(crate) fn put_status<T: Tables>(
-    text: &mut Vec<u8>,
-    alloc: Global,
-    tables: &T,
-    moments: &Moments<'_>,
-) -> Result<(), AllocError> {
-    put_api(text, alloc, moments)?;
-    text.extend_from_slice(b"\"status\":{\"router_id\":\"")?;
-    put_address(text, tables.config().identifier())?;
-    text.extend_from_slice(b"\",\"server_time\":\"")?;
-    put_time(text, alloc, moments.time(moments.now))?;
-    text.extend_from_slice(b"\",\"last_reboot\":\"")?;
-    put_time(text, alloc, moments.time(0))?;
-    text.extend_from_slice(b"\",\"last_reconfig\":\"")?;
-    put_time(text, alloc, moments.time(moments.rules))?;
-    text.extend_from_slice(b"\",\"message\":\"up and running\",\"version\":\"")?;
-    text.extend_from_slice(VERSION)?;
-    text.extend_from_slice(b"\"}}\n")
-}
+    /// Puts birdwatcher's `/status`.
+    pub(crate) fn put_status(&self, text: &mut Vec<u8>) -> Result<(), AllocError> {
+        self.put_api(text)?;
+        text.extend_from_slice(b"\"status\":{\"router_id\":\"")?;
+        put_address(text, self.tables.config().identifier())?;
+        text.extend_from_slice(b"\",\"server_time\":\"")?;
+        put_time(text, self.alloc, self.moments.time(self.moments.now))?;
+        text.extend_from_slice(b"\",\"last_reboot\":\"")?;
+        put_time(text, self.alloc, self.moments.time(0))?;
+        text.extend_from_slice(b"\",\"last_reconfig\":\"")?;
+        put_time(text, self.alloc, self.moments.time(self.moments.rules))?;
+        text.extend_from_slice(b"\",\"message\":\"up and running\",\"version\":\"")?;
+        text.extend_from_slice(VERSION)?;
+        text.extend_from_slice(b"\"}}\n")
+    }
 
-/// Puts how many of a member's routes its import list passes, as birdwatcher has it.
-pub(crate) fn put_count<T: Tables>(
-    text: &mut Vec<u8>,
-    alloc: Global,
-    tables: &T,
-    moments: &Moments<'_>,
-    place: usize,
-) -> Result<(), AllocError> {
-    let Some(member) = member_at(tables, place) else {
-        return Ok(());
-    };
-    put_api(text, alloc, moments)?;
-    text.extend_from_slice(b"\"routes\":")?;
-    put_number(text, imported(tables, &member))?;
-    text.extend_from_slice(b"}\n")
+    /// Puts how many of a member's routes its import list passes, as birdwatcher has it.
+    pub(crate) fn put_count(&self, text: &mut Vec<u8>, place: usize) -> Result<(), AllocError> {
+        let Some(member) = member_at(self.tables, place) else {
+            return Ok(());
+        };
+        self.put_api(text)?;
+        text.extend_from_slice(b"\"routes\":")?;
+        put_number(text, imported(self.tables, &member))?;
+        text.extend_from_slice(b"}\n")
+    }
 }
 
 /// Puts the head of one of our own pages of routes.

@@ -7,6 +7,8 @@
 //! pages in HTML and `metrics` those for Prometheus. `keys` are prefixes as numbers, by which a page goes on, and
 //! `texts` are put by all. All is made of `tables`, a trait that a route server has, and of `moments`, which its
 //! loop knows, with its `counts`: of the `traffic` of each member, and how long turns took, a `histogram`.
+//!
+//! The tests stand in `rs_tests`, in `src/pages.rt`.
 #![tactic(auto)]
 
 mod attributes;
@@ -25,7 +27,5 @@ mod routes;
 pub mod server_pages;
 pub mod tables;
 mod targets;
-#[cfg(test)]
-mod tests;
 mod texts;
 mod views;

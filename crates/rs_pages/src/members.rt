@@ -4,7 +4,7 @@ ghost use Rattle.std.specs.Prelude.{◌≡◌, ◌<◌, ◌++◌, is_some, IfSom
 ghost use Rattle.rs_pages.specs.Counting.{counts_text, numbered};
 ghost use Rattle.rs_pages.specs.Judging.{IsGiven, is_client};
 
-use crate::moments::Moments;
+use crate::server_pages::ServerPages;
 use crate::tables::{Ended, Rib, Tables};
 use crate::texts::{put_address, put_html, put_json, put_number, put_time};
 use rs_octets::Notification;
@@ -125,72 +125,73 @@ pub(crate) fn put_counts(
     text.extend_from_slice(b"}}\n")
 }
 
-/// Puts a member as birdwatcher's `/protocols/bgp` has it, but for the counts: its name, and what is known of it.
-pub(crate) fn put_protocol<T: Tables>(
-    text: &mut Vec<u8>,
-    alloc: Global,
-    tables: &T,
-    moments: &Moments<'_>,
-    member: &Member<'_>,
-) -> Result<(), AllocError> {
-    text.extend_from_slice(b"\"")?;
-    put_json(text, member.name)?;
-    text.extend_from_slice(b"\":{\"protocol\":\"")?;
-    put_json(text, member.name)?;
-    text.extend_from_slice(b"\",\"bird_protocol\":\"BGP\",\"state\":\"")?;
-    text.extend_from_slice(up_or_down(tables, member, b"up", b"down"))?;
-    text.extend_from_slice(b"\",\"state_changed\":\"")?;
-    put_time(text, alloc, moments.time(moments.change(member.place)))?;
-    text.extend_from_slice(b"\",\"description\":\"")?;
-    put_json(text, member.name)?;
-    text.extend_from_slice(b"\",\"neighbor_address\":\"")?;
-    put_address(text, member.peer)?;
-    text.extend_from_slice(b"\",\"neighbor_as\":")?;
-    put_number(text, u64::from(member.client_as))?;
-    put_state(text, alloc, tables, moments, member)
-}
-
-/// Puts the rest of it.
-fn put_state<T: Tables>(
-    text: &mut Vec<u8>,
-    alloc: Global,
-    tables: &T,
-    moments: &Moments<'_>,
-    member: &Member<'_>,
-) -> Result<(), AllocError> {
-    text.extend_from_slice(b",\"bgp_state\":\"")?;
-    text.extend_from_slice(up_or_down(tables, member, b"Established", b"Down"))?;
-    text.extend_from_slice(b"\",\"uptime\":")?;
-    let uptime = if tables.is_established(member.place) {
-        moments.since(member.place)
-    } else {
-        0
-    };
-    put_number(text, uptime)?;
-    if moments.is_disabled(member.place) {
-        text.extend_from_slice(b",\"disabled\":true")?;
+impl<T: Tables> ServerPages<'_, T> {
+    /// Puts a member as birdwatcher's `/protocols/bgp` has it, but for the counts: its name, and what is known of it.
+    pub(crate) fn put_protocol(
+        &self,
+        text: &mut Vec<u8>,
+        member: &Member<'_>,
+    ) -> Result<(), AllocError> {
+        text.extend_from_slice(b"\"")?;
+        put_json(text, member.name)?;
+        text.extend_from_slice(b"\":{\"protocol\":\"")?;
+        put_json(text, member.name)?;
+        text.extend_from_slice(b"\",\"bird_protocol\":\"BGP\",\"state\":\"")?;
+        text.extend_from_slice(up_or_down(self.tables, member, b"up", b"down"))?;
+        text.extend_from_slice(b"\",\"state_changed\":\"")?;
+        put_time(
+            text,
+            self.alloc,
+            self.moments.time(self.moments.change(member.place)),
+        )?;
+        text.extend_from_slice(b"\",\"description\":\"")?;
+        put_json(text, member.name)?;
+        text.extend_from_slice(b"\",\"neighbor_address\":\"")?;
+        put_address(text, member.peer)?;
+        text.extend_from_slice(b"\",\"neighbor_as\":")?;
+        put_number(text, u64::from(member.client_as))?;
+        self.put_state(text, member)
     }
-    text.extend_from_slice(b",\"last_error\":\"")?;
-    put_ending(text, alloc, tables.ended(member.place))?;
-    text.extend_from_slice(b"\",")
-}
 
-/// Puts what all routes of a member have in common, as birdwatcher has it.
-pub(crate) fn put_origin(
-    text: &mut Vec<u8>,
-    alloc: Global,
-    moments: &Moments<'_>,
-    member: &Member<'_>,
-) -> Result<(), AllocError> {
-    text.extend_from_slice(b"\"from_protocol\":\"")?;
-    put_json(text, member.name)?;
-    text.extend_from_slice(b"\",\"learnt_from\":\"")?;
-    put_address(text, member.peer)?;
-    text.extend_from_slice(b"\",\"age\":\"")?;
-    put_time(text, alloc, moments.time(moments.change(member.place)))?;
-    text.extend_from_slice(
-        b"\",\"metric\":100,\"primary\":false,\"type\":[\"BGP\",\"unicast\",\"univ\"],",
-    )
+    /// Puts the rest of it.
+    fn put_state(&self, text: &mut Vec<u8>, member: &Member<'_>) -> Result<(), AllocError> {
+        text.extend_from_slice(b",\"bgp_state\":\"")?;
+        text.extend_from_slice(up_or_down(self.tables, member, b"Established", b"Down"))?;
+        text.extend_from_slice(b"\",\"uptime\":")?;
+        let uptime = if self.tables.is_established(member.place) {
+            self.moments.since(member.place)
+        } else {
+            0
+        };
+        put_number(text, uptime)?;
+        if self.moments.is_disabled(member.place) {
+            text.extend_from_slice(b",\"disabled\":true")?;
+        }
+        text.extend_from_slice(b",\"last_error\":\"")?;
+        put_ending(text, self.alloc, self.tables.ended(member.place))?;
+        text.extend_from_slice(b"\",")
+    }
+
+    /// Puts what all routes of a member have in common, as birdwatcher has it.
+    pub(crate) fn put_origin(
+        &self,
+        text: &mut Vec<u8>,
+        member: &Member<'_>,
+    ) -> Result<(), AllocError> {
+        text.extend_from_slice(b"\"from_protocol\":\"")?;
+        put_json(text, member.name)?;
+        text.extend_from_slice(b"\",\"learnt_from\":\"")?;
+        put_address(text, member.peer)?;
+        text.extend_from_slice(b"\",\"age\":\"")?;
+        put_time(
+            text,
+            self.alloc,
+            self.moments.time(self.moments.change(member.place)),
+        )?;
+        text.extend_from_slice(
+            b"\",\"metric\":100,\"primary\":false,\"type\":[\"BGP\",\"unicast\",\"univ\"],",
+        )
+    }
 }
 
 /// Puts a member's name, with a link to its page.
@@ -202,34 +203,38 @@ pub(crate) fn put_named(text: &mut Vec<u8>, member: &Member<'_>) -> Result<(), A
     text.extend_from_slice(b"</a>")
 }
 
-/// Puts a member's row in the table of members.
-pub(crate) fn put_member_row<T: Tables>(
-    text: &mut Vec<u8>,
-    alloc: Global,
-    tables: &T,
-    moments: &Moments<'_>,
-    member: &Member<'_>,
-) -> Result<(), AllocError> {
-    text.extend_from_slice(b"<tr><td>")?;
-    put_named(text, member)?;
-    text.extend_from_slice(b"<td>")?;
-    put_number(text, u64::from(member.client_as))?;
-    text.extend_from_slice(b"<td>")?;
-    put_address(text, member.peer)?;
-    text.extend_from_slice(up_or_down(
-        tables,
-        member,
-        b"<td class=up>up<td>",
-        b"<td class=down>down<td>",
-    ))?;
-    put_time(text, alloc, moments.time(moments.change(member.place)))?;
-    text.extend_from_slice(b"<td class=number>")?;
-    put_number(text, tables.count(Rib::Received, member.place) as u64)?;
-    text.extend_from_slice(b"<td class=number>")?;
-    put_number(text, tables.dropped(member.place) as u64)?;
-    text.extend_from_slice(b"<td class=number>")?;
-    put_number(text, tables.faults(member.place).at_fault)?;
-    text.extend_from_slice(b"<td class=number>")?;
-    put_number(text, tables.count(Rib::Sent, member.place) as u64)?;
-    text.extend_from_slice(b"</tr>\n")
+impl<T: Tables> ServerPages<'_, T> {
+    /// Puts a member's row in the table of members.
+    pub(crate) fn put_member_row(
+        &self,
+        text: &mut Vec<u8>,
+        member: &Member<'_>,
+    ) -> Result<(), AllocError> {
+        text.extend_from_slice(b"<tr><td>")?;
+        put_named(text, member)?;
+        text.extend_from_slice(b"<td>")?;
+        put_number(text, u64::from(member.client_as))?;
+        text.extend_from_slice(b"<td>")?;
+        put_address(text, member.peer)?;
+        text.extend_from_slice(up_or_down(
+            self.tables,
+            member,
+            b"<td class=up>up<td>",
+            b"<td class=down>down<td>",
+        ))?;
+        put_time(
+            text,
+            self.alloc,
+            self.moments.time(self.moments.change(member.place)),
+        )?;
+        text.extend_from_slice(b"<td class=number>")?;
+        put_number(text, self.tables.count(Rib::Received, member.place) as u64)?;
+        text.extend_from_slice(b"<td class=number>")?;
+        put_number(text, self.tables.dropped(member.place) as u64)?;
+        text.extend_from_slice(b"<td class=number>")?;
+        put_number(text, self.tables.faults(member.place).at_fault)?;
+        text.extend_from_slice(b"<td class=number>")?;
+        put_number(text, self.tables.count(Rib::Sent, member.place) as u64)?;
+        text.extend_from_slice(b"</tr>\n")
+    }
 }

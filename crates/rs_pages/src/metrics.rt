@@ -215,6 +215,28 @@ fn put_turns(text: &mut Vec<u8>, turns: &Histogram) -> Result<(), AllocError> {
     put_value(text, b"rs_turn_duration_seconds_count", all)
 }
 
+/// Puts how large the tables are of what members announced.
+fn put_routes<T: Tables>(text: &mut Vec<u8>, tables: &T) -> Result<(), AllocError> {
+    put_gauge(
+        text,
+        b"rs_prefix_rows",
+        b"The rows of the table of prefixes, used or free.",
+        tables.rows() as u64,
+    )?;
+    put_gauge(
+        text,
+        b"rs_prefixes",
+        b"The prefixes that have routes.",
+        tables.prefixes() as u64,
+    )?;
+    put_gauge(
+        text,
+        b"rs_attribute_sets",
+        b"The sets of attributes of these routes, one of each UPDATE.",
+        tables.attribute_sets() as u64,
+    )
+}
+
 /// Puts the metrics of the server.
 pub(crate) fn put_server<T: Tables>(
     text: &mut Vec<u8>,
@@ -239,18 +261,7 @@ pub(crate) fn put_server<T: Tables>(
         b"The members whose session is Established.",
         established(tables),
     )?;
-    put_gauge(
-        text,
-        b"rs_prefix_rows",
-        b"The rows of the table of prefixes, used or free.",
-        tables.rows() as u64,
-    )?;
-    put_gauge(
-        text,
-        b"rs_prefixes",
-        b"The prefixes that have routes.",
-        tables.prefixes() as u64,
-    )?;
+    put_routes(text, tables)?;
     put_counter(
         text,
         b"rs_memory_refused_total",

@@ -1,7 +1,7 @@
 //! The pages for people: plain HTML and CSS.
 
-use crate::members::{Member, member_at, put_ending, put_member_row, put_named};
-use crate::moments::Moments;
+use crate::members::{Member, member_at, put_ending, put_named};
+use crate::server_pages::ServerPages;
 use crate::tables::Tables;
 use crate::texts::{put_address, put_html, put_number, put_prefix, put_time};
 use crate::views::Listing;
@@ -20,24 +20,21 @@ const SEARCH: &[u8] =
 const COLUMNS: &[u8] =
     b"<table>\n<tr><th>Member<th>AS<th>Address<th>State<th>Since<th class=number>Received<th class=number>Refused<th class=number>UPDATEs at fault<th class=number>Sent</tr>\n";
 
-/// Puts the front of the page of all members.
-pub(crate) fn put_home<T: Tables>(
-    text: &mut Vec<u8>,
-    alloc: Global,
-    tables: &T,
-    moments: &Moments<'_>,
-) -> Result<(), AllocError> {
-    let config = tables.config();
-    text.extend_from_slice(TOP)?;
-    text.extend_from_slice(b"<title>Route server</title>\n<h1>Route server, AS ")?;
-    put_number(text, u64::from(config.server_as()))?;
-    text.extend_from_slice(b"</h1>\n<p>")?;
-    put_address(text, config.identifier())?;
-    text.extend_from_slice(b", up since ")?;
-    put_time(text, alloc, moments.time(0))?;
-    text.extend_from_slice(b".</p>\n")?;
-    text.extend_from_slice(SEARCH)?;
-    text.extend_from_slice(COLUMNS)
+impl<T: Tables> ServerPages<'_, T> {
+    /// Puts the front of the page of all members.
+    pub(crate) fn put_home(&self, text: &mut Vec<u8>) -> Result<(), AllocError> {
+        let config = self.tables.config();
+        text.extend_from_slice(TOP)?;
+        text.extend_from_slice(b"<title>Route server</title>\n<h1>Route server, AS ")?;
+        put_number(text, u64::from(config.server_as()))?;
+        text.extend_from_slice(b"</h1>\n<p>")?;
+        put_address(text, config.identifier())?;
+        text.extend_from_slice(b", up since ")?;
+        put_time(text, self.alloc, self.moments.time(0))?;
+        text.extend_from_slice(b".</p>\n")?;
+        text.extend_from_slice(SEARCH)?;
+        text.extend_from_slice(COLUMNS)
+    }
 }
 
 /// Puts what the page of a thing of this name begins with.
@@ -52,49 +49,40 @@ fn put_top(text: &mut Vec<u8>, name: &[u8], rest: &[u8]) -> Result<(), AllocErro
     text.extend_from_slice(b"</h1>\n<p><a href=\"/\">All members</a></p>\n")
 }
 
-/// Puts a member's page.
-pub(crate) fn put_member<T: Tables>(
-    text: &mut Vec<u8>,
-    alloc: Global,
-    tables: &T,
-    moments: &Moments<'_>,
-    place: usize,
-) -> Result<(), AllocError> {
-    let Some(member) = member_at(tables, place) else {
-        return Ok(());
-    };
-    put_top(text, member.name, b"")?;
-    text.extend_from_slice(COLUMNS)?;
-    put_member_row(text, alloc, tables, moments, &member)?;
-    text.extend_from_slice(b"</table>\n<p>")?;
-    put_last(text, alloc, tables, &member)?;
-    text.extend_from_slice(b"</p>\n<p><a href=\"")?;
-    put_target(text, &member, RECEIVED)?;
-    text.extend_from_slice(b"\">Routes received</a>, <a href=\"")?;
-    put_target(text, &member, SENT)?;
-    text.extend_from_slice(
-        b"\">routes sent</a></p>\n<form action=\"/why\"><input type=hidden name=to value=\"",
-    )?;
-    put_html(text, member.name)?;
-    text.extend_from_slice(
-        b"\"><label>Why it is sent what it is for <input name=prefix placeholder=192.0.2.0/24 required></label> <button>Ask</button></form>\n</html>\n",
-    )
-}
-
-/// Puts why the last session that ended did so.
-fn put_last<T: Tables>(
-    text: &mut Vec<u8>,
-    alloc: Global,
-    tables: &T,
-    member: &Member<'_>,
-) -> Result<(), AllocError> {
-    let ended = tables.ended(member.place);
-    if ended.is_none() {
-        return text.extend_from_slice(b"No session has ended.");
+impl<T: Tables> ServerPages<'_, T> {
+    /// Puts a member's page.
+    pub(crate) fn put_member(&self, text: &mut Vec<u8>, place: usize) -> Result<(), AllocError> {
+        let Some(member) = member_at(self.tables, place) else {
+            return Ok(());
+        };
+        put_top(text, member.name, b"")?;
+        text.extend_from_slice(COLUMNS)?;
+        self.put_member_row(text, &member)?;
+        text.extend_from_slice(b"</table>\n<p>")?;
+        self.put_last(text, &member)?;
+        text.extend_from_slice(b"</p>\n<p><a href=\"")?;
+        put_target(text, &member, RECEIVED)?;
+        text.extend_from_slice(b"\">Routes received</a>, <a href=\"")?;
+        put_target(text, &member, SENT)?;
+        text.extend_from_slice(
+            b"\">routes sent</a></p>\n<form action=\"/why\"><input type=hidden name=to value=\"",
+        )?;
+        put_html(text, member.name)?;
+        text.extend_from_slice(
+            b"\"><label>Why it is sent what it is for <input name=prefix placeholder=192.0.2.0/24 required></label> <button>Ask</button></form>\n</html>\n",
+        )
     }
-    text.extend_from_slice(b"The last session that ended: ")?;
-    put_ending(text, alloc, ended)?;
-    text.extend_from_slice(b".")
+
+    /// Puts why the last session that ended did so.
+    fn put_last(&self, text: &mut Vec<u8>, member: &Member<'_>) -> Result<(), AllocError> {
+        let ended = self.tables.ended(member.place);
+        if ended.is_none() {
+            return text.extend_from_slice(b"No session has ended.");
+        }
+        text.extend_from_slice(b"The last session that ended: ")?;
+        put_ending(text, self.alloc, ended)?;
+        text.extend_from_slice(b".")
+    }
 }
 
 /// What the pages of a member's routes are called, behind its name.

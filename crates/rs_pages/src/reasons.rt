@@ -3,17 +3,17 @@
 ghost use Rattle.std.specs.Prelude.{◌≡◌, ◌<◌, ◌++◌, length, option_map, OnOk};
 ghost use Rattle.rs_decision.specs.Best.{HasDistinctPlaces};
 ghost use Rattle.rs_reasons.specs.Why.{cause_said, said};
-ghost use Rattle.rs_pages.specs.Candidates.{outcome_of};
+ghost use Rattle.rs_pages.specs.Candidates.{sent_outcome};
 ghost use Rattle.rs_pages.specs.Holders.{holding};
 ghost use Rattle.rs_pages.specs.Why.{account_text, asked_text, cause_text, export_text, list_text, outcome_text, passes_text, rules_text, sender_text, step_text, told_text};
 
-use crate::candidates::{Outcome, Question, outcome_of};
+use crate::candidates::{Outcome, Question, sent_outcome};
 use crate::tables::Holder;
 use crate::texts::{put_address, put_json, put_number};
 use rs_decision::{Rank, Step};
 use rs_policy::{Config, List};
 use rs_reasons::{Cause, Reason, explain};
-use std::alloc::AllocError;
+use std::alloc::{AllocError, Global};
 
 fn list_name(list: List) -> &'static [u8]
     ensures { result.now ≡ list_text list }
@@ -131,6 +131,7 @@ fn put_outcome(text: &mut Vec<u8>, outcome: Outcome) -> Result<(), AllocError>
             text.extend_from_slice(b"\"")
         }
         Outcome::Chosen => text.extend_from_slice(b"\"chosen\""),
+        Outcome::TooLong => text.extend_from_slice(b"\"too long for a message\""),
     }
 }
 
@@ -147,7 +148,7 @@ fn put_asked(
 {
     match outcome {
         Outcome::Own | Outcome::ServerAs => Ok(()),
-        Outcome::Dropped | Outcome::Lost(_) | Outcome::Chosen => {
+        Outcome::Dropped | Outcome::Lost(_) | Outcome::Chosen | Outcome::TooLong => {
             put_rules(text, question, holder)
         }
     }
@@ -172,6 +173,7 @@ fn put_sender(text: &mut Vec<u8>, config: &Config, holder: &Holder<'_>) -> Resul
 #[tactic(auto, unfolding(crate::specs::Why::told_text))]
 pub(crate) fn put_candidate(
     text: &mut Vec<u8>,
+    alloc: Global,
     question: &Question<'_>,
     ranks: &[Rank],
     holder: &Holder<'_>,
@@ -179,9 +181,9 @@ pub(crate) fn put_candidate(
     requires distinct { HasDistinctPlaces ranks.now }
     requires from { holder.now.member < length question.now.config.now.clients }
     requires to { question.now.to < length question.now.config.now.clients }
-    ensures { OnOk result (text.new.items ≡ text.old.items ++ told_text question.now.config.now question.now.to question.now.prefix (holding holder.now) (outcome_of question.now.config.now question.now.to ranks.now (holding holder.now))) }
+    ensures { OnOk result (text.new.items ≡ text.old.items ++ told_text question.now.config.now question.now.to question.now.prefix (holding holder.now) (sent_outcome question.now.config.now question.now.to question.now.speech question.now.prefix ranks.now (holding holder.now))) }
 {
-    let outcome = outcome_of(question, ranks, holder);
+    let outcome = sent_outcome(alloc, question, ranks, holder)?;
     put_sender(text, question.config, holder)?;
     put_outcome(text, outcome)?;
     put_asked(text, question, holder, outcome)?;

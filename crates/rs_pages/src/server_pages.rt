@@ -7,20 +7,19 @@ mod counts;
 mod course;
 mod listings;
 
-use crate::attributes::{bgp_text, cells_text};
+use crate::attributes::cells_text;
 use crate::candidates::{Question, next_candidate, next_holder, ranks_to};
-use crate::heads::{put_api, put_count, put_question, put_status, put_table};
+use crate::heads::{put_question, put_table};
 use crate::keys::prefix_at;
-use crate::members::{member_at, put_member_row};
+use crate::members::member_at;
 use crate::metrics::{Metric, put_server};
 use crate::moments::Moments;
-use crate::people::{put_found, put_holder, put_home, put_member, put_routes};
+use crate::people::{put_found, put_holder, put_routes};
 use crate::reasons::put_candidate;
-use crate::routes::put_row;
 use crate::server_pages::course::{behind_head, behind_member, comma, stopped};
 use crate::tables::{Holder, Rib, Tables};
 use crate::targets::find_page;
-use crate::views::{Listing, Stage, View, most_items};
+use crate::views::{Item, Listing, Stage, View, most_items};
 use rs_octets::Prefix;
 use rs_window::page::{Next, PIECE, Page, Pages, Piece};
 use std::alloc::{AllocError, Global};
@@ -28,9 +27,9 @@ use std::alloc::{AllocError, Global};
 /// The pages of a server as it stands.
 #[derive(Drop)]
 pub struct ServerPages<'a, T> {
-    alloc: Global,
-    tables: &'a T,
-    moments: &'a Moments<'a>,
+    pub(crate) alloc: Global,
+    pub(crate) tables: &'a T,
+    pub(crate) moments: &'a Moments<'a>,
 }
 
 impl<'a, T: Tables> ServerPages<'a, T> {
@@ -57,36 +56,36 @@ impl<'a, T: Tables> ServerPages<'a, T> {
     ) -> Result<Option<Page>, AllocError>
         ensures { IfOk result (IsHead view page) }
     {
-        let (alloc, tables, moments) = (self.alloc, self.tables, self.moments);
+        let tables = self.tables;
         match view {
             View::Status => {
-                put_status(text, alloc, tables, moments)?;
+                self.put_status(text)?;
                 return Ok(None);
             }
             View::Count => {
-                put_count(text, alloc, tables, moments, page.place)?;
+                self.put_count(text, page.place)?;
                 return Ok(None);
             }
             View::Member => {
-                put_member(text, alloc, tables, moments, page.place)?;
+                self.put_member(text, page.place)?;
                 return Ok(None);
             }
-            View::Home => put_home(text, alloc, tables, moments)?,
+            View::Home => self.put_home(text)?,
             View::Protocols | View::Protocol => {
-                put_api(text, alloc, moments)?;
+                self.put_api(text)?;
                 text.extend_from_slice(b"\"protocols\":{")?;
             }
             View::Routes | View::Filtered | View::NoExport | View::AtPrefix => {
-                put_api(text, alloc, moments)?;
+                self.put_api(text)?;
                 text.extend_from_slice(b"\"routes\":[")?;
             }
             View::Received => put_table(text, tables, page.place, b"received")?,
             View::Sent => put_table(text, tables, page.place, b"sent")?,
             View::ReceivedTable => put_routes(text, tables, Listing::Received, page)?,
             View::SentTable => put_routes(text, tables, Listing::Sent, page)?,
-            View::Search => put_found(text, alloc, &prefix_at(page.at))?,
+            View::Search => put_found(text, self.alloc, &prefix_at(page.at))?,
             View::Why => put_question(text, tables, page)?,
-            View::Metrics => put_server(text, tables, moments)?,
+            View::Metrics => put_server(text, tables, self.moments)?,
         }
         Ok(Some(behind_head(view, page)))
     }
@@ -97,7 +96,7 @@ impl<'a, T: Tables> ServerPages<'a, T> {
             text.extend_from_slice(b"</table>\n</html>\n")?;
             return Ok(None);
         };
-        put_member_row(text, self.alloc, self.tables, self.moments, &member)?;
+        self.put_member_row(text, &member)?;
         Ok(Some(behind_member(View::Home, page, member.place)))
     }
 
@@ -133,30 +132,22 @@ impl<'a, T: Tables> ServerPages<'a, T> {
         ensures { OnOk result (IsListed stage prefix.now (holding holder.now).attributes text.new.items) }
     {
         let common = self.common(Rib::Received, holder.member)?;
-        let bgp = bgp_text(self.alloc, holder.attrs)?;
-        text.extend_from_slice(comma(stage))?;
-        put_row(text, prefix, holder.attrs, &common, &bgp)?;
-        Ok(())
+        self.put_listed(stage, &common, prefix, holder.attrs, text)
     }
 
     /// Puts the row of the next who holds a prefix.
-    fn put_next_holder(
-        &self,
-        stage: Stage,
-        page: Page,
-        text: &mut Vec<u8>,
-    ) -> Result<Option<Page>, AllocError>
+    fn put_next_holder(&self, item: Item, text: &mut Vec<u8>) -> Result<Option<Page>, AllocError>
         requires { text.old.items ≡ [] }
-        ensures { IfOk result (λ next. (p : Prefix) → IsAt page.at p → IsHolderItem (T.configured self.now.tables.now) (T.holders self.now.tables.now) stage page p text.new.items next) }
+        ensures { IfOk result (λ next. (p : Prefix) → IsAt item.page.at p → IsHolderItem (T.configured self.now.tables.now) (T.holders self.now.tables.now) item.stage item.page p text.new.items next) }
     {
-        let prefix = prefix_at(page.at);
+        let prefix = prefix_at(item.page.at);
         let holders = self.tables.holders_of(self.alloc, &prefix)?;
-        let Some(holder) = next_holder(self.tables.config(), &holders, page.member) else {
+        let Some(holder) = next_holder(self.tables.config(), &holders, item.page.member) else {
             text.extend_from_slice(b"]}\n")?;
             return Ok(None);
         };
-        self.put_held(stage, &prefix, &holder, text)?;
-        Ok(Some(behind_member(View::AtPrefix, page, holder.member)))
+        self.put_held(item.stage, &prefix, &holder, text)?;
+        Ok(Some(behind_member(View::AtPrefix, item.page, holder.member)))
     }
 
     /// Puts the row of the next who holds a prefix.
@@ -182,12 +173,13 @@ impl<'a, T: Tables> ServerPages<'a, T> {
         text: &mut Vec<u8>,
     ) -> Result<Option<Page>, AllocError>
         requires { text.old.items ≡ [] }
-        ensures { IfOk result (λ next. (p : Prefix) → IsAt page.at p → IsWhyItem (T.configured self.now.tables.now) (T.holders self.now.tables.now) stage page p text.new.items next) }
+        ensures { IfOk result (λ next. (p : Prefix) → IsAt page.at p → IsWhyItem (T.configured self.now.tables.now) (T.holders self.now.tables.now) (T.speaks self.now.tables.now) stage page p text.new.items next) }
     {
         let config = self.tables.config();
         let question = Question {
             config,
             to: page.place,
+            speech: self.tables.speech(page.place),
             prefix: prefix_at(page.at),
         };
         let holders = self.tables.holders_of(self.alloc, &question.prefix)?;
@@ -197,14 +189,14 @@ impl<'a, T: Tables> ServerPages<'a, T> {
         };
         let ranks = ranks_to(self.alloc, &question, &holders)?;
         text.extend_from_slice(comma(stage))?;
-        put_candidate(text, &question, &ranks, &holder)?;
+        put_candidate(text, self.alloc, &question, &ranks, &holder)?;
         Ok(Some(behind_member(View::Why, page, holder.member)))
     }
 
     /// Puts the next item of a page, and answers the page behind it; `None` behind its last.
     fn put_item(&self, page: Page, text: &mut Vec<u8>) -> Result<Option<Page>, AllocError>
         requires { text.old.items ≡ [] }
-        ensures { IfOk result (λ next. IsItem (T.first self.now.tables.now) (T.configured self.now.tables.now) (T.holders self.now.tables.now) page text.new.items next) }
+        ensures { IfOk result (λ next. IsItem (T.first self.now.tables.now) (T.configured self.now.tables.now) (T.holders self.now.tables.now) (T.speaks self.now.tables.now) page text.new.items next) }
     {
         let Some((view, stage)) = View::read(page.which) else {
             return Ok(None);
@@ -224,32 +216,27 @@ impl<'a, T: Tables> ServerPages<'a, T> {
         text: &mut Vec<u8>,
     ) -> Result<Option<Page>, AllocError>
         requires { text.old.items ≡ [] }
-        ensures { IfOk result (IsBehindHead (T.first self.now.tables.now) (T.configured self.now.tables.now) (T.holders self.now.tables.now) view stage page text.new.items) }
+        ensures { IfOk result (IsBehindHead (T.first self.now.tables.now) (T.configured self.now.tables.now) (T.holders self.now.tables.now) (T.speaks self.now.tables.now) view stage page text.new.items) }
     {
+        let item = Item { view, stage, page };
         match view {
-            View::AtPrefix => self.put_next_holder(stage, page, text),
+            View::AtPrefix => self.put_next_holder(item, text),
             View::Why => self.put_next_candidate(stage, page, text),
             _ => match view.listing() {
-                None => self.put_unlisted(view, stage, page, text),
-                Some(listing) => self.put_next_route(view, listing, stage, page, text),
+                None => self.put_unlisted(item, text),
+                Some(listing) => self.put_next_route(item, listing, text),
             },
         }
     }
 
     /// Puts the next item of a page that lists no routes.
-    fn put_unlisted(
-        &self,
-        view: View,
-        stage: Stage,
-        page: Page,
-        text: &mut Vec<u8>,
-    ) -> Result<Option<Page>, AllocError>
+    fn put_unlisted(&self, item: Item, text: &mut Vec<u8>) -> Result<Option<Page>, AllocError>
         requires { text.old.items ≡ [] }
-        ensures { IfOk result (λ next. (c : ℕ) → counted_of view page ≡ Some c → IsCountItem (T.first self.now.tables.now) (T.configured self.now.tables.now) (T.holders self.now.tables.now) view page c text.new.items next) }
+        ensures { IfOk result (λ next. (c : ℕ) → counted_of item.view item.page ≡ Some c → IsCountItem (T.first self.now.tables.now) (T.configured self.now.tables.now) (T.holders self.now.tables.now) item.view item.page c text.new.items next) }
     {
-        match view.counted(page) {
-            None => self.put_other(view, page, text),
-            Some(counted) => self.put_next_count(view, stage, page, counted, text),
+        match item.view.counted(item.page) {
+            None => self.put_other(item.view, item.page, text),
+            Some(counted) => self.put_next_count(item.view, item.stage, item.page, counted, text),
         }
     }
 
@@ -284,7 +271,7 @@ impl<'a, T: Tables> ServerPages<'a, T> {
     /// Puts items until one has no room.
     fn put_items(&self, page: Page, piece: &mut Piece) -> Result<Next, AllocError>
         requires { piece.old ≡ [] }
-        ensures { IfOk result (λ next. Writes (IsItem (T.first self.now.tables.now) (T.configured self.now.tables.now) (T.holders self.now.tables.now)) (most_items page.which) 0 0 page piece.new next) }
+        ensures { IfOk result (λ next. Writes (IsItem (T.first self.now.tables.now) (T.configured self.now.tables.now) (T.holders self.now.tables.now) (T.speaks self.now.tables.now)) (most_items page.which) 0 0 page piece.new next) }
     {
         let mut text = Vec::with_capacity(self.alloc, PIECE)?;
         let mut at = page;
@@ -309,7 +296,7 @@ impl<T: Tables> Pages for ServerPages<'_, T> {
 
     ghost finds = { λ pages target page. Unit {0} };
 
-    ghost writes = { λ pages page octets next. Writes (IsItem (T.first pages.tables.now) (T.configured pages.tables.now) (T.holders pages.tables.now)) (most_items page.which) 0 0 page octets next };
+    ghost writes = { λ pages page octets next. Writes (IsItem (T.first pages.tables.now) (T.configured pages.tables.now) (T.holders pages.tables.now) (T.speaks pages.tables.now)) (most_items page.which) 0 0 page octets next };
 
     fn find(&self, target: &[u8]) -> Option<Page> {
         find_page(self.tables, target)

@@ -5,11 +5,13 @@ ghost use Rattle.std.specs.Arc.{arc_value};
 ghost use Rattle.rs_octets.specs.Prefixes.{Prefix};
 ghost use Rattle.rs_attrs.specs.Meaning.{Attribute};
 ghost use Rattle.rs_policy.specs.Configuration.{Configuration};
+ghost use Rattle.rs_outlet.specs.declared.answers.Speech.{Speech};
 ghost use Rattle.rs_pages.specs.declared.tables.Rib.{Rib};
 ghost use Rattle.rs_pages.specs.Holders.{Holding, holding};
 
 use rs_attrs::Attrs;
 use rs_octets::Prefix;
+use rs_outlet::Speech;
 use rs_policy::Config;
 use std::alloc::{AllocError, Global};
 use std::sync::Arc;
@@ -55,8 +57,9 @@ pub struct Faults {
 
 /// The tables of a route server, as they stand, and what it knows of its members, by their places in its
 /// configuration. `first tables rib member at route` says that this is the first route of a table from a
-/// number on, or that there is none, `configured tables config` that this is the configuration, and
-/// `holders tables prefix held` that these are the routes for a prefix; where they always hold, nothing is known.
+/// number on, or that there is none, `configured tables config` that this is the configuration,
+/// `holders tables prefix held` that these are the routes for a prefix, and `speaks tables member speech` how a
+/// member is spoken to; where they always hold, nothing is known.
 pub trait Tables {
     ghost first: { Self → Rib → ℕ → ℕ → Option (Prefix × List Attribute) → Type 0 };
 
@@ -64,11 +67,17 @@ pub trait Tables {
 
     ghost holders: { Self → Prefix → List Holding → Type 0 };
 
+    ghost speaks: { Self → ℕ → Option Speech → Type 0 };
+
     fn config(&self) -> &Config
         ensures { configured self.now result.now };
 
     /// A member's session is Established.
     fn is_established(&self, member: usize) -> bool;
+
+    /// How a member that is Established is spoken to.
+    fn speech(&self, member: usize) -> Option<Speech>
+        ensures { speaks self.now member result };
 
     /// Of the routes of a table whose prefixes have this number or a later one, that with the least.
     fn first_from(&self, rib: Rib, member: usize, at: u64) -> Option<(Prefix, &Arc<Attrs>)>
@@ -98,6 +107,9 @@ pub trait Tables {
 
     /// How many prefixes have routes.
     fn prefixes(&self) -> usize;
+
+    /// How many sets of attributes the routes have that members announced.
+    fn attribute_sets(&self) -> usize;
 
     /// How many prefixes wait to be sent to a member.
     fn waiting(&self, member: usize) -> usize;

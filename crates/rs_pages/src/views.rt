@@ -45,6 +45,14 @@ pub(crate) enum View {
     Metrics,
 }
 
+/// An item of a page: the page as it is read, and as it stands.
+#[derive(Clone, Copy, Debug)]
+pub(crate) struct Item {
+    pub(crate) view: View,
+    pub(crate) stage: Stage,
+    pub(crate) page: Page,
+}
+
 /// Which routes a page lists.
 #[derive(Clone, Copy, Debug, PartialEq, Eq)]
 pub(crate) enum Listing {
@@ -232,20 +240,7 @@ impl View {
     {
         match self {
             View::Why | View::Protocols | View::Protocol => 16,
-            View::Filtered
-            | View::Count
-            | View::NoExport
-            | View::Home
-            | View::Member
-            | View::Status
-            | View::Routes
-            | View::AtPrefix
-            | View::Received
-            | View::Sent
-            | View::ReceivedTable
-            | View::SentTable
-            | View::Search
-            | View::Metrics => 32,
+            _ => 32,
         }
     }
 

@@ -5,14 +5,14 @@ ghost use Rattle.std.specs.Arc.{arc_value};
 
 use crate::attributes::{bgp_text, cells_text};
 use crate::judging::{is_accepted, is_filtered, is_kept_from};
-use crate::members::{member_at, put_origin};
+use crate::members::member_at;
 use crate::people::target_of;
 use crate::routes::{put_more, put_row, put_table_row};
 use crate::server_pages::ServerPages;
 use crate::server_pages::course::{behind_route, comma, is_last_of, next_table, passing_over};
 use crate::tables::{Rib, Tables};
 use crate::texts::put_prefix;
-use crate::views::{Listing, Stage, View};
+use crate::views::{Item, Listing, Stage, View};
 use rs_attrs::Attrs;
 use rs_octets::Prefix;
 use rs_window::page::Page;
@@ -119,17 +119,16 @@ impl<'a, T: Tables> ServerPages<'a, T> {
         if rib == Rib::Received
             && let Some(member) = member_at(self.tables, member)
         {
-            put_origin(&mut common, self.alloc, self.moments, &member)?;
+            self.put_origin(&mut common, &member)?;
         }
         Ok(common)
     }
 
-    /// Puts the row of a route in JSON.
-    fn put_listed(
+    /// Puts the row of a route in JSON, with what all rows of its table have in common.
+    pub(super) fn put_listed(
         &self,
-        listing: Listing,
         stage: Stage,
-        page: Page,
+        common: &[u8],
         prefix: &Prefix,
         attrs: &Attrs,
         text: &mut Vec<u8>,
@@ -137,10 +136,9 @@ impl<'a, T: Tables> ServerPages<'a, T> {
         requires { text.old.items ≡ [] }
         ensures { OnOk result (IsListed stage prefix.now attrs.now text.new.items) }
     {
-        let common = self.common(listing.table(), listing.owner(page))?;
         let bgp = bgp_text(self.alloc, attrs)?;
         text.extend_from_slice(comma(stage))?;
-        put_row(text, prefix, attrs, &common, &bgp)?;
+        put_row(text, prefix, attrs, common, &bgp)?;
         Ok(())
     }
 
@@ -162,20 +160,21 @@ impl<'a, T: Tables> ServerPages<'a, T> {
     /// Puts the row of a route.
     fn put_route(
         &self,
-        view: View,
+        item: Item,
         listing: Listing,
-        stage: Stage,
-        page: Page,
         prefix: &Prefix,
         attrs: &Attrs,
         text: &mut Vec<u8>,
     ) -> Result<(), AllocError>
         requires { text.old.items ≡ [] }
-        ensures { OnOk result (IsRow view stage prefix.now attrs.now text.new.items) }
+        ensures { OnOk result (IsRow item.view item.stage prefix.now attrs.now text.new.items) }
     {
-        match view {
+        match item.view {
             View::ReceivedTable | View::SentTable => self.put_shown(prefix, attrs, text),
-            _ => self.put_listed(listing, stage, page, prefix, attrs, text),
+            _ => {
+                let common = self.common(listing.table(), listing.owner(item.page))?;
+                self.put_listed(item.stage, &common, prefix, attrs, text)
+            }
         }
     }
 
@@ -200,22 +199,20 @@ impl<'a, T: Tables> ServerPages<'a, T> {
     /// Puts the next route of a page that lists some, or passes it over, or goes on to what is behind the table.
     pub(super) fn put_next_route(
         &self,
-        view: View,
+        item: Item,
         listing: Listing,
-        stage: Stage,
-        page: Page,
         text: &mut Vec<u8>,
     ) -> Result<Option<Page>, AllocError>
         requires { text.old.items ≡ [] }
-        ensures { IfOk result (λ next. IsRouteItem (T.first self.now.tables.now) (T.configured self.now.tables.now) view listing stage page text.new.items next) }
+        ensures { IfOk result (λ next. IsRouteItem (T.first self.now.tables.now) (T.configured self.now.tables.now) item.view listing item.stage item.page text.new.items next) }
     {
-        let Some((prefix, attrs)) = self.next_route(listing, page) else {
-            return self.put_behind_table(view, listing, page, text);
+        let Some((prefix, attrs)) = self.next_route(listing, item.page) else {
+            return self.put_behind_table(item.view, listing, item.page, text);
         };
-        if !self.lists(listing, page, &prefix, attrs) {
-            return Ok(Some(passing_over(page, &prefix)));
+        if !self.lists(listing, item.page, &prefix, attrs) {
+            return Ok(Some(passing_over(item.page, &prefix)));
         }
-        self.put_route(view, listing, stage, page, &prefix, attrs, text)?;
-        Ok(Some(behind_route(view, page, &prefix)))
+        self.put_route(item, listing, &prefix, attrs, text)?;
+        Ok(Some(behind_route(item.view, item.page, &prefix)))
     }
 }
