@@ -100,85 +100,6 @@ fn value_shown(
     }
 }
 
-/// The value that stands at a place, and the form that is expected there.
-fn value_line(
-    alloc: Global,
-    source: &Source<'_>,
-    document: &Value,
-    place: &Place,
-) -> Result<String, AllocError> {
-    let steps = steps_to(alloc, place)?;
-    let spot = spot(alloc, source.text, &steps)?;
-    let at = position_at(alloc, &source.files, spot)?;
-    let value = value_shown(alloc, source.text, spot, value_at(document, &steps))?;
-    let form = form(place);
-    match place.table {
-        Table::Entry(_, _) => format!(in alloc; "{at}{value}; expected: {form}"),
-        _ => format!(in alloc; "{at}{} = {value}; expected: {form}", place.key.text()),
-    }
-}
-
-/// The keys of a table that it may not have, and those that it may.
-fn unknown_line(
-    alloc: Global,
-    source: &Source<'_>,
-    document: &Value,
-    table: Table,
-) -> Result<String, AllocError> {
-    let mut steps = steps_to_table(alloc, table)?;
-    let mut unknown = String::new(alloc);
-    let entries = value_at(document, &steps).and_then(|value| value.as_table());
-    let uses = entries.is_some_and(|entries| entries.get("use").is_some());
-    if let Some(entries) = entries {
-        for (key, _) in entries {
-            if !is_known(table, uses, key.as_str()) {
-                if unknown.is_empty() {
-                    steps.push(Step::Key(key.as_str()))?;
-                }
-                unknown.push(' ')?;
-                unknown.push_str(key.as_str())?;
-            }
-        }
-    }
-    let mut line = position_of(alloc, source, &steps)?;
-    let unknown = shown(alloc, unknown.as_str())?;
-    line.push_str("not known here:")?;
-    line.push_str(unknown.as_str())?;
-    line.push_str("; known:")?;
-    for key in known_keys(table, uses) {
-        line.push(' ')?;
-        line.push_str(key.text())?;
-    }
-    Ok(line)
-}
-
-/// What is missing in a table, and its form.
-fn missing_line(alloc: Global, source: &Source<'_>, place: &Place) -> Result<String, AllocError> {
-    let steps = steps_to_table(alloc, place.table)?;
-    let at = position_of(alloc, source, &steps)?;
-    format!(in alloc; "{at}expected: {} = {}", place.key.text(), form(place))
-}
-
-/// How many values an array has, and how many it may have.
-fn many_line(
-    alloc: Global,
-    source: &Source<'_>,
-    document: &Value,
-    place: &Place,
-) -> Result<String, AllocError> {
-    let steps = steps_to(alloc, place)?;
-    let at = position_of(alloc, source, &steps)?;
-    let count = match value_at(document, &steps).and_then(|value| value.as_array()) {
-        None => 0,
-        Some(values) => values.len(),
-    };
-    format!(in alloc;
-        "{at}{} has {count}; expected: {}",
-        place.key.text(),
-        form(place)
-    )
-}
-
 /// Whether two values are there and the same.
 fn is_same(a: Option<&Value>, b: Option<&Value>) -> bool {
     match (a, b) {
@@ -200,30 +121,103 @@ fn earlier(tables: &[Value], number: usize, keys: &[&str]) -> Option<usize> {
     }
 }
 
-/// What a table of an array has that an earlier one has too.
-fn twice_line(
-    alloc: Global,
-    source: &Source<'_>,
-    document: &Value,
-    table: Table,
-) -> Result<String, AllocError> {
-    let steps = steps_to_table(alloc, table)?;
-    let at = position_of(alloc, source, &steps)?;
-    let (array, number) = match table {
-        Table::Client(number) => ("client", number),
-        Table::List(number) => ("list", number),
-        Table::Rules(number) => ("rules", number),
-        _ => return Ok(at),
-    };
-    let Some(tables) = document.get(array).and_then(|value| value.as_array()) else {
-        return Ok(at);
-    };
-    if let Some(same) = earlier(tables, number, &["name"]) {
-        return format!(in alloc; "{at}{array} {same} has this name too");
+/// A text, and the document that it was read as.
+#[derive(Clone, Copy)]
+struct Parsed<'a> {
+    source: &'a Source<'a>,
+    document: &'a Value,
+}
+
+impl Parsed<'_> {
+    /// The value that stands at a place, and the form that is expected there.
+    fn value_line(&self, alloc: Global, place: &Place) -> Result<String, AllocError> {
+        let steps = steps_to(alloc, place)?;
+        let spot = spot(alloc, self.source.text, &steps)?;
+        let at = position_at(alloc, &self.source.files, spot)?;
+        let value = value_shown(
+            alloc,
+            self.source.text,
+            spot,
+            value_at(self.document, &steps),
+        )?;
+        let form = form(place);
+        match place.table {
+            Table::Entry(_, _) => format!(in alloc; "{at}{value}; expected: {form}"),
+            _ => format!(in alloc; "{at}{} = {value}; expected: {form}", place.key.text()),
+        }
     }
-    match earlier(tables, number, &["listen", "peer"]) {
-        Some(same) => format!(in alloc; "{at}{array} {same} has this listen and peer too"),
-        None => Ok(at),
+
+    /// The keys of a table that it may not have, and those that it may.
+    fn unknown_line(&self, alloc: Global, table: Table) -> Result<String, AllocError> {
+        let mut steps = steps_to_table(alloc, table)?;
+        let mut unknown = String::new(alloc);
+        let entries = value_at(self.document, &steps).and_then(|value| value.as_table());
+        let uses = entries.is_some_and(|entries| entries.get("use").is_some());
+        if let Some(entries) = entries {
+            for (key, _) in entries {
+                if !is_known(table, uses, key.as_str()) {
+                    if unknown.is_empty() {
+                        steps.push(Step::Key(key.as_str()))?;
+                    }
+                    unknown.push(' ')?;
+                    unknown.push_str(key.as_str())?;
+                }
+            }
+        }
+        let mut line = position_of(alloc, self.source, &steps)?;
+        let unknown = shown(alloc, unknown.as_str())?;
+        line.push_str("not known here:")?;
+        line.push_str(unknown.as_str())?;
+        line.push_str("; known:")?;
+        for key in known_keys(table, uses) {
+            line.push(' ')?;
+            line.push_str(key.text())?;
+        }
+        Ok(line)
+    }
+
+    /// What is missing in a table, and its form.
+    fn missing_line(&self, alloc: Global, place: &Place) -> Result<String, AllocError> {
+        let steps = steps_to_table(alloc, place.table)?;
+        let at = position_of(alloc, self.source, &steps)?;
+        format!(in alloc; "{at}expected: {} = {}", place.key.text(), form(place))
+    }
+
+    /// How many values an array has, and how many it may have.
+    fn many_line(&self, alloc: Global, place: &Place) -> Result<String, AllocError> {
+        let steps = steps_to(alloc, place)?;
+        let at = position_of(alloc, self.source, &steps)?;
+        let count = match value_at(self.document, &steps).and_then(|value| value.as_array()) {
+            None => 0,
+            Some(values) => values.len(),
+        };
+        format!(in alloc;
+            "{at}{} has {count}; expected: {}",
+            place.key.text(),
+            form(place)
+        )
+    }
+
+    /// What a table of an array has that an earlier one has too.
+    fn twice_line(&self, alloc: Global, table: Table) -> Result<String, AllocError> {
+        let steps = steps_to_table(alloc, table)?;
+        let at = position_of(alloc, self.source, &steps)?;
+        let (array, number) = match table {
+            Table::Client(number) => ("client", number),
+            Table::List(number) => ("list", number),
+            Table::Rules(number) => ("rules", number),
+            _ => return Ok(at),
+        };
+        let Some(tables) = self.document.get(array).and_then(|value| value.as_array()) else {
+            return Ok(at);
+        };
+        if let Some(same) = earlier(tables, number, &["name"]) {
+            return format!(in alloc; "{at}{array} {same} has this name too");
+        }
+        match earlier(tables, number, &["listen", "peer"]) {
+            Some(same) => format!(in alloc; "{at}{array} {same} has this listen and peer too"),
+            None => Ok(at),
+        }
     }
 }
 
@@ -234,18 +228,17 @@ pub(crate) fn line_about(
     document: &Value,
     fault: &ConfigFault,
 ) -> Result<Option<String>, AllocError> {
+    let parsed = Parsed { source, document };
     let line = match fault {
         ConfigFault::BadValue(place) if place.key == Key::Other => {
-            unknown_line(alloc, source, document, place.table)?
+            parsed.unknown_line(alloc, place.table)?
         }
-        ConfigFault::BadValue(place) => value_line(alloc, source, document, place)?,
-        ConfigFault::Missing(place) => missing_line(alloc, source, place)?,
-        ConfigFault::TooMany(place) => many_line(alloc, source, document, place)?,
-        ConfigFault::Twice(client) => twice_line(alloc, source, document, Table::Client(*client))?,
-        ConfigFault::TwiceList(list) => twice_line(alloc, source, document, Table::List(*list))?,
-        ConfigFault::TwiceRules(rules) => {
-            twice_line(alloc, source, document, Table::Rules(*rules))?
-        }
+        ConfigFault::BadValue(place) => parsed.value_line(alloc, place)?,
+        ConfigFault::Missing(place) => parsed.missing_line(alloc, place)?,
+        ConfigFault::TooMany(place) => parsed.many_line(alloc, place)?,
+        ConfigFault::Twice(client) => parsed.twice_line(alloc, Table::Client(*client))?,
+        ConfigFault::TwiceList(list) => parsed.twice_line(alloc, Table::List(*list))?,
+        ConfigFault::TwiceRules(rules) => { parsed.twice_line(alloc, Table::Rules(*rules))? }
         ConfigFault::Syntax | ConfigFault::OutOfMemory => return Ok(None),
     };
     Ok(Some(line))

@@ -241,6 +241,10 @@ fn report_more<R: Eprint>(rt: &R, more: Result<(), AllocError>) {
 
 /// Prints whether the configuration is good whose text the files of these names are together, and what more
 /// there is to say of it; answers the status to end with.
+///
+/// # Errors
+///
+/// That of a line on standard output.
 pub fn check_texts<R: Print + Eprint>(
     rt: &R,
     alloc: Global,

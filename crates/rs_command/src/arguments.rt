@@ -14,16 +14,29 @@ pub(crate) fn config<'a>(alloc: Global) -> Arg<'a> {
         .help("the configuration, a TOML file; the texts of several are joined in their order")
 }
 
-/// The files of the configuration, in their order.
-pub(crate) fn configs_of(
+/// The word that was given by this name, where there is one.
+pub(crate) fn text_of(
     alloc: Global,
     matches: &ArgMatches<'_>,
-) -> Result<Vec<String>, AllocError> {
-    let mut configs = Vec::new(alloc);
-    for config in matches.get_strs("config").unwrap_or(&[]) {
-        configs.push(String::from_str(alloc, config)?)?;
+    name: &str,
+) -> Result<Option<String>, AllocError> {
+    match matches.get_str(name) {
+        Some(word) => Ok(Some(String::from_str(alloc, word)?)),
+        None => Ok(None),
     }
-    Ok(configs)
+}
+
+/// The words that were given by this name, in their order.
+pub(crate) fn texts_of(
+    alloc: Global,
+    matches: &ArgMatches<'_>,
+    name: &str,
+) -> Result<Vec<String>, AllocError> {
+    let mut texts = Vec::new(alloc);
+    for word in matches.get_strs(name).unwrap_or(&[]) {
+        texts.push(String::from_str(alloc, word)?)?;
+    }
+    Ok(texts)
 }
 
 /// `--NAME N`, where N is 1 to `greatest`.

@@ -2,8 +2,8 @@
 //! configuration; the options, the configuration, or the status to end with go out.
 //!
 //! `replay` has the command line of rs_replay and `serve` that of rs_served; `arguments` are the kinds
-//! of arguments that both have, `version` is what both print of themselves, and `asked` is what comes of
-//! a command line. `configuration` reads the file of the configuration, and `status` has the statuses.
+//! of arguments that both have, `version` is what both print of themselves, and `asked` reads a command line
+//! and has what comes of it. `configuration` reads the file of the configuration, and `status` has the statuses.
 //! Nothing else of the repository knows `clap`.
 #![tactic(auto)]
 
@@ -15,5 +15,5 @@ pub mod serve;
 mod status;
 mod version;
 
-pub use asked::Asked;
+pub use asked::{Asked, CommandLine, read_command};
 pub use status::Status;

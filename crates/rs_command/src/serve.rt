@@ -1,11 +1,10 @@
 //! The command line of rs_served.
 
-use crate::Asked;
-use crate::arguments::{config, configs_of, flag, number};
+use crate::arguments::{config, flag, number, text_of, texts_of};
+use crate::asked::CommandLine;
 use crate::version::VERSION;
-use clap::{Arg, ArgMatches, Command, Error};
+use clap::{Arg, ArgMatches, Command};
 use std::alloc::{AllocError, Global};
-use std::io;
 
 /// How much is told on standard error.
 #[derive(Clone, Copy, Debug, PartialEq, Eq)]
@@ -46,46 +45,6 @@ pub struct Options {
     pub record_size: Option<u32>,
     /// The configuration is only to be read.
     pub check: bool,
-}
-
-/// Reads the command line, and prints help or the version on standard output, or what is wrong with it
-/// on standard error. An error is refused memory, or printing that failed.
-pub fn read_command<R: Print + Eprint>(
-    rt: &R,
-    alloc: Global,
-    words: &[String],
-) -> io::Result<Asked<Options>> {
-    Asked::of(rt, read_options(alloc, words))
-}
-
-fn read_options(alloc: Global, words: &[String]) -> Result<Options, Error> {
-    let matches = command(alloc)?.try_get_matches_from(words)?;
-    Ok(options_of(alloc, &matches)?)
-}
-
-fn options_of(alloc: Global, matches: &ArgMatches<'_>) -> Result<Options, AllocError> {
-    Ok(Options {
-        configs: configs_of(alloc, matches)?,
-        workers: matches.get_one::<usize>("workers").unwrap_or(1),
-        sessions: matches.get_one::<u64>("sessions"),
-        reload: matches.get_one::<u16>("reload"),
-        window: text_of(alloc, matches.get_str("window"))?,
-        control: text_of(alloc, matches.get_str("control"))?,
-        ask: text_of(alloc, matches.get_str("ask"))?,
-        log: level_of(matches.get_str("log")),
-        utc: matches.get_flag("utc"),
-        record: text_of(alloc, matches.get_str("record"))?,
-        record_size: matches.get_one::<u32>("record-size"),
-        check: matches.get_flag("check"),
-    })
-}
-
-/// A text of its own, where there is one.
-fn text_of(alloc: Global, text: Option<&str>) -> Result<Option<String>, AllocError> {
-    match text {
-        Some(text) => Ok(Some(String::from_str(alloc, text)?)),
-        None => Ok(None),
-    }
 }
 
 /// The level with this name.
@@ -160,48 +119,66 @@ fn ask<'a>(alloc: Global) -> Result<Arg<'a>, AllocError> {
         .requires_arg("control")
 }
 
-/// The command line that is understood.
-fn command<'a>(alloc: Global) -> Result<Command<'a>, AllocError> {
-    Command::new(alloc, "rs_served")
-        .version(VERSION)
-        .about("A BGP-4 route server for internet exchanges")
-        .arg(
-            config(alloc)
-                .required(false)
-                .required_unless_present("ask")?,
-        )?
-        .arg(number(
-            alloc,
-            "workers",
-            16,
-            "how many threads decide where much has changed, 1 to 16 (1 if missing)",
-        ))?
-        .arg(number(
-            alloc,
-            "sessions",
-            u32::MAX,
-            "end once so many sessions have ended",
-        ))?
-        .arg(number(
-            alloc,
-            "reload",
-            u32::from(u16::MAX),
-            "read the configuration again every N rounds, and use its rules where they are good",
-        ))?
-        .arg(window(alloc))?
-        .arg(control(alloc))?
-        .arg(ask(alloc)?)?
-        .arg(log(alloc))?
-        .arg(flag(
-            alloc,
-            "utc",
-            "begin these lines with the time of day, in place of the seconds since the start",
-        ))?
-        .arg(record(alloc))?
-        .arg(record_size(alloc)?)?
-        .arg(flag(
-            alloc,
-            "check",
-            "only read the configuration, and say whether it is good",
-        ))
+impl CommandLine for Options {
+    fn command<'a>(alloc: Global) -> Result<Command<'a>, AllocError> {
+        Command::new(alloc, "rs_served")
+            .version(VERSION)
+            .about("A BGP-4 route server for internet exchanges")
+            .arg(
+                config(alloc)
+                    .required(false)
+                    .required_unless_present("ask")?,
+            )?
+            .arg(number(
+                alloc,
+                "workers",
+                16,
+                "how many threads decide where much has changed, 1 to 16 (1 if missing)",
+            ))?
+            .arg(number(
+                alloc,
+                "sessions",
+                u32::MAX,
+                "end once so many sessions have ended",
+            ))?
+            .arg(number(
+                alloc,
+                "reload",
+                u32::from(u16::MAX),
+                "read the configuration again every N rounds, and use its rules where they are good",
+            ))?
+            .arg(window(alloc))?
+            .arg(control(alloc))?
+            .arg(ask(alloc)?)?
+            .arg(log(alloc))?
+            .arg(flag(
+                alloc,
+                "utc",
+                "begin these lines with the time of day, in place of the seconds since the start",
+            ))?
+            .arg(record(alloc))?
+            .arg(record_size(alloc)?)?
+            .arg(flag(
+                alloc,
+                "check",
+                "only read the configuration, and say whether it is good",
+            ))
+    }
+
+    fn read(alloc: Global, matches: &ArgMatches<'_>) -> Result<Options, AllocError> {
+        Ok(Options {
+            configs: texts_of(alloc, matches, "config")?,
+            workers: matches.get_one::<usize>("workers").unwrap_or(1),
+            sessions: matches.get_one::<u64>("sessions"),
+            reload: matches.get_one::<u16>("reload"),
+            window: text_of(alloc, matches, "window")?,
+            control: text_of(alloc, matches, "control")?,
+            ask: text_of(alloc, matches, "ask")?,
+            log: level_of(matches.get_str("log")),
+            utc: matches.get_flag("utc"),
+            record: text_of(alloc, matches, "record")?,
+            record_size: matches.get_one::<u32>("record-size"),
+            check: matches.get_flag("check"),
+        })
+    }
 }

@@ -1,7 +1,9 @@
 -- How far a tape has a record of the steps of a link.
 use Rattle.std.specs.Prelude.{◌≡◌, ℕ, Bool, true, false, List, [], ◌++◌, Option, Some, None}
-use Rattle.rs_core.specs.Drives.Steps.{Step}
-use Rattle.rs_core.specs.Drives.Courses.{Course}
+use Rattle.rs_core.specs.Core.{client_count}
+use Rattle.rs_core.specs.declared.route_server.Core.{Core}
+use Rattle.rs_core.specs.Drives.Steps.{Step, HasStopped}
+use Rattle.rs_core.specs.Drives.Courses.{Course, Continues}
 use Rattle.rs_core.specs.Drives.Answers.{Drives}
 use Rattle.rs_trace.specs.Trace.{LineMeaning}
 use Rattle.rs_trace.specs.Replays.{place_in}
@@ -53,6 +55,12 @@ pub record IsRecord (names : Names) (went : Bool) (steps : List Step) (fault : O
   pub taped : IsTaped names steps held holds
   pub whole : goes fault is_over ≡ true → taped.rest ≡ []
   pub over : StaysOver went (goes fault is_over) held holds
+
+-- A route server was driven by a link until that stopped: the clients are as many as they were, and what both did is a drive.
+pub record IsDriven {L : Type 0} (happens : L → Step → L → Type 0) (core : Core) (link : L) (driven : Core) (stopped : L) : Type 0 where
+  pub count : client_count driven ≡ client_count core
+  pub led : HasStopped happens link stopped
+  pub drives : Continues happens core link driven stopped Drives
 
 -- a drive, and the record of its steps
 pub record DrivesRecorded (names : Names) (went : Bool) (fault : Option RecordFault) (is_over : Bool) (held holds : List ℕ) (x y : Course) : Type 0 where

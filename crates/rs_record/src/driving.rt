@@ -1,11 +1,8 @@
 //! Drives a route server by a link, and records what happens.
 
 ghost use Rattle.std.specs.Prelude.{◌≡◌, ◌<◌, ◌≤◌};
-ghost use Rattle.rs_core.specs.Core.{client_count};
-ghost use Rattle.rs_core.specs.Drives.Steps.{HasStopped};
 ghost use Rattle.rs_core.specs.Drives.Courses.{Continues};
-ghost use Rattle.rs_core.specs.Drives.Answers.{Drives};
-ghost use Rattle.rs_record.specs.Records.{DrivesRecorded, goes};
+ghost use Rattle.rs_record.specs.Records.{DrivesRecorded, IsDriven, goes};
 
 use crate::recorded::Recorded;
 use crate::recorder::Recorder;
@@ -23,9 +20,7 @@ pub fn drive_recorded<L: Source + Sink, T: Tape>(
     recorder: &mut Recorder,
     tape: &mut T,
 )
-    ensures count { client_count core.new ≡ client_count core.old }
-    ensures led { HasStopped L.happens link.old link.new }
-    ensures drives { Continues L.happens core.old link.old core.new link.new Drives }
+    ensures driven { IsDriven L.happens core.old link.old core.new link.new }
     ensures recorded { Continues L.happens core.old link.old core.new link.new (DrivesRecorded recorder.old.names.names (goes recorder.old.fault (T.is_over tape.old)) recorder.new.fault (T.is_over tape.new) (T.holds tape.old) (T.holds tape.new)) }
     ensures names { recorder.new.names ≡ recorder.old.names }
 {
@@ -45,9 +40,7 @@ pub fn drive_recorded_with<R: Threads + Wait + Sync, G: Gate, L: Source + Sink, 
     tape: &mut T,
 )
     requires workers { (0 < workers) × (workers ≤ 16) }
-    ensures count { client_count core.new ≡ client_count core.old }
-    ensures led { HasStopped L.happens link.old link.new }
-    ensures drives { Continues L.happens core.old link.old core.new link.new Drives }
+    ensures driven { IsDriven L.happens core.old link.old core.new link.new }
     ensures recorded { Continues L.happens core.old link.old core.new link.new (DrivesRecorded recorder.old.names.names (goes recorder.old.fault (T.is_over tape.old)) recorder.new.fault (T.is_over tape.new) (T.holds tape.old) (T.holds tape.new)) }
     ensures names { recorder.new.names ≡ recorder.old.names }
 {

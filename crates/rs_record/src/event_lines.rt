@@ -301,6 +301,10 @@ fn put_rules(line: &mut Vec<u8>, names: &ClientNames, text: &[u8]) -> Result<(),
 /// Puts the lines that mean an event, with the octets at the front of the piece and the text of rules that
 /// came last. None mean a stop, and an event that changes nothing: of a client that is not there, or of more
 /// octets than a piece has.
+///
+/// # Errors
+///
+/// `TextTooLong` of rules beyond 64 MiB, and `Memory`; a part of the lines may stand there then.
 pub fn put_event(
     line: &mut Vec<u8>,
     names: &ClientNames,

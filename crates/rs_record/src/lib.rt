@@ -6,6 +6,8 @@
 //!   clients by their `client_names`.
 //! - `tape` is where the lines go.
 //! - `laws` are contracts of functions that do nothing.
+//!
+//! The tests stand in `rs_tests`, in `src/record.rt`.
 #![tactic(auto)]
 
 mod client_names;
@@ -15,8 +17,6 @@ mod laws;
 mod recorded;
 mod recorder;
 mod tape;
-#[cfg(test)]
-mod tests;
 
 pub use client_names::ClientNames;
 pub use driving::{drive_recorded, drive_recorded_with};

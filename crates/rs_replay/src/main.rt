@@ -18,12 +18,12 @@ use crate::playing::{Outcome, play_and_compare};
 use crate::tables::{table_lines, unknown_table};
 use crate::until::Until;
 use rs_command::configuration::read_configuration;
-use rs_command::replay::{Options, read_command};
-use rs_command::{Asked, Status};
+use rs_command::replay::Options;
+use rs_command::{Asked, Status, read_command};
 use rs_policy::Config;
 use rs_trace::fault::ReplayFault;
 use rs_trace::progress::{Measure, Progress, Unmeasured, Unwatched, Watch};
-use rs_trace::replay::replay;
+use rs_trace::replay::{Means, replay};
 use rs_trace::text::{OverRead, OverWrite, TextIn, TextOut};
 use std::io::{BufWriter, ErrorKind, IsTerminal, Read};
 use std::process::ExitCode;
@@ -82,9 +82,8 @@ fn play_text<R: Files + AllocGlobal + Threads + Wait + Sync, I: TextIn, O: TextO
         return Ok(Outcome::BadFile(ReplayFault::Reading));
     };
     let mut sent = OverRead::new(file);
-    play_and_compare(
-        rt, alloc, reader, writer, watch, config, workers, &mut sent, until,
-    )
+    let means = Means { rt, alloc, workers };
+    play_and_compare(&means, reader, writer, watch, config, &mut sent, until)
 }
 
 /// Plays standard input to standard output.

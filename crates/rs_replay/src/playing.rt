@@ -8,9 +8,8 @@ use crate::sent::read_sent;
 use rs_policy::Config;
 use rs_trace::fault::ReplayFault;
 use rs_trace::progress::Watch;
-use rs_trace::replay::play_through;
+use rs_trace::replay::{Means, play_through};
 use rs_trace::text::{TextIn, TextOut};
-use std::alloc::Global;
 use std::sync::Wait;
 use std::thread::Threads;
 
@@ -47,7 +46,7 @@ fn outcome_of(is_same: bool) -> Outcome
 }
 
 /// Plays a trace, and then writes how what another server sent, a text, differs from what is due. What
-/// was sent behind line `until` of the trace is left out.
+/// was sent after line `until` of the trace is left out.
 pub(crate) fn play_and_compare<
     T: Threads + Wait + Sync,
     R: TextIn,
@@ -55,20 +54,19 @@ pub(crate) fn play_and_compare<
     P: Watch,
     S: TextIn,
 >(
-    rt: &T,
-    alloc: Global,
+    means: &Means<'_, T>,
     reader: &mut R,
     writer: &mut W,
     watch: &mut P,
     config: Config,
-    workers: usize,
     sent: &mut S,
     until: u64,
 ) -> Result<Outcome, ReplayFault>
-    requires { (0 < workers) × (workers ≤ 16) }
+    requires { (0 < means.now.workers) × (means.now.workers ≤ 16) }
     ensures { IfOk result (λ outcome. HasCompared config R.takes R.at_end W.puts S.takes S.at_end S.failures until reader.old writer.old sent.old reader.new writer.new sent.new outcome) }
 {
-    let played = play_through(rt, alloc, reader, writer, watch, config, workers)?;
+    let alloc = means.alloc;
+    let played = play_through(means, reader, writer, watch, config)?;
     let connections = match read_sent(alloc, &played.core, &played.names, sent, until) {
         Ok(connections) => connections,
         Err(fault) => return bad_file(fault),

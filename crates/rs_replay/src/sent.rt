@@ -86,7 +86,7 @@ fn hear(
 /// What a line comes to.
 #[derive(Clone, Copy)]
 enum Next {
-    /// Nothing behind it counts, or there is no line any more.
+    /// Nothing after it counts, or there is no line any more.
     Over,
     /// It is passed over.
     Passed,
@@ -155,7 +155,7 @@ fn take_line<R: TextIn>(
     }
 }
 
-/// What was sent to each client since its last connection began, up to what was sent behind this line
+/// What was sent to each client since its last connection began, up to what was sent after this line
 /// of the trace.
 ///
 /// # Errors

@@ -1,15 +1,14 @@
 //! The lines of a file of what another server sent: what each says, and the first fault of one that says
 //! nothing.
 
-ghost use Rattle.std.specs.Prelude.{◌≡◌, ℕ, List, option_map, take};
+ghost use Rattle.std.specs.Prelude.{◌≡◌, ℕ, List};
 ghost use Rattle.rs_trace.specs.Replays.{place_in};
-ghost use Rattle.rs_trace.specs.Trace.{octets_of};
 ghost use Rattle.rs_trace.specs.Words.{AreOperands};
 ghost use Rattle.rs_replay.specs.SentLines.{entry_as_said, is_output_word, said_by, said_of, word_of};
 
 use rs_trace::names::Names;
 use rs_trace::number::read_number;
-use rs_trace::trace::{LONGEST_LINE, LONGEST_PIECE, LineFault, Places};
+use rs_trace::trace::{LineFault, Places, has_words, read_hex};
 use rs_trace::words::{Operands, split_words};
 
 /// The word that a line begins with.
@@ -29,7 +28,7 @@ pub(crate) enum Entry {
     Open(usize),
     /// The server sends it so many octets, which stand at the front of a piece.
     Sent(usize, usize),
-    /// What follows was sent behind this line of the trace.
+    /// What follows was sent after this line of the trace.
     After(u64),
 }
 
@@ -37,7 +36,7 @@ impl Entry {
     ghost use Rattle.rs_replay.specs.SentLines.{said_in};
     ghost use Rattle.rs_replay.specs.Sent.{is_later};
 
-    /// Whether what follows was sent behind a later line of the trace than this.
+    /// Whether what follows was sent after a later line of the trace than this.
     pub(crate) fn is_later(self, until: u64) -> bool
         ensures { (piece : List ℕ) → result ≡ is_later until (said_in piece self) }
     {
@@ -81,20 +80,6 @@ fn read_word(text: &[u8]) -> Option<Word>
     }
 }
 
-/// Reads hex to the front of the piece, and answers how many octets that makes.
-fn read_hex(digits: &[u8], piece: &mut [u8; 4096]) -> Option<usize>
-    ensures { option_map (λ n. take n piece.new) result ≡ octets_of digits.now }
-{
-    if digits.len() > 2 * LONGEST_PIECE {
-        return None;
-    }
-    let size = digits.len() / 2;
-    match hex::decode_to_slice(digits, &mut piece[..size]) {
-        Ok(()) => Some(size),
-        Err(_) => None,
-    }
-}
-
 fn entry_of(
     names: &Names,
     word: Word,
@@ -131,10 +116,7 @@ pub(crate) fn read_sent_line(
 ) -> Result<Option<Entry>, LineFault>
     ensures { entry_as_said piece.new result ≡ said_of (place_in names.now) line.now }
 {
-    if line.len() > LONGEST_LINE {
-        return Err(LineFault::TooLong);
-    }
-    if line.is_empty() || line[0] == b'#' {
+    if !has_words(line)? {
         return Ok(None);
     }
     let (first, operands) = split_words(line);

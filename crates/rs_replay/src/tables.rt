@@ -1,4 +1,4 @@
-//! The clients whose routes are listed at the end: lines that ask for that, behind those of the trace.
+//! The clients whose routes are listed at the end: lines that ask for that, after those of the trace.
 
 ghost use Rattle.std.specs.Prelude.{◌≡◌, ◌++◌, ◌∷◌, [], codes, IfOk, string_bytes};
 ghost use Rattle.std.specs.List.{flat_map};

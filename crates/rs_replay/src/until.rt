@@ -5,7 +5,7 @@ ghost use Rattle.std.specs.Prelude.{◌≤◌, length};
 use std::io;
 use std::io::Read;
 
-/// A reader that ends behind so many lines of another.
+/// A reader that ends after so many lines of another.
 #[derive(Drop)]
 pub(crate) struct Until<R> {
     reader: R,

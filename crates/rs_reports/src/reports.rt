@@ -163,20 +163,21 @@ impl fmt::Display for Noted<'_> {
 
 /// What a session ended with.
 fn sent(note: &Short) -> Option<Noted<'_>> {
-    match note {
-        Short::Note {
-            code,
-            sub,
-            extra,
-            count,
-        } => Some(Noted {
-            way: "sent",
-            code: *code,
-            sub: *sub,
-            data: extra.get(..usize::from(*count)).unwrap_or(extra),
-        }),
-        _ => None,
-    }
+    let Short::Note {
+        code,
+        sub,
+        extra,
+        count,
+    } = note
+    else {
+        return None;
+    };
+    Some(Noted {
+        way: "sent",
+        code: *code,
+        sub: *sub,
+        data: extra.get(..usize::from(*count)).unwrap_or(extra),
+    })
 }
 
 fn heard(notice: &Notice) -> Noted<'_> {
@@ -221,15 +222,8 @@ fn refused_by(ending: &Option<Ending>) -> Option<u8> {
 /// says Administrative Shutdown (RFC 4486, 4).
 fn shut_down(note: &Short) -> Option<&[u8]> {
     let name = Notification::AdministrativeShutdown;
-    match note {
-        Short::Note {
-            code,
-            sub,
-            extra,
-            count,
-        } if *code == name.code() && *sub == name.sub() => {
-            Some(extra.get(..usize::from(*count)).unwrap_or(extra))
-        }
+    match sent(note) {
+        Some(said) if said.code == name.code() && said.sub == name.sub() => Some(said.data),
         _ => None,
     }
 }

@@ -138,6 +138,10 @@ impl FileWatch {
 
     /// Looks at the files and reads them at once, however long they have stood still. Answers whether their text
     /// stands in `text` then: not where one was changed meanwhile.
+    ///
+    /// # Errors
+    ///
+    /// Why they were not read; what `text` has then is not said.
     pub fn take_now<F: WatchedFiles>(
         &mut self,
         files: &mut F,

@@ -107,6 +107,10 @@ impl<S: Appended> RecordFile<S> {
     }
 
     /// Writes a step of what waits, and further until at most so many octets wait.
+    ///
+    /// # Errors
+    ///
+    /// `File` where the file takes nothing: what it hasn't taken still waits.
     pub fn write_to(&mut self, most: usize) -> Result<(), RecordEnd>
         ensures goes { Goes S.takes self.old.file self.old.queue self.new.file self.new.queue }
         ensures fine { IsOk result → length self.new.queue ≤ most }

@@ -38,10 +38,21 @@ pub fn replay<T: Threads + Wait + Sync, R: TextIn, W: TextOut, P: Watch>(
     ensures reads { R.failures reader.new ≡ failures_read (end_of result) (R.failures reader.old) }
     ensures writes { W.failures writer.new ≡ failures_written (end_of result) (W.failures writer.old) }
 {
-    match play_through(rt, alloc, reader, writer, watch, config, workers) {
+    let means = Means { rt, alloc, workers };
+    match play_through(&means, reader, writer, watch, config) {
         Ok(_) => Ok(()),
         Err(fault) => Err(fault),
     }
+}
+
+/// By what a trace is played.
+#[derive(Drop)]
+pub struct Means<'a, T> {
+    /// The threads of the workers.
+    pub rt: &'a T,
+    pub alloc: Global,
+    /// How many workers share the work of a turn, 1 to 16.
+    pub workers: usize,
 }
 
 /// What is there when a trace was played to its end.
@@ -55,20 +66,19 @@ pub struct Played {
 
 /// Plays a trace as `replay` does, and answers what is there then.
 pub fn play_through<T: Threads + Wait + Sync, R: TextIn, W: TextOut, P: Watch>(
-    rt: &T,
-    alloc: Global,
+    means: &Means<'_, T>,
     reader: &mut R,
     writer: &mut W,
     watch: &mut P,
     config: Config,
-    workers: usize,
 ) -> Result<Played, ReplayFault>
-    requires { (0 < workers) × (workers ≤ 16) }
+    requires { (0 < means.now.workers) × (means.now.workers ≤ 16) }
     ensures played { HasPlayed config (λ text. R.takes reader.old text reader.new) (R.at_end reader.new) (λ octets. W.puts writer.old octets writer.new) (answer_of result) }
     ensures through { IfOk result (λ played. PlaysThrough config R.takes R.at_end W.puts reader.old writer.old reader.new writer.new played) }
     ensures reads { R.failures reader.new ≡ failures_read (end_of (answer_of result)) (R.failures reader.old) }
     ensures writes { W.failures writer.new ≡ failures_written (end_of (answer_of result)) (W.failures writer.old) }
 {
+    let alloc = means.alloc;
     let Ok(names) = Names::new(alloc, &config) else {
         return Err(ReplayFault::Memory);
     };
@@ -79,7 +89,7 @@ pub fn play_through<T: Threads + Wait + Sync, R: TextIn, W: TextOut, P: Watch>(
         return Err(ReplayFault::Memory);
     };
     let mut recording = Recording::new(alloc, &mut kept, reader, writer, watch);
-    match play_on(rt, alloc, workers, &mut core, &mut recording) {
+    match play_on(means.rt, alloc, means.workers, &mut core, &mut recording) {
         Ok(()) => Ok(Played { names, core }),
         Err(fault) => Err(fault),
     }

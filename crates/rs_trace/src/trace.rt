@@ -1,11 +1,11 @@
 //! The lines of a trace: what each says, and the first fault of one that says nothing. A further
 //! kind of line is a further row of `Word`, of `Entry` and of `entry_of`.
 
-ghost use Rattle.std.specs.Prelude.{◌≡◌, ℕ, List, Option, take, ok_or, option_map};
+ghost use Rattle.std.specs.Prelude.{◌≡◌, ℕ, List, Option, Ok, Err, if◌then◌else◌, length, nat_lt, not, take, ok_or, option_map};
 ghost use Rattle.rs_open.specs.Notes.{shutdown_text};
 ghost use Rattle.rs_trace.specs.Words.{AreOperands};
 ghost use Rattle.rs_trace.specs.Output.{fault_text};
-ghost use Rattle.rs_trace.specs.Trace.{word_of, octets_of, text_of, operator_text, meaning_of, line_of};
+ghost use Rattle.rs_trace.specs.Trace.{word_of, is_passed_over, octets_of, text_of, operator_text, meaning_of, line_of};
 ghost use Rattle.rs_trace.specs.Entries.{entry_as_meaning, line_as_meaning};
 
 use crate::number::read_number;
@@ -232,6 +232,17 @@ fn entry_of<P: Places>(
     }
 }
 
+/// Whether a line without its end has words to read: an empty one has none, nor has a comment. One that is
+/// too long is refused.
+pub fn has_words(line: &[u8]) -> Result<bool, LineFault>
+    ensures { result ≡ (if nat_lt 8240 (length line.now) then Err LineFault.TooLong else Ok (not (is_passed_over line.now))) }
+{
+    if line.len() > LONGEST_LINE {
+        return Err(LineFault::TooLong);
+    }
+    Ok(!(line.is_empty() || line[0] == b'#'))
+}
+
 /// Reads a line without its end. Octets that it gives stand at the front of the piece. Nothing is
 /// answered for an empty line and for a comment.
 pub fn read_line<P: Places>(
@@ -241,10 +252,7 @@ pub fn read_line<P: Places>(
 ) -> Result<Option<Entry>, LineFault>
     ensures meaning { line_as_meaning piece.new result ≡ line_of (P.place_of names.now) line.now }
 {
-    if line.len() > LONGEST_LINE {
-        return Err(LineFault::TooLong);
-    }
-    if line.is_empty() || line[0] == b'#' {
+    if !has_words(line)? {
         return Ok(None);
     }
     let (first, operands) = split_words(line);

@@ -1,10 +1,13 @@
 //! The lines of a trace, with the text of rules that several of them give.
 
-ghost use Rattle.std.specs.Prelude.{◌≡◌, ◌≤◌, ◌<◌, ◌++◌, ◌⊎◌, [], false, length, IfOk, IfErr, OnOk};
+ghost use Rattle.std.specs.Prelude.{◌≡◌, ◌≤◌, ◌<◌, ◌++◌, ◌⊎◌, ℕ, [], false, length, suc, IfOk, IfErr, OnOk};
 
 use crate::fault::{ReplayFault, Stop};
 use crate::lines::Lines;
-use crate::trace::{Entry, LONGEST_TEXT, LineFault};
+use crate::names::Names;
+use crate::progress::Watch;
+use crate::text::TextIn;
+use crate::trace::{Entry, LONGEST_TEXT, LineFault, read_line};
 use rs_core::Event;
 use std::alloc::{AllocError, Global};
 use std::mem;
@@ -22,6 +25,8 @@ pub struct TraceLines {
 impl TraceLines {
     ghost use Rattle.rs_trace.specs.Entries.{line_meant};
     ghost use Rattle.rs_trace.specs.TakingUp.{TakesUp};
+    ghost use Rattle.rs_trace.specs.Played.{failures_read, failures_written};
+    ghost use Rattle.rs_trace.specs.Replays.{ReadsOn, place_in, meanings_in, stop_of};
     ghost use Rattle.rs_trace.specs.declared.fault.ReplayFault.TheVariants as faults;
     ghost use Rattle.rs_trace.specs.declared.fault.Stop.TheVariants as stops;
 
@@ -63,7 +68,7 @@ impl TraceLines {
 
     /// What the line of this number asks for, as an event, where it asks for one; octets that it gives stand
     /// at the front of the piece. A text of rules is kept until its last line.
-    pub(crate) fn event_of(
+    fn event_of(
         &mut self,
         number: u64,
         entry: Option<Entry>,
@@ -93,6 +98,40 @@ impl TraceLines {
                 self.text.clear();
                 Ok(Some(Event::Rules))
             }
+        }
+    }
+
+    /// Reads a line, and the event that it asks for: none where it asks for none, and a stop where it asks for
+    /// routes. `number` counts the lines.
+    pub(crate) fn read_event<R: TextIn, P: Watch>(
+        &mut self,
+        names: &Names,
+        number: &mut u64,
+        reader: &mut R,
+        watch: &mut P,
+        piece: &mut [u8; 4096],
+    ) -> Result<Option<Event>, Stop>
+        ensures on { ReadsOn R.takes R.at_end (place_in names.now) reader.old number.old self.old reader.new number.new self.new (meanings_in piece.new self.new.rules.items result) (stop_of result) }
+        ensures reads { R.failures reader.new ≡ failures_read (stop_of result) (R.failures reader.old) }
+        ensures unwritten { (n : ℕ) → n ≡ failures_written (stop_of result) n }
+        ensures line { OnOk result (number.new ≡ suc number.old) }
+    {
+        if *number >= u64::MAX - 1 {
+            // The number of a further line has no room.
+            return Err(Stop::Fault(ReplayFault::Memory));
+        }
+        match self.lines.advance(reader) {
+            Ok(true) => {}
+            Ok(false) => return Err(Stop::End),
+            Err(_) => return Err(Stop::Fault(ReplayFault::Reading)),
+        }
+        *number += 1;
+        match read_line(names, self.lines.line(), piece) {
+            Ok(entry) => {
+                watch.line_read(*number, entry, piece);
+                self.event_of(*number, entry, piece)
+            }
+            Err(fault) => Err(Stop::Fault(ReplayFault::Line(*number, fault))),
         }
     }
 }

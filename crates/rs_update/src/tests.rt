@@ -8,7 +8,7 @@ mod rows;
 use crate::outcome::{Outcome, effect};
 use rows::{Row, hold, in_words};
 use rs_attrs::Mode;
-use std::alloc::{AllocError, Global};
+use std::alloc::Global;
 use std::test::Fail;
 
 /// ORIGIN IGP, AS_PATH 64496, NEXT_HOP 192.0.2.11, as a four-octet peer spells them.
@@ -17,26 +17,14 @@ const ROUTE: [u8; 20] = [
 ];
 
 /// The octets that a text of hexadecimal digits and blanks spells, in which `A` stands for `ROUTE`.
-fn octets(alloc: Global, text: &str) -> Result<Vec<u8>, AllocError> {
+fn octets(alloc: Global, text: &str) -> Result<Vec<u8>, Fail> {
     let mut octets = Vec::new(alloc);
-    let mut high = None;
-    for digit in text.bytes() {
-        let value = match digit {
-            b'0'..=b'9' => digit - b'0',
-            b'a'..=b'f' => digit - b'a' + 10,
-            b'A' => {
-                octets.extend_from_slice(&ROUTE)?;
-                continue;
-            }
-            _ => continue,
-        };
-        high = match high {
-            None => Some(value << 4),
-            Some(before) => {
-                octets.push(before | value)?;
-                None
-            }
-        };
+    for word in text.split_whitespace() {
+        if word == "A" {
+            octets.extend_from_slice(&ROUTE)?;
+        } else {
+            octets.extend_from_slice(&hex::decode(alloc, word)?)?;
+        }
     }
     Ok(octets)
 }

@@ -11,21 +11,18 @@ use Rattle.rs_record.proofs.driving.drive_recorded.Goals as goal
 abbrev Step_of : (g : given.Over) → Recorded g.row.L.Denot g.row.T.Denot → Step → Recorded g.row.L.Denot g.row.T.Denot → Type 0
 Step_of g a s b = Outer g.L.Link.happens g.T.Tape.is_over g.T.Tape.holds a s b
 
-pub returns-clause-led : goal.returns-clause-led
-returns-clause-led g c =
+pub returns-clause-driven : goal.returns-clause-driven
+returns-clause-driven g c =
     let made = c.new-recorded.result in
     let last = c.drive.new.link in
     let same = c.finish.ensures.same_link ∙ kept_stopped (Step_of g) (λ w. w.link.ghost_name) (λ a b s h. h.same_link) made last c.drive.ensures.led ∙ c.new-recorded.ensures.link in
-    stopped_at g.L.Link.happens made.link.now last.link.now c.args.link.now _ c.new-recorded.ensures.linked (sym c.finish.ensures.link ∙ search rules)
-    (stopped_inner (Step_of g) g.L.Link.happens (λ w. w.link.now) (λ a b s h. h.linked) made last c.drive.ensures.led)
-
-pub returns-clause-drives : goal.returns-clause-drives
-returns-clause-drives g c =
-    let made = c.new-recorded.result in
-    let last = c.drive.new.link in
-    let same = c.finish.ensures.same_link ∙ kept_stopped (Step_of g) (λ w. w.link.ghost_name) (λ a b s h. h.same_link) made last c.drive.ensures.led ∙ c.new-recorded.ensures.link in
-    drives_at g.L.Link.happens Drives c.args.core.now c.drive.new.core made.link.now last.link.now c.args.link.now _ c.new-recorded.ensures.linked (sym c.finish.ensures.link ∙ search rules)
-    (drives_inner (Step_of g) g.L.Link.happens (λ w. w.link.now) (λ a b s h. h.linked) c.args.core.now made c.drive.new.core last c.drive.ensures.drives)
+    record {
+      count = c.drive.ensures.count;
+      led = stopped_at g.L.Link.happens made.link.now last.link.now c.args.link.now _ c.new-recorded.ensures.linked (sym c.finish.ensures.link ∙ search rules)
+          (stopped_inner (Step_of g) g.L.Link.happens (λ w. w.link.now) (λ a b s h. h.linked) made last c.drive.ensures.led);
+      drives = drives_at g.L.Link.happens Drives c.args.core.now c.drive.new.core made.link.now last.link.now c.args.link.now _ c.new-recorded.ensures.linked (sym c.finish.ensures.link ∙ search rules)
+          (drives_inner (Step_of g) g.L.Link.happens (λ w. w.link.now) (λ a b s h. h.linked) c.args.core.now made c.drive.new.core last c.drive.ensures.drives);
+    }
 
 pub returns-clause-names : goal.returns-clause-names
 returns-clause-names g c =

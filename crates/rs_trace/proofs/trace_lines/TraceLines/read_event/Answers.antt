@@ -8,25 +8,25 @@ use Rattle.rs_trace.specs.Trace.{line_of}
 use Rattle.rs_trace.specs.Replays.{place_in}
 use Rattle.rs_trace.proofs.ReplayLemmas.{means_first, stands_at_fault, taken_up, line_has_meant, line_is_faulty}
 use Rattle.rs_trace.proofs.PlayLemmas.{still_first}
-use Rattle.rs_trace.proofs.entries.read_event.Goals as goal
+use Rattle.rs_trace.proofs.trace_lines.TraceLines.read_event.Goals as goal
 
 pub returns-then-number-clause-on : goal.returns-then-number-clause-on
 returns-then-number-clause-on g c text s goes = (
   [],
   g.met.R.TextIn.takes_none c.args.reader.now,
-  still_first (place_in c.args.names.now) (text ++ []) s (means_first (place_in c.args.names.now) text [] s c.args.number.now c.args.lines.now goes.0 (λ over. refl)),
+  still_first (place_in c.args.names.now) (text ++ []) s (means_first (place_in c.args.names.now) text [] s c.args.number.now c.args.self.now goes.0 (λ over. refl)),
 )
 
 pub returns-in-Err-clause-on : goal.returns-in-Err-clause-on
 returns-in-Err-clause-on g c text s goes =
     let kept = c.in-Err.ensures.kept in
-    (kept.0, kept.1, still_first (place_in c.args.names.now) (text ++ kept.0) s (means_first (place_in c.args.names.now) text kept.0 s c.args.number.now c.args.lines.now goes.0 kept.3))
+    (kept.0, kept.1, still_first (place_in c.args.names.now) (text ++ kept.0) s (means_first (place_in c.args.names.now) text kept.0 s c.args.number.now c.args.self.now goes.0 kept.3))
 
 pub returns-in-Ok-clause-on : goal.returns-in-Ok-clause-on
 returns-in-Ok-clause-on g c text s goes =
     let place = place_in c.args.names.now in
     let step = rw c.in-Ok-true.field-0-test at c.in-Ok-true.ensures.step in
-    let old = c.args.lines.now in
+    let old = c.args.self.now in
     let new = c.event_of.new.self in
     let same : new.lines ≡ c.advance.new.self = c.event_of.ensures.lines in
     let before = g.R.TextIn.at_end c.args.reader.now in
@@ -41,7 +41,7 @@ pub returns-in-Err-read_line-clause-on : goal.returns-in-Err-read_line-clause-on
 returns-in-Err-read_line-clause-on g c text s goes =
     let place = place_in c.args.names.now in
     let step = rw c.in-Ok-true.field-0-test at c.in-Ok-true.ensures.step in
-    let old = c.args.lines.now in
+    let old = c.args.self.now in
     let new : TraceLines = record old { lines = c.advance.new.self } in
     let fault = line_is_faulty c.read_line.new.piece c.in-Err-read_line.fault c.read_line.result (line_of place c.line.result.now) c.in-Err-read_line.is c.read_line.ensures.meaning in
     let says : said old.text.items (line_of place c.advance.new.self.line) ≡ Err c.in-Err-read_line.fault = ap (λ l. said old.text.items (line_of place l)) (sym c.line.ensures) ∙ ap (said old.text.items) fault in
