@@ -8,7 +8,7 @@ use Rattle.rs_live.specs.Operations.{Operation, Did}
 use Rattle.rs_live.specs.Keeping.{Held, all_held}
 use Rattle.rs_live.specs.Handled.{AreKept, Follows, Halts, Has, IsRunning, On}
 use Rattle.rs_live.specs.Leaving.{LeavesClients}
-use Rattle.rs_live.proofs.Handling.{none_more}
+use Rattle.rs_live.proofs.Handling.Calls.{none_more}
 
 -- the ports were asked nothing
 abbrev pub AsksNone : {P : Type 0} → (P → List Call → Type 0) → P → P → Type 0

@@ -4,7 +4,7 @@ use Rattle.std.specs.Prelude.{IsOk}
 use Rattle.rs_live.specs.declared.ports.PortFault.{PortFault}
 use Rattle.rs_live.specs.Calls.{Call, Wrote}
 use Rattle.rs_live.specs.Sending.{taken, NoWrite, OneMore, Sent, Broke}
-use Rattle.rs_live.proofs.Handling.{AsksMore}
+use Rattle.rs_live.proofs.Handling.Calls.{AsksMore}
 
 -- nothing was written yet
 pub unsent : {P : Type 0} (asked : P → List Call → Type 0) (key : Option ℕ) (before : List Call) (first : List ℕ) (p : P) → asked p before → Sent asked key before first p (λ waiting. first ≡ waiting)

@@ -1,13 +1,16 @@
 -- What the window is shown of the core: its tables, by what the run of its moves means.
-use Rattle.std.specs.Prelude.{◌≡◌, ◌≤◌, ◌<◌, ℕ, List, map, Option, None, if◌then◌else◌}
+use Rattle.std.specs.Prelude.{◌≡◌, ◌≤◌, ◌<◌, ℕ, List, map, Option, Some, None, if◌then◌else◌}
 use Rattle.rs_octets.specs.Prefixes.{Prefix}
 use Rattle.rs_attrs.specs.Meaning.{Attribute}
+use Rattle.rs_attrs.specs.declared.mode.Mode.{Mode}
 use Rattle.rs_adjin.specs.Listing.{Sent}
+use Rattle.rs_open.specs.declared.short.Limit.{Limit}
 use Rattle.rs_policy.specs.Configuration.{Configuration}
+use Rattle.rs_outlet.specs.declared.answers.Speech.{Speech}
 use Rattle.rs_core.specs.Core.{client_count}
 use Rattle.rs_core.specs.Run.Agreeing.{Agrees}
 use Rattle.rs_core.specs.Run.Candidates.{candidates_in}
-use Rattle.rs_core.specs.Run.Meaning.{dues, is_established, table}
+use Rattle.rs_core.specs.Run.Meaning.{dues, hearing, is_established, speech_in, table}
 use Rattle.rs_core.specs.Run.Moves.{Move, config_in}
 use Rattle.rs_core.specs.Told.Points.{latest}
 use Rattle.rs_core.specs.declared.route_server.Core.{Core}
@@ -40,3 +43,14 @@ holding_of s = record { member = s.client; identifier = s.identifier; attributes
 -- the routes for a prefix, each with its client and the BGP Identifier of the client's session, by rising client
 abbrev pub AreHeld : Core → Prefix → List Holding → Type 0
 AreHeld core p held = (run : List Move) → Agrees core run → held ≡ map holding_of (candidates_in run p)
+
+-- how a client is spoken to, where it has a mode and a limit
+abbrev pub speech_with : Option Mode → Option Limit → Option Speech
+speech_with (Some mode) (Some limit) = Some (record { mode = mode; limit = limit })
+speech_with (Some mode) None = None
+speech_with None limit = None
+
+-- how a client is spoken to while it is Established: what is due to it fits into a message so; who isn't, or is no client, in no way
+pub record IsSpokenTo (core : Core) (c : ℕ) (speech : Option Speech) : Type 0 where
+  pub client : (run : List Move) → Agrees core run → c < client_count core → speech ≡ speech_in (config_in run) c (hearing c run)
+  pub other : client_count core ≤ c → speech ≡ None

@@ -31,7 +31,7 @@ fn found(metadata: &Metadata) -> Found {
     }
 }
 
-/// What became of a file that was to be read behind a text.
+/// What became of a file that was to be read after a text.
 #[derive(Clone, Copy, Debug, PartialEq, Eq)]
 enum Behind {
     Whole,
@@ -40,7 +40,7 @@ enum Behind {
 }
 
 impl<R: Files> Configuration<'_, R> {
-    /// Reads the file at a path behind a text, on a new line, if it is this version, before and after.
+    /// Reads the file at a path after a text, on a new line, if it is this version, before and after.
     fn read_version(&self, path: &str, version: &Found, text: &mut Vec<u8>) -> io::Result<Behind> {
         let mut file = fs::open(self.rt, path)?;
         if found(&file.metadata()?) != *version {

@@ -1,18 +1,19 @@
 //! The tables of the core, as the pages of the window ask for them.
 
-ghost use Rattle.std.specs.Prelude.{◌<◌, List, option_map};
+ghost use Rattle.std.specs.Prelude.{◌≡◌, ◌<◌, List, option_map};
 ghost use Rattle.std.specs.Arc.{arc_value};
 ghost use Rattle.rs_core.specs.Core.{client_count};
 ghost use Rattle.rs_core.specs.Run.Agreeing.{Agrees};
 ghost use Rattle.rs_core.specs.Run.Meaning.{table};
 ghost use Rattle.rs_core.specs.Run.Moves.{Move};
 ghost use Rattle.rs_pages.specs.Firsts.{IsFirst};
-ghost use Rattle.rs_live.specs.Shown.{due_last};
+ghost use Rattle.rs_live.specs.Shown.{due_last, speech_with};
 
-use rs_attrs::Attrs;
+use rs_attrs::{Attrs, Mode};
 use rs_core::{Core, Ending};
 use rs_octets::Prefix;
-use rs_open::Short;
+use rs_open::{Limit, Short};
+use rs_outlet::Speech;
 use rs_pages::keys::{key, prefix_at};
 use rs_pages::tables::{Ended, Faults, Holder, Rib, Tables};
 use rs_policy::Config;
@@ -32,6 +33,16 @@ fn ended_by(ending: Ending) -> Ended {
         Ending::HoldTimer => Ended::Sent(4, 0),
         Ending::Heard(notice) => Ended::Heard(notice.code, notice.sub),
         Ending::Memory => Ended::Memory,
+    }
+}
+
+/// How a client is spoken to, where it has a mode and a limit.
+fn speech_with(mode: Option<Mode>, limit: Option<Limit>) -> Option<Speech>
+    ensures { result ≡ speech_with mode limit }
+{
+    match (mode, limit) {
+        (Some(mode), Some(limit)) => Some(Speech { mode, limit }),
+        _ => None,
     }
 }
 
@@ -64,7 +75,7 @@ impl<'a> CoreTables<'a> {
 }
 
 impl Tables for CoreTables<'_> {
-    ghost use Rattle.rs_live.specs.Shown.{AreHeld, IsFirstOf, IsConfigured};
+    ghost use Rattle.rs_live.specs.Shown.{AreHeld, IsFirstOf, IsConfigured, IsSpokenTo};
 
     ghost first = { λ tables rib member at route. IsFirstOf tables.0.now rib member at route };
 
@@ -72,12 +83,21 @@ impl Tables for CoreTables<'_> {
 
     ghost holders = { λ tables prefix held. AreHeld tables.0.now prefix held };
 
+    ghost speaks = { λ tables member speech. IsSpokenTo tables.0.now member speech };
+
     fn config(&self) -> &Config {
         self.0.config()
     }
 
     fn is_established(&self, member: usize) -> bool {
         member < self.0.clients() && self.0.is_established(member)
+    }
+
+    fn speech(&self, member: usize) -> Option<Speech> {
+        if member >= self.0.clients() {
+            return None;
+        }
+        speech_with(self.0.mode(member), self.0.limit(member))
     }
 
     fn first_from(&self, rib: Rib, member: usize, at: u64) -> Option<(Prefix, &Arc<Attrs>)> {
@@ -147,6 +167,10 @@ impl Tables for CoreTables<'_> {
 
     fn prefixes(&self) -> usize {
         self.0.prefixes()
+    }
+
+    fn attribute_sets(&self) -> usize {
+        self.0.attribute_sets()
     }
 
     fn waiting(&self, member: usize) -> usize {

@@ -341,7 +341,7 @@ impl<'a, P: Ports> LiveLink<'a, P> {
         self.phase.told
     }
 
-    /// Records lines of the run, behind which the record may end; answers whether it goes on.
+    /// Records lines of the run, after which the record may end; answers whether it goes on.
     pub(crate) fn record(&mut self, lines: &[u8], end: Option<RecordEnd>) -> bool
         ensures leaves { LeavesClients self.old self.new }
         ensures handled { Keeps P.asked self.old → Keeps P.asked self.new }

@@ -129,7 +129,7 @@ pub trait Ports {
     fn log(&mut self, report: &Report)
         ensures { (calls : List Call) → asked self.old calls → asked self.new (Logged report.now ∷ calls) };
 
-    /// Records lines of the run, whole events, behind which the record may end; answers whether there is a
+    /// Records lines of the run, whole events, after which the record may end; answers whether there is a
     /// record that goes on. It is no call that members are served by.
     fn record(&mut self, lines: &[u8], end: Option<RecordEnd>) -> bool
         ensures { (calls : List Call) → asked self.old calls → asked self.new calls };

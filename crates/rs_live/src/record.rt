@@ -1,5 +1,5 @@
-//! The record of a run, on files: `FILE`, and behind it `FILE.1`, `FILE.2`, each with the text of the
-//! configuration that was in force when it was begun beside it. `rs_replay` plays them, one behind the other.
+//! The record of a run, on files: `FILE`, and after it `FILE.1`, `FILE.2`, each with the text of the
+//! configuration that was in force when it was begun beside it. `rs_replay` plays them, one after the other.
 
 use rs_reports::logging::Stamp;
 use rs_streams::record_file::{AppendedFile, ROOM, RecordEnd, RecordFile};
@@ -21,7 +21,7 @@ pub struct Record<'a, R: Files> {
     path: &'a str,
     /// How many octets a file has at least when the next one is begun; `None`: there is one file.
     most: Option<u64>,
-    /// How many files were begun behind the first.
+    /// How many files were begun after the first.
     number: u64,
     file: RecordFile<AppendedFile<R::File>>,
     /// The text of the configuration that is in force, and the one that was read last, where files have a size.
@@ -79,7 +79,7 @@ impl<'a, R: Files> Record<'a, R> {
         })
     }
 
-    /// Records the lines of a round, behind the time of day where its minute is another than before, and
+    /// Records the lines of a round, after the time of day where its minute is another than before, and
     /// writes a part of what waits. In which second since 1970 it is, is not known to each clock.
     pub fn take(&mut self, second: Option<u64>, lines: &[u8]) -> Result<(), RecordEnd> {
         if let Some(most) = self.most

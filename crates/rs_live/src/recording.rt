@@ -1,12 +1,9 @@
 //! The events of the core's link as lines, on their way to the ports. The ports are the link's while the core
-//! is driven, so the lines of a drive wait in a reel, and are handed on behind it.
+//! is driven, so the lines of a drive wait in a reel, and are handed on after it.
 
 ghost use Rattle.std.specs.Prelude.{◌≡◌, ◌<◌, ◌≤◌, true};
-ghost use Rattle.rs_core.specs.Core.{client_count};
-ghost use Rattle.rs_core.specs.Drives.Answers.{Drives};
 ghost use Rattle.rs_core.specs.Drives.Courses.{Continues};
-ghost use Rattle.rs_core.specs.Drives.Steps.{HasStopped};
-ghost use Rattle.rs_record.specs.Records.{DrivesRecorded, goes};
+ghost use Rattle.rs_record.specs.Records.{DrivesRecorded, IsDriven, goes};
 ghost use Rattle.rs_live.specs.Calls.{IsFailedAccept};
 ghost use Rattle.rs_live.specs.Handled.{EndBy, Has, Keeps};
 ghost use Rattle.rs_live.specs.Leaving.{LeavesClients};
@@ -76,9 +73,7 @@ impl Recording {
 
     /// Drives the core by the link until that stops, and records the events while the record goes on.
     pub(crate) fn drive<L: Source + Sink>(&mut self, rt: &impl Wait, core: &mut Core, link: &mut L)
-        ensures count { client_count core.new ≡ client_count core.old }
-        ensures led { HasStopped L.happens link.old link.new }
-        ensures drives { Continues L.happens core.old link.old core.new link.new Drives }
+        ensures driven { IsDriven L.happens core.old link.old core.new link.new }
         ensures recorded { self.old.goes_on ≡ true → Continues L.happens core.old link.old core.new link.new (DrivesRecorded self.old.recorder.names.names (goes self.old.recorder.fault self.old.reel.is_over) self.new.recorder.fault self.new.reel.is_over self.old.reel.lines.items self.new.reel.lines.items) }
     {
         if self.goes_on {
@@ -97,9 +92,7 @@ impl Recording {
         link: &mut L,
     )
         requires { (0 < workers) × (workers ≤ 16) }
-        ensures count { client_count core.new ≡ client_count core.old }
-        ensures led { HasStopped L.happens link.old link.new }
-        ensures drives { Continues L.happens core.old link.old core.new link.new Drives }
+        ensures driven { IsDriven L.happens core.old link.old core.new link.new }
         ensures recorded { self.old.goes_on ≡ true → Continues L.happens core.old link.old core.new link.new (DrivesRecorded self.old.recorder.names.names (goes self.old.recorder.fault self.old.reel.is_over) self.new.recorder.fault self.new.reel.is_over self.old.reel.lines.items self.new.reel.lines.items) }
     {
         if self.goes_on {

@@ -51,7 +51,7 @@ pub struct Limits {
 /// `Poll` where `wait` failed, `Listener` where `accept` failed, and `Memory` where memory was refused
 /// at the start, before the first call of the ports. Any other fault of the ports is a lost connection,
 /// and all others go on.
-#[tactic(auto, using(crate::proofs::Handling::unasked))]
+#[tactic(auto, using(crate::proofs::Handling::Calls::unasked))]
 pub fn serve<R: Threads + Wait + Sync, P: Ports>(
     rt: &R,
     alloc: Global,
@@ -152,7 +152,8 @@ fn play_round<R: Threads + Wait + Sync, P: Ports>(
     ensures err { IsErr result → IsRunning P.asked link.old → Has P.asked link.new.ports.now (EndBy IsFailedAccept) }
 {
     for _ in rt.forever() {
-        go_on(rt, workers, recording, core, link);
+        drive_on(rt, workers, recording, core, link);
+        recording.hand_on(link);
         if link.has_failed() {
             return Err(ServeFault::Listener);
         }
@@ -161,23 +162,6 @@ fn play_round<R: Threads + Wait + Sync, P: Ports>(
         }
     }
     unreachable!()
-}
-
-/// Drives the core until the link stops, and hands on what was recorded.
-fn go_on<R: Threads + Wait + Sync, P: Ports>(
-    rt: &R,
-    workers: usize,
-    recording: &mut Recording,
-    core: &mut Core,
-    link: &mut LiveLink<'_, P>,
-)
-    requires workers { (0 < workers) × (workers ≤ 16) }
-    ensures same_ports { SamePorts link.old link.new }
-    ensures handled { IsRunning P.asked link.old → link.new.has_failed ≡ false → Keeps P.asked link.new }
-    ensures halted { IsRunning P.asked link.old → link.new.has_failed ≡ true → Has P.asked link.new.ports.now (EndBy IsFailedAccept) }
-{
-    drive_on(rt, workers, recording, core, link);
-    recording.hand_on(link);
 }
 
 /// Drives the core until the link stops, with all workers where it asks for them.

@@ -300,7 +300,7 @@ impl<'a, R: Net + Clock + Files> Sockets<'a, R> {
         }
     }
 
-    /// Records lines, behind which the record may end.
+    /// Records lines, after which the record may end.
     fn take_lines(&mut self, lines: &[u8], end: Option<RecordEnd>) -> Result<(), RecordEnd> {
         let second = time_of_day(self.rt);
         if let Some(record) = &mut self.record {

@@ -185,7 +185,7 @@ impl<'a, P: Ports> LiveLink<'a, P> {
         None
     }
 
-    /// Whether a connection is to be read in this round: behind the last one the first is the next, where
+    /// Whether a connection is to be read in this round: after the last one the first is the next, where
     /// there was something to read and the round has read little.
     fn has_to_read(&mut self) -> bool
         ensures { LeavesPorts self.old self.new }

@@ -5,8 +5,8 @@
 use anyhow::Result;
 use rs_check::check;
 use rs_command::configuration::read_configuration;
-use rs_command::serve::{LogLevel, Options, read_command};
-use rs_command::{Asked, Status};
+use rs_command::serve::{LogLevel, Options};
+use rs_command::{Asked, Status, read_command};
 use rs_live::connections::listen_addresses;
 use rs_live::record::Record;
 use rs_live::serve::{Limits, serve};
@@ -16,6 +16,7 @@ use rs_reports::logging::{Level, Log};
 use rs_reports::names::Names;
 use rs_visitors::ask::{ask, is_error, is_whole};
 use std::alloc::Global;
+use std::fmt::Display;
 use std::io;
 use std::net::{Net, SocketAddr};
 use std::process::ExitCode;
@@ -93,6 +94,17 @@ fn record<'a, R: Net + Clock + Files + Eprint>(
     }
 }
 
+/// Whether a listener was opened at this address or path. Why it was not is printed.
+fn has_opened<R: Eprint, A: Display>(rt: &R, at: &A, opened: io::Result<()>) -> Result<bool> {
+    match opened {
+        Ok(()) => Ok(true),
+        Err(error) => {
+            eprintln!(rt; "listening failed: {at}: {error}")?;
+            Ok(false)
+        }
+    }
+}
+
 /// Opens the window, where there is to be one; answers whether it could be.
 fn open_window<R: Net + Clock + Files + Eprint>(
     rt: &R,
@@ -102,13 +114,7 @@ fn open_window<R: Net + Clock + Files + Eprint>(
     let Some(address) = window else {
         return Ok(true);
     };
-    match ports.open_window(address) {
-        Ok(()) => Ok(true),
-        Err(error) => {
-            eprintln!(rt; "listening failed: {address}: {error}")?;
-            Ok(false)
-        }
-    }
+    has_opened(rt, &address, ports.open_window(address))
 }
 
 /// Serves over ports that listen, and answers the status to end with.
@@ -141,13 +147,18 @@ fn open_control<'a, R: Net + Clock + Files + Eprint>(
     let Some(path) = &options.control else {
         return Ok(true);
     };
-    match ports.open_control(path) {
-        Ok(()) => Ok(true),
-        Err(error) => {
-            eprintln!(rt; "listening failed: {path}: {error}")?;
-            Ok(false)
-        }
-    }
+    has_opened(rt, path, ports.open_control(path))
+}
+
+/// What is served, and how.
+#[derive(Drop)]
+struct Plan<'a> {
+    options: &'a Options,
+    /// The address of the window, if there is to be one.
+    window: Option<SocketAddr>,
+    config: Config,
+    /// The text of the configuration, which is for the record.
+    text: Vec<u8>,
 }
 
 /// Begins the record and opens the window and the control socket, where they were asked for; answers whether
@@ -171,12 +182,15 @@ fn make_ready<'a, R: Net + Clock + Files + Eprint>(
 fn serve_by<'a, R: Threads + Wait + Sync + Net + Clock + Files + Eprint>(
     rt: &'a R,
     alloc: Global,
-    options: &'a Options,
-    window: Option<SocketAddr>,
-    config: Config,
-    text: Vec<u8>,
+    plan: Plan<'a>,
     ports: &mut Sockets<'a, R>,
 ) -> Result<Status> {
+    let Plan {
+        options,
+        window,
+        config,
+        text,
+    } = plan;
     if make_ready(rt, alloc, options, window, text, ports)? {
         Ok(serve_on(rt, alloc, options, config, ports))
     } else {
@@ -190,30 +204,25 @@ fn cannot_listen<R: Eprint>(rt: &R, fault: ListenFault) -> Result<Status> {
     Ok(Status::Failed)
 }
 
-/// Serves by ports of its own, which are closed behind it.
+/// Serves by ports of its own, which are closed after it.
 fn serve_and_close<'a, R: Threads + Wait + Sync + Net + Clock + Files + Eprint>(
     rt: &'a R,
     alloc: Global,
-    options: &'a Options,
-    window: Option<SocketAddr>,
-    config: Config,
-    text: Vec<u8>,
+    plan: Plan<'a>,
     mut ports: Sockets<'a, R>,
 ) -> Result<Status> {
-    serve_by(rt, alloc, options, window, config, text, &mut ports)
+    serve_by(rt, alloc, plan, &mut ports)
 }
 
 /// Listens at these addresses and serves, and answers the status to end with.
 fn listen_and_serve<R: Threads + Wait + Sync + Net + Clock + Files + Print + Eprint>(
     rt: &R,
     alloc: Global,
-    options: &Options,
-    window: Option<SocketAddr>,
-    config: Config,
-    text: Vec<u8>,
+    plan: Plan<'_>,
     names: &Names,
     addresses: &[(u32, u16)],
 ) -> Result<Status> {
+    let options = plan.options;
     match Sockets::listen(
         rt,
         alloc,
@@ -222,23 +231,20 @@ fn listen_and_serve<R: Threads + Wait + Sync + Net + Clock + Files + Print + Epr
         log_of(options),
         addresses,
     ) {
-        Ok(ports) => serve_and_close(rt, alloc, options, window, config, text, ports),
+        Ok(ports) => serve_and_close(rt, alloc, plan, ports),
         Err(fault) => cannot_listen(rt, fault),
     }
 }
 
-/// Listens and serves, and answers the status to end with. The text of the configuration is for the record.
+/// Listens and serves, and answers the status to end with.
 fn run<R: Threads + Wait + Sync + Net + Clock + Files + Print + Eprint>(
     rt: &R,
     alloc: Global,
-    options: &Options,
-    window: Option<SocketAddr>,
-    config: Config,
-    text: Vec<u8>,
+    plan: Plan<'_>,
 ) -> Result<Status> {
-    let names = Names::of(alloc, &config)?.with_files(alloc, &options.configs)?;
-    let addresses = listen_addresses(alloc, &config)?;
-    listen_and_serve(rt, alloc, options, window, config, text, &names, &addresses)
+    let names = Names::of(alloc, &plan.config)?.with_files(alloc, &plan.options.configs)?;
+    let addresses = listen_addresses(alloc, &plan.config)?;
+    listen_and_serve(rt, alloc, plan, &names, &addresses)
 }
 
 /// Asks a running server at its control socket, prints what it answers, and answers the status to end with.
@@ -274,7 +280,7 @@ fn start<R: Threads + Wait + Sync + Net + Clock + Env + Files + Print + Eprint +
 ) -> Result<Status> {
     let alloc = rt.alloc();
     let words: Vec<String> = std::env::args(rt)?.collect(alloc)?;
-    let options = match read_command(rt, alloc, &words)? {
+    let options = match read_command::<Options, R>(rt, alloc, &words)? {
         Asked::Run(options) => options,
         Asked::End(status) => return Ok(status),
     };
@@ -289,7 +295,15 @@ fn start<R: Threads + Wait + Sync + Net + Clock + Env + Files + Print + Eprint +
         Err(fault) => return Ok(fault.report(rt, &options.configs)),
     };
     match window_of(rt, &options)? {
-        Ok(window) => run(rt, alloc, &options, window, read.config, read.texts.octets),
+        Ok(window) => {
+            let plan = Plan {
+                options: &options,
+                window,
+                config: read.config,
+                text: read.texts.octets,
+            };
+            run(rt, alloc, plan)
+        }
         Err(status) => Ok(status),
     }
 }

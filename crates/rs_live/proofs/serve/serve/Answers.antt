@@ -2,7 +2,7 @@ use Rattle.std.proofs.Common.{ap, ◌∙◌, subst, rules}
 use Rattle.rs_live.specs.declared.live_link.Phase.{Phase}
 use Rattle.rs_live.specs.Handled.{Has, IsServed, Keeps}
 use Rattle.rs_live.specs.Keeping.{before, held_of}
-use Rattle.rs_live.proofs.Handling.{begun, keeps_at}
+use Rattle.rs_live.proofs.Handling.Calls.{begun, keeps_at}
 use Rattle.rs_live.proofs.serve.serve.Goals as goal
 
 pub returns : goal.returns

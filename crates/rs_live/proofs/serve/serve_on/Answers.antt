@@ -3,8 +3,8 @@ use Rattle.rs_live.specs.declared.live_link.Phase.{Phase}
 use Rattle.rs_live.specs.declared.live_link.Stage.TheVariants as stages
 use Rattle.rs_live.specs.Handled.{AreKept, IsServed}
 use Rattle.rs_live.specs.Keeping.{Agrees, at, held_of}
-use Rattle.rs_live.proofs.Agreeing.{settled}
-use Rattle.rs_live.proofs.Handling.{at_phase, so}
+use Rattle.rs_live.proofs.Agreeing.Rounds.{settled}
+use Rattle.rs_live.proofs.Handling.Calls.{at_phase, so}
 use Rattle.rs_live.proofs.serve.serve_on.Goals as goal
 
 pub loop-init : goal.loop-init

@@ -1,5 +1,5 @@
 use Rattle.std.proofs.Common.{◌∙◌}
-use Rattle.rs_live.proofs.Handling.{closes}
+use Rattle.rs_live.proofs.Handling.Writing.{closes}
 use Rattle.rs_live.proofs.connections.Connection.close.Goals as goal
 
 pub returns-in-Some-clause-kept : goal.returns-in-Some-clause-kept

@@ -2,7 +2,7 @@ use Rattle.std.proofs.Common.{refl, subst, ap}
 use Rattle.rs_live.specs.Keeping.{with_rest}
 use Rattle.rs_live.specs.Handled.{Has, AreKept}
 use Rattle.rs_live.proofs.Places.{at_place, below_change, change_again}
-use Rattle.rs_live.proofs.Handling.{drops, rests_written}
+use Rattle.rs_live.proofs.Handling.Writing.{drops, rests_written}
 use Rattle.rs_live.proofs.connections.Connection.finish.Goals as goal
 
 pub returns-in-Err : goal.returns-in-Err

@@ -5,7 +5,9 @@ use Rattle.rs_live.specs.declared.live_link.Phase.{Phase}
 use Rattle.rs_live.specs.declared.live_link.Stage.TheVariants as stages
 use Rattle.rs_live.specs.Calls.{Accepted, IsAccept, IsGood, IsFailedAccept}
 use Rattle.rs_live.specs.Keeping.{at, held_of}
-use Rattle.rs_live.proofs.Handling.{asks, at_phase, end_alone, ends, follows_at, goes_to, halts, opens}
+use Rattle.rs_live.proofs.Handling.Calls.{asks, at_phase, end_alone, ends, follows_at, halts}
+use Rattle.rs_live.proofs.Handling.Connections.{opens}
+use Rattle.rs_live.proofs.Handling.Rounds.{goes_to}
 use Rattle.rs_live.proofs.live_link.LiveLink.accepted.Goals as goal
 
 pub returns-in-Err-clause-answers : goal.returns-in-Err-clause-answers

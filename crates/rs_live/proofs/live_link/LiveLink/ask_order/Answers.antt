@@ -5,7 +5,8 @@ use Rattle.rs_core.specs.declared.links.Event.TheVariants.{Commanded}
 use Rattle.rs_core.specs.Drives.Steps.{Happened}
 use Rattle.rs_live.specs.declared.live_link.Stage.TheVariants as stages
 use Rattle.rs_live.specs.Orders.{IsOf}
-use Rattle.rs_live.proofs.Handling.{at_phase, disables, enables, follows, follows_at, is_reload, keeps_at, orders_none, quits, refreshes}
+use Rattle.rs_live.proofs.Handling.Calls.{at_phase, follows, follows_at, keeps_at}
+use Rattle.rs_live.proofs.Handling.Orders.{disables, enables, is_reload, orders_none, quits, refreshes}
 use Rattle.rs_live.proofs.Places.{below_count}
 use Rattle.rs_live.proofs.live_link.LiveLink.ask_order.Goals as goal
 

@@ -1,4 +1,5 @@
-use Rattle.rs_live.proofs.Handling.{asks, reloads}
+use Rattle.rs_live.proofs.Handling.Calls.{asks}
+use Rattle.rs_live.proofs.Handling.Orders.{reloads}
 use Rattle.rs_live.proofs.live_link.LiveLink.ask_text.Goals as goal
 
 pub returns-clause-handled : goal.returns-clause-handled

@@ -1,5 +1,6 @@
 use Rattle.rs_live.specs.declared.live_link.Stage.TheVariants as stages
-use Rattle.rs_live.proofs.Handling.{at_phase, breaks, waits}
+use Rattle.rs_live.proofs.Handling.Calls.{at_phase}
+use Rattle.rs_live.proofs.Handling.Rounds.{breaks, waits}
 use Rattle.rs_live.proofs.live_link.LiveLink.begin_round.Goals as goal
 
 pub returns-in-Ok-clause-ready : goal.returns-in-Ok-clause-ready

@@ -1,5 +1,5 @@
 use Rattle.std.proofs.Common.{sym, ◌∙◌}
-use Rattle.rs_live.proofs.Handling.{ends_none}
+use Rattle.rs_live.proofs.Handling.Connections.{ends_none}
 use Rattle.rs_live.proofs.live_link.LiveLink.end_session.Goals as goal
 
 pub returns-in_default-clause-ended : goal.returns-in_default-clause-ended

@@ -5,7 +5,8 @@ use Rattle.rs_live.specs.Operations.{Did}
 use Rattle.rs_live.specs.Handled.{Has, AreBroken, AreKept}
 use Rattle.rs_live.specs.Keeping.{with_live}
 use Rattle.rs_live.proofs.Places.{below_held, held_changed, held_same, held_there, parts}
-use Rattle.rs_live.proofs.Handling.{breaks_all, so_err, so_ok, takes_all, takes_none, waits_so}
+use Rattle.rs_live.proofs.Handling.Calls.{so_err, so_ok}
+use Rattle.rs_live.proofs.Handling.Writing.{breaks_all, takes_all, takes_none, waits_so}
 use Rattle.rs_live.proofs.live_link.LiveLink.hand.Goals as goal
 
 pub returns-in-Some-clause-ok : goal.returns-in-Some-clause-ok

@@ -3,7 +3,9 @@ use Rattle.rs_core.specs.declared.links.Event.TheVariants.{Lost}
 use Rattle.rs_core.specs.Drives.Steps.{Happened}
 use Rattle.rs_live.specs.declared.live_link.Phase.{Phase}
 use Rattle.rs_live.specs.declared.live_link.Stage.TheVariants as stages
-use Rattle.rs_live.proofs.Handling.{at_phase, breaks_down, follows, leaves}
+use Rattle.rs_live.proofs.Handling.Calls.{at_phase, follows}
+use Rattle.rs_live.proofs.Handling.Writing.{breaks_down}
+use Rattle.rs_live.proofs.Handling.Rounds.{leaves}
 use Rattle.rs_live.proofs.live_link.LiveLink.handed.Goals as goal
 
 pub returns-in-Err-clause-answers : goal.returns-in-Err-clause-answers

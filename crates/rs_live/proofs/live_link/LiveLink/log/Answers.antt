@@ -1,4 +1,4 @@
-use Rattle.rs_live.proofs.Handling.{asks}
+use Rattle.rs_live.proofs.Handling.Calls.{asks}
 use Rattle.rs_live.proofs.live_link.LiveLink.log.Goals as goal
 
 pub returns-then-shows-clause-handled : goal.returns-then-shows-clause-handled

@@ -6,7 +6,8 @@ use Rattle.rs_live.specs.declared.live_link.Stage.{Stage}
 use Rattle.rs_live.specs.declared.live_link.Stage.TheVariants as stages
 use Rattle.rs_live.specs.Handled.{Has, AreKept}
 use Rattle.rs_live.specs.Keeping.{at, held_of, passed}
-use Rattle.rs_live.proofs.Handling.{fails, follows, follows_at, hears, is_last, kept_at, keeps_at, passes_by, reads_last, reads_none}
+use Rattle.rs_live.proofs.Handling.Calls.{follows, follows_at, kept_at, keeps_at}
+use Rattle.rs_live.proofs.Handling.Connections.{fails, hears, is_last, passes_by, reads_last, reads_none}
 use Rattle.rs_live.proofs.live_link.LiveLink.piece.Goals as goal
 
 pub returns-in_default-clause-answers : goal.returns-in_default-clause-answers

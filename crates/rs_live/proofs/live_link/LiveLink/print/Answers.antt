@@ -1,4 +1,4 @@
-use Rattle.rs_live.proofs.Handling.{asks}
+use Rattle.rs_live.proofs.Handling.Calls.{asks}
 use Rattle.rs_live.proofs.live_link.LiveLink.print.Goals as goal
 
 pub returns-clause-handled : goal.returns-clause-handled

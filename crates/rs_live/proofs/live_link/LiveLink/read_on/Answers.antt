@@ -3,7 +3,8 @@ use Rattle.rs_live.specs.declared.live_link.Phase.{Phase}
 use Rattle.rs_live.specs.declared.live_link.LiveLink.{LiveLink}
 use Rattle.rs_live.specs.declared.live_link.Stage.TheVariants as stages
 use Rattle.rs_live.specs.Handled.{IsRunning}
-use Rattle.rs_live.proofs.Handling.{left_running, moves_to}
+use Rattle.rs_live.proofs.Handling.Calls.{left_running}
+use Rattle.rs_live.proofs.Handling.Rounds.{moves_to}
 use Rattle.rs_live.proofs.live_link.LiveLink.read_on.Goals.{then-self-le-OCTETS_A_TURN+else-loop-test, then-self-le-OCTETS_A_TURN+then-loop-test+then-not-has_to_read, else-self-le-OCTETS_A_TURN}
 use Rattle.rs_live.proofs.live_link.LiveLink.read_on.Goals as goal
 

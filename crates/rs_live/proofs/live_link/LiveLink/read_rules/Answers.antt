@@ -1,7 +1,8 @@
 use Rattle.std.proofs.Common.{◌≡◌, ap, refl, ◌∙◌}
 use Rattle.rs_live.specs.declared.live_link.Phase.{Phase}
 use Rattle.rs_live.specs.declared.live_link.Stage.TheVariants as stages
-use Rattle.rs_live.proofs.Handling.{at_phase, goes_early}
+use Rattle.rs_live.proofs.Handling.Calls.{at_phase}
+use Rattle.rs_live.proofs.Handling.Rounds.{goes_early}
 use Rattle.rs_live.proofs.live_link.LiveLink.read_rules.Goals as goal
 
 pub returns-clause-handled : goal.returns-clause-handled

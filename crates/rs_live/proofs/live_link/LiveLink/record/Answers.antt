@@ -1,4 +1,4 @@
-use Rattle.rs_live.proofs.Handling.{none_more}
+use Rattle.rs_live.proofs.Handling.Calls.{none_more}
 use Rattle.rs_live.proofs.live_link.LiveLink.record.Goals as goal
 
 pub returns-clause-handled : goal.returns-clause-handled

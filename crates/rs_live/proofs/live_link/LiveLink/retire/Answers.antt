@@ -7,7 +7,7 @@ use Rattle.rs_live.specs.Handled.{Has, AreKept}
 use Rattle.rs_live.specs.Keeping.{Held, change, with_rest}
 use Rattle.rs_live.proofs.Changing.{ended, ended_some}
 use Rattle.rs_live.proofs.Places.{below_held, change_again, held_changed, held_there, parts}
-use Rattle.rs_live.proofs.Handling.{ends_session}
+use Rattle.rs_live.proofs.Handling.Connections.{ends_session}
 use Rattle.rs_live.proofs.live_link.LiveLink.retire.Goals as goal
 
 pub returns-in-Some-clause-ended : goal.returns-in-Some-clause-ended

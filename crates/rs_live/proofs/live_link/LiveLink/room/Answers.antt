@@ -4,7 +4,8 @@ use Rattle.rs_core.specs.Drives.Steps.{Happened}
 use Rattle.rs_live.specs.declared.live_link.Phase.{Phase}
 use Rattle.rs_live.specs.declared.live_link.Stage.TheVariants as stages
 use Rattle.rs_live.specs.Keeping.{held_by}
-use Rattle.rs_live.proofs.Handling.{at_phase, follows, gives_room, goes_early, is_over, left_running, moves_to}
+use Rattle.rs_live.proofs.Handling.Calls.{at_phase, follows, left_running}
+use Rattle.rs_live.proofs.Handling.Rounds.{gives_room, goes_early, is_over, moves_to}
 use Rattle.rs_live.proofs.live_link.LiveLink.room.Goals as goal
 
 pub returns-in-Some-clause-answers : goal.returns-in-Some-clause-answers

@@ -1,7 +1,8 @@
 use Rattle.std.proofs.Common.{[], refl, arith}
 use Rattle.rs_core.specs.declared.links.Event.TheVariants.{Room}
 use Rattle.rs_core.specs.Drives.Steps.{Happened}
-use Rattle.rs_live.proofs.Handling.{at_phase, follows, gives_room}
+use Rattle.rs_live.proofs.Handling.Calls.{at_phase, follows}
+use Rattle.rs_live.proofs.Handling.Rounds.{gives_room}
 use Rattle.rs_live.proofs.live_link.LiveLink.room_again.Goals as goal
 
 pub returns-clause-answers : goal.returns-clause-answers

@@ -1,6 +1,6 @@
 use Rattle.rs_live.specs.Handled.{AreKept}
 use Rattle.rs_live.specs.Keeping.{all_held}
-use Rattle.rs_live.proofs.Handling.{none_more}
+use Rattle.rs_live.proofs.Handling.Calls.{none_more}
 use Rattle.rs_live.proofs.live_link.LiveLink.show.Goals as goal
 
 pub returns-clause-handled : goal.returns-clause-handled

@@ -3,7 +3,8 @@ use Rattle.rs_core.specs.declared.links.Event.TheVariants.{Moment}
 use Rattle.rs_core.specs.Drives.Steps.{Happened}
 use Rattle.rs_live.specs.declared.live_link.Stage.TheVariants as stages
 use Rattle.rs_live.specs.Keeping.{IsFairBy}
-use Rattle.rs_live.proofs.Handling.{at_phase, follows, starts}
+use Rattle.rs_live.proofs.Handling.Calls.{at_phase, follows}
+use Rattle.rs_live.proofs.Handling.Rounds.{starts}
 use Rattle.rs_live.proofs.Places.{fair_held}
 use Rattle.rs_live.proofs.live_link.LiveLink.start.Goals as goal
 

@@ -5,7 +5,9 @@ use Rattle.rs_live.specs.declared.live_link.Phase.{Phase}
 use Rattle.rs_live.specs.declared.live_link.Stage.TheVariants as stages
 use Rattle.rs_live.specs.Handled.{Has, AreKept}
 use Rattle.rs_live.specs.Keeping.{all_held, at}
-use Rattle.rs_live.proofs.Handling.{at_phase, come_at, does, follows, goes_early, passes_over}
+use Rattle.rs_live.proofs.Handling.Calls.{at_phase, follows}
+use Rattle.rs_live.proofs.Handling.Connections.{come_at, does, passes_over}
+use Rattle.rs_live.proofs.Handling.Rounds.{goes_early}
 use Rattle.rs_live.proofs.live_link.LiveLink.step.Goals as goal
 
 pub returns-in-Rules-clause-answers : goal.returns-in-Rules-clause-answers

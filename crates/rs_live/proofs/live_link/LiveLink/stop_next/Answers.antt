@@ -7,7 +7,8 @@ use Rattle.rs_live.specs.declared.live_link.Stage.{Stage}
 use Rattle.rs_live.specs.declared.live_link.Stage.TheVariants as stages
 use Rattle.rs_live.specs.declared.live_link.Stopping.{Stopping}
 use Rattle.rs_live.specs.Keeping.{at, to_end}
-use Rattle.rs_live.proofs.Handling.{at_phase, follows_at, stops_next}
+use Rattle.rs_live.proofs.Handling.Calls.{at_phase, follows_at}
+use Rattle.rs_live.proofs.Handling.Orders.{stops_next}
 use Rattle.rs_live.proofs.Places.{below_count}
 use Rattle.rs_live.proofs.live_link.LiveLink.stop_next.Goals as goal
 

@@ -7,7 +7,7 @@ use Rattle.rs_live.specs.Operations.{Did}
 use Rattle.rs_live.specs.Handled.{Has, AreKept}
 use Rattle.rs_live.specs.Keeping.{Held, at, change, with_live, with_rest}
 use Rattle.rs_live.proofs.Places.{below_held, change_again, held_changed, held_there, holds, parts}
-use Rattle.rs_live.proofs.Handling.{begins}
+use Rattle.rs_live.proofs.Handling.Connections.{begins}
 use Rattle.rs_live.proofs.live_link.LiveLink.take_on.Goals as goal
 
 pub returns-in-Some-clause-begun : goal.returns-in-Some-clause-begun

@@ -2,7 +2,9 @@ use Rattle.std.proofs.Common.{[], refl}
 use Rattle.rs_core.specs.declared.links.Event.TheVariants.{Turn, Stop}
 use Rattle.rs_core.specs.Drives.Steps.{Happened}
 use Rattle.rs_live.specs.declared.live_link.Stage.TheVariants as stages
-use Rattle.rs_live.proofs.Handling.{at_phase, does, follows, turns}
+use Rattle.rs_live.proofs.Handling.Calls.{at_phase, follows}
+use Rattle.rs_live.proofs.Handling.Connections.{does}
+use Rattle.rs_live.proofs.Handling.Rounds.{turns}
 use Rattle.rs_live.proofs.live_link.LiveLink.turn.Goals as goal
 
 pub returns-then-is_wide-self-clause-answers : goal.returns-then-is_wide-self-clause-answers

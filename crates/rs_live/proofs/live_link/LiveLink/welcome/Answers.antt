@@ -4,7 +4,8 @@ use Rattle.rs_live.specs.declared.live_link.Stage.TheVariants as stages
 use Rattle.rs_live.specs.Calls.{IsAccept}
 use Rattle.rs_live.specs.Handled.{Has, AreEndedBy, AreKept}
 use Rattle.rs_live.specs.Keeping.{at, held_of}
-use Rattle.rs_live.proofs.Handling.{ended_at, keeps_at, keeps_out, refuses}
+use Rattle.rs_live.proofs.Handling.Calls.{ended_at, keeps_at}
+use Rattle.rs_live.proofs.Handling.Connections.{keeps_out, refuses}
 use Rattle.rs_live.proofs.live_link.LiveLink.welcome.Goals as goal
 
 pub returns-in_default-clause-closed : goal.returns-in_default-clause-closed

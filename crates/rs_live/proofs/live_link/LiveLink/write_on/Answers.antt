@@ -3,7 +3,7 @@ use Rattle.std.proofs.lemmas.Option.{slice_get_read}
 use Rattle.rs_live.specs.Handled.{Has, AreBroken, AreKept}
 use Rattle.rs_live.specs.Keeping.{with_live}
 use Rattle.rs_live.proofs.Places.{held_changed, held_there, parts}
-use Rattle.rs_live.proofs.Handling.{breaks_all, waits_so, waits_written}
+use Rattle.rs_live.proofs.Handling.Writing.{breaks_all, waits_so, waits_written}
 use Rattle.rs_live.proofs.live_link.LiveLink.write_on.Goals as goal
 
 pub returns-in-Err-clause-broke : goal.returns-in-Err-clause-broke

@@ -1,7 +1,8 @@
 use Rattle.std.proofs.Common.{[], refl, ◌∙◌}
 use Rattle.rs_core.specs.declared.links.Event.TheVariants.{Lost}
 use Rattle.rs_core.specs.Drives.Steps.{Happened}
-use Rattle.rs_live.proofs.Handling.{follows, loses}
+use Rattle.rs_live.proofs.Handling.Calls.{follows}
+use Rattle.rs_live.proofs.Handling.Connections.{loses}
 use Rattle.rs_live.proofs.live_link.LiveLink.written.Goals as goal
 
 pub returns-in-Some-clause-answers : goal.returns-in-Some-clause-answers

@@ -2,8 +2,9 @@ use Rattle.std.proofs.Common.{ap, refl, ◌∙◌, sym}
 use Rattle.rs_core.specs.Drives.Steps.{Begin}
 use Rattle.rs_live.specs.declared.live_link.Stage.TheVariants as stages
 use Rattle.rs_live.specs.Keeping.{at}
-use Rattle.rs_live.proofs.Agreeing.{come_is}
-use Rattle.rs_live.proofs.Handling.{begins_none, follows, follows_at, kept_at}
+use Rattle.rs_live.proofs.Agreeing.Rounds.{come_is}
+use Rattle.rs_live.proofs.Handling.Calls.{follows, follows_at, kept_at}
+use Rattle.rs_live.proofs.Handling.Connections.{begins_none}
 use Rattle.rs_live.proofs.sink.LiveLinkSink.begin.Goals as goal
 
 pub returns-in-Some : goal.returns-in-Some

@@ -5,7 +5,8 @@ use Rattle.rs_live.specs.declared.live_link.Stage.TheVariants as stages
 use Rattle.rs_live.specs.declared.ports.Line.TheVariants as lines
 use Rattle.rs_live.specs.Calls.{Printed}
 use Rattle.rs_live.specs.Keeping.{at, key_come}
-use Rattle.rs_live.proofs.Handling.{follows, follows_at, turns_away, turns_none_away}
+use Rattle.rs_live.proofs.Handling.Calls.{follows, follows_at}
+use Rattle.rs_live.proofs.Handling.Connections.{turns_away, turns_none_away}
 use Rattle.rs_live.proofs.sink.LiveLinkSink.busy.Goals as goal
 
 pub returns-in-Some : goal.returns-in-Some

@@ -1,6 +1,6 @@
 use Rattle.std.proofs.Common.{refl, ◌∙◌}
 use Rattle.rs_core.specs.Drives.Steps.{End}
-use Rattle.rs_live.proofs.Handling.{follows}
+use Rattle.rs_live.proofs.Handling.Calls.{follows}
 use Rattle.rs_live.proofs.sink.LiveLinkSink.end.Goals as goal
 
 pub returns : goal.returns

@@ -1,6 +1,7 @@
 use Rattle.std.proofs.Common.{◌∙◌}
 use Rattle.rs_core.specs.Drives.Steps.{Memory}
-use Rattle.rs_live.proofs.Handling.{does, follows_at}
+use Rattle.rs_live.proofs.Handling.Calls.{follows_at}
+use Rattle.rs_live.proofs.Handling.Connections.{does}
 use Rattle.rs_live.proofs.sink.LiveLinkSink.memory.Goals as goal
 
 pub returns : goal.returns

@@ -1,6 +1,7 @@
 use Rattle.std.proofs.Common.{refl, ◌∙◌, Some, None}
 use Rattle.rs_core.specs.Drives.Steps.{Offer}
-use Rattle.rs_live.proofs.Handling.{breaks_down, follows}
+use Rattle.rs_live.proofs.Handling.Calls.{follows}
+use Rattle.rs_live.proofs.Handling.Writing.{breaks_down}
 use Rattle.rs_live.proofs.Noticed.{still_follows}
 use Rattle.rs_live.proofs.sink.LiveLinkSink.offer.Goals as goal
 

@@ -1,6 +1,7 @@
 use Rattle.std.proofs.Common.{refl, ◌∙◌}
 use Rattle.rs_core.specs.Drives.Steps.{Replaced}
-use Rattle.rs_live.proofs.Handling.{does, follows}
+use Rattle.rs_live.proofs.Handling.Calls.{follows}
+use Rattle.rs_live.proofs.Handling.Connections.{does}
 use Rattle.rs_live.proofs.sink.LiveLinkSink.ruled.Goals as goal
 
 pub returns : goal.returns

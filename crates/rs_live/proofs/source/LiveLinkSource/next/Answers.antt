@@ -1,7 +1,8 @@
 use Rattle.std.proofs.Common.{[], refl, ◌∙◌}
 use Rattle.rs_core.specs.declared.links.Event.TheVariants.{Stop}
 use Rattle.rs_core.specs.Drives.Steps.{Happened}
-use Rattle.rs_live.proofs.Handling.{does, follows}
+use Rattle.rs_live.proofs.Handling.Calls.{follows}
+use Rattle.rs_live.proofs.Handling.Connections.{does}
 use Rattle.rs_live.proofs.Noticed.{still_follows, still_running}
 use Rattle.rs_live.proofs.source.LiveLinkSource.next.Goals as goal
 
