@@ -3,15 +3,15 @@
 mod checking;
 mod configuration;
 
+use crate::common::is;
 use rs_command::serve::LogLevel;
-use rs_command::{Asked, Status, replay, serve};
-use std::alloc::{AllocError, Global};
+use rs_command::{Asked, Status, read_command, replay, serve};
+use std::alloc::Global;
 use std::cell::RefCell;
 use std::fmt::{Display, Write};
 use std::io;
 use std::io::ErrorKind;
 use std::process::Abort;
-use std::test::Fail;
 
 /// What `clap` prints by the texts of the two command lines.
 const HELP_TO_PLAY: &str =
@@ -112,343 +112,385 @@ impl Eprint for Streams {
     }
 }
 
+/// Puts a text behind others.
+fn put_text(rt: &impl Abort, alloc: Global, texts: &mut Vec<String>, text: &str) {
+    let text = String::from_str(alloc, text).expect(rt, "a text");
+    texts.push(text).expect(rt, "a text");
+}
+
 /// The words of a command line, which stand one space apart.
-fn words_of(alloc: Global, line: &str) -> Result<Vec<String>, AllocError> {
+fn words_of(rt: &impl Abort, alloc: Global, line: &str) -> Vec<String> {
     let mut words = Vec::new(alloc);
     for word in line.split(' ') {
-        words.push(String::from_str(alloc, word)?)?;
+        put_text(rt, alloc, &mut words, word);
     }
-    Ok(words)
+    words
 }
 
 /// Words, one space apart.
-fn line_of(alloc: Global, words: &[String]) -> Result<String, AllocError> {
+fn line_of(rt: &impl Abort, alloc: Global, words: &[String]) -> String {
     let mut line = String::new(alloc);
     for word in words {
         if !line.is_empty() {
-            line.push(' ')?;
+            line.push(' ').expect(rt, "a line");
         }
-        line.push_str(word)?;
+        line.push_str(word).expect(rt, "a line");
     }
-    Ok(line)
+    line
 }
 
-/// By this line rs_replay plays, and nothing is printed.
-fn is_played<R: Abort>(
-    rt: &R,
-    alloc: Global,
-    line: &str,
-    wanted: (&str, usize, bool, Option<&str>, Option<u64>),
-) -> Result<(), Fail> {
-    let streams = Streams::new(alloc);
-    let words = words_of(alloc, line)?;
-    let asked = replay::read_command(&streams, alloc, &words)?;
-    let configs = match &asked {
-        Asked::Run(it) => line_of(alloc, &it.configs)?,
-        Asked::End(_) => String::new(alloc),
-    };
-    let options = match &asked {
-        Asked::Run(it) => Some((
-            configs.as_str(),
-            it.workers,
-            it.progress,
-            it.compare.as_deref(),
-            it.until,
-        )),
-        Asked::End(_) => None,
-    };
-    assert_eq!(rt; options, Some(wanted), "{line}");
-    is_printed(rt, &streams, "", "")
-}
-
-/// By this line rs_served serves, and nothing is printed.
-fn is_served<R: Abort>(
-    rt: &R,
-    alloc: Global,
-    line: &str,
-    wanted: (
-        &str,
-        usize,
-        Option<u64>,
-        Option<u16>,
-        Option<LogLevel>,
-        bool,
-    ),
-) -> Result<(), Fail> {
-    let streams = Streams::new(alloc);
-    let words = words_of(alloc, line)?;
-    let asked = serve::read_command(&streams, alloc, &words)?;
-    let configs = match &asked {
-        Asked::Run(it) => line_of(alloc, &it.configs)?,
-        Asked::End(_) => String::new(alloc),
-    };
-    let options = match &asked {
-        Asked::Run(it) => Some((
-            configs.as_str(),
-            it.workers,
-            it.sessions,
-            it.reload,
-            it.log,
-            it.check,
-        )),
-        Asked::End(_) => None,
-    };
-    assert_eq!(rt; options, Some(wanted), "{line}");
-    is_printed(rt, &streams, "", "")
+/// This was kept.
+fn is_kept(rt: &impl Abort, kept: &RefCell<String>, want: &str) {
+    let text = kept.try_borrow().expect(rt, "a text");
+    assert_eq!(rt; text.as_str(), want);
 }
 
 /// This was printed on standard output and on standard error.
-fn is_printed<R: Abort>(rt: &R, streams: &Streams, output: &str, errors: &str) -> Result<(), Fail> {
-    assert_eq!(rt; streams.output.try_borrow()?.as_str(), output);
-    assert_eq!(rt; streams.errors.try_borrow()?.as_str(), errors);
-    Ok(())
+fn is_printed(rt: &impl Abort, streams: &Streams, output: &str, errors: &str) {
+    is_kept(rt, &streams.output, output);
+    is_kept(rt, &streams.errors, errors);
+}
+
+/// What this line asks of rs_replay.
+fn asked_to_play(
+    rt: &impl Abort,
+    alloc: Global,
+    streams: &Streams,
+    line: &str,
+) -> Asked<replay::Options> {
+    let words = words_of(rt, alloc, line);
+    read_command::<replay::Options, _>(streams, alloc, &words).expect(rt, "memory")
+}
+
+/// What this line asks of rs_served.
+fn asked_to_serve(
+    rt: &impl Abort,
+    alloc: Global,
+    streams: &Streams,
+    line: &str,
+) -> Asked<serve::Options> {
+    let words = words_of(rt, alloc, line);
+    read_command::<serve::Options, _>(streams, alloc, &words).expect(rt, "memory")
+}
+
+/// The options of what is asked to run.
+fn options_of<T: Drop>(rt: &impl Abort, asked: Asked<T>) -> T {
+    let options = match asked {
+        Asked::Run(options) => Some(options),
+        Asked::End(_) => None,
+    };
+    options.expect(rt, "options")
+}
+
+/// The status of what is asked to end.
+fn status_of<T: Drop>(asked: Asked<T>) -> Option<Status> {
+    match asked {
+        Asked::Run(_) => None,
+        Asked::End(status) => Some(status),
+    }
+}
+
+/// The options that this line gives rs_served, where nothing is printed.
+fn options_to_serve(rt: &impl Abort, alloc: Global, line: &str) -> serve::Options {
+    let streams = Streams::new(alloc);
+    let asked = asked_to_serve(rt, alloc, &streams, line);
+    is_printed(rt, &streams, "", "");
+    options_of(rt, asked)
+}
+
+/// The configuration is in these files.
+fn are_configs(rt: &impl Abort, alloc: Global, configs: &[String], want: &str) {
+    let line = line_of(rt, alloc, configs);
+    assert_eq!(rt; line.as_str(), want);
+}
+
+/// A command line to play, and the files of the configuration, how many workers there are, whether progress is
+/// shown, what is compared, and how many lines are played.
+type Played = (
+    &'static str,
+    &'static str,
+    usize,
+    bool,
+    Option<&'static str>,
+    Option<u64>,
+);
+
+const TO_PLAY: [Played; 5] = [
+    ("rs_replay --config a", "a", 1, false, None, None),
+    (
+        "rs_replay --config a --compare b --until 7",
+        "a",
+        1,
+        false,
+        Some("b"),
+        Some(7),
+    ),
+    (
+        "rs_replay --progress --workers 16 --config=a",
+        "a",
+        16,
+        true,
+        None,
+        None,
+    ),
+    ("rs_replay -c a", "a", 1, false, None, None),
+    (
+        "rs_replay --config b --workers 2 -c a -cb --config=c",
+        "b a b c",
+        2,
+        false,
+        None,
+        None,
+    ),
+];
+
+/// By this line rs_replay plays so, and nothing is printed.
+fn is_played(rt: &impl Abort, alloc: Global, row: &Played) {
+    let (line, configs, workers, progress, compare, until) = *row;
+    let streams = Streams::new(alloc);
+    let options = options_of(rt, asked_to_play(rt, alloc, &streams, line));
+    is_printed(rt, &streams, "", "");
+    are_configs(rt, alloc, &options.configs, configs);
+    is(rt, options.workers, workers, line);
+    is(rt, options.progress, progress, line);
+    is(rt, options.compare.as_deref(), compare, line);
+    is(rt, options.until, until, line);
+}
+
+#[test]
+fn options_to_play_by(rt: HostRuntime) {
+    for row in &TO_PLAY {
+        is_played(&rt, rt.alloc(), row);
+    }
+}
+
+/// A command line to serve, and the files of the configuration, how many workers there are, after how many sessions it
+/// ends, after how many rounds the configuration is read, what is printed, and whether it is only read.
+type Served = (
+    &'static str,
+    &'static str,
+    usize,
+    Option<u64>,
+    Option<u16>,
+    Option<LogLevel>,
+    bool,
+);
+
+const TO_SERVE: [Served; 5] = [
+    ("rs_served --config a", "a", 1, None, None, None, false),
+    (
+        "rs_served --config a --workers=16 --sessions 4294967295 --reload 65535 --log",
+        "a",
+        16,
+        Some(4_294_967_295),
+        Some(65_535),
+        Some(LogLevel::Route),
+        false,
+    ),
+    (
+        "rs_served --check --reload 1 --sessions 1 --config a",
+        "a",
+        1,
+        Some(1),
+        Some(1),
+        None,
+        true,
+    ),
+    ("rs_served --check -ca", "a", 1, None, None, None, true),
+    (
+        "rs_served -c common --reload 1 --config lists",
+        "common lists",
+        1,
+        None,
+        Some(1),
+        None,
+        false,
+    ),
+];
+
+/// By this line rs_served serves so, and nothing is printed.
+fn is_served(rt: &impl Abort, alloc: Global, row: &Served) {
+    let (line, configs, workers, sessions, reload, log, check) = *row;
+    let options = options_to_serve(rt, alloc, line);
+    are_configs(rt, alloc, &options.configs, configs);
+    is(rt, options.workers, workers, line);
+    is(rt, options.sessions, sessions, line);
+    is(rt, options.reload, reload, line);
+    is(rt, options.log, log, line);
+    is(rt, options.check, check, line);
+}
+
+#[test]
+fn options_to_serve_by(rt: HostRuntime) {
+    for row in &TO_SERVE {
+        is_served(&rt, rt.alloc(), row);
+    }
+}
+
+/// By this line rs_served prints what happens from this level on.
+fn is_logged(rt: &impl Abort, alloc: Global, line: &'static str, level: LogLevel) {
+    let row = (line, "a", 1, None, None, Some(level), false);
+    is_served(rt, alloc, &row);
+}
+
+#[test]
+fn levels_of_the_log(rt: HostRuntime) {
+    let alloc = rt.alloc();
+    is_logged(&rt, alloc, "rs_served --log -c a", LogLevel::Route);
+    is_logged(&rt, alloc, "rs_served --log error -c a", LogLevel::Error);
+    let line = "rs_served --log=change --utc -c a";
+    is_logged(&rt, alloc, line, LogLevel::Change);
+    is_logged(&rt, alloc, "rs_served -c a --log route", LogLevel::Route);
+}
+
+/// By this line rs_served records in this file, and begins others behind so many MiB.
+fn is_recorded(
+    rt: &impl Abort,
+    alloc: Global,
+    line: &str,
+    record: Option<&str>,
+    size: Option<u32>,
+) {
+    let options = options_to_serve(rt, alloc, line);
+    is(rt, options.record.as_deref(), record, line);
+    is(rt, options.record_size, size, line);
+}
+
+#[test]
+fn options_to_record_by(rt: HostRuntime) {
+    let alloc = rt.alloc();
+    is_recorded(&rt, alloc, "rs_served -c a", None, None);
+    is_recorded(&rt, alloc, "rs_served -c a --record r", Some("r"), None);
+    let line = "rs_served -c a --record-size 64 --record=r";
+    is_recorded(&rt, alloc, line, Some("r"), Some(64));
+}
+
+/// By this line rs_served has so many files of its configuration, this control socket, and this command for it.
+fn is_controlled(
+    rt: &impl Abort,
+    alloc: Global,
+    line: &str,
+    configs: usize,
+    control: &str,
+    command: Option<&str>,
+) {
+    let options = options_to_serve(rt, alloc, line);
+    is(rt, options.configs.len(), configs, line);
+    is(rt, options.control.as_deref(), Some(control), line);
+    is(rt, options.ask.as_deref(), command, line);
+}
+
+#[test]
+fn options_to_control_by(rt: HostRuntime) {
+    let line = "rs_served -c a --control c";
+    is_controlled(&rt, rt.alloc(), line, 1, "c", None);
+    let line = "rs_served --ask show --control=c";
+    is_controlled(&rt, rt.alloc(), line, 0, "c", Some("show"));
 }
 
 /// By this line rs_served ends with status 2, and nothing is printed on standard output.
-fn is_refused<R: Abort>(rt: &R, alloc: Global, line: &str) -> Result<(), Fail> {
+fn is_refused(rt: &impl Abort, alloc: Global, line: &str) {
     let streams = Streams::new(alloc);
-    let words = words_of(alloc, line)?;
-    let asked = serve::read_command(&streams, alloc, &words)?;
-    assert!(rt; matches!(asked, Asked::End(Status::BadCommand)), "{line}");
-    assert!(rt; streams.output.try_borrow()?.is_empty(), "{line}");
-    Ok(())
+    let status = status_of(asked_to_serve(rt, alloc, &streams, line));
+    is(rt, status, Some(Status::BadCommand), line);
+    is_kept(rt, &streams.output, "");
 }
 
-#[test]
-fn options_to_play_by(rt: HostRuntime) -> Result<(), Fail> {
-    let alloc = rt.alloc();
-    is_played(
-        &rt,
-        alloc,
-        "rs_replay --config a",
-        ("a", 1, false, None, None),
-    )?;
-    is_played(
-        &rt,
-        alloc,
-        "rs_replay --config a --compare b --until 7",
-        ("a", 1, false, Some("b"), Some(7)),
-    )?;
-    is_played(
-        &rt,
-        alloc,
-        "rs_replay --progress --workers 16 --config=a",
-        ("a", 16, true, None, None),
-    )?;
-    is_played(&rt, alloc, "rs_replay -c a", ("a", 1, false, None, None))?;
-    is_played(
-        &rt,
-        alloc,
-        "rs_replay --config b --workers 2 -c a -cb --config=c",
-        ("b a b c", 2, false, None, None),
-    )
-}
+const REFUSED: [&str; 18] = [
+    "rs_served",
+    "rs_served --config",
+    "rs_served --config a b",
+    "rs_served --config a --config",
+    "rs_served -c",
+    "rs_served --config a --unknown",
+    "rs_served --config a --workers two",
+    "rs_served --config a --workers 0",
+    "rs_served --config a --sessions 4294967296",
+    "rs_served --config a --reload 65536",
+    // what is asked for by half
+    "rs_served -c a --record-size 64",
+    "rs_served -c a --record r --record-size 0",
+    "rs_served -c a --record r --record s",
+    "rs_served --control c",
+    "rs_served --ask show",
+    "rs_served -c a --ask show --control c",
+    // levels of the log
+    "rs_served -c a --log errors",
+    "rs_served -c a --log --log",
+];
 
 #[test]
-fn options_to_serve_by(rt: HostRuntime) -> Result<(), Fail> {
-    let alloc = rt.alloc();
-    is_served(
-        &rt,
-        alloc,
-        "rs_served --config a",
-        ("a", 1, None, None, None, false),
-    )?;
-    is_served(
-        &rt,
-        alloc,
-        "rs_served --config a --workers=16 --sessions 4294967295 --reload 65535 --log",
-        (
-            "a",
-            16,
-            Some(4_294_967_295),
-            Some(65_535),
-            Some(LogLevel::Route),
-            false,
-        ),
-    )?;
-    is_served(
-        &rt,
-        alloc,
-        "rs_served --check --reload 1 --sessions 1 --config a",
-        ("a", 1, Some(1), Some(1), None, true),
-    )?;
-    is_served(
-        &rt,
-        alloc,
-        "rs_served --check -ca",
-        ("a", 1, None, None, None, true),
-    )?;
-    is_served(
-        &rt,
-        alloc,
-        "rs_served -c common --reload 1 --config lists",
-        ("common lists", 1, None, Some(1), None, false),
-    )
-}
-
-#[test]
-fn options_to_record_by(rt: HostRuntime) -> Result<(), Fail> {
-    let alloc = rt.alloc();
-    let streams = Streams::new(alloc);
-    for (line, record, size) in [
-        ("rs_served -c a", None, None),
-        ("rs_served -c a --record r", Some("r"), None),
-        (
-            "rs_served -c a --record-size 64 --record=r",
-            Some("r"),
-            Some(64),
-        ),
-    ] {
-        let words = words_of(alloc, line)?;
-        let asked = serve::read_command(&streams, alloc, &words)?;
-        let options = match &asked {
-            Asked::Run(it) => Some((it.record.as_deref(), it.record_size)),
-            Asked::End(_) => None,
-        };
-        assert_eq!(rt; options, Some((record, size)), "{line}");
+fn faults_end_with_2(rt: HostRuntime) {
+    for line in &REFUSED {
+        is_refused(&rt, rt.alloc(), line);
     }
-    is_refused(&rt, alloc, "rs_served -c a --record-size 64")?;
-    is_refused(&rt, alloc, "rs_served -c a --record r --record-size 0")?;
-    is_refused(&rt, alloc, "rs_served -c a --record r --record s")
-}
-
-#[test]
-fn options_to_control_by(rt: HostRuntime) -> Result<(), Fail> {
-    let alloc = rt.alloc();
-    let streams = Streams::new(alloc);
-    for (line, configs, control, command) in [
-        ("rs_served -c a --control c", 1, Some("c"), None),
-        (
-            "rs_served --ask show --control=c",
-            0,
-            Some("c"),
-            Some("show"),
-        ),
-    ] {
-        let words = words_of(alloc, line)?;
-        let asked = serve::read_command(&streams, alloc, &words)?;
-        let options = match &asked {
-            Asked::Run(it) => Some((it.configs.len(), it.control.as_deref(), it.ask.as_deref())),
-            Asked::End(_) => None,
-        };
-        assert_eq!(rt; options, Some((configs, control, command)), "{line}");
-    }
-    is_refused(&rt, alloc, "rs_served --control c")?;
-    is_refused(&rt, alloc, "rs_served --ask show")?;
-    is_refused(&rt, alloc, "rs_served -c a --ask show --control c")
-}
-
-#[test]
-fn levels_of_the_log(rt: HostRuntime) -> Result<(), Fail> {
-    let alloc = rt.alloc();
-    for (line, level) in [
-        ("rs_served --log -c a", LogLevel::Route),
-        ("rs_served --log error -c a", LogLevel::Error),
-        ("rs_served --log=change --utc -c a", LogLevel::Change),
-        ("rs_served -c a --log route", LogLevel::Route),
-    ] {
-        is_served(&rt, alloc, line, ("a", 1, None, None, Some(level), false))?;
-    }
-    is_refused(&rt, alloc, "rs_served -c a --log errors")?;
-    is_refused(&rt, alloc, "rs_served -c a --log --log")
-}
-
-#[test]
-fn faults_end_with_2(rt: HostRuntime) -> Result<(), Fail> {
-    let alloc = rt.alloc();
-    is_refused(&rt, alloc, "rs_served")?;
-    is_refused(&rt, alloc, "rs_served --config")?;
-    is_refused(&rt, alloc, "rs_served --config a b")?;
-    is_refused(&rt, alloc, "rs_served --config a --config")?;
-    is_refused(&rt, alloc, "rs_served -c")?;
-    is_refused(&rt, alloc, "rs_served --config a --unknown")?;
-    is_refused(&rt, alloc, "rs_served --config a --workers two")?;
-    is_refused(&rt, alloc, "rs_served --config a --workers 0")?;
-    is_refused(&rt, alloc, "rs_served --config a --sessions 4294967296")?;
-    is_refused(&rt, alloc, "rs_served --config a --reload 65536")
 }
 
 /// By this line rs_replay ends with this status, and this was printed.
-fn ends_to_play<R: Abort>(
-    rt: &R,
+fn ends_to_play(
+    rt: &impl Abort,
     alloc: Global,
     line: &str,
     wanted: Status,
     output: &str,
     errors: &str,
-) -> Result<(), Fail> {
+) {
     let streams = Streams::new(alloc);
-    let words = words_of(alloc, line)?;
-    let asked = replay::read_command(&streams, alloc, &words)?;
-    assert!(rt;
-        matches!(&asked, Asked::End(status) if *status == wanted),
-        "{line}"
-    );
-    is_printed(rt, &streams, output, errors)
+    let status = status_of(asked_to_play(rt, alloc, &streams, line));
+    is(rt, status, Some(wanted), line);
+    is_printed(rt, &streams, output, errors);
 }
 
 /// By this line rs_served ends with status 0, and this was printed on standard output.
-fn ends_to_serve<R: Abort>(rt: &R, alloc: Global, line: &str, output: &str) -> Result<(), Fail> {
+fn ends_to_serve(rt: &impl Abort, alloc: Global, line: &str, output: &str) {
     let streams = Streams::new(alloc);
-    let words = words_of(alloc, line)?;
-    let asked = serve::read_command(&streams, alloc, &words)?;
-    assert!(rt; matches!(&asked, Asked::End(Status::Done)), "{line}");
-    is_printed(rt, &streams, output, "")
+    let status = status_of(asked_to_serve(rt, alloc, &streams, line));
+    is(rt, status, Some(Status::Done), line);
+    is_printed(rt, &streams, output, "");
+}
+
+/// By this line rs_replay ends with status 0, and this was printed on standard output.
+fn plays_no_more(rt: &impl Abort, alloc: Global, line: &str, output: &str) {
+    ends_to_play(rt, alloc, line, Status::Done, output, "");
 }
 
 #[test]
-fn a_fault_is_printed(rt: HostRuntime) -> Result<(), Fail> {
+fn a_fault_is_printed(rt: HostRuntime) {
     let line = "rs_replay --config a --workers 17";
-    ends_to_play(&rt, rt.alloc(), line, Status::BadCommand, "", FAULT)
+    ends_to_play(&rt, rt.alloc(), line, Status::BadCommand, "", FAULT);
 }
 
 #[test]
-fn help_to_play_is_printed(rt: HostRuntime) -> Result<(), Fail> {
-    ends_to_play(
-        &rt,
-        rt.alloc(),
-        "rs_replay --help",
-        Status::Done,
-        HELP_TO_PLAY,
-        "",
-    )?;
-    ends_to_play(
-        &rt,
-        rt.alloc(),
-        "rs_replay -h",
-        Status::Done,
-        HELP_TO_PLAY,
-        "",
-    )
+fn help_to_play_is_printed(rt: HostRuntime) {
+    plays_no_more(&rt, rt.alloc(), "rs_replay --help", HELP_TO_PLAY);
+    plays_no_more(&rt, rt.alloc(), "rs_replay -h", HELP_TO_PLAY);
 }
 
 #[test]
-fn help_to_serve_is_printed(rt: HostRuntime) -> Result<(), Fail> {
-    ends_to_serve(&rt, rt.alloc(), "rs_served --help", HELP_TO_SERVE)?;
-    ends_to_serve(&rt, rt.alloc(), "rs_served -h", HELP_TO_SERVE)
+fn help_to_serve_is_printed(rt: HostRuntime) {
+    ends_to_serve(&rt, rt.alloc(), "rs_served --help", HELP_TO_SERVE);
+    ends_to_serve(&rt, rt.alloc(), "rs_served -h", HELP_TO_SERVE);
 }
 
 #[test]
-fn versions_are_printed(rt: HostRuntime) -> Result<(), Fail> {
-    ends_to_play(
-        &rt,
-        rt.alloc(),
-        "rs_replay --version",
-        Status::Done,
-        PLAYS,
-        "",
-    )?;
-    ends_to_play(&rt, rt.alloc(), "rs_replay -V", Status::Done, PLAYS, "")?;
-    ends_to_serve(&rt, rt.alloc(), "rs_served --version", SERVES)?;
-    ends_to_serve(&rt, rt.alloc(), "rs_served -V", SERVES)
+fn versions_are_printed(rt: HostRuntime) {
+    plays_no_more(&rt, rt.alloc(), "rs_replay --version", PLAYS);
+    plays_no_more(&rt, rt.alloc(), "rs_replay -V", PLAYS);
+    ends_to_serve(&rt, rt.alloc(), "rs_served --version", SERVES);
+    ends_to_serve(&rt, rt.alloc(), "rs_served -V", SERVES);
+}
+
+/// A status has this number.
+fn has_number(rt: &impl Abort, status: Status, number: u8) {
+    assert_eq!(rt; status.number(), number);
 }
 
 #[test]
 fn statuses_have_these_numbers(rt: HostRuntime) {
-    assert_eq!(rt; Status::Done.number(), 0);
-    assert_eq!(rt; Status::BadTrace.number(), 1);
-    assert_eq!(rt; Status::Differs.number(), 1);
-    assert_eq!(rt; Status::Refused.number(), 1);
-    assert_eq!(rt; Status::BadCommand.number(), 2);
-    assert_eq!(rt; Status::Failed.number(), 3);
+    has_number(&rt, Status::Done, 0);
+    has_number(&rt, Status::BadTrace, 1);
+    has_number(&rt, Status::Differs, 1);
+    has_number(&rt, Status::Refused, 1);
+    has_number(&rt, Status::BadCommand, 2);
+    has_number(&rt, Status::Failed, 3);
 }

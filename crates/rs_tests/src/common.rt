@@ -3,6 +3,7 @@
 use rs_attrs::{Attrs, Mode, read};
 use rs_octets::Prefix;
 use std::alloc::{AllocError, Global};
+use std::fmt::Debug;
 use std::process::Abort;
 
 /// ORIGIN IGP, AS_PATH 64496, NEXT_HOP 192.0.2.11, as a four-octet peer spells them.
@@ -10,29 +11,48 @@ pub(crate) const ROUTE: [u8; 20] = [
     0x40, 1, 1, 0, 0x40, 2, 6, 2, 1, 0, 0, 0xfb, 0xf0, 0x40, 3, 4, 192, 0, 2, 11,
 ];
 
+/// A value is the one that is wanted of this.
+pub(crate) fn is<T: Debug + PartialEq + Drop>(rt: &impl Abort, found: T, want: T, of: &str) {
+    assert_eq!(rt; found, want, "{of}");
+}
+
+/// Puts octets behind others.
+pub(crate) fn put(rt: &impl Abort, octets: &mut Vec<u8>, more: &[u8]) {
+    octets.extend_from_slice(more).expect(rt, "octets");
+}
+
+/// What a hexadecimal digit is worth.
+fn worth(digit: u8) -> Option<u8> {
+    match digit {
+        b'0'..=b'9' => Some(digit - b'0'),
+        b'a'..=b'f' => Some(digit - b'a' + 10),
+        _ => None,
+    }
+}
+
+/// Puts the octet that a digit makes behind another, or keeps the digit.
+fn put_digit(rt: &impl Abort, octets: &mut Vec<u8>, high: Option<u8>, digit: u8) -> Option<u8> {
+    match high {
+        None => Some(digit),
+        Some(high) => {
+            put(rt, octets, &[high << 4 | digit]);
+            None
+        }
+    }
+}
+
 /// The octets that a text of hexadecimal digits and blanks spells, in which `A` stands for `ROUTE`.
-pub(crate) fn octets(alloc: Global, text: &str) -> Result<Vec<u8>, AllocError> {
+pub(crate) fn octets(rt: &impl Abort, alloc: Global, text: &str) -> Vec<u8> {
     let mut octets = Vec::new(alloc);
     let mut high = None;
     for digit in text.bytes() {
-        let value = match digit {
-            b'0'..=b'9' => digit - b'0',
-            b'a'..=b'f' => digit - b'a' + 10,
-            b'A' => {
-                octets.extend_from_slice(&ROUTE)?;
-                continue;
-            }
-            _ => continue,
-        };
-        high = match high {
-            None => Some(value << 4),
-            Some(before) => {
-                octets.push(before | value)?;
-                None
-            }
-        };
+        if digit == b'A' {
+            put(rt, &mut octets, &ROUTE);
+        } else if let Some(digit) = worth(digit) {
+            high = put_digit(rt, &mut octets, high, digit);
+        }
     }
-    Ok(octets)
+    octets
 }
 
 /// The prefix of this length, 0 to 32, with these bits.

@@ -18,9 +18,13 @@ mod common;
 #[cfg(test)]
 mod outlet;
 #[cfg(test)]
+mod pages;
+#[cfg(test)]
 mod policy;
 #[cfg(test)]
 mod reasons;
+#[cfg(test)]
+mod record;
 #[cfg(test)]
 mod route_server;
 #[cfg(test)]

@@ -103,7 +103,7 @@ impl Exchange {
         assert!(rt; attrs.has_mandatory());
         let note = import_note(&self.config, member, &prefix, attrs);
         self.tables
-            .put(member, prefix, attrs, note)
+            .put(member, prefix, attrs, note, 0)
             .expect(rt, "a route");
     }
 

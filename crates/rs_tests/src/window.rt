@@ -1,13 +1,13 @@
 //! Visits over octets in memory: what is answered to requests that come whole, in parts, many at once, and to
 //! what is none. The answers are written by hand from RFC 9110 and RFC 9112.
 
+use crate::common::put;
 use rs_window::page::{Kind, Next, Page, Pages, Piece};
 use rs_window::visit::{PATIENCE, Visit};
 use std::alloc::{AllocError, Global};
 use std::process::Abort;
-use std::test::Fail;
 
-/// Pages of letters: `/0` to `/9` have their number, `/letters` has two pieces, `/cut` is cut off behind one,
+/// Pages of letters: `/0` to `/9` have their number, `/letters` has two pieces, `/cut` is cut off after one,
 /// `/refused` for want of memory.
 struct Letters;
 
@@ -82,302 +82,349 @@ struct Play {
 }
 
 impl Play {
-    fn new(alloc: Global) -> Result<Play, Fail> {
-        Ok(Play {
-            visit: Visit::new(alloc, 0)?,
-            piece: Piece::new(alloc)?,
+    fn new(rt: &impl Abort, alloc: Global) -> Play {
+        Play {
+            visit: Visit::new(alloc, 0).expect(rt, "a visit"),
+            piece: Piece::new(alloc).expect(rt, "a piece"),
             sent: Vec::new(alloc),
-        })
+        }
+    }
+
+    /// The visitor takes up to so many octets of what waits.
+    fn take(&mut self, rt: &impl Abort, most: usize) {
+        let waiting = self.visit.waiting();
+        let count = waiting.len().min(most);
+        put(rt, &mut self.sent, &waiting[..count]);
+        self.visit.took(count, 0);
     }
 
     /// Goes on until nothing comes of it, and the visitor takes so many octets at a time.
-    fn go_on(&mut self, most: usize) -> Result<(), Fail> {
+    fn go_on(&mut self, rt: &impl Abort, most: usize) {
         for _ in 0..100_000 {
-            let waiting = self.visit.waiting();
-            let count = waiting.len().min(most);
-            self.sent
-                .extend_from_slice(waiting.get(..count).unwrap_or(waiting))?;
-            self.visit.took(count, 0);
+            self.take(rt, most);
             if self.visit.can_advance() {
                 self.visit.advance(&Letters, &mut self.piece, 0);
             } else if self.visit.waiting().is_empty() {
                 break;
             }
         }
-        Ok(())
     }
 
     /// The visitor says this, as there is room for it.
-    fn say(&mut self, octets: &[u8], most: usize) -> Result<(), Fail> {
+    fn say(&mut self, rt: &impl Abort, octets: &[u8], most: usize) {
         let mut rest = octets;
         for _ in 0..octets.len() {
             let (front, behind) = rest.split_at(self.visit.room().min(rest.len()));
             self.visit.hear(front);
             rest = behind;
-            self.go_on(most)?;
+            self.go_on(rt, most);
             if rest.is_empty() {
                 break;
             }
         }
-        Ok(())
     }
+
+    /// The visitor was sent just this, and the connection is closed after it or not.
+    fn was_sent(&self, rt: &impl Abort, want: &[u8], is_done: bool) {
+        assert!(rt; self.sent.as_slice() == want);
+        assert_eq!(rt; self.visit.is_done(), is_done);
+    }
+
+    /// So many seconds after the start the visitor is late or not.
+    fn is_late(&self, rt: &impl Abort, now: u64, want: bool) {
+        assert_eq!(rt; self.visit.is_late(now), want);
+    }
+
+    /// Lets it go in one call, which is one step of a test, and not one for each of its parts.
+    fn let_go(self) {}
 }
 
 /// What a visitor is sent who says this.
-fn answer(alloc: Global, said: &[u8]) -> Result<Play, Fail> {
-    let mut play = Play::new(alloc)?;
-    play.say(said, 1000)?;
-    Ok(play)
+fn answer(rt: &impl Abort, alloc: Global, said: &[u8]) -> Play {
+    let mut play = Play::new(rt, alloc);
+    play.say(rt, said, 1000);
+    play
 }
 
-/// The answer begins so, and the connection is closed behind it or not.
-fn check(
-    rt: &impl Abort,
-    alloc: Global,
-    said: &[u8],
-    begins: &[u8],
-    is_done: bool,
-) -> Result<(), Fail> {
-    let play = answer(alloc, said)?;
+/// A visitor who says this is sent just that, and the connection is closed after it or not.
+fn is_answered(rt: &impl Abort, alloc: Global, said: &[u8], want: &[u8], is_done: bool) {
+    let play = answer(rt, alloc, said);
+    play.was_sent(rt, want, is_done);
+    play.let_go();
+}
+
+/// The answer begins so, and the connection is closed after it or not.
+fn check(rt: &impl Abort, alloc: Global, said: &[u8], begins: &[u8], is_done: bool) {
+    let play = answer(rt, alloc, said);
     assert!(rt; play.sent.starts_with(begins));
     assert_eq!(rt; play.visit.is_done(), is_done);
-    Ok(())
+    play.let_go();
 }
 
 const LETTERS_ASKED: &[u8] = b"GET /letters HTTP/1.1\r\nHost: localhost:8080\r\n\r\n";
+
+const HEAD: &[u8] = b"HTTP/1.1 200 OK\r\nContent-Type: text/plain; charset=utf-8\r\n";
+
+const CHUNKED: &[u8] = b"Transfer-Encoding: chunked\r\n";
 
 const GUARDS: &[u8] =
     b"Cache-Control: no-store\r\nX-Content-Type-Options: nosniff\r\nReferrer-Policy: no-referrer\r\nContent-Security-Policy: default-src 'none'; style-src 'unsafe-inline'; form-action 'self'; base-uri 'none'; frame-ancestors 'none'\r\n";
 
 /// The whole of a text with these fields and this behind its head.
-fn text(alloc: Global, fields: &[u8], body: &[u8]) -> Result<Vec<u8>, Fail> {
-    let head = b"HTTP/1.1 200 OK\r\nContent-Type: text/plain; charset=utf-8\r\n";
-    let mut whole = Vec::from_slice(alloc, head)?;
-    whole.extend_from_slice(GUARDS)?;
-    whole.extend_from_slice(fields)?;
-    whole.extend_from_slice(b"\r\n")?;
-    whole.extend_from_slice(body)?;
-    Ok(whole)
+fn text(rt: &impl Abort, alloc: Global, fields: &[u8], body: &[u8]) -> Vec<u8> {
+    let mut whole = Vec::new(alloc);
+    put(rt, &mut whole, HEAD);
+    put(rt, &mut whole, GUARDS);
+    put(rt, &mut whole, fields);
+    put(rt, &mut whole, b"\r\n");
+    put(rt, &mut whole, body);
+    whole
+}
+
+/// The letters are asked for in two parts by a visitor who takes seven octets at a time.
+fn is_answered_in_parts(rt: &impl Abort, alloc: Global, cut: usize, want: &[u8]) {
+    assert!(rt; cut <= LETTERS_ASKED.len());
+    let (front, behind) = LETTERS_ASKED.split_at(cut);
+    let mut play = Play::new(rt, alloc);
+    play.say(rt, front, 7);
+    play.say(rt, behind, 7);
+    assert!(rt; play.sent.as_slice() == want, "cut at {cut}");
+    assert!(rt; !play.visit.is_done());
+    play.let_go();
 }
 
 #[test]
-fn a_request_in_two_parts_gets_one_answer(rt: HostRuntime) -> Result<(), Fail> {
+fn a_request_in_two_parts_gets_one_answer(rt: HostRuntime) {
     let body = b"0011\r\nabcdefghijklmnopq\r\n0003\r\nrst\r\n0\r\n\r\n";
-    let want = text(rt.alloc(), b"Transfer-Encoding: chunked\r\n", body)?;
+    let want = text(&rt, rt.alloc(), CHUNKED, body);
     for cut in 0..=LETTERS_ASKED.len() {
-        let (front, behind) = LETTERS_ASKED.split_at(cut);
-        let mut play = Play::new(rt.alloc())?;
-        play.say(front, 7)?;
-        play.say(behind, 7)?;
-        assert!(rt; play.sent == want, "cut at {cut}");
-        assert!(rt; !play.visit.is_done());
+        is_answered_in_parts(&rt, rt.alloc(), cut, &want);
     }
-    Ok(())
 }
 
 #[test]
-fn an_older_visitor_gets_a_page_without_chunks(rt: HostRuntime) -> Result<(), Fail> {
-    let want = text(
-        rt.alloc(),
-        b"Connection: close\r\n",
-        b"abcdefghijklmnopqrst",
-    )?;
-    let play = answer(rt.alloc(), b"GET /letters HTTP/1.0\r\n\r\n")?;
-    assert!(rt; play.sent == want);
-    assert!(rt; play.visit.is_done());
-    Ok(())
+fn an_older_visitor_gets_a_page_without_chunks(rt: HostRuntime) {
+    let fields = b"Connection: close\r\n";
+    let want = text(&rt, rt.alloc(), fields, b"abcdefghijklmnopqrst");
+    let said = b"GET /letters HTTP/1.0\r\n\r\n";
+    is_answered(&rt, rt.alloc(), said, &want, true);
 }
 
 #[test]
-fn head_has_no_body_and_the_next_is_answered(rt: HostRuntime) -> Result<(), Fail> {
+fn head_has_no_body_and_the_next_is_answered(rt: HostRuntime) {
     let said =
         b"HEAD /letters HTTP/1.1\r\nHost: [::1]\r\n\r\nGET /7 HTTP/1.1\r\nHost: 127.0.0.1\r\nConnection: x, Close\r\n\r\n";
-    let mut want = text(rt.alloc(), b"Transfer-Encoding: chunked\r\n", b"")?;
+    let mut want = text(&rt, rt.alloc(), CHUNKED, b"");
     let fields = b"Transfer-Encoding: chunked\r\nConnection: close\r\n";
-    let second = text(rt.alloc(), fields, b"0001\r\n7\r\n0\r\n\r\n")?;
-    want.extend_from_slice(second.as_slice())?;
-    let play = answer(rt.alloc(), said)?;
-    assert!(rt; play.sent == want);
-    assert!(rt; play.visit.is_done());
-    Ok(())
+    let second = text(&rt, rt.alloc(), fields, b"0001\r\n7\r\n0\r\n\r\n");
+    put(&rt, &mut want, &second);
+    is_answered(&rt, rt.alloc(), said, &want, true);
+}
+
+/// Asks for the page of this digit.
+fn put_request(rt: &impl Abort, said: &mut Vec<u8>, digit: u8) {
+    put(rt, said, b"GET /");
+    put(rt, said, &[digit]);
+    put(rt, said, b" HTTP/1.1\r\nHost: localhost\r\n\r\n");
+}
+
+/// The answer to it.
+fn put_answer(rt: &impl Abort, alloc: Global, want: &mut Vec<u8>, digit: u8) {
+    let body = [b'0', b'0', b'0', b'1', b'\r', b'\n', digit];
+    let whole = text(rt, alloc, CHUNKED, &body);
+    put(rt, want, &whole);
+    put(rt, want, b"\r\n0\r\n\r\n");
 }
 
 #[test]
-fn a_thousand_requests_at_once_are_answered_in_order(rt: HostRuntime) -> Result<(), Fail> {
+fn a_thousand_requests_at_once_are_answered_in_order(rt: HostRuntime) {
     let mut said = Vec::new(rt.alloc());
     let mut want = Vec::new(rt.alloc());
     for at in 0..1000_usize {
         let digit = b'0' + (at * 7 % 10) as u8;
-        said.extend_from_slice(b"GET /")?;
-        said.push(digit)?;
-        said.extend_from_slice(b" HTTP/1.1\r\nHost: localhost\r\n\r\n")?;
-        let body = [b'0', b'0', b'0', b'1', b'\r', b'\n', digit];
-        let mut whole = text(rt.alloc(), b"Transfer-Encoding: chunked\r\n", &body)?;
-        whole.extend_from_slice(b"\r\n0\r\n\r\n")?;
-        want.extend_from_slice(whole.as_slice())?;
+        put_request(&rt, &mut said, digit);
+        put_answer(&rt, rt.alloc(), &mut want, digit);
     }
-    let play = answer(rt.alloc(), said.as_slice())?;
+    let play = answer(&rt, rt.alloc(), &said);
     assert!(rt; play.sent == want);
-    Ok(())
+    play.let_go();
 }
 
+/// What is said, and what the answer begins with.
+const REFUSED_REQUESTS: [(&[u8], &[u8]); 14] = [
+    (
+        b"POST /0 HTTP/1.1\r\nHost: localhost\r\n\r\n",
+        b"HTTP/1.1 405 Method Not Allowed\r\nAllow: GET, HEAD\r\n",
+    ),
+    (
+        b"get /0 HTTP/1.1\r\nHost: localhost\r\n\r\n",
+        b"HTTP/1.1 405 ",
+    ),
+    (
+        b"\x16\x03\x01\x02\x00\x01\x00\x01\xfc\x03\x03",
+        b"HTTP/1.1 400 Bad Request\r\n",
+    ),
+    (b"GET /0\r\n", b"HTTP/1.1 400 "),
+    (b"GET /0 HTTP/2.0\r\n", b"HTTP/1.1 400 "),
+    (b"GET /0 HTTP/1.1\r\n\r\n", b"HTTP/1.1 400 "),
+    (
+        b"GET /0 HTTP/1.1\r\nHost: localhost\r\nHost: localhost\r\n\r\n",
+        b"HTTP/1.1 400 ",
+    ),
+    (
+        b"GET /0 HTTP/1.1\r\nHost: localhost\r\nContent-Length: 5\r\n\r\n",
+        b"HTTP/1.1 400 ",
+    ),
+    (
+        b"GET /0 HTTP/1.1\r\nHost: localhost\r\nTransfer-Encoding: chunked\r\n\r\n",
+        b"HTTP/1.1 400 ",
+    ),
+    (
+        b"GET /0 HTTP/1.1\r\nHost: example.org\r\n\r\n",
+        b"HTTP/1.1 403 Forbidden\r\n",
+    ),
+    (
+        b"GET /0 HTTP/1.1\r\nHost: 127.0.0.1.example.org:80\r\n\r\n",
+        b"HTTP/1.1 403 ",
+    ),
+    (
+        b"GET /0 HTTP/1.1\r\nHost: localhost.example.org\r\n\r\n",
+        b"HTTP/1.1 403 ",
+    ),
+    (b"GET /0 HTTP/1.1\r\nHost:\r\n\r\n", b"HTTP/1.1 403 "),
+    (
+        b"GET /0 HTTP/1.0\r\nHost: example.org\r\n\r\n",
+        b"HTTP/1.1 403 ",
+    ),
+];
+
 #[test]
-fn what_is_no_good_request_is_refused(rt: HostRuntime) -> Result<(), Fail> {
-    let refused: [(&[u8], &[u8]); 14] = [
-        (
-            b"POST /0 HTTP/1.1\r\nHost: localhost\r\n\r\n",
-            b"HTTP/1.1 405 Method Not Allowed\r\nAllow: GET, HEAD\r\n",
-        ),
-        (
-            b"get /0 HTTP/1.1\r\nHost: localhost\r\n\r\n",
-            b"HTTP/1.1 405 ",
-        ),
-        (
-            b"\x16\x03\x01\x02\x00\x01\x00\x01\xfc\x03\x03",
-            b"HTTP/1.1 400 Bad Request\r\n",
-        ),
-        (b"GET /0\r\n", b"HTTP/1.1 400 "),
-        (b"GET /0 HTTP/2.0\r\n", b"HTTP/1.1 400 "),
-        (b"GET /0 HTTP/1.1\r\n\r\n", b"HTTP/1.1 400 "),
-        (
-            b"GET /0 HTTP/1.1\r\nHost: localhost\r\nHost: localhost\r\n\r\n",
-            b"HTTP/1.1 400 ",
-        ),
-        (
-            b"GET /0 HTTP/1.1\r\nHost: localhost\r\nContent-Length: 5\r\n\r\n",
-            b"HTTP/1.1 400 ",
-        ),
-        (
-            b"GET /0 HTTP/1.1\r\nHost: localhost\r\nTransfer-Encoding: chunked\r\n\r\n",
-            b"HTTP/1.1 400 ",
-        ),
-        (
-            b"GET /0 HTTP/1.1\r\nHost: example.org\r\n\r\n",
-            b"HTTP/1.1 403 Forbidden\r\n",
-        ),
-        (
-            b"GET /0 HTTP/1.1\r\nHost: 127.0.0.1.example.org:80\r\n\r\n",
-            b"HTTP/1.1 403 ",
-        ),
-        (
-            b"GET /0 HTTP/1.1\r\nHost: localhost.example.org\r\n\r\n",
-            b"HTTP/1.1 403 ",
-        ),
-        (b"GET /0 HTTP/1.1\r\nHost:\r\n\r\n", b"HTTP/1.1 403 "),
-        (
-            b"GET /0 HTTP/1.0\r\nHost: example.org\r\n\r\n",
-            b"HTTP/1.1 403 ",
-        ),
-    ];
-    for (said, begins) in refused {
-        check(&rt, rt.alloc(), said, begins, true)?;
+fn what_is_no_good_request_is_refused(rt: HostRuntime) {
+    for (said, begins) in &REFUSED_REQUESTS {
+        check(&rt, rt.alloc(), said, begins, true);
     }
-    Ok(())
 }
 
-#[test]
-fn a_host_of_this_machine_is_answered(rt: HostRuntime) -> Result<(), Fail> {
-    let said: [&[u8]; 6] = [
+/// Requests to a host of this machine, and what the answer begins with.
+const OF_THIS_MACHINE: [(&[u8], &[u8]); 8] = [
+    (
         b"GET /0 HTTP/1.1\r\nHost: LocalHost\r\n\r\n",
+        b"HTTP/1.1 200 OK\r\n",
+    ),
+    (
         b"GET /0 HTTP/1.1\r\nhost:127.0.0.1:8080\r\n\r\n",
+        b"HTTP/1.1 200 OK\r\n",
+    ),
+    (
         b"GET /0 HTTP/1.1\r\nHost: 192.0.2.1\r\n\r\n",
+        b"HTTP/1.1 200 OK\r\n",
+    ),
+    (
         b"GET /0 HTTP/1.1\r\nHost: [2001:db8::1]:8080\r\n\r\n",
+        b"HTTP/1.1 200 OK\r\n",
+    ),
+    (
         b"GET /0 HTTP/1.1\r\nHost: localhost\r\nContent-Length: 0\r\n\r\n",
+        b"HTTP/1.1 200 OK\r\n",
+    ),
+    (
         b"\r\nGET /0 HTTP/1.1\nHost: localhost\n\n",
-    ];
-    for said in said {
-        check(&rt, rt.alloc(), said, b"HTTP/1.1 200 OK\r\n", false)?;
-    }
-    check(
-        &rt,
-        rt.alloc(),
+        b"HTTP/1.1 200 OK\r\n",
+    ),
+    (
         b"GET /%30 HTTP/1.1\r\nHost: localhost\r\n\r\n",
         b"HTTP/1.1 404 Not Found\r\n",
-        false,
-    )?;
-    check(
-        &rt,
-        rt.alloc(),
+    ),
+    (
         b"GET / HTTP/1.1\r\nHost: localhost\r\n\r\n",
         b"HTTP/1.1 404 ",
-        false,
-    )
+    ),
+];
+
+#[test]
+fn a_host_of_this_machine_is_answered(rt: HostRuntime) {
+    for (said, begins) in &OF_THIS_MACHINE {
+        check(&rt, rt.alloc(), said, begins, false);
+    }
+}
+
+/// Puts so many times the same octets.
+fn put_times(rt: &impl Abort, octets: &mut Vec<u8>, more: &[u8], times: usize) {
+    for _ in 0..times {
+        put(rt, octets, more);
+    }
 }
 
 /// A request with a target and a field of so many octets, and so many fields more.
-fn long_request(alloc: Global, target: usize, field: usize, more: usize) -> Result<Vec<u8>, Fail> {
-    let mut said = Vec::from_slice(alloc, b"GET /")?;
-    for _ in 0..target {
-        said.push(b'x')?;
-    }
-    said.extend_from_slice(b" HTTP/1.1\r\nHost: localhost\r\nX: ")?;
-    for _ in 0..field {
-        said.push(b'x')?;
-    }
-    for _ in 0..more {
-        said.extend_from_slice(b"\r\nY: y")?;
-    }
-    said.extend_from_slice(b"\r\n\r\n")?;
-    Ok(said)
+fn long_request(
+    rt: &impl Abort,
+    alloc: Global,
+    target: usize,
+    field: usize,
+    more: usize,
+) -> Vec<u8> {
+    let mut said = Vec::new(alloc);
+    put(rt, &mut said, b"GET /");
+    put_times(rt, &mut said, b"x", target);
+    put(rt, &mut said, b" HTTP/1.1\r\nHost: localhost\r\nX: ");
+    put_times(rt, &mut said, b"x", field);
+    put_times(rt, &mut said, b"\r\nY: y", more);
+    put(rt, &mut said, b"\r\n\r\n");
+    said
+}
+
+/// How the answer to a long request begins, and whether the connection is closed after it.
+fn check_long(
+    rt: &impl Abort,
+    alloc: Global,
+    lengths: (usize, usize, usize),
+    begins: &[u8],
+    is_done: bool,
+) {
+    let (target, field, more) = lengths;
+    let said = long_request(rt, alloc, target, field, more);
+    check(rt, alloc, &said, begins, is_done);
 }
 
 #[test]
-fn a_long_head_is_refused(rt: HostRuntime) -> Result<(), Fail> {
+fn a_long_head_is_refused(rt: HostRuntime) {
     // 40 octets beside the target and the field: 8,192 is the most.
-    let rows: [(usize, usize, usize, &[u8], bool); 5] = [
-        (0, 8152, 0, b"HTTP/1.1 404 ", false),
-        (0, 8153, 0, b"HTTP/1.1 431 ", true),
-        (8192, 0, 0, b"HTTP/1.1 414 ", true),
-        (0, 0, 30, b"HTTP/1.1 404 ", false),
-        (0, 0, 31, b"HTTP/1.1 431 ", true),
-    ];
-    for (target, field, more, begins, is_done) in rows {
-        let said = long_request(rt.alloc(), target, field, more)?;
-        check(&rt, rt.alloc(), said.as_slice(), begins, is_done)?;
-    }
-    Ok(())
+    check_long(&rt, rt.alloc(), (0, 8152, 0), b"HTTP/1.1 404 ", false);
+    check_long(&rt, rt.alloc(), (0, 8153, 0), b"HTTP/1.1 431 ", true);
+    check_long(&rt, rt.alloc(), (8192, 0, 0), b"HTTP/1.1 414 ", true);
+    check_long(&rt, rt.alloc(), (0, 0, 30), b"HTTP/1.1 404 ", false);
+    check_long(&rt, rt.alloc(), (0, 0, 31), b"HTTP/1.1 431 ", true);
 }
 
 #[test]
-fn a_page_that_is_cut_off_has_no_end(rt: HostRuntime) -> Result<(), Fail> {
-    let want = text(
-        rt.alloc(),
-        b"Transfer-Encoding: chunked\r\n",
-        b"0005\r\nabcde\r\n",
-    )?;
-    let play = answer(rt.alloc(), b"GET /cut HTTP/1.1\r\nHost: localhost\r\n\r\n")?;
-    assert!(rt; play.sent == want);
-    assert!(rt; play.visit.is_done());
-    Ok(())
+fn a_page_that_is_cut_off_has_no_end(rt: HostRuntime) {
+    let want = text(&rt, rt.alloc(), CHUNKED, b"0005\r\nabcde\r\n");
+    let said = b"GET /cut HTTP/1.1\r\nHost: localhost\r\n\r\n";
+    is_answered(&rt, rt.alloc(), said, &want, true);
 }
 
 #[test]
-fn what_was_said_before_the_end_is_answered(rt: HostRuntime) -> Result<(), Fail> {
-    let mut play = Play::new(rt.alloc())?;
+fn what_was_said_before_the_end_is_answered(rt: HostRuntime) {
+    let want = text(&rt, rt.alloc(), CHUNKED, b"0001\r\n3\r\n0\r\n\r\n");
+    let mut play = Play::new(&rt, rt.alloc());
     play.visit
         .hear(b"GET /3 HTTP/1.1\r\nHost: localhost\r\n\r\nGET /4 HT");
     play.visit.end();
-    play.go_on(1000)?;
-    let want = text(
-        rt.alloc(),
-        b"Transfer-Encoding: chunked\r\n",
-        b"0001\r\n3\r\n0\r\n\r\n",
-    )?;
-    assert!(rt; play.sent == want);
-    assert!(rt; play.visit.is_done());
-    Ok(())
+    play.go_on(&rt, 1000);
+    play.was_sent(&rt, &want, true);
+    play.let_go();
 }
 
 #[test]
-fn a_slow_visitor_is_late(rt: HostRuntime) -> Result<(), Fail> {
-    let mut play = Play::new(rt.alloc())?;
-    play.say(b"GET /3 HT", 1)?;
-    assert!(rt; !play.visit.is_late(PATIENCE));
-    assert!(rt; play.visit.is_late(PATIENCE + 1));
+fn a_slow_visitor_is_late(rt: HostRuntime) {
+    let mut play = Play::new(&rt, rt.alloc());
+    play.say(&rt, b"GET /3 HT", 1);
+    play.is_late(&rt, PATIENCE, false);
+    play.is_late(&rt, PATIENCE + 1, true);
     play.visit.hear(b"TP/1.1\r\nHost: localhost\r\n\r\n");
-    assert!(rt; !play.visit.is_late(PATIENCE + 1));
+    play.is_late(&rt, PATIENCE + 1, false);
     play.visit.advance(&Letters, &mut play.piece, PATIENCE);
-    assert!(rt; !play.visit.is_late(2 * PATIENCE));
-    assert!(rt; play.visit.is_late(2 * PATIENCE + 1));
-    Ok(())
+    play.is_late(&rt, 2 * PATIENCE, false);
+    play.is_late(&rt, 2 * PATIENCE + 1, true);
+    play.let_go();
 }

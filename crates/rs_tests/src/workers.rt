@@ -115,7 +115,9 @@ fn announce(rt: &impl Abort, tables: &mut AdjIns, member: usize, n: u32, attrs: 
     let prefix = Prefix::new(0x0a00_0000 | (n & 0xffff) << 8, 24).expect(rt, "a prefix");
     assert!(rt; member < tables.clients());
     assert!(rt; attrs.has_mandatory());
-    tables.put(member, prefix, attrs, 0).expect(rt, "a route");
+    tables
+        .put(member, prefix, attrs, 0, 0)
+        .expect(rt, "a route");
 }
 
 /// Of all members routes for their share of so many prefixes, by three sets of attributes.

@@ -4,7 +4,8 @@ ghost use Rattle.std.specs.Prelude.{◌≡◌};
 
 use crate::live::reloading::{NOTHING_OF_A, accepted};
 use crate::live::rounds::{
-    A, B, COMING_UP, OPEN_A, OPEN_B, UPDATE, WITHDRAWAL, behind, comes_up, served,
+    A, B, COMING_UP, OPEN_A, OPEN_B, UPDATE, WITHDRAWAL, all_are_closed, behind, comes_up,
+    is_reported, served,
 };
 use crate::live::script::{Script, sent};
 use rs_control::order::Order;
@@ -33,7 +34,7 @@ fn endless() -> Limits
     }
 }
 
-/// What was sent on a connection once its session was up: these messages, one behind the other.
+/// What was sent on a connection once its session was up: these messages, one after the other.
 fn heard(rt: &impl Abort, ports: &Script, key: usize, messages: &[&[u8]]) {
     let mut from = COMING_UP;
     for message in messages {
@@ -60,6 +61,12 @@ fn a_comes(rt: &impl Abort, ports: &mut Script, key: usize, round: u64) {
     ports.come(key, round);
 }
 
+/// The server says just this.
+fn says_just(rt: &impl Abort, ports: &Script, lines: &[Line]) {
+    ports.says_first(rt, lines);
+    assert_eq!(rt; ports.said.len(), lines.len());
+}
+
 #[test]
 fn a_member_is_kept_down_until_it_is_enabled(rt: HostRuntime) {
     let text = ShutdownText::of(b"back at 10").expect(&rt, "a text");
@@ -84,16 +91,15 @@ fn a_member_is_kept_down_until_it_is_enabled(rt: HostRuntime) {
         Line::Close(0),
         Line::Close(1),
     ];
-    ports.says_first(&rt, &lines);
-    assert_eq!(rt; ports.said.len(), lines.len());
+    says_just(&rt, &ports, &lines);
     let kept_out = Report::KeptOut {
         client: 0,
         address: A,
         count: 1,
     };
-    assert!(rt; ports.reports.contains(&kept_out));
-    assert!(rt; ports.reports.contains(&Report::Enabled { client: 0 }));
-    assert!(rt; ports.wires.iter().all(|wire| !wire.is_open));
+    is_reported(&rt, &ports, &kept_out);
+    is_reported(&rt, &ports, &Report::Enabled { client: 0 });
+    all_are_closed(&rt, &ports);
     ports.let_go();
 }
 

@@ -1,21 +1,15 @@
 //! The record of a run: its replay sends what the run sent, its file ends in whole lines, and no message is begun
 //! for a connection without that some of it is put in.
 
-use crate::live::rounds::{
-    A, B, COMING_UP, KEEPALIVE, OPEN_A, OPEN_B, THREE, UPDATE, behind, comes_up, served, until,
-};
+use crate::common::{play, put};
+use crate::live::rounds::{COMING_UP, KEEPALIVE, THREE, UPDATE, exchange, served, until};
 use crate::live::script::Script;
 use rs_live::outbox::Outbox;
-use rs_policy::Config;
 use rs_streams::record_file::{Appended, RecordEnd, RecordFile};
 use rs_streams::streams::Stream;
-use rs_trace::progress::Unwatched;
-use rs_trace::replay::replay;
-use rs_trace::text::{OverRead, OverWrite};
 use std::alloc::Global;
 use std::process::Abort;
 use std::sync::Wait;
-use std::test::Fail;
 use std::thread::Threads;
 
 /// The lines of the record of an exchange of one route, written by hand: each round has its moment, and behind
@@ -23,37 +17,29 @@ use std::thread::Threads;
 const ROUTE: &[u8] =
     b"octets a ffffffffffffffffffffffffffffffff002f02000000144001010040020602010000fbf0400304c000020b18c63364";
 
-/// What the replay of a record sends to a client.
-fn replayed<R: Abort + Threads + Wait + Sync>(
-    rt: &R,
-    alloc: Global,
-    record: &[u8],
-    name: &[u8],
-) -> Result<Vec<u8>, Fail> {
-    let mut written = Vec::new(alloc);
-    let mut reader = OverRead::new(record);
-    let mut writer = OverWrite::new(&mut written);
-    let config = Config::read(alloc, THREE)?;
-    let played = replay(
-        rt,
-        alloc,
-        &mut reader,
-        &mut writer,
-        &mut Unwatched,
-        config,
-        1,
-    );
-    assert_eq!(rt; played, Ok(()));
+/// The octets of the lines `sent` of a client in a replay's output.
+fn sent_in(rt: &impl Abort, alloc: Global, output: &[u8], front: &[u8]) -> Vec<u8> {
     let mut octets = Vec::new(alloc);
-    for line in written.split(|octet| *octet == b'\n') {
-        if let Some(text) = line.strip_prefix(b"sent ".as_slice())
-            && let Some(digits) = text.strip_prefix(name)
-            && let Some(digits) = digits.strip_prefix(b" ".as_slice())
-        {
-            octets.extend_from_slice(&hex::decode(alloc, digits)?)?;
+    for line in output.split(|octet| *octet == b'\n') {
+        if let Some(digits) = line.strip_prefix(front) {
+            let sent = hex::decode(alloc, digits).expect(rt, "octets");
+            put(rt, &mut octets, &sent);
         }
     }
-    Ok(octets)
+    octets
+}
+
+/// What the replay of a record writes.
+fn replayed<R: Abort + Threads + Wait + Sync>(rt: &R, alloc: Global, record: &[u8]) -> Vec<u8> {
+    let (played, written) = play(rt, alloc, THREE, record);
+    assert_eq!(rt; played, Ok(()));
+    written
+}
+
+/// A replay's output has just these octets of a client.
+fn has_sent(rt: &impl Abort, alloc: Global, output: &[u8], front: &[u8], want: &[u8]) {
+    let octets = sent_in(rt, alloc, output, front);
+    assert_eq!(rt; octets.as_slice(), want);
 }
 
 /// How often this line stands in a record.
@@ -67,65 +53,67 @@ fn count(record: &[u8], wanted: &[u8]) -> usize {
     count
 }
 
-/// a announces a route once b is there; b closes when it was sent it, and then a does.
-fn exchange(rt: &impl Abort, alloc: Global) -> Script {
-    let mut ports = Script::new(alloc, 0);
-    let [open, keepalive] = comes_up(OPEN_A);
-    ports.wire(rt, 0, A, &[open, keepalive, behind(UPDATE)], COMING_UP);
-    ports.stay(0, 20);
-    let until = COMING_UP + UPDATE.len();
-    ports.wire(rt, 1, B, &comes_up(OPEN_B), until);
-    ports
+/// This line stands in a record once.
+fn has_once(rt: &impl Abort, record: &[u8], line: &[u8]) {
+    assert_eq!(rt; count(record, line), 1);
+}
+
+/// What is recorded of an exchange.
+fn recorded<R: Abort + Threads + Wait + Sync>(
+    rt: &R,
+    alloc: Global,
+    ports: &mut Script,
+) -> Vec<u8> {
+    ports.record = Some(Vec::new(alloc));
+    served(rt, alloc, ports, until(2));
+    assert_eq!(rt; ports.record_end, None);
+    ports.record.take().expect(rt, "a record")
 }
 
 #[test]
-fn a_record_is_replayed_as_it_was(rt: HostRuntime) -> Result<(), Fail> {
+fn a_record_is_replayed_as_it_was(rt: HostRuntime) {
     let alloc = rt.alloc();
-    let mut ports = exchange(&rt, alloc);
-    ports.record = Some(Vec::new(alloc));
-    served(&rt, alloc, &mut ports, until(2));
-    let Some(record) = ports.record.take() else {
-        return Ok(());
-    };
-    assert_eq!(rt; ports.record_end, None);
-    assert_eq!(rt; count(&record, b"open a"), 1);
-    assert_eq!(rt; count(&record, b"open b"), 1);
-    assert_eq!(rt; count(&record, ROUTE), 1);
-    assert_eq!(rt; count(&record, b"lost a"), 1);
-    assert_eq!(rt; count(&record, b"lost b"), 1);
-    let of_a = replayed(&rt, alloc, &record, b"a")?;
-    assert_eq!(rt; of_a.as_slice(), ports.heard(0));
-    let of_b = replayed(&rt, alloc, &record, b"b")?;
-    assert_eq!(rt; of_b.as_slice(), ports.heard(1));
-    assert_eq!(rt; of_b.len(), COMING_UP + UPDATE.len());
+    let mut ports = exchange(&rt, alloc, 0);
+    let record = recorded(&rt, alloc, &mut ports);
+    has_once(&rt, &record, b"open a");
+    has_once(&rt, &record, b"open b");
+    has_once(&rt, &record, ROUTE);
+    has_once(&rt, &record, b"lost a");
+    has_once(&rt, &record, b"lost b");
+    let output = replayed(&rt, alloc, &record);
+    has_sent(&rt, alloc, &output, b"sent a ", ports.heard(0));
+    has_sent(&rt, alloc, &output, b"sent b ", ports.heard(1));
+    assert_eq!(rt; ports.heard(1).len(), COMING_UP + UPDATE.len());
     ports.let_go();
-    Ok(())
 }
 
 #[test]
 fn nothing_is_recorded_unasked(rt: HostRuntime) {
-    let mut ports = exchange(&rt, rt.alloc());
+    let mut ports = exchange(&rt, rt.alloc(), 0);
     served(&rt, rt.alloc(), &mut ports, until(2));
     assert!(rt; ports.record.is_none());
     ports.let_go();
 }
 
+/// Of these octets so many are put in.
+fn takes(rt: &impl Abort, out: &mut Outbox, octets: &[u8], count: usize) {
+    assert_eq!(rt; out.put(octets), count);
+}
+
 #[test]
-fn a_message_is_begun_with_an_octet(rt: HostRuntime) -> Result<(), Fail> {
-    let alloc = rt.alloc();
-    let mut out = Outbox::new(alloc)?;
-    let whole = vec![in alloc; 7; 65_536]?;
+fn a_message_is_begun_with_an_octet(rt: HostRuntime) {
+    let mut out = Outbox::new(rt.alloc()).expect(&rt, "an outbox");
+    let whole = Vec::from_elem(rt.alloc(), 7, 65_536).expect(&rt, "octets");
     // The room is used up by a whole message. Of the next one an octet is taken, and then no more.
-    assert_eq!(rt; out.put(&whole), 65_536);
+    takes(&rt, &mut out, &whole, 65_536);
     assert!(rt; out.is_full());
-    assert_eq!(rt; out.put(KEEPALIVE), 1);
-    assert_eq!(rt; out.put(&KEEPALIVE[1..]), 0);
+    takes(&rt, &mut out, KEEPALIVE, 1);
+    takes(&rt, &mut out, &KEEPALIVE[1..], 0);
     assert_eq!(rt; out.waiting().len(), 65_537);
     // Once there is room again it goes on where it was.
     out.took(65_537);
-    assert_eq!(rt; out.put(&KEEPALIVE[1..]), 18);
+    takes(&rt, &mut out, &KEEPALIVE[1..], 18);
     assert_eq!(rt; out.waiting(), &KEEPALIVE[1..]);
-    Ok(())
 }
 
 /// A file that takes so many octets, ten at a time, and then none.
@@ -156,45 +144,59 @@ impl Appended for SmallFile<'_> {
     }
 }
 
-#[test]
-fn a_file_is_cut_off_behind_a_line(rt: HostRuntime) -> Result<(), Fail> {
-    let alloc = rt.alloc();
-    let lines: &[u8] = b"open a\noctets a 00\nmoment 5\nturn\n";
-    for most in 0..60usize {
-        let mut text = Vec::new(alloc);
-        let file = SmallFile {
-            text: &mut text,
-            most,
-        };
-        let mut record = RecordFile::new(alloc, file);
-        record.put(lines)?;
-        assert_eq!(rt; record.size(), lines.len() as u64);
-        let written = record.write_to(0);
-        assert_eq!(rt; written.is_ok(), most >= lines.len(), "{most}");
-        record.end(b"# over\n");
-        drop(record);
-        let is_whole = text.is_empty() || text.ends_with(b"\n");
-        assert!(rt; is_whole, "{most}");
-        let front = text.strip_suffix(b"# over\n".as_slice()).unwrap_or(&text);
-        assert!(rt; lines.starts_with(front), "{most}");
-        if most >= lines.len() + 10 {
-            assert_eq!(rt; text.len(), lines.len() + 7, "{most}");
-        }
-    }
-    Ok(())
+const LINES: &[u8] = b"open a\noctets a 00\nmoment 5\nturn\n";
+
+/// What a file that takes so many octets has at the end of these lines.
+fn written(rt: &impl Abort, alloc: Global, most: usize) -> Vec<u8> {
+    let mut text = Vec::new(alloc);
+    let file = SmallFile {
+        text: &mut text,
+        most,
+    };
+    let mut record = RecordFile::new(alloc, file);
+    record.put(LINES).expect(rt, "lines");
+    assert_eq!(rt; record.size(), LINES.len() as u64);
+    let is_written = record.write_to(0).is_ok();
+    assert_eq!(rt; is_written, most >= LINES.len(), "{most}");
+    record.end(b"# over\n");
+    drop(record);
+    text
+}
+
+/// A file that takes so many octets has whole lines, the first ones.
+fn is_cut(rt: &impl Abort, alloc: Global, most: usize) {
+    let text = written(rt, alloc, most);
+    let is_whole = text.is_empty() || text.ends_with(b"\n");
+    assert!(rt; is_whole, "{most}");
+    let front = text.strip_suffix(b"# over\n".as_slice()).unwrap_or(&text);
+    assert!(rt; LINES.starts_with(front), "{most}");
+    let has_end = text.len() == LINES.len() + 7;
+    assert!(rt; has_end || most < LINES.len() + 10, "{most}");
 }
 
 #[test]
-fn reasons_of_an_end(rt: HostRuntime) -> Result<(), Fail> {
-    let alloc = rt.alloc();
-    for (why, wanted) in [
-        (RecordEnd::File, "the file takes no more"),
-        (RecordEnd::NextFile, "the next file can't be made"),
-        (RecordEnd::Memory, "out of memory"),
-        (RecordEnd::Rules, "rules of more than 64 MiB"),
-    ] {
-        let text = format!(in alloc; "{why}")?;
-        assert_eq!(rt; text.as_str(), wanted);
+fn a_file_is_cut_off_behind_a_line(rt: HostRuntime) {
+    for most in 0..60usize {
+        is_cut(&rt, rt.alloc(), most);
     }
-    Ok(())
+}
+
+/// Why a record ended, in words.
+fn is_told(rt: &impl Abort, alloc: Global, why: RecordEnd, wanted: &str) {
+    let text = format!(in alloc; "{why}").expect(rt, "a text");
+    assert_eq!(rt; text.as_str(), wanted);
+}
+
+#[test]
+fn reasons_of_an_end(rt: HostRuntime) {
+    let alloc = rt.alloc();
+    is_told(&rt, alloc, RecordEnd::File, "the file takes no more");
+    is_told(
+        &rt,
+        alloc,
+        RecordEnd::NextFile,
+        "the next file can't be made",
+    );
+    is_told(&rt, alloc, RecordEnd::Memory, "out of memory");
+    is_told(&rt, alloc, RecordEnd::Rules, "rules of more than 64 MiB");
 }

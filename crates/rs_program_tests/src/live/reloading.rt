@@ -1,7 +1,8 @@
 //! Rules that are read again while the server runs.
 
 use crate::live::rounds::{
-    A, B, COMING_UP, OPEN_A, OPEN_B, THREE, UPDATE, WITHDRAWAL, behind, comes_up, served,
+    A, B, COMING_UP, OPEN_A, OPEN_B, THREE, UPDATE, WITHDRAWAL, behind, comes_up, is_reported,
+    served,
 };
 use crate::live::script::{Script, sent};
 use rs_live::ports::Line;
@@ -49,7 +50,7 @@ fn a_text_is_handed_over_at_first_and_when_it_changes(rt: HostRuntime) {
     let answers = COMING_UP + UPDATE.len();
     sent(&rt, ports.heard(1).get(COMING_UP..answers), UPDATE);
     sent(&rt, ports.heard(1).get(answers..), WITHDRAWAL);
-    // The first reading, and the one behind the change; b was sent the withdrawal while a was there.
+    // The first reading, and the one after the change; b was sent the withdrawal while a was there.
     assert_eq!(rt; accepted(&ports.said), 2);
     assert!(rt; ports.said.ends_with(&[Line::Lost(1), Line::Lost(0)]));
     ports.let_go();
@@ -67,7 +68,7 @@ fn a_file_that_is_not_read_is_told_and_the_rules_stay(rt: HostRuntime) {
     served(&rt, rt.alloc(), &mut ports, limits);
     let told = Line::File(FileFault::NoFile(0));
     assert_eq!(rt; ports.said.iter().filter(|line| **line == told).count(), 1);
-    assert!(rt; ports.reports.contains(&Report::File(FileFault::NoFile(0))));
+    is_reported(&rt, &ports, &Report::File(FileFault::NoFile(0)));
     let answers = COMING_UP + UPDATE.len();
     sent(&rt, ports.heard(1).get(COMING_UP..answers), UPDATE);
     assert_eq!(rt; accepted(&ports.said), 2);

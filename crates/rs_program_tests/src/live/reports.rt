@@ -1,10 +1,10 @@
 //! Reports in words.
 
+use crate::common::config;
 use crate::live::rounds::THREE;
 use rs_attrs::{AttributeFault, Cause, Faulted, Mode};
 use rs_core::{Ending, NOTICE_MAX, Notice};
 use rs_open::{Limit, Short, ShutdownText};
-use rs_policy::Config;
 use rs_reports::communications::communication_in;
 use rs_reports::logging::Stamp;
 use rs_reports::names::Names;
@@ -12,7 +12,6 @@ use rs_reports::offers::Offered;
 use rs_reports::reports::{Holder, Report, Worded};
 use std::alloc::Global;
 use std::process::Abort;
-use std::test::Fail;
 
 const WITHDRAWN: Option<AttributeFault> = Some(AttributeFault {
     kind: 1,
@@ -24,136 +23,183 @@ const DISCARDED: Option<AttributeFault> = Some(AttributeFault {
     cause: Cause::Length,
 });
 
-/// UPDATEs of a client at fault.
-fn at_fault(
-    client: usize,
-    count: u64,
-    withdraw: Option<AttributeFault>,
-    discard: Option<AttributeFault>,
-) -> Report {
-    Report::Faulted {
-        client,
-        count,
-        last: Faulted {
-            withdraw,
-            discard,
-            mp_reach: false,
-        },
-    }
+/// A report reads so.
+fn is_worded(rt: &impl Abort, alloc: Global, report: Report, words: &str) {
+    let config = config(rt, alloc, THREE);
+    let names = Names::of(alloc, &config).expect(rt, "names");
+    let shown = format!(in alloc; "{}", Worded(&report, &names)).expect(rt, "a text");
+    assert_eq!(rt; shown.as_str(), words);
 }
 
-/// The operator has ended b's session, with this text.
-fn disabled(text: &[u8]) -> Report {
-    let text = ShutdownText::of(text).unwrap_or(ShutdownText::NONE);
+/// b's session ended so.
+fn down(ending: Option<Ending>) -> Report {
     Report::Down {
         client: 1,
-        ending: Some(Ending::Said(Short::shutdown(text))),
+        ending,
         offered: None,
     }
 }
 
+/// The address of a connection, 192.0.2.77.
+const ADDRESS: u32 = 0xc000_024d;
+
 /// Reports, and how each reads.
-fn reports() -> [(Report, &'static str); 16] {
-    let address = 0xc000_024d;
-    [
-        (
-            Report::Strangers { address, count: 1 },
-            "1 connection of a stranger, from 192.0.2.77",
-        ),
-        (
-            Report::Strangers { address, count: 2 },
-            "2 connections of strangers, the first from 192.0.2.77",
-        ),
-        (
-            Report::Up {
-                client: 0,
-                mode: Mode::Four,
-                limit: Limit::Short,
-                hold: 90,
-            },
-            "a up: AS 64496, four-octet AS numbers, messages of up to 4096 octets, Hold Time 90",
-        ),
-        (
-            Report::Down {
-                client: 1,
-                ending: Some(Ending::Said(Short::note(6, 4))),
-                offered: None,
-            },
-            "b down: NOTIFICATION sent: Cease, Administrative Reset (6, 4)",
-        ),
-        (
-            disabled(b""),
-            "b down: session ended by the operator: Cease, Administrative Shutdown (6, 2)",
-        ),
-        (
-            disabled(b"back at 10\n"),
-            "b down: session ended by the operator: Cease, Administrative Shutdown (6, 2), \"back at 10\\n\"",
-        ),
-        (
-            Report::KeptOut {
-                client: 1,
-                address,
-                count: 2,
-            },
-            "b disabled: 2 connections from 192.0.2.77 closed",
-        ),
-        (Report::Enabled { client: 1 }, "b enabled by the operator"),
-        (
-            Report::Down {
-                client: 1,
-                ending: None,
-                offered: None,
-            },
-            "b down: the connection was lost",
-        ),
-        (
-            at_fault(0, 1, None, DISCARDED),
-            "a: 1 UPDATE at fault: AGGREGATOR (7) discarded: wrong length",
-        ),
-        (
-            at_fault(0, 2, WITHDRAWN, None),
-            "a: 2 UPDATEs at fault, the last: ORIGIN (1) treated as withdraw: malformed value",
-        ),
-        (
-            at_fault(2, 3, WITHDRAWN, DISCARDED),
-            "c: 3 UPDATEs at fault, the last: ORIGIN (1) treated as withdraw: malformed value; AGGREGATOR (7) discarded: wrong length",
-        ),
-        (
-            Report::PassedOver { client: 0 },
-            "a: routes in MP_REACH_NLRI (14) are passed over",
-        ),
-        (Report::Rules(Ok(())), "rules accepted"),
-        (
-            Report::LeftOut {
-                client: 0,
-                count: 1,
-            },
-            "a: 1 report left out",
-        ),
-        (
-            Report::LeftOut {
-                client: 0,
-                count: 4,
-            },
-            "a: 4 reports left out",
-        ),
-    ]
+const REPORTS: [(Report, &str); 10] = [
+    (
+        Report::Strangers {
+            address: ADDRESS,
+            count: 1,
+        },
+        "1 connection of a stranger, from 192.0.2.77",
+    ),
+    (
+        Report::Strangers {
+            address: ADDRESS,
+            count: 2,
+        },
+        "2 connections of strangers, the first from 192.0.2.77",
+    ),
+    (
+        Report::Up {
+            client: 0,
+            mode: Mode::Four,
+            limit: Limit::Short,
+            hold: 90,
+        },
+        "a up: AS 64496, four-octet AS numbers, messages of up to 4096 octets, Hold Time 90",
+    ),
+    (
+        Report::KeptOut {
+            client: 1,
+            address: ADDRESS,
+            count: 2,
+        },
+        "b disabled: 2 connections from 192.0.2.77 closed",
+    ),
+    (Report::Enabled { client: 1 }, "b enabled by the operator"),
+    (
+        Report::Down {
+            client: 1,
+            ending: None,
+            offered: None,
+        },
+        "b down: the connection was lost",
+    ),
+    (
+        Report::PassedOver { client: 0 },
+        "a: routes in MP_REACH_NLRI (14) are passed over",
+    ),
+    (Report::Rules(Ok(())), "rules accepted"),
+    (
+        Report::LeftOut {
+            client: 0,
+            count: 1,
+        },
+        "a: 1 report left out",
+    ),
+    (
+        Report::LeftOut {
+            client: 0,
+            count: 4,
+        },
+        "a: 4 reports left out",
+    ),
+];
+
+/// UPDATEs of a client, so many, of which the last had these faults, and how they read.
+const AT_FAULT: [(
+    usize,
+    u64,
+    Option<AttributeFault>,
+    Option<AttributeFault>,
+    &str,
+); 3] = [
+    (
+        0,
+        1,
+        None,
+        DISCARDED,
+        "a: 1 UPDATE at fault: AGGREGATOR (7) discarded: wrong length",
+    ),
+    (
+        0,
+        2,
+        WITHDRAWN,
+        None,
+        "a: 2 UPDATEs at fault, the last: ORIGIN (1) treated as withdraw: malformed value",
+    ),
+    (
+        2,
+        3,
+        WITHDRAWN,
+        DISCARDED,
+        "c: 3 UPDATEs at fault, the last: ORIGIN (1) treated as withdraw: malformed value; AGGREGATOR (7) discarded: wrong length",
+    ),
+];
+
+/// How it reads that UPDATEs of a client were at fault.
+fn fault_is_worded(
+    rt: &impl Abort,
+    alloc: Global,
+    row: &(
+        usize,
+        u64,
+        Option<AttributeFault>,
+        Option<AttributeFault>,
+        &str,
+    ),
+) {
+    let (client, count, withdraw, discard, words) = *row;
+    let last = Faulted {
+        withdraw,
+        discard,
+        mp_reach: false,
+    };
+    let report = Report::Faulted {
+        client,
+        count,
+        last,
+    };
+    is_worded(rt, alloc, report, words);
 }
 
-/// Each report reads so.
-fn are_worded(rt: &impl Abort, alloc: Global, reports: &[(Report, &str)]) -> Result<(), Fail> {
-    let config = Config::read(alloc, THREE).expect(rt, "a configuration");
-    let names = Names::of(alloc, &config)?;
-    for (report, words) in reports {
-        let shown = format!(in alloc; "{}", Worded(report, &names))?;
-        assert_eq!(rt; shown.as_str(), *words);
-    }
-    Ok(())
+/// How it reads that a NOTIFICATION of ours ended b's session.
+fn end_is_worded(rt: &impl Abort, alloc: Global, said: Short, words: &str) {
+    is_worded(rt, alloc, down(Some(Ending::Said(said))), words);
+}
+
+/// How it reads that the operator has ended b's session with this text.
+fn shutdown_is_worded(rt: &impl Abort, alloc: Global, text: &[u8], words: &str) {
+    let text = ShutdownText::of(text).unwrap_or(ShutdownText::NONE);
+    end_is_worded(rt, alloc, Short::shutdown(text), words);
 }
 
 #[test]
-fn each_report_in_words(rt: HostRuntime) -> Result<(), Fail> {
-    are_worded(&rt, rt.alloc(), &reports())
+fn each_report_in_words(rt: HostRuntime) {
+    for (report, words) in &REPORTS {
+        is_worded(&rt, rt.alloc(), *report, words);
+    }
+    for row in &AT_FAULT {
+        fault_is_worded(&rt, rt.alloc(), row);
+    }
+    end_is_worded(
+        &rt,
+        rt.alloc(),
+        Short::note(6, 4),
+        "b down: NOTIFICATION sent: Cease, Administrative Reset (6, 4)",
+    );
+    shutdown_is_worded(
+        &rt,
+        rt.alloc(),
+        b"",
+        "b down: session ended by the operator: Cease, Administrative Shutdown (6, 2)",
+    );
+    shutdown_is_worded(
+        &rt,
+        rt.alloc(),
+        b"back at 10\n",
+        "b down: session ended by the operator: Cease, Administrative Shutdown (6, 2), \"back at 10\\n\"",
+    );
 }
 
 /// An OPEN of version 4 with AS 64999 by the capability for four octets, Hold Time 2 and identifier
@@ -161,88 +207,94 @@ fn each_report_in_words(rt: HostRuntime) -> Result<(), Fail> {
 const OPEN: &[u8] =
     b"\xff\xff\xff\xff\xff\xff\xff\xff\xff\xff\xff\xff\xff\xff\xff\xff\x00\x25\x01\x04\x5b\xa0\x00\x02\xc0\x00\x02\x0b\x08\x02\x06\x41\x04\x00\x00\xfd\xe7\xff\xff";
 
-/// Client a's session ended by a NOTIFICATION of ours, a fault of this OPEN of this subcode.
-fn refused(sub: u8) -> Report {
-    Report::Down {
+/// How it reads that client a's session ended by a NOTIFICATION of ours, a fault of this OPEN of this subcode.
+fn refusal_is_worded(rt: &impl Abort, alloc: Global, sub: u8, words: &str) {
+    let report = Report::Down {
         client: 0,
         ending: Some(Ending::Said(Short::note(2, sub))),
         offered: Offered::at_front(OPEN),
+    };
+    is_worded(rt, alloc, report, words);
+}
+
+/// Subcodes of faults of an OPEN, each with how the refusal reads.
+const REFUSALS: [(u8, &str); 4] = [
+    (
+        2,
+        "a down: NOTIFICATION sent: OPEN Message Error, Bad Peer AS (2, 2): 64999, not 64496",
+    ),
+    (
+        3,
+        "a down: NOTIFICATION sent: OPEN Message Error, Bad BGP Identifier (2, 3): 192.0.2.11",
+    ),
+    (
+        6,
+        "a down: NOTIFICATION sent: OPEN Message Error, Unacceptable Hold Time (2, 6): 2",
+    ),
+    (
+        4,
+        "a down: NOTIFICATION sent: OPEN Message Error, Unsupported Optional Parameter (2, 4)",
+    ),
+];
+
+#[test]
+fn what_an_open_offered_in_words(rt: HostRuntime) {
+    assert_eq!(rt; Offered::at_front(&OPEN[..36]), None);
+    for (sub, words) in &REFUSALS {
+        refusal_is_worded(&rt, rt.alloc(), *sub, words);
     }
 }
 
-#[test]
-fn what_an_open_offered_in_words(rt: HostRuntime) -> Result<(), Fail> {
-    assert_eq!(rt; Offered::at_front(&OPEN[..36]), None);
-    are_worded(
-        &rt,
-        rt.alloc(),
-        &[
-            (
-                refused(2),
-                "a down: NOTIFICATION sent: OPEN Message Error, Bad Peer AS (2, 2): 64999, not 64496",
-            ),
-            (
-                refused(3),
-                "a down: NOTIFICATION sent: OPEN Message Error, Bad BGP Identifier (2, 3): 192.0.2.11",
-            ),
-            (
-                refused(6),
-                "a down: NOTIFICATION sent: OPEN Message Error, Unacceptable Hold Time (2, 6): 2",
-            ),
-            (
-                refused(4),
-                "a down: NOTIFICATION sent: OPEN Message Error, Unsupported Optional Parameter (2, 4)",
-            ),
-        ],
-    )
-}
-
-/// Client b's session ended by a NOTIFICATION of the client's with this subcode of Cease and this data.
-fn shut(sub: u8, said: &[u8]) -> Report {
+/// How it reads that client b's session ended by a NOTIFICATION of the client's with this subcode of Cease and this data.
+fn notice_is_worded(rt: &impl Abort, alloc: Global, sub: u8, said: &[u8], words: &str) {
     let mut data = [0; NOTICE_MAX];
     let count = said.len().min(NOTICE_MAX);
     data[..count].copy_from_slice(&said[..count]);
-    Report::Down {
-        client: 1,
-        ending: Some(Ending::Heard(Notice {
-            code: 6,
-            sub,
-            data,
-            count,
-        })),
-        offered: None,
+    let notice = Notice {
+        code: 6,
+        sub,
+        data,
+        count,
+    };
+    is_worded(rt, alloc, down(Some(Ending::Heard(notice))), words);
+}
+
+/// Subcodes of Cease with data, and how the end reads.
+const NOTICES: [(u8, &[u8], &str); 3] = [
+    (
+        2,
+        b"\x0fcaf\xc3\xa9\n\x1b[31m\xe2\x80\xae\"",
+        "b down: NOTIFICATION heard: Cease, Administrative Shutdown (6, 2), \"caf\u{e9}\\n\\u{1b}[31m\\u{202e}\\\"\"",
+    ),
+    (
+        4,
+        b"\x01\xff",
+        "b down: NOTIFICATION heard: Cease, Administrative Reset (6, 4), data 01ff",
+    ),
+    (
+        3,
+        b"\x04down",
+        "b down: NOTIFICATION heard: Cease, Peer De-configured (6, 3), data 04646f776e",
+    ),
+];
+
+#[test]
+fn texts_of_notifications_in_words(rt: HostRuntime) {
+    for (sub, said, words) in &NOTICES {
+        notice_is_worded(&rt, rt.alloc(), *sub, said, words);
     }
 }
 
 #[test]
-fn texts_of_notifications_in_words(rt: HostRuntime) -> Result<(), Fail> {
-    are_worded(
-        &rt,
-        rt.alloc(),
-        &[
-            (
-                shut(2, b"\x0fcaf\xc3\xa9\n\x1b[31m\xe2\x80\xae\""),
-                "b down: NOTIFICATION heard: Cease, Administrative Shutdown (6, 2), \"caf\u{e9}\\n\\u{1b}[31m\\u{202e}\\\"\"",
-            ),
-            (
-                shut(4, b"\x01\xff"),
-                "b down: NOTIFICATION heard: Cease, Administrative Reset (6, 4), data 01ff",
-            ),
-            (
-                shut(3, b"\x04down"),
-                "b down: NOTIFICATION heard: Cease, Peer De-configured (6, 3), data 04646f776e",
-            ),
-            (
-                Report::Busy {
-                    client: 1,
-                    address: 0xc000_020c,
-                    count: 2,
-                    holder: Holder::Session,
-                },
-                "b busy: 2 connections from 192.0.2.12 closed, its session is up",
-            ),
-        ],
-    )
+fn closed_connections_in_words(rt: HostRuntime) {
+    let busy = Report::Busy {
+        client: 1,
+        address: 0xc000_020c,
+        count: 2,
+        holder: Holder::Session,
+    };
+    let words = "b busy: 2 connections from 192.0.2.12 closed, its session is up";
+    is_worded(&rt, rt.alloc(), busy, words);
 }
 
 /// Data of the size that is kept, with this length octet and this last one.
@@ -259,35 +311,48 @@ fn said_in(data: &[u8]) -> Option<(usize, bool)> {
     Some((said.text.len(), said.is_whole))
 }
 
+/// So much of a text is in these data, and it is whole or not; or there is none.
+fn says(rt: &impl Abort, data: &[u8], wanted: Option<(usize, bool)>) {
+    assert_eq!(rt; said_in(data), wanted);
+}
+
+/// Data, and how much of a text is in them.
+const LENGTHS: [(&[u8], Option<(usize, bool)>); 5] = [
+    (b"\x00", Some((0, true))),
+    (b"\x04down", Some((4, true))),
+    (b"\x05down", None),
+    (b"\x03down", None),
+    (b"", None),
+];
+
 #[test]
 fn lengths_of_texts(rt: HostRuntime) {
-    for (data, wanted) in [
-        (b"\x00".as_slice(), Some((0, true))),
-        (b"\x04down", Some((4, true))),
-        (b"\x05down", None),
-        (b"\x03down", None),
-        (b"", None),
-        (&cut(63, b'a'), Some((63, true))),
-        (&cut(200, b'a'), Some((63, false))),
-        (&cut(200, 0xc3), Some((62, false))),
-        (&cut(200, 0xff), None),
-    ] {
-        assert_eq!(rt; said_in(data), wanted);
+    for (data, wanted) in &LENGTHS {
+        says(&rt, data, *wanted);
     }
+    says(&rt, &cut(63, b'a'), Some((63, true)));
+    says(&rt, &cut(200, b'a'), Some((63, false)));
+    says(&rt, &cut(200, 0xc3), Some((62, false)));
+    says(&rt, &cut(200, 0xff), None);
+}
+
+/// A stamp reads so.
+fn is_stamped(rt: &impl Abort, alloc: Global, stamp: Stamp, wanted: &str) {
+    let shown = format!(in alloc; "{stamp}").expect(rt, "a text");
+    assert_eq!(rt; shown.as_str(), wanted);
 }
 
 /// Dates by GNU date.
 #[test]
-fn stamps(rt: HostRuntime) -> Result<(), Fail> {
+fn stamps(rt: HostRuntime) {
     let alloc = rt.alloc();
-    for (stamp, wanted) in [
-        (Stamp::Seconds(61), "61"),
-        (Stamp::Utc(0), "1970-01-01T00:00:00Z"),
-        (Stamp::Utc(951_868_799), "2000-02-29T23:59:59Z"),
-        (Stamp::Utc(1_795_613_680), "2026-11-25T13:34:40Z"),
-    ] {
-        let shown = format!(in alloc; "{stamp}")?;
-        assert_eq!(rt; shown.as_str(), wanted);
-    }
-    Ok(())
+    is_stamped(&rt, alloc, Stamp::Seconds(61), "61");
+    is_stamped(&rt, alloc, Stamp::Utc(0), "1970-01-01T00:00:00Z");
+    is_stamped(&rt, alloc, Stamp::Utc(951_868_799), "2000-02-29T23:59:59Z");
+    is_stamped(
+        &rt,
+        alloc,
+        Stamp::Utc(1_795_613_680),
+        "2026-11-25T13:34:40Z",
+    );
 }

@@ -2,6 +2,7 @@
 
 ghost use Rattle.std.specs.Prelude.{◌≡◌};
 
+use crate::common::config;
 use crate::live::script::{Broken, Said, Script, sent};
 use rs_attrs::{AttributeFault, Cause, Faulted};
 use rs_core::Ending;
@@ -9,7 +10,6 @@ use rs_live::ports::Line;
 use rs_live::serve::{Limits, ServeFault, serve};
 use rs_octets::Notification;
 use rs_open::Short;
-use rs_policy::Config;
 use rs_reports::logging::{Level, Log};
 use rs_reports::offers::Offered;
 use rs_reports::reports::{Holder, Report};
@@ -60,7 +60,7 @@ pub const WITHDRAWAL: &[u8] =
 /// The octets of the server's OPEN and KEEPALIVE, by which a session comes up.
 pub const COMING_UP: usize = 37 + 19;
 
-/// One worker, and an end behind so many sessions.
+/// One worker, and an end after so many sessions.
 pub fn until(sessions: u64) -> Limits
     ensures { result.workers ≡ 1 }
 {
@@ -93,8 +93,8 @@ pub fn behind(octets: &'static [u8]) -> Said {
     }
 }
 
-/// a announces a route once b is there; b closes when it was sent it, and then a does. This call fails.
-fn exchange(rt: &impl Abort, alloc: Global, failing: u64) -> Script {
+/// a announces a route once b is there; b closes when it was sent it, and then a does. This call fails, or none (0).
+pub fn exchange(rt: &impl Abort, alloc: Global, failing: u64) -> Script {
     let mut ports = Script::new(alloc, failing);
     let [open, keepalive] = comes_up(OPEN_A);
     ports.wire(rt, 0, A, &[open, keepalive, behind(UPDATE)], COMING_UP);
@@ -112,7 +112,7 @@ fn ended<R: Abort + Threads + Wait + Sync>(
     limits: Limits,
 ) -> Result<(), ServeFault> {
     assert!(rt; 0 < limits.workers && limits.workers <= 16);
-    let config = Config::read(alloc, THREE).expect(rt, "a configuration");
+    let config = config(rt, alloc, THREE);
     serve(rt, alloc, ports, config, limits)
 }
 
@@ -126,6 +126,16 @@ pub fn served<R: Abort + Threads + Wait + Sync>(
     assert_eq!(rt; ended(rt, alloc, ports, limits), Ok(()));
 }
 
+/// All connections are closed.
+pub fn all_are_closed(rt: &impl Abort, ports: &Script) {
+    assert!(rt; ports.wires.iter().all(|wire| !wire.is_open));
+}
+
+/// This was reported.
+pub fn is_reported(rt: &impl Abort, ports: &Script, report: &Report) {
+    assert!(rt; ports.reports.contains(report));
+}
+
 #[test]
 fn a_route_goes_from_one_member_to_the_other(rt: HostRuntime) {
     let mut ports = exchange(&rt, rt.alloc(), 0);
@@ -134,7 +144,7 @@ fn a_route_goes_from_one_member_to_the_other(rt: HostRuntime) {
     sent(&rt, ports.heard(1).get(37..COMING_UP), KEEPALIVE);
     sent(&rt, ports.heard(1).get(COMING_UP..), UPDATE);
     sent(&rt, ports.heard(0).get(COMING_UP..), &[]);
-    assert!(rt; ports.wires.iter().all(|wire| !wire.is_open));
+    all_are_closed(&rt, &ports);
     ports.let_go();
 }
 
@@ -158,7 +168,7 @@ fn strangers_and_second_connections_are_closed(rt: HostRuntime) {
         count: 1,
         holder: Holder::Connection,
     };
-    assert!(rt; ports.reports.contains(&busy));
+    is_reported(&rt, &ports, &busy);
     ports.let_go();
 }
 
@@ -208,7 +218,7 @@ fn holds_nothing(rt: &impl Abort, ports: &Script, key: usize, update: &[u8], wit
     assert!(rt; told.is_empty() || is_withdrawn, "connection {key}");
 }
 
-/// The other member holds what is due to it behind the loss of this connection.
+/// The other member holds what is due to it after the loss of this connection.
 fn other_holds_what_is_due(rt: &impl Abort, ports: &Script, lost: usize) {
     if lost == 0 {
         holds_nothing(rt, ports, 1, UPDATE, WITHDRAWAL);
@@ -217,7 +227,7 @@ fn other_holds_what_is_due(rt: &impl Abort, ports: &Script, lost: usize) {
     }
 }
 
-/// The server ends as it is to behind a call that failed, and the other member holds what is due to it.
+/// The server ends as it is to after a call that failed, and the other member holds what is due to it.
 fn ends_by(rt: &impl Abort, ports: &Script, broken: Broken, ended: Result<(), ServeFault>) {
     match broken {
         Broken::Wait => assert_eq!(rt; ended, Err(ServeFault::Poll)),
@@ -369,7 +379,7 @@ fn a_route_without_next_hop_is_reported(rt: HostRuntime) {
             mp_reach: false,
         },
     };
-    assert!(rt; ports.reports.contains(&answers));
+    is_reported(&rt, &ports, &answers);
     ports.let_go();
 }
 
@@ -406,12 +416,12 @@ fn what_a_refused_open_offered_is_reported(rt: HostRuntime) {
             identifier: B,
         }),
     };
-    assert!(rt; ports.reports.contains(&down));
+    is_reported(&rt, &ports, &down);
     ports.let_go();
 }
 
 #[test]
-fn a_member_that_takes_nothing_is_lost_behind_the_send_hold_time(rt: HostRuntime) {
+fn a_member_that_takes_nothing_is_lost_after_the_send_hold_time(rt: HostRuntime) {
     let mut ports = Script::new(rt.alloc(), 0);
     let [open, _] = comes_up(OPEN_HOLD_0);
     ports.wire(&rt, 0, A, &[open], 1);

@@ -186,14 +186,14 @@ impl Script {
         }
     }
 
-    /// This connection, and each behind it, doesn't come before this round.
+    /// This connection, and each after it, doesn't come before this round.
     pub fn come(&mut self, key: usize, round: u64) {
         if let Some(wire) = self.wires.get_mut(key) {
             wire.comes = round;
         }
     }
 
-    /// The operator orders this in this round, behind all before.
+    /// The operator orders this in this round, after all before.
     pub fn order(&mut self, rt: &impl Abort, round: u64, order: Order) {
         let due = DueOrder { round, order };
         self.orders.push(due).expect(rt, "an order");

@@ -4,7 +4,6 @@ use rs_streams::file_watch::{FileFault, FileWatch, Found, Version, WatchedFiles}
 use rs_texts::end_lines;
 use std::alloc::{AllocError, Global};
 use std::process::Abort;
-use std::test::Fail;
 
 /// Two files in memory, and how often they were looked at and read.
 #[derive(Drop)]
@@ -83,7 +82,7 @@ fn are_taken_up(
 }
 
 #[test]
-fn files_are_read_where_all_have_stood_still(rt: HostRuntime) -> Result<(), Fail> {
+fn files_are_read_where_all_have_stood_still(rt: HostRuntime) {
     let (mut watch, mut files) = (FileWatch::new(), Pair::new(rt.alloc()));
     let first = [
         (7, Ok(false)),
@@ -103,11 +102,10 @@ fn files_are_read_where_all_have_stood_still(rt: HostRuntime) -> Result<(), Fail
     ];
     are_taken_up(&rt, &mut watch, &mut files, &then);
     assert_eq!(rt; (files.looks, files.reads), (9, 2));
-    Ok(())
 }
 
 #[test]
-fn files_are_looked_at_once_in_a_second(rt: HostRuntime) -> Result<(), Fail> {
+fn files_are_looked_at_once_in_a_second(rt: HostRuntime) {
     let (mut watch, mut files) = (FileWatch::new(), Pair::new(rt.alloc()));
     let all = [
         (0, Ok(false)),
@@ -117,11 +115,10 @@ fn files_are_looked_at_once_in_a_second(rt: HostRuntime) -> Result<(), Fail> {
     ];
     are_taken_up(&rt, &mut watch, &mut files, &all);
     assert_eq!(rt; files.looks, 2);
-    Ok(())
 }
 
 #[test]
-fn files_that_change_while_they_are_read_are_read_again(rt: HostRuntime) -> Result<(), Fail> {
+fn files_that_change_while_they_are_read_are_read_again(rt: HostRuntime) {
     let (mut watch, mut files) = (FileWatch::new(), Pair::new(rt.alloc()));
     files.is_written = true;
     let written = [(0, Ok(false)), (2, Ok(false)), (3, Ok(false))];
@@ -130,27 +127,28 @@ fn files_that_change_while_they_are_read_are_read_again(rt: HostRuntime) -> Resu
     let stands = [(4, Ok(false)), (5, Ok(true))];
     are_taken_up(&rt, &mut watch, &mut files, &stands);
     assert_eq!(rt; files.reads, 2);
-    Ok(())
+}
+
+/// What is found of the second file is told once as this fault.
+fn is_told_once(rt: &impl Abort, alloc: Global, found: Found, fault: FileFault) {
+    let (mut watch, mut files) = (FileWatch::new(), Pair::new(alloc));
+    files.found[1] = found;
+    let all = [
+        (0, Ok(false)),
+        (2, Err(fault)),
+        (3, Ok(false)),
+        (9, Ok(false)),
+    ];
+    are_taken_up(rt, &mut watch, &mut files, &all);
+    assert_eq!(rt; files.reads, 0);
 }
 
 #[test]
-fn files_that_are_not_read_are_told_once(rt: HostRuntime) -> Result<(), Fail> {
-    for (found, fault) in [
-        (Found::Nothing, FileFault::Unreadable(1)),
-        (Found::Other, FileFault::NoFile(1)),
-        // With the five octets of the first it is an octet too large.
-        (file(67_108_860, 0), FileFault::TooLarge),
-    ] {
-        let (mut watch, mut files) = (FileWatch::new(), Pair::new(rt.alloc()));
-        files.found[1] = found;
-        let all = [
-            (0, Ok(false)),
-            (2, Err(fault)),
-            (3, Ok(false)),
-            (9, Ok(false)),
-        ];
-        are_taken_up(&rt, &mut watch, &mut files, &all);
-        assert_eq!(rt; files.reads, 0);
-    }
-    Ok(())
+fn files_that_are_not_read_are_told_once(rt: HostRuntime) {
+    let alloc = rt.alloc();
+    is_told_once(&rt, alloc, Found::Nothing, FileFault::Unreadable(1));
+    is_told_once(&rt, alloc, Found::Other, FileFault::NoFile(1));
+    // With the five octets of the first it is an octet too large.
+    let large = file(67_108_860, 0);
+    is_told_once(&rt, alloc, large, FileFault::TooLarge);
 }

@@ -6,13 +6,13 @@ ghost use Rattle.std.proofs.KnownBytes.{Consumes-nil, Consumes-trans, Appends-ni
 ghost use Rattle.rs_trace.specs.Texts.{IsKnown, none_left};
 
 use super::MEMBERS;
-use rs_policy::Config;
+use crate::common::play_over;
 use rs_trace::fault::ReplayFault;
-use rs_trace::progress::Unwatched;
-use rs_trace::replay::replay;
 use rs_trace::text::{Failed, OverRead, OverWrite, TextIn, TextOut};
 use std::alloc::Global;
-use std::test::Fail;
+use std::process::Abort;
+use std::sync::Wait;
+use std::thread::Threads;
 
 #[derive(Drop)]
 struct FailingIn<'a> {
@@ -113,74 +113,82 @@ const READINGS: u64 = 64;
 
 const WRITINGS: u64 = 82;
 
-fn members(alloc: Global) -> Result<Config, Fail> {
-    Ok(Config::read(alloc, MEMBERS)?)
+/// A writer that takes so many calls, and fails after them.
+fn failing_out(alloc: Global, good_calls: u64) -> FailingOut {
+    FailingOut {
+        text: Vec::new(alloc),
+        good_calls,
+        failures: 0,
+    }
+}
+
+/// Whether all is written, where the last call that wrote did not fail; else what was written is the front of it.
+fn has_written(rt: &impl Abort, writer: &FailingOut, is_whole: bool, good_calls: u64) {
+    let text = writer.text.as_slice();
+    assert!(rt; WRITTEN.starts_with(text), "{good_calls}");
+    assert!(rt; !is_whole || text.len() == WRITTEN.len(), "{good_calls}");
+}
+
+/// A device that failed is the fault that is answered.
+fn is_answered(
+    rt: &impl Abort,
+    played: Result<(), ReplayFault>,
+    fault: ReplayFault,
+    good_calls: u64,
+) {
+    assert_eq!(rt; played, Err(fault), "{good_calls}");
+}
+
+/// Whether reading fails after so many calls.
+fn reading_fails<R: Threads + Wait + Sync + Abort>(rt: &R, alloc: Global, good_calls: u64) -> bool {
+    let mut reader = FailingIn {
+        text: TRACE,
+        good_calls,
+        failures: 0,
+    };
+    let mut writer = failing_out(alloc, 100);
+    let played = play_over(rt, alloc, MEMBERS, &mut reader, &mut writer);
+    let fails = reader.failures > 0;
+    has_written(rt, &writer, !fails, good_calls);
+    assert_eq!(rt; writer.failures, 0);
+    if fails {
+        is_answered(rt, played, ReplayFault::Reading, good_calls);
+    }
+    fails
+}
+
+/// Whether writing fails after so many calls.
+fn writing_fails<R: Threads + Wait + Sync + Abort>(rt: &R, alloc: Global, good_calls: u64) -> bool {
+    let mut reader = OverRead::new(TRACE);
+    let mut writer = failing_out(alloc, good_calls);
+    let played = play_over(rt, alloc, MEMBERS, &mut reader, &mut writer);
+    let fails = writer.failures > 0;
+    has_written(rt, &writer, !fails, good_calls);
+    if fails {
+        is_answered(rt, played, ReplayFault::Writing, good_calls);
+        assert_eq!(rt; writer.failures, 1);
+    }
+    fails
 }
 
 #[test]
-fn each_call_failing(rt: HostRuntime) -> Result<(), Fail> {
-    let alloc = rt.alloc();
-    let mut reading_failed = 0u64;
-    let mut writing_failed = 0u64;
+fn each_call_failing(rt: HostRuntime) {
+    let mut readings = 0u64;
+    let mut writings = 0u64;
     for good_calls in 0..100u64 {
-        let mut reader = FailingIn {
-            text: TRACE,
-            good_calls,
-            failures: 0,
-        };
-        let mut writer = FailingOut {
-            text: Vec::new(alloc),
-            good_calls: 100,
-            failures: 0,
-        };
-        let played = replay(
-            &rt,
-            alloc,
-            &mut reader,
-            &mut writer,
-            &mut Unwatched,
-            members(alloc)?,
-            1,
-        );
-        assert!(rt; WRITTEN.starts_with(writer.text.as_slice()), "{good_calls}");
-        assert_eq!(rt; writer.failures, 0);
-        if reader.failures > 0 {
-            assert_eq!(rt; played, Err(ReplayFault::Reading), "{good_calls}");
-            reading_failed = reading_failed.saturating_add(1);
-        } else {
-            assert_eq!(rt; writer.text.as_slice(), WRITTEN, "{good_calls}");
+        if reading_fails(&rt, rt.alloc(), good_calls) {
+            readings = readings.saturating_add(1);
         }
-        let mut reader = OverRead::new(TRACE);
-        let mut writer = FailingOut {
-            text: Vec::new(alloc),
-            good_calls,
-            failures: 0,
-        };
-        let played = replay(
-            &rt,
-            alloc,
-            &mut reader,
-            &mut writer,
-            &mut Unwatched,
-            members(alloc)?,
-            1,
-        );
-        assert!(rt; WRITTEN.starts_with(writer.text.as_slice()), "{good_calls}");
-        if writer.failures > 0 {
-            assert_eq!(rt; played, Err(ReplayFault::Writing), "{good_calls}");
-            assert_eq!(rt; writer.failures, 1);
-            writing_failed = writing_failed.saturating_add(1);
-        } else {
-            assert_eq!(rt; writer.text.as_slice(), WRITTEN, "{good_calls}");
+        if writing_fails(&rt, rt.alloc(), good_calls) {
+            writings = writings.saturating_add(1);
         }
     }
-    assert_eq!(rt; reading_failed, READINGS);
-    assert_eq!(rt; writing_failed, WRITINGS);
-    Ok(())
+    assert_eq!(rt; readings, READINGS);
+    assert_eq!(rt; writings, WRITINGS);
 }
 
 #[test]
-fn counts_that_are_full(rt: HostRuntime) -> Result<(), Fail> {
+fn counts_that_are_full(rt: HostRuntime) {
     let mut reader = FailingIn {
         text: TRACE,
         good_calls: 100,
@@ -188,17 +196,8 @@ fn counts_that_are_full(rt: HostRuntime) -> Result<(), Fail> {
     };
     let mut written = Vec::new(rt.alloc());
     let mut writer = OverWrite::new(&mut written);
-    let played = replay(
-        &rt,
-        rt.alloc(),
-        &mut reader,
-        &mut writer,
-        &mut Unwatched,
-        members(rt.alloc())?,
-        1,
-    );
-    assert_eq!(rt; played, Err(ReplayFault::Reading));
+    let played = play_over(&rt, rt.alloc(), MEMBERS, &mut reader, &mut writer);
+    is_answered(&rt, played, ReplayFault::Reading, 100);
     assert_eq!(rt; reader.failures, u64::MAX);
-    assert_eq!(rt; reader.text, TRACE);
-    Ok(())
+    assert!(rt; reader.text == TRACE);
 }

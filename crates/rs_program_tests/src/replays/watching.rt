@@ -1,7 +1,9 @@
 //! What `--progress` counts.
 
+use crate::common::put;
 use rs_trace::progress::Message;
-use std::test::Fail;
+use std::alloc::Global;
+use std::process::Abort;
 
 /// The header of a message of this length and type.
 fn header(length: u16, kind: u8) -> [u8; 19] {
@@ -13,32 +15,40 @@ fn header(length: u16, kind: u8) -> [u8; 19] {
     octets
 }
 
-#[test]
-fn updates_in_any_pieces(rt: HostRuntime) -> Result<(), Fail> {
-    // An OPEN without parameters, a KEEPALIVE, the shortest UPDATE, and one of 300 octets that hold what
-    // looks like the header of another.
-    let mut said = Vec::from_slice(rt.alloc(), &header(29, 1))?;
-    said.extend_from_slice(&[4, 0, 1, 0, 90, 10, 0, 0, 1, 0])?;
-    said.extend_from_slice(&header(19, 4))?;
-    said.extend_from_slice(&header(23, 2))?;
-    said.extend_from_slice(&[0; 4])?;
-    said.extend_from_slice(&header(300, 2))?;
+/// An OPEN without parameters, a KEEPALIVE, the shortest UPDATE, and one of 300 octets that hold what looks like the
+/// header of another.
+fn session(rt: &impl Abort, alloc: Global) -> Vec<u8> {
+    let mut said = Vec::new(alloc);
+    put(rt, &mut said, &header(29, 1));
+    put(rt, &mut said, &[4, 0, 1, 0, 90, 10, 0, 0, 1, 0]);
+    put(rt, &mut said, &header(19, 4));
+    put(rt, &mut said, &header(23, 2));
+    put(rt, &mut said, &[0; 4]);
+    put(rt, &mut said, &header(300, 2));
     for _ in 0..14 {
-        said.extend_from_slice(&header(19, 2))?;
+        put(rt, &mut said, &header(19, 2));
     }
-    said.extend_from_slice(&[0; 15])?;
+    put(rt, &mut said, &[0; 15]);
+    said
+}
+
+/// In pieces of this size two UPDATEs are counted, and one more behind them.
+fn has_two(rt: &impl Abort, said: &[u8], size: usize) {
+    assert!(rt; size > 0);
+    let mut message = Message::new();
+    let mut updates: u64 = 0;
+    for piece in said.chunks(size) {
+        updates = updates.saturating_add(message.take_all(piece));
+    }
+    assert_eq!(rt; updates, 2, "in pieces of {size}");
+    let behind = message.take_all(&header(19, 2));
+    assert_eq!(rt; behind, 1, "behind pieces of {size}");
+}
+
+#[test]
+fn updates_in_any_pieces(rt: HostRuntime) {
+    let said = session(&rt, rt.alloc());
     for size in [1, 7, 18, 19, 20, 64, 4096] {
-        let mut message = Message::new();
-        let mut updates: u64 = 0;
-        for piece in said.chunks(size) {
-            updates = updates.saturating_add(message.take_all(piece));
-        }
-        assert_eq!(rt; updates, 2, "in pieces of {size}");
-        assert_eq!(rt;
-            message.take_all(&header(19, 2)),
-            1,
-            "behind pieces of {size}"
-        );
+        has_two(&rt, &said, size);
     }
-    Ok(())
 }

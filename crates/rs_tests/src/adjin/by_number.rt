@@ -77,7 +77,9 @@ fn changes_at(
     assert!(rt; client < ins.clients());
     assert!(rt; attrs.has_mandatory());
     let number = ins.add(prefix(rt, of)).expect(rt, "a number");
-    let changed = ins.put_at(client, number, attrs, 0).expect(rt, "a route");
+    let changed = ins
+        .put_at(client, number, attrs, 0, 0)
+        .expect(rt, "a route");
     assert_eq!(rt; changed, want);
 }
 

@@ -125,14 +125,15 @@ fn begin_empties_and_names(rt: HostRuntime) {
     let_go(ins);
 }
 
-/// How many routes there are for a prefix, and how many prefixes a client holds.
-fn sizes(rt: &impl Abort, ins: &AdjIns, client: usize, prefix: Prefix) -> (usize, usize) {
+/// How many routes there are for a prefix, how many prefixes a client holds, and how many sets of attributes all
+/// routes have.
+fn sizes(rt: &impl Abort, ins: &AdjIns, client: usize, prefix: Prefix) -> (usize, usize, usize) {
     assert!(rt; client < ins.clients());
     let mut held = 0usize;
     for _ in ins.held(client) {
         held = held.saturating_add(1);
     }
-    (ins.at(prefix).len(), held)
+    (ins.at(prefix).len(), held, ins.set_count())
 }
 
 /// Puts a new route. Where the memory for it is refused nothing changes, and it is put at the second attempt.
@@ -165,7 +166,11 @@ fn a_refused_put_changes_nothing(rt: HostRuntime) {
             put_or_nothing(&rt, &mut ins, client, of, &one);
             assert_eq!(rt;
                 sizes(&rt, &ins, client, prefix(&rt, of)),
-                (client + 1, usize::from(third) + 1)
+                (
+                    client + 1,
+                    usize::from(third) + 1,
+                    client * 20 + usize::from(third) + 1
+                )
             );
         }
     }

@@ -4,7 +4,6 @@ use super::octets;
 use rs_attrs::{AttributeFault, Cause, Faulted, Mode, attribute_name, read};
 use std::alloc::{AllocError, Global};
 use std::process::Abort;
-use std::test::Fail;
 
 // Each row: what it shows, a field, and the two faults that are noted.
 
@@ -118,7 +117,7 @@ fn in_words(alloc: Global, fault: Option<AttributeFault>) -> Result<String, Allo
 /// The two faults of a field that are noted.
 fn holds(rt: &impl Abort, alloc: Global, mode: Mode, row: &(&str, &str, &str)) {
     let (shows, field, answer) = row;
-    let field = octets(alloc, field).expect(rt, "octets");
+    let field = octets(rt, alloc, field);
     let Faulted {
         withdraw,
         discard,
@@ -176,20 +175,30 @@ const TEXTS: [(&str, &str); 9] = [
     ("40", "attribute 0 treated as withdraw: cut off"),
 ];
 
-#[test]
-fn what_is_noted_as_text(rt: HostRuntime) -> Result<(), Fail> {
-    let alloc = rt.alloc();
-    for (field, text) in TEXTS {
-        let octets = octets(alloc, field)?;
-        let faulted = read(alloc, &octets, Mode::Four)?.faulted;
-        let shown = format!(in alloc; "{faulted}")?;
-        assert_eq!(rt; shown.as_str(), text, "{field}");
-    }
-    Ok(())
+/// What is noted has this text.
+fn is_shown(rt: &impl Abort, alloc: Global, faulted: &Faulted, text: &str) {
+    let shown = format!(in alloc; "{faulted}").expect(rt, "a text");
+    assert_eq!(rt; shown.as_str(), text);
+}
+
+/// What is noted of a field has this text.
+fn is_noted(rt: &impl Abort, alloc: Global, field: &str, text: &str) {
+    let octets = octets(rt, alloc, field);
+    let faulted = read(alloc, &octets, Mode::Four)
+        .expect(rt, "attributes")
+        .faulted;
+    is_shown(rt, alloc, &faulted, text);
 }
 
 #[test]
-fn a_missing_attribute_as_text(rt: HostRuntime) -> Result<(), Fail> {
+fn what_is_noted_as_text(rt: HostRuntime) {
+    for (field, text) in &TEXTS {
+        is_noted(&rt, rt.alloc(), field, text);
+    }
+}
+
+#[test]
+fn a_missing_attribute_as_text(rt: HostRuntime) {
     let missing = Faulted {
         withdraw: Some(AttributeFault {
             kind: 3,
@@ -198,9 +207,8 @@ fn a_missing_attribute_as_text(rt: HostRuntime) -> Result<(), Fail> {
         discard: None,
         mp_reach: false,
     };
-    let shown = format!(in rt.alloc(); "{missing}")?;
-    assert_eq!(rt; shown.as_str(), "NEXT_HOP (3) treated as withdraw: missing");
-    Ok(())
+    let text = "NEXT_HOP (3) treated as withdraw: missing";
+    is_shown(&rt, rt.alloc(), &missing, text);
 }
 
 // The types by number, as RFC 4271, RFC 1997, RFC 4456, RFC 4760, RFC 4360, RFC 6793 and RFC 8092 call them.
@@ -224,10 +232,19 @@ const NAMES: [(u8, &str); 16] = [
     (32, "LARGE_COMMUNITY"),
 ];
 
+/// What the RFCs call a type, where they have it.
+fn name_of(kind: u8) -> Option<&'static str> {
+    for (number, name) in &NAMES {
+        if *number == kind {
+            return Some(name);
+        }
+    }
+    None
+}
+
 #[test]
 fn each_type_by_name(rt: HostRuntime) {
     for kind in 0..=255 {
-        let name = NAMES.iter().find(|row| row.0 == kind).map(|row| row.1);
-        assert_eq!(rt; attribute_name(kind), name, "type {kind}");
+        assert_eq!(rt; attribute_name(kind), name_of(kind), "type {kind}");
     }
 }

@@ -158,10 +158,10 @@ fn faults_by(names: &str) -> Faults {
 /// A field is read as what is kept of it, with these faults.
 fn is_read(rt: &impl Abort, alloc: Global, mode: Mode, row: &str, fields: [&str; 3]) {
     let [field, kept, faults] = fields;
-    let field = octets(alloc, field).expect(rt, "octets");
-    let wanted = octets(alloc, kept).expect(rt, "octets");
+    let field = octets(rt, alloc, field);
+    let wanted = octets(rt, alloc, kept);
     let parsed = read(alloc, &field, mode).expect(rt, "attributes");
-    let spelt = spelt(alloc, &parsed).expect(rt, "octets");
+    let spelt = spelt(rt, alloc, &parsed);
     assert!(rt; spelt == wanted, "{row}");
     assert!(rt; parsed.faults == faults_by(faults), "{row}");
 }

@@ -2,7 +2,7 @@
 
 use super::{ROUTE, attrs_of, put, route_with};
 use rs_attrs::{
-    Attrs, CommunityPattern, LargeCommunityPattern, Mode, Strip, size, size_at_most, stripped,
+    Attrs, CommunityPattern, LargeCommunityPattern, Mode, Strip, read, size, size_at_most, stripped,
 };
 use std::alloc::Global;
 use std::cmp::Ordering;
@@ -302,6 +302,36 @@ fn equal_by_meaning(rt: HostRuntime) {
         false,
     );
     compares(&rt, alloc, b"\xc0\x63\x00", b"", false);
+}
+
+/// Whether two sets of attributes keep one hash, as they do where they are equal.
+fn keep_one(rt: &impl Abort, left: &Attrs, right: &Attrs, one: bool) {
+    assert_eq!(rt; left == right, one);
+    assert_eq!(rt; left.kept_hash() == right.kept_hash(), one);
+}
+
+#[test]
+fn equal_attributes_keep_one_hash(rt: HostRuntime) {
+    let alloc = rt.alloc();
+    let route = attrs_of(&rt, alloc, &ROUTE);
+    // the same in two octets an AS number, copied, and with communities that are taken out
+    let two = b"\x40\x01\x01\x00\x40\x02\x04\x02\x01\xfb\xf0\x40\x03\x04\xc0\x00\x02\x0b";
+    let of_two = read(alloc, two, Mode::Two).expect(&rt, "attributes");
+    keep_one(&rt, &route, &of_two.attrs, true);
+    keep_one(&rt, &route, &route.clone().expect(&rt, "a copy"), true);
+    let strip = Strip {
+        all_communities: true,
+        ..NOTHING
+    };
+    let community = route_with(&rt, alloc, b"\xc0\x08\x04\xfb\xf0\x00\x01");
+    let rest = stripped(alloc, &community, &strip).expect(&rt, "attributes");
+    keep_one(&rt, &route, &rest, true);
+    // what differs in an attribute, in a value, or in a flag
+    keep_one(&rt, &route, &community, false);
+    let another = route_with(&rt, alloc, b"\xc0\x08\x04\xfb\xf0\x00\x02");
+    keep_one(&rt, &community, &another, false);
+    let partial = route_with(&rt, alloc, b"\xe0\x08\x04\xfb\xf0\x00\x01");
+    keep_one(&rt, &community, &partial, false);
 }
 
 // 64496:1, 64496:2, 64496:1, with the partial bit; 64496:1:2, 64496:1:3; and an unknown attribute behind them

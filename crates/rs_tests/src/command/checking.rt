@@ -1,14 +1,14 @@
 //! What `--check` prints of a configuration.
 
 use super::configuration::{GOOD, MEMBERS, TOP, TWO_FAULTS};
-use super::{Streams, is_printed};
+use super::{Streams, is_printed, put_text};
+use crate::common::is;
 use rs_check::check_texts;
 use rs_command::Status;
 use rs_texts::{Text, join, read_on};
 use std::alloc::Global;
 use std::io;
 use std::process::Abort;
-use std::test::Fail;
 
 /// Octets as a text.
 #[derive(Drop)]
@@ -23,41 +23,41 @@ impl Text for Octets<'_> {
 
 /// This is printed of a configuration of files of these names and octets, and this is the status to end
 /// with.
-fn are_told<R: Abort>(
-    rt: &R,
+fn are_told(
+    rt: &impl Abort,
     alloc: Global,
     files: &[(&str, &[u8])],
     wanted: Status,
     output: &str,
     errors: &str,
-) -> Result<(), Fail> {
+) {
     let mut names = Vec::new(alloc);
     let mut octets = Vec::new(alloc);
     for (name, text) in files {
-        names.push(String::from_str(alloc, name)?)?;
-        octets.push(Octets(text))?;
+        put_text(rt, alloc, &mut names, name);
+        octets.push(Octets(text)).expect(rt, "a text");
     }
-    let texts = join(alloc, &octets)?;
+    let texts = join(alloc, &octets).expect(rt, "a text");
     let streams = Streams::new(alloc);
-    let status = check_texts(&streams, alloc, &texts, &names)?;
-    assert_eq!(rt; status, wanted, "{errors}");
-    is_printed(rt, &streams, output, errors)
+    let status = check_texts(&streams, alloc, &texts, &names).expect(rt, "memory");
+    is(rt, status, wanted, errors);
+    is_printed(rt, &streams, output, errors);
 }
 
 /// The same of one file.
-fn is_told<R: Abort>(
-    rt: &R,
+fn is_told(
+    rt: &impl Abort,
     alloc: Global,
     octets: &[u8],
     wanted: Status,
     output: &str,
     errors: &str,
-) -> Result<(), Fail> {
-    are_told(rt, alloc, &[("a.toml", octets)], wanted, output, errors)
+) {
+    are_told(rt, alloc, &[("a.toml", octets)], wanted, output, errors);
 }
 
 #[test]
-fn what_is_likely_wrong_is_told(rt: HostRuntime) -> Result<(), Fail> {
+fn what_is_likely_wrong_is_told(rt: HostRuntime) {
     is_told(
         &rt,
         rt.alloc(),
@@ -67,11 +67,11 @@ fn what_is_likely_wrong_is_told(rt: HostRuntime) -> Result<(), Fail> {
         "warning: multiprotocol is off, and BIRD and OpenBGPD need it\n\
 warning: line 3, column 1: client 1 has no import rules\n\
 warning: line 8, column 1: client 2 has no import rules\n",
-    )
+    );
 }
 
 #[test]
-fn all_faults_are_told(rt: HostRuntime) -> Result<(), Fail> {
+fn all_faults_are_told(rt: HostRuntime) {
     is_told(
         &rt,
         rt.alloc(),
@@ -82,11 +82,11 @@ fn all_faults_are_told(rt: HostRuntime) -> Result<(), Fail> {
 expected: identifier = an address other than 0.0.0.0, as \"192.0.2.1\"\n\
 configuration: bad value hold\n\
 line 2, column 8: hold = 2; expected: an integer: 0, or 3 to 65535\n",
-    )
+    );
 }
 
 #[test]
-fn what_is_no_text_is_told(rt: HostRuntime) -> Result<(), Fail> {
+fn what_is_no_text_is_told(rt: HostRuntime) {
     is_told(
         &rt,
         rt.alloc(),
@@ -94,11 +94,11 @@ fn what_is_no_text_is_told(rt: HostRuntime) -> Result<(), Fail> {
         Status::BadCommand,
         "",
         "configuration: unreadable\nline 2, column 11: not UTF-8\n",
-    )
+    );
 }
 
 #[test]
-fn a_fault_is_told_in_its_file(rt: HostRuntime) -> Result<(), Fail> {
+fn a_fault_is_told_in_its_file(rt: HostRuntime) {
     let top = "as = 64500\nhold = 2";
     are_told(
         &rt,
@@ -119,11 +119,11 @@ configuration: bad value hold\n\
 top.toml, line 2, column 8: hold = 2; expected: an integer: 0, or 3 to 65535\n\
 configuration: bad value client 1 name\n\
 two.toml, line 3, column 8: name = 7; expected: a text of 1 to 32 ASCII letters, digits and hyphens\n",
-    )
+    );
 }
 
 #[test]
-fn what_goes_on_over_the_end_of_a_file_is_told(rt: HostRuntime) -> Result<(), Fail> {
+fn what_goes_on_over_the_end_of_a_file_is_told(rt: HostRuntime) {
     are_told(
         &rt,
         rt.alloc(),
@@ -140,5 +140,5 @@ fn what_goes_on_over_the_end_of_a_file_is_told(rt: HostRuntime) -> Result<(), Fa
         "configuration: good, 2 clients\n",
         "warning: members, line 1, column 1: client 1 has no import rules\n\
 warning: limit, line 2, column 2: this belongs to the last table of the file before\n",
-    )
+    );
 }

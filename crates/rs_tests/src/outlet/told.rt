@@ -2,6 +2,7 @@
 //! longest message that they take; and of 100,000 routes at once.
 
 use super::{CLIENT, Exchange, SENDER, all, attrs, drain, let_go, prefix, some};
+use crate::common::put;
 use rs_adjin::AdjIns;
 use rs_attrs::{Mode, read};
 use rs_octets::Prefix;
@@ -96,11 +97,6 @@ fn heard(rt: &impl Abort, alloc: Global, lines: (&str, &str), fields: (&[u8], &[
     made.hear(rt, A, 0xc000_020b, fields.0);
     made.hear(rt, B, 0xc000_020c, fields.1);
     made
-}
-
-/// Adds octets that were counted before.
-fn put(rt: &impl Abort, octets: &mut Vec<u8>, more: &[u8]) {
-    octets.extend_from_slice(more).expect(rt, "octets");
 }
 
 /// A number in two octets.

@@ -263,11 +263,16 @@ const FAULTS: [(&str, &str); 36] = [
     ("colour = 1\n", "bad value ?"),
 ];
 
+/// What stands at the top besides a client is answered by this.
+fn top_is_answered(rt: &impl Abort, alloc: Global, lists: &str, want: &str) {
+    let text = format!(in alloc; "{TOP}{lists}{CLIENT}").expect(rt, "a text");
+    is_answered(rt, alloc, text.as_str(), want);
+}
+
 #[test]
 fn faults_of_lists(rt: HostRuntime) {
     for (lists, want) in &FAULTS {
-        let text = format!(in rt.alloc(); "{TOP}{lists}{CLIENT}").expect(&rt, "a text");
-        is_answered(&rt, rt.alloc(), text.as_str(), want);
+        top_is_answered(&rt, rt.alloc(), lists, want);
     }
 }
 
@@ -330,18 +335,25 @@ const RULES: [(&str, &str); 15] = [
 const NAMED: &str = "[[list]]\nname = \"p\"\nprefixes = [\"10.0.0.0/8\"]\n\
 [[list]]\nname = \"n\"\nases = [64496]\n";
 
+/// A rule beside both lists is answered by this.
+fn rule_is_answered(rt: &impl Abort, alloc: Global, rule: &str, want: &str) {
+    let text = format!(in alloc; "{TOP}{NAMED}{CLIENT}import = [{{ {rule} }}]\n");
+    is_answered(rt, alloc, text.expect(rt, "a text").as_str(), want);
+}
+
+/// A list without a name before a client with an empty rule, and this behind them, are answered by this.
+fn nameless_is_answered(rt: &impl Abort, alloc: Global, behind: &str, want: &str) {
+    let text = format!(in alloc; "{TOP}[[list]]\n{CLIENT}import = [{{}}]\n{behind}");
+    is_answered(rt, alloc, text.expect(rt, "a text").as_str(), want);
+}
+
 #[test]
 fn rules_that_name_lists(rt: HostRuntime) {
     for (rule, want) in &RULES {
-        let text = format!(in rt.alloc(); "{TOP}{NAMED}{CLIENT}import = [{{ {rule} }}]\n");
-        let text = text.expect(&rt, "a text");
-        is_answered(&rt, rt.alloc(), text.as_str(), want);
+        rule_is_answered(&rt, rt.alloc(), rule, want);
     }
     // a list's fault comes after the clients' and before the rules'
-    let text = format!(in rt.alloc(); "{TOP}[[list]]\n{CLIENT}import = [{{}}]\n[[client]]\n");
-    let text = text.expect(&rt, "a text");
-    is_answered(&rt, rt.alloc(), text.as_str(), "missing client 2 name");
-    let text = format!(in rt.alloc(); "{TOP}[[list]]\n{CLIENT}import = [{{}}]\n");
-    let text = text.expect(&rt, "a text");
-    is_answered(&rt, rt.alloc(), text.as_str(), "missing list 1 name");
+    let client = "missing client 2 name";
+    nameless_is_answered(&rt, rt.alloc(), "[[client]]\n", client);
+    nameless_is_answered(&rt, rt.alloc(), "", "missing list 1 name");
 }

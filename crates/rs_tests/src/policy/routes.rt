@@ -1,7 +1,7 @@
 //! Routes and what the rules make of them. Attributes are given as the octets of an UPDATE.
 
 use super::*;
-use crate::common::{ROUTE, attrs, prefix};
+use crate::common::{ROUTE, attrs, prefix, put};
 use rs_attrs::{Attrs, CommunityPattern, Strip};
 use rs_octets::Prefix;
 use std::process::Abort;
@@ -34,8 +34,8 @@ pub(super) const COLOURED: &[u8] = &[
 /// `ROUTE` with these octets behind it.
 pub(super) fn route_with(rt: &impl Abort, alloc: Global, rest: &[u8]) -> Attrs {
     let mut octets = Vec::new(alloc);
-    octets.extend_from_slice(&ROUTE).expect(rt, "octets");
-    octets.extend_from_slice(rest).expect(rt, "octets");
+    put(rt, &mut octets, &ROUTE);
+    put(rt, &mut octets, rest);
     attrs(alloc, &octets).expect(rt, "attributes")
 }
 

@@ -1,8 +1,8 @@
 //! Calls of the core that take no memory. What counts their requests for it stands outside the program:
 //! `tools/plays/without_memory.py` runs these tests, and wants none between two lines that they print.
 
-use crate::common::{ROUTE, from_here, to_here};
-use crate::route_server::exchange::{A, B, Exchange, message, put};
+use crate::common::{ROUTE, from_here, put, to_here};
+use crate::route_server::exchange::{A, B, Exchange, message};
 use rs_core::Core;
 use rs_open::ShutdownText;
 use rs_session::Command;

@@ -1,6 +1,7 @@
 //! A member that announces and withdraws ever new prefixes.
 
-use crate::route_server::exchange::{A, B, Exchange, put};
+use crate::common::put;
+use crate::route_server::exchange::{A, B, Exchange};
 use std::alloc::Global;
 use std::process::Abort;
 
@@ -55,15 +56,26 @@ fn update(
     octets
 }
 
-/// The member announces prefixes from a number on, of which the other is told, and withdraws them.
-fn cycle(rt: &impl Abort, exchange: &mut Exchange, first: u32) {
+/// The member announces prefixes from a number on in one UPDATE.
+fn announce(rt: &impl Abort, exchange: &mut Exchange, first: u32) {
     let all = prefixes(rt, exchange.alloc, first);
     let announced = update(rt, exchange.alloc, &[], &ATTRIBUTES, &all);
     exchange.hear_octets(rt, A, &announced);
-    exchange.turn();
-    assert!(rt; !exchange.sent(rt, B, 5_000).is_empty());
+}
+
+/// It withdraws them.
+fn withdraw(rt: &impl Abort, exchange: &mut Exchange, first: u32) {
+    let all = prefixes(rt, exchange.alloc, first);
     let withdrawn = update(rt, exchange.alloc, &all, &[], &[]);
     exchange.hear_octets(rt, A, &withdrawn);
+}
+
+/// The member announces prefixes from a number on, of which the other is told, and withdraws them.
+fn cycle(rt: &impl Abort, exchange: &mut Exchange, first: u32) {
+    announce(rt, exchange, first);
+    exchange.turn();
+    assert!(rt; !exchange.sent(rt, B, 5_000).is_empty());
+    withdraw(rt, exchange, first);
     exchange.turn();
     exchange.sent(rt, B, 5_000);
 }
@@ -75,9 +87,27 @@ fn cycled_prefixes_make_no_table_grow(rt: HostRuntime) {
         let first = round.wrapping_mul(EACH).wrapping_add(0x0a_0000);
         cycle(&rt, &mut exchange, first);
     }
-    // Two rounds' prefixes may have numbers at once: a number is given up behind the turn.
+    // Two rounds' prefixes may have numbers at once: a number is given up after the turn.
     assert!(rt; exchange.core.rows() <= 2 * EACH as usize);
     assert!(rt; A < exchange.core.clients());
     assert!(rt; exchange.core.is_established(A));
+    exchange.let_go();
+}
+
+#[test]
+fn each_update_is_a_set_of_attributes(rt: HostRuntime) {
+    let mut exchange = Exchange::of_both(&rt, rt.alloc(), "");
+    assert_eq!(rt; exchange.core.attribute_sets(), 0);
+    announce(&rt, &mut exchange, 0x0a_0000);
+    assert_eq!(rt; exchange.core.attribute_sets(), 1);
+    announce(&rt, &mut exchange, 0x0b_0000);
+    assert_eq!(rt; exchange.core.attribute_sets(), 2);
+    // What is announced as it stands keeps its set.
+    announce(&rt, &mut exchange, 0x0b_0000);
+    assert_eq!(rt; exchange.core.attribute_sets(), 2);
+    withdraw(&rt, &mut exchange, 0x0b_0000);
+    assert_eq!(rt; exchange.core.attribute_sets(), 1);
+    announce(&rt, &mut exchange, 0x0c_0000);
+    assert_eq!(rt; exchange.core.attribute_sets(), 2);
     exchange.let_go();
 }

@@ -47,7 +47,7 @@ fn a_session_ends_by_a_notification_of_ours(rt: HostRuntime) {
     // Bad Message Type, with the type as its data (RFC 4271, 6.1)
     exchange.hear(&rt, B, "001309");
     has_ended(&rt, &exchange, B, Ending::Said(Short::note_1(1, 3, 9)));
-    // The connection is lost behind the end.
+    // The connection is lost after the end.
     exchange.lose(&rt, A);
     has_ended(&rt, &exchange, A, unexpected);
     exchange.let_go();

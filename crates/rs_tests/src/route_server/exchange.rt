@@ -1,5 +1,6 @@
 //! An exchange of members a and b, AS 64496 and 64497, beside the server's AS 64500.
 
+use crate::common::put;
 use rs_core::Core;
 use rs_policy::Config;
 use rs_session::Command;
@@ -39,11 +40,6 @@ pub const ROUTE_B: &str = "002f02000000144001010040020602010000fbf1400304c000020
 
 pub const NO_ROUTE_B: &str = "001b02000418cb00710000";
 
-/// Puts octets behind others.
-pub fn put(rt: &impl Abort, octets: &mut Vec<u8>, more: &[u8]) {
-    octets.extend_from_slice(more).expect(rt, "octets");
-}
-
 /// The octet that two hexadecimal digits spell.
 fn octet(pair: &[u8]) -> u8 {
     let mut octet = 0u32;
@@ -61,7 +57,7 @@ fn put_message(rt: &impl Abort, octets: &mut Vec<u8>, digits: &str) {
     }
 }
 
-/// These messages, one behind the other.
+/// These messages, one after the other.
 pub fn messages(rt: &impl Abort, alloc: Global, all: &[&str]) -> Vec<u8> {
     let mut octets = Vec::new(alloc);
     for digits in all {

@@ -1,7 +1,8 @@
 //! A link in memory: it tells a script of events, and keeps what it was told. Nothing is known of it, as
 //! of one over sockets.
 
-use crate::route_server::exchange::{KEEPALIVE, message, messages, put};
+use crate::common::put;
+use crate::route_server::exchange::{KEEPALIVE, message, messages};
 use rs_core::{Event, Link, Sink, Source};
 use rs_policy::RulesFault;
 use std::alloc::Global;

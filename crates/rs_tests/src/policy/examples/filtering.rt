@@ -6,7 +6,6 @@ use crate::policy::routes::route_with;
 use rs_attrs::{Attrs, stripped};
 use rs_octets::Prefix;
 use std::process::Abort;
-use std::test::Fail;
 
 /// Prefix, communities as octets, and whether alpha's route goes to beta and to gamma.
 const FILTERED: [(u32, u8, &[u8], bool, bool); 15] = [
@@ -95,6 +94,19 @@ fn is_left(rt: &impl Abort, alloc: Global, config: &Config, to: usize, said: &[u
     );
 }
 
+/// A route goes from one client to another.
+fn is_passed(
+    rt: &impl Abort,
+    config: &Config,
+    from: usize,
+    to: usize,
+    route: (&Prefix, &Attrs),
+) -> bool {
+    assert!(rt; from < config.clients());
+    assert!(rt; to < config.clients());
+    !matches!(judge(config, from, to, route.0, route.1), Verdict::Drop)
+}
+
 /// The route to a prefix goes from one client to another, or does not.
 fn goes(
     rt: &impl Abort,
@@ -104,33 +116,40 @@ fn goes(
     want: bool,
 ) {
     let (from, to) = clients;
-    assert!(rt; from < config.clients());
-    assert!(rt; to < config.clients());
-    let (prefix, attrs) = route;
-    let goes = !matches!(judge(config, from, to, prefix, attrs), Verdict::Drop);
-    let (bits, len) = (prefix.bits(), prefix.len());
-    assert_eq!(rt; goes, want, "from {from} to {to} at {bits} {len}");
+    let found = is_passed(rt, config, from, to, route);
+    let prefix = route.0;
+    assert_eq!(rt; found, want, "from {from} to {to} at {prefix:?}");
+}
+
+/// A route of alpha with these communities goes to beta and to gamma, or does not; from beta to gamma it never does.
+fn is_filtered(
+    rt: &impl Abort,
+    alloc: Global,
+    config: &Config,
+    row: &(u32, u8, &[u8], bool, bool),
+) {
+    let (bits, len, communities, beta, gamma) = *row;
+    let prefix = prefix(rt, bits, len);
+    let attrs = route_with(rt, alloc, communities);
+    goes(rt, config, (0, 1), (&prefix, &attrs), beta);
+    goes(rt, config, (0, 2), (&prefix, &attrs), gamma);
+    // from beta the NEXT_HOP isn't the sender's
+    goes(rt, config, (1, 2), (&prefix, &attrs), false);
 }
 
 #[test]
-fn the_exchange_example_is_read_and_filters(rt: HostRuntime) -> Result<(), Fail> {
-    let text = format!(in rt.alloc(); "{EXCHANGE}{EXCHANGE_LISTS}")?;
+fn the_exchange_example_is_read_and_filters(rt: HostRuntime) {
+    let text = format!(in rt.alloc(); "{EXCHANGE}{EXCHANGE_LISTS}").expect(&rt, "a text");
     let config = read(&rt, rt.alloc(), text.as_str());
     assert_eq!(rt; config.clients(), 3);
     speaks_of(&rt, &config, true, true, true);
     is_named(&rt, &config, 2, "gamma");
     is_reached(&rt, &config, 2, (0xc000_0201, 179), 0xc000_020d);
     is_limited(&rt, &config, 2, Some(20000));
-    for (bits, len, communities, beta, gamma) in &FILTERED {
-        let prefix = prefix(&rt, *bits, *len);
-        let attrs = route_with(&rt, rt.alloc(), communities);
-        goes(&rt, &config, (0, 1), (&prefix, &attrs), *beta);
-        goes(&rt, &config, (0, 2), (&prefix, &attrs), *gamma);
-        // from beta the NEXT_HOP isn't the sender's
-        goes(&rt, &config, (1, 2), (&prefix, &attrs), false);
+    for row in &FILTERED {
+        is_filtered(&rt, rt.alloc(), &config, row);
     }
     is_left(&rt, rt.alloc(), &config, 1, SAID, LEFT);
     is_left(&rt, rt.alloc(), &config, 2, SAID, LEFT);
     let_go(config);
-    Ok(())
 }
