@@ -1,14 +1,14 @@
-#!/usr/bin/env python3
 """Measures a built rs_served among other route servers under the same load, one after the other.
 
-bench.py PROGRAM [--full] [--page FILE] [--servers NAME,..] [--works WORD] [--workers N] [--runs N]
+bench.py PROGRAM [--full] [--page FILE] [--servers NAME,..] [--works WORD,..] [--workers N] [--runs N] [--divide N] [--build TEXT]
 
 The load is played by rsload (bench/rsload, Rust, built by cargo without a network). Each server is a process on loopback
-addresses with a configuration that rsload writes. What is not installed is skipped with a word. FILE is made anew with the
-table, and with a profile of ours where a goal was missed; bench.csv beside it has all figures. With --full one work is played without
-rules and with those of an exchange (registered.py), by BIRD too.
+addresses with a configuration that rsload writes. What is not installed is skipped with a word. FILE is made anew by page.py, with a
+profile of ours where a goal was missed; bench.csv beside it has all figures. --full plays all works, also those with rules
+(ruled.py), by BIRD too. --divide plays each work with so many times fewer prefixes, to try it. TEXT says which build PROGRAM is.
 """
 import argparse
+import collections
 import datetime
 import json
 import os
@@ -23,38 +23,50 @@ import tempfile
 import threading
 import time
 
+from figures import Row, row, written
 from lists import measured
-from page import RULES, data, goals, page
-from plot import drawing
-from registered import with_rules
+from page import RULED, goals, made
+from ruled import KINDS
 from servers import HOST, PORT, servers
 
 HERE = pathlib.Path(__file__).resolve().parent
 BUILT = HERE.parent / "out" / "rsload"
 RSLOAD = BUILT / "release" / "rsload"
+PROVED = "what `make build` proved and built"
 
-# Each work with its options. What the words mean is in the page.
+
+class Work(collections.namedtuple("Work", "kind clients prefixes options")):
+    """A work: its kind, which the page explains, its clients, how many prefixes each announces, and more options of rsload."""
+
+    @property
+    def name(self):
+        thousands = f"{self.prefixes // 1000}k" if self.prefixes % 1000 == 0 else str(self.prefixes)
+        return f"{self.kind} {self.clients}x{thousands}"
+
+    @property
+    def words(self):
+        return f"--clients {self.clients} --prefixes {self.prefixes} {self.options}"
+
+
+LATE = "--late 1 --profile "
 QUICK = (
-    ("packed 10x10k", "--profile packed --clients 10 --late 1 --prefixes 10000"),
-    ("internet 10x10k", "--profile internet --clients 10 --late 1 --prefixes 10000"),
-    ("internet 50x2k", "--profile internet --clients 50 --late 1 --prefixes 2000"),
-    ("overlap 10x10k", "--profile overlap --clients 10 --late 1 --prefixes 10000"),
-    ("deaf 10x10k", "--profile internet --clients 10 --deaf 1 --prefixes 10000 --phases a"),
+    Work("packed", 10, 10_000, LATE + "packed"),
+    Work("internet", 10, 10_000, LATE + "internet"),
+    Work("internet", 50, 2000, LATE + "internet"),
+    Work("overlap", 10, 10_000, LATE + "overlap"),
+    Work("deaf", 10, 10_000, "--deaf 1 --profile internet --phases a"),
 )
 FULL = (
-    ("internet 100x1k", "--profile internet --clients 100 --late 1 --prefixes 1000"),
-    ("internet 10x100k", "--profile internet --clients 10 --late 1 --prefixes 100000"),
-    ("deaf 10x100k", "--profile internet --clients 10 --deaf 1 --prefixes 100000 --phases a"),
+    Work("internet", 100, 1000, LATE + "internet"),
+    Work("internet", 10, 100_000, LATE + "internet"),
+    Work("deaf", 10, 100_000, "--deaf 1 --profile internet --phases a"),
+    Work("alike", 10, 10_000, LATE + "overlap --degree 10"),
+    *(Work(kind, 10, 15_000, LATE + "internet") for kind in RULED),
 )
-# The work with the rules of an exchange, beside the same without.
-FULL += tuple((name, "--profile internet --clients 10 --late 1 --prefixes 15000") for name in RULES)
-RULED = RULES[1]
-# Those that play it: BIRD has the same filters in its language.
+# Those that play a work with rules: BIRD has the same in its language.
 WITH_FILTERS = {"ours", "bird", "bird-tables"}
-# The work by which the goals are judged: the greatest of those that were run.
-JUDGED = ("internet 10x100k", "internet 10x10k")
 # What takes a server so long that it would take most of the time there is.
-TOO_SLOW = {("gobgp", work) for work in ("internet 50x2k", "internet 100x1k", "internet 10x100k", "deaf 10x10k", "deaf 10x100k")}
+TOO_SLOW = {("gobgp", kind, clients) for kind, clients in (("internet", 50), ("internet", 100), ("deaf", 10), ("alike", 10))} | {("gobgp", "internet 10x100k")}
 # How long a server may take to read its configuration.
 STARTS = 60
 SKIPPED_AS_SLOW = "left out: it sends one prefix in each UPDATE, and takes minutes"
@@ -72,12 +84,12 @@ def asked(*words):
     return subprocess.run([RSLOAD, *words], capture_output=True, text=True, check=True).stdout
 
 
-def configure(server, words, room, has_rules):
-    """Writes a server's configuration for the clients of a work, with the rules of an exchange or without."""
+def configure(server, words, room, rules):
+    """Writes a server's configuration for the clients of a work, with rules of this kind, if any."""
     kind, where = "ours" if server.name.startswith("ours") else server.name, f"{HOST}:{PORT}"
     conf = asked("config", "--daemon", kind, *words, "--target", where, "--dir", room)
-    if has_rules:
-        conf = with_rules(room, json.loads(asked("members", *words)), conf, kind, where)
+    if rules:
+        conf = KINDS[rules](room, json.loads(asked("members", *words)), conf, kind, where)
     (room / "conf").write_text(conf)
     (room / "conf").chmod(0o600)
 
@@ -89,11 +101,11 @@ def listens():
         return any(it[1] in where and it[3] == "0A" for it in map(str.split, sockets))
 
 
-def run(server, options, room, changes, began=None, has_rules=False):
+def run(server, options, room, changes, began=None, rules=None):
     """One run: the report of rsload, or what went wrong. `began` is given the moment at which each phase began."""
     words = [*options.split(), "--changes", str(changes)]
     target = ["--target", f"{HOST}:{PORT}"]
-    configure(server, words, room, has_rules)
+    configure(server, words, room, rules)
     with server.running(room) as process:
         until = time.monotonic() + STARTS
         while not listens() and process.poll() is None and time.monotonic() < until:
@@ -112,13 +124,13 @@ def run(server, options, room, changes, began=None, has_rules=False):
     return json.loads(report.read_text()) if report.exists() else {"fault": "no report"}
 
 
-def profile(server, options, room, phases):
+def profile(server, options, room, phases, rules):
     """Where the processor's time goes in ours in each of these phases, by perf; or why there is no such table."""
     if not shutil.which("perf"):
         return {"perf": "perf is not installed, so there is no profile."}
     inner, data, began = server.words, room / "perf.data", {}
     server.words = lambda folder: ["perf", "record", "-q", "-e", "cpu-clock", "-F", "999", "-k", "CLOCK_MONOTONIC", "-o", data, "--", *inner(folder)]
-    run(server, options, room, 50, began)
+    run(server, options, room, 50, began, rules)
     order, seen = list(began), {}
     for phase in phases:
         if phase not in order[:-1]:
@@ -137,7 +149,50 @@ def lists_alone(program, runs):
     return list(measured(program, [replay], max(runs, 3))) if replay.exists() else ["rs_replay isn't there: lists alone were not measured."]
 
 
-def main():
+def is_too_slow(server, work):
+    return bool({(server, work.kind, work.clients), (server, work.name)} & TOO_SLOW)
+
+
+def played(works, there, options, folder):
+    """Plays the works to the servers: their rows."""
+    for work in works:
+        for server in (it for it in there if work.kind not in RULED or it.name in WITH_FILTERS):
+            if is_too_slow(server.name, work):
+                yield Row(work.name, server.name, {}, "", 0.0, SKIPPED_AS_SLOW)
+                continue
+            for _ in range(options.runs):
+                room, load = pathlib.Path(tempfile.mkdtemp(dir=folder)), os.getloadavg()[0]
+                room.chmod(0o777)
+                report = run(server, work.words, room, 100 if options.full else 50, rules=RULED.get(work.kind))
+                shutil.rmtree(room, ignore_errors=True)
+                seen = row(work.name, server.name, report, load)
+                print(f"{datetime.datetime.now():%H:%M:%S} {work.name}, {server.name}: wrong: {seen.wrong or seen.faults}; load before it {load:.1f}", flush=True)
+                yield seen
+
+
+def profiles(rows, works, server, folder):
+    """Where ours spends its time in each phase of which a goal was missed, if perf is there."""
+    missed = [it for it in goals(rows) if it.is_met is False and it.phase]
+    for name in dict.fromkeys(it.work for it in missed):
+        work = next(it for it in works if it.name == name)
+        room = pathlib.Path(tempfile.mkdtemp(dir=folder))
+        room.chmod(0o777)
+        seen = profile(server, work.words, room, dict.fromkeys(it.phase for it in missed if it.work == name), RULED.get(work.kind))
+        yield from ((f"profile of {name}, {phase}", words) for phase, words in seen.items())
+
+
+def about(options, wanted, alone):
+    """What is said of the whole run: names and words."""
+    today = datetime.date.today()
+    yield "made", f"{today.day} {today:%B %Y}"
+    yield "machine", f"{platform.processor() or platform.machine()}, {os.cpu_count()} processors, {platform.system()} {platform.release()}"
+    yield "build", options.build
+    yield "servers", ", ".join(f"{it.name} ({it.version()})" for it in wanted if not it.missing)
+    yield from (("skipped", f"{it.name} {it.missing}") for it in wanted if it.missing)
+    yield from (("lists alone", it) for it in alone)
+
+
+def arguments():
     parser = argparse.ArgumentParser(description=__doc__, formatter_class=argparse.RawDescriptionHelpFormatter)
     parser.add_argument("program", nargs="+")
     parser.add_argument("--full", action="store_true")
@@ -146,7 +201,16 @@ def main():
     parser.add_argument("--works", default="")
     parser.add_argument("--workers", type=int, default=1)
     parser.add_argument("--runs", type=int, default=1)
+    parser.add_argument("--divide", type=int, default=1)
+    parser.add_argument("--build", default=PROVED)
     options = parser.parse_args()
+    if options.divide != 1 and options.page:
+        sys.exit("the page is of whole works")
+    return options
+
+
+def main():
+    options = arguments()
     # Whatever ends this script, the server that it started is ended too.
     signal.signal(signal.SIGTERM, lambda *_: sys.exit("ended by a signal"))
     build()
@@ -156,37 +220,17 @@ def main():
         if it.missing:
             print(f"{it.name}: skipped: {it.missing}")
     there = [it for it in wanted if not it.missing]
-    works = [it for it in (*QUICK, *(FULL if options.full else ())) if options.works in it[0]]
-    rows = []
+    all_works = (it._replace(prefixes=it.prefixes // options.divide) for it in (*QUICK, *(FULL if options.full else ())))
+    works = [it for it in all_works if any(word in it.name for word in options.works.split(","))]
     with tempfile.TemporaryDirectory(prefix="bench-") as folder:
-        for work, words in works:
-            for server in (it for it in there if work not in RULES or it.name in WITH_FILTERS):
-                for time_ in range(options.runs):
-                    if (server.name, work) in TOO_SLOW:
-                        rows.append((work, server.name, {"fault": SKIPPED_AS_SLOW}, 0.0))
-                        continue
-                    room = pathlib.Path(folder) / f"{len(rows)}"
-                    room.mkdir()
-                    room.chmod(0o777)
-                    load = os.getloadavg()[0]
-                    rows.append((work, server.name, run(server, words, room, 100 if options.full else 50, has_rules=work == RULED), load))
-                    print(f"{datetime.datetime.now():%H:%M:%S} {work}, {server.name}: load before it {load:.1f}", flush=True)
-        judged = next((it for it in JUDGED if any(work == it for work, *_ in rows)), None)
-        met = goals(rows, judged) if judged else []
-        seen = None
-        phases = dict.fromkeys(it[1] for it in met if it[-1] is False)
-        if phases:
-            room = pathlib.Path(folder) / "profile"
-            room.mkdir()
-            seen = profile(there[0], dict(works)[judged], room, [it for it in phases if it])
-    alone = lists_alone(options.program, options.runs) if options.full and not options.works else []
-    machine = f"{platform.processor() or platform.machine()}, {os.cpu_count()} processors, {platform.system()} {platform.release()}"
-    text = page(rows, judged, met, seen, alone, machine, [(it.name, it.version()) for it in there], [(it.name, it.missing) for it in wanted if it.missing])
+        os.chmod(folder, 0o755)
+        rows = list(played(works, there, options, folder))
+        seen = list(profiles(rows, works, known[0], folder)) if options.page else []
+    alone = lists_alone(options.program, options.runs) if options.full and not options.works and options.page else []
+    text = written([*about(options, wanted, alone), *seen], rows)
     if options.page:
-        options.page.write_text(text)
-        options.page.with_name("bench.csv").write_text(data(rows))
-        if made := drawing(text):
-            options.page.with_name("bench.svg").write_text(made)
+        options.page.with_name("bench.csv").write_text(text)
+        made(options.page)
     print(text)
 
 

@@ -102,17 +102,23 @@ def bird_filters(room, members, bogons, before):
         yield f"filter out_{at} {{\n " + "\n ".join(actions(it["as"])) + "\n}"
 
 
-def bird(room, members, conf, bogons):
-    """A configuration of BIRD that rsload wrote, of one table or of a table for each client, with filters."""
-    has_tables = "member_no" in conf
-    before = lambda at: f"member_no = {at}; preference = 50;" if has_tables else ""
-    filters = "\n".join(bird_filters(room, members, bogons, before))
-    if has_tables:
-        conf = re.sub(r"import filter \{ member_no = (\d+);[^}]*\}; export all;", r"import filter in_\1; export filter out_\1;", conf)
+def with_filters(conf, filters, imports=True):
+    """A configuration of BIRD that rsload wrote, of one table or of a table for each client, with these filters: `out_N` for what
+    client N is sent, and where wanted `in_N` for what it sends."""
+    if "member_no" in conf:
+        own = r"import filter in_\2;" if imports else r"\1"
+        conf = re.sub(r"(import filter \{ member_no = (\d+);[^}]*\};) export all;", own + r" export filter out_\2;", conf)
     else:
-        conf = re.sub(r"(protocol bgp c(\d+) from t_rs \{[^}]*;) \}", r"\1 ipv4 { import filter in_\2; export filter out_\2; }; }", conf)
+        own = r"import filter in_\2; " if imports else ""
+        conf = re.sub(r"(protocol bgp c(\d+) from t_rs \{[^}]*;) \}", r"\1 ipv4 { " + own + r"export filter out_\2; }; }", conf)
     head, mark, rest = conf.partition("template bgp")
     return f"{head}{filters}\n{mark}{rest}"
+
+
+def bird(room, members, conf, bogons):
+    """A configuration of BIRD that rsload wrote, with the filters of an exchange."""
+    before = lambda at: f"member_no = {at}; preference = 50;" if "member_no" in conf else ""
+    return with_filters(conf, "\n".join(bird_filters(room, members, bogons, before)))
 
 
 def with_rules(room, members, conf, kind, listen):

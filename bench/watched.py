@@ -18,7 +18,7 @@ import threading
 import time
 
 from bench import RSLOAD, build, run
-from page import value
+from figures import value
 from servers import HOST, servers
 
 PORT = 1792
