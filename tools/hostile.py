@@ -1,25 +1,27 @@
 #!/usr/bin/env python3
 """Plays hostile members and accidents to a built rs_served, and to other route servers in the same run; says what is borne.
 
-hostile.py PROGRAM [--short] [--rows a,b,..] [--servers NAME,..] [--page FILE]
+hostile.py PROGRAM [--short] [--rows a,b,..] [--servers NAME,..] [--page FILE] [--build TEXT]
 
 Each attack has a bound in time, and ends with all that it has started. A row that is missed is played once more before it
-counts; the load of the machine then stands beside it. The short form has the rows that take seconds, in small sizes, and ours
-alone. FILE is made anew with the verdicts on these rows and on those that were played to the same build before, as
-out/hostile.json keeps them, and what was seen in a .csv beside it. Status 1 where a row is missed.
+counts; the load of the machine then stands beside it, and it is played to ours under perf, where that is installed. The short form
+has the rows that take seconds, in small sizes, and ours alone. FILE is made anew with the verdicts on these rows and on those that
+were played before, each with its build, as the .csv beside it keeps them. TEXT says which build PROGRAM is. Status 1 where a
+row is missed.
 """
 import argparse
 import pathlib
 import signal
 import sys
 
-from hostile.kept import Kept
-from hostile.page import data, page
+from hostile.kept import Kept, build_of
+from hostile.page import page
 from hostile.plays import chosen, play
+from hostile.profiled import profile
 from hostile.targets import targets
 from results import end
 
-KEPT = pathlib.Path(__file__).resolve().parent.parent / "out" / "hostile.json"
+PROVED = "proved and built by `make build`"
 
 
 def main():
@@ -29,6 +31,7 @@ def main():
     parser.add_argument("--rows", default="", metavar="a,b,..")
     parser.add_argument("--servers", default="", metavar="NAME,..")
     parser.add_argument("--page", type=pathlib.Path)
+    parser.add_argument("--build", default=PROVED)
     options = parser.parse_args()
     # Whatever ends this script, what it started is ended too.
     signal.signal(signal.SIGTERM, lambda *_: sys.exit("ended by a signal"))
@@ -43,14 +46,14 @@ def main():
             print(f"{it.name}: skipped: {it.missing}")
     if options.short and options.page:
         sys.exit("the page is of the long form")
-    kept, held, differ = Kept(KEPT, options.program[0]), 0, 0
-    for row, seen, missed, load, times in play(rows, known, options.short):
-        held, differ = held + (not missed), differ + bool(missed)
-        print(f"{row.letter}: {f'missed: {missed}' if missed else 'held'} (load {load:.1f})", flush=True)
-        if options.page:
-            kept.keep(row, seen, missed, load, times)
+    held, differ = 0, 0
+    kept = options.page and Kept(options.page.with_name(f"{options.page.stem.lower()}.csv"), build_of(options.program[0], options.build))
+    for row, it in play(rows, known, options.short):
+        held, differ = held + (not it.missed), differ + bool(it.missed)
+        print(f"{row.letter}: {f'missed: {it.missed}' if it.missed else 'held'} (load {it.load:.1f})", flush=True)
+        if kept:
+            kept.keep(row, it, profile(row, known["ours"]) if it.missed else "")
             options.page.write_text(page(kept, known))
-            options.page.with_name(f"{options.page.stem.lower()}.csv").write_text(data(kept))
     end(held, differ)
 
 

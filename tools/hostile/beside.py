@@ -74,9 +74,18 @@ def quantile(values, part):
     return sorted(values)[min(len(values) - 1, int(part * len(values)))] if values else float("inf")
 
 
+def told_all(members, most=90, still=1):
+    """Waits until these members are told nothing for a second, so that what they are owed as they come up is no part of what follows."""
+    until, told = time.monotonic() + most, None
+    while time.monotonic() < until and told != (now := [it.octets for it in members]):
+        told = now
+        speak(members, still)
+
+
 def probe(over, say, place, hold=90, pause=0.05):
-    """Member 0 changes a prefix again and again, and member 1 waits for it: Waits."""
-    speaking, listening = come_up([Member(place, 0, hold), Listener(place, 1, hold)])
+    """Member 0 changes a prefix again and again, and member 1 waits for it: Waits. It is ready once both have all that others announced."""
+    speaking, listening = come_up([Member(place, 0, hold), Listener(place, 1, hold)], 60)
+    told_all([speaking, listening])
     say()
     changes, count = [], 0
     while not over.is_set() and not (speaking.ended or listening.ended):

@@ -27,7 +27,7 @@ def beside_routes(exchange, stack, count, routes, each=3):
     exchange.settle()
     probing = Beside(probe, exchange.place)
     stack.append(probing)
-    return honest, probing.ready()
+    return honest, probing.ready(120)
 
 
 class Attack:
@@ -96,15 +96,16 @@ def come_late(over, say, place, owed, chosen, late, most):
 
 def chains(target, routes, late, most, members, base):
     """Attributes that differ in a harmless way, then those with one hash: the same shall be as fast."""
-    figures, words = {"lost": 0}, []
+    figures, words, spans = {"lost": 0}, [], []
     for name, chosen in (("plain", False), ("chosen", True)):
         with Exchange(target, 64) as exchange:
             seen = Attack(exchange, come_late, (late + 1) * most + 20, members, base, before=2, owed=routes, chosen=chosen, late=late, most=most)
         figures[name + " wait"], figures[name + " late"] = max(seen.during), max(seen.seen)
         figures["lost"] += seen.lost
+        spans.append((name, seen.first, seen.last))
         words.append(f"{name}: a change waits up to {shown(max(seen.during))}, late members {shown(max(seen.seen))}")
         most = min(most, 10 + 4 * max(seen.seen))
-    return Seen(figures, "; ".join(words))
+    return Seen(figures, "; ".join(words), spans)
 
 
 def flood(over, say, place, reads):
@@ -134,15 +135,16 @@ def refreshes(target, members, routes, seconds, deaf, many):
     plays = [("flood", flood, routes, 3, {"reads": True})]
     plays += [("deaf flood", flood, routes, 3, {"reads": False})] if deaf else []
     plays += [("178 at once", burst, many, 50, {"requests": 178})] if many else []
-    figures, words = {"lost": 0, "over": float("-inf")}, []
+    figures, words, spans = {"lost": 0, "over": float("-inf")}, [], []
     for name, attack, each, share, more in plays:
         with Exchange(target, 64, top={"ours": "refresh = true"}) as exchange:
             seen = Attack(exchange, attack, seconds, members, each, share, seconds / 2, **more)
         calm, now = quantile(seen.before, 0.99), quantile(seen.during, 0.99)
         figures["lost"] += seen.lost
         figures["over"] = max(figures["over"], now - 2 * calm)
+        spans.append((name, seen.first, seen.last))
         words.append(f"{name} beside {members * each:,} routes: p99 {shown(calm)}, then {shown(now)}, greatest {shown(max(seen.during))}")
-    return Seen(figures, "; ".join(words))
+    return Seen(figures, "; ".join(words), spans)
 
 
 def flaps(over, say, place):
@@ -167,7 +169,7 @@ def flapping(target, members, routes, seconds):
         seen = Attack(exchange, flaps, seconds, members, routes)
     middle = quantile(seen.during, 0.5)
     words = f"p50 {shown(middle)}, p99 {shown(quantile(seen.during, 0.99))} ({shown(quantile(seen.before, 0.5))} before), {seen.seen} flaps"
-    return Seen({"middle": middle, "lost": seen.lost}, words)
+    return Seen({"middle": middle, "lost": seen.lost}, words, [("flaps", seen.first, seen.last)])
 
 
 def beats(exchange, member, others, count):
@@ -263,7 +265,7 @@ def behind(target, members, routes, seconds):
         seen = Attack(exchange, slow, seconds, members, routes)
     calm, now = seen.a_change(0, seen.first), seen.a_change((seen.first + seen.last) / 2, seen.last)
     words = f"{shown(calm)} of the processor a change before, {shown(now)} while {members * routes:,} routes wait; it took {seen.seen:,} octets"
-    return Seen({"before": calm, "now": now, "lost": seen.lost}, words)
+    return Seen({"before": calm, "now": now, "lost": seen.lost}, words, [("while they wait", seen.first, seen.last)])
 
 
 def idle(exchange, members, most=30):
@@ -346,7 +348,7 @@ def large(target, members, routes, big, listed, most):
         with working(honest):
             honest.ready(200)
             exchange.settle(120)
-            probing = Beside(probe, exchange.place).ready()
+            probing = Beside(probe, exchange.place).ready(120)
             with working(probing):
                 return large_events(exchange, honest, probing, big, listed, members, most)
 
@@ -369,11 +371,13 @@ def large_events(exchange, honest, probing, big, listed, members, most):
     waits = probing.end()
     lost = sum(honest.end().values()) + sum(waits.ended.values())
     longest = {name: max(waits.between(*span), default=float("inf")) for name, span in spans.items()}
-    return Seen({"longest": max(longest.values()), "lost": lost}, "; ".join(f"{it}: {shown(took)}" for it, took in longest.items()))
+    words = "; ".join(f"{it}: {shown(took)}" for it, took in longest.items())
+    return Seen({"longest": max(longest.values()), "lost": lost}, words, [(f"{members} members, {name}", *span) for name, span in spans.items()])
 
 
 def events(target, sizes):
     """The events of `large` in each of these sizes."""
     seen = [large(target, **it) for it in sizes]
     words = "; ".join(f"{it['members']} members, {it['members'] * it['routes'] + it['big']:,} prefixes, {it['listed']} rules a list: {one.words}" for it, one in zip(sizes, seen))
-    return Seen({"longest": max(it.figures["longest"] for it in seen), "lost": sum(it.figures["lost"] for it in seen)}, words)
+    figures = {"longest": max(it.figures["longest"] for it in seen), "lost": sum(it.figures["lost"] for it in seen)}
+    return Seen(figures, words, [span for it in seen for span in it.spans])

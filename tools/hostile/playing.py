@@ -8,10 +8,11 @@ import traceback
 
 
 class Seen:
-    """What an attack came to on one server: figures by name, and words for the page."""
+    """What an attack came to on one server: figures by name, words for the page, and when the attack was: each span has a name and
+    two moments of the monotonic clock."""
 
-    def __init__(self, figures, words):
-        self.figures, self.words = figures, words
+    def __init__(self, figures, words, spans=()):
+        self.figures, self.words, self.spans = figures, words, spans
 
 
 def counted(ended):

@@ -1,10 +1,14 @@
 """Plays of rows, in the long form and in the short one."""
+import collections
 import os
 import sys
 
 from .playing import Seen, bounded
 from .table import NEEDED, ROWS
 from .targets import targets
+
+# What a row came to: what was seen by name of the server, what is missed or None, the load before it and how often it was played.
+Played = collections.namedtuple("Played", "seen missed load times")
 
 
 def chosen(letters, short):
@@ -29,7 +33,7 @@ def play_to(names, row, known, short):
 
 
 def play(rows, known, short):
-    """Plays these rows: each with what was seen, what is missed, the load before it and how often it was played.
+    """Plays these rows: each with what it came to.
 
     The second time it is played to ours and to those that the verdict needs.
     """
@@ -43,7 +47,7 @@ def play(rows, known, short):
                 break
             print(f"  {row.letter}: missed at load {load:.1f}{', and played once more' if times == 1 else ''}: {missed}", flush=True)
             names = [it for it in row.servers if it in ("ours", NEEDED.get(row.letter))]
-        yield row, seen, missed, load, times
+        yield row, Played(seen, missed, load, times)
 
 
 def play_short(program, letters):
@@ -53,5 +57,5 @@ def play_short(program, letters):
         yield "hostile members", known["ours"].missing
         return
     rows = [it._replace(servers=("ours",)) for it in chosen(letters, True)]
-    for row, _, missed, load, _ in play(rows, known, True):
-        yield f"hostile members, row {row.letter}", missed and f"{missed} (load {load:.1f})"
+    for row, it in play(rows, known, True):
+        yield f"hostile members, row {row.letter}", it.missed and f"{it.missed} (load {it.load:.1f})"

@@ -290,7 +290,7 @@ def starved(target, clients, most):
         words.append(f"{name}: {tried} requests refused, {ends or 'each time status 0, or 3 and `out of memory`'}")
     if len(found) == 1:
         words.append("rs_replay isn't there")
-    return Seen({"wrong": sum(wrong.total() for wrong, _ in found.values())}, "; ".join(words))
+    return Seen({"wrong": sum(wrong.total() for wrong, _ in found.values()), "programs": len(found)}, "; ".join(words))
 
 
 def losses(text):

@@ -112,7 +112,8 @@ def file_is_read_well(seen, short):
 
 
 def want_of_memory_is_told(seen, short):
-    return missed((seen["ours"].figures["wrong"] == 0, "want of memory is told otherwise"))
+    it = seen["ours"].figures
+    return missed((it["wrong"] == 0, "want of memory is told otherwise"), (it["programs"] == 2, "one of the programs isn't there"))
 
 
 def losses_are_told(seen, short):

@@ -184,12 +184,11 @@ class Exchange:
         """What it takes, in MB."""
         return sum(status(it, name) for it in self.pids()) // 1024
 
-    def settle(self, most=90, idle=0.05):
-        """Waits until it works no more: less than `idle` processor seconds in one."""
-        until, last = time.monotonic() + most, self.seconds()
-        while time.monotonic() < until:
+    def settle(self, most=90, idle=0.05, times=3):
+        """Waits until it works no more: less than `idle` processor seconds in one, three times, as it may wait for a processor."""
+        until, last, still = time.monotonic() + most, self.seconds(), 0
+        while still < times and time.monotonic() < until:
             time.sleep(1)
             now = self.seconds()
-            if now - last < idle:
-                return
+            still = still + 1 if now - last < idle else 0
             last = now
