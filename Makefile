@@ -46,7 +46,7 @@ hostile: ## play hostile members and accidents to the server and to others, and 
 	@[ -x out/rs_served ] || { echo "out/rs_served isn't there: make build makes it"; exit 1; }
 	@python3 tools/hostile.py out/rs_served $(if $(ROWS),--rows $(ROWS)) --page docs/HOSTILE.md
 
-attack: ## try the wrong programs of attacks/, beyond those of the gate (CRATE=rs_octets: those of one crate)
+attack: ## try the wrong programs of attacks/, beyond those of the gate (CRATE=rs_octets: those of one crate; CRATE=rs_octets/NAME: NAME.edit alone)
 	@python3 tools/attack.py $(CRATE)
 
 fuzz: ## play 2,000 random sessions against the plain function of the tests (CASES=100, SEED=7; make test first)
