@@ -24,7 +24,7 @@ use Rattle.rs_open.specs.Notes.{limit_octets}
 use Rattle.rs_packer.specs.Packed.{announcement}
 use Rattle.rs_outlet.specs.declared.waiting.Due.{Due}
 use Rattle.rs_outlet.specs.declared.waiting.Due.TheVariants as due
-use Rattle.rs_outlet.specs.Pending.Slots.{open_at, told_of, marked_told, is_withdrawal, withdrawn_count}
+use Rattle.rs_outlet.specs.Pending.Slots.{hash_of, open_at, told_of, marked_told, is_withdrawal, withdrawn_count}
 
 -- ---- rows
 
@@ -166,11 +166,12 @@ IsBacked rows p (due.Announced number hash) = IsRowOf rows number p hash
 abbrev pub AreBacked : List (Option Row) → List Wait → Type 0
 AreBacked rows ws = (q : Prefix) (w : Wait) → open_at q ws ≡ Some w → IsBacked rows w.prefix w.due
 
--- between a slot and the one that it leads to, none that waits has the attributes that are due at it
+-- between a slot and the one that it leads to, none that waits has its hash and the attributes that are due at it
 abbrev pub AreChained : List (Option Row) → List Wait → List ℕ → Type 0
 AreChained rows ws chains =
-    (n m chain : ℕ) (w z : Wait) (a : List Attribute) → slice_get chains n ≡ Some chain → slice_get ws n ≡ Some w → slice_get ws m ≡ Some z
-    → n < m → m < chain → z.open ≡ true → shown (row_by rows w.due) ≡ Some a → shown (row_by rows z.due) ≢ Some a
+    (n m chain hash : ℕ) (w z : Wait) (a : List Attribute) → slice_get chains n ≡ Some chain → slice_get ws n ≡ Some w → slice_get ws m ≡ Some z
+    → n < m → m < chain → z.open ≡ true → hash_of w.due ≡ Some hash → hash_of z.due ≡ Some hash
+    → shown (row_by rows w.due) ≡ Some a → shown (row_by rows z.due) ≢ Some a
 
 -- a message to the client has room for these attributes beside this prefix
 abbrev pub FitsAlone : Speech → Prefix → List Attribute → Type 0

@@ -152,7 +152,7 @@ fn put_gone(
 /// slots.
 fn put_news(
     rows: &Rows,
-    waits: &Waits,
+    waits: &mut Waits,
     first: usize,
     attrs: &Attrs,
     speech: Speech,
@@ -161,11 +161,11 @@ fn put_news(
     out: &mut Vec<u8>,
 ) -> Packed
     requires room { limit_octets speech.limit ≤ vec_len out.old }
-    requires in_turn { NoneWithdrawn waits.now.slots.items }
-    requires some { (first < vec_len waits.now.slots) × HoldsAt (WaitsFor rows.now.rows.items attrs.now) waits.now.slots.items first }
-    requires before { AllWithin (λ w. is_announced w ≡ false) waits.now.slots.items 0 first }
-    requires backed { AreBacked rows.now.rows.items waits.now.slots.items }
-    requires chained { AreChained rows.now.rows.items waits.now.slots.items waits.now.chains.items }
+    requires in_turn { NoneWithdrawn waits.old.slots.items }
+    requires some { (first < vec_len waits.old.slots) × HoldsAt (WaitsFor rows.now.rows.items attrs.now) waits.old.slots.items first }
+    requires before { AllWithin (λ w. is_announced w ≡ false) waits.old.slots.items 0 first }
+    requires backed { AreBacked rows.now.rows.items waits.old.slots.items }
+    requires chained { AreChained rows.now.rows.items waits.old.slots.items waits.old.chains.items }
     requires fit { RowsFit speech rows.now.rows.items }
     requires empty { HaveRoom chosen.old front.old }
     requires batch { (limit_octets speech.limit ≤ 23 + vec_capacity chosen.old) × (limit_octets speech.limit ≤ 23 + vec_capacity front.old) }
@@ -174,10 +174,14 @@ fn put_news(
     ensures room { vec_len out.new ≡ vec_len out.old }
     ensures chosen { vec_capacity chosen.new ≡ vec_capacity chosen.old }
     ensures front { vec_capacity front.new ≡ vec_capacity front.old }
-    ensures update { MayUpdate speech rows.now.rows.items waits.now.slots.items chosen.new.items front.new.items out.new.items result }
+    ensures slots { waits.new.slots.items ≡ waits.old.slots.items }
+    ensures chained { AreChained rows.now.rows.items waits.new.slots.items waits.new.chains.items }
+    ensures capacity { vec_capacity waits.new.slots ≡ vec_capacity waits.old.slots }
+    ensures update { MayUpdate speech rows.now.rows.items waits.old.slots.items chosen.new.items front.new.items out.new.items result }
 {
     let room = most_prefixes(speech.limit);
-    waits.collect_announced(rows, first, attrs, room, chosen, front);
+    let passed = waits.collect_announced(rows, first, attrs, room, chosen, front);
+    waits.note_passed(passed);
     // for the prover: they are legal
     attributes_are_legal(attrs);
     put_announcement(attrs, speech, front, out)
@@ -204,7 +208,7 @@ fn put_update(
     ensures chosen { vec_capacity chosen.new ≡ vec_capacity chosen.old }
     ensures front { vec_capacity front.new ≡ vec_capacity front.old }
     ensures slots { waits.new.slots.items ≡ waits.old.slots.items }
-    ensures chains { waits.new.chains.items ≡ waits.old.chains.items }
+    ensures chained { AreChained rows.now.rows.items waits.new.slots.items waits.new.chains.items }
     ensures capacity { vec_capacity waits.new.slots ≡ vec_capacity waits.old.slots }
     ensures update { MayUpdate speech rows.now.rows.items waits.old.slots.items chosen.new.items front.new.items out.new.items result }
 {

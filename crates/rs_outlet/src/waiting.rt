@@ -3,10 +3,10 @@
 //! does not go over all that waits for a client that takes nothing.
 //!
 //! Before a message begins, one part is made of both. From the second message on, each slot that is to be
-//! announced is chained to the next one that has the same attributes (`chains`), and a message is read off
-//! along such a chain.
+//! announced is chained to the next one that may have the same attributes (`chains`), and a message is read
+//! off along such a chain.
 
-ghost use Rattle.std.specs.Prelude.{List, ◌≡◌, ◌≤◌, ◌<◌, ◌+◌, ℕ, Option, None, Some, [], true, false, drop, length, take, vec_len, slice_get, slice_set, option_map, if◌then◌else◌, IfSome, OnOk, ◌++◌};
+ghost use Rattle.std.specs.Prelude.{List, ◌≡◌, ◌≤◌, ◌<◌, ◌+◌, ℕ, Option, None, Some, [], true, false, drop, length, take, vec_len, slice_get, slice_set, option_map, if◌then◌else◌, IfSome, IsTrue, OnOk, ◌++◌};
 ghost use Rattle.std.specs.List.{AllWithin, Contains, IsDistinct, list_any};
 ghost use Rattle.std.specs.Arc.{arc_value};
 ghost use Rattle.std.specs.Ordering.{eq_by_cmp};
@@ -15,7 +15,7 @@ ghost use Rattle.std.proofs.Props.{props};
 ghost use Rattle.std.specs.Vec.{vec_capacity};
 ghost use Rattle.rs_octets.specs.Prefixes.{Prefix, prefix_order};
 ghost use Rattle.rs_outlet.specs.declared.waiting.Wait.{Wait};
-ghost use Rattle.rs_outlet.specs.Pending.Slots.{AreFresh, IsOpenSlot, prefixes_at, open_count, withdrawn_count, is_withdrawn, is_announced, open_at, told_of, told_by, marked_by};
+ghost use Rattle.rs_outlet.specs.Pending.Slots.{AreByHash, AreFresh, IsOpenSlot, hash_of, prefixes_at, open_count, withdrawn_count, is_withdrawn, is_announced, open_at, told_of, told_by, marked_by};
 
 mod chains;
 mod choosing;
@@ -68,10 +68,12 @@ pub(crate) struct Waits {
     pub(crate) sorted: usize,
     /// There is one part, and a message of it began.
     pub(crate) ready: bool,
-    /// For each slot the next one that has its attributes; none where slots are not chained.
+    /// For each slot the next one that may have its attributes; none where slots are not chained.
     pub(crate) chains: Vec<u32>,
-    /// While slots are chained: those that are to be announced, in order of their attributes.
+    /// While slots are chained: those that are to be announced, in the order in which they were chained.
     pub(crate) order: Vec<Hashed>,
+    /// Slots of one hash are chained by their attributes too.
+    pub(crate) exact: bool,
     /// No slot before it is to be withdrawn.
     pub(crate) gone: usize,
     /// No slot before it is to be announced.
@@ -86,6 +88,7 @@ pub(crate) struct Waits {
     ghost late: { IsStrictlySortedBy prefix_order (drop sorted (prefixes_at slots.items)) } by { Prim.hlevel props },
     ghost apart: { IsDistinct (eq_by_cmp prefix_order) (prefixes_at slots.items) } by { Prim.hlevel props },
     ghost one_part: { ready ≡ true → sorted ≡ vec_len slots },
+    ghost by_hash: { exact ≡ false → AreByHash slots.items chains.items },
 }
 
 impl Waits {
@@ -103,6 +106,7 @@ impl Waits {
             ready: false,
             chains: Vec::new(alloc),
             order: Vec::new(alloc),
+            exact: false,
             gone: 0,
             news: 0,
             waiting: 0,
@@ -206,6 +210,17 @@ impl Wait {
         ensures { result ≡ is_withdrawn self.now }
     {
         self.open && matches!(self.due, Due::Withdrawn)
+    }
+
+    /// Whether it is due to be announced, with attributes of this hash.
+    pub(crate) fn has_hash(&self, hash: u32) -> bool
+        ensures due { IsTrue result → hash_of self.now.due ≡ Some hash }
+        ensures all { hash_of self.now.due ≡ Some hash → IsTrue result }
+    {
+        match self.due {
+            Due::Withdrawn => false,
+            Due::Announced { hash: own, .. } => own == hash,
+        }
     }
 
     /// Whether it is to be announced.

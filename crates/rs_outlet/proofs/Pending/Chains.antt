@@ -1,8 +1,8 @@
 -- Chains of slots: how they come of slots that are in order, and what leaves them as they are.
-use Rattle.std.proofs.Common.{◌≡◌, ◌≢◌, ◌<◌, ◌≤◌, ℕ, zero, suc, Bool, true, false, ◌&&◌, cond, Option, None, Some, List, [], ◌∷◌, ◌++◌, length, slice_set, refl, sym, ap, ◌∙◌, subst, arith, inl, inr}
+use Rattle.std.proofs.Common.{◌≡◌, ◌≢◌, ◌<◌, ◌≤◌, ℕ, zero, suc, Bool, true, false, ◌&&◌, not, cond, Option, None, Some, List, [], ◌∷◌, ◌++◌, length, slice_set, refl, sym, ap, ◌∙◌, subst, arith, inl, inr}
 use Rattle.std.specs.Prelude.{◌⊎◌, option_map, slice_get}
 use Rattle.std.specs.Arc.{arc_value}
-use Rattle.std.specs.List.{Contains, IsDistinct}
+use Rattle.std.specs.List.{Contains}
 use Rattle.std.specs.List.Sorted.{IsPermutation}
 use Rattle.std.specs.Ordering.{is_eq}
 use Rattle.std.specs.declared.cmp.Ordering.TheVariants.{Less, Equal}
@@ -21,37 +21,41 @@ use Rattle.rs_outlet.specs.declared.waiting.Due.{Due}
 use Rattle.rs_outlet.specs.declared.waiting.Due.TheVariants as due
 use Rattle.rs_outlet.specs.declared.waiting.Wait.{Wait}
 use Rattle.rs_outlet.specs.declared.waiting.chains.Hashed.{Hashed}
-use Rattle.rs_outlet.specs.Inside.{AreBacked, AreChained, IsBacked, prefix_and_hash, row_at, row_by, shown}
+use Rattle.rs_outlet.specs.Inside.{AreChained, IsBacked, prefix_and_hash, row_at, row_by, shown}
 use Rattle.rs_outlet.specs.Message.Next.{has_attributes}
-use Rattle.rs_outlet.specs.Pending.Slots.{prefixes_at}
-use Rattle.rs_outlet.specs.Pending.Chains.{AreHashed, AreLinked, IsBefore, IsHashed, Leads, AreInOrder, by_rows, due_there, or_none}
+use Rattle.rs_outlet.specs.Pending.Slots.{AreByHash, hash_of}
+use Rattle.rs_outlet.specs.Pending.Chains.{AreHashed, AreLinked, IsBefore, IsHashed, Leads, AreInOrder, by_rows, due_by, due_there, or_none}
 use Rattle.rs_outlet.specs.Pending.Choosing.{shares}
-use Rattle.rs_outlet.proofs.Decided.LocByNumber.{same}
-use Rattle.rs_outlet.proofs.Pending.Slots.{found_at}
 
 -- ---- what leaves chains as they are
 
+past : (chain n : ℕ) → ◌≢◌ (slice_get [] n) (Some chain)
+past chain zero h = cc
+past chain (suc n) h = cc
+
 pub none_chained : (rows : List (Option Row)) (ws : List Wait) (chains : List ℕ) → chains ≡ [] → AreChained rows ws chains
-none_chained rows ws chains none n m chain w z a at from to later below opened is = absurd (past n (sym (ap (λ ls. slice_get ls n) none) ∙ at))
-  where
-    past : (n : ℕ) → ◌≢◌ (slice_get [] n) (Some chain)
-    past zero h = cc
-    past (suc n) h = cc
+none_chained rows ws chains none n m chain hash w z a at from to later below opened here there is = absurd (past chain n (sym (ap (λ ls. slice_get ls n) none) ∙ at))
+
+pub none_by_hash : (ws : List Wait) (chains : List ℕ) → chains ≡ [] → AreByHash ws chains
+none_by_hash ws chains none n m chain hash w z at from to later below opened here there = past chain n (sym (ap (λ ls. slice_get ls n) none) ∙ at)
+
+pub same_by_hash : (ws ws' : List Wait) (chains chains' : List ℕ) → ws' ≡ ws → chains' ≡ chains → AreByHash ws chains → AreByHash ws' chains'
+same_by_hash ws ws' chains chains' slots same are = subst (AreByHash ws') (sym same) (subst (λ vs. AreByHash vs chains) (sym slots) are)
 
 same_row_by : (rows rows' : List (Option Row)) → ((n : ℕ) → row_at rows' n ≡ row_at rows n) → (d : Due) → row_by rows' d ≡ row_by rows d
 same_row_by rows rows' same_rows due.Withdrawn = refl
 same_row_by rows rows' same_rows (due.Announced number hash) = same_rows number
 
 pub same_chained : (rows rows' : List (Option Row)) (ws ws' : List Wait) (chains chains' : List ℕ) → ((n : ℕ) → row_at rows' n ≡ row_at rows n) → ws' ≡ ws → chains' ≡ chains → AreChained rows ws chains → AreChained rows' ws' chains'
-same_chained rows rows' ws ws' chains chains' same_rows slots same are n m chain w z a at from to later below opened is =
+same_chained rows rows' ws ws' chains chains' same_rows slots same are n m chain hash w z a at from to later below opened here there is =
     λ e.
-    are n m chain w z a (ap (λ ls. slice_get ls n) (sym same) ∙ at) (ap (λ vs. slice_get vs n) (sym slots) ∙ from) (ap (λ vs. slice_get vs m) (sym slots) ∙ to) later below opened
+    are n m chain hash w z a (ap (λ ls. slice_get ls n) (sym same) ∙ at) (ap (λ vs. slice_get vs n) (sym slots) ∙ from) (ap (λ vs. slice_get vs m) (sym slots) ∙ to) later below opened here there
     (ap shown (sym (same_row_by rows rows' same_rows w.due)) ∙ is)
     (ap shown (sym (same_row_by rows rows' same_rows z.due)) ∙ e)
 
 -- one slot waits no more
 pub shut_chained : (rows : List (Option Row)) (ws : List Wait) (n : ℕ) (x y : Wait) (chains : List ℕ) → slice_get ws n ≡ Some x → y.due ≡ x.due → y.open ≡ false → AreChained rows ws chains → AreChained rows (slice_set ws n y) chains
-shut_chained rows ws n x y chains here due shut are k m chain w z a at from to later below opened is = elim (cases_eq m n) [
+shut_chained rows ws n x y chains here due shut are k m chain hash w z a at from to later below opened w_hash z_hash is = elim (cases_eq m n) [
   | inl e ↦
       let same : y ≡ z = same_Some y z (sym (set_here ws n y x here) ∙ sym (ap (slice_get (slice_set ws n y)) e) ∙ to) in
       absurd (let f : true ≡ false = sym opened ∙ ap (λ (v : Wait). v.open) (sym same) ∙ shut in cc)
@@ -60,8 +64,23 @@ shut_chained rows ws n x y chains here due shut are k m chain w z a at from to l
       elim (cases_eq k n) [
         | inl e ↦
             let same : y ≡ w = same_Some y w (sym (set_here ws n y x here) ∙ sym (ap (slice_get (slice_set ws n y)) e) ∙ from) in
-            are k m chain x z a at (ap (slice_get ws) e ∙ here) there later below opened (ap (λ d. shown (row_by rows d)) (sym due ∙ ap (λ (v : Wait). v.due) same) ∙ is)
-        | inr apart ↦ are k m chain w z a at (sym (set_apart ws n y k apart) ∙ from) there later below opened is
+            are k m chain hash x z a at (ap (slice_get ws) e ∙ here) there later below opened (ap hash_of (sym due ∙ ap (λ (v : Wait). v.due) same) ∙ w_hash) z_hash (ap (λ d. shown (row_by rows d)) (sym due ∙ ap (λ (v : Wait). v.due) same) ∙ is)
+        | inr apart ↦ are k m chain hash w z a at (sym (set_apart ws n y k apart) ∙ from) there later below opened w_hash z_hash is
+      ]
+]
+
+pub shut_by_hash : (ws : List Wait) (n : ℕ) (x y : Wait) (chains : List ℕ) → slice_get ws n ≡ Some x → y.due ≡ x.due → y.open ≡ false → AreByHash ws chains → AreByHash (slice_set ws n y) chains
+shut_by_hash ws n x y chains here due shut are k m chain hash w z at from to later below opened w_hash z_hash = elim (cases_eq m n) [
+  | inl e ↦
+      let same : y ≡ z = same_Some y z (sym (set_here ws n y x here) ∙ sym (ap (slice_get (slice_set ws n y)) e) ∙ to) in
+      absurd (let f : true ≡ false = sym opened ∙ ap (λ (v : Wait). v.open) (sym same) ∙ shut in cc)
+  | inr ne ↦
+      let there : slice_get ws m ≡ Some z = sym (set_apart ws n y m ne) ∙ to in
+      elim (cases_eq k n) [
+        | inl e ↦
+            let same : y ≡ w = same_Some y w (sym (set_here ws n y x here) ∙ sym (ap (slice_get (slice_set ws n y)) e) ∙ from) in
+            are k m chain hash x z at (ap (slice_get ws) e ∙ here) there later below opened (ap hash_of (sym due ∙ ap (λ (v : Wait). v.due) same) ∙ w_hash) z_hash
+        | inr apart ↦ are k m chain hash w z at (sym (set_apart ws n y k apart) ∙ from) there later below opened w_hash z_hash
       ]
 ]
 
@@ -155,17 +174,30 @@ module _ (a : Hashed → List Attribute) where
 
 -- ---- chains of slots in order
 
-hash_by : (o : Option Row) (p : Prefix) (hash : ℕ) (m : List Attribute) → option_map prefix_and_hash o ≡ Some (p, hash) → shown o ≡ Some m → attributes_hash m ≡ hash
+pub hash_by : (o : Option Row) (p : Prefix) (hash : ℕ) (m : List Attribute) → option_map prefix_and_hash o ≡ Some (p, hash) → shown o ≡ Some m → attributes_hash m ≡ hash
 hash_by None p hash m backed is = absurd (cc)
 hash_by (Some r) p hash m backed is = ap attributes_hash (sym (same_Some (arc_value r.attrs) m is)) ∙ ap (λ (e : Prefix × ℕ). e.1) (same_Some (prefix_and_hash r) (p, hash) backed)
 
-backed_hash : (rows : List (Option Row)) (p : Prefix) (d : Due) (number hash : ℕ) (m : List Attribute) → IsBacked rows p d → d ≡ due.Announced number hash → shown (row_by rows d) ≡ Some m → attributes_hash m ≡ hash
-backed_hash rows p d number hash m backed at is =
-    hash_by (row_at rows number) p hash m (subst (IsBacked rows p) at backed) (ap (λ x. shown (row_by rows x)) (sym at) ∙ is)
+-- what is due at a slot that has its row has the hash that the slot says
+pub backed_hash : (rows : List (Option Row)) (p : Prefix) (d : Due) (m : List Attribute) → IsBacked rows p d → shown (row_by rows d) ≡ Some m → hash_of d ≡ Some (attributes_hash m)
+backed_hash rows p due.Withdrawn m backed is = absurd (let f : ◌≡◌ {A = Option (List Attribute)} None (Some m) = is in cc)
+backed_hash rows p (due.Announced number hash) m backed is = ap (λ h. Some h) (sym (hash_by (row_at rows number) p hash m backed is))
 
-announced : (rows : List (Option Row)) (d : Due) (m : List Attribute) → shown (row_by rows d) ≡ Some m → (number : ℕ) × (hash : ℕ) × (d ≡ due.Announced number hash)
-announced rows due.Withdrawn m is = absurd (let f : ◌≡◌ {A = Option (List Attribute)} None (Some m) = is in cc)
-announced rows (due.Announced number hash) m is = (number, hash, refl)
+-- between a slot of a message's hash and the one that it leads to, none waits for the message's attributes
+pub none_between : (rows : List (Option Row)) (ws : List Wait) (chains : List ℕ) (m : List Attribute) (exact has : Bool) → AreChained rows ws chains → (exact ≡ false → AreByHash ws chains) → (exact && not has) ≡ false
+    → (i n chain : ℕ) (w z : Wait) → slice_get chains i ≡ Some chain → slice_get ws i ≡ Some w → slice_get ws n ≡ Some z → i < n → n < chain → hash_of w.due ≡ Some (attributes_hash m)
+    → (has ≡ true → shown (row_by rows w.due) ≡ Some m) → (z.open ≡ true → IsBacked rows z.prefix z.due) → shares rows m z ≡ false
+none_between rows ws chains m exact has chained by_hash one i n chain w z at from to later below w_hash is backed =
+    shares_other rows m z (λ opened also. go exact has chained by_hash one is opened (backed_hash rows z.prefix z.due m (backed opened) also) also)
+  where
+    go : (exact has : Bool) → AreChained rows ws chains → (exact ≡ false → AreByHash ws chains) → (exact && not has) ≡ false → (has ≡ true → shown (row_by rows w.due) ≡ Some m) → z.open ≡ true → hash_of z.due ≡ Some (attributes_hash m) → shown (row_by rows z.due) ≡ Some m → ⊥
+    go exact true chained by_hash one is opened z_hash also = chained i n chain (attributes_hash m) w z m at from to later below opened w_hash z_hash (is refl) also
+    go false false chained by_hash one is opened z_hash also = by_hash refl i n chain (attributes_hash m) w z at from to later below opened w_hash z_hash
+    go true false chained by_hash one is opened z_hash also = absurd (cc)
+
+announced : (d : Due) (hash : ℕ) → hash_of d ≡ Some hash → (number : ℕ) × (d ≡ due.Announced number hash)
+announced due.Withdrawn hash is = absurd (let f : ◌≡◌ {A = Option ℕ} None (Some hash) = is in cc)
+announced (due.Announced number own) hash is = (number, ap (due.Announced number) (same_Some own hash is))
 
 listed_at : (es : List Hashed) (e : Hashed) → Contains es e → (j : ℕ) × (slice_get es j ≡ Some e)
 listed_at es e (k, below, at) = (k, slice_get_read es (length es) k e refl below (sym at))
@@ -173,37 +205,46 @@ listed_at es e (k, below, at) = (k, slice_get_read es (length es) k e refl below
 contains_at : (es : List Hashed) (i : ℕ) (e : Hashed) → slice_get es i ≡ Some e → Contains es e
 contains_at es i e at = (i, slice_get_within es i e at, get_or_from_slice_get es i e e at)
 
-module _ (rows : List (Option Row)) (ws : List Wait) (apart : IsDistinct same (prefixes_at ws)) (backed : AreBacked rows ws) where
-  abbrev at_slot : Hashed → List Attribute
-  at_slot = due_there rows ws
-
-  backed_at : (n : ℕ) (w : Wait) → slice_get ws n ≡ Some w → w.open ≡ true → IsBacked rows w.prefix w.due
-  backed_at n w at opened = backed w.prefix w (found_at ws n w (slice_get_within ws n w at) (sym (get_or_from_slice_get ws n w w at)) opened apart)
-
-  due_is : (e : Hashed) (w : Wait) (m : List Attribute) → slice_get ws e.slot ≡ Some w → shown (row_by rows w.due) ≡ Some m → at_slot e ≡ m
+module _ (rows : List (Option Row)) (ws : List Wait) where
+  due_is : (e : Hashed) (w : Wait) (m : List Attribute) → slice_get ws e.slot ≡ Some w → shown (row_by rows w.due) ≡ Some m → due_there rows ws e ≡ m
   due_is e w m at is = ap (by_rows rows) at ∙ ap or_none is
 
-  pub linked_chained : (es : List Hashed) (chains : List ℕ) → AreHashed ws (length ws) es → AreInOrder at_slot es (length es) → AreLinked at_slot es chains → AreChained rows ws chains
-  linked_chained es chains hashed rise linked n m chain w z a at from to later below opened is = λ also. go also (linked n chain at)
+  alike_by : (b : Bool) (e f : Hashed) → due_there rows ws e ≡ due_there rows ws f → due_by b rows ws e ≡ due_by b rows ws f
+  alike_by true e f is = is
+  alike_by false e f is = refl
+
+  -- what stands between a slot and the one that it leads to is told apart from it
+  passed_over : (a : Hashed → List Attribute) (es : List Hashed) (chains : List ℕ) → AreHashed ws (length ws) es → AreInOrder a es (length es) → AreLinked a es chains
+      → (n m chain hash : ℕ) (w z : Wait) → slice_get chains n ≡ Some chain → slice_get ws n ≡ Some w → slice_get ws m ≡ Some z → n < m → m < chain → z.open ≡ true → hash_of w.due ≡ Some hash → hash_of z.due ≡ Some hash
+      → a (record { hash = hash; slot = n }) ≢ a (record { hash = hash; slot = m })
+  passed_over a es chains hashed rise linked n m chain hash w z at from to later below opened w_hash z_hash = λ same. go same (linked n chain at)
     where
-      go : shown (row_by rows z.due) ≡ Some a → Leads at_slot es n chain → ⊥
-      go also (inl nowhere) = absurd (omega (arith, nowhere, below))
-      go also (inr (i, e, e_at, e_slot, leads)) =
+      go : a (record { hash = hash; slot = n }) ≡ a (record { hash = hash; slot = m }) → Leads a es n chain → ⊥
+      go same (inl nowhere) = absurd (omega (arith, nowhere, below))
+      go same (inr (i, e, e_at, e_slot, leads)) =
           let j = hashed.just e (contains_at es i e e_at) in
-          let here : slice_get ws e.slot ≡ Some w = ap (slice_get ws) e_slot ∙ from in
-          let w_is : j.0 ≡ w = same_Some j.0 w (sym j.2 ∙ here) in
-          let w_open : w.open ≡ true = ap (λ (v : Wait). v.open) (sym w_is) ∙ j.3 in
+          let w_is : j.0 ≡ w = same_Some j.0 w (sym j.2 ∙ ap (slice_get ws) e_slot ∙ from) in
           let w_due : w.due ≡ due.Announced j.1 e.hash = ap (λ (v : Wait). v.due) (sym w_is) ∙ j.4 in
-          let w_hash : attributes_hash a ≡ e.hash = backed_hash rows w.prefix w.due j.1 e.hash a (backed_at n w from w_open) w_due is in
-          let d = announced rows z.due a also in
-          let z_hash : attributes_hash a ≡ d.1 = backed_hash rows z.prefix z.due d.0 d.1 a (backed_at m z to opened) d.2 also in
-          let f : Hashed = record { hash = d.1; slot = m } in
-          let k = listed_at es f (hashed.all m d.0 d.1 z to (slice_get_within ws m z to) opened d.2) in
-          let e_due : at_slot e ≡ a = due_is e w a here is in
-          let f_due : at_slot f ≡ a = due_is f z a to also in
+          let e_hash : e.hash ≡ hash = same_Some e.hash hash (sym (ap hash_of w_due) ∙ w_hash) in
+          let whole : e ≡ record { hash = hash; slot = n } = (λ i. record { hash = e_hash i; slot = e_slot i }) in
+          let d = announced z.due hash z_hash in
+          let f : Hashed = record { hash = hash; slot = m } in
+          let k = listed_at es f (hashed.all m d.0 hash z to (slice_get_within ws m z to) opened d.1) in
           let less : e.slot < f.slot = omega (arith, e_slot, later) in
-          let most : chain ≤ m = leads_on at_slot es rise i k.0 chain e f e_at k.1 (sym w_hash ∙ z_hash) (e_due ∙ sym f_due) less leads in
+          let most : chain ≤ m = leads_on a es rise i k.0 chain e f e_at k.1 e_hash (ap a whole ∙ same) less leads in
           absurd (omega (arith, most, below))
+
+  pub linked_by_hash : (b : Bool) (es : List Hashed) (chains : List ℕ) → AreHashed ws (length ws) es → AreInOrder (due_by b rows ws) es (length es) → AreLinked (due_by b rows ws) es chains → b ≡ false → AreByHash ws chains
+  linked_by_hash true es chains hashed rise linked is = absurd (cc)
+  linked_by_hash false es chains hashed rise linked is = λ n m chain hash w z at from to later below opened w_hash z_hash.
+      passed_over (due_by false rows ws) es chains hashed rise linked n m chain hash w z at from to later below opened w_hash z_hash refl
+
+  pub linked_chained : (b : Bool) (es : List Hashed) (chains : List ℕ) → AreHashed ws (length ws) es → AreInOrder (due_by b rows ws) es (length es) → AreLinked (due_by b rows ws) es chains → AreChained rows ws chains
+  linked_chained b es chains hashed rise linked n m chain hash w z a at from to later below opened w_hash z_hash is = λ also.
+      let e : Hashed = record { hash = hash; slot = n } in
+      let f : Hashed = record { hash = hash; slot = m } in
+      passed_over (due_by b rows ws) es chains hashed rise linked n m chain hash w z at from to later below opened w_hash z_hash
+      (alike_by b e f (due_is e w a from is ∙ sym (due_is f z a to also)))
 
 -- ---- slots listed
 

@@ -1,5 +1,5 @@
 -- The chains of slots: each leads to the next one that has its attributes.
-use Rattle.std.specs.Prelude.{◌≡◌, ◌⊎◌, ℕ, suc, ◌<◌, ◌≤◌, true, List, Option, None, Some, [], slice_get}
+use Rattle.std.specs.Prelude.{◌≡◌, ◌⊎◌, ℕ, suc, ◌<◌, ◌≤◌, Bool, true, false, List, Option, None, Some, [], slice_get}
 use Rattle.std.specs.List.{Contains}
 use Rattle.std.specs.declared.cmp.Ordering.TheVariants.{Less}
 use Rattle.rs_attrs.specs.Meaning.{Attribute}
@@ -21,6 +21,11 @@ by_rows rows (Some w) = or_none (shown (row_by rows w.due))
 
 abbrev pub due_there : List (Option Row) → List Wait → Hashed → List Attribute
 due_there rows ws e = by_rows rows (slice_get ws e.slot)
+
+-- the attributes by which slots of one hash are told apart: those due there, or none where the hash alone counts
+abbrev pub due_by : Bool → List (Option Row) → List Wait → Hashed → List Attribute
+due_by true rows ws e = due_there rows ws e
+due_by false rows ws e = []
 
 -- one slot comes before another: by the hash, by the attributes, or by its place where these are equal
 abbrev pub IsBefore : (Hashed → List Attribute) → Hashed → Hashed → Type 0

@@ -1,5 +1,5 @@
 -- The slots of what waits: a list of them, and what stands there of a prefix.
-use Rattle.std.specs.Prelude.{◌≡◌, ◌<◌, length, slice_get, is_some, ℕ, Bool, ◌&&◌, not, true, false, map, Option, None, Some, List, [], ◌∷◌, count_by, if◌then◌else◌}
+use Rattle.std.specs.Prelude.{◌≡◌, ◌≢◌, ◌<◌, length, slice_get, is_some, ℕ, Bool, ◌&&◌, not, true, false, map, Option, None, Some, List, [], ◌∷◌, count_by, if◌then◌else◌}
 use Rattle.std.specs.List.{AllByRecursion, IsDistinct, filter, list_any}
 use Rattle.std.specs.Arc.{arc_value}
 use Rattle.std.specs.Ordering.{eq_by_cmp}
@@ -17,6 +17,11 @@ prefixes_at ws = map (λ w. w.prefix) ws
 abbrev pub is_withdrawal : Due → Bool
 is_withdrawal due.Withdrawn = true
 is_withdrawal (due.Announced number hash) = false
+
+-- the hash of the attributes that are due
+abbrev pub hash_of : Due → Option ℕ
+hash_of due.Withdrawn = None
+hash_of (due.Announced number hash) = Some hash
 
 -- whether a slot waits to be withdrawn
 abbrev pub is_withdrawn : Wait → Bool
@@ -37,6 +42,12 @@ open_count ws = count_by (λ w. w.open) ws
 -- how many are to be withdrawn
 abbrev pub withdrawn_count : List Wait → ℕ
 withdrawn_count ws = count_by is_withdrawn ws
+
+-- between a slot and the one that it leads to, none that waits has its hash
+abbrev pub AreByHash : List Wait → List ℕ → Type 0
+AreByHash ws chains =
+    (n m chain hash : ℕ) (w z : Wait) → slice_get chains n ≡ Some chain → slice_get ws n ≡ Some w → slice_get ws m ≡ Some z
+    → n < m → m < chain → z.open ≡ true → hash_of w.due ≡ Some hash → hash_of z.due ≢ Some hash
 
 -- the open slot of a prefix
 abbrev pub open_at : Prefix → List Wait → Option Wait

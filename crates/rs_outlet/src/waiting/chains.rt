@@ -1,24 +1,23 @@
-//! The chains of the slots that wait: each slot that is to be announced leads to the next one that has
-//! its attributes, so that a message goes along a chain and meets no others.
+//! The chains of the slots that wait: each slot that is to be announced leads to the next one that may have
+//! its attributes, so that a message goes along a chain and meets few others.
 //!
-//! The slots are put in order by a hash of their attributes, which each has already, and by place. A
-//! member can choose attributes that share one hash: where neighbours of one hash are not in the order of
-//! their attributes, the slots are put in order by these too. So it takes two sorts at most, whatever a
-//! member chooses, and the slots with the same attributes lie side by side.
+//! The slots are put in order by a hash of their attributes, which each has already, and by place, so that
+//! no attributes are compared. A member can choose attributes that share one hash: where a message passed
+//! over many slots of its hash, the slots are put in order by their attributes too from then on, and those
+//! with the same attributes lie side by side.
 
-ghost use Rattle.std.specs.Prelude.{◌≡◌, ◌<◌, ◌≤◌, ◌++◌, ◌∷◌, [], ℕ, suc, List, Option, Some, IfSome, IsSome, IsTrue, false, nat_lt, slice_get, length, vec_len, if◌then◌else◌};
+ghost use Rattle.std.specs.Prelude.{◌≡◌, ◌<◌, ◌≤◌, ◌++◌, ◌∷◌, [], ℕ, suc, List, Option, Some, IfSome, IsSome, IsTrue, false, true, nat_lt, slice_get, length, vec_len, if◌then◌else◌};
 ghost use Rattle.std.specs.Arc.{arc_value};
-ghost use Rattle.std.specs.List.{HoldsAt, IsDistinct};
-ghost use Rattle.std.specs.Ordering.{eq_by_cmp};
+ghost use Rattle.std.specs.List.{HoldsAt};
+ghost use Rattle.std.specs.List.Sorted.{IsPermutation};
 ghost use Rattle.std.specs.Vec.{vec_capacity};
-ghost use Rattle.rs_octets.specs.Prefixes.{prefix_order};
 ghost use Rattle.rs_attrs.specs.Meaning.{Attribute};
-ghost use Rattle.rs_attrs.specs.Comparing.{attributes_cmp};
+ghost use Rattle.rs_attrs.specs.Comparing.{attributes_cmp, attributes_hash};
 ghost use Rattle.rs_outlet.specs.declared.rows.Row.{Row};
 ghost use Rattle.rs_outlet.specs.declared.waiting.Wait.{Wait};
 ghost use Rattle.rs_outlet.specs.Inside.{AreBacked, AreChained, row_by, shown};
-ghost use Rattle.rs_outlet.specs.Pending.Slots.{prefixes_at};
-ghost use Rattle.rs_outlet.specs.Pending.Chains.{AreHashed, AreInOrder, AreLinked, IsBefore, due_there};
+ghost use Rattle.rs_outlet.specs.Pending.Slots.{AreByHash, hash_of};
+ghost use Rattle.rs_outlet.specs.Pending.Chains.{AreHashed, AreInOrder, AreLinked, IsBefore, due_by, due_there};
 ghost use Rattle.rs_outlet.specs.Pending.Choosing.{shares};
 
 use crate::table::Rows;
@@ -119,11 +118,23 @@ fn compare(rows: &Rows, slots: &[Wait], a: &Hashed, b: &Hashed) -> Ordering {
     }
 }
 
-/// Where a slot leads to if this is the next one in order: there, if it has the same attributes. It is
-/// none where the next one does not come after it.
-fn leads_to(rows: &Rows, slots: &[Wait], entry: &Hashed, next: &Hashed) -> Option<u32>
-    ensures rises { IsSome result → IsBefore (due_there rows.now.rows.items slots.now) entry.now next.now }
-    ensures leads { IfSome result (λ chain. next.now.hash ≡ entry.now.hash → due_there rows.now.rows.items slots.now next.now ≡ due_there rows.now.rows.items slots.now entry.now → chain ≤ next.now.slot) }
+/// The order of what tells slots of one hash apart: what is due at them, or nothing where the hash alone
+/// counts.
+fn compare_by(exact: bool, rows: &Rows, slots: &[Wait], a: &Hashed, b: &Hashed) -> Option<Ordering>
+    ensures { IfSome result (λ order. order ≡ attributes_cmp (due_by exact rows.now.rows.items slots.now a.now) (due_by exact rows.now.rows.items slots.now b.now)) }
+{
+    if exact {
+        compare_due(rows, slots, a, b)
+    } else {
+        Some(Ordering::Equal)
+    }
+}
+
+/// Where a slot leads to if this is the next one in order: there, if nothing tells them apart. It is none
+/// where the next one does not come after it.
+fn leads_to(exact: bool, rows: &Rows, slots: &[Wait], entry: &Hashed, next: &Hashed) -> Option<u32>
+    ensures rises { IsSome result → IsBefore (due_by exact rows.now.rows.items slots.now) entry.now next.now }
+    ensures leads { IfSome result (λ chain. next.now.hash ≡ entry.now.hash → due_by exact rows.now.rows.items slots.now next.now ≡ due_by exact rows.now.rows.items slots.now entry.now → chain ≤ next.now.slot) }
 {
     if entry.hash < next.hash {
         return Some(END);
@@ -131,7 +142,7 @@ fn leads_to(rows: &Rows, slots: &[Wait], entry: &Hashed, next: &Hashed) -> Optio
     if entry.hash != next.hash {
         return None;
     }
-    match compare_due(rows, slots, entry, next)? {
+    match compare_by(exact, rows, slots, entry, next)? {
         Ordering::Less => Some(END),
         Ordering::Equal => {
             if entry.slot < next.slot {
@@ -146,19 +157,20 @@ fn leads_to(rows: &Rows, slots: &[Wait], entry: &Hashed, next: &Hashed) -> Optio
 
 /// Where the slot at a place of the order leads to. It is none where the next one does not come after
 /// it.
-fn chain_at(rows: &Rows, slots: &[Wait], order: &[Hashed], place: usize) -> Option<u32>
+fn chain_at(exact: bool, rows: &Rows, slots: &[Wait], order: &[Hashed], place: usize) -> Option<u32>
     requires { place < length order.now }
-    ensures rises { IsSome result → (e f : Hashed) → slice_get order.now place ≡ Some e → slice_get order.now (suc place) ≡ Some f → IsBefore (due_there rows.now.rows.items slots.now) e f }
-    ensures leads { IfSome result (λ chain. (e f : Hashed) → slice_get order.now place ≡ Some e → slice_get order.now (suc place) ≡ Some f → f.hash ≡ e.hash → due_there rows.now.rows.items slots.now f ≡ due_there rows.now.rows.items slots.now e → chain ≤ f.slot) }
+    ensures rises { IsSome result → (e f : Hashed) → slice_get order.now place ≡ Some e → slice_get order.now (suc place) ≡ Some f → IsBefore (due_by exact rows.now.rows.items slots.now) e f }
+    ensures leads { IfSome result (λ chain. (e f : Hashed) → slice_get order.now place ≡ Some e → slice_get order.now (suc place) ≡ Some f → f.hash ≡ e.hash → due_by exact rows.now.rows.items slots.now f ≡ due_by exact rows.now.rows.items slots.now e → chain ≤ f.slot) }
 {
     if order.len() - place <= 1 {
         return Some(END);
     }
-    leads_to(rows, slots, &order[place], &order[place + 1])
+    leads_to(exact, rows, slots, &order[place], &order[place + 1])
 }
 
 /// Chains the slot at a place of the order. Answers whether the next one comes after it.
 fn chain_one(
+    exact: bool,
     rows: &Rows,
     slots: &[Wait],
     order: &[Hashed],
@@ -166,10 +178,10 @@ fn chain_one(
     chains: &mut Vec<u32>,
 ) -> bool
     requires { place < length order.now }
-    ensures rises { IsTrue result → AreInOrder (due_there rows.now.rows.items slots.now) order.now place → AreInOrder (due_there rows.now.rows.items slots.now) order.now (suc place) }
-    ensures linked { AreLinked (due_there rows.now.rows.items slots.now) order.now chains.old.items → AreLinked (due_there rows.now.rows.items slots.now) order.now chains.new.items }
+    ensures rises { IsTrue result → AreInOrder (due_by exact rows.now.rows.items slots.now) order.now place → AreInOrder (due_by exact rows.now.rows.items slots.now) order.now (suc place) }
+    ensures linked { AreLinked (due_by exact rows.now.rows.items slots.now) order.now chains.old.items → AreLinked (due_by exact rows.now.rows.items slots.now) order.now chains.new.items }
 {
-    let Some(chain) = chain_at(rows, slots, order, place) else {
+    let Some(chain) = chain_at(exact, rows, slots, order, place) else {
         return false;
     };
     if let Some(at) = chains.get_mut(order[place].slot as usize) {
@@ -179,67 +191,120 @@ fn chain_one(
 }
 
 /// Chains the slots, which are in order. Answers whether they are.
-fn chain_all(rows: &Rows, slots: &[Wait], order: &[Hashed], chains: &mut Vec<u32>) -> bool
-    ensures rise { IsTrue result → AreInOrder (due_there rows.now.rows.items slots.now) order.now (length order.now) }
-    ensures linked { IsTrue result → AreLinked (due_there rows.now.rows.items slots.now) order.now chains.new.items }
+fn chain_all(
+    exact: bool,
+    rows: &Rows,
+    slots: &[Wait],
+    order: &[Hashed],
+    chains: &mut Vec<u32>,
+) -> bool
+    ensures rise { IsTrue result → AreInOrder (due_by exact rows.now.rows.items slots.now) order.now (length order.now) }
+    ensures linked { IsTrue result → AreLinked (due_by exact rows.now.rows.items slots.now) order.now chains.new.items }
 {
     chains.clear();
     for _ in 0..slots.len() {
         put_chain(chains, 0);
     }
     for place in 0..order.len() {
-        if !chain_one(rows, slots, order, place, chains) {
+        if !chain_one(exact, rows, slots, order, place, chains) {
             return false;
         }
     }
     true
 }
 
+/// Puts slots in order: by hash, by attributes if these count, and by place.
+fn put_hashed_in_order(exact: bool, rows: &Rows, slots: &[Wait], order: &mut Vec<Hashed>)
+    ensures { IsPermutation order.old.items order.new.items }
+{
+    if exact {
+        order.sort_unstable_by(|a, b| compare(rows, slots, a, b));
+    } else {
+        order.sort_unstable_by_key(|entry| (entry.hash, entry.slot));
+    }
+}
+
 /// Puts the slots that are to be announced in order and chains them; without room for it none is chained.
-fn chain_in_order(rows: &Rows, slots: &[Wait], order: &mut Vec<Hashed>, chains: &mut Vec<u32>)
-    requires backed { AreBacked rows.now.rows.items slots.now }
-    requires apart { IsDistinct (eq_by_cmp prefix_order) (prefixes_at slots.now) }
-    ensures { AreChained rows.now.rows.items slots.now chains.new.items }
+fn chain_in_order(
+    exact: bool,
+    rows: &Rows,
+    slots: &[Wait],
+    order: &mut Vec<Hashed>,
+    chains: &mut Vec<u32>,
+)
+    ensures chained { AreChained rows.now.rows.items slots.now chains.new.items }
+    ensures by_hash { exact ≡ false → AreByHash slots.now chains.new.items }
 {
     if !list_all(slots, order) {
         chains.clear();
         return;
     }
-    order.sort_unstable_by_key(|entry| (entry.hash, entry.slot));
-    if chain_all(rows, slots, order, chains) {
-        return;
+    put_hashed_in_order(exact, rows, slots, order);
+    if !chain_all(exact, rows, slots, order, chains) {
+        chains.clear();
     }
-    order.sort_unstable_by(|a, b| compare(rows, slots, a, b));
-    if chain_all(rows, slots, order, chains) {
-        return;
-    }
-    chains.clear();
 }
+
+/// A message that passed over more slots of its hash than these was put among attributes that share it.
+const MANY_OF_ONE_HASH: usize = 64;
 
 impl Waits {
     /// Chains the slots that are to be announced. It takes no memory.
     pub(crate) fn chain(&mut self, rows: &Rows)
-        requires backed { AreBacked rows.now.rows.items self.old.slots.items }
         ensures items { self.new.slots.items ≡ self.old.slots.items }
         ensures sorted { self.new.sorted ≡ self.old.sorted }
         ensures capacity { vec_capacity self.new.slots ≡ vec_capacity self.old.slots }
         ensures chained { AreChained rows.now.rows.items self.new.slots.items self.new.chains.items }
     {
-        chain_in_order(rows, &self.slots, &mut self.order, &mut self.chains);
+        chain_in_order(
+            self.exact,
+            rows,
+            &self.slots,
+            &mut self.order,
+            &mut self.chains,
+        );
     }
 
-    /// The next slot that may have the attributes which this one has, if it has them.
-    pub(crate) fn next_slot(&self, slot: usize, has: bool) -> usize
+    /// A message passed over so many slots of its hash that have other attributes. Where they are many, the
+    /// chains are dropped, and slots are chained by their attributes too from now on, until none waits.
+    pub(crate) fn note_passed(&mut self, passed: usize)
+        ensures slots { self.new.slots.items ≡ self.old.slots.items }
+        ensures capacity { vec_capacity self.new.slots ≡ vec_capacity self.old.slots }
+        ensures chained { (rows : List (Option Row)) → AreChained rows self.old.slots.items self.old.chains.items → AreChained rows self.new.slots.items self.new.chains.items }
+    {
+        if self.exact || passed <= MANY_OF_ONE_HASH {
+            return;
+        }
+        self.exact = true;
+        self.chains.clear();
+    }
+
+    /// The next slot that may have the attributes of a message, of which this is the hash, where this one
+    /// has them or not.
+    pub(crate) fn next_slot(&self, slot: usize, hash: u32, has: bool) -> usize
         requires { slot < vec_len self.now.slots }
         ensures later { slot < result }
-        ensures between { (rows : List (Option Row)) (m : List Attribute) → AreChained rows self.now.slots.items self.now.chains.items → (IsTrue has → HoldsAt (λ w. shown (row_by rows w.due) ≡ Some m) self.now.slots.items slot) → (n : ℕ) (z : Wait) → slice_get self.now.slots.items n ≡ Some z → slot < n → n < result → shares rows m z ≡ false }
+        ensures between { (rows : List (Option Row)) (m : List Attribute) → AreChained rows self.now.slots.items self.now.chains.items → AreBacked rows self.now.slots.items → attributes_hash m ≡ hash → (IsTrue has → HoldsAt (λ w. shown (row_by rows w.due) ≡ Some m) self.now.slots.items slot) → (n : ℕ) (z : Wait) → slice_get self.now.slots.items n ≡ Some z → slot < n → n < result → shares rows m z ≡ false }
     {
-        if !has {
+        if self.exact && !has {
+            return slot + 1;
+        }
+        if !self.slots[slot].has_hash(hash) {
             return slot + 1;
         }
         match self.chains.get(slot) {
             None => slot + 1,
             Some(chain) => (slot + 1).max(*chain as usize),
         }
+    }
+
+    /// Whether a message of this hash passes over a slot that waits for other attributes of the hash.
+    pub(crate) fn is_passed(&self, slot: usize, hash: u32, has: bool) -> bool
+        requires { slot < vec_len self.now.slots }
+        ensures just { IsTrue result → (has ≡ false) × HoldsAt (λ w. (w.open ≡ true) × (hash_of w.due ≡ Some hash)) self.now.slots.items slot }
+        ensures all { has ≡ false → HoldsAt (λ w. (w.open ≡ true) × (hash_of w.due ≡ Some hash)) self.now.slots.items slot → IsTrue result }
+    {
+        let wait = &self.slots[slot];
+        !has && wait.open && wait.has_hash(hash)
     }
 }

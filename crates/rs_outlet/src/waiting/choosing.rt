@@ -106,7 +106,7 @@ impl Waits {
     }
 
     /// Lists the prefixes from this slot on that wait for these attributes, as many as there is room
-    /// for.
+    /// for. Answers how many slots of their hash it passed over.
     pub(crate) fn collect_announced(
         &self,
         rows: &Rows,
@@ -115,7 +115,7 @@ impl Waits {
         room: usize,
         chosen: &mut Vec<usize>,
         front: &mut Vec<Prefix>,
-    )
+    ) -> usize
         ensures chosen { vec_capacity chosen.new ≡ vec_capacity chosen.old }
         ensures front { vec_capacity front.new ≡ vec_capacity front.old }
         ensures some { first < vec_len self.now.slots → HoldsAt (WaitsFor rows.now.rows.items attrs.now) self.now.slots.items first → vec_len front.old < room → HaveRoom chosen.old front.old → 0 < vec_len front.new }
@@ -124,17 +124,21 @@ impl Waits {
         ensures are { AreChosen rows.now.rows.items self.now.slots.items (Some attrs.now) chosen.old.items front.old.items → AreChosen rows.now.rows.items self.now.slots.items (Some attrs.now) chosen.new.items front.new.items }
         ensures all { AreChained rows.now.rows.items self.now.slots.items self.now.chains.items → AreBacked rows.now.rows.items self.now.slots.items → room ≤ vec_capacity chosen.old → room ≤ vec_capacity front.old → chosen.old.items ≡ [] → front.old.items ≡ [] → front.new.items ≡ take room (passing (shares rows.now.rows.items attrs.now) (drop first self.now.slots.items)) }
     {
+        let hash = attrs.kept_hash();
         let mut slot = first;
+        let mut passed: usize = 0;
         for _ in 0..self.slots.len() {
             if room <= front.len() {
-                return;
+                return passed;
             }
             if self.slots.len() <= slot {
-                return;
+                return passed;
             }
             let listed = self.list_announced(rows, slot, attrs, chosen, front);
-            slot = self.next_slot(slot, listed);
+            passed = passed.saturating_add(usize::from(self.is_passed(slot, hash, listed)));
+            slot = self.next_slot(slot, hash, listed);
         }
+        passed
     }
 
     /// Lists the prefix of a slot, if it waits for these attributes. Answers whether it does.

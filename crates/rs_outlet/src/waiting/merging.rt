@@ -130,6 +130,7 @@ impl Waits {
         self.sorted = self.slots.len();
         self.ready = false;
         self.chains.clear();
+        self.exact = self.exact && !self.slots.is_empty();
         self.gone = 0;
         self.news = 0;
     }

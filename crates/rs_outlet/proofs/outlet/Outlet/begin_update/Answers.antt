@@ -9,7 +9,6 @@ use Rattle.rs_outlet.proofs.Decided.LocByNumber.{same}
 use Rattle.rs_outlet.proofs.Decided.Numbering.{all_front}
 use Rattle.rs_outlet.proofs.Message.Ranges.{from_start}
 use Rattle.rs_outlet.proofs.Message.Beginning.{backed_left, update_seen}
-use Rattle.rs_outlet.proofs.Pending.Chains.{same_chained}
 use Rattle.rs_outlet.proofs.Pending.Unchanged.{backed_same, marked_same, told_same, waits_same}
 use Rattle.rs_outlet.proofs.outlet.Outlet.begin_update.Goals as goal
 
@@ -63,7 +62,7 @@ invariant_of-self c =
           (subst (λ ns. AreChosen rows c.prepare.new.self.slots.items said ns qs) (sym (c.deref.ensures.value ∙ c.truncate.ensures.items)) are)) q
           ∙ ap (λ ws. cond (list_any (same q) qs) None (open_at q ws)) c.put_update-packed.ensures.slots)
           (backed_same rows a.waits.slots.items c.prepare.new.self.slots.items c.prepare.ensures.slots kept.backed);
-      chained = c.give_up.ensures.chained rows (same_chained rows rows c.prepare.new.self.slots.items c.put_update-packed.new.waits.slots.items c.prepare.new.self.chains.items _ (λ n. refl) c.put_update-packed.ensures.slots c.put_update-packed.ensures.chains c.prepare.ensures.chained);
+      chained = c.give_up.ensures.chained rows c.put_update-packed.ensures.chained;
       fit = kept.fit;
       asked = λ is. cc is;
     }

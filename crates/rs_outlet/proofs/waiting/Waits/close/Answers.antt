@@ -8,7 +8,7 @@ use Rattle.std.specs.Ordering.{eq_by_cmp}
 use Rattle.rs_octets.specs.Prefixes.{prefix_order}
 use Rattle.rs_outlet.specs.declared.waiting.Wait.{Wait}
 use Rattle.rs_outlet.specs.Pending.Slots.{is_withdrawn, is_announced}
-use Rattle.rs_outlet.proofs.Pending.Chains.{shut_chained}
+use Rattle.rs_outlet.proofs.Pending.Chains.{shut_by_hash, shut_chained}
 use Rattle.rs_outlet.proofs.Pending.Slots.{count_shut, count_one, count_less, same_prefixes, closed_at}
 use Rattle.rs_outlet.proofs.Pending.Withdrawals.{withdrawn_less}
 use Rattle.rs_outlet.proofs.waiting.Waits.close.Goals as goal
@@ -42,6 +42,11 @@ invariant_of-self-clause-withdrawn c = AllWithin-set (λ w. is_withdrawn w ≡ f
 
 pub invariant_of-self-clause-announced : goal.invariant_of-self-clause-announced
 invariant_of-self-clause-announced c = AllWithin-set (λ w. is_announced w ≡ false) c.args.self.now.slots.items 0 c.args.self.now.news c.args.slot _ (search rules) refl c.args.self.now.announced
+
+pub invariant_of-self-clause-by_hash : goal.invariant_of-self-clause-by_hash
+invariant_of-self-clause-by_hash c = λ is.
+    let ws = c.args.self.now.slots.items in
+    shut_by_hash ws c.args.slot c.index_mut-wait.result.now _ c.args.self.now.chains.items (slice_get_read ws (length ws) c.args.slot c.index_mut-wait.result.now refl (search rules) c.index_mut-wait.ensures.value) refl refl (c.args.self.now.by_hash is)
 
 pub returns : goal.returns
 returns c =

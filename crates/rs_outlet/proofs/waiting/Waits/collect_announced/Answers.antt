@@ -46,7 +46,7 @@ loop-preserved c =
           let more : vec_len c.loop.front < c.args.room = search rules in
           let below : c.loop.slot < length ws = search rules in
           listed_later (shares rows m) ws c.args.room c.args.first (c.loop.slot + 1) c.next_slot-slot.result c.list_announced-listed.new.front.items (omega (arith, c.next_slot-slot.ensures.later))
-          (λ n z at low high. c.next_slot-slot.ensures.between rows m chained c.list_announced-listed.ensures.waits n z at (omega (arith, low)) high)
+          (λ n z at low high. c.next_slot-slot.ensures.between rows m chained backed (sym c.kept_hash-hash.ensures) c.list_announced-listed.ensures.waits n z at (omega (arith, low)) high)
           (listed_one (shares rows m) ws c.args.room c.args.first c.loop.slot c.loop.front.items c.list_announced-listed.new.front.items below
           (omega (arith, more, c.loop.front.ok))
           (λ d.

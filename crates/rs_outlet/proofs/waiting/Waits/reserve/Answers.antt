@@ -1,4 +1,4 @@
-use Rattle.std.proofs.Common.{◌≡◌, ◌∙◌, false, List, length, ap, subst, sym, arith}
+use Rattle.std.proofs.Common.{◌≡◌, ◌∙◌, false, List, length, ap, refl, subst, sym, arith}
 use Rattle.std.specs.Prelude.{drop, take}
 use Rattle.std.specs.List.{AllWithin, IsDistinct}
 use Rattle.std.specs.List.Sorted.{IsStrictlySortedBy}
@@ -6,6 +6,7 @@ use Rattle.std.specs.Ordering.{eq_by_cmp}
 use Rattle.rs_octets.specs.Prefixes.{prefix_order}
 use Rattle.rs_outlet.specs.declared.waiting.Wait.{Wait}
 use Rattle.rs_outlet.specs.Pending.Slots.{is_announced, is_withdrawn, open_count, prefixes_at}
+use Rattle.rs_outlet.proofs.Pending.Chains.{same_by_hash}
 use Rattle.rs_outlet.proofs.waiting.Waits.reserve.Goals as goal
 
 pub invariant_of-self-in-Break-branch-2 : goal.invariant_of-self-in-Break-branch-2
@@ -20,6 +21,7 @@ invariant_of-self-in-Break-branch-2 c =
       late = old.late;
       apart = old.apart;
       one_part = old.one_part;
+      by_hash = λ is. same_by_hash old.slots.items old.slots.items old.chains.items _ refl c.reserve-2.ensures.items (old.by_hash is);
     }
 
 pub invariant_of-self-2 : goal.invariant_of-self-2
@@ -36,4 +38,5 @@ invariant_of-self-2 c =
       late = subst (λ (ws : List Wait). IsStrictlySortedBy prefix_order (drop old.sorted (prefixes_at ws))) (sym same) old.late;
       apart = subst (λ (ws : List Wait). IsDistinct (eq_by_cmp prefix_order) (prefixes_at ws)) (sym same) old.apart;
       one_part = λ ready. omega (arith, old.one_part ready, ap length same, old.slots.ok, slots.ok);
+      by_hash = λ is. same_by_hash old.slots.items slots.items old.chains.items _ same c.reserve-2.ensures.items (old.by_hash is);
     }
