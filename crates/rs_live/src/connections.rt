@@ -27,6 +27,13 @@ pub const STALE: u64 = 10;
 /// How many seconds a connection that the server closes has for what waits still.
 pub const CLOSING: u64 = 1;
 
+/// Where a connection lasted less than so many seconds, the client's next one rests.
+pub const SHORT: u64 = 60;
+
+/// For how many seconds it rests: it is read only where a session might end else. So a client that comes and goes
+/// costs the others one table in that time (RFC 4271, 8.1.1: DampPeerOscillations).
+pub const REST: u64 = 2;
+
 /// A connection, or the place of one.
 #[derive(Drop)]
 pub struct Connection {
@@ -239,11 +246,14 @@ pub struct ClientConnections {
     pub is_down: bool,
     /// How many were closed for that since somebody has asked.
     pub kept_out: u64,
+    /// When its last connection began, and up to when its connection rests.
+    pub began: u64,
+    pub rests_to: u64,
 }
 
 impl ClientConnections {
     /// A connection begins, and nothing was heard on it.
-    pub(crate) fn begin(&mut self, key: usize)
+    pub(crate) fn begin(&mut self, key: usize, now: u64)
         ensures key { self.new.live.key ≡ Some key }
         ensures empty { self.new.live.out ≡ [] }
         ensures closing { self.new.closing ≡ self.old.closing }
@@ -253,6 +263,19 @@ impl ClientConnections {
         self.live.begin(key);
         self.is_silent = true;
         self.offered = None;
+        self.began = now;
+    }
+
+    /// The connection has ended: where it was short, the next one rests.
+    pub(crate) fn end(&mut self, now: u64)
+        ensures live { self.new.live ≡ self.old.live }
+        ensures closing { self.new.closing ≡ self.old.closing }
+        ensures down { self.new.is_down ≡ self.old.is_down }
+    {
+        self.has_ended = true;
+        if now.saturating_sub(self.began) < SHORT {
+            self.rests_to = now.saturating_add(REST);
+        }
     }
 
     /// The client says these octets: a connection begins with its OPEN.
@@ -373,6 +396,8 @@ pub fn connections(alloc: Global, config: &Config) -> Result<Vec<ClientConnectio
             refused: None,
             is_down: false,
             kept_out: 0,
+            began: 0,
+            rests_to: 0,
         })?;
     }
     Ok(all)

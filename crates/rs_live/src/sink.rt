@@ -42,7 +42,7 @@ impl<'a, P: Ports> LiveLink<'a, P> {
     {
         if let Some(own) = self.connections.get_mut(c) {
             own.closing.close(self.ports);
-            own.begin(key);
+            own.begin(key, self.phase.told);
         }
     }
 

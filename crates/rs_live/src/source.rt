@@ -25,8 +25,9 @@ const PIECES: u32 = 16;
 /// three pieces of 4,096 octets, which name some 3,000 prefixes of 24 bits.
 const OCTETS_A_TURN: usize = 8192;
 
-/// How many times in a row one connection is given room after a turn.
-const ROOMS: u32 = 16;
+/// How many times more one connection is given room after a turn, where it took all: so nobody who takes much keeps
+/// others from being heard.
+const ROOMS: u32 = 1;
 
 /// From so many octets heard since the last turn on, all workers turn; else one does, for most turns are
 /// short, and to start threads costs more than that saves. `bench/turns.py` measures from where on.
@@ -139,6 +140,14 @@ impl<'a, P: Ports> LiveLink<'a, P> {
         }
     }
 
+    /// The client whose turn it is rests, and no session may end by the moment of this round.
+    fn rests(&self) -> bool {
+        match self.connections.get(self.reading) {
+            Some(own) => self.phase.clock < own.rests_to && self.phase.clock <= self.phase.quiet,
+            None => false,
+        }
+    }
+
     /// This client is read, and the next one is to be.
     fn pass_on(&mut self, c: usize)
         ensures same_ports { SamePorts self.old self.new }
@@ -174,6 +183,10 @@ impl<'a, P: Ports> LiveLink<'a, P> {
             for _ in 0..self.connections.len() {
                 if !self.has_to_read() {
                     break;
+                }
+                if self.rests() {
+                    self.reading = self.reading.saturating_add(1);
+                    continue;
                 }
                 match self.piece(piece) {
                     Some(event) => return Some(event),

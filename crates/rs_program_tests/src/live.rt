@@ -7,6 +7,7 @@ mod rate_limits;
 mod recording;
 mod reloading;
 mod reports;
+mod resting;
 mod rounds;
 mod script;
 mod watching;

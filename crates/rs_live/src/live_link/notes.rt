@@ -76,7 +76,7 @@ impl<'a, P: Ports> LiveLink<'a, P> {
         self.ended = self.ended.saturating_add(1);
         self.wide_to = self.phase.told.saturating_add(WIDE);
         if let Some(own) = self.connections.get_mut(c) {
-            own.has_ended = true;
+            own.end(self.phase.told);
         }
     }
 

@@ -24,7 +24,7 @@ const NOTE: &[u8] =
     b"\xff\xff\xff\xff\xff\xff\xff\xff\xff\xff\xff\xff\xff\xff\xff\xff\x00\x15\x03\x06\x02";
 
 /// It ends by an order alone.
-fn endless() -> Limits
+pub fn endless() -> Limits
     ensures { result.workers ≡ 1 }
 {
     Limits {
