@@ -1,6 +1,10 @@
 //! Worked choices, whose values come from the standard's rules and not from the program.
 
+ghost use Rattle.std.specs.Prelude.{◌≢◌};
+
 use crate::{Rank, Step, best, lost_by};
+use std::alloc::Global;
+use std::fmt::Debug;
 use std::process::Abort;
 
 const EQUAL: Rank = Rank {
@@ -14,17 +18,29 @@ const EQUAL: Rank = Rank {
     place: 0,
 };
 
+/// This is found, and this was wanted, of what the text names.
+fn is<T: Debug + PartialEq + Drop>(rt: &impl Abort, found: T, want: T, of: &str) {
+    assert_eq!(rt; found, want, "{of}");
+}
+
+/// The ranks have different places.
+fn differ(rt: &impl Abort, first: Rank, second: Rank)
+    ensures { first.place ≢ second.place }
+{
+    assert!(rt; first.place != second.place);
+}
+
 /// The best of two ranks of different places.
 fn best_of_two(rt: &impl Abort, first: Rank, second: Rank) -> Option<usize> {
-    assert!(rt; first.place != second.place);
+    differ(rt, first, second);
     best(&[first, second])
 }
 
 /// The best of three, each of another place.
 fn best_of_three(rt: &impl Abort, first: Rank, second: Rank, third: Rank) -> Option<usize> {
-    assert!(rt; first.place != second.place);
-    assert!(rt; first.place != third.place);
-    assert!(rt; second.place != third.place);
+    differ(rt, first, second);
+    differ(rt, first, third);
+    differ(rt, second, third);
     best(&[first, second, third])
 }
 
@@ -36,23 +52,23 @@ fn best_of_four(
     third: Rank,
     fourth: Rank,
 ) -> Option<usize> {
-    assert!(rt; first.place != second.place);
-    assert!(rt; first.place != third.place);
-    assert!(rt; first.place != fourth.place);
-    assert!(rt; second.place != third.place);
-    assert!(rt; second.place != fourth.place);
-    assert!(rt; third.place != fourth.place);
+    differ(rt, first, second);
+    differ(rt, first, third);
+    differ(rt, first, fourth);
+    differ(rt, second, third);
+    differ(rt, second, fourth);
+    differ(rt, third, fourth);
     best(&[first, second, third, fourth])
 }
 
 #[test]
 fn nothing_is_best_of_none(rt: HostRuntime) {
-    assert_eq!(rt; best(&[]), None);
+    is(&rt, best(&[]), None, "of none");
 }
 
 #[test]
 fn one_is_best_alone(rt: HostRuntime) {
-    assert_eq!(rt; best(&[EQUAL]), Some(0));
+    is(&rt, best(&[EQUAL]), Some(0), "of one");
 }
 
 #[test]
@@ -63,7 +79,7 @@ fn the_lowest_place_is_best_of_equals(rt: HostRuntime) {
         Rank { place: 1, ..EQUAL },
         Rank { place: 2, ..EQUAL },
     );
-    assert_eq!(rt; answer, Some(1));
+    is(&rt, answer, Some(1), "of equals");
 }
 
 /// MED is not compared across neighbouring AS (RFC 4271, 9.1.2.2 c): the identifier decides.
@@ -86,7 +102,7 @@ fn med_is_not_compared_across_neighbours(rt: HostRuntime) {
             ..EQUAL
         },
     );
-    assert_eq!(rt; answer, Some(0));
+    is(&rt, answer, Some(0), "of two neighbours");
 }
 
 /// Two at a time the first beats the second and the third beats the first, but the first is out
@@ -114,12 +130,42 @@ fn pairwise_comparing_fails(rt: HostRuntime) {
         place: 2,
         ..EQUAL
     };
-    assert_eq!(rt; best_of_three(&rt, first, second, third), Some(1));
-    assert_eq!(rt; best_of_three(&rt, first, third, second), Some(2));
-    assert_eq!(rt; best_of_three(&rt, second, first, third), Some(0));
-    assert_eq!(rt; best_of_three(&rt, second, third, first), Some(0));
-    assert_eq!(rt; best_of_three(&rt, third, first, second), Some(2));
-    assert_eq!(rt; best_of_three(&rt, third, second, first), Some(1));
+    is(
+        &rt,
+        best_of_three(&rt, first, second, third),
+        Some(1),
+        "first, second, third",
+    );
+    is(
+        &rt,
+        best_of_three(&rt, first, third, second),
+        Some(2),
+        "first, third, second",
+    );
+    is(
+        &rt,
+        best_of_three(&rt, second, first, third),
+        Some(0),
+        "second, first, third",
+    );
+    is(
+        &rt,
+        best_of_three(&rt, second, third, first),
+        Some(0),
+        "second, third, first",
+    );
+    is(
+        &rt,
+        best_of_three(&rt, third, first, second),
+        Some(2),
+        "third, first, second",
+    );
+    is(
+        &rt,
+        best_of_three(&rt, third, second, first),
+        Some(1),
+        "third, second, first",
+    );
 }
 
 /// The first in all but MED is out by two that share a lower one, of which the lower identifier wins. A longer
@@ -151,8 +197,10 @@ fn the_lowest_med_of_a_level_may_be_shared(rt: HostRuntime) {
         place: 3,
         ..EQUAL
     };
-    assert_eq!(rt; best_of_four(&rt, longer, higher, late, early), Some(3));
-    assert_eq!(rt; best_of_four(&rt, early, late, higher, longer), Some(0));
+    let answer = best_of_four(&rt, longer, higher, late, early);
+    is(&rt, answer, Some(3), "early last");
+    let answer = best_of_four(&rt, early, late, higher, longer);
+    is(&rt, answer, Some(0), "early first");
 }
 
 /// A missing MED counts 0: it is lower than 1, and equal to 0.
@@ -176,8 +224,8 @@ fn a_missing_med_counts_zero(rt: HostRuntime) {
         place: 1,
         ..EQUAL
     };
-    assert_eq!(rt; best_of_two(&rt, one, missing), Some(1));
-    assert_eq!(rt; best_of_two(&rt, missing, zero), Some(1));
+    is(&rt, best_of_two(&rt, one, missing), Some(1), "beside 1");
+    is(&rt, best_of_two(&rt, missing, zero), Some(1), "beside 0");
 }
 
 /// Worse than `EQUAL` in all but its preference.
@@ -250,10 +298,8 @@ const BETTER: [(&str, Rank); 6] = [
 
 /// This rank is better than `EQUAL`, whichever comes first.
 fn is_better(rt: &impl Abort, better: Rank, respect: &str) {
-    let second = best_of_two(rt, EQUAL, better);
-    assert_eq!(rt; second, Some(1), "by {respect}");
-    let first = best_of_two(rt, better, EQUAL);
-    assert_eq!(rt; first, Some(0), "by {respect}");
+    is(rt, best_of_two(rt, EQUAL, better), Some(1), respect);
+    is(rt, best_of_two(rt, better, EQUAL), Some(0), respect);
 }
 
 #[test]
@@ -262,15 +308,13 @@ fn each_filter_decides_alone(rt: HostRuntime) {
         is_better(&rt, *better, *respect);
     }
     let later = Rank { place: 1, ..EQUAL };
-    assert_eq!(rt; best_of_two(&rt, later, EQUAL), Some(1), "by place");
+    is(&rt, best_of_two(&rt, later, EQUAL), Some(1), "place");
 }
 
 /// By which step the second of two ranks of different places loses.
 fn second_lost_by(rt: &impl Abort, first: Rank, second: Rank) -> Option<Step> {
-    assert!(rt; first.place != second.place);
-    let ranks: &[Rank] = &[first, second];
-    assert!(rt; 1 < ranks.len());
-    lost_by(ranks, 1)
+    differ(rt, first, second);
+    lost_by(&[first, second], 1)
 }
 
 /// Ranks that lose beside `EQUAL`, each worse in one respect and better in those that come later, but for the place.
@@ -354,27 +398,29 @@ const LOSERS: [(Rank, Step, &str); 7] = [
     ),
 ];
 
+/// This rank loses beside `EQUAL` by this step, whose text this is.
+fn loses_by(rt: &impl Abort, alloc: Global, loser: Rank, step: Step, text: &str) {
+    is(rt, second_lost_by(rt, EQUAL, loser), Some(step), text);
+    is(rt, second_lost_by(rt, loser, EQUAL), None, text);
+    let line = format!(in alloc; "{step}").expect(rt, "a text");
+    is(rt, line.as_str(), text, "the text of a step");
+}
+
 #[test]
 fn a_loser_knows_its_step(rt: HostRuntime) {
     for (loser, step, text) in &LOSERS {
-        let found = second_lost_by(&rt, EQUAL, *loser);
-        assert_eq!(rt; found, Some(*step), "for {text}");
-        let best = second_lost_by(&rt, *loser, EQUAL);
-        assert_eq!(rt; best, None, "for {text}");
-        let line = format!(in rt.alloc(); "{step}").expect(&rt, "a text");
-        assert_eq!(rt; line.as_str(), *text);
+        loses_by(&rt, rt.alloc(), *loser, *step, text);
     }
 }
 
 /// By which step one of three ranks of different places loses.
 fn lost_of_three(rt: &impl Abort, ranks: &[Rank; 3], candidate: usize) -> Option<Step> {
-    let (first, second, third) = (ranks[0], ranks[1], ranks[2]);
-    assert!(rt; first.place != second.place);
-    assert!(rt; first.place != third.place);
-    assert!(rt; second.place != third.place);
-    let ranks: &[Rank] = &[first, second, third];
-    assert!(rt; candidate < ranks.len());
-    lost_by(ranks, candidate)
+    let [first, second, third] = *ranks;
+    differ(rt, first, second);
+    differ(rt, first, third);
+    differ(rt, second, third);
+    assert!(rt; candidate < 3);
+    lost_by(&[first, second, third], candidate)
 }
 
 /// The first precedes the best by its BGP Identifier, but is out before by the second's MULTI_EXIT_DISC.
@@ -403,7 +449,13 @@ fn a_rank_is_lost_to_one_that_loses(rt: HostRuntime) {
             ..EQUAL
         },
     ];
-    assert_eq!(rt; lost_of_three(&rt, &ranks, 0), Some(Step::Med));
-    assert_eq!(rt; lost_of_three(&rt, &ranks, 1), Some(Step::Identifier));
-    assert_eq!(rt; lost_of_three(&rt, &ranks, 2), None);
+    is(
+        &rt,
+        lost_of_three(&rt, &ranks, 0),
+        Some(Step::Med),
+        "the first",
+    );
+    let second = lost_of_three(&rt, &ranks, 1);
+    is(&rt, second, Some(Step::Identifier), "the second");
+    is(&rt, lost_of_three(&rt, &ranks, 2), None, "the best");
 }
