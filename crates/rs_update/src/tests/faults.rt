@@ -55,75 +55,65 @@ const OF_NLRI: [(&str, &str, u8, Cause); 6] = [
     ),
 ];
 
-#[test]
-fn why_routes_are_treated_as_withdraw(rt: HostRuntime) -> Result<(), Fail> {
-    let alloc = rt.alloc();
-    for (shows, body, kind, cause) in OF_NLRI {
-        let body = octets(alloc, body)?;
-        let Outcome::Change { faulted, .. } = effect(alloc, &body, Mode::Four)? else {
-            return Err(Fail::from("a reset"));
-        };
-        assert_eq!(rt; faulted, withdraws(kind, cause), "{shows}");
-    }
-    Ok(())
-}
-
-#[test]
-fn nothing_is_missing_where_nothing_is_announced(rt: HostRuntime) -> Result<(), Fail> {
-    let alloc = rt.alloc();
-    for body in [
-        "0000 0000",
-        "0004 18c63364 0000",
-        "0000 0004 40010100",
-        "0000 0014 A 18c63364",
-    ] {
-        let octets = octets(alloc, body)?;
-        let Outcome::Change { faulted, .. } = effect(alloc, &octets, Mode::Four)? else {
-            return Err(Fail::from("a reset"));
-        };
-        assert_eq!(rt; faulted, NOTHING, "{body}");
-    }
-    Ok(())
-}
-
-#[test]
-fn routes_in_mp_reach_nlri_are_noted(rt: HostRuntime) -> Result<(), Fail> {
-    let alloc = rt.alloc();
-    // 2001:db8::/32, beside a route of IPv4 and alone
-    for body in [
-        "0000 0031 A 800e1a 0002 01 10 20010db8000000000000000000000001 00 2020010db8 18c63364",
-        "0000 001d 800e1a 0002 01 10 20010db8000000000000000000000001 00 2020010db8",
-    ] {
-        let octets = octets(alloc, body)?;
-        let Outcome::Change { faulted, .. } = effect(alloc, &octets, Mode::Four)? else {
-            return Err(Fail::from("a reset"));
-        };
-        let noted = Faulted {
-            mp_reach: true,
-            ..NOTHING
-        };
-        assert_eq!(rt; faulted, noted, "{body}");
-    }
-    Ok(())
-}
-
-#[test]
-fn an_attribute_is_missing_beside_one_that_is_discarded(rt: HostRuntime) -> Result<(), Fail> {
-    let alloc = rt.alloc();
-    let body = octets(
-        alloc,
-        "0000 0011 40010100 40020602010000fbf0 40060100 18c63364",
-    )?;
-    let Outcome::Change { faulted, .. } = effect(alloc, &body, Mode::Four)? else {
-        return Err(Fail::from("a reset"));
+/// This is noted of the UPDATE with this body in hex, which is no reset.
+fn noted(rt: &impl Abort, alloc: Global, body: &str, want: Faulted, of: &str) {
+    let octets = octets(rt, alloc, body);
+    let outcome = effect(alloc, &octets, Mode::Four).expect(rt, "memory");
+    let found = match outcome {
+        Outcome::Change { faulted, .. } => Some(faulted),
+        Outcome::Reset(_, _) => None,
     };
-    let noted = Faulted {
+    is(rt, found, Some(want), of);
+}
+
+#[test]
+fn why_routes_are_treated_as_withdraw(rt: HostRuntime) {
+    for (shows, body, kind, cause) in OF_NLRI {
+        noted(&rt, rt.alloc(), body, withdraws(kind, cause), shows);
+    }
+}
+
+/// UPDATEs that announce nothing, or with all that is mandatory.
+const WHOLE: [&str; 4] = [
+    "0000 0000",
+    "0004 18c63364 0000",
+    "0000 0004 40010100",
+    "0000 0014 A 18c63364",
+];
+
+#[test]
+fn nothing_is_missing_where_nothing_is_announced(rt: HostRuntime) {
+    for body in WHOLE {
+        noted(&rt, rt.alloc(), body, NOTHING, body);
+    }
+}
+
+/// 2001:db8::/32, beside a route of IPv4 and alone.
+const OF_IPV6: [&str; 2] = [
+    "0000 0031 A 800e1a 0002 01 10 20010db8000000000000000000000001 00 2020010db8 18c63364",
+    "0000 001d 800e1a 0002 01 10 20010db8000000000000000000000001 00 2020010db8",
+];
+
+#[test]
+fn routes_in_mp_reach_nlri_are_noted(rt: HostRuntime) {
+    let want = Faulted {
+        mp_reach: true,
+        ..NOTHING
+    };
+    for body in OF_IPV6 {
+        noted(&rt, rt.alloc(), body, want, body);
+    }
+}
+
+#[test]
+fn an_attribute_is_missing_beside_one_that_is_discarded(rt: HostRuntime) {
+    let want = Faulted {
         discard: Some(AttributeFault {
             kind: 6,
             cause: Cause::Length,
         }),
         ..withdraws(3, Cause::Missing)
     };
-    assert_eq!(rt; faulted, noted);
-    Ok(())
+    let body = "0000 0011 40010100 40020602010000fbf0 40060100 18c63364";
+    noted(&rt, rt.alloc(), body, want, body);
 }

@@ -78,8 +78,8 @@ const OF_RESETS: [Row; 16] = [
 ];
 
 #[test]
-fn each_reset(rt: HostRuntime) -> Result<(), Fail> {
-    hold(&rt, rt.alloc(), Mode::Four, &OF_RESETS)
+fn each_reset(rt: HostRuntime) {
+    hold(&rt, rt.alloc(), Mode::Four, &OF_RESETS);
 }
 
 const OF_TWO_RESETS: [Row; 10] = [
@@ -136,6 +136,6 @@ const OF_TWO_RESETS: [Row; 10] = [
 ];
 
 #[test]
-fn the_first_of_two_resets(rt: HostRuntime) -> Result<(), Fail> {
-    hold(&rt, rt.alloc(), Mode::Four, &OF_TWO_RESETS)
+fn the_first_of_two_resets(rt: HostRuntime) {
+    hold(&rt, rt.alloc(), Mode::Four, &OF_TWO_RESETS);
 }

@@ -91,8 +91,8 @@ const OF_ONE_ROUTE: [Row; 17] = [
 ];
 
 #[test]
-fn one_route_by_its_attributes(rt: HostRuntime) -> Result<(), Fail> {
-    hold(&rt, rt.alloc(), Mode::Four, &OF_ONE_ROUTE)
+fn one_route_by_its_attributes(rt: HostRuntime) {
+    hold(&rt, rt.alloc(), Mode::Four, &OF_ONE_ROUTE);
 }
 
 const OF_SETS: [Row; 13] = [
@@ -164,8 +164,8 @@ const OF_SETS: [Row; 13] = [
 ];
 
 #[test]
-fn each_prefix_once_in_one_list(rt: HostRuntime) -> Result<(), Fail> {
-    hold(&rt, rt.alloc(), Mode::Four, &OF_SETS)
+fn each_prefix_once_in_one_list(rt: HostRuntime) {
+    hold(&rt, rt.alloc(), Mode::Four, &OF_SETS);
 }
 
 const OF_TWO_OCTET_PEERS: [Row; 4] = [
@@ -192,33 +192,32 @@ const OF_TWO_OCTET_PEERS: [Row; 4] = [
 ];
 
 #[test]
-fn routes_of_two_octet_peers(rt: HostRuntime) -> Result<(), Fail> {
-    hold(&rt, rt.alloc(), Mode::Two, &OF_TWO_OCTET_PEERS)
+fn routes_of_two_octet_peers(rt: HostRuntime) {
+    hold(&rt, rt.alloc(), Mode::Two, &OF_TWO_OCTET_PEERS);
 }
 
 #[test]
-fn an_as_path_without_segments_has_length_0(rt: HostRuntime) -> Result<(), Fail> {
+fn an_as_path_without_segments_has_length_0(rt: HostRuntime) {
     let alloc = rt.alloc();
-    let body = octets(alloc, "0000 000e 40010100 400200 400304c000020b 18c63364")?;
-    let outcome = effect(alloc, &body, Mode::Four)?;
-    let Outcome::Change { attrs, .. } = &outcome else {
-        return Err(Fail::from("a reset"));
+    let text = "0000 000e 40010100 400200 400304c000020b 18c63364";
+    let body = octets(&rt, alloc, text);
+    let outcome = effect(alloc, &body, Mode::Four).expect(&rt, "memory");
+    let length = match &outcome {
+        Outcome::Change {
+            attrs: Some(attrs),
+            ..
+        } => Some(attrs.path_len()),
+        _ => None,
     };
-    let length = attrs.as_ref().map(|attrs| attrs.path_len());
-    assert_eq!(rt; length, Some(0));
-    Ok(())
+    is(&rt, length, Some(0), "the length of AS_PATH");
 }
 
 #[test]
-fn the_longest_field_of_the_shortest_prefixes(rt: HostRuntime) -> Result<(), Fail> {
+fn the_longest_field_of_the_shortest_prefixes(rt: HostRuntime) {
     let alloc = rt.alloc();
-    let mut body = octets(alloc, "fffb")?;
-    body.resize(65_533, 0)?;
-    body.extend_from_slice(&[0, 0])?;
-    let outcome = effect(alloc, &body, Mode::Four)?;
-    assert_eq!(rt;
-        in_words(alloc, &outcome)?.as_str(),
-        "withdrawn 0.0.0.0/0; announced nothing"
-    );
-    Ok(())
+    let mut body = octets(&rt, alloc, "fffb");
+    body.resize(65_533, 0).expect(&rt, "octets");
+    put(&rt, &mut body, &[0, 0]);
+    let answer = "withdrawn 0.0.0.0/0; announced nothing";
+    does(&rt, alloc, Mode::Four, &body, answer, "no bits");
 }
