@@ -3,9 +3,14 @@
 use crate::{Packed, fits, pack_announced, pack_withdrawn, try_pack_announced};
 use rs_attrs::{Attrs, Mode, read};
 use rs_octets::Prefix;
-use std::alloc::{AllocError, Global};
+use std::alloc::Global;
+use std::fmt::Debug;
 use std::process::Abort;
-use std::test::Fail;
+
+/// This is found, and this was wanted, of what the text names.
+fn is<T: Debug + PartialEq + Drop>(rt: &impl Abort, found: T, want: T, of: &str) {
+    assert_eq!(rt; found, want, "{of}");
+}
 
 /// ORIGIN IGP, AS_PATH 64496, NEXT_HOP 192.0.2.11, as a four-octet peer spells them.
 const ROUTE: [u8; 20] = [
@@ -18,19 +23,28 @@ fn prefix(rt: &impl Abort, bits: u32, len: u8) -> Prefix {
 }
 
 /// The attributes that a four-octet peer spells so.
-fn attrs(alloc: Global, field: &[u8]) -> Result<Attrs, AllocError> {
-    Ok(read(alloc, field, Mode::Four)?.attrs)
+fn attrs(rt: &impl Abort, alloc: Global, field: &[u8]) -> Attrs {
+    read(alloc, field, Mode::Four).expect(rt, "memory").attrs
 }
 
 /// So many prefixes of length 24, from 10.0.0.0/24 on.
-fn prefixes(alloc: Global, count: u32) -> Result<Vec<Prefix>, AllocError> {
+fn prefixes(rt: &impl Abort, alloc: Global, count: u32) -> Vec<Prefix> {
     let mut all = Vec::new(alloc);
     for i in 0..count.min(65536) {
-        if let Some(prefix) = Prefix::new(0x0a00_0000 + 256 * i, 24) {
-            all.push(prefix)?;
-        }
+        let next = prefix(rt, 0x0a00_0000 + 256 * i, 24);
+        all.push(next).expect(rt, "a prefix");
     }
-    Ok(all)
+    all
+}
+
+/// Room for the longest message.
+fn long_room(rt: &impl Abort, alloc: Global) -> Vec<u8> {
+    Vec::from_elem(alloc, 0, 65535).expect(rt, "room")
+}
+
+/// Puts octets behind others.
+fn put(rt: &impl Abort, octets: &mut Vec<u8>, more: &[u8]) {
+    octets.extend_from_slice(more).expect(rt, "octets");
 }
 
 /// What the packer answers, where its conditions hold.
@@ -53,146 +67,183 @@ fn withdrawn(prefixes: &[Prefix], out: &mut [u8]) -> Option<Packed> {
     Some(pack_withdrawn(prefixes, out))
 }
 
-fn has(packed: Option<Packed>, octets: usize, prefixes: usize) -> bool {
-    packed == Some(Packed { octets, prefixes })
+/// So many octets and prefixes were packed.
+fn has(rt: &impl Abort, packed: Option<Packed>, octets: usize, prefixes: usize) {
+    is(rt, packed, Some(Packed { octets, prefixes }), "packed");
 }
 
+/// These octets stand at this place.
+fn stands(rt: &impl Abort, out: &[u8], at: usize, octets: &[u8]) {
+    let rest = out.get(at..).unwrap_or(&[]);
+    is(rt, rest.get(..octets.len()), Some(octets), "octets");
+}
+
+/// The marker stands at the front, and behind it these pieces.
+fn has_pieces(rt: &impl Abort, out: &[u8], pieces: &[&[u8]]) {
+    stands(rt, out, 0, &[255; 16]);
+    let mut at = 16usize;
+    for piece in pieces {
+        stands(rt, out, at, piece);
+        at = at.saturating_add(piece.len());
+    }
+}
+
+/// Whether the attributes fit with a prefix into so many octets.
+fn fits_into(rt: &impl Abort, attrs: &Attrs, mode: Mode, octets: usize, want: bool) {
+    let prefix = prefix(rt, 0xc633_6400, 24);
+    let found = fits(attrs, mode, &prefix, octets);
+    is(rt, (octets, found), (octets, want), "whether it fits");
+}
+
+/// The header, the lengths of the fields, the attributes, and the prefix with an octet behind it.
+const ANNOUNCEMENT: [&[u8]; 3] = [
+    b"\x00\x2f\x02\x00\x00\x00\x14",
+    &ROUTE,
+    b"\x18\xc6\x33\x64\x07",
+];
+
 #[test]
-fn writes_an_announcement(rt: HostRuntime) -> Result<(), Fail> {
-    let attrs = attrs(rt.alloc(), &ROUTE)?;
+fn writes_an_announcement(rt: HostRuntime) {
+    let attrs = attrs(&rt, rt.alloc(), &ROUTE);
     let mut out = [7; 4096];
     let prefix = prefix(&rt, 0xc633_6400, 24);
     let packed = announced(&attrs, &[prefix], &mut out);
-    assert!(rt; has(packed, 47, 1));
-    assert!(rt; out[..16].starts_with(&[255; 16]));
-    assert!(rt; out[16..23].starts_with(b"\x00\x2f\x02\x00\x00\x00\x14"));
-    assert!(rt; out[23..43].starts_with(&ROUTE));
-    assert!(rt; out[43..48].starts_with(b"\x18\xc6\x33\x64\x07"));
-    Ok(())
+    has(&rt, packed, 47, 1);
+    has_pieces(&rt, &out, &ANNOUNCEMENT);
 }
 
+/// The same to a two-octet peer: ORIGIN, AS_PATH with AS_TRANS, NEXT_HOP, AS4_PATH.
+const ANNOUNCEMENT_IN_TWO: [&[u8]; 6] = [
+    b"\x00\x3c\x02\x00\x00\x00\x21",
+    b"\x40\x01\x01\x00",
+    b"\x40\x02\x06\x02\x02\xfb\xf0\x5b\xa0",
+    b"\x40\x03\x04\xc0\x00\x02\x0b",
+    b"\xc0\x11\x0a\x02\x02\x00\x00\xfb\xf0\xfa\x56\xea\x00",
+    b"\x18\xc6\x33\x64\x07",
+];
+
 #[test]
-fn writes_an_announcement_to_a_two_octet_peer(rt: HostRuntime) -> Result<(), Fail> {
+fn writes_an_announcement_to_a_two_octet_peer(rt: HostRuntime) {
     let field =
         b"\x40\x01\x01\x00\x40\x02\x0a\x02\x02\x00\x00\xfb\xf0\xfa\x56\xea\x00\x40\x03\x04\xc0\x00\x02\x0b";
-    let attrs = attrs(rt.alloc(), field)?;
+    let attrs = attrs(&rt, rt.alloc(), field);
     let mut out = [7; 4096];
     let prefix = prefix(&rt, 0xc633_6400, 24);
     let packed = announced_in(Mode::Two, &attrs, &[prefix], &mut out);
-    assert!(rt; has(packed, 60, 1));
-    assert!(rt; out[..16].starts_with(&[255; 16]));
-    assert!(rt; out[16..23].starts_with(b"\x00\x3c\x02\x00\x00\x00\x21"));
-    // ORIGIN, AS_PATH with AS_TRANS, NEXT_HOP, AS4_PATH
-    assert!(rt; out[23..27].starts_with(b"\x40\x01\x01\x00"));
-    assert!(rt; out[27..36].starts_with(b"\x40\x02\x06\x02\x02\xfb\xf0\x5b\xa0"));
-    assert!(rt; out[36..43].starts_with(b"\x40\x03\x04\xc0\x00\x02\x0b"));
-    assert!(rt; out[43..56].starts_with(b"\xc0\x11\x0a\x02\x02\x00\x00\xfb\xf0\xfa\x56\xea\x00"));
-    assert!(rt; out[56..61].starts_with(b"\x18\xc6\x33\x64\x07"));
-    Ok(())
+    has(&rt, packed, 60, 1);
+    has_pieces(&rt, &out, &ANNOUNCEMENT_IN_TWO);
 }
+
+/// The header, the lengths of the fields and the prefix, with an octet behind them.
+const WITHDRAWAL: [&[u8]; 1] = [b"\x00\x1b\x02\x00\x04\x18\xc6\x33\x64\x00\x00\x07"];
 
 #[test]
 fn writes_a_withdrawal(rt: HostRuntime) {
     let mut out = [7; 4096];
     let prefix = prefix(&rt, 0xc633_6400, 24);
     let packed = withdrawn(&[prefix], &mut out);
-    assert!(rt; has(packed, 27, 1));
-    assert!(rt; out[..16].starts_with(&[255; 16]));
-    assert!(rt; out[16..28].starts_with(b"\x00\x1b\x02\x00\x04\x18\xc6\x33\x64\x00\x00\x07"));
+    has(&rt, packed, 27, 1);
+    has_pieces(&rt, &out, &WITHDRAWAL);
 }
 
 #[test]
-fn announces_the_longest_front(rt: HostRuntime) -> Result<(), Fail> {
-    let attrs = attrs(rt.alloc(), &ROUTE)?;
-    let mut list = prefixes(rt.alloc(), 1014)?;
-    assert_eq!(rt; list.len(), 1014);
+fn announces_the_longest_front(rt: HostRuntime) {
+    let attrs = attrs(&rt, rt.alloc(), &ROUTE);
+    let mut list = prefixes(&rt, rt.alloc(), 1014);
+    is(&rt, list.len(), 1014, "prefixes");
     let mut out = [0; 4096];
-    let packed = announced(&attrs, &list, &mut out);
-    assert!(rt; has(packed, 4095, 1013));
-    let packed = announced(&attrs, &list[1013..], &mut out);
-    assert!(rt; has(packed, 47, 1));
+    has(&rt, announced(&attrs, &list, &mut out), 4095, 1013);
+    let last = list.get(1013..).unwrap_or(&[]);
+    has(&rt, announced(&attrs, last, &mut out), 47, 1);
     // 0.0.0.0/0 before the last, which needs one octet
-    list.insert(1013, prefix(&rt, 0, 0))?;
-    let packed = announced(&attrs, &list, &mut out);
-    assert!(rt; has(packed, 4096, 1014));
-    Ok(())
+    list.truncate(1013);
+    let zero = prefix(&rt, 0, 0);
+    let last = prefix(&rt, 0x0a03_f500, 24);
+    list.extend_from_slice(&[zero, last])
+        .expect(&rt, "prefixes");
+    has(&rt, announced(&attrs, &list, &mut out), 4096, 1014);
 }
 
 #[test]
-fn fills_long_messages(rt: HostRuntime) -> Result<(), Fail> {
-    let attrs = attrs(rt.alloc(), &ROUTE)?;
-    let mut out = vec![in rt.alloc(); 0u8; 65535]?;
-    let list = prefixes(rt.alloc(), 16374)?;
-    let packed = announced(&attrs, &list, &mut out);
-    assert!(rt; has(packed, 65535, 16373));
-    let list = prefixes(rt.alloc(), 16379)?;
-    let packed = withdrawn(&list, &mut out);
-    assert!(rt; has(packed, 65535, 16378));
-    Ok(())
+fn fills_long_messages(rt: HostRuntime) {
+    let attrs = attrs(&rt, rt.alloc(), &ROUTE);
+    let mut out = long_room(&rt, rt.alloc());
+    let list = prefixes(&rt, rt.alloc(), 16374);
+    has(&rt, announced(&attrs, &list, &mut out), 65535, 16373);
+    let list = prefixes(&rt, rt.alloc(), 16379);
+    has(&rt, withdrawn(&list, &mut out), 65535, 16378);
 }
 
 #[test]
-fn fits_up_to_the_limit(rt: HostRuntime) -> Result<(), Fail> {
-    let attrs = attrs(rt.alloc(), &ROUTE)?;
-    let prefix = prefix(&rt, 0xc633_6400, 24);
-    assert!(rt; fits(&attrs, Mode::Four, &prefix, 50));
-    assert!(rt; fits(&attrs, Mode::Four, &prefix, 47));
-    assert!(rt; !fits(&attrs, Mode::Four, &prefix, 46));
-    assert!(rt; !fits(&attrs, Mode::Four, &prefix, 0));
-    Ok(())
+fn fits_up_to_the_limit(rt: HostRuntime) {
+    let attrs = attrs(&rt, rt.alloc(), &ROUTE);
+    fits_into(&rt, &attrs, Mode::Four, 50, true);
+    fits_into(&rt, &attrs, Mode::Four, 47, true);
+    fits_into(&rt, &attrs, Mode::Four, 46, false);
+    fits_into(&rt, &attrs, Mode::Four, 0, false);
+}
+
+/// What is announced of three prefixes, or of none, where the first fits.
+fn tried(attrs: &Attrs, prefixes: &[Prefix], out: &mut [u8]) -> Option<Packed> {
+    if out.len() > 65535 {
+        return None;
+    }
+    try_pack_announced(attrs, Mode::Four, prefixes, out)
 }
 
 #[test]
-fn announces_only_where_the_first_fits(rt: HostRuntime) -> Result<(), Fail> {
-    let attrs = attrs(rt.alloc(), &ROUTE)?;
-    let list = prefixes(rt.alloc(), 3)?;
-    assert_eq!(rt; list.len(), 3);
+fn announces_only_where_the_first_fits(rt: HostRuntime) {
+    let attrs = attrs(&rt, rt.alloc(), &ROUTE);
+    let list = prefixes(&rt, rt.alloc(), 3);
+    is(&rt, list.len(), 3, "prefixes");
     let mut short = [7; 46];
-    let packed = try_pack_announced(&attrs, Mode::Four, &list, &mut short);
-    assert!(rt; packed.is_none());
-    assert!(rt; short.iter().all(|octet| *octet == 7));
+    is(&rt, tried(&attrs, &list, &mut short), None, "packed");
+    is(&rt, short, [7; 46], "octets");
     let mut exact = [7; 47];
-    let packed = try_pack_announced(&attrs, Mode::Four, &[], &mut exact);
-    assert!(rt; packed.is_none());
-    let packed = try_pack_announced(&attrs, Mode::Four, &list, &mut exact);
-    assert!(rt; has(packed, 47, 1));
+    is(&rt, tried(&attrs, &[], &mut exact), None, "packed of none");
+    has(&rt, tried(&attrs, &list, &mut exact), 47, 1);
     let mut out = [7; 54];
-    let packed = try_pack_announced(&attrs, Mode::Four, &list, &mut out);
-    assert!(rt; has(packed, 51, 2));
-    assert!(rt; out[43..].starts_with(b"\x18\x0a\x00\x00\x18\x0a\x00\x01\x07\x07\x07"));
-    Ok(())
+    has(&rt, tried(&attrs, &list, &mut out), 51, 2);
+    let two = b"\x18\x0a\x00\x00\x18\x0a\x00\x01\x07\x07\x07";
+    stands(&rt, &out, 43, two);
 }
 
 /// ORIGIN IGP, a path of 700 times 4200000000 in sequences of 255, 255 and 190, NEXT_HOP 192.0.2.11.
-fn long_path(alloc: Global) -> Result<Vec<u8>, AllocError> {
+fn long_path(rt: &impl Abort, alloc: Global) -> Vec<u8> {
     let mut field = Vec::new(alloc);
-    field.extend_from_slice(b"\x40\x01\x01\x00\x50\x02\x0a\xf6")?;
+    put(rt, &mut field, b"\x40\x01\x01\x00\x50\x02\x0a\xf6");
     for count in [255u8, 255, 190] {
-        field.extend_from_slice(&[2, count])?;
+        put(rt, &mut field, &[2, count]);
         for _ in 0..count {
-            field.extend_from_slice(b"\xfa\x56\xea\x00")?;
+            put(rt, &mut field, b"\xfa\x56\xea\x00");
         }
     }
-    field.extend_from_slice(b"\x40\x03\x04\xc0\x00\x02\x0b")?;
-    Ok(field)
+    put(rt, &mut field, b"\x40\x03\x04\xc0\x00\x02\x0b");
+    field
 }
 
 #[test]
-fn long_path_fits_into_a_long_message_alone(rt: HostRuntime) -> Result<(), Fail> {
-    let field = long_path(rt.alloc())?;
-    assert_eq!(rt; field.len(), 2821);
-    let attrs = attrs(rt.alloc(), &field)?;
-    let prefix = prefix(&rt, 0xc633_6400, 24);
-    let mut out = vec![in rt.alloc(); 0u8; 65535]?;
-    let packed = announced_in(Mode::Four, &attrs, &[prefix], &mut out[..4096]);
-    assert!(rt; has(packed, 2848, 1));
-    assert!(rt; fits(&attrs, Mode::Four, &prefix, 4096));
-    assert!(rt; !fits(&attrs, Mode::Two, &prefix, 4096));
-    assert!(rt; !fits(&attrs, Mode::Two, &prefix, 4257));
-    assert!(rt; fits(&attrs, Mode::Two, &prefix, 4258));
-    assert!(rt; fits(&attrs, Mode::Two, &prefix, 65535));
-    let packed = announced_in(Mode::Two, &attrs, &[prefix], &mut out);
-    assert!(rt; has(packed, 4258, 1));
-    assert!(rt; out[16..23].starts_with(b"\x10\xa2\x02\x00\x00\x10\x87"));
-    Ok(())
+fn a_long_path_is_announced_in_a_long_message(rt: HostRuntime) {
+    let field = long_path(&rt, rt.alloc());
+    is(&rt, field.len(), 2821, "octets of the path");
+    let attrs = attrs(&rt, rt.alloc(), &field);
+    let list = [prefix(&rt, 0xc633_6400, 24)];
+    let mut short = [0; 4096];
+    let packed = announced_in(Mode::Four, &attrs, &list, &mut short);
+    has(&rt, packed, 2848, 1);
+    let mut out = long_room(&rt, rt.alloc());
+    let packed = announced_in(Mode::Two, &attrs, &list, &mut out);
+    has(&rt, packed, 4258, 1);
+    stands(&rt, &out, 16, b"\x10\xa2\x02\x00\x00\x10\x87");
+}
+
+#[test]
+fn a_long_path_fits_into_a_long_message_alone(rt: HostRuntime) {
+    let field = long_path(&rt, rt.alloc());
+    let attrs = attrs(&rt, rt.alloc(), &field);
+    fits_into(&rt, &attrs, Mode::Four, 4096, true);
+    fits_into(&rt, &attrs, Mode::Two, 4096, false);
+    fits_into(&rt, &attrs, Mode::Two, 4257, false);
+    fits_into(&rt, &attrs, Mode::Two, 4258, true);
+    fits_into(&rt, &attrs, Mode::Two, 65535, true);
 }
