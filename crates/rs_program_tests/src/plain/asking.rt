@@ -23,12 +23,13 @@ use crate::plain::choice::due;
 use crate::plain::communities::Part;
 use crate::plain::meaning::{Meaning, Reader, read_octets};
 use crate::plain::passing::is_passed_on;
-use crate::plain::rules::{Numbers, Range, Rule, Stripped};
+use crate::plain::rules::{Lists, Numbers, Range, Rule, Stripped};
 use crate::plain::{Client, Exchange, Filter, Route, Sentence, Session, route_at};
 use rs_attrs::Mode;
 use rs_octets::Prefix;
 use std::alloc::{AllocError, Global};
 use std::io::{BufRead, BufReader};
+use std::mem;
 use std::test::Fail;
 
 /// The octets that passed between a client and the server.
@@ -45,13 +46,8 @@ struct Case {
     alloc: Global,
     exchange: Exchange,
     links: Vec<Link>,
-    prefix_in: Option<Vec<Range>>,
-    path_in: Option<Vec<Numbers>>,
-    origin_in: Option<Vec<Numbers>>,
-    community: Option<Vec<Part>>,
-    large_community: Option<Vec<Part>>,
-    strip: Option<Stripped>,
-    strip_large: Option<Stripped>,
+    /// Those of the next rule.
+    lists: Lists,
     extended: bool,
     refresh: bool,
     without: Option<Sentence>,
@@ -75,30 +71,33 @@ fn number(words: &[&str], at: usize) -> Option<u32> {
 }
 
 fn yes(words: &[&str], at: usize) -> Option<bool> {
-    number(words, at).map(|it| it == 1)
+    Some(number(words, at)? == 1)
 }
 
+/// Sentences by the names that a case gives them.
+const SENTENCES: [(&str, Sentence); 16] = [
+    ("last-mention", Sentence::LastMention),
+    ("established", Sentence::Established),
+    ("of-another", Sentence::OfAnother),
+    ("servers-as", Sentence::ServersAs),
+    ("import", Sentence::Import),
+    ("export", Sentence::Export),
+    ("receiver", Sentence::Receiver),
+    ("stripped", Sentence::Stripped),
+    ("fits", Sentence::Fits),
+    ("preference", Sentence::Filter(Filter::Preference)),
+    ("path", Sentence::Filter(Filter::Path)),
+    ("origin", Sentence::Filter(Filter::Origin)),
+    ("med", Sentence::Filter(Filter::Med)),
+    ("identifier", Sentence::Filter(Filter::Identifier)),
+    ("address", Sentence::Filter(Filter::Address)),
+    ("place", Sentence::Filter(Filter::Place)),
+];
+
 fn sentence(name: &str) -> Option<Sentence> {
-    for (known, sentence) in [
-        ("last-mention", Sentence::LastMention),
-        ("established", Sentence::Established),
-        ("of-another", Sentence::OfAnother),
-        ("servers-as", Sentence::ServersAs),
-        ("import", Sentence::Import),
-        ("export", Sentence::Export),
-        ("receiver", Sentence::Receiver),
-        ("stripped", Sentence::Stripped),
-        ("fits", Sentence::Fits),
-        ("preference", Sentence::Filter(Filter::Preference)),
-        ("path", Sentence::Filter(Filter::Path)),
-        ("origin", Sentence::Filter(Filter::Origin)),
-        ("med", Sentence::Filter(Filter::Med)),
-        ("identifier", Sentence::Filter(Filter::Identifier)),
-        ("address", Sentence::Filter(Filter::Address)),
-        ("place", Sentence::Filter(Filter::Place)),
-    ] {
-        if name == known {
-            return Some(sentence);
+    for (known, sentence) in &SENTENCES {
+        if name == *known {
+            return Some(*sentence);
         }
     }
     None
@@ -141,7 +140,10 @@ fn part(word: &str) -> Option<Part> {
     match word {
         "*" => Some(Part::Any),
         "peer" => Some(Part::Peer),
-        _ => word.parse::<u32>().ok().map(|number| Part::Number(number)),
+        _ => match word.parse::<u32>() {
+            Ok(number) => Some(Part::Number(number)),
+            Err(_) => None,
+        },
     }
 }
 
@@ -164,22 +166,32 @@ fn stripped(alloc: Global, words: &[&str]) -> Result<Stripped, AllocError> {
     })
 }
 
-/// These, or nothing.
-fn or_nothing(alloc: Global, stripped: Option<Stripped>) -> Stripped {
-    match stripped {
-        Some(stripped) => stripped,
-        None => Stripped {
-            all: false,
-            patterns: Vec::new(alloc),
-        },
-    }
-}
-
 /// The octets of a word of hexadecimal digits; none where it isn't there.
 fn octets(alloc: Global, words: &[&str]) -> Vec<u8> {
     match words.get(1) {
         Some(word) => hex::decode(alloc, *word).unwrap_or(Vec::new(alloc)),
         None => Vec::new(alloc),
+    }
+}
+
+/// The place of a client that a word says.
+fn place(words: &[&str], at: usize) -> Option<usize> {
+    Some(number(words, at)? as usize)
+}
+
+/// The rule that words say, with these lists.
+fn rule(words: &[&str], lists: Lists) -> Rule {
+    Rule {
+        range: range(words.get(3..).unwrap_or(&[])),
+        from: place(words, 7),
+        path_has: number(words, 8),
+        path_longer: number(words, 9),
+        origin_as: number(words, 10),
+        first_as_is_peer: yes(words, 11),
+        next_hop_is_peer: yes(words, 12),
+        lists,
+        passes: yes(words, 1) == Some(true),
+        preference: number(words, 2),
     }
 }
 
@@ -193,13 +205,7 @@ impl Case {
                 clients: Vec::new(alloc),
             },
             links: Vec::new(alloc),
-            prefix_in: None,
-            path_in: None,
-            origin_in: None,
-            community: None,
-            large_community: None,
-            strip: None,
-            strip_large: None,
+            lists: Lists::none(alloc),
             extended: false,
             refresh: false,
             without: None,
@@ -232,24 +238,8 @@ impl Case {
     }
 
     fn rule(&mut self, words: &[&str], is_import: bool) -> Result<(), AllocError> {
-        let rule = Rule {
-            range: words.get(3..).and_then(range),
-            prefix_in: self.prefix_in.take(),
-            from: number(words, 7).map(|it| it as usize),
-            path_has: number(words, 8),
-            path_longer: number(words, 9),
-            path_in: self.path_in.take(),
-            origin_as: number(words, 10),
-            origin_in: self.origin_in.take(),
-            first_as_is_peer: yes(words, 11),
-            community: self.community.take(),
-            large_community: self.large_community.take(),
-            next_hop_is_peer: yes(words, 12),
-            passes: yes(words, 1) == Some(true),
-            preference: number(words, 2),
-            strip: or_nothing(self.alloc, self.strip.take()),
-            strip_large: or_nothing(self.alloc, self.strip_large.take()),
-        };
+        let lists = mem::replace(&mut self.lists, Lists::none(self.alloc));
+        let rule = rule(words, lists);
         if let Some(client) = self.exchange.clients.last_mut() {
             let list = if is_import {
                 &mut client.import
@@ -278,25 +268,34 @@ impl Case {
         }
     }
 
+    /// A list of the next rule.
+    fn list(&mut self, words: &[&str]) -> Result<(), AllocError> {
+        let (alloc, lists) = (self.alloc, &mut self.lists);
+        match words.first().copied().unwrap_or("") {
+            "prefix_in" => lists.prefix_in = Some(ranges(alloc, words)?),
+            "path_in" => lists.path_in = Some(numbers(alloc, words)?),
+            "origin_in" => lists.origin_in = Some(numbers(alloc, words)?),
+            "community" => lists.community = Some(parts(alloc, words)?),
+            "large_community" => lists.large_community = Some(parts(alloc, words)?),
+            "strip" => lists.strip = stripped(alloc, words)?,
+            "strip_large" => lists.strip_large = stripped(alloc, words)?,
+            _ => {}
+        }
+        Ok(())
+    }
+
     /// One line more, but for `end`.
     fn take(&mut self, words: &[&str]) -> Result<(), AllocError> {
         match words.first().copied().unwrap_or("") {
             "server" => self.server(words),
             "without" => self.without = sentence(words.get(1).copied().unwrap_or("")),
             "client" => self.client(words)?,
-            "prefix_in" => self.prefix_in = Some(ranges(self.alloc, words)?),
-            "path_in" => self.path_in = Some(numbers(self.alloc, words)?),
-            "origin_in" => self.origin_in = Some(numbers(self.alloc, words)?),
-            "community" => self.community = Some(parts(self.alloc, words)?),
-            "large_community" => self.large_community = Some(parts(self.alloc, words)?),
-            "strip" => self.strip = Some(stripped(self.alloc, words)?),
-            "strip_large" => self.strip_large = Some(stripped(self.alloc, words)?),
             "import" => self.rule(words, true)?,
             "export" => self.rule(words, false)?,
             "heard" => self.link(words, true),
             "sent" => self.link(words, false),
             "closed" => self.close(),
-            _ => {}
+            _ => self.list(words)?,
         }
         Ok(())
     }
@@ -317,11 +316,19 @@ impl Case {
         Ok(Some(read_octets(self.alloc, &reader, &link.heard)?))
     }
 
+    /// The server closed the connection of a client.
+    fn is_closed(&self, place: usize) -> bool {
+        match self.links.get(place) {
+            Some(link) => link.is_closed,
+            None => false,
+        }
+    }
+
     /// Hears all clients; answers one whose connection was closed though nothing was at fault.
     fn hear_all(&mut self) -> Result<Option<usize>, AllocError> {
         for place in 0..self.exchange.clients.len() {
             let heard = self.hear(place)?;
-            let is_closed = self.links.get(place).is_some_and(|link| link.is_closed);
+            let is_closed = self.is_closed(place);
             let Some(client) = self.exchange.clients.get_mut(place) else {
                 continue;
             };

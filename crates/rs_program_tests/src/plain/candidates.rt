@@ -20,7 +20,15 @@ pub(super) struct Candidate<'a> {
 
 /// What the list of the rule does with the route: the rule's action, or the default where none matched.
 fn passes(exchange: &Exchange, rule: Option<&Rule>) -> bool {
-    rule.map_or(exchange.passes, |rule| rule.passes)
+    match rule {
+        Some(rule) => rule.passes,
+        None => exchange.passes,
+    }
+}
+
+/// The preference that a rule gives.
+fn preference(rule: Option<&Rule>) -> Option<u32> {
+    rule?.preference
 }
 
 /// The route of the client at this place for another one, where it is a candidate.
@@ -55,8 +63,8 @@ fn offer<'a>(
     if !passes(exchange, export) && without != Some(Sentence::Export) {
         return None;
     }
-    let by_import = import.and_then(|rule| rule.preference);
-    let by_export = export.and_then(|rule| rule.preference);
+    let by_import = preference(import);
+    let by_export = preference(export);
     Some(Candidate {
         route,
         import,

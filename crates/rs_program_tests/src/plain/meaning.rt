@@ -63,7 +63,7 @@ impl Meaning {
             return;
         };
         let number = open.four.unwrap_or(u32::from(open.my_as));
-        self.is_good = reader.number.is_none_or(|wanted| wanted == number);
+        self.is_good = reader.number.is_none() || reader.number == Some(number);
         self.session = Some(Session {
             identifier: open.identifier,
             mode: if open.four.is_some() {

@@ -18,8 +18,8 @@ fn strips(rule: Option<&Rule>, sort: Sort, community: &[u8]) -> bool {
         return false;
     };
     let stripped = match sort {
-        Sort::Short => &rule.strip,
-        Sort::Large => &rule.strip_large,
+        Sort::Short => &rule.lists.strip,
+        Sort::Large => &rule.lists.strip_large,
     };
     stripped.all || sort.is_like_one(&stripped.patterns, community, None)
 }
