@@ -5,10 +5,36 @@ use rs_trace::fault::ReplayFault;
 use rs_trace::progress::Unwatched;
 use rs_trace::replay::replay;
 use rs_trace::text::{OverRead, OverWrite, TextIn, TextOut};
-use std::alloc::Global;
+use std::alloc::{AllocError, Global};
+use std::fmt::Debug;
 use std::process::Abort;
 use std::sync::Wait;
 use std::thread::Threads;
+
+/// This is found, and this was wanted, of what the text names.
+pub(crate) fn is<T: Debug + PartialEq + Drop>(rt: &impl Abort, found: T, want: T, of: &str) {
+    assert_eq!(rt; found, want, "{of}");
+}
+
+/// The same of what comes of a number.
+pub(crate) fn is_of<T: Debug + PartialEq + Drop>(rt: &impl Abort, found: T, want: T, number: u64) {
+    assert_eq!(rt; found, want, "of {number}");
+}
+
+/// What the text says holds.
+pub(crate) fn holds(rt: &impl Abort, is_so: bool, what: &str) {
+    assert!(rt; is_so, "{what}");
+}
+
+/// What the text says holds of a number.
+pub(crate) fn holds_of(rt: &impl Abort, is_so: bool, what: &str, number: u64) {
+    assert!(rt; is_so, "{what}, of {number}");
+}
+
+/// This text is shown.
+pub(crate) fn shows(rt: &impl Abort, shown: Result<String, AllocError>, want: &str) {
+    is(rt, shown.expect(rt, "a text").as_str(), want, "a text");
+}
 
 /// The configuration that a good text spells.
 pub(crate) fn config(rt: &impl Abort, alloc: Global, text: &str) -> Config {

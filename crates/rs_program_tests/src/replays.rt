@@ -1,6 +1,6 @@
 //! What a replay reads and writes, octet for octet.
 
-use crate::common::{play, put};
+use crate::common::{is, is_of, play, put};
 use rs_trace::fault::ReplayFault;
 use rs_trace::trace::LineFault;
 use std::alloc::Global;
@@ -122,9 +122,9 @@ fn is_faulty<R: Threads + Wait + Sync + Abort>(
     let trace = format!(in alloc; "turn\n\n# {line}\n{line}\nopen a\nopen a\n");
     let trace = trace.expect(rt, "a trace");
     let (played, written) = play(rt, alloc, MEMBERS, trace.as_bytes());
-    assert_eq!(rt; played, Err(ReplayFault::Line(4, fault)), "{line}");
+    is(rt, played, Err(ReplayFault::Line(4, fault)), line);
     let wanted = format!(in alloc; "line 4: {fault}\n").expect(rt, "a text");
-    assert_eq!(rt; written.as_slice(), wanted.as_bytes(), "{line}");
+    is(rt, written.as_slice(), wanted.as_bytes(), line);
 }
 
 #[test]
@@ -146,7 +146,7 @@ const TEXTS: [(&str, &str); 5] = [
 /// Of a trace this is written.
 fn is_written<R: Threads + Wait + Sync + Abort>(rt: &R, alloc: Global, trace: &str, wanted: &str) {
     let (_, written) = play(rt, alloc, MEMBERS, trace.as_bytes());
-    assert_eq!(rt; written.as_slice(), wanted.as_bytes(), "{trace}");
+    is(rt, written.as_slice(), wanted.as_bytes(), trace);
 }
 
 #[test]
@@ -182,8 +182,8 @@ const GOOD: [&str; 19] = [
 /// A trace has no fault, and nothing is written.
 fn is_good<R: Threads + Wait + Sync + Abort>(rt: &R, alloc: Global, trace: &str) {
     let (played, written) = play(rt, alloc, MEMBERS, trace.as_bytes());
-    assert_eq!(rt; played, Ok(()), "{trace}");
-    assert_eq!(rt; written.len(), 0, "{trace}");
+    is(rt, played, Ok(()), trace);
+    is(rt, written.len(), 0, trace);
 }
 
 #[test]
@@ -232,7 +232,7 @@ fn is_played<R: Threads + Wait + Sync + Abort>(
         Some(fault) => Err(ReplayFault::Line(1, fault)),
     };
     let (played, _) = play(rt, alloc, MEMBERS, trace);
-    assert_eq!(rt; played, wanted, "{count}");
+    is_of(rt, played, wanted, count as u64);
 }
 
 /// A long line is answered as its row says, with the end of a line and without.
@@ -266,6 +266,8 @@ fn long_lines_behind_others(rt: HostRuntime) {
     put_line(&rt, &mut trace, "#", b'z', 8240);
     put(&rt, &mut trace, b"\nturn\n");
     let (played, written) = play(&rt, rt.alloc(), MEMBERS, &trace);
-    assert_eq!(rt; played, Err(ReplayFault::Line(3, LineFault::TooLong)));
-    assert_eq!(rt; written.as_slice(), b"line 3: too long\n".as_slice());
+    let fault = ReplayFault::Line(3, LineFault::TooLong);
+    is(&rt, played, Err(fault), "the fault");
+    let text: &[u8] = b"line 3: too long\n";
+    is(&rt, written.as_slice(), text, "what is written");
 }

@@ -1,5 +1,6 @@
 //! Hold timers where the server was kept from reading.
 
+use crate::common::is;
 use crate::live::rounds::{A, B, COMING_UP, KEEPALIVE, comes_up, served, until};
 use crate::live::script::Script;
 use std::alloc::Global;
@@ -29,19 +30,19 @@ fn stalled(rt: &impl Abort, alloc: Global, seconds: u64) -> Script {
     ports
 }
 
+/// Whether the hold timers of a and of b expired.
+fn have_expired(rt: &impl Abort, ports: &Script, want: (bool, bool), when: &str) {
+    let a = ports.heard(0).ends_with(EXPIRED);
+    let b = ports.heard(1).ends_with(EXPIRED);
+    is(rt, (a, b), want, when);
+}
+
 #[test]
 fn a_keepalive_that_lay_there_while_the_server_stood_still_counts(rt: HostRuntime) {
-    for seconds in [9, 12, 16] {
+    for (seconds, when) in [(9, "after 9"), (12, "after 12"), (16, "after 16")] {
         let mut ports = stalled(&rt, rt.alloc(), seconds);
         served(&rt, rt.alloc(), &mut ports, until(2));
-        assert!(rt;
-            !ports.heard(0).ends_with(EXPIRED),
-            "after {seconds} seconds"
-        );
-        assert!(rt;
-            ports.heard(1).ends_with(EXPIRED),
-            "after {seconds} seconds"
-        );
+        have_expired(&rt, &ports, (false, true), when);
         ports.let_go();
     }
 }
@@ -50,7 +51,6 @@ fn a_keepalive_that_lay_there_while_the_server_stood_still_counts(rt: HostRuntim
 fn nobody_is_lost_before_the_hold_time_has_passed(rt: HostRuntime) {
     let mut ports = stalled(&rt, rt.alloc(), 8);
     served(&rt, rt.alloc(), &mut ports, until(2));
-    assert!(rt; !ports.heard(0).ends_with(EXPIRED));
-    assert!(rt; !ports.heard(1).ends_with(EXPIRED));
+    have_expired(&rt, &ports, (false, false), "after 8");
     ports.let_go();
 }

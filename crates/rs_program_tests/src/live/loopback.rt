@@ -1,5 +1,6 @@
 //! The server over sockets on loopback.
 
+use crate::common::is;
 use crate::live::rounds::{COMING_UP, KEEPALIVE, OPEN_A, OPEN_B, UPDATE, until};
 use rs_live::connections::listen_addresses;
 use rs_live::serve::serve;
@@ -57,7 +58,7 @@ fn a_route_goes_over_sockets(rt: HostRuntime) -> Result<(), Fail> {
         || serve(&rt, alloc, &mut ports, config, until(2)),
         || exchange(&rt),
     );
-    assert_eq!(rt; heard?.as_slice(), UPDATE);
-    assert!(rt; served.is_ok());
+    is(&rt, heard?.as_slice(), UPDATE, "what b is sent");
+    is(&rt, served, Ok(()), "how the server ends");
     Ok(())
 }

@@ -2,6 +2,7 @@
 
 ghost use Rattle.std.specs.Prelude.{◌≡◌};
 
+use crate::common::is;
 use crate::live::reloading::{NOTHING_OF_A, accepted};
 use crate::live::rounds::{
     A, B, COMING_UP, OPEN_A, OPEN_B, UPDATE, WITHDRAWAL, all_are_closed, behind, comes_up,
@@ -64,7 +65,7 @@ fn a_comes(rt: &impl Abort, ports: &mut Script, key: usize, round: u64) {
 /// The server says just this.
 fn says_just(rt: &impl Abort, ports: &Script, lines: &[Line]) {
     ports.says_first(rt, lines);
-    assert_eq!(rt; ports.said.len(), lines.len());
+    is(rt, ports.said.len(), lines.len(), "lines");
 }
 
 #[test]
@@ -114,7 +115,7 @@ fn a_member_is_told_its_routes_again(rt: HostRuntime) {
     served(&rt, rt.alloc(), &mut ports, endless());
     heard(&rt, &ports, 0, &[NOTE]);
     heard(&rt, &ports, 1, &[UPDATE, UPDATE, NOTE]);
-    assert_eq!(rt; ports.said.len(), 4);
+    is(&rt, ports.said.len(), 4, "lines");
     ports.let_go();
 }
 
@@ -126,7 +127,7 @@ fn rules_are_read_again_at_an_order(rt: HostRuntime) {
     ports.order(&rt, 20, Order::End);
     served(&rt, rt.alloc(), &mut ports, endless());
     heard(&rt, &ports, 1, &[UPDATE, WITHDRAWAL, NOTE]);
-    assert_eq!(rt; accepted(&ports.said), 1);
+    is(&rt, accepted(&ports.said), 1, "readings");
     ports.let_go();
 }
 
@@ -161,6 +162,6 @@ fn a_member_that_takes_nothing_keeps_a_server_for_five_seconds(rt: HostRuntime) 
     ports.order(&rt, 28, Order::End);
     served(&rt, rt.alloc(), &mut ports, endless());
     heard(&rt, &ports, 0, &[NOTE]);
-    assert_eq!(rt; ports.rounds, 33);
+    is(&rt, ports.rounds, 33, "rounds");
     ports.let_go();
 }

@@ -1,7 +1,7 @@
 //! The record of a run: its replay sends what the run sent, its file ends in whole lines, and no message is begun
 //! for a connection without that some of it is put in.
 
-use crate::common::{play, put};
+use crate::common::{holds, holds_of, is, is_of, play, put, shows};
 use crate::live::rounds::{COMING_UP, KEEPALIVE, THREE, UPDATE, exchange, served, until};
 use crate::live::script::Script;
 use rs_live::outbox::Outbox;
@@ -32,14 +32,14 @@ fn sent_in(rt: &impl Abort, alloc: Global, output: &[u8], front: &[u8]) -> Vec<u
 /// What the replay of a record writes.
 fn replayed<R: Abort + Threads + Wait + Sync>(rt: &R, alloc: Global, record: &[u8]) -> Vec<u8> {
     let (played, written) = play(rt, alloc, THREE, record);
-    assert_eq!(rt; played, Ok(()));
+    is(rt, played, Ok(()), "the replay");
     written
 }
 
 /// A replay's output has just these octets of a client.
 fn has_sent(rt: &impl Abort, alloc: Global, output: &[u8], front: &[u8], want: &[u8]) {
     let octets = sent_in(rt, alloc, output, front);
-    assert_eq!(rt; octets.as_slice(), want);
+    is(rt, octets.as_slice(), want, "octets");
 }
 
 /// How often this line stands in a record.
@@ -55,7 +55,7 @@ fn count(record: &[u8], wanted: &[u8]) -> usize {
 
 /// This line stands in a record once.
 fn has_once(rt: &impl Abort, record: &[u8], line: &[u8]) {
-    assert_eq!(rt; count(record, line), 1);
+    is(rt, (line, count(record, line)), (line, 1), "lines");
 }
 
 /// What is recorded of an exchange.
@@ -66,7 +66,7 @@ fn recorded<R: Abort + Threads + Wait + Sync>(
 ) -> Vec<u8> {
     ports.record = Some(Vec::new(alloc));
     served(rt, alloc, ports, until(2));
-    assert_eq!(rt; ports.record_end, None);
+    is(rt, ports.record_end, None, "why the record ended");
     ports.record.take().expect(rt, "a record")
 }
 
@@ -83,7 +83,8 @@ fn a_record_is_replayed_as_it_was(rt: HostRuntime) {
     let output = replayed(&rt, alloc, &record);
     has_sent(&rt, alloc, &output, b"sent a ", ports.heard(0));
     has_sent(&rt, alloc, &output, b"sent b ", ports.heard(1));
-    assert_eq!(rt; ports.heard(1).len(), COMING_UP + UPDATE.len());
+    let octets = COMING_UP + UPDATE.len();
+    is(&rt, ports.heard(1).len(), octets, "what b is sent");
     ports.let_go();
 }
 
@@ -91,13 +92,13 @@ fn a_record_is_replayed_as_it_was(rt: HostRuntime) {
 fn nothing_is_recorded_unasked(rt: HostRuntime) {
     let mut ports = exchange(&rt, rt.alloc(), 0);
     served(&rt, rt.alloc(), &mut ports, until(2));
-    assert!(rt; ports.record.is_none());
+    is(&rt, ports.record.take(), None, "a record");
     ports.let_go();
 }
 
 /// Of these octets so many are put in.
 fn takes(rt: &impl Abort, out: &mut Outbox, octets: &[u8], count: usize) {
-    assert_eq!(rt; out.put(octets), count);
+    is(rt, out.put(octets), count, "octets put in");
 }
 
 #[test]
@@ -106,14 +107,14 @@ fn a_message_is_begun_with_an_octet(rt: HostRuntime) {
     let whole = Vec::from_elem(rt.alloc(), 7, 65_536).expect(&rt, "octets");
     // The room is used up by a whole message. Of the next one an octet is taken, and then no more.
     takes(&rt, &mut out, &whole, 65_536);
-    assert!(rt; out.is_full());
+    holds(&rt, out.is_full(), "it is full");
     takes(&rt, &mut out, KEEPALIVE, 1);
     takes(&rt, &mut out, &KEEPALIVE[1..], 0);
-    assert_eq!(rt; out.waiting().len(), 65_537);
+    is(&rt, out.waiting().len(), 65_537, "octets that wait");
     // Once there is room again it goes on where it was.
     out.took(65_537);
     takes(&rt, &mut out, &KEEPALIVE[1..], 18);
-    assert_eq!(rt; out.waiting(), &KEEPALIVE[1..]);
+    is(&rt, out.waiting(), &KEEPALIVE[1..], "what waits");
 }
 
 /// A file that takes so many octets, ten at a time, and then none.
@@ -155,9 +156,9 @@ fn written(rt: &impl Abort, alloc: Global, most: usize) -> Vec<u8> {
     };
     let mut record = RecordFile::new(alloc, file);
     record.put(LINES).expect(rt, "lines");
-    assert_eq!(rt; record.size(), LINES.len() as u64);
+    is(rt, record.size(), LINES.len() as u64, "the size");
     let is_written = record.write_to(0).is_ok();
-    assert_eq!(rt; is_written, most >= LINES.len(), "{most}");
+    is_of(rt, is_written, most >= LINES.len(), most as u64);
     record.end(b"# over\n");
     drop(record);
     text
@@ -167,11 +168,12 @@ fn written(rt: &impl Abort, alloc: Global, most: usize) -> Vec<u8> {
 fn is_cut(rt: &impl Abort, alloc: Global, most: usize) {
     let text = written(rt, alloc, most);
     let is_whole = text.is_empty() || text.ends_with(b"\n");
-    assert!(rt; is_whole, "{most}");
+    holds_of(rt, is_whole, "whole lines", most as u64);
     let front = text.strip_suffix(b"# over\n".as_slice()).unwrap_or(&text);
-    assert!(rt; LINES.starts_with(front), "{most}");
+    is_of(rt, LINES.get(..front.len()), Some(front), most as u64);
     let has_end = text.len() == LINES.len() + 7;
-    assert!(rt; has_end || most < LINES.len() + 10, "{most}");
+    let is_so = has_end || most < LINES.len() + 10;
+    holds_of(rt, is_so, "the last line", most as u64);
 }
 
 #[test]
@@ -183,8 +185,7 @@ fn a_file_is_cut_off_behind_a_line(rt: HostRuntime) {
 
 /// Why a record ended, in words.
 fn is_told(rt: &impl Abort, alloc: Global, why: RecordEnd, wanted: &str) {
-    let text = format!(in alloc; "{why}").expect(rt, "a text");
-    assert_eq!(rt; text.as_str(), wanted);
+    shows(rt, format!(in alloc; "{why}"), wanted);
 }
 
 #[test]

@@ -1,5 +1,8 @@
 //! Rules that are read again while the server runs.
 
+ghost use Rattle.std.specs.Prelude.{◌≡◌};
+
+use crate::common::is;
 use crate::live::rounds::{
     A, B, COMING_UP, OPEN_A, OPEN_B, THREE, UPDATE, WITHDRAWAL, behind, comes_up, is_reported,
     served,
@@ -31,28 +34,45 @@ fn changing(rt: &impl Abort, alloc: Global) -> Script {
     ports
 }
 
+/// How often the server says this line.
+fn count(said: &[Line], wanted: Line) -> usize {
+    let mut count = 0usize;
+    for line in said {
+        if *line == wanted {
+            count = count.saturating_add(1);
+        }
+    }
+    count
+}
+
 /// How often the server says that it took the rules that it read.
 pub fn accepted(said: &[Line]) -> usize {
-    said.iter()
-        .filter(|line| **line == Line::Rules(Ok(())))
-        .count()
+    count(said, Line::Rules(Ok(())))
+}
+
+/// Two sessions, and the file is looked at in each second round.
+fn reloading() -> Limits
+    ensures { result.workers ≡ 1 }
+{
+    Limits {
+        workers: 1,
+        sessions: Some(2),
+        reload: Some(2),
+    }
 }
 
 #[test]
 fn a_text_is_handed_over_at_first_and_when_it_changes(rt: HostRuntime) {
     let mut ports = changing(&rt, rt.alloc());
-    let limits = Limits {
-        workers: 1,
-        sessions: Some(2),
-        reload: Some(2),
-    };
-    served(&rt, rt.alloc(), &mut ports, limits);
+    served(&rt, rt.alloc(), &mut ports, reloading());
     let answers = COMING_UP + UPDATE.len();
     sent(&rt, ports.heard(1).get(COMING_UP..answers), UPDATE);
     sent(&rt, ports.heard(1).get(answers..), WITHDRAWAL);
     // The first reading, and the one after the change; b was sent the withdrawal while a was there.
-    assert_eq!(rt; accepted(&ports.said), 2);
-    assert!(rt; ports.said.ends_with(&[Line::Lost(1), Line::Lost(0)]));
+    is(&rt, accepted(&ports.said), 2, "readings");
+    let last = ports.said.last_chunk::<2>().copied();
+    let lost = [Line::Lost(1), Line::Lost(0)];
+    is(&rt, last, Some(lost), "the last lines");
     ports.let_go();
 }
 
@@ -60,17 +80,12 @@ fn a_text_is_handed_over_at_first_and_when_it_changes(rt: HostRuntime) {
 fn a_file_that_is_not_read_is_told_and_the_rules_stay(rt: HostRuntime) {
     let mut ports = changing(&rt, rt.alloc());
     ports.unread = Some(FileFault::NoFile(0));
-    let limits = Limits {
-        workers: 1,
-        sessions: Some(2),
-        reload: Some(2),
-    };
-    served(&rt, rt.alloc(), &mut ports, limits);
+    served(&rt, rt.alloc(), &mut ports, reloading());
     let told = Line::File(FileFault::NoFile(0));
-    assert_eq!(rt; ports.said.iter().filter(|line| **line == told).count(), 1);
+    is(&rt, count(&ports.said, told), 1, "tellings");
     is_reported(&rt, &ports, &Report::File(FileFault::NoFile(0)));
     let answers = COMING_UP + UPDATE.len();
     sent(&rt, ports.heard(1).get(COMING_UP..answers), UPDATE);
-    assert_eq!(rt; accepted(&ports.said), 2);
+    is(&rt, accepted(&ports.said), 2, "readings");
     ports.let_go();
 }

@@ -1,6 +1,6 @@
 //! Reports in words.
 
-use crate::common::config;
+use crate::common::{config, is, shows};
 use crate::live::rounds::THREE;
 use rs_attrs::{AttributeFault, Cause, Faulted, Mode};
 use rs_core::{Ending, NOTICE_MAX, Notice};
@@ -27,8 +27,7 @@ const DISCARDED: Option<AttributeFault> = Some(AttributeFault {
 fn is_worded(rt: &impl Abort, alloc: Global, report: Report, words: &str) {
     let config = config(rt, alloc, THREE);
     let names = Names::of(alloc, &config).expect(rt, "names");
-    let shown = format!(in alloc; "{}", Worded(&report, &names)).expect(rt, "a text");
-    assert_eq!(rt; shown.as_str(), words);
+    shows(rt, format!(in alloc; "{}", Worded(&report, &names)), words);
 }
 
 /// b's session ended so.
@@ -182,24 +181,27 @@ fn each_report_in_words(rt: HostRuntime) {
     for row in &AT_FAULT {
         fault_is_worded(&rt, rt.alloc(), row);
     }
-    end_is_worded(
-        &rt,
-        rt.alloc(),
-        Short::note(6, 4),
-        "b down: NOTIFICATION sent: Cease, Administrative Reset (6, 4)",
-    );
-    shutdown_is_worded(
-        &rt,
-        rt.alloc(),
+}
+
+/// Texts by which the operator ends a session, and how the end reads.
+const SHUTDOWNS: [(&[u8], &str); 2] = [
+    (
         b"",
         "b down: session ended by the operator: Cease, Administrative Shutdown (6, 2)",
-    );
-    shutdown_is_worded(
-        &rt,
-        rt.alloc(),
+    ),
+    (
         b"back at 10\n",
         "b down: session ended by the operator: Cease, Administrative Shutdown (6, 2), \"back at 10\\n\"",
-    );
+    ),
+];
+
+#[test]
+fn ends_by_the_server_in_words(rt: HostRuntime) {
+    let reset = "b down: NOTIFICATION sent: Cease, Administrative Reset (6, 4)";
+    end_is_worded(&rt, rt.alloc(), Short::note(6, 4), reset);
+    for (text, words) in &SHUTDOWNS {
+        shutdown_is_worded(&rt, rt.alloc(), text, words);
+    }
 }
 
 /// An OPEN of version 4 with AS 64999 by the capability for four octets, Hold Time 2 and identifier
@@ -239,7 +241,7 @@ const REFUSALS: [(u8, &str); 4] = [
 
 #[test]
 fn what_an_open_offered_in_words(rt: HostRuntime) {
-    assert_eq!(rt; Offered::at_front(&OPEN[..36]), None);
+    is(&rt, Offered::at_front(&OPEN[..36]), None, "a cut OPEN");
     for (sub, words) in &REFUSALS {
         refusal_is_worded(&rt, rt.alloc(), *sub, words);
     }
@@ -313,7 +315,7 @@ fn said_in(data: &[u8]) -> Option<(usize, bool)> {
 
 /// So much of a text is in these data, and it is whole or not; or there is none.
 fn says(rt: &impl Abort, data: &[u8], wanted: Option<(usize, bool)>) {
-    assert_eq!(rt; said_in(data), wanted);
+    is(rt, said_in(data), wanted, "a text");
 }
 
 /// Data, and how much of a text is in them.
@@ -338,8 +340,7 @@ fn lengths_of_texts(rt: HostRuntime) {
 
 /// A stamp reads so.
 fn is_stamped(rt: &impl Abort, alloc: Global, stamp: Stamp, wanted: &str) {
-    let shown = format!(in alloc; "{stamp}").expect(rt, "a text");
-    assert_eq!(rt; shown.as_str(), wanted);
+    shows(rt, format!(in alloc; "{stamp}"), wanted);
 }
 
 /// Dates by GNU date.

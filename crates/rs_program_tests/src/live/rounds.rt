@@ -2,7 +2,7 @@
 
 ghost use Rattle.std.specs.Prelude.{◌≡◌};
 
-use crate::common::config;
+use crate::common::{config, holds, holds_of, is};
 use crate::live::script::{Broken, Said, Script, sent};
 use rs_attrs::{AttributeFault, Cause, Faulted};
 use rs_core::Ending;
@@ -123,17 +123,19 @@ pub fn served<R: Abort + Threads + Wait + Sync>(
     ports: &mut Script,
     limits: Limits,
 ) {
-    assert_eq!(rt; ended(rt, alloc, ports, limits), Ok(()));
+    is(rt, ended(rt, alloc, ports, limits), Ok(()), "the server");
 }
 
 /// All connections are closed.
 pub fn all_are_closed(rt: &impl Abort, ports: &Script) {
-    assert!(rt; ports.wires.iter().all(|wire| !wire.is_open));
+    for wire in &ports.wires {
+        holds(rt, !wire.is_open, "the connection is closed");
+    }
 }
 
 /// This was reported.
 pub fn is_reported(rt: &impl Abort, ports: &Script, report: &Report) {
-    assert!(rt; ports.reports.contains(report));
+    holds(rt, ports.reports.contains(report), "it is reported");
 }
 
 #[test]
@@ -180,9 +182,10 @@ fn what_goes_wrong_alone_is_told(rt: HostRuntime) {
         has_utc: false,
     };
     served(&rt, rt.alloc(), &mut ports, until(2));
-    assert_eq!(rt; ports.reports.len(), 2);
+    is(&rt, ports.reports.len(), 2, "reports");
     for report in &ports.reports {
-        assert!(rt; matches!(report, Report::Down { .. }));
+        let is_down = matches!(report, Report::Down { .. });
+        holds(&rt, is_down, "it tells of a session that is down");
     }
     ports.let_go();
 }
@@ -193,8 +196,9 @@ fn strangers_without_end_keep_nobody_waiting(rt: HostRuntime) {
     ports.is_flooded = true;
     served(&rt, rt.alloc(), &mut ports, until(2));
     sent(&rt, ports.heard(1).get(COMING_UP..), UPDATE);
-    assert!(rt; ports.said.contains(&Line::Stranger));
-    assert_eq!(rt; ports.most_accepts, 64);
+    let is_said = ports.said.contains(&Line::Stranger);
+    holds(&rt, is_said, "a stranger is told");
+    is(&rt, ports.most_accepts, 64, "accepts");
     ports.let_go();
 }
 
@@ -206,16 +210,18 @@ fn client_of(key: usize) -> usize {
 /// The session of a connection is lost, and the connection is closed.
 fn is_lost(rt: &impl Abort, ports: &Script, key: usize) {
     let lost = Line::Lost(client_of(key));
-    assert!(rt; ports.said.contains(&lost), "of connection {key}");
+    let is_said = ports.said.contains(&lost);
+    holds_of(rt, is_said, "the loss is told", key as u64);
     let wire = ports.wires.get(key).expect(rt, "a connection");
-    assert!(rt; !wire.is_open, "connection {key}");
+    holds_of(rt, !wire.is_open, "it is closed", key as u64);
 }
 
 /// Behind a loss of the one that announced it, the other member was sent nothing of a route, or that it is withdrawn too.
 fn holds_nothing(rt: &impl Abort, ports: &Script, key: usize, update: &[u8], withdrawal: &[u8]) {
     let told = ports.heard(key).get(COMING_UP..).expect(rt, "a session");
     let is_withdrawn = told.strip_prefix(update) == Some(withdrawal);
-    assert!(rt; told.is_empty() || is_withdrawn, "connection {key}");
+    let is_so = told.is_empty() || is_withdrawn;
+    holds_of(rt, is_so, "it holds nothing", key as u64);
 }
 
 /// The other member holds what is due to it after the loss of this connection.
@@ -230,10 +236,10 @@ fn other_holds_what_is_due(rt: &impl Abort, ports: &Script, lost: usize) {
 /// The server ends as it is to after a call that failed, and the other member holds what is due to it.
 fn ends_by(rt: &impl Abort, ports: &Script, broken: Broken, ended: Result<(), ServeFault>) {
     match broken {
-        Broken::Wait => assert_eq!(rt; ended, Err(ServeFault::Poll)),
-        Broken::Accept => assert_eq!(rt; ended, Err(ServeFault::Listener)),
+        Broken::Wait => is(rt, ended, Err(ServeFault::Poll), "a wait"),
+        Broken::Accept => is(rt, ended, Err(ServeFault::Listener), "an accept"),
         Broken::Read(key) | Broken::Write(key) => {
-            assert_eq!(rt; ended, Ok(()));
+            is(rt, ended, Ok(()), "the server");
             is_lost(rt, ports, key);
             if ports.is_early {
                 other_holds_what_is_due(rt, ports, key);
@@ -260,7 +266,7 @@ fn breaks<R: Abort + Threads + Wait + Sync>(rt: &R, alloc: Global, failing: u64)
     let ended = ended(rt, alloc, &mut ports, until(2));
     match ports.broken {
         None => {
-            assert_eq!(rt; ended, Ok(()));
+            is(rt, ended, Ok(()), "the server");
             sent(rt, ports.heard(0).get(COMING_UP..), UPDATE_B);
             sent(rt, ports.heard(1).get(COMING_UP..), UPDATE);
         }
@@ -273,11 +279,10 @@ fn breaks<R: Abort + Threads + Wait + Sync>(rt: &R, alloc: Global, failing: u64)
 fn each_call_that_fails_ends_one_session_or_the_server(rt: HostRuntime) {
     for failing in 1..1000 {
         if !breaks(&rt, rt.alloc(), failing) {
-            assert!(rt; failing > 30);
-            return;
+            return holds_of(&rt, failing > 30, "calls", failing);
         }
     }
-    assert!(rt; false, "the run goes on for ever");
+    holds(&rt, false, "the run ends");
 }
 
 /// The exchange with turns by so many workers.
@@ -329,9 +334,9 @@ fn faulty_origins(rt: &impl Abort, report: &Report) -> Option<u64> {
         kind: 1,
         cause: Cause::Value,
     };
-    assert_eq!(rt; *client, 0);
-    assert_eq!(rt; last.withdraw, Some(wanted));
-    assert_eq!(rt; last.discard, None);
+    is(rt, *client, 0, "the client");
+    is(rt, last.withdraw, Some(wanted), "what is withdrawn");
+    is(rt, last.discard, None, "what is discarded");
     Some(*count)
 }
 
@@ -354,7 +359,8 @@ fn faulty_updates_are_reported_once_a_second(rt: HostRuntime) {
     let bad = behind(BAD_ORIGIN);
     let ports = hears_of_a(&rt, rt.alloc(), &[open, keepalive, bad, bad, bad]);
     // All three were heard in one round, so in one second.
-    assert_eq!(rt; faulty(&rt, &ports.reports), (1, 3));
+    let counts = faulty(&rt, &ports.reports);
+    is(&rt, counts, (1, 3), "lines and UPDATEs");
     ports.let_go();
 }
 
@@ -398,7 +404,7 @@ fn routes_in_mp_reach_nlri_are_reported_once(rt: HostRuntime) {
             lines = lines.saturating_add(1);
         }
     }
-    assert_eq!(rt; lines, 1);
+    is(&rt, lines, 1, "lines");
     ports.let_go();
 }
 
@@ -428,7 +434,7 @@ fn a_member_that_takes_nothing_is_lost_after_the_send_hold_time(rt: HostRuntime)
     ports.deafen(0, 0);
     ports.pace = 60;
     served(&rt, rt.alloc(), &mut ports, until(1));
-    assert_eq!(rt; ports.said.len(), 2);
+    is(&rt, ports.said.len(), 2, "lines");
     ports.says_first(&rt, &[Line::Begin(0), Line::Lost(0)]);
     ports.let_go();
 }

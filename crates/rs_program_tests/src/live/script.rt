@@ -3,6 +3,7 @@
 ghost use Rattle.std.specs.Prelude.{◌≤◌};
 ghost use Rattle.rs_reports.specs.Levels.{is_shown};
 
+use crate::common::is;
 use rs_control::order::Order;
 use rs_core::Core;
 use rs_live::orders;
@@ -209,7 +210,8 @@ impl Script {
 
     /// What the server says first.
     pub fn says_first(&self, rt: &impl Abort, lines: &[Line]) {
-        assert!(rt; self.said.starts_with(lines));
+        let found = self.said.get(..lines.len());
+        is(rt, found, Some(lines), "what the server says first");
     }
 
     /// Lets it go in one call, which is one step of a test, and not one for each of its lists.
@@ -235,7 +237,7 @@ impl Script {
 
 /// These octets of what was sent on a connection.
 pub fn sent(rt: &impl Abort, octets: Option<&[u8]>, want: &[u8]) {
-    assert_eq!(rt; octets, Some(want));
+    is(rt, octets, Some(want), "octets");
 }
 
 /// Lays octets at the front of a piece, and answers how many.

@@ -1,5 +1,6 @@
 //! When files of rules are read again, by what is found of them from second to second.
 
+use crate::common::{is, is_of};
 use rs_streams::file_watch::{FileFault, FileWatch, Found, Version, WatchedFiles};
 use rs_texts::end_lines;
 use std::alloc::{AllocError, Global};
@@ -61,6 +62,9 @@ impl WatchedFiles for Pair {
     }
 }
 
+/// The texts of both, one behind the other.
+const TEXT: &[u8] = b"as = 1\n# rest\n";
+
 /// In these seconds the files are taken up or not, as is wanted.
 fn are_taken_up(
     rt: &impl Abort,
@@ -70,13 +74,10 @@ fn are_taken_up(
 ) {
     let mut text = Vec::new(files.alloc);
     for (second, answer) in wanted {
-        assert_eq!(rt;
-            watch.take_up(files, *second, &mut text),
-            *answer,
-            "{second}"
-        );
-        if *answer == Ok(true) {
-            assert!(rt; text.as_slice() == b"as = 1\n# rest\n".as_slice());
+        let taken = watch.take_up(files, *second, &mut text);
+        is_of(rt, taken, *answer, *second);
+        if taken == Ok(true) {
+            is(rt, text.as_slice(), TEXT, "the text");
         }
     }
 }
@@ -101,7 +102,7 @@ fn files_are_read_where_all_have_stood_still(rt: HostRuntime) {
         (30, Ok(false)),
     ];
     are_taken_up(&rt, &mut watch, &mut files, &then);
-    assert_eq!(rt; (files.looks, files.reads), (9, 2));
+    is(&rt, (files.looks, files.reads), (9, 2), "looks and reads");
 }
 
 #[test]
@@ -114,7 +115,7 @@ fn files_are_looked_at_once_in_a_second(rt: HostRuntime) {
         (2, Ok(false)),
     ];
     are_taken_up(&rt, &mut watch, &mut files, &all);
-    assert_eq!(rt; files.looks, 2);
+    is(&rt, files.looks, 2, "looks");
 }
 
 #[test]
@@ -126,7 +127,7 @@ fn files_that_change_while_they_are_read_are_read_again(rt: HostRuntime) {
     files.is_written = false;
     let stands = [(4, Ok(false)), (5, Ok(true))];
     are_taken_up(&rt, &mut watch, &mut files, &stands);
-    assert_eq!(rt; files.reads, 2);
+    is(&rt, files.reads, 2, "reads");
 }
 
 /// What is found of the second file is told once as this fault.
@@ -140,7 +141,7 @@ fn is_told_once(rt: &impl Abort, alloc: Global, found: Found, fault: FileFault) 
         (9, Ok(false)),
     ];
     are_taken_up(rt, &mut watch, &mut files, &all);
-    assert_eq!(rt; files.reads, 0);
+    is(rt, files.reads, 0, "reads");
 }
 
 #[test]

@@ -6,7 +6,7 @@ ghost use Rattle.std.proofs.KnownBytes.{Consumes-nil, Consumes-trans, Appends-ni
 ghost use Rattle.rs_trace.specs.Texts.{IsKnown, none_left};
 
 use super::MEMBERS;
-use crate::common::play_over;
+use crate::common::{is, is_of, play_over};
 use rs_trace::fault::ReplayFault;
 use rs_trace::text::{Failed, OverRead, OverWrite, TextIn, TextOut};
 use std::alloc::Global;
@@ -125,8 +125,12 @@ fn failing_out(alloc: Global, good_calls: u64) -> FailingOut {
 /// Whether all is written, where the last call that wrote did not fail; else what was written is the front of it.
 fn has_written(rt: &impl Abort, writer: &FailingOut, is_whole: bool, good_calls: u64) {
     let text = writer.text.as_slice();
-    assert!(rt; WRITTEN.starts_with(text), "{good_calls}");
-    assert!(rt; !is_whole || text.len() == WRITTEN.len(), "{good_calls}");
+    let wanted = if is_whole {
+        Some(WRITTEN)
+    } else {
+        WRITTEN.get(..text.len())
+    };
+    is_of(rt, Some(text), wanted, good_calls);
 }
 
 /// A device that failed is the fault that is answered.
@@ -136,7 +140,7 @@ fn is_answered(
     fault: ReplayFault,
     good_calls: u64,
 ) {
-    assert_eq!(rt; played, Err(fault), "{good_calls}");
+    is_of(rt, played, Err(fault), good_calls);
 }
 
 /// Whether reading fails after so many calls.
@@ -150,7 +154,7 @@ fn reading_fails<R: Threads + Wait + Sync + Abort>(rt: &R, alloc: Global, good_c
     let played = play_over(rt, alloc, MEMBERS, &mut reader, &mut writer);
     let fails = reader.failures > 0;
     has_written(rt, &writer, !fails, good_calls);
-    assert_eq!(rt; writer.failures, 0);
+    is(rt, writer.failures, 0, "failures of the writer");
     if fails {
         is_answered(rt, played, ReplayFault::Reading, good_calls);
     }
@@ -166,7 +170,7 @@ fn writing_fails<R: Threads + Wait + Sync + Abort>(rt: &R, alloc: Global, good_c
     has_written(rt, &writer, !fails, good_calls);
     if fails {
         is_answered(rt, played, ReplayFault::Writing, good_calls);
-        assert_eq!(rt; writer.failures, 1);
+        is(rt, writer.failures, 1, "failures of the writer");
     }
     fails
 }
@@ -183,8 +187,8 @@ fn each_call_failing(rt: HostRuntime) {
             writings = writings.saturating_add(1);
         }
     }
-    assert_eq!(rt; readings, READINGS);
-    assert_eq!(rt; writings, WRITINGS);
+    is(&rt, readings, READINGS, "readings");
+    is(&rt, writings, WRITINGS, "writings");
 }
 
 #[test]
@@ -198,6 +202,6 @@ fn counts_that_are_full(rt: HostRuntime) {
     let mut writer = OverWrite::new(&mut written);
     let played = play_over(&rt, rt.alloc(), MEMBERS, &mut reader, &mut writer);
     is_answered(&rt, played, ReplayFault::Reading, 100);
-    assert_eq!(rt; reader.failures, u64::MAX);
-    assert!(rt; reader.text == TRACE);
+    is(&rt, reader.failures, u64::MAX, "failures of the reader");
+    is(&rt, reader.text, TRACE, "what is left to be read");
 }

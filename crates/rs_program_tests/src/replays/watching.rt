@@ -1,6 +1,6 @@
 //! What `--progress` counts.
 
-use crate::common::put;
+use crate::common::{is_of, put};
 use rs_trace::progress::Message;
 use std::alloc::Global;
 use std::process::Abort;
@@ -40,9 +40,9 @@ fn has_two(rt: &impl Abort, said: &[u8], size: usize) {
     for piece in said.chunks(size) {
         updates = updates.saturating_add(message.take_all(piece));
     }
-    assert_eq!(rt; updates, 2, "in pieces of {size}");
+    is_of(rt, updates, 2, size as u64);
     let behind = message.take_all(&header(19, 2));
-    assert_eq!(rt; behind, 1, "behind pieces of {size}");
+    is_of(rt, behind, 1, size as u64);
 }
 
 #[test]
