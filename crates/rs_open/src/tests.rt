@@ -5,13 +5,25 @@ mod reading;
 mod writing;
 
 use std::alloc::Global;
-use std::test::Fail;
+use std::fmt::Debug;
+use std::process::Abort;
+
+/// This is found, and this was wanted, of what the text names.
+fn is<T: Debug + PartialEq + Drop>(rt: &impl Abort, found: T, want: T, of: &str) {
+    assert_eq!(rt; found, want, "{of}");
+}
+
+/// Puts octets behind others.
+fn put(rt: &impl Abort, octets: &mut Vec<u8>, more: &[u8]) {
+    octets.extend_from_slice(more).expect(rt, "octets");
+}
 
 /// The octets that a text of hexadecimal digits and blanks spells.
-fn octets(alloc: Global, text: &str) -> Result<Vec<u8>, Fail> {
+fn octets(rt: &impl Abort, alloc: Global, text: &str) -> Vec<u8> {
     let mut octets = Vec::new(alloc);
     for word in text.split_whitespace() {
-        octets.extend_from_slice(&hex::decode(alloc, word)?)?;
+        let spelt = hex::decode(alloc, word).expect(rt, "hexadecimal digits");
+        put(rt, &mut octets, &spelt);
     }
-    Ok(octets)
+    octets
 }

@@ -1,27 +1,35 @@
 //! Names and texts.
 
+use super::is;
 use crate::{
     Limit, OpenFault, Short, ShutdownText, an_open_is_taken_where_it_is_good,
     an_open_of_ours_is_good, octets_are_one_row_of_triples, short_is_a_message,
 };
 use rs_octets::Notification;
+use std::alloc::Global;
 use std::process::Abort;
-use std::test::Fail;
 
 #[test]
 fn names_what_is_said(rt: HostRuntime) {
     let said = Short::of(Notification::InvalidNetworkField);
-    assert_eq!(&rt; said, Short::note(3, 10));
-    assert_eq!(&rt; said.name(), Some(Notification::InvalidNetworkField));
-    assert_eq!(&rt; Short::note_1(2, 5, 4).name(), None);
-    assert_eq!(&rt; Short::Open.name(), None);
+    is(&rt, said, Short::note(3, 10), "what is said");
+    let name = Notification::InvalidNetworkField;
+    is(&rt, said.name(), Some(name), "its name");
+    is(
+        &rt,
+        Short::note_1(2, 5, 4).name(),
+        None,
+        "a code of no name",
+    );
+    is(&rt, Short::Open.name(), None, "an OPEN");
 }
 
 /// Octets are a text, or are none.
 fn is_text(rt: &impl Abort, name: &str, octets: &[u8], wanted: bool) {
-    match ShutdownText::of(octets) {
-        Some(text) => assert!(rt; wanted && text.octets() == octets, "{name}"),
-        None => assert!(rt; !wanted, "{name}"),
+    let text = ShutdownText::of(octets);
+    is(rt, text.is_some(), wanted, name);
+    if let Some(text) = text {
+        is(rt, text.octets(), octets, name);
     }
 }
 
@@ -43,12 +51,19 @@ fn texts(rt: HostRuntime) {
     for (name, octets, wanted) in cases {
         is_text(&rt, name, octets, wanted);
     }
-    assert_eq!(&rt; ShutdownText::of(b""), Some(ShutdownText::NONE));
-    assert_eq!(&rt; Short::shutdown(ShutdownText::NONE), Short::note(6, 2));
+    let none = ShutdownText::NONE;
+    is(&rt, ShutdownText::of(b""), Some(none), "no text");
+    is(&rt, Short::shutdown(none), Short::note(6, 2), "a shutdown");
+}
+
+/// A fault is shown by this text.
+fn is_shown(rt: &impl Abort, alloc: Global, fault: OpenFault, text: &str) {
+    let shown = format!(in alloc; "{fault}").expect(rt, "a text");
+    is(rt, shown.as_str(), text, "a fault's text");
 }
 
 #[test]
-fn shows_faults(rt: HostRuntime) -> Result<(), Fail> {
+fn shows_faults(rt: HostRuntime) {
     let my_as = 1;
     let four = None;
     let cases = [
@@ -65,16 +80,14 @@ fn shows_faults(rt: HostRuntime) -> Result<(), Fail> {
         ),
     ];
     for (fault, text) in cases {
-        let shown = format!(in rt.alloc(); "{fault}")?;
-        assert_eq!(&rt; shown.as_str(), text);
+        is_shown(&rt, rt.alloc(), fault, text);
     }
-    Ok(())
 }
 
 #[test]
 fn limits_and_laws(rt: HostRuntime) {
-    assert_eq!(&rt; Limit::Short.octets(), 4096);
-    assert_eq!(&rt; Limit::Long.octets(), 65535);
+    is(&rt, Limit::Short.octets(), 4096, "the short limit");
+    is(&rt, Limit::Long.octets(), 65535, "the long limit");
     octets_are_one_row_of_triples();
     an_open_is_taken_where_it_is_good();
     an_open_of_ours_is_good();

@@ -1,16 +1,15 @@
 //! Bodies of OPENs and of ROUTE-REFRESHes, and what is read from them.
 
-use super::octets;
+use super::{is, octets};
 use crate::{AddressFamily, Open, OpenFault, read_open, read_refresh};
 use std::alloc::Global;
 use std::process::Abort;
-use std::test::Fail;
 
-/// What is read from the octets of a body.
-fn read(rt: &impl Abort, alloc: Global, text: &str) -> Result<Result<Open, OpenFault>, Fail> {
-    let body = octets(alloc, text)?;
+/// This is read from the octets of a body.
+fn is_read(rt: &impl Abort, alloc: Global, text: &str, want: Result<Open, OpenFault>) {
+    let body = octets(rt, alloc, text);
     assert!(rt; body.len() >= 10);
-    Ok(read_open(body.as_slice()))
+    is(rt, read_open(body.as_slice()), want, text);
 }
 
 const A: Open = Open {
@@ -24,19 +23,29 @@ const A: Open = Open {
 #[test]
 fn reads_route_refreshes(rt: HostRuntime) {
     let ipv4_unicast = AddressFamily { afi: 1, safi: 1 };
-    assert!(rt; read_refresh(b"\x00\x01\x00\x01") == ipv4_unicast);
-    assert!(rt; read_refresh(b"\x00\x01\xff\x01") == ipv4_unicast);
+    is(
+        &rt,
+        read_refresh(b"\x00\x01\x00\x01"),
+        ipv4_unicast,
+        "a body",
+    );
+    is(
+        &rt,
+        read_refresh(b"\x00\x01\xff\x01"),
+        ipv4_unicast,
+        "a body",
+    );
     let ipv6_vpn = AddressFamily { afi: 2, safi: 128 };
-    assert!(rt; read_refresh(b"\x00\x02\x00\x80") == ipv6_vpn);
+    is(&rt, read_refresh(b"\x00\x02\x00\x80"), ipv6_vpn, "a body");
     let bgp_ls = AddressFamily {
         afi: 16388,
         safi: 71,
     };
-    assert!(rt; read_refresh(b"\x40\x04\x00\x47") == bgp_ls);
+    is(&rt, read_refresh(b"\x40\x04\x00\x47"), bgp_ls, "a body");
 }
 
 #[test]
-fn reads_opens(rt: HostRuntime) -> Result<(), Fail> {
+fn reads_opens(rt: HostRuntime) {
     let cases = [
         ("04 fbf0 005a c000020b 08 0206 4104 0000fbf0", A),
         (
@@ -76,13 +85,12 @@ fn reads_opens(rt: HostRuntime) -> Result<(), Fail> {
         ),
     ];
     for (text, open) in cases {
-        assert_eq!(&rt; read(&rt, rt.alloc(), text)?, Ok(open), "{text}");
+        is_read(&rt, rt.alloc(), text, Ok(open));
     }
-    Ok(())
 }
 
 #[test]
-fn refuses_opens(rt: HostRuntime) -> Result<(), Fail> {
+fn refuses_opens(rt: HostRuntime) {
     let hold = |four| OpenFault::Hold { my_as: 64496, four };
     let identifier = |four| OpenFault::Identifier { my_as: 64496, four };
     let cases = [
@@ -137,9 +145,8 @@ fn refuses_opens(rt: HostRuntime) -> Result<(), Fail> {
         ),
     ];
     for (text, fault) in cases {
-        assert_eq!(&rt; read(&rt, rt.alloc(), text)?, Err(fault), "{text}");
+        is_read(&rt, rt.alloc(), text, Err(fault));
     }
-    Ok(())
 }
 
 /// OPENs as routers send them: the number of the AS, and the extended messages.
@@ -149,7 +156,7 @@ fn refuses_opens(rt: HostRuntime) -> Result<(), Fail> {
 /// (6793), 69 ADD-PATH (7911), 70 enhanced route refresh (7313), 71 long-lived graceful restart
 /// (9494), 73 host name and 128 route refresh before its RFC, which have none.
 #[test]
-fn takes_opens_of_other_implementations(rt: HostRuntime) -> Result<(), Fail> {
+fn takes_opens_of_other_implementations(rt: HostRuntime) {
     let cases = [
         (
             // BIRD: one parameter
@@ -185,7 +192,6 @@ fn takes_opens_of_other_implementations(rt: HostRuntime) -> Result<(), Fail> {
         ),
     ];
     for (text, open) in cases {
-        assert_eq!(&rt; read(&rt, rt.alloc(), text)?, Ok(open), "{text}");
+        is_read(&rt, rt.alloc(), text, Ok(open));
     }
-    Ok(())
 }

@@ -1,159 +1,182 @@
 //! Messages and their octets.
 
-use super::octets;
+use super::{is, octets, put};
 use crate::{
     ServerOpen, Short, ShutdownText, short_size, write_keepalive, write_note, write_open,
     write_short,
 };
 use rs_octets::Notification;
-use std::test::Fail;
+use std::alloc::Global;
+use std::process::Abort;
 
 /// What stands in a slice before it is written.
 const BLANK: u8 = 0xaa;
 
-/// Whether these octets were written at the front, and none behind them.
-fn is_written(out: &[u8], size: usize, octets: &[u8]) -> bool {
-    size == octets.len()
-        && size <= out.len()
-        && &out[..size] == octets
-        && out[size..].iter().all(|octet| *octet == BLANK)
+/// The marker of a message, and the octets that a text spells behind it.
+fn marked(rt: &impl Abort, alloc: Global, text: &str) -> Vec<u8> {
+    let mut marked = Vec::new(alloc);
+    put(rt, &mut marked, &[0xff; 16]);
+    put(rt, &mut marked, &octets(rt, alloc, text));
+    marked
+}
+
+/// These octets were written at the front, and none behind them.
+fn is_written(rt: &impl Abort, out: &[u8], size: usize, octets: &[u8], of: &str) {
+    assert!(rt; size <= out.len(), "{of}");
+    is(rt, &out[..size], octets, of);
+    let is_left = out[size..].iter().all(|octet| *octet == BLANK);
+    is(rt, is_left, true, of);
+}
+
+/// An OPEN: the AS number, multiprotocol, extended, refresh, and the octets behind the marker.
+type Row = (u32, bool, bool, bool, &'static str);
+
+const OPENS: [Row; 16] = [
+    (
+        64500,
+        false,
+        false,
+        false,
+        "0025 01 04 fbf4 005a c0000201 08 0206 4104 0000fbf4",
+    ),
+    (
+        64500,
+        false,
+        false,
+        true,
+        "0027 01 04 fbf4 005a c0000201 0a 0208 4104 0000fbf4 0200",
+    ),
+    (
+        64500,
+        false,
+        true,
+        false,
+        "0027 01 04 fbf4 005a c0000201 0a 0208 4104 0000fbf4 0600",
+    ),
+    (
+        64500,
+        false,
+        true,
+        true,
+        "0029 01 04 fbf4 005a c0000201 0c 020a 4104 0000fbf4 0600 0200",
+    ),
+    (
+        64500,
+        true,
+        false,
+        false,
+        "002b 01 04 fbf4 005a c0000201 0e 020c 0104 0001 00 01 4104 0000fbf4",
+    ),
+    (
+        64500,
+        true,
+        false,
+        true,
+        "002d 01 04 fbf4 005a c0000201 10 020e 0104 0001 00 01 4104 0000fbf4 0200",
+    ),
+    (
+        64500,
+        true,
+        true,
+        false,
+        "002d 01 04 fbf4 005a c0000201 10 020e 0104 0001 00 01 4104 0000fbf4 0600",
+    ),
+    (
+        64500,
+        true,
+        true,
+        true,
+        "002f 01 04 fbf4 005a c0000201 12 0210 0104 0001 00 01 4104 0000fbf4 0600 0200",
+    ),
+    (
+        4_200_000_000,
+        false,
+        false,
+        false,
+        "0025 01 04 5ba0 005a c0000201 08 0206 4104 fa56ea00",
+    ),
+    (
+        4_200_000_000,
+        false,
+        false,
+        true,
+        "0027 01 04 5ba0 005a c0000201 0a 0208 4104 fa56ea00 0200",
+    ),
+    (
+        4_200_000_000,
+        false,
+        true,
+        false,
+        "0027 01 04 5ba0 005a c0000201 0a 0208 4104 fa56ea00 0600",
+    ),
+    (
+        4_200_000_000,
+        false,
+        true,
+        true,
+        "0029 01 04 5ba0 005a c0000201 0c 020a 4104 fa56ea00 0600 0200",
+    ),
+    (
+        4_200_000_000,
+        true,
+        false,
+        false,
+        "002b 01 04 5ba0 005a c0000201 0e 020c 0104 0001 00 01 4104 fa56ea00",
+    ),
+    (
+        4_200_000_000,
+        true,
+        false,
+        true,
+        "002d 01 04 5ba0 005a c0000201 10 020e 0104 0001 00 01 4104 fa56ea00 0200",
+    ),
+    (
+        4_200_000_000,
+        true,
+        true,
+        false,
+        "002d 01 04 5ba0 005a c0000201 10 020e 0104 0001 00 01 4104 fa56ea00 0600",
+    ),
+    (
+        4_200_000_000,
+        true,
+        true,
+        true,
+        "002f 01 04 5ba0 005a c0000201 12 0210 0104 0001 00 01 4104 fa56ea00 0600 0200",
+    ),
+];
+
+/// What the server's OPEN says in most tests.
+const SAID: ServerOpen = ServerOpen {
+    server_as: 64500,
+    hold: 90,
+    identifier: 0xc000_0201,
+    multiprotocol: false,
+    extended: false,
+    refresh: false,
+};
+
+/// An OPEN is written as these octets.
+fn open_is_written(rt: &impl Abort, alloc: Global, said: &ServerOpen, text: &str) {
+    let wanted = marked(rt, alloc, text);
+    let mut out = [BLANK; 50];
+    assert!(rt; short_size(&Short::Open, said) <= 50);
+    let size = write_open(said, &mut out);
+    is_written(rt, &out, size, &wanted, text);
 }
 
 #[test]
-fn writes_opens(rt: HostRuntime) -> Result<(), Fail> {
-    let marker = "ffffffff ffffffff ffffffff ffffffff";
-    // the AS number, multiprotocol, extended, refresh, and the octets behind the marker
-    let cases = [
-        (
-            64500,
-            false,
-            false,
-            false,
-            "0025 01 04 fbf4 005a c0000201 08 0206 4104 0000fbf4",
-        ),
-        (
-            64500,
-            false,
-            false,
-            true,
-            "0027 01 04 fbf4 005a c0000201 0a 0208 4104 0000fbf4 0200",
-        ),
-        (
-            64500,
-            false,
-            true,
-            false,
-            "0027 01 04 fbf4 005a c0000201 0a 0208 4104 0000fbf4 0600",
-        ),
-        (
-            64500,
-            false,
-            true,
-            true,
-            "0029 01 04 fbf4 005a c0000201 0c 020a 4104 0000fbf4 0600 0200",
-        ),
-        (
-            64500,
-            true,
-            false,
-            false,
-            "002b 01 04 fbf4 005a c0000201 0e 020c 0104 0001 00 01 4104 0000fbf4",
-        ),
-        (
-            64500,
-            true,
-            false,
-            true,
-            "002d 01 04 fbf4 005a c0000201 10 020e 0104 0001 00 01 4104 0000fbf4 0200",
-        ),
-        (
-            64500,
-            true,
-            true,
-            false,
-            "002d 01 04 fbf4 005a c0000201 10 020e 0104 0001 00 01 4104 0000fbf4 0600",
-        ),
-        (
-            64500,
-            true,
-            true,
-            true,
-            "002f 01 04 fbf4 005a c0000201 12 0210 0104 0001 00 01 4104 0000fbf4 0600 0200",
-        ),
-        (
-            4_200_000_000,
-            false,
-            false,
-            false,
-            "0025 01 04 5ba0 005a c0000201 08 0206 4104 fa56ea00",
-        ),
-        (
-            4_200_000_000,
-            false,
-            false,
-            true,
-            "0027 01 04 5ba0 005a c0000201 0a 0208 4104 fa56ea00 0200",
-        ),
-        (
-            4_200_000_000,
-            false,
-            true,
-            false,
-            "0027 01 04 5ba0 005a c0000201 0a 0208 4104 fa56ea00 0600",
-        ),
-        (
-            4_200_000_000,
-            false,
-            true,
-            true,
-            "0029 01 04 5ba0 005a c0000201 0c 020a 4104 fa56ea00 0600 0200",
-        ),
-        (
-            4_200_000_000,
-            true,
-            false,
-            false,
-            "002b 01 04 5ba0 005a c0000201 0e 020c 0104 0001 00 01 4104 fa56ea00",
-        ),
-        (
-            4_200_000_000,
-            true,
-            false,
-            true,
-            "002d 01 04 5ba0 005a c0000201 10 020e 0104 0001 00 01 4104 fa56ea00 0200",
-        ),
-        (
-            4_200_000_000,
-            true,
-            true,
-            false,
-            "002d 01 04 5ba0 005a c0000201 10 020e 0104 0001 00 01 4104 fa56ea00 0600",
-        ),
-        (
-            4_200_000_000,
-            true,
-            true,
-            true,
-            "002f 01 04 5ba0 005a c0000201 12 0210 0104 0001 00 01 4104 fa56ea00 0600 0200",
-        ),
-    ];
-    for (server_as, multiprotocol, extended, refresh, text) in cases {
+fn writes_opens(rt: HostRuntime) {
+    for (server_as, multiprotocol, extended, refresh, text) in OPENS {
         let said = ServerOpen {
             server_as,
-            hold: 90,
-            identifier: 0xc000_0201,
             multiprotocol,
             extended,
             refresh,
+            ..SAID
         };
-        let mut wanted = octets(rt.alloc(), marker)?;
-        wanted.extend_from_slice(octets(rt.alloc(), text)?.as_slice())?;
-        let mut out = [BLANK; 50];
-        assert!(&rt; short_size(&Short::Open, &said) <= 50);
-        let size = write_open(&said, &mut out);
-        assert!(&rt; is_written(&out, size, wanted.as_slice()), "{text}");
+        open_is_written(&rt, rt.alloc(), &said, text);
     }
-    Ok(())
 }
 
 #[test]
@@ -167,26 +190,29 @@ fn writes_a_shutdown(rt: HostRuntime) {
         count,
     } = Short::shutdown(text)
     else {
-        return assert!(&rt; false, "no NOTIFICATION");
+        return assert!(rt; false, "no NOTIFICATION");
     };
     let mut out = [BLANK; 150];
-    assert_eq!(&rt; write_note(code, sub, extra, count, &mut out), 77);
-    assert!(&rt; out[..16] == [0xff; 16]);
-    assert!(&rt; out[16..22] == [0x00, 0x4d, 0x03, 0x06, 0x02, 0x37]);
-    assert!(&rt; &out[22..77] == said.as_bytes());
-    assert_eq!(&rt; out[77], BLANK);
+    let size = write_note(code, sub, extra, count, &mut out);
+    is(&rt, size, 77, "the octets of a shutdown");
+    let mut wanted = marked(&rt, rt.alloc(), "004d 03 06 02 37");
+    put(&rt, &mut wanted, said.as_bytes());
+    is_written(&rt, &out, size, &wanted, "a shutdown");
+}
+
+/// A message is written as these octets.
+fn short_is_written(rt: &impl Abort, alloc: Global, short: &Short, text: &str) {
+    let wanted = marked(rt, alloc, text);
+    let mut out = [BLANK; 50];
+    let size = short_size(short, &SAID);
+    is(rt, size, wanted.len(), text);
+    assert!(rt; size <= 50);
+    let written = write_short(short, &SAID, &mut out);
+    is_written(rt, &out, written, &wanted, text);
 }
 
 #[test]
-fn writes_short_messages(rt: HostRuntime) -> Result<(), Fail> {
-    let said = ServerOpen {
-        server_as: 64500,
-        hold: 90,
-        identifier: 0xc000_0201,
-        multiprotocol: false,
-        extended: false,
-        refresh: false,
-    };
+fn writes_short_messages(rt: HostRuntime) {
     let cases = [
         (
             Short::Open,
@@ -209,17 +235,17 @@ fn writes_short_messages(rt: HostRuntime) -> Result<(), Fail> {
         (Short::of(Notification::HoldTimerExpired), "0015 03 04 00"),
     ];
     for (short, text) in cases {
-        let mut wanted = octets(rt.alloc(), "ffffffff ffffffff ffffffff ffffffff")?;
-        wanted.extend_from_slice(octets(rt.alloc(), text)?.as_slice())?;
-        let mut out = [BLANK; 50];
-        let size = short_size(&short, &said);
-        assert_eq!(&rt; size, wanted.len(), "{text}");
-        let written = write_short(&short, &said, &mut out);
-        assert!(&rt; is_written(&out, written, wanted.as_slice()), "{text}");
+        short_is_written(&rt, rt.alloc(), &short, text);
     }
+}
+
+#[test]
+fn writes_a_keepalive_and_a_notification(rt: HostRuntime) {
     let mut out = [BLANK; 50];
-    assert_eq!(&rt; write_keepalive(&mut out), 19);
-    assert_eq!(&rt; write_note(6, 1, [7; 129], 1, &mut out), 22);
-    assert!(&rt; &out[16..23] == [0x00, 0x16, 0x03, 0x06, 0x01, 0x07, BLANK].as_slice());
-    Ok(())
+    let size = write_keepalive(&mut out);
+    is(&rt, size, 19, "the octets of a KEEPALIVE");
+    let size = write_note(6, 1, [7; 129], 1, &mut out);
+    is(&rt, size, 22, "the octets of a NOTIFICATION");
+    let wanted = marked(&rt, rt.alloc(), "0016 03 06 01 07");
+    is_written(&rt, &out, size, &wanted, "a NOTIFICATION");
 }
