@@ -8,7 +8,18 @@ use crate::{
 };
 use std::alloc::{AllocError, Global};
 use std::cmp::Ordering;
+use std::fmt::Debug;
 use std::process::Abort;
+
+/// This is found, and this was wanted, of what the text names.
+fn is<T: Debug + PartialEq + Drop>(rt: &impl Abort, found: T, want: T, of: &str) {
+    assert_eq!(rt; found, want, "{of}");
+}
+
+/// What the text says holds.
+fn holds(rt: &impl Abort, is_so: bool, what: &str) {
+    assert!(rt; is_so, "{what}");
+}
 
 const PLAIN: Allowed = Allowed {
     long: false,
@@ -29,18 +40,25 @@ fn headed(high: u8, low: u8, number: u8) -> [u8; 19] {
     octets
 }
 
-fn is_head(octets: &[u8; 19], allowed: Allowed, length: u16, kind: Kind) -> bool {
-    header(octets, allowed) == Ok(Head { length, kind })
+/// The octets are a header of this length and type.
+fn is_head(rt: &impl Abort, octets: &[u8; 19], allowed: Allowed, length: u16, kind: Kind) {
+    let want = Head { length, kind };
+    is(rt, header(octets, allowed), Ok(want), "a header");
 }
 
 #[test]
 fn reads_headers(rt: HostRuntime) {
-    assert!(rt; is_head(&headed(0, 37, 1), PLAIN, 37, Kind::Open));
-    assert!(rt; is_head(&headed(0, 47, 2), PLAIN, 47, Kind::Update));
-    assert!(rt; is_head(&headed(0, 21, 3), PLAIN, 21, Kind::Note));
-    assert!(rt; is_head(&headed(0, 19, 4), PLAIN, 19, Kind::Keepalive));
-    assert!(rt; is_head(&headed(0, 23, 5), ALL, 23, Kind::Refresh));
-    assert!(rt; is_head(&headed(255, 255, 2), ALL, 65535, Kind::Update));
+    is_head(&rt, &headed(0, 37, 1), PLAIN, 37, Kind::Open);
+    is_head(&rt, &headed(0, 47, 2), PLAIN, 47, Kind::Update);
+    is_head(&rt, &headed(0, 21, 3), PLAIN, 21, Kind::Note);
+    is_head(&rt, &headed(0, 19, 4), PLAIN, 19, Kind::Keepalive);
+    is_head(&rt, &headed(0, 23, 5), ALL, 23, Kind::Refresh);
+    is_head(&rt, &headed(255, 255, 2), ALL, 65535, Kind::Update);
+}
+
+/// The octets are refused for this fault.
+fn is_refused(rt: &impl Abort, octets: &[u8; 19], allowed: Allowed, fault: HeaderFault) {
+    is(rt, header(octets, allowed), Err(fault), "a header");
 }
 
 #[test]
@@ -55,32 +73,46 @@ fn refuses_headers(rt: HostRuntime) {
         (headed(16, 1, 9), PLAIN, HeaderFault::Length(4097)),
     ];
     for (octets, allowed, fault) in cases {
-        assert!(rt; header(&octets, allowed) == Err(fault), "{fault}");
+        is_refused(&rt, &octets, allowed, fault);
     }
     let mut octets = headed(0, 19, 4);
     octets[15] = 0;
-    assert!(rt; header(&octets, PLAIN) == Err(HeaderFault::Marker));
+    is_refused(&rt, &octets, PLAIN, HeaderFault::Marker);
+}
+
+/// Types, each with its number and the least and the greatest length.
+const TYPES: [(Kind, u8, u16, u16); 5] = [
+    (Kind::Open, 1, 29, 4096),
+    (Kind::Update, 2, 23, 65535),
+    (Kind::Note, 3, 21, 65535),
+    (Kind::Keepalive, 4, 19, 19),
+    (Kind::Refresh, 5, 23, 23),
+];
+
+/// A type has this number and these lengths.
+fn is_type(rt: &impl Abort, kind: Kind, number: u8, least: u16, greatest: u16) {
+    is(rt, kind.number(), number, "the number");
+    is(rt, kind.least_length(), least, "the least length");
+    is(rt, kind.greatest_length(ALL), greatest, "the greatest");
+}
+
+/// The header of a type's shortest message is written and read again.
+fn is_written(rt: &impl Abort, kind: Kind, least: u16) {
+    let mut out = [7; 19];
+    let size = put_header(&mut out, least, kind);
+    is(rt, size, 19, "the octets of a header");
+    is_head(rt, &out, ALL, least, kind);
 }
 
 #[test]
 fn writes_headers(rt: HostRuntime) {
-    let types = [
-        (Kind::Open, 1, 29, 4096),
-        (Kind::Update, 2, 23, 65535),
-        (Kind::Note, 3, 21, 65535),
-        (Kind::Keepalive, 4, 19, 19),
-        (Kind::Refresh, 5, 23, 23),
-    ];
-    for (kind, number, least, greatest) in types {
-        assert_eq!(rt; kind.number(), number);
-        assert_eq!(rt; kind.least_length(), least);
-        assert_eq!(rt; kind.greatest_length(ALL), greatest);
-        let mut out = [7; 19];
-        assert_eq!(rt; put_header(&mut out, least, kind), 19);
-        assert!(rt; is_head(&out, ALL, least, kind));
+    for (kind, number, least, greatest) in TYPES {
+        is_type(&rt, kind, number, least, greatest);
+        is_written(&rt, kind, least);
     }
-    assert_eq!(rt; Kind::Update.greatest_length(PLAIN), 4096);
-    assert_eq!(rt; AS_TRANS, 23456);
+    let greatest = Kind::Update.greatest_length(PLAIN);
+    is(&rt, greatest, 4096, "the greatest length");
+    is(&rt, AS_TRANS, 23456, "AS_TRANS");
 }
 
 /// A KEEPALIVE, the withdrawal of 198.51.100.0/24, and 18 octets of the next header.
@@ -104,34 +136,34 @@ fn wanted(octets: &[u8]) -> Option<usize> {
     }
 }
 
+/// A message of this type and body is in front; answers the octets behind it.
+fn behind<'a>(rt: &impl Abort, octets: &'a [u8], kind: Kind, body: &[u8]) -> &'a [u8] {
+    let (found, read, rest) = message_in(octets).expect(rt, "a message");
+    is(rt, found, kind, "the type");
+    is(rt, read, body, "the body");
+    rest
+}
+
 #[test]
 fn reads_messages_from_the_front(rt: HostRuntime) {
-    assert_eq!(rt; THREE.len(), 64);
-    let first = message_in(THREE);
-    assert!(rt; first.is_some());
-    if let Some((kind, body, rest)) = first {
-        assert!(rt; kind == Kind::Keepalive && body.is_empty());
-        assert_eq!(rt; rest.len(), 45);
-        let second = message_in(rest);
-        assert!(rt; second.is_some());
-        if let Some((kind, body, rest)) = second {
-            assert!(rt; kind == Kind::Update);
-            assert!(rt; body == b"\x00\x04\x18\xc6\x33\x64\x00\x00".as_slice());
-            assert_eq!(rt; rest.len(), 18);
-            assert!(rt; wanted(rest) == Some(1));
-        }
-    }
+    is(&rt, THREE.len(), 64, "octets");
+    let rest = behind(&rt, THREE, Kind::Keepalive, b"");
+    is(&rt, rest.len(), 45, "octets behind the first");
+    let withdrawal = b"\x00\x04\x18\xc6\x33\x64\x00\x00";
+    let rest = behind(&rt, rest, Kind::Update, withdrawal);
+    is(&rt, rest.len(), 18, "octets behind the second");
+    is(&rt, wanted(rest), Some(1), "octets wanted");
 }
 
 #[test]
 fn wants_the_header_and_then_the_message(rt: HostRuntime) {
-    assert!(rt; wanted(&[]) == Some(19));
+    is(&rt, wanted(&[]), Some(19), "octets wanted at first");
     let update = &THREE[19..46];
     for come in 0..27 {
         let more = if come < 19 { 19 - come } else { 27 - come };
-        assert!(rt; wanted(&update[..come]) == Some(more));
+        is(&rt, wanted(&update[..come]), Some(more), "octets wanted");
     }
-    assert!(rt; message_in(update).is_some());
+    holds(&rt, message_in(update).is_some(), "a message is read");
 }
 
 #[test]
@@ -141,17 +173,17 @@ fn finds_the_fault_of_a_header(rt: HostRuntime) {
         Front::Fault(fault) => fault == HeaderFault::Kind(5),
         Front::Message { .. } | Front::Wants(_) => false,
     };
-    assert!(rt; is_fault);
+    holds(&rt, is_fault, "the type is none");
     let is_wanted = match read_front(&header, ALL) {
         Front::Wants(more) => more == 4,
         Front::Message { .. } | Front::Fault(_) => false,
     };
-    assert!(rt; is_wanted);
+    holds(&rt, is_wanted, "four octets are wanted");
 }
 
 /// What is shown is this text.
 fn is_shown(rt: &impl Abort, shown: Result<String, AllocError>, want: &str) {
-    assert_eq!(rt; shown.expect(rt, "a text").as_str(), want);
+    is(rt, shown.expect(rt, "a text").as_str(), want, "a text");
 }
 
 /// A fault of a header is shown by this text.
@@ -181,9 +213,9 @@ fn faults_have_texts(rt: HostRuntime) {
 /// A prefix has these bits, and spelt it takes so many octets.
 fn is_prefix(rt: &impl Abort, made: Option<Prefix>, bits: u32, len: u8, size: usize) {
     let prefix = made.expect(rt, "a prefix of a length of at most 32");
-    assert_eq!(rt; prefix.bits(), bits);
-    assert_eq!(rt; prefix.len(), len);
-    assert_eq!(rt; prefix.size(), size);
+    is(rt, prefix.bits(), bits, "bits");
+    is(rt, prefix.len(), len, "length");
+    is(rt, prefix.size(), size, "octets");
 }
 
 #[test]
@@ -199,8 +231,17 @@ fn makes_prefixes(rt: HostRuntime) {
     for (given, len, bits, size) in cases {
         is_prefix(&rt, Prefix::new(given, len), bits, len, size);
     }
-    assert!(rt; Prefix::new(0, 33).is_none());
-    assert!(rt; Prefix::new(0, 255).is_none());
+    is(&rt, Prefix::new(0, 33), None, "a length of 33");
+    is(&rt, Prefix::new(0, 255), None, "a length of 255");
+}
+
+/// The first of two is less than the second.
+fn rises(rt: &impl Abort, first: Option<Prefix>, second: Option<Prefix>) {
+    holds(rt, first < second, "the first is less");
+    if let (Some(a), Some(b)) = (first, second) {
+        let order = laws::order_of(&a, &b);
+        is(rt, order, Ordering::Less, "the order");
+    }
 }
 
 #[test]
@@ -214,11 +255,16 @@ fn orders_prefixes(rt: HostRuntime) {
         Prefix::new(0xc000_0000, 2),
     ];
     for pair in rising.windows(2) {
-        assert!(rt; pair[0] < pair[1]);
-        if let (Some(a), Some(b)) = (pair[0], pair[1]) {
-            assert!(rt; laws::order_of(&a, &b) == Ordering::Less);
-        }
+        rises(&rt, pair[0], pair[1]);
     }
+}
+
+/// What a field has next.
+type Item = Option<Result<Prefix, FieldFault>>;
+
+/// This prefix is next.
+fn good(bits: u32, len: u8) -> Item {
+    Some(Prefix::new(bits, len).ok_or(FieldFault::Cut))
 }
 
 #[test]
@@ -226,16 +272,25 @@ fn reads_fields(rt: HostRuntime) {
     // 198.51.100.0/24, 198.51.100.128/25 with a bit behind its length, 0.0.0.0/0, and a length of 33
     let field = b"\x18\xc6\x33\x64\x19\xc6\x33\x64\xff\x00\x21\xc6\x18\xc6\x33\x64";
     let mut items = read_prefixes(field);
-    assert!(rt; items.next() == Some(Prefix::new(0xc633_6400, 24).ok_or(FieldFault::Cut)));
-    assert!(rt; items.next() == Some(Prefix::new(0xc633_6480, 25).ok_or(FieldFault::Cut)));
-    assert!(rt; items.next() == Some(Prefix::new(0, 0).ok_or(FieldFault::Cut)));
-    assert!(rt; items.next() == Some(Err(FieldFault::TooLong)));
-    assert!(rt; items.next().is_none());
-    assert!(rt; items.next().is_none());
+    is(&rt, items.next(), good(0xc633_6400, 24), "the first");
+    is(&rt, items.next(), good(0xc633_6480, 25), "the second");
+    is(&rt, items.next(), good(0, 0), "the third");
+    is(&rt, items.next(), Some(Err(FieldFault::TooLong)), "a fault");
+    is(&rt, items.next(), None, "nothing behind a fault");
+    is(&rt, items.next(), None, "nothing again");
+}
+
+#[test]
+fn reads_short_fields(rt: HostRuntime) {
     let mut items = read_prefixes(b"\x18\xc6");
-    assert!(rt; items.next() == Some(Err(FieldFault::Cut)));
-    assert!(rt; items.next().is_none());
-    assert!(rt; read_prefixes(b"").next().is_none());
+    is(
+        &rt,
+        items.next(),
+        Some(Err(FieldFault::Cut)),
+        "a cut prefix",
+    );
+    is(&rt, items.next(), None, "nothing behind it");
+    is(&rt, read_prefixes(b"").next(), None, "nothing in no field");
 }
 
 #[test]
@@ -248,6 +303,7 @@ fn writes_prefixes(rt: HostRuntime) {
     if let Some(prefix) = Prefix::new(0x0a00_0000, 8) {
         let _ = put_prefix(&mut out, 6, &prefix);
     }
-    assert_eq!(rt; end, 6);
-    assert!(rt; out == *b"\xfe\x19\xc6\x33\x64\x80\x08\x0a\x07\x07\x07\x07");
+    is(&rt, end, 6, "the end of the first prefix");
+    let want = *b"\xfe\x19\xc6\x33\x64\x80\x08\x0a\x07\x07\x07\x07";
+    is(&rt, out, want, "the octets");
 }

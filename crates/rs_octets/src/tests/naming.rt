@@ -1,24 +1,20 @@
 //! Names of error codes and subcodes, and their texts.
 
+use super::{is, is_shown};
 use crate::Notification;
 use std::alloc::Global;
 use std::process::Abort;
-use std::test::Fail;
 
-/// Whether a name, its error code and subcode and its text belong together.
-fn belong(rt: &impl Abort, name: Notification, code: u8, sub: u8) {
-    assert_eq!(rt; name.code(), code);
-    assert_eq!(rt; name.sub(), sub);
-    assert_eq!(rt; Notification::named(code, sub), Some(name));
-}
-
-fn shows(alloc: Global, name: Notification, text: &str) -> Result<bool, Fail> {
-    let shown = format!(in alloc; "{name}")?;
-    Ok(shown.as_str() == text)
+/// A name, its error code and subcode and its text belong together.
+fn belong(rt: &impl Abort, alloc: Global, name: Notification, code: u8, sub: u8, text: &str) {
+    is(rt, name.code(), code, text);
+    is(rt, name.sub(), sub, text);
+    is(rt, Notification::named(code, sub), Some(name), text);
+    is_shown(rt, format!(in alloc; "{name}"), text);
 }
 
 #[test]
-fn names_notifications(rt: HostRuntime) -> Result<(), Fail> {
+fn names_notifications(rt: HostRuntime) {
     let cases = [
         (
             Notification::ConnectionNotSynchronized,
@@ -64,14 +60,12 @@ fn names_notifications(rt: HostRuntime) -> Result<(), Fail> {
         ),
     ];
     for (name, code, sub, text) in cases {
-        belong(&rt, name, code, sub);
-        assert!(&rt; shows(rt.alloc(), name, text)?, "{text}");
+        belong(&rt, rt.alloc(), name, code, sub, text);
     }
-    Ok(())
 }
 
 #[test]
 fn names_nothing_else(rt: HostRuntime) {
-    assert_eq!(&rt; Notification::named(2, 5), None);
-    assert_eq!(&rt; Notification::named(9, 0), None);
+    is(&rt, Notification::named(2, 5), None, "(2, 5)");
+    is(&rt, Notification::named(9, 0), None, "(9, 0)");
 }
