@@ -1,9 +1,8 @@
 //! The command line of rs_replay.
 
-use crate::arguments::{config, flag, number, text_of, texts_of};
+use crate::arguments::{CONFIG, Row, Rule, Takes, command_of, text_of, texts_of};
 use crate::asked::CommandLine;
-use crate::version::VERSION;
-use clap::{Arg, ArgAction, ArgMatches, Command};
+use clap::{ArgMatches, Command};
 use std::alloc::{AllocError, Global};
 
 /// What to play.
@@ -23,42 +22,49 @@ pub struct Options {
     pub tables: Vec<String>,
 }
 
+/// The options, as the help lists them.
+const ROWS: [Row; 6] = [
+    Row {
+        rules: &[Rule::Letter('c'), Rule::Required],
+        ..CONFIG
+    },
+    Row {
+        name: "workers",
+        takes: Takes::Number(16),
+        rules: &[Rule::Default("1")],
+        help: "how many workers share the work of a turn, 1 to 16",
+    },
+    Row {
+        name: "progress",
+        takes: Takes::Nothing,
+        rules: &[],
+        help: "print on standard error, where it is a terminal, how many lines were read and UPDATEs heard, and how much is left of a file",
+    },
+    Row {
+        name: "compare",
+        takes: Takes::Word("FILE"),
+        rules: &[],
+        help: "hold what another server sent, as this file says, against what is due at the end",
+    },
+    Row {
+        name: "until",
+        takes: Takes::Number(u32::MAX),
+        rules: &[],
+        help: "play only the first N lines",
+    },
+    Row {
+        name: "table",
+        takes: Takes::Words("NAME"),
+        rules: &[],
+        help: "list the routes of this client at the end; may be given more than once",
+    },
+];
+
 impl CommandLine for Options {
     fn command<'a>(alloc: Global) -> Result<Command<'a>, AllocError> {
-        Command::new(alloc, "rs_replay")
-            .version(VERSION)
-            .about(
-                "Plays a recorded session from standard input to a route server and writes what its clients are sent",
-            )
-            .arg(config(alloc))?
-            .arg(number(
-                alloc,
-                "workers",
-                16,
-                "how many workers share the work of a turn, 1 to 16",
-            )
-            .default_value("1"))?
-            .arg(flag(
-                alloc,
-                "progress",
-                "print on standard error, where it is a terminal, how many lines were read and UPDATEs heard, and how much is left of a file",
-            ))?
-            .arg(
-                Arg::new(alloc, "compare")
-                    .long("compare")
-                    .value_name("FILE")
-                    .help(
-                        "hold what another server sent, as this file says, against what is due at the end",
-                    ),
-            )?
-            .arg(number(alloc, "until", u32::MAX, "play only the first N lines"))?
-            .arg(
-                Arg::new(alloc, "table")
-                    .long("table")
-                    .value_name("NAME")
-                    .action(ArgAction::Append)
-                    .help("list the routes of this client at the end; may be given more than once"),
-            )
+        let about =
+            "Plays a recorded session from standard input to a route server and writes what its clients are sent";
+        command_of(alloc, "rs_replay", about, &ROWS)
     }
 
     fn read(alloc: Global, matches: &ArgMatches<'_>) -> Result<Options, AllocError> {

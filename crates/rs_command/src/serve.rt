@@ -1,9 +1,8 @@
 //! The command line of rs_served.
 
-use crate::arguments::{config, flag, number, text_of, texts_of};
+use crate::arguments::{CONFIG, Row, Rule, Takes, command_of, text_of, texts_of};
 use crate::asked::CommandLine;
-use crate::version::VERSION;
-use clap::{Arg, ArgMatches, Command};
+use clap::{ArgMatches, Command};
 use std::alloc::{AllocError, Global};
 
 /// How much is told on standard error.
@@ -57,112 +56,84 @@ fn level_of(name: Option<&str>) -> Option<LogLevel> {
     }
 }
 
-/// `--log` or `--log LEVEL`.
-fn log<'a>(alloc: Global) -> Arg<'a> {
-    Arg::new(alloc, "log")
-        .long("log")
-        .value_name("LEVEL")
-        .num_args(0..=1)
-        .default_missing_value("route")
-        .value_parser(LEVELS)
-        .help(
-            "print on standard error what happens, and why: what goes wrong, what changes too, or all",
-        )
-}
-
-/// `--record FILE`.
-fn record<'a>(alloc: Global) -> Arg<'a> {
-    Arg::new(alloc, "record")
-        .long("record")
-        .value_name("FILE")
-        .help(
-            "record the run for rs_replay in FILE, and the configuration in FILE.toml, which must not be there",
-        )
-}
-
-/// `--record-size N`.
-fn record_size<'a>(alloc: Global) -> Result<Arg<'a>, AllocError> {
-    number(
-        alloc,
-        "record-size",
-        u32::MAX,
-        "begin FILE.1, FILE.2 and so on, each behind N MiB",
-    )
-    .requires_arg("record")
-}
-
-/// `--window ADDRESS:PORT`.
-fn window<'a>(alloc: Global) -> Arg<'a> {
-    Arg::new(alloc, "window")
-        .long("window")
-        .value_name("ADDRESS:PORT")
-        .help("show the server over HTTP there, as at 127.0.0.1:8080, to read alone")
-}
-
-/// `--control PATH`.
-fn control<'a>(alloc: Global) -> Arg<'a> {
-    Arg::new(alloc, "control")
-        .long("control")
-        .value_name("PATH")
-        .help("take commands at this Unix socket, which the server makes")
-}
-
-/// `--ask COMMAND`.
-fn ask<'a>(alloc: Global) -> Result<Arg<'a>, AllocError> {
-    Arg::new(alloc, "ask")
-        .long("ask")
-        .value_name("COMMAND")
-        .help(
-            "ask the server whose control socket it is, in place of serving: help lists the commands",
-        )
-        .conflicts_with("config")?
-        .requires_arg("control")
-}
+/// The options, as the help lists them.
+const ROWS: [Row; 12] = [
+    Row {
+        rules: &[Rule::Letter('c'), Rule::RequiredWithout("ask")],
+        ..CONFIG
+    },
+    Row {
+        name: "workers",
+        takes: Takes::Number(16),
+        rules: &[],
+        help: "how many threads decide where much has changed, 1 to 16 (1 if missing)",
+    },
+    Row {
+        name: "sessions",
+        takes: Takes::Number(u32::MAX),
+        rules: &[],
+        help: "end once so many sessions have ended",
+    },
+    Row {
+        name: "reload",
+        takes: Takes::Number(65535),
+        rules: &[],
+        help: "read the configuration again every N rounds, and use its rules where they are good",
+    },
+    Row {
+        name: "window",
+        takes: Takes::Word("ADDRESS:PORT"),
+        rules: &[],
+        help: "show the server over HTTP there, as at 127.0.0.1:8080, to read alone",
+    },
+    Row {
+        name: "control",
+        takes: Takes::Word("PATH"),
+        rules: &[],
+        help: "take commands at this Unix socket, which the server makes",
+    },
+    Row {
+        name: "ask",
+        takes: Takes::Word("COMMAND"),
+        rules: &[Rule::Excludes("config"), Rule::Needs("control")],
+        help: "ask the server whose control socket it is, in place of serving: help lists the commands",
+    },
+    Row {
+        name: "log",
+        takes: Takes::OneOf("LEVEL", LEVELS),
+        rules: &[Rule::DefaultWord("route")],
+        help: "print on standard error what happens, and why: what goes wrong, what changes too, or all",
+    },
+    Row {
+        name: "utc",
+        takes: Takes::Nothing,
+        rules: &[],
+        help: "begin these lines with the time of day, in place of the seconds since the start",
+    },
+    Row {
+        name: "record",
+        takes: Takes::Word("FILE"),
+        rules: &[],
+        help: "record the run for rs_replay in FILE, and the configuration in FILE.toml, which must not be there",
+    },
+    Row {
+        name: "record-size",
+        takes: Takes::Number(u32::MAX),
+        rules: &[Rule::Needs("record")],
+        help: "begin FILE.1, FILE.2 and so on, each behind N MiB",
+    },
+    Row {
+        name: "check",
+        takes: Takes::Nothing,
+        rules: &[],
+        help: "only read the configuration, and say whether it is good",
+    },
+];
 
 impl CommandLine for Options {
     fn command<'a>(alloc: Global) -> Result<Command<'a>, AllocError> {
-        Command::new(alloc, "rs_served")
-            .version(VERSION)
-            .about("A BGP-4 route server for internet exchanges")
-            .arg(
-                config(alloc)
-                    .required(false)
-                    .required_unless_present("ask")?,
-            )?
-            .arg(number(
-                alloc,
-                "workers",
-                16,
-                "how many threads decide where much has changed, 1 to 16 (1 if missing)",
-            ))?
-            .arg(number(
-                alloc,
-                "sessions",
-                u32::MAX,
-                "end once so many sessions have ended",
-            ))?
-            .arg(number(
-                alloc,
-                "reload",
-                u32::from(u16::MAX),
-                "read the configuration again every N rounds, and use its rules where they are good",
-            ))?
-            .arg(window(alloc))?
-            .arg(control(alloc))?
-            .arg(ask(alloc)?)?
-            .arg(log(alloc))?
-            .arg(flag(
-                alloc,
-                "utc",
-                "begin these lines with the time of day, in place of the seconds since the start",
-            ))?
-            .arg(record(alloc))?
-            .arg(record_size(alloc)?)?
-            .arg(flag(
-                alloc,
-                "check",
-                "only read the configuration, and say whether it is good",
-            ))
+        let about = "A BGP-4 route server for internet exchanges";
+        command_of(alloc, "rs_served", about, &ROWS)
     }
 
     fn read(alloc: Global, matches: &ArgMatches<'_>) -> Result<Options, AllocError> {
