@@ -1,11 +1,12 @@
 //! The line that says more of a fault: where it is, what stands there, and what is expected.
 
-use crate::files::{Files, Source};
+use crate::files::{Files, Position, Source};
 use crate::find::{Spot, Step};
-use crate::forms::{form, is_known};
-use crate::place::{spot, steps_to, steps_to_table, value_at};
+use crate::forms::{form, strangers, uses_others};
+use crate::place::{entries_at, spot, steps_to, steps_to_table, value_at};
 use rs_policy::{ConfigFault, Key, Place, Table, known_keys};
 use std::alloc::{AllocError, Global};
+use std::fmt;
 use toml::value::Value;
 
 /// How many characters of a value are shown.
@@ -17,9 +18,8 @@ pub(crate) fn not_utf_8_line(
     files: &Files<'_>,
     front: usize,
 ) -> Result<String, AllocError> {
-    let mut line = files.position(alloc, front)?;
-    line.push_str("not UTF-8")?;
-    Ok(line)
+    let at = files.position(front);
+    format!(in alloc; "{at}not UTF-8")
 }
 
 /// Where a text is no TOML document, and why.
@@ -31,72 +31,70 @@ pub(crate) fn syntax_line(
     let Some(span) = error.span() else {
         return Err(AllocError);
     };
-    let mut line = files.position(alloc, span.start)?;
-    line.push_str(error.message())?;
-    Ok(line)
+    let at = files.position(span.start);
+    format!(in alloc; "{at}{}", error.message())
 }
 
 /// A text up to the end of its line or another character that a terminal would obey, or to as many as are shown.
-fn shown(alloc: Global, text: &str) -> Result<String, AllocError> {
-    let mut line = String::new(alloc);
-    for (index, character) in text.chars().enumerate() {
-        if index == SHOWN || character.is_control() && character != '\t' {
-            line.push_str("..")?;
-            break;
+#[derive(Drop)]
+struct Shown<'a>(&'a str);
+
+impl fmt::Display for Shown<'_> {
+    fn fmt<W: fmt::Write>(&self, f: &mut fmt::Formatter<W>) -> fmt::Result {
+        for (index, character) in self.0.chars().enumerate() {
+            if index == SHOWN || character.is_control() && character != '\t' {
+                return f.write_str("..");
+            }
+            f.write_char(character)?;
         }
-        line.push(character)?;
+        Ok(())
     }
-    Ok(line)
 }
 
-/// Where something stands, as a line begins with it; nothing where it wasn't found.
-fn position_at(alloc: Global, files: &Files<'_>, spot: Option<Spot>) -> Result<String, AllocError> {
+/// Keys, a space before each.
+#[derive(Drop)]
+struct Keys<'a>(&'a [Key]);
+
+impl fmt::Display for Keys<'_> {
+    fn fmt<W: fmt::Write>(&self, f: &mut fmt::Formatter<W>) -> fmt::Result {
+        for key in self.0 {
+            f.write_char(' ')?;
+            f.write_str(key.text())?;
+        }
+        Ok(())
+    }
+}
+
+/// Where something stands in a text.
+fn position_at<'a>(source: &Source<'a>, spot: Option<Spot>) -> Position<'a> {
     match spot {
-        None => Ok(String::new(alloc)),
-        Some(Spot::Header { start, stop: _ }) => files.position(alloc, start),
-        Some(
-            Spot::Value {
-                key: _,
-                start,
-                stop: _,
-            },
-        ) => files.position(alloc, start),
+        None => Position::Unknown,
+        Some(spot) => source.files.position(spot.start()),
     }
 }
 
-/// The same of what the steps lead to.
-pub(crate) fn position_of(
+/// Where that stands which the steps lead to.
+pub(crate) fn position_of<'a>(
     alloc: Global,
-    source: &Source<'_>,
+    source: &Source<'a>,
     steps: &[Step<'_>],
-) -> Result<String, AllocError> {
-    position_at(alloc, &source.files, spot(alloc, source.text, steps)?)
+) -> Result<Position<'a>, AllocError> {
+    Ok(position_at(source, spot(alloc, source.text, steps)?))
 }
 
-/// A value as it stands in the text; where it wasn't found there, as it is printed.
-fn value_shown(
-    alloc: Global,
-    text: &str,
-    spot: Option<Spot>,
-    value: Option<&Value>,
-) -> Result<String, AllocError> {
-    if let Some(
-        Spot::Value {
-            key: _,
-            start,
-            stop,
-        },
-    ) = spot
-        && let Some(value) = text.get(start..stop)
-    {
-        return shown(alloc, value);
+/// A value as it stands in the text, if it was found there.
+fn standing(text: &str, spot: Option<Spot>) -> Option<&str> {
+    match spot? {
+        Spot::Value { start, stop, .. } => text.get(start..stop),
+        Spot::Header { .. } => None,
     }
+}
+
+/// A value, as it is printed; nothing where there is none.
+fn printed(alloc: Global, value: Option<&Value>) -> Result<String, AllocError> {
     match value {
         None => Ok(String::new(alloc)),
-        Some(value) => {
-            let printed = format!(in alloc; "{value}")?;
-            shown(alloc, printed.as_str())
-        }
+        Some(value) => format!(in alloc; "{value}"),
     }
 }
 
@@ -121,6 +119,23 @@ fn earlier(tables: &[Value], number: usize, keys: &[&str]) -> Option<usize> {
     }
 }
 
+/// What a table of an array has that an earlier one has too: what such tables are called, the number of that one,
+/// and what both have.
+fn twice(document: &Value, table: Table) -> Option<(&'static str, usize, &'static str)> {
+    let (array, number) = match table {
+        Table::Client(number) => ("client", number),
+        Table::List(number) => ("list", number),
+        Table::Rules(number) => ("rules", number),
+        _ => return None,
+    };
+    let tables = document.get(array)?.as_array()?;
+    if let Some(same) = earlier(tables, number, &["name"]) {
+        return Some((array, same, "name"));
+    }
+    let same = earlier(tables, number, &["listen", "peer"])?;
+    Some((array, same, "listen and peer"))
+}
+
 /// A text, and the document that it was read as.
 #[derive(Clone, Copy)]
 struct Parsed<'a> {
@@ -128,58 +143,48 @@ struct Parsed<'a> {
     document: &'a Value,
 }
 
-impl Parsed<'_> {
+impl<'a> Parsed<'a> {
+    /// Where a table stands.
+    fn table(&self, alloc: Global, table: Table) -> Result<Position<'a>, AllocError> {
+        let steps = steps_to_table(alloc, table)?;
+        position_of(alloc, self.source, &steps)
+    }
+
     /// The value that stands at a place, and the form that is expected there.
     fn value_line(&self, alloc: Global, place: &Place) -> Result<String, AllocError> {
         let steps = steps_to(alloc, place)?;
         let spot = spot(alloc, self.source.text, &steps)?;
-        let at = position_at(alloc, &self.source.files, spot)?;
-        let value = value_shown(
-            alloc,
-            self.source.text,
-            spot,
-            value_at(self.document, &steps),
-        )?;
-        let form = form(place);
-        match place.table {
-            Table::Entry(_, _) => format!(in alloc; "{at}{value}; expected: {form}"),
-            _ => format!(in alloc; "{at}{} = {value}; expected: {form}", place.key.text()),
+        let at = position_at(self.source, spot);
+        match standing(self.source.text, spot) {
+            Some(text) => expected_line(alloc, at, place, text),
+            None => {
+                let value = printed(alloc, value_at(self.document, &steps))?;
+                expected_line(alloc, at, place, value.as_str())
+            }
         }
     }
 
     /// The keys of a table that it may not have, and those that it may.
     fn unknown_line(&self, alloc: Global, table: Table) -> Result<String, AllocError> {
         let mut steps = steps_to_table(alloc, table)?;
-        let mut unknown = String::new(alloc);
-        let entries = value_at(self.document, &steps).and_then(|value| value.as_table());
-        let uses = entries.is_some_and(|entries| entries.get("use").is_some());
-        if let Some(entries) = entries {
-            for (key, _) in entries {
-                if !is_known(table, uses, key.as_str()) {
-                    if unknown.is_empty() {
-                        steps.push(Step::Key(key.as_str()))?;
-                    }
-                    unknown.push(' ')?;
-                    unknown.push_str(key.as_str())?;
-                }
-            }
+        let entries = entries_at(self.document, &steps);
+        let strangers = strangers(alloc, table, entries)?;
+        if let Some(first) = strangers.first() {
+            steps.push(Step::Key(first))?;
         }
-        let mut line = position_of(alloc, self.source, &steps)?;
-        let unknown = shown(alloc, unknown.as_str())?;
-        line.push_str("not known here:")?;
-        line.push_str(unknown.as_str())?;
-        line.push_str("; known:")?;
-        for key in known_keys(table, uses) {
-            line.push(' ')?;
-            line.push_str(key.text())?;
-        }
-        Ok(line)
+        let at = position_of(alloc, self.source, &steps)?;
+        let unknown = spaced(alloc, &strangers)?;
+        let known = known_keys(table, uses_others(entries));
+        format!(in alloc;
+            "{at}not known here:{}; known:{}",
+            Shown(unknown.as_str()),
+            Keys(known)
+        )
     }
 
     /// What is missing in a table, and its form.
     fn missing_line(&self, alloc: Global, place: &Place) -> Result<String, AllocError> {
-        let steps = steps_to_table(alloc, place.table)?;
-        let at = position_of(alloc, self.source, &steps)?;
+        let at = self.table(alloc, place.table)?;
         format!(in alloc; "{at}expected: {} = {}", place.key.text(), form(place))
     }
 
@@ -200,46 +205,58 @@ impl Parsed<'_> {
 
     /// What a table of an array has that an earlier one has too.
     fn twice_line(&self, alloc: Global, table: Table) -> Result<String, AllocError> {
-        let steps = steps_to_table(alloc, table)?;
-        let at = position_of(alloc, self.source, &steps)?;
-        let (array, number) = match table {
-            Table::Client(number) => ("client", number),
-            Table::List(number) => ("list", number),
-            Table::Rules(number) => ("rules", number),
-            _ => return Ok(at),
-        };
-        let Some(tables) = self.document.get(array).and_then(|value| value.as_array()) else {
-            return Ok(at);
-        };
-        if let Some(same) = earlier(tables, number, &["name"]) {
-            return format!(in alloc; "{at}{array} {same} has this name too");
-        }
-        match earlier(tables, number, &["listen", "peer"]) {
-            Some(same) => format!(in alloc; "{at}{array} {same} has this listen and peer too"),
-            None => Ok(at),
+        let at = self.table(alloc, table)?;
+        match twice(self.document, table) {
+            Some((array, same, what)) => format!(in alloc;
+                "{at}{array} {same} has this {what} too"
+            ),
+            None => format!(in alloc; "{at}"),
         }
     }
 }
 
-/// The line about a fault of a text, where there is more to say.
+/// What stands at a place, and the form that is expected there.
+fn expected_line(
+    alloc: Global,
+    at: Position<'_>,
+    place: &Place,
+    value: &str,
+) -> Result<String, AllocError> {
+    let (value, form) = (Shown(value), form(place));
+    match place.table {
+        Table::Entry(_, _) => format!(in alloc; "{at}{value}; expected: {form}"),
+        _ => format!(in alloc; "{at}{} = {value}; expected: {form}", place.key.text()),
+    }
+}
+
+/// Texts, a space before each.
+fn spaced(alloc: Global, texts: &[&str]) -> Result<String, AllocError> {
+    let mut line = String::new(alloc);
+    for text in texts {
+        line.push(' ')?;
+        line.push_str(text)?;
+    }
+    Ok(line)
+}
+
+/// The line about a fault of a text that is a document.
 pub(crate) fn line_about(
     alloc: Global,
     source: &Source<'_>,
     document: &Value,
     fault: &ConfigFault,
-) -> Result<Option<String>, AllocError> {
+) -> Result<String, AllocError> {
     let parsed = Parsed { source, document };
-    let line = match fault {
+    match fault {
         ConfigFault::BadValue(place) if place.key == Key::Other => {
-            parsed.unknown_line(alloc, place.table)?
+            parsed.unknown_line(alloc, place.table)
         }
-        ConfigFault::BadValue(place) => parsed.value_line(alloc, place)?,
-        ConfigFault::Missing(place) => parsed.missing_line(alloc, place)?,
-        ConfigFault::TooMany(place) => parsed.many_line(alloc, place)?,
-        ConfigFault::Twice(client) => parsed.twice_line(alloc, Table::Client(*client))?,
-        ConfigFault::TwiceList(list) => parsed.twice_line(alloc, Table::List(*list))?,
-        ConfigFault::TwiceRules(rules) => { parsed.twice_line(alloc, Table::Rules(*rules))? }
-        ConfigFault::Syntax | ConfigFault::OutOfMemory => return Ok(None),
-    };
-    Ok(Some(line))
+        ConfigFault::BadValue(place) => parsed.value_line(alloc, place),
+        ConfigFault::Missing(place) => parsed.missing_line(alloc, place),
+        ConfigFault::TooMany(place) => parsed.many_line(alloc, place),
+        ConfigFault::Twice(client) => parsed.twice_line(alloc, Table::Client(*client)),
+        ConfigFault::TwiceList(list) => parsed.twice_line(alloc, Table::List(*list)),
+        ConfigFault::TwiceRules(rules) => parsed.twice_line(alloc, Table::Rules(*rules)),
+        ConfigFault::Syntax | ConfigFault::OutOfMemory => Ok(String::new(alloc)),
+    }
 }

@@ -2,7 +2,7 @@
 
 use crate::place::line_and_column;
 use rs_texts::Joined;
-use std::alloc::{AllocError, Global};
+use std::fmt;
 
 /// Files as one text, and the name of each.
 #[derive(Clone, Copy)]
@@ -18,20 +18,40 @@ pub(crate) struct Source<'a> {
     pub(crate) text: &'a str,
 }
 
-impl Files<'_> {
-    /// The line and the column behind so many octets of the text, in the file in which that is, as a line
-    /// begins with them. Where there is one file, it isn't named.
-    pub(crate) fn position(&self, alloc: Global, front: usize) -> Result<String, AllocError> {
+/// Where something stands, as a line begins with it.
+#[derive(Clone, Copy)]
+pub(crate) enum Position<'a> {
+    /// It wasn't found.
+    Unknown,
+    /// In the only file, at this line and column.
+    At(usize, usize),
+    /// In the file of this name.
+    In(&'a str, usize, usize),
+}
+
+impl fmt::Display for Position<'_> {
+    fn fmt<W: fmt::Write>(&self, f: &mut fmt::Formatter<W>) -> fmt::Result {
+        match self {
+            Position::Unknown => Ok(()),
+            Position::At(line, column) => write!(f, "line {line}, column {column}: "),
+            Position::In(name, line, column) => {
+                write!(f, "{name}, line {line}, column {column}: ")
+            }
+        }
+    }
+}
+
+impl<'a> Files<'a> {
+    /// The line and the column behind so many octets of the text, in the file in which that is.
+    pub(crate) fn position(&self, front: usize) -> Position<'a> {
         let octets = self.texts.octets.as_slice();
         let place = self.texts.place(front);
         let start = self.texts.starts.get(place).copied().unwrap_or(0);
         let own = octets.get(start..front.min(octets.len())).unwrap_or(&[]);
         let (line, column) = line_and_column(own);
         match self.names.get(place) {
-            Some(name) if self.names.len() > 1 => {
-                format!(in alloc; "{name}, line {line}, column {column}: ")
-            }
-            _ => format!(in alloc; "line {line}, column {column}: "),
+            Some(name) if self.names.len() > 1 => Position::In(name.as_str(), line, column),
+            _ => Position::At(line, column),
         }
     }
 }

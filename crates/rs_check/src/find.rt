@@ -6,7 +6,7 @@ use toml_parser::text::{byte_at, first, skip, skip_blank, skip_ws};
 use toml_parser::{Key, ParseError, dotted_key, quoted, starts_string, unquoted};
 
 /// A step on the way to a value.
-#[derive(Clone, Copy, Debug)]
+#[derive(Clone, Copy)]
 pub(crate) enum Step<'a> {
     /// The value at a key of a table.
     Key(&'a str),
@@ -15,7 +15,7 @@ pub(crate) enum Step<'a> {
 }
 
 /// Where something stands in a text. All are numbers of octets before it.
-#[derive(Clone, Copy, Debug)]
+#[derive(Clone, Copy)]
 pub(crate) enum Spot {
     /// A value and its key. A value of an array has no key, and `key` is where it begins.
     Value {
@@ -30,8 +30,17 @@ pub(crate) enum Spot {
     },
 }
 
+impl Spot {
+    /// Where it begins: a value behind its key.
+    pub(crate) fn start(&self) -> usize {
+        match self {
+            Spot::Value { start, .. } | Spot::Header { start, .. } => *start,
+        }
+    }
+}
+
 /// Why nothing is found.
-#[derive(Clone, Copy, Debug)]
+#[derive(Clone, Copy)]
 pub(crate) enum Lost {
     Memory,
     Nowhere,
@@ -58,6 +67,15 @@ impl<T: Drop> From<AllocFailed<T>> for Lost {
     }
 }
 
+/// What was found, if anything.
+pub(crate) fn if_there<T: Drop>(found: Result<T, Lost>) -> Result<Option<T>, AllocError> {
+    match found {
+        Ok(it) => Ok(Some(it)),
+        Err(Lost::Nowhere) => Ok(None),
+        Err(Lost::Memory) => Err(AllocError),
+    }
+}
+
 /// What follows an ASCII character.
 fn behind_octet(s: &str) -> Result<&str, Lost> {
     match first(s) {
@@ -66,15 +84,29 @@ fn behind_octet(s: &str) -> Result<&str, Lost> {
     }
 }
 
+/// What follows the text in quotation marks that begins here; None where none does.
+fn behind_string<'t>(alloc: Global, s: &'t str) -> Result<Option<&'t str>, Lost> {
+    if !starts_string(s) {
+        return Ok(None);
+    }
+    let (_, rest) = quoted(alloc, s)?;
+    Ok(Some(rest))
+}
+
+/// What follows a value that has neither quotation marks nor brackets.
+fn behind_word<'t>(alloc: Global, s: &'t str) -> Result<&'t str, Lost> {
+    let (_, rest) = unquoted(alloc, s)?;
+    Ok(rest)
+}
+
 /// What follows the bracket that closes the first one.
 fn behind_brackets<'t>(alloc: Global, s: &'t str) -> Result<&'t str, Lost> {
     let mut rest = s;
     let mut open: usize = 0;
     for _ in 0..s.len() {
         let start = skip_blank(rest, true);
-        if starts_string(start) {
-            let (_, after) = quoted(alloc, start)?;
-            rest = after;
+        if let Some(behind) = behind_string(alloc, start)? {
+            rest = behind;
             continue;
         }
         open = match first(start) {
@@ -92,22 +124,18 @@ fn behind_brackets<'t>(alloc: Global, s: &'t str) -> Result<&'t str, Lost> {
 
 /// What follows a value.
 fn behind_value<'t>(alloc: Global, s: &'t str) -> Result<&'t str, Lost> {
-    if starts_string(s) {
-        let (_, rest) = quoted(alloc, s)?;
+    if let Some(rest) = behind_string(alloc, s)? {
         return Ok(rest);
     }
     match first(s) {
         b'[' | b'{' => behind_brackets(alloc, s),
-        _ => {
-            let (_, rest) = unquoted(alloc, s)?;
-            Ok(rest)
-        }
+        _ => behind_word(alloc, s),
     }
 }
 
-/// What follows the comma behind a value.
-fn behind_comma(s: &str) -> Result<&str, Lost> {
-    let rest = skip_blank(s, true);
+/// What follows a value of several and the comma behind it.
+fn behind_item<'t>(alloc: Global, s: &'t str) -> Result<&'t str, Lost> {
+    let rest = skip_blank(behind_value(alloc, s)?, true);
     if first(rest) == b',' {
         behind_octet(rest)
     } else {
@@ -115,32 +143,27 @@ fn behind_comma(s: &str) -> Result<&str, Lost> {
     }
 }
 
-/// A key, and the text from its value on.
-fn key_and_value<'t>(alloc: Global, s: &'t str) -> Result<(Key, &'t str), Lost> {
+/// Whether the key of a pair is this one, without a dot; and the text from its value on.
+fn value_of<'t>(alloc: Global, s: &'t str, wanted: Option<&str>) -> Result<(bool, &'t str), Lost> {
     let (key, rest) = dotted_key(alloc, s)?;
     if first(rest) != b'=' {
         return Err(Lost::Nowhere);
     }
-    Ok((key, skip_ws(behind_octet(rest)?)))
+    let is_wanted = key.path.is_empty() && wanted == Some(key.last.as_str());
+    Ok((is_wanted, skip_ws(behind_octet(rest)?)))
 }
 
 /// What follows a pair of a key and a value.
 pub(crate) fn behind_pair<'t>(alloc: Global, s: &'t str) -> Result<&'t str, Lost> {
-    let (_, value) = key_and_value(alloc, s)?;
+    let (_, value) = value_of(alloc, s, None)?;
     behind_value(alloc, value)
-}
-
-/// Whether a key is this one, without a dot.
-fn is_key(key: &Key, wanted: &str) -> bool {
-    key.path.is_empty() && key.last.as_str() == wanted
 }
 
 /// A value of an array, counted from 0: the text from it on.
 fn item<'t>(alloc: Global, s: &'t str, number: usize) -> Result<&'t str, Lost> {
     let mut rest = behind_octet(s)?;
     for _ in 0..number {
-        let value = skip_blank(rest, true);
-        rest = behind_comma(behind_value(alloc, value)?)?;
+        rest = behind_item(alloc, skip_blank(rest, true))?;
     }
     let value = skip_blank(rest, true);
     if first(value) == b']' {
@@ -154,21 +177,17 @@ fn member<'t>(alloc: Global, s: &'t str, wanted: &str) -> Result<(&'t str, &'t s
     let mut rest = behind_octet(s)?;
     for _ in 0..s.len() {
         let start = skip_blank(rest, true);
-        let (key, value) = key_and_value(alloc, start)?;
-        if is_key(&key, wanted) {
+        let (is_wanted, value) = value_of(alloc, start, Some(wanted))?;
+        if is_wanted {
             return Ok((start, value));
         }
-        rest = behind_comma(behind_value(alloc, value)?)?;
+        rest = behind_item(alloc, value)?;
     }
     Err(Lost::Nowhere)
 }
 
-/// The value that the steps lead to from a pair of a key and a value.
-fn within<'t>(
-    alloc: Global,
-    pair: (&'t str, &'t str),
-    steps: &[Step<'_>],
-) -> Result<(&'t str, &'t str), Lost> {
+/// Where the value stands in a text that the steps lead to from a pair of a key and a value.
+fn within(alloc: Global, text: &str, pair: (&str, &str), steps: &[Step<'_>]) -> Result<Spot, Lost> {
     let mut at = pair;
     for step in steps {
         at = match (step, first(at.1)) {
@@ -180,11 +199,15 @@ fn within<'t>(
             _ => return Err(Lost::Nowhere),
         };
     }
-    Ok(at)
+    Ok(Spot::Value {
+        key: before(text, at.0),
+        start: before(text, at.1),
+        stop: before(text, behind_value(alloc, at.1)?),
+    })
 }
 
 /// The section of a document that a text is in, beside the steps to a value: a key and a number in turn.
-#[derive(Clone, Copy, Debug)]
+#[derive(Clone, Copy)]
 struct Section {
     /// How many of the steps lead to the section; None where it lies aside.
     made: Option<usize>,
@@ -227,6 +250,15 @@ impl Section {
         }
     }
 
+    /// Goes into the section of a header with this key.
+    fn follow(&mut self, steps: &[Step<'_>], key: &Key, is_array: bool) {
+        self.made = Some(0);
+        for part in &key.path {
+            self.go_on(steps, part.as_str(), false);
+        }
+        self.go_on(steps, key.last.as_str(), is_array);
+    }
+
     /// Goes into the section of the header at the front of a text, and answers what follows it.
     fn enter<'t>(
         &mut self,
@@ -235,32 +267,33 @@ impl Section {
         steps: &[Step<'_>],
     ) -> Result<&'t str, Lost> {
         let is_array = byte_at(s, 1) == b'[';
-        let inside = behind_octet(s)?;
-        let inside = if is_array {
-            behind_octet(inside)?
-        } else {
-            inside
-        };
-        let (key, rest) = dotted_key(alloc, skip_ws(inside))?;
-        self.made = Some(0);
-        for part in &key.path {
-            self.go_on(steps, part.as_str(), false);
-        }
-        self.go_on(steps, key.last.as_str(), is_array);
-        let rest = behind_octet(rest)?;
-        if is_array {
-            behind_octet(rest)
-        } else {
-            Ok(rest)
+        let (key, rest) = dotted_key(alloc, skip_ws(behind_bracket(s, is_array)?))?;
+        self.follow(steps, &key, is_array);
+        behind_bracket(rest, is_array)
+    }
+
+    /// The key that a pair in it has, if the steps go on by it.
+    fn key<'a>(&self, steps: &[Step<'a>]) -> Option<&'a str> {
+        match steps.get(self.made?)? {
+            Step::Key(key) => Some(key),
+            Step::Item(_) => None,
         }
     }
 
-    /// The steps that are left, from a key at the front on.
-    fn left<'s, 'a>(&self, steps: &'s [Step<'a>], key: &Key) -> Option<&'s [Step<'a>]> {
-        match steps.get(self.made?..)? {
-            [Step::Key(wanted), left @ ..] if is_key(key, wanted) => Some(left),
-            _ => None,
-        }
+    /// The steps behind that key.
+    fn left<'a>(&self, steps: &'a [Step<'a>]) -> &'a [Step<'a>] {
+        let made = self.made.unwrap_or(0);
+        steps.get(made.saturating_add(1)..).unwrap_or(&[])
+    }
+}
+
+/// What follows the bracket of a header, or both of an array's.
+fn behind_bracket(s: &str, is_array: bool) -> Result<&str, Lost> {
+    let rest = behind_octet(s)?;
+    if is_array {
+        behind_octet(rest)
+    } else {
+        Ok(rest)
     }
 }
 
@@ -297,14 +330,9 @@ pub(crate) fn find(alloc: Global, text: &str, steps: &[Step<'_>]) -> Result<Spot
             }
             continue;
         }
-        let (key, value) = key_and_value(alloc, start)?;
-        if let Some(left) = section.left(steps, &key) {
-            let (key, value) = within(alloc, (start, value), left)?;
-            return Ok(Spot::Value {
-                key: before(text, key),
-                start: before(text, value),
-                stop: before(text, behind_value(alloc, value)?),
-            });
+        let (is_wanted, value) = value_of(alloc, start, section.key(steps))?;
+        if is_wanted {
+            return within(alloc, text, (start, value), section.left(steps));
         }
         rest = behind_value(alloc, value)?;
     }

@@ -4,12 +4,40 @@ ghost use Rattle.std.specs.Prelude.{◌≡◌};
 ghost use Rattle.rs_policy.specs.Keys.{is_among, keys_of};
 
 use rs_policy::{Key, List, Place, Table, known_keys};
+use std::alloc::{AllocError, Global};
 
 /// Whether a table may have this key.
-pub(crate) fn is_known(table: Table, uses: bool, text: &str) -> bool
+fn is_known(table: Table, uses: bool, text: &str) -> bool
     ensures { result ≡ is_among (keys_of table uses) text.now }
 {
     known_keys(table, uses).iter().any(|key| key.text() == text)
+}
+
+/// Whether a table of this content names rules that it uses.
+pub(crate) fn uses_others(entries: Option<&toml::Table>) -> bool {
+    match entries {
+        None => false,
+        Some(entries) => entries.get("use").is_some(),
+    }
+}
+
+/// The keys that a table of this content may not have.
+pub(crate) fn strangers<'d>(
+    alloc: Global,
+    table: Table,
+    entries: Option<&'d toml::Table>,
+) -> Result<Vec<&'d str>, AllocError> {
+    let mut strangers = Vec::new(alloc);
+    let Some(entries) = entries else {
+        return Ok(strangers);
+    };
+    let uses = uses_others(Some(entries));
+    for (key, _) in entries {
+        if !is_known(table, uses, key.as_str()) {
+            strangers.push(key.as_str())?;
+        }
+    }
+    Ok(strangers)
 }
 
 const AS_NUMBER: &str = "an integer of 1 to 4294967295";

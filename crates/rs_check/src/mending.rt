@@ -1,8 +1,8 @@
 //! The text of a configuration with a fault mended, by which the next one is found.
 
 use crate::find::{Spot, Step};
-use crate::forms::is_known;
-use crate::place::{found, steps_to, steps_to_table, value_at, with};
+use crate::forms::strangers;
+use crate::place::{entries_at, found, steps_to, steps_to_table, with};
 use rs_policy::{ConfigFault, Key, Place, Table};
 use std::alloc::{AllocError, Global};
 use toml::value::Value;
@@ -69,7 +69,7 @@ fn inserted(
     }
     let steps = steps_to_table(alloc, table)?;
     match found(alloc, text, &steps)? {
-        Some(Spot::Header { start: _, stop }) => {
+        Some(Spot::Header { stop, .. }) => {
             let pair = format!(in alloc; "\n{key} = {value}\n")?;
             with(alloc, text, stop, stop, pair.as_str())
         }
@@ -88,27 +88,38 @@ fn inserted(
     }
 }
 
-/// A good value at a place that has to have one; None where the key may be left out.
-fn good_value(alloc: Global, place: &Place) -> Result<Option<String>, AllocError> {
-    let number = match place.table {
+/// The number of a table among its like, or of an entry of a list.
+fn number_of(table: Table) -> usize {
+    match table {
         Table::Top => 0,
         Table::Client(number) | Table::List(number) | Table::Rules(number) => number,
         Table::Rule(_, _, rule) => rule,
         Table::Entry(_, entry) => entry,
-    };
-    let value = match (place.table, place.key) {
-        (Table::Entry(_, _), Key::Ases) => String::from_str(alloc, "0"),
-        (Table::Entry(_, _), _) => String::from_str(alloc, "\"0.0.0.0/0\""),
-        (_, Key::Prefix) => String::from_str(alloc, "\"0.0.0.0/0\""),
-        (_, Key::As) => String::from_str(alloc, "1"),
-        (_, Key::Identifier) => String::from_str(alloc, "\"192.0.2.1\""),
-        (_, Key::Name) => format!(in alloc; "\"mended-{number}\""),
-        (_, Key::Listen) => format!(in alloc; "\"0.0.0.0:{}\"", number.clamp(1, 65535)),
-        (_, Key::Peer) => String::from_str(alloc, "\"0.0.0.0\""),
-        (_, Key::Prefixes | Key::Ases) | (Table::Rules(_), Key::Rules) => String::from_str(
-            alloc, "[]",
-        ),
-        (_, Key::Action) => String::from_str(alloc, "\"pass\""),
+    }
+}
+
+/// A good value at a place that has to have one, where it is the same for each table; None where the key may
+/// be left out.
+fn usual_value(place: &Place) -> Option<&'static str> {
+    match (place.table, place.key) {
+        (Table::Entry(_, _), Key::Ases) => Some("0"),
+        (Table::Entry(_, _), _) | (_, Key::Prefix) => Some("\"0.0.0.0/0\""),
+        (_, Key::As) => Some("1"),
+        (_, Key::Identifier) => Some("\"192.0.2.1\""),
+        (_, Key::Peer) => Some("\"0.0.0.0\""),
+        (_, Key::Prefixes | Key::Ases) | (Table::Rules(_), Key::Rules) => Some("[]"),
+        (_, Key::Action) => Some("\"pass\""),
+        _ => None,
+    }
+}
+
+/// A good value at a place that has to have one; None where the key may be left out.
+fn good_value(alloc: Global, place: &Place) -> Result<Option<String>, AllocError> {
+    let number = number_of(place.table);
+    let value = match (place.key, usual_value(place)) {
+        (_, Some(value)) => String::from_str(alloc, value),
+        (Key::Name, None) => format!(in alloc; "\"mended-{number}\""),
+        (Key::Listen, None) => format!(in alloc; "\"0.0.0.0:{}\"", number.clamp(1, 65535)),
         _ => return Ok(None),
     };
     Ok(Some(value?))
@@ -122,17 +133,12 @@ fn without_stranger(
     table: Table,
 ) -> Result<Option<String>, AllocError> {
     let mut steps = steps_to_table(alloc, table)?;
-    let Some(entries) = value_at(document, &steps).and_then(|value| value.as_table()) else {
+    let strangers = strangers(alloc, table, entries_at(document, &steps))?;
+    let Some(first) = strangers.first() else {
         return Ok(None);
     };
-    let uses = entries.get("use").is_some();
-    for (key, _) in entries {
-        if !is_known(table, uses, key.as_str()) {
-            steps.push(Step::Key(key.as_str()))?;
-            return without(alloc, text, &steps);
-        }
-    }
-    Ok(None)
+    steps.push(Step::Key(first))?;
+    without(alloc, text, &steps)
 }
 
 /// The text with the value at a place mended, or without it.

@@ -6,7 +6,7 @@ ghost use Rattle.toml.specs.Parse.{parse_document};
 ghost use Rattle.toml.specs.View.{view};
 ghost use Rattle.rs_check.specs.Positions.{data_at, data_in, goes_on, has_mark, is_mark, mark, mark_pair, place_behind, stands_at, stepped, with};
 
-use crate::find::{Lost, Spot, Step, find};
+use crate::find::{Spot, Step, find, if_there};
 use rs_policy::{Key, List, Place, Table};
 use std::alloc::{AllocError, Global};
 use toml::value::Value;
@@ -23,23 +23,35 @@ fn go_on<'a>(steps: &mut Vec<Step<'a>>, key: Key, number: usize) -> Result<(), A
     Ok(())
 }
 
+/// The array of tables at the top that a table is in, and the table's number there.
+fn array_of(table: Table) -> Option<(Key, usize)> {
+    match table {
+        Table::Top => None,
+        Table::Client(number) | Table::Rule(number, List::Import | List::Export, _) => {
+            Some((Key::Client, number))
+        }
+        Table::Rules(number) | Table::Rule(number, List::Shared, _) => Some((Key::Rules, number)),
+        Table::List(number) | Table::Entry(number, _) => Some((Key::List, number)),
+    }
+}
+
+/// The array in such a table that a rule is in.
+fn list_key(list: List) -> Key {
+    match list {
+        List::Import => Key::Import,
+        List::Export => Key::Export,
+        List::Shared => Key::Rules,
+    }
+}
+
 /// The steps to a table.
 pub(crate) fn steps_to_table<'a>(alloc: Global, table: Table) -> Result<Vec<Step<'a>>, AllocError> {
     let mut steps = Vec::new(alloc);
-    match table {
-        Table::Top => {}
-        Table::Client(client) => go_on(&mut steps, Key::Client, client)?,
-        Table::Rules(rules) => go_on(&mut steps, Key::Rules, rules)?,
-        Table::Rule(number, list, rule) => {
-            let (array, key) = match list {
-                List::Import => (Key::Client, Key::Import),
-                List::Export => (Key::Client, Key::Export),
-                List::Shared => (Key::Rules, Key::Rules),
-            };
-            go_on(&mut steps, array, number)?;
-            go_on(&mut steps, key, rule)?;
-        }
-        Table::List(list) | Table::Entry(list, _) => go_on(&mut steps, Key::List, list)?,
+    if let Some((key, number)) = array_of(table) {
+        go_on(&mut steps, key, number)?;
+    }
+    if let Table::Rule(_, list, rule) = table {
+        go_on(&mut steps, list_key(list), rule)?;
     }
     Ok(steps)
 }
@@ -71,6 +83,11 @@ pub(crate) fn value_at<'d>(document: &'d Value, steps: &[Step<'_>]) -> Option<&'
         [] => Some(document),
         [step, left @ ..] => value_at(stepped(document, step)?, left),
     }
+}
+
+/// The content of the table of a document that some steps lead to.
+pub(crate) fn entries_at<'d>(document: &'d Value, steps: &[Step<'_>]) -> Option<&'d toml::Table> {
+    value_at(document, steps)?.as_table()
 }
 
 /// A text with another in place of some octets; None where they aren't whole characters.
@@ -119,7 +136,7 @@ fn has_mark(value: Option<&Value>) -> bool
 }
 
 /// The document of a text, if it is one.
-fn document_of(alloc: Global, text: &str) -> Result<Option<Value>, AllocError>
+pub(crate) fn document_of(alloc: Global, text: &str) -> Result<Option<Value>, AllocError>
     ensures { IfOk result (λ o. option_map view o ≡ option_map table (parse_document text.now)) }
 {
     match toml::table_from_str(alloc, text) {
@@ -173,10 +190,30 @@ pub(crate) fn found(
     text: &str,
     steps: &[Step<'_>],
 ) -> Result<Option<Spot>, AllocError> {
-    match find(alloc, text, steps) {
-        Ok(spot) => Ok(Some(spot)),
-        Err(Lost::Nowhere) => Ok(None),
-        Err(Lost::Memory) => Err(AllocError),
+    if_there(find(alloc, text, steps))
+}
+
+/// Whether the steps lead to the header between these places.
+fn is_header(
+    alloc: Global,
+    text: &str,
+    steps: &[Step<'_>],
+    start: usize,
+    stop: usize,
+) -> Result<bool, AllocError>
+    ensures { IfOk result (λ b. b ≡ true → stands_at text.now steps.now (Spot.Header start stop) ≡ true) }
+{
+    let is_behind = matches!(is_within(alloc, text, steps, stop)?, Some(true));
+    Ok(is_behind && matches!(is_within(alloc, text, steps, start)?, Some(false)))
+}
+
+/// Whether the steps lead to what stands there.
+fn is_there(alloc: Global, text: &str, steps: &[Step<'_>], spot: Spot) -> Result<bool, AllocError>
+    ensures { IfOk result (λ b. b ≡ true → stands_at text.now steps.now spot ≡ true) }
+{
+    match spot {
+        Spot::Value { start, stop, .. } => is_value(alloc, text, steps, start, stop),
+        Spot::Header { start, stop } => is_header(alloc, text, steps, start, stop),
     }
 }
 
@@ -191,17 +228,7 @@ pub(crate) fn spot(
     let Some(spot) = found(alloc, text, steps)? else {
         return Ok(None);
     };
-    let is_there = match spot {
-        Spot::Value {
-            key: _,
-            start,
-            stop,
-        } => is_value(alloc, text, steps, start, stop)?,
-        Spot::Header { start, stop } => {
-            is_within(alloc, text, steps, stop)? == Some(true)
-                && is_within(alloc, text, steps, start)? == Some(false)
-        }
-    };
+    let is_there = is_there(alloc, text, steps, spot)?;
     if is_there { Ok(Some(spot)) } else { Ok(None) }
 }
 

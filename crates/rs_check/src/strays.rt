@@ -2,9 +2,18 @@
 //! before it.
 
 use crate::files::Source;
-use crate::find::{Lost, behind_header, behind_pair};
+use crate::find::{behind_header, behind_pair, if_there};
 use std::alloc::{AllocError, Global};
 use toml_parser::text::{first, skip_blank};
+
+/// What follows the header or the pair of a key and a value at the front of a text; None where that can't be read.
+fn behind_first<'t>(alloc: Global, s: &'t str) -> Result<Option<&'t str>, AllocError> {
+    if first(s) == b'[' {
+        if_there(behind_header(alloc, s))
+    } else {
+        if_there(behind_pair(alloc, s))
+    }
+}
 
 /// Behind how many octets of the text such pairs of a key and a value stand, one for each file; fewer
 /// where the text can't be read on.
@@ -30,16 +39,20 @@ pub(crate) fn strays_of(alloc: Global, source: &Source<'_>) -> Result<Vec<usize>
         }
         place = own;
         is_in_table = is_in_table || is_header;
-        let behind = if is_header {
-            behind_header(alloc, start)
-        } else {
-            behind_pair(alloc, start)
-        };
-        rest = match behind {
-            Ok(behind) => behind,
-            Err(Lost::Nowhere) => break,
-            Err(Lost::Memory) => return Err(AllocError),
-        };
+        match behind_first(alloc, start)? {
+            Some(behind) => rest = behind,
+            None => break,
+        }
     }
     Ok(strays)
+}
+
+/// The line about such a pair, behind so many octets of the text.
+pub(crate) fn stray_line(
+    alloc: Global,
+    source: &Source<'_>,
+    front: usize,
+) -> Result<String, AllocError> {
+    let at = source.files.position(front);
+    format!(in alloc; "warning: {at}this belongs to the last table of the file before")
 }

@@ -9,7 +9,7 @@ ghost use Rattle.rs_check.specs.Warnings.{MatchesAll, has_key, test_keys};
 use crate::details::position_of;
 use crate::files::Source;
 use crate::find::Step;
-use crate::place::{steps_to, steps_to_table};
+use crate::place::{document_of, steps_to, steps_to_table};
 use rs_policy::{Config, Key, List, Place, Table};
 use std::alloc::{AllocError, Global};
 use std::fmt;
@@ -19,7 +19,7 @@ use toml::value::Value;
 const MOST: usize = 20;
 
 /// Something that is good but likely wrong. Tables are counted from 1.
-#[derive(Clone, Copy, Debug)]
+#[derive(Clone, Copy)]
 pub(crate) enum Warning {
     MultiprotocolOff,
     NoImportRules(usize),
@@ -29,21 +29,23 @@ pub(crate) enum Warning {
     UnusedRules(usize),
 }
 
-/// The name of a list of rules.
-fn list_text(list: List) -> &'static str {
+/// What has a list of rules, and how that is named there.
+fn list_texts(list: List) -> (&'static str, &'static str) {
     match list {
-        List::Import => "import",
-        List::Export => "export",
-        List::Shared => "rules",
+        List::Import => ("client", "import"),
+        List::Export => ("client", "export"),
+        List::Shared => ("rules", "rules"),
     }
 }
 
-/// Whose list of rules it is.
-fn owner_text(list: List) -> &'static str {
-    match list {
-        List::Import | List::Export => "client",
-        List::Shared => "rules",
-    }
+/// Writes what is to say of the table or the rule that has this number.
+fn write_of<W: fmt::Write>(
+    f: &mut fmt::Formatter<W>,
+    what: &str,
+    number: usize,
+    text: &str,
+) -> fmt::Result {
+    write!(f, "{what} {number} {text}")
 }
 
 impl fmt::Display for Warning {
@@ -52,15 +54,17 @@ impl fmt::Display for Warning {
             Warning::MultiprotocolOff => {
                 f.write_str("multiprotocol is off, and BIRD and OpenBGPD need it")
             }
-            Warning::NoImportRules(client) => write!(f, "client {client} has no import rules"),
-            Warning::Unreached(number, list, rule) => write!(
-                f,
-                "{} {number} {} {rule} is never reached: a rule before it matches every route",
-                owner_text(*list),
-                list_text(*list)
-            ),
-            Warning::Unused(list) => write!(f, "list {list} is named by no rule"),
-            Warning::UnusedRules(rules) => write!(f, "rules {rules} are used by no client"),
+            Warning::NoImportRules(client) => {
+                write_of(f, "client", *client, "has no import rules")
+            }
+            Warning::Unreached(number, list, rule) => {
+                let (owner, list) = list_texts(*list);
+                write!(f, "{owner} {number} ")?;
+                let why = "is never reached: a rule before it matches every route";
+                write_of(f, list, *rule, why)
+            }
+            Warning::Unused(list) => write_of(f, "list", *list, "is named by no rule"),
+            Warning::UnusedRules(rules) => write_of(f, "rules", *rules, "are used by no client"),
         }
     }
 }
@@ -243,29 +247,49 @@ fn add_of_rules(
     Ok(())
 }
 
-/// The warnings about a good configuration, of which this is the document.
+/// Adds what there is to say of the lists that rules name.
+fn add_of_lists(
+    warnings: &mut Vec<Warning>,
+    clients: &[Value],
+    shared: &[Value],
+    lists: &[Value],
+) -> Result<(), AllocError> {
+    for (index, list) in lists.iter().enumerate() {
+        let name = name_of(list);
+        if !are_named(clients, &LISTS, name) && !are_named(shared, &LISTS, name) {
+            add(warnings, Warning::Unused(index.saturating_add(1)))?;
+        }
+    }
+    Ok(())
+}
+
+/// Adds what there is to say of a document.
+fn add_of_document(warnings: &mut Vec<Warning>, document: &Value) -> Result<(), AllocError> {
+    let clients = values_at(document, Key::Client);
+    for (index, client) in clients.iter().enumerate() {
+        add_of_client(warnings, client, index.saturating_add(1))?;
+    }
+    let shared = values_at(document, Key::Rules);
+    add_of_lists(warnings, clients, shared, values_at(document, Key::List))?;
+    for (index, rules) in shared.iter().enumerate() {
+        add_of_rules(warnings, clients, rules, index.saturating_add(1))?;
+    }
+    Ok(())
+}
+
+/// The warnings about a good configuration, of which this is the text.
 pub(crate) fn warnings_of(
     alloc: Global,
     config: &Config,
-    document: &Value,
+    text: &str,
 ) -> Result<Vec<Warning>, AllocError> {
+    let Some(document) = document_of(alloc, text)? else {
+        return Err(AllocError);
+    };
     let mut warnings = Vec::new(alloc);
     if !config.multiprotocol() {
         add(&mut warnings, Warning::MultiprotocolOff)?;
     }
-    let clients = values_at(document, Key::Client);
-    for (index, client) in clients.iter().enumerate() {
-        add_of_client(&mut warnings, client, index.saturating_add(1))?;
-    }
-    let shared = values_at(document, Key::Rules);
-    for (index, list) in values_at(document, Key::List).iter().enumerate() {
-        let name = name_of(list);
-        if !are_named(clients, &LISTS, name) && !are_named(shared, &LISTS, name) {
-            add(&mut warnings, Warning::Unused(index.saturating_add(1)))?;
-        }
-    }
-    for (index, rules) in shared.iter().enumerate() {
-        add_of_rules(&mut warnings, clients, rules, index.saturating_add(1))?;
-    }
+    add_of_document(&mut warnings, &document)?;
     Ok(warnings)
 }
